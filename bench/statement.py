@@ -27,7 +27,7 @@ COUNTED = [
     ('clause', 'certify', 'confirm', 'confirm', ['looks']),
     ('clause', 'certify', 'headline', 'headline_over', ['verdicts']),
     ('clause', 'certify', 'run', 'run', ['answered']),
-    ('clause', 'certify', 'run', 'run', ['backed']),
+    ('clause', 'certify', 'run', 'run', ['guaranteed']),
     ('clause', 'certify', 'run', 'run', ['unfinished']),
     ('clause', 'certify', 'run', 'run', ['steps']),
     ('definition', 'Rattle.certify.specs.confirm.VerdictPromises', 'AreRightAnswers'),

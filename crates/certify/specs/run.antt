@@ -14,7 +14,7 @@ pub mod Obeying
 pub mod Quiet
 pub mod Serving
 pub mod ServingLaws
-pub mod Standing
+pub mod BetweenCommands
 pub mod Stretches
 pub mod Reporting
 pub mod ServedScript

@@ -9,7 +9,7 @@ ghost use Rattle.certify.specs.laws.Laws.{RepeatChangesNothing, TautologyChanges
 ghost use Rattle.certify.specs.laws.Laws.{TextsThatMatchAreRight};
 ghost use Rattle.sat_checker.specs.matching.Checking.{IsSound};
 ghost use Rattle.sat_checker.specs.matching.ProofChecking.{checker_rules};
-ghost use Rattle.certify.specs.laws.Rows.{AnswersTwice, AskAloneText, BehindEndUncertified, ChainCertified};
+ghost use Rattle.certify.specs.laws.Rows.{AnswersTwice, AskAloneText, AfterEndUncertified, ChainCertified};
 ghost use Rattle.certify.specs.laws.Rows.{UnknownUncertified, ClauseAndAskCertified, ClauseAndAskExpected};
 ghost use Rattle.certify.specs.laws.Rows.{ClauseAndAskMatches, ClauseAndAskRight, ClauseAndAskSteps, ClauseAndAskText};
 ghost use Rattle.certify.specs.laws.Rows.{ClauseUncertified, CoreUncertified, EarlyUncertified, EmptyMatches};
@@ -68,7 +68,7 @@ pub fn checking_is_sound()
 {}
 
 /// States that no ask has both a correct model and a correct core.
-pub fn not_both()
+pub fn model_excludes_core()
     ensures { NotBoth }
 {}
 
@@ -79,7 +79,7 @@ pub fn clauses_as_sets()
 {}
 
 /// States that the literals of an ask don't constrain later asks: only the names that the ask introduced remain.
-pub fn ask_binds_nothing()
+pub fn asks_are_independent()
     ensures clauses { AskBindsNothing }
     ensures names { AskLeavesNames }
 {}
@@ -141,5 +141,5 @@ pub fn rows_of_certificates()
     ensures end_alone { EndAloneUncertified }
     ensures clause_needed { ClauseUncertified }
     ensures model_needed { ModelUncertified }
-    ensures behind_end { BehindEndUncertified }
+    ensures following_end { AfterEndUncertified }
 {}

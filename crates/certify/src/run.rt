@@ -91,7 +91,7 @@ pub fn run<S: CountedRead, A: CountedWrite, C: CountedWrite>(
     // each step in order. Once the steps record that the clauses are unsatisfiable, every ask is answered `Unsat`
     // without a round of search. In any other ask, every round derived a clause that advances, except the round that
     // found the answer, and no other clause of the ask advances. If no command hides a name, no variable is deleted.
-    ensures backed { CertificateIsGuaranteed result budget S.seen A.seen C.seen (script.old, answers.old, certificate.old)
+    ensures guaranteed { CertificateIsGuaranteed result budget S.seen A.seen C.seen (script.old, answers.old, certificate.old)
         (script.new, answers.new, certificate.new) }
     ensures flushed { OnOk result (((A.seen answers.new).flushed ≡ true) × ((C.seen certificate.new).flushed ≡ true)) }
     // If the run is not finished, the answers' writer received a prefix of correct answers to the bytes that were read,

@@ -20,21 +20,21 @@ const FAILED: u8 = 3;
 const NOT_OPEN: i32 = 9;
 
 /// Returns all arguments but the first.
-fn behind_first(alloc: Global, mut words: Args) -> Result<Vec<String>, AllocError>
-    ensures { IfOk result (λ behind. behind.items ≡ drop 1 (into_iter_items words)) }
+fn after_first(alloc: Global, mut words: Args) -> Result<Vec<String>, AllocError>
+    ensures { IfOk result (λ following. following.items ≡ drop 1 (into_iter_items words)) }
 {
     let _first = words.next();
-    let mut behind = Vec::new(alloc);
+    let mut following = Vec::new(alloc);
     for word in words {
-        behind.push(word)?;
+        following.push(word)?;
     }
-    Ok(behind)
+    Ok(following)
 }
 
 /// Returns the arguments after the program's own name.
 fn arguments<R: Env + AllocGlobal>(rt: &R) -> io::Result<Vec<String>> {
     let words = env::args(rt)?;
-    Ok(behind_first(rt.alloc(), words)?)
+    Ok(after_first(rt.alloc(), words)?)
 }
 
 /// Whether the descriptor of a stream is open.

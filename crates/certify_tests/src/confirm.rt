@@ -185,22 +185,22 @@ fn texts_that_do_not_match(rt: HostRuntime) {
 }
 
 /// Tests whether the verdict on `ROW` with the given answers is `verdict`, when its certificate consists of `front`,
-/// `steps` and `behind`.
+/// `steps` and `following`.
 fn is_said_of(
     alloc: Global,
     answers: &[u8],
-    (front, steps, behind): Texts<'_>,
+    (front, steps, following): Texts<'_>,
     verdict: Verdict,
 ) -> bool {
     let mut certificate = Vec::new(alloc);
-    append(&mut certificate, &[front, steps, behind])
+    append(&mut certificate, &[front, steps, following])
         && is_said(alloc, (ROW, answers, certificate.as_slice()), verdict)
 }
 
 /// Tests whether the verdict is `verdict` when `step` is inserted into the certificate of `ROW` at byte `place`.
 fn is_said_with(alloc: Global, place: usize, step: &[u8], verdict: Verdict) -> bool {
-    let (front, behind) = ROW_STEPS.split_at(place.min(ROW_STEPS.len()));
-    is_said_of(alloc, ROW_ANSWERS, (front, step, behind), verdict)
+    let (front, following) = ROW_STEPS.split_at(place.min(ROW_STEPS.len()));
+    is_said_of(alloc, ROW_ANSWERS, (front, step, following), verdict)
 }
 
 /// Tests whether the certificate of `ROW`, cut inside a step that begins at byte `place`, is refused because it ends.
@@ -426,18 +426,18 @@ fn cores() -> &'static [(&'static [u8], &'static [u8], Why)] {
     &CORES
 }
 
-/// Tests whether the verdict is `No` because of `why`, when `behind` follows the ask's assumptions in the certificate
-/// of `ROW`.
-fn is_refused_behind(alloc: Global, answers: &[u8], behind: &[u8], why: Why) -> bool {
+/// Tests whether the verdict is `No` because of `why`, when `following` follows the ask's assumptions in the
+/// certificate of `ROW`.
+fn is_refused_after(alloc: Global, answers: &[u8], following: &[u8], why: Why) -> bool {
     let verdict = Verdict::No { ask: 1, why };
-    is_said_of(alloc, answers, (&ROW_STEPS[..12], behind, b""), verdict)
+    is_said_of(alloc, answers, (&ROW_STEPS[..12], following, b""), verdict)
 }
 
 #[test]
 fn cores_are_compared(rt: HostRuntime) {
-    for &(answers, behind, why) in cores() {
-        let right = is_refused_behind(rt.alloc(), answers, behind, why);
-        assert!(rt; right, "{behind:?}");
+    for &(answers, following, why) in cores() {
+        let right = is_refused_after(rt.alloc(), answers, following, why);
+        assert!(rt; right, "{following:?}");
     }
 }
 
@@ -563,7 +563,7 @@ fn empty_asks() -> &'static [Tail<'static>] {
 }
 
 /// Tests the verdict on a script, when `answers` and `steps` follow the answers `first` and the steps `shown`.
-pub(crate) fn is_said_behind(
+pub(crate) fn is_said_after(
     alloc: Global,
     (script, first, shown): Texts<'_>,
     (answers, steps, no): Tail<'_>,
@@ -584,18 +584,18 @@ pub(crate) fn is_said_behind(
 }
 
 /// Tests the verdict on a script whose first two asks are answered as in `TWO_ANSWERS`.
-fn is_said_behind_two(alloc: Global, script: &[u8], tail: Tail<'_>) -> bool {
-    is_said_behind(alloc, (script, TWO_ANSWERS, TWO_ASKS), tail)
+fn is_said_after_two(alloc: Global, script: &[u8], tail: Tail<'_>) -> bool {
+    is_said_after(alloc, (script, TWO_ANSWERS, TWO_ASKS), tail)
 }
 
 #[test]
 fn later_asks_are_named(rt: HostRuntime) {
     for &tail in third_asks() {
-        assert!(rt; is_said_behind_two(rt.alloc(), THIRD, tail), "{tail:?}");
+        assert!(rt; is_said_after_two(rt.alloc(), THIRD, tail), "{tail:?}");
     }
     for &tail in empty_asks() {
         assert!(rt;
-            is_said_behind_two(rt.alloc(), EMPTY_THIRD, tail),
+            is_said_after_two(rt.alloc(), EMPTY_THIRD, tail),
             "{tail:?}"
         );
     }
@@ -648,7 +648,7 @@ fn decided_before() -> &'static [(Texts<'static>, (u64, u64, u64), Verdict)] {
 }
 
 #[test]
-fn nothing_is_read_behind_the_decision(rt: HostRuntime) {
+fn nothing_is_read_after_the_decision(rt: HostRuntime) {
     for &(texts, failing, verdict) in decided_before() {
         assert!(rt;
             said_at(rt.alloc(), texts, failing) == Ok(verdict),
@@ -678,7 +678,7 @@ fn each_fails(alloc: Global, texts: Texts<'_>, text: u8, reads: u64, fault: Conf
 fn each_read_fails(alloc: Global, texts: Texts<'_>, reads: u64) -> bool {
     let script = (texts.0.len() as u64).saturating_add(1);
     let answers = (texts.1.len() as u64).saturating_add(1);
-    let behind = (
+    let following = (
         script.saturating_add(1),
         answers.saturating_add(1),
         reads.saturating_add(1),
@@ -686,7 +686,7 @@ fn each_read_fails(alloc: Global, texts: Texts<'_>, reads: u64) -> bool {
     each_fails(alloc, texts, 0, script, ConfirmFault::ScriptRead)
         && each_fails(alloc, texts, 1, answers, ConfirmFault::AnswersRead)
         && each_fails(alloc, texts, 2, reads, ConfirmFault::CertificateRead)
-        && said_at(alloc, texts, behind) == Ok(Verdict::Yes)
+        && said_at(alloc, texts, following) == Ok(Verdict::Yes)
 }
 
 /// Tests `each_read_fails` on what a run writes for a script.

@@ -94,7 +94,7 @@ fn rows() -> &'static [(
 fn is_refused(alloc: Global, texts: (&[u8], &[u8]), text: &[u8], again: &[u8], why: Why) -> bool {
     let (said, reads) = said_of(alloc, texts, text, again);
     match said {
-        Ok(Verdict::No { why: told, .. }) => told == why && reads <= 11,
+        Ok(Verdict::No { why: reason, .. }) => reason == why && reads <= 11,
         _ => false,
     }
 }
@@ -126,18 +126,18 @@ fn malformed_there() -> &'static [(&'static [u8], &'static [u8])] {
 /// Tests whether a script that is read byte by byte has the answers `answers`, and they are confirmed, although a read
 /// after its last byte would fail.
 fn is_decided(alloc: Global, text: &[u8], answers: &[u8]) -> bool {
-    let behind = (text.len() as u64).saturating_add(1);
-    let written = run_on(alloc, &mut fails_at(text, behind), AMPLE);
+    let following = (text.len() as u64).saturating_add(1);
+    let written = run_on(alloc, &mut fails_at(text, following), AMPLE);
     let texts = (
         text,
         written.answers.as_slice(),
         written.certificate.as_slice(),
     );
-    written.has_answers(answers) && said_at(alloc, texts, (behind, 0, 0)) == Ok(Verdict::Yes)
+    written.has_answers(answers) && said_at(alloc, texts, (following, 0, 0)) == Ok(Verdict::Yes)
 }
 
 #[test]
-fn nothing_is_read_behind_a_wrong_word(rt: HostRuntime) {
+fn nothing_is_read_after_a_wrong_word(rt: HostRuntime) {
     for &(text, answers) in malformed_there() {
         assert!(rt; is_decided(rt.alloc(), text, answers), "{text:?}");
     }

@@ -87,11 +87,11 @@ impl Folder<'_> {
     }
 
     /// Tests whether a call ends with the given status, output and errors.
-    fn does(&self, call: Words<'_>, (status, printed, told): End) -> bool {
+    fn does(&self, call: Words<'_>, (status, printed, reported): End) -> bool {
         let (found, output, errors) = self.call(call);
         found == status
             && output.as_slice() == printed.as_bytes()
-            && errors.as_slice() == told.as_bytes()
+            && errors.as_slice() == reported.as_bytes()
     }
 
     /// Tests whether a call ends with `status` and prints nothing, whatever it writes to its errors.

@@ -1,7 +1,7 @@
 //! Tests of verdicts on scripts with every kind of command: assumptions, names that are hidden or have a mode,
 //! and refusals.
 
-use crate::confirm::{Tail, Texts, is_no, is_said_behind, is_yes};
+use crate::confirm::{Tail, Texts, is_no, is_said_after, is_yes};
 use certify::verdict::Why;
 
 /// Scripts with their answers and certificates.
@@ -346,9 +346,9 @@ fn fourth_asks() -> &'static [Tail<'static>] {
 }
 
 #[test]
-fn later_asks_are_named_behind_each_answer(rt: HostRuntime) {
+fn later_asks_are_named_after_each_answer(rt: HostRuntime) {
     for &tail in fourth_asks() {
         let asked = (FOURTH, THREE_ANSWERS, THREE_ASKS);
-        assert!(rt; is_said_behind(rt.alloc(), asked, tail), "{tail:?}");
+        assert!(rt; is_said_after(rt.alloc(), asked, tail), "{tail:?}");
     }
 }

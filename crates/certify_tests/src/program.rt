@@ -15,14 +15,14 @@ pub(crate) fn does<I: CountedRead>(
     rt: &HostRuntime,
     words: Words,
     input: &mut I,
-    (status, printed, told): (u8, &str, &str),
+    (status, printed, reported): (u8, &str, &str),
 ) -> bool {
     let mut output = Counted::new(Vec::new(rt.alloc()));
     let mut errors = Counted::new(Vec::new(rt.alloc()));
     let found = program(rt, words, input, &mut output, &mut errors);
     found == status
         && output.into_inner().as_slice() == printed.as_bytes()
-        && errors.into_inner().as_slice() == told.as_bytes()
+        && errors.into_inner().as_slice() == reported.as_bytes()
 }
 
 /// The clauses that put four pigeons into three holes.
@@ -118,9 +118,9 @@ fn scripts() -> &'static [(&'static str, &'static str, u8, &'static str)] {
 
 #[test]
 fn answers_are_printed_and_confirmed(rt: HostRuntime) {
-    for &(script, printed, status, told) in scripts() {
+    for &(script, printed, status, reported) in scripts() {
         let mut input = Counted::new(script.as_bytes());
-        let wanted = (status, printed, told);
+        let wanted = (status, printed, reported);
         assert!(rt;
             does(&rt, Ok(Vec::new(rt.alloc())), &mut input, wanted),
             "{script}"
@@ -136,11 +136,11 @@ fn words(alloc: Global, words: &[&str]) -> Result<Vec<String>, AllocError> {
     Ok(list)
 }
 
-/// Tests whether the program, called with the arguments `words`, ends with `status`, prints nothing, and writes `told`
-/// to its errors.
-fn is_reported(rt: &HostRuntime, words: Words, status: u8, told: &str) -> bool {
+/// Tests whether the program, called with the arguments `words`, ends with `status`, prints nothing, and writes
+/// `reported` to its errors.
+fn is_reported(rt: &HostRuntime, words: Words, status: u8, reported: &str) -> bool {
     let mut input = Counted::new("a 0\n".as_bytes());
-    does(rt, words, &mut input, (status, "", told))
+    does(rt, words, &mut input, (status, "", reported))
 }
 
 const USAGE: &str = "usage: certify [run S A C [STEPS] | confirm S A C | hints C H | check H]\n";
@@ -202,14 +202,14 @@ fn standard_input_fails(rt: HostRuntime) {
 }
 
 /// Returns the status of the program when call number `failing` of its output fails, how many calls were made and bytes
-/// accepted, and whether `told` is written to its errors.
-fn output_fails(rt: &HostRuntime, failing: u64, told: &str) -> (u8, u64, usize, bool) {
+/// accepted, and whether `reported` is written to its errors.
+fn output_fails(rt: &HostRuntime, failing: u64, reported: &str) -> (u8, u64, usize, bool) {
     let mut input = Counted::new("1 2 0\na 0\n".as_bytes());
     let mut output = fails_at(b"", failing);
     let mut errors = Counted::new(Vec::new(rt.alloc()));
     let none = Ok(Vec::new(rt.alloc()));
     let status = program(rt, none, &mut input, &mut output, &mut errors);
-    let is_so = errors.into_inner().as_slice() == told.as_bytes();
+    let is_so = errors.into_inner().as_slice() == reported.as_bytes();
     let output = output.into_inner();
     (status, output.calls, output.taken, is_so)
 }

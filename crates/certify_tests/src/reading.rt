@@ -91,12 +91,12 @@ const READ: [(&str, &str); 17] = [
     ("a\nc 1\n 1\n0 b", "a 1;x"),
 ];
 
-/// Tests whether `told` is returned for the text, read in one piece and in smaller ones.
-fn reads(alloc: Global, (text, told): (&str, &str)) -> bool {
+/// Tests whether `expected` is returned for the text, read in one piece and in smaller ones.
+fn reads(alloc: Global, (text, expected): (&str, &str)) -> bool {
     for size in [1, 2, 3, 4096] {
         match read_in(alloc, text.as_bytes(), size) {
             Ok(out) => {
-                if out.as_slice() != told.as_bytes() {
+                if out.as_slice() != expected.as_bytes() {
                     return false;
                 }
             }
@@ -165,9 +165,9 @@ const JUDGED: [(&str, &str); 9] = [
     ("h 2 0 w 2 0 h 1 0 1 0 -2 0 ", "....2"),
 ];
 
-fn judges(alloc: Global, (text, told): (&str, &str)) -> bool {
+fn judges(alloc: Global, (text, expected): (&str, &str)) -> bool {
     match judge_all(alloc, text.as_bytes()) {
-        Ok(out) => out.as_slice() == told.as_bytes(),
+        Ok(out) => out.as_slice() == expected.as_bytes(),
         Err(_) => false,
     }
 }

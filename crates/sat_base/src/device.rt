@@ -31,7 +31,7 @@ pub trait CountedRead: Read {
         ensures once { ReadsOnce result buf.new (seen self.old) (seen self.new) };
 
     // The bytes still to come are those that the contracts of `Read` describe.
-    ghost tells: { (r : Self) → (seen r).to_come ≡ Self.remaining r };
+    ghost known_bytes: { (r : Self) → (seen r).to_come ≡ Self.remaining r };
 }
 
 /// A writer whose contracts see the number of calls, the number of failed calls, and the bytes received.
@@ -65,13 +65,13 @@ pub trait CountedWrite: Write {
     }
 
     // The bytes that the writer holds are those that the contracts of `Write` describe.
-    ghost tells: { (w : Self) → (seen w).contents ≡ Self.contents w };
+    ghost known_bytes: { (w : Self) → (seen w).contents ≡ Self.contents w };
 }
 
 impl<R: CountedRead> CountedRead for &mut R {
     ghost seen = { λ r. lent_reader r.ghost_name (R.seen r.now) };
 
-    ghost tells = { λ r. R.tells r.now };
+    ghost known_bytes = { λ r. R.known_bytes r.now };
 
     fn read_counted(&mut self, buf: &mut [u8]) -> io::Result<usize> {
         CountedRead::read_counted(&mut **self, buf)
@@ -81,7 +81,7 @@ impl<R: CountedRead> CountedRead for &mut R {
 impl<W: CountedWrite> CountedWrite for &mut W {
     ghost seen = { λ w. lent_writer w.ghost_name (W.seen w.now) };
 
-    ghost tells = { λ w. W.tells w.now };
+    ghost known_bytes = { λ w. W.known_bytes w.now };
 
     fn write_counted(&mut self, piece: &[u8]) -> io::Result<usize> {
         CountedWrite::write_counted(&mut **self, piece)

@@ -70,12 +70,12 @@ impl<T: Copy> Table<T> {
         if place < self.near.len() {
             return self.near[place];
         }
-        self.get_behind(place, missing)
+        self.get_past_near(place, missing)
     }
 
     /// Returns the value at `place`, which must not be near, or `missing` if there is none.
     #[inline(always)]
-    fn get_behind(&self, place: usize, missing: T) -> T
+    fn get_past_near(&self, place: usize, missing: T) -> T
         requires { length self.now.near.items ≤ place }
         ensures { result ≡ value_at missing self.now place }
     {
@@ -108,12 +108,12 @@ impl<T: Copy> Table<T> {
         if place < self.near.len() {
             return Ok(());
         }
-        self.make_room_behind(place, missing)
+        self.make_room_far(place, missing)
     }
 
     /// Makes room for a value at `place`, which is not near, either in the list or in the tree.
     #[inline(never)]
-    fn make_room_behind(&mut self, place: usize, missing: T) -> Result<(), AllocError>
+    fn make_room_far(&mut self, place: usize, missing: T) -> Result<(), AllocError>
         requires { length self.old.near.items ≤ place }
         ensures room { OnOk result (HasPlaceFor self.new place) }
         ensures same { KeepsValues missing self.old self.new }

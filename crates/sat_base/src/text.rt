@@ -3,9 +3,9 @@ ghost use Rattle.std.specs.Prelude.{◌≡◌, ◌+◌, ◌*◌, ◌-◌, ◌<�
 ghost use Rattle.std.specs.Prelude.{length, take};
 ghost use Rattle.sat_base.specs.text.Text.{is_blank, is_digit, is_letter, Scan, scan};
 ghost use Rattle.sat_base.specs.text.Chunks.{Follows, IgnoresRest};
-ghost use Rattle.sat_base.specs.text.WrongWords.{RightAhead, WrongAhead};
+ghost use Rattle.sat_base.specs.text.WrongWords.{HasValidContinuation, HasNoValidContinuation};
 ghost use Rattle.sat_base.specs.text.Tokenizing.{grown, held, may_come, Began, MovesPlace, MovesBy, BeginsWord};
-ghost use Rattle.sat_base.specs.text.Tokenizing.{SaysInHand, SaysAtBlank, LeadsBehind, IsQuiet, StandsBefore};
+ghost use Rattle.sat_base.specs.text.Tokenizing.{SaysInHand, SaysAtBlank, LeadsAfter, IsQuiet, IsPositionedBefore};
 ghost use Rattle.sat_base.specs.text.Tokenizing.{TakesByte, TakesFront, HoldsNoWord, GivesLast};
 
 mod header;
@@ -319,7 +319,7 @@ fn token_at_blank(place: Place) -> Option<Token>
 /// Returns the place that follows `place` after a blank within a line.
 #[inline(always)]
 fn after_blank(place: Place) -> Place
-    ensures leads { LeadsBehind place result }
+    ensures leads { LeadsAfter place result }
     ensures quiet { IsQuiet result }
 {
     match place {
@@ -355,7 +355,7 @@ fn may_come(place: Place) -> bool
 impl Tokenizer {
     /// Returns a tokenizer positioned before the first byte of a text.
     pub fn new() -> Tokenizer
-        ensures { StandsBefore result scan }
+        ensures { IsPositionedBefore result scan }
     {
         Tokenizer {
             place: Place::Fresh(true),
@@ -377,8 +377,8 @@ impl Tokenizer {
     #[inline(always)]
     fn end_line(&mut self) -> Option<Token>
         ensures takes { TakesByte self.old 10 result self.new }
-        ensures ended { (after : List ℕ → Scan) → StandsBefore self.new after → (after []).tokens ≡ [] }
-        ensures right { (after : List ℕ → Scan) → StandsBefore self.new after → RightAhead after }
+        ensures ended { (after : List ℕ → Scan) → IsPositionedBefore self.new after → (after []).tokens ≡ [] }
+        ensures right { (after : List ℕ → Scan) → IsPositionedBefore self.new after → HasValidContinuation after }
     {
         if let Place::Over = self.place {
             return None;
@@ -398,12 +398,12 @@ impl Tokenizer {
         // Only a blank ends a word.
         ensures inside { is_blank byte ≡ false → result ≡ None }
         // After a blank no word is unfinished, and after LF no header line is unfinished.
-        ensures quiet { is_blank byte ≡ true → (after : List ℕ → Scan) → StandsBefore self.new after
+        ensures quiet { is_blank byte ≡ true → (after : List ℕ → Scan) → IsPositionedBefore self.new after
             → HoldsNoWord (after []) }
-        ensures ended { byte ≡ 10 → (after : List ℕ → Scan) → StandsBefore self.new after → (after []).tokens ≡ [] }
+        ensures ended { byte ≡ 10 → (after : List ℕ → Scan) → IsPositionedBefore self.new after → (after []).tokens ≡ [] }
         // After a blank, the text can still be continued to a valid one.
-        ensures right { is_blank byte ≡ true → (after : List ℕ → Scan) → StandsBefore self.new after
-            → RightAhead after }
+        ensures right { is_blank byte ≡ true → (after : List ℕ → Scan) → IsPositionedBefore self.new after
+            → HasValidContinuation after }
     {
         // Most bytes continue a number, so this place is tested first.
         if let Place::Digits { negative, value } = self.place {
@@ -430,7 +430,7 @@ impl Tokenizer {
     fn push_number(&mut self, bytes: &[u8]) -> Option<usize>
         ensures none { result ≡ None → self.new ≡ self.old }
         ensures within { IfSome result (λ n. (0 < n) × (n ≤ length bytes.now)) }
-        ensures takes { IfSome result (λ n. Follows StandsBefore self.old (take n bytes.now) self.new) }
+        ensures takes { IfSome result (λ n. Follows IsPositionedBefore self.old (take n bytes.now) self.new) }
     {
         if !begins_word(self.place) {
             return None;
@@ -450,8 +450,8 @@ impl Tokenizer {
         // The effect is as if the bytes were pushed one by one: the last one ends the number.
         ensures takes { IfSome result (λ r.
             TakesFront self.old (take r.0 bytes.now) (Some (Token.Number r.1 r.2)) self.new) }
-        ensures right { (result ≡ None → ⊥) → (after : List ℕ → Scan) → StandsBefore self.new after
-            → RightAhead after }
+        ensures right { (result ≡ None → ⊥) → (after : List ℕ → Scan) → IsPositionedBefore self.new after
+            → HasValidContinuation after }
     {
         if !begins_word(self.place) {
             return None;
@@ -482,8 +482,8 @@ impl Tokenizer {
         ensures some { 0 < result.0 }
         ensures within { result.0 ≤ length bytes.now }
         ensures takes { TakesFront self.old (take result.0 bytes.now) result.1 self.new }
-        ensures right { (result.1 ≡ None → ⊥) → (after : List ℕ → Scan) → StandsBefore self.new after
-            → RightAhead after }
+        ensures right { (result.1 ≡ None → ⊥) → (after : List ℕ → Scan) → IsPositionedBefore self.new after
+            → HasValidContinuation after }
     {
         let Some(count) = self.push_number(bytes) else {
             return (1, self.push(bytes[0]));
@@ -500,8 +500,8 @@ impl Tokenizer {
     /// only at its end, since it could continue as `-01`.
     #[inline(always)]
     pub fn is_wrong(&self) -> bool
-        ensures wrong { result ≡ true → (before : List ℕ → Scan) → StandsBefore self.now before → WrongAhead before }
-        ensures right { result ≡ false → (before : List ℕ → Scan) → StandsBefore self.now before → RightAhead before }
+        ensures wrong { result ≡ true → (before : List ℕ → Scan) → IsPositionedBefore self.now before → HasNoValidContinuation before }
+        ensures right { result ≡ false → (before : List ℕ → Scan) → IsPositionedBefore self.now before → HasValidContinuation before }
     {
         match self.place {
             Place::Bad => true,
@@ -514,10 +514,10 @@ impl Tokenizer {
     /// not be read. In this case no token is unfinished.
     #[inline(always)]
     pub fn is_over(&self) -> bool
-        ensures over { result ≡ true → (before : List ℕ → Scan) → StandsBefore self.now before → IgnoresRest before }
-        ensures goes_on { result ≡ false → (before : List ℕ → Scan) → StandsBefore self.now before → IgnoresRest before
+        ensures over { result ≡ true → (before : List ℕ → Scan) → IsPositionedBefore self.now before → IgnoresRest before }
+        ensures goes_on { result ≡ false → (before : List ℕ → Scan) → IsPositionedBefore self.now before → IgnoresRest before
             → ⊥ }
-        ensures none { result ≡ true → (before : List ℕ → Scan) → StandsBefore self.now before
+        ensures none { result ≡ true → (before : List ℕ → Scan) → IsPositionedBefore self.now before
             → (before []).tokens ≡ [] }
     {
         matches!(self.place, Place::Over)
@@ -525,7 +525,7 @@ impl Tokenizer {
 
     /// Returns the token that is completed if the text ends here, or `None`.
     pub fn finish(&self) -> Option<Token>
-        ensures { (before : List ℕ → Scan) → StandsBefore self.now before → GivesLast result (before []) }
+        ensures { (before : List ℕ → Scan) → IsPositionedBefore self.now before → GivesLast result (before []) }
     {
         token_in(self.place)
     }
@@ -534,7 +534,7 @@ impl Tokenizer {
     /// is capped at 2^64-1. After the `%` that ends the text, it is the line of the `%`. The token that the last byte
     /// ended is on this line, and so is the token that `finish` returns.
     pub fn line(&self) -> u64
-        ensures { (before : List ℕ → Scan) → StandsBefore self.now before → result ≡ held (before []).last }
+        ensures { (before : List ℕ → Scan) → IsPositionedBefore self.now before → result ≡ held (before []).last }
     {
         match self.place {
             Place::Fresh(_) => self.lines,

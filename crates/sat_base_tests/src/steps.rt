@@ -92,8 +92,8 @@ fn pieces_give(
 }
 
 /// Tests whether a text, read in one piece or byte by byte, has the given steps and the given end.
-fn both_give(alloc: Global, text: &[u8], steps: &[u8], (errors, behind): End) -> bool {
-    let calls = (text.len() as u64).saturating_add(behind);
+fn both_give(alloc: Global, text: &[u8], steps: &[u8], (errors, following): End) -> bool {
+    let calls = (text.len() as u64).saturating_add(following);
     whole_gives(alloc, text, steps, errors)
         && pieces_give(alloc, text, 0, steps, errors) == (true, calls)
 }

@@ -189,12 +189,12 @@ fn gives_header_at_the_end(tokenizer: &mut Tokenizer) -> bool {
 fn gives_headers_where_their_lines_end(rt: HostRuntime) {
     let mut tokenizer = Tokenizer::new();
     assert!(rt; gives_header_at_the_end(&mut tokenizer));
-    let behind = [
+    let following = [
         (b'\n', LIMIT_HEADER, 3),
         (b'1', None, 4),
         (b' ', Some(ONE), 4),
     ];
-    let wrong = wrong_byte(&mut tokenizer, &behind);
+    let wrong = wrong_byte(&mut tokenizer, &following);
     assert!(rt; wrong == None, "{wrong:?}");
 }
 
@@ -318,7 +318,7 @@ fn reports_numbers_from_wrong_words(rt: HostRuntime) {
 }
 
 /// Returns the number of bytes after which a word or header line is malformed whatever follows, or `None`.
-fn wrong_behind(text: &[u8]) -> Option<u64> {
+fn wrong_after(text: &[u8]) -> Option<u64> {
     let mut tokenizer = Tokenizer::new();
     let mut count = 0u64;
     for byte in text {
@@ -382,7 +382,7 @@ fn turns() -> &'static [(&'static [u8], Option<u64>)] {
 #[test]
 fn wrong_words_are_reported_at_their_first_wrong_byte(rt: HostRuntime) {
     for &(text, count) in turns() {
-        let found = wrong_behind(text);
+        let found = wrong_after(text);
         assert!(rt; found == count, "{text:?} {found:?}");
     }
 }

@@ -78,7 +78,7 @@ module _ {L : Type 0} (Hears : L → Notice → Result Unit ProcessingError → 
 
   -- that the checker only returns `HasFailed` from now on; its state did not change
   pub record Fails (new : CheckerView L) (steps : List Step) : Type 0 where
-    pub stands : HasAccepted new steps
+    pub valid : HasAccepted new steps
     pub failed : has_failed new ≡ true
 
   -- that the checker failed, and has announced only what was pending
@@ -103,13 +103,13 @@ module _ {L : Type 0} (Hears : L → Notice → Result Unit ProcessingError → 
       ⊎ (Accepts (ready_after steps) step × FailsAtListener e (notices_after (step ∷ steps)) new (step ∷ steps))
 
   -- That memory ran out for the step, which would be accepted, or during an announcement.
-  abbrev pub StarvesAt : CheckerView L → Step → List Step → Type 0
-  StarvesAt new step steps = (Accepts (ready_after steps) step × FailsBeforeStep new steps) ⊎ BreaksAt faults.OutOfMemory new step steps
+  abbrev pub RunsOutOfMemoryAt : CheckerView L → Step → List Step → Type 0
+  RunsOutOfMemoryAt new step steps = (Accepts (ready_after steps) step × FailsBeforeStep new steps) ⊎ BreaksAt faults.OutOfMemory new step steps
 
   -- that the step was accepted, in agreement with the definition
   pub record Takes (new : CheckerView L) (step : Step) (steps : List Step) : Type 0 where
     pub accepts : Accepts (ready_after steps) step
-    pub stands : HasAccepted new (step ∷ steps)
+    pub valid : HasAccepted new (step ∷ steps)
     pub goes_on : has_failed new ≡ false
 
   -- What the result for a step means after these accepted steps. A refused step is one that the definition refuses; `CounterEnd` is returned only if
@@ -118,7 +118,7 @@ module _ {L : Type 0} (Hears : L → Notice → Result Unit ProcessingError → 
   AnswersStep (Ok x) old step new steps = (has_failed old ≡ false) × Takes new step steps
   AnswersStep (Err errors.CheckFailed) old step new steps = (has_failed old ≡ false) × (Accepts (ready_after steps) step → ⊥) × FailsRefusing new steps
   AnswersStep (Err errors.CounterEnd) old step new steps = (has_failed old ≡ false) × SpentBy step (stored_after steps) × FailsBeforeStep new steps
-  AnswersStep (Err errors.OutOfMemory) old step new steps = (has_failed old ≡ false) × StarvesAt new step steps
+  AnswersStep (Err errors.OutOfMemory) old step new steps = (has_failed old ≡ false) × RunsOutOfMemoryAt new step steps
   AnswersStep (Err (errors.ProofProcessorError cause)) old step new steps = (has_failed old ≡ false) × BreaksAt (faults.ProofProcessorError cause) new step steps
   AnswersStep (Err errors.HasFailed) old step new steps = (has_failed old ≡ true) × (new ≡ old)
   AnswersStep (Err errors.ProofIncomplete) old step new steps = ⊥

@@ -2,9 +2,9 @@
 use Rattle.std.specs.Prelude.{ℕ, ◌≡◌, ◌+◌, ◌≤◌, true, false, List, [], ◌∷◌, ◌++◌, map, Result, Ok, Err}
 use Rattle.sat_base.specs.steps.Steps.{Step, AddClause}
 use Rattle.sat_checker.specs.Accepts.{Accepts, stored_after, ready_after}
-use Rattle.sat_checker.specs.CheckerView.{CheckerView, has_failed, looks_of, HasAccepted, FailsBeforeStep, BreaksAt, StarvesAt}
+use Rattle.sat_checker.specs.CheckerView.{CheckerView, has_failed, looks_of, HasAccepted, FailsBeforeStep, BreaksAt, RunsOutOfMemoryAt}
 use Rattle.sat_checker.specs.announcements.Announcements.{Notice}
-use Rattle.sat_checker.specs.ProofView.{taken_after, most_looks_behind, StandsUnfailed}
+use Rattle.sat_checker.specs.ProofView.{taken_after, most_looks_after, HasAcceptedUnfailed}
 use Rattle.sat_checker.specs.Spent.{SpentBy}
 use Rattle.sat_checker.specs.declared.error.CheckerError.{CheckerError}
 use Rattle.sat_checker.specs.declared.error.CheckerError.TheVariants as errors
@@ -20,7 +20,7 @@ pub record AddsFirstClauses {L : Type 0} (old new : CheckerView L) (clauses adde
   pub well : has_failed old ≡ false
   pub left : List (List ℕ)
   pub split : clauses ≡ (added ++ tried) ++ left
-  pub looks : looks_of new ≤ looks_of old + most_looks_behind (additions (added ++ tried)) earlier
+  pub looks : looks_of new ≤ looks_of old + most_looks_after (additions (added ++ tried)) earlier
 
 -- the accepted steps after clauses were added, given the earlier steps
 abbrev pub after_additions : List (List ℕ) → List Step → List Step
@@ -30,16 +30,16 @@ module _ {L : Type 0} (Hears : L → Notice → Result Unit ProcessingError → 
   -- The result of adding clauses: they are added as if by one call for each, up to the first that is not accepted. A refused clause does not
   -- change the checker.
   abbrev pub AnswersClauses : Result Unit CheckerError → CheckerView L → CheckerView L → List (List ℕ) → List Step → Type 0
-  AnswersClauses (Ok x) old new clauses earlier = AddsFirstClauses old new clauses clauses [] earlier × StandsUnfailed Hears before begun new (after_additions clauses earlier)
+  AnswersClauses (Ok x) old new clauses earlier = AddsFirstClauses old new clauses clauses [] earlier × HasAcceptedUnfailed Hears before begun new (after_additions clauses earlier)
   AnswersClauses (Err errors.CheckFailed) old new clauses earlier =
       (added : List (List ℕ)) × (clause : List ℕ) × AddsFirstClauses old new clauses added (clause ∷ []) earlier
-      × (Accepts (ready_after (after_additions added earlier)) (AddClause clause) → ⊥) × StandsUnfailed Hears before begun new (after_additions added earlier)
+      × (Accepts (ready_after (after_additions added earlier)) (AddClause clause) → ⊥) × HasAcceptedUnfailed Hears before begun new (after_additions added earlier)
   AnswersClauses (Err errors.CounterEnd) old new clauses earlier =
       (added : List (List ℕ)) × (clause : List ℕ) × AddsFirstClauses old new clauses added (clause ∷ []) earlier
       × SpentBy (AddClause clause) (stored_after (after_additions added earlier)) × FailsBeforeStep Hears before begun new (after_additions added earlier)
   AnswersClauses (Err errors.OutOfMemory) old new clauses earlier =
       (added : List (List ℕ)) × (clause : List ℕ) × AddsFirstClauses old new clauses added (clause ∷ []) earlier
-      × StarvesAt Hears before begun new (AddClause clause) (after_additions added earlier)
+      × RunsOutOfMemoryAt Hears before begun new (AddClause clause) (after_additions added earlier)
   AnswersClauses (Err (errors.ProofProcessorError cause)) old new clauses earlier =
       (added : List (List ℕ)) × (clause : List ℕ) × AddsFirstClauses old new clauses added (clause ∷ []) earlier
       × BreaksAt Hears before begun (faults.ProofProcessorError cause) new (AddClause clause) (after_additions added earlier)

@@ -10,7 +10,7 @@ use Rattle.sat_base.specs.steps.Steps.{Step}
 use Rattle.sat_checker.specs.KernelView as kernels
 use Rattle.sat_checker.specs.CheckerView.{CheckerView, kernel_of, has_failed, HasAccepted, FailsBeforeStep}
 use Rattle.sat_checker.specs.announcements.Announcements.{Notice}
-use Rattle.sat_checker.specs.ProofView.{NoReadFailed, StandsUnfailed}
+use Rattle.sat_checker.specs.ProofView.{NoReadFailed, HasAcceptedUnfailed}
 use Rattle.sat_checker.specs.ClausesView.{AddsFirstClauses, after_additions, AnswersClauses}
 use Rattle.sat_checker.specs.listeners.ProcessingView.{IsListenerFault}
 use Rattle.sat_checker.specs.declared.checker.Checker.{Checker}
@@ -30,33 +30,33 @@ AreRead text clauses = AreOfFront text clauses ⊎ (clauses ≡ (dimacs text).cl
 
 -- that the text begins with these clauses
 abbrev pub AreFirst : List (List ℕ) → List ℕ → Type 0
-AreFirst clauses text = (behind : List (List ℕ)) × ((dimacs text).clauses ≡ clauses ++ behind)
+AreFirst clauses text = (following : List (List ℕ)) × ((dimacs text).clauses ≡ clauses ++ following)
 
 -- that the text has these clauses before a fault, or memory ran out after them
-abbrev pub FaultBehind : DimacsError → List ℕ → List (List ℕ) → Type 0
-FaultBehind (texts.Malformed line) text clauses = (n : ℕ) × (line ≡ held n) × IsDimacs text clauses (Malformed n)
-FaultBehind (texts.Limit line) text clauses = (n : ℕ) × (line ≡ held n) × IsDimacs text clauses (Limit n)
-FaultBehind texts.OutOfMemory text clauses = ParsesShort text × AreOfFront text clauses
-FaultBehind texts.Read text clauses = ⊥
-FaultBehind texts.HasFailed text clauses = ⊥
+abbrev pub FaultAfter : DimacsError → List ℕ → List (List ℕ) → Type 0
+FaultAfter (texts.Malformed line) text clauses = (n : ℕ) × (line ≡ held n) × IsDimacs text clauses (Malformed n)
+FaultAfter (texts.Limit line) text clauses = (n : ℕ) × (line ≡ held n) × IsDimacs text clauses (Limit n)
+FaultAfter texts.OutOfMemory text clauses = ParsesShort text × AreOfFront text clauses
+FaultAfter texts.Read text clauses = ⊥
+FaultAfter texts.HasFailed text clauses = ⊥
 
 -- That a text was read up to its fault, or to a read that failed, whatever bytes could follow.
-abbrev pub FailsBehind : DimacsError → Reader → Reader → List (List ℕ) → Type 0
-FailsBehind texts.Read from to clauses = ReadFails from to × (text : List ℕ) × GaveFront from to text × IsSoundText text × (clauses ≡ (dimacs (up_to_last_blank text)).clauses)
-FailsBehind error from to clauses = NoReadFailed from to × GaveEnough from to (λ text. FaultBehind error text clauses)
+abbrev pub FailsAfter : DimacsError → Reader → Reader → List (List ℕ) → Type 0
+FailsAfter texts.Read from to clauses = ReadFails from to × (text : List ℕ) × GaveFront from to text × IsSoundText text × (clauses ≡ (dimacs (up_to_last_blank text)).clauses)
+FailsAfter error from to clauses = NoReadFailed from to × GaveEnough from to (λ text. FaultAfter error text clauses)
 
 module _ {L : Type 0} (Hears : L → Notice → Result Unit ProcessingError → L → Type 0) (before : List Notice) (begun : L) where
   -- that the checker continues, unless memory ran out
-  abbrev pub StandsBehind : DimacsError → CheckerView L → List Step → Type 0
-  StandsBehind texts.OutOfMemory new steps = FailsBeforeStep Hears before begun new steps
-  StandsBehind error new steps = StandsUnfailed Hears before begun new steps
+  abbrev pub ContinuesAfter : DimacsError → CheckerView L → List Step → Type 0
+  ContinuesAfter texts.OutOfMemory new steps = FailsBeforeStep Hears before begun new steps
+  ContinuesAfter error new steps = HasAcceptedUnfailed Hears before begun new steps
 
   -- What the result for a text means after these accepted steps. It is `Ok` if all clauses of the text were added. If the text has a fault, those before the fault were added; if a clause isn't accepted, those before it.
   abbrev pub AnswersDimacs : Result Unit CheckerDimacsError → CheckerView L → CheckerView L → Reader → Reader → List Step → Type 0
   AnswersDimacs (Ok x) old new from to earlier =
       NoReadFailed from to × (clauses : List (List ℕ)) × GaveEnough from to (λ text. IsDimacs text clauses Clean) × AnswersClauses Hears before begun (Ok tt) old new clauses earlier
   AnswersDimacs (Err (refused.Dimacs error)) old new from to earlier =
-      (clauses : List (List ℕ)) × FailsBehind error from to clauses × AddsFirstClauses old new clauses clauses [] earlier × StandsBehind error new (after_additions clauses earlier)
+      (clauses : List (List ℕ)) × FailsAfter error from to clauses × AddsFirstClauses old new clauses clauses [] earlier × ContinuesAfter error new (after_additions clauses earlier)
   AnswersDimacs (Err (refused.Checker errors.HasFailed)) old new from to earlier = (has_failed old ≡ true) × (to ≡ from) × (new ≡ old)
   AnswersDimacs (Err (refused.Checker error)) old new from to earlier =
       NoReadFailed from to × (clauses : List (List ℕ)) × GaveEnough from to (λ text. AreRead text clauses) × AnswersClauses Hears before begun (Err error) old new clauses earlier

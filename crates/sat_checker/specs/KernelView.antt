@@ -5,7 +5,7 @@ use Rattle.sat_checker.specs.Stored.{Stored}
 use Rattle.sat_checker.specs.Spent.{IsSpent, SpentBy}
 use Rattle.sat_checker.specs.Accepts.{Accepts, AcceptsAll, stored_after, ready_after}
 use Rattle.sat_checker.specs.Looks.{most_looks}
-use Rattle.sat_checker.specs.inner.StateView.{KeepsStored}
+use Rattle.sat_checker.specs.inner.StateView.{RepresentsStored}
 use Rattle.sat_checker.specs.declared.kernel.Kernel.{Kernel}
 use Rattle.sat_checker.specs.declared.state.State.{State}
 use Rattle.sat_checker.specs.declared.state.status.Records.{Records}
@@ -29,7 +29,7 @@ KernelIsSettled k = k.state.formula.status.conflict ≡ None
 -- That the kernel stores what is stored after these steps. A unit conflict that was then pending may have been settled since.
 pub record KeepsAfter (state : State) (steps : List Step) : Type 0 where
   pub formula : Stored
-  pub keeps : KeepsStored state formula
+  pub keeps : RepresentsStored state formula
   pub left : (formula ≡ stored_after steps) ⊎ (formula ≡ ready_after steps)
 
 -- the records of what is stored, which can still be returned after a later step has failed
@@ -44,7 +44,7 @@ pub record HasAccepted (kernel : Kernel) (steps : List Step) : Type 0 where
 
 -- that the kernel only returns `HasFailed` from now on; its state did not change
 pub record Fails (new : Kernel) (steps : List Step) : Type 0 where
-  pub stands : HasAccepted new steps
+  pub valid : HasAccepted new steps
   pub failed : kernel_has_failed new ≡ true
 
 -- that a unit conflict is pending after these steps, and is announced before the next step is judged
@@ -54,7 +54,7 @@ LeavesConflict steps = (stored_after steps).conflict ≢ None
 -- that the step was accepted, in agreement with the definition
 pub record AcceptsStep (new : Kernel) (step : Step) (steps : List Step) : Type 0 where
   pub accepts : Accepts (ready_after steps) step
-  pub stands : HasAccepted new (step ∷ steps)
+  pub valid : HasAccepted new (step ∷ steps)
   pub goes_on : kernel_has_failed new ≡ false
 
 -- What the result for a step means after these accepted steps. A refused step is one that the definition refuses; `CounterEnd` is returned only if

@@ -5,7 +5,7 @@ use Rattle.sat_base.specs.steps.Steps.{Redundant, Step, DeleteVar, AddClause, At
 use Rattle.sat_checker.specs.Stored.{Satisfies}
 use Rattle.sat_checker.specs.Fold.{Holds}
 use Rattle.sat_checker.specs.Looks.{most_looks, most_looks_of}
-use Rattle.sat_checker.specs.Rows.{behind, ready_by, four_clauses}
+use Rattle.sat_checker.specs.Rows.{following, ready_by, four_clauses}
 
 -- the valuation in which only this variable is true
 abbrev pub only : ℕ → Valuation
@@ -16,28 +16,28 @@ abbrev pub none_true : Valuation
 none_true v = false
 
 -- that these steps, in the order of a certificate, allow the valuation
-abbrev pub HoldsBehind : List Step → Valuation → Type 0
-HoldsBehind steps = Holds (behind steps [])
+abbrev pub HoldsAfter : List Step → Valuation → Type 0
+HoldsAfter steps = Holds (following steps [])
 
 -- the clause [1, 2] is true by either literal, and false if neither is true
 abbrev pub EitherHolds : Type 0
 EitherHolds =
-    HoldsBehind (AddClause (0 ∷ 2 ∷ []) ∷ []) (only 0) × HoldsBehind (AddClause (0 ∷ 2 ∷ []) ∷ []) (only 1)
-    × (HoldsBehind (AddClause (0 ∷ 2 ∷ []) ∷ []) none_true → ⊥)
+    HoldsAfter (AddClause (0 ∷ 2 ∷ []) ∷ []) (only 0) × HoldsAfter (AddClause (0 ∷ 2 ∷ []) ∷ []) (only 1)
+    × (HoldsAfter (AddClause (0 ∷ 2 ∷ []) ∷ []) none_true → ⊥)
 
 -- no valuation satisfies the four clauses over two variables
 abbrev pub FourHaveNone : Type 0
-FourHaveNone = (a : Valuation) → HoldsBehind four_clauses a → ⊥
+FourHaveNone = (a : Valuation) → HoldsAfter four_clauses a → ⊥
 
 -- after the clause [1], its variable is deleted: the variable may then be false, even if [2] is added
 abbrev pub DeletedIsFree : Type 0
 DeletedIsFree =
-    HoldsBehind (AddClause (0 ∷ []) ∷ DeleteVar 0 ∷ []) none_true × HoldsBehind (AddClause (0 ∷ []) ∷ DeleteVar 0 ∷ AddClause (2 ∷ []) ∷ []) (only 1)
-    × (HoldsBehind (AddClause (0 ∷ []) ∷ DeleteVar 0 ∷ AddClause (2 ∷ []) ∷ []) none_true → ⊥)
+    HoldsAfter (AddClause (0 ∷ []) ∷ DeleteVar 0 ∷ []) none_true × HoldsAfter (AddClause (0 ∷ []) ∷ DeleteVar 0 ∷ AddClause (2 ∷ []) ∷ []) (only 1)
+    × (HoldsAfter (AddClause (0 ∷ []) ∷ DeleteVar 0 ∷ AddClause (2 ∷ []) ∷ []) none_true → ⊥)
 
 -- derived clauses and deleted clauses require nothing
 abbrev pub OnlyAddedAsk : Type 0
-OnlyAddedAsk = HoldsBehind (AtClause false (0 ∷ []) [] ∷ AddClause (2 ∷ []) ∷ DeleteClause (2 ∷ []) Redundant ∷ []) (only 1)
+OnlyAddedAsk = HoldsAfter (AtClause false (0 ∷ []) [] ∷ AddClause (2 ∷ []) ∷ DeleteClause (2 ∷ []) Redundant ∷ []) (only 1)
 
 -- a stored clause requires a true literal, a redundant clause requires nothing, and a unit requires itself
 abbrev pub StoredAsk : Type 0
@@ -59,4 +59,4 @@ LooksOfKinds =
 
 -- nothing is stored before the first step, and a clause of two literals is stored before both others
 abbrev pub LooksOfAll : Type 0
-LooksOfAll = most_looks_of (behind (AddClause (0 ∷ 2 ∷ []) ∷ AddClause (4 ∷ []) ∷ End ∷ []) []) ≡ 20
+LooksOfAll = most_looks_of (following (AddClause (0 ∷ 2 ∷ []) ∷ AddClause (4 ∷ []) ∷ End ∷ []) []) ≡ 20

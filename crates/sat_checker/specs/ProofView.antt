@@ -7,7 +7,7 @@ use Rattle.sat_base.specs.steps.Steps.{Step, End}
 use Rattle.sat_base.specs.steps.StepText.{SpellsStep, SpellsSteps}
 use Rattle.sat_checker.specs.Accepts.{Accepts, stored_after, ready_after}
 use Rattle.sat_checker.specs.Looks.{most_looks}
-use Rattle.sat_checker.specs.CheckerView.{CheckerView, has_failed, looks_of, IsSettled, HasAccepted, FailsRefusing, FailsBeforeStep, BreaksAt, StarvesAt}
+use Rattle.sat_checker.specs.CheckerView.{CheckerView, has_failed, looks_of, IsSettled, HasAccepted, FailsRefusing, FailsBeforeStep, BreaksAt, RunsOutOfMemoryAt}
 use Rattle.sat_checker.specs.announcements.Announcements.{Notice}
 use Rattle.sat_checker.specs.Spent.{SpentBy}
 use Rattle.sat_checker.specs.declared.error.CheckerError.{CheckerError}
@@ -21,9 +21,9 @@ taken_after [] earlier = earlier
 taken_after (step ∷ steps) earlier = taken_after steps (step ∷ earlier)
 
 -- the largest number of looks that these steps need after the earlier steps
-abbrev pub most_looks_behind : List Step → List Step → ℕ
-most_looks_behind [] earlier = 0
-most_looks_behind (step ∷ steps) earlier = most_looks (ready_after earlier) step + most_looks_behind steps (step ∷ earlier)
+abbrev pub most_looks_after : List Step → List Step → ℕ
+most_looks_after [] earlier = 0
+most_looks_after (step ∷ steps) earlier = most_looks (ready_after earlier) step + most_looks_after steps (step ∷ earlier)
 
 -- the largest number of bytes that the allowed reads can give: 2^60
 abbrev pub most_bytes : ℕ
@@ -42,8 +42,8 @@ pub record GaveSteps (old new : Reader) (steps : List Step) (rest : List ℕ) : 
 pub record BeginsWithStep (bytes : List ℕ) : Type 0 where
   pub tag : ℕ
   pub more : List ℕ
-  pub behind : List ℕ
-  pub whole : bytes ≡ (tag ∷ more) ++ behind
+  pub following : List ℕ
+  pub whole : bytes ≡ (tag ∷ more) ++ following
   pub begins : BeginsText SpellsStep (tag ∷ more)
 
 -- A proof was read so far: steps that were accepted, none of them an end, then the last step read or none, and the bytes after them.
@@ -51,7 +51,7 @@ pub record ReadsProofPart {L : Type 0} (old new : CheckerView L) (from to : Read
   pub well : has_failed old ≡ false
   pub steps : GaveSteps from to (passed ++ last) rest
   pub unended : AllByRecursion (λ step. step ≢ End) passed
-  pub looks : looks_of new ≤ looks_of old + most_looks_behind (passed ++ last) earlier
+  pub looks : looks_of new ≤ looks_of old + most_looks_after (passed ++ last) earlier
 
 -- that no read failed
 abbrev pub NoReadFailed : Reader → Reader → Type 0
@@ -63,13 +63,13 @@ FoundNoEnd from to = from.calls < to.calls → to.ended ≡ true → ⊥
 
 module _ {L : Type 0} (Hears : L → Notice → Result Unit ProcessingError → L → Type 0) (before : List Notice) (begun : L) where
   -- that these steps were accepted, and the checker has not failed
-  abbrev pub StandsUnfailed : CheckerView L → List Step → Type 0
-  StandsUnfailed new steps = HasAccepted Hears before begun new steps × (has_failed new ≡ false)
+  abbrev pub HasAcceptedUnfailed : CheckerView L → List Step → Type 0
+  HasAcceptedUnfailed new steps = HasAccepted Hears before begun new steps × (has_failed new ≡ false)
 
   -- What the result for a proof means after these accepted steps. It is `Ok` exactly if what was read are accepted steps up to the first end; nothing after that is looked at.
   abbrev pub AnswersProof : Result Unit CheckerError → CheckerView L → CheckerView L → Reader → Reader → List Step → Type 0
   AnswersProof (Ok x) old new from to earlier =
-      (passed : List Step) × (rest : List ℕ) × ReadsProofPart old new from to earlier passed (End ∷ []) rest × NoReadFailed from to × StandsUnfailed new (End ∷ taken_after passed earlier) × IsSettled new
+      (passed : List Step) × (rest : List ℕ) × ReadsProofPart old new from to earlier passed (End ∷ []) rest × NoReadFailed from to × HasAcceptedUnfailed new (End ∷ taken_after passed earlier) × IsSettled new
   -- the last step read is refused
   AnswersProof (Err errors.CheckFailed) old new from to earlier =
       (passed : List Step) × (step : Step) × (rest : List ℕ) × ReadsProofPart old new from to earlier passed (step ∷ []) rest × NoReadFailed from to
@@ -77,20 +77,20 @@ module _ {L : Type 0} (Hears : L → Notice → Result Unit ProcessingError → 
   -- the text has ended before an end, between steps or within one
   AnswersProof (Err errors.ProofIncomplete) old new from to earlier =
       (passed : List Step) × (rest : List ℕ) × ReadsProofPart old new from to earlier passed [] rest × NoReadFailed from to
-      × IsOver to × IsProperFront SpellsStep rest × StandsUnfailed new (taken_after passed earlier)
+      × IsOver to × IsProperFront SpellsStep rest × HasAcceptedUnfailed new (taken_after passed earlier)
   -- no step can continue after a byte
   AnswersProof (Err errors.ParseError) old new from to earlier =
       (passed : List Step) × (rest : List ℕ) × ReadsProofPart old new from to earlier passed [] rest × NoReadFailed from to
-      × IsFirstBadByte SpellsStep rest × StandsUnfailed new (taken_after passed earlier)
+      × IsFirstBadByte SpellsStep rest × HasAcceptedUnfailed new (taken_after passed earlier)
   -- exactly one read failed, the last, or the limit of reads was reached and none failed
   AnswersProof (Err errors.IoError) old new from to earlier =
       (passed : List Step) × (rest : List ℕ) × ReadsProofPart old new from to earlier passed [] rest × ReadFails from to
-      × IsProperFront SpellsStep rest × StandsUnfailed new (taken_after passed earlier)
+      × IsProperFront SpellsStep rest × HasAcceptedUnfailed new (taken_after passed earlier)
   -- memory ran out while a step was read, after one of its bytes, or while it was checked or announced
   AnswersProof (Err errors.OutOfMemory) old new from to earlier =
       (passed : List Step) × (rest : List ℕ) × NoReadFailed from to
       × ((ReadsProofPart old new from to earlier passed [] rest × BeginsWithStep rest × FailsBeforeStep Hears before begun new (taken_after passed earlier))
-      ⊎ ((step : Step) × ReadsProofPart old new from to earlier passed (step ∷ []) rest × StarvesAt Hears before begun new step (taken_after passed earlier)))
+      ⊎ ((step : Step) × ReadsProofPart old new from to earlier passed (step ∷ []) rest × RunsOutOfMemoryAt Hears before begun new step (taken_after passed earlier)))
   -- the last id or count was already used
   AnswersProof (Err errors.CounterEnd) old new from to earlier =
       (passed : List Step) × (step : Step) × (rest : List ℕ) × ReadsProofPart old new from to earlier passed (step ∷ []) rest × NoReadFailed from to

@@ -6,21 +6,21 @@ use Rattle.sat_checker.specs.Stored.{Stored, Witness, UnitClause, hash_by, is_kn
 use Rattle.sat_checker.specs.Accepts.{Accepts, AcceptsAll, stored_after, ready_after}
 
 -- the steps in the order of the certificate, after the earlier steps, as a list with the newest first
-abbrev pub behind : List Step → List Step → List Step
-behind [] earlier = earlier
-behind (step ∷ steps) earlier = behind steps (step ∷ earlier)
+abbrev pub following : List Step → List Step → List Step
+following [] earlier = earlier
+following (step ∷ steps) earlier = following steps (step ∷ earlier)
 
 -- what is stored after steps in this order
 abbrev pub left_by : List Step → Stored
-left_by steps = stored_after (behind steps [])
+left_by steps = stored_after (following steps [])
 
 -- what is stored when the next step after them is judged
 abbrev pub ready_by : List Step → Stored
-ready_by steps = ready_after (behind steps [])
+ready_by steps = ready_after (following steps [])
 
 -- that all of the steps are accepted
 abbrev pub AllAccepted : List Step → Type 0
-AllAccepted steps = AcceptsAll (behind steps [])
+AllAccepted steps = AcceptsAll (following steps [])
 
 -- that the steps are accepted, and the step `last` after them is not
 abbrev pub LastRefused : List Step → Step → Type 0
@@ -261,8 +261,8 @@ abbrev pub ByOneCount : Type 0
 ByOneCount = AllAccepted (AddClause (0 ∷ []) ∷ AddClause (0 ∷ 2 ∷ 4 ∷ []) ∷ AddClause (0 ∷ 2 ∷ []) ∷ AtClause true (0 ∷ 2 ∷ []) [] ∷ DeleteClause (0 ∷ 2 ∷ []) Satisfied ∷ DeleteClause (0 ∷ 2 ∷ 4 ∷ []) Simplified ∷ [])
 
 -- once unsat is recorded, an input clause does nothing; a tautology makes its variables known, and gets an id only as an input clause
-abbrev pub BehindUnsat : Type 0
-BehindUnsat = let steps : List Step = AddClause [] ∷ AddClause (0 ∷ []) ∷ [] in AllAccepted steps × ((left_by steps).next_id ≡ 1) × (is_known 0 (left_by steps) ≡ false)
+abbrev pub AfterUnsat : Type 0
+AfterUnsat = let steps : List Step = AddClause [] ∷ AddClause (0 ∷ []) ∷ [] in AllAccepted steps × ((left_by steps).next_id ≡ 1) × (is_known 0 (left_by steps) ≡ false)
 
 -- a tautology gets id 0 as an input clause and none as a derived clause; its variable becomes known, and the tautology is not stored
 abbrev pub Tautologies : Type 0
@@ -283,16 +283,16 @@ abbrev pub two_clauses : List Step
 two_clauses = AddClause (0 ∷ 2 ∷ []) ∷ AddClause (0 ∷ 3 ∷ []) ∷ []
 
 -- no clause has hash 5, which does no harm if it is named last
-abbrev pub EmptyBehind : Type 0
-EmptyBehind = AllAccepted (two_clauses ++ AtClause false (0 ∷ []) (hash_of (0 ∷ 2 ∷ []) ∷ hash_of (0 ∷ 3 ∷ []) ∷ 5 ∷ []) ∷ [])
+abbrev pub EmptyAfter : Type 0
+EmptyAfter = AllAccepted (two_clauses ++ AtClause false (0 ∷ []) (hash_of (0 ∷ 2 ∷ []) ∷ hash_of (0 ∷ 3 ∷ []) ∷ 5 ∷ []) ∷ [])
 
 -- if a hash that no clause has is named first, the check fails
 abbrev pub EmptyBefore : Type 0
 EmptyBefore = LastRefused two_clauses (AtClause false (0 ∷ []) (5 ∷ hash_of (0 ∷ 2 ∷ []) ∷ hash_of (0 ∷ 3 ∷ []) ∷ []))
 
 -- a unit that is not stored is not the last irredundant clause; a unit that is stored is
-abbrev pub LastBehindConflict : Type 0
-LastBehindConflict = AllAccepted (AddClause (0 ∷ []) ∷ AddClause (2 ∷ 4 ∷ 6 ∷ []) ∷ AddClause (2 ∷ 4 ∷ []) ∷ AddClause (1 ∷ []) ∷ DeleteClause (2 ∷ 4 ∷ 6 ∷ []) Simplified ∷ [])
+abbrev pub LastAfterConflict : Type 0
+LastAfterConflict = AllAccepted (AddClause (0 ∷ []) ∷ AddClause (2 ∷ 4 ∷ 6 ∷ []) ∷ AddClause (2 ∷ 4 ∷ []) ∷ AddClause (1 ∷ []) ∷ DeleteClause (2 ∷ 4 ∷ 6 ∷ []) Simplified ∷ [])
 
 -- [1] is the last irredundant clause stored, which is not a part of [2, 3]
 abbrev pub LastUnit : Type 0

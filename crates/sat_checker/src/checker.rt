@@ -37,7 +37,7 @@ pub struct Checker<P: ProofProcessor = Nobody, T: ProofTranscriptProcessor = Nob
 impl Checker<Nobody, Nobody> {
     /// Creates a checker without listeners, which has accepted no step yet. Does not allocate.
     pub fn new(alloc: Global) -> Checker<Nobody, Nobody>
-        ensures stands { HasAccepted (kernel_of result) [] }
+        ensures valid { HasAccepted (kernel_of result) [] }
         ensures goes_on { kernel_has_failed (kernel_of result) ≡ false }
         ensures settled { kernels.KernelIsSettled (kernel_of result) }
         ensures looks { kernel_looks (kernel_of result) ≡ 0 }
@@ -63,7 +63,7 @@ impl<P: ProofProcessor, T: ProofTranscriptProcessor> Checker<P, T> {
     /// Creates a checker, as `new` does, for processors of type `P` and transcripts of type `T`. The checker has no
     /// listener yet.
     pub fn notifying(alloc: Global) -> Checker<P, T>
-        ensures stands { HasAccepted (kernel_of result) [] }
+        ensures valid { HasAccepted (kernel_of result) [] }
         ensures goes_on { kernel_has_failed (kernel_of result) ≡ false }
         ensures settled { kernels.KernelIsSettled (kernel_of result) }
         ensures looks { kernel_looks (kernel_of result) ≡ 0 }
@@ -78,7 +78,7 @@ impl<P: ProofProcessor, T: ProofTranscriptProcessor> Checker<P, T> {
     /// Creates a checker, as `notifying` does, with `listeners`, which another checker may have returned. Both lists
     /// keep their order.
     pub fn with_listeners(alloc: Global, listeners: Processors<P, T>) -> Checker<P, T>
-        ensures stands { HasAccepted (kernel_of result) [] }
+        ensures valid { HasAccepted (kernel_of result) [] }
         ensures goes_on { kernel_has_failed (kernel_of result) ≡ false }
         ensures settled { kernels.KernelIsSettled (kernel_of result) }
         ensures looks { kernel_looks (kernel_of result) ≡ 0 }

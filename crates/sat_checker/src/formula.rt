@@ -20,9 +20,9 @@ ghost use Rattle.sat_checker.specs.inner.Reasons.{noted_length};
 ghost use Rattle.sat_checker.specs.inner.StoreView.{TakesCount, with_less};
 ghost use Rattle.sat_checker.specs.inner.Marks.{IsIncreasing};
 ghost use Rattle.sat_checker.specs.declared.store.StoreError.TheVariants.{CounterEnd};
-ghost use Rattle.sat_checker.specs.inner.FormulaView.{KeepsFormula, refiled_in, ChecksAs, ChecksBeside, FormulaEffect};
+ghost use Rattle.sat_checker.specs.inner.FormulaView.{RepresentsFormula, refiled_in, ChecksAs, ChecksBeside, FormulaEffect};
 ghost use Rattle.sat_checker.specs.inner.FormulaView.{FormulaEffectIf, DeletionEffect, Explained};
-ghost use Rattle.sat_checker.specs.inner.InTurn.{PassBehind};
+ghost use Rattle.sat_checker.specs.inner.InTurn.{PassAfter};
 ghost use Rattle.sat_checker.specs.inner.AssumedRoom.{signed, HasClauseRoom};
 ghost use Rattle.sat_checker.specs.listeners.AnnouncingView.{stored_as, AreLong};
 ghost use Rattle.sat_checker.specs.listeners.NotedView.{AppendsNews, ChangesSet};
@@ -56,7 +56,7 @@ pub(crate) struct Formula {
 impl Formula {
     /// Creates an empty formula with 64-bit hashes.
     pub fn new(alloc: Global) -> Formula
-        ensures { KeepsFormula result nothing_stored }
+        ensures { RepresentsFormula result nothing_stored }
     {
         Formula {
             store: Store::new(alloc),
@@ -70,8 +70,8 @@ impl Formula {
     /// Files the stored clauses under the current hashes, if that has not been done yet. Does not allocate.
     #[inline(always)]
     pub fn file(&mut self, looks: &mut Looks)
-        ensures kept { (f : Stored) → KeepsFormula (refiled_in self.old) f → KeepsFormula self.new f }
-        ensures looks { LooksOver (KeepsFormula (refiled_in self.old)) literal_count looks.old looks.new }
+        ensures kept { (f : Stored) → RepresentsFormula (refiled_in self.old) f → RepresentsFormula self.new f }
+        ensures looks { LooksOver (RepresentsFormula (refiled_in self.old)) literal_count looks.old looks.new }
     {
         self.store.file(looks);
     }
@@ -197,7 +197,7 @@ impl Formula {
         requires long { 2 ≤ length literals.now }
         ensures stored { FormulaEffect result self.old (with_canonical redundant literals.now) self.new }
         ensures change { ChangesSet result redundant literals.now self.old }
-        ensures looks { LooksOver (KeepsFormula self.old) literal_count looks.old looks.new }
+        ensures looks { LooksOver (RepresentsFormula self.old) literal_count looks.old looks.new }
     {
         self.make_room(literals)?;
         let id = self.status.next_id;
@@ -220,7 +220,7 @@ impl Formula {
         requires { IsIncreasing literals.now }
         ensures stored { FormulaEffect result self.old (with_canonical redundant literals.now) self.new }
         ensures change { ChangesSet result redundant literals.now self.old }
-        ensures looks { LooksOver (KeepsFormula self.old) literal_count looks.old looks.new }
+        ensures looks { LooksOver (RepresentsFormula self.old) literal_count looks.old looks.new }
     {
         if literals.is_empty() {
             return self.store_empty(redundant);
@@ -241,10 +241,10 @@ impl Formula {
         requires { IsIncreasing literals.now }
         ensures stored { (clause : List ℕ) → literals.now ≡ canonical clause
             → FormulaEffect result self.old (with_stored redundant clause) self.new }
-        ensures change { IfOk result (λ change. (f : Stored) → KeepsFormula self.old f → AreLong f → (ids : List ℕ)
+        ensures change { IfOk result (λ change. (f : Stored) → RepresentsFormula self.old f → AreLong f → (ids : List ℕ)
             → stored_as change f.next_id redundant literals.now ids ≡ (if is_tautology literals.now then []
             else derived_set redundant literals.now ids f (id_of_set literals.now f))) }
-        ensures looks { LooksOver (KeepsFormula self.old) literal_count looks.old looks.new }
+        ensures looks { LooksOver (RepresentsFormula self.old) literal_count looks.old looks.new }
     {
         if has_both_signs(literals) {
             return Ok(Change::Neither);
@@ -258,7 +258,7 @@ impl Formula {
         requires { IsIncreasing literals.now }
         ensures stored { (clause : List ℕ) → literals.now ≡ canonical clause
             → FormulaEffect result self.old (with_input clause) self.new }
-        ensures looks { LooksOver (KeepsFormula self.old) literal_count looks.old looks.new }
+        ensures looks { LooksOver (RepresentsFormula self.old) literal_count looks.old looks.new }
     {
         let id = self.status.next_id;
         self.store_clause(false, literals, looks)?;
@@ -278,11 +278,11 @@ impl Formula {
         requires { IsIncreasing literals.now }
         ensures stored { (clause : List ℕ) → literals.now ≡ canonical clause
             → FormulaEffect result self.old (with_stored redundant clause) self.new }
-        ensures noted { OnOk result ((f : Stored) (clause hashes : List ℕ) → KeepsFormula self.old f → AreLong f
+        ensures noted { OnOk result ((f : Stored) (clause hashes : List ℕ) → RepresentsFormula self.old f → AreLong f
             → literals.now ≡ canonical clause
             → (IsTrue notes.old.hears → notes.old.rests_on.ids.items ≡ propagations f clause hashes)
             → AppendsNews notes.old (derived redundant clause hashes f) notes.new) }
-        ensures looks { LooksOver (KeepsFormula self.old) literal_count looks.old looks.new }
+        ensures looks { LooksOver (RepresentsFormula self.old) literal_count looks.old looks.new }
     {
         let id = self.status.next_id;
         let change = self.store_clause(redundant, literals, looks)?;
@@ -299,14 +299,14 @@ impl Formula {
         notes: &mut Notes,
         looks: &mut Looks,
     ) -> Result<bool, StoreError>
-        ensures decides { (f : Stored) → KeepsFormula self.old f
-            → FormulaEffectIf result (PassesByHashes f (lit ∷ []) (hash ∷ [])) (KeepsFormula self.new (with_unit lit f))
+        ensures decides { (f : Stored) → RepresentsFormula self.old f
+            → FormulaEffectIf result (PassesByHashes f (lit ∷ []) (hash ∷ [])) (RepresentsFormula self.new (with_unit lit f))
             (with_unit lit f) }
         ensures kept { OnErr result ((f : Stored) → ChecksAs self.old f → ChecksAs self.new f) }
-        ensures noted { IfOk result (λ passes. IsTrue passes → (f : Stored) → KeepsFormula self.old f → AreLong f
+        ensures noted { IfOk result (λ passes. IsTrue passes → (f : Stored) → RepresentsFormula self.old f → AreLong f
             → AppendsNews notes.old (derived false (lit ∷ []) (hash ∷ []) f) notes.new) }
         ensures hears { notes.new.hears ≡ notes.old.hears }
-        ensures looks { LooksOver (KeepsFormula self.old) (λ f. 2 * literal_count f) looks.old looks.new }
+        ensures looks { LooksOver (RepresentsFormula self.old) (λ f. 2 * literal_count f) looks.old looks.new }
     {
         if !self.check(&[lit], false, &[hash], notes.has_listener(), looks)? {
             return Ok(false);
@@ -323,7 +323,7 @@ impl Formula {
         looks: &mut Looks,
     ) -> Result<bool, AllocError>
         ensures exact { IfOk result (λ pass. (f : Stored) → ChecksAs self.old f
-            → IsTrue pass ↔ PassBehind f units.now) }
+            → IsTrue pass ↔ PassAfter f units.now) }
         ensures short { OnErr result ((f : Stored) → ChecksAs self.old f → ⊥) }
         ensures looks { LooksOver (ChecksAs self.old)
             (λ f. (length units.now - 1) * literal_count f) looks.old looks.new }
@@ -340,8 +340,8 @@ impl Formula {
         looks: &mut Looks,
     ) -> Result<bool, StoreError>
         ensures exact { (f : Stored) → ChecksAs self.old f → MatchResult result
-            (λ passes. (passes ≡ false) × (PassBehind f units.now → ⊥))
-            (λ e. (e ≡ fault) × PassBehind f units.now) }
+            (λ passes. (passes ≡ false) × (PassAfter f units.now → ⊥))
+            (λ e. (e ≡ fault) × PassAfter f units.now) }
         ensures never { IfOk result (λ passes. passes ≡ false) }
         ensures looks { LooksOver (ChecksAs self.old)
             (λ f. (length units.now - 1) * literal_count f) looks.old looks.new }
@@ -359,12 +359,12 @@ impl Formula {
         notes: &mut Notes,
         looks: &mut Looks,
     ) -> Result<bool, StoreError>
-        ensures decides { (f : Stored) → KeepsFormula self.old f
-            → FormulaEffectIf result (PassInTurn f units.now) (KeepsFormula self.new (with_units (map (λ u. u.0) units.now) f))
+        ensures decides { (f : Stored) → RepresentsFormula self.old f
+            → FormulaEffectIf result (PassInTurn f units.now) (RepresentsFormula self.new (with_units (map (λ u. u.0) units.now) f))
             (with_units (map (λ u. u.0) units.now) f) }
-        ensures noted { IfOk result (λ passes. IsTrue passes → (f : Stored) → KeepsFormula self.old f → AreLong f
+        ensures noted { IfOk result (λ passes. IsTrue passes → (f : Stored) → RepresentsFormula self.old f → AreLong f
             → AppendsNews notes.old (derived_units units.now f) notes.new) }
-        ensures looks { LooksOver (KeepsFormula self.old)
+        ensures looks { LooksOver (RepresentsFormula self.old)
             (λ f. length units.now * (2 * literal_count f)) looks.old looks.new }
     {
         for place in 0..units.len() {
@@ -384,16 +384,16 @@ impl Formula {
     /// Removes one count of the clause with the sorted literals `literals`: a redundant count if `redundant` is true,
     /// and an irredundant count otherwise. Returns whether the clause had such a count.
     fn take_count(&mut self, redundant: bool, literals: &[Lit], looks: &mut Looks) -> bool
-        ensures decides { (f : Stored) → KeepsFormula self.old f
-            → TakesCount result redundant literals.now f (KeepsFormula self.new (with_less redundant literals.now f)) }
-        ensures looks { LooksOver (KeepsFormula self.old) literal_count looks.old looks.new }
+        ensures decides { (f : Stored) → RepresentsFormula self.old f
+            → TakesCount result redundant literals.now f (RepresentsFormula self.new (with_less redundant literals.now f)) }
+        ensures looks { LooksOver (RepresentsFormula self.old) literal_count looks.old looks.new }
     {
         self.store.delete_clause(redundant, literals, looks)
     }
 
     /// Drops the removed clauses from memory if there are many. If memory runs out, all clauses are kept.
     pub fn compact(&mut self) -> Result<(), AllocError>
-        ensures { (f : Stored) → KeepsFormula self.old f → KeepsFormula self.new f }
+        ensures { (f : Stored) → RepresentsFormula self.old f → RepresentsFormula self.new f }
     {
         self.store.compact()
     }
@@ -409,7 +409,7 @@ impl Formula {
     ) -> bool
         requires { literals.now ≡ canonical clause.now }
         ensures decides { DeletionEffect result self.old (DeleteClause clause.now (deletion_of proof)) self.new }
-        ensures looks { LooksOver (KeepsFormula self.old) (λ f. 2 * literal_count f) looks.old looks.new }
+        ensures looks { LooksOver (RepresentsFormula self.old) (λ f. 2 * literal_count f) looks.old looks.new }
     {
         match proof {
             DeleteClauseProof::Redundant => self.delete_redundant(clause, literals, looks),
@@ -422,7 +422,7 @@ impl Formula {
     fn delete_redundant(&mut self, clause: &[Lit], literals: &[Lit], looks: &mut Looks) -> bool
         requires { literals.now ≡ canonical clause.now }
         ensures decides { DeletionEffect result self.old (DeleteClause clause.now Redundant) self.new }
-        ensures looks { LooksOver (KeepsFormula self.old) literal_count looks.old looks.new }
+        ensures looks { LooksOver (RepresentsFormula self.old) literal_count looks.old looks.new }
     {
         self.take_count(true, literals, looks)
     }
@@ -431,7 +431,7 @@ impl Formula {
     fn delete_satisfied(&mut self, clause: &[Lit], literals: &[Lit], looks: &mut Looks) -> bool
         requires { literals.now ≡ canonical clause.now }
         ensures decides { DeletionEffect result self.old (DeleteClause clause.now Satisfied) self.new }
-        ensures looks { LooksOver (KeepsFormula self.old) literal_count looks.old looks.new }
+        ensures looks { LooksOver (RepresentsFormula self.old) literal_count looks.old looks.new }
     {
         if !self.units.has_any(clause) {
             return false;
@@ -443,10 +443,10 @@ impl Formula {
     /// which must be sorted.
     fn has_last_within(&self, literals: &[Lit], looks: &mut Looks) -> bool
         requires { IsIncreasing literals.now }
-        ensures part { (f : Stored) → KeepsFormula self.now f
+        ensures part { (f : Stored) → RepresentsFormula self.now f
             → MatchBool result (IsStrictSubset (last_literals f.last f) literals.now)
             (IsStrictSubset (last_literals f.last f) literals.now → ⊥) }
-        ensures looks { LooksOver (KeepsFormula self.now) literal_count looks.old looks.new }
+        ensures looks { LooksOver (RepresentsFormula self.now) literal_count looks.old looks.new }
     {
         match self.status.last {
             LastClause::NoneYet => false,
@@ -466,7 +466,7 @@ impl Formula {
     fn delete_simplified(&mut self, clause: &[Lit], literals: &[Lit], looks: &mut Looks) -> bool
         requires { literals.now ≡ canonical clause.now }
         ensures decides { DeletionEffect result self.old (DeleteClause clause.now Simplified) self.new }
-        ensures looks { LooksOver (KeepsFormula self.old) (λ f. 2 * literal_count f) looks.old looks.new }
+        ensures looks { LooksOver (RepresentsFormula self.old) (λ f. 2 * literal_count f) looks.old looks.new }
     {
         if !self.has_last_within(literals, looks) {
             return false;
@@ -476,8 +476,8 @@ impl Formula {
 
     /// Removes the unit of a variable that is being deleted, if there is one, and records that a variable was deleted.
     pub fn forget(&mut self, var: Var)
-        ensures { (f : Stored) → KeepsFormula (refiled_in self.old) f
-            → KeepsFormula (refiled_in self.new) (without_variable var f) }
+        ensures { (f : Stored) → RepresentsFormula (refiled_in self.old) f
+            → RepresentsFormula (refiled_in self.new) (without_variable var f) }
     {
         self.units.forget(var);
         self.status.var_deleted = true;

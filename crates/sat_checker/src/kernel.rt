@@ -137,7 +137,7 @@ pub(crate) struct Kernel {
 impl Kernel {
     /// Creates a kernel that has accepted no step yet. Does not allocate.
     pub fn new(alloc: Global) -> Kernel
-        ensures stands { HasAccepted result [] }
+        ensures valid { HasAccepted result [] }
         ensures goes_on { kernel_has_failed result ≡ false }
         ensures settled { result.state.formula.status.conflict ≡ None }
         ensures looks { kernel_looks result ≡ 0 }

@@ -6,7 +6,7 @@ ghost use Rattle.sat_checker.specs.announcements.Promises.{NoticesInOrder};
 ghost use Rattle.sat_checker.specs.announcements.Rows.{AnswersRead, AssumedAnnounced, CollidingAnnounced, ConflictAndUnitAnnounced};
 ghost use Rattle.sat_checker.specs.announcements.Rows.{Contradiction, CoreFailed, CoreOfBothSigns, DerivedIrredundant};
 ghost use Rattle.sat_checker.specs.announcements.Rows.{DerivedIrredundantAgain, DerivedNew, DerivedRedundantAgain};
-ghost use Rattle.sat_checker.specs.announcements.Rows.{DerivedTautology, DerivedUnitAgain, InputBehindUnsat};
+ghost use Rattle.sat_checker.specs.announcements.Rows.{DerivedTautology, DerivedUnitAgain, InputAfterUnsat};
 ghost use Rattle.sat_checker.specs.announcements.Rows.{InputDuplicate, InputNew, InputRedundant, InputTautology};
 ghost use Rattle.sat_checker.specs.announcements.Rows.{InputUnitAgain, InputsRead, ModeChanged, ModeLeft};
 ghost use Rattle.sat_checker.specs.announcements.Rows.{ModeOfNameless, ModelAnnounced, ModesRead, NameNew, NameNewRead};
@@ -43,7 +43,7 @@ pub fn announcements_are_in_order()
 {}
 
 /// States that without listeners, announcements cause no error and no allocation failure.
-pub fn nobody_answers_a_fault<P: ProofProcessor, T: ProofTranscriptProcessor>()
+pub fn faults_come_from_listeners<P: ProofProcessor, T: ProofTranscriptProcessor>()
     ensures { NoListenerNoFault P.takes T.reads }
 {}
 
@@ -62,7 +62,7 @@ pub fn rows_of_propagations()
 /// Worked examples of unit conflicts, whose empty clause is announced later.
 pub fn rows_of_conflicts()
     ensures contradiction { Contradiction }
-    ensures unit_behind { ConflictAndUnitAnnounced }
+    ensures unit_after { ConflictAndUnitAnnounced }
 {}
 
 /// Worked examples of input clauses.
@@ -72,7 +72,7 @@ pub fn rows_of_inputs()
     ensures redundant { InputRedundant }
     ensures unit { InputUnitAgain }
     ensures tautology { InputTautology }
-    ensures unsat { InputBehindUnsat }
+    ensures unsat { InputAfterUnsat }
 {}
 
 /// Worked examples of derived clauses.

@@ -6,10 +6,10 @@ ghost use Rattle.sat_checker.specs.Laws.{NamedIsKnown, NamesApart, SameLiteralsA
 ghost use Rattle.sat_checker.specs.Laws.{TautologyHasBothSigns, UnknownIsUnknown, UnsatMeansNone};
 ghost use Rattle.sat_checker.specs.MeaningRows.{DeletedIsFree, EitherHolds, FourHaveNone, LooksOfAll, LooksOfKinds};
 ghost use Rattle.sat_checker.specs.MeaningRows.{OnlyAddedAsk, StoredAsk, UnsatAsks};
-ghost use Rattle.sat_checker.specs.Rows.{DeletesAssumed, BehindUnsat, BothSigns, ByDuplicate, ByNameLeft, ByOneCount};
-ghost use Rattle.sat_checker.specs.Rows.{BySolverName, Colliding, ConflictAndUnit, EmptyBefore, EmptyBehind, EndAloneAccepted};
+ghost use Rattle.sat_checker.specs.Rows.{DeletesAssumed, AfterUnsat, BothSigns, ByDuplicate, ByNameLeft, ByOneCount};
+ghost use Rattle.sat_checker.specs.Rows.{BySolverName, Colliding, ConflictAndUnit, EmptyBefore, EmptyAfter, EndAloneAccepted};
 ghost use Rattle.sat_checker.specs.Rows.{FourClauses, HashesOfOneTwo, HiddenAdded, HiddenNamed, InClause};
-ghost use Rattle.sat_checker.specs.Rows.{LastBehindConflict, LastUnit, ModelAgainstUnit, ModelTwice};
+ghost use Rattle.sat_checker.specs.Rows.{LastAfterConflict, LastUnit, ModelAgainstUnit, ModelTwice};
 ghost use Rattle.sat_checker.specs.Rows.{ModelWithoutClause, Modelled, NameTaken, NamedAgain, NamedOnce, NamedTwice};
 ghost use Rattle.sat_checker.specs.Rows.{NamedTwiceOver, NoNameTaken, NoRedundantCount, NotAssumed, Refuted};
 ghost use Rattle.sat_checker.specs.Rows.{RefutedAtZero, SimplifiedByGone, SimplifiedByItself, SimplifiedByPart};
@@ -69,7 +69,7 @@ pub fn rows_of_storing()
     ensures four { FourClauses }
     ensures twice { StoredTwice }
     ensures conflict { UnitConflict }
-    ensures unit_behind { ConflictAndUnit }
+    ensures unit_after { ConflictAndUnit }
 {}
 
 /// Worked examples of derived clauses, at widths 64, 8 and 0.
@@ -121,7 +121,7 @@ pub fn rows_of_buckets()
     ensures name_left { ByNameLeft }
     ensures units { TwoUnits }
     ensures turned { UnitsTurned }
-    ensures behind { EmptyBehind }
+    ensures following { EmptyAfter }
     ensures before { EmptyBefore }
 {}
 
@@ -130,13 +130,13 @@ pub fn rows_of_counts()
     ensures duplicate { ByDuplicate }
     ensures counts { TwoCounts }
     ensures one_count { ByOneCount }
-    ensures conflict { LastBehindConflict }
+    ensures conflict { LastAfterConflict }
     ensures unit { LastUnit }
 {}
 
 /// Worked examples of steps with little effect.
 pub fn rows_of_effects()
-    ensures unsat { BehindUnsat }
+    ensures unsat { AfterUnsat }
     ensures tautologies { Tautologies }
     ensures witness { WitnessNamed }
     ensures unknown { UnknownMode }

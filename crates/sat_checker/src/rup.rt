@@ -190,7 +190,7 @@ fn deny_in_room(assigned: &mut Assigned, literals: &[Lit], negate: bool) -> bool
     ensures extends { AssumesMore assigned.old assigned.new }
     ensures same { assigned.new.room ≡ assigned.old.room }
 {
-    assigned.stand_in_room();
+    assigned.are_in_room();
     for place in 0..literals.len() {
         let literal = literals[place];
         let (before, _) = literals.split_at(place);

@@ -11,7 +11,7 @@ ghost use Rattle.sat_checker.specs.announcements.Announcements.{derived, input};
 ghost use Rattle.sat_checker.specs.inner.FormulaView.{Explained};
 ghost use Rattle.sat_checker.specs.inner.Looking.{LooksOver};
 ghost use Rattle.sat_checker.specs.inner.Reasons.{noted_length};
-ghost use Rattle.sat_checker.specs.inner.StateView.{KeepsStored, KeepsFiled, ChangesStored, with_added_clause, with_derived};
+ghost use Rattle.sat_checker.specs.inner.StateView.{RepresentsStored, KeepsFiled, ChangesStored, with_added_clause, with_derived};
 ghost use Rattle.sat_checker.specs.inner.StateView.{DecidesStep, LooksWithin};
 ghost use Rattle.sat_checker.specs.listeners.AnnouncingView.{AreLong};
 ghost use Rattle.sat_checker.specs.listeners.NotedView.{Announces, AppendsNews};
@@ -316,7 +316,7 @@ impl State {
     /// Whether the variable can be deleted: it is known, has no name, isn't assumed, and is in no stored clause of two
     /// literals or more.
     fn may_delete(&self, var: Var) -> bool
-        ensures { (f : Stored) → KeepsStored self.now f
+        ensures { (f : Stored) → RepresentsStored self.now f
             → MatchBool result (MayBeDeleted f var) (MayBeDeleted f var → ⊥) }
     {
         let data = self.variables.data(var);
@@ -334,7 +334,7 @@ impl State {
 
     /// Creates a state in which nothing is stored.
     pub fn new(alloc: Global) -> State
-        ensures { KeepsStored result nothing_stored }
+        ensures { RepresentsStored result nothing_stored }
     {
         State {
             alloc,
@@ -388,7 +388,7 @@ impl State {
     /// Whether a clause of the formula is accepted: unsat is recorded, or every variable of the clause is unknown or
     /// has the mode sample.
     pub fn may_add(&self, clause: &[Lit]) -> bool
-        ensures { (f : Stored) → KeepsStored self.now f
+        ensures { (f : Stored) → RepresentsStored self.now f
             → MatchBool result (MayBeAdded f clause.now) (MayBeAdded f clause.now → ⊥) }
     {
         self.formula.status.unsat || self.variables.are_sampling(clause)

@@ -5,7 +5,7 @@ ghost use Rattle.sat_checker.specs.inner.Looking.{LooksOver, LooksUpTo};
 ghost use Rattle.sat_checker.specs.inner.Marks.{IsIncreasing};
 ghost use Rattle.sat_checker.specs.Stored.{Stored, nothing_stored};
 ghost use Rattle.sat_checker.specs.Looks.{literal_count};
-ghost use Rattle.sat_checker.specs.inner.StoreView.{KeepsClauses, refiled, StoreEffect, PlacesIds, KeepsIds, TakesCount};
+ghost use Rattle.sat_checker.specs.inner.StoreView.{RepresentsClauses, refiled, StoreEffect, PlacesIds, KeepsIds, TakesCount};
 ghost use Rattle.sat_checker.specs.inner.StoreView.{with_less, store_count_in, found_in};
 ghost use Rattle.sat_checker.specs.inner.SlotView.{slot_ids, live, live_length, gone_count};
 ghost use Rattle.sat_checker.specs.Storing.{clause_with, clause_numbered, with_solver_name};
@@ -78,7 +78,7 @@ pub struct Store {
 impl Store {
     /// Creates an empty store with 64-bit hashes.
     pub fn new(alloc: Global) -> Store
-        ensures kept { KeepsClauses result nothing_stored }
+        ensures kept { RepresentsClauses result nothing_stored }
         ensures ids { slot_ids result.clauses ≡ [] }
     {
         Store {
@@ -93,7 +93,7 @@ impl Store {
     #[inline(always)]
     pub fn file(&mut self, looks: &mut Looks)
         ensures filed { self.new ≡ refiled self.old }
-        ensures looks { LooksOver (KeepsClauses (refiled self.old)) literal_count looks.old looks.new }
+        ensures looks { LooksOver (RepresentsClauses (refiled self.old)) literal_count looks.old looks.new }
     {
         if !self.stale {
             return;
@@ -122,15 +122,15 @@ impl Store {
         looks: &mut Looks,
     ) -> Result<Placed, StoreError>
         requires { IsIncreasing literals.now }
-        ensures ok { IfOk result (λ placed. (f : Stored) → KeepsClauses self.old f
+        ensures ok { IfOk result (λ placed. (f : Stored) → RepresentsClauses self.old f
             → StoreEffect self.new f id redundant literals.now placed.id placed.is_new) }
         ensures placed { IfOk result (λ placed. PlacesIds self.old.clauses self.new.clauses id placed.is_new) }
-        ensures counted { IfOk result (λ placed. (f : Stored) → KeepsClauses self.old f
+        ensures counted { IfOk result (λ placed. (f : Stored) → RepresentsClauses self.old f
             → store_count_in false (clause_with literals.now f.clauses) ≡ placed.irredundant) }
         // The count to be increased is already at its maximum.
-        ensures full { result ≡ Err StoreError.CounterEnd → (f : Stored) → KeepsClauses self.old f
+        ensures full { result ≡ Err StoreError.CounterEnd → (f : Stored) → RepresentsClauses self.old f
             → 2 ^ 64 ≤ store_count_in redundant (clause_with literals.now f.clauses) + 1 }
-        ensures looks { LooksOver (KeepsClauses self.old) literal_count looks.old looks.new }
+        ensures looks { LooksOver (RepresentsClauses self.old) literal_count looks.old looks.new }
     {
         let hash = self.hasher.clause_hash(literals);
         let Some(place) = self.clauses.find(hash, literals, looks) else {
@@ -156,9 +156,9 @@ impl Store {
     /// Returns the clause with the sorted literals `literals`, if it is stored.
     #[inline(never)]
     pub fn stored(&self, literals: &[Lit], looks: &mut Looks) -> Option<Found>
-        ensures found { (f : Stored) → KeepsClauses self.now f
+        ensures found { (f : Stored) → RepresentsClauses self.now f
             → clause_with literals.now f.clauses ≡ found_in literals.now result }
-        ensures looks { LooksOver (KeepsClauses self.now) literal_count looks.old looks.new }
+        ensures looks { LooksOver (RepresentsClauses self.now) literal_count looks.old looks.new }
     {
         let hash = self.hasher.clause_hash(literals);
         let Some(place) = self.clauses.find(hash, literals, looks) else {
@@ -174,10 +174,10 @@ impl Store {
     /// Removes one count of the clause with the sorted literals `literals`, without repeats: a redundant count if
     /// `redundant` is true, and an irredundant count otherwise. Returns whether the clause had such a count.
     pub fn delete_clause(&mut self, redundant: bool, literals: &[Lit], looks: &mut Looks) -> bool
-        ensures deleted { (f : Stored) → KeepsClauses self.old f
-            → TakesCount result redundant literals.now f (KeepsClauses self.new (with_less redundant literals.now f)) }
+        ensures deleted { (f : Stored) → RepresentsClauses self.old f
+            → TakesCount result redundant literals.now f (RepresentsClauses self.new (with_less redundant literals.now f)) }
         ensures ids { slot_ids self.new.clauses ≡ slot_ids self.old.clauses }
-        ensures looks { LooksOver (KeepsClauses self.old) literal_count looks.old looks.new }
+        ensures looks { LooksOver (RepresentsClauses self.old) literal_count looks.old looks.new }
     {
         let hash = self.hasher.clause_hash(literals);
         let Some(place) = self.clauses.find(hash, literals, looks) else {
@@ -193,7 +193,7 @@ impl Store {
     /// Drops the removed clauses from memory if they make up more than half of all clauses, or fill more than half of
     /// the buffer. This changes the places of other clauses. If memory runs out, all clauses are kept.
     pub fn compact(&mut self) -> Result<(), AllocError>
-        ensures kept { (f : Stored) → KeepsClauses self.old f → KeepsClauses self.new f }
+        ensures kept { (f : Stored) → RepresentsClauses self.old f → RepresentsClauses self.new f }
         ensures ids { KeepsIds self.old.clauses self.new.clauses }
         ensures few { OnOk result (2 * gone_count self.new.clauses ≤ length self.new.clauses) }
     {
@@ -203,8 +203,8 @@ impl Store {
     /// Sets how many bits of every hash are kept from now on. Takes no looks: `file` later files the clauses under
     /// their new hashes.
     pub fn set_bits(&mut self, bits: HashBits)
-        ensures set { (f : Stored) → KeepsClauses (refiled self.old) f
-            → KeepsClauses (refiled self.new) (record f { width = bits }) }
+        ensures set { (f : Stored) → RepresentsClauses (refiled self.old) f
+            → RepresentsClauses (refiled self.new) (record f { width = bits }) }
         ensures ids { slot_ids self.new.clauses ≡ slot_ids self.old.clauses }
     {
         if self.hasher.bits() == bits {
@@ -217,8 +217,8 @@ impl Store {
     /// Sets the solver name of a variable, or removes it if `name` is `None`. Takes no looks: `file` later files the
     /// clauses under their new hashes.
     pub fn set_solver_name(&mut self, var: Var, name: Option<Var>) -> Result<(), AllocError>
-        ensures set { OnOk result ((f : Stored) → KeepsClauses (refiled self.old) f
-            → KeepsClauses (refiled self.new) (with_solver_name var name f)) }
+        ensures set { OnOk result ((f : Stored) → RepresentsClauses (refiled self.old) f
+            → RepresentsClauses (refiled self.new) (with_solver_name var name f)) }
         ensures ids { slot_ids self.new.clauses ≡ slot_ids self.old.clauses }
     {
         if self.hasher.solver_name(var) == name {
@@ -239,7 +239,7 @@ impl Store {
         ensures part { IsIncreasing (slot_ids self.now.clauses) → MatchBool result
             (IsStrictSubset (clause_numbered id (live self.now.clauses)) literals.now)
             (IsStrictSubset (clause_numbered id (live self.now.clauses)) literals.now → ⊥) }
-        ensures looks { LooksOver (KeepsClauses self.now) literal_count looks.old looks.new }
+        ensures looks { LooksOver (RepresentsClauses self.now) literal_count looks.old looks.new }
         // If the clause is present, only its literals are looked at.
         ensures lent { (c : List ℕ) → IsIncreasing (slot_ids self.now.clauses)
             → clause_numbered id (live self.now.clauses) ≡ Some c → looks.new ≡ looks.old + length c }
@@ -257,7 +257,7 @@ impl Store {
         ensures part { IsIncreasing (slot_ids self.now.clauses) → MatchBool result
             (IsStrictSubset (clause_numbered id (live self.now.clauses)) assigned.now.literals)
             (IsStrictSubset (clause_numbered id (live self.now.clauses)) assigned.now.literals → ⊥) }
-        ensures looks { LooksOver (KeepsClauses self.now) literal_count looks.old looks.new }
+        ensures looks { LooksOver (RepresentsClauses self.now) literal_count looks.old looks.new }
     {
         let _count = self.clauses.len();
         let Some(place) = self.clauses.place_of(id) else {
@@ -269,16 +269,16 @@ impl Store {
     /// Returns how many times the clause that consists of exactly the assumed literals is stored: as redundant if
     /// `redundant` is true, as irredundant otherwise. The clause is found without its hash.
     pub fn assumed_count(&self, redundant: bool, assigned: &Assigned, looks: &mut Looks) -> u64
-        ensures found { (f : Stored) → KeepsClauses self.now f
+        ensures found { (f : Stored) → RepresentsClauses self.now f
             → result ≡ store_count_in redundant (clause_with (canonical assigned.now.literals) f.clauses) }
-        ensures looks { LooksOver (KeepsClauses self.now) literal_count looks.old looks.new }
+        ensures looks { LooksOver (RepresentsClauses self.now) literal_count looks.old looks.new }
     {
         self.clauses.assumed_count(redundant, assigned, looks)
     }
 
     /// Whether any stored clause contains the variable. Takes no looks.
     pub fn mention(&self, var: Var) -> bool
-        ensures { (f : Stored) → KeepsClauses (refiled self.now) f
+        ensures { (f : Stored) → RepresentsClauses (refiled self.now) f
             → result ≡ list_any (λ c. mentions c.literals var) f.clauses }
     {
         self.clauses.mention(var)
@@ -286,11 +286,11 @@ impl Store {
 
     /// Whether every clause that is stored as irredundant contains an assumed literal.
     pub fn are_satisfied(&self, assigned: &Assigned, looks: &mut Looks) -> bool
-        ensures found { (f : Stored) → KeepsClauses (refiled self.now) f
+        ensures found { (f : Stored) → RepresentsClauses (refiled self.now) f
             → result ≡ are_all_true assigned.now.literals f.clauses }
-        ensures looks { LooksOver (KeepsClauses (refiled self.now)) literal_count looks.old looks.new }
+        ensures looks { LooksOver (RepresentsClauses (refiled self.now)) literal_count looks.old looks.new }
         // If the result is true, exactly the literals of the irredundant clauses were looked at.
-        ensures all { (f : Stored) → KeepsClauses (refiled self.now) f → result ≡ true
+        ensures all { (f : Stored) → RepresentsClauses (refiled self.now) f → result ≡ true
             → looks.new ≡ looks.old + irredundant_length f.clauses }
     {
         self.clauses.are_satisfied(assigned, looks)

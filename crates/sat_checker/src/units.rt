@@ -13,8 +13,8 @@ ghost use Rattle.sat_checker.specs.Storing.{unit_id};
 ghost use Rattle.sat_checker.specs.Stored.{Stored, unit_literals};
 ghost use Rattle.sat_checker.specs.Accepts.{PassesByHashes};
 ghost use Rattle.sat_checker.specs.Looks.{literal_count};
-ghost use Rattle.sat_checker.specs.inner.StoreView.{KeepsClauses};
-ghost use Rattle.sat_checker.specs.inner.InTurn.{PassBehind};
+ghost use Rattle.sat_checker.specs.inner.StoreView.{RepresentsClauses};
+ghost use Rattle.sat_checker.specs.inner.InTurn.{PassAfter};
 ghost use Rattle.sat_checker.specs.inner.AssumedRoom.{signed, with_room, RoomStays, HasClauseRoom, HasStoredRoom};
 
 pub mod assigned;
@@ -218,14 +218,14 @@ impl Units {
         passed: &mut Passed,
         looks: &mut Looks,
     ) -> Result<bool, AllocError>
-        ensures exact { IfOk result (λ passes. (f : Stored) → KeepsClauses store.now f → self.old.units ≡ f.units
+        ensures exact { IfOk result (λ passes. (f : Stored) → RepresentsClauses store.now f → self.old.units ≡ f.units
             → HasStoredRoom self.old.room f.clauses → IsTrue passes
             ↔ PassesByHashes f (signed negate literals.now) hashes.now) }
-        ensures short { OnErr result ((f : Stored) → KeepsClauses store.now f
+        ensures short { OnErr result ((f : Stored) → RepresentsClauses store.now f
             → HasStoredRoom self.old.room f.clauses → ⊥) }
         ensures units { self.new.units ≡ self.old.units }
         ensures stays { RoomStays self.old.room self.new.room }
-        ensures looks { LooksOver (KeepsClauses store.now)
+        ensures looks { LooksOver (RepresentsClauses store.now)
             (λ f. length hashes.now * literal_count f) looks.old looks.new }
         ensures explained { IfOk result (λ passes. IsTrue passes → passed.new.lost ≡ false
             → ExplainsCheck store.now.clauses passed.new (map (λ u. u.literal) self.old.units)
@@ -256,13 +256,13 @@ impl Units {
         passed: &mut Passed,
         looks: &mut Looks,
     ) -> Result<bool, AllocError>
-        ensures exact { IfOk result (λ pass. (f : Stored) → KeepsClauses store.now f
+        ensures exact { IfOk result (λ pass. (f : Stored) → RepresentsClauses store.now f
             → map (λ u. u.literal) self.old.units ≡ unit_literals f → HasStoredRoom self.old.room f.clauses
-            → IsTrue pass ↔ PassBehind f units.now) }
-        ensures short { OnErr result ((f : Stored) → KeepsClauses store.now f
+            → IsTrue pass ↔ PassAfter f units.now) }
+        ensures short { OnErr result ((f : Stored) → RepresentsClauses store.now f
             → HasStoredRoom self.old.room f.clauses → ⊥) }
         ensures units { self.new.units ≡ self.old.units }
-        ensures looks { LooksOver (KeepsClauses store.now)
+        ensures looks { LooksOver (RepresentsClauses store.now)
             (λ f. (length units.now - 1) * literal_count f) looks.old looks.new }
     {
         let count = self.assigned.len();

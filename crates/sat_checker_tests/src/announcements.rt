@@ -20,8 +20,8 @@ fn is_reported_to_added(alloc: Global, row: &Row) -> bool {
     let taken = add_listener(&mut checker, row.1)
         && add_reader(&mut checker, row.2)
         && error_of(alloc, &mut checker, Call::Steps(row.0)).is_none();
-    let told = are_done(checker.into_processors(), 1);
-    taken && told
+    let notified = are_done(checker.into_processors(), 1);
+    taken && notified
 }
 
 /// Checks a proof with a processor of the caller's own, and returns the error.
@@ -933,19 +933,19 @@ const TAKEN: Answer = (None, false, false);
 
 static HEARD: [HeardCalls; 3] = [
     (
-        "the empty clause of contradicting units is told once it is settled",
+        "the empty clause of contradictory units is announced once it is settled",
         CONFLICT,
         CONFLICT_SAID,
         &[(Call::Steps(UNITS), UNSAT), (Call::Settle, UNSAT)],
     ),
     (
-        "the empty clause of contradicting units isn't told before",
+        "the empty clause of contradictory units isn't announced before",
         CONFLICT_BEFORE,
         CONFLICT_SAID_BEFORE,
         &[(Call::Steps(UNITS), UNSAT)],
     ),
     (
-        "a clause that comes twice is told so, and nothing is told of a step that is refused",
+        "a clause that comes twice is announced as a duplicate, and nothing is announced of a refused step",
         &[
             Notice::AddClause(0, [1, 2, 0]),
             Notice::DuplicatedClause(1, 0, [1, 2, 0]),

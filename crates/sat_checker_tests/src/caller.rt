@@ -35,7 +35,7 @@ fn is_refuted_by<R: CountedRead>(
     formula: &CnfFormula,
     proof: &mut R,
 ) -> Result<bool, CheckerError>
-    requires stands { HasAccepted (kernel_of checker.old) [] }
+    requires valid { HasAccepted (kernel_of checker.old) [] }
     requires settled { KernelIsSettled (kernel_of checker.old) }
     ensures { IfOk result (λ refuted. (passed : List Step) × (rest : List ℕ)
         × GaveSteps (R.seen proof.old) (R.seen proof.new) (passed ++ End ∷ []) rest

@@ -109,7 +109,7 @@ fn failed_reads_are_answered(rt: HostRuntime) {
 
 static CALLS: [Calls; 6] = [
     (
-        "a clause before a fault stands, and the checker goes on behind the fault",
+        "a clause before a fault remains, and the checker can be used after the fault",
         &[
             (Call::Dimacs(b"1 0 2"), FIRST_LINE),
             (Call::Dimacs(b"-1 0"), REFUTED),
@@ -145,7 +145,7 @@ static CALLS: [Calls; 6] = [
         ],
     ),
     (
-        "a clause of a hidden variable isn't taken, and neither is one behind it",
+        "a clause of a hidden variable isn't added, and neither is one after it",
         &[
             (
                 Call::Proof(&[2, 0, 1, 2, 0, 0]),
@@ -179,7 +179,7 @@ fn all_calls() -> &'static [Calls] {
 }
 
 #[test]
-fn calls_behind_texts_are_answered(rt: HostRuntime) {
+fn calls_after_texts_are_answered(rt: HostRuntime) {
     let wrong = first_wrong(rt.alloc(), all_calls());
     assert!(rt; wrong == None, "{wrong:?}");
 }

@@ -29,7 +29,7 @@ fn calls(place: usize, failing: usize, at: usize) -> usize {
 }
 
 /// Returns the announcements that the listener at position `place` accepts.
-fn told(place: usize, failing: usize, at: usize) -> &'static [Notice] {
+fn accepted(place: usize, failing: usize, at: usize) -> &'static [Notice] {
     &REFUTED[..calls(place, failing, at).min(REFUTED.len())]
 }
 
@@ -40,9 +40,9 @@ fn said(place: usize, failing: usize, at: usize) -> &'static [Said] {
 
 /// Adds two processors at positions 1 and 2, and two transcripts at positions 3 and 4.
 fn add_four(checker: &mut Heard, failing: usize, at: usize) -> bool {
-    add_listener(checker, told(1, failing, at))
+    add_listener(checker, accepted(1, failing, at))
         && add_reader(checker, said(3, failing, at))
-        && add_listener(checker, told(2, failing, at))
+        && add_listener(checker, accepted(2, failing, at))
         && add_reader(checker, said(4, failing, at))
 }
 
@@ -74,7 +74,7 @@ fn ends(alloc: Global, failing: usize, at: usize, with_own: bool) -> bool {
     let mut checker = Heard::notifying(alloc);
     let ended = add_four(&mut checker, failing, at)
         && (if with_own {
-            is_ended_with_own(alloc, &mut checker, told(0, failing, at))
+            is_ended_with_own(alloc, &mut checker, accepted(0, failing, at))
         } else {
             is_ended(alloc, &mut checker, Call::Steps(REFUTATION))
         })
@@ -137,11 +137,11 @@ fn ended(call: Call) -> [Answered; 4] {
 
 /// Whether the first `count` clauses of a formula are announced, and the next announcement ends the formula.
 fn is_reported_up_to(alloc: Global, call: Call, count: usize) -> bool {
-    let (told, said) = (told(0, 1, count), said(0, 1, count));
+    let (announced, said) = (accepted(0, 1, count), said(0, 1, count));
     if count == 4 {
-        are_heard(alloc, told, said, &taken(call))
+        are_heard(alloc, announced, said, &taken(call))
     } else {
-        are_heard(alloc, told, said, &ended(call))
+        are_heard(alloc, announced, said, &ended(call))
     }
 }
 

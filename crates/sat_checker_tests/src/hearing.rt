@@ -106,8 +106,8 @@ fn samples(mode: CheckedSamplingMode) -> bool {
     }
 }
 
-fn is_named(told: Notice, var: Var, user: CheckedUserVar) -> bool {
-    match told {
+fn is_named(notice: Notice, var: Var, user: CheckedUserVar) -> bool {
+    match notice {
         Notice::UserVar(number, name, sampling, new_var) => {
             var.to_dimacs() == number
                 && user.user_var.to_dimacs() == name
@@ -118,17 +118,17 @@ fn is_named(told: Notice, var: Var, user: CheckedUserVar) -> bool {
     }
 }
 
-fn is_unnamed(told: Notice, var: Var) -> bool {
-    match told {
+fn is_unnamed(notice: Notice, var: Var) -> bool {
+    match notice {
         Notice::NoName(number) => var.to_dimacs() == number,
         _ => false,
     }
 }
 
-fn is_user_var(told: Notice, var: Var, user_var: Option<CheckedUserVar>) -> bool {
+fn is_user_var(notice: Notice, var: Var, user_var: Option<CheckedUserVar>) -> bool {
     match user_var {
-        Some(user) => is_named(told, var, user),
-        None => is_unnamed(told, var),
+        Some(user) => is_named(notice, var, user),
+        None => is_unnamed(notice, var),
     }
 }
 
@@ -215,8 +215,8 @@ fn parts_of<'a>(step: &CheckedProofStep<'a>) -> Found<'a> {
     }
 }
 
-fn awaited_parts(told: Notice) -> Awaited {
-    match told {
+fn awaited_parts(notice: Notice) -> Awaited {
+    match notice {
         Notice::UserVar(..) | Notice::NoName(_) => (NAMED, 0, 0, false, [0; 3], NONE),
         Notice::DeleteVar(var) => (FORGOTTEN, var.unsigned_abs(), 0, false, [0; 3], NONE),
         Notice::AddClause(id, clause) => (ADDED, id, 0, false, clause, NONE),
@@ -241,10 +241,10 @@ fn are_same(found: Found<'_>, awaited: Awaited) -> bool {
 }
 
 /// Whether the announcement `step` is the expected one, `told`.
-fn is_reported(step: &CheckedProofStep<'_>, told: Notice) -> bool {
+fn is_reported(step: &CheckedProofStep<'_>, notice: Notice) -> bool {
     match *step {
-        CheckedProofStep::UserVar { var, user_var } => is_user_var(told, var, user_var),
-        _ => are_same(parts_of(step), awaited_parts(told)),
+        CheckedProofStep::UserVar { var, user_var } => is_user_var(notice, var, user_var),
+        _ => are_same(parts_of(step), awaited_parts(notice)),
     }
 }
 
@@ -416,12 +416,12 @@ pub(crate) fn are_done(given_back: Processors<Listener, Reader>, count: usize) -
 /// of exactly `said`.
 pub(crate) fn are_heard(
     alloc: Global,
-    told: &'static [Notice],
+    notices: &'static [Notice],
     said: &'static [Said],
     calls: &[Answered],
 ) -> bool {
     let mut checker = Heard::notifying(alloc);
-    let right = add_listener(&mut checker, told)
+    let right = add_listener(&mut checker, notices)
         && add_reader(&mut checker, said)
         && answers(alloc, &mut checker, calls);
     let left = are_done(checker.into_processors(), 1);

@@ -128,7 +128,7 @@ fn parts_are_reported(rt: HostRuntime) {
 type Notice = (Option<usize>, bool, bool);
 
 /// Steps, and what is reported after them.
-static TOLD: [(&[u8], Notice); 8] = [
+static KNOWN: [(&[u8], Notice); 8] = [
     (&[], (None, false, false)),
     (&[2, 0, 5], (Some(4), true, false)),
     (&[2, 0, 5, 2, 0, 0], (None, true, false)),
@@ -140,23 +140,23 @@ static TOLD: [(&[u8], Notice); 8] = [
 ];
 
 fn rows_of_reported() -> &'static [(&'static [u8], Notice)] {
-    &TOLD
+    &KNOWN
 }
 
-fn told(alloc: Global, text: &'static [u8]) -> Notice {
+fn known_of(alloc: Global, text: &'static [u8]) -> Notice {
     let mut checker = Checker::new(alloc);
     let _incomplete = error_of(alloc, &mut checker, Call::Proof(text));
     let var = Var::from_index(0);
     let name = checker.user_name(var).map(|name| name.index());
-    let told = (name, checker.knows(var), checker.var_deleted());
+    let known = (name, checker.knows(var), checker.var_deleted());
     drop(checker);
-    told
+    known
 }
 
 #[test]
 fn variables_are_reported(rt: HostRuntime) {
     for (text, wanted) in rows_of_reported() {
-        assert!(rt; told(rt.alloc(), *text) == *wanted, "{text:?}");
+        assert!(rt; known_of(rt.alloc(), *text) == *wanted, "{text:?}");
     }
 }
 

@@ -62,7 +62,7 @@ pub(crate) fn add_quiet(checker: &mut Checker<FailsAt, FailsAt>) -> bool {
 }
 
 /// Notifies the listeners up to four times. Returns how many times that succeeded before the first fault.
-fn told(
+fn notified_times(
     processing: &mut Processing<FailsAt, FailsAt>,
     variables: &Variables,
     step: &CheckedProofStep<'_>,
@@ -84,12 +84,12 @@ fn add_three(processing: &mut Processing<FailsAt, FailsAt>, at: u64) -> bool {
 
 /// Whether two processors and a transcript, which fail at call number `at`, are returned as the first fault left them:
 /// the second processor and the transcript were called once less.
-fn are_handed_back(alloc: Global, at: u64) -> bool {
+fn are_returned(alloc: Global, at: u64) -> bool {
     let variables = Variables::new(alloc);
     let mut processing: Processing<FailsAt, FailsAt> = Processing::new(alloc);
     let added = add_three(&mut processing, at);
     let step = CheckedProofStep::AddClause { id: 0, clause: &[] };
-    let count = told(&mut processing, &variables, &step);
+    let count = notified_times(&mut processing, &variables, &step);
     let left = were_left(&processing.into_processors(), at);
     added && count.saturating_add(1) == at && left
 }
@@ -104,9 +104,9 @@ fn were_left(given_back: &Processors<FailsAt, FailsAt>, at: u64) -> bool {
 }
 
 #[test]
-fn failed_processors_are_handed_back(rt: HostRuntime) {
+fn failed_processors_are_returned(rt: HostRuntime) {
     for at in 1..5 {
-        assert!(rt; are_handed_back(rt.alloc(), at), "{at}");
+        assert!(rt; are_returned(rt.alloc(), at), "{at}");
     }
 }
 

@@ -138,7 +138,7 @@ fn looks_of_each_kind(rt: HostRuntime) {
 
 /// Tests that all clauses are rehashed once, when hashes are looked up after many changes.
 #[test]
-fn looks_behind_changes(rt: HostRuntime) {
+fn looks_after_changes(rt: HostRuntime) {
     let two = [Lit::from_code(0), Lit::from_code(2)];
     let (Some(bits), Some(whole)) = (HashBits::new(8), HashBits::new(64)) else {
         return;

@@ -7,15 +7,15 @@ use crate::kinds::Kind;
 use sat_checker::{Checker, Looks};
 use std::alloc::Global;
 
-/// Whether `text` has the result `answer` as a proof, and an end after it has the result `behind`. The text is read in
-/// one chunk and in chunks of one byte.
+/// Whether `text` has the result `answer` as a proof, and an end after it has the result `following`. The text is read
+/// in one chunk and in chunks of one byte.
 pub(crate) fn is_answered(
     alloc: Global,
     text: &'static [u8],
     answer: Answer,
-    behind: Answer,
+    following: Answer,
 ) -> bool {
-    let end = (Call::Proof(END), behind);
+    let end = (Call::Proof(END), following);
     are_answered(alloc, &[(Call::Proof(text), answer), end])
         && are_answered(alloc, &[(Call::ProofByOne(text, 0), answer), end])
 }
@@ -123,7 +123,7 @@ static CALLS: [Calls; 6] = [
         ],
     ),
     (
-        "a clause of a hidden variable isn't taken, and neither is one behind it",
+        "a clause of a hidden variable isn't added, and neither is one after it",
         &[
             (Call::Proof(&[2, 0, 1, 2, 0, 0]), INCOMPLETE),
             (Call::Formula(&[&[2], &[1], &[-2]]), REFUSED),

@@ -31,7 +31,7 @@ fn proof_answer((error, unsat, ended): Answer) -> Answer {
 }
 
 /// Returns the results of an empty clause and of an end after the steps: nothing is accepted after a refused step.
-fn behind((error, unsat, ended): Answer) -> (Answer, Answer) {
+fn following((error, unsat, ended): Answer) -> (Answer, Answer) {
     if error.is_some() {
         let failed = (Some(Kind::HasFailed), unsat, ended);
         (failed, failed)
@@ -42,7 +42,7 @@ fn behind((error, unsat, ended): Answer) -> (Answer, Answer) {
 
 /// Whether steps have the result of `row`, one by one and as a proof, and what follows them has the expected result.
 fn is_answered(alloc: Global, row: &Row) -> bool {
-    let (clause, end) = behind(row.1);
+    let (clause, end) = following(row.1);
     steps::is_answered(alloc, row.0, row.1, clause)
         && proofs::is_answered(alloc, row.0, proof_answer(row.1), end)
 }

@@ -38,15 +38,15 @@ fn is_answered_to_listeners(alloc: Global, calls: &[Answered]) -> bool {
     right
 }
 
-/// Whether steps have the result `answer`, and an empty clause after them has the result `behind`. The steps are read
-/// in one chunk and in chunks of one byte, with and without listeners.
+/// Whether steps have the result `answer`, and an empty clause after them has the result `following`. The steps are
+/// read in one chunk and in chunks of one byte, with and without listeners.
 pub(crate) fn is_answered(
     alloc: Global,
     text: &'static [u8],
     answer: Answer,
-    behind: Answer,
+    following: Answer,
 ) -> bool {
-    let empty = (Call::Clause(&[]), behind);
+    let empty = (Call::Clause(&[]), following);
     let calls = [(Call::Steps(text), answer), empty];
     are_answered(alloc, &calls)
         && are_answered(alloc, &[(Call::StepsByOne(text), answer), empty])

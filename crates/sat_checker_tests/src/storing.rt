@@ -135,7 +135,7 @@ fn lists(store: &Store, pairs: &mut Vec<Pair>) -> Result<bool, AllocError> {
 
 /// Returns whether the remaining clauses are found with hashes of 64, 8, 2 and 0 bits, and their pairs are listed
 /// in order.
-fn stands(
+fn valid(
     store: &mut Store,
     clause: &mut Vec<Lit>,
     sorted: &mut Vec<Lit>,
@@ -160,7 +160,7 @@ fn what_is_left_stands(alloc: Global) -> bool {
     let mut looks = Looks::new();
     let (mut clause, mut sorted) = (Vec::new(alloc), Vec::new(alloc));
     let mut pairs = Vec::new(alloc);
-    let answer = stands(&mut store, &mut clause, &mut sorted, &mut pairs, &mut looks);
+    let answer = valid(&mut store, &mut clause, &mut sorted, &mut pairs, &mut looks);
     answer == Ok(true)
 }
 

@@ -2,7 +2,7 @@
 use Rattle.std.specs.Prelude.{ℕ, true, false, Bool, Option, None, Some, List, [], ◌∷◌, length}
 use Rattle.sat_base.specs.steps.Steps.{Step}
 use Rattle.sat_checker.specs.announcements.Announcements.{Announcement, Notice, all_notices_after}
-use Rattle.sat_checker.specs.announcements.Announcements as told
+use Rattle.sat_checker.specs.announcements.Announcements as notices
 use Rattle.sat_base.specs.text.Tokenizing.{held}
 use Rattle.sat_hints.specs.Lines.{Line, Input, Derived, Gone, Core, Fresh, text_of}
 use Rattle.sat_hints.specs.Hints.{derives_empty, count_of_cores}
@@ -16,19 +16,19 @@ gone_unless false id = Some (Gone id)
 
 -- the line of an announcement, if it has one
 abbrev pub announced_line : Announcement → Option Line
-announced_line (told.UserVar v user) = None
-announced_line (told.DeleteVar v) = Some (Fresh v)
-announced_line (told.AddClause id clause) = Some (Input id clause)
-announced_line (told.DuplicatedClause id same clause) = None
-announced_line (told.TautologicalClause id clause) = None
-announced_line (told.AtClause id redundant clause ids) = Some (Derived id clause ids)
-announced_line (told.MakeIrredundant id clause) = None
-announced_line (told.DeleteClause id clause) = Some (Gone id)
-announced_line (told.DeleteAtClause id kept clause ids) = gone_unless kept id
-announced_line (told.DeleteRatClause id kept clause) = None
-announced_line (told.Model assignment) = None
-announced_line (told.Assumptions assumptions) = None
-announced_line (told.FailedAssumptions core ids) = Some (Core core ids)
+announced_line (notices.UserVar v user) = None
+announced_line (notices.DeleteVar v) = Some (Fresh v)
+announced_line (notices.AddClause id clause) = Some (Input id clause)
+announced_line (notices.DuplicatedClause id same clause) = None
+announced_line (notices.TautologicalClause id clause) = None
+announced_line (notices.AtClause id redundant clause ids) = Some (Derived id clause ids)
+announced_line (notices.MakeIrredundant id clause) = None
+announced_line (notices.DeleteClause id clause) = Some (Gone id)
+announced_line (notices.DeleteAtClause id kept clause ids) = gone_unless kept id
+announced_line (notices.DeleteRatClause id kept clause) = None
+announced_line (notices.Model assignment) = None
+announced_line (notices.Assumptions assumptions) = None
+announced_line (notices.FailedAssumptions core ids) = Some (Core core ids)
 
 -- a line before these, if there is one
 abbrev pub with_line : Option Line → List Line → List Line

@@ -23,13 +23,13 @@ pub record GaveAcceptedSteps (from to : Reader) (passed last : List Step) (rest 
 -- a writer took a prefix of a text, and no write failed
 pub record WritesFrontOf (old new : Writer) (text : List ℕ) : Type 0 where
   pub front : List ℕ
-  pub behind : List ℕ
-  pub whole : text ≡ front ++ behind
+  pub following : List ℕ
+  pub whole : text ≡ front ++ following
   pub takes : WriterTakes old new front
 
 -- a write failed, the last, of the lines of accepted steps, or of theirs and those of the step after them, which is accepted, too
-abbrev pub BreaksBehind : Writer → Writer → Step → List Step → Type 0
-BreaksBehind old new step steps = WriterBreaks old new (hint_text steps) ⊎ (Accepts (ready_after steps) step × WriterBreaks old new (hint_text (step ∷ steps)))
+abbrev pub BreaksAfter : Writer → Writer → Step → List Step → Type 0
+BreaksAfter old new step steps = WriterBreaks old new (hint_text steps) ⊎ (Accepts (ready_after steps) step × WriterBreaks old new (hint_text (step ∷ steps)))
 
 -- after the steps that passed one was begun, of which a byte was given, or it was read and would be accepted
 abbrev pub GaveUpTo : Reader → Reader → List Step → List ℕ → Type 0
@@ -73,7 +73,7 @@ Converts (Err Read) from to old new = (passed : List Step) × (rest : List ℕ) 
     × WritesFrontOf old new (hint_text (taken_after passed []))
 -- a write of the lines failed, the last, as the last step read was checked or announced,
 Converts (Err Write) from to old new = (passed : List Step) × (step : Step) × (rest : List ℕ) × NoReadFailed from to × GaveAcceptedSteps from to passed (step ∷ []) rest
-    × BreaksBehind old new step (taken_after passed [])
+    × BreaksAfter old new step (taken_after passed [])
 -- or memory ran out as a step was read, or as an accepted one was checked or announced; no read found the end
 Converts (Err OutOfMemory) from to old new = (passed : List Step) × (rest : List ℕ) × NoReadFailed from to × FoundNoEnd from to × GaveUpTo from to passed rest
     × WritesFrontOf old new (hint_text (taken_after passed []))

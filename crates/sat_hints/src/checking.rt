@@ -10,7 +10,7 @@ ghost use Rattle.sat_hints.specs.inner.Holding.{HasRead, IsReadyIf, IsWholeLine,
 ghost use Rattle.sat_hints.specs.inner.Holding.{JudgesLineBytes, TakesPiece};
 
 use crate::answer::{HintFault, HintVerdict, HintWhy};
-use crate::fronts::{Place, behind};
+use crate::fronts::{Place, following};
 use crate::judging::Judge;
 use crate::reading::Lists;
 use sat_base::CountedRead;
@@ -103,7 +103,7 @@ impl Checking {
         ensures ready { IfOk result (λ why. IsReadyIf why self.new.judge) }
         ensures reads { IfOk result (λ why. ReadsFurther why self.old bytes.now self.new) }
     {
-        let Some(place) = behind(self.place, bytes) else {
+        let Some(place) = following(self.place, bytes) else {
             return Ok(Some(HintWhy::Syntax));
         };
         self.held.extend_from_slice(bytes)?;
@@ -136,12 +136,12 @@ impl Checking {
         let mut rest = piece;
         loop {
             match self.lists.read_line(rest) {
-                Ok(Some((head, behind))) => {
+                Ok(Some((head, following))) => {
                     match self.judge.take(&self.lists.line(head))? {
                         Some(why) => return Ok(Some(why)),
                         None => {}
                     }
-                    rest = behind;
+                    rest = following;
                 }
                 Ok(None) => return self.hold_rest(rest),
                 Err(error) => return Err(error),

@@ -118,7 +118,7 @@ fn write_checked<R: CountedRead, W: CountedWrite + Drop>(
     certificate: &mut R,
     lines: &mut LineWriter<W>,
 ) -> Result<(), HintError>
-    requires stands { HasAccepted (kernel_of checker.old) [] }
+    requires valid { HasAccepted (kernel_of checker.old) [] }
     requires goes_on { kernel_has_failed (kernel_of checker.old) ≡ false }
     requires settled { KernelIsSettled (kernel_of checker.old) }
     requires listeners { listeners_of (seen_of checker.old).listeners ≡ record { processors = []; transcripts = [] } }

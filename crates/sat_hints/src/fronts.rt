@@ -68,7 +68,7 @@ fn next(part: Part) -> Part
 }
 
 /// Returns the place after the letter of a line, or `None` if no line begins with `byte`.
-fn behind_letter(byte: u8) -> Option<Place>
+fn following_letter(byte: u8) -> Option<Place>
     ensures { result ≡ letter_place byte }
 {
     if byte == b'd' {
@@ -90,7 +90,7 @@ fn behind_letter(byte: u8) -> Option<Place>
 }
 
 /// Returns the place after a `0` at the start of a part, or `None` if the part can't start with `0`.
-fn behind_zero(part: Part) -> Option<Place>
+fn after_zero(part: Part) -> Option<Place>
     ensures { result ≡ zero_place part }
 {
     match part {
@@ -101,7 +101,7 @@ fn behind_zero(part: Part) -> Option<Place>
 }
 
 /// Returns the place after a `-` at the start of a part, or `None` if the part can't start with `-`.
-fn behind_sign(part: Part) -> Option<Place>
+fn after_sign(part: Part) -> Option<Place>
     ensures { result ≡ sign_place part }
 {
     match part {
@@ -127,10 +127,10 @@ fn at_item(part: Part, byte: u8) -> Option<Place>
     ensures { LeadsToPlace (Item part) (byte ∷ []) result }
 {
     if byte == b'0' {
-        return behind_zero(part);
+        return after_zero(part);
     }
     if byte == b'-' {
-        return behind_sign(part);
+        return after_sign(part);
     }
     match part {
         Part::End => None,
@@ -139,11 +139,11 @@ fn at_item(part: Part, byte: u8) -> Option<Place>
 }
 
 /// Returns the place after `byte`, the next byte of a line, or `None` if no line can continue with `byte`.
-fn behind_byte(place: Place, byte: u8) -> Option<Place>
+fn after_byte(place: Place, byte: u8) -> Option<Place>
     ensures { (byte ≡ 10 → ⊥) → LeadsToPlace place (byte ∷ []) result }
 {
     match place {
-        Place::Letter => behind_letter(byte),
+        Place::Letter => following_letter(byte),
         Place::Space(part) => {
             if byte == b' ' {
                 return Some(Place::Item(part));
@@ -157,13 +157,13 @@ fn behind_byte(place: Place, byte: u8) -> Option<Place>
 }
 
 /// Returns the place after `bytes`, the next bytes of a line, or `None` if no line can continue with `bytes`.
-pub(crate) fn behind(place: Place, bytes: &[u8]) -> Option<Place>
+pub(crate) fn following(place: Place, bytes: &[u8]) -> Option<Place>
     requires { HasNoEnd bytes.now }
     ensures { LeadsToPlace place bytes.now result }
 {
     let mut here = place;
     for i in 0..bytes.len() {
-        here = behind_byte(here, bytes[i])?;
+        here = after_byte(here, bytes[i])?;
     }
     Some(here)
 }

@@ -79,7 +79,7 @@ impl<W: CountedWrite> LineWriter<W> {
             return;
         }
         if self.len >= PIECE {
-            self.put_behind(byte);
+            self.write_out_and_put(byte);
             return;
         }
         self.bytes[self.len] = byte;
@@ -87,7 +87,7 @@ impl<W: CountedWrite> LineWriter<W> {
     }
 
     /// Writes out the pending bytes, and then appends a byte.
-    fn put_behind(&mut self, byte: u8)
+    fn write_out_and_put(&mut self, byte: u8)
         requires { self.old.failed ≡ false }
         ensures { PutsText (byte ∷ []) (outlet W.seen self.old) (outlet W.seen self.new) }
     {
@@ -116,14 +116,14 @@ impl<W: CountedWrite> LineWriter<W> {
             return;
         }
         if self.len > PIECE - MOST_DIGITS {
-            self.put_decimal_behind(number);
+            self.write_out_and_put_decimal(number);
             return;
         }
         self.len = write_decimal(&mut self.bytes, self.len, number);
     }
 
     /// Writes out the pending bytes, and then appends a number in decimal.
-    fn put_decimal_behind(&mut self, number: u64)
+    fn write_out_and_put_decimal(&mut self, number: u64)
         requires { self.old.failed ≡ false }
         ensures { PutsText (decimal number) (outlet W.seen self.old) (outlet W.seen self.new) }
     {
@@ -143,7 +143,7 @@ impl<W: CountedWrite> LineWriter<W> {
             return;
         }
         if self.len >= PIECE - MOST_DIGITS {
-            self.put_item_behind(number);
+            self.put_item_in_parts(number);
             return;
         }
         let at = write_decimal(&mut self.bytes, self.len, number);
@@ -153,7 +153,7 @@ impl<W: CountedWrite> LineWriter<W> {
 
     /// Does what `put_item` does if there may not be room for the item.
     #[inline(never)]
-    fn put_item_behind(&mut self, number: u64)
+    fn put_item_in_parts(&mut self, number: u64)
         ensures { PutsText (decimal number ++ 32 ∷ []) (outlet W.seen self.old) (outlet W.seen self.new) }
     {
         self.put_decimal(number);

@@ -128,8 +128,8 @@ pub(crate) fn read_literal(bytes: &[u8]) -> Option<(Lit, &[u8])>
         (λ x. BeginsWithWord number_text IsLiteralCode bytes.now x.0 x.1.now) }
 {
     match take_text(bytes, b"-") {
-        Some(behind) => {
-            let (index, rest) = read_variable(behind)?;
+        Some(following) => {
+            let (index, rest) = read_variable(following)?;
             Some((Lit::from_index(index, false), rest))
         }
         None => {

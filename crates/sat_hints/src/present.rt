@@ -2,7 +2,7 @@
 ghost use Rattle.std.specs.Prelude.{◌≡◌, ◌<◌, ℕ, [], None, length, slice_index, slice_index_or, OnOk, MatchOption};
 ghost use Rattle.std.specs.Prelude.{false};
 ghost use Rattle.sat_checker.specs.SortedSets.{IsIncreasing};
-ghost use Rattle.sat_hints.specs.inner.Clauses.{present_clause_at, clause_in, times_at, AddsPresentClause, AllBelow, FindsPresentClause};
+ghost use Rattle.sat_hints.specs.inner.Clauses.{present_clause_at, clause_in, occurrences_of, AddsPresentClause, AllBelow, FindsPresentClause};
 ghost use Rattle.sat_hints.specs.inner.Clauses.{IsStore, SamePresentClauses, Loses};
 
 use crate::guesses::Guesses;
@@ -29,7 +29,7 @@ impl Present {
         ensures store { IsStore result }
         ensures none { result.ids.items ≡ [] }
         ensures clauses { (id : ℕ) → clause_in result id ≡ None }
-        ensures times { (l : ℕ) → times_at result l ≡ 0 }
+        ensures times { (l : ℕ) → occurrences_of result l ≡ 0 }
     {
         Present {
             ids: Vec::new(alloc),
@@ -153,7 +153,7 @@ impl Present {
         requires none { kept.old.ids.items ≡ [] }
         requires empty { IsStore kept.old }
         requires clauses { (id : ℕ) → clause_in kept.old id ≡ None }
-        requires times { (l : ℕ) → times_at kept.old l ≡ 0 }
+        requires times { (l : ℕ) → occurrences_of kept.old l ≡ 0 }
         ensures { OnOk result (SamePresentClauses self.now kept.new) }
     {
         for place in 0..self.ids.len() {

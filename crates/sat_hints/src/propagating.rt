@@ -64,14 +64,14 @@ fn assume_all(assumed: &mut Assigned, literals: &[Lit], negate: bool) -> bool
     false
 }
 
-/// Returns the fault of a line that names a clause that is not unit in turn. `behind` are the ids that the line names
-/// after that clause. If no clause is present under one of these ids, the fault is `UnknownId`.
-fn not_unit(standing: &Standing, behind: &[u64]) -> HintWhy
+/// Returns the fault of a line that names a clause that is not unit in turn. `following` are the ids that the line
+/// names after that clause. If no clause is present under one of these ids, the fault is `UnknownId`.
+fn not_unit(standing: &Standing, following: &[u64]) -> HintWhy
     requires { StandingInvariant standing.now }
-    ensures { (standing_clauses standing.now behind.now ≡ None) × (result ≡ HintWhy.UnknownId)
-        ⊎ (standing_clauses standing.now behind.now ≢ None) × (result ≡ HintWhy.NotUnit) }
+    ensures { (standing_clauses standing.now following.now ≡ None) × (result ≡ HintWhy.UnknownId)
+        ⊎ (standing_clauses standing.now following.now ≢ None) × (result ≡ HintWhy.NotUnit) }
 {
-    if are_present(standing, behind) {
+    if are_present(standing, following) {
         return HintWhy::NotUnit;
     }
     HintWhy::UnknownId

@@ -34,9 +34,9 @@ fn read_literals<'a>(bytes: &'a [u8], literals: &mut Vec<Lit>) -> Result<&'a [u8
     literals.clear();
     let mut rest = bytes;
     while let Some(found) = read_literal(rest) {
-        let (literal, behind) = found;
+        let (literal, following) = found;
         literals.push(literal)?;
-        rest = behind;
+        rest = following;
     }
     Ok(rest)
 }
@@ -48,9 +48,9 @@ fn read_ids<'a>(bytes: &'a [u8], ids: &mut Vec<u64>) -> Result<&'a [u8], AllocEr
     ids.clear();
     let mut rest = bytes;
     while let Some(found) = read_id(rest) {
-        let (id, behind) = found;
+        let (id, following) = found;
         ids.push(id)?;
-        rest = behind;
+        rest = following;
     }
     Ok(rest)
 }
@@ -109,10 +109,10 @@ impl Lists {
             (λ rest. BeginsWithBoth bytes.now self.new.literals.items self.new.ids.items rest.now)) }
     {
         let rest = read_literals(bytes, &mut self.literals)?;
-        let Some(behind) = take_text(rest, b"0 ") else {
+        let Some(following) = take_text(rest, b"0 ") else {
             return Ok(None);
         };
-        let rest = read_ids(behind, &mut self.ids)?;
+        let rest = read_ids(following, &mut self.ids)?;
         Ok(take_text(rest, b"0\n"))
     }
 
@@ -124,8 +124,8 @@ impl Lists {
         let Some(found) = read_id(bytes) else {
             return Ok(None);
         };
-        let (id, behind) = found;
-        match self.read_one(behind)? {
+        let (id, following) = found;
+        match self.read_one(following)? {
             Some(rest) => Ok(Some((Head::Input { id }, rest))),
             None => Ok(None),
         }
@@ -139,8 +139,8 @@ impl Lists {
         let Some(found) = read_id(bytes) else {
             return Ok(None);
         };
-        let (id, behind) = found;
-        match self.read_both(behind)? {
+        let (id, following) = found;
+        match self.read_both(following)? {
             Some(rest) => Ok(Some((Head::Derived { id }, rest))),
             None => Ok(None),
         }
@@ -190,8 +190,8 @@ fn read_gone(bytes: &[u8]) -> Option<(Head, &[u8])>
     ensures { MatchOption result (BeginsWithNoLine (codes "x " ++ bytes.now))
         (λ x. (ls : List ℕ) (ids : List ℕ) → BeginsWithHintLine (codes "x " ++ bytes.now) (line_with x.0 ls ids) x.1.now) }
 {
-    let (id, behind) = read_id(bytes)?;
-    let rest = take_text(behind, b"0\n")?;
+    let (id, following) = read_id(bytes)?;
+    let rest = take_text(following, b"0\n")?;
     Some((Head::Gone { id }, rest))
 }
 
@@ -200,8 +200,8 @@ fn read_fresh(bytes: &[u8]) -> Option<(Head, &[u8])>
     ensures { MatchOption result (BeginsWithNoLine (codes "e " ++ bytes.now))
         (λ x. (ls : List ℕ) (ids : List ℕ) → BeginsWithHintLine (codes "e " ++ bytes.now) (line_with x.0 ls ids) x.1.now) }
 {
-    let (index, behind) = read_variable(bytes)?;
-    let rest = take_text(behind, b"0\n")?;
+    let (index, following) = read_variable(bytes)?;
+    let rest = take_text(following, b"0\n")?;
     let var = Var::from_index(index);
     Some((Head::Fresh { var }, rest))
 }

@@ -3,7 +3,7 @@ ghost use Rattle.std.specs.Prelude.{◌≡◌, ◌+◌, ◌*◌, ◌≤◌, ◌<
 ghost use Rattle.sat_checker.specs.LiteralSets.{mentions};
 ghost use Rattle.sat_checker.specs.SortedSets.{IsIncreasing};
 ghost use Rattle.sat_checker.specs.inner.OccurrenceView.{count_at};
-ghost use Rattle.sat_hints.specs.inner.Clauses.{times_at, times_long, IsStore};
+ghost use Rattle.sat_hints.specs.inner.Clauses.{occurrences_of, times_long, IsStore};
 ghost use Rattle.sat_hints.specs.inner.UsesView.{if_counting, uses_at};
 
 use crate::present::Present;
@@ -45,8 +45,8 @@ fn is_long_with(clause: &[Lit], var: Var) -> bool
 /// Whether a present clause of two literals or more contains the variable.
 fn is_in_long(present: &Present, var: Var) -> bool
     requires { IsStore present.now }
-    ensures { MatchBool result (0 < times_at present.now (2 * var) + times_at present.now (2 * var + 1))
-        (times_at present.now (2 * var) + times_at present.now (2 * var + 1) ≡ 0) }
+    ensures { MatchBool result (0 < occurrences_of present.now (2 * var) + occurrences_of present.now (2 * var + 1))
+        (occurrences_of present.now (2 * var) + occurrences_of present.now (2 * var + 1) ≡ 0) }
 {
     for place in 0..present.len() {
         if present.is_gone(place) {
@@ -77,7 +77,7 @@ fn count(counts: &mut Occurrences, clause: &[Lit]) -> Result<(), AllocError>
 fn count_all(counts: &mut Occurrences, present: &Present) -> Result<(), AllocError>
     requires store { IsStore present.now }
     requires none { (l : ℕ) → count_at counts.old l ≡ 0 }
-    ensures { OnOk result ((l : ℕ) → count_at counts.new l ≡ times_at present.now l) }
+    ensures { OnOk result ((l : ℕ) → count_at counts.new l ≡ occurrences_of present.now l) }
 {
     for place in 0..present.len() {
         if present.is_gone(place) {
@@ -130,9 +130,9 @@ impl Uses {
     /// Starts to count, unless counting has started: counts the literals of all present clauses.
     pub(crate) fn begin(&mut self, present: &Present) -> Result<(), AllocError>
         requires store { IsStore present.now }
-        requires counted { (l : ℕ) → uses_at self.old l ≡ if_counting self.old.counting (times_at present.now l) }
+        requires counted { (l : ℕ) → uses_at self.old l ≡ if_counting self.old.counting (occurrences_of present.now l) }
         ensures counting { OnOk result (self.new.counting ≡ true) }
-        ensures counted { OnOk result ((l : ℕ) → uses_at self.new l ≡ times_at present.now l) }
+        ensures counted { OnOk result ((l : ℕ) → uses_at self.new l ≡ occurrences_of present.now l) }
     {
         if self.counting {
             return Ok(());
@@ -146,9 +146,9 @@ impl Uses {
     /// all clauses.
     pub(crate) fn has(&self, present: &Present, var: Var) -> bool
         requires store { IsStore present.now }
-        requires counted { (l : ℕ) → uses_at self.now l ≡ if_counting self.now.counting (times_at present.now l) }
-        ensures { MatchBool result (0 < times_at present.now (2 * var) + times_at present.now (2 * var + 1))
-            (times_at present.now (2 * var) + times_at present.now (2 * var + 1) ≡ 0) }
+        requires counted { (l : ℕ) → uses_at self.now l ≡ if_counting self.now.counting (occurrences_of present.now l) }
+        ensures { MatchBool result (0 < occurrences_of present.now (2 * var) + occurrences_of present.now (2 * var + 1))
+            (occurrences_of present.now (2 * var) + occurrences_of present.now (2 * var + 1) ≡ 0) }
     {
         if !self.counting {
             return is_in_long(present, var);

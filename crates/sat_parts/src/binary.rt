@@ -5,7 +5,7 @@ ghost use Rattle.sat_base.specs.values.Literals.{var_limit, negated};
 ghost use Rattle.sat_parts.specs.prop.Values.{is_unset};
 ghost use Rattle.sat_parts.specs.prop.Binaries.{implied_by, with_implied, without_last_implied, with_binary, with_binary_lists};
 ghost use Rattle.sat_parts.specs.prop.Binaries.{open_among, implications, RemovesAssigned};
-ghost use Rattle.sat_parts.specs.prop.Places.{no_place, place_at, part_of, lists_of, ArePlaces, CopiesPart};
+ghost use Rattle.sat_parts.specs.prop.Places.{no_place, place_at, part_of, lists_of, ArePlaces, CopiesPadded};
 
 use crate::prop::assignment::Assignment;
 use sat_base::Lit;
@@ -51,10 +51,10 @@ fn resize(places: &mut Vec<Place>, count: usize) -> Result<(), AllocError>
 }
 
 /// Copies a part of the list to the end of the list, and pads the copy to `room` literals.
-fn copy_part(lits: &mut Vec<Lit>, start: usize, len: usize, room: usize) -> Result<(), AllocError>
+fn copy_padded(lits: &mut Vec<Lit>, start: usize, len: usize, room: usize) -> Result<(), AllocError>
     requires within { start + len ≤ length lits.old.items }
     requires fits { len ≤ room }
-    ensures copied { OnOk result (CopiesPart start len room lits.old.items lits.new.items) }
+    ensures copied { OnOk result (CopiesPadded start len room lits.old.items lits.new.items) }
     ensures same { OnErr result (lits.new.items ≡ lits.old.items) }
 {
     lits.reserve(room)?;
@@ -69,7 +69,7 @@ fn copy_part(lits: &mut Vec<Lit>, start: usize, len: usize, room: usize) -> Resu
 fn push_part(lits: &mut Vec<Lit>, start: usize, len: usize)
     requires within { start + len ≤ length lits.old.items }
     requires room { length lits.old.items + len ≤ vec_capacity lits.old }
-    ensures copied { CopiesPart start len len lits.old.items lits.new.items }
+    ensures copied { CopiesPadded start len len lits.old.items lits.new.items }
     ensures capacity { vec_capacity lits.new ≡ vec_capacity lits.old }
 {
     for at in start..start + len {
@@ -95,7 +95,7 @@ fn move_list(places: &mut Vec<Place>, lits: &mut Vec<Lit>, code: usize) -> Resul
     if start.saturating_add(room) > u32::MAX as usize {
         return Err(AllocError);
     }
-    copy_part(lits, place.start as usize, place.len as usize, room)?;
+    copy_padded(lits, place.start as usize, place.len as usize, room)?;
     places[code] = Place {
         start: start as u32,
         len: place.len,

@@ -1,6 +1,6 @@
 //! Unit propagation, and the data on which it works.
 ghost use Rattle.std.specs.Prelude.{◌≡◌, true, IfOk, OnOk};
-ghost use Rattle.sat_parts.specs.clause.Db.{HoldsDb};
+ghost use Rattle.sat_parts.specs.clause.Db.{DbMatchesBuffer};
 ghost use Rattle.sat_parts.specs.prop.Ready.{state_of};
 ghost use Rattle.sat_parts.specs.prop.Asks.{PropagationPrecondition, PropagationResult};
 
@@ -44,7 +44,7 @@ pub fn propagate(
     ensures given { IfOk result (λ r. PropagationResult db.now.refs binary.now.implied
         clauses.old (state_of assignment.old graph.old trail.old)
         clauses.new (state_of assignment.new graph.new trail.new) watchlists.new r) }
-    ensures held { HoldsDb clauses.old db.now → OnOk result (HoldsDb clauses.new db.now) }
+    ensures held { DbMatchesBuffer clauses.old db.now → OnOk result (DbMatchesBuffer clauses.new db.now) }
     ensures enabled { OnOk result (watchlists.new.enabled ≡ true) }
     ensures last { IfOk result (λ _. assignment.new.last ≡ assignment.old.last) }
 {

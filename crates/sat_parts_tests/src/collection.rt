@@ -1,6 +1,6 @@
 //! Tests of a collection while a clause is the reason of a literal.
 ghost use Rattle.std.specs.Prelude.{◌≡◌, ◌<◌, IsTrue, OnOk, [], length};
-ghost use Rattle.sat_parts.specs.clause.Db.{HoldsDb, live_refs};
+ghost use Rattle.sat_parts.specs.clause.Db.{DbMatchesBuffer, live_refs};
 ghost use Rattle.sat_parts.specs.clause.Collected.{AreFirsts};
 ghost use Rattle.sat_parts_tests.specs.Firsts.{HasFirst};
 
@@ -16,7 +16,7 @@ use std::alloc::{AllocError, Global};
 
 /// Whether the reason of a literal, if it is a long clause, is a live clause whose first literal is `lit`.
 fn reason_holds(clauses: &ClauseAlloc, db: &ClauseDb, graph: &ImplGraph, lit: Lit) -> bool
-    requires { HoldsDb clauses.now db.now }
+    requires { DbMatchesBuffer clauses.now db.now }
     ensures { IsTrue result → HasFirst clauses.now (live_refs clauses.now db.now.refs) graph.now lit }
 {
     if lit.index() >= graph.nodes.len() {
@@ -32,7 +32,7 @@ fn reason_holds(clauses: &ClauseAlloc, db: &ClauseDb, graph: &ImplGraph, lit: Li
 
 /// Whether the reasons of the trail's literals are as a collection requires.
 fn reasons_hold(clauses: &ClauseAlloc, db: &ClauseDb, graph: &ImplGraph, trail: &Trail) -> bool
-    requires { HoldsDb clauses.now db.now }
+    requires { DbMatchesBuffer clauses.now db.now }
     ensures { IsTrue result → AreFirsts clauses.now (live_refs clauses.now db.now.refs) trail.now.lits graph.now }
 {
     let lits = trail.trail();
@@ -51,9 +51,9 @@ fn two_clauses(
     db: &mut ClauseDb,
     watchlists: &mut Watchlists,
 ) -> Result<Option<ClauseRef>, StoreError>
-    requires db { HoldsDb clauses.old db.old }
+    requires db { DbMatchesBuffer clauses.old db.old }
     requires lists { watchlists.old.lists ≡ [] }
-    ensures db { OnOk result (HoldsDb clauses.new db.new) }
+    ensures db { OnOk result (DbMatchesBuffer clauses.new db.new) }
 {
     watchlists.set_var_count(alloc, 7)?;
     let codes = [
@@ -101,7 +101,7 @@ fn is_moved(
     watchlists: &mut Watchlists,
     trail: &Trail,
 ) -> Result<bool, StoreError>
-    requires { HoldsDb clauses.old db.old }
+    requires { DbMatchesBuffer clauses.old db.old }
 {
     if !reasons_hold(clauses, db, graph, trail) {
         return Ok(false);
@@ -124,7 +124,7 @@ fn row(
     db: &mut ClauseDb,
     watchlists: &mut Watchlists,
 ) -> Result<bool, StoreError>
-    requires db { HoldsDb clauses.old db.old }
+    requires db { DbMatchesBuffer clauses.old db.old }
     requires lists { watchlists.old.lists ≡ [] }
 {
     let cref = match two_clauses(alloc, clauses, db, watchlists)? {

@@ -2,7 +2,7 @@
 ghost use Rattle.std.specs.Prelude.{ℕ, ◌≡◌, ◌<◌, IsTrue, [], length, slice_index};
 ghost use Rattle.sat_base.specs.values.Literals.{variable};
 ghost use Rattle.sat_store.specs.clause.Buffer.{IsClause, lits_at};
-ghost use Rattle.sat_parts.specs.clause.Db.{HoldsDb, live_refs};
+ghost use Rattle.sat_parts.specs.clause.Db.{DbMatchesBuffer, live_refs};
 ghost use Rattle.sat_parts.specs.prop.Graphs.{node_of};
 
 use crate::passes::{four, is_among};
@@ -55,7 +55,7 @@ fn glue_of_first(
     db: &ClauseDb,
 ) -> Result<Option<usize>, AllocError>
     requires flags { flags.old.flags.items ≡ [] }
-    requires db { HoldsDb clauses.now db.now }
+    requires db { DbMatchesBuffer clauses.now db.now }
 {
     make_flags(flags)?;
     if db.len() == 0 {
@@ -80,7 +80,7 @@ fn row(
     flags: &mut TmpFlags,
 ) -> Result<Option<usize>, StoreError>
     requires empty { clauses.old ≡ [] }
-    requires db { HoldsDb clauses.old db.old }
+    requires db { DbMatchesBuffer clauses.old db.old }
     requires none { live_refs clauses.old db.old.refs ≡ [] }
     requires lists { watchlists.old.lists ≡ [] }
     requires flags { flags.old.flags.items ≡ [] }

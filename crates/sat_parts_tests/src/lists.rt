@@ -1,7 +1,7 @@
 //! Tests of long clauses by tier, of deletions and of collections.
 ghost use Rattle.std.specs.Prelude.{ℕ, ◌≡◌, ◌+◌, ◌<◌, ◌≤◌, OnOk, IfOk, [], ◌∷◌, ◌++◌, length, slice_index_or};
 ghost use Rattle.sat_base.specs.values.Literals.{negated};
-ghost use Rattle.sat_parts.specs.clause.Db.{HoldsDb, live_refs};
+ghost use Rattle.sat_parts.specs.clause.Db.{DbMatchesBuffer, live_refs};
 
 use sat_base::Lit;
 use sat_parts::{
@@ -29,12 +29,12 @@ pub fn store(
     tier: Tier,
     lits: &[Lit],
 ) -> Result<ClauseRef, StoreError>
-    requires db { HoldsDb clauses.old db.old }
+    requires db { DbMatchesBuffer clauses.old db.old }
     requires room { length watchlists.old.lists ≡ 14 }
     requires long { 3 ≤ length lits.now }
     requires few { length lits.now < 10 }
     requires below { (k : ℕ) → k < 2 → negated (slice_index_or lits.now k 0) < 14 }
-    ensures db { OnOk result (HoldsDb clauses.new db.new) }
+    ensures db { OnOk result (DbMatchesBuffer clauses.new db.new) }
     ensures place { IfOk result (λ cref. cref ≡ length clauses.old) }
     ensures size { OnOk result (length clauses.new ≡ length clauses.old + 3 + length lits.now) }
     ensures live { OnOk result (live_refs clauses.new db.new.refs
@@ -54,10 +54,10 @@ pub fn store_four(
     watchlists: &mut Watchlists,
 ) -> Result<(ClauseRef, ClauseRef, ClauseRef, ClauseRef), StoreError>
     requires empty { clauses.old ≡ [] }
-    requires db { HoldsDb clauses.old db.old }
+    requires db { DbMatchesBuffer clauses.old db.old }
     requires none { live_refs clauses.old db.old.refs ≡ [] }
     requires room { length watchlists.old.lists ≡ 14 }
-    ensures db { OnOk result (HoldsDb clauses.new db.new) }
+    ensures db { OnOk result (DbMatchesBuffer clauses.new db.new) }
     ensures live { OnOk result (live_refs clauses.new db.new.refs ≡ 0 ∷ 6 ∷ 12 ∷ 18 ∷ []) }
     ensures places { IfOk result (λ r. (r.0 ≡ 0) × (r.1 ≡ 6) × (r.2 ≡ 12) × (r.3 ≡ 18)) }
 {
@@ -87,10 +87,10 @@ fn move_four(
     third: ClauseRef,
     fourth: ClauseRef,
 )
-    requires db { HoldsDb clauses.old db.old }
+    requires db { DbMatchesBuffer clauses.old db.old }
     requires live { live_refs clauses.old db.old.refs ≡ 0 ∷ 6 ∷ 12 ∷ 18 ∷ [] }
     requires places { (first ≡ 0) × (second ≡ 6) × (third ≡ 12) × (fourth ≡ 18) }
-    ensures db { HoldsDb clauses.new db.new }
+    ensures db { DbMatchesBuffer clauses.new db.new }
     ensures live { live_refs clauses.new db.new.refs ≡ 0 ∷ 6 ∷ 12 ∷ 18 ∷ [] }
 {
     set_clause_tier(clauses, db, first, Tier::Irred);
@@ -107,10 +107,10 @@ fn delete_two(
     first: ClauseRef,
     third: ClauseRef,
 )
-    requires db { HoldsDb clauses.old db.old }
+    requires db { DbMatchesBuffer clauses.old db.old }
     requires live { live_refs clauses.old db.old.refs ≡ 0 ∷ 6 ∷ 12 ∷ 18 ∷ [] }
     requires places { (first ≡ 0) × (third ≡ 12) }
-    ensures db { HoldsDb clauses.new db.new }
+    ensures db { DbMatchesBuffer clauses.new db.new }
     ensures live { live_refs clauses.new db.new.refs ≡ 6 ∷ 18 ∷ [] }
 {
     delete_clause(clauses, db, watchlists, first);
@@ -119,7 +119,7 @@ fn delete_two(
 
 /// Returns the offsets of the first three live clauses.
 fn offsets(clauses: &ClauseAlloc, db: &ClauseDb) -> (Option<usize>, Option<usize>, Option<usize>)
-    requires { HoldsDb clauses.now db.now }
+    requires { DbMatchesBuffer clauses.now db.now }
 {
     let mut live = clauses_iter(clauses, db);
     let first = live.next().map(|cref| cref.offset());
@@ -137,7 +137,7 @@ fn collects(
     watchlists: &mut Watchlists,
     second: ClauseRef,
 ) -> Result<bool, StoreError>
-    requires db { HoldsDb clauses.old db.old }
+    requires db { DbMatchesBuffer clauses.old db.old }
     requires live { live_refs clauses.old db.old.refs ≡ 6 ∷ 18 ∷ [] }
     requires place { second ≡ 6 }
 {
@@ -165,7 +165,7 @@ fn row(
     watchlists: &mut Watchlists,
 ) -> Result<bool, StoreError>
     requires empty { clauses.old ≡ [] }
-    requires db { HoldsDb clauses.old db.old }
+    requires db { DbMatchesBuffer clauses.old db.old }
     requires none { live_refs clauses.old db.old.refs ≡ [] }
     requires lists { watchlists.old.lists ≡ [] }
 {

@@ -2,7 +2,7 @@
 ghost use Rattle.std.specs.Prelude.{◌≡◌, ◌≤◌, ◌<◌, ◌==◌, IsTrue, OnOk, [], length};
 ghost use Rattle.std.specs.List.{Contains, filter};
 ghost use Rattle.sat_store.specs.clause.Buffer.{IsClause, lits_at};
-ghost use Rattle.sat_parts.specs.clause.Db.{HoldsDb, live_refs};
+ghost use Rattle.sat_parts.specs.clause.Db.{DbMatchesBuffer, live_refs};
 
 use crate::lists::{counts, store_four};
 use sat_base::{Lit, Var};
@@ -16,7 +16,7 @@ use std::alloc::{AllocError, Global};
 
 /// Whether `cref` is at index `at` of the list and isn't deleted.
 fn stands_at(clauses: &ClauseAlloc, db: &ClauseDb, at: usize, cref: ClauseRef) -> bool
-    requires db { HoldsDb clauses.now db.now }
+    requires db { DbMatchesBuffer clauses.now db.now }
     requires within { at < length db.now.refs }
     ensures live { IsTrue result → Contains (live_refs clauses.now db.now.refs) cref }
     ensures clause { IsTrue result → IsClause clauses.now cref }
@@ -31,7 +31,7 @@ fn stands_at(clauses: &ClauseAlloc, db: &ClauseDb, at: usize, cref: ClauseRef) -
 
 /// Whether `cref` is a live clause of the list.
 pub fn is_among(clauses: &ClauseAlloc, db: &ClauseDb, cref: ClauseRef) -> bool
-    requires { HoldsDb clauses.now db.now }
+    requires { DbMatchesBuffer clauses.now db.now }
     ensures live { IsTrue result → Contains (live_refs clauses.now db.now.refs) cref }
     ensures clause { IsTrue result → IsClause clauses.now cref }
     ensures long { IsTrue result → 3 ≤ length (lits_at clauses.now cref) }
@@ -46,7 +46,7 @@ pub fn is_among(clauses: &ClauseAlloc, db: &ClauseDb, cref: ClauseRef) -> bool
 
 /// Returns the tier, the mark and the activity of the clause at index `at` of the list.
 fn fields(clauses: &ClauseAlloc, db: &ClauseDb, at: usize) -> Option<(Tier, bool, u32)>
-    requires { HoldsDb clauses.now db.now }
+    requires { DbMatchesBuffer clauses.now db.now }
 {
     if at >= db.len() {
         return None;
@@ -63,10 +63,10 @@ pub fn four(
     watchlists: &mut Watchlists,
 ) -> Result<(), StoreError>
     requires empty { clauses.old ≡ [] }
-    requires db { HoldsDb clauses.old db.old }
+    requires db { DbMatchesBuffer clauses.old db.old }
     requires none { live_refs clauses.old db.old.refs ≡ [] }
     requires lists { watchlists.old.lists ≡ [] }
-    ensures db { OnOk result (HoldsDb clauses.new db.new) }
+    ensures db { OnOk result (DbMatchesBuffer clauses.new db.new) }
 {
     watchlists.set_var_count(alloc, 7)?;
     let _ = store_four(clauses, db, watchlists)?;
@@ -79,8 +79,8 @@ fn tiers_and_marks(
     clauses: &mut ClauseAlloc,
     db: &mut ClauseDb,
 ) -> Result<bool, AllocError>
-    requires { HoldsDb clauses.old db.old }
-    ensures { OnOk result (HoldsDb clauses.new db.new) }
+    requires { DbMatchesBuffer clauses.old db.old }
+    ensures { OnOk result (DbMatchesBuffer clauses.new db.new) }
 {
     reduce_mids(clauses, db);
     let list = dedup_and_mark_by_tier(alloc, clauses, db, Tier::Local)?;
@@ -96,8 +96,8 @@ fn tiers_and_marks(
 /// Bumps the first clause, decays the activities by one half, and bumps the clause again. Returns the next bump, and
 /// the fields of the clause.
 fn raised(clauses: &mut ClauseAlloc, db: &ClauseDb) -> Option<(u64, Option<(Tier, bool, u32)>)>
-    requires { HoldsDb clauses.old db.now }
-    ensures { HoldsDb clauses.new db.now }
+    requires { DbMatchesBuffer clauses.old db.now }
+    ensures { DbMatchesBuffer clauses.new db.now }
 {
     if db.len() == 0 {
         return None;
@@ -118,8 +118,8 @@ fn shortened(
     watchlists: &mut Watchlists,
     cref: ClauseRef,
 ) -> usize
-    requires { HoldsDb clauses.old db.now }
-    ensures { HoldsDb clauses.new db.now }
+    requires { DbMatchesBuffer clauses.old db.now }
+    ensures { DbMatchesBuffer clauses.new db.now }
 {
     if !is_among(clauses, db, cref) {
         return 0;
@@ -131,8 +131,8 @@ fn shortened(
 
 /// Keeps only the clauses of three literals.
 fn keep_short(clauses: &mut ClauseAlloc, db: &mut ClauseDb, watchlists: &mut Watchlists)
-    requires { HoldsDb clauses.old db.old }
-    ensures db { HoldsDb clauses.new db.new }
+    requires { DbMatchesBuffer clauses.old db.old }
+    ensures db { DbMatchesBuffer clauses.new db.new }
     ensures short { live_refs clauses.new db.new.refs
         ≡ filter (λ o. length (lits_at clauses.old o) == 3) (live_refs clauses.old db.old.refs) }
 {
@@ -153,7 +153,7 @@ fn tried(
     assignment: &Assignment,
     cref: ClauseRef,
 ) -> Option<bool>
-    requires { HoldsDb clauses.old db.old }
+    requires { DbMatchesBuffer clauses.old db.old }
 {
     if !is_among(clauses, db, cref) {
         return None;
@@ -172,7 +172,7 @@ fn cut_and_tried(
     db: &mut ClauseDb,
     watchlists: &mut Watchlists,
 ) -> Result<bool, AllocError>
-    requires { HoldsDb clauses.old db.old }
+    requires { DbMatchesBuffer clauses.old db.old }
 {
     let mut assignment = Assignment::new(alloc);
     let mut graph = ImplGraph::new(alloc);
@@ -197,7 +197,7 @@ fn reason_stays(
     db: &mut ClauseDb,
     watchlists: &mut Watchlists,
 ) -> Result<bool, AllocError>
-    requires { HoldsDb clauses.old db.old }
+    requires { DbMatchesBuffer clauses.old db.old }
 {
     let mut assignment = Assignment::new(alloc);
     let mut graph = ImplGraph::new(alloc);
@@ -220,7 +220,7 @@ fn reason_row(
     watchlists: &mut Watchlists,
 ) -> Result<bool, StoreError>
     requires empty { clauses.old ≡ [] }
-    requires db { HoldsDb clauses.old db.old }
+    requires db { DbMatchesBuffer clauses.old db.old }
     requires none { live_refs clauses.old db.old.refs ≡ [] }
     requires lists { watchlists.old.lists ≡ [] }
 {
@@ -235,7 +235,7 @@ fn activities_row(
     watchlists: &mut Watchlists,
 ) -> Result<bool, StoreError>
     requires empty { clauses.old ≡ [] }
-    requires db { HoldsDb clauses.old db.old }
+    requires db { DbMatchesBuffer clauses.old db.old }
     requires none { live_refs clauses.old db.old.refs ≡ [] }
     requires lists { watchlists.old.lists ≡ [] }
 {
@@ -250,7 +250,7 @@ fn cut_row(
     watchlists: &mut Watchlists,
 ) -> Result<bool, StoreError>
     requires empty { clauses.old ≡ [] }
-    requires db { HoldsDb clauses.old db.old }
+    requires db { DbMatchesBuffer clauses.old db.old }
     requires none { live_refs clauses.old db.old.refs ≡ [] }
     requires lists { watchlists.old.lists ≡ [] }
 {
@@ -265,7 +265,7 @@ fn passes_row(
     watchlists: &mut Watchlists,
 ) -> Result<bool, StoreError>
     requires empty { clauses.old ≡ [] }
-    requires db { HoldsDb clauses.old db.old }
+    requires db { DbMatchesBuffer clauses.old db.old }
     requires none { live_refs clauses.old db.old.refs ≡ [] }
     requires lists { watchlists.old.lists ≡ [] }
 {
@@ -280,7 +280,7 @@ fn filter_row(
     watchlists: &mut Watchlists,
 ) -> Result<bool, StoreError>
     requires empty { clauses.old ≡ [] }
-    requires db { HoldsDb clauses.old db.old }
+    requires db { DbMatchesBuffer clauses.old db.old }
     requires none { live_refs clauses.old db.old.refs ≡ [] }
     requires lists { watchlists.old.lists ≡ [] }
 {

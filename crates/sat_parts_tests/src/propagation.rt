@@ -76,7 +76,7 @@ pub fn names_first(
 }
 
 #[test]
-fn long_clause_behind_binary(rt: HostRuntime) {
+fn long_clause_after_binary(rt: HostRuntime) {
     let mut parts = no_parts(rt.alloc());
     let clauses: [&[i64]; 3] = [&[-1, 2], &[-1, -2, 3], &[1]];
     let found = propagated(rt.alloc(), &mut parts, &clauses);

@@ -8,7 +8,7 @@ ghost use Rattle.sat_solver.specs.cdcl.Going.{EmitsSteps};
 ghost use Rattle.sat_solver.specs.cdcl.Turns.{IsStopped};
 ghost use Rattle.sat_solver.specs.cdcl.Rounds.{LastRefutes, RoundGoes};
 ghost use Rattle.sat_solver.specs.cdcl.Ending.{EndsRound};
-ghost use Rattle.sat_solver.specs.unit_simplify.Passes.{StandTogether};
+ghost use Rattle.sat_solver.specs.unit_simplify.Passes.{JointInvariant};
 
 pub mod begin;
 pub mod fault;
@@ -89,7 +89,7 @@ pub fn conflict_step<W: CountedWrite + Drop, P: ProofProcessor>(
     search: &mut Search,
     names: &mut Variables,
 ) -> Result<Outcome, Fault>
-    requires together { StandTogether names.old proof.old search.old }
+    requires together { JointInvariant names.old proof.old search.old }
     ensures { EndsRound W.seen result names.old names.new proof.old proof.new search.old search.new }
 {
     let begun = begin_round(proof, search, names)?;

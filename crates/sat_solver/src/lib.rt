@@ -26,4 +26,4 @@ pub use error::SolverError;
 pub use progress::Progress;
 pub use proof::format::ProofFormat;
 pub use solver::Solver;
-pub use solver::proof::HandedBack;
+pub use solver::proof::ReturnedParts;

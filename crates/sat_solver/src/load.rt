@@ -2,7 +2,7 @@
 ghost use Rattle.std.specs.Prelude.{◌≡◌, ◌<◌, length, true, OnOk};
 ghost use Rattle.sat_base.specs.steps.Steps.{DeleteClause, Satisfied};
 ghost use Rattle.sat_solver.specs.session.Coming.{OnlyAllowedSteps, DeletesAdded};
-ghost use Rattle.sat_solver.specs.session.Session.{May};
+ghost use Rattle.sat_solver.specs.session.Session.{IsAllowedStep};
 ghost use Rattle.sat_solver.specs.proof.ProofView.{HasAllowedSteps, steps_of, session_of};
 ghost use Rattle.sat_solver.specs.session.Naming.{global_of_index};
 ghost use Rattle.sat_solver.specs.cdcl.Joint.{global_in};
@@ -35,7 +35,7 @@ pub fn delete_satisfied<W: CountedWrite + Drop, P: ProofProcessor>(
 ) -> Result<(), Fault>
     requires keeps { HasAllowedSteps proof.old }
     requires names { VariablesBelow lits.now (length globals.now) }
-    requires may { May (session_of proof.old) (satisfied_step (global_of_index globals.now) lits.now) }
+    requires may { IsAllowedStep (session_of proof.old) (satisfied_step (global_of_index globals.now) lits.now) }
     ensures { DeletesSatisfied W.seen result proof.old proof.new (global_of_index globals.now) lits.now }
 {
     map_lits(globals, lits, clause)?;
@@ -56,7 +56,7 @@ fn delete_true<W: CountedWrite + Drop, P: ProofProcessor>(
 ) -> Result<bool, Fault>
     requires keeps { HasAllowedSteps proof.old }
     requires names { VariablesBelow lits.now (length search.old.globals.items) }
-    requires may { May (session_of proof.old) (satisfied_step (global_in search.old) lits.now) }
+    requires may { IsAllowedStep (session_of proof.old) (satisfied_step (global_in search.old) lits.now) }
     ensures same { search.new ≡ record search.old { scratch = search.new.scratch } }
     ensures deletes { DeletesTrue W.seen result proof.old proof.new (global_in search.old) lits.now }
 {

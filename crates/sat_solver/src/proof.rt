@@ -5,14 +5,14 @@ ghost use Rattle.sat_base.specs.steps.StepViews.{step_of};
 ghost use Rattle.sat_solver.specs.proof.Counting.{nothing_counted, counted};
 ghost use Rattle.sat_solver.specs.proof.Checked.{has_begun};
 ghost use Rattle.sat_solver.specs.proof.MadeView.{MadeEffect};
-ghost use Rattle.sat_solver.specs.session.Session.{May, MayAll};
+ghost use Rattle.sat_solver.specs.session.Session.{IsAllowedStep, AreAllowedSteps};
 ghost use Rattle.sat_solver.specs.proof.Widths.{narrowed, KeepsWidth};
 ghost use Rattle.sat_solver.specs.proof.ProofView.{Closed, IsAtWidth, Open, asking, audience, is_open, is_drat};
 ghost use Rattle.sat_solver.specs.proof.ProofView.{has_asked};
 ghost use Rattle.sat_solver.specs.proof.ProofView.{target_of, steps_of, session_of, is_checked, is_lost, HasFullChecker};
 ghost use Rattle.sat_solver.specs.proof.ProofView.{AllStepsReported, HasAllowedSteps, EmitsExactly, EmitsAsAnswered, PutsOn, TargetTakes};
-ghost use Rattle.sat_solver.specs.proof.ProofView.{FailsOfCheck, FailsOfCheckUnless, FlushesTarget, FlushesOrFails};
-ghost use Rattle.sat_solver.specs.proof.ProofView.{ClosesTarget, HandsBackListeners, HandsBackWholeListeners, HandsBack, HasCause, Listens};
+ghost use Rattle.sat_solver.specs.proof.ProofView.{FailsOnlyInChecker, FailsOnlyInCheckerOrWasLost, FlushesTarget, FlushesOrFails};
+ghost use Rattle.sat_solver.specs.proof.ProofView.{ClosesTarget, ReturnsListeners, ReturnsNotifiedListeners, ReturnsTarget, HasCause, AddListenerEffect};
 ghost use Rattle.sat_solver.specs.proof.ProofView.{without_complaint};
 
 pub mod checker;
@@ -151,7 +151,7 @@ impl<W: CountedWrite + Drop, P: ProofProcessor> Proof<W, P> {
         requires begun { has_begun (steps_of self.old) ≡ false }
         requires taking { is_lost self.old ≡ false }
         requires checked { is_checked self.old ≡ true }
-        ensures { Listens W.seen result processor self.old self.new }
+        ensures { AddListenerEffect W.seen result processor self.old self.new }
     {
         self.made.add_processor(processor)?;
         Ok(())
@@ -291,7 +291,7 @@ impl<W: CountedWrite + Drop, P: ProofProcessor> Proof<W, P> {
     /// current width.
     #[inline(always)]
     fn take(&mut self, step: &ProofStep<'_>, cut: &ProofStep<'_>) -> Result<(), ProofError>
-        requires may { MayAll (step_of step.now ∷ steps_of self.old) }
+        requires may { AreAllowedSteps (step_of step.now ∷ steps_of self.old) }
         requires width { KeepsWidth (step_of step.now) }
         requires cut { is_checked self.old ≡ true
             → step_of cut.now ≡ narrowed self.old.counting.bits (step_of step.now) }
@@ -300,7 +300,7 @@ impl<W: CountedWrite + Drop, P: ProofProcessor> Proof<W, P> {
         ensures width { OnOk result (IsAtWidth self.new) }
         ensures asked { has_asked self.new ≡ has_asked self.old }
         ensures target { target_of W.seen self.new ≡ target_of W.seen self.old }
-        ensures fails { FailsOfCheck result self.new }
+        ensures fails { FailsOnlyInChecker result self.new }
     {
         self.made.take(self.counting.bits, step, cut)?;
         Ok(())
@@ -319,7 +319,7 @@ impl<W: CountedWrite + Drop, P: ProofProcessor> Proof<W, P> {
         cut: &ProofStep<'s>,
     ) -> Result<(), ProofError>
         requires keeps { HasAllowedSteps self.old }
-        requires may { May (session_of self.old) (step_of step.now) }
+        requires may { IsAllowedStep (session_of self.old) (step_of step.now) }
         requires width { KeepsWidth (step_of step.now) }
         requires counted { counting ≡ counted (step_of step.now) self.old.counting }
         requires cut { step_of cut.now ≡ narrowed counting.bits (step_of step.now) }
@@ -340,7 +340,7 @@ impl<W: CountedWrite + Drop, P: ProofProcessor> Proof<W, P> {
     /// Makes a step, with its hashes shortened to the width after the step. The shortened hashes are stored in `lists`.
     fn record_cut(&mut self, lists: &mut CutLists, step: &ProofStep<'_>) -> Result<(), ProofError>
         requires keeps { HasAllowedSteps self.old }
-        requires may { May (session_of self.old) (step_of step.now) }
+        requires may { IsAllowedStep (session_of self.old) (step_of step.now) }
         requires width { KeepsWidth (step_of step.now) }
         ensures keeps { HasAllowedSteps self.new }
         ensures records { EmitsAsAnswered W.seen result (step_of step.now ∷ []) self.old self.new }
@@ -403,7 +403,7 @@ impl<W: CountedWrite + Drop, P: ProofProcessor> Proof<W, P> {
     #[inline(always)]
     pub fn step(&mut self, step: &ProofStep<'_>) -> Result<(), ProofError>
         requires keeps { HasAllowedSteps self.old }
-        requires may { May (session_of self.old) (step_of step.now) }
+        requires may { IsAllowedStep (session_of self.old) (step_of step.now) }
         requires width { KeepsWidth (step_of step.now) }
         ensures keeps { HasAllowedSteps self.new }
         ensures records { EmitsAsAnswered W.seen result (step_of step.now ∷ []) self.old self.new }
@@ -422,7 +422,7 @@ impl<W: CountedWrite + Drop, P: ProofProcessor> Proof<W, P> {
     #[inline(never)]
     fn step_with_hashes(&mut self, step: &ProofStep<'_>) -> Result<(), ProofError>
         requires keeps { HasAllowedSteps self.old }
-        requires may { May (session_of self.old) (step_of step.now) }
+        requires may { IsAllowedStep (session_of self.old) (step_of step.now) }
         requires width { KeepsWidth (step_of step.now) }
         ensures keeps { HasAllowedSteps self.new }
         ensures records { EmitsAsAnswered W.seen result (step_of step.now ∷ []) self.old self.new }
@@ -460,7 +460,7 @@ impl<W: CountedWrite + Drop, P: ProofProcessor> Proof<W, P> {
         ensures asked { has_asked self.new ≡ has_asked self.old }
         ensures width { OnOk result (IsAtWidth self.old → IsAtWidth self.new) }
         ensures target { target_of W.seen self.new ≡ target_of W.seen self.old }
-        ensures fails { FailsOfCheckUnless (is_lost self.old) result self.new }
+        ensures fails { FailsOnlyInCheckerOrWasLost (is_lost self.old) result self.new }
         ensures reported { OnOk result (AllStepsReported self.new) }
     {
         self.made.take_delayed()?;
@@ -495,7 +495,7 @@ impl<W: CountedWrite + Drop, P: ProofProcessor> Proof<W, P> {
     /// Returns the target, if any, without flushing it. Its pending bytes are lost.
     pub fn take_target(&mut self) -> Option<W>
         ensures keeps { HasAllowedSteps self.old → HasAllowedSteps self.new }
-        ensures gives { HandsBack W.seen result self.old self.new }
+        ensures gives { ReturnsTarget W.seen result self.old self.new }
     {
         self.broken = false;
         match self.output.take() {
@@ -522,8 +522,8 @@ impl<W: CountedWrite + Drop, P: ProofProcessor> Proof<W, P> {
     /// Returns the checker's listeners in the order in which they were added, even after a failure. Afterwards there is
     /// no checker.
     pub fn take_processors(&mut self, alloc: Global) -> Vec<P>
-        ensures handed { HandsBackListeners self.old result.items }
-        ensures whole { HandsBackWholeListeners self.old result.items }
+        ensures returned { ReturnsListeners self.old result.items }
+        ensures whole { ReturnsNotifiedListeners self.old result.items }
     {
         self.made.take_processors(alloc)
     }

@@ -75,34 +75,34 @@ fn restart_where_due<W: CountedWrite + Drop, P: ProofProcessor>(
 /// Runs rounds until there is an answer, but at most `max_steps` rounds. Returns the answer, or `None` if there
 /// is none.
 ///
-/// Counts the rounds in `steps`, the number of rounds over all calls. No round is run once it has reached 2^64-1.
+/// Counts the rounds in `rounds`, the number of rounds over all calls. No round is run once it has reached 2^64-1.
 pub fn search<W: CountedWrite + Drop, P: ProofProcessor>(
     core: &mut Core<W, P>,
     names: &mut Variables,
     restarts: &mut Restarts,
-    steps: &mut u64,
+    rounds: &mut u64,
     max_steps: u64,
 ) -> Result<Option<Outcome>, Fault>
     requires joined { IsJoined names.old core.old }
     requires scale { 0 < restarts.old.scale }
     ensures scale { restarts.new.scale ≡ restarts.old.scale }
-    ensures counts { CountsOn (values_in core.old) max_steps steps.old steps.new }
-    ensures round { TakesRound result steps.old steps.new }
-    ensures interrupted { SpendsRounds result (round_allowance max_steps steps.old) steps.old steps.new }
-    ensures answered { AnswersWithin result (values_in core.old) (round_allowance max_steps steps.old) }
+    ensures counts { CountsOn (values_in core.old) max_steps rounds.old rounds.new }
+    ensures round { TakesRound result rounds.old rounds.new }
+    ensures interrupted { SpendsRounds result (round_allowance max_steps rounds.old) rounds.old rounds.new }
+    ensures answered { AnswersWithin result (values_in core.old) (round_allowance max_steps rounds.old) }
     ensures goes { IfOk result (λ r. r ≡ None
-        → FoundNone W.seen (steps.new - steps.old) names.old names.new core.old core.new) }
-    ensures ends { IfOk result (λ r. EndedBy W.seen (steps.new - steps.old) r core.old names.old core.new names.new) }
+        → FoundNone W.seen (rounds.new - rounds.old) names.old names.new core.old core.new) }
+    ensures ends { IfOk result (λ r. EndedBy W.seen (rounds.new - rounds.old) r core.old names.old core.new names.new) }
     ensures rounds { IfOk result (λ o. LastRoundAnswers Restarted (ReducedAt W.seen) (RoundOf W.seen) o core.old names.old
-        restarts.old steps.old core.new names.new restarts.new steps.new) }
+        restarts.old rounds.old core.new names.new restarts.new rounds.new) }
     ensures fails { IfErr result (λ e. BreaksRounds W.seen core.old e core.new) }
 {
-    let end = steps.saturating_add(max_steps);
-    while *steps < end {
-        restart_where_due(core, restarts, *steps);
-        reduce(&mut core.proof, &mut core.search, &core.config, *steps)?;
+    let end = rounds.saturating_add(max_steps);
+    while *rounds < end {
+        restart_where_due(core, restarts, *rounds);
+        reduce(&mut core.proof, &mut core.search, &core.config, *rounds)?;
         let outcome = conflict_step(&mut core.proof, &mut core.search, names)?;
-        *steps += 1;
+        *rounds += 1;
         if !outcome.is_learned() {
             return Ok(Some(outcome));
         }

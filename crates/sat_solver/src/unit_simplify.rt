@@ -4,7 +4,7 @@ ghost use Rattle.sat_solver.specs.proof.ProofView.{HasAllowedSteps, session_of};
 ghost use Rattle.sat_solver.specs.cdcl.Going.{EmitsSteps};
 ghost use Rattle.sat_solver.specs.cdcl.Joint.{IsSearch};
 ghost use Rattle.sat_solver.specs.unit_simplify.Flat.{HasEmptyTrail, StrengthensAll};
-ghost use Rattle.sat_solver.specs.unit_simplify.Passes.{StandTogether, Simplifies};
+ghost use Rattle.sat_solver.specs.unit_simplify.Passes.{JointInvariant, Simplifies};
 
 pub mod binary;
 pub mod free_vars;
@@ -26,7 +26,7 @@ use sat_checker::ProofProcessor;
 
 /// Removes the binary clauses that have an assigned variable and the long clauses that have a true literal. Removes the
 /// false literals of the remaining long clauses.
-fn lighten<W: CountedWrite + Drop, P: ProofProcessor>(
+fn strengthen_all<W: CountedWrite + Drop, P: ProofProcessor>(
     proof: &mut Proof<W, P>,
     search: &mut Search,
 ) -> Result<(), Fault>
@@ -50,11 +50,11 @@ pub fn unit_simplify<W: CountedWrite + Drop, P: ProofProcessor>(
     search: &mut Search,
     names: &mut Variables,
 ) -> Result<(), Fault>
-    requires together { StandTogether names.old proof.old search.old }
+    requires together { JointInvariant names.old proof.old search.old }
     requires flat { HasEmptyTrail search.old.parts }
     ensures { Simplifies W.seen result names.old names.new proof.old proof.new search.old search.new }
 {
-    lighten(proof, search)?;
+    strengthen_all(proof, search)?;
     let mut used = Vec::new(search.alloc);
     free_indices(names, proof, search, &mut used)?;
     Ok(())

@@ -10,7 +10,7 @@ use Rattle.sat_checker.specs.declared.processing.ProofProcessor.{Ghosts}
 use Rattle.sat_solver.specs.proof.Counting.{nothing_counted, counted, one_made, written_for}
 use Rattle.sat_solver.specs.proof.OutputView.{text_in}
 use Rattle.sat_solver.specs.proof.ProofTexts.{BrokeText}
-use Rattle.sat_solver.specs.proof.ProofView.{Target, Open, TargetTakes, TargetFails, GivesWriter, handed_writer, is_open, target_of, is_checked, is_lost, EmitsChecked, EmitsAsAnswered, ClosesTarget, HandsBack}
+use Rattle.sat_solver.specs.proof.ProofView.{Target, Open, TargetTakes, TargetFails, GivesWriter, returned_writer, is_open, target_of, is_checked, is_lost, EmitsChecked, EmitsAsAnswered, ClosesTarget, ReturnsTarget}
 use Rattle.sat_solver.specs.declared.proof.format.ProofFormat.TheVariants.{Varisat}
 use Rattle.sat_solver.specs.declared.proof.Proof.{Proof}
 use Rattle.sat_solver.specs.declared.proof.ProofError.{ProofError}
@@ -22,12 +22,12 @@ abbrev opened_as : Writer → Target
 opened_as from = Open Varisat nothing_counted (empty_sink from)
 
 -- a target that failed at the text of steps, handed back
-faulty : {W : Type 0} (seen : W → Writer) (from : Writer) (steps : List Step) (t : Target) (given : Option W) → TargetFails (opened_as from) steps t → GivesWriter t (handed_writer seen given) → (w : W) × (given ≡ Some w) × BrokeText Varisat from (seen w) steps
+faulty : {W : Type 0} (seen : W → Writer) (from : Writer) (steps : List Step) (t : Target) (given : Option W) → TargetFails (opened_as from) steps t → GivesWriter t (returned_writer seen given) → (w : W) × (given ≡ Some w) × BrokeText Varisat from (seen w) steps
 faulty seen from steps t None p g = let q = subst (λ z. GivesWriter z None) p.1 g in absurd (let e = q in cc)
 faulty seen from steps t (Some w) p g = (w, refl, broken_is_front Varisat from (seen w) steps t p g)
 
 -- one that is still open, handed back
-still : {W : Type 0} (seen : W → Writer) (from : Writer) (steps : List Step) (t : Target) (given : Option W) → TargetTakes (opened_as from) steps t → GivesWriter t (handed_writer seen given) → (w : W) × (given ≡ Some w)
+still : {W : Type 0} (seen : W → Writer) (from : Writer) (steps : List Step) (t : Target) (given : Option W) → TargetTakes (opened_as from) steps t → GivesWriter t (returned_writer seen given) → (w : W) × (given ≡ Some w)
 still seen from steps t None p g = let q = subst (λ z. GivesWriter z None) p.2 g in absurd (let e = q in cc)
 still seen from steps t (Some w) p g = (w, refl)
 
@@ -43,7 +43,7 @@ all_broke e from given b = record {
 
 module _ {W L : Type 0} {G : Ghosts L} (seen : W → Writer) (w : W) (p q : Proof W L G) (opened : target_of seen p ≡ opened_as (seen w)) (unchecked : is_checked p ≡ false) where
   -- the first step failed
-  pub step_failed : (e : ProofError) (r : Proof W L G) (given : Option W) → EmitsAsAnswered {T = Unit {0}} seen (Err e) (Assumptions [] ∷ []) p q → HandsBack seen given q r → PutsOwned seen (Err e) w given
+  pub step_failed : (e : ProofError) (r : Proof W L G) (given : Option W) → EmitsAsAnswered {T = Unit {0}} seen (Err e) (Assumptions [] ∷ []) p q → ReturnsTarget seen given q r → PutsOwned seen (Err e) w given
   step_failed (Write e) r given f h =
       let x = faulty seen (seen w) (Assumptions [] ∷ []) (target_of seen q) given (subst (λ z. TargetFails z (Assumptions [] ∷ []) (target_of seen q)) opened f.0.target) h.gives in
       subst (PutsOwned seen (Err (Write e)) w) (sym x.1) (all_broke e (seen w) (seen x.0) x.2)
@@ -57,7 +57,7 @@ module _ {W L : Type 0} {G : Ghosts L} (seen : W → Writer) (w : W) (p q : Proo
     carried = subst (λ z. TargetTakes z (Assumptions [] ∷ []) (target_of seen q)) opened a.target
 
     -- closing failed
-    pub close_failed : is_lost p ≡ false → (e : ProofError) (r s : Proof W L G) (given : Option W) → ClosesTarget seen (Err e) q r → HandsBack seen given r s → PutsOwned seen (Err e) w given
+    pub close_failed : is_lost p ≡ false → (e : ProofError) (r s : Proof W L G) (given : Option W) → ClosesTarget seen (Err e) q r → ReturnsTarget seen given r s → PutsOwned seen (Err e) w given
     close_failed taking (Write e) r s given c h =
         let x = faulty seen (seen w) made (target_of seen r) given (stops_later (opened_as (seen w)) (target_of seen q) (target_of seen r) (Assumptions [] ∷ []) (End ∷ []) carried c.0.target) h.gives in
         subst (PutsOwned seen (Err (Write e)) w) (sym x.1) (record { written = x.2.written; counting = x.2.counting; cuts = x.2.cuts; puts = x.2.breaks })

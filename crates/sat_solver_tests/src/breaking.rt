@@ -1,11 +1,11 @@
 //! Tests in which each call of a proof's target fails in turn, in each format, with and without the solver's own
 //! checker; and tests that a solver doesn't call a target or a processor while it is dropped.
 
-use crate::calls::{Behind, Call, CallParts, Kind, Part, done, kind_of};
+use crate::calls::{Call, CallParts, FieldsAfter, Kind, Part, done, kind_of};
 use crate::devices::{ByFew, Tally, by_few};
 use crate::driver::{Closed, Play, Proved, played};
 use sat_base::Counted;
-use sat_solver::{HandedBack, ProofFormat, Solver};
+use sat_solver::{ProofFormat, ReturnedParts, Solver};
 use std::alloc::Global;
 use std::cell::Cell;
 
@@ -64,14 +64,14 @@ fn calls_of(target: Few) -> u64 {
 
 /// Returns the outcome of a session, including the closing of its proof, and the number of calls of the target, which
 /// is returned by the closing or else by the solver.
-fn end_of(told: Kind, closed: Closed<Few>, left: Option<Few>) -> (Kind, u64) {
+fn end_of(answered: Kind, closed: Closed<Few>, left: Option<Few>) -> (Kind, u64) {
     match (closed, left) {
-        (Ok(Some(target)), None) => (told, calls_of(target)),
+        (Ok(Some(target)), None) => (answered, calls_of(target)),
         (Err(error), Some(target)) => {
-            let kind = if told == Kind::Right {
+            let kind = if answered == Kind::Right {
                 kind_of(&error)
             } else {
-                told
+                answered
             };
             (kind, calls_of(target))
         }
@@ -82,18 +82,18 @@ fn end_of(told: Kind, closed: Closed<Few>, left: Option<Few>) -> (Kind, u64) {
 /// Plays a session whose target accepts seven bytes at a time and fails at call number `failing`. Returns the outcome,
 /// whether the solver has failed afterwards, and the number of calls of the target.
 fn end_with(alloc: Global, (front, format, parts): Row, failing: u64) -> (Kind, bool, u64) {
-    let act = Behind(Proved {
+    let act = FieldsAfter(Proved {
         target: by_few(alloc, 7, failing),
         format,
         act: CallParts { front, parts },
     });
-    let (((told, closed), failed), left) = played::<
+    let (((answered, closed), failed), left) = played::<
         Option<Few>,
         Solver<Few>,
         Ended,
-        Behind<Proved<Few, CallParts<'_>>>,
+        FieldsAfter<Proved<Few, CallParts<'_>>>,
     >(alloc, act);
-    let (kind, calls) = end_of(told, closed, left);
+    let (kind, calls) = end_of(answered, closed, left);
     (kind, failed, calls)
 }
 
@@ -138,7 +138,7 @@ impl<'a> Play<Solver<Counted<Tally<'a>>, Tally<'a>>, [Kind; 4]> for Late<'a> {
 fn reported_late(alloc: Global) -> ([Kind; 4], u64) {
     let calls = Cell::new(0);
     let (kinds, left) = played::<
-        HandedBack<Counted<Tally<'_>>, Tally<'_>>,
+        ReturnedParts<Counted<Tally<'_>>, Tally<'_>>,
         Solver<Counted<Tally<'_>>, Tally<'_>>,
         [Kind; 4],
         Late<'_>,

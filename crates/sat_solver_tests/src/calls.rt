@@ -60,7 +60,7 @@ pub(crate) enum Call {
     /// The names that hidden variables are given.
     Observe(&'static [i64]),
     Check,
-    Tell,
+    AddProcessor,
     Proof,
     Close,
 }
@@ -347,7 +347,7 @@ fn begin<W: CountedWrite + Drop + Made, P: ProofProcessor + Made>(
 {
     match call {
         Call::Check => done(solver.enable_self_checking()),
-        Call::Tell => done(solver.add_proof_processor(P::made(alloc))),
+        Call::AddProcessor => done(solver.add_proof_processor(P::made(alloc))),
         Call::Proof => done(solver.write_proof(W::made(alloc), ProofFormat::Varisat)),
         Call::Close => done(solver.close_proof()),
         _ => Kind::Other,
@@ -374,7 +374,7 @@ fn set<W: CountedWrite + Drop + Made, P: ProofProcessor + Made>(
 }
 
 /// Makes a call that checks what the solver knows, and returns the kind of its result.
-fn tell<W: CountedWrite + Drop + Made, P: ProofProcessor + Made>(
+fn inspect<W: CountedWrite + Drop + Made, P: ProofProcessor + Made>(
     alloc: Global,
     solver: &mut Solver<W, P>,
     call: &Call,
@@ -422,7 +422,7 @@ fn make<W: CountedWrite + Drop + Made, P: ProofProcessor + Made>(
         Call::Solve(sat) => ask(solver, *sat),
         Call::Sat(assumed, line) => ask_for_model(alloc, solver, lits, *assumed, *line),
         Call::Unsat(assumed, core) => ask_for_core(solver, lits, *assumed, *core),
-        _ => tell(alloc, solver, call),
+        _ => inspect(alloc, solver, call),
     }
 }
 
@@ -519,7 +519,7 @@ const EACH: &[Part<'static>] = &[(
         Call::New(1),
         Call::Observe(&[]),
         Call::Check,
-        Call::Tell,
+        Call::AddProcessor,
         Call::Proof,
         Call::Close,
     ],
@@ -527,16 +527,16 @@ const EACH: &[Part<'static>] = &[(
 
 /// A play, and then a check whether every call reports that the solver has failed, and no core is known.
 #[derive(Drop)]
-pub(crate) struct Behind<A>(pub(crate) A);
+pub(crate) struct FieldsAfter<A>(pub(crate) A);
 
 impl<W: CountedWrite + Drop + Made, P: ProofProcessor + Made, R, A: Play<Solver<W, P>, R>> Play<
     Solver<W, P>,
     (R, bool),
-> for Behind<A> {
+> for FieldsAfter<A> {
     fn play(self, alloc: Global, solver: &mut Solver<W, P>) -> (R, bool) {
-        let Behind(act) = self;
-        let told = act.play(alloc, solver);
+        let FieldsAfter(act) = self;
+        let answered = act.play(alloc, solver);
         let failed = plain(EACH).play(alloc, solver) == Kind::Right;
-        (told, failed && solver.failed_core().is_none())
+        (answered, failed && solver.failed_core().is_none())
     }
 }

@@ -4,7 +4,7 @@ ghost use Rattle.sat_solver.specs.solver.Whole.{IsSolver};
 
 use sat_base::{Counted, CountedWrite};
 use sat_checker::{Checker, Nobody, ProofProcessor};
-use sat_solver::{HandedBack, ProofFormat, Solver, SolverError};
+use sat_solver::{ProofFormat, ReturnedParts, Solver, SolverError};
 use std::alloc::Global;
 
 /// A target that stores what it receives.
@@ -46,12 +46,12 @@ impl<W: CountedWrite + Drop, P: ProofProcessor> Ready for Solver<W, P> {
     ghost ready = { IsSolver };
 }
 
-impl<W: CountedWrite + Drop, P: ProofProcessor> Fresh<HandedBack<W, P>> for Solver<W, P> {
+impl<W: CountedWrite + Drop, P: ProofProcessor> Fresh<ReturnedParts<W, P>> for Solver<W, P> {
     fn fresh(alloc: Global) -> Solver<W, P> {
         Solver::notifying(alloc)
     }
 
-    fn left(self) -> HandedBack<W, P> {
+    fn left(self) -> ReturnedParts<W, P> {
         self.into_processors()
     }
 }
@@ -76,14 +76,14 @@ pub(crate) trait Play<S: Ready, R>: Drop {
 /// Plays on a new value. Returns what the play returns, and what is left in the value.
 pub(crate) fn played<B, S: Fresh<B>, R, A: Play<S, R>>(alloc: Global, act: A) -> (R, B) {
     let mut solver = S::fresh(alloc);
-    let told = act.play(alloc, &mut solver);
-    (told, solver.left())
+    let result = act.play(alloc, &mut solver);
+    (result, solver.left())
 }
 
 /// Plays on a new solver without a proof, and returns what the play returns.
-pub(crate) fn told<R, A: Play<Solver<Bytes>, R>>(alloc: Global, act: A) -> R {
-    let (told, _target) = played::<Option<Bytes>, Solver<Bytes>, R, A>(alloc, act);
-    told
+pub(crate) fn result_of<R, A: Play<Solver<Bytes>, R>>(alloc: Global, act: A) -> R {
+    let (result, _target) = played::<Option<Bytes>, Solver<Bytes>, R, A>(alloc, act);
+    result
 }
 
 /// A play while a proof is written, which is closed afterwards.
@@ -108,10 +108,10 @@ impl<W: CountedWrite + Drop, P: ProofProcessor, R: Drop, A: Play<Solver<W, P>, R
             act,
         } = self;
         let opened = solver.write_proof(target, format);
-        let told = act.play(alloc, solver);
+        let result = act.play(alloc, solver);
         match opened {
-            Ok(()) => (told, solver.close_proof()),
-            Err(error) => (told, Err(error)),
+            Ok(()) => (result, solver.close_proof()),
+            Err(error) => (result, Err(error)),
         }
     }
 }
@@ -128,9 +128,9 @@ pub(crate) fn written<R: Drop, A: Play<Solver<Bytes>, R>>(
         format,
         act,
     };
-    match told::<(R, Closed<Bytes>), Proved<Bytes, A>>(alloc, proved) {
-        (told, Ok(left)) => match left {
-            Some(target) => Some((told, target.into_inner())),
+    match result_of::<(R, Closed<Bytes>), Proved<Bytes, A>>(alloc, proved) {
+        (result, Ok(left)) => match left {
+            Some(target) => Some((result, target.into_inner())),
             None => None,
         },
         (_, Err(_)) => None,

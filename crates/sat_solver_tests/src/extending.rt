@@ -1,7 +1,7 @@
 //! Tests of a solver that is filled by code which knows only the trait `ExtendFormula`.
 ghost use Rattle.sat_solver.specs.solver.Whole.{IsSolver};
 
-use crate::driver::{Play, told};
+use crate::driver::{Play, result_of};
 use sat_base::{CountedWrite, ExtendFormula, Lit};
 use sat_solver::{Solver, SolverError};
 use std::alloc::Global;
@@ -45,7 +45,7 @@ impl<W: CountedWrite + Drop> Play<Solver<W>, Result<bool, SolverError>> for Unit
 
 #[test]
 fn a_solver_is_extended(rt: HostRuntime) {
-    match told(rt.alloc(), Units) {
+    match result_of(rt.alloc(), Units) {
         Ok(right) => assert!(rt; right),
         Err(_) => assert!(rt; false),
     }

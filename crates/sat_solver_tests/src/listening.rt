@@ -1,11 +1,11 @@
 //! Tests of processors that listen to a solver's own checker.
 
-use crate::calls::{Behind, Call, Kind, Part, done, first_of, plain};
+use crate::calls::{Call, FieldsAfter, Kind, Part, done, first_of, plain};
 use crate::driver::{Bytes, Closed, Made, Play, Proved, played};
 use anyhow::anyhow;
 use sat_base::{Counted, CountedWrite};
 use sat_checker::{CheckedProofStep, Checker, CheckerData, Nobody, ProofProcessor};
-use sat_solver::{HandedBack, ProofFormat, Solver};
+use sat_solver::{ProofFormat, ReturnedParts, Solver};
 use std::alloc::Global;
 
 /// A processor that mixes all announcements into one number, and returns an error at call number `at`, counted from 1.
@@ -13,7 +13,7 @@ use std::alloc::Global;
 struct Listener {
     calls: u64,
     at: u64,
-    told: u64,
+    heard: u64,
 }
 
 impl Listener {
@@ -21,7 +21,7 @@ impl Listener {
         Listener {
             calls: 0,
             at,
-            told: 0,
+            heard: 0,
         }
     }
 }
@@ -60,8 +60,8 @@ impl ProofProcessor for Listener {
             return Err(anyhow!("a fault"));
         }
         let (kind, number) = mark(step);
-        self.told = self.told.wrapping_mul(31).wrapping_add(kind);
-        self.told = self.told.wrapping_mul(31).wrapping_add(number);
+        self.heard = self.heard.wrapping_mul(31).wrapping_add(kind);
+        self.heard = self.heard.wrapping_mul(31).wrapping_add(number);
         Ok(())
     }
 }
@@ -110,7 +110,7 @@ fn calls_of(processors: &[Listener]) -> Option<(u64, u64, u64)> {
         return None;
     }
     let (first, second) = (&processors[0], &processors[1]);
-    Some((first.calls, second.calls, first.told))
+    Some((first.calls, second.calls, first.heard))
 }
 
 /// Returns how many times the checker of a proof's text calls a processor, and the processor's mixed number.
@@ -118,19 +118,19 @@ fn of_text(alloc: Global, text: &[u8]) -> Option<(u64, u64)> {
     let mut checker: Checker<Listener, Nobody> = Checker::notifying(alloc);
     let added = checker.add_processor(Listener::new(0)).is_ok();
     let taken = checker.check_proof(&mut Counted::new(text)).is_ok();
-    let handed = checker.into_processors();
-    if !added || !taken || handed.processors.len() != 1 {
+    let returned = checker.into_processors();
+    if !added || !taken || returned.processors.len() != 1 {
         return None;
     }
-    Some((handed.processors[0].calls, handed.processors[0].told))
+    Some((returned.processors[0].calls, returned.processors[0].heard))
 }
 
 /// Returns the outcome of the calls and of the closing, whether the solver has failed, and the text of the proof.
-fn end_of(((told, closed), failed): Heard) -> (Kind, bool, Option<Vec<u8>>) {
+fn end_of(((kind, closed), failed): Heard) -> (Kind, bool, Option<Vec<u8>>) {
     match closed {
-        Ok(Some(target)) => (told, failed, Some(target.into_inner())),
-        Ok(None) => (told, failed, None),
-        Err(_) => (told, failed, None),
+        Ok(Some(target)) => (kind, failed, Some(target.into_inner())),
+        Ok(None) => (kind, failed, None),
+        Err(_) => (kind, failed, None),
     }
 }
 
@@ -139,18 +139,18 @@ type Came = (Kind, bool, Option<Vec<u8>>);
 /// Plays the session with two processors, the first of which fails at call number `at`. Returns the outcome, and what
 /// `calls_of` returns for the processors.
 fn of_solver(alloc: Global, at: u64) -> (Came, Option<(u64, u64, u64)>) {
-    let act = Behind(Proved {
+    let act = FieldsAfter(Proved {
         target: Bytes::made(alloc),
         format: ProofFormat::Varisat,
         act: Hearing(at),
     });
-    let (heard, handed) = played::<
-        HandedBack<Bytes, Listener>,
+    let (heard, returned) = played::<
+        ReturnedParts<Bytes, Listener>,
         Solver<Bytes, Listener>,
         Heard,
-        Behind<Proved<Bytes, Hearing>>,
+        FieldsAfter<Proved<Bytes, Hearing>>,
     >(alloc, act);
-    (end_of(heard), calls_of(&handed.processors))
+    (end_of(heard), calls_of(&returned.processors))
 }
 
 /// Returns the number of announcements, if both processors receive all of them, and a checker of the text makes
@@ -169,11 +169,11 @@ fn reported_alike(
     alloc: Global,
     kind: Kind,
     text: &[u8],
-    (first, second, told): (u64, u64, u64),
+    (first, second, heard): (u64, u64, u64),
 ) -> Option<u64> {
     let same = kind == Kind::Right
         && first == second
-        && of_text(alloc, text) == Some((first, told));
+        && of_text(alloc, text) == Some((first, heard));
     if same { Some(first) } else { None }
 }
 

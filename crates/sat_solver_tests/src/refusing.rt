@@ -97,7 +97,7 @@ const ROWS: &[Row] = &[
     (
         NAMES,
         Kind::TooLate,
-        &[Call::Proof, Call::Check, Call::Tell],
+        &[Call::Proof, Call::Check, Call::AddProcessor],
         1,
         27,
     ),
@@ -130,7 +130,7 @@ const ROWS: &[Row] = &[
     (
         LINES,
         Kind::TooLate,
-        &[Call::Proof, Call::Check, Call::Tell],
+        &[Call::Proof, Call::Check, Call::AddProcessor],
         1,
         8,
     ),
@@ -146,11 +146,11 @@ fn text_with(
     (kind, refused): Part<'_>,
     at: usize,
 ) -> Option<Vec<u8>> {
-    let (before, behind) = calls.split_at(at.min(calls.len()));
+    let (before, following) = calls.split_at(at.min(calls.len()));
     let parts = [
         (Kind::Right, before),
         (kind, refused),
-        (Kind::Right, behind),
+        (Kind::Right, following),
     ];
     text_of(alloc, format, &[], &parts)
 }

@@ -1,12 +1,12 @@
 //! Tests of what may begin after which call.
 
 use crate::calls::{Call, Kind, Part, SAME, plain};
-use crate::driver::told;
+use crate::driver::result_of;
 use std::alloc::Global;
 
 /// The calls that open a proof, start the solver's own checker, or add a processor. Later, they are refused as
 /// too late.
-const BEGINNINGS: &[Call] = &[Call::Proof, Call::Check, Call::Tell];
+const BEGINNINGS: &[Call] = &[Call::Proof, Call::Check, Call::AddProcessor];
 
 /// All of them may begin on a new solver, and on a solver whose proof was closed. While a proof is open, no second
 /// proof may begin.
@@ -18,7 +18,7 @@ const FIRST: &[Part<'static>] = &[
             Call::Observe(&[]),
             Call::Close,
             Call::Check,
-            Call::Tell,
+            Call::AddProcessor,
             Call::Check,
             Call::Proof,
         ],
@@ -28,10 +28,10 @@ const FIRST: &[Part<'static>] = &[
         Kind::Right,
         &[
             Call::Check,
-            Call::Tell,
+            Call::AddProcessor,
             Call::Close,
             Call::Check,
-            Call::Tell,
+            Call::AddProcessor,
             Call::Proof,
         ],
     ),
@@ -40,7 +40,12 @@ const FIRST: &[Part<'static>] = &[
 const PROOF: &[Part<'static>] = &[
     (
         Kind::Right,
-        &[Call::Proof, Call::Tell, Call::Check, Call::Solve(true)],
+        &[
+            Call::Proof,
+            Call::AddProcessor,
+            Call::Check,
+            Call::Solve(true),
+        ],
     ),
     (Kind::TooLate, BEGINNINGS),
 ];
@@ -99,7 +104,7 @@ const STATES: &[&[Part<'static>]] = &[
 ];
 
 fn is_right(alloc: Global, parts: &[Part<'_>]) -> bool {
-    told(alloc, plain(parts)) == Kind::Right
+    result_of(alloc, plain(parts)) == Kind::Right
 }
 
 fn states() -> &'static [&'static [Part<'static>]] {

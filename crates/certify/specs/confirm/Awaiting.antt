@@ -10,7 +10,7 @@ use Rattle.certify.specs.confirm.CertificatePlaces.{CanMeet, MeetsExactly, Meets
 use Rattle.certify.specs.confirm.Feeding.{HasTaken}
 use Rattle.certify.specs.confirm.CertificateStates.{CertificateState}
 use Rattle.certify.specs.confirm.Comparing.{MayStayUnmet, Due, ExcusesDue}
-use Rattle.certify.specs.confirm.Following.{StandFor}
+use Rattle.certify.specs.confirm.Following.{AreVariablesOfNames}
 use Rattle.certify.specs.declared.confirm.ordered.Awaited.{Awaited}
 use Rattle.certify.specs.declared.confirm.ordered.Awaited.TheVariants as awaited
 use Rattle.certify.specs.declared.confirm.stop.Stop.{Stop}
@@ -21,26 +21,26 @@ use Rattle.certify.specs.declared.verdict.Why.{Why}
 -- that the checker was fed these steps, after which the names refer to these variables
 pub record CheckerIsAt (checker : Kernel) (names : NamedVars) (earlier : List Step) : Type 0 where
   pub taken : HasTaken checker earlier
-  pub stand : StandFor names earlier
+  pub stand : AreVariablesOfNames names earlier
 
 -- that the next ordered step was read, and unsat is not recorded
 pub record StepIsReady (names : NamedVars) (old : CertificateState) (earlier : List Step) (new : CertificateState) : Type 0 where
   pub later : List Step
-  pub stands : CheckerIsAt new.checker names later
+  pub valid : CheckerIsAt new.checker names later
   pub open_yet : (ready_after later).unsat ≡ false
   pub offers : NextIsOrdered earlier old.rest later new.step new.rest
 
 -- that unsat was recorded before an ordered step was read
 pub record UnsatIsRecorded (names : NamedVars) (old : CertificateState) (earlier : List Step) (new : CertificateState) : Type 0 where
   pub later : List Step
-  pub stands : CheckerIsAt new.checker names later
+  pub valid : CheckerIsAt new.checker names later
   pub closed : (ready_after later).unsat ≡ true
   pub skips : SkipsUnordered earlier old.rest later new.rest
 
 -- that only unordered steps were accepted
 pub record StepWasPassed (names : NamedVars) (old : CertificateState) (earlier : List Step) (new : CertificateState) : Type 0 where
   pub later : List Step
-  pub stands : CheckerIsAt new.checker names later
+  pub valid : CheckerIsAt new.checker names later
   pub skips : SkipsUnordered earlier old.rest later new.rest
 
 -- the result of awaiting an ordered step: what was found, or why no expected step can follow
@@ -62,7 +62,7 @@ PassesUnordered names old new r = (earlier : List Step) → CheckerIsAt old.chec
 -- that exactly what is expected is met
 pub record IsDueMet (due : Due) (after : NamedVars) (old : CertificateState) (earlier : List Step) (new : CertificateState) : Type 0 where
   pub later : List Step
-  pub stands : CheckerIsAt new.checker after later
+  pub valid : CheckerIsAt new.checker after later
   pub leads : (o : Outcome) (ask : List Literal)
       → ((ready_after later).unsat ≡ true → MayStayUnmet (due o ask)) → MeetsExactly earlier old.rest (due o ask ∷ []) later new.rest
   pub alone : (o : Outcome) (ask : List Literal) (es : List Expected)

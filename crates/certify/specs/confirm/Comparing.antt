@@ -33,7 +33,7 @@ due_of code.End = λ o ask. Finish
 
 -- that the names have the variables that are known after these steps, which the checker accepted
 pub record AreKnown (known : Known) (earlier : List Step) : Type 0 where
-  pub stands : HasAccepted (kernel_of known.checker.now) earlier
+  pub valid : HasAccepted (kernel_of known.checker.now) earlier
   pub goes_on : kernel_has_failed (kernel_of known.checker.now) ≡ false
   pub named : variable_of earlier ≡ variable_in known.variables.now
 

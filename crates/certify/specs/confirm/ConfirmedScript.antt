@@ -56,7 +56,7 @@ pub record ConfirmsThrough (text : List ℕ → Reading) (old new : ConfirmPlace
 -- that the complete script is confirmed or, with an error, cannot be
 abbrev pub JoinsWhole : Result (Unit {0}) Stop → Reading → ConfirmPlace → ConfirmPlace → Type 0
 JoinsWhole r script old new = Joins ⊥ false r old.answers new.answers old.certificate new.certificate
-    (λ before behind u v. ConfirmsLast old.number script old.table before u)
+    (λ before following u v. ConfirmsLast old.number script old.table before u)
 
 -- the effect on answers and certificate if the result says nothing about the script
 abbrev pub Unsaid : ConfirmPlace → ConfirmPlace → Type 0

@@ -37,20 +37,20 @@ abbrev pub ToConfirm : ScriptState → ℕ → List Step → List Command → Sc
 ToConfirm j n earlier commands ending answers certificate = Left checker_rules j n earlier [] commands ending answers certificate
 
 -- That command `n` is confirmed: the script from `n` on is confirmed exactly if the commands after `n` are.
-pub record Confirmed (before behind : List ℕ) (old new : CertificateState) (j : ScriptState) (earlier : List Step) (n : ℕ)
+pub record Confirmed (before following : List ℕ) (old new : CertificateState) (j : ScriptState) (earlier : List Step) (n : ℕ)
     (command : Command) (t : Table) : Type 0 where
   pub later : List Step
-  pub stands : HoldsAt t new (after_command command j) later
+  pub valid : HoldsAt t new (after_command command j) later
   pub on : (commands : List Command) (ending : ScriptEnding) → ToConfirm j n earlier (command ∷ commands) ending before old.rest
-      → ToConfirm (after_command command j) (n + 1) later commands ending behind new.rest
-  pub back : (commands : List Command) (ending : ScriptEnding) → ToConfirm (after_command command j) (n + 1) later commands ending behind new.rest
+      → ToConfirm (after_command command j) (n + 1) later commands ending following new.rest
+  pub back : (commands : List Command) (ending : ScriptEnding) → ToConfirm (after_command command j) (n + 1) later commands ending following new.rest
       → ToConfirm j n earlier (command ∷ commands) ending before old.rest
 
 -- that command `n` is confirmed or, with an error, cannot be
 abbrev pub ConfirmsNext : ℕ → Command → Table → Table → List ℕ → List ℕ → CertificateState → CertificateState → Result (Unit {0}) Why → Type 0
-ConfirmsNext n command t next before behind old new (Ok x) =
-    (j : ScriptState) (earlier : List Step) → HoldsAt t old j earlier → Confirmed before behind old new j earlier n command next
-ConfirmsNext n command t next before behind old new (Err why) =
+ConfirmsNext n command t next before following old new (Ok x) =
+    (j : ScriptState) (earlier : List Step) → HoldsAt t old j earlier → Confirmed before following old new j earlier n command next
+ConfirmsNext n command t next before following old new (Err why) =
     (j : ScriptState) (earlier : List Step) → HoldsAt t old j earlier
     → (commands : List Command) (ending : ScriptEnding) → ToConfirm j n earlier (command ∷ commands) ending before old.rest → ⊥
 
@@ -70,15 +70,15 @@ MeetsContent OfSample ls before after old new r = MeetsAll [] before after old n
 
 -- that the rest of a command after its names is confirmed or, with an error, cannot be
 abbrev pub ConfirmsContent : ℕ → Kind → List Literal → Table → Table → List ℕ → List ℕ → CertificateState → CertificateState → Result (Unit {0}) Why → Type 0
-ConfirmsContent n kind ls named next before behind old new r =
-    (t : Table) (u : CertificateState) → MeetsCommandNames kind ls t named u old → ConfirmsNext n (command_of kind ls) t next before behind u new r
+ConfirmsContent n kind ls named next before following old new r =
+    (t : Table) (u : CertificateState) → MeetsCommandNames kind ls t named u old → ConfirmsNext n (command_of kind ls) t next before following u new r
 
 -- that an ask is confirmed by the answer after its assumptions or, with an error, cannot be
 abbrev pub ConfirmsAnswer : ℕ → List Literal → Table → Table → List ℕ → List ℕ → CertificateState → CertificateState → Result (Unit {0}) Why → Type 0
-ConfirmsAnswer n ask asked next before behind old new r =
+ConfirmsAnswer n ask asked next before following old new r =
     (t named : Table) (u v : CertificateState) → MeetsCommandNames OfAsk ask t named u v → named.names ≡ asked.names
     → MeetsDue (λ o under. Opens ask o) named.variables asked.variables v old (Ok tt)
-    → ConfirmsNext n (Ask ask) t next before behind u new r
+    → ConfirmsNext n (Ask ask) t next before following u new r
 
 -- that the steps that show the outcome of an ask are met or, with an error, cannot be
 abbrev pub MeetsShown : Names → List Literal → Outcome → NamedVars → NamedVars → CertificateState → CertificateState → Result (Unit {0}) Why → Type 0
@@ -99,14 +99,14 @@ ConfirmsLast n script t before old (Err why) =
 
 -- That the script was confirmed from command `n` up to command `m`: it is confirmed completely exactly if the rest is.
 pub record IsThrough (old new : CertificateState) (j : ScriptState) (earlier : List Step) (n : ℕ) (script : Reading) (before : List ℕ)
-    (m : ℕ) (left : Reading) (next : Table) (behind : List ℕ) : Type 0 where
+    (m : ℕ) (left : Reading) (next : Table) (following : List ℕ) : Type 0 where
   pub judge : ScriptState
   pub later : List Step
-  pub stands : HoldsAt next new judge later
-  pub on : ToConfirm j n earlier script.0 script.1 before old.rest → ToConfirm judge m later left.0 left.1 behind new.rest
-  pub back : ToConfirm judge m later left.0 left.1 behind new.rest → ToConfirm j n earlier script.0 script.1 before old.rest
+  pub valid : HoldsAt next new judge later
+  pub on : ToConfirm j n earlier script.0 script.1 before old.rest → ToConfirm judge m later left.0 left.1 following new.rest
+  pub back : ToConfirm judge m later left.0 left.1 following new.rest → ToConfirm j n earlier script.0 script.1 before old.rest
 
 -- that `IsThrough` holds for every script state and all steps for which the table holds
 abbrev pub Through : ℕ → Reading → Table → ℕ → Reading → Table → List ℕ → List ℕ → CertificateState → CertificateState → Result (Unit {0}) Why → Type 0
-Through n script t m left next before behind old new r =
-    (j : ScriptState) (earlier : List Step) → HoldsAt t old j earlier → IsThrough old new j earlier n script before m left next behind
+Through n script t m left next before following old new r =
+    (j : ScriptState) (earlier : List Step) → HoldsAt t old j earlier → IsThrough old new j earlier n script before m left next following

@@ -13,7 +13,7 @@ use Rattle.certify.specs.declared.verdict.Why.TheVariants.{StepRefused}
 
 -- that the checker accepted these steps, the newest first, and has not failed
 pub record HasTaken (checker : Kernel) (steps : List Step) : Type 0 where
-  pub stands : HasAccepted checker steps
+  pub valid : HasAccepted checker steps
   pub goes_on : kernel_has_failed checker ≡ false
 
 -- What is returned if a step is not accepted. A checker that has not failed can only refuse the step, run out of memory, or run out of numbers.

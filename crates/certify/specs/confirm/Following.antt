@@ -12,7 +12,7 @@ use Rattle.certify.specs.confirm.Variables.{variable_in}
 use Rattle.certify.specs.declared.confirm.variables.NamedVars.{NamedVars}
 
 -- that after these accepted steps the names have these variables: no two names share a variable, and every variable is known
-pub record StandFor (variables : NamedVars) (earlier : List Step) : Type 0 where
+pub record AreVariablesOfNames (variables : NamedVars) (earlier : List Step) : Type 0 where
   pub accepted : Accepted checker_rules earlier
   pub named : variable_of earlier ≡ variable_in variables
   pub apart : (m n v : ℕ) → variable_of earlier m ≡ Some v → variable_of earlier n ≡ Some v → m ≡ n
@@ -21,10 +21,10 @@ pub record StandFor (variables : NamedVars) (earlier : List Step) : Type 0 where
 
 -- that `new` has the variables of the names after an accepted step, if the step is the expected one
 abbrev pub NamesFollow : Due → NamedVars → Step → NamedVars → Type 0
-NamesFollow due old step new = (earlier : List Step) (o : Outcome) (ask : List Literal) → StandFor old earlier
-    → Fits (checker_rules.knows earlier) earlier (due o ask) step → Accepts (ready_after earlier) step → StandFor new (step ∷ earlier)
+NamesFollow due old step new = (earlier : List Step) (o : Outcome) (ask : List Literal) → AreVariablesOfNames old earlier
+    → Fits (checker_rules.knows earlier) earlier (due o ask) step → Accepts (ready_after earlier) step → AreVariablesOfNames new (step ∷ earlier)
 
 -- that an unordered step does not change the variable of any name
 abbrev pub OthersPass : Type 0
-OthersPass = (variables : NamedVars) (earlier : List Step) (step : Step) → StandFor variables earlier
-    → is_ordered step ≡ false → Accepts (ready_after earlier) step → StandFor variables (step ∷ earlier)
+OthersPass = (variables : NamedVars) (earlier : List Step) (step : Step) → AreVariablesOfNames variables earlier
+    → is_ordered step ≡ false → Accepts (ready_after earlier) step → AreVariablesOfNames variables (step ∷ earlier)

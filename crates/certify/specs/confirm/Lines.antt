@@ -103,13 +103,13 @@ stop_after unread.OutOfMemory = stop.OutOfMemory
 
 -- that the first line of an answer was read or, with an error, that the bytes begin with no answer
 abbrev pub ReadsFirst : List ℕ → List ℕ → Result AnswerKind Why → Type 0
-ReadsFirst before behind (Ok kind) = before ≡ first_answer_line kind ++ behind
-ReadsFirst before behind (Err why) = (o : Outcome) (tail : List ℕ) → before ≡ outcome_text o ++ tail → ⊥
+ReadsFirst before following (Ok kind) = before ≡ first_answer_line kind ++ following
+ReadsFirst before following (Err why) = (o : Outcome) (tail : List ℕ) → before ≡ outcome_text o ++ tail → ⊥
 
 -- that the second line of an answer of this kind was read or, with an error, that the bytes begin with no such line
 abbrev pub ReadsSecond : AnswerKind → List Literal → List ℕ → List ℕ → Result (Unit {0}) Why → Type 0
-ReadsSecond kind line before behind (Ok x) = (before ≡ second_line (outcome_of kind line) ++ behind) × IsInForm (outcome_of kind line)
-ReadsSecond kind line before behind (Err why) =
+ReadsSecond kind line before following (Ok x) = (before ≡ second_line (outcome_of kind line) ++ following) × IsInForm (outcome_of kind line)
+ReadsSecond kind line before following (Err why) =
     (ls : List Literal) (tail : List ℕ) → IsInForm (outcome_of kind ls) → before ≡ second_line (outcome_of kind ls) ++ tail → ⊥
 
 -- the outcome that a reply represents
@@ -119,6 +119,6 @@ outcome_in r = outcome_of r.kind (named_literals r.lits.items)
 -- That an answer was read, which is the empty core if unsat is recorded (`settled`); or, with an error, that the bytes begin with no such
 -- answer.
 abbrev pub IsReply : List ℕ → List ℕ → Outcome → Bool → Result (Unit {0}) Why → Type 0
-IsReply before behind reply settled (Ok x) = (before ≡ outcome_text reply ++ behind) × IsInForm reply × (settled ≡ true → reply ≡ Unsat [])
-IsReply before behind reply settled (Err why) =
+IsReply before following reply settled (Ok x) = (before ≡ outcome_text reply ++ following) × IsInForm reply × (settled ≡ true → reply ≡ Unsat [])
+IsReply before following reply settled (Err why) =
     (o : Outcome) (tail : List ℕ) → IsInForm o → (settled ≡ true → o ≡ Unsat []) → before ≡ outcome_text o ++ tail → ⊥

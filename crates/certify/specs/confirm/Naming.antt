@@ -16,7 +16,7 @@ use Rattle.certify.specs.declared.verdict.Why.{Why}
 -- that exactly the steps in `pending` were met
 pub record GoesOnTo (pending : List Expected) (after : NamedVars) (old : CertificateState) (earlier : List Step) (new : CertificateState) : Type 0 where
   pub later : List Step
-  pub stands : CheckerIsAt new.checker after later
+  pub valid : CheckerIsAt new.checker after later
   pub leads : MeetsExactly earlier old.rest pending later new.rest
 
 -- that the steps in `pending` are met or, with an error, cannot be

@@ -26,7 +26,7 @@ EachTookRounds budget before asks outcomes rounds = ⊥
 
 -- What `headline_over` guarantees. A run of `script` wrote `answers` and `certificate`. `rounds` are the numbers that its summary reports, one
 -- for each ask. This record does not say that the search made these rounds, only that the certificate has at least one byte for each
--- (`in_certificate`). What each round derived is stated by the clause `backed` of `run`. `own` is the verdict on what the run wrote. `other` is
+-- (`in_certificate`). What each round derived is stated by the clause `guaranteed` of `run`. `own` is the verdict on what the run wrote. `other` is
 -- the verdict on the answers `claimed` with the certificate `shown`, whoever made them. The number of looks was `before` at the start and is
 -- `after` at the end.
 pub record Headline (script : List ℕ) (budget : ℕ) (rounds answers certificate : List ℕ) (own : Verdict)

@@ -233,5 +233,5 @@ ModelUncertified = (counts : List ℕ)
     → Certifies checker_rules (End ∷ Assumptions [] ∷ Assumptions [] ∷ []) None [] (expected start (Ask [] ∷ []) (Sat [] ∷ [])) counts → ⊥
 
 -- an empty script with a step after `End`
-abbrev pub BehindEndUncertified : Type 0
-BehindEndUncertified = (step : Step) (counts : List ℕ) → Certifies checker_rules (step ∷ End ∷ []) None [] (expected start [] []) counts → ⊥
+abbrev pub AfterEndUncertified : Type 0
+AfterEndUncertified = (step : Step) (counts : List ℕ) → Certifies checker_rules (step ∷ End ∷ []) None [] (expected start [] []) counts → ⊥

@@ -76,8 +76,8 @@ request_of (call.Hints certificate hints) = Hints certificate.now hints.now
 request_of (call.Check hints) = Check hints.now
 
 -- that the call is what the arguments ask for, or there is no call and they ask for nothing
-abbrev pub IsCallOf : List (List ℕ) → Option Call → Type 0
-IsCallOf words answer = MatchOption answer (AsksNothing words) (λ c. AsksFor words (request_of c))
+abbrev pub IsParsedAs : List (List ℕ) → Option Call → Type 0
+IsParsedAs words answer = MatchOption answer (AsksNothing words) (λ c. AsksFor words (request_of c))
 
 -- that the call is this request, which preserves its input, or there is no call and the request does not preserve its input
 abbrev pub AllowsRequest : Option Call → Request → Type 0

@@ -52,17 +52,17 @@ pub record PrintsHintVerdict (status : ℕ) (input : Reader × Reader) (output :
   pub printed : PrintsLine status (hint_verdict_text verdict) (is_proved verdict ≡ true) output.0 output.1
 
 -- the status for a result of `convert`, or `None` for a device or allocation failure
-abbrev pub status_behind : Result (Unit {0}) HintError → Option ℕ
-status_behind (Ok x) = Some 0
-status_behind (Err (error.Refused e)) = Some 1
-status_behind (Err error.HasDeleteVar) = Some 1
-status_behind (Err error.Read) = None
-status_behind (Err error.Write) = None
-status_behind (Err error.OutOfMemory) = None
+abbrev pub status_after : Result (Unit {0}) HintError → Option ℕ
+status_after (Ok x) = Some 0
+status_after (Err (error.Refused e)) = Some 1
+status_after (Err error.HasDeleteVar) = Some 1
+status_after (Err error.Read) = None
+status_after (Err error.Write) = None
+status_after (Err error.OutOfMemory) = None
 
 -- That a certificate was read and its hint text was written and flushed, or there is none.
 pub record WritesHints (status : ℕ) (certificate : Reader × Reader) (hints : Writer × Writer) : Type 0 where
   pub answer : Result (Unit {0}) HintError
   pub converts : Converts answer certificate.0 certificate.1 hints.0 hints.1
-  pub behind : status_behind answer ≡ Some status
+  pub following : status_after answer ≡ Some status
   pub flushed : status ≡ 0 → hints.1.flushed ≡ true

@@ -109,8 +109,8 @@ pub record PrintsPrefix (text : List ℕ) (old new : Writer) : Type 0 where
   pub answers : List ℕ
   pub answered : IsAnswered text answers
   pub bytes : List ℕ
-  pub behind : List ℕ
-  pub whole : answers ++ verdict_text Yes ≡ bytes ++ behind
+  pub following : List ℕ
+  pub whole : answers ++ verdict_text Yes ≡ bytes ++ following
   pub took : TookBytes old new bytes
 
 -- that nothing was printed, or `PrintsPrefix` holds for the text that a reader gave, whatever bytes could follow
@@ -132,6 +132,6 @@ pub record PrintsYesOrNo (status : ℕ) (script answers certificate : Reader × 
 -- That the answers to the text that a reader gave were written, and their certificate. The status is 0 exactly if the text is not malformed.
 pub record Ran (status budget : ℕ) (script : Reader × Reader) (answers certificate : Writer × Writer) : Type 0 where
   pub summary : Summary
-  pub backed : TookCertificate budget summary script answers certificate
+  pub guaranteed : TookCertificate budget summary script answers certificate
   pub flushed : (answers.1.flushed ≡ true) × (certificate.1.flushed ≡ true)
   pub done : (status ≡ 0) ↔ (summary.malformed ≡ None)

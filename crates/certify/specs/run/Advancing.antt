@@ -19,8 +19,8 @@ pub data PropagatesTo (f : Stored) : List ℕ → List ℕ → Type 0 where
       → PropagatesTo f (open_literal ∷ ls) ks → PropagatesTo f ls ks
 
 -- the assumed literals: the negations of the other literals of a clause, and the stored units
-abbrev pub supposed : Stored → List ℕ → List ℕ
-supposed f others = map negated others ++ unit_literals f
+abbrev pub start_literals : Stored → List ℕ → List ℕ
+start_literals f others = map negated others ++ unit_literals f
 
 -- that the reached literals contain neither the literal nor its negation, and falsify no stored clause
 pub record IsOpenStill (f : Stored) (literal : ℕ) (reached : List ℕ) : Type 0 where
@@ -31,8 +31,8 @@ pub record IsOpenStill (f : Stored) (literal : ℕ) (reached : List ℕ) : Type 
 -- That the literals in `supposed` do not contradict each other and leave `literal` unassigned. No unit propagation from them over stored
 -- clauses assigns `literal` or falsifies a clause.
 pub record LeavesOpen (f : Stored) (others : List ℕ) (literal : ℕ) : Type 0 where
-  pub agree : (l : ℕ) → is_among (supposed f others) l ≡ true → is_among (supposed f others) (negated l) ≡ false
-  pub open_still : (reached : List ℕ) → PropagatesTo f (supposed f others) reached → IsOpenStill f literal reached
+  pub agree : (l : ℕ) → is_among (start_literals f others) l ≡ true → is_among (start_literals f others) (negated l) ≡ false
+  pub open_still : (reached : List ℕ) → PropagatesTo f (start_literals f others) reached → IsOpenStill f literal reached
 
 -- that for some literal of the clause, the other literals leave that literal open (`LeavesOpen`)
 abbrev pub AdvancesStored : Stored → List ℕ → Type 0

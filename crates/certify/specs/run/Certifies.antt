@@ -20,12 +20,12 @@ MayLack e = ⊥
 
 -- That the expected step may be written. Once unsat is recorded, there is no step for a model or a core. How an ask is opened and closed is
 -- stated separately.
-abbrev pub MayStand : Bool → Expected → Type 0
-MayStand unsat (Shows names ask line) = unsat ≡ false
-MayStand unsat (Fails ask core) = unsat ≡ false
-MayStand unsat (Opens ask outcome) = ⊥
-MayStand unsat Closes = ⊥
-MayStand unsat e = Unit {0}
+abbrev pub MayOccur : Bool → Expected → Type 0
+MayOccur unsat (Shows names ask line) = unsat ≡ false
+MayOccur unsat (Fails ask core) = unsat ≡ false
+MayOccur unsat (Opens ask outcome) = ⊥
+MayOccur unsat Closes = ⊥
+MayOccur unsat e = Unit {0}
 
 -- that an ask is answered with the empty core, without a round of search
 pub record IsKnown (o : Outcome) (n : ℕ) : Type 0 where
@@ -43,7 +43,7 @@ pub data Certifies (k : CheckerRules) (all : List Step) : Option Outcome → Lis
       → is_ordered step ≡ false → Certifies k all current (step ∷ earlier) (e ∷ es) counts
       → Certifies k all current earlier (e ∷ es) counts
   ordered : {current : Option Outcome} {earlier : List Step} {step : Step} {e : Expected} {es : List Expected} {counts : List ℕ}
-      → MayStand (k.unsat earlier) e → Fits (k.knows earlier) earlier e step
+      → MayOccur (k.unsat earlier) e → Fits (k.knows earlier) earlier e step
       → Certifies k all current (step ∷ earlier) es counts
       → Certifies k all current earlier (e ∷ es) counts
   asked : {earlier : List Step} {step : Step} {ask : List Literal} {o : Outcome} {n : ℕ} {es : List Expected} {counts : List ℕ}

@@ -7,7 +7,7 @@ use Rattle.sat_solver.specs.declared.proof.format.ProofFormat.TheVariants.{Varis
 use Rattle.sat_solver.specs.proof.Counting.{nothing_counted as uncounted}
 use Rattle.sat_solver.specs.session.Making.{ComesBySteps, BreaksEmitting}
 use Rattle.sat_solver.specs.proof.ProofView.{Closed, Open, GivesWriter, TakesAll, is_open, target_of}
-use Rattle.sat_solver.specs.session.Session.{MayAll}
+use Rattle.sat_solver.specs.session.Session.{AreAllowedSteps}
 use Rattle.sat_solver.specs.solver.Fronts.{ReachesBySteps}
 use Rattle.sat_solver.specs.solver.Whole.{steps_in}
 use Rattle.certify.specs.Devices.{NoneFailed, OneFailed}
@@ -30,7 +30,7 @@ HasOpenTarget seen s = is_open (target_of seen (proof_in s)) ≡ true
 -- that the last step was written, and the writer is returned
 pub record ClosedBy {C : Type 0} (seen : C → Writer) (s : Solver C) (given : C) : Type 0 where
   pub takes : TakesAll (target_of seen (proof_in s)) (End ∷ []) (seen given)
-  pub may : MayAll (End ∷ steps_in s)
+  pub may : AreAllowedSteps (End ∷ steps_in s)
 
 -- that the writer is returned as it is after further steps
 pub record GivenBack {C : Type 0} (seen : C → Writer) (Goes : (C → Writer) → Proof C → Proof C → Type 0) (s : Solver C) (given : C) : Type 0 where

@@ -24,8 +24,8 @@ introduced_for names j = (bring_all names j).identity_count - j.identity_count
 pub record NextLacks (command : List ℕ → Command) (names : List ℕ) (j : ScriptState) (steps : List Step) : Type 0 where
   pub first : List ℕ
   pub name : ℕ
-  pub behind : List ℕ
-  pub whole : names ≡ first ++ (name ∷ behind)
+  pub following : List ℕ
+  pub whole : names ≡ first ++ (name ∷ following)
   pub lacks : LacksVariables steps (introduced_for (name ∷ []) (accepted (command first) j))
 
 -- that the command lacks variables for its names
@@ -40,7 +40,7 @@ CommandLacks j (Sample names) steps = NextLacks Sample names j steps
 pub record OneLacks (j : ScriptState) (commands : List Command) (steps : List Step) : Type 0 where
   pub before : List Command
   pub command : Command
-  pub behind : List Command
-  pub whole : commands ≡ before ++ (command ∷ behind)
+  pub following : List Command
+  pub whole : commands ≡ before ++ (command ∷ following)
   pub accepted_one : refusal_of (after_script before j) command ≡ None
   pub lacks : CommandLacks (after_script before j) command steps

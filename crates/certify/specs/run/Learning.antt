@@ -18,8 +18,8 @@ pub record LearnsIn (steps : List Step) (asks : ℕ) (o : Outcome) (rounds : ℕ
   pub before : List Step
   pub ask : List ℕ
   pub middle : List Step
-  pub behind : List Step
-  pub whole : steps ≡ behind ++ (Assumptions [] ∷ (middle ++ (Assumptions ask ∷ before)))
+  pub following : List Step
+  pub whole : steps ≡ following ++ (Assumptions [] ∷ (middle ++ (Assumptions ask ∷ before)))
   pub place : assumed_times before ≡ 2 * asks
   pub only : assumed_times middle ≡ 0
   pub learned : ℕ

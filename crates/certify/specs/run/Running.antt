@@ -11,9 +11,9 @@ use Rattle.certify.specs.run.ServedScript.{RunFaultSays}
 pub record WritesRun (text : List ℕ) (budget : ℕ) (summary : Summary) (answers certificate : Writer × Writer) : Type 0 where
   pub answered : List ℕ
   pub certified : List ℕ
-  pub tells : WriterTakes answers.0 answers.1 answered
+  pub writes_answers : WriterTakes answers.0 answers.1 answered
   pub certifies : WriterTakes certificate.0 certificate.1 certified
-  pub is_backed : CertificateGuarantee text budget summary answered certified
+  pub guarantee : CertificateGuarantee text budget summary answered certified
 
 -- that no read of the script failed
 abbrev pub NoneUnread : Reader × Reader → Type 0
@@ -23,7 +23,7 @@ NoneUnread script = script.1.failures ≡ script.0.failures
 pub record Finished (budget : ℕ) (summary : Summary) (script : Reader × Reader) (answers certificate : Writer × Writer) : Type 0 where
   pub wrote : GaveEnough script.0 script.1 (λ text. WritesRun text budget summary answers certificate)
   pub read : NoneUnread script
-  pub told : NoneFailed answers.0 answers.1
+  pub answered : NoneFailed answers.0 answers.1
   pub certified : NoneFailed certificate.0 certificate.1
   pub answers_flushed : answers.1.flushed ≡ true
   pub certificate_flushed : certificate.1.flushed ≡ true

@@ -27,7 +27,7 @@ use Rattle.certify.specs.run.Unfinished.{Exceeds, TookAnswersFront}
 use Rattle.sat_solver.specs.solver.View.{proof_in}
 use Rattle.certify.specs.run.SolverCalls.{IsCaused, IsReadySolver}
 use Rattle.certify.specs.run.Serving.{RunPlace, Serves}
-use Rattle.certify.specs.run.Standing.{RunGoesOn, HasStateBetweenCommands, place_in}
+use Rattle.certify.specs.run.BetweenCommands.{RunGoesOn, HasStateBetweenCommands, place_in}
 use Rattle.certify.specs.run.Stretches.{ServesCommands}
 use Rattle.certify.specs.run.Quiet.{Solver}
 
@@ -41,7 +41,7 @@ pub record ServedAll {C : Type 0} (seen : C → Writer) (j : ScriptState) (comma
   pub counted : new.commands ≡ old.commands + length commands
   pub budget : new.budget ≡ old.budget
   pub text : List ℕ
-  pub told : WriterTakes before after text
+  pub written : WriterTakes before after text
   pub reports : List AskReport
   pub asks : new.asks.items ≡ old.asks.items ++ reports
   pub refused : ℕ
@@ -67,7 +67,7 @@ pub record ServesWhole {C : Type 0} (seen : C → Writer) (j : ScriptState) (scr
   pub counted : new.commands ≡ old.commands + count
   pub ends : at ≡ malformed_at (old.commands + length script.0 + 1) script.1
   pub text : List ℕ
-  pub told : WriterTakes before after text
+  pub written : WriterTakes before after text
   pub reports : List AskReport
   pub asks : new.asks.items ≡ old.asks.items ++ reports
   pub refused : ℕ

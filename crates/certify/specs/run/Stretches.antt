@@ -12,9 +12,9 @@ use Rattle.sat_solver.specs.session.Coming.{OnlyAllowedSteps, EndsAtUnsat}
 use Rattle.certify.specs.run.Certifies.{IsKnown}
 
 -- That the ordered steps between `from` and `to` are those expected, and every step is allowed at its place.
-pub record Stretch (May : List Step → Step → Type 0) (from to : List Step) (es : List Expected) : Type 0 where
+pub record Stretch (IsAllowedStep : List Step → Step → Type 0) (from to : List Step) (es : List Expected) : Type 0 where
   pub due : HasTrace checker_rules from to es
-  pub comes : OnlyAllowedSteps May from to
+  pub comes : OnlyAllowedSteps IsAllowedStep from to
 
 -- A COMMAND THAT IS NO ASK
 

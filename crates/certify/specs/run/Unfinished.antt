@@ -21,7 +21,7 @@ use Rattle.certify.specs.run.Lacking.{OneLacks}
 -- that the writer received these bytes, whether or not a call then failed
 pub record TookBytes (old new : Writer) (bytes : List ℕ) : Type 0 where
   pub taken : new.taken ≡ old.taken ++ bytes
-  pub told : Appends old.contents new.contents bytes
+  pub known_bytes : Appends old.contents new.contents bytes
 
 -- that the rounds of the first asks are within their bounds, as in `AreWithinBudget`
 abbrev pub AreSpentSoFar : (budget before : ℕ) → (given : List ℕ) → List AskReport → Type 0
@@ -33,14 +33,14 @@ AreSpentSoFar budget before (n ∷ ns) (report ∷ reports) =
 -- That correct answers to a script begin with these bytes. Its first command has number `number`, and `before` rounds were made earlier. The
 -- bytes answer the first asks, in the rounds that are reported. An answer is unknown only if its rounds are exhausted.
 pub record BeginAnswers (budget before number : ℕ) (j : ScriptState) (script : Reading) (bytes : List ℕ) : Type 0 where
-  pub told : List Outcome
+  pub answered : List Outcome
   pub later : List Outcome  -- possible outcomes of the other asks
-  pub right : AreRight j (accepted_of j script.0) (told ++ later)
+  pub right : AreRight j (accepted_of j script.0) (answered ++ later)
   -- whatever the outcomes of the other asks are
   pub begins : (others : List Outcome) → length others ≡ length later
-      → (behind : List ℕ) × (answers_from number j script.0 script.1 (told ++ others) ≡ bytes ++ behind)
+      → (following : List ℕ) × (answers_from number j script.0 script.1 (answered ++ others) ≡ bytes ++ following)
   pub reports : List AskReport
-  pub kinds : map (λ r. r.answer) reports ≡ map answer_kind told
+  pub kinds : map (λ r. r.answer) reports ≡ map answer_kind answered
   pub spent : AreSpentSoFar budget before (identities_given j (accepted_of j script.0)) reports
 
 -- that the writer received a prefix of correct answers, and nothing else
@@ -68,8 +68,8 @@ pub record StepsFront (old new : Writer) : Type 0 where
   pub cuts : TruncatesHashes uncounted made steps counting
   pub accepted : AcceptsAll steps
   pub bytes : List ℕ
-  pub behind : List ℕ
-  pub whole : text_in Varisat steps ≡ bytes ++ behind
+  pub following : List ℕ
+  pub whole : text_in Varisat steps ≡ bytes ++ following
   pub took : TookBytes old new bytes
 
 -- that `StepsFront` holds for some steps

@@ -4,8 +4,8 @@ use Rattle.std.specs.List.{AllByRecursion}
 use Rattle.sat_base.specs.values.Literals.{var_limit}
 use Rattle.sat_base.specs.text.Text.{Token, Number, Letter, Header, Wrong, Scan}
 use Rattle.sat_base.specs.text.Chunks.{Follows, IgnoresRest}
-use Rattle.sat_base.specs.text.WrongWords.{RightAhead}
-use Rattle.sat_base.specs.text.Tokenizing.{StandsBefore, held}
+use Rattle.sat_base.specs.text.WrongWords.{HasValidContinuation}
+use Rattle.sat_base.specs.text.Tokenizing.{IsPositionedBefore, held}
 use Rattle.sat_base.specs.script.Script.{Literal, Command, Ask, Clean, Malformed}
 use Rattle.certify.specs.answers.AnswerForms.{named_literals}
 use Rattle.sat_base.specs.script.Language.{Reading, onto_commands, spoken, Kind, OfClause, OfAsk, OfHide, OfWitness, OfSample, command_of, kind_of_letter, CommandHand, Nothing, Within, commands_of, with_ask}
@@ -50,9 +50,9 @@ BeginsPast true (l ∷ ls) = var_limit < l.name
 -- that the codes are those of the literals before the first one past the limit
 pub record IsFront (codes : List ℕ) (past : Bool) (ls : List Literal) : Type 0 where
   pub within : AllByRecursion (λ code. code < 2 * var_limit) codes
-  pub behind : List Literal
-  pub whole : ls ≡ named_literals codes ++ behind
-  pub limit : BeginsPast past behind
+  pub following : List Literal
+  pub whole : ls ≡ named_literals codes ++ following
+  pub limit : BeginsPast past following
 
 -- that the command `c` is passed, with its literals before the first one past the limit
 abbrev pub IsLent : Lent → Command → Type 0
@@ -113,7 +113,7 @@ pub record MeansIf (asks : Bool) (reader : ScriptReader) (left_of : List ℕ →
   pub hand : CommandHand
   pub holds : HoldsHand reader.commands.draft hand
   pub scan_of : List ℕ → Scan
-  pub stands : StandsBefore reader.tokenizer scan_of
+  pub valid : IsPositionedBefore reader.tokenizer scan_of
   pub reads : (rest : List ℕ) → left_of rest ≡ meaning asks reader.commands hand (spoken (scan_of rest).tokens)
 
 -- that `MeansIf` holds, including the ask that a header may add
@@ -122,11 +122,11 @@ ReaderMeans = MeansIf true
 
 -- that the unfinished word can still become a valid one, so the text may continue
 abbrev pub MayGoOn : ScriptReader → Type 0
-MayGoOn reader = (scan_of : List ℕ → Scan) → StandsBefore reader.tokenizer scan_of → RightAhead scan_of
+MayGoOn reader = (scan_of : List ℕ → Scan) → IsPositionedBefore reader.tokenizer scan_of → HasValidContinuation scan_of
 
 -- that no line has begun with `%`, so the bytes that follow count
 abbrev pub LooksOn : ScriptReader → Type 0
-LooksOn reader = (scan_of : List ℕ → Scan) → StandsBefore reader.tokenizer scan_of → IgnoresRest scan_of → ⊥
+LooksOn reader = (scan_of : List ℕ → Scan) → IsPositionedBefore reader.tokenizer scan_of → IgnoresRest scan_of → ⊥
 
 -- that a command was read, and is ready to be passed
 pub record HasWhole (reader : ScriptReader) (c : Command) : Type 0 where
@@ -137,7 +137,7 @@ pub record ReachesCommand (asks : Bool) (before : List ℕ → Reading) (bytes :
   pub command : Command
   pub whole : HasWhole new command
   pub after : List ℕ → Reading
-  pub stands : MeansIf asks new after
+  pub valid : MeansIf asks new after
   pub reads : (rest : List ℕ) → before (bytes ++ rest) ≡ onto_commands (command ∷ []) (after rest)
 
 -- the effect of bytes, whatever bytes follow

@@ -121,8 +121,8 @@ fn read_literal(bytes: &[u8]) -> Option<(Lit, &[u8])>
     ensures { MatchOption result (NoLiteral bytes.now) (λ x. BeginsWithLiteral bytes.now x.0 x.1.now) }
 {
     match take_text(bytes, b"-") {
-        Some(behind) => {
-            let (name, rest) = read_name(behind)?;
+        Some(following) => {
+            let (name, rest) = read_name(following)?;
             Some((Lit::from_index(name - 1, false), rest))
         }
         None => {
@@ -137,7 +137,7 @@ fn begins_literal(bytes: &[u8]) -> bool
     ensures { result ≡ false → StartsNoLiteral bytes.now }
 {
     match take_text(bytes, b"-") {
-        Some(behind) => begins_name(behind),
+        Some(following) => begins_name(following),
         None => begins_name(bytes),
     }
 }
@@ -168,14 +168,14 @@ fn read_literals<'a>(
     let mut rest = bytes;
     let mut least = 0;
     while let Some(found) = read_literal(rest) {
-        let (lit, behind) = found;
+        let (lit, following) = found;
         let place = literal_place(kind, lit);
         if place < least {
             return Err(AnswerFault::Text);
         }
         line.push(lit)?;
         least = place + 1;
-        rest = behind;
+        rest = following;
     }
     take_text(rest, b"0\n").ok_or(AnswerFault::Text)
 }
@@ -189,13 +189,13 @@ fn begins_literals(kind: AnswerKind, bytes: &[u8]) -> bool
     let mut rest = bytes;
     let mut lowest = 0;
     while let Some(found) = read_literal(rest) {
-        let (lit, behind) = found;
+        let (lit, following) = found;
         let place = literal_place(kind, lit);
         if place < lowest {
             return false;
         }
         lowest = place + 1;
-        rest = behind;
+        rest = following;
     }
     if is_front(rest, b"0\n") {
         return true;
@@ -250,8 +250,8 @@ fn read_list<'a>(
     if bytes.is_empty() {
         return Err(AnswerFault::Missing);
     }
-    let behind = take_text(bytes, head).ok_or(AnswerFault::Text)?;
-    read_literals(kind, behind, line)
+    let following = take_text(bytes, head).ok_or(AnswerFault::Text)?;
+    read_literals(kind, following, line)
 }
 
 /// Whether `bytes`, or some continuation of `bytes`, begins with the second line of an answer of this kind, which
@@ -264,7 +264,7 @@ fn begins_list(kind: AnswerKind, head: &[u8], bytes: &[u8]) -> bool
         return true;
     }
     match take_text(bytes, head) {
-        Some(behind) => begins_literals(kind, behind),
+        Some(following) => begins_literals(kind, following),
         None => false,
     }
 }
@@ -310,7 +310,7 @@ pub fn read_outcome<'a>(
 ) -> Result<(AnswerKind, &'a [u8]), AnswerFault>
     ensures { MatchResult result (λ x. BeginsWithAnswer x.0 bytes.now line.new.items x.1.now) (NoOutcome bytes.now) }
 {
-    let (kind, behind) = read_kind(bytes)?;
-    let rest = read_line(kind, behind, line)?;
+    let (kind, following) = read_kind(bytes)?;
+    let rest = read_line(kind, following, line)?;
     Ok((kind, rest))
 }

@@ -123,7 +123,7 @@ impl Answers {
         requires line { IsOneLine self.old.due.items }
         ensures { Replies true result (answers_source A.seen answers.old self.old)
             (answers_source A.seen answers.new self.new)
-            (λ before behind. TakesDueLine before behind self.old.due.items) }
+            (λ before following. TakesDueLine before following self.old.due.items) }
     {
         self.next_line(answers, Wanted::Due)?;
         if is_same(&self.lines.line, &self.due) {
@@ -145,7 +145,7 @@ impl Answers {
         requires open_yet { IsNotAtEnd (answers_source A.seen answers.old self.old) }
         ensures { Replies true result (answers_source A.seen answers.old self.old)
             (answers_source A.seen answers.new self.new)
-            (λ before behind. TakesDueLine before behind (refused_line number (refusal_in refusal))) }
+            (λ before following. TakesDueLine before following (refused_line number (refusal_in refusal))) }
     {
         self.due.clear();
         push_refused(&mut self.due, number, refusal)?;
@@ -157,7 +157,7 @@ impl Answers {
         requires open_yet { IsNotAtEnd (answers_source A.seen answers.old self.old) }
         ensures { Replies true result (answers_source A.seen answers.old self.old)
             (answers_source A.seen answers.new self.new)
-            (λ before behind. TakesDueLine before behind (malformed_line number)) }
+            (λ before following. TakesDueLine before following (malformed_line number)) }
     {
         self.due.clear();
         push_malformed(&mut self.due, number)?;
@@ -200,7 +200,7 @@ impl Answers {
         requires open_yet { IsNotAtEnd (answers_source A.seen answers.old self.old) }
         ensures { Replies true result (answers_source A.seen answers.old self.old)
             (answers_source A.seen answers.new self.new)
-            (λ before behind. IsReply before behind
+            (λ before following. IsReply before following
             (outcome_of self.new.reply.kind (named_literals self.new.reply.lits.items)) settled) }
     {
         let kind = self.read_first(answers)?;
@@ -219,7 +219,7 @@ impl Answers {
     pub fn expect_over<A: CountedRead>(&mut self, answers: &mut A) -> Result<(), Stop>
         requires open_yet { IsNotAtEnd (answers_source A.seen answers.old self.old) }
         ensures { Replies false result (answers_source A.seen answers.old self.old)
-            (answers_source A.seen answers.new self.new) (λ before behind. SaysSo (before ≡ [])) }
+            (answers_source A.seen answers.new self.new) (λ before following. SaysSo (before ≡ [])) }
     {
         self.next_line(answers, Wanted::Nothing)?;
         if is_none(&self.lines.line) {

@@ -40,7 +40,7 @@ impl Certificate {
 
     /// Returns the state before the first step.
     pub fn new(alloc: Global) -> Certificate
-        ensures stands { CheckerIsAt (kernel_of result.checker) result.names [] }
+        ensures valid { CheckerIsAt (kernel_of result.checker) result.names [] }
         ensures looks { kernel_looks (kernel_of result.checker) ≡ 0 }
     {
         Certificate {

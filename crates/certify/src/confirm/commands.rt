@@ -115,7 +115,7 @@ fn expect_content<C: CountedRead>(
 impl ConfirmState {
     /// Returns the state before the first command.
     pub fn new(alloc: Global) -> ConfirmState
-        ensures stands { (rest : List ℕ) (step : Step) → HoldsAt (table_of result.matching)
+        ensures valid { (rest : List ℕ) (step : Step) → HoldsAt (table_of result.matching)
             (record { checker = kernel_of result.matching.certificate.checker; step = step; rest = rest }) start [] }
         ensures looks { kernel_looks (kernel_of result.matching.certificate.checker) ≡ 0 }
         ensures number { result.number ≡ 0 }
@@ -207,7 +207,7 @@ impl ConfirmState {
         requires goes_on { StepsGoOn C.seen steps.old }
         requires open_yet { IsNotAtEnd (answers_in A.seen answers.old self.old) }
         ensures confirms { (n : ℕ) → ConfirmsBoth ⊥ false result A.seen C.seen answers.old answers.new steps.old
-            steps.new self.old self.new (λ before behind u v. ConfirmsLast n ([], Clean) (table_of self.old.matching)
+            steps.new self.old self.new (λ before following u v. ConfirmsLast n ([], Clean) (table_of self.old.matching)
             before u) }
     {
         self.matching.certificate.expect(steps, &Expected::End)?;
@@ -224,7 +224,7 @@ impl ConfirmState {
         requires open_yet { IsNotAtEnd (answers_in A.seen answers.old self.old) }
         ensures confirms { ConfirmsBoth (2 ^ 64 < self.old.number + 1 + numbers (end_reading ScriptEnd.Asked)) false
             result A.seen C.seen answers.old answers.new steps.old steps.new self.old self.new
-            (λ before behind u v. ConfirmsLast (self.old.number + 1) (end_reading ScriptEnd.Asked)
+            (λ before following u v. ConfirmsLast (self.old.number + 1) (end_reading ScriptEnd.Asked)
             (table_of self.old.matching) before u) }
     {
         if self.number == u64::MAX {
@@ -250,7 +250,7 @@ impl ConfirmState {
         requires open_yet { IsNotAtEnd (answers_in A.seen answers.old self.old) }
         ensures confirms { ConfirmsBoth (2 ^ 64 < self.old.number + 1 + numbers (end_reading ScriptEnd.Malformed)) false
             result A.seen C.seen answers.old answers.new steps.old steps.new self.old self.new
-            (λ before behind u v. ConfirmsLast (self.old.number + 1) (end_reading ScriptEnd.Malformed)
+            (λ before following u v. ConfirmsLast (self.old.number + 1) (end_reading ScriptEnd.Malformed)
             (table_of self.old.matching) before u) }
     {
         if self.number == u64::MAX {
@@ -271,7 +271,7 @@ impl ConfirmState {
         requires open_yet { IsNotAtEnd (answers_in A.seen answers.old self.old) }
         ensures confirms { ConfirmsBoth (2 ^ 64 < self.old.number + 1 + numbers (end_reading end)) false result A.seen
             C.seen answers.old answers.new steps.old steps.new self.old self.new
-            (λ before behind u v. ConfirmsLast (self.old.number + 1) (end_reading end) (table_of self.old.matching)
+            (λ before following u v. ConfirmsLast (self.old.number + 1) (end_reading end) (table_of self.old.matching)
             before u) }
     {
         match end {

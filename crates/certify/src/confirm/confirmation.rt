@@ -64,7 +64,7 @@ impl Confirmation {
         ensures confirms { (c : Spelled) → HasWhole self.old.script.reader c
             → ConfirmsBoth (2 ^ 64 < self.old.session.number + 1 + numbers (onto_commands (c ∷ []) (end_reading end)))
             false result A.seen C.seen answers.old answers.new steps.old steps.new self.old.session self.new.session
-            (λ before behind u v. ConfirmsLast (self.old.session.number + 1) (onto_commands (c ∷ []) (end_reading end))
+            (λ before following u v. ConfirmsLast (self.old.session.number + 1) (onto_commands (c ∷ []) (end_reading end))
             (table_of self.old.session.matching) before u) }
     {
         self.confirm_next(answers, steps)?;

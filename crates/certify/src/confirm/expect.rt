@@ -59,7 +59,8 @@ fn unless(holds: bool, why: Why) -> Option<Why>
     Some(why)
 }
 
-/// Checks that the step gives `name` a variable that the checker does not know yet. Returns the reason if not, or `None`.
+/// Checks that the step gives `name` a variable that the checker does not know yet. Returns the reason if not, or
+/// `None`.
 fn compare_new_name(known: Known<'_>, step: &ProofStep<'_>, name: Var) -> Option<Why>
     ensures { Compares (λ o ask. NewName (name + 1)) known.entry (step_of step.now) result }
 {
@@ -115,7 +116,8 @@ fn compare_clause(
     Ok(unless(same, Why::ClauseDiffers))
 }
 
-/// Checks that the step assumes the literals of the ask, in any order and with any repeats. Returns the reason if not, or `None`.
+/// Checks that the step assumes the literals of the ask, in any order and with any repeats. Returns the reason if not,
+/// or `None`.
 fn compare_ask(
     known: Known<'_>,
     step: &ProofStep<'_>,
@@ -196,7 +198,8 @@ fn compare_close(known: Known<'_>, step: &ProofStep<'_>) -> Option<Why>
     Some(Why::AskDiffers)
 }
 
-/// Checks that the step is the end of the certificate. Returns the reason if not, or `None`. Bytes after that step don't matter.
+/// Checks that the step is the end of the certificate. Returns the reason if not, or `None`. Bytes after that step
+/// don't matter.
 fn compare_end(known: Known<'_>, step: &ProofStep<'_>) -> Option<Why>
     ensures { Compares (λ o ask. Finish) known.entry (step_of step.now) result }
 {

@@ -1,7 +1,7 @@
 //! Reads the arguments of the program.
 ghost use Rattle.std.specs.Prelude.{ℕ, [], ◌∷◌, map, MatchOption};
 ghost use Rattle.std.specs.String.{string_bytes};
-ghost use Rattle.certify.specs.program.Calls.{AllowsRequest, IsCallOf, IsRoundCount, running};
+ghost use Rattle.certify.specs.program.Calls.{AllowsRequest, IsParsedAs, IsRoundCount, running};
 
 /// The paths of a script, its answers and their certificate.
 #[derive(Clone, Copy)]
@@ -58,7 +58,7 @@ fn run_of(files: RunFiles<'_>, budget: u64) -> Option<Call<'_>>
 
 /// Reads `check H`.
 fn check_of<'a>(name: &str, hints: &'a str) -> Option<Call<'a>>
-    ensures { IsCallOf (name.now ∷ hints.now ∷ []) result }
+    ensures { IsParsedAs (name.now ∷ hints.now ∷ []) result }
 {
     if name != "check" {
         return None;
@@ -68,7 +68,7 @@ fn check_of<'a>(name: &str, hints: &'a str) -> Option<Call<'a>>
 
 /// Reads `hints C H`. Returns `None` if this would write over the certificate.
 fn hints_of<'a>(name: &str, certificate: &'a str, hints: &'a str) -> Option<Call<'a>>
-    ensures { IsCallOf (name.now ∷ certificate.now ∷ hints.now ∷ []) result }
+    ensures { IsParsedAs (name.now ∷ certificate.now ∷ hints.now ∷ []) result }
 {
     if name != "hints" || hints == certificate {
         return None;
@@ -78,7 +78,7 @@ fn hints_of<'a>(name: &str, certificate: &'a str, hints: &'a str) -> Option<Call
 
 /// Reads `run S A C` or `confirm S A C`.
 fn call_on<'a>(name: &str, files: RunFiles<'a>) -> Option<Call<'a>>
-    ensures { IsCallOf (name.now ∷ files.entry.script.now ∷ files.entry.answers.now ∷ files.entry.certificate.now ∷ [])
+    ensures { IsParsedAs (name.now ∷ files.entry.script.now ∷ files.entry.answers.now ∷ files.entry.certificate.now ∷ [])
         result }
 {
     match name {
@@ -90,7 +90,7 @@ fn call_on<'a>(name: &str, files: RunFiles<'a>) -> Option<Call<'a>>
 
 /// Reads `run S A C STEPS`.
 fn limited_run<'a>(name: &str, files: RunFiles<'a>, steps: &str) -> Option<Call<'a>>
-    ensures { IsCallOf (name.now ∷ files.entry.script.now ∷ files.entry.answers.now ∷ files.entry.certificate.now
+    ensures { IsParsedAs (name.now ∷ files.entry.script.now ∷ files.entry.answers.now ∷ files.entry.certificate.now
         ∷ steps.now ∷ []) result }
 {
     if name != "run" {
@@ -105,7 +105,7 @@ fn limited_run<'a>(name: &str, files: RunFiles<'a>, steps: &str) -> Option<Call<
 /// Returns the call that the arguments `words` spell, or `None`. If an output is the same word as the input, they don't
 /// spell a call.
 pub(super) fn call_of(words: &[String]) -> Option<Call<'_>>
-    ensures { IsCallOf (map string_bytes words.now) result }
+    ensures { IsParsedAs (map string_bytes words.now) result }
 {
     match words {
         [name, hints] => check_of(name.as_str(), hints.as_str()),

@@ -6,7 +6,7 @@ ghost use Rattle.sat_solver.specs.solver.Whole.{HasFullStore};
 ghost use Rattle.certify.specs.answers.AnswerForms.{named_literals};
 ghost use Rattle.certify.specs.run.Asking.{AskEffect};
 ghost use Rattle.certify.specs.run.SolverCalls.{FailsIf, IsAllowed, IsCaused, IsReadySolver, LacksFor};
-ghost use Rattle.certify.specs.run.Standing.{CarriedOut, CausedBy, StopsCarrying, WritesBoth};
+ghost use Rattle.certify.specs.run.BetweenCommands.{CarriedOut, CausedBy, StopsCarrying, WritesBoth};
 
 use super::page::Page;
 use super::session::RunState;
@@ -26,7 +26,7 @@ fn ask<C: CountedWrite + Drop>(
 ) -> Result<AskReport, RunFault>
     requires ready { IsReadySolver solver.old }
     requires allowed { IsAllowed solver.old literals.now }
-    ensures sought { IfOk result (λ report. AskEffect C.seen budget report literals.now page.new.text.items solver.old
+    ensures effect { IfOk result (λ report. AskEffect C.seen budget report literals.now page.new.text.items solver.old
         solver.new) }
     ensures ready { OnOk result (IsReadySolver solver.new) }
     // Without literals, no name is refused.

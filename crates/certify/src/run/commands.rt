@@ -5,8 +5,8 @@ ghost use Rattle.sat_base.specs.script.Script.{Command as Spelled};
 ghost use Rattle.sat_base.specs.script.ScriptState.{ScriptState, accepted};
 ghost use Rattle.certify.specs.judge.Names.{NamesHaveState};
 ghost use Rattle.certify.specs.script.Commands.{IsLent, IsSomeLent};
-ghost use Rattle.certify.specs.run.Standing.{NamesAllow, CarriedOut, CausedBy, CausedOver, RunGoesOn, ServedNext};
-ghost use Rattle.certify.specs.run.Standing.{StopsCarrying, StopsOver, WritesBoth, spelled_by};
+ghost use Rattle.certify.specs.run.BetweenCommands.{NamesAllow, CarriedOut, CausedBy, CausedOver, RunGoesOn, ServedNext};
+ghost use Rattle.certify.specs.run.BetweenCommands.{StopsCarrying, StopsOver, WritesBoth, spelled_by};
 
 use super::ask::answer_ask;
 use super::names::set_names;

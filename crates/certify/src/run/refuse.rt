@@ -6,7 +6,7 @@ ghost use Rattle.sat_base.specs.script.Script.{Command as Spelled};
 ghost use Rattle.certify.specs.run.Unfinished.{TookAnswersFront};
 ghost use Rattle.certify.specs.judge.Names.{refusal_in};
 ghost use Rattle.certify.specs.run.SolverCalls.{IsCaused};
-ghost use Rattle.certify.specs.run.Standing.{Refused, WritesBoth};
+ghost use Rattle.certify.specs.run.BetweenCommands.{Refused, WritesBoth};
 
 use super::session::RunState;
 use super::write::write_answer;

@@ -9,7 +9,7 @@ ghost use Rattle.certify.specs.script.Commands.{IsLent, IsSomeLent, ReaderMeans,
 ghost use Rattle.sat_base.specs.script.Language.{Reading, onto_commands, reading, written};
 ghost use Rattle.certify.specs.run.Unfinished.{TookAnswersFront};
 ghost use Rattle.certify.specs.run.SolverCalls.{IsCaused, IsReadySolver};
-ghost use Rattle.certify.specs.run.Standing.{CausedOver, RunGoesOn, HasStateBetweenCommands, ServedNext, StopsOver, WritesBoth};
+ghost use Rattle.certify.specs.run.BetweenCommands.{CausedOver, RunGoesOn, HasStateBetweenCommands, ServedNext, StopsOver, WritesBoth};
 ghost use Rattle.certify.specs.run.ServedScript.{ServesScript, ServesWhole, run_fault};
 
 use super::ask::answer_ask;

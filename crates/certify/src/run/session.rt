@@ -8,7 +8,7 @@ ghost use Rattle.sat_solver.specs.proof.ProofView.{Open, target_of};
 ghost use Rattle.sat_solver.specs.solver.Whole.{steps_in};
 ghost use Rattle.sat_solver.specs.solver.View.{proof_in};
 ghost use Rattle.certify.specs.run.SolverCalls.{IsReadySolver};
-ghost use Rattle.certify.specs.run.Standing.{RunGoesOn, HasStateBetweenCommands};
+ghost use Rattle.certify.specs.run.BetweenCommands.{RunGoesOn, HasStateBetweenCommands};
 
 use super::page::Page;
 use crate::judge::Names;

@@ -1,6 +1,6 @@
 //! Calls to the solver of a run.
 ghost use Rattle.std.specs.Prelude.{IfOk, IfErr, OnOk};
-ghost use Rattle.sat_solver.specs.variables.VariableRoom.{users_in};
+ghost use Rattle.sat_solver.specs.variables.VariableRoom.{user_vars_in};
 ghost use Rattle.sat_solver.specs.solver.Adding.{Added, ReplacesAssumptions};
 ghost use Rattle.sat_solver.specs.solver.Whole.{HasFullStore};
 ghost use Rattle.certify.specs.run.SolverCalls.{FailsIf, IsAllowed, IsCaused, IsReadySolver, Limited, RefusedForRoom, Searched};
@@ -22,7 +22,7 @@ pub fn add_clause<C: CountedWrite + Drop>(
     ensures added { OnOk result (Added C.seen solver.old solver.new literals.now) }
     ensures fails { FailsIf result C.seen solver.old solver.new }
     ensures cause { IfErr result (λ e. IsCaused e (HasFullStore solver.new)
-        (RefusedForRoom solver.old solver.new (users_in literals.now))) }
+        (RefusedForRoom solver.old solver.new (user_vars_in literals.now))) }
 {
     match solver.add_clause(literals) {
         Ok(()) => Ok(()),
@@ -40,7 +40,7 @@ pub fn assume<C: CountedWrite + Drop>(
     ensures assumed { OnOk result (ReplacesAssumptions C.seen solver.old solver.new literals.now) }
     ensures fails { FailsIf result C.seen solver.old solver.new }
     // Assuming literals stores no clause.
-    ensures cause { IfErr result (λ e. IsCaused e ⊥ (RefusedForRoom solver.old solver.new (users_in literals.now))) }
+    ensures cause { IfErr result (λ e. IsCaused e ⊥ (RefusedForRoom solver.old solver.new (user_vars_in literals.now))) }
 {
     match solver.assume(literals) {
         Ok(()) => Ok(()),

@@ -3,8 +3,8 @@ ghost use Rattle.std.specs.Prelude.{◌≡◌, ◌<◌, ◌≤◌, ℕ, Bool, fa
 ghost use Rattle.sat_base.specs.script.Script.{Command as SpelledCommand};
 ghost use Rattle.sat_base.specs.script.Language.{Reading, reading, written};
 ghost use Rattle.sat_base.specs.text.Text.{Scan};
-ghost use Rattle.sat_base.specs.text.Tokenizing.{StandsBefore, TakesFront};
-ghost use Rattle.sat_base.specs.text.WrongWords.{RightAhead};
+ghost use Rattle.sat_base.specs.text.Tokenizing.{IsPositionedBefore, TakesFront};
+ghost use Rattle.sat_base.specs.text.WrongWords.{HasValidContinuation};
 ghost use Rattle.certify.specs.script.Commands.{EndsLast, EndsWhateverFollows, HasWhole, IsLent, LooksOn, MayGoOn};
 ghost use Rattle.certify.specs.script.Commands.{MeansIf, ReaderMeans, TakesBytes};
 
@@ -30,8 +30,8 @@ fn take_token(tokenizer: &mut Tokenizer, bytes: &[u8]) -> (usize, Option<Token>)
     ensures some { 0 < result.0 }
     ensures within { result.0 ≤ length bytes.now }
     ensures takes { TakesFront tokenizer.old (take result.0 bytes.now) result.1 tokenizer.new }
-    ensures right { (result.1 ≡ None → ⊥) → (after : List ℕ → Scan) → StandsBefore tokenizer.new after
-        → RightAhead after }
+    ensures right { (result.1 ≡ None → ⊥) → (after : List ℕ → Scan) → IsPositionedBefore tokenizer.new after
+        → HasValidContinuation after }
 {
     match tokenizer.push_whole(bytes) {
         Some((count, negative, value)) => (count, Some(Token::Number { negative, value })),

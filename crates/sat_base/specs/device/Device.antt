@@ -58,7 +58,7 @@ EndsIfNone r piece ended = MatchResult r (λ n. ended ≡ (nat_eq n 0 && nat_lt 
 -- The effect of one read. `room` is the complete buffer after the read. If the result is `Ok n`, the first n bytes of `room` are those that
 -- were read.
 pub record ReadsOnce {E : Type 0} (r : Result ℕ E) (room : List ℕ) (old new : Reader) : Type 0 where
-  pub told : ReadConsumes old.to_come new.to_come r room
+  pub known_bytes : ReadConsumes old.to_come new.to_come r room
   pub given : AppendsFront r room old.given new.given
   pub ended : EndsIfNone r room new.ended
   pub failures : CountsErr r old.failures new.failures new.failed
@@ -67,7 +67,7 @@ pub record ReadsOnce {E : Type 0} (r : Result ℕ E) (room : List ℕ) (old new 
 
 -- one write of a piece
 pub record WritesOnce {E : Type 0} (r : Result ℕ E) (piece : List ℕ) (old new : Writer) : Type 0 where
-  pub told : WriteAppends old.contents new.contents r piece
+  pub known_bytes : WriteAppends old.contents new.contents r piece
   pub taken : AppendsFront r piece old.taken new.taken
   pub flushed : new.flushed ≡ false
   pub flushes : new.flushes ≡ old.flushes
@@ -81,7 +81,7 @@ CountsFlush r old new = MatchResult r (λ _. new ≡ old + 1) (λ _. new ≡ old
 
 -- one flush
 pub record FlushesOnce {E : Type 0} (r : Result (Unit {0}) E) (old new : Writer) : Type 0 where
-  pub told : Keeps old.contents new.contents
+  pub known_bytes : Keeps old.contents new.contents
   pub taken : new.taken ≡ old.taken
   pub flushed : new.flushed ≡ is_ok r
   pub flushes : CountsFlush r old.flushes new.flushes
@@ -94,7 +94,7 @@ pub record FlushesOnce {E : Type 0} (r : Result (Unit {0}) E) (old new : Writer)
 -- That the reader gave `text` between `old` and `new`. If its bytes still to come were known, they began with `text`.
 pub record GaveFront (old new : Reader) (text : List ℕ) : Type 0 where
   pub gave : new.given ≡ old.given ++ text
-  pub told : Consumes old.to_come new.to_come text
+  pub known_bytes : Consumes old.to_come new.to_come text
   pub loans : new.loans ≡ old.loans
 
 -- that the number of reads between `old` and `new` is at most one more than the number of bytes given between them
@@ -110,7 +110,7 @@ pub record IsOver (r : Reader) : Type 0 where
 pub record GaveAll (old new : Reader) (text : List ℕ) : Type 0 where
   pub gave : new.given ≡ old.given ++ text
   pub ends : new.ended ≡ true
-  pub told : Consumes old.to_come new.to_come text
+  pub known_bytes : Consumes old.to_come new.to_come text
   pub over : IsAtEnd new.to_come
   pub called : old.calls < new.calls
   pub few : FewReads old new
@@ -159,7 +159,7 @@ ReadFails old new = (LastCallFails old new ⊎ ReadsAreExhausted old new) × Few
 -- It accepted this text, and no call failed. Every write accepted at least one byte.
 pub record WriterTakes (old new : Writer) (text : List ℕ) : Type 0 where
   pub taken : new.taken ≡ old.taken ++ text
-  pub told : Appends old.contents new.contents text
+  pub known_bytes : Appends old.contents new.contents text
   pub failures : new.failures ≡ old.failures
   pub calls : old.calls ≤ new.calls
   pub few : new.calls + old.flushes ≤ old.calls + new.flushes + length text
@@ -168,10 +168,10 @@ pub record WriterTakes (old new : Writer) (text : List ℕ) : Type 0 where
 -- It accepted a prefix of this text, and only the last call failed. Every write before it accepted at least one byte.
 pub record WriterBreaks (old new : Writer) (text : List ℕ) : Type 0 where
   pub front : List ℕ
-  pub behind : List ℕ
-  pub whole : text ≡ front ++ behind
+  pub following : List ℕ
+  pub whole : text ≡ front ++ following
   pub taken : new.taken ≡ old.taken ++ front
-  pub told : Appends old.contents new.contents front
+  pub known_bytes : Appends old.contents new.contents front
   pub failures : new.failures ≡ old.failures + 1
   pub failed : new.failed ≡ true
   pub calls : old.calls < new.calls

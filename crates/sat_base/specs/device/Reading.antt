@@ -150,8 +150,8 @@ valued f (Ok x) = Ok (f x)
 valued f (Err e) = Err e
 
 -- the fields after a tag
-abbrev pub Behind : ℕ → Format Step
-Behind tag step bytes = (tag_of step ≡ tag) × SpellsFields step bytes
+abbrev pub FieldsAfter : ℕ → Format Step
+FieldsAfter tag step bytes = (tag_of step ≡ tag) × SpellsFields step bytes
 
 -- The results of a reader of steps are those of any format, with `Ends` if the bytes end between steps: `Cut` is an end within a step.
 -- Memory runs out within a step or at its end, so the bytes so far are a prefix of its text, or all of it.

@@ -16,8 +16,8 @@ abbrev pub from : ℕ → Ahead → List ℕ
 from at a = drop at (take a.end a.piece)
 
 -- the text of a number below the limit is between two positions
-abbrev pub StandsBetween : ℕ → ℕ → ℕ → ℕ → Ahead → Type 0
-StandsBetween limit n at behind a = (text : List ℕ) × IsBelow limit n text × (from at a ≡ text ++ from behind a)
+abbrev pub IsEncodedBetween : ℕ → ℕ → ℕ → ℕ → Ahead → Type 0
+IsEncodedBetween limit n at following a = (text : List ℕ) × IsBelow limit n text × (from at a ≡ text ++ from following a)
 
 -- At most `most` items were consumed, without a read; or memory ran out, and nothing changed.
 abbrev pub TakesItems : Format ℕ → ℕ → Result ℕ StepError → List ℕ → List ℕ → Ahead → Ahead → Type 0

@@ -28,11 +28,11 @@ abbrev pub hand_in : Clauses → Hand
 hand_in clauses = hand_of clauses.hand.items
 
 -- the header after a token: the token's numbers if it is a header, otherwise the header so far
-abbrev pub header_behind : Token → Option (ℕ × ℕ) → Option (ℕ × ℕ)
-header_behind (Number negative value) header = header
-header_behind (Letter b) header = header
-header_behind (Header v c) header = Some (v, c)
-header_behind Wrong header = header
+abbrev pub header_after : Token → Option (ℕ × ℕ) → Option (ℕ × ℕ)
+header_after (Number negative value) header = header
+header_after (Letter b) header = header
+header_after (Header v c) header = Some (v, c)
+header_after Wrong header = header
 
 -- that the clauses and their count did not change
 abbrev pub SameClausesAndCount : Clauses → Clauses → Type 0
@@ -61,7 +61,7 @@ NeedsRoom t = (is_literal t ≡ true) ⊎ ((hand : Hand) (n : ℕ) → turn hand
 
 -- the result of collecting a token, regardless of its line
 abbrev pub CollectsToken : Result (Unit {0}) Refusal → Clauses → Token → Clauses → Type 0
-CollectsToken (Ok u) old t new = ((n : ℕ) → TakesTokenTurn (turn (hand_in old) n t) old new) × (new.header ≡ header_behind t old.header)
+CollectsToken (Ok u) old t new = ((n : ℕ) → TakesTokenTurn (turn (hand_in old) n t) old new) × (new.header ≡ header_after t old.header)
 CollectsToken (Err refusal.Malformed) old t new = SameClausesAndHeader old new × ((n : ℕ) → turn (hand_in old) n t ≡ Fails (Malformed n))
 CollectsToken (Err refusal.Limit) old t new = SameClausesAndHeader old new × ((n : ℕ) → turn (hand_in old) n t ≡ Fails (Limit n))
 CollectsToken (Err refusal.OutOfMemory) old t new = SameClausesAndHeader old new × NeedsRoom t

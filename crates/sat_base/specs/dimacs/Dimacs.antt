@@ -47,15 +47,15 @@ at_end None last = Clean
 at_end (Some ls) last = Malformed last
 
 -- the meaning of a text after the effect of a token; `more` gives the meaning of the later tokens
-abbrev pub behind_turn : Turn → (Hand → Dimacs) → Dimacs
-behind_turn (GoesOn hand) more = more hand
-behind_turn (Ends clause) more = record { clauses = clause ∷ (more None).clauses; ending = (more None).ending }
-behind_turn (Fails ending) more = record { clauses = []; ending = ending }
+abbrev pub after_turn : Turn → (Hand → Dimacs) → Dimacs
+after_turn (GoesOn hand) more = more hand
+after_turn (Ends clause) more = record { clauses = clause ∷ (more None).clauses; ending = (more None).ending }
+after_turn (Fails ending) more = record { clauses = []; ending = ending }
 
 -- the clauses that tokens complete, starting from an unfinished clause or none; `last` is the last line
 unfoldable pub clauses_of : Hand → ℕ → List (ℕ × Token) → Dimacs
 clauses_of hand last [] = record { clauses = []; ending = at_end hand last }
-clauses_of hand last (t ∷ ts) = behind_turn (turn hand t.0 t.1) (λ h. clauses_of h last ts)
+clauses_of hand last (t ∷ ts) = after_turn (turn hand t.0 t.1) (λ h. clauses_of h last ts)
 
 -- the clauses that a scan completes, starting from an unfinished clause or none
 abbrev pub dimacs_of : Hand → Scan → Dimacs

@@ -6,8 +6,8 @@ use Rattle.sat_base.specs.declared.dimacs.error.DimacsError.TheVariants as error
 use Rattle.sat_base.specs.device.Device.{Reader, ReadsOnce}
 use Rattle.sat_base.specs.text.Text.{Token, Scan, scan, tokens, HasEnded}
 use Rattle.sat_base.specs.text.Position.{onto}
-use Rattle.sat_base.specs.text.WrongWords.{RightAhead}
-use Rattle.sat_base.specs.text.Tokenizing.{StandsBefore}
+use Rattle.sat_base.specs.text.WrongWords.{HasValidContinuation}
+use Rattle.sat_base.specs.text.Tokenizing.{IsPositionedBefore}
 use Rattle.sat_base.specs.dimacs.Dimacs.{Hand, Malformed, Limit, Fails, turn}
 use Rattle.sat_base.specs.dimacs.Parsing.{NoFault, unless_fault, whole_lines, IsSoundText, HasFaultOn}
 use Rattle.sat_base.specs.dimacs.ParserPlaces.{HaveTakenTokens}
@@ -18,11 +18,11 @@ pub record HasTakenSoundly (text : List ℕ) (machine : Tokenizer) : Type 0 wher
   pub all : List (List ℕ)  -- their clauses
   pub hand : Hand
   pub left_of : List ℕ → Scan  -- how the bytes that follow will be read, for any such bytes
-  pub stands : StandsBefore machine left_of
+  pub valid : IsPositionedBefore machine left_of
   pub scans : (rest : List ℕ) → scan (text ++ rest) ≡ onto before (left_of rest)
   pub turned : HaveTakenTokens before all hand
   pub sound : NoFault None (tokens (whole_lines text))
-  pub right : RightAhead left_of
+  pub right : HasValidContinuation left_of
 
 -- that a token is not a fault, or is the reported fault on this line, whatever clause is unfinished
 abbrev pub JudgesToken : Result (Unit {0}) DimacsError → ℕ → Token → Type 0

@@ -5,8 +5,8 @@ use Rattle.sat_base.specs.declared.dimacs.error.DimacsError.{DimacsError}
 use Rattle.sat_base.specs.declared.dimacs.error.DimacsError.TheVariants as errors
 use Rattle.sat_base.specs.text.Text.{is_blank, Token, Scan, scan, header_first, dimacs_header}
 use Rattle.sat_base.specs.text.Position.{onto}
-use Rattle.sat_base.specs.text.WrongWords.{RightAhead}
-use Rattle.sat_base.specs.text.Tokenizing.{held, StandsBefore, HoldsNoWord}
+use Rattle.sat_base.specs.text.WrongWords.{HasValidContinuation}
+use Rattle.sat_base.specs.text.Tokenizing.{held, IsPositionedBefore, HoldsNoWord}
 use Rattle.sat_base.specs.values.Formulas.{vars_of}
 use Rattle.sat_base.specs.dimacs.Dimacs.{Hand, Dimacs, clauses_of}
 use Rattle.sat_base.specs.dimacs.Collecting.{hand_in}
@@ -39,13 +39,13 @@ pub record IsGoingParser (p : Parser) : Type 0 where
   pub ended : p.ended ≡ false
   pub before : List (ℕ × Token)  -- the tokens so far
   pub left_of : List ℕ → Scan  -- how the bytes that follow will be read, for any such bytes
-  pub stands : StandsBefore p.tokenizer left_of
+  pub valid : IsPositionedBefore p.tokenizer left_of
   pub scans : (rest : List ℕ) → scan (p.history.fed ++ rest) ≡ onto before (left_of rest)
   pub turned : HaveTakenTokens before (all_in p) (hand_in p.clauses)
   pub heads : dimacs_header (whole_lines p.history.fed) ≡ header_first before
   pub sound : NoFault None (scan (whole_lines p.history.fed)).tokens
   pub quiet : is_blank (last_byte p.history.fed) ≡ true → HoldsNoWord (left_of [])
-  pub right : RightAhead left_of
+  pub right : HasValidContinuation left_of
 
 -- the invariant of every parser
 pub record IsParser (p : Parser) : Type 0 where
@@ -60,5 +60,5 @@ abbrev pub EndsClean : Result (Unit {0}) DimacsError → Parser → Type 0
 EndsClean (Ok u) p = hand_in p.clauses ≡ None
 EndsClean (Err (errors.Malformed line)) p =
     ((ls : List ℕ) × (hand_in p.clauses ≡ Some ls))
-    × ((before : List ℕ → Scan) → StandsBefore p.tokenizer before → line ≡ held (before []).last)
+    × ((before : List ℕ → Scan) → IsPositionedBefore p.tokenizer before → line ≡ held (before []).last)
 EndsClean (Err e) p = ⊥

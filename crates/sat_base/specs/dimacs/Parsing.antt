@@ -5,7 +5,7 @@ use Rattle.std.specs.List.{FoldsTo, concat}
 use Rattle.std.specs.Prelude.{◌≡◌, ◌<◌, ◌≤◌, ◌+◌, ◌⊎◌, ◌-◌, ℕ, length, get_or, nat_eq, List, [], ◌∷◌, ◌++◌, Bool, true, false, ◌||◌, Option, None, Some, Result, Ok, Err, if◌then◌else◌}
 use Rattle.sat_base.specs.device.Device.{Reader, CanFollow, GaveFront, GaveEnough, piece_size}
 use Rattle.sat_base.specs.text.Text.{is_blank, Token, Number, scan, tokens, HasEnded, dimacs_header}
-use Rattle.sat_base.specs.text.WrongWords.{RightAhead}
+use Rattle.sat_base.specs.text.WrongWords.{HasValidContinuation}
 use Rattle.sat_base.specs.text.Tokenizing.{held}
 use Rattle.sat_base.specs.values.Formulas.{Formula, vars_of}
 use Rattle.sat_base.specs.dimacs.Dimacs.{Ending, Clean, Malformed, Limit, Hand, Turn, GoesOn, Ends, Fails, turn, dimacs, up_to_last_blank, IsDimacs}
@@ -86,7 +86,7 @@ NoFault hand (t ∷ ts) = unless_fault (turn hand t.0 t.1) (λ h. NoFault h ts)
 -- that no complete line of a text has a fault, and the text can continue without a wrong word
 pub record IsSoundText (text : List ℕ) : Type 0 where
   pub lines : NoFault None (tokens (whole_lines text))
-  pub words : RightAhead (λ rest. scan (text ++ rest))
+  pub words : HasValidContinuation (λ rest. scan (text ++ rest))
 
 -- that `IsSoundText` holds for the bytes that a parser has accepted
 abbrev pub IsSoundSoFar : Progress → Type 0
@@ -108,8 +108,8 @@ StopsReading old new = (text : List ℕ) × GaveFront old new text × EndsInLast
 -- that a prefix of the piece was accepted, up to and including a fault
 pub record EndsAtFault (ending : Ending) (piece : List ℕ) (old new : Progress) : Type 0 where
   pub front : List ℕ
-  pub behind : List ℕ
-  pub whole : piece ≡ front ++ behind
+  pub following : List ℕ
+  pub whole : piece ≡ front ++ following
   pub progress : new ≡ at_its_end (with_fed front old)
   pub ends : EndsAt ending new
 
@@ -141,8 +141,8 @@ pub record EndsWell (text : List ℕ) : Type 0 where
 pub record FallsShort (piece : List ℕ) (old new : Progress) : Type 0 where
   pub front : List ℕ
   pub byte : ℕ
-  pub behind : List ℕ
-  pub whole : piece ≡ front ++ byte ∷ behind
+  pub following : List ℕ
+  pub whole : piece ≡ front ++ byte ∷ following
   pub progress : new ≡ cut_short (with_fed front old)
   pub well : GoesWell (old.fed ++ front) byte
 
@@ -186,7 +186,7 @@ RefusesPiece errors.Read piece old = ⊥
 
 -- that memory ran out where a number of the text ends, and no word up to that number is a fault
 abbrev pub ParsesShort : List ℕ → Type 0
-ParsesShort text = ((front : List ℕ) × (byte : ℕ) × (behind : List ℕ) × (text ≡ front ++ byte ∷ behind) × GoesWell front byte)
+ParsesShort text = ((front : List ℕ) × (byte : ℕ) × (following : List ℕ) × (text ≡ front ++ byte ∷ following) × GoesWell front byte)
     ⊎ EndsWell text
 
 -- the result of parsing a complete text

@@ -88,15 +88,15 @@ command_at_end Nothing = Clean
 command_at_end (Within kind ls) = Malformed
 
 -- the reading after the effect of a token; `more` gives the reading of the later tokens, and malformed text ends it
-abbrev pub behind_command_turn : CommandTurn → (CommandHand → Reading) → Reading
-behind_command_turn (GoesOn hand) more = more hand
-behind_command_turn (Ends command) more = onto_commands (command ∷ []) (more Nothing)
-behind_command_turn Fails more = ([], Malformed)
+abbrev pub after_command_turn : CommandTurn → (CommandHand → Reading) → Reading
+after_command_turn (GoesOn hand) more = more hand
+after_command_turn (Ends command) more = onto_commands (command ∷ []) (more Nothing)
+after_command_turn Fails more = ([], Malformed)
 
 -- the commands that the tokens spell, starting from an unfinished command or none
 unfoldable pub commands_of : CommandHand → List Token → Reading
 commands_of hand [] = ([], command_at_end hand)
-commands_of hand (t ∷ ts) = behind_command_turn (command_turn hand t) (λ h. commands_of h ts)
+commands_of hand (t ∷ ts) = after_command_turn (command_turn hand t) (λ h. commands_of h ts)
 
 -- the tokens without their lines
 abbrev pub spoken : List (ℕ × Token) → List Token

@@ -18,14 +18,14 @@ pub record ReadRows : Type 0 where
   pub no_last_LF : IsScript (codes "1 -2 0") (Clause (positive_literal 1 ∷ negative_literal 2 ∷ []) ∷ []) Clean
   pub two_on_a_line : IsScript (codes "1 0\t-1 0\r\n") (Clause (positive_literal 1 ∷ []) ∷ Clause (negative_literal 1 ∷ []) ∷ []) Clean
   pub comment_inside : IsScript (codes "1\nc x\n 2 0\n") (Clause (positive_literal 1 ∷ positive_literal 2 ∷ []) ∷ []) Clean
-  pub comment_behind_blanks : IsScript (codes " \tcx 3\n0\n") (Clause [] ∷ []) Clean
+  pub comment_after_blanks : IsScript (codes " \tcx 3\n0\n") (Clause [] ∷ []) Clean
   pub zero_alone : IsScript (codes "0") (Clause [] ∷ []) Clean
   pub leading_zeros : IsScript (codes "007 000") (Clause (positive_literal 7 ∷ []) ∷ []) Clean
   pub past_the_limit : IsScript (codes "268435457 0") (Clause (positive_literal 268435457 ∷ []) ∷ []) Clean
   pub header : IsScript (codes "p cnf 1 1\n") (Ask [] ∷ []) Clean
   pub header_and_percent : IsScript (codes "p cnf 2 1\n1 2 0\n%\n0\n") (Clause (positive_literal 1 ∷ positive_literal 2 ∷ []) ∷ Ask [] ∷ []) Clean
   pub header_and_ask : IsScript (codes "p cnf 2 1\n1 0\na 0\n") (Clause (positive_literal 1 ∷ []) ∷ Ask [] ∷ []) Clean
-  pub header_behind_comment : IsScript (codes "c x\n p\tcnf 007 1 \r\n1 0") (Clause (positive_literal 1 ∷ []) ∷ Ask [] ∷ []) Clean
+  pub header_after_comment : IsScript (codes "c x\n p\tcnf 007 1 \r\n1 0") (Clause (positive_literal 1 ∷ []) ∷ Ask [] ∷ []) Clean
   pub long_number : IsScript (codes "p cnf 99999999999999999999 1") (Ask [] ∷ []) Clean
   pub percent : IsScript (codes "0\n%\n0\n") (Clause [] ∷ []) Clean
   pub percent_and_more : IsScript (codes "0\n \t%x 1\n+1 a") (Clause [] ∷ []) Clean
@@ -42,7 +42,7 @@ pub record ReadRows : Type 0 where
 
 -- malformed texts, with the commands before the fault
 pub record MalformedRows : Type 0 where
-  pub comment_behind_word : IsScript (codes "c x\n1 c\n") [] Malformed
+  pub comment_after_word : IsScript (codes "c x\n1 c\n") [] Malformed
   pub minus_zero : IsScript (codes "-0 0") [] Malformed
   pub minus_zeros : IsScript (codes "1 0 -00 0") (Clause (positive_literal 1 ∷ []) ∷ []) Malformed
   pub plus_sign : IsScript (codes "+1 0") [] Malformed
@@ -58,23 +58,23 @@ pub record MalformedRows : Type 0 where
   pub other_format : IsScript (codes "p dnf 1 1\n") [] Malformed
   pub plus_in_header : IsScript (codes "p cnf +1 1") [] Malformed
   pub minus_in_header : IsScript (codes "p cnf -1 1") [] Malformed
-  pub no_blank_behind_p : IsScript (codes "pcnf 1 1\n") [] Malformed
+  pub no_blank_after_p : IsScript (codes "pcnf 1 1\n") [] Malformed
   pub header_cut : IsScript (codes "p cnf 1\n1") [] Malformed
   pub two_headers : IsScript (codes "p cnf 1 1\np cnf 1 1\n") [] Malformed
-  pub header_behind_clause : IsScript (codes "1 0\np cnf 1 1\n") (Clause (positive_literal 1 ∷ []) ∷ []) Malformed
+  pub header_after_clause : IsScript (codes "1 0\np cnf 1 1\n") (Clause (positive_literal 1 ∷ []) ∷ []) Malformed
   pub header_in_clause : IsScript (codes "1\np cnf 1 1\n0") [] Malformed
   pub header_inside_a_line : IsScript (codes "1 p cnf 1 1") [] Malformed
   pub header_and_cut : IsScript (codes "p cnf 1 1\n1") [] Malformed
   pub header_and_wrong : IsScript (codes "p cnf 1 1\n1 0 x1") (Clause (positive_literal 1 ∷ []) ∷ []) Malformed
   pub percent_in_clause : IsScript (codes "1\n%\n") [] Malformed
   pub percent_inside_a_line : IsScript (codes "1 0 %") (Clause (positive_literal 1 ∷ []) ∷ []) Malformed
-  pub percent_behind_a : IsScript (codes "a\n%\n") [] Malformed
+  pub percent_after_a : IsScript (codes "a\n%\n") [] Malformed
   pub cut_in_clause : IsScript (codes "1 2") [] Malformed
-  pub cut_behind_a : IsScript (codes "0 a") (Clause [] ∷ []) Malformed
+  pub cut_after_a : IsScript (codes "0 a") (Clause [] ∷ []) Malformed
   pub letter_in_ask : IsScript (codes "0 a h 0") (Clause [] ∷ []) Malformed
   pub negative_name : IsScript (codes "1 0\nh -1 0") (Clause (positive_literal 1 ∷ []) ∷ []) Malformed
   pub negative_witness : IsScript (codes "w -1 0") [] Malformed
   pub negative_sample : IsScript (codes "s 1 -2 0") [] Malformed
   pub large_letter : IsScript (codes "A 0") [] Malformed
   pub minus_zero_ends_ask : IsScript (codes "a -0") [] Malformed
-  pub cut_behind_names : IsScript (codes "p cnf 1 1\nw 1") [] Malformed
+  pub cut_after_names : IsScript (codes "p cnf 1 1\nw 1") [] Malformed

@@ -17,8 +17,8 @@ IsProperFront {A} F bytes = (x : A) × (b : ℕ) × (more : List ℕ) × F x (by
 pub record IsFirstBadByte {A : Type 0} (F : Format A) (bytes : List ℕ) : Type 0 where
   pub front : List ℕ
   pub byte : ℕ
-  pub behind : List ℕ
-  pub whole : bytes ≡ front ++ byte ∷ behind
+  pub following : List ℕ
+  pub whole : bytes ≡ front ++ byte ∷ following
   pub live : IsProperFront F front
   pub shut : BeginsText F (front ++ byte ∷ []) → ⊥
 

@@ -26,12 +26,12 @@ with_value stage None = None
 with_value stage (Some n) = Some (stage n)
 
 -- the stage after one more word, if that is allowed there
-abbrev pub stage_behind : Stage → List ℕ → Option Stage
-stage_behind Begun w = if same_bytes w (codes "p") then Some Named else None
-stage_behind Named w = if same_bytes w (codes "cnf") then Some Format else None
-stage_behind Format w = with_value Vars (digits 0 w)
-stage_behind (Vars v) w = with_value (Both v) (digits 0 w)
-stage_behind (Both v c) w = None
+abbrev pub stage_after : Stage → List ℕ → Option Stage
+stage_after Begun w = if same_bytes w (codes "p") then Some Named else None
+stage_after Named w = if same_bytes w (codes "cnf") then Some Format else None
+stage_after Format w = with_value Vars (digits 0 w)
+stage_after (Vars v) w = with_value (Both v) (digits 0 w)
+stage_after (Both v c) w = None
 
 -- the token of a header line that ends at this stage
 abbrev pub stage_end : Stage → Token
@@ -39,14 +39,14 @@ stage_end (Both v c) = Header v c
 stage_end stage = Wrong
 
 -- a word that is not allowed there spoils the line
-abbrev pub behind_word : Option Stage → (Stage → Token) → Token
-behind_word None more = Wrong
-behind_word (Some stage) more = more stage
+abbrev pub after_word : Option Stage → (Stage → Token) → Token
+after_word None more = Wrong
+after_word (Some stage) more = more stage
 
 -- the token of a header line, from its remaining words
 unfoldable pub stage_token : Stage → List (List ℕ) → Token
 stage_token stage [] = stage_end stage
-stage_token stage (w ∷ ws) = behind_word (stage_behind stage w) (λ s. stage_token s ws)
+stage_token stage (w ∷ ws) = after_word (stage_after stage w) (λ s. stage_token s ws)
 
 -- At the start of a line, after blanks at its start, or in a comment, each with whether a header may still come; between words, or in a
 -- word of these bytes; between words of a header line, in such a word, or in one that is not allowed there; after `%`.
@@ -100,43 +100,43 @@ left spot n bytes = record { tokens = tokens_left spot n (lines bytes); last = l
 abbrev pub in_hand : Position → ℕ → List (ℕ × Token)
 in_hand (Within x w) n = (n + 1, token (x ∷ w)) ∷ []
 in_hand (HeaderBetween stage) n = (n + 1, stage_end stage) ∷ []
-in_hand (HeaderWithin stage x w) n = (n + 1, behind_word (stage_behind stage (x ∷ w)) stage_end) ∷ []
+in_hand (HeaderWithin stage x w) n = (n + 1, after_word (stage_after stage (x ∷ w)) stage_end) ∷ []
 in_hand Spoilt n = (n + 1, Wrong) ∷ []
 in_hand spot n = []
 
 -- whether a header may come on the lines below
-abbrev pub may_behind : Position → Bool
-may_behind (Fresh may) = may
-may_behind (Leading may) = may
-may_behind (Comment may) = may
-may_behind spot = false
+abbrev pub may_after : Position → Bool
+may_after (Fresh may) = may
+may_after (Leading may) = may
+may_after (Comment may) = may
+may_after spot = false
 
 -- the position after LF; after `%` it stays
-abbrev pub behind_LF : Position → Position
-behind_LF Over = Over
-behind_LF spot = Fresh (may_behind spot)
+abbrev pub after_LF : Position → Position
+after_LF Over = Over
+after_LF spot = Fresh (may_after spot)
 
 -- the number of ended lines after LF, if n had ended before it; after `%` LF ends none
-abbrev pub lines_behind : Position → ℕ → ℕ
-lines_behind Over n = n
-lines_behind spot n = n + 1
+abbrev pub lines_after : Position → ℕ → ℕ
+lines_after Over n = n
+lines_after spot n = n + 1
 
 -- after a word of a header line that a blank ends
-abbrev pub behind_header_word : Option Stage → Position
-behind_header_word None = Comment false
-behind_header_word (Some stage) = HeaderBetween stage
+abbrev pub after_header_word : Option Stage → Position
+after_header_word None = Comment false
+after_header_word (Some stage) = HeaderBetween stage
 
 -- the position after a blank that does not end a line
-abbrev pub behind_blank : Position → Position
-behind_blank (Fresh may) = Leading may
-behind_blank (Leading may) = Leading may
-behind_blank (Comment may) = Comment may
-behind_blank Between = Between
-behind_blank (Within x w) = Between
-behind_blank (HeaderBetween stage) = HeaderBetween stage
-behind_blank (HeaderWithin stage x w) = behind_header_word (stage_behind stage (x ∷ w))
-behind_blank Spoilt = Comment false
-behind_blank Over = Over
+abbrev pub following_blank : Position → Position
+following_blank (Fresh may) = Leading may
+following_blank (Leading may) = Leading may
+following_blank (Comment may) = Comment may
+following_blank Between = Between
+following_blank (Within x w) = Between
+following_blank (HeaderBetween stage) = HeaderBetween stage
+following_blank (HeaderWithin stage x w) = after_header_word (stage_after stage (x ∷ w))
+following_blank Spoilt = Comment false
+following_blank Over = Over
 
 -- a word of a header line that is not allowed there
 abbrev pub spoils : Option Stage → ℕ → List (ℕ × Token)
@@ -146,7 +146,7 @@ spoils (Some stage) n = []
 -- the token that such a blank ends, if there is one
 abbrev pub ended_by_blank : Position → ℕ → List (ℕ × Token)
 ended_by_blank (Within x w) n = (n + 1, token (x ∷ w)) ∷ []
-ended_by_blank (HeaderWithin stage x w) n = spoils (stage_behind stage (x ∷ w)) n
+ended_by_blank (HeaderWithin stage x w) n = spoils (stage_after stage (x ∷ w)) n
 ended_by_blank Spoilt n = (n + 1, Wrong) ∷ []
 ended_by_blank spot n = []
 

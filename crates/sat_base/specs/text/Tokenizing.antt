@@ -10,7 +10,7 @@ use Rattle.sat_base.specs.declared.text.Token.{Token as CodeToken}
 use Rattle.sat_base.specs.declared.text.Token.TheVariants as code
 use Rattle.sat_base.specs.declared.text.Tokenizer.{Tokenizer}
 use Rattle.sat_base.specs.text.Text.{digits, Token, Number, Letter, Header, Wrong, token, Scan, is_letter}
-use Rattle.sat_base.specs.text.Position.{Stage, Begun, Named, Format, Vars, Both, stage_behind, Position, Fresh, Leading, Comment, Between, Within, HeaderBetween, HeaderWithin, Spoilt, Over, HasNoBlank, left, in_hand, ended_by_blank, behind_blank, behind_LF, onto}
+use Rattle.sat_base.specs.text.Position.{Stage, Begun, Named, Format, Vars, Both, stage_after, Position, Fresh, Leading, Comment, Between, Within, HeaderBetween, HeaderWithin, Spoilt, Over, HasNoBlank, left, in_hand, ended_by_blank, following_blank, after_LF, onto}
 
 -- a count or a value, capped at 2^64-1
 abbrev pub held : ℕ → ℕ
@@ -37,7 +37,7 @@ BeginsWrong w = (more : List ℕ) → token (w ++ more) ≡ Wrong
 
 -- no word that begins with these bytes is allowed at this stage of a header line
 abbrev pub BeginsSpoilt : Stage → List ℕ → Type 0
-BeginsSpoilt s w = (more : List ℕ) → stage_behind s (w ++ more) ≡ None
+BeginsSpoilt s w = (more : List ℕ) → stage_after s (w ++ more) ≡ None
 
 -- the finished words of a header line, as the code represents them, with their values capped
 abbrev pub IsStage : CodeStage → Stage → Type 0
@@ -126,7 +126,7 @@ SaysAtBlank given place = (spot : Position) → IsAt place spot → IsHeldToken 
 -- the finished words of a header line once the unfinished one ends
 abbrev pub ended_stage : Position → Option Stage
 ended_stage (HeaderBetween s) = Some s
-ended_stage (HeaderWithin s x w) = stage_behind s (x ∷ w)
+ended_stage (HeaderWithin s x w) = stage_after s (x ∷ w)
 ended_stage spot = None
 
 -- the finished words of a header line, as the code represents them, or none in both
@@ -135,8 +135,8 @@ IsStageIf None given = given ≡ None
 IsStageIf (Some ended) given = (s : Stage) × IsStage ended s × (given ≡ Some s)
 
 -- the place after a blank that does not end a line
-abbrev pub LeadsBehind : Place → Place → Type 0
-LeadsBehind old new = (spot : Position) → IsAt old spot → IsAt new (behind_blank spot)
+abbrev pub LeadsAfter : Place → Place → Type 0
+LeadsAfter old new = (spot : Position) → IsAt old spot → IsAt new (following_blank spot)
 
 -- no word is unfinished
 abbrev pub IsQuiet : Place → Type 0
@@ -156,11 +156,11 @@ may_come place = false
 
 -- the place after LF
 abbrev pub LeadsBelow : Place → Place → Type 0
-LeadsBelow old new = (spot : Position) → IsAt old spot → IsAt new (behind_LF spot)
+LeadsBelow old new = (spot : Position) → IsAt old spot → IsAt new (after_LF spot)
 
 -- the machine is at a place of a text: `left_of` says what is still to be read, whatever bytes come
-unfoldable pub StandsBefore : Tokenizer → (List ℕ → Scan) → Type 0
-StandsBefore machine left_of = (spot : Position) × (n : ℕ) × IsAt machine.place spot × (machine.lines ≡ held n)
+unfoldable pub IsPositionedBefore : Tokenizer → (List ℕ → Scan) → Type 0
+IsPositionedBefore machine left_of = (spot : Position) × (n : ℕ) × IsAt machine.place spot × (machine.lines ≡ held n)
     × ((rest : List ℕ) → left_of rest ≡ left spot n rest)
 
 -- the token that a byte ended, on the line of this byte, or none
@@ -171,19 +171,19 @@ GivesToken (Some t) byte old new = (given : Token) × (t ≡ held_token given)
 
 -- A byte is received: what was to be read before it is the token that it ended, and then what is to be read after it.
 abbrev pub TakesByte : Tokenizer → ℕ → Option CodeToken → Tokenizer → Type 0
-TakesByte old byte given new = (before : List ℕ → Scan) → StandsBefore old before
-    → (after : List ℕ → Scan) × StandsBefore new after × GivesToken given byte before after
+TakesByte old byte given new = (before : List ℕ → Scan) → IsPositionedBefore old before
+    → (after : List ℕ → Scan) × IsPositionedBefore new after × GivesToken given byte before after
 
 -- the same for several bytes, of which only the last may end a token
-abbrev pub GivesBehind : Option CodeToken → List ℕ → (List ℕ → Scan) → (List ℕ → Scan) → Type 0
-GivesBehind None bytes old new = (rest : List ℕ) → old (bytes ++ rest) ≡ new rest
-GivesBehind (Some t) bytes old new = (given : Token) × (t ≡ held_token given)
+abbrev pub GivesAfter : Option CodeToken → List ℕ → (List ℕ → Scan) → (List ℕ → Scan) → Type 0
+GivesAfter None bytes old new = (rest : List ℕ) → old (bytes ++ rest) ≡ new rest
+GivesAfter (Some t) bytes old new = (given : Token) × (t ≡ held_token given)
     × ((rest : List ℕ) → old (bytes ++ rest) ≡ onto (((new []).last, given) ∷ []) (new rest))
 
 -- several bytes are received, of which only the last may end a token
 abbrev pub TakesFront : Tokenizer → List ℕ → Option CodeToken → Tokenizer → Type 0
-TakesFront old bytes given new = (before : List ℕ → Scan) → StandsBefore old before
-    → (after : List ℕ → Scan) × StandsBefore new after × GivesBehind given bytes before after
+TakesFront old bytes given new = (before : List ℕ → Scan) → IsPositionedBefore old before
+    → (after : List ℕ → Scan) × IsPositionedBefore new after × GivesAfter given bytes before after
 
 -- a header, or a word that is wrong
 abbrev pub IsOfHeader : Token → Type 0

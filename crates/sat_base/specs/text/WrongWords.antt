@@ -8,9 +8,9 @@ abbrev pub HaveNoWrongWord : List (ℕ × Token) → Type 0
 HaveNoWrongWord ts = AllByRecursion (λ t. t.1 ≡ Wrong → ⊥) ts
 
 -- Whatever follows, the next word or header line is wrong, on the line of the last byte.
-abbrev pub WrongAhead : (List ℕ → Scan) → Type 0
-WrongAhead left_of = (rest : List ℕ) → (more : List (ℕ × Token)) × ((left_of rest).tokens ≡ ((left_of []).last, Wrong) ∷ more)
+abbrev pub HasNoValidContinuation : (List ℕ → Scan) → Type 0
+HasNoValidContinuation left_of = (rest : List ℕ) → (more : List (ℕ × Token)) × ((left_of rest).tokens ≡ ((left_of []).last, Wrong) ∷ more)
 
 -- some continuation has no wrong word
-abbrev pub RightAhead : (List ℕ → Scan) → Type 0
-RightAhead left_of = (rest : List ℕ) × HaveNoWrongWord (left_of rest).tokens
+abbrev pub HasValidContinuation : (List ℕ → Scan) → Type 0
+HasValidContinuation left_of = (rest : List ℕ) × HaveNoWrongWord (left_of rest).tokens

@@ -60,7 +60,7 @@ impl<D: Read> Read for Counted<D> {
 impl<D: Read> CountedRead for Counted<D> {
     ghost seen = { λ c. reader_of D.remaining c };
 
-    ghost tells = { λ c. refl };
+    ghost known_bytes = { λ c. refl };
 
     fn read_counted(&mut self, buf: &mut [u8]) -> io::Result<usize> {
         let result = self.device.read(buf);
@@ -96,7 +96,7 @@ impl<D: Write> Write for Counted<D> {
 impl<D: Write> CountedWrite for Counted<D> {
     ghost seen = { λ c. writer_of D.contents c };
 
-    ghost tells = { λ c. refl };
+    ghost known_bytes = { λ c. refl };
 
     fn write_counted(&mut self, piece: &[u8]) -> io::Result<usize> {
         let result = self.device.write(piece);

@@ -48,14 +48,14 @@ impl<W: CountedWrite, P: Room> Output<W, P> {
         ensures { SendsText (byte ∷ []) result (sink_of W.seen P.waiting self.old) (sink_of W.seen P.waiting self.new) }
     {
         if self.pending.free() == 0 {
-            return self.put_behind(byte);
+            return self.write_out_and_put(byte);
         }
         self.pending.push(byte);
         Ok(())
     }
 
     /// Writes out the pending bytes, and then writes a byte to the buffer.
-    fn put_behind(&mut self, byte: u8) -> Result<(), WriteFailed>
+    fn write_out_and_put(&mut self, byte: u8) -> Result<(), WriteFailed>
         requires { 0 < P.size self.old.pending }
         ensures { SendsText (byte ∷ []) result (sink_of W.seen P.waiting self.old) (sink_of W.seen P.waiting self.new) }
     {

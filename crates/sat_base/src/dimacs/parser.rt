@@ -1,7 +1,7 @@
 //! The implementation of `DimacsParser`.
 ghost use Rattle.std.specs.Prelude.{◌≡◌, ◌++◌, ◌∷◌, [], ℕ, List, true, false, Ok, OnOk, IfErr};
 ghost use Rattle.sat_base.specs.text.Text.{Scan};
-ghost use Rattle.sat_base.specs.text.Tokenizing.{held, StandsBefore};
+ghost use Rattle.sat_base.specs.text.Tokenizing.{held, IsPositionedBefore};
 ghost use Rattle.sat_base.specs.values.Formulas.{vars_of};
 ghost use Rattle.sat_base.specs.dimacs.Parsing.{FeedsPiece, Finishes, IsSoundSoFar, no_progress, all_taken};
 ghost use Rattle.sat_base.specs.dimacs.Parsing.{clauses_read, RefusesPiece, SaysEnded};
@@ -45,7 +45,7 @@ impl Parser {
 
     /// Returns the line of the last byte.
     fn line(&self) -> u64
-        ensures { (before : List ℕ → Scan) → StandsBefore self.now.tokenizer before → result ≡ held (before []).last }
+        ensures { (before : List ℕ → Scan) → IsPositionedBefore self.now.tokenizer before → result ≡ held (before []).last }
     {
         self.tokenizer.line()
     }

@@ -2,7 +2,7 @@
 #![tactic(auto, using(crate::proofs::lemmas::device::Sending::sending))]
 
 ghost use Rattle.std.specs.Prelude.{◌≡◌, OnOk, [], ℕ, List, IsTrue, false};
-ghost use Rattle.sat_base.specs.device.Reading.{ReadsFromInput, source_of, valued, AnswersStepRead, Behind};
+ghost use Rattle.sat_base.specs.device.Reading.{ReadsFromInput, source_of, valued, AnswersStepRead, FieldsAfter};
 ghost use Rattle.sat_base.specs.steps.Kinds.{step_with, step_held, is_tag, has_lists};
 ghost use Rattle.sat_base.specs.steps.Spellings.{SendsSpelling, fields, a_step};
 ghost use Rattle.sat_base.specs.steps.StepText.{tag_of};
@@ -58,7 +58,7 @@ impl<R: CountedRead> Input<'_, R> {
         requires known { IsTrue (is_tag tag) }
         requires plain { has_lists tag ≡ false }
         ensures { (literals hashes : List ℕ) (units : List (ℕ × ℕ))
-            → ReadsFromInput (Behind tag) (valued (λ k. step_with k literals hashes units) result) R.seen self.old
+            → ReadsFromInput (FieldsAfter tag) (valued (λ k. step_with k literals hashes units) result) R.seen self.old
             self.new }
     {
         if tag < 5 {
@@ -93,7 +93,7 @@ impl<R: CountedRead> Input<'_, R> {
     /// Reads the fields of a step with this tag, which must be one with lists, into `lists`.
     fn list_fields(&mut self, lists: &mut Lists, tag: u8) -> Result<Kind, StepError>
         requires { IsTrue (has_lists tag) }
-        ensures { ReadsFromInput (Behind tag) (valued (step_held lists.new) result) R.seen self.old self.new }
+        ensures { ReadsFromInput (FieldsAfter tag) (valued (step_held lists.new) result) R.seen self.old self.new }
     {
         if tag == 6 {
             let redundant = self.flag_and_lists(lists)?;
@@ -122,7 +122,7 @@ impl<R: CountedRead> Input<'_, R> {
     /// Reads the fields of a step with this tag, with the lists into `lists`.
     fn fields(&mut self, lists: &mut Lists, tag: u8) -> Result<Kind, StepError>
         requires { IsTrue (is_tag tag) }
-        ensures { ReadsFromInput (Behind tag) (valued (step_held lists.new) result) R.seen self.old self.new }
+        ensures { ReadsFromInput (FieldsAfter tag) (valued (step_held lists.new) result) R.seen self.old self.new }
     {
         if has_lists(tag) {
             self.list_fields(lists, tag)

@@ -33,9 +33,9 @@ impl Ahead {
         let mut taken = 0;
         while taken < count {
             match self.code_at(at, LARGEST_CODE) {
-                Some((code, behind)) => {
+                Some((code, following)) => {
                     lits.push_reserved(Lit::from_code(code as usize));
-                    at = behind;
+                    at = following;
                     taken += 1;
                 }
                 None => break,
@@ -56,9 +56,9 @@ impl Ahead {
         let mut taken = 0;
         while taken < count {
             match self.number_at(at, u64::MAX) {
-                Some((hash, behind)) => {
+                Some((hash, following)) => {
                     hashes.push_reserved(hash);
-                    at = behind;
+                    at = following;
                     taken += 1;
                 }
                 None => break,

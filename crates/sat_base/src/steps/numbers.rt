@@ -1,7 +1,7 @@
 //! Reads and writes numbers in LEB128.
 ghost use Rattle.std.specs.Prelude.{◌≡◌, ◌+◌, ◌++◌, ◌-◌, ◌*◌, ◌^◌, ◌<◌, ◌≤◌, ℕ, Some, None, OnOk, length};
 ghost use Rattle.sat_base.specs.device.Reading.{ReadsFromInput};
-ghost use Rattle.sat_base.specs.device.TakenAhead.{TakesNumber, StandsBetween};
+ghost use Rattle.sat_base.specs.device.TakenAhead.{TakesNumber, IsEncodedBetween};
 ghost use Rattle.sat_base.specs.device.Sink.{SendsText, sink_of};
 ghost use Rattle.sat_base.specs.steps.StepBytes.{number_bytes};
 ghost use Rattle.sat_base.specs.steps.Numbers.{IsBelow};
@@ -39,7 +39,7 @@ impl Ahead {
     #[inline(always)] // each literal and each hash goes through it
     fn short_number_at(&self, from: usize) -> (u64, usize)
         requires { from + 4 ≤ self.now.end }
-        ensures { (from < result.1 → StandsBetween (2 ^ 28) result.0 from result.1 self.now) }
+        ensures { (from < result.1 → IsEncodedBetween (2 ^ 28) result.0 from result.1 self.now) }
     {
         let first = self.byte_at(from) as u64;
         if first < 128 {
@@ -73,8 +73,8 @@ impl Ahead {
     /// number is complete in the buffered bytes and at most `largest`.
     #[inline(never)] // keeps the path of short numbers small
     fn long_number_at(&self, from: usize, largest: u64) -> Option<(u64, usize)>
-        ensures { (number behind : ℕ) → result ≡ Some (number, behind)
-            → StandsBetween (largest + 1) number from behind self.now }
+        ensures { (number following : ℕ) → result ≡ Some (number, following)
+            → IsEncodedBetween (largest + 1) number from following self.now }
     {
         let mut at = from;
         let mut value = 0;
@@ -99,13 +99,13 @@ impl Ahead {
     /// most eight bytes and is at most `largest`.
     #[inline(always)] // each literal and each hash goes through it
     pub(super) fn number_at(&self, from: usize, largest: u64) -> Option<(u64, usize)>
-        ensures { (number behind : ℕ) → result ≡ Some (number, behind)
-            → StandsBetween (largest + 1) number from behind self.now }
+        ensures { (number following : ℕ) → result ≡ Some (number, following)
+            → IsEncodedBetween (largest + 1) number from following self.now }
     {
         if self.end >= 4 && from <= self.end - 4 {
-            let (number, behind) = self.short_number_at(from);
-            if behind > from && number <= largest {
-                return Some((number, behind));
+            let (number, following) = self.short_number_at(from);
+            if following > from && number <= largest {
+                return Some((number, following));
             }
         }
         self.long_number_at(from, largest)
@@ -115,8 +115,8 @@ impl Ahead {
     /// is unpredictable.
     #[inline(always)] // each literal goes through it
     pub(super) fn code_at(&self, from: usize, largest: u64) -> Option<(u64, usize)>
-        ensures { (number behind : ℕ) → result ≡ Some (number, behind)
-            → StandsBetween (largest + 1) number from behind self.now }
+        ensures { (number following : ℕ) → result ≡ Some (number, following)
+            → IsEncodedBetween (largest + 1) number from following self.now }
     {
         if self.end >= 2 && from <= self.end - 2 {
             let first = self.byte_at(from) as u64;
@@ -141,8 +141,8 @@ impl Ahead {
         ensures none { result ≡ None → self.new ≡ self.old }
     {
         match self.number_at(self.at, largest) {
-            Some((number, behind)) => {
-                self.at = behind;
+            Some((number, following)) => {
+                self.at = following;
                 Some(number)
             }
             None => None,

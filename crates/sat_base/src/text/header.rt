@@ -117,7 +117,8 @@ pub(crate) fn next_in_header(place: HeaderPlace, byte: u8) -> Option<HeaderPlace
     }
 }
 
-/// Returns the words that are finished if the current word ends at `place`, or `None` if that word would then be malformed.
+/// Returns the words that are finished if the current word ends at `place`, or `None` if that word would then be
+/// malformed.
 pub(crate) fn ended_in(place: HeaderPlace) -> Option<Stage>
     ensures { (spot : Position) → IsAtHeader place spot → IsStageIf result (ended_stage spot) }
 {

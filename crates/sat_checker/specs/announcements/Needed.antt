@@ -23,9 +23,9 @@ with_cause l c g =
 -- the causes, given the verdict on a clause: a falsified clause is the conflict, and the open literal of a unit clause is true for the clauses
 -- after it
 abbrev pub causes_by : Verdict → StoredClause → List ℕ → (List ℕ → ConflictCauses) → ConflictCauses
-causes_by falsified c assumed behind = record { literals = map negated c.literals; clauses = c ∷ [] }
-causes_by (opens l) c assumed behind = with_cause l c (behind (l ∷ assumed))
-causes_by rests c assumed behind = behind assumed
+causes_by falsified c assumed following = record { literals = map negated c.literals; clauses = c ∷ [] }
+causes_by (opens l) c assumed following = with_cause l c (following (l ∷ assumed))
+causes_by rests c assumed following = following assumed
 
 -- what the first conflict of these clauses rests on, if every clause that is unit when it is visited is used
 abbrev pub conflict_causes : List ℕ → List StoredClause → ConflictCauses

@@ -3,7 +3,7 @@ use Rattle.std.specs.Prelude.{◌≡◌, true, false, Some, None, List, [], ◌�
 use Rattle.sat_base.specs.values.Hashes.{hash_of}
 use Rattle.sat_base.specs.steps.Steps.{Step, Redundant, Simplified, Satisfied, SolverVarName, UserVarName, DeleteVar, ChangeSamplingMode, ChangeHashBits, End}
 use Rattle.sat_base.specs.steps.Steps as steps
-use Rattle.sat_checker.specs.Rows.{behind, four_clauses, refuted, named_twice, colliding, conflict_and_unit, AllAccepted}
+use Rattle.sat_checker.specs.Rows.{following, four_clauses, refuted, named_twice, colliding, conflict_and_unit, AllAccepted}
 use Rattle.sat_checker.specs.announcements.Announcements.{Announcement, UserVar, AddClause, DuplicatedClause, TautologicalClause, AtClause, MakeIrredundant, DeleteClause, DeleteAtClause, Model, Assumptions, FailedAssumptions, Notice, notices_after, all_notices_after}
 use Rattle.sat_checker.specs.announcements.Announcements as announcements
 use Rattle.sat_checker.specs.announcements.Transcripts.{Transcribed, transcripts}
@@ -15,15 +15,15 @@ announcements_of = map (λ t. t.announcement)
 
 -- what is announced by the end of these steps
 abbrev pub announcements_by : List Step → List Announcement
-announcements_by ss = announcements_of (notices_after (behind ss []))
+announcements_by ss = announcements_of (notices_after (following ss []))
 
 -- what is announced once delayed announcements were made
 abbrev pub all_announcements_by : List Step → List Announcement
-all_announcements_by ss = announcements_of (all_notices_after (behind ss []))
+all_announcements_by ss = announcements_of (all_notices_after (following ss []))
 
 -- the transcript, once delayed ones were announced
 abbrev pub transcribed_by : List Step → List Transcribed
-transcribed_by ss = transcripts (all_notices_after (behind ss []))
+transcribed_by ss = transcripts (all_notices_after (following ss []))
 
 -- what the last step announces, if it and those before it are accepted
 abbrev pub LastAnnounces : List Step → Step → List Announcement → Type 0
@@ -31,7 +31,7 @@ LastAnnounces before last reported = AllAccepted (before ++ last ∷ []) × (ann
 
 -- what the transcript says about the last step
 abbrev pub LastReads : List Step → Step → List Transcribed → Type 0
-LastReads before last read = AllAccepted (before ++ last ∷ []) × (transcripts (notices_after (behind (before ++ last ∷ []) [])) ≡ transcripts (notices_after (behind before [])) ++ read)
+LastReads before last read = AllAccepted (before ++ last ∷ []) × (transcripts (notices_after (following (before ++ last ∷ []) [])) ≡ transcripts (notices_after (following before [])) ++ read)
 
 -- [1, 2], [1, -2], [-1, 2], [-1, -2]
 abbrev pub four_announced : List Announcement
@@ -107,8 +107,8 @@ abbrev pub InputTautology : Type 0
 InputTautology = LastAnnounces [] (steps.AddClause (2 ∷ 1 ∷ 0 ∷ [])) (TautologicalClause 0 (0 ∷ 1 ∷ 2 ∷ []) ∷ [])
 
 -- once unsat is recorded, nothing is announced for an input clause
-abbrev pub InputBehindUnsat : Type 0
-InputBehindUnsat = LastAnnounces (steps.AddClause [] ∷ []) (steps.AddClause (0 ∷ 1 ∷ [])) []
+abbrev pub InputAfterUnsat : Type 0
+InputAfterUnsat = LastAnnounces (steps.AddClause [] ∷ []) (steps.AddClause (0 ∷ 1 ∷ [])) []
 
 -- a derived clause that is new, one that becomes irredundant, and those for which nothing is announced: a clause or unit stored before, and
 -- a tautology

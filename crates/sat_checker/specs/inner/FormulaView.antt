@@ -9,7 +9,7 @@ use Rattle.sat_checker.specs.Spent.{IsSpent}
 use Rattle.sat_checker.specs.inner.Reasons.{ExplainsCheck}
 use Rattle.sat_checker.specs.inner.AssumedRoom.{RoomStays, HasStoredRoom}
 use Rattle.sat_checker.specs.inner.SlotView.{slot_ids}
-use Rattle.sat_checker.specs.inner.StoreView.{KeepsClauses, KeepsHashed, AreIdsInOrder, refiled}
+use Rattle.sat_checker.specs.inner.StoreView.{RepresentsClauses, KeepsHashed, AreIdsInOrder, refiled}
 use Rattle.sat_checker.specs.declared.store.StoreError.{StoreError}
 use Rattle.sat_checker.specs.declared.store.StoreError.TheVariants.{OutOfMemory, CounterEnd}
 use Rattle.sat_checker.specs.declared.state.status.LastClause.{LastClause}
@@ -68,8 +68,8 @@ pub record KeepsParts (formula : Formula) (kept : List StoredClause) (solver_nam
   pub marks : HasStoredRoom formula.marks.room kept
 
 -- that the formula represents what is stored, except for the variables and the assumptions
-abbrev pub KeepsFormula : Formula → Stored → Type 0
-KeepsFormula formula f = KeepsParts formula f.clauses f.solver_names f.width f.units (standing_of f)
+abbrev pub RepresentsFormula : Formula → Stored → Type 0
+RepresentsFormula formula f = KeepsParts formula f.clauses f.solver_names f.width f.units (standing_of f)
 
 -- the formula with all clauses filed by their current hashes
 abbrev pub refiled_in : Formula → Formula
@@ -83,7 +83,7 @@ KeepsOrSpends (Err CounterEnd) kept g = IsSpent g
 
 -- that the formula is changed as the function says
 abbrev pub FormulaEffect : {T : Type 0} → Result T StoreError → Formula → (Stored → Stored) → Formula → Type 0
-FormulaEffect result old change new = (f : Stored) → KeepsFormula old f → KeepsOrSpends result (KeepsFormula new (change f)) (change f)
+FormulaEffect result old change new = (f : Stored) → RepresentsFormula old f → KeepsOrSpends result (RepresentsFormula new (change f)) (change f)
 
 -- That the change is accepted and made, or is refused. An error is returned only if the change would be accepted.
 abbrev pub FormulaEffectIf : Result Bool StoreError → Type 0 → Type 0 → Stored → Type 0
@@ -93,7 +93,7 @@ FormulaEffectIf (Err CounterEnd) accepts kept g = accepts × IsSpent g
 
 -- That the formula has these clauses and units, with any ids, and room for the clauses' literals. A propagation check needs nothing else.
 pub record ChecksAs (formula : Formula) (f : Stored) : Type 0 where
-  pub clauses : KeepsClauses formula.store f
+  pub clauses : RepresentsClauses formula.store f
   pub units : map (λ u. u.literal) formula.units.units ≡ unit_literals f
   pub room : HasStoredRoom formula.units.room f.clauses
 
@@ -107,7 +107,7 @@ pub record ChecksBeside (old new : Formula) : Type 0 where
 
 -- that a deletion is accepted and made, or is refused
 abbrev pub DeletionEffect : Bool → Formula → Step → Formula → Type 0
-DeletionEffect accepted old step new = (f : Stored) → KeepsFormula old f → MatchBool accepted (Accepts f step × KeepsFormula new (effect step f)) (Accepts f step → ⊥)
+DeletionEffect accepted old step new = (f : Stored) → RepresentsFormula old f → MatchBool accepted (Accepts f step × RepresentsFormula new (effect step f)) (Accepts f step → ⊥)
 
 -- that the notes of the last propagation check explain why the clause passes under these hashes
 abbrev pub Explained : Formula → List ℕ → List ℕ → Type 0

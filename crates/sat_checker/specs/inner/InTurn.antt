@@ -8,8 +8,8 @@ use Rattle.sat_checker.specs.Accepts.{PassInTurn}
 use Rattle.sat_checker.specs.inner.AssumedRoom.{LiteralsAndRoom, AgreesOn}
 
 -- the assumed literals after a unit: it is assumed if there is room for it, and neither it nor its negation is assumed
-abbrev pub with_supposed : ℕ → LiteralsAndRoom → List ℕ
-with_supposed l t = if is_among t.room l && not (is_among t.literals l) && not (is_among t.literals (negated l)) then l ∷ t.literals else t.literals
+abbrev pub with_assumed : ℕ → LiteralsAndRoom → List ℕ
+with_assumed l t = if is_among t.room l && not (is_among t.literals l) && not (is_among t.literals (negated l)) then l ∷ t.literals else t.literals
 
 -- whether the first of the literals that has the variable of `l` is `l` itself
 abbrev pub stands_first : List ℕ → ℕ → Bool
@@ -23,6 +23,6 @@ pub record AssumesUnits (trail : LiteralsAndRoom) (before : List ℕ) (f : Store
   pub others : (l : ℕ) → is_among trail.room l ≡ false → is_unit f l ≡ stands_first before l
 
 -- that the units after the first unit pass one after another, once the first is added
-abbrev pub PassBehind : Stored → List (ℕ × ℕ) → Type 0
-PassBehind f [] = Unit {0}
-PassBehind f (u ∷ us) = PassInTurn (with_unit u.0 f) us
+abbrev pub PassAfter : Stored → List (ℕ × ℕ) → Type 0
+PassAfter f [] = Unit {0}
+PassAfter f (u ∷ us) = PassInTurn (with_unit u.0 f) us

@@ -45,8 +45,8 @@ first_of [] = None
 first_of (p ∷ ps) = Some p
 
 -- the places after the given place
-abbrev pub places_behind : ℕ → List ℕ → List ℕ
-places_behind place = filter (nat_lt place)
+abbrev pub places_after : ℕ → List ℕ → List ℕ
+places_after place = filter (nat_lt place)
 
 -- the places from the given place on, or none
 abbrev pub from_on : Option ℕ → List ℕ → List ℕ

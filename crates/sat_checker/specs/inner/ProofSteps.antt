@@ -11,9 +11,9 @@ use Rattle.sat_base.specs.steps.Steps.{Step, End}
 use Rattle.sat_base.specs.steps.StepText.{SpellsStep, SpellsSteps}
 use Rattle.sat_checker.specs.Accepts.{Accepts, stored_after, ready_after}
 use Rattle.sat_checker.specs.Looks.{most_looks}
-use Rattle.sat_checker.specs.CheckerView.{CheckerView, looks_of, HasAccepted, FailsRefusing, FailsBeforeStep, BreaksAt, StarvesAt}
+use Rattle.sat_checker.specs.CheckerView.{CheckerView, looks_of, HasAccepted, FailsRefusing, FailsBeforeStep, BreaksAt, RunsOutOfMemoryAt}
 use Rattle.sat_checker.specs.announcements.Announcements.{Notice}
-use Rattle.sat_checker.specs.ProofView.{taken_after, most_looks_behind, StandsUnfailed}
+use Rattle.sat_checker.specs.ProofView.{taken_after, most_looks_after, HasAcceptedUnfailed}
 use Rattle.sat_checker.specs.Spent.{SpentBy}
 use Rattle.sat_checker.specs.declared.error.CheckerError.{CheckerError}
 use Rattle.sat_checker.specs.declared.error.CheckerError.TheVariants as errors
@@ -73,17 +73,17 @@ pub record Starves {L : Type 0} (a b : CheckerAtSource L) : Type 0 where
 module _ {L : Type 0} (Hears : L → Notice → Result Unit ProcessingError → L → Type 0) (before : List Notice) (begun : L) where
   -- no step was read, and nothing is changed
   pub record Waits (a b : CheckerAtSource L) (earlier : List Step) : Type 0 where
-    pub goes_on : StandsUnfailed Hears before begun b.checker earlier
+    pub goes_on : HasAcceptedUnfailed Hears before begun b.checker earlier
     pub looks : looks_of b.checker ≡ looks_of a.checker
 
   -- The next step is read and checked. The result is whether it is the end.
   abbrev pub StepsOn : Result Bool CheckerError → CheckerAtSource L → CheckerAtSource L → List Step → Type 0
-  StepsOn (Ok ended) a b earlier = (step : Step) × TriesStep a b earlier step × MatchBool ended (step ≡ End) (step ≢ End) × StandsUnfailed Hears before begun b.checker (step ∷ earlier)
+  StepsOn (Ok ended) a b earlier = (step : Step) × TriesStep a b earlier step × MatchBool ended (step ≡ End) (step ≢ End) × HasAcceptedUnfailed Hears before begun b.checker (step ∷ earlier)
   StepsOn (Err errors.CheckFailed) a b earlier = (step : Step) × TriesStep a b earlier step × (Accepts (ready_after earlier) step → ⊥) × FailsRefusing Hears before begun b.checker earlier
   StepsOn (Err errors.CounterEnd) a b earlier = (step : Step) × TriesStep a b earlier step × SpentBy step (stored_after earlier) × FailsBeforeStep Hears before begun b.checker earlier
   StepsOn (Err errors.OutOfMemory) a b earlier =
       (Starves a b × FailsBeforeStep Hears before begun b.checker earlier)
-      ⊎ ((step : Step) × TriesStep a b earlier step × StarvesAt Hears before begun b.checker step earlier)
+      ⊎ ((step : Step) × TriesStep a b earlier step × RunsOutOfMemoryAt Hears before begun b.checker step earlier)
   StepsOn (Err (errors.ProofProcessorError cause)) a b earlier = (step : Step) × TriesStep a b earlier step × BreaksAt Hears before begun (faults.ProofProcessorError cause) b.checker step earlier
   StepsOn (Err errors.ProofIncomplete) a b earlier =
       (text : List ℕ) × ConsumesToEnd a.source b.source text × IsProperFront SpellsStep text × Waits a b earlier
@@ -99,8 +99,8 @@ module _ {L : Type 0} (Hears : L → Notice → Result Unit ProcessingError → 
     pub passes : ConsumesBytes a.source b.source text
     pub spelt : SpellsSteps passed text
     pub unended : AllByRecursion (λ step. step ≢ End) passed
-    pub goes_on : StandsUnfailed Hears before begun b.checker (taken_after passed earlier)
-    pub looks : looks_of b.checker ≤ looks_of a.checker + most_looks_behind passed earlier
+    pub goes_on : HasAcceptedUnfailed Hears before begun b.checker (taken_after passed earlier)
+    pub looks : looks_of b.checker ≤ looks_of a.checker + most_looks_after passed earlier
 
 module _ {L : Type 0} (Hears : L → Notice → Result Unit ProcessingError → L → Type 0) where
   -- the result for the next step means this, whatever was accepted and announced earlier

@@ -6,31 +6,31 @@ use Rattle.sat_checker.specs.LiteralSets.{canonical}
 use Rattle.sat_checker.specs.Stored.{Stored}
 use Rattle.sat_checker.specs.Accepts.{Accepts, effect}
 use Rattle.sat_checker.specs.Looks.{most_looks}
-use Rattle.sat_checker.specs.inner.FormulaView.{KeepsFormula, refiled_in, FormulaEffectIf, KeepsOrSpends}
+use Rattle.sat_checker.specs.inner.FormulaView.{RepresentsFormula, refiled_in, FormulaEffectIf, KeepsOrSpends}
 use Rattle.sat_checker.specs.inner.Looking.{LooksOver}
 use Rattle.sat_checker.specs.inner.VariablesView.{KeepsVariables}
 use Rattle.sat_checker.specs.declared.state.State.{State}
 use Rattle.sat_checker.specs.declared.store.StoreError.{StoreError}
 
 -- that the state represents this, once all clauses are filed by their current hashes
-pub record KeepsStored (state : State) (f : Stored) : Type 0 where
-  pub formula : KeepsFormula (refiled_in state.formula) f
+pub record RepresentsStored (state : State) (f : Stored) : Type 0 where
+  pub formula : RepresentsFormula (refiled_in state.formula) f
   pub variables : KeepsVariables state.variables f.variables
   pub assumed : state.assumed ≡ canonical f.assumed
 
 -- that the state represents this, and all clauses are filed by their current hashes
 pub record KeepsFiled (state : State) (f : Stored) : Type 0 where
-  pub formula : KeepsFormula state.formula f
+  pub formula : RepresentsFormula state.formula f
   pub variables : KeepsVariables state.variables f.variables
   pub assumed : state.assumed ≡ canonical f.assumed
 
 -- Whatever was stored, a step is accepted only if the definition accepts it, and then what the step leaves is stored. A step is refused only if the definition refuses it, and an error is returned only for one that the definition accepts.
 abbrev pub DecidesStep : Result Bool StoreError → State → Step → State → Type 0
-DecidesStep result old step new = (f : Stored) → KeepsStored old f → FormulaEffectIf result (Accepts f step) (KeepsStored new (effect step f)) (effect step f)
+DecidesStep result old step new = (f : Stored) → RepresentsStored old f → FormulaEffectIf result (Accepts f step) (RepresentsStored new (effect step f)) (effect step f)
 
 -- the result of changing the state in this way, if all its clauses are filed
 abbrev pub ChangesStored : {T : Type 0} → Result T StoreError → State → (Stored → Stored) → State → Type 0
-ChangesStored result old change new = (f : Stored) → KeepsFiled old f → KeepsOrSpends result (KeepsStored new (change f)) (change f)
+ChangesStored result old change new = (f : Stored) → KeepsFiled old f → KeepsOrSpends result (RepresentsStored new (change f)) (change f)
 
 -- what is stored after a derived clause; its variables are then known
 abbrev pub with_derived : Bool → List ℕ → Stored → Stored
@@ -42,4 +42,4 @@ with_added_clause clause f = with_input clause (with_literals_known clause f)
 
 -- that the number of looks did not decrease, and rose at most by the bound of the step
 abbrev pub LooksWithin : State → Step → ℕ → ℕ → Type 0
-LooksWithin state step old new = LooksOver (KeepsStored state) (λ f. most_looks f step) old new
+LooksWithin state step old new = LooksOver (RepresentsStored state) (λ f. most_looks f step) old new

@@ -23,8 +23,8 @@ pub record KeepsHashed (store : Store) (kept : List StoredClause) (solver_names 
   pub width : width_of store.hasher ≡ bits
 
 -- that the store has the stored clauses, under the hashes that steps use for them
-abbrev pub KeepsClauses : Store → Stored → Type 0
-KeepsClauses store f = KeepsHashed store f.clauses f.solver_names f.width
+abbrev pub RepresentsClauses : Store → Stored → Type 0
+RepresentsClauses store f = KeepsHashed store f.clauses f.solver_names f.width
 
 -- the store with all clauses filed by their current hashes, if they are not filed yet
 abbrev pub refiled : Store → Store
@@ -54,7 +54,7 @@ id_in (Some c) id = c.id
 
 -- the effect of storing a clause, and what is returned
 pub record StoreEffect (store : Store) (f : Stored) (id : ℕ) (redundant : Bool) (literals : List ℕ) (stored_id : ℕ) (is_new : Bool) : Type 0 where
-  pub stored : KeepsClauses store (record f { clauses = with_stored_clause redundant id literals f.clauses })
+  pub stored : RepresentsClauses store (record f { clauses = with_stored_clause redundant id literals f.clauses })
   pub id_is : stored_id ≡ id_in (clause_with literals f.clauses) id
   pub new_is : is_new ≡ not (is_some (clause_with literals f.clauses))
 

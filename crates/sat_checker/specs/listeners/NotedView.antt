@@ -3,8 +3,8 @@ use Rattle.std.specs.Prelude.{ℕ, ◌≡◌, ◌++◌, Bool, List, Result, IfOk
 use Rattle.sat_base.specs.steps.Steps.{Step}
 use Rattle.sat_checker.specs.Stored.{Stored}
 use Rattle.sat_checker.specs.announcements.Announcements.{Announcement, announced, derived_set, id_of_set}
-use Rattle.sat_checker.specs.inner.FormulaView.{KeepsFormula}
-use Rattle.sat_checker.specs.inner.StateView.{KeepsStored}
+use Rattle.sat_checker.specs.inner.FormulaView.{RepresentsFormula}
+use Rattle.sat_checker.specs.inner.StateView.{RepresentsStored}
 use Rattle.sat_checker.specs.listeners.AnnouncingView.{stored_as, AreLong}
 use Rattle.sat_checker.specs.declared.announce.announcing.Change.{Change}
 use Rattle.sat_checker.specs.declared.formula.Formula.{Formula}
@@ -18,8 +18,8 @@ AppendsNews before reported after = IsTrue before.hears → after.news ≡ befor
 
 -- if the step is accepted, what it announces is noted
 abbrev pub Announces : Result Bool StoreError → State → Step → Notes → Notes → Type 0
-Announces result old step before after = IfOk result (λ accepted. IsTrue accepted → (f : Stored) → KeepsStored old f → AreLong f → AppendsNews before (announced f step) after)
+Announces result old step before after = IfOk result (λ accepted. IsTrue accepted → (f : Stored) → RepresentsStored old f → AreLong f → AppendsNews before (announced f step) after)
 
 -- what storing these sorted literals changed, and what deriving them announces, agree
 abbrev pub ChangesSet : Result Change StoreError → Bool → List ℕ → Formula → Type 0
-ChangesSet result redundant literals old = IfOk result (λ change. (f : Stored) → KeepsFormula old f → AreLong f → (ids : List ℕ) → stored_as change f.next_id redundant literals ids ≡ derived_set redundant literals ids f (id_of_set literals f))
+ChangesSet result redundant literals old = IfOk result (λ change. (f : Stored) → RepresentsFormula old f → AreLong f → (ids : List ℕ) → stored_as change f.next_id redundant literals ids ≡ derived_set redundant literals ids f (id_of_set literals f))

@@ -6,7 +6,7 @@ ghost use Rattle.sat_checker.specs.announcements.Announcements as announcements;
 ghost use Rattle.sat_checker.specs.announcements.Announcements.{id_of_set, input_set, irredundant_deleted};
 ghost use Rattle.sat_checker.specs.announcements.Announcements.{is_sample, has_witness_mode, last_id, mode_change, naming};
 ghost use Rattle.sat_checker.specs.announcements.Announcements.{one, redundant_deleted, renaming};
-ghost use Rattle.sat_checker.specs.inner.FormulaView.{last_in, KeepsFormula};
+ghost use Rattle.sat_checker.specs.inner.FormulaView.{last_in, RepresentsFormula};
 ghost use Rattle.sat_checker.specs.inner.Looking.{LooksOver};
 ghost use Rattle.sat_checker.specs.inner.StoreView.{found_in};
 ghost use Rattle.sat_checker.specs.inner.VariablesView.{mode_in, variable_of_data};
@@ -45,8 +45,8 @@ impl Formula {
     /// Returns the id under which the clause with the sorted literals `literals` is stored. Returns `None` if there is
     /// no such clause, or if `literals` is empty.
     pub fn id_of_set(&self, literals: &[Lit], looks: &mut Looks) -> Option<u64>
-        ensures id { (f : Stored) → KeepsFormula self.now f → result ≡ id_of_set literals.now f }
-        ensures looks { LooksOver (KeepsFormula self.now) literal_count looks.old looks.new }
+        ensures id { (f : Stored) → RepresentsFormula self.now f → result ≡ id_of_set literals.now f }
+        ensures looks { LooksOver (RepresentsFormula self.now) literal_count looks.old looks.new }
     {
         if literals.is_empty() {
             return None;

@@ -10,7 +10,7 @@ ghost use Rattle.sat_checker.specs.announcements.Announcements as announcements;
 ghost use Rattle.sat_checker.specs.announcements.Announcements.{announced, derived, derived_set, id_of_set, input};
 ghost use Rattle.sat_checker.specs.announcements.Announcements.{mode_change, renaming};
 ghost use Rattle.sat_checker.specs.announcements.Needed.{propagations};
-ghost use Rattle.sat_checker.specs.inner.FormulaView.{Explained, KeepsFormula};
+ghost use Rattle.sat_checker.specs.inner.FormulaView.{Explained, RepresentsFormula};
 ghost use Rattle.sat_checker.specs.inner.Looking.{LooksOver, LooksUpTo};
 ghost use Rattle.sat_checker.specs.inner.Marks.{IsIncreasing};
 ghost use Rattle.sat_checker.specs.inner.Reasons.{noted_length};
@@ -174,9 +174,9 @@ impl Formula {
         looks: &mut Looks,
     ) -> Result<(), AllocError>
         requires { IsIncreasing literals.now }
-        ensures noted { OnOk result ((f : Stored) (clause : List ℕ) → KeepsFormula self.now f
+        ensures noted { OnOk result ((f : Stored) (clause : List ℕ) → RepresentsFormula self.now f
             → literals.now ≡ canonical clause → AppendsNews notes.old (input clause f) notes.new) }
-        ensures looks { LooksOver (KeepsFormula self.now) literal_count looks.old looks.new }
+        ensures looks { LooksOver (RepresentsFormula self.now) literal_count looks.old looks.new }
     {
         if !notes.hears {
             return Ok(());
@@ -198,10 +198,10 @@ impl Formula {
         proof: DeleteClauseProof,
         looks: &mut Looks,
     ) -> Deletion
-        ensures reported { IsTrue notes.now.hears → (f : Stored) → KeepsFormula self.now f
+        ensures reported { IsTrue notes.now.hears → (f : Stored) → RepresentsFormula self.now f
             → (clause : List ℕ) → literals.now ≡ canonical clause
             → deletion_announced literals.now result ≡ announced f (DeleteClause clause (deletion_of proof)) }
-        ensures looks { LooksOver (KeepsFormula self.now) literal_count looks.old looks.new }
+        ensures looks { LooksOver (RepresentsFormula self.now) literal_count looks.old looks.new }
     {
         if !notes.hears {
             return Deletion {
@@ -222,9 +222,9 @@ impl Formula {
         proof: DeleteClauseProof,
         looks: &mut Looks,
     ) -> Deletion
-        ensures reported { (f : Stored) → KeepsFormula self.now f → (clause : List ℕ) → literals.now ≡ canonical clause
+        ensures reported { (f : Stored) → RepresentsFormula self.now f → (clause : List ℕ) → literals.now ≡ canonical clause
             → deletion_announced literals.now result ≡ announced f (DeleteClause clause (deletion_of proof)) }
-        ensures looks { LooksOver (KeepsFormula self.now) literal_count looks.old looks.new }
+        ensures looks { LooksOver (RepresentsFormula self.now) literal_count looks.old looks.new }
     {
         let stored = self.store.stored(literals, looks);
         match proof {
@@ -258,7 +258,7 @@ impl Formula {
     ) -> Result<(), AllocError>
         requires set { literals.now ≡ canonical clause.now }
         requires explained { self.now.passed.lost ≡ false → (hashes : List ℕ) × Explained self.now clause.now hashes }
-        ensures listed { OnOk result ((f : Stored) (hashes : List ℕ) → KeepsFormula self.now f
+        ensures listed { OnOk result ((f : Stored) (hashes : List ℕ) → RepresentsFormula self.now f
             → (self.now.passed.lost ≡ false → Explained self.now clause.now hashes) → IsTrue notes.old.hears
             → notes.new.rests_on.ids.items ≡ propagations f clause.now hashes) }
         ensures hears { notes.new.hears ≡ notes.old.hears }
@@ -280,7 +280,7 @@ impl Formula {
 
     /// Returns what storing the unit `lit` would change.
     pub fn unit_change(&self, lit: Lit) -> Change
-        ensures { (f : Stored) → KeepsFormula self.now f → AreLong f → (redundant : Bool) (ids : List ℕ) →
+        ensures { (f : Stored) → RepresentsFormula self.now f → AreLong f → (redundant : Bool) (ids : List ℕ) →
             stored_as result f.next_id redundant (lit ∷ []) ids
             ≡ derived_set redundant (lit ∷ []) ids f (id_of_set (lit ∷ []) f) }
     {
@@ -299,7 +299,7 @@ impl Formula {
         looks: &mut Looks,
     ) -> Result<(), AllocError>
         requires explained { self.now.passed.lost ≡ false → (hashes : List ℕ) × Explained self.now (lit ∷ []) hashes }
-        ensures noted { OnOk result ((f : Stored) (hashes : List ℕ) → KeepsFormula self.now f → AreLong f
+        ensures noted { OnOk result ((f : Stored) (hashes : List ℕ) → RepresentsFormula self.now f → AreLong f
             → (self.now.passed.lost ≡ false → Explained self.now (lit ∷ []) hashes)
             → AppendsNews notes.old (derived false (lit ∷ []) hashes f) notes.new) }
         ensures hears { notes.new.hears ≡ notes.old.hears }
@@ -334,7 +334,7 @@ impl Formula {
     ) -> Result<(), AllocError>
         requires denied { denied.now ≡ map negated core.now }
         requires explained { self.now.passed.lost ≡ false → (hashes : List ℕ) × Explained self.now denied.now hashes }
-        ensures noted { OnOk result ((f : Stored) (hashes : List ℕ) → KeepsFormula self.now f
+        ensures noted { OnOk result ((f : Stored) (hashes : List ℕ) → RepresentsFormula self.now f
             → (self.now.passed.lost ≡ false → Explained self.now denied.now hashes)
             → AppendsNews notes.old (announced f (FailedAssumptions core.now hashes)) notes.new) }
         ensures looks { LooksUpTo (noted_length self.now.store.clauses self.now.passed) looks.old looks.new }

@@ -11,7 +11,7 @@ ghost use Rattle.sat_checker.specs.Accepts.{Accepts, FitsModel, IsStrictSubset};
 ghost use Rattle.sat_checker.specs.Looks.{literal_count};
 ghost use Rattle.sat_checker.specs.Stored.{Stored};
 ghost use Rattle.sat_checker.specs.Storing.{last_literals, clause_with};
-ghost use Rattle.sat_checker.specs.inner.FormulaView.{KeepsFormula, refiled_in, ChecksBeside};
+ghost use Rattle.sat_checker.specs.inner.FormulaView.{RepresentsFormula, refiled_in, ChecksBeside};
 ghost use Rattle.sat_checker.specs.inner.Looking.{LooksOver};
 ghost use Rattle.sat_checker.specs.inner.ModelTests.{are_all_true};
 ghost use Rattle.sat_checker.specs.inner.AssumedRoom.{AgreesOn};
@@ -31,11 +31,11 @@ use std::alloc::AllocError;
 impl Formula {
     /// Whether the literals are a model of the stored formula. Runs out of memory only if they are.
     pub fn fits(&mut self, literals: &[Lit], looks: &mut Looks) -> Result<bool, AllocError>
-        ensures exact { IfOk result (λ fits. (f : Stored) → KeepsFormula (refiled_in self.old) f
+        ensures exact { IfOk result (λ fits. (f : Stored) → RepresentsFormula (refiled_in self.old) f
             → IsTrue fits ↔ FitsModel f literals.now) }
-        ensures judged { OnErr result ((f : Stored) → KeepsFormula (refiled_in self.old) f → FitsModel f literals.now) }
+        ensures judged { OnErr result ((f : Stored) → RepresentsFormula (refiled_in self.old) f → FitsModel f literals.now) }
         ensures rest { ChecksBeside self.old self.new }
-        ensures looks { LooksOver (KeepsFormula (refiled_in self.old)) literal_count looks.old looks.new }
+        ensures looks { LooksOver (RepresentsFormula (refiled_in self.old)) literal_count looks.old looks.new }
     {
         if self.status.unsat {
             return Ok(false);
@@ -52,11 +52,11 @@ impl Formula {
     /// and an error if they are.
     fn fail_if_met(&mut self, literals: &[Lit], looks: &mut Looks) -> Result<bool, AllocError>
         requires { self.old.status.unsat ≡ false }
-        ensures exact { IfOk result (λ fits. (f : Stored) → KeepsFormula (refiled_in self.old) f
+        ensures exact { IfOk result (λ fits. (f : Stored) → RepresentsFormula (refiled_in self.old) f
             → IsTrue fits ↔ FitsModel f literals.now) }
-        ensures judged { OnErr result ((f : Stored) → KeepsFormula (refiled_in self.old) f → FitsModel f literals.now) }
+        ensures judged { OnErr result ((f : Stored) → RepresentsFormula (refiled_in self.old) f → FitsModel f literals.now) }
         ensures rest { ChecksBeside self.old self.new }
-        ensures looks { LooksOver (KeepsFormula (refiled_in self.old)) literal_count looks.old looks.new }
+        ensures looks { LooksOver (RepresentsFormula (refiled_in self.old)) literal_count looks.old looks.new }
     {
         if !are_apart(literals) {
             return Ok(false);
@@ -83,10 +83,10 @@ impl Formula {
     /// literals for which there is room must be marked.
     fn are_met(&self, literals: &[Lit], looks: &mut Looks) -> bool
         requires { AgreesOn self.now.marks.room self.now.marks.literals literals.now }
-        ensures met { (f : Stored) → KeepsFormula (refiled_in self.now) f
+        ensures met { (f : Stored) → RepresentsFormula (refiled_in self.now) f
             → result ≡ (not (list_any (λ u. is_among literals.now (negated u.literal)) f.units)
             && are_all_true literals.now f.clauses) }
-        ensures looks { LooksOver (KeepsFormula (refiled_in self.now)) literal_count looks.old looks.new }
+        ensures looks { LooksOver (RepresentsFormula (refiled_in self.now)) literal_count looks.old looks.new }
     {
         !self.units.are_contradicted(literals) && self.store.are_satisfied(&self.marks, looks)
     }
@@ -99,12 +99,12 @@ impl Formula {
         proof: DeleteClauseProof,
         looks: &mut Looks,
     ) -> Result<bool, StoreError>
-        ensures refused { IfOk result (λ accepted. (accepted ≡ false) × ((f : Stored) → KeepsFormula self.old f
+        ensures refused { IfOk result (λ accepted. (accepted ≡ false) × ((f : Stored) → RepresentsFormula self.old f
             → Accepts f (DeleteClause clause.now (deletion_of proof)) → ⊥)) }
-        ensures judged { OnErr result ((f : Stored) → KeepsFormula self.old f
+        ensures judged { OnErr result ((f : Stored) → RepresentsFormula self.old f
             → Accepts f (DeleteClause clause.now (deletion_of proof))) }
         ensures memory { OnErr result (IsErrOf result OutOfMemory) }
-        ensures looks { LooksOver (KeepsFormula self.old) (λ f. 2 * literal_count f) looks.old looks.new }
+        ensures looks { LooksOver (RepresentsFormula self.old) (λ f. 2 * literal_count f) looks.old looks.new }
     {
         if self.may_delete_in_room(clause, proof, looks) {
             return Err(StoreError::OutOfMemory);
@@ -119,11 +119,11 @@ impl Formula {
         proof: DeleteClauseProof,
         looks: &mut Looks,
     ) -> bool
-        ensures exact { (f : Stored) → KeepsFormula self.old f
+        ensures exact { (f : Stored) → RepresentsFormula self.old f
             → MatchBool result (Accepts f (DeleteClause clause.now (deletion_of proof)))
             (Accepts f (DeleteClause clause.now (deletion_of proof)) → ⊥) }
         ensures rest { ChecksBeside self.old self.new }
-        ensures looks { LooksOver (KeepsFormula self.old) (λ f. 2 * literal_count f) looks.old looks.new }
+        ensures looks { LooksOver (RepresentsFormula self.old) (λ f. 2 * literal_count f) looks.old looks.new }
     {
         if !have_room(&self.marks, clause) {
             return false;
@@ -135,10 +135,10 @@ impl Formula {
     /// Whether a clause may be deleted for the reason `proof`. Exactly the literals of `clause` must be marked.
     fn may_delete_marked(&self, clause: &[Lit], proof: DeleteClauseProof, looks: &mut Looks) -> bool
         requires { (l : ℕ) → is_among self.now.marks.literals l ≡ is_among clause.now l }
-        ensures exact { (f : Stored) → KeepsFormula self.now f
+        ensures exact { (f : Stored) → RepresentsFormula self.now f
             → MatchBool result (Accepts f (DeleteClause clause.now (deletion_of proof)))
             (Accepts f (DeleteClause clause.now (deletion_of proof)) → ⊥) }
-        ensures looks { LooksOver (KeepsFormula self.now) (λ f. 2 * literal_count f) looks.old looks.new }
+        ensures looks { LooksOver (RepresentsFormula self.now) (λ f. 2 * literal_count f) looks.old looks.new }
     {
         match proof {
             DeleteClauseProof::Redundant => self.marked_has_count(true, clause, looks),
@@ -155,10 +155,10 @@ impl Formula {
     /// of `clause` must be marked.
     fn marked_has_count(&self, redundant: bool, clause: &[Lit], looks: &mut Looks) -> bool
         requires { (l : ℕ) → is_among self.now.marks.literals l ≡ is_among clause.now l }
-        ensures found { (f : Stored) → KeepsFormula self.now f
+        ensures found { (f : Stored) → RepresentsFormula self.now f
             → MatchBool result (0 < store_count_in redundant (clause_with (canonical clause.now) f.clauses))
             (0 < store_count_in redundant (clause_with (canonical clause.now) f.clauses) → ⊥) }
-        ensures looks { LooksOver (KeepsFormula self.now) literal_count looks.old looks.new }
+        ensures looks { LooksOver (RepresentsFormula self.now) literal_count looks.old looks.new }
     {
         self.store.assumed_count(redundant, &self.marks, looks) > 0
     }
@@ -166,10 +166,10 @@ impl Formula {
     /// Whether the last irredundant clause stored is still stored, and its literals are a proper subset of the
     /// marked literals.
     fn has_last_marked(&self, looks: &mut Looks) -> bool
-        ensures part { (f : Stored) → KeepsFormula self.now f
+        ensures part { (f : Stored) → RepresentsFormula self.now f
             → MatchBool result (IsStrictSubset (last_literals f.last f) self.now.marks.literals)
             (IsStrictSubset (last_literals f.last f) self.now.marks.literals → ⊥) }
-        ensures looks { LooksOver (KeepsFormula self.now) literal_count looks.old looks.new }
+        ensures looks { LooksOver (RepresentsFormula self.now) literal_count looks.old looks.new }
     {
         match self.status.last {
             LastClause::NoneYet => false,

@@ -5,11 +5,11 @@ ghost use Rattle.sat_checker.specs.Accepts.{PassesByHashes};
 ghost use Rattle.sat_checker.specs.LiteralSets.{is_among};
 ghost use Rattle.sat_checker.specs.Looks.{literal_count};
 ghost use Rattle.sat_checker.specs.Stored.{Stored, is_unit};
-ghost use Rattle.sat_checker.specs.inner.InTurn.{with_supposed, stands_first, AssumesUnits, PassBehind};
+ghost use Rattle.sat_checker.specs.inner.InTurn.{with_assumed, stands_first, AssumesUnits, PassAfter};
 ghost use Rattle.sat_checker.specs.inner.Look.{AssumesMore};
 ghost use Rattle.sat_checker.specs.inner.Looking.{LooksOver};
 ghost use Rattle.sat_checker.specs.inner.AssumedRoom.{HasStoredRoom};
-ghost use Rattle.sat_checker.specs.inner.StoreView.{KeepsClauses};
+ghost use Rattle.sat_checker.specs.inner.StoreView.{RepresentsClauses};
 
 use crate::looks::Looks;
 use crate::rup::check_in_room;
@@ -20,8 +20,8 @@ use sat_base::{ClauseHash, Lit};
 use std::alloc::AllocError;
 
 /// Assumes a unit if there is room for it, unless the unit or its negation is already assumed.
-fn suppose(assigned: &mut Assigned, lit: Lit)
-    ensures { assigned.new ≡ record assigned.old { literals = with_supposed lit assigned.old } }
+fn assume(assigned: &mut Assigned, lit: Lit)
+    ensures { assigned.new ≡ record assigned.old { literals = with_assumed lit assigned.old } }
 {
     if assigned.has_room(lit) && !assigned.is_true(lit) && !assigned.is_true(!lit) {
         assigned.assume_in_room(lit);
@@ -60,17 +60,17 @@ fn passes(
     passed: &mut Passed,
     looks: &mut Looks,
 ) -> Result<bool, AllocError>
-    ensures exact { IfOk result (λ yes. (f : Stored) → KeepsClauses store.now f
+    ensures exact { IfOk result (λ yes. (f : Stored) → RepresentsClauses store.now f
         → HasStoredRoom assigned.old.room f.clauses → AssumesUnits assigned.old (map (λ u. u.0) before.now) f
         → IsTrue yes ↔ PassesByHashes f (unit.0 ∷ []) (unit.1 ∷ [])) }
-    ensures short { OnErr result ((f : Stored) → KeepsClauses store.now f
+    ensures short { OnErr result ((f : Stored) → RepresentsClauses store.now f
         → HasStoredRoom assigned.old.room f.clauses → ⊥) }
     ensures extends { AssumesMore assigned.old assigned.new }
-    ensures same { (f : Stored) → KeepsClauses store.now f → HasStoredRoom assigned.old.room f.clauses
+    ensures same { (f : Stored) → RepresentsClauses store.now f → HasStoredRoom assigned.old.room f.clauses
         → assigned.new ≡ assigned.old }
-    ensures looks { LooksOver (KeepsClauses store.now) literal_count looks.old looks.new }
+    ensures looks { LooksOver (RepresentsClauses store.now) literal_count looks.old looks.new }
 {
-    assigned.stand_in_room();
+    assigned.are_in_room();
     if came_in(assigned, before, unit.0) {
         return Ok(true);
     }
@@ -98,18 +98,18 @@ pub(crate) fn pass_in_turn(
     passed: &mut Passed,
     looks: &mut Looks,
 ) -> Result<bool, AllocError>
-    ensures exact { IfOk result (λ pass. (f : Stored) → KeepsClauses store.now f
+    ensures exact { IfOk result (λ pass. (f : Stored) → RepresentsClauses store.now f
         → ((l : ℕ) → is_among assigned.old.literals l ≡ is_unit f l) → HasStoredRoom assigned.old.room f.clauses
-        → IsTrue pass ↔ PassBehind f units.now) }
-    ensures short { OnErr result ((f : Stored) → KeepsClauses store.now f
+        → IsTrue pass ↔ PassAfter f units.now) }
+    ensures short { OnErr result ((f : Stored) → RepresentsClauses store.now f
         → HasStoredRoom assigned.old.room f.clauses → ⊥) }
     ensures extends { AssumesMore assigned.old assigned.new }
-    ensures looks { LooksOver (KeepsClauses store.now)
+    ensures looks { LooksOver (RepresentsClauses store.now)
         (λ f. (length units.now - 1) * literal_count f) looks.old looks.new }
 {
-    assigned.stand_in_room();
+    assigned.are_in_room();
     for place in 1..units.len() {
-        suppose(assigned, units[place - 1].0);
+        assume(assigned, units[place - 1].0);
         let (before, _) = units.split_at(place);
         if !passes(store, before, units[place], assigned, passed, looks)? {
             return Ok(false);

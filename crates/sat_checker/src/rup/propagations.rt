@@ -9,7 +9,7 @@ ghost use Rattle.sat_checker.specs.inner.Looking.{LooksUpTo};
 ghost use Rattle.sat_checker.specs.inner.Marks.{IsIncreasing};
 ghost use Rattle.sat_checker.specs.inner.Reasons.{named, noted_length, AreNotedPlaces, IsConflictPlace, Explains};
 ghost use Rattle.sat_checker.specs.inner.Reasons.{ExplainsUnless};
-ghost use Rattle.sat_checker.specs.inner.StoreView.{KeepsClauses};
+ghost use Rattle.sat_checker.specs.inner.StoreView.{RepresentsClauses};
 
 use crate::looks::Looks;
 use crate::rup::needed::{Needed, mark_all};
@@ -64,7 +64,7 @@ impl Propagations {
         requires explained { passed.now.lost ≡ false → (whole : ConflictCauses)
             × ExplainsUnless store.now.clauses passed.now (map (λ u. u.literal) units.now.units) clause.now whole }
         ensures listed { OnOk result
-            ((f : Stored) (hashes : List ℕ) → KeepsClauses store.now f → units.now.units ≡ f.units
+            ((f : Stored) (hashes : List ℕ) → RepresentsClauses store.now f → units.now.units ≡ f.units
             → (passed.now.lost ≡ false
             → ExplainsUnless store.now.clauses passed.now (map (λ u. u.literal) units.now.units) clause.now
             (conflict_causes (map negated clause.now ++ map (λ u. u.literal) units.now.units) (named hashes store.now.clauses)))

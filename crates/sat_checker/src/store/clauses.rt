@@ -13,7 +13,7 @@ ghost use Rattle.sat_checker.specs.inner.SlotView.{found_among, hashed_anew, liv
 ghost use Rattle.sat_checker.specs.Storing.{clause_numbered, clause_with};
 ghost use Rattle.sat_checker.specs.LiteralSets.{mentions, is_among, canonical};
 ghost use Rattle.sat_checker.specs.inner.StoreView.{store_count_in};
-ghost use Rattle.sat_checker.specs.inner.PairView.{inserted_all, first_of, places_behind};
+ghost use Rattle.sat_checker.specs.inner.PairView.{inserted_all, first_of, places_after};
 ghost use Rattle.sat_checker.specs.inner.IndexView.{IndexesSlots, pairs_of};
 ghost use Rattle.sat_checker.specs.inner.OccurrenceView.{SlotsInvariant};
 
@@ -125,7 +125,7 @@ impl Clauses {
     #[inline(always)]
     pub fn next(&self, hash: ClauseHash, place: usize) -> Option<usize>
         requires { is_among (places_of hash self.now) place ≡ true }
-        ensures { result ≡ first_of (places_behind place (places_of hash self.now)) }
+        ensures { result ≡ first_of (places_after place (places_of hash self.now)) }
     {
         self.index.next(mixed(hash), place)
     }

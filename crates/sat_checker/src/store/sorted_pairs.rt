@@ -4,7 +4,7 @@ ghost use Rattle.std.specs.Prelude.{All, ℕ, true, ◌≡◌, ◌+◌, ◌++◌
 ghost use Rattle.std.specs.List.{AllByRecursion};
 ghost use Rattle.sat_checker.specs.LiteralSets.{is_among};
 ghost use Rattle.sat_checker.specs.inner.PairView.{AreInOrder, inserted, without_pair, places_in, first_of};
-ghost use Rattle.sat_checker.specs.inner.PairView.{places_behind};
+ghost use Rattle.sat_checker.specs.inner.PairView.{places_after};
 ghost use Rattle.sat_checker.specs.inner.LinkView.{listed_pairs, AreKeptPairs, LinksListPairs, nowhere};
 
 use crate::store::links::{
@@ -158,7 +158,7 @@ impl SortedPairs {
     #[inline(always)]
     pub fn next(&self, hash: ClauseHash, place: usize) -> Option<usize>
         requires { is_among (places_in hash self.now.pairs) place ≡ true }
-        ensures { result ≡ first_of (places_behind place (places_in hash self.now.pairs)) }
+        ensures { result ≡ first_of (places_after place (places_in hash self.now.pairs)) }
     {
         first_from(&self.links, self.links[place].next, hash)
     }

@@ -76,7 +76,7 @@ impl Assigned {
 
     /// States that there is room for every assumed literal, and for the negation of every literal for which there is
     /// room. Does nothing at run time.
-    pub fn stand_in_room(&self)
+    pub fn are_in_room(&self)
         ensures paired { (l : ℕ) → is_among self.now.room l ≡ is_among self.now.room (negated l) }
         ensures stand { (l : ℕ) → is_among self.now.literals l ≡ true → is_among self.now.room l ≡ true }
     {
@@ -233,7 +233,7 @@ pub fn make_room_for(assigned: &mut Assigned, clause: &[Lit]) -> Result<(), Allo
 {
     for lit in clause {
         assigned.make_room(*lit)?;
-        assigned.stand_in_room();
+        assigned.are_in_room();
     }
     Ok(())
 }

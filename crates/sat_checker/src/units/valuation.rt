@@ -94,8 +94,8 @@ pub(crate) fn are_apart(literals: &[Lit]) -> bool
     ensures { MatchBool result (VariablesApart literals.now) (VariablesApart literals.now → ⊥) }
 {
     for place in 0..literals.len() {
-        let (_, behind) = literals.split_at(place + 1);
-        if mentions(behind, literals[place].var()) {
+        let (_, following) = literals.split_at(place + 1);
+        if mentions(following, literals[place].var()) {
             return false;
         }
     }

@@ -163,18 +163,18 @@ unit_lines : (l h : ℕ) (f : Stored) (lines : List Line) → lines_by (derived 
 unit_lines l h f lines = derived_lines false (l ∷ []) (h ∷ []) f lines
 
 module _ (in_turn : PropagationsInTurn) (steps : List Step) (ok : AcceptsAll steps) where
-  abbrev behind : List ℕ → Stored
-  behind front = with_units front (ready_after steps)
+  abbrev following : List ℕ → Stored
+  following front = with_units front (ready_after steps)
 
-  units_mirrors : (us : List (ℕ × ℕ)) (front : List ℕ) (lines : List Line) → PassInTurn (behind front) us → Mirrors (behind front) lines → Mirrors (with_units (map (λ u. u.0) us) (behind front)) (lines_by (derived_units us (behind front)) lines)
+  units_mirrors : (us : List (ℕ × ℕ)) (front : List ℕ) (lines : List Line) → PassInTurn (following front) us → Mirrors (following front) lines → Mirrors (with_units (map (λ u. u.0) us) (following front)) (lines_by (derived_units us (following front)) lines)
   units_mirrors [] front lines p m = m
   units_mirrors (u ∷ us) front lines p m =
-      let f : Stored = behind front in
+      let f : Stored = following front in
       let rests : RestsOn f (u.0 ∷ []) (propagations f (u.0 ∷ []) (u.1 ∷ [])) = in_turn steps front (u.0 ∷ []) (u.1 ∷ []) ok p.0 refl in
       let new : NewLine (Derived f.next_id (u.0 ∷ []) (propagations f (u.0 ∷ []) (u.1 ∷ []))) f.next_id (u.0 ∷ []) lines = new_derived f lines (u.0 ∷ []) (propagations f (u.0 ∷ []) (u.1 ∷ [])) m rests in
       let one : Mirrors (with_unit u.0 f) (lines_by (derived false (u.0 ∷ []) (u.1 ∷ []) f) lines)
       = subst (Mirrors (with_unit u.0 f)) (sym (unit_lines u.0 u.1 f lines)) (set_mirrors false (u.0 ∷ []) f lines (Derived f.next_id (u.0 ∷ []) (propagations f (u.0 ∷ []) (u.1 ∷ []))) (id_of_set (u.0 ∷ []) f) refl (λ n. new) m) in
-      let next : behind (front ++ u.0 ∷ []) ≡ with_unit u.0 f = units_more front u.0 (ready_after steps) in
+      let next : following (front ++ u.0 ∷ []) ≡ with_unit u.0 f = units_more front u.0 (ready_after steps) in
       let more = units_mirrors us (front ++ u.0 ∷ []) (lines_by (derived false (u.0 ∷ []) (u.1 ∷ []) f) lines) (subst (λ g. PassInTurn g us) (sym next) p.1) (subst (λ g. Mirrors g (lines_by (derived false (u.0 ∷ []) (u.1 ∷ []) f) lines)) (sym next) one) in
       subst (Mirrors (with_units (map (λ w. w.0) us) (with_unit u.0 f))) (sym (by-append (derived false (u.0 ∷ []) (u.1 ∷ []) f) (derived_units us (with_unit u.0 f)) lines))
       (subst (λ g. Mirrors (with_units (map (λ w. w.0) us) g) (lines_by (derived_units us g) (lines_by (derived false (u.0 ∷ []) (u.1 ∷ []) f) lines))) next more)
@@ -283,13 +283,13 @@ stands_other : (r : Bool) (ls : List ℕ) (id : ℕ) (d : List ℕ) (s : StoredC
 stands_other r ls id d s [] e g t h i w = absurd h
 stands_other r ls id d s (c ∷ cs) e g t h i w = go (λ k l. stands_other r ls id d s cs k g t l i w) (same_literals c.literals ls) e h
   where
-    behind_it : (b : Bool) → IsOneOf t cs → HasAccepted id d (cond b [] (without_count r c ∷ []) ++ cs)
-    behind_it true k = record { clause = t; stored = k; id_is = i; literals_are = w }
-    behind_it false k = record { clause = t; stored = inr k; id_is = i; literals_are = w }
+    after_it : (b : Bool) → IsOneOf t cs → HasAccepted id d (cond b [] (without_count r c ∷ []) ++ cs)
+    after_it true k = record { clause = t; stored = k; id_is = i; literals_are = w }
+    after_it false k = record { clause = t; stored = inr k; id_is = i; literals_are = w }
 
     go : (clause_with ls cs ≡ Some s → IsOneOf t cs → HasAccepted id d (without_clause r ls cs)) → (b : Bool) → cond b (Some c) (clause_with ls cs) ≡ Some s → (t ≡ c) ⊎ IsOneOf t cs → HasAccepted id d (cond b (unless_gone (without_count r c) ++ cs) (c ∷ without_clause r ls cs))
     go ih true k (inl l) = absurd (let f : c ≡ s = cc in g (sym i ∙ ap (λ (x : StoredClause). x.id) (l ∙ f)))
-    go ih true k (inr l) = behind_it (gone_then r c) l
+    go ih true k (inr l) = after_it (gone_then r c) l
     go ih false k (inl l) = record { clause = c; stored = inl refl; id_is = ap (λ (x : StoredClause). x.id) (sym l) ∙ i; literals_are = ap (λ (x : StoredClause). x.literals) (sym l) ∙ w }
     go ih false k (inr l) = stands_later id d c (without_clause r ls cs) (ih k l)
 
@@ -524,11 +524,11 @@ module _ (tidy : AlwaysTidy) (in_turn : PropagationsInTurn) (nothing : Tautologi
     where
       mode_mirrors : (mode : Mode) (name : Option ℕ) → Mirrors (effect (ChangeSamplingMode v sample) before) (lines_by (mode_change v sample mode name) lines)
       mode_mirrors mode None = aside before (effect (ChangeSamplingMode v sample) before) lines refl refl refl (omega arith) m
-      mode_mirrors mode (Some name) = told (cond sample (is_sample mode) (has_witness_mode mode))
+      mode_mirrors mode (Some name) = changed_mode (cond sample (is_sample mode) (has_witness_mode mode))
         where
-          told : (b : Bool) → Mirrors (effect (ChangeSamplingMode v sample) before) (lines_by (cond b [] (Rattle.sat_checker.specs.announcements.Announcements.UserVar v (Some (record { name = name; sampling = sample; is_new = false })) ∷ [])) lines)
-          told true = aside before (effect (ChangeSamplingMode v sample) before) lines refl refl refl (omega arith) m
-          told false = aside before (effect (ChangeSamplingMode v sample) before) lines refl refl refl (omega arith) m
+          changed_mode : (b : Bool) → Mirrors (effect (ChangeSamplingMode v sample) before) (lines_by (cond b [] (Rattle.sat_checker.specs.announcements.Announcements.UserVar v (Some (record { name = name; sampling = sample; is_new = false })) ∷ [])) lines)
+          changed_mode true = aside before (effect (ChangeSamplingMode v sample) before) lines refl refl refl (omega arith) m
+          changed_mode false = aside before (effect (ChangeSamplingMode v sample) before) lines refl refl refl (omega arith) m
   step_mirrors (AddClause c) a = go before.unsat
     where
       go : (b : Bool) → Mirrors (cond b before (with_input c (with_literals_known c before))) (lines_by (cond b [] (input c before)) lines)
@@ -553,17 +553,17 @@ module _ (tidy : AlwaysTidy) (in_turn : PropagationsInTurn) (nothing : Tautologi
   step_mirrors step a = aside before (effect step before) lines refl refl refl (omega arith) m
 
 module _ (tidy : AlwaysTidy) (in_turn : PropagationsInTurn) (nothing : TautologiesRestOnNothing) where
-  settled_behind : (steps : List Step) → Mirrors (stored_after steps) (announced_lines (notices_after steps) []) → Mirrors (ready_after steps) (lines_of steps)
-  settled_behind steps m =
+  settled_after : (steps : List Step) → Mirrors (stored_after steps) (announced_lines (notices_after steps) []) → Mirrors (ready_after steps) (lines_of steps)
+  settled_after steps m =
       subst (Mirrors (ready_after steps)) (sym (lines-append (notices_after steps) (notices_over (stored_after steps) (delayed (stored_after steps))) [] ∙ reported_lines (stored_after steps) (delayed (stored_after steps)) (announced_lines (notices_after steps) [])))
       (settled_mirrors (stored_after steps) (announced_lines (notices_after steps) []) (stored_after steps).conflict refl m)
 
   reported_mirrors : (steps : List Step) → AcceptsAll steps → Mirrors (stored_after steps) (announced_lines (notices_after steps) [])
   reported_mirrors [] ok = record { derivation = tt; clauses = tt; units = tt; long = λ id c u l. absurd cc; least = omega arith; conflict = λ ids e. absurd cc }
   reported_mirrors (step ∷ earlier) ok =
-      let ready = settled_behind earlier (reported_mirrors earlier ok.0) in
+      let ready = settled_after earlier (reported_mirrors earlier ok.0) in
       let next = step_mirrors tidy in_turn nothing earlier ok.0 (lines_of earlier) ready step ok.1 in
       subst (Mirrors (stored_after (step ∷ earlier))) (sym (lines_next step earlier)) next
 
   pub all_mirrors : (steps : List Step) → AcceptsAll steps → Mirrors (ready_after steps) (lines_of steps)
-  all_mirrors steps ok = settled_behind steps (reported_mirrors steps ok)
+  all_mirrors steps ok = settled_after steps (reported_mirrors steps ok)

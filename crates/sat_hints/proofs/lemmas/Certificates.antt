@@ -13,16 +13,16 @@ accepted_before : (steps earlier : List Step) → AcceptsAll (taken_after steps 
 accepted_before [] earlier ok = ok
 accepted_before (s ∷ ss) earlier ok = (accepted_before ss (s ∷ earlier) ok).0
 
-pub accepted_at : (front : List Step) (step : Step) (behind earlier : List Step) → AcceptsAll (taken_after (front ++ step ∷ behind) earlier) → Accepts (ready_after (taken_after front earlier)) step
-accepted_at [] step behind earlier ok = (accepted_before behind (step ∷ earlier) ok).1
-accepted_at (s ∷ ss) step behind earlier ok = accepted_at ss step behind (s ∷ earlier) ok
+pub accepted_at : (front : List Step) (step : Step) (following earlier : List Step) → AcceptsAll (taken_after (front ++ step ∷ following) earlier) → Accepts (ready_after (taken_after front earlier)) step
+accepted_at [] step following earlier ok = (accepted_before following (step ∷ earlier) ok).1
+accepted_at (s ∷ ss) step following earlier ok = accepted_at ss step following (s ∷ earlier) ok
 
 pub taken_append : (xs ys earlier : List Step) → taken_after (xs ++ ys) earlier ≡ taken_after ys (taken_after xs earlier)
 taken_append [] ys earlier = refl
 taken_append (x ∷ xs) ys earlier = taken_append xs ys (x ∷ earlier)
 
 -- READ STEPS
--- behind the steps read so far stand the others
+-- after the steps read so far stand the others
 pub record Left (steps read : List Step) (bytes more : List ℕ) : Type 0 where
   pub tail : List Step
   pub all : steps ≡ read ++ tail
@@ -42,34 +42,34 @@ left_of (p ∷ ps) [] a t bytes more r s u e =
 left_of (p ∷ ps) (q ∷ qs) a t bytes more r s u e =
     let w : r.0 ++ (r.1 ++ bytes) ≡ s.0 ++ (s.1 ++ more) = sym (append_assoc r.0 r.1 bytes) ∙ ap (λ x. x ++ bytes) (sym r.4) ∙ e ∙ ap (λ x. x ++ more) s.4 ∙ append_assoc s.0 s.1 more in
     let same = one_step p q r.0 s.0 (r.1 ++ bytes) (s.1 ++ more) r.2 s.2 w in
-    let behind : r.1 ++ bytes ≡ s.1 ++ more = front_off s.0 (r.1 ++ bytes) (s.1 ++ more) (subst (λ x. x ++ (r.1 ++ bytes) ≡ s.0 ++ (s.1 ++ more)) same.0 w) in
-    let k = left_of ps qs r.1 s.1 bytes more r.3 s.3 u.1 behind in
+    let following : r.1 ++ bytes ≡ s.1 ++ more = front_off s.0 (r.1 ++ bytes) (s.1 ++ more) (subst (λ x. x ++ (r.1 ++ bytes) ≡ s.0 ++ (s.1 ++ more)) same.0 w) in
+    let k = left_of ps qs r.1 s.1 bytes more r.3 s.3 u.1 following in
     record { tail = k.tail; all = ap (λ x. x ∷ qs) (sym same.1) ∙ ap (λ xs. p ∷ xs) k.all; text = k.text; spelt = k.spelt; is = k.is }
 
 -- the next step is one of the certificate's
 pub record Next (tail : List Step) (text : List ℕ) : Type 0 where
   pub step : Step
-  pub behind : List Step
-  pub all : tail ++ End ∷ [] ≡ step ∷ behind
+  pub following : List Step
+  pub all : tail ++ End ∷ [] ≡ step ∷ following
   pub bytes : List ℕ
   pub others : List ℕ
   pub spelt : SpellsStep step bytes
   pub is : text ≡ bytes ++ others
 
 pub next_of : (tail : List Step) (text : List ℕ) → SpellsSteps (tail ++ End ∷ []) text → Next tail text
-next_of [] text s = record { step = End; behind = []; all = refl; bytes = s.0; others = s.1; spelt = s.2; is = s.4 }
-next_of (t ∷ ts) text s = record { step = t; behind = ts ++ End ∷ []; all = refl; bytes = s.0; others = s.1; spelt = s.2; is = s.4 }
+next_of [] text s = record { step = End; following = []; all = refl; bytes = s.0; others = s.1; spelt = s.2; is = s.4 }
+next_of (t ∷ ts) text s = record { step = t; following = ts ++ End ∷ []; all = refl; bytes = s.0; others = s.1; spelt = s.2; is = s.4 }
 
 -- where the next step is the end, no other was left
-pub none_left : (steps read tail behind : List Step) → steps ≡ read ++ tail → AllByRecursion (λ step. step ≢ End) steps → tail ++ End ∷ [] ≡ End ∷ behind → tail ≡ []
-none_left steps read [] behind a u e = refl
-none_left steps read (t ∷ ts) behind a u e = let f : t ≡ End = cc in absurd (last_of read t ts (subst (AllByRecursion (λ step. step ≢ End)) a u) f)
+pub none_left : (steps read tail following : List Step) → steps ≡ read ++ tail → AllByRecursion (λ step. step ≢ End) steps → tail ++ End ∷ [] ≡ End ∷ following → tail ≡ []
+none_left steps read [] following a u e = refl
+none_left steps read (t ∷ ts) following a u e = let f : t ≡ End = cc in absurd (last_of read t ts (subst (AllByRecursion (λ step. step ≢ End)) a u) f)
   where
     last_of : (xs : List Step) (t : Step) (ts : List Step) → AllByRecursion (λ step. step ≢ End) (xs ++ t ∷ ts) → t ≢ End
     last_of [] t ts h = h.0
     last_of (x ∷ xs) t ts h = last_of xs t ts h.1
 
--- a list of steps and one behind it, in their bytes
+-- a list of steps and one after it, in their bytes
 pub record Cut (front last : List Step) (text : List ℕ) : Type 0 where
   pub first : List ℕ
   pub second : List ℕ

@@ -19,8 +19,8 @@ use Rattle.sat_hints.proofs.lemmas.Rechecked.{reported_left}
 at_end : (now : Option (List ℕ)) (ys : List ℕ) → now ≡ Some ys → IsAtEnd now → ys ≡ []
 at_end now ys e h = subst (λ o. IsAtEnd o) e h
 
-module _ (steps : List Step) (text more : List ℕ) (from to : Reader) (cert : IsCertificate steps text) (told : from.to_come ≡ Some (text ++ more)) where
-  -- what was read are steps of the certificate, and so are the bytes behind them
+module _ (steps : List Step) (text more : List ℕ) (from to : Reader) (cert : IsCertificate steps text) (text_is : from.to_come ≡ Some (text ++ more)) where
+  -- what was read are steps of the certificate, and so are the bytes after them
   record Readings (passed last : List Step) (rest : List ℕ) : Type 0 where
     to_come : List ℕ
     left_is : to.to_come ≡ Some to_come
@@ -30,7 +30,7 @@ module _ (steps : List Step) (text more : List ℕ) (from to : Reader) (cert : I
 
   read_of : (passed last : List Step) (rest : List ℕ) → GaveAcceptedSteps from to passed last rest → Readings passed last rest
   read_of passed last rest g =
-      let t = reported_left (text ++ more) from.to_come to.to_come (g.steps.text ++ rest) told g.steps.front.told in
+      let t = reported_left (text ++ more) from.to_come to.to_come (g.steps.text ++ rest) text_is g.steps.front.known_bytes in
       let c = cut_at passed last g.steps.text g.steps.spelt in
       let e : c.first ++ (c.second ++ (rest ++ t.0)) ≡ text ++ more =
       sym (append_assoc c.first c.second (rest ++ t.0)) ∙ ap (λ x. x ++ (rest ++ t.0)) (sym c.whole) ∙ sym (append_assoc g.steps.text rest t.0) ∙ sym t.2 in
@@ -43,11 +43,11 @@ module _ (steps : List Step) (text more : List ℕ) (from to : Reader) (cert : I
     next_bytes : r.second ++ (rest ++ r.to_come) ≡ n.bytes ++ (n.others ++ more)
     next_bytes = r.left.is ∙ ap (λ x. x ++ more) n.is ∙ append_assoc n.bytes n.others more
 
-    whole : steps ++ End ∷ [] ≡ passed ++ (n.step ∷ n.behind)
+    whole : steps ++ End ∷ [] ≡ passed ++ (n.step ∷ n.following)
     whole = ap (λ x. x ++ End ∷ []) r.left.all ∙ append_assoc passed r.left.tail (End ∷ []) ∙ ap (λ x. passed ++ x) n.all
 
     next_accepted : Accepts (ready_after (taken_after passed [])) n.step
-    next_accepted = accepted_at passed n.step n.behind [] (subst (λ x. AcceptsAll (taken_after x [])) whole (subst AcceptsAll (sym (taken_append steps (End ∷ []) [])) cert.accepted))
+    next_accepted = accepted_at passed n.step n.following [] (subst (λ x. AcceptsAll (taken_after x [])) whole (subst AcceptsAll (sym (taken_append steps (End ∷ []) [])) cert.accepted))
 
     -- the step that was read is the next one
     read_next : (step : Step) → last ≡ step ∷ [] → step ≡ n.step
@@ -58,38 +58,38 @@ module _ (steps : List Step) (text more : List ℕ) (from to : Reader) (cert : I
     not_refused : (step : Step) → last ≡ step ∷ [] → Accepts (ready_after (taken_after passed [])) step
     not_refused step is = subst (Accepts (ready_after (taken_after passed []))) (sym (read_next step is)) next_accepted
 
-    -- behind the end none is left
+    -- after the end none is left
     all_passed : last ≡ End ∷ [] → steps ≡ passed
     all_passed is =
-        let none : r.left.tail ≡ [] = none_left steps passed r.left.tail n.behind r.left.all cert.unended (n.all ∙ ap (λ x. x ∷ n.behind) (sym (read_next End is))) in
+        let none : r.left.tail ≡ [] = none_left steps passed r.left.tail n.following r.left.all cert.unended (n.all ∙ ap (λ x. x ∷ n.following) (sym (read_next End is))) in
         r.left.all ∙ ap (λ x. passed ++ x) none ∙ append-nil passed
 
-    -- where no step was read behind them, the next one stands there
+    -- where no step was read after them, the next one stands there
     rest_is : last ≡ [] → rest ++ r.to_come ≡ n.bytes ++ (n.others ++ more)
     rest_is is = ap (λ x. x ++ (rest ++ r.to_come)) (sym (subst (λ x. SpellsSteps x r.second) is r.of_last)) ∙ next_bytes
 
 pub accepted_converts : AcceptedConverts
-accepted_converts steps text more (Ok x) from to old new cert told c =
-    let r = read_of steps text more from to cert told c.0 (End ∷ []) c.1 c.2.gave in
-    subst (λ z. WriterTakes old new (hint_text (End ∷ taken_after z []))) (sym (all_passed steps text more from to cert told c.0 (End ∷ []) c.1 r refl)) c.4
-accepted_converts steps text more (Err HasDeleteVar) from to old new cert told c = c
-accepted_converts steps text more (Err (Refused errors.CheckFailed)) from to old new cert told c =
+accepted_converts steps text more (Ok x) from to old new cert text_is c =
+    let r = read_of steps text more from to cert text_is c.0 (End ∷ []) c.1 c.2.gave in
+    subst (λ z. WriterTakes old new (hint_text (End ∷ taken_after z []))) (sym (all_passed steps text more from to cert text_is c.0 (End ∷ []) c.1 r refl)) c.4
+accepted_converts steps text more (Err HasDeleteVar) from to old new cert text_is c = c
+accepted_converts steps text more (Err (Refused errors.CheckFailed)) from to old new cert text_is c =
     let w = c.2 in
-    absurd (w.3 (not_refused steps text more from to cert told c.0 (w.0 ∷ []) w.1 (read_of steps text more from to cert told c.0 (w.0 ∷ []) w.1 w.2) w.0 refl))
-accepted_converts steps text more (Err (Refused errors.ProofIncomplete)) from to old new cert told c =
+    absurd (w.3 (not_refused steps text more from to cert text_is c.0 (w.0 ∷ []) w.1 (read_of steps text more from to cert text_is c.0 (w.0 ∷ []) w.1 w.2) w.0 refl))
+accepted_converts steps text more (Err (Refused errors.ProofIncomplete)) from to old new cert text_is c =
     let w = c.2 in
-    let r = read_of steps text more from to cert told c.0 [] w.0 w.1 in
+    let r = read_of steps text more from to cert text_is c.0 [] w.0 w.1 in
     let k = next_of r.left.tail r.left.text r.left.spelt in
     let over : r.to_come ≡ [] = at_end to.to_come r.to_come r.left_is w.2.over in
-    absurd (no_whole SpellsStep one_step w.0 w.3 k.step k.bytes (k.others ++ more) (sym (append-nil w.0) ∙ ap (λ x. w.0 ++ x) (sym over) ∙ rest_is steps text more from to cert told c.0 [] w.0 r refl) k.spelt)
-accepted_converts steps text more (Err (Refused errors.ParseError)) from to old new cert told c =
+    absurd (no_whole SpellsStep one_step w.0 w.3 k.step k.bytes (k.others ++ more) (sym (append-nil w.0) ∙ ap (λ x. w.0 ++ x) (sym over) ∙ rest_is steps text more from to cert text_is c.0 [] w.0 r refl) k.spelt)
+accepted_converts steps text more (Err (Refused errors.ParseError)) from to old new cert text_is c =
     let w = c.2 in
-    let r = read_of steps text more from to cert told c.0 [] w.0 w.1 in
+    let r = read_of steps text more from to cert text_is c.0 [] w.0 w.1 in
     let k = next_of r.left.tail r.left.text r.left.spelt in
     let spoilt = w.2 in
-    absurd (no_way SpellsStep one_step (w.0 ++ r.to_come) spoilt.front (spoilt.behind ++ r.to_come) spoilt.byte (ap (λ x. x ++ r.to_come) spoilt.whole ∙ append_assoc spoilt.front (spoilt.byte ∷ spoilt.behind) r.to_come) spoilt.live spoilt.shut k.step k.bytes (k.others ++ more) (rest_is steps text more from to cert told c.0 [] w.0 r refl) k.spelt)
-accepted_converts steps text more (Err (Refused errors.CounterEnd)) from to old new cert told c = c.2
-accepted_converts steps text more (Err Read) from to old new cert told c = tt
-accepted_converts steps text more (Err Write) from to old new cert told c = tt
-accepted_converts steps text more (Err OutOfMemory) from to old new cert told c = tt
-accepted_converts steps text more (Err e) from to old new cert told c = absurd c.2
+    absurd (no_way SpellsStep one_step (w.0 ++ r.to_come) spoilt.front (spoilt.following ++ r.to_come) spoilt.byte (ap (λ x. x ++ r.to_come) spoilt.whole ∙ append_assoc spoilt.front (spoilt.byte ∷ spoilt.following) r.to_come) spoilt.live spoilt.shut k.step k.bytes (k.others ++ more) (rest_is steps text more from to cert text_is c.0 [] w.0 r refl) k.spelt)
+accepted_converts steps text more (Err (Refused errors.CounterEnd)) from to old new cert text_is c = c.2
+accepted_converts steps text more (Err Read) from to old new cert text_is c = tt
+accepted_converts steps text more (Err Write) from to old new cert text_is c = tt
+accepted_converts steps text more (Err OutOfMemory) from to old new cert text_is c = tt
+accepted_converts steps text more (Err e) from to old new cert text_is c = absurd c.2

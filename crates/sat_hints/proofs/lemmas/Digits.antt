@@ -23,9 +23,9 @@ are_digits n h = (decimal_is_IsNumeral n h).0.1
 pub plain_number : (n : ℕ) → n < 2 ^ 64 → Plain (decimal n)
 plain_number n h = plain_digits (decimal n) (are_digits n h)
 
-digit_behind : (ds : List ℕ) (b : ℕ) (more : List ℕ) → AllDigits 10 (ds ++ (b ∷ more)) → (48 ≤ b) × (b ≤ 57)
-digit_behind [] b more d = digit_from_value b d.0
-digit_behind (c ∷ ds) b more d = digit_behind ds b more d.1
+digit_after : (ds : List ℕ) (b : ℕ) (more : List ℕ) → AllDigits 10 (ds ++ (b ∷ more)) → (48 ≤ b) × (b ≤ 57)
+digit_after [] b more d = digit_from_value b d.0
+digit_after (c ∷ ds) b more d = digit_after ds b more d.1
 
 -- the digits of a number that has begun
 pub so_far : (m : ℕ) → 1 ≤ m → number_digits_so_far m ≡ decimal m
@@ -35,7 +35,7 @@ so_far (suc m) h = refl
 module _ (limit : ℕ) (fits : limit < 2 ^ 64) where
   -- a byte that is no digit
   pub no_digit : (number b : ℕ) → ((48 ≤ b) × (b ≤ 57) → ⊥) → NoDigit limit number b
-  no_digit number b wrong n more h e = let k : n < 2 ^ 64 = omega arith in wrong (digit_behind (number_digits_so_far number) b more (subst (AllDigits 10) e (are_digits n k)))
+  no_digit number b wrong n more h e = let k : n < 2 ^ 64 = omega arith in wrong (digit_after (number_digits_so_far number) b more (subst (AllDigits 10) e (are_digits n k)))
 
   -- a leading zero
   pub no_zero : (number b : ℕ) → 48 ≤ b → 10 * number + (b - 48) ≡ 0 → NoDigit limit number b
@@ -46,7 +46,7 @@ module _ (limit : ℕ) (fits : limit < 2 ^ 64) where
       omega arith
   no_zero (suc number) b low z n more h e = absurd (omega arith)
 
-  -- a digit behind those of a number
+  -- a digit after those of a number
   pub next_digit : (number b : ℕ) → 48 ≤ b → b ≤ 57 → 10 * number + (b - 48) < 2 ^ 64 → 0 < 10 * number + (b - 48) → decimal (10 * number + (b - 48)) ≡ number_digits_so_far number ++ (b ∷ [])
   next_digit zero b low high small more =
       let e : 10 * 0 + (b - 48) ≡ b - 48 = omega arith in
@@ -98,7 +98,7 @@ no_space [] (c ∷ es) y p e = cc
 no_space (d ∷ ds) [] y p e = p.0 (let r : d ≡ 32 = cc in r)
 no_space (d ∷ ds) (c ∷ es) y p e = no_space ds es y p.1 (let r : ds ≡ es ++ (32 ∷ y) = cc in r)
 
--- a word that goes on behind another's bytes
+-- a word that goes on after another's bytes
 goes_on : (ds es : List ℕ) (b : ℕ) (x y : List ℕ) → Plain ds → (b ≡ 32 → ⊥) → ds ++ (b ∷ x) ≡ es ++ (32 ∷ y) → (more : List ℕ) × (es ≡ ds ++ (b ∷ more))
 goes_on [] [] b x y p other e = absurd (other (let r : b ≡ 32 = cc in r))
 goes_on [] (c ∷ es) b x y p other e = (es, let r : c ≡ b = cc in ap (λ c. c ∷ es) r)
@@ -118,7 +118,7 @@ first_byte [] b x y h e = absurd (omega arith)
 first_byte (c ∷ cs) b x y h e = (cs, let r : c ≡ b = cc in ap (λ c. c ∷ cs) r)
 
 module _ (limit : ℕ) (fits : limit < 2 ^ 64) where
-  -- a number goes on behind the digits so far
+  -- a number goes on after the digits so far
   pub number_goes_on : (number b : ℕ) (x : List ℕ) (n : ℕ) (tail : List ℕ) → number < 2 ^ 64 → (b ≡ 32 → number ≡ 0) → IsNumberUpTo limit n → number_digits_so_far number ++ (b ∷ x) ≡ decimal n ++ (32 ∷ tail) → (more : List ℕ) × (decimal n ≡ number_digits_so_far number ++ (b ∷ more))
   number_goes_on zero b x n tail small space k e = first_byte (decimal n) b x tail (decimal_nonempty n (omega arith)) e
   number_goes_on (suc number) b x n tail small space k e = goes_on (decimal (suc number)) (decimal n) b x tail (plain_so_far (suc number) small) (λ s. let z : suc number ≡ 0 = space s in omega arith) e

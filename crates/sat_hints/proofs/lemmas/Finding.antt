@@ -19,7 +19,7 @@ use Rattle.sat_hints.proofs.lemmas.Courses.{same_course, is_unit, room_in}
 abbrev pub PresentAlike : Standing → List ℕ → List ℕ → Type 0
 PresentAlike s ids rest = (standing_clauses s ids ≡ None → standing_clauses s rest ≡ None) × (standing_clauses s rest ≡ None → standing_clauses s ids ≡ None)
 
--- the clause isn't unit in its turn, and others come behind it
+-- the clause isn't unit in its turn, and others come after it
 misses_turn : (assumed c : List ℕ) (o : Option (List ℕ)) (p : Option (List (List ℕ))) → ((f : ℕ → Option HintWhy) → unit_failure (verdict assumed c) f ≡ Some NotUnit) → and_clauses o p ≢ None → refutation_failure_of assumed (and_clauses (Some c) (and_clauses o p)) ≡ Some NotUnit
 misses_turn assumed c None p h n = absurd (n refl)
 misses_turn assumed c (Some d) None h n = absurd (n refl)
@@ -38,13 +38,13 @@ module _ (s : Standing) (ids : List ℕ) (i id : ℕ) (inside : i < length ids) 
   found c e = next ∙ ap (λ o. and_clauses o (standing_clauses s (drop (i + 1) ids))) e
 
   module _ (assumed c : List ℕ) (here : standing_clause s id ≡ Some c) where
-    behind : (h : i + 1 < length ids) → standing_clauses s (drop (i + 1) ids) ≡ and_clauses (standing_clause s (get_or ids (i + 1) 0)) (standing_clauses s (drop (i + 1 + 1) ids))
-    behind h = ap (standing_clauses s) (drop_more ids (i + 1) 0 h)
+    following : (h : i + 1 < length ids) → standing_clauses s (drop (i + 1) ids) ≡ and_clauses (standing_clause s (get_or ids (i + 1) 0)) (standing_clauses s (drop (i + 1 + 1) ids))
+    following h = ap (standing_clauses s) (drop_more ids (i + 1) 0 h)
 
     pub missed : i + 1 < length ids → ((f : ℕ → Option HintWhy) → unit_failure (verdict assumed c) f ≡ Some NotUnit) → standing_clauses s (drop (i + 1) ids) ≢ None → refutation_failure_of assumed (standing_clauses s (drop i ids)) ≡ Some NotUnit
     missed h v n =
-        ap (refutation_failure_of assumed) (found c here ∙ ap (and_clauses (Some c)) (behind h))
-        ∙ misses_turn assumed c (standing_clause s (get_or ids (i + 1) 0)) (standing_clauses s (drop (i + 1 + 1) ids)) v (λ e. n (behind h ∙ e))
+        ap (refutation_failure_of assumed) (found c here ∙ ap (and_clauses (Some c)) (following h))
+        ∙ misses_turn assumed c (standing_clause s (get_or ids (i + 1) 0)) (standing_clauses s (drop (i + 1 + 1) ids)) v (λ e. n (following h ∙ e))
 
     pub lost : standing_clauses s (drop (i + 1) ids) ≡ None → refutation_failure_of assumed (standing_clauses s (drop i ids)) ≡ Some UnknownId
     lost n = ap (refutation_failure_of assumed) (found c here ∙ ap (and_clauses (Some c)) n)

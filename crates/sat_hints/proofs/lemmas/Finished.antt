@@ -8,12 +8,12 @@ use Rattle.sat_base.proofs.lemmas.device.Sending.{sent_more, sends_breaks, all_o
 use Rattle.sat_base.proofs.lemmas.device.Writes.{lent_puts}
 use Rattle.sat_checker.specs.ProofView.{taken_after}
 use Rattle.sat_hints.specs.Conversion.{hint_text}
-use Rattle.sat_hints.specs.Converts.{BreaksBehind, WritesFrontOf, Converts}
+use Rattle.sat_hints.specs.Converts.{BreaksAfter, WritesFrontOf, Converts}
 use Rattle.sat_hints.specs.declared.error.HintError.{HintError}
 use Rattle.sat_hints.specs.declared.error.HintError.TheVariants.{Refused, HasDeleteVar, Read, Write, OutOfMemory}
 use Rattle.sat_hints.specs.declared.line_writer.LineWriter.{LineWriter}
 use Rattle.sat_hints.specs.inner.LineWriting.{Outlet, outlet, PutsText, PutFrom, PutBy}
-use Rattle.sat_hints.specs.inner.LinesWritten.{BrokenBehind, SentFront, WritesLines}
+use Rattle.sat_hints.specs.inner.LinesWritten.{BrokenAfter, SentFront, WritesLines}
 
 -- a front was put, so a front was taken
 front_took : (a b : Outlet) (text : List ℕ) → a.sink.waiting ≡ [] → SentFront a b text → WritesFrontOf a.sink.writer b.sink.writer text
@@ -22,16 +22,16 @@ front_took a b text e s =
     let f : s.front ≡ w.fresh ++ b.sink.waiting = ap (λ x. x ++ s.front) (sym e) ∙ w.flows in
     record {
       front = w.fresh;
-      behind = b.sink.waiting ++ s.behind;
-      whole = s.whole ∙ ap (λ x. x ++ s.behind) f ∙ append_assoc w.fresh b.sink.waiting s.behind;
+      following = b.sink.waiting ++ s.following;
+      whole = s.whole ∙ ap (λ x. x ++ s.following) f ∙ append_assoc w.fresh b.sink.waiting s.following;
       takes = w.takes;
     }
 
 breaks_of : (a b : Outlet) (text : List ℕ) → a.sink.waiting ≡ [] → SinkFails a.sink b.sink text → WriterBreaks a.sink.writer b.sink.writer text
 breaks_of a b text e k = subst (λ x. WriterBreaks a.sink.writer b.sink.writer (x ++ text)) e k.breaks
 
-breaks_behind : (a b : Outlet) (step : Step) (steps : List Step) → a.sink.waiting ≡ [] → BrokenBehind a b step steps → BreaksBehind a.sink.writer b.sink.writer step steps
-breaks_behind a b step steps e k = elim k [
+breaks_after : (a b : Outlet) (step : Step) (steps : List Step) → a.sink.waiting ≡ [] → BrokenAfter a b step steps → BreaksAfter a.sink.writer b.sink.writer step steps
+breaks_after a b step steps e k = elim k [
   | inl h ↦ inl (breaks_of a b (hint_text steps) e h)
   | inr h ↦ inr (h.0, breaks_of a b (hint_text (step ∷ steps)) e h.1)
 ]
@@ -40,7 +40,7 @@ pub errs_convert : (e : HintError) (from to : Reader) (a b : Outlet) → a.sink.
 errs_convert HasDeleteVar from to a b e w = w
 errs_convert (Refused r) from to a b e w = (w.0, w.1, w.2, front_took a b _ e w.3)
 errs_convert Read from to a b e w = (w.0, w.1, w.2, w.3, w.4, front_took a b _ e w.5)
-errs_convert Write from to a b e w = (w.0, w.1, w.2, w.3, w.4, breaks_behind a b w.1 (taken_after w.0 []) e w.5)
+errs_convert Write from to a b e w = (w.0, w.1, w.2, w.3, w.4, breaks_after a b w.1 (taken_after w.0 []) e w.5)
 errs_convert OutOfMemory from to a b e w = (w.0, w.1, w.2, w.3, w.4, front_took a b _ e w.5)
 
 put_by : (text : List ℕ) (a b : Outlet) (f : Bool) → a.failed ≡ false → b.failed ≡ f → PutsText text a b → PutBy f text a.sink b.sink
@@ -62,9 +62,9 @@ write_converts from to a b c e w p f =
 -- A LENT WRITER
 module _ {W : Type 0} (seen : W → Writer) (a z v : W) (given back : ℕ) (same : given ≡ back → z ≡ v) where
   lent_took : (text : List ℕ) → WritesFrontOf (lent_writer given (seen a)) (lent_writer back (seen v)) text → WritesFrontOf (seen a) (seen z) text
-  lent_took text t = record { front = t.front; behind = t.behind; whole = t.whole; takes = lent_puts {E = HintError} seen a z v given back t.front (Ok tt) same t.takes }
+  lent_took text t = record { front = t.front; following = t.following; whole = t.whole; takes = lent_puts {E = HintError} seen a z v given back t.front (Ok tt) same t.takes }
 
-  lent_breaks : (step : Step) (steps : List Step) → BreaksBehind (lent_writer given (seen a)) (lent_writer back (seen v)) step steps → BreaksBehind (seen a) (seen z) step steps
+  lent_breaks : (step : Step) (steps : List Step) → BreaksAfter (lent_writer given (seen a)) (lent_writer back (seen v)) step steps → BreaksAfter (seen a) (seen z) step steps
   lent_breaks step steps k = elim k [
     | inl h ↦ inl (lent_puts {E = HintError} seen a z v given back (hint_text steps) (Err Write) same h)
     | inr h ↦ inr (h.0, lent_puts {E = HintError} seen a z v given back (hint_text (step ∷ steps)) (Err Write) same h.1)

@@ -35,8 +35,8 @@ signed : (Rest : List ℕ → Type 0) (l : ℕ) (rest bytes : List ℕ) → IsLi
 signed Rest l rest bytes p e r = go (is_positive l) e
   where
     go : (s : Bool) → bytes ≡ (cond s [] (45 ∷ []) ++ decimal (l / 2 + 1)) ++ (32 ∷ rest) → Signed Rest bytes
-    go true e = plain (record { value = l / 2 + 1; rest = rest; within = (omega arith, omega arith); whole = e; behind = r })
-    go false e = minus (decimal (l / 2 + 1) ++ (32 ∷ rest)) e (record { value = l / 2 + 1; rest = rest; within = (omega arith, omega arith); whole = refl; behind = r })
+    go true e = plain (record { value = l / 2 + 1; rest = rest; within = (omega arith, omega arith); whole = e; following = r })
+    go false e = minus (decimal (l / 2 + 1) ++ (32 ∷ rest)) e (record { value = l / 2 + 1; rest = rest; within = (omega arith, omega arith); whole = refl; following = r })
 
 clause_turn : (bytes : List ℕ) → Signed (IsPartOfLine Clause) bytes → Turn Clause bytes
 clause_turn bytes (plain w) = begun w
@@ -54,7 +54,7 @@ turn Lists bytes (l ∷ ls, ids, o) =
     let tail : List ℕ = 48 ∷ 32 ∷ (id_words ids ++ end) in
     lists_turn bytes (signed (IsPartOfLine Lists) l (literal_words ls ++ tail) bytes o.0.0 (o.2 ∙ append_assoc (number_text l) (32 ∷ literal_words ls) tail) (ls, ids, (o.0.1, o.1, refl)))
 turn Ids bytes ([], are, e) = last (10 ∷ []) e refl
-turn Ids bytes (i ∷ is, are, e) = begun (record { value = i + 1; rest = id_words is ++ end; within = (omega arith, let k = are.0 in omega arith); whole = e ∙ append_assoc (id_text i) (32 ∷ id_words is) end; behind = (is, are.1, refl) })
+turn Ids bytes (i ∷ is, are, e) = begun (record { value = i + 1; rest = id_words is ++ end; within = (omega arith, let k = are.0 in omega arith); whole = e ∙ append_assoc (id_text i) (32 ∷ id_words is) end; following = (is, are.1, refl) })
 turn End bytes e = last (10 ∷ []) e refl
 turn x bytes h = begun h
 
@@ -97,7 +97,7 @@ number_ends part number small more_than more w =
     let f = limit_fits part in
     let k = w.within in
     let e = at_space (number_digits_so_far number) (decimal w.value) more w.rest (plain_so_far number small) (plain_number w.value (omega arith)) w.whole in
-    subst (IsPartOfLine (next_of part)) (sym e.1) w.behind
+    subst (IsPartOfLine (next_of part)) (sym e.1) w.following
 
 -- a digit comes
 pub number_goes : (part : Part) (number b m : ℕ) → IsNumberUpTo (limit_of part) m → decimal m ≡ number_digits_so_far number ++ (b ∷ []) → LeadsToPlace (Digits part number) (b ∷ []) (Some (Digits part m))
@@ -106,7 +106,7 @@ number_goes part number b m within e more w = record {
   rest = w.rest;
   within = w.within;
   whole = ap (λ ds. ds ++ more) (so_far m within.0 ∙ e) ∙ append_assoc (number_digits_so_far number) (b ∷ []) more ∙ w.whole;
-  behind = w.behind;
+  following = w.following;
 }
 
 pub number_stops : (part : Part) (number b : ℕ) → number < 2 ^ 64 → (b ≡ 32 → number ≡ 0) → NoDigit (limit_of part) number b → LeadsToPlace (Digits part number) (b ∷ []) None

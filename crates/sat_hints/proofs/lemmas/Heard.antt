@@ -115,18 +115,18 @@ module _ {W P T : Type 0} (seen : W → Writer) (Takes : P → Notice → Result
   ]
 
   -- SINCE THE BEGINNING
-  pub since_sent : (told : List Notice) (a b : Hearers (LineWriter W) (Processing P T)) → a.own.failed ≡ false → HearsSince Hears [] told a b → SentAll (outlet seen a.own) (outlet seen b.own) (texts told)
-  since_sent told a b e h = subst (λ ts. SentAll (outlet seen a.own) (outlet seen b.own) (texts ts)) (sym h.1) (all_sent h.0 a b e h.2)
+  pub since_sent : (notices : List Notice) (a b : Hearers (LineWriter W) (Processing P T)) → a.own.failed ≡ false → HearsSince Hears [] notices a b → SentAll (outlet seen a.own) (outlet seen b.own) (texts notices)
+  since_sent notices a b e h = subst (λ ts. SentAll (outlet seen a.own) (outlet seen b.own) (texts ts)) (sym h.1) (all_sent h.0 a b e h.2)
 
-  pub since_broken : (f : ProcessingError) (told : List Notice) (a b : Hearers (LineWriter W) (Processing P T)) → a.own.failed ≡ false → listeners_of a.others ≡ record { processors = []; transcripts = [] } → HearsSinceUpTo Hears f [] told a b → (cause : Error) × (f ≡ faults.ProofProcessorError cause) × SinkFails (sink_in a) (sink_in b) (texts told)
-  since_broken f told a b e none h = subst (λ ts. (cause : Error) × (f ≡ faults.ProofProcessorError cause) × SinkFails (sink_in a) (sink_in b) (texts ts)) (sym h.1) (all_broken f h.0 a b e none h.2)
+  pub since_broken : (f : ProcessingError) (notices : List Notice) (a b : Hearers (LineWriter W) (Processing P T)) → a.own.failed ≡ false → listeners_of a.others ≡ record { processors = []; transcripts = [] } → HearsSinceUpTo Hears f [] notices a b → (cause : Error) × (f ≡ faults.ProofProcessorError cause) × SinkFails (sink_in a) (sink_in b) (texts notices)
+  since_broken f notices a b e none h = subst (λ ts. (cause : Error) × (f ≡ faults.ProofProcessorError cause) × SinkFails (sink_in a) (sink_in b) (texts ts)) (sym h.1) (all_broken f h.0 a b e none h.2)
 
 -- all that steps told, or that but for what waits
 pub front_all : (old new : Outlet) (steps : List Step) → SentAll old new (texts (all_notices_after steps)) → SentFront old new (hint_text steps)
-front_all old new steps s = record { front = texts (all_notices_after steps); behind = []; whole = hint_texts steps ∙ sym (append-nil (texts (all_notices_after steps))); sent = s }
+front_all old new steps s = record { front = texts (all_notices_after steps); following = []; whole = hint_texts steps ∙ sym (append-nil (texts (all_notices_after steps))); sent = s }
 
 pub front_reported : (old new : Outlet) (steps : List Step) → SentAll old new (texts (notices_after steps)) → SentFront old new (hint_text steps)
-front_reported old new steps s = record { front = texts (notices_after steps); behind = _; whole = hint_texts steps ∙ texts-append (notices_after steps) _; sent = s }
+front_reported old new steps s = record { front = texts (notices_after steps); following = _; whole = hint_texts steps ∙ texts-append (notices_after steps) _; sent = s }
 
 pub front_by : (old new : Outlet) (conflict : Option (ℕ × ℕ)) (steps : List Step) → SentAll old new (texts (notices_by conflict steps)) → SentFront old new (hint_text steps)
 front_by old new (Some conflict) steps s = front_reported old new steps s

@@ -148,8 +148,8 @@ pub reads_more : (why : Option HintWhy) (a b c : Checking) (xs ys : List ℕ) �
 reads_more why a b c xs ys h k text r = subst (HasReadOrFault why c) (append_assoc text xs ys) (k (text ++ xs) (h text r))
 
 -- and bytes that aren't looked at any more
-pub reads_behind : (why : HintWhy) (a b : Checking) (xs ys : List ℕ) → ReadsFurther (Some why) a xs b → ReadsFurther (Some why) a (xs ++ ys) b
-reads_behind why a b xs ys h text r =
+pub reads_after : (why : HintWhy) (a b : Checking) (xs ys : List ℕ) → ReadsFurther (Some why) a xs b → ReadsFurther (Some why) a (xs ++ ys) b
+reads_after why a b xs ys h text r =
     let f = h text r in
     record {
       count = f.count;
@@ -203,5 +203,5 @@ pub no_line : (bytes : List ℕ) (i : ℕ) → length bytes ≤ i → HasNoEnd (
 no_line bytes i h k = subst HasNoEnd (take_all i bytes h) k
 
 -- a line is taken off the front of a piece
-pub split_off : (piece front rest line behind : List ℕ) (end : ℕ) → piece ≡ front ++ rest → line ≡ take end rest → behind ≡ drop end rest → piece ≡ (front ++ line) ++ behind
-split_off piece front rest line behind end e f g = rw (f, g) (e ∙ ap (λ x. front ++ x) (sym (take-append-drop end rest)) ∙ sym (append_assoc front (take end rest) (drop end rest)))
+pub split_off : (piece front rest line following : List ℕ) (end : ℕ) → piece ≡ front ++ rest → line ≡ take end rest → following ≡ drop end rest → piece ≡ (front ++ line) ++ following
+split_off piece front rest line following end e f g = rw (f, g) (e ∙ ap (λ x. front ++ x) (sym (take-append-drop end rest)) ∙ sym (append_assoc front (take end rest) (drop end rest)))

@@ -16,7 +16,7 @@ use Rattle.sat_hints.specs.declared.answer.HintWhy.TheVariants.{Syntax}
 use Rattle.sat_hints.specs.declared.judging.Judge.{Judge}
 use Rattle.sat_hints.specs.declared.checking.Checking.{Checking}
 use Rattle.sat_hints.proofs.lemmas.Digits.{are_digits}
-use Rattle.sat_hints.proofs.lemmas.Holding.{no_end_both, whole_with, line_has_end, held_more, line_passes, line_faulty, reads_more, reads_behind}
+use Rattle.sat_hints.proofs.lemmas.Holding.{no_end_both, whole_with, line_has_end, held_more, line_passes, line_faulty, reads_more, reads_after}
 
 -- A LINE'S TEXT HAS ONE LF, AT ITS END
 no_end_digits : (ds : List ℕ) → AllDigits 10 ds → HasNoEnd ds
@@ -104,7 +104,7 @@ line_off piece front bytes text rest e f = e ∙ ap (λ x. front ++ x) f ∙ sym
 
 -- what was read, and then a part of it at fault
 pub reads_fault : (why : HintWhy) (a b c : Checking) (all xs ys rest : List ℕ) → all ≡ (xs ++ ys) ++ rest → ReadsFurther None a xs b → ReadsFurther (Some why) b ys c → ReadsFurther (Some why) a all c
-reads_fault why a b c all xs ys rest e h k = subst (λ t. ReadsFurther (Some why) a t c) (sym e) (reads_behind why a c (xs ++ ys) rest (reads_more (Some why) a b c xs ys h k))
+reads_fault why a b c all xs ys rest e h k = subst (λ t. ReadsFurther (Some why) a t c) (sym e) (reads_after why a c (xs ++ ys) rest (reads_more (Some why) a b c xs ys h k))
 
 -- and then all that is left
 pub reads_then : {E : Type 0} (r : Result (Option HintWhy) E) (a b c : Checking) (all xs ys : List ℕ) → all ≡ xs ++ ys → ReadsFurther None a xs b → IfOk r (λ why. ReadsFurther why b ys c) → IfOk r (λ why. ReadsFurther why a all c)
@@ -121,4 +121,4 @@ bad_line c bytes end empty none w =
     let whole : take end bytes ++ drop end bytes ≡ bytes = take-append-drop end bytes in
     let never : (line : Line) → SpellsLine (take end bytes) line → ⊥ = λ line s. none line (drop end bytes) (s.0, sym whole ∙ ap (λ x. x ++ drop end bytes) s.1) in
     let front : ReadsFurther (Some Syntax) c (take end bytes) c = λ text r. line_faulty c c (take end bytes) w text r Syntax (subst (λ x. IsAtFault r.lines x Syntax) (sym (ap (λ x. x ++ take end bytes) empty)) never) refl in
-    subst (λ x. ReadsFurther (Some Syntax) c x c) whole (reads_behind Syntax c c (take end bytes) (drop end bytes) front)
+    subst (λ x. ReadsFurther (Some Syntax) c x c) whole (reads_after Syntax c c (take end bytes) (drop end bytes) front)

@@ -7,7 +7,7 @@ use Rattle.std.proofs.lemmas.List.Sorted.{searched}
 use Rattle.std.specs.List.Sorted.{IsBinarySearchResult}
 use Rattle.std.specs.Ordering.{nat_cmp}
 use Rattle.sat_checker.specs.SortedSets.{IsIncreasing}
-use Rattle.sat_hints.specs.inner.Clauses.{FindsPresentClause, listed_clause, clause_in, present_clause_at, times_long, times_kept, times_at, AllBelow, IsStore, AddsPresentClause, Loses, SamePresentClauses}
+use Rattle.sat_hints.specs.inner.Clauses.{FindsPresentClause, listed_clause, clause_in, present_clause_at, times_long, times_kept, occurrences_of, AllBelow, IsStore, AddsPresentClause, Loses, SamePresentClauses}
 use Rattle.sat_hints.proofs.lemmas.Counting.{times-snoc, times-gone, times-more, times_whole, set_at, sets-snoc}
 
 -- two numbers that differ
@@ -21,7 +21,7 @@ apart x y never = go (eqb x y) refl
 below_tail : (x : ℕ) (xs : List ℕ) (k : ℕ) → AllBelow (x ∷ xs) k → AllBelow xs k
 below_tail x xs k h = λ i l. h (suc i) (omega arith)
 
--- one more behind lists of one length
+-- one more after lists of one length
 pub listed-snoc : (id i : ℕ) (c : List ℕ) (g : Bool) (ids : List ℕ) (cs : List (List ℕ)) (gs : List Bool) → length cs ≡ length ids → length gs ≡ length ids → AllBelow ids i
     → listed_clause id (ids ++ (i ∷ [])) (cs ++ (c ∷ [])) (gs ++ (g ∷ [])) ≡ cond (eqb id i) (cond g None (Some c)) (listed_clause id ids cs gs)
 listed-snoc id i c g [] [] [] p q h = refl
@@ -206,9 +206,9 @@ pub record KeepsFirst (p : Present) (count : ℕ) (kept : Present) : Type 0 wher
   pub store : IsStore kept
   pub below : (k : ℕ) → AllBelow (take count p.ids.items) k → AllBelow kept.ids.items k
   pub clauses : (id : ℕ) → clause_in kept id ≡ listed_clause id (take count p.ids.items) (take count p.clauses) (take count p.gone.items)
-  pub times : (l : ℕ) → times_at kept l ≡ times_kept l (take count p.clauses) (take count p.gone.items)
+  pub times : (l : ℕ) → occurrences_of kept l ≡ times_kept l (take count p.clauses) (take count p.gone.items)
 
-pub keeps_none : (p kept : Present) → IsStore kept → kept.ids.items ≡ [] → ((id : ℕ) → clause_in kept id ≡ None) → ((l : ℕ) → times_at kept l ≡ 0) → KeepsFirst p 0 kept
+pub keeps_none : (p kept : Present) → IsStore kept → kept.ids.items ≡ [] → ((id : ℕ) → clause_in kept id ≡ None) → ((l : ℕ) → occurrences_of kept l ≡ 0) → KeepsFirst p 0 kept
 keeps_none p kept s e n t = record { store = s; below = λ k h. rw e (λ i l. absurd (omega arith)); clauses = λ id. n id; times = λ l. t l }
 
 module _ (p : Present) (s : IsStore p) (i : ℕ) (inside : i < length p.ids.items) where
@@ -286,20 +286,20 @@ keeps_all p kept i s h k =
     record { store = k.store; below = subst (λ xs. (b : ℕ) → AllBelow xs b → AllBelow kept.ids.items b) a k.below; clauses = λ id. k.clauses id ∙ rw (a, b, c) refl; times = λ l. k.times l ∙ times_whole l p.clauses p.gone.items i (s.gone ∙ sym s.clauses) (subst (λ n. n ≤ i) (sym s.clauses) h) }
 
 -- a clause under an id stands at a place
-pub record StandsAt (id : ℕ) (c : List ℕ) (ids : List ℕ) (cs : List (List ℕ)) (gs : List Bool) : Type 0 where
+pub record IsStoredAt (id : ℕ) (c : List ℕ) (ids : List ℕ) (cs : List (List ℕ)) (gs : List Bool) : Type 0 where
   pub place : ℕ
   pub within : place < length cs
   pub named : get_or ids place 0 ≡ id
   pub there : get_or gs place false ≡ false
   pub clause : get_or cs place [] ≡ c
 
-pub stands_at : (id : ℕ) (c : List ℕ) (ids : List ℕ) (cs : List (List ℕ)) (gs : List Bool) → listed_clause id ids cs gs ≡ Some c → StandsAt id c ids cs gs
+pub stands_at : (id : ℕ) (c : List ℕ) (ids : List ℕ) (cs : List (List ℕ)) (gs : List Bool) → listed_clause id ids cs gs ≡ Some c → IsStoredAt id c ids cs gs
 stands_at id c [] cs gs e = absurd cc
 stands_at id c (i ∷ ids) [] gs e = absurd cc
 stands_at id c (i ∷ ids) (d ∷ cs) [] e = absurd cc
 stands_at id c (i ∷ ids) (d ∷ cs) (g ∷ gs) e = go (eqb id i) refl g (λ f. stands_at id c ids cs gs f) e
   where
-    go : (t : Bool) → eqb id i ≡ t → (b : Bool) → (listed_clause id ids cs gs ≡ Some c → StandsAt id c ids cs gs) → cond t (cond b None (Some d)) (listed_clause id ids cs gs) ≡ Some c → StandsAt id c (i ∷ ids) (d ∷ cs) (b ∷ gs)
+    go : (t : Bool) → eqb id i ≡ t → (b : Bool) → (listed_clause id ids cs gs ≡ Some c → IsStoredAt id c ids cs gs) → cond t (cond b None (Some d)) (listed_clause id ids cs gs) ≡ Some c → IsStoredAt id c (i ∷ ids) (d ∷ cs) (b ∷ gs)
     go true n true ih f = absurd cc
     go true n false ih f = record { place = 0; within = omega arith; named = sym (eqb-true id i n); there = refl; clause = (let k : d ≡ c = cc in k) }
     go false n b ih f = let s = ih f in record { place = suc s.place; within = (let w = s.within in omega (arith, w)); named = s.named; there = s.there; clause = s.clause }

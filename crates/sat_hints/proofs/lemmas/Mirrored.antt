@@ -1,4 +1,4 @@
--- What the checker stores, and what is present behind the lines of what it announced.
+-- What the checker stores, and what is present after the lines of what it announced.
 use Rattle.std.proofs.Common.{ℕ, ◌+◌, ◌<◌, ◌≤◌, ◌≡◌, ◌⊎◌, inl, inr, Bool, true, false, ◌||◌, cond, eqb, is_some, List, [], ◌∷◌, ◌++◌, map, Option, None, Some, refl, sym, ◌∙◌, ap, subst, arith}
 use Rattle.std.proofs.lemmas.Bool.{eqb-true, eq-eqb, ne_eqb, true≢false}
 use Rattle.std.specs.List.{AllByRecursion}
@@ -15,7 +15,7 @@ use Rattle.sat_hints.specs.Conversion.{announced_line, with_line, announced_line
 use Rattle.sat_hints.proofs.lemmas.Sound.{still}
 
 -- LINES OF ANNOUNCEMENTS
--- behind earlier ones
+-- after earlier ones
 abbrev pub lines_by : List Announcement → List Line → List Line
 lines_by [] earlier = earlier
 lines_by (a ∷ more) earlier = lines_by more (with_line (announced_line a) earlier)
@@ -144,7 +144,7 @@ clause_absent : (x : Option StoredClause) → id_of x ≡ None → x ≡ None
 clause_absent None e = refl
 clause_absent (Some c) e = absurd cc
 
--- a clause of two literals or more comes in behind the others, or one count more
+-- a clause of two literals or more comes in after the others, or one count more
 stands_more : (r : Bool) (n : ℕ) (ls : List ℕ) (id : ℕ) (d : List ℕ) (cs : List StoredClause) → (s : StoredClause) → IsOneOf s cs → s.id ≡ id → s.literals ≡ d → HasAccepted id d (with_stored_clause r n ls cs)
 stands_more r n ls id d [] s h i e = absurd h
 stands_more r n ls id d (c ∷ cs) s h i e = elim h [

@@ -25,8 +25,8 @@ module _ (earlier : List Line) (line : Line) where
   present_or_not : {F : List ℕ → List (List ℕ) → Type 0} → clauses_under (named_ids line) earlier ≡ None → TriesLine earlier line F → ⊥
   present_or_not e t = let f : ◌≡◌ {A = Option (List (List ℕ))} None (Some t.clauses) = sym e ∙ t.present in cc
 
-  not_both : TriesLine earlier line SomeIsNotUnit → TriesLine earlier line LastIsNotFalsified → ⊥
-  not_both s t =
+  model_excludes_core : TriesLine earlier line SomeIsNotUnit → TriesLine earlier line LastIsNotFalsified → ⊥
+  model_excludes_core s t =
       let f : Some s.clauses ≡ Some t.clauses = sym s.present ∙ t.present in
       let g : Some s.assumed ≡ Some t.assumed = sym s.assumes ∙ t.assumes in
       let same : s.clauses ≡ t.clauses = cc in
@@ -56,10 +56,10 @@ module _ (earlier : List Line) (line : Line) where
   one_reason NotUnit IdOrder h g = absurd (g h.in_order)
   one_reason NotUnit UnknownId h g = absurd (present_or_not g.1 h)
   one_reason NotUnit NotUnit h g = refl
-  one_reason NotUnit NotFalsified h g = absurd (not_both h g)
+  one_reason NotUnit NotFalsified h g = absurd (model_excludes_core h g)
   one_reason NotFalsified IdOrder h g = absurd (g h.in_order)
   one_reason NotFalsified UnknownId h g = absurd (present_or_not g.1 h)
-  one_reason NotFalsified NotUnit h g = absurd (not_both g h)
+  one_reason NotFalsified NotUnit h g = absurd (model_excludes_core g h)
   one_reason NotFalsified NotFalsified h g = refl
   one_reason IdOrder VarInUse h g = absurd (unused_order g h)
   one_reason UnknownId VarInUse h g = absurd (unused_present g h.1)
@@ -88,16 +88,16 @@ one_why earlier bytes w v (a_line k s h) (a_line l t g) =
     one_reason earlier l w v (subst (λ x. IsFaultOf earlier x w) (one_line k l s.0 t.0 (sym s.1 ∙ t.1)) h) g
 
 -- ONE PLACE
--- two texts stand in a list, behind fronts: at the same place, or one in the other's front
+-- two texts stand in a list, after fronts: at the same place, or one in the other's front
 data Beside (xs ys : List (List ℕ)) (x y : List ℕ) : Type 0 where
   same : xs ≡ ys → x ≡ y → Beside xs ys x y
-  sooner : (behind : List (List ℕ)) → ys ≡ xs ++ (x ∷ behind) → Beside xs ys x y
-  later : (behind : List (List ℕ)) → xs ≡ ys ++ (y ∷ behind) → Beside xs ys x y
+  sooner : (following : List (List ℕ)) → ys ≡ xs ++ (x ∷ following) → Beside xs ys x y
+  later : (following : List (List ℕ)) → xs ≡ ys ++ (y ∷ following) → Beside xs ys x y
 
 both_longer : (a : List ℕ) (xs ys : List (List ℕ)) (x y : List ℕ) → Beside xs ys x y → Beside (a ∷ xs) (a ∷ ys) x y
 both_longer a xs ys x y (same e f) = same (ap (λ t. a ∷ t) e) f
-both_longer a xs ys x y (sooner behind e) = sooner behind (ap (λ t. a ∷ t) e)
-both_longer a xs ys x y (later behind e) = later behind (ap (λ t. a ∷ t) e)
+both_longer a xs ys x y (sooner following e) = sooner following (ap (λ t. a ∷ t) e)
+both_longer a xs ys x y (later following e) = later following (ap (λ t. a ∷ t) e)
 
 beside : (xs ys : List (List ℕ)) (x y : List ℕ) (more rest : List (List ℕ)) → xs ++ (x ∷ more) ≡ ys ++ (y ∷ rest) → Beside xs ys x y
 beside [] [] x y more rest e = same refl (let f : x ≡ y = cc in f)
@@ -129,8 +129,8 @@ record SameBad (k l : ℕ) (w v : HintWhy) : Type 0 where
 
 module _ (text : List ℕ) (k l : ℕ) (w v : HintWhy) (p : IsBadAt text k w) (q : IsBadAt text l v) where
   at_one_place : Beside (texts_in p.earlier) (texts_in q.earlier) p.bytes q.bytes → SameBad k l w v
-  at_one_place (sooner behind e) = absurd (derivation_has_none q.earlier p.earlier p.bytes behind w q.are q.derivation p.are e p.fault)
-  at_one_place (later behind e) = absurd (derivation_has_none p.earlier q.earlier q.bytes behind v p.are p.derivation q.are e q.fault)
+  at_one_place (sooner following e) = absurd (derivation_has_none q.earlier p.earlier p.bytes following w q.are q.derivation p.are e p.fault)
+  at_one_place (later following e) = absurd (derivation_has_none p.earlier q.earlier q.bytes following v p.are p.derivation q.are e q.fault)
   at_one_place (same e f) =
       let g : q.earlier ≡ p.earlier = same_lines p.earlier q.earlier p.are q.are e in
       let h : IsAtFault p.earlier p.bytes v = subst (λ b. IsAtFault p.earlier b v) (sym f) (subst (λ ls. IsAtFault ls q.bytes v) g q.fault) in

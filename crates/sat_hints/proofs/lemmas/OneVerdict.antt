@@ -170,25 +170,25 @@ record Ended (bytes : List ℕ) : Type 0 where
 ended_end : Ended (48 ∷ 10 ∷ [])
 ended_end = record { front = 48 ∷ []; inside = zero_no_end; ended = refl }
 
-ended_behind : (xs ys : List ℕ) → HasNoEnd xs → Ended ys → Ended (xs ++ ys)
-ended_behind xs ys h w = record { front = xs ++ w.front; inside = no_end_both xs w.front h w.inside; ended = ap (λ t. xs ++ t) w.ended ∙ sym (append_assoc xs w.front (10 ∷ [])) }
+ended_following : (xs ys : List ℕ) → HasNoEnd xs → Ended ys → Ended (xs ++ ys)
+ended_following xs ys h w = record { front = xs ++ w.front; inside = no_end_both xs w.front h w.inside; ended = ap (λ t. xs ++ t) w.ended ∙ sym (append_assoc xs w.front (10 ∷ [])) }
 
 ended_both : (ls ids : List ℕ) → AreLiteralCodes ls → AreIds ids → Ended (literal_words ls ++ (48 ∷ 32 ∷ (id_words ids ++ (48 ∷ 10 ∷ []))))
 ended_both ls ids p q =
-    ended_behind (literal_words ls) (48 ∷ 32 ∷ (id_words ids ++ (48 ∷ 10 ∷ []))) (literals_no_end ls p)
-    (ended_behind (48 ∷ 32 ∷ []) (id_words ids ++ (48 ∷ 10 ∷ [])) space_no_end (ended_behind (id_words ids) (48 ∷ 10 ∷ []) (ids_no_end ids q) ended_end))
+    ended_following (literal_words ls) (48 ∷ 32 ∷ (id_words ids ++ (48 ∷ 10 ∷ []))) (literals_no_end ls p)
+    (ended_following (48 ∷ 32 ∷ []) (id_words ids ++ (48 ∷ 10 ∷ [])) space_no_end (ended_following (id_words ids) (48 ∷ 10 ∷ []) (ids_no_end ids q) ended_end))
 
 kind_no_end : (k : ℕ) → (k ≡ 10 → ⊥) → HasNoEnd (k ∷ 32 ∷ [])
 kind_no_end k h = (h, ((λ e. omega arith), tt))
 
 line_ended : (l : Line) → IsLine l → Ended (line_text l)
 line_ended (Input id ls) p =
-    ended_behind (105 ∷ 32 ∷ []) _ (kind_no_end 105 (λ e. omega arith)) (ended_behind (id_words (id ∷ [])) _ (ids_no_end (id ∷ []) p.0) (ended_behind (literal_words ls) (48 ∷ 10 ∷ []) (literals_no_end ls p.1) ended_end))
+    ended_following (105 ∷ 32 ∷ []) _ (kind_no_end 105 (λ e. omega arith)) (ended_following (id_words (id ∷ [])) _ (ids_no_end (id ∷ []) p.0) (ended_following (literal_words ls) (48 ∷ 10 ∷ []) (literals_no_end ls p.1) ended_end))
 line_ended (Derived id ls ids) p =
-    ended_behind (100 ∷ 32 ∷ []) _ (kind_no_end 100 (λ e. omega arith)) (ended_behind (id_words (id ∷ [])) _ (ids_no_end (id ∷ []) p.0) (ended_both ls ids p.1 p.2))
-line_ended (Gone id) p = ended_behind (120 ∷ 32 ∷ []) _ (kind_no_end 120 (λ e. omega arith)) (ended_behind (id_words (id ∷ [])) (48 ∷ 10 ∷ []) (ids_no_end (id ∷ []) p) ended_end)
-line_ended (Core ls ids) p = ended_behind (102 ∷ 32 ∷ []) _ (kind_no_end 102 (λ e. omega arith)) (ended_both ls ids p.0 p.1)
-line_ended (Fresh v) p = ended_behind (101 ∷ 32 ∷ []) _ (kind_no_end 101 (λ e. omega arith)) (ended_behind (id_words (v ∷ [])) (48 ∷ 10 ∷ []) (ids_no_end (v ∷ []) (omega arith, tt)) ended_end)
+    ended_following (100 ∷ 32 ∷ []) _ (kind_no_end 100 (λ e. omega arith)) (ended_following (id_words (id ∷ [])) _ (ids_no_end (id ∷ []) p.0) (ended_both ls ids p.1 p.2))
+line_ended (Gone id) p = ended_following (120 ∷ 32 ∷ []) _ (kind_no_end 120 (λ e. omega arith)) (ended_following (id_words (id ∷ [])) (48 ∷ 10 ∷ []) (ids_no_end (id ∷ []) p) ended_end)
+line_ended (Core ls ids) p = ended_following (102 ∷ 32 ∷ []) _ (kind_no_end 102 (λ e. omega arith)) (ended_both ls ids p.0 p.1)
+line_ended (Fresh v) p = ended_following (101 ∷ 32 ∷ []) _ (kind_no_end 101 (λ e. omega arith)) (ended_following (id_words (v ∷ [])) (48 ∷ 10 ∷ []) (ids_no_end (v ∷ []) (omega arith, tt)) ended_end)
 
 not_ten : (b : ℕ) → (b ≡ 10 → ⊥) → nat_eq b 10 ≡ false
 not_ten b h = go (nat_eq b 10) refl

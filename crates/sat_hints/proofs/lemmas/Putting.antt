@@ -1,4 +1,4 @@
--- Texts that are put one behind another.
+-- Texts that are put one after another.
 use Rattle.std.proofs.Common.{ℕ, suc, ◌+◌, ◌^◌, ◌<◌, ◌≤◌, ◌≡◌, Bool, true, false, List, [], ◌∷◌, ◌++◌, length, take, drop, get_or, set, decimal, codes, refl, sym, ◌∙◌, ap, subst, arith, append_assoc, append-nil}
 use Rattle.std.proofs.lemmas.List.{drop_more, drop_all}
 use Rattle.std.proofs.Math.Seq.{take-suc-set}
@@ -17,9 +17,9 @@ pub put_none : (a : Outlet) → PutsText [] a a
 put_none a = put_none_from a.failed a refl
 
 -- one text, and then another
-put_behind_sent : (b c : Bool) (xs ys : List ℕ) (s t u : Sink) → AddsToSink s t xs → PutBy c ys t u → PutBy c (xs ++ ys) s u
-put_behind_sent b false xs ys s t u h k = sent_more s t u xs ys h k
-put_behind_sent b true xs ys s t u h k = sends_breaks s t u xs ys h k
+write_out_and_put_sent : (b c : Bool) (xs ys : List ℕ) (s t u : Sink) → AddsToSink s t xs → PutBy c ys t u → PutBy c (xs ++ ys) s u
+write_out_and_put_sent b false xs ys s t u h k = sent_more s t u xs ys h k
+write_out_and_put_sent b true xs ys s t u h k = sends_breaks s t u xs ys h k
 
 pub put_more : (xs ys : List ℕ) (a b c : Outlet) → PutsText xs a b → PutsText ys b c → PutsText (xs ++ ys) a c
 put_more xs ys a b c h k = go a.failed b.failed refl refl h k
@@ -30,7 +30,7 @@ put_more xs ys a b c h k = go a.failed b.failed refl refl h k
     go false true e d h k =
         let broken = subst (λ f. PutBy f xs a.sink b.sink) d h in
         subst (λ z. PutBy z.failed (xs ++ ys) a.sink z.sink) (sym k) (subst (λ f. PutBy f (xs ++ ys) a.sink b.sink) (sym d) (sends_stops a.sink b.sink xs ys broken))
-    go false false e d h k = put_behind_sent false c.failed xs ys a.sink b.sink c.sink (subst (λ f. PutBy f xs a.sink b.sink) d h) k
+    go false false e d h k = write_out_and_put_sent false c.failed xs ys a.sink b.sink c.sink (subst (λ f. PutBy f xs a.sink b.sink) d h) k
 
 pub put_same : (xs ys : List ℕ) (a b : Outlet) → xs ≡ ys → PutsText xs a b → PutsText ys a b
 put_same xs ys a b e h = subst (λ t. PutsText t a b) e h
@@ -83,7 +83,7 @@ byte_waits w bytes len byte a b h e f g k =
     one_more : (bytes : List ℕ) (len byte : ℕ) → len < length bytes → take (len + 1) (set bytes len byte) ≡ take len bytes ++ (byte ∷ [])
     one_more bytes len byte h = let e : len + 1 ≡ suc len = omega arith in ap (λ n. take n (set bytes len byte)) e ∙ take-suc-set bytes len byte h
 
--- behind what was written out
+-- after what was written out
 pub first_byte_waits : (w : Writer) (bytes : List ℕ) (len byte : ℕ) (a b c : Outlet) → len ≡ 0 → 0 < length bytes → PutsText [] a b → b.failed ≡ false → b.sink ≡ record { writer = w; waiting = take len bytes } → c.failed ≡ false → c.sink ≡ record { writer = w; waiting = take 1 (set bytes 0 byte) } → PutsText (byte ∷ []) a c
 first_byte_waits w bytes len byte a b c z h p e f g k =
     let f' : b.sink ≡ record { writer = w; waiting = take 0 bytes } = f ∙ ap (λ (n : ℕ). let s : Sink = record { writer = w; waiting = take n bytes } in s) z in

@@ -15,8 +15,8 @@ reported_left xs was now bytes e c = go now (subst (λ o. Consumes o now bytes) 
     go (Some ys) c = (ys, refl, c)
 
 pub proof_is_proved : ProofIsProved
-proof_is_proved text empty cores lines (Err fault) from to p told g = tt
-proof_is_proved text empty cores lines (Ok verdict) from to p told g =
-    let t = reported_left text from.to_come to.to_come g.text told g.front.told in
+proof_is_proved text empty cores lines (Err fault) from to p text_is g = tt
+proof_is_proved text empty cores lines (Ok verdict) from to p text_is g =
+    let t = reported_left text from.to_come to.to_come g.text text_is g.front.known_bytes in
     let judged : Judges verdict (g.text ++ t.0) = g.holds t.0 (λ called ended. subst IsAtEnd t.1 (g.over called ended)) in
     one_verdict text verdict (Proved empty cores lines) (subst (Judges verdict) (sym t.2) judged) p

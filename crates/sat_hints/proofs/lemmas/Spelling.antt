@@ -24,14 +24,14 @@ pub both_no_middle : (bytes ls rest : List ℕ) → BeginsWithWords number_text 
 both_no_middle bytes ls rest r never ks is tail o =
     never (id_words is ++ (48 ∷ 10 ∷ tail)) (ended_words number_text IsLiteralCode literals_are_words bytes ls rest r ks (32 ∷ (id_words is ++ (48 ∷ 10 ∷ tail))) o.0 o.2).rests
 
-pub both_answer : (found : Option (Bor (List ℕ))) (bytes ls rest behind ids last : List ℕ) → BeginsWithWords number_text IsLiteralCode bytes ls rest → rest ≡ 48 ∷ 32 ∷ behind → BeginsWithWords id_text IsId behind ids last
+pub both_answer : (found : Option (Bor (List ℕ))) (bytes ls rest following ids last : List ℕ) → BeginsWithWords number_text IsLiteralCode bytes ls rest → rest ≡ 48 ∷ 32 ∷ following → BeginsWithWords id_text IsId following ids last
     → MatchOption found ((tail : List ℕ) → last ≡ 48 ∷ 10 ∷ tail → ⊥) (λ x. last ≡ 48 ∷ 10 ∷ x.now) → MatchOption found ((ks is tail : List ℕ) → BeginsWithBoth bytes ks is tail → ⊥) (λ x. BeginsWithBoth bytes ls ids x.now)
-both_answer None bytes ls rest behind ids last r e s never = λ ks is tail o.
+both_answer None bytes ls rest following ids last r e s never = λ ks is tail o.
     let m = (ended_words number_text IsLiteralCode literals_are_words bytes ls rest r ks (32 ∷ (id_words is ++ (48 ∷ 10 ∷ tail))) o.0 o.2).rests in
-    let f : 48 ∷ 32 ∷ behind ≡ 48 ∷ 32 ∷ (id_words is ++ (48 ∷ 10 ∷ tail)) = sym e ∙ m in
-    let g : behind ≡ id_words is ++ (48 ∷ 10 ∷ tail) = cc in
-    never tail (ended_words id_text IsId ids_are_words behind ids last s is (10 ∷ tail) o.1 g).rests
-both_answer (Some x) bytes ls rest behind ids last r e s f = (
+    let f : 48 ∷ 32 ∷ following ≡ 48 ∷ 32 ∷ (id_words is ++ (48 ∷ 10 ∷ tail)) = sym e ∙ m in
+    let g : following ≡ id_words is ++ (48 ∷ 10 ∷ tail) = cc in
+    never tail (ended_words id_text IsId ids_are_words following ids last s is (10 ∷ tail) o.1 g).rests
+both_answer (Some x) bytes ls rest following ids last r e s f = (
   r.are,
   s.are,
   r.whole ∙ ap (λ t. literal_words ls ++ t) (e ∙ ap (λ t. 48 ∷ 32 ∷ t) (s.whole ∙ ap (λ t. id_words ids ++ t) f)),
@@ -62,10 +62,10 @@ fresh_text v rest = ap (λ t. 101 ∷ 32 ∷ t) (id_before v end rest (48 ∷ 10
 
 -- A LINE OF EACH KIND
 abbrev IsInput : List ℕ → Type 0
-IsInput bytes = (id : ℕ) × (behind : List ℕ) × (ls : List ℕ) × (rest : List ℕ) × BeginsWithWord id_text IsId bytes id behind × BeginsWithOne behind ls rest
+IsInput bytes = (id : ℕ) × (following : List ℕ) × (ls : List ℕ) × (rest : List ℕ) × BeginsWithWord id_text IsId bytes id following × BeginsWithOne following ls rest
 
 abbrev IsDerived : List ℕ → Type 0
-IsDerived bytes = (id : ℕ) × (behind : List ℕ) × (ls : List ℕ) × (ids : List ℕ) × (rest : List ℕ) × BeginsWithWord id_text IsId bytes id behind × BeginsWithBoth behind ls ids rest
+IsDerived bytes = (id : ℕ) × (following : List ℕ) × (ls : List ℕ) × (ids : List ℕ) × (rest : List ℕ) × BeginsWithWord id_text IsId bytes id following × BeginsWithBoth following ls ids rest
 
 abbrev IsGone : List ℕ → Type 0
 IsGone bytes = (id : ℕ) × (rest : List ℕ) × BeginsWithWord id_text IsId bytes id (48 ∷ 10 ∷ rest)
@@ -116,18 +116,18 @@ not_fresh bytes never (Core ls ids) rest s = let f = s.1 in let r : ◌≡◌ {A
 same_id : (bytes : List ℕ) (x y : ℕ) (r s : List ℕ) → BeginsWithWord id_text IsId bytes x r → BeginsWithWord id_text IsId bytes y s → s ≡ r
 same_id bytes x y r s b c = sym (same_word id_text IsId ids_are_words bytes x y r s b c.0 c.1).1
 
-pub input_refused : (bytes behind : List ℕ) (id : ℕ) → BeginsWithWord id_text IsId bytes id behind → ((ls tail : List ℕ) → BeginsWithOne behind ls tail → ⊥) → BeginsWithNoLine (105 ∷ 32 ∷ bytes)
-input_refused bytes behind id b never = not_input bytes (λ i. never i.2 i.3 (rw (sym (same_id bytes id i.0 behind i.1 b i.4)) i.5))
+pub input_refused : (bytes following : List ℕ) (id : ℕ) → BeginsWithWord id_text IsId bytes id following → ((ls tail : List ℕ) → BeginsWithOne following ls tail → ⊥) → BeginsWithNoLine (105 ∷ 32 ∷ bytes)
+input_refused bytes following id b never = not_input bytes (λ i. never i.2 i.3 (rw (sym (same_id bytes id i.0 following i.1 b i.4)) i.5))
 
-pub derived_refused : (bytes behind : List ℕ) (id : ℕ) → BeginsWithWord id_text IsId bytes id behind → ((ls ids tail : List ℕ) → BeginsWithBoth behind ls ids tail → ⊥) → BeginsWithNoLine (100 ∷ 32 ∷ bytes)
-derived_refused bytes behind id b never = not_derived bytes (λ i. never i.2 i.3 i.4 (rw (sym (same_id bytes id i.0 behind i.1 b i.5)) i.6))
+pub derived_refused : (bytes following : List ℕ) (id : ℕ) → BeginsWithWord id_text IsId bytes id following → ((ls ids tail : List ℕ) → BeginsWithBoth following ls ids tail → ⊥) → BeginsWithNoLine (100 ∷ 32 ∷ bytes)
+derived_refused bytes following id b never = not_derived bytes (λ i. never i.2 i.3 i.4 (rw (sym (same_id bytes id i.0 following i.1 b i.5)) i.6))
 
-pub gone_refused : (bytes behind : List ℕ) (id : ℕ) → BeginsWithWord id_text IsId bytes id behind → ((tail : List ℕ) → behind ≡ 48 ∷ 10 ∷ tail → ⊥) → BeginsWithNoLine (120 ∷ 32 ∷ bytes)
-gone_refused bytes behind id b never = not_gone bytes (λ i. never i.1 (sym (same_id bytes id i.0 behind (48 ∷ 10 ∷ i.1) b i.2)))
+pub gone_refused : (bytes following : List ℕ) (id : ℕ) → BeginsWithWord id_text IsId bytes id following → ((tail : List ℕ) → following ≡ 48 ∷ 10 ∷ tail → ⊥) → BeginsWithNoLine (120 ∷ 32 ∷ bytes)
+gone_refused bytes following id b never = not_gone bytes (λ i. never i.1 (sym (same_id bytes id i.0 following (48 ∷ 10 ∷ i.1) b i.2)))
 
 -- a variable is a smaller id
 as_id : (bytes : List ℕ) (v : ℕ) (rest : List ℕ) → BeginsWithWord id_text IsVariableIndex bytes v rest → BeginsWithWord id_text IsId bytes v rest
 as_id bytes v rest b = ((let k = b.0 in omega arith), b.1)
 
-pub fresh_refused : (bytes behind : List ℕ) (v : ℕ) → BeginsWithWord id_text IsVariableIndex bytes v behind → ((tail : List ℕ) → behind ≡ 48 ∷ 10 ∷ tail → ⊥) → BeginsWithNoLine (101 ∷ 32 ∷ bytes)
-fresh_refused bytes behind v b never = not_fresh bytes (λ i. never i.1 (sym (same_id bytes v i.0 behind (48 ∷ 10 ∷ i.1) (as_id bytes v behind b) (as_id bytes i.0 (48 ∷ 10 ∷ i.1) i.2))))
+pub fresh_refused : (bytes following : List ℕ) (v : ℕ) → BeginsWithWord id_text IsVariableIndex bytes v following → ((tail : List ℕ) → following ≡ 48 ∷ 10 ∷ tail → ⊥) → BeginsWithNoLine (101 ∷ 32 ∷ bytes)
+fresh_refused bytes following v b never = not_fresh bytes (λ i. never i.1 (sym (same_id bytes v i.0 following (48 ∷ 10 ∷ i.1) (as_id bytes v following b) (as_id bytes i.0 (48 ∷ 10 ∷ i.1) i.2))))

@@ -7,7 +7,7 @@ use Rattle.sat_base.specs.values.Tables.{value_at}
 use Rattle.sat_checker.specs.LiteralSets.{mentions}
 use Rattle.sat_checker.specs.SortedSets.{IsIncreasing}
 use Rattle.sat_hints.specs.Hints.{is_long, unless_unit_over}
-use Rattle.sat_hints.specs.inner.Clauses.{clause_in, present_clause_at, times_long, times_at, AllBelow, IsStore, AddsPresentClause, Loses}
+use Rattle.sat_hints.specs.inner.Clauses.{clause_in, present_clause_at, times_long, occurrences_of, AllBelow, IsStore, AddsPresentClause, Loses}
 use Rattle.sat_hints.specs.inner.UsesView.{if_counting, uses_at}
 use Rattle.sat_hints.specs.inner.Standing.{is_stale, unless_stale, standing_clause, SinceWithin, StandingInvariant, FindsClause, AddsStandingClause, DropsClause, IsUsed, RenewsVariable}
 use Rattle.sat_hints.specs.declared.present.Present.{Present}
@@ -48,8 +48,8 @@ gains old new id clause s w a e c u = record {
   standing = record {
     store = a.store;
     counted = λ l.
-        u l ∙ ap (λ n. n + if_counting old.uses.counting (times_long l clause)) (s.counted l) ∙ if_more old.uses.counting (times_at new.present l) (times_at old.present l) (times_long l clause) (a.times l)
-        ∙ ap (λ b. if_counting b (times_at new.present l)) (sym c);
+        u l ∙ ap (λ n. n + if_counting old.uses.counting (times_long l clause)) (s.counted l) ∙ if_more old.uses.counting (occurrences_of new.present l) (occurrences_of old.present l) (times_long l clause) (a.times l)
+        ∙ ap (λ b. if_counting b (occurrences_of new.present l)) (sym c);
   };
   below = a.below;
   since = e;
@@ -65,11 +65,11 @@ if_few : (b : Bool) (n : ℕ) → if_counting b n ≤ n
 if_few true n = omega arith
 if_few false n = omega arith
 
-pub few_uses : (old new : Present) (u : Uses) (id n : ℕ) (clause : List ℕ) → IsStore old → ((l : ℕ) → uses_at u l ≡ if_counting u.counting (times_at old l)) → IsIncreasing clause → AddsPresentClause old new id clause → n ≡ length new.ids.items → n < 2 ^ 64 → (l : ℕ) → uses_at u l + times_long l clause < 2 ^ 64
+pub few_uses : (old new : Present) (u : Uses) (id n : ℕ) (clause : List ℕ) → IsStore old → ((l : ℕ) → uses_at u l ≡ if_counting u.counting (occurrences_of old l)) → IsIncreasing clause → AddsPresentClause old new id clause → n ≡ length new.ids.items → n < 2 ^ 64 → (l : ℕ) → uses_at u l + times_long l clause < 2 ^ 64
 few_uses old new u id n clause s c i a e f l =
-    let x : uses_at u l ≡ if_counting u.counting (times_at old l) = c l in
-    let y : if_counting u.counting (times_at old l) ≤ times_at old l = if_few u.counting (times_at old l) in
-    let z : times_at old l ≤ length old.clauses = times-few l old.clauses old.gone.items s.sets in
+    let x : uses_at u l ≡ if_counting u.counting (occurrences_of old l) = c l in
+    let y : if_counting u.counting (occurrences_of old l) ≤ occurrences_of old l = if_few u.counting (occurrences_of old l) in
+    let z : occurrences_of old l ≤ length old.clauses = times-few l old.clauses old.gone.items s.sets in
     let w : times_long l clause ≤ 1 = times_one l clause i in
     let v : length new.ids.items ≡ length old.ids.items + 1 = a.longer in
     let t : length old.clauses ≡ length old.ids.items = s.clauses in
@@ -100,8 +100,8 @@ module _ (old : Standing) (id place : ℕ) (s : StandingInvariant old) (f : Find
   pub were_counted : (clause : List ℕ) → clause ≡ present_clause_at old.present place → (l : ℕ) → if_counting old.uses.counting (times_long l clause) ≤ uses_at old.uses l
   were_counted clause e l =
       let g = (not_gone (present_clause_at old.present place) f.stored).0 in
-      let k : times_long l (present_clause_at old.present place) ≤ times_at old.present l = times-there l old.present.clauses old.present.gone.items place (s.store.gone ∙ sym s.store.clauses) f.within g in
-      if_below old.uses.counting (times_long l clause) (times_at old.present l) (uses_at old.uses l) (subst (λ c. times_long l c ≤ times_at old.present l) (sym e) k) (s.counted l)
+      let k : times_long l (present_clause_at old.present place) ≤ occurrences_of old.present l = times-there l old.present.clauses old.present.gone.items place (s.store.gone ∙ sym s.store.clauses) f.within g in
+      if_below old.uses.counting (times_long l clause) (occurrences_of old.present l) (uses_at old.uses l) (subst (λ c. times_long l c ≤ occurrences_of old.present l) (sym e) k) (s.counted l)
 
   pub drops : (new : Standing) (clause : List ℕ) → clause ≡ present_clause_at old.present place → Loses old.present new.present (get_or old.present.ids.items place 0) → new.since ≡ old.since → new.uses.counting ≡ old.uses.counting
       → ((l : ℕ) → uses_at new.uses l + if_counting old.uses.counting (times_long l clause) ≡ uses_at old.uses l) → DropsClause old new id
@@ -118,14 +118,14 @@ module _ (old : Standing) (id place : ℕ) (s : StandingInvariant old) (f : Find
       one j true = refl
       one j false = refl
 
-      counts : Loses old.present new.present id → (m : ℕ) → uses_at new.uses m ≡ if_counting new.uses.counting (times_at new.present m)
+      counts : Loses old.present new.present id → (m : ℕ) → uses_at new.uses m ≡ if_counting new.uses.counting (occurrences_of new.present m)
       counts l m =
-          let x : times_at new.present m + times_long m clause ≡ times_at old.present m = l.times clause (f.stored ∙ ap Some (sym e)) m in
-          let y : if_counting old.uses.counting (times_at new.present m) + if_counting old.uses.counting (times_long m clause) ≡ if_counting old.uses.counting (times_at old.present m) = if_less old.uses.counting (times_at new.present m) (times_at old.present m) (times_long m clause) x in
-          let z : uses_at old.uses m ≡ if_counting old.uses.counting (times_at old.present m) = s.counted m in
+          let x : occurrences_of new.present m + times_long m clause ≡ occurrences_of old.present m = l.times clause (f.stored ∙ ap Some (sym e)) m in
+          let y : if_counting old.uses.counting (occurrences_of new.present m) + if_counting old.uses.counting (times_long m clause) ≡ if_counting old.uses.counting (occurrences_of old.present m) = if_less old.uses.counting (occurrences_of new.present m) (occurrences_of old.present m) (times_long m clause) x in
+          let z : uses_at old.uses m ≡ if_counting old.uses.counting (occurrences_of old.present m) = s.counted m in
           let t : uses_at new.uses m + if_counting old.uses.counting (times_long m clause) ≡ uses_at old.uses m = u m in
-          let r : uses_at new.uses m ≡ if_counting old.uses.counting (times_at new.present m) = omega (arith, y, z, t) in
-          r ∙ ap (λ b. if_counting b (times_at new.present m)) (sym c)
+          let r : uses_at new.uses m ≡ if_counting old.uses.counting (occurrences_of new.present m) = omega (arith, y, z, t) in
+          r ∙ ap (λ b. if_counting b (occurrences_of new.present m)) (sym c)
 
 pub found_some : (s : Standing) (id place : ℕ) → FindsClause s id place → standing_clause s id ≢ None
 found_some s id place f e = let x : ◌≡◌ {A = Option (List ℕ)} (Some (present_clause_at s.present place)) None = sym f.clause ∙ e in cc
@@ -133,9 +133,9 @@ found_some s id place f e = let x : ◌≡◌ {A = Option (List ℕ)} (Some (pre
 -- IN USE
 module _ (s : Standing) (v : ℕ) (st : IsStore s.present) where
   abbrev both : ℕ
-  both = times_at s.present (2 * v) + times_at s.present (2 * v + 1)
+  both = occurrences_of s.present (2 * v) + occurrences_of s.present (2 * v + 1)
 
-  used_at : (l : ℕ) → ((c : List ℕ) → is_long c ≡ true → 0 < times_long l c → mentions c v ≡ true) → 0 < times_at s.present l → IsUsed s v
+  used_at : (l : ℕ) → ((c : List ℕ) → is_long c ≡ true → 0 < times_long l c → mentions c v ≡ true) → 0 < occurrences_of s.present l → IsUsed s v
   used_at l within h =
       let t = times-some l s.present.clauses s.present.gone.items h in
       let c = get_or s.present.clauses t.place [] in
@@ -152,9 +152,9 @@ module _ (s : Standing) (v : ℕ) (st : IsStore s.present) where
       }
 
   used_some : 0 < both → IsUsed s v
-  used_some h = go (times_at s.present (2 * v)) refl
+  used_some h = go (occurrences_of s.present (2 * v)) refl
     where
-      go : (n : ℕ) → times_at s.present (2 * v) ≡ n → IsUsed s v
+      go : (n : ℕ) → occurrences_of s.present (2 * v) ≡ n → IsUsed s v
       go zero e = used_at (2 * v + 1) (λ c long k. counted_mentions v c long (omega (arith, k))) (omega (arith, h, e))
       go (suc n) e = used_at (2 * v) (λ c long k. counted_mentions v c long (omega (arith, k))) (omega (arith, e))
 
@@ -163,8 +163,8 @@ module _ (s : Standing) (v : ℕ) (st : IsStore s.present) where
       let e : clause_in s.present u.id ≡ Some u.clause = was_stored s.since u.id (clause_in s.present u.id) u.clause u.present in
       let t = stands_at u.id u.clause s.present.ids.items s.present.clauses s.present.gone.items e in
       let g : length s.present.gone.items ≡ length s.present.clauses = st.gone ∙ sym st.clauses in
-      let a : times_long (2 * v) (get_or s.present.clauses t.place []) ≤ times_at s.present (2 * v) = times-there (2 * v) s.present.clauses s.present.gone.items t.place g t.within t.there in
-      let b : times_long (2 * v + 1) (get_or s.present.clauses t.place []) ≤ times_at s.present (2 * v + 1) = times-there (2 * v + 1) s.present.clauses s.present.gone.items t.place g t.within t.there in
+      let a : times_long (2 * v) (get_or s.present.clauses t.place []) ≤ occurrences_of s.present (2 * v) = times-there (2 * v) s.present.clauses s.present.gone.items t.place g t.within t.there in
+      let b : times_long (2 * v + 1) (get_or s.present.clauses t.place []) ≤ occurrences_of s.present (2 * v + 1) = times-there (2 * v + 1) s.present.clauses s.present.gone.items t.place g t.within t.there in
       let c = ap (times_long (2 * v)) t.clause in
       let d = ap (times_long (2 * v + 1)) t.clause in
       let n : 0 < times_long (2 * v) u.clause + times_long (2 * v + 1) u.clause = mentions_counted v u.clause u.long u.within in
@@ -182,7 +182,7 @@ below_bound p bound s h id c e =
     subst (λ i. i < bound) t.named (h t.place (subst (λ n. t.place < n) s.clauses t.within))
 
 module _ (old new : Standing) (v bound : ℕ) (s : StandingInvariant old) (above : AllBelow old.present.ids.items bound) (w : SinceWithin old bound)
-    (p : new.present ≡ old.present) (counting : new.uses.counting ≡ true) (u : (l : ℕ) → uses_at new.uses l ≡ times_at old.present l) (at : (x : ℕ) → value_at 0 new.since x ≡ cond (eqb x v) bound (value_at 0 old.since x)) where
+    (p : new.present ≡ old.present) (counting : new.uses.counting ≡ true) (u : (l : ℕ) → uses_at new.uses l ≡ occurrences_of old.present l) (at : (x : ℕ) → value_at 0 new.since x ≡ cond (eqb x v) bound (value_at 0 old.since x)) where
   unit_gone : (l : ℕ) (b : Bool) → eqb (variable l) v ≡ true → unless_unit_over v (cond b None (Some (l ∷ []))) ≡ None
   unit_gone l true e = refl
   unit_gone l false e = ap (λ t. cond t None (Some (l ∷ []))) e
@@ -211,7 +211,7 @@ module _ (old new : Standing) (v bound : ℕ) (s : StandingInvariant old) (above
   forgets = record {
     standing = record {
       store = subst IsStore (sym p) s.store;
-      counted = λ l. u l ∙ ap (λ x. times_at x l) (sym p) ∙ ap (λ b. if_counting b (times_at new.present l)) (sym counting);
+      counted = λ l. u l ∙ ap (λ x. occurrences_of x l) (sym p) ∙ ap (λ b. if_counting b (occurrences_of new.present l)) (sym counting);
     };
     present = p;
     since = λ x. within x (eqb x v) refl;

@@ -100,7 +100,7 @@ stored_ready old new id clause w s = record {
   room = s.room;
 }
 
--- it can go on behind what leaves it the same
+-- it can go on after what leaves it the same
 pub same_ready : (old new : Judge) → IsReadyJudge old → IsSame old new → IsReadyJudge new
 same_ready old new r m = record {
   standing = subst StandingInvariant (sym m.standing) r.standing;

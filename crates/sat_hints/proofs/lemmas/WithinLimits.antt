@@ -11,7 +11,7 @@ use Rattle.sat_checker.specs.Stored.{StoredClause, Mode, Stored}
 use Rattle.sat_checker.specs.Storing.{clause_with, with_unit}
 use Rattle.sat_checker.specs.Accepts.{stored_after, ready_after}
 use Rattle.sat_checker.specs.announcements.Needed.{true_unit, propagations}
-use Rattle.sat_checker.specs.announcements.Announcements as told
+use Rattle.sat_checker.specs.announcements.Announcements as notices
 use Rattle.sat_checker.specs.announcements.Announcements.{Announcement, is_sample, has_witness_mode, mode_change, renaming, naming, id_of_set, input_set, input, redundant_alone, derived_set, derived, derived_units, redundant_deleted, irredundant_deleted, one, last_id, announced, delayed_by, delayed, Notice, notices_over, notices_after, all_notices_after}
 use Rattle.sat_checker.proofs.lemmas.sets.Members.{canonical_each}
 use Rattle.sat_hints.specs.Lines.{Line, Input, Derived, Gone, Core, Fresh, AreLiteralCodes, AreVariables, AreLines}
@@ -53,7 +53,7 @@ set_fits clause h = canonical_each (λ l. l < 2 * var_limit) clause h
 derived_fit : (r : Bool) (c hs : List ℕ) (f : Stored) → AreLiteralCodes c → FitReported (derived r c hs f)
 derived_fit r c hs f h = go (is_tautology c) (id_of_set (canonical c) f)
   where
-    more : (b : Bool) (id : ℕ) → FitReported (cond b (told.MakeIrredundant id (canonical c) ∷ []) [])
+    more : (b : Bool) (id : ℕ) → FitReported (cond b (notices.MakeIrredundant id (canonical c) ∷ []) [])
     more true id = (tt, tt)
     more false id = tt
 
@@ -69,7 +69,7 @@ units_fit (u ∷ us) f h = both_fit (derived false (u.0 ∷ []) (u.1 ∷ []) f) 
 input_fit : (c : List ℕ) (f : Stored) → AreLiteralCodes c → FitReported (input c f)
 input_fit c f h = go (is_tautology c) (id_of_set (canonical c) f)
   where
-    go : (b : Bool) (x : Option ℕ) → FitReported (cond b (told.TautologicalClause f.next_id (canonical c) ∷ []) (input_set f.next_id (canonical c) x))
+    go : (b : Bool) (x : Option ℕ) → FitReported (cond b (notices.TautologicalClause f.next_id (canonical c) ∷ []) (input_set f.next_id (canonical c) x))
     go true x = (tt, tt)
     go false None = (set_fits c h, tt)
     go false (Some id) = (tt, tt)
@@ -78,7 +78,7 @@ redundant_fit : (x : Option StoredClause) → FitReported (redundant_deleted x)
 redundant_fit None = tt
 redundant_fit (Some s) = go (eqb s.irredundant 0 && eqb s.redundant 1)
   where
-    go : (b : Bool) → FitReported (cond b (told.DeleteClause s.id s.literals ∷ []) [])
+    go : (b : Bool) → FitReported (cond b (notices.DeleteClause s.id s.literals ∷ []) [])
     go true = (tt, tt)
     go false = tt
 
@@ -86,7 +86,7 @@ irredundant_fit : (ids : List ℕ) (x : Option StoredClause) → FitReported (ir
 irredundant_fit ids None = tt
 irredundant_fit ids (Some s) = go (eqb s.irredundant 1) (Rattle.std.specs.Prelude.nat_lt 0 s.redundant)
   where
-    go : (b k : Bool) → FitReported (cond b (told.DeleteAtClause s.id k s.literals ids ∷ []) [])
+    go : (b k : Bool) → FitReported (cond b (notices.DeleteAtClause s.id k s.literals ids ∷ []) [])
     go true true = (tt, tt)
     go true false = (tt, tt)
     go false k = tt
@@ -95,7 +95,7 @@ mode_fit : (v : ℕ) (sampling : Bool) (mode : Mode) (name : Option ℕ) → Fit
 mode_fit v sampling mode None = tt
 mode_fit v sampling mode (Some name) = go (cond sampling (is_sample mode) (has_witness_mode mode))
   where
-    go : (b : Bool) → FitReported (cond b [] (told.UserVar v (Some (record { name = name; sampling = sampling; is_new = false })) ∷ []))
+    go : (b : Bool) → FitReported (cond b [] (notices.UserVar v (Some (record { name = name; sampling = sampling; is_new = false })) ∷ []))
     go true = tt
     go false = (tt, tt)
 

@@ -1,4 +1,4 @@
--- Words, each with a space behind it, are read in one way.
+-- Words, each with a space after it, are read in one way.
 use Rattle.std.proofs.Common.{ℕ, ◌+◌, ◌/◌, ◌%◌, ◌^◌, ◌<◌, ◌≤◌, ◌≡◌, ◌⊎◌, inl, inr, Bool, true, false, cond, eqb, List, [], ◌∷◌, ◌++◌, length, get_or, decimal, refl, sym, ◌∙◌, ap, subst, arith, append_assoc}
 use Rattle.std.proofs.lemmas.Bool.{both_ways, eqb-true, eq-eqb}
 use Rattle.std.proofs.lemmas.Fmt.{decimal_injective, decimal_nonempty, first_decimal}
@@ -73,10 +73,10 @@ module _ (word : ℕ → List ℕ) (P : ℕ → Type 0) where
     pub are : AllByRecursion P xs
     pub whole : bytes ≡ spaced_words word xs ++ rest
 
-  pub read_one : (bytes xs rest : List ℕ) (x : ℕ) (behind ys : List ℕ) → ReadSoFar bytes xs rest → BeginsWithWord word P rest x behind → ys ≡ xs ++ (x ∷ []) → ReadSoFar bytes ys behind
-  read_one bytes xs rest x behind ys r b e = rw e (record {
+  pub read_one : (bytes xs rest : List ℕ) (x : ℕ) (following ys : List ℕ) → ReadSoFar bytes xs rest → BeginsWithWord word P rest x following → ys ≡ xs ++ (x ∷ []) → ReadSoFar bytes ys following
+  read_one bytes xs rest x following ys r b e = rw e (record {
     are = all-snoc xs x r.are b.0;
-    whole = r.whole ∙ ap (λ t. spaced_words word xs ++ t) b.1 ∙ sym (words-snoc xs x behind);
+    whole = r.whole ∙ ap (λ t. spaced_words word xs ++ t) b.1 ∙ sym (words-snoc xs x following);
   })
 
 -- IDs
@@ -159,9 +159,9 @@ no_sign n x y h e = go (decimal n) (are_digits n h) (decimal_nonempty n h) e
     go [] d k e = omega arith
     go (c ∷ cs) d k e = let r = digit_from_value c d.0 in let s : c ≡ 45 = cc in omega arith
 
-pub no_negative_word : (bytes behind : List ℕ) → bytes ≡ 45 ∷ behind → NoWord id_text IsVariableIndex behind → NoWord number_text IsLiteralCode bytes
-no_negative_word bytes behind e none l tail p f = go (is_positive l) f
+pub no_negative_word : (bytes following : List ℕ) → bytes ≡ 45 ∷ following → NoWord id_text IsVariableIndex following → NoWord number_text IsLiteralCode bytes
+no_negative_word bytes following e none l tail p f = go (is_positive l) f
   where
     go : (s : Bool) → bytes ≡ (cond s [] (45 ∷ []) ++ decimal (l / 2 + 1)) ++ (32 ∷ tail) → ⊥
-    go true f = no_sign (l / 2 + 1) tail behind (omega arith) (sym f ∙ e)
-    go false f = none (l / 2) tail (omega arith) (let r : 45 ∷ behind ≡ 45 ∷ (decimal (l / 2 + 1) ++ (32 ∷ tail)) = sym e ∙ f in let t : behind ≡ decimal (l / 2 + 1) ++ (32 ∷ tail) = cc in t)
+    go true f = no_sign (l / 2 + 1) tail following (omega arith) (sym f ∙ e)
+    go false f = none (l / 2) tail (omega arith) (let r : 45 ∷ following ≡ 45 ∷ (decimal (l / 2 + 1) ++ (32 ∷ tail)) = sym e ∙ f in let t : following ≡ decimal (l / 2 + 1) ++ (32 ∷ tail) = cc in t)

@@ -23,7 +23,7 @@ use Rattle.sat_hints.specs.Conversion.{hint_text}
 use Rattle.sat_hints.specs.Converts.{GaveAcceptedSteps, IsAccepted}
 use Rattle.sat_hints.specs.declared.line_writer.LineWriter.{LineWriter}
 use Rattle.sat_hints.specs.inner.LineWriting.{outlet}
-use Rattle.sat_hints.specs.inner.LinesWritten.{hint_of, BrokenBehind, SentAll, SentFront, WritesLines}
+use Rattle.sat_hints.specs.inner.LinesWritten.{hint_of, BrokenAfter, SentAll, SentFront, WritesLines}
 use Rattle.sat_hints.specs.inner.AnnouncedLines.{PutsAnnouncedLine}
 use Rattle.sat_hints.proofs.lemmas.AreProved.{read_proved}
 use Rattle.sat_hints.proofs.lemmas.Heard.{since_sent, since_broken, front_all, front_reported, front_by, all_by, broken_all, broken_reported}
@@ -57,16 +57,16 @@ module _ {W P T : Type 0} (seen : W → Writer) (Takes : P → Notice → Result
   ]
 
   abbrev BrokenBy : ProcessingError → Checker → Step → List Step → Type 0
-  BrokenBy f new step steps = (cause : Error) × (f ≡ faults.ProofProcessorError cause) × AcceptsAll steps × BrokenBehind (outlet seen begun.own) (outlet seen new.listeners.own) step steps
+  BrokenBy f new step steps = (cause : Error) × (f ≡ faults.ProofProcessorError cause) × AcceptsAll steps × BrokenAfter (outlet seen begun.own) (outlet seen new.listeners.own) step steps
 
   broken_at : (f : ProcessingError) (new : Checker) (step : Step) (steps : List Step) → BreaksAt Hears [] begun f new step steps → BrokenBy f new step steps
   broken_at f new step steps b = elim b [
     | inl h ↦
         let k = since_broken seen Takes Reads f _ begun new.listeners well none h.1.heard in
-        (k.0, k.1, h.1.fails.stands.kernel.accepted, inl (broken_all (outlet seen begun.own).sink (outlet seen new.listeners.own).sink steps k.2))
+        (k.0, k.1, h.1.fails.valid.kernel.accepted, inl (broken_all (outlet seen begun.own).sink (outlet seen new.listeners.own).sink steps k.2))
     | inr h ↦
         let k = since_broken seen Takes Reads f _ begun new.listeners well none h.1.heard in
-        (k.0, k.1, h.1.fails.stands.kernel.accepted.0, inr (h.0, broken_reported (outlet seen begun.own).sink (outlet seen new.listeners.own).sink (step ∷ steps) k.2))
+        (k.0, k.1, h.1.fails.valid.kernel.accepted.0, inr (h.0, broken_reported (outlet seen begun.own).sink (outlet seen new.listeners.own).sink (step ∷ steps) k.2))
   ]
 
   no_memory : {A : Type 0} (new : Checker) (step : Step) (steps : List Step) → BrokenBy faults.OutOfMemory new step steps → A
@@ -74,7 +74,7 @@ module _ {W P T : Type 0} (seen : W → Writer) (Takes : P → Notice → Result
 
   pub errs_written : (e : CheckerError) (old new : Checker) (from to : Reader) → has_failed old ≡ false → (e ≡ errors.OutOfMemory → FoundNoEnd from to) → AnswersProof Hears [] begun (Err e) old new from to [] → WritesLines (Err (hint_of e)) from to (outlet seen begun.own) (outlet seen new.listeners.own)
   errs_written errors.CheckFailed old new from to f u k =
-      (k.0, k.4, (k.1, k.2, gave_of k.3 k.6.fails.stands.kernel.accepted, k.5), front_all (outlet seen begun.own) (outlet seen new.listeners.own) (taken_after k.0 []) (since_sent seen Takes Reads _ begun new.listeners well k.6.heard))
+      (k.0, k.4, (k.1, k.2, gave_of k.3 k.6.fails.valid.kernel.accepted, k.5), front_all (outlet seen begun.own) (outlet seen new.listeners.own) (taken_after k.0 []) (since_sent seen Takes Reads _ begun new.listeners well k.6.heard))
   errs_written errors.ProofIncomplete old new from to f u k =
       (k.0, k.3, (k.1, gave_of k.2 k.6.0.kernel.accepted, k.4, k.5), front_by (outlet seen begun.own) (outlet seen new.listeners.own) _ (taken_after k.0 []) (since_sent seen Takes Reads _ begun new.listeners well (k.6.0.heard k.6.1)))
   errs_written errors.ParseError old new from to f u k =
@@ -82,9 +82,9 @@ module _ {W P T : Type 0} (seen : W → Writer) (Takes : P → Notice → Result
   errs_written errors.IoError old new from to f u k =
       (k.0, k.1, k.3, gave_of k.2 k.5.0.kernel.accepted, k.4, front_by (outlet seen begun.own) (outlet seen new.listeners.own) _ (taken_after k.0 []) (since_sent seen Takes Reads _ begun new.listeners well (k.5.0.heard k.5.1)))
   errs_written errors.OutOfMemory old new from to f u k = elim k.3 [
-    | inl h ↦ (k.0, k.1, k.2, u refl, inl (gave_of h.0 h.2.fails.stands.kernel.accepted, h.1), stopped new (taken_after k.0 []) h.2)
+    | inl h ↦ (k.0, k.1, k.2, u refl, inl (gave_of h.0 h.2.fails.valid.kernel.accepted, h.1), stopped new (taken_after k.0 []) h.2)
     | inr h ↦ elim h.2 [
-      | inl s ↦ (k.0, k.1, k.2, u refl, inr (h.0, gave_of h.1 s.1.fails.stands.kernel.accepted, s.0), stopped new (taken_after k.0 []) s.1)
+      | inl s ↦ (k.0, k.1, k.2, u refl, inr (h.0, gave_of h.1 s.1.fails.valid.kernel.accepted, s.0), stopped new (taken_after k.0 []) s.1)
       | inr b ↦ no_memory new h.0 (taken_after k.0 []) (broken_at faults.OutOfMemory new h.0 (taken_after k.0 []) b)
     ]
   ]

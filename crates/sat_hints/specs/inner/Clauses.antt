@@ -32,8 +32,8 @@ times_kept l (c ∷ cs) [] = 0
 times_kept l (c ∷ cs) (g ∷ gs) = (if g then 0 else times_long l c) + times_kept l cs gs
 
 -- how often a literal is in the clauses of two or more that are kept
-abbrev pub times_at : Present → ℕ → ℕ
-times_at p l = times_kept l p.clauses p.gone.items
+abbrev pub occurrences_of : Present → ℕ → ℕ
+occurrences_of p l = times_kept l p.clauses p.gone.items
 
 -- all ids are below this
 abbrev pub AllBelow : List ℕ → ℕ → Type 0
@@ -57,7 +57,7 @@ pub record AddsPresentClause (old new : Present) (id : ℕ) (clause : List ℕ) 
   pub store : IsStore new
   pub below : (k : ℕ) → id < k → AllBelow new.ids.items k
   pub clauses : (j : ℕ) → clause_in new j ≡ (if j == id then Some clause else clause_in old j)
-  pub times : (l : ℕ) → times_at new l ≡ times_at old l + times_long l clause
+  pub times : (l : ℕ) → occurrences_of new l ≡ occurrences_of old l + times_long l clause
   pub longer : length new.ids.items ≡ length old.ids.items + 1
 
 -- one less
@@ -65,11 +65,11 @@ pub record Loses (old new : Present) (id : ℕ) : Type 0 where
   pub store : IsStore new
   pub below : (k : ℕ) → AllBelow old.ids.items k → AllBelow new.ids.items k
   pub clauses : (j : ℕ) → clause_in new j ≡ (if j == id then None else clause_in old j)
-  pub times : (c : List ℕ) → clause_in old id ≡ Some c → (l : ℕ) → times_at new l + times_long l c ≡ times_at old l
+  pub times : (c : List ℕ) → clause_in old id ≡ Some c → (l : ℕ) → occurrences_of new l + times_long l c ≡ occurrences_of old l
 
 -- the same clauses
 pub record SamePresentClauses (old new : Present) : Type 0 where
   pub store : IsStore new
   pub below : (k : ℕ) → AllBelow old.ids.items k → AllBelow new.ids.items k
   pub clauses : (j : ℕ) → clause_in new j ≡ clause_in old j
-  pub times : (l : ℕ) → times_at new l ≡ times_at old l
+  pub times : (l : ℕ) → occurrences_of new l ≡ occurrences_of old l

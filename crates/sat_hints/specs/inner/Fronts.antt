@@ -36,7 +36,7 @@ pub record Numbered (limit : ℕ) (Rest : List ℕ → Type 0) (number : ℕ) (b
   pub rest : List ℕ
   pub within : IsNumberUpTo limit value
   pub whole : number_digits_so_far number ++ bytes ≡ decimal value ++ (32 ∷ rest)
-  pub behind : Rest rest
+  pub following : Rest rest
 
 -- the bytes are this part of a line
 abbrev pub IsPartOfLine : Part → List ℕ → Type 0

@@ -35,13 +35,13 @@ pub record SentAll (old new : Outlet) (text : List ℕ) : Type 0 where
 -- or a prefix of it
 pub record SentFront (old new : Outlet) (text : List ℕ) : Type 0 where
   pub front : List ℕ
-  pub behind : List ℕ
-  pub whole : text ≡ front ++ behind
+  pub following : List ℕ
+  pub whole : text ≡ front ++ following
   pub sent : SentAll old new front
 
 -- a write failed of the lines of accepted steps, or of theirs and those of the step after them, which is accepted, too
-abbrev pub BrokenBehind : Outlet → Outlet → Step → List Step → Type 0
-BrokenBehind old new step steps = SinkFails old.sink new.sink (hint_text steps) ⊎ (Accepts (ready_after steps) step × SinkFails old.sink new.sink (hint_text (step ∷ steps)))
+abbrev pub BrokenAfter : Outlet → Outlet → Step → List Step → Type 0
+BrokenAfter old new step steps = SinkFails old.sink new.sink (hint_text steps) ⊎ (Accepts (ready_after steps) step × SinkFails old.sink new.sink (hint_text (step ∷ steps)))
 
 -- what an answer to a certificate means, whose lines are put after the pending bytes
 abbrev pub WritesLines : Result (Unit {0}) HintError → Reader → Reader → Outlet → Outlet → Type 0
@@ -54,6 +54,6 @@ WritesLines (Err (Refused e)) from to old new = (passed : List Step) × NoReadFa
 WritesLines (Err Read) from to old new = (passed : List Step) × (rest : List ℕ) × ReadFails from to × GaveAcceptedSteps from to passed [] rest × IsProperFront SpellsStep rest
     × SentFront old new (hint_text (taken_after passed []))
 WritesLines (Err Write) from to old new = (passed : List Step) × (step : Step) × (rest : List ℕ) × NoReadFailed from to × GaveAcceptedSteps from to passed (step ∷ []) rest
-    × BrokenBehind old new step (taken_after passed [])
+    × BrokenAfter old new step (taken_after passed [])
 WritesLines (Err OutOfMemory) from to old new = (passed : List Step) × (rest : List ℕ) × NoReadFailed from to × FoundNoEnd from to × GaveUpTo from to passed rest
     × SentFront old new (hint_text (taken_after passed []))

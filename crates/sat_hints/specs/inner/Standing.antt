@@ -6,7 +6,7 @@ use Rattle.sat_base.specs.declared.table.Table.{Table}
 use Rattle.sat_checker.specs.LiteralSets.{mentions}
 use Rattle.sat_checker.specs.inner.AssumedRoom.{HasClauseRoom}
 use Rattle.sat_hints.specs.Hints.{and_clauses, is_long, unless_unit_over}
-use Rattle.sat_hints.specs.inner.Clauses.{present_clause_at, clause_in, times_at, AllBelow, IsStore}
+use Rattle.sat_hints.specs.inner.Clauses.{present_clause_at, clause_in, occurrences_of, AllBelow, IsStore}
 use Rattle.sat_hints.specs.inner.UsesView.{if_counting, uses_at}
 use Rattle.sat_hints.specs.declared.standing.Standing.{Standing}
 
@@ -37,7 +37,7 @@ SinceWithin s bound = (v : ℕ) → value_at 0 s.since v ≤ bound
 -- once counting has begun, the counts are those of the clauses of two literals or more
 pub record StandingInvariant (s : Standing) : Type 0 where
   pub store : IsStore s.present
-  pub counted : (l : ℕ) → uses_at s.uses l ≡ if_counting s.uses.counting (times_at s.present l)
+  pub counted : (l : ℕ) → uses_at s.uses l ≡ if_counting s.uses.counting (occurrences_of s.present l)
 
 -- it is at this place
 pub record FindsClause (s : Standing) (id place : ℕ) : Type 0 where

@@ -6,7 +6,7 @@ use Rattle.sat_store.specs.clause.Buffer.{HoldsClauses, AppendsClause, header_at
 use Rattle.sat_parts.specs.declared.prop.graph.ImplNode.{ImplNode}
 use Rattle.sat_parts.specs.declared.prop.graph.Reason.{Reason}
 use Rattle.sat_parts.specs.declared.prop.graph.Reason.TheVariants.{Unit as NoCause, Binary, Long}
-use Rattle.sat_parts.specs.clause.Db.{Db, HoldsDb, live_refs, AreRising}
+use Rattle.sat_parts.specs.clause.Db.{Db, DbMatchesBuffer, live_refs, AreRising}
 use Rattle.sat_parts.specs.clause.Stored.{lit_of}
 use Rattle.sat_parts.specs.prop.Graphs.{node_of}
 use Rattle.sat_parts.specs.prop.WatchLists.{Watching}
@@ -65,7 +65,7 @@ FollowsAll live refs' lits nodes nodes' = AreFollowed live refs' lits (length li
 -- literal on the trail names the copy of its clause
 pub record Collects (words : List ℕ) (db : Db) (nodes : List ImplNode) (lits words' : List ℕ) (db' : Db) (nodes' : List ImplNode) : Type 0 where
   pub copies : Copies words (live_refs words db.refs) words' db'.refs
-  pub holds : HoldsDb words' db'
+  pub holds : DbMatchesBuffer words' db'
   pub live : live_refs words' db'.refs ≡ db'.refs
   pub packed : length words' ≡ words_of words' db'.refs
   pub clean : db'.garbage ≡ 0

@@ -46,7 +46,7 @@ AreRising xs = (j k : ℕ) → j < k → k < length xs → get_or xs j 0 < get_o
 
 -- the list has the clauses of the buffer: every one has three or more literals, no two share words, and offsets increase; the numbers
 -- count the live clauses by tier, and the garbage the words of deleted ones (it saturates at 2^64 - 1)
-pub record HoldsDb (words : List ℕ) (db : Db) : Type 0 where
+pub record DbMatchesBuffer (words : List ℕ) (db : Db) : Type 0 where
   pub laid : HoldsClauses words db.refs
   pub rising : AreRising db.refs
   pub tiers : length db.counts ≡ 4
@@ -70,7 +70,7 @@ without o refs = filter (λ p. not (p == o)) refs
 -- a clause with these literals and this header, except for its length, was appended
 pub record AddsLongClause (words : List ℕ) (db : Db) (words' : List ℕ) (db' : Db) (o : ℕ) (header : Header) (lits : List ℕ) : Type 0 where
   pub added : AppendsClause words words' o header lits
-  pub holds : HoldsDb words' db'
+  pub holds : DbMatchesBuffer words' db'
   pub refs : db'.refs ≡ db.refs ++ o ∷ []
   pub live : live_refs words' db'.refs ≡ live_refs words db.refs ++ o ∷ []
 
@@ -85,14 +85,14 @@ pub record PutsHeader (words words' refs : List ℕ) (o : ℕ) (header : Header)
 -- the clause at o is no longer live, and no other clause changed
 pub record DeletesClause (words : List ℕ) (db : Db) (words' : List ℕ) (db' : Db) (o : ℕ) : Type 0 where
   pub put : PutsHeader words words' db.refs o (record (header_at words o) { deleted = true })
-  pub holds : HoldsDb words' db'
+  pub holds : DbMatchesBuffer words' db'
   pub refs : db'.refs ≡ db.refs
   pub live : live_refs words' db'.refs ≡ without o (live_refs words db.refs)
 
 -- the clause at o is now in this tier, and no other clause changed
 pub record MovesClause (words : List ℕ) (db : Db) (words' : List ℕ) (db' : Db) (o : ℕ) (tier : Tier) : Type 0 where
   pub put : PutsHeader words words' db.refs o (record (header_at words o) { tier = tier })
-  pub holds : HoldsDb words' db'
+  pub holds : DbMatchesBuffer words' db'
   pub refs : db'.refs ≡ db.refs
   pub live : live_refs words' db'.refs ≡ live_refs words db.refs
 
@@ -102,7 +102,7 @@ pub record ShortensClause (words : List ℕ) (db : Db) (words' : List ℕ) (o le
   pub header_there : header_at words' o ≡ record (header_at words o) { len = len }
   pub lits_there : lits_at words' o ≡ take len (lits_at words o)
   pub others : (p : ℕ) → Contains db.refs p → p ≢ o → SameClauseAt words words' p
-  pub holds : HoldsDb words' db
+  pub holds : DbMatchesBuffer words' db
   pub live : live_refs words' db.refs ≡ live_refs words db.refs
 
 -- the first literal of the clause at o is true, and the clause is its reason

@@ -15,7 +15,7 @@
 --   drop_clause: Dropped if it deletes, otherwise nothing changes
 --   put_header, set_tier, reduce_middle, bump_clause, decay_clauses: Headed, besides the word of the trail
 --   bump_variable, decay_variables: SameContents
---   swap_behind: Swapped; shorten: Shortened; remove_binary: Removed; collect: Copied
+--   swap_unwatched: Swapped; shorten: Shortened; remove_binary: Removed; collect: Copied
 -- At level 0, KeepsTo 0 follows from AddsNoUnit, which in turn follows from SameState or SameSearch (carries_same).
 use Rattle.std.specs.Prelude.{ℕ, ◌≡◌, ◌≢◌, ◌+◌, ◌*◌, ◌<◌, ◌≤◌, ◌⊎◌, true, false, None, List, length, slice_index_or as get_or}
 use Rattle.std.specs.List.{Contains}

@@ -5,14 +5,14 @@ use Rattle.sat_base.specs.values.Literals.{variable}
 use Rattle.sat_store.specs.heap.Vsids.{Queue, may_pick}
 use Rattle.sat_parts.specs.declared.prop.graph.ImplNode.{ImplNode}
 use Rattle.sat_parts.specs.declared.prop.graph.Reason.TheVariants.{Unit as NoCause}
-use Rattle.sat_parts.specs.clause.Db.{Db, HoldsDb, live_refs}
+use Rattle.sat_parts.specs.clause.Db.{Db, DbMatchesBuffer, live_refs}
 use Rattle.sat_parts.specs.clause.Stored.{lit_of, size_of}
 use Rattle.sat_parts.specs.prop.Binaries.{Binaries, implied_by}
 use Rattle.sat_parts.specs.prop.Values.{Values, value_of}
 use Rattle.sat_parts.specs.prop.Trails.{Trailed}
 use Rattle.sat_parts.specs.prop.WatchLists.{Watching}
 use Rattle.sat_parts.specs.prop.State.{State, node, level, lit_at}
-use Rattle.sat_parts.specs.prop.Reasons.{AreInTurn}
+use Rattle.sat_parts.specs.prop.Reasons.{AreUnitInTurn}
 use Rattle.sat_parts.specs.prop.Ready.{state_of}
 use Rattle.sat_parts.specs.prop.Asks.{PropagationInvariant}
 use Rattle.sat_parts.specs.prop.TrailWord.{IsLevelled}
@@ -31,14 +31,14 @@ abbrev pub KeepsPicks : (values : List (Option Bool)) (q q' : Queue) (v : ℕ) �
 KeepsPicks values q q' v = (u : ℕ) → u ≢ v → value_of values u ≡ None → may_pick q u ≡ true → may_pick q' u ≡ true
 
 -- the literals on the trail at level 0 have no clause as their reason
-abbrev pub UnitsAreUncaused : State → Type 0
-UnitsAreUncaused s = (i : ℕ) → i < length s.trail.lits → level s (lit_at s i) ≡ 0 → (node s (lit_at s i)).reason ≡ NoCause
+abbrev pub UnitsHaveNoReason : State → Type 0
+UnitsHaveNoReason s = (i : ℕ) → i < length s.trail.lits → level s (lit_at s i) ≡ 0 → (node s (lit_at s i)).reason ≡ NoCause
 
 -- the invariant of all parts, where propagation is complete for the literals at levels below `top`
 pub record IsSoundBelow (words : List ℕ) (db : Db) (w : Watching) (b : Binaries) (a : Values) (g : List ImplNode) (t : Trailed) (q : Queue) (top : ℕ) : Type 0 where
-  pub held : HoldsDb words db
+  pub held : DbMatchesBuffer words db
   pub asks : PropagationInvariant words db.refs w b.implied (state_of a g t) top
-  pub turns : AreInTurn words (live_refs words db.refs) b.implied (state_of a g t) 0
+  pub turns : AreUnitInTurn words (live_refs words db.refs) b.implied (state_of a g t) 0
   pub levelled : IsLevelled (state_of a g t)
   pub queue : length q.available ≡ length a.current
   pub ready : AreReady words (live_refs words db.refs) b.implied a.current q
@@ -51,5 +51,5 @@ pub record IsBased (t : Trailed) : Type 0 where
 -- the invariant between rounds
 pub record RoundInvariant (words : List ℕ) (db : Db) (w : Watching) (b : Binaries) (a : Values) (g : List ImplNode) (t : Trailed) (q : Queue) : Type 0 where
   pub below : IsSoundBelow words db w b a g t q (length t.starts + 1)
-  pub units : UnitsAreUncaused (state_of a g t)
+  pub units : UnitsHaveNoReason (state_of a g t)
   pub base : IsBased t

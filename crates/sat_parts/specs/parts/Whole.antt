@@ -7,7 +7,7 @@ use Rattle.sat_store.specs.heap.Vsids.{Queue}
 use Rattle.sat_parts.specs.prop.State.{State}
 use Rattle.sat_parts.specs.prop.Ready.{state_of}
 use Rattle.sat_parts.specs.declared.parts.Parts.{Parts}
-use Rattle.sat_parts.specs.parts.Round.{IsUnused, UnitsAreUncaused, IsBased, KeepsPicks, IsSoundBelow, RoundInvariant}
+use Rattle.sat_parts.specs.parts.Round.{IsUnused, UnitsHaveNoReason, IsBased, KeepsPicks, IsSoundBelow, RoundInvariant}
 use Rattle.sat_parts.specs.declared.prop.graph.Conflict.{Conflict}
 use Rattle.sat_parts.specs.clause.Db.{live_refs}
 use Rattle.sat_parts.specs.prop.Values.{value_of, IsTrueLit}
@@ -63,7 +63,7 @@ abbrev pub IsRefuted : Parts → Conflict → Type 0
 IsRefuted p e =
     HoldsBelow (length p.trail.starts) p
     × IsConflict p.clauses (live_refs p.clauses p.db.refs) p.binary.implied p.assignment.current e
-    × (0 < length p.trail.starts → UnitsAreUncaused (state p) × IsBased p.trail)
+    × (0 < length p.trail.starts → UnitsHaveNoReason (state p) × IsBased p.trail)
 
 -- every live clause has a true literal, and every literal that a true one implies is true
 pub record IsModelled (p : Parts) : Type 0 where

@@ -10,7 +10,7 @@ use Rattle.sat_parts.specs.prop.Values.{Values, IsTrueLit, IsOpenLit}
 use Rattle.sat_parts.specs.prop.Trails.{Trailed}
 use Rattle.sat_parts.specs.prop.WatchLists.{Watching}
 use Rattle.sat_parts.specs.prop.State.{State, level, lit_at, IsRemoved, StateIsConsistent}
-use Rattle.sat_parts.specs.prop.Reasons.{AreInTurn}
+use Rattle.sat_parts.specs.prop.Reasons.{AreUnitInTurn}
 use Rattle.sat_parts.specs.prop.Ready.{state_of}
 use Rattle.sat_parts.specs.prop.Asks.{PropagationInvariant, EnqueuePrecondition, PropagationPrecondition}
 
@@ -25,7 +25,7 @@ BacktrackPreservesInvariant level a t a' t' =
 abbrev pub KeepsTurns : (a : Values) (t : Trailed) (a' : Values) (t' : Trailed) → Type 0
 KeepsTurns a t a' t' =
     (words live : List ℕ) (implied : List (List ℕ)) (nodes : List ImplNode) (from : ℕ) → StateIsConsistent (state_of a nodes t) →
-    AreInTurn words live implied (state_of a nodes t) from → AreInTurn words live implied (state_of a' nodes t') from
+    AreUnitInTurn words live implied (state_of a nodes t) from → AreUnitInTurn words live implied (state_of a' nodes t') from
 
 -- the invariant of propagation holds after an unassigned literal became true, if a long clause as its reason is live and has it first;
 -- before, that clause may not yet be propagated

@@ -7,7 +7,7 @@ use Rattle.sat_parts.specs.clause.Stored.{lit_of, size_of}
 use Rattle.sat_parts.specs.prop.Values.{IsTrueLit}
 use Rattle.sat_parts.specs.prop.Binaries.{implied_by}
 use Rattle.sat_parts.specs.prop.State.{State, node, lit_at, IsRemoved, StateIsConsistent}
-use Rattle.sat_parts.specs.prop.Reasons.{AreInTurn}
+use Rattle.sat_parts.specs.prop.Reasons.{AreUnitInTurn}
 
 -- a valuation that satisfies all clauses, all units, including those taken off the trail, and all decisions and assumptions
 pub record IsModelOf (words live : List ℕ) (implied : List (List ℕ)) (s : State) (v : ℕ → Bool) : Type 0 where
@@ -19,5 +19,5 @@ pub record IsModelOf (words live : List ℕ) (implied : List (List ℕ)) (s : St
 -- if reasons are unit in the order of the trail, every true literal holds in every such valuation
 abbrev pub AssignedIsImplied : Type 0
 AssignedIsImplied =
-    (words live : List ℕ) (implied : List (List ℕ)) (s : State) (v : ℕ → Bool) → StateIsConsistent s → AreInTurn words live implied s 0 → IsModelOf words live implied s v →
+    (words live : List ℕ) (implied : List (List ℕ)) (s : State) (v : ℕ → Bool) → StateIsConsistent s → AreUnitInTurn words live implied s 0 → IsModelOf words live implied s v →
     (l : ℕ) → IsTrueLit s.values l → literal_true v l ≡ true

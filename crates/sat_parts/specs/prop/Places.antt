@@ -29,7 +29,7 @@ pub record ArePlaces (places : List Place) (size : ℕ) : Type 0 where
   pub apart : (l m : ℕ) → l ≢ m → HaveNoCommonPlace (place_at places l) (place_at places m)
 
 -- a part of the list was copied to its end, into a new room of this size
-pub record CopiesPart (start len room : ℕ) (old new : List ℕ) : Type 0 where
+pub record CopiesPadded (start len room : ℕ) (old new : List ℕ) : Type 0 where
   pub size : length new ≡ length old + room
   pub kept : (k : ℕ) → k < length old → slice_index new k ≡ slice_index old k
   pub copied : (k : ℕ) → k < len → slice_index new (length old + k) ≡ slice_index old (start + k)

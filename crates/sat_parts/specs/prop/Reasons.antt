@@ -24,8 +24,8 @@ Implies words live implied s i (Long o) =
     Contains live o × (lit_of words o 0 ≡ lit_at s i) × ((k : ℕ) → 1 ≤ k → k < size_of words o → IsFalseBefore s i (lit_of words o k))
 
 -- the reasons of the literals from this position on are unit in the order of the trail
-abbrev pub AreInTurn : (words live : List ℕ) (implied : List (List ℕ)) (s : State) (from : ℕ) → Type 0
-AreInTurn words live implied s from =
+abbrev pub AreUnitInTurn : (words live : List ℕ) (implied : List (List ℕ)) (s : State) (from : ℕ) → Type 0
+AreUnitInTurn words live implied s from =
     (i : ℕ) → from ≤ i → i < length s.trail.lits → Implies words live implied s i (node s (lit_at s i)).reason
 
 -- the clause of every long reason on the trail is live and has the literal first
@@ -43,4 +43,4 @@ pub record PropagatesOn (live : List ℕ) (implied : List (List ℕ)) (words : L
   pub reorders : PermutesClauses words words' live
   pub firsts : (o : ℕ) → Contains live o → IsTrueLit s.values (lit_of words o 0) → lit_of words' o 0 ≡ lit_of words o 0
   pub caused : (i : ℕ) → length s.trail.lits ≤ i → i < length s'.trail.lits → HasClauseReason s' i
-  pub turns : (from : ℕ) → from ≤ length s.trail.lits → AreInTurn words live implied s from → AreInTurn words' live implied s' from
+  pub turns : (from : ℕ) → from ≤ length s.trail.lits → AreUnitInTurn words live implied s from → AreUnitInTurn words' live implied s' from

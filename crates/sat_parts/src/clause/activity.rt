@@ -2,7 +2,7 @@
 ghost use Rattle.std.specs.Prelude.{◌≡◌, ◌+◌, ◌*◌, ◌/◌, ◌^◌, ◌<◌, ◌≤◌};
 ghost use Rattle.std.specs.List.{Contains};
 ghost use Rattle.sat_store.specs.clause.Buffer.{header_at};
-ghost use Rattle.sat_parts.specs.clause.Db.{HoldsDb, PutsHeader, live_refs};
+ghost use Rattle.sat_parts.specs.clause.Db.{DbMatchesBuffer, PutsHeader, live_refs};
 ghost use Rattle.sat_parts.specs.clause.Activity.{PutsHeaders, BumpsBelow, BumpsPast, DecaysAll, later_scale};
 ghost use Rattle.sat_parts.specs.clause.Activity.{first_scale, later_bump, with_activity, shifted};
 
@@ -67,9 +67,9 @@ impl ClauseActivity {
 
 /// Rescales the activities of all clauses.
 fn rescale_clause_activities(clauses: &mut ClauseAlloc, db: &ClauseDb)
-    requires { HoldsDb clauses.old db.now }
+    requires { DbMatchesBuffer clauses.old db.now }
     ensures headers { PutsHeaders clauses.old clauses.new db.now.refs (shifted clauses.old) }
-    ensures db { HoldsDb clauses.new db.now }
+    ensures db { DbMatchesBuffer clauses.new db.now }
     ensures live { live_refs clauses.new db.now.refs ≡ live_refs clauses.old db.now.refs }
 {
     for at in 0..db.len() {
@@ -82,11 +82,11 @@ fn rescale_clause_activities(clauses: &mut ClauseAlloc, db: &ClauseDb)
 
 /// Sets the activity of a clause.
 fn put_activity(clauses: &mut ClauseAlloc, _db: &ClauseDb, cref: ClauseRef, activity: u32)
-    requires db { HoldsDb clauses.old _db.now }
+    requires db { DbMatchesBuffer clauses.old _db.now }
     requires there { Contains _db.now.refs cref }
     ensures put { PutsHeader clauses.old clauses.new _db.now.refs cref
         (with_activity (header_at clauses.old cref) activity) }
-    ensures db { HoldsDb clauses.new _db.now }
+    ensures db { DbMatchesBuffer clauses.new _db.now }
     ensures live { live_refs clauses.new _db.now.refs ≡ live_refs clauses.old _db.now.refs }
 {
     let mut header = clauses.header(cref);
@@ -101,11 +101,11 @@ pub fn bump_clause_activity(
     db: &ClauseDb,
     cref: ClauseRef,
 )
-    requires db { HoldsDb clauses.old db.now }
+    requires db { DbMatchesBuffer clauses.old db.now }
     requires there { Contains db.now.refs cref }
     ensures raised { BumpsBelow clauses.old clauses.new db.now.refs cref activity.old activity.new }
     ensures rescaled { BumpsPast clauses.old clauses.new db.now.refs cref activity.old activity.new }
-    ensures db { HoldsDb clauses.new db.now }
+    ensures db { DbMatchesBuffer clauses.new db.now }
     ensures live { live_refs clauses.new db.now.refs ≡ live_refs clauses.old db.now.refs }
 {
     let sum = u64::from(clauses.header(cref).activity()) + activity.bump;
@@ -124,12 +124,12 @@ pub fn decay_clause_activities(
     clauses: &mut ClauseAlloc,
     db: &ClauseDb,
 )
-    requires db { HoldsDb clauses.old db.now }
+    requires db { DbMatchesBuffer clauses.old db.now }
     ensures later { later_bump activity.old < 2 ^ 30
         → (activity.new ≡ later_scale activity.old) × (clauses.new ≡ clauses.old) }
     ensures rescaled { 2 ^ 30 ≤ later_bump activity.old
         → DecaysAll clauses.old clauses.new db.now.refs activity.old activity.new }
-    ensures db { HoldsDb clauses.new db.now }
+    ensures db { DbMatchesBuffer clauses.new db.now }
     ensures live { live_refs clauses.new db.now.refs ≡ live_refs clauses.old db.now.refs }
 {
     let later = (activity.bump * 1000 + activity.decay - 1) / activity.decay;

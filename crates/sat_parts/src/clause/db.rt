@@ -6,7 +6,7 @@ ghost use Rattle.sat_base.specs.values.Literals.{negated, variable};
 ghost use Rattle.sat_store.specs.clause.Buffer.{IsClause, HoldsClauses, AppendsClause, header_at, lits_at};
 ghost use Rattle.sat_store.specs.clause.Full.{OnFull};
 ghost use Rattle.sat_store.specs.clause.Header.{index_of};
-ghost use Rattle.sat_parts.specs.clause.Db.{no_clauses, HoldsDb, live_refs, tier_count_more, tier_count_less, PutsHeader};
+ghost use Rattle.sat_parts.specs.clause.Db.{no_clauses, DbMatchesBuffer, live_refs, tier_count_more, tier_count_less, PutsHeader};
 ghost use Rattle.sat_parts.specs.clause.Db.{AddsLongClause, DeletesClause, MovesClause, ShortensClause, IsLockedClause};
 ghost use Rattle.sat_parts.specs.clause.Stored.{lit_of};
 ghost use Rattle.sat_parts.specs.prop.WatchLists.{with_firsts};
@@ -24,8 +24,8 @@ const HEADER_LEN: usize = 3;
 
 /// The long clauses, in the order in which they were added, and the number of clauses of every tier.
 ///
-/// A deleted clause stays in the list until garbage is collected. Contracts see a `Db`. `HoldsDb` states that the `Db`
-/// lists the clauses of a buffer.
+/// A deleted clause stays in the list until garbage is collected. Contracts see a `Db`. `DbMatchesBuffer` states that
+/// the `Db` lists the clauses of a buffer.
 #[derive(Drop)]
 pub struct ClauseDb {
     pub(crate) clauses: Vec<ClauseRef>,
@@ -45,7 +45,7 @@ impl ClauseDb {
     /// Returns an empty list. Never allocates.
     pub fn new(alloc: Global) -> ClauseDb
         ensures empty { result ≡ no_clauses }
-        ensures holds { HoldsDb [] result }
+        ensures holds { DbMatchesBuffer [] result }
     {
         ClauseDb {
             clauses: Vec::new(alloc),
@@ -162,7 +162,7 @@ pub fn add_clause(
     header: ClauseHeader,
     lits: &[Lit],
 ) -> Result<ClauseRef, StoreError>
-    requires db { HoldsDb clauses.old db.old }
+    requires db { DbMatchesBuffer clauses.old db.old }
     requires live { header.deleted ≡ false }
     requires long { 3 ≤ length lits.now }
     requires fits { length lits.now < 2 ^ 32 }
@@ -187,7 +187,7 @@ pub fn add_clause(
 
 /// Moves a live clause to another tier.
 pub fn set_clause_tier(clauses: &mut ClauseAlloc, db: &mut ClauseDb, cref: ClauseRef, tier: Tier)
-    requires db { HoldsDb clauses.old db.old }
+    requires db { DbMatchesBuffer clauses.old db.old }
     requires live { Contains (live_refs clauses.old db.old.refs) cref }
     ensures { MovesClause clauses.old db.old clauses.new db.new cref tier }
 {
@@ -209,7 +209,7 @@ pub fn delete_clause(
     watchlists: &mut Watchlists,
     cref: ClauseRef,
 )
-    requires db { HoldsDb clauses.old db.old }
+    requires db { DbMatchesBuffer clauses.old db.old }
     requires live { Contains (live_refs clauses.old db.old.refs) cref }
     ensures deleted { DeletesClause clauses.old db.old clauses.new db.new cref }
     ensures watches { watchlists.new ≡ record watchlists.old { enabled = false } }
@@ -257,7 +257,7 @@ pub fn try_delete_clause(
     assignment: &Assignment,
     cref: ClauseRef,
 ) -> bool
-    requires db { HoldsDb clauses.old db.old }
+    requires db { DbMatchesBuffer clauses.old db.old }
     requires live { Contains (live_refs clauses.old db.old.refs) cref }
     requires value { variable (lit_of clauses.old cref 0) < length assignment.now.current }
     requires node { variable (lit_of clauses.old cref 0) < length graph.now }
@@ -283,7 +283,7 @@ pub fn shorten_clause(
     cref: ClauseRef,
     len: usize,
 )
-    requires db { HoldsDb clauses.old db.now }
+    requires db { DbMatchesBuffer clauses.old db.now }
     requires live { Contains (live_refs clauses.old db.now.refs) cref }
     requires long { 3 ≤ len }
     requires no_longer { len ≤ length (lits_at clauses.old cref) }

@@ -1,7 +1,7 @@
 //! Deletes the live clauses that fail a test.
 ghost use Rattle.std.specs.Prelude.{◌≡◌, false};
 ghost use Rattle.std.specs.List.Retain.{IsFiltered};
-ghost use Rattle.sat_parts.specs.clause.Db.{HoldsDb, live_refs};
+ghost use Rattle.sat_parts.specs.clause.Db.{DbMatchesBuffer, live_refs};
 ghost use Rattle.sat_parts.specs.clause.Filtered.{TakesEach, AnswersAt, SameClausesAt};
 
 use crate::clause::db::{ClauseDb, delete_clause};
@@ -17,12 +17,12 @@ pub fn filter_clauses<F: FnMut(&ClauseAlloc, ClauseRef) -> bool>(
     watchlists: &mut Watchlists,
     mut keep: F,
 )
-    requires db { HoldsDb clauses.old db.old }
+    requires db { DbMatchesBuffer clauses.old db.old }
     requires callable { TakesEach F.FnMut clauses.old (live_refs clauses.old db.old.refs) }
     ensures filtered { IsFiltered (AnswersAt F.FnMut clauses.old) keep
         (live_refs clauses.old db.old.refs) (live_refs clauses.new db.new.refs) }
     ensures kept { SameClausesAt clauses.old clauses.new (live_refs clauses.new db.new.refs) }
-    ensures db { HoldsDb clauses.new db.new }
+    ensures db { DbMatchesBuffer clauses.new db.new }
     ensures refs { db.new.refs ≡ db.old.refs }
     ensures watches { watchlists.new ≡ record watchlists.old { enabled = false } }
 {

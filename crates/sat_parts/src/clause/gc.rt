@@ -3,7 +3,7 @@ ghost use Rattle.std.specs.Prelude.{ℕ, ◌≡◌, ◌<◌, ◌≤◌, ◌/◌,
 ghost use Rattle.sat_base.specs.values.Literals.{variable};
 ghost use Rattle.sat_store.specs.clause.Buffer.{IsClause};
 ghost use Rattle.sat_store.specs.clause.Full.{OnFull};
-ghost use Rattle.sat_parts.specs.clause.Db.{HoldsDb, live_refs};
+ghost use Rattle.sat_parts.specs.clause.Db.{DbMatchesBuffer, live_refs};
 ghost use Rattle.sat_parts.specs.clause.Collected.{CopiesOne, CopyInvariant, AreFirsts, FollowsAll, Collects};
 ghost use Rattle.sat_parts.specs.clause.Collected.{CollectsNothing, after_collection};
 ghost use Rattle.sat_parts.specs.prop.Graphs.{HasReason, with_reason};
@@ -41,7 +41,7 @@ fn copy_live(
     to: &mut ClauseAlloc,
     refs: &mut Vec<ClauseRef>,
 ) -> Result<(), StoreError>
-    requires db { HoldsDb clauses.now db.now }
+    requires db { DbMatchesBuffer clauses.now db.now }
     requires no_words { to.old ≡ [] }
     requires no_refs { refs.old.items ≡ [] }
     ensures copied { OnOk result (CopyInvariant clauses.now db.now.refs to.new refs.new.items (length db.now.refs)) }
@@ -87,7 +87,7 @@ fn move_reasons(
     graph: &mut ImplGraph,
     _trail: &Trail,
 )
-    requires db { HoldsDb clauses.now db.now }
+    requires db { DbMatchesBuffer clauses.now db.now }
     requires size { length refs.now.items ≡ length (live_refs clauses.now db.now.refs) }
     requires low { (k : ℕ) → k < length refs.now.items
         → slice_index refs.now.items k ≤ slice_index (live_refs clauses.now db.now.refs) k }
@@ -114,7 +114,7 @@ struct Copied {
 
 /// Copies the live clauses into a new buffer.
 fn copy_all(alloc: Global, clauses: &ClauseAlloc, db: &ClauseDb) -> Result<Copied, StoreError>
-    requires { HoldsDb clauses.now db.now }
+    requires { DbMatchesBuffer clauses.now db.now }
     ensures copied { IfOk result (λ x. CopyInvariant clauses.now db.now.refs x.clauses x.refs.items (length db.now.refs)) }
     ensures room { OnFull result ⊥ }
 {
@@ -154,7 +154,7 @@ pub fn collect_garbage(
     watchlists: &mut Watchlists,
     trail: &Trail,
 ) -> Result<(), StoreError>
-    requires db { HoldsDb clauses.old db.old }
+    requires db { DbMatchesBuffer clauses.old db.old }
     requires firsts { AreFirsts clauses.old (live_refs clauses.old db.old.refs) trail.now.lits graph.old }
     ensures collected { length clauses.old / 2 < db.old.garbage →
         OnOk result (Collects clauses.old db.old graph.old trail.now.lits clauses.new db.new graph.new) }

@@ -2,7 +2,7 @@
 ghost use Rattle.std.specs.Prelude.{ℕ, ◌≡◌, ◌<◌, ◌≤◌, [], length, take, false, slice_index};
 ghost use Rattle.std.specs.Iterator.{at_most};
 ghost use Rattle.std.specs.Map.Iter.{TakesFirst, ShowsInOrder};
-ghost use Rattle.sat_parts.specs.clause.Db.{HoldsDb, AreClausePlaces, live_refs};
+ghost use Rattle.sat_parts.specs.clause.Db.{DbMatchesBuffer, AreClausePlaces, live_refs};
 ghost use Rattle.sat_store.specs.clause.Buffer.{header_at};
 
 use crate::clause::db::ClauseDb;
@@ -30,7 +30,7 @@ impl<'a> Model for ClausesIter<'a> {
 
 /// Returns an iterator over the live clauses, in the order in which they were added.
 pub fn clauses_iter<'a>(clauses: &'a ClauseAlloc, db: &'a ClauseDb) -> ClausesIter<'a>
-    requires { HoldsDb clauses.now db.now }
+    requires { DbMatchesBuffer clauses.now db.now }
     ensures rest { result ≡ live_refs clauses.now db.now.refs }
     ensures runs { ShowsInOrder (λ (x : ℕ). x) }
 {

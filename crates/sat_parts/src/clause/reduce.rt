@@ -2,7 +2,7 @@
 ghost use Rattle.std.specs.Prelude.{◌≡◌, IfOk, OnOk, OnErr};
 ghost use Rattle.std.specs.List.{Contains, filter};
 ghost use Rattle.sat_store.specs.clause.Buffer.{IsClause, header_at};
-ghost use Rattle.sat_parts.specs.clause.Db.{HoldsDb, PutsHeader, live_refs, is_live_of};
+ghost use Rattle.sat_parts.specs.clause.Db.{DbMatchesBuffer, PutsHeader, live_refs, is_live_of};
 ghost use Rattle.sat_parts.specs.clause.Activity.{PutsHeaders};
 ghost use Rattle.sat_parts.specs.clause.Reduced.{reduced, with_mark};
 
@@ -13,10 +13,10 @@ use std::alloc::{AllocError, Global};
 /// If the clause is live and in tier Mid, clears its active flag, or moves the clause to tier Local if the flag is
 /// not set.
 fn reduce_one(clauses: &mut ClauseAlloc, db: &mut ClauseDb, cref: ClauseRef)
-    requires db { HoldsDb clauses.old db.old }
+    requires db { DbMatchesBuffer clauses.old db.old }
     requires there { Contains db.old.refs cref }
     ensures put { PutsHeader clauses.old clauses.new db.old.refs cref (reduced (header_at clauses.old cref)) }
-    ensures db { HoldsDb clauses.new db.new }
+    ensures db { DbMatchesBuffer clauses.new db.new }
     ensures refs { db.new.refs ≡ db.old.refs }
     ensures live { live_refs clauses.new db.new.refs ≡ live_refs clauses.old db.old.refs }
 {
@@ -38,9 +38,9 @@ fn reduce_one(clauses: &mut ClauseAlloc, db: &mut ClauseDb, cref: ClauseRef)
 /// Moves to tier Local the clauses of tier Mid that have not been used since the last call. Clears the active flag of
 /// the other clauses of tier Mid.
 pub fn reduce_mids(clauses: &mut ClauseAlloc, db: &mut ClauseDb)
-    requires { HoldsDb clauses.old db.old }
+    requires { DbMatchesBuffer clauses.old db.old }
     ensures headers { PutsHeaders clauses.old clauses.new db.old.refs (λ p. reduced (header_at clauses.old p)) }
-    ensures db { HoldsDb clauses.new db.new }
+    ensures db { DbMatchesBuffer clauses.new db.new }
     ensures refs { db.new.refs ≡ db.old.refs }
     ensures live { live_refs clauses.new db.new.refs ≡ live_refs clauses.old db.old.refs }
 {
@@ -69,7 +69,7 @@ fn clauses_of_tier(
     db: &ClauseDb,
     tier: Tier,
 ) -> Result<Vec<ClauseRef>, AllocError>
-    requires { HoldsDb clauses.now db.now }
+    requires { DbMatchesBuffer clauses.now db.now }
     ensures { IfOk result (λ list. list.items ≡ filter (is_live_of clauses.now tier) db.now.refs) }
 {
     let mut list = Vec::new(alloc);
@@ -84,10 +84,10 @@ fn clauses_of_tier(
 
 /// Marks a clause if it is live and in the tier `tier`.
 fn mark_one(clauses: &mut ClauseAlloc, _db: &ClauseDb, cref: ClauseRef, tier: Tier)
-    requires db { HoldsDb clauses.old _db.now }
+    requires db { DbMatchesBuffer clauses.old _db.now }
     requires there { Contains _db.now.refs cref }
     ensures put { PutsHeader clauses.old clauses.new _db.now.refs cref (with_mark tier (header_at clauses.old cref)) }
-    ensures db { HoldsDb clauses.new _db.now }
+    ensures db { DbMatchesBuffer clauses.new _db.now }
     ensures live { live_refs clauses.new _db.now.refs ≡ live_refs clauses.old _db.now.refs }
 {
     let mut header = clauses.header(cref);
@@ -103,9 +103,9 @@ fn mark_one(clauses: &mut ClauseAlloc, _db: &ClauseDb, cref: ClauseRef, tier: Ti
 
 /// Marks every live clause of a tier.
 fn mark_tier(clauses: &mut ClauseAlloc, db: &ClauseDb, tier: Tier)
-    requires { HoldsDb clauses.old db.now }
+    requires { DbMatchesBuffer clauses.old db.now }
     ensures headers { PutsHeaders clauses.old clauses.new db.now.refs (λ p. with_mark tier (header_at clauses.old p)) }
-    ensures db { HoldsDb clauses.new db.now }
+    ensures db { DbMatchesBuffer clauses.new db.now }
     ensures live { live_refs clauses.new db.now.refs ≡ live_refs clauses.old db.now.refs }
 {
     for at in 0..db.len() {
@@ -123,11 +123,11 @@ pub fn dedup_and_mark_by_tier(
     db: &ClauseDb,
     tier: Tier,
 ) -> Result<Vec<ClauseRef>, AllocError>
-    requires { HoldsDb clauses.old db.now }
+    requires { DbMatchesBuffer clauses.old db.now }
     ensures list { IfOk result (λ list. list.items ≡ filter (is_live_of clauses.old tier) db.now.refs) }
     ensures marks { OnOk result (PutsHeaders clauses.old clauses.new db.now.refs
         (λ p. with_mark tier (header_at clauses.old p))) }
-    ensures db { HoldsDb clauses.new db.now }
+    ensures db { DbMatchesBuffer clauses.new db.now }
     ensures live { live_refs clauses.new db.now.refs ≡ live_refs clauses.old db.now.refs }
     ensures same { OnErr result (clauses.new ≡ clauses.old) }
 {

@@ -129,11 +129,11 @@ pub fn set_tier(parts: &mut Parts, cref: ClauseRef, tier: Tier)
 }
 
 /// Swaps two literals of a live clause. `i` and `j` must be at least 2.
-pub fn swap_behind(parts: &mut Parts, cref: ClauseRef, i: usize, j: usize)
+pub fn swap_unwatched(parts: &mut Parts, cref: ClauseRef, i: usize, j: usize)
     requires holds { PartsInvariant parts.old }
     requires live { HasClause parts.old cref }
-    requires first_behind { 2 ≤ i }
-    requires second_behind { 2 ≤ j }
+    requires first_unwatched { 2 ≤ i }
+    requires second_unwatched { 2 ≤ j }
     requires first_within { i < size_of parts.old.clauses cref }
     requires second_within { j < size_of parts.old.clauses cref }
     ensures holds { PartsInvariant parts.new }

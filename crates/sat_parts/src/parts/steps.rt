@@ -8,7 +8,7 @@ ghost use Rattle.sat_parts.specs.prop.State.{current_level};
 ghost use Rattle.sat_parts.specs.prop.Ready.{IsConflict};
 ghost use Rattle.sat_parts.specs.clause.Db.{live_refs};
 ghost use Rattle.sat_parts.specs.parts.Whole.{state, PartsInvariant, HoldsBelow, IsFullyPropagated, IsPicked, AllAssigned};
-ghost use Rattle.sat_parts.specs.parts.Round.{UnitsAreUncaused, IsBased};
+ghost use Rattle.sat_parts.specs.parts.Round.{UnitsHaveNoReason, IsBased};
 ghost use Rattle.sat_parts.specs.prop.Trails.{cut_to};
 ghost use Rattle.sat_parts.specs.prop.TrailWord.{decided_on};
 ghost use Rattle.sat_parts.specs.parts.Words.{WordExtends, TrailWordExtendsFor, TrailWordStays, TrailWordExtends};
@@ -34,8 +34,8 @@ pub fn propagate_all(alloc: Global, parts: &mut Parts) -> Result<Result<(), Conf
         × IsConflict parts.new.clauses (live_refs parts.new.clauses parts.new.db.refs) parts.new.binary.implied
         parts.new.assignment.current e)) }
     ensures done { IfOk result (λ r. OnOk r (IsFullyPropagated parts.new)) }
-    ensures units { 0 < length parts.old.trail.starts → UnitsAreUncaused (state parts.old)
-        → OnOk result (UnitsAreUncaused (state parts.new)) }
+    ensures units { 0 < length parts.old.trail.starts → UnitsHaveNoReason (state parts.old)
+        → OnOk result (UnitsHaveNoReason (state parts.new)) }
     ensures base { 0 < length parts.old.trail.starts → IsBased parts.old.trail → OnOk result (IsBased parts.new.trail) }
     ensures starts { OnOk result (parts.new.trail.starts ≡ parts.old.trail.starts) }
     ensures moved { OnOk result (ReordersLits parts.old parts.new) }
@@ -199,7 +199,7 @@ pub fn learn(parts: &mut Parts, header: ClauseHeader, lits: &[Lit]) -> Result<()
 pub fn undo(parts: &mut Parts, level: usize)
     ghost top: { ℕ }
     requires holds { HoldsBelow top parts.old }
-    requires units { UnitsAreUncaused (state parts.old) }
+    requires units { UnitsHaveNoReason (state parts.old) }
     requires base { IsBased parts.old.trail }
     requires below { level < length parts.old.trail.starts }
     requires due { level < top }

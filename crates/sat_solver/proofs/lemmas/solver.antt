@@ -3,7 +3,7 @@ pub mod SpeltLemmas
 pub mod RenamedLemmas
 pub mod AnsweredLemmas
 pub mod BegunLemmas
-pub mod BehindLemmas
+pub mod AfterLemmas
 pub mod ComingLemmas
 pub mod FindingLemmas
 pub mod LineLemmas

@@ -4,8 +4,8 @@ pub mod CutLemmas
 pub mod FreedLemmas
 pub mod FreeingLemmas
 pub mod GatherLemmas
-pub mod LightensLemmas
-pub mod LighterLemmas
+pub mod StrengthenClauseLemmas
+pub mod StrengthenSearchLemmas
 pub mod PassesLemmas
 pub mod TrueLemmas
 pub mod WalkLemmas

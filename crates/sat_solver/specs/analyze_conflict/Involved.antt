@@ -56,7 +56,7 @@ pub record IsResolution (words : List ℕ) (s : State) (e : Conflict) (w : Work)
 -- a literal of this variable is on the trail at this position or later
 pub record IsPassed (s : State) (at v : ℕ) : Type 0 where
   pub place : ℕ
-  pub behind : at ≤ place
+  pub following : at ≤ place
   pub within : place < length s.trail.lits
   pub there : variable (lit_at s place) ≡ v
 

@@ -9,7 +9,7 @@ use Rattle.sat_parts.specs.prop.Values.{IsFalseLit}
 use Rattle.sat_parts.specs.prop.Graphs.{is_unit_reason}
 use Rattle.sat_parts.specs.prop.Causes.{causes, falsified}
 use Rattle.sat_parts.specs.prop.State.{State, node, level, current_level, lit_at, IsBefore, StateIsConsistent}
-use Rattle.sat_parts.specs.prop.Reasons.{IsFalseBefore, AreInTurn}
+use Rattle.sat_parts.specs.prop.Reasons.{IsFalseBefore, AreUnitInTurn}
 use Rattle.sat_parts.specs.prop.TrailWord.{IsLevelled}
 use Rattle.sat_solver.specs.analyze_conflict.Work.{Work}
 use Rattle.sat_parts.specs.declared.prop.graph.Conflict.{Conflict}
@@ -29,7 +29,7 @@ pub record CanAnalyze (words : List ℕ) (s : State) : Type 0 where
   pub above : 0 < current_level s
   pub before : (p k : ℕ) → get_or s.trail.starts 0 0 ≤ p → p < length s.trail.lits → k < length (causes_at words s (lit_at s p)) →
       IsFalseBefore s p (get_or (causes_at words s (lit_at s p)) k 0)
-  pub stands : (p o : ℕ) → get_or s.trail.starts 0 0 ≤ p → p < length s.trail.lits → (node s (lit_at s p)).reason ≡ Long o → IsClause words o × (0 < length (lits_at words o))
+  pub valid : (p o : ℕ) → get_or s.trail.starts 0 0 ≤ p → p < length s.trail.lits → (node s (lit_at s p)).reason ≡ Long o → IsClause words o × (0 < length (lits_at words o))
 
 -- what propagation leaves when it has found a conflict: its own requirement, for the literals of lower levels
 abbrev pub AsksBelow : (words refs : List ℕ) (w : Watching) (implied : List (List ℕ)) (s : State) → Type 0
@@ -37,7 +37,7 @@ AsksBelow words refs w implied s = PropagationInvariant words refs w implied s (
 
 -- the reasons of the literals above level 0 are unit in turn
 abbrev pub AreInTurnAbove : (words refs : List ℕ) (implied : List (List ℕ)) (s : State) → Type 0
-AreInTurnAbove words refs implied s = AreInTurn words (live_refs words refs) implied s (get_or s.trail.starts 0 0)
+AreInTurnAbove words refs implied s = AreUnitInTurn words (live_refs words refs) implied s (get_or s.trail.starts 0 0)
 
 -- whether a true literal is flagged and of level `top` or above, so that it is to be resolved
 abbrev pub is_open_flagged : State → ℕ → List Bool → ℕ → Bool

@@ -32,7 +32,7 @@ pub data IsUse (s : State) (low : ℕ) (flags : List Bool) (k l : ℕ) : Type 0 
 pub record MinimizationInvariant (words : List ℕ) (s : State) (conflict : List ℕ) (first low : ℕ) (w : Work) (at : ℕ) : Type 0 where
   pub size : length w.flags ≡ length s.values
   pub within : at ≤ length w.used
-  pub behind : low ≤ at
+  pub following : low ≤ at
   pub reasons : (k : ℕ) → k < length w.used → IsReasoned s 0 (get_or w.used k 0)
   pub uses : (k : ℕ) → k < length w.used → IsUse s low w.flags k (get_or w.used k 0)
   pub distinct : AreDistinct w.used
@@ -42,7 +42,7 @@ pub record MinimizationInvariant (words : List ℕ) (s : State) (conflict : List
 -- a used literal at this position or later has this variable
 pub record IsNewUse (used : List ℕ) (from v : ℕ) : Type 0 where
   pub place : ℕ
-  pub behind : from ≤ place
+  pub following : from ≤ place
   pub within : place < length used
   pub there : variable (get_or used place 0) ≡ v
 

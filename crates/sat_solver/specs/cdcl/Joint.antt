@@ -50,7 +50,7 @@ pub record IsReadySearch (s : Session) (c : Search) : Type 0 where
 
 -- the invariant of a search between turns
 pub record IsSearch (s : Session) (c : Search) : Type 0 where
-  pub stands : PartsSessionInvariant c.parts s (global_in c)
+  pub valid : PartsSessionInvariant c.parts s (global_in c)
   pub ready : IsReadySearch s c
 
 -- the same variables and assumptions

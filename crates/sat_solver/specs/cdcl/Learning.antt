@@ -77,8 +77,8 @@ SearchBumpsInvolved c c' = BumpsInvolved c.parts c.activity c'.analysis (graded 
 
 -- afterwards every variable that was met was bumped once, and activities decayed; clauses are unchanged
 pub record BumpsMetVars (c c' : Search) : Type 0 where
-  pub behind : Search
-  pub rated : SearchBumpsInvolved c behind
-  pub rest : c' ≡ record behind { parts = c'.parts }
-  pub clauses : SameClauses behind.parts c'.parts
-  pub queue : c'.parts.vsids ≡ decayed (all_bumped behind.analysis.met behind.parts.vsids)
+  pub following : Search
+  pub rated : SearchBumpsInvolved c following
+  pub rest : c' ≡ record following { parts = c'.parts }
+  pub clauses : SameClauses following.parts c'.parts
+  pub queue : c'.parts.vsids ≡ decayed (all_bumped following.analysis.met following.parts.vsids)

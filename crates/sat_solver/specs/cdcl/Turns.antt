@@ -7,7 +7,7 @@ use Rattle.sat_parts.specs.declared.parts.assumptions.Assumptions.{Assumptions}
 use Rattle.sat_parts.specs.declared.parts.Parts.{Parts}
 use Rattle.sat_parts.specs.parts.Assumed.{AreDecided, ArePlaced, variables_of_lits}
 use Rattle.sat_parts.specs.parts.Frame.{SameClauses, AddsNoUnit}
-use Rattle.sat_parts.specs.parts.Round.{UnitsAreUncaused, IsBased}
+use Rattle.sat_parts.specs.parts.Round.{UnitsHaveNoReason, IsBased}
 use Rattle.sat_parts.specs.parts.Whole.{state, PartsInvariant, HoldsBelow, IsFullyPropagated, AllAssigned, IsRefuted}
 use Rattle.sat_parts.specs.parts.Words.{TrailWordExtendsFor}
 use Rattle.sat_solver.specs.session.Session.{Session}
@@ -54,7 +54,7 @@ pub record GoesDeeper (found : Option FoundConflict) (a a' : Assumptions) (p p' 
 pub record IsPropagated (s : Session) (c : Search) : Type 0 where
   pub holds : HoldsBelow (length c.parts.trail.starts + 1) c.parts
   pub done : IsFullyPropagated c.parts
-  pub units : 0 < length c.parts.trail.starts → UnitsAreUncaused (state c.parts) × IsBased c.parts.trail
+  pub units : 0 < length c.parts.trail.starts → UnitsHaveNoReason (state c.parts) × IsBased c.parts.trail
   pub fits : SessionMatchesParts c.parts s (global_in c)
   pub ready : IsReadySearch s c
 

@@ -109,8 +109,8 @@ pub record CollectsWhereDue (p p' : Parts) : Type 0 where
 
 -- the reductions before the round with this number
 pub record Reduces (config : SolverConfig) (round : ℕ) (p p' : Parts) : Type 0 where
-  pub behind_locals : Parts
-  pub behind_mids : Parts
-  pub locals : ReducesLocals (round % config.reduce_locals_interval == 0) p behind_locals
-  pub mids : ReducesMids (round % config.reduce_mids_interval == 0) behind_locals behind_mids
-  pub collection : CollectsWhereDue behind_mids p'
+  pub after_locals : Parts
+  pub after_mids : Parts
+  pub locals : ReducesLocals (round % config.reduce_locals_interval == 0) p after_locals
+  pub mids : ReducesMids (round % config.reduce_mids_interval == 0) after_locals after_mids
+  pub collection : CollectsWhereDue after_mids p'

@@ -25,7 +25,7 @@ abbrev pub user_literal : ℕ → Literal
 user_literal l = record { name = variable l + 1; positive = is_positive l }
 
 -- the proof literal that represents a literal over names; its variable is of mode sample and has an index
-pub record StandsFor (n : Variables) (l code : ℕ) : Type 0 where
+pub record IsProofLiteralOf (n : Variables) (l code : ℕ) : Type 0 where
   pub variable_is : ℕ
   pub index_is : ℕ
   pub named : global_of n (variable l) ≡ Some variable_is
@@ -35,8 +35,8 @@ pub record StandsFor (n : Variables) (l code : ℕ) : Type 0 where
 
 -- the same set of literals, in any order and with any repetitions
 pub record SameLiterals (n : Variables) (user clause : List ℕ) : Type 0 where
-  pub there : AllByRecursion (λ l. (code : ℕ) × StandsFor n l code × Among code clause) user
-  pub only : AllByRecursion (λ code. (l : ℕ) × StandsFor n l code × Among l user) clause
+  pub there : AllByRecursion (λ l. (code : ℕ) × IsProofLiteralOf n l code × Among code clause) user
+  pub only : AllByRecursion (λ code. (l : ℕ) × IsProofLiteralOf n l code × Among l user) clause
 
 -- the search literal that represents a literal over names
 pub record Image (n : Variables) (l code : ℕ) : Type 0 where

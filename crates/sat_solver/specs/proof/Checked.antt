@@ -13,7 +13,7 @@ use Rattle.sat_checker.specs.declared.processing.Nobody.{Nobody}
 use Rattle.sat_checker.specs.declared.processing.Processing.{Processing}
 use Rattle.sat_solver.specs.session.Due.{kept_if}
 use Rattle.sat_solver.specs.proof.Listening.{AreJustListeners, Hears, HeardAll, HasHeard, FailedOf}
-use Rattle.sat_solver.specs.session.Session.{MayAll}
+use Rattle.sat_solver.specs.session.Session.{AreAllowedSteps}
 use Rattle.sat_solver.specs.proof.Counting.{width_change, written_for}
 use Rattle.sat_solver.specs.proof.Widths.{IsNarrowedTo, KeepsWidth}
 use Rattle.sat_solver.specs.declared.proof.checker.Checked.{Checked}
@@ -47,7 +47,7 @@ pub record AreGivenAndWidth (steps given : List Step) (now : ℕ) : Type 0 where
   pub before : ℕ
   pub earlier : List Step
   pub cut : AreGiven steps earlier before
-  pub told : given ≡ width_change before now ++ earlier
+  pub given_is : given ≡ width_change before now ++ earlier
 
 -- the checker's listeners
 abbrev pub who_listens : {L : Type 0} → Checked L → Processing L Nobody
@@ -95,7 +95,7 @@ module _ {L : Type 0} (takes : L → Notice → Result Unit Error → L → Type
     pub cut : Given written own.bits
     pub begun : Processing L Nobody
     pub were : AreJustListeners added begun
-    pub stands : HasAccepted (Hears takes) [] begun (seen_of own.checker) written
+    pub valid : HasAccepted (Hears takes) [] begun (seen_of own.checker) written
     pub going : kernel_has_failed (kernel_of own.checker) ≡ false
 
   -- the checker received these steps, each at its width
@@ -116,12 +116,12 @@ module _ {L : Type 0} (takes : L → Notice → Result Unit Error → L → Type
 
   -- a step that may be made is accepted; an error is never about the step
   abbrev pub TakesStep : Result (Unit {0}) CheckerError → Checked L → Step → Checked L → Type 0
-  TakesStep result old step new = (added : List L) (steps : List Step) → MayAll (step ∷ steps) → IsFed old added steps
+  TakesStep result old step new = (added : List L) (steps : List Step) → AreAllowedSteps (step ∷ steps) → IsFed old added steps
       → OkOrCause result (IsFed new added (step ∷ steps)) (FailsWhileHeard added (listeners_of (who_listens new)) (step ∷ steps))
 
   -- the checker is notified of the width of the next step
   abbrev pub TakesWidth : Result (Unit {0}) CheckerError → Checked L → Checked L → Type 0
-  TakesWidth result old new = (added : List L) (steps : List Step) → MayAll steps → IsFed old added steps → OkOrCause result (IsFedBy (AreGivenAndWidth steps) new added) (FailsWhileHeard added (listeners_of (who_listens new)) steps)
+  TakesWidth result old new = (added : List L) (steps : List Step) → AreAllowedSteps steps → IsFed old added steps → OkOrCause result (IsFedBy (AreGivenAndWidth steps) new added) (FailsWhileHeard added (listeners_of (who_listens new)) steps)
 
   -- no unit conflict is waiting for its id any more
   abbrev pub TakesDelayed : Result (Unit {0}) CheckerError → Checked L → Checked L → Type 0
@@ -131,7 +131,7 @@ module _ {L : Type 0} (takes : L → Notice → Result Unit Error → L → Type
   -- a step that may be written is never rejected
   abbrev pub FeedsOwnChecker : Result (Unit {0}) CheckerError → CheckerView (Processing L Nobody) → Step → CheckerView (Processing L Nobody) → Type 0
   FeedsOwnChecker result old step new =
-      (begun : Processing L Nobody) (written : List Step) → HasAccepted (Hears takes) [] begun old written → kernel_has_failed old.kernel ≡ false → MayAll (step ∷ written)
+      (begun : Processing L Nobody) (written : List Step) → HasAccepted (Hears takes) [] begun old written → kernel_has_failed old.kernel ≡ false → AreAllowedSteps (step ∷ written)
       → OkOrCause result (HasAccepted (Hears takes) [] begun new (step ∷ written) × (kernel_has_failed new.kernel ≡ false)) (λ fault. FailedOf takes begun new.listeners written fault ⊎ FailedOf takes begun new.listeners (step ∷ written) fault)
 
   -- unless a step was lost, the checker received all steps
@@ -140,8 +140,8 @@ module _ {L : Type 0} (takes : L → Notice → Result Unit Error → L → Type
   FedUnless lost (Some own) added steps = (lost ≡ false → IsFed own added steps) × Heard added (listeners_of (who_listens own)) steps
 
   -- without listeners, no processor returns a fault
-  abbrev pub NobodyComplains : Type 0
-  NobodyComplains = (now : Listeners L Nobody) (steps : List Step) (cause : Error) → FailsWhileHeard [] now steps (checks.Processor cause) → ⊥
+  abbrev pub NeverFailsWithoutListeners : Type 0
+  NeverFailsWithoutListeners = (now : Listeners L Nobody) (steps : List Step) (cause : Error) → FailsWhileHeard [] now steps (checks.Processor cause) → ⊥
 
   -- a processor is added, or memory ran out
   abbrev pub AddsOwnListener : Result (Unit {0}) CheckerError → Checked L → L → Checked L → Type 0
@@ -149,6 +149,6 @@ module _ {L : Type 0} (takes : L → Notice → Result Unit Error → L → Type
       → OkOrCause result (IsFed new (added ++ processor ∷ []) steps) (λ fault. (fault ≡ checks.OutOfMemory) × Heard added (listeners_of (who_listens new)) steps)
 
   -- the checker is restarted; its listeners are the processors that were added
-  pub record BeginsAnew (old new : Checked L) (added : List L) : Type 0 where
+  pub record CheckerRestarts (old new : Checked L) (added : List L) : Type 0 where
     pub listed : added ≡ (listeners_of (who_listens old)).processors
     pub fed : IsFed new added []

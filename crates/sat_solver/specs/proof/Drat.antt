@@ -8,7 +8,7 @@ use Rattle.sat_checker.specs.LiteralSets.{canonical, same_literals}
 use Rattle.sat_checker.specs.Propagation.{UnitInTurn}
 use Rattle.sat_solver.specs.proof.DratText.{DratLine, Derives, Deletes, drat_lines}
 use Rattle.sat_checker.specs.Contents.{more_if}
-use Rattle.sat_solver.specs.session.Session.{MayAll, session_after}
+use Rattle.sat_solver.specs.session.Session.{AreAllowedSteps, session_after}
 
 -- how often this set is in the list
 abbrev pub times : List ℕ → List (List ℕ) → ℕ
@@ -21,24 +21,24 @@ without_set set [] = []
 without_set set (c ∷ cs) = if same_literals c set then cs else c ∷ without_set set cs
 
 -- the clauses that are present after a line
-abbrev pub behind_line : DratLine → List (List ℕ) → List (List ℕ)
-behind_line (Derives clause) cs = canonical clause ∷ cs
-behind_line (Deletes clause) cs = without_set (canonical clause) cs
+abbrev pub after_line : DratLine → List (List ℕ) → List (List ℕ)
+after_line (Derives clause) cs = canonical clause ∷ cs
+after_line (Deletes clause) cs = without_set (canonical clause) cs
 
 -- the clauses that are present after several lines, the first of them first
-abbrev pub behind_lines : List DratLine → List (List ℕ) → List (List ℕ)
-behind_lines [] cs = cs
-behind_lines (x ∷ xs) cs = behind_lines xs (behind_line x cs)
+abbrev pub after_lines : List DratLine → List (List ℕ) → List (List ℕ)
+after_lines [] cs = cs
+after_lines (x ∷ xs) cs = after_lines xs (after_line x cs)
 
 -- the clauses that are present after a step; a clause of the formula is added without a line
-abbrev pub behind_step : Step → List (List ℕ) → List (List ℕ)
-behind_step (AddClause clause) cs = canonical clause ∷ cs
-behind_step step cs = behind_lines (drat_lines step) cs
+abbrev pub following_step : Step → List (List ℕ) → List (List ℕ)
+following_step (AddClause clause) cs = canonical clause ∷ cs
+following_step step cs = after_lines (drat_lines step) cs
 
 -- the clauses that are present after steps: added or derived, and not deleted
 abbrev pub present : List Step → List (List ℕ)
 present [] = []
-present (step ∷ earlier) = behind_step step (present earlier)
+present (step ∷ earlier) = following_step step (present earlier)
 
 -- some present clauses are unit in turn under the assumed literals, and the last one is falsified
 pub record RefutesByUnits (cs : List (List ℕ)) (assumed : List ℕ) : Type 0 where
@@ -47,20 +47,20 @@ pub record RefutesByUnits (cs : List (List ℕ)) (assumed : List ℕ) : Type 0 w
   pub turns : UnitInTurn assumed named
 
 -- whether a line is right: a derived clause follows by unit propagation from its negated literals, and a deleted one is present
-abbrev pub LineStands : DratLine → List (List ℕ) → Type 0
-LineStands (Derives clause) cs = RefutesByUnits cs (map negated clause)
-LineStands (Deletes clause) cs = 0 < times (canonical clause) cs
+abbrev pub DratLineIsRight : DratLine → List (List ℕ) → Type 0
+DratLineIsRight (Derives clause) cs = RefutesByUnits cs (map negated clause)
+DratLineIsRight (Deletes clause) cs = 0 < times (canonical clause) cs
 
 -- all lines are right, each after the lines before it
-abbrev pub LinesStand : List DratLine → List (List ℕ) → Type 0
-LinesStand [] cs = Unit {0}
-LinesStand (x ∷ xs) cs = LineStands x cs × LinesStand xs (behind_line x cs)
+abbrev pub DratLinesAreRight : List DratLine → List (List ℕ) → Type 0
+DratLinesAreRight [] cs = Unit {0}
+DratLinesAreRight (x ∷ xs) cs = DratLineIsRight x cs × DratLinesAreRight xs (after_line x cs)
 
 -- the lines of every step are right after the steps before it
 abbrev pub IsDratDerivation : List Step → Type 0
 IsDratDerivation [] = Unit {0}
-IsDratDerivation (step ∷ earlier) = IsDratDerivation earlier × LinesStand (drat_lines step) (present earlier)
+IsDratDerivation (step ∷ earlier) = IsDratDerivation earlier × DratLinesAreRight (drat_lines step) (present earlier)
 
 -- allowed steps give a DRAT derivation, and once they have recorded unsat, unit propagation refutes the clauses that are left
-abbrev pub DratStands : Type 0
-DratStands = (steps : List Step) → MayAll steps → IsDratDerivation steps × ((session_after steps).unsat ≡ true → RefutesByUnits (present steps) [])
+abbrev pub DratIsRight : Type 0
+DratIsRight = (steps : List Step) → AreAllowedSteps steps → IsDratDerivation steps × ((session_after steps).unsat ≡ true → RefutesByUnits (present steps) [])

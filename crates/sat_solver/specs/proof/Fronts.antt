@@ -10,7 +10,7 @@ use Rattle.sat_solver.specs.proof.Checked.{has_begun}
 use Rattle.sat_solver.specs.proof.Counting.{nothing_counted, TruncatesHashes}
 use Rattle.sat_solver.specs.proof.OutputView.{text_in}
 use Rattle.sat_solver.specs.proof.ProofView.{Target, Open, TargetTakes, TargetFails, GivesWriter, target_of, steps_of}
-use Rattle.sat_solver.specs.session.Session.{MayAll}
+use Rattle.sat_solver.specs.session.Session.{AreAllowedSteps}
 use Rattle.sat_solver.specs.declared.proof.hash_bits.Counting.{Counting}
 use Rattle.sat_solver.specs.declared.proof.format.ProofFormat.{ProofFormat}
 use Rattle.sat_solver.specs.declared.proof.Proof.{Proof}
@@ -20,20 +20,20 @@ pub record FrontText (f : ProofFormat) (from given : Writer) (steps : List Step)
   pub written : List Step
   pub counting : Counting
   pub cuts : TruncatesHashes nothing_counted steps written counting
-  pub may : MayAll written
+  pub may : AreAllowedSteps written
   pub accepts : AcceptsAll written
   pub front : List ℕ
-  pub behind : List ℕ
-  pub whole : text_in f written ≡ front ++ behind
+  pub following : List ℕ
+  pub whole : text_in f written ≡ front ++ following
   pub taken : given.taken ≡ from.taken ++ front
-  pub told : Appends from.contents given.contents front
+  pub known_bytes : Appends from.contents given.contents front
 
 -- since it was opened after the steps `before`, the target received a prefix of the text of the steps made since, apart from those made
 -- after one of its calls failed
 pub record FrontSince (f : ProofFormat) (from given : Writer) (before now : List Step) : Type 0 where
   pub later : List Step
   pub steps : List Step
-  pub behind : now ≡ later ++ (steps ++ before)
+  pub following : now ≡ later ++ (steps ++ before)
   pub front : FrontText f from given steps
 
 -- these steps were made, and the target received their text, or a call of it failed while writing the text of the first of them
@@ -48,5 +48,5 @@ pub record GoesOnFrom {W L : Type 0} {G : Ghosts L} (seen : W → Writer) (old n
 
 -- if a target was opened before anything else and is returned after these steps, it has received a prefix of the text of accepted steps
 abbrev pub FrontsAreAccepted : Type 0
-FrontsAreAccepted = (f : ProofFormat) (from given : Writer) (before steps : List Step) (now : Target) → has_begun before ≡ false → MayAll (steps ++ before)
+FrontsAreAccepted = (f : ProofFormat) (from given : Writer) (before steps : List Step) (now : Target) → has_begun before ≡ false → AreAllowedSteps (steps ++ before)
     → TargetTakesFront (Open f nothing_counted (empty_sink from)) steps now → GivesWriter now (Some given) → FrontSince f from given before (steps ++ before)

@@ -59,43 +59,43 @@ HasListeners (checks.Processor cause) listening = listening ≡ Some [] → ⊥
 
 module _ {L : Type 0} (takes : L → Notice → Result Unit Error → L → Type 0) where
   -- there is a checker, and it failed with this fault at these steps; a listener's fault only if there is a listener
-  abbrev pub ComplainsIn : CheckFault → Option (Checked L) → (added : List L) → List Step → Type 0
-  ComplainsIn fault None added steps = ⊥
-  ComplainsIn fault (Some own) added steps = ∥ FailsWhileHeard takes added (listeners_of (who_listens own)) steps fault ∥₁ × HasListeners fault (Some added)
+  abbrev pub CheckerComplains : CheckFault → Option (Checked L) → (added : List L) → List Step → Type 0
+  CheckerComplains fault None added steps = ⊥
+  CheckerComplains fault (Some own) added steps = ∥ FailsWhileHeard takes added (listeners_of (who_listens own)) steps fault ∥₁ × HasListeners fault (Some added)
 
   -- these processors were returned: those that were added, after what they have heard; none without a checker
-  pub record IsHanded (added given : List L) (steps : List Step) : Type 0 where
+  pub record AddedAfterHearing (added given : List L) (steps : List Step) : Type 0 where
     pub now : Listeners L Nobody
     pub are : now.processors ≡ given
     pub heard : Heard takes added now steps
 
   -- the same, after everything that was announced of all steps
-  pub record IsHandedWhole (added given : List L) (steps : List Step) : Type 0 where
+  pub record AddedAfterHearingAll (added given : List L) (steps : List Step) : Type 0 where
     pub now : Listeners L Nobody
     pub are : now.processors ≡ given
     pub heard : HeardWhole takes added now steps
 
   -- these processors are returned after everything that was announced; none without a checker
-  abbrev pub HandedWholeIn : Option (List L) → (given : List L) → List Step → Type 0
-  HandedWholeIn None given steps = given ≡ []
-  HandedWholeIn (Some added) given steps = ∥ IsHandedWhole added given steps ∥₁
+  abbrev pub ReturnsNotifiedIfChecked : Option (List L) → (given : List L) → List Step → Type 0
+  ReturnsNotifiedIfChecked None given steps = given ≡ []
+  ReturnsNotifiedIfChecked (Some added) given steps = ∥ AddedAfterHearingAll added given steps ∥₁
 
   -- these processors are returned after what they have heard; none without a checker
-  abbrev pub HandedIn : Option (List L) → (given : List L) → List Step → Type 0
-  HandedIn None given steps = given ≡ []
-  HandedIn (Some added) given steps = ∥ IsHanded added given steps ∥₁
+  abbrev pub ReturnsIfChecked : Option (List L) → (given : List L) → List Step → Type 0
+  ReturnsIfChecked None given steps = given ≡ []
+  ReturnsIfChecked (Some added) given steps = ∥ AddedAfterHearing added given steps ∥₁
 
 -- its checker failed with this fault; a listener's fault was returned by one of the listeners
 abbrev pub MadeComplains : {L : Type 0} {G : Ghosts L} → CheckFault → Made L G → Type 0
-MadeComplains {G = G} fault m = ComplainsIn G.takes fault m.own m.roll.items m.history.steps
+MadeComplains {G = G} fault m = CheckerComplains G.takes fault m.own m.roll.items m.history.steps
 
 -- the listeners are returned
-abbrev pub MadeHandsBack : {L : Type 0} {G : Ghosts L} → Made L G → (given : List L) → Type 0
-MadeHandsBack {G = G} m given = HandedIn G.takes (made_audience m) given m.history.steps
+abbrev pub MadeReturnsListeners : {L : Type 0} {G : Ghosts L} → Made L G → (given : List L) → Type 0
+MadeReturnsListeners {G = G} m given = ReturnsIfChecked G.takes (made_audience m) given m.history.steps
 
 -- the listeners are returned; if the checker received every step, they have heard everything
-abbrev pub MadeHandsBackWhole : {L : Type 0} {G : Ghosts L} → Made L G → (given : List L) → Type 0
-MadeHandsBackWhole {G = G} m given = m.lost ≡ false → HandedWholeIn G.takes (made_audience m) given m.history.steps
+abbrev pub MadeReturnsNotifiedListeners : {L : Type 0} {G : Ghosts L} → Made L G → (given : List L) → Type 0
+MadeReturnsNotifiedListeners {G = G} m given = m.lost ≡ false → ReturnsNotifiedIfChecked G.takes (made_audience m) given m.history.steps
 
 -- what an answer of the checker says: the error is stored
 abbrev pub OkOrComplains : {L : Type 0} {G : Ghosts L} → Result (Unit {0}) CheckFault → Made L G → Type 0
@@ -103,13 +103,13 @@ OkOrComplains (Ok x) m = Unit {0}
 OkOrComplains (Err fault) m = MadeComplains fault m × IsComplaint fault m.complaint
 
 -- the same, or the checker had failed before
-abbrev pub ComplainsOr : {L : Type 0} {G : Ghosts L} → (lost : Bool) → CheckFault → Made L G → Type 0
-ComplainsOr lost fault m = (MadeComplains fault m × IsComplaint fault m.complaint) ⊎ ((lost ≡ true) × (fault ≡ checks.OutOfMemory))
+abbrev pub ComplainsOrWasLost : {L : Type 0} {G : Ghosts L} → (lost : Bool) → CheckFault → Made L G → Type 0
+ComplainsOrWasLost lost fault m = (MadeComplains fault m × IsComplaint fault m.complaint) ⊎ ((lost ≡ true) × (fault ≡ checks.OutOfMemory))
 
 -- what an answer says about a checker that may have failed before
-abbrev pub OkOrComplainsUnless : {L : Type 0} {G : Ghosts L} → (lost : Bool) → Result (Unit {0}) CheckFault → Made L G → Type 0
-OkOrComplainsUnless lost (Ok x) m = Unit {0}
-OkOrComplainsUnless lost (Err fault) m = ComplainsOr lost fault m
+abbrev pub OkOrComplainsOrWasLost : {L : Type 0} {G : Ghosts L} → (lost : Bool) → Result (Unit {0}) CheckFault → Made L G → Type 0
+OkOrComplainsOrWasLost lost (Ok x) m = Unit {0}
+OkOrComplainsOrWasLost lost (Err fault) m = ComplainsOrWasLost lost fault m
 
 -- the listener's error was reported, and is no longer stored
 abbrev pub cleared_complaint : {L : Type 0} {G : Ghosts L} → Made L G → Made L G
@@ -121,29 +121,29 @@ pub record MadeEffect {L : Type 0} {G : Ghosts L} (step : Step) (old new : Made 
   pub listening : made_audience new ≡ made_audience old
 
 -- the listeners when checking begins: the earlier ones, each as it was added; or as it was returned, if a step was lost
-abbrev pub MadeListedAnew : {L : Type 0} {G : Ghosts L} → Bool → Made L G → Option (List L) → List L → Type 0
-MadeListedAnew lost m None begun = begun ≡ []
-MadeListedAnew false m (Some added) begun = begun ≡ added
-MadeListedAnew true m (Some added) begun = MadeHandsBack m begun
+abbrev pub MadeListenersAtRestart : {L : Type 0} {G : Ghosts L} → Bool → Made L G → Option (List L) → List L → Type 0
+MadeListenersAtRestart lost m None begun = begun ≡ []
+MadeListenersAtRestart false m (Some added) begun = begun ≡ added
+MadeListenersAtRestart true m (Some added) begun = MadeReturnsListeners m begun
 
 -- there is a checker, and it has missed no step
 pub record MadeHasChecker {L : Type 0} {G : Ghosts L} (old new : Made L G) : Type 0 where
   pub steps : new.history.steps ≡ old.history.steps
   pub begun : List L
   pub listening : made_audience new ≡ Some begun
-  pub listed : MadeListedAnew old.lost old (made_audience old) begun
+  pub listed : MadeListenersAtRestart old.lost old (made_audience old) begun
   pub taking : made_is_lost new ≡ false
 
 -- one more listener
-pub record MadeListensToo {L : Type 0} {G : Ghosts L} (processor : L) (old new : Made L G) : Type 0 where
+pub record MadeHasOneMoreListener {L : Type 0} {G : Ghosts L} (processor : L) (old new : Made L G) : Type 0 where
   pub before : List L
   pub listened : made_audience old ≡ Some before
   pub listening : made_audience new ≡ Some (before ++ processor ∷ [])
   pub taking : made_is_lost new ≡ false
 
 -- the result of adding a listener
-abbrev pub MadeTakesListener : {L : Type 0} {G : Ghosts L} → Result (Unit {0}) CheckFault → L → Made L G → Made L G → Type 0
-MadeTakesListener (Ok x) processor old new = MadeListensToo processor old new
-MadeTakesListener (Err checks.OutOfMemory) processor old new = made_audience new ≡ made_audience old
-MadeTakesListener (Err checks.CounterEnd) processor old new = ⊥
-MadeTakesListener (Err (checks.Processor cause)) processor old new = ⊥
+abbrev pub MadeAddListenerResult : {L : Type 0} {G : Ghosts L} → Result (Unit {0}) CheckFault → L → Made L G → Made L G → Type 0
+MadeAddListenerResult (Ok x) processor old new = MadeHasOneMoreListener processor old new
+MadeAddListenerResult (Err checks.OutOfMemory) processor old new = made_audience new ≡ made_audience old
+MadeAddListenerResult (Err checks.CounterEnd) processor old new = ⊥
+MadeAddListenerResult (Err (checks.Processor cause)) processor old new = ⊥

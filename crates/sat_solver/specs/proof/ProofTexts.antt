@@ -9,7 +9,7 @@ use Rattle.sat_checker.specs.declared.processing.ProofProcessor.{Ghosts}
 use Rattle.sat_solver.specs.proof.Counting.{nothing_counted, TruncatesHashes}
 use Rattle.sat_solver.specs.proof.OutputView.{text_in}
 use Rattle.sat_solver.specs.proof.ProofView.{Target, Open, TargetTakes, TargetFails, TakesAll, GivesWriter, target_of, steps_of}
-use Rattle.sat_solver.specs.session.Session.{MayAll}
+use Rattle.sat_solver.specs.session.Session.{AreAllowedSteps}
 use Rattle.sat_solver.specs.proof.Widths.{MayAt}
 use Rattle.sat_solver.specs.declared.proof.hash_bits.Counting.{Counting}
 use Rattle.sat_solver.specs.declared.proof.format.ProofFormat.{ProofFormat}
@@ -43,19 +43,19 @@ BrokenIsFront = (f : ProofFormat) (from given : Writer) (steps : List Step) (t :
 
 -- what is written for allowed steps is allowed, at any widths
 abbrev pub CutsAreFree : Type 0
-CutsAreFree = (made written : List Step) (c : Counting) → TruncatesHashes nothing_counted made written c → MayAll made → MayAt made written c.bits
+CutsAreFree = (made written : List Step) (c : Counting) → TruncatesHashes nothing_counted made written c → AreAllowedSteps made → MayAt made written c.bits
 
 -- since the target was opened with this writer and these steps were made, what it received and what is pending is the text of the steps
 -- made since
 pub record WroteSince {W L : Type 0} {G : Ghosts L} (seen : W → Writer) (f : ProofFormat) (from : Writer) (before : List Step) (p : Proof W L G) : Type 0 where
   pub steps : List Step
-  pub behind : steps_of p ≡ steps ++ before
+  pub following : steps_of p ≡ steps ++ before
   pub target : TargetTakes (Open f nothing_counted (empty_sink from)) steps (target_of seen p)
 
 -- a target that is returned has received the text of all steps since it was opened
 pub record TookSince (f : ProofFormat) (from given : Writer) (before now : List Step) : Type 0 where
   pub steps : List Step
-  pub behind : now ≡ steps ++ before
+  pub following : now ≡ steps ++ before
   pub took : TookText f from given steps
 
 -- the same, and a checker accepts what was written for them, step by step

@@ -8,7 +8,7 @@ use Rattle.sat_solver.specs.proof.Counting.{TruncatesHashes}
 use Rattle.sat_solver.specs.proof.Complaints.{IsComplaint}
 use Rattle.sat_solver.specs.proof.MadeView as mades
 use Rattle.sat_solver.specs.proof.OutputView.{is_lines, text_in, AreSpeltInFormat, SendsSteps, output_format, output_sink}
-use Rattle.sat_solver.specs.session.Session.{Session, MayAll, session_after}
+use Rattle.sat_solver.specs.session.Session.{Session, AreAllowedSteps, session_after}
 use Rattle.sat_solver.specs.declared.proof.made.CheckFault.{CheckFault}
 use Rattle.sat_solver.specs.declared.proof.made.CheckFault.TheVariants as checks
 use Rattle.sat_solver.specs.declared.proof.hash_bits.Counting.{Counting}
@@ -97,20 +97,20 @@ abbrev pub without_complaint : {W L : Type 0} {G : Ghosts L} → Proof W L G →
 without_complaint p = record p { made = mades.cleared_complaint p.made }
 
 -- the listeners are returned, in order; each has heard a prefix of the announcements, possibly not all
-abbrev pub HandsBackListeners : {W L : Type 0} {G : Ghosts L} → Proof W L G → (given : List L) → Type 0
-HandsBackListeners p given = mades.MadeHandsBack p.made given
+abbrev pub ReturnsListeners : {W L : Type 0} {G : Ghosts L} → Proof W L G → (given : List L) → Type 0
+ReturnsListeners p given = mades.MadeReturnsListeners p.made given
 
 -- the listeners are returned; if the checker received every step, they have heard everything
-abbrev pub HandsBackWholeListeners : {W L : Type 0} {G : Ghosts L} → Proof W L G → (given : List L) → Type 0
-HandsBackWholeListeners p given = mades.MadeHandsBackWhole p.made given
+abbrev pub ReturnsNotifiedListeners : {W L : Type 0} {G : Ghosts L} → Proof W L G → (given : List L) → Type 0
+ReturnsNotifiedListeners p given = mades.MadeReturnsNotifiedListeners p.made given
 
 -- there is a checker, and it has missed no step
 abbrev pub HasFullChecker : {W L : Type 0} {G : Ghosts L} → Proof W L G → Proof W L G → Type 0
 HasFullChecker old new = mades.MadeHasChecker old.made new.made
 
 -- the listeners when checking begins
-abbrev pub ListedAnew : {W L : Type 0} {G : Ghosts L} → Proof W L G → List L → Type 0
-ListedAnew p begun = mades.MadeListedAnew (is_lost p) p.made (audience p) begun
+abbrev pub ListenersAtRestart : {W L : Type 0} {G : Ghosts L} → Proof W L G → List L → Type 0
+ListenersAtRestart p begun = mades.MadeListenersAtRestart (is_lost p) p.made (audience p) begun
 
 -- the session after the steps
 abbrev pub session_of : {W L : Type 0} {G : Ghosts L} → Proof W L G → Session
@@ -118,7 +118,7 @@ session_of p = session_after (steps_of p)
 
 -- every step was allowed when it was made
 abbrev pub HasAllowedSteps : {W L : Type 0} {G : Ghosts L} → Proof W L G → Type 0
-HasAllowedSteps p = MayAll (steps_of p)
+HasAllowedSteps p = AreAllowedSteps (steps_of p)
 
 -- an open target received the text that was written for the steps
 pub record Carried (f : ProofFormat) (c : Counting) (s : Sink) (steps : List Step) (d : Counting) (t : Sink) : Type 0 where
@@ -179,18 +179,18 @@ PutsOn (Err OutOfMemory) steps old new = TargetTakes old [] new
 PutsOn (Err (Check fault)) steps old new = ⊥
 
 -- only the checker failed
-abbrev pub FailsOfCheck : {W L : Type 0} {G : Ghosts L} → Result (Unit {0}) ProofError → Proof W L G → Type 0
-FailsOfCheck (Ok x) new = Unit {0}
-FailsOfCheck (Err (Write e)) new = ⊥
-FailsOfCheck (Err OutOfMemory) new = ⊥
-FailsOfCheck (Err (Check fault)) new = Complains fault new × IsComplaint fault new.made.complaint
+abbrev pub FailsOnlyInChecker : {W L : Type 0} {G : Ghosts L} → Result (Unit {0}) ProofError → Proof W L G → Type 0
+FailsOnlyInChecker (Ok x) new = Unit {0}
+FailsOnlyInChecker (Err (Write e)) new = ⊥
+FailsOnlyInChecker (Err OutOfMemory) new = ⊥
+FailsOnlyInChecker (Err (Check fault)) new = Complains fault new × IsComplaint fault new.made.complaint
 
 -- the same, if it may have failed before
-abbrev pub FailsOfCheckUnless : {W L : Type 0} {G : Ghosts L} → (lost : Bool) → Result (Unit {0}) ProofError → Proof W L G → Type 0
-FailsOfCheckUnless lost (Ok x) new = Unit {0}
-FailsOfCheckUnless lost (Err (Write e)) new = ⊥
-FailsOfCheckUnless lost (Err OutOfMemory) new = ⊥
-FailsOfCheckUnless lost (Err (Check fault)) new = mades.ComplainsOr lost fault new.made
+abbrev pub FailsOnlyInCheckerOrWasLost : {W L : Type 0} {G : Ghosts L} → (lost : Bool) → Result (Unit {0}) ProofError → Proof W L G → Type 0
+FailsOnlyInCheckerOrWasLost lost (Ok x) new = Unit {0}
+FailsOnlyInCheckerOrWasLost lost (Err (Write e)) new = ⊥
+FailsOnlyInCheckerOrWasLost lost (Err OutOfMemory) new = ⊥
+FailsOnlyInCheckerOrWasLost lost (Err (Check fault)) new = mades.ComplainsOrWasLost lost fault new.made
 
 -- the result of making these steps: none is made if the memory for its hashes cannot be allocated
 abbrev pub EmitsAsAnswered : {T W L : Type 0} {G : Ghosts L} → (W → Writer) → Result T ProofError → List Step → Proof W L G → Proof W L G → Type 0
@@ -233,7 +233,7 @@ abbrev pub FlushesOrFails : {W L : Type 0} {G : Ghosts L} → (W → Writer) →
 FlushesOrFails seen (Ok x) old new = FlushesAndNotifies seen old new
 FlushesOrFails seen (Err (Write e)) old new = FailsToEmit seen [] old new × (new.cause ≡ Some e)
 FlushesOrFails seen (Err OutOfMemory) old new = ⊥
-FlushesOrFails seen (Err (Check fault)) old new = Drains seen old new × mades.ComplainsOr (is_lost old) fault new.made
+FlushesOrFails seen (Err (Check fault)) old new = Drains seen old new × mades.ComplainsOrWasLost (is_lost old) fault new.made
 
 -- an open target is returned after it received what was pending and the text of these steps, and was flushed
 pub record TookAll (f : ProofFormat) (c : Counting) (s : Sink) (steps : List Step) (given : Writer) : Type 0 where
@@ -275,7 +275,7 @@ ClosesTarget seen (Ok None) old new = ClosesNone seen old new
 ClosesTarget seen (Ok (Some given)) old new = ClosesOne seen given old new
 ClosesTarget seen (Err (Write e)) old new = FailsToEmit seen (End ∷ []) old new × (new.cause ≡ Some e)
 ClosesTarget seen (Err OutOfMemory) old new = EmitsChecked seen [] old new
-ClosesTarget seen (Err (Check fault)) old new = EmitsExactly seen (End ∷ []) old new × mades.ComplainsOr (is_lost old) fault new.made
+ClosesTarget seen (Err (Check fault)) old new = EmitsExactly seen (End ∷ []) old new × mades.ComplainsOrWasLost (is_lost old) fault new.made
 
 -- the writer of a target; what is pending is lost
 abbrev pub GivesWriter : Target → Option Writer → Type 0
@@ -284,35 +284,35 @@ GivesWriter (Open f c s) given = given ≡ Some s.writer
 GivesWriter (Broken w) given = given ≡ Some w
 
 -- the writer that is returned, or `None`
-abbrev pub handed_writer : {W : Type 0} → (W → Writer) → Option W → Option Writer
-handed_writer seen None = None
-handed_writer seen (Some w) = Some (seen w)
+abbrev pub returned_writer : {W : Type 0} → (W → Writer) → Option W → Option Writer
+returned_writer seen None = None
+returned_writer seen (Some w) = Some (seen w)
 
 -- the target is returned as it is
-pub record HandsBack {W L : Type 0} {G : Ghosts L} (seen : W → Writer) (given : Option W) (old new : Proof W L G) : Type 0 where
+pub record ReturnsTarget {W L : Type 0} {G : Ghosts L} (seen : W → Writer) (given : Option W) (old new : Proof W L G) : Type 0 where
   pub history : steps_of new ≡ steps_of old
   pub made : new.made ≡ old.made
   pub asked : has_asked new ≡ has_asked old
-  pub gives : GivesWriter (target_of seen old) (handed_writer seen given)
+  pub gives : GivesWriter (target_of seen old) (returned_writer seen given)
   pub target : target_of seen new ≡ Closed
 
 -- one more listener
-pub record ListensToo {W L : Type 0} {G : Ghosts L} (processor : L) (old new : Proof W L G) : Type 0 where
+pub record HasOneMoreListener {W L : Type 0} {G : Ghosts L} (processor : L) (old new : Proof W L G) : Type 0 where
   pub before : List L
   pub listened : audience old ≡ Some before
   pub listening : audience new ≡ Some (before ++ processor ∷ [])
   pub taking : is_lost new ≡ false
 
 -- the result of adding a listener; memory may run out
-abbrev pub TakesListener : {W L : Type 0} {G : Ghosts L} → Result (Unit {0}) ProofError → L → Proof W L G → Proof W L G → Type 0
-TakesListener (Ok x) processor old new = ListensToo processor old new
-TakesListener (Err (Write e)) processor old new = ⊥
-TakesListener (Err OutOfMemory) processor old new = ⊥
-TakesListener (Err (Check fault)) processor old new = (fault ≡ checks.OutOfMemory) × (audience new ≡ audience old)
+abbrev pub AddListenerResult : {W L : Type 0} {G : Ghosts L} → Result (Unit {0}) ProofError → L → Proof W L G → Proof W L G → Type 0
+AddListenerResult (Ok x) processor old new = HasOneMoreListener processor old new
+AddListenerResult (Err (Write e)) processor old new = ⊥
+AddListenerResult (Err OutOfMemory) processor old new = ⊥
+AddListenerResult (Err (Check fault)) processor old new = (fault ≡ checks.OutOfMemory) × (audience new ≡ audience old)
 
 -- adding a listener makes no step, and leaves the target unchanged
-pub record Listens {W L : Type 0} {G : Ghosts L} (seen : W → Writer) (result : Result (Unit {0}) ProofError) (processor : L) (old new : Proof W L G) : Type 0 where
+pub record AddListenerEffect {W L : Type 0} {G : Ghosts L} (seen : W → Writer) (result : Result (Unit {0}) ProofError) (processor : L) (old new : Proof W L G) : Type 0 where
   pub history : steps_of new ≡ steps_of old
   pub asked : has_asked new ≡ has_asked old
   pub target : target_of seen new ≡ target_of seen old
-  pub takes : TakesListener result processor old new
+  pub takes : AddListenerResult result processor old new

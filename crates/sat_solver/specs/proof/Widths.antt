@@ -1,7 +1,7 @@
 -- Steps with hashes of 64 bits, and what is written for them at other widths.
 use Rattle.std.specs.Prelude.{ℕ, ◌-◌, ◌/◌, ◌^◌, ◌≡◌, List, [], ◌∷◌, map}
 use Rattle.sat_base.specs.steps.Steps.{Step, AtClause, UnitClauses, ChangeHashBits, FailedAssumptions}
-use Rattle.sat_solver.specs.session.Session.{MayAll, session_after}
+use Rattle.sat_solver.specs.session.Session.{AreAllowedSteps, session_after}
 
 -- the top bits of a hash
 abbrev pub kept_bits : ℕ → ℕ → ℕ
@@ -28,9 +28,9 @@ pub data IsNarrowedTo : List Step → List Step → ℕ → Type 0 where
 
 -- what is written is allowed, and leaves the same session except for its width
 pub record MayAt (wide written : List Step) (width : ℕ) : Type 0 where
-  pub may : MayAll written
+  pub may : AreAllowedSteps written
   pub session : session_after written ≡ record (session_after wide) { width = width }
 
 -- the same at any widths
 abbrev pub WidthsAreFree : Type 0
-WidthsAreFree = (wide written : List Step) (width : ℕ) → IsNarrowedTo wide written width → MayAll wide → MayAt wide written width
+WidthsAreFree = (wide written : List Step) (width : ℕ) → IsNarrowedTo wide written width → AreAllowedSteps wide → MayAt wide written width

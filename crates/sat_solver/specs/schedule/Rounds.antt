@@ -19,11 +19,11 @@ RestartsWhereDue restarted round a r b s = ((round < r.next) × (b ≡ a) × (s 
 
 -- the round with this number, and its outcome
 pub record IsRound {A N : Type 0} (restarted : A → A → Type 0) (reduced : A → ℕ → A → Type 0) (rounded : A → N → Outcome → A → N → Type 0) (round : ℕ) (outcome : Outcome) (a : A) (n : N) (r : Restarts) (b : A) (m : N) (s : Restarts) : Type 0 where
-  pub behind_restart : A
-  pub due : RestartsWhereDue restarted round a r behind_restart s
-  pub behind_reduction : A
-  pub reduction : reduced behind_restart round behind_reduction
-  pub ends : rounded behind_reduction n outcome b m
+  pub after_restart : A
+  pub due : RestartsWhereDue restarted round a r after_restart s
+  pub after_reduction : A
+  pub reduction : reduced after_restart round after_reduction
+  pub ends : rounded after_reduction n outcome b m
 
 -- rounds that ended in a conflict
 pub data AreRounds {A N : Type 0} (restarted : A → A → Type 0) (reduced : A → ℕ → A → Type 0) (rounded : A → N → Outcome → A → N → Type 0) : A → N → Restarts → ℕ → A → N → Restarts → ℕ → Type 0 where

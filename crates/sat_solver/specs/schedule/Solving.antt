@@ -33,20 +33,20 @@ IsAdvancing s (AtClause redundant clause hashes) = Advances s clause
 IsAdvancing s step = ⊥
 
 -- the step derives no clause that advances, whichever of its literals is taken; its form shows this
-pub record StandsStill (s : Session) (step : Step) : Type 0 where
+pub record NeverAdvancesByForm (s : Session) (step : Step) : Type 0 where
   pub quiet : is_quiet step ≡ true
   pub never : NeverAdvances s step
 
 -- exactly this many of the steps derive a clause that advances, each after the steps before it
 abbrev pub AdvanceTimes : (earlier steps : List Step) → ℕ → Type 0
 AdvanceTimes earlier [] k = k ≡ 0
-AdvanceTimes earlier (step ∷ steps) k = (AdvanceTimes earlier steps k × StandsStill (session_after (steps ++ earlier)) step)
+AdvanceTimes earlier (step ∷ steps) k = (AdvanceTimes earlier steps k × NeverAdvancesByForm (session_after (steps ++ earlier)) step)
     ⊎ ((j : ℕ) × (k ≡ j + 1) × IsAdvancing (session_after (steps ++ earlier)) step × AdvanceTimes earlier steps j)
 
 -- the same for all steps since these
 pub record AdvancesIn (from to : List Step) (k : ℕ) : Type 0 where
   pub steps : List Step
-  pub behind : to ≡ steps ++ from
+  pub following : to ≡ steps ++ from
   pub times : AdvanceTimes from steps k
 
 -- the invariant between rounds

@@ -6,14 +6,14 @@ use Rattle.sat_solver.specs.session.Session.{session_after}
 
 -- each of these steps is allowed after those before it
 abbrev pub EachIsAllowed : (List Step → Step → Type 0) → (earlier steps : List Step) → Type 0
-EachIsAllowed May earlier [] = Unit {0}
-EachIsAllowed May earlier (step ∷ steps) = EachIsAllowed May earlier steps × May (steps ++ earlier) step
+EachIsAllowed IsAllowedStep earlier [] = Unit {0}
+EachIsAllowed IsAllowedStep earlier (step ∷ steps) = EachIsAllowed IsAllowedStep earlier steps × IsAllowedStep (steps ++ earlier) step
 
 -- the same for all steps since these
-pub record OnlyAllowedSteps (May : List Step → Step → Type 0) (from to : List Step) : Type 0 where
+pub record OnlyAllowedSteps (IsAllowedStep : List Step → Step → Type 0) (from to : List Step) : Type 0 where
   pub steps : List Step
-  pub behind : to ≡ steps ++ from
-  pub each : EachIsAllowed May from steps
+  pub following : to ≡ steps ++ from
+  pub each : EachIsAllowed IsAllowedStep from steps
 
 -- whether the step changes the width of hashes
 abbrev pub sets_width : Step → Bool

@@ -6,8 +6,8 @@ use Rattle.sat_parts.specs.clause.Stored.{AreClauses}
 use Rattle.sat_parts.specs.prop.Causes.{falsified}
 use Rattle.sat_parts.specs.prop.State.{State, StateIsConsistent}
 use Rattle.sat_parts.specs.prop.Ready.{IsConflict}
-use Rattle.sat_parts.specs.parts.Round.{UnitsAreUncaused as AreBare}
-use Rattle.sat_parts.specs.prop.Reasons.{AreInTurn}
+use Rattle.sat_parts.specs.parts.Round.{UnitsHaveNoReason as AreBare}
+use Rattle.sat_parts.specs.prop.Reasons.{AreUnitInTurn}
 use Rattle.sat_solver.specs.session.Session.{Session, MayDerive}
 use Rattle.sat_solver.specs.session.LiveClauses.{with_var}
 use Rattle.sat_solver.specs.analyze_conflict.Work.{Work}
@@ -17,7 +17,7 @@ use Rattle.std.specs.List.{AllByRecursion}
 use Rattle.sat_base.specs.values.Literals.{negated}
 use Rattle.sat_base.specs.steps.Steps.{Model}
 use Rattle.sat_parts.specs.clause.Db.{live_refs}
-use Rattle.sat_solver.specs.session.Session.{nothing, May}
+use Rattle.sat_solver.specs.session.Session.{nothing, IsAllowedStep}
 use Rattle.sat_solver.specs.analyze_conflict.Derivation.{AreLevelZeroLits}
 use Rattle.sat_solver.specs.analyze_conflict.Advances.{IsStored, LeadTo, StaysOpen}
 use Rattle.sat_parts.specs.declared.parts.Parts.{Parts}
@@ -37,14 +37,14 @@ named_hashes words st used e = map (λ l. hash_of (clause_of words st l)) used +
 abbrev pub LearnedMay : Type 0
 LearnedMay =
     (words live : List ℕ) (implied : List (List ℕ)) (st : State) (s : Session) (global : ℕ → ℕ) (e : Conflict) (w : Work) (back : ℕ) →
-    SessionMatches words live implied st s global → StateIsConsistent st → AreClauses words live (length st.values) → AreBare st → AreInTurn words live implied st 0 →
+    SessionMatches words live implied st s global → StateIsConsistent st → AreClauses words live (length st.values) → AreBare st → AreUnitInTurn words live implied st 0 →
     IsConflict words live implied st.values e → Learns words st (falsified words e) w back →
     MayDerive s (map (with_var global) w.clause) (named_hashes words st w.used e)
 
 -- if all clauses are in the session and all variables are assigned, the true literals may be written as a model, in any order
 abbrev pub ModelMay : Type 0
 ModelMay =
-    (p : Parts) (s : Session) (global : ℕ → ℕ) (ls : List ℕ) → SessionMatchesParts p s global → TrueLitsHaveNames p.assignment.current s global → PartsInvariant p → AreTrueLits p.assignment.current ls → AllAssigned p → IsModelled p → May s (Model (map (with_var global) ls))
+    (p : Parts) (s : Session) (global : ℕ → ℕ) (ls : List ℕ) → SessionMatchesParts p s global → TrueLitsHaveNames p.assignment.current s global → PartsInvariant p → AreTrueLits p.assignment.current ls → AllAssigned p → IsModelled p → IsAllowedStep s (Model (map (with_var global) ls))
 
 -- after a conflict above level 0: under the units and the negations of the learned clause's other literals, no stored clauses that are unit
 -- in turn assign its first literal, and none is falsified

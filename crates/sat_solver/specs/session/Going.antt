@@ -3,7 +3,7 @@ use Rattle.std.specs.Prelude.{length}
 use Rattle.sat_parts.specs.clause.Db.{live_refs}
 use Rattle.sat_parts.specs.clause.Stored.{AreClauses}
 use Rattle.sat_parts.specs.prop.State.{StateIsConsistent}
-use Rattle.sat_parts.specs.prop.Reasons.{AreInTurn}
+use Rattle.sat_parts.specs.prop.Reasons.{AreUnitInTurn}
 use Rattle.sat_parts.specs.declared.parts.Parts.{Parts}
 use Rattle.sat_parts.specs.parts.Whole.{state}
 
@@ -11,4 +11,4 @@ use Rattle.sat_parts.specs.parts.Whole.{state}
 pub record IsOrderly (p : Parts) : Type 0 where
   pub agrees : StateIsConsistent (state p)
   pub clauses : AreClauses p.clauses (live_refs p.clauses p.db.refs) (length p.assignment.current)
-  pub turns : AreInTurn p.clauses (live_refs p.clauses p.db.refs) p.binary.implied (state p) 0
+  pub turns : AreUnitInTurn p.clauses (live_refs p.clauses p.db.refs) p.binary.implied (state p) 0

@@ -1,7 +1,7 @@
 -- The match of parts and session after a clause of the formula was loaded and its steps were written.
 use Rattle.std.specs.Prelude.{ℕ, ◌≡◌, ◌≤◌, true, List, map, length}
 use Rattle.sat_base.specs.steps.Steps.{AddClause, DeleteClause, Satisfied as True}
-use Rattle.sat_solver.specs.session.Session.{Session, after, May}
+use Rattle.sat_solver.specs.session.Session.{Session, after, IsAllowedStep}
 use Rattle.sat_solver.specs.session.LiveClauses.{with_var}
 use Rattle.sat_parts.specs.declared.parts.Parts.{Parts}
 use Rattle.sat_parts.specs.declared.parts.load.Loaded.{Loaded}
@@ -15,6 +15,6 @@ LoadFits Stored p s global given ls = SessionMatchesParts p (after (AddClause (m
 LoadFits One p s global given ls = SessionMatchesParts p (after (AddClause (map (with_var global) given)) s) global
 LoadFits Satisfied p s global given ls =
     (length ls ≡ 1 → SessionMatchesParts p (after (AddClause (map (with_var global) given)) s) global)
-    × (2 ≤ length ls → May (after (AddClause (map (with_var global) given)) s) (DeleteClause (map (with_var global) ls) True)
+    × (2 ≤ length ls → IsAllowedStep (after (AddClause (map (with_var global) given)) s) (DeleteClause (map (with_var global) ls) True)
     × SessionMatchesParts p (after (DeleteClause (map (with_var global) ls) True) (after (AddClause (map (with_var global) given)) s)) global)
 LoadFits Falsified p s global given ls = (after (AddClause (map (with_var global) given)) s).unsat ≡ true

@@ -7,7 +7,7 @@ use Rattle.sat_base.specs.script.Script.{Literal, names_of, Among, InOrder}
 use Rattle.sat_base.specs.script.ScriptState.{ScriptState, identity_of, IsRightModel, IsRightCore}
 use Rattle.sat_base.specs.steps.Steps.{Step, DeleteVar, Model, FailedAssumptions}
 use Rattle.sat_checker.specs.Fold.{Holds}
-use Rattle.sat_solver.specs.session.Session.{MayAll, session_after}
+use Rattle.sat_solver.specs.session.Session.{AreAllowedSteps, session_after}
 use Rattle.sat_solver.specs.session.LiveClauses.{with_var}
 use Rattle.sat_solver.specs.session.Promises.{added}
 
@@ -41,21 +41,21 @@ AllFrom j variable_of codes ls = AllByRecursion (λ code. (l : Literal) × IsRea
 -- a model that may be written gives a right line, with one literal for every name in use
 abbrev pub NamedModelsAreRight : Type 0
 NamedModelsAreRight = (j : ScriptState) (variable_of : ℕ → Option ℕ) (steps : List Step) (codes : List ℕ) (ask line : List Literal)
-    → MeansAcceptedClauses j variable_of steps → MayAll (Model codes ∷ steps)
+    → MeansAcceptedClauses j variable_of steps → AreAllowedSteps (Model codes ∷ steps)
     → names_of line ≡ map (λ n. n.name) j.in_use → AllReadAmong j variable_of line codes → AllByRecursion (λ l. Among l line) ask
     → IsRightModel j ask line
 
 -- a failed core that may be written gives a right core, of literals of the ask
 abbrev pub NamedCoresAreRight : Type 0
 NamedCoresAreRight = (j : ScriptState) (variable_of : ℕ → Option ℕ) (steps : List Step) (codes hashes : List ℕ) (ask core : List Literal)
-    → MeansAcceptedClauses j variable_of steps → MayAll (FailedAssumptions codes hashes ∷ steps)
+    → MeansAcceptedClauses j variable_of steps → AreAllowedSteps (FailedAssumptions codes hashes ∷ steps)
     → InOrder core → AllByRecursion (λ l. Among l ask) core → AllFrom j variable_of codes core
     → IsRightCore j ask core
 
 -- once unsat is recorded, the empty core is right for every ask
 abbrev pub NamedUnsatIsRight : Type 0
 NamedUnsatIsRight = (j : ScriptState) (variable_of : ℕ → Option ℕ) (steps : List Step) (ask : List Literal)
-    → MeansAcceptedClauses j variable_of steps → MayAll steps → (session_after steps).unsat ≡ true → IsRightCore j ask []
+    → MeansAcceptedClauses j variable_of steps → AreAllowedSteps steps → (session_after steps).unsat ≡ true → IsRightCore j ask []
 
 -- IF NO NAME WAS EVER HIDDEN
 
@@ -83,4 +83,4 @@ pub record NoneHidden (j : ScriptState) (variable_of : ℕ → Option ℕ) (step
 
 -- then the steps admit the same valuations of the names as the accepted clauses
 abbrev pub NoneHiddenMeans : Type 0
-NoneHiddenMeans = (j : ScriptState) (variable_of : ℕ → Option ℕ) (steps : List Step) → MayAll steps → NoneHidden j variable_of steps → MeansAcceptedClauses j variable_of steps
+NoneHiddenMeans = (j : ScriptState) (variable_of : ℕ → Option ℕ) (steps : List Step) → AreAllowedSteps steps → NoneHidden j variable_of steps → MeansAcceptedClauses j variable_of steps

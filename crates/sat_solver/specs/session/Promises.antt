@@ -5,16 +5,16 @@ use Rattle.sat_base.specs.steps.Steps.{Step, AddClause, Model, FailedAssumptions
 use Rattle.sat_checker.specs.Fold.{Holds}
 use Rattle.sat_checker.specs.Stored.{Stored}
 use Rattle.sat_checker.specs.Accepts.{Accepts, AcceptsAll, ready_after}
-use Rattle.sat_solver.specs.session.Session.{Session, May, MayAll, session_after}
+use Rattle.sat_solver.specs.session.Session.{Session, IsAllowedStep, AreAllowedSteps, session_after}
 use Rattle.sat_solver.specs.session.Agrees.{MatchesStored}
 
 -- the checker accepts what a session may write
 abbrev pub MayIsAccepted : Type 0
-MayIsAccepted = (s : Session) (f : Stored) (step : Step) → MatchesStored s f → May s step → Accepts f step
+MayIsAccepted = (s : Session) (f : Stored) (step : Step) → MatchesStored s f → IsAllowedStep s step → Accepts f step
 
 -- steps that are allowed one after another are accepted one after another, and session and checker agree after them
 abbrev pub SessionsAreAccepted : Type 0
-SessionsAreAccepted = (steps : List Step) → MayAll steps → AcceptsAll steps × MatchesStored (session_after steps) (ready_after steps)
+SessionsAreAccepted = (steps : List Step) → AreAllowedSteps steps → AcceptsAll steps × MatchesStored (session_after steps) (ready_after steps)
 
 -- the clauses that were added, the newest first
 abbrev pub added : List Step → List (List ℕ)
@@ -24,12 +24,12 @@ added (step ∷ earlier) = added earlier
 
 -- no valuation that satisfies the added clauses satisfies a core that may be written
 abbrev pub CoresAreRight : Type 0
-CoresAreRight = (steps : List Step) (core hashes : List ℕ) (a : Valuation) → MayAll (FailedAssumptions core hashes ∷ steps) → EachHolds a (added steps) → EachTrue a core → ⊥
+CoresAreRight = (steps : List Step) (core hashes : List ℕ) (a : Valuation) → AreAllowedSteps (FailedAssumptions core hashes ∷ steps) → EachHolds a (added steps) → EachTrue a core → ⊥
 
 -- no valuation satisfies them once unsat is recorded
 abbrev pub UnsatIsRight : Type 0
-UnsatIsRight = (steps : List Step) (a : Valuation) → MayAll steps → (session_after steps).unsat ≡ true → EachHolds a (added steps) → ⊥
+UnsatIsRight = (steps : List Step) (a : Valuation) → AreAllowedSteps steps → (session_after steps).unsat ≡ true → EachHolds a (added steps) → ⊥
 
 -- every completion of a model that may be written, with the values of the units, extends to a valuation that the steps admit
 abbrev pub ModelsAreRight : Type 0
-ModelsAreRight = (steps : List Step) (ls : List ℕ) (a : Valuation) → MayAll (Model ls ∷ steps) → EachTrue a ls → ((l : ℕ) → (session_after steps).units l ≡ true → literal_true a l ≡ true) → Holds steps a
+ModelsAreRight = (steps : List Step) (ls : List ℕ) (a : Valuation) → AreAllowedSteps (Model ls ∷ steps) → EachTrue a ls → ((l : ℕ) → (session_after steps).units l ≡ true → literal_true a l ≡ true) → Holds steps a

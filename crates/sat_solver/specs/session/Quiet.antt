@@ -4,7 +4,7 @@ use Rattle.std.specs.List.{AllByRecursion}
 use Rattle.sat_base.specs.steps.Steps.{Step, AtClause}
 use Rattle.sat_checker.specs.LiteralSets.{is_among}
 use Rattle.sat_solver.specs.session.Coming.{OnlyAllowedSteps}
-use Rattle.sat_solver.specs.session.Session.{Session, denied_in, May}
+use Rattle.sat_solver.specs.session.Session.{Session, denied_in, IsAllowedStep}
 use Rattle.sat_solver.specs.session.Advancing.{AreConsistent, LeadsOn, StaysNew}
 
 -- the literals of a clause other than this one
@@ -46,4 +46,4 @@ ComesQuietly = OnlyAllowedSteps (λ earlier step. is_quiet step ≡ true)
 
 -- a step that is quiet by its form, and allowed, never advances
 abbrev pub QuietNeverAdvances : Type 0
-QuietNeverAdvances = (s : Session) (step : Step) → May s step → is_quiet step ≡ true → NeverAdvances s step
+QuietNeverAdvances = (s : Session) (step : Step) → IsAllowedStep s step → is_quiet step ≡ true → NeverAdvances s step

@@ -1,7 +1,7 @@
 -- Worked examples of what a session may write. Names and variables are indices. Lists of steps have the newest first.
 use Rattle.std.specs.Prelude.{false, Some, None, List, [], ◌∷◌}
 use Rattle.sat_base.specs.steps.Steps.{Step, SolverVarName, UserVarName, DeleteVar, AddClause, AtClause, UnitClauses, ChangeHashBits, Model, Assumptions, End}
-use Rattle.sat_solver.specs.session.Session.{MayAll}
+use Rattle.sat_solver.specs.session.Session.{AreAllowedSteps}
 
 -- two names, and the four clauses over them
 abbrev pub four : List Step
@@ -17,7 +17,7 @@ collided =
 
 -- so it may be written, although every hash is that of two clauses
 abbrev pub CollidingMay : Type 0
-CollidingMay = MayAll collided
+CollidingMay = AreAllowedSteps collided
 
 -- A name is hidden and introduced again on another variable, whose clause would contradict the hidden one's unit if both were the same
 -- variable. The hidden variable is deleted before the model, and its unit forgotten.
@@ -29,4 +29,4 @@ hidden =
 
 -- so it may be written, although the name had another variable before
 abbrev pub HiddenMay : Type 0
-HiddenMay = MayAll hidden
+HiddenMay = AreAllowedSteps hidden

@@ -37,9 +37,9 @@ solver_clauses redundant words live implied = binaries implied ++ longs redundan
 -- one clause was inserted among the others
 pub record InsertsClause (old new : List LiveClause) (c : LiveClause) : Type 0 where
   pub before : List LiveClause
-  pub behind : List LiveClause
-  pub was : old ≡ before ++ behind
-  pub is : new ≡ before ++ c ∷ behind
+  pub following : List LiveClause
+  pub was : old ≡ before ++ following
+  pub is : new ≡ before ++ c ∷ following
 
 -- whether no variable of the clause has a value
 abbrev pub is_open_clause : List (Option Bool) → LiveClause → Bool

@@ -6,7 +6,7 @@ use Rattle.sat_base.specs.values.Hashes.{hash_of}
 use Rattle.sat_parts.specs.prop.Graphs.{is_unit_reason}
 use Rattle.sat_parts.specs.prop.Values.{IsTrueLit}
 use Rattle.sat_parts.specs.prop.State.{State, node, lit_at, IsRemoved, StateIsConsistent}
-use Rattle.sat_parts.specs.prop.Reasons.{AreInTurn}
+use Rattle.sat_parts.specs.prop.Reasons.{AreUnitInTurn}
 use Rattle.sat_parts.specs.clause.Stored.{size_of}
 use Rattle.sat_solver.specs.session.Session.{Session, IsLive, MayProve, hash_in}
 use Rattle.sat_solver.specs.session.LiveClauses.{with_var}
@@ -39,5 +39,5 @@ pub record UnitsFit (words : List ℕ) (st : State) (s : Session) (global : ℕ 
 -- the units may be written in trail order
 abbrev pub TrailUnitsMay : Type 0
 TrailUnitsMay =
-    (words live : List ℕ) (implied : List (List ℕ)) (st : State) (s : Session) (global : ℕ → ℕ) → ((o : ℕ) → Contains live o → 0 < size_of words o) → StateIsConsistent st → AreInTurn words live implied st 0
+    (words live : List ℕ) (implied : List (List ℕ)) (st : State) (s : Session) (global : ℕ → ℕ) → ((o : ℕ) → Contains live o → 0 < size_of words o) → StateIsConsistent st → AreUnitInTurn words live implied st 0
     → UnitsFit words st s global → MayProve s (written_units words st s.width global st.trail.lits)

@@ -15,7 +15,7 @@ use Rattle.sat_solver.specs.proof.ProofView.{IsAtWidth, is_drat, has_asked}
 use Rattle.sat_checker.specs.matching.Expected.{Outcome, Expected, Adds, Opens, bringing}
 use Rattle.sat_checker.specs.matching.Bridge.{Live}
 use Rattle.sat_solver.specs.variables.Refusing.{names_in}
-use Rattle.sat_solver.specs.variables.VariableRoom.{HasVariablesFor, users_in}
+use Rattle.sat_solver.specs.variables.VariableRoom.{HasVariablesFor, user_vars_in}
 use Rattle.sat_solver.specs.cdcl.Going.{IsFaultOr}
 use Rattle.sat_solver.specs.declared.solver.Solver.{Solver}
 use Rattle.sat_solver.specs.declared.state.State.{State}
@@ -80,7 +80,7 @@ IsBeforeDrat seen s = IsPastDrat seen s → ⊥
 
 -- that the mode of no name is witness, but no variable is left for a name that would be introduced
 abbrev pub LacksRoomForNames : {W L : Type 0} {G : Ghosts L} → Solver W L G → List ℕ → Type 0
-LacksRoomForNames s user = (has_failed s ≡ false) × AreSampled s user × (HasVariablesFor (known_names s) (users_in user) → ⊥)
+LacksRoomForNames s user = (has_failed s ≡ false) × AreSampled s user × (HasVariablesFor (known_names s) (user_vars_in user) → ⊥)
 
 -- The steps of a clause: only such as may occur with one, by increasing index. Once the clauses are known to be unsatisfiable, they only
 -- introduce names. No ask began.
@@ -94,7 +94,7 @@ pub record StepsOfClause {W L : Type 0} {G : Ghosts L} (old new : Solver W L G) 
 pub record Added {W L : Type 0} {G : Ghosts L} (seen : W → Writer) (old new : Solver W L G) (user : List ℕ) : Type 0 where
   pub before_drat : IsBeforeDrat seen old
   pub sampled : AreSampled old user
-  pub room : HasVariablesFor (known_names old) (users_in user)
+  pub room : HasVariablesFor (known_names old) (user_vars_in user)
   pub did : CallEffect seen old new (with_added user) (due_for_clause (answer_in old) user)
   pub assumed : assumed_in new ≡ assumed_in old
   pub clock : schedule_in new ≡ schedule_in old
@@ -109,12 +109,12 @@ AddsClause seen (Err errors.WitnessVariable) old new user = Refuses old new (((h
 AddsClause seen (Err errors.NotInDrat) old new user = Refuses old new ((has_failed old ≡ false) × IsPastDrat seen old)
 AddsClause seen (Err errors.VariableLimit) old new user = Refuses old new (IsBeforeDrat seen old × LacksRoomForNames old user)
 AddsClause seen (Err errors.HasFailed) old new user = Refuses old new (has_failed old ≡ true)
-AddsClause seen (Err e) old new user = (IsBeforeDrat seen old × AreSampled old user) × HasVariablesFor (known_names old) (users_in user) × EndsNamesOr (HasFullStore new) seen e old new
+AddsClause seen (Err e) old new user = (IsBeforeDrat seen old × AreSampled old user) × HasVariablesFor (known_names old) (user_vars_in user) × EndsNamesOr (HasFullStore new) seen e old new
 
 -- that these assumptions replaced the earlier ones, whatever the answer to the ask will be
 pub record ReplacesAssumptions {W L : Type 0} {G : Ghosts L} (seen : W → Writer) (old new : Solver W L G) (user : List ℕ) : Type 0 where
   pub sampled : AreSampled old user
-  pub room : HasVariablesFor (known_names old) (users_in user)
+  pub room : HasVariablesFor (known_names old) (user_vars_in user)
   pub did : (o : Outcome) → CallEffect seen old new (bring_all (names_in user)) (due_for_asked o user)
   pub comes : OnlyAllowedSteps (MayTake (names_in user)) (steps_in old) (steps_in new)
   pub asked : has_asked (proof_in new) ≡ has_asked (proof_in old)
@@ -129,7 +129,7 @@ AssumesOrRefuses seen (Err errors.WitnessVariable) old new user = Refuses old ne
 AssumesOrRefuses seen (Err errors.NotInDrat) old new user = Refuses old new ((has_failed old ≡ false) × IsDrat seen old)
 AssumesOrRefuses seen (Err errors.VariableLimit) old new user = Refuses old new (LacksRoomForNames old user)
 AssumesOrRefuses seen (Err errors.HasFailed) old new user = Refuses old new (has_failed old ≡ true)
-AssumesOrRefuses seen (Err e) old new user = AreSampled old user × HasVariablesFor (known_names old) (users_in user) × EndsNames seen e old new
+AssumesOrRefuses seen (Err e) old new user = AreSampled old user × HasVariablesFor (known_names old) (user_vars_in user) × EndsNames seen e old new
 
 -- INSIDE
 

@@ -113,9 +113,9 @@ pub record AnswersAgain {W L : Type 0} {G : Ghosts L} (old new : Solver W L G) :
 -- The rounds of an ask, by the schedule of restarts and reductions. From its first step on, hashes may be shortened. Then the
 -- target was flushed.
 pub record MakesRounds {W L : Type 0} {G : Ghosts L} (seen : W → Writer) (old new : Solver W L G) : Type 0 where
-  pub behind : Proof W L G
-  pub searched : SearchedBy seen (answer_in new) (schedule_in old) (schedule_in new) (known_names old) (known_names new) (record (inside old) { proof = asking (proof_in old) }) (record (inside new) { proof = behind }) (reported_core new)
-  pub flushes : FlushesAndNotifies seen behind (proof_in new)
+  pub following : Proof W L G
+  pub searched : SearchedBy seen (answer_in new) (schedule_in old) (schedule_in new) (known_names old) (known_names new) (record (inside old) { proof = asking (proof_in old) }) (record (inside new) { proof = following }) (reported_core new)
+  pub flushes : FlushesAndNotifies seen following (proof_in new)
 
 -- The steps of an ask: only such as may occur in one. Every round except the answering one derived a clause that advances; no other step
 -- did. Names keep their variables.

@@ -5,7 +5,7 @@ use Rattle.sat_base.specs.dimacs.Dimacs.{Clean, IsDimacs}
 use Rattle.sat_base.specs.dimacs.Parsing.{Progress, clauses_read}
 use Rattle.sat_base.specs.declared.dimacs.error.DimacsError.{DimacsError}
 use Rattle.sat_base.specs.declared.dimacs.error.DimacsError.TheVariants as texts
-use Rattle.sat_checker.specs.DimacsView.{AreRead, FailsBehind}
+use Rattle.sat_checker.specs.DimacsView.{AreRead, FailsAfter}
 use Rattle.sat_checker.specs.ProofView.{NoReadFailed}
 use Rattle.sat_checker.specs.declared.processing.ProofProcessor.{Ghosts}
 use Rattle.sat_solver.specs.declared.error.SolverError.{SolverError}
@@ -65,7 +65,7 @@ pub record TextFails {W L : Type 0} {G : Ghosts L} (seen : W → Writer) (e : So
   pub fault : DimacsError
   pub is : e ≡ text_fault fault
   pub clauses : List (List ℕ)
-  pub fails : FailsBehind fault from to clauses
+  pub fails : FailsAfter fault from to clauses
   pub mid : Solver W L G
   pub added : AddsAll seen old clauses mid
   pub new_is : new ≡ with_failed (is_solver_out_of_memory fault) mid

@@ -47,8 +47,8 @@ pub record CallsGoOn {W L : Type 0} {G : Ghosts L} (seen : W → Writer) (old ne
 
 -- if a proof was opened before any step other than ends of proofs, and the solver has made steps since, possibly with a failure, the target
 -- that it returns has received a prefix of the text of accepted steps
-abbrev pub HandsFront : {W L : Type 0} {G : Ghosts L} → (W → Writer) → Option W → Solver W L G → Type 0
-HandsFront {W} {L} {G} seen handed s = (opened : Solver W L G) (f : ProofFormat) (from : Writer) (given : W) → handed ≡ Some given
+abbrev pub ReturnsAcceptedPrefix : {W L : Type 0} {G : Ghosts L} → (W → Writer) → Option W → Solver W L G → Type 0
+ReturnsAcceptedPrefix {W} {L} {G} seen returned s = (opened : Solver W L G) (f : ProofFormat) (from : Writer) (given : W) → returned ≡ Some given
     → target_in seen opened ≡ Open f nothing_counted (empty_sink from) → has_begun (steps_in opened) ≡ false → ReachesBySteps seen opened s
     → ∥ FrontSince f from (seen given) (steps_in opened) (steps_in s) ∥₁
 

@@ -15,7 +15,7 @@ use Rattle.sat_solver.specs.declared.context.Core.{Core}
 -- that the invariants of names and search hold, over the same indices
 pub record IsJoined {W L : Type 0} {G : Ghosts L} (n : Variables) (c : Core W L G) : Type 0 where
   pub sound : CoreInvariant c
-  pub stands : NamesInvariant n (steps_of c.proof)
+  pub valid : NamesInvariant n (steps_of c.proof)
   pub shares : SharesIndices n c.search
 
 -- that names that match the first search also match the second

@@ -46,9 +46,9 @@ IsKeptOrFalse None (Some b) = b ≡ false
 IsKeptOrFalse (Some a) (Some b) = b ≡ a
 
 -- a call over names was carried out, by steps that may occur in it, and the answer is unchanged: in a model, new names are false
-pub record Renamed {W L : Type 0} {G : Ghosts L} (seen : W → Writer) (old new : Solver W L G) (judge : ScriptState → ScriptState) (due : ScriptState → List Expected) (May : List Step → Step → Type 0) : Type 0 where
+pub record Renamed {W L : Type 0} {G : Ghosts L} (seen : W → Writer) (old new : Solver W L G) (judge : ScriptState → ScriptState) (due : ScriptState → List Expected) (IsAllowedStep : List Step → Step → Type 0) : Type 0 where
   pub did : CallEffect seen old new judge due
-  pub comes : OnlyAllowedSteps May (steps_in old) (steps_in new)
+  pub comes : OnlyAllowedSteps IsAllowedStep (steps_in old) (steps_in new)
   pub asked : has_asked (proof_in new) ≡ has_asked (proof_in old)
   pub assumed : assumed_in new ≡ assumed_in old
   pub reported : reported_in new ≡ reported_in old
@@ -58,11 +58,11 @@ pub record Renamed {W L : Type 0} {G : Ghosts L} (seen : W → Writer) (old new 
 
 -- the result of a call that changes the mode of a name or hides the name, given the steps that the call may make
 abbrev pub ChangesMode : {W L : Type 0} {G : Ghosts L} → (W → Writer) → Result (Unit {0}) SolverError → Solver W L G → Solver W L G → ℕ → (ScriptState → ScriptState) → (ScriptState → List Expected) → (List Step → Step → Type 0) → Type 0
-ChangesMode seen (Ok x) old new user judge due May = (IsAsked old user → ⊥) × Renamed seen old new judge due May × HasVariablesFor (known_names old) (user ∷ [])
-ChangesMode seen (Err errors.AssumedVariable) old new user judge due May = Refuses old new ((has_failed old ≡ false) × IsAsked old user)
-ChangesMode seen (Err errors.VariableLimit) old new user judge due May = Refuses old new ((has_failed old ≡ false) × (IsAsked old user → ⊥) × (HasVariablesFor (known_names old) (user ∷ []) → ⊥))
-ChangesMode seen (Err errors.HasFailed) old new user judge due May = Refuses old new (has_failed old ≡ true)
-ChangesMode seen (Err e) old new user judge due May = (IsAsked old user → ⊥) × HasVariablesFor (known_names old) (user ∷ []) × EndsNames seen e old new
+ChangesMode seen (Ok x) old new user judge due IsAllowedStep = (IsAsked old user → ⊥) × Renamed seen old new judge due IsAllowedStep × HasVariablesFor (known_names old) (user ∷ [])
+ChangesMode seen (Err errors.AssumedVariable) old new user judge due IsAllowedStep = Refuses old new ((has_failed old ≡ false) × IsAsked old user)
+ChangesMode seen (Err errors.VariableLimit) old new user judge due IsAllowedStep = Refuses old new ((has_failed old ≡ false) × (IsAsked old user → ⊥) × (HasVariablesFor (known_names old) (user ∷ []) → ⊥))
+ChangesMode seen (Err errors.HasFailed) old new user judge due IsAllowedStep = Refuses old new (has_failed old ≡ true)
+ChangesMode seen (Err e) old new user judge due IsAllowedStep = (IsAsked old user → ⊥) × HasVariablesFor (known_names old) (user ∷ []) × EndsNames seen e old new
 
 -- the result of hiding a name; script states count names from 1
 abbrev pub Hides : {W L : Type 0} {G : Ghosts L} → (W → Writer) → Result (Unit {0}) SolverError → Solver W L G → Solver W L G → ℕ → Type 0

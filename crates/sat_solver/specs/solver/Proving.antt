@@ -9,7 +9,7 @@ use Rattle.sat_solver.specs.proof.Counting.{nothing_counted}
 use Rattle.sat_solver.specs.proof.Drat.{IsDratDerivation, RefutesByUnits, present}
 use Rattle.sat_solver.specs.proof.ProofTexts.{TookAcceptedSteps, WroteSince}
 use Rattle.sat_solver.specs.proof.ProofView as proofs
-use Rattle.sat_solver.specs.proof.ProofView.{Open, EmitsExactly, ClosesNone, ClosesOne, FailsToEmit, FailsCheck, ListedAnew, audience, has_asked, is_open, is_lost, target_of}
+use Rattle.sat_solver.specs.proof.ProofView.{Open, EmitsExactly, ClosesNone, ClosesOne, FailsToEmit, FailsCheck, ListenersAtRestart, audience, has_asked, is_open, is_lost, target_of}
 use Rattle.sat_solver.specs.declared.proof.format.ProofFormat.{ProofFormat}
 use Rattle.sat_solver.specs.declared.error.SolverError.{SolverError}
 use Rattle.sat_solver.specs.declared.proof.made.CheckFault.{CheckFault}
@@ -65,9 +65,9 @@ Enables seen (Err errors.TooLate) old new = Refuses old new ((has_failed old ≡
 Enables seen (Err e) old new = ⊥
 
 -- that these listeners were added after the earlier ones; a checker that missed a step is restarted
-pub record ListensBehind {W L : Type 0} {G : Ghosts L} (more : List L) (old new : Solver W L G) : Type 0 where
+pub record HasMoreListeners {W L : Type 0} {G : Ghosts L} (more : List L) (old new : Solver W L G) : Type 0 where
   pub before : List L
-  pub listed : ListedAnew (proof_in old) before
+  pub listed : ListenersAtRestart (proof_in old) before
   pub listening : audience (proof_in new) ≡ Some (before ++ more)
 
 -- that a listener was added to the solver's own checker, after the earlier listeners, before any step other than ends of proofs
@@ -77,7 +77,7 @@ pub record GainsListener {W L : Type 0} {G : Ghosts L} (seen : W → Writer) (pr
   pub begun : has_begun (steps_in old) ≡ false
   pub steps : steps_in new ≡ steps_in old
   pub target : target_in seen new ≡ target_in seen old
-  pub listens : ListensBehind (processor ∷ []) old new × (is_lost (proof_in new) ≡ false)
+  pub listens : HasMoreListeners (processor ∷ []) old new × (is_lost (proof_in new) ≡ false)
   pub asked : has_asked (proof_in new) ≡ has_asked (proof_in old)
   pub same : OnlyProofDiffers old new
 
@@ -89,7 +89,7 @@ pub record Unheard {W L : Type 0} {G : Ghosts L} (seen : W → Writer) (old new 
   pub failed : has_failed new ≡ true
   pub steps : steps_in new ≡ steps_in old
   pub target : target_in seen new ≡ target_in seen old
-  pub listens : ListensBehind [] old new
+  pub listens : HasMoreListeners [] old new
   pub clock : schedule_in new ≡ schedule_in old
 
 -- the result of adding a listener: the listener was added, or it is too late, or memory ran out

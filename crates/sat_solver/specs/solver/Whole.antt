@@ -66,7 +66,7 @@ StateSays states.Unsat c n asked assumed core = (session_of c.proof).unsat ≡ t
 
 -- the invariant of a solver's parts
 pub record IsWholeOf {W L : Type 0} {G : Ghosts L} (c : Core W L G) (n : Variables) (asked : Taken) (assumed core : List ℕ) (scale : ℕ) (state : State) : Type 0 where
-  pub stands : NamesInvariant n (steps_of c.proof)
+  pub valid : NamesInvariant n (steps_of c.proof)
   pub images : Images n assumed asked.order.items
   pub spelt : GlobalImages n assumed asked.globals.items
   pub globals : asked.globals.items ≡ (session_of c.proof).assumed

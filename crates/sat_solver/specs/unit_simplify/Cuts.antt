@@ -4,7 +4,7 @@ use Rattle.sat_base.specs.device.Device.{Writer}
 use Rattle.sat_base.specs.steps.Steps.{Deletion, Redundant, Simplified, Step, AtClause, DeleteClause}
 use Rattle.sat_checker.specs.declared.processing.ProofProcessor.{Ghosts}
 use Rattle.sat_solver.specs.proof.ProofView.{steps_of}
-use Rattle.sat_solver.specs.session.Session.{Session, after, May}
+use Rattle.sat_solver.specs.session.Session.{Session, after, IsAllowedStep}
 use Rattle.sat_solver.specs.declared.proof.Proof.{Proof}
 use Rattle.sat_solver.specs.declared.error.SolverError.{SolverError}
 use Rattle.sat_solver.specs.cdcl.Going.{EmitsSteps}
@@ -23,8 +23,8 @@ derived_step redundant part hashes = AtClause (redundant && nat_lt 2 (length par
 
 -- what is left of a clause may be derived, and then the clause may be deleted
 pub record MayCut (s : Session) (redundant : Bool) (part hashes clause : List ℕ) : Type 0 where
-  pub derive : May s (derived_step redundant part hashes)
-  pub delete : May (after (derived_step redundant part hashes) s) (deleted_step redundant Simplified clause)
+  pub derive : IsAllowedStep s (derived_step redundant part hashes)
+  pub delete : IsAllowedStep (after (derived_step redundant part hashes) s) (deleted_step redundant Simplified clause)
 
 -- these two steps were made
 abbrev pub WritesCut : {W L : Type 0} {G : Ghosts L} → (W → Writer) → Result (Unit {0}) SolverError → Proof W L G → Proof W L G → (redundant : Bool) (part hashes clause : List ℕ) → Type 0

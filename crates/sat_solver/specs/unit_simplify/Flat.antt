@@ -50,13 +50,13 @@ RemovesPairs seen r p p' c c' = EmitsSteps seen r p p' (λ _ _. IsStrengthened (
 
 -- one long clause was removed or strengthened: what is left of it has no assigned literal, and other clauses are unchanged up to order
 pub record StrengthensClause (s : Session) (c c' : Search) (o : ℕ) : Type 0 where
-  pub lighter : IsStrengthened s c c'
+  pub strengthened : IsStrengthened s c c'
   pub left : Contains (live_refs c'.parts.clauses c'.parts.db.refs) o → IsOpenClause c'.parts o
   pub others : (p : ℕ) → p ≢ o → Contains (live_refs c'.parts.clauses c'.parts.db.refs) p → Contains (live_refs c.parts.clauses c.parts.db.refs) p × (IsOpenClause c.parts p → IsOpenClause c'.parts p)
 
 -- the same by its steps
-abbrev pub LightensOne : {W L : Type 0} {G : Ghosts L} → (W → Writer) → Result (Unit {0}) SolverError → Proof W L G → Proof W L G → Search → Search → (o : ℕ) → Type 0
-LightensOne seen r p p' c c' o = EmitsSteps seen r p p' (λ _ _. StrengthensClause (session_of p') c c' o)
+abbrev pub StrengthensOrFails : {W L : Type 0} {G : Ghosts L} → (W → Writer) → Result (Unit {0}) SolverError → Proof W L G → Proof W L G → Search → Search → (o : ℕ) → Type 0
+StrengthensOrFails seen r p p' c c' o = EmitsSteps seen r p p' (λ _ _. StrengthensClause (session_of p') c c' o)
 
 -- the live clauses among the first `at` of the list have no assigned literal
 abbrev pub AreOpenTo : Search → Search → ℕ → Type 0
@@ -64,5 +64,5 @@ AreOpenTo c c' at = (k : ℕ) → k < at → Contains (live_refs c'.parts.clause
 
 -- the same for all long clauses: none has an assigned literal
 pub record StrengthensAll (s : Session) (c c' : Search) : Type 0 where
-  pub lighter : IsStrengthened s c c'
+  pub strengthened : IsStrengthened s c c'
   pub left : (o : ℕ) → Contains (live_refs c'.parts.clauses c'.parts.db.refs) o → IsOpenClause c'.parts o

@@ -38,7 +38,7 @@ pub record FreesIndex (old new : Variables) (from to : List Step) (v : ℕ) : Ty
 
 -- indices may be released: the search is at level 0 with an empty trail, and has the indices of the names
 pub record MayFree (n : Variables) (steps : List Step) (c : Search) : Type 0 where
-  pub stands : NamesInvariant n steps
+  pub valid : NamesInvariant n steps
   pub search : IsSearch (session_after steps) c
   pub shares : SharesIndices n c
   pub flat : HasEmptyTrail c.parts

@@ -20,7 +20,7 @@ SameSize p p' = length p'.assignment.current ≡ length p.assignment.current
 
 -- nothing is left to propagate, and the trail has nothing at level 0
 pub record TakesUnitsOff (p p' : Parts) (s : Session) (global : ℕ → ℕ) : Type 0 where
-  pub stands : PartsSessionInvariant p' s global
+  pub valid : PartsSessionInvariant p' s global
   pub done : IsFullyPropagated p'
   pub starts : p'.trail.starts ≡ p.trail.starts
   pub empty : p.trail.starts ≡ [] → p'.trail.lits ≡ []

@@ -25,16 +25,16 @@ use Rattle.sat_solver.specs.unit_simplify.Freed.{KeepsAsked, AllLeft}
 use Rattle.sat_solver.specs.unit_simplify.Looks.{IsOpenClause}
 
 -- the invariants of names, proof and search hold together
-pub record StandTogether {W L : Type 0} {G : Ghosts L} (n : Variables) (p : Proof W L G) (c : Search) : Type 0 where
+pub record JointInvariant {W L : Type 0} {G : Ghosts L} (n : Variables) (p : Proof W L G) (c : Search) : Type 0 where
   pub keeps : HasAllowedSteps p
-  pub stands : NamesInvariant n (steps_of p)
+  pub valid : NamesInvariant n (steps_of p)
   pub search : IsSearch (session_of p) c
   pub shares : SharesIndices n c
 
 -- the same at level 0 after complete propagation; no clause is falsified
 pub record MaySettle {W L : Type 0} {G : Ghosts L} (n : Variables) (p : Proof W L G) (c : Search) : Type 0 where
   pub keeps : HasAllowedSteps p
-  pub stands : NamesInvariant n (steps_of p)
+  pub valid : NamesInvariant n (steps_of p)
   pub shares : SharesIndices n c
   pub propagated : IsPropagated (session_of p) c
   pub bottom : c.parts.trail.starts ≡ []
@@ -42,7 +42,7 @@ pub record MaySettle {W L : Type 0} {G : Ghosts L} (n : Variables) (p : Proof W 
 -- the invariants still hold together: the steps made are invisible to the judge and learn nothing, assumptions are unchanged, and the word
 -- of the trail is unchanged or extended
 pub record PassesQuietly {W L : Type 0} {G : Ghosts L} (seen : W → Writer) (n n' : Variables) (p p' : Proof W L G) (c c' : Search) : Type 0 where
-  pub together : StandTogether n' p' c'
+  pub together : JointInvariant n' p' c'
   pub took : ComesByCheckedSteps seen p p'
   pub quiet : ComesQuietly (steps_of p) (steps_of p')
   pub does : DoesNothing n n' (steps_of p) (steps_of p')

@@ -2,7 +2,7 @@
 use Rattle.std.specs.Prelude.{ℕ, ◌+◌, ◌==◌, ◌≡◌, max, false, Some, List, [], ◌∷◌, map, if◌then◌else◌}
 use Rattle.sat_base.specs.script.ScriptState.{ScriptState, with_name, with_names, new_names, bring_in}
 use Rattle.sat_base.specs.steps.Steps.{Step, UserVarName}
-use Rattle.sat_solver.specs.session.Session.{MayAll, session_after}
+use Rattle.sat_solver.specs.session.Session.{AreAllowedSteps, session_after}
 use Rattle.sat_checker.specs.matching.Bridge.{Live, IsBridge}
 use Rattle.sat_solver.specs.variables.Variables.{AreTidy, NamesMatchSteps, NamesMatchState, global_of, names_used}
 use Rattle.sat_checker.specs.matching.Checking.{variable_of}
@@ -20,7 +20,7 @@ use Rattle.sat_solver.specs.declared.variables.Variables.{Variables}
 pub record NamesInvariant (n : Variables) (steps : List Step) : Type 0 where
   pub tidy : AreTidy n
   pub said : NamesMatchSteps n (session_after steps)
-  pub may : MayAll steps
+  pub may : AreAllowedSteps steps
   -- the names as matching reads them from the steps
   pub read : (u : ℕ) → variable_of steps (u + 1) ≡ global_of n u
 
@@ -41,7 +41,7 @@ pub record ReachesScriptState (new : Variables) (from to : List Step) (j : Scrip
 
 -- a name was given to a new variable
 pub record NamesOne (old new : Variables) (from to : List Step) (user v : ℕ) : Type 0 where
-  pub stands : NamesInvariant new to
+  pub valid : NamesInvariant new to
   pub named : (u : ℕ) → global_of new u ≡ (if u == user then Some v else global_of old u)
   pub used : names_used new ≡ max (names_used old) (user + 1)
   pub step : to ≡ UserVarName v (Some user) ∷ from
@@ -54,7 +54,7 @@ pub record NamesOne (old new : Variables) (from to : List Step) (user v : ℕ) :
 
 -- these names were introduced, in order
 pub record NamesAll (old new : Variables) (from to : List Step) (names : List ℕ) : Type 0 where
-  pub stands : NamesInvariant new to
+  pub valid : NamesInvariant new to
   pub extends : ExtendsNames old new
   pub unseen : IsUnseen old new from to
   pub comes : OnlyAllowedSteps IsDue from to
@@ -62,7 +62,7 @@ pub record NamesAll (old new : Variables) (from to : List Step) (names : List �
 
 -- how a call changes the judge's state, and which ordered steps it makes; other steps may be in between
 pub record NamesEffect (old new : Variables) (from to : List Step) (judge : ScriptState → ScriptState) (due : ScriptState → List Expected) : Type 0 where
-  pub stands : NamesInvariant new to
+  pub valid : NamesInvariant new to
   pub kept : (j : ScriptState) (live : Live) → NamesAgree old from j live → ReachesScriptState new from to (judge j) (due j)
 
 -- a name was introduced

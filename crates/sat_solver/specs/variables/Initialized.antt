@@ -33,7 +33,7 @@ pub record AreVacant (p : Parts) (count : ℕ) (gs : List Given) : Type 0 where
   pub apart : GivenApart gs
 
 -- indices were added at level 0: those with a unit have its value, the others may be picked, and nothing else changed
-pub record TakesIndices (gs : List Given) (p p' : Parts) : Type 0 where
+pub record ActivatesIndices (gs : List Given) (p p' : Parts) : Type 0 where
   pub holds : PartsInvariant p'
   pub bottom : p'.trail.starts ≡ []
   pub same : SameClauses p p'

@@ -34,7 +34,7 @@ pub record IsHidden (n : Variables) (v : ℕ) : Type 0 where
 
 -- a hidden variable got the next name
 pub record NamesHidden (old new : Variables) (from to : List Step) (v user : ℕ) : Type 0 where
-  pub stands : NamesInvariant new to
+  pub valid : NamesInvariant new to
   pub next : IsNextUser old user
   pub step : to ≡ UserVarName v (Some user) ∷ ChangeSamplingMode v false ∷ from
   pub users : (w : ℕ) → user_of new w ≡ (if w == v then Some user else user_of old w)
@@ -46,7 +46,7 @@ pub record NamesHidden (old new : Variables) (from to : List Step) (v user : ℕ
 
 -- all hidden variables got names, and mode witness
 pub record NamesAllHidden (old new : Variables) (from to : List Step) (users : List ℕ) : Type 0 where
-  pub stands : NamesInvariant new to
+  pub valid : NamesInvariant new to
   pub all : (v : ℕ) → IsHidden new v → ⊥
   pub names : KeepsNames old new
   pub kept : (j : ScriptState) (live : Live) → NamesAgree old from j live → (k : ScriptState) × Observes 0 from j live to k users × NamesAgree new to k live

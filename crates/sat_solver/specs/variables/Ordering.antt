@@ -17,6 +17,6 @@ pub record IsInIndexOrder (earlier : List Step) (clause : List ℕ) : Type 0 whe
 pub record AddsInOrder (from to : List Step) : Type 0 where
   pub front : List Step
   pub clause : List ℕ
-  pub behind : List Step
-  pub steps : to ≡ behind ++ (AddClause clause ∷ (front ++ from))
+  pub following : List Step
+  pub steps : to ≡ following ++ (AddClause clause ∷ (front ++ from))
   pub order : IsInIndexOrder (front ++ from) clause

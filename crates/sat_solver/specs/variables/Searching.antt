@@ -4,7 +4,7 @@ use Rattle.std.specs.List.{AllByRecursion}
 use Rattle.sat_base.specs.values.Literals.{variable}
 use Rattle.sat_base.specs.script.ScriptState.{ScriptState}
 use Rattle.sat_base.specs.steps.Steps.{Step, AtClause, UnitClauses, DeleteClause, ChangeHashBits, Model, FailedAssumptions, End}
-use Rattle.sat_solver.specs.session.Session.{May, session_after}
+use Rattle.sat_solver.specs.session.Session.{IsAllowedStep, session_after}
 use Rattle.sat_checker.specs.matching.Bridge.{Live}
 use Rattle.sat_solver.specs.variables.Variables.{data_at, solver_of}
 use Rattle.sat_solver.specs.variables.Naming.{PutsUnit}
@@ -27,13 +27,13 @@ IsOfSearch n End = Unit {0}
 IsOfSearch n step = ⊥
 
 -- such a step preserves the invariant of names
-abbrev pub SearchesStand : Type 0
-SearchesStand = (n : Variables) (steps : List Step) (step : Step) → NamesInvariant n steps → May (session_after steps) step → IsOfSearch n step → NamesInvariant n (step ∷ steps)
+abbrev pub SearchesPreserveNames : Type 0
+SearchesPreserveNames = (n : Variables) (steps : List Step) (step : Step) → NamesInvariant n steps → IsAllowedStep (session_after steps) step → IsOfSearch n step → NamesInvariant n (step ∷ steps)
 
 -- such a step leaves the judge's state unchanged
 abbrev pub SearchesAgree : Type 0
-SearchesAgree = (n : Variables) (steps : List Step) (step : Step) → NamesInvariant n steps → May (session_after steps) step → IsOfSearch n step → (j : ScriptState) (live : Live) → NamesAgree n steps j live → NamesAgree n (step ∷ steps) j live
+SearchesAgree = (n : Variables) (steps : List Step) (step : Step) → NamesInvariant n steps → IsAllowedStep (session_after steps) step → IsOfSearch n step → (j : ScriptState) (live : Live) → NamesAgree n steps j live → NamesAgree n (step ∷ steps) j live
 
 -- storing the value of the unit of a variable that has an index preserves the invariant of names and the judge's state
-abbrev pub UnitsStand : Type 0
-UnitsStand = (old new : Variables) (steps : List Step) (v x : ℕ) (value : Option Bool) → NamesInvariant old steps → solver_of old v ≡ Some x → PutsUnit old new v value → NamesInvariant new steps × ((j : ScriptState) (live : Live) → NamesAgree old steps j live → NamesAgree new steps j live)
+abbrev pub UnitsPreserveNames : Type 0
+UnitsPreserveNames = (old new : Variables) (steps : List Step) (v x : ℕ) (value : Option Bool) → NamesInvariant old steps → solver_of old v ≡ Some x → PutsUnit old new v value → NamesInvariant new steps × ((j : ScriptState) (live : Live) → NamesAgree old steps j live → NamesAgree new steps j live)

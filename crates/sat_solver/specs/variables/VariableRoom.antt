@@ -7,8 +7,8 @@ use Rattle.sat_solver.specs.variables.Variables.{data_at, global_of, names_used,
 use Rattle.sat_solver.specs.declared.variables.Variables.{Variables}
 
 -- the names of literals, as indices
-abbrev pub users_in : List ℕ → List ℕ
-users_in = map variable
+abbrev pub user_vars_in : List ℕ → List ℕ
+user_vars_in = map variable
 
 -- the number of variables in use
 abbrev pub live_count : Variables → ℕ
@@ -32,8 +32,8 @@ abbrev pub hidden_count : Variables → List ℕ → ℕ
 hidden_count n users = count_to (names_used n) (is_hidden_name n users)
 
 -- the same for the names of the literals starting at this position
-abbrev pub hidden_behind : Variables → List ℕ → (at : ℕ) → ℕ
-hidden_behind n ls at = hidden_count n (users_in (drop at ls))
+abbrev pub hidden_after : Variables → List ℕ → (at : ℕ) → ℕ
+hidden_after n ls at = hidden_count n (user_vars_in (drop at ls))
 
 -- how many names are introduced with these: all those never used up to the highest of them, and the hidden ones among them
 abbrev pub coming : Variables → List ℕ → ℕ

@@ -141,7 +141,7 @@ pub(crate) fn begin_conflict(
     requires can { CanAnalyze clauses.now (state_of assignment.now graph.now trail.now) }
     requires size { length analysis.old.flags ≡ length assignment.now.current }
     requires clear { AreClear analysis.old.flags }
-    requires stands { (o : ℕ) → conflict.now ≡ Conflict.Long o → IsClause clauses.now o }
+    requires valid { (o : ℕ) → conflict.now ≡ Conflict.Long o → IsClause clauses.now o }
     requires fails { AreAllFalse assignment.now.current (falsified clauses.now conflict.now) }
     requires top { HasTop (state_of assignment.now graph.now trail.now) (falsified clauses.now conflict.now) }
     ensures resolving { OnOk result

@@ -1,5 +1,5 @@
 //! The beginning of a round: new literals of level 0 are propagated and used to simplify.
-ghost use Rattle.sat_solver.specs.unit_simplify.Passes.{StandTogether, BeginsRound};
+ghost use Rattle.sat_solver.specs.unit_simplify.Passes.{JointInvariant, BeginsRound};
 
 use crate::cdcl::fault::Fault;
 use crate::context::Search;
@@ -21,7 +21,7 @@ pub fn begin_round<W: CountedWrite + Drop, P: ProofProcessor>(
     search: &mut Search,
     names: &mut Variables,
 ) -> Result<Option<Conflict>, Fault>
-    requires together { StandTogether names.old proof.old search.old }
+    requires together { JointInvariant names.old proof.old search.old }
     ensures { BeginsRound W.seen result names.old names.new proof.old proof.new search.old search.new }
 {
     if search.parts.trail.current_level() > 0 || search.parts.trail.trail().is_empty() {

@@ -4,7 +4,7 @@ ghost use Rattle.sat_parts.specs.clause.Glue.{levels_of, different};
 ghost use Rattle.sat_solver.specs.session.LiveClauses.{with_var};
 ghost use Rattle.sat_solver.specs.proof.ProofView.{HasAllowedSteps, session_of};
 ghost use Rattle.sat_solver.specs.analyze_conflict.Derivation.{Learns, LearnsFrom};
-ghost use Rattle.sat_parts.specs.parts.Round.{UnitsAreUncaused, IsBased};
+ghost use Rattle.sat_parts.specs.parts.Round.{UnitsHaveNoReason, IsBased};
 ghost use Rattle.sat_parts.specs.parts.Full.{IsFull};
 ghost use Rattle.sat_parts.specs.parts.Learned.{IsAnalyzedClause};
 ghost use Rattle.sat_parts.specs.parts.Whole.{state, HoldsBelow, IsRefuted};
@@ -63,7 +63,7 @@ fn name_learned(search: &mut Search, _level: usize, conflict: &Conflict) -> Resu
 /// Also updates the headers of the used clauses, based on the levels of their literals before backtracking.
 fn take_in(search: &mut Search, header: ClauseHeader, level: usize) -> Result<(), StoreError>
     requires holds { HoldsBelow (length search.old.parts.trail.starts) search.old.parts }
-    requires units { UnitsAreUncaused (state search.old.parts) }
+    requires units { UnitsHaveNoReason (state search.old.parts) }
     requires base { IsBased search.old.parts.trail }
     requires live { header.deleted ≡ false }
     requires learned { IsAnalyzedClause (state search.old.parts) search.old.analysis.clause level }

@@ -10,7 +10,7 @@ ghost use Rattle.sat_solver.specs.load.Literals.{NoWitness, Images, global_with_
 ghost use Rattle.sat_solver.specs.load.Assumed.{MarksAssumed, PutsMarks, BringsAssumptions};
 ghost use Rattle.sat_solver.specs.variables.Calls.{NamesInvariant};
 ghost use Rattle.sat_solver.specs.variables.Failing.{EmitsOrFails, FailsOnlyByFault};
-ghost use Rattle.sat_solver.specs.variables.VariableRoom.{users_in};
+ghost use Rattle.sat_solver.specs.variables.VariableRoom.{user_vars_in};
 ghost use Rattle.sat_parts.specs.clause.Glue.{VariablesBelow};
 
 use crate::load::literals::{Taken, take_names};
@@ -65,13 +65,13 @@ pub fn assume<W: StepLog>(
     lits: &[Lit],
     asked: &mut Taken,
 ) -> Result<(), NameError>
-    requires stands { NamesInvariant variables.old (W.steps writer.old) }
+    requires valid { NamesInvariant variables.old (W.steps writer.old) }
     requires keeps { W.keeps writer.old }
     requires sampled { NoWitness variables.old lits.now }
     requires asked { asked.old.globals.items ≡ (session_after (W.steps writer.old)).assumed }
     ensures assumes { OnOk result (BringsAssumptions variables.old variables.new (W.steps writer.old)
         (W.steps writer.new) lits.now asked.new) }
-    ensures room { FailsOnlyByFault result variables.old (users_in lits.now) }
+    ensures room { FailsOnlyByFault result variables.old (user_vars_in lits.now) }
     ensures keeps { OnOk result (W.keeps writer.new) }
     ensures came { EmitsOrFails W.took W.broke result writer.old writer.new }
 {

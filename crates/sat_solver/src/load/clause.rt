@@ -10,7 +10,7 @@ ghost use Rattle.sat_solver.specs.variables.Variables.{AreTidy};
 ghost use Rattle.sat_solver.specs.session.Session.{session_after};
 ghost use Rattle.sat_checker.specs.LiteralSets.{is_tautology};
 ghost use Rattle.sat_solver.specs.variables.Failing.{IsFailure, EmitsOrFails, FailsOnlyByFault};
-ghost use Rattle.sat_solver.specs.variables.VariableRoom.{users_in};
+ghost use Rattle.sat_solver.specs.variables.VariableRoom.{user_vars_in};
 
 use crate::load::literals::{Taken, take_names};
 use crate::proof::map_step::map_lits;
@@ -29,7 +29,7 @@ fn write_clause<W: StepLog>(
     _user: &[Lit],
     clause: &[Lit],
 ) -> Result<(), NameError>
-    requires stands { NamesInvariant _variables.now (W.steps writer.old) }
+    requires valid { NamesInvariant _variables.now (W.steps writer.old) }
     requires keeps { W.keeps writer.old }
     requires literals { SameLiterals _variables.now _user.now clause.now }
     ensures does { OnOk result (NamesEffect _variables.now _variables.now (W.steps writer.old) (W.steps writer.new)
@@ -67,12 +67,12 @@ pub fn add_clause<W: StepLog>(
     lits: &[Lit],
     taken: &mut Taken,
 ) -> Result<bool, NameError>
-    requires stands { NamesInvariant variables.old (W.steps writer.old) }
+    requires valid { NamesInvariant variables.old (W.steps writer.old) }
     requires keeps { W.keeps writer.old }
     requires sampled { NoWitness variables.old lits.now }
     ensures adds { IfOk result (BringsClause variables.old variables.new (W.steps writer.old) (W.steps writer.new)
         lits.now taken.new) }
-    ensures room { FailsOnlyByFault result variables.old (users_in lits.now) }
+    ensures room { FailsOnlyByFault result variables.old (user_vars_in lits.now) }
     ensures keeps { OnOk result (W.keeps writer.new) }
     ensures came { EmitsOrFails W.took W.broke result writer.old writer.new }
 {
@@ -88,12 +88,12 @@ pub fn leave_out_clause<W: StepLog>(
     writer: &mut W,
     lits: &[Lit],
 ) -> Result<(), NameError>
-    requires stands { NamesInvariant variables.old (W.steps writer.old) }
+    requires valid { NamesInvariant variables.old (W.steps writer.old) }
     requires keeps { W.keeps writer.old }
     requires unsat { (session_after (W.steps writer.old)).unsat ≡ true }
     ensures leaves { OnOk result (LeavesOut variables.old variables.new (W.steps writer.old) (W.steps writer.new)
         lits.now) }
-    ensures room { FailsOnlyByFault result variables.old (users_in lits.now) }
+    ensures room { FailsOnlyByFault result variables.old (user_vars_in lits.now) }
     ensures keeps { OnOk result (W.keeps writer.new) }
     ensures came { EmitsOrFails W.took W.broke result writer.old writer.new }
 {

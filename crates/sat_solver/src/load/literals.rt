@@ -3,7 +3,7 @@ ghost use Rattle.std.specs.Prelude.{◌≡◌, [], OnOk};
 ghost use Rattle.sat_solver.specs.load.Literals.{BringsLiterals};
 ghost use Rattle.sat_solver.specs.variables.Calls.{NamesInvariant};
 ghost use Rattle.sat_solver.specs.variables.Failing.{EmitsOrFails, FailsOnlyByFault};
-ghost use Rattle.sat_solver.specs.variables.VariableRoom.{users_in};
+ghost use Rattle.sat_solver.specs.variables.VariableRoom.{user_vars_in};
 
 use crate::variables::Variables;
 use crate::variables::error::NameError;
@@ -52,11 +52,11 @@ pub fn take_names<W: StepLog>(
     lits: &[Lit],
     taken: &mut Taken,
 ) -> Result<(), NameError>
-    requires stands { NamesInvariant variables.old (W.steps writer.old) }
+    requires valid { NamesInvariant variables.old (W.steps writer.old) }
     requires keeps { W.keeps writer.old }
     ensures takes { OnOk result (BringsLiterals variables.old variables.new (W.steps writer.old) (W.steps writer.new)
         lits.now taken.new) }
-    ensures room { FailsOnlyByFault result variables.old (users_in lits.now) }
+    ensures room { FailsOnlyByFault result variables.old (user_vars_in lits.now) }
     ensures globals { taken.new.globals ≡ taken.old.globals }
     ensures keeps { OnOk result (W.keeps writer.new) }
     ensures came { EmitsOrFails W.took W.broke result writer.old writer.new }

@@ -5,7 +5,7 @@ ghost use Rattle.sat_base.specs.steps.StepViews.{step_of};
 ghost use Rattle.sat_checker.specs.CheckerView.{seen_of};
 ghost use Rattle.sat_checker.specs.listeners.ProcessingView.{listeners_of};
 ghost use Rattle.sat_solver.specs.proof.Checked.{is_end, IsFed, TakesStep, TakesWidth, TakesDelayed, FeedsOwnChecker};
-ghost use Rattle.sat_solver.specs.proof.Checked.{AddsOwnListener, BeginsAnew, who_listens};
+ghost use Rattle.sat_solver.specs.proof.Checked.{AddsOwnListener, CheckerRestarts, who_listens};
 ghost use Rattle.sat_solver.specs.proof.Widths.{narrowed, KeepsWidth};
 
 use crate::proof::hash_bits::Counting;
@@ -122,7 +122,7 @@ impl<P: ProofProcessor> Checked<P> {
     /// Restarts the checker, as if it had received no steps, with the listeners that it has. Returns the roll of the
     /// listeners. Never allocates.
     pub fn begin_anew(&mut self, alloc: Global) -> Roll<P>
-        ensures { BeginsAnew P.takes self.old self.new result.items }
+        ensures { CheckerRestarts P.takes self.old self.new result.items }
     {
         let former = mem::replace(&mut self.checker, Checker::notifying(alloc)).into_processors();
         let roll = Roll::of(&former.processors);

@@ -3,7 +3,7 @@ ghost use Rattle.std.specs.Prelude.{ℕ, ◌≡◌, ◌∷◌, [], true, false, 
 ghost use Rattle.sat_base.specs.steps.StepViews.{step_of};
 ghost use Rattle.sat_solver.specs.proof.Checked.{has_begun, cause_in, FedUnless, IsCause};
 ghost use Rattle.sat_solver.specs.proof.Complaints.{IsComplaint};
-ghost use Rattle.sat_solver.specs.session.Session.{MayAll};
+ghost use Rattle.sat_solver.specs.session.Session.{AreAllowedSteps};
 ghost use Rattle.sat_solver.specs.proof.Widths.{narrowed, KeepsWidth};
 
 use crate::proof::checker::{Checked, is_end};
@@ -60,14 +60,14 @@ pub struct Made<P: ProofProcessor = Nobody> {
     /// The error of a listener, until it is returned to the caller.
     complaint: Option<anyhow::Error>,
     ghost counted: { begun ≡ has_begun history.steps },
-    ghost may: { ∥ MayAll history.steps ∥₁ },
+    ghost may: { ∥ AreAllowedSteps history.steps ∥₁ },
     ghost fed: { ∥ FedUnless P.takes lost own roll.items history.steps ∥₁ },
 }
 
 impl<P: ProofProcessor> Made<P> {
-    ghost use Rattle.sat_solver.specs.proof.MadeView.{made_audience, made_is_checked, made_is_lost, MadeHasChecker, MadeHandsBack, MadeHandsBackWhole};
-    ghost use Rattle.sat_solver.specs.proof.MadeView.{MadeIsReported, LastWidthIs, MadeEffect, OkOrComplains, OkOrComplainsUnless};
-    ghost use Rattle.sat_solver.specs.proof.MadeView.{MadeTakesListener, cleared_complaint};
+    ghost use Rattle.sat_solver.specs.proof.MadeView.{made_audience, made_is_checked, made_is_lost, MadeHasChecker, MadeReturnsListeners, MadeReturnsNotifiedListeners};
+    ghost use Rattle.sat_solver.specs.proof.MadeView.{MadeIsReported, LastWidthIs, MadeEffect, OkOrComplains, OkOrComplainsOrWasLost};
+    ghost use Rattle.sat_solver.specs.proof.MadeView.{MadeAddListenerResult, cleared_complaint};
 
     /// Creates a value without steps or checker.
     pub fn new() -> Made<P>
@@ -123,7 +123,7 @@ impl<P: ProofProcessor> Made<P> {
         requires taking { made_is_lost self.old ≡ false }
         requires checked { made_is_checked self.old ≡ true }
         ensures steps { self.new.history.steps ≡ self.old.history.steps }
-        ensures listens { MadeTakesListener result processor self.old self.new }
+        ensures listens { MadeAddListenerResult result processor self.old self.new }
     {
         let Some(own) = &mut self.own else {
             return Ok(());
@@ -143,7 +143,7 @@ impl<P: ProofProcessor> Made<P> {
 
     /// Records a step that the checker does not receive. The checker receives no steps from now on.
     pub fn skip(&mut self, step: &ProofStep<'_>)
-        requires { MayAll (step_of step.now ∷ self.old.history.steps) }
+        requires { AreAllowedSteps (step_of step.now ∷ self.old.history.steps) }
         ensures { MadeEffect (step_of step.now) self.old self.new }
     {
         self.history = self.history.and(step);
@@ -160,7 +160,7 @@ impl<P: ProofProcessor> Made<P> {
         step: &ProofStep<'_>,
         cut: &ProofStep<'_>,
     ) -> Result<(), CheckFault>
-        requires may { MayAll (step_of step.now ∷ self.old.history.steps) }
+        requires may { AreAllowedSteps (step_of step.now ∷ self.old.history.steps) }
         requires width { KeepsWidth (step_of step.now) }
         requires cut { made_is_checked self.old ≡ true → step_of cut.now ≡ narrowed bits (step_of step.now) }
         ensures makes { MadeEffect (step_of step.now) self.old self.new }
@@ -185,7 +185,7 @@ impl<P: ProofProcessor> Made<P> {
         step: &ProofStep<'_>,
         cut: &ProofStep<'_>,
     ) -> Result<(), CheckFault>
-        requires may { MayAll (step_of step.now ∷ self.old.history.steps) }
+        requires may { AreAllowedSteps (step_of step.now ∷ self.old.history.steps) }
         requires width { KeepsWidth (step_of step.now) }
         requires cut { made_is_checked self.old ≡ true → step_of cut.now ≡ narrowed bits (step_of step.now) }
         ensures makes { MadeEffect (step_of step.now) self.old self.new }
@@ -217,7 +217,7 @@ impl<P: ProofProcessor> Made<P> {
         ensures listening { made_audience self.new ≡ made_audience self.old }
         ensures taking { OnOk result (made_is_lost self.new ≡ made_is_lost self.old) }
         ensures width { OnOk result ((bits : ℕ) → LastWidthIs bits self.old → LastWidthIs bits self.new) }
-        ensures fails { OkOrComplainsUnless (made_is_lost self.old) result self.new }
+        ensures fails { OkOrComplainsOrWasLost (made_is_lost self.old) result self.new }
         ensures reported { OnOk result (MadeIsReported self.new) }
     {
         match &mut self.own {
@@ -248,8 +248,8 @@ impl<P: ProofProcessor> Made<P> {
     /// Returns the listeners in the order in which they were added, even after a failure. Afterwards there is
     /// no checker.
     pub fn take_processors(&mut self, alloc: Global) -> Vec<P>
-        ensures handed { MadeHandsBack self.old result.items }
-        ensures whole { MadeHandsBackWhole self.old result.items }
+        ensures returned { MadeReturnsListeners self.old result.items }
+        ensures whole { MadeReturnsNotifiedListeners self.old result.items }
     {
         let own = self.own.take();
         self.roll = Roll::new();

@@ -1,8 +1,8 @@
 //! Laws about sessions. Each law is the contract of a function that does nothing.
 ghost use Rattle.sat_solver.specs.session.Promises.{CoresAreRight, MayIsAccepted, ModelsAreRight, SessionsAreAccepted};
 ghost use Rattle.sat_solver.specs.session.Promises.{UnsatIsRight};
-ghost use Rattle.sat_solver.specs.proof.Checked.{NobodyComplains};
-ghost use Rattle.sat_solver.specs.proof.Drat.{DratStands};
+ghost use Rattle.sat_solver.specs.proof.Checked.{NeverFailsWithoutListeners};
+ghost use Rattle.sat_solver.specs.proof.Drat.{DratIsRight};
 ghost use Rattle.sat_solver.specs.session.Due.{WidthsKeepOrder};
 ghost use Rattle.sat_solver.specs.session.NamedMeaning.{NamedCoresAreRight, NamedModelsAreRight, NamedUnsatIsRight};
 ghost use Rattle.sat_solver.specs.session.NamedMeaning.{NoneHiddenMeans};
@@ -11,7 +11,7 @@ ghost use Rattle.sat_solver.specs.proof.ProofTexts.{BrokenIsFront, ClosedIsText,
 ghost use Rattle.sat_solver.specs.session.SessionRows.{CollidingMay, HiddenMay};
 ghost use Rattle.sat_solver.specs.proof.Widths.{WidthsAreFree};
 
-use sat_checker::law_announcements::nobody_answers_a_fault;
+use sat_checker::law_announcements::faults_come_from_listeners;
 use sat_checker::{Nobody, ProofProcessor};
 
 /// States that a checker accepts every step that a session may write.
@@ -35,10 +35,10 @@ pub fn widths_are_free()
 {}
 
 /// States that a solver's own checker without listeners never fails because of a listener.
-pub fn nobody_complains<P: ProofProcessor>()
-    ensures { NobodyComplains P.takes }
+pub fn never_fails_without_listeners<P: ProofProcessor>()
+    ensures { NeverFailsWithoutListeners P.takes }
 {
-    nobody_answers_a_fault::<P, Nobody>();
+    faults_come_from_listeners::<P, Nobody>();
 }
 
 /// Worked examples: derived clauses whose hashes collide, and a hidden variable that is deleted before a model.
@@ -71,7 +71,7 @@ pub fn targets_take_texts()
 /// States that the DRAT lines of allowed steps are a derivation. Once the steps have recorded `unsat`, unit propagation
 /// refutes the remaining clauses.
 pub fn lines_are_derived()
-    ensures { DratStands }
+    ensures { DratIsRight }
 {}
 
 /// Worked examples: widths for numbers of clauses, a step that is counted, and DRAT lines.

@@ -1,6 +1,6 @@
 //! Sets the assumptions of later asks.
 ghost use Rattle.std.specs.Prelude.{◌≡◌, true, false, OnOk, IfErr, IsErrOf};
-ghost use Rattle.sat_solver.specs.variables.VariableRoom.{HasVariablesFor, users_in};
+ghost use Rattle.sat_solver.specs.variables.VariableRoom.{HasVariablesFor, user_vars_in};
 ghost use Rattle.sat_solver.specs.cdcl.Going.{IsFault};
 ghost use Rattle.sat_base.specs.script.ScriptState.{bring_all};
 ghost use Rattle.sat_solver.specs.load.Literals.{NoWitness};
@@ -30,7 +30,7 @@ impl<W: CountedWrite + Drop, P: ProofProcessor> Solver<W, P> {
         requires unsat { self.old.state ≡ Unsat }
         requires sampled { NoWitness self.old.names lits.now }
         ensures asks { Asks W.seen result self.old self.new lits.now }
-        ensures room { HasVariablesFor self.old.names (users_in lits.now) → IfErr result IsFault }
+        ensures room { HasVariablesFor self.old.names (user_vars_in lits.now) → IfErr result IsFault }
         ensures clock { self.new.clock ≡ self.old.clock }
     {
         assume(&mut self.names, &mut self.core.proof, lits, &mut self.asked)?;
@@ -42,7 +42,7 @@ impl<W: CountedWrite + Drop, P: ProofProcessor> Solver<W, P> {
         requires whole { SolverInvariant self.old }
         requires sampled { NoWitness self.old.names lits.now }
         ensures asks { Asks W.seen result self.old self.new lits.now }
-        ensures room { HasVariablesFor self.old.names (users_in lits.now) → IfErr result IsFault }
+        ensures room { HasVariablesFor self.old.names (user_vars_in lits.now) → IfErr result IsFault }
         ensures clock { self.new.clock ≡ self.old.clock }
     {
         match self.state {

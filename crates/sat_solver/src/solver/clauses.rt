@@ -1,6 +1,6 @@
 //! Adds clauses.
 ghost use Rattle.std.specs.Prelude.{◌≡◌, true, false, IfErr, IsErrOf};
-ghost use Rattle.sat_solver.specs.variables.VariableRoom.{HasVariablesFor, users_in};
+ghost use Rattle.sat_solver.specs.variables.VariableRoom.{HasVariablesFor, user_vars_in};
 ghost use Rattle.sat_solver.specs.cdcl.Going.{IsFault, IsFaultOr};
 ghost use Rattle.sat_solver.specs.load.Literals.{NoWitness};
 ghost use Rattle.sat_solver.specs.declared.state.State.TheVariants.{Unsat};
@@ -36,7 +36,7 @@ impl<W: CountedWrite + Drop, P: ProofProcessor> Solver<W, P> {
         requires whole { SolverInvariant self.old }
         requires unsat { self.old.state ≡ Unsat }
         ensures takes { TakesInOrBreaks W.seen result self.old self.new lits.now }
-        ensures room { HasVariablesFor self.old.names (users_in lits.now) → IfErr result IsFault }
+        ensures room { HasVariablesFor self.old.names (user_vars_in lits.now) → IfErr result IsFault }
         ensures assumed { self.new.assumed ≡ self.old.assumed }
         ensures clock { self.new.clock ≡ self.old.clock }
     {
@@ -49,7 +49,7 @@ impl<W: CountedWrite + Drop, P: ProofProcessor> Solver<W, P> {
         requires whole { SolverInvariant self.old }
         requires sampled { NoWitness self.old.names lits.now }
         ensures takes { TakesInOrBreaks W.seen result self.old self.new lits.now }
-        ensures room { HasVariablesFor self.old.names (users_in lits.now) → IfErr result (IsFaultOr (HasFullStore self.new)) }
+        ensures room { HasVariablesFor self.old.names (user_vars_in lits.now) → IfErr result (IsFaultOr (HasFullStore self.new)) }
         ensures assumed { self.new.assumed ≡ self.old.assumed }
         ensures clock { self.new.clock ≡ self.old.clock }
     {

@@ -1,7 +1,7 @@
 //! Passes clauses and assumptions over names to a search.
 ghost use Rattle.sat_solver.specs.load.Literals.{NoWitness};
 ghost use Rattle.std.specs.Prelude.{◌≡◌, IfErr};
-ghost use Rattle.sat_solver.specs.variables.VariableRoom.{HasVariablesFor, users_in};
+ghost use Rattle.sat_solver.specs.variables.VariableRoom.{HasVariablesFor, user_vars_in};
 ghost use Rattle.sat_parts.specs.parts.Full.{IsFull};
 ghost use Rattle.sat_solver.specs.cdcl.Going.{IsFault, IsFaultOr};
 ghost use Rattle.sat_solver.specs.proof.ProofView.{session_of};
@@ -40,7 +40,7 @@ pub fn take_clause<W: CountedWrite + Drop, P: ProofProcessor>(
     requires joined { IsJoined names.old core.old }
     requires sampled { NoWitness names.old lits.now }
     ensures takes { TakesClause W.seen result names.old names.new core.old core.new lits.now }
-    ensures room { HasVariablesFor names.old (users_in lits.now) → IfErr result (IsFaultOr (IsFull core.new.search.parts)) }
+    ensures room { HasVariablesFor names.old (user_vars_in lits.now) → IfErr result (IsFaultOr (IsFull core.new.search.parts)) }
 {
     full_restart(&mut core.search);
     let both_signs = add_clause(names, &mut core.proof, lits, &mut loading.taken)?;
@@ -67,7 +67,7 @@ pub fn take_assumptions<W: CountedWrite + Drop, P: ProofProcessor>(
     requires sampled { NoWitness names.old lits.now }
     requires asked { asked.old.globals.items ≡ (session_of core.old.proof).assumed }
     ensures takes { TakesAssumptions W.seen result names.old names.new core.old core.new lits.now asked.new }
-    ensures room { HasVariablesFor names.old (users_in lits.now) → IfErr result IsFault }
+    ensures room { HasVariablesFor names.old (user_vars_in lits.now) → IfErr result IsFault }
 {
     full_restart(&mut core.search);
     assume(names, &mut core.proof, lits, asked)?;

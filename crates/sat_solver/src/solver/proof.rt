@@ -1,6 +1,6 @@
 //! The proof of a solver, and where its text is written.
-ghost use Rattle.sat_solver.specs.proof.ProofView.{GivesWriter, HandsBackListeners, HandsBackWholeListeners, handed_writer};
-ghost use Rattle.sat_solver.specs.solver.Fronts.{HandsFront};
+ghost use Rattle.sat_solver.specs.proof.ProofView.{GivesWriter, ReturnsListeners, ReturnsNotifiedListeners, returned_writer};
+ghost use Rattle.sat_solver.specs.solver.Fronts.{ReturnsAcceptedPrefix};
 ghost use Rattle.sat_solver.specs.solver.Proving.{AddsProcessor, Enables, OpensProof, ClosesProof};
 ghost use Rattle.sat_solver.specs.solver.View.{proof_in, target_in};
 ghost use Rattle.sat_solver.specs.solver.Whole.{IsSolver};
@@ -14,7 +14,7 @@ use sat_checker::ProofProcessor;
 
 /// The target and the listeners that a solver returns.
 #[derive(Drop)]
-pub struct HandedBack<W, P> {
+pub struct ReturnedParts<W, P> {
     pub target: Option<W>,
     pub processors: Vec<P>,
 }
@@ -26,8 +26,9 @@ impl<W: CountedWrite + Drop, P: ProofProcessor> Solver<W, P> {
     /// After an error, the target has been dropped. While DRAT lines are written, `assume` returns `NotInDrat`, and so
     /// does `add_clause` after the first `solve`.
     ///
-    /// DRAT lines list derived and deleted clauses, but not the added ones. Their literals are proof variables, numbered
-    /// from 1. Until a name is hidden, the variable of name n has the number n; afterwards the numbers may differ.
+    /// DRAT lines list derived and deleted clauses, but not the added ones. Their literals are proof variables,
+    /// numbered from 1. Until a name is hidden, the variable of name n has the number n; afterwards the numbers may
+    /// differ.
     pub fn write_proof(&mut self, target: W, format: ProofFormat) -> Result<(), SolverError>
         requires { IsSolver self.old }
         ensures solver { IsSolver self.new }
@@ -107,8 +108,8 @@ impl<W: CountedWrite + Drop, P: ProofProcessor> Solver<W, P> {
     /// target has received a prefix of the text of steps that a checker accepts, even if the solver has failed. It can
     /// have received the `End` step only if `close_proof` returned an error.
     pub fn into_target(self) -> Option<W>
-        ensures gives { GivesWriter (target_in W.seen self) (handed_writer W.seen result) }
-        ensures front { HandsFront W.seen result self }
+        ensures gives { GivesWriter (target_in W.seen self) (returned_writer W.seen result) }
+        ensures front { ReturnsAcceptedPrefix W.seen result self }
     {
         let mut solver = self;
         let target = solver.core.proof.take_target();
@@ -121,17 +122,17 @@ impl<W: CountedWrite + Drop, P: ProofProcessor> Solver<W, P> {
     /// After two contradictory units, the empty clause that follows from them is announced with the next step or the
     /// next `solve`. If there was neither, the listeners have not been notified of the empty clause. The target is the
     /// one that `into_target` would return.
-    pub fn into_processors(self) -> HandedBack<W, P>
-        ensures target { GivesWriter (target_in W.seen self) (handed_writer W.seen result.target) }
-        ensures front { HandsFront W.seen result.target self }
-        ensures processors { HandsBackListeners (proof_in self) result.processors.items }
-        ensures whole { HandsBackWholeListeners (proof_in self) result.processors.items }
+    pub fn into_processors(self) -> ReturnedParts<W, P>
+        ensures target { GivesWriter (target_in W.seen self) (returned_writer W.seen result.target) }
+        ensures front { ReturnsAcceptedPrefix W.seen result.target self }
+        ensures processors { ReturnsListeners (proof_in self) result.processors.items }
+        ensures whole { ReturnsNotifiedListeners (proof_in self) result.processors.items }
     {
         let mut solver = self;
         let target = solver.core.proof.take_target();
         let alloc = solver.core.search.alloc;
         let processors = solver.core.proof.take_processors(alloc);
         drop(solver);
-        HandedBack { target, processors }
+        ReturnedParts { target, processors }
     }
 }

@@ -27,7 +27,7 @@ fn give_up<S: StepLog>(
     global: Var,
     index: Var,
 ) -> Result<(), NameError>
-    requires stands { NamesInvariant variables.old (S.steps writer.old) }
+    requires valid { NamesInvariant variables.old (S.steps writer.old) }
     requires keeps { S.keeps writer.old }
     requires there { solver_of variables.old global ≡ Some index }
     requires unit { IsUnitOf variables.old (session_after (S.steps writer.old)) global }

@@ -2,7 +2,7 @@
 ghost use Rattle.sat_solver.specs.proof.ProofView.{HasAllowedSteps, session_of};
 ghost use Rattle.sat_solver.specs.cdcl.Going.{EmitsSteps};
 ghost use Rattle.sat_solver.specs.cdcl.Joint.{IsSearch};
-ghost use Rattle.sat_solver.specs.unit_simplify.Flat.{HasEmptyTrail, StrengthensAll, LightensOne};
+ghost use Rattle.sat_solver.specs.unit_simplify.Flat.{HasEmptyTrail, StrengthensAll, StrengthensOrFails};
 ghost use Rattle.sat_solver.specs.unit_simplify.Looks.{HasTrue};
 ghost use Rattle.sat_parts.specs.parts.Whole.{HasClause};
 
@@ -29,7 +29,7 @@ fn delete_true<W: CountedWrite + Drop, P: ProofProcessor>(
     requires flat { HasEmptyTrail search.old.parts }
     requires live { HasClause search.old.parts cref }
     requires satisfied { HasTrue search.old.parts cref }
-    ensures { LightensOne W.seen result proof.old proof.new search.old search.new cref }
+    ensures { StrengthensOrFails W.seen result proof.old proof.new search.old search.new cref }
 {
     map_clause(
         &search.parts,
@@ -58,7 +58,7 @@ fn simplify_clause<W: CountedWrite + Drop, P: ProofProcessor>(
     requires search { IsSearch (session_of proof.old) search.old }
     requires flat { HasEmptyTrail search.old.parts }
     requires live { HasClause search.old.parts cref }
-    ensures { LightensOne W.seen result proof.old proof.new search.old search.new cref }
+    ensures { StrengthensOrFails W.seen result proof.old proof.new search.old search.new cref }
 {
     match look(&search.parts, cref) {
         Looks::Whole => Ok(()),

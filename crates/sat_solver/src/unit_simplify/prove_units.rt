@@ -1,7 +1,7 @@
 //! Writes units of level 0, and removes them from the trail.
 ghost use Rattle.std.specs.Prelude.{◌≡◌, ◌+◌, ◌<◌, ◌≤◌, length};
 ghost use Rattle.sat_solver.specs.proof.ProofView.{HasAllowedSteps, session_of};
-ghost use Rattle.sat_parts.specs.parts.Round.{UnitsAreUncaused, IsBased};
+ghost use Rattle.sat_parts.specs.parts.Round.{UnitsHaveNoReason, IsBased};
 ghost use Rattle.sat_parts.specs.parts.Whole.{state, HoldsBelow, IsFullyPropagated};
 ghost use Rattle.sat_solver.specs.session.Naming.{global_of_index};
 ghost use Rattle.sat_solver.specs.session.Fits.{SessionMatchesParts, TrueLitsHaveNames};
@@ -51,7 +51,7 @@ pub fn settle<W: CountedWrite + Drop, P: ProofProcessor>(
     requires keeps { HasAllowedSteps proof.old }
     requires holds { HoldsBelow (length parts.old.trail.starts + 1) parts.old }
     requires done { IsFullyPropagated parts.old }
-    requires units { 0 < length parts.old.trail.starts → UnitsAreUncaused (state parts.old) × IsBased parts.old.trail }
+    requires units { 0 < length parts.old.trail.starts → UnitsHaveNoReason (state parts.old) × IsBased parts.old.trail }
     requires fits { SessionMatchesParts parts.old (session_of proof.old) (global_of_index globals.now) }
     requires named { TrueLitsHaveNames parts.old.assignment.current (session_of proof.old) (global_of_index globals.now) }
     requires names { length parts.old.assignment.current ≤ length globals.now }

@@ -6,7 +6,7 @@ ghost use Rattle.sat_solver.specs.proof.ProofView.{HasAllowedSteps, session_of};
 ghost use Rattle.sat_parts.specs.parts.Whole.{PartsInvariant, HasClause};
 ghost use Rattle.sat_solver.specs.cdcl.Joint.{IsSearch};
 ghost use Rattle.sat_solver.specs.unit_simplify.Cutting.{Gathers, Replaces, NamesCut};
-ghost use Rattle.sat_solver.specs.unit_simplify.Flat.{HasEmptyTrail, LightensOne};
+ghost use Rattle.sat_solver.specs.unit_simplify.Flat.{HasEmptyTrail, StrengthensOrFails};
 ghost use Rattle.sat_solver.specs.unit_simplify.Looks.{HasTrue, HasFalse};
 
 use crate::cdcl::fault::Fault;
@@ -17,7 +17,7 @@ use crate::proof::map_step::name_clauses;
 use crate::unit_simplify::steps::write_cut;
 use sat_base::{CountedWrite, Lit};
 use sat_checker::ProofProcessor;
-use sat_parts::parts::clauses::{delete_long, shorten, swap_behind};
+use sat_parts::parts::clauses::{delete_long, shorten, swap_unwatched};
 use sat_parts::parts::load::load_binary;
 use sat_parts::{Conflict, Parts};
 use sat_store::ClauseRef;
@@ -39,7 +39,7 @@ fn gather_open(parts: &mut Parts, cref: ClauseRef) -> usize
         if parts.assignment.lit_is_false(parts.clauses.lit(cref, at)) {
             continue;
         }
-        swap_behind(parts, cref, kept, at);
+        swap_unwatched(parts, cref, kept, at);
         kept += 1;
     }
     kept
@@ -104,7 +104,7 @@ pub fn cut_clause<W: CountedWrite + Drop, P: ProofProcessor>(
     requires live { HasClause search.old.parts cref }
     requires none { HasTrue search.old.parts cref → ⊥ }
     requires some { HasFalse search.old.parts cref }
-    ensures { LightensOne W.seen result proof.old proof.new search.old search.new cref }
+    ensures { StrengthensOrFails W.seen result proof.old proof.new search.old search.new cref }
 {
     let len = name_cut(search, cref, part)?;
     let redundant = search.parts.clauses.header(cref).redundant();

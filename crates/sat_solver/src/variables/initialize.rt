@@ -4,7 +4,7 @@ ghost use Rattle.std.specs.List.{AllByRecursion};
 ghost use Rattle.sat_base.specs.values.Literals.{var_limit};
 ghost use Rattle.sat_solver.specs.variables.Search.{GivenApart};
 ghost use Rattle.sat_parts.specs.parts.Whole.{PartsInvariant};
-ghost use Rattle.sat_solver.specs.variables.Initialized.{IsVacant, AreVacant, TakesIndices, Renames};
+ghost use Rattle.sat_solver.specs.variables.Initialized.{IsVacant, AreVacant, ActivatesIndices, Renames};
 ghost use Rattle.sat_solver.specs.variables.Initialized.{GivesSearchIndices};
 
 use crate::context::Search;
@@ -21,7 +21,7 @@ fn take_index(parts: &mut Parts, given: &Given)
     requires holds { PartsInvariant parts.old }
     requires bottom { parts.old.trail.starts ≡ [] }
     requires vacant { IsVacant parts.old (length parts.old.assignment.current) given.now }
-    ensures { TakesIndices (given.now ∷ []) parts.old parts.new }
+    ensures { ActivatesIndices (given.now ∷ []) parts.old parts.new }
 {
     reset_activity(parts, given.solver);
     match given.unit {
@@ -35,7 +35,7 @@ fn take_indices(parts: &mut Parts, given: &[Given])
     requires holds { PartsInvariant parts.old }
     requires bottom { parts.old.trail.starts ≡ [] }
     requires vacant { AreVacant parts.old (length parts.old.assignment.current) given.now }
-    ensures { TakesIndices given.now parts.old parts.new }
+    ensures { ActivatesIndices given.now parts.old parts.new }
 {
     for at in 0..given.len() {
         take_index(parts, &given[at]);

@@ -2,7 +2,7 @@
 ghost use Rattle.std.specs.Prelude.{◌≡◌, ◌∷◌, List, OnOk, IfErr};
 ghost use Rattle.sat_base.specs.steps.Steps.{Step};
 ghost use Rattle.sat_base.specs.steps.StepViews.{step_of};
-ghost use Rattle.sat_solver.specs.session.Session.{May, session_after};
+ghost use Rattle.sat_solver.specs.session.Session.{IsAllowedStep, session_after};
 ghost use Rattle.sat_solver.specs.proof.Widths.{KeepsWidth};
 ghost use Rattle.sat_solver.specs.declared.variables.error.NameError.{NameError as Fault};
 ghost use Rattle.sat_solver.specs.variables.Failing.{IsFailure, EmitsOrFails};
@@ -29,7 +29,7 @@ pub trait StepLog: Drop {
     /// Receives a step, which must be allowed after the steps so far.
     fn step(&mut self, step: &ProofStep<'_>) -> Result<(), NameError>
         requires keeps { keeps self.old }
-        requires may { May (session_after (steps self.old)) (step_of step.now) }
+        requires may { IsAllowedStep (session_after (steps self.old)) (step_of step.now) }
         requires width { KeepsWidth (step_of step.now) }
         ensures keeps { OnOk result (keeps self.new) }
         ensures steps { OnOk result (steps self.new ≡ step_of step.now ∷ steps self.old) }

@@ -27,7 +27,7 @@ fn hide_global<W: StepLog>(
     user: Var,
     global: Var,
 ) -> Result<(), NameError>
-    requires stands { NamesInvariant variables.old (W.steps writer.old) }
+    requires valid { NamesInvariant variables.old (W.steps writer.old) }
     requires keeps { W.keeps writer.old }
     requires named { global_of variables.old user ≡ Some global }
     ensures does { OnOk result (NamesEffect variables.old variables.new (W.steps writer.old) (W.steps writer.new)
@@ -53,7 +53,7 @@ pub fn delete_var<W: StepLog>(
     writer: &mut W,
     global: Var,
 ) -> Result<(), NameError>
-    requires stands { NamesInvariant variables.old (W.steps writer.old) }
+    requires valid { NamesInvariant variables.old (W.steps writer.old) }
     requires keeps { W.keeps writer.old }
     requires live { (data_at variables.old global).deleted ≡ false }
     requires nameless { user_of variables.old global ≡ None }
@@ -81,7 +81,7 @@ pub(crate) fn forget_idle<W: StepLog>(
     writer: &mut W,
     global: Var,
 ) -> Result<(), NameError>
-    requires stands { NamesInvariant variables.old (W.steps writer.old) }
+    requires valid { NamesInvariant variables.old (W.steps writer.old) }
     requires keeps { W.keeps writer.old }
     requires live { (data_at variables.old global).deleted ≡ false }
     requires nameless { user_of variables.old global ≡ None }
@@ -111,7 +111,7 @@ pub fn hide_var<W: StepLog>(
     writer: &mut W,
     user: Var,
 ) -> Result<(), NameError>
-    requires stands { NamesInvariant variables.old (W.steps writer.old) }
+    requires valid { NamesInvariant variables.old (W.steps writer.old) }
     requires keeps { W.keeps writer.old }
     requires free { IsAssumed variables.old user → ⊥ }
     ensures does { OnOk result (NamesEffect variables.old variables.new (W.steps writer.old) (W.steps writer.new)
@@ -166,7 +166,7 @@ fn set_global_mode<W: StepLog>(
     global: Var,
     sample: bool,
 ) -> Result<(), NameError>
-    requires stands { NamesInvariant variables.old (W.steps writer.old) }
+    requires valid { NamesInvariant variables.old (W.steps writer.old) }
     requires keeps { W.keeps writer.old }
     requires named { global_of variables.old user ≡ Some global }
     ensures does { OnOk result (NamesEffect variables.old variables.new (W.steps writer.old) (W.steps writer.new)
@@ -198,7 +198,7 @@ pub fn set_sampling_mode<W: StepLog>(
     user: Var,
     sample: bool,
 ) -> Result<(), NameError>
-    requires stands { NamesInvariant variables.old (W.steps writer.old) }
+    requires valid { NamesInvariant variables.old (W.steps writer.old) }
     requires keeps { W.keeps writer.old }
     requires free { IsAssumed variables.old user → ⊥ }
     ensures does { OnOk result (NamesEffect variables.old variables.new (W.steps writer.old) (W.steps writer.new)

@@ -28,7 +28,7 @@ fn observe_var<W: StepLog>(
     writer: &mut W,
     global: Var,
 ) -> Result<Var, NameError>
-    requires stands { NamesInvariant variables.old (W.steps writer.old) }
+    requires valid { NamesInvariant variables.old (W.steps writer.old) }
     requires keeps { W.keeps writer.old }
     requires hidden { IsHidden variables.old global }
     ensures names { IfOk result (λ user. NamesHidden variables.old variables.new (W.steps writer.old)
@@ -59,7 +59,7 @@ pub fn observe_internal_vars<W: StepLog>(
     writer: &mut W,
     users: &mut Vec<Var>,
 ) -> Result<(), NameError>
-    requires stands { NamesInvariant variables.old (W.steps writer.old) }
+    requires valid { NamesInvariant variables.old (W.steps writer.old) }
     requires keeps { W.keeps writer.old }
     ensures names { OnOk result (NamesAllHidden variables.old variables.new (W.steps writer.old) (W.steps writer.new)
         users.new.items) }

@@ -2,7 +2,7 @@
 ghost use Rattle.std.specs.Prelude.{◌≡◌, ◌+◌, ◌<◌, ◌≤◌, [], ◌∷◌, length};
 ghost use Rattle.sat_base.specs.values.Literals.{var_limit};
 ghost use Rattle.sat_checker.specs.LiteralSets.{mentions};
-ghost use Rattle.sat_solver.specs.variables.VariableRoom.{live_count, reach, users_in, hidden_count, SaysRoom, hidden_behind};
+ghost use Rattle.sat_solver.specs.variables.VariableRoom.{live_count, reach, user_vars_in, hidden_count, SaysRoom, hidden_after};
 ghost use Rattle.sat_solver.specs.variables.Variables.{AreTidy};
 
 use crate::variables::Variables;
@@ -21,7 +21,7 @@ fn left_count(variables: &Variables) -> usize
 /// in `lits`.
 fn name_reach(used: usize, lits: &[Lit]) -> usize
     requires { used ≤ var_limit }
-    ensures is { result ≡ reach used (users_in lits.now) }
+    ensures is { result ≡ reach used (user_vars_in lits.now) }
     ensures within { result ≤ var_limit }
 {
     let mut top = used;
@@ -50,7 +50,7 @@ fn has_name(lits: &[Lit], user: Var) -> bool
 fn count_hidden_name(variables: &Variables, lits: &[Lit], at: usize, count: usize) -> usize
     requires within { at < length lits.now }
     requires count { count ≤ var_limit }
-    ensures { count ≡ hidden_behind variables.now lits.now (at + 1) → result ≡ hidden_behind variables.now lits.now at }
+    ensures { count ≡ hidden_after variables.now lits.now (at + 1) → result ≡ hidden_after variables.now lits.now at }
 {
     let user = lits[at].var();
     if user.index() >= variables.name_count() {
@@ -68,7 +68,7 @@ fn count_hidden_name(variables: &Variables, lits: &[Lit], at: usize, count: usiz
 /// Returns how many names in `lits` were used and are not in use. Each name is counted once.
 fn count_hidden(variables: &Variables, lits: &[Lit]) -> usize
     requires { AreTidy variables.now }
-    ensures { result ≡ hidden_count variables.now (users_in lits.now) }
+    ensures { result ≡ hidden_count variables.now (user_vars_in lits.now) }
 {
     let mut count = 0;
     for at in (0..lits.len()).rev() {
@@ -82,7 +82,7 @@ fn count_hidden(variables: &Variables, lits: &[Lit]) -> usize
 /// If this depends on how many times names occur, every hidden name is searched for among the later literals.
 pub fn has_room(variables: &Variables, lits: &[Lit]) -> bool
     requires { AreTidy variables.now }
-    ensures { SaysRoom result variables.now (users_in lits.now) }
+    ensures { SaysRoom result variables.now (user_vars_in lits.now) }
 {
     let left = left_count(variables);
     let used = variables.name_count();

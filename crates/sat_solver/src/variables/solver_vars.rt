@@ -26,7 +26,7 @@ fn new_index<W: StepLog>(
     global: Var,
     given: &mut Vec<Given>,
 ) -> Result<Var, NameError>
-    requires stands { NamesInvariant variables.old (W.steps writer.old) }
+    requires valid { NamesInvariant variables.old (W.steps writer.old) }
     requires keeps { W.keeps writer.old }
     requires live { (data_at variables.old global).deleted ≡ false }
     requires without { solver_of variables.old global ≡ None }
@@ -55,7 +55,7 @@ pub fn solver_from_global<W: StepLog>(
     global: Var,
     given: &mut Vec<Given>,
 ) -> Result<Var, NameError>
-    requires stands { NamesInvariant variables.old (W.steps writer.old) }
+    requires valid { NamesInvariant variables.old (W.steps writer.old) }
     requires keeps { W.keeps writer.old }
     requires live { (data_at variables.old global).deleted ≡ false }
     ensures indexes { IfOk result (Indexes variables.old variables.new (W.steps writer.old) (W.steps writer.new)
@@ -78,7 +78,7 @@ pub fn remove_solver_var<W: StepLog>(
     global: Var,
     solver: Var,
 ) -> Result<(), NameError>
-    requires stands { NamesInvariant variables.old (W.steps writer.old) }
+    requires valid { NamesInvariant variables.old (W.steps writer.old) }
     requires keeps { W.keeps writer.old }
     requires there { solver_of variables.old global ≡ Some solver }
     requires unit { IsUnitOf variables.old (session_after (W.steps writer.old)) global }

@@ -18,7 +18,7 @@ fn new_name<W: StepLog>(
     writer: &mut W,
     user: Var,
 ) -> Result<Var, NameError>
-    requires stands { NamesInvariant variables.old (W.steps writer.old) }
+    requires valid { NamesInvariant variables.old (W.steps writer.old) }
     requires keeps { W.keeps writer.old }
     requires free { global_of variables.old user ≡ None }
     requires within { user ≤ names_used variables.old }
@@ -47,7 +47,7 @@ fn bring_new<W: StepLog>(
     writer: &mut W,
     user: Var,
 ) -> Result<Var, NameError>
-    requires stands { NamesInvariant variables.old (W.steps writer.old) }
+    requires valid { NamesInvariant variables.old (W.steps writer.old) }
     requires keeps { W.keeps writer.old }
     requires new { names_used variables.old ≤ user }
     ensures variable { IfOk result (λ v. global_of variables.new user ≡ Some v) }
@@ -72,7 +72,7 @@ pub fn global_from_user<W: StepLog>(
     writer: &mut W,
     user: Var,
 ) -> Result<Var, NameError>
-    requires stands { NamesInvariant variables.old (W.steps writer.old) }
+    requires valid { NamesInvariant variables.old (W.steps writer.old) }
     requires keeps { W.keeps writer.old }
     ensures variable { IfOk result (λ v. global_of variables.new user ≡ Some v) }
     ensures brought { OnOk result (BringsInUnseen variables.old variables.new (W.steps writer.old) (W.steps writer.new) user) }
@@ -95,7 +95,7 @@ pub fn global_from_user<W: StepLog>(
 /// Introduces a name and returns it: the lowest hidden name, or the lowest name never used if no name is hidden. If no
 /// variable is left, nothing changes.
 pub fn new_user_var<W: StepLog>(variables: &mut Variables, writer: &mut W) -> Result<Var, NameError>
-    requires stands { NamesInvariant variables.old (W.steps writer.old) }
+    requires valid { NamesInvariant variables.old (W.steps writer.old) }
     requires keeps { W.keeps writer.old }
     ensures next { IfOk result (IsNextUser variables.old) }
     ensures brought { IfOk result (λ user. BringsInUnseen variables.old variables.new (W.steps writer.old) (W.steps writer.new)

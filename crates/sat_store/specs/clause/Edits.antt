@@ -19,7 +19,7 @@ lits_there view = lits_at view.buffer.now view.cref
 -- the view's clause now has this header and these literals, and no other clause changed
 pub record Edits (old new : ClauseMut) (header : Header) (lits : List ℕ) : Type 0 where
   pub cref : new.cref ≡ old.cref
-  pub stands : IsViewOfClause new
+  pub valid : IsViewOfClause new
   pub has_header : header_there new ≡ header
   pub has_lits : lits_there new ≡ lits
   pub change : ChangesAt old.buffer.now new.buffer.now old.cref

@@ -194,7 +194,7 @@ pub(super) fn take_out(heap: &mut Vec<Entry>, positions: &mut Vec<u32>, availabl
 /// available variable.
 pub(super) fn put_in(heap: &mut Vec<Entry>, positions: &mut Vec<u32>, available: usize, at: usize)
     requires heap { IsHeap heap.old.items positions.old.items available }
-    requires behind { available ≤ at }
+    requires following { available ≤ at }
     requires at { at < length heap.old.items }
     ensures heap { IsHeap heap.new.items positions.new.items (available + 1) }
     ensures flags { SetsFlag available (available + 1) positions.old.items positions.new.items

@@ -21,7 +21,7 @@ returns g c =
     let table = table_of c.new-2.result.matching in
     let ended = c.confirm_all-ended in
     let new = confirm_place S A C ended.new.script ended.new.answers ended.new.steps ended.new.self in
-    let fresh : IsBegun checker step table = λ rest. c.new-2.ensures.stands rest step in
+    let fresh : IsBegun checker step table = λ rest. c.new-2.ensures.valid rest step in
     let ends = begins ended.result x a d script answers (reader_source C c.new-steps.result) checker step (c.new-2.result.number + 1) table new
     c.new.ensures.waiting c.new.ensures.reads c.new-2.ensures.waiting c.new-2.ensures.reads c.new-steps.ensures.source (ap (λ (n : ℕ). n + 1) c.new-2.ensures.number) ended.ensures.ends in
     let now : C c.certificate-1.given.0 ≡ C ended.new.steps.reader.now = ap C (c.certificate-1.given.1 (cc) ∙ c.drop-steps.ensures) in

@@ -18,4 +18,4 @@ returns-in-Ok c =
     (ap contents (sym c.into_inner.ensures))
     (ap (λ (w : Writer). w.contents) (c.new-certificate.ensures.writer contents) ∙ ap Some c.new-2.ensures.items)
     (ap contents (sym c.into_inner-in-Ok.ensures))
-    c.in-Ok.ensures.backed
+    c.in-Ok.ensures.guaranteed

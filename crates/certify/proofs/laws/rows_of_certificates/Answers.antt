@@ -22,8 +22,8 @@ returns-clause-clause_needed c = rows.clause_needed
 pub returns-clause-model_needed : goal.returns-clause-model_needed
 returns-clause-model_needed c = rows.model_needed
 
-pub returns-clause-behind_end : goal.returns-clause-behind_end
-returns-clause-behind_end c = rows.behind_end
+pub returns-clause-following_end : goal.returns-clause-following_end
+returns-clause-following_end c = rows.following_end
 
 pub returns-clause-unknown : goal.returns-clause-unknown
 returns-clause-unknown c = rows.unknown

@@ -21,26 +21,26 @@ line_literals kind.Sat ls h = refl
 line_literals kind.Unsat ls h = refl
 line_literals kind.Unknown ls h = absurd h
 
--- the line in full, with what is behind it
-line_behind : (k : AnswerKind) (head bytes : List ℕ) (ls : List Literal) (tail : List ℕ) → IsHead k head → bytes ≡ second_line (outcome_of k ls) ++ tail → bytes ≡ head ++ (literals_text ls ++ tail)
-line_behind k head bytes ls tail h e = e ∙ ap (λ t. t ++ tail) (line_text k head ls h) ∙ append_assoc head (literals_text ls) tail
+-- the line in full, with what is after it
+line_after : (k : AnswerKind) (head bytes : List ℕ) (ls : List Literal) (tail : List ℕ) → IsHead k head → bytes ≡ second_line (outcome_of k ls) ++ tail → bytes ≡ head ++ (literals_text ls ++ tail)
+line_after k head bytes ls tail h e = e ∙ ap (λ t. t ++ tail) (line_text k head ls h) ∙ append_assoc head (literals_text ls) tail
 
 -- the line has been read
-pub line_read : (k : AnswerKind) (head bytes behind : List ℕ) (ls : List Literal) (tail : List ℕ) → IsHead k head → bytes ≡ head ++ behind → behind ≡ literals_text ls ++ tail → bytes ≡ second_line (outcome_of k ls) ++ tail
-line_read k head bytes behind ls tail h e f = e ∙ ap (λ t. head ++ t) f ∙ sym (append_assoc head (literals_text ls) tail) ∙ ap (λ t. t ++ tail) (sym (line_text k head ls h))
+pub line_read : (k : AnswerKind) (head bytes following : List ℕ) (ls : List Literal) (tail : List ℕ) → IsHead k head → bytes ≡ head ++ following → following ≡ literals_text ls ++ tail → bytes ≡ second_line (outcome_of k ls) ++ tail
+line_read k head bytes following ls tail h e f = e ∙ ap (λ t. head ++ t) f ∙ sym (append_assoc head (literals_text ls) tail) ∙ ap (λ t. t ++ tail) (sym (line_text k head ls h))
 
 -- it doesn't begin as it has to
 pub no_head : (k : AnswerKind) (head bytes : List ℕ) → IsHead k head → bytes ≢ [] → ((tail : List ℕ) → bytes ≡ head ++ tail → ⊥) → NoLine k bytes Text
-no_head k head bytes h some none = (some, λ ls tail o e. none (literals_text ls ++ tail) (line_behind k head bytes ls tail h e))
+no_head k head bytes h some none = (some, λ ls tail o e. none (literals_text ls ++ tail) (line_after k head bytes ls tail h e))
 
--- no list of literals is behind its head
-pub no_list : (k : AnswerKind) (head bytes behind : List ℕ) (fault : AnswerFault) → IsHead k head → bytes ≢ [] → bytes ≡ head ++ behind → NoLiterals k behind fault → NoLine k bytes fault
-no_list k head bytes behind Missing h some e none = absurd none
-no_list k head bytes behind Text h some e none = (
+-- no list of literals is after its head
+pub no_list : (k : AnswerKind) (head bytes following : List ℕ) (fault : AnswerFault) → IsHead k head → bytes ≢ [] → bytes ≡ head ++ following → NoLiterals k following fault → NoLine k bytes fault
+no_list k head bytes following Missing h some e none = absurd none
+no_list k head bytes following Text h some e none = (
   some,
-  λ ls tail o f. none ls tail o (append_cancel_left head behind (literals_text ls ++ tail) (sym e ∙ line_behind k head bytes ls tail h f)),
+  λ ls tail o f. none ls tail o (append_cancel_left head following (literals_text ls ++ tail) (sym e ∙ line_after k head bytes ls tail h f)),
 )
-no_list k head bytes behind OutOfMemory h some e none =
+no_list k head bytes following OutOfMemory h some e none =
     let ls : List Literal = none.1.0 in
     let l : Literal = none.1.1 in
     let front : List ℕ = none.1.2.1.0 in
@@ -84,8 +84,8 @@ no_kind bytes Text none = (cut, λ o tail h f. none.1 (kind_text o).0 (second_li
 no_kind bytes OutOfMemory none = absurd none
 
 -- a first line without its second
-pub no_line : (k : AnswerKind) (bytes behind : List ℕ) (fault : AnswerFault) → bytes ≡ first_answer_line k ++ behind → NoLine k behind fault → NoOutcome bytes fault
-no_line k bytes behind Missing e none = (cut k none.0 (e ∙ ap (λ t. first_answer_line k ++ t) none.1), begins)
+pub no_line : (k : AnswerKind) (bytes following : List ℕ) (fault : AnswerFault) → bytes ≡ first_answer_line k ++ following → NoLine k following fault → NoOutcome bytes fault
+no_line k bytes following Missing e none = (cut k none.0 (e ∙ ap (λ t. first_answer_line k ++ t) none.1), begins)
   where
     cut : (k : AnswerKind) → HasLine k → bytes ≡ first_answer_line k ++ [] → IsCutShort bytes
     cut kind.Sat h e = inr (inl e)
@@ -99,31 +99,31 @@ no_line k bytes behind Missing e none = (cut k none.0 (e ∙ ap (λ t. first_ans
 
     begins : BeginsNoOutcome bytes
     begins o tail h f =
-        let r = of_kind k o behind tail (sym e ∙ f) in
+        let r = of_kind k o following tail (sym e ∙ f) in
         some k r.0 tail none.0 (sym none.1 ∙ r.1.1 ∙ ap (λ t. second_line t ++ tail) r.1.0)
-no_line k bytes behind Text e none = (
+no_line k bytes following Text e none = (
   cut k none.0 e,
   λ o tail h f.
-      let r = of_kind k o behind tail (sym e ∙ f) in
+      let r = of_kind k o following tail (sym e ∙ f) in
       none.1 r.0 tail (subst IsInForm r.1.0 h) (r.1.1 ∙ ap (λ t. second_line t ++ tail) r.1.0),
 )
   where
-    cut : (k : AnswerKind) → behind ≢ [] → bytes ≡ first_answer_line k ++ behind → IsCutShort bytes → ⊥
-    cut kind.Sat some e (inl f) = let r : first_answer_line kind.Sat ++ behind ≡ [] = sym e ∙ f in cc
-    cut kind.Sat some e (inr (inl f)) = some (append_cancel_left s_satisfiable behind [] (sym e ∙ f))
-    cut kind.Sat some e (inr (inr f)) = let g : s_satisfiable ++ behind ≡ s_unsatisfiable = sym e ∙ f in let r : ◌≡◌ {A = ℕ} 83 85 = cc in omega arith
-    cut kind.Unsat some e (inl f) = let r : first_answer_line kind.Unsat ++ behind ≡ [] = sym e ∙ f in cc
-    cut kind.Unsat some e (inr (inl f)) = let g : s_unsatisfiable ++ behind ≡ s_satisfiable = sym e ∙ f in let r : ◌≡◌ {A = ℕ} 85 83 = cc in omega arith
-    cut kind.Unsat some e (inr (inr f)) = some (append_cancel_left s_unsatisfiable behind [] (sym e ∙ f))
-    cut kind.Unknown some e (inl f) = let r : first_answer_line kind.Unknown ++ behind ≡ [] = sym e ∙ f in cc
-    cut kind.Unknown some e (inr (inl f)) = let g : s_unknown ++ behind ≡ s_satisfiable = sym e ∙ f in let r : ◌≡◌ {A = ℕ} 85 83 = cc in omega arith
-    cut kind.Unknown some e (inr (inr f)) = let g : s_unknown ++ behind ≡ s_unsatisfiable = sym e ∙ f in let r : ◌≡◌ {A = ℕ} 75 83 = cc in omega arith
-no_line k bytes behind OutOfMemory e none = (k, behind, (e, none))
+    cut : (k : AnswerKind) → following ≢ [] → bytes ≡ first_answer_line k ++ following → IsCutShort bytes → ⊥
+    cut kind.Sat some e (inl f) = let r : first_answer_line kind.Sat ++ following ≡ [] = sym e ∙ f in cc
+    cut kind.Sat some e (inr (inl f)) = some (append_cancel_left s_satisfiable following [] (sym e ∙ f))
+    cut kind.Sat some e (inr (inr f)) = let g : s_satisfiable ++ following ≡ s_unsatisfiable = sym e ∙ f in let r : ◌≡◌ {A = ℕ} 83 85 = cc in omega arith
+    cut kind.Unsat some e (inl f) = let r : first_answer_line kind.Unsat ++ following ≡ [] = sym e ∙ f in cc
+    cut kind.Unsat some e (inr (inl f)) = let g : s_unsatisfiable ++ following ≡ s_satisfiable = sym e ∙ f in let r : ◌≡◌ {A = ℕ} 85 83 = cc in omega arith
+    cut kind.Unsat some e (inr (inr f)) = some (append_cancel_left s_unsatisfiable following [] (sym e ∙ f))
+    cut kind.Unknown some e (inl f) = let r : first_answer_line kind.Unknown ++ following ≡ [] = sym e ∙ f in cc
+    cut kind.Unknown some e (inr (inl f)) = let g : s_unknown ++ following ≡ s_satisfiable = sym e ∙ f in let r : ◌≡◌ {A = ℕ} 85 83 = cc in omega arith
+    cut kind.Unknown some e (inr (inr f)) = let g : s_unknown ++ following ≡ s_unsatisfiable = sym e ∙ f in let r : ◌≡◌ {A = ℕ} 75 83 = cc in omega arith
+no_line k bytes following OutOfMemory e none = (k, following, (e, none))
 
--- no line begins with bytes that go past its head, if no literals begin with what is behind it
-pub starts_no_list : (k : AnswerKind) (head bytes behind : List ℕ) → IsHead k head → bytes ≡ head ++ behind → StartsNoLiterals k behind → StartsNoLine k bytes
-starts_no_list k head bytes behind h e none ls more o f =
-    none ls more o (append_cancel_left head (literals_text ls) (behind ++ more) (sym (line_text k head ls h) ∙ f ∙ ap (λ t. t ++ more) e ∙ append_assoc head behind more))
+-- no line begins with bytes that go past its head, if no literals begin with what is after it
+pub starts_no_list : (k : AnswerKind) (head bytes following : List ℕ) → IsHead k head → bytes ≡ head ++ following → StartsNoLiterals k following → StartsNoLine k bytes
+starts_no_list k head bytes following h e none ls more o f =
+    none ls more o (append_cancel_left head (literals_text ls) (following ++ more) (sym (line_text k head ls h) ∙ f ∙ ap (λ t. t ++ more) e ∙ append_assoc head following more))
 
 -- nor with bytes of which neither text begins with the other
 pub starts_no_head : (k : AnswerKind) (head bytes : List ℕ) → IsHead k head → ((tail : List ℕ) → head ≡ bytes ++ tail → ⊥) → ((tail : List ℕ) → bytes ≡ head ++ tail → ⊥) → StartsNoLine k bytes

@@ -17,7 +17,7 @@ abbrev pub words_text : List Literal → List ℕ
 words_text [] = []
 words_text (l ∷ ls) = word_of l ++ (32 ∷ words_text ls)
 
--- places rise behind the line's own exactly where they rise from the least one
+-- places rise after the line's own exactly where they rise from the least one
 abbrev pub GoOnFrom : AnswerKind → List ℕ → ℕ → Type 0
 GoOnFrom k line least = (places : List ℕ) → RiseFrom 0 (map (literal_place k) line ++ places) ↔ RiseFrom least places
 
@@ -27,7 +27,7 @@ pub record ReadInOrder (k : AnswerKind) (bytes line rest : List ℕ) (least : �
   pub words : bytes ≡ words_text (named_literals line) ++ rest
   pub order : GoOnFrom k line least
 
--- words before and behind
+-- words before and after
 words_joined : (ls ks : List Literal) → words_text (ls ++ ks) ≡ words_text ls ++ words_text ks
 words_joined [] ks = refl
 words_joined (l ∷ ls) ks = ap (λ t. word_of l ++ (32 ∷ t)) (words_joined ls ks) ∙ sym (append_assoc (word_of l) (32 ∷ words_text ls) (words_text ks))
@@ -67,15 +67,15 @@ in_full_order k line least g = rise_ordered k line (subst (RiseFrom 0) (append-n
 pub in_form : (k : AnswerKind) (bytes line rest : List ℕ) (least : ℕ) → HasLine k → ReadInOrder k bytes line rest least → IsInForm (outcome_of k (named_literals line))
 in_form k bytes line rest least d r = (subst HaveNames (sym (line_literals k (named_literals line) d)) r.read.names, in_full_order k line least r.order)
 
-pub one_in_order : (k : AnswerKind) (bytes line rest behind : List ℕ) (l least : ℕ) → ReadInOrder k bytes line rest least → IsName (named_literal l).name → rest ≡ word_of (named_literal l) ++ (32 ∷ behind) → least ≤ literal_place k l
-    → ReadInOrder k bytes (line ++ (l ∷ [])) behind (literal_place k l + 1)
-one_in_order k bytes line rest behind l least r n e h = record {
-  read = one_read bytes line rest behind l r.read n e;
+pub one_in_order : (k : AnswerKind) (bytes line rest following : List ℕ) (l least : ℕ) → ReadInOrder k bytes line rest least → IsName (named_literal l).name → rest ≡ word_of (named_literal l) ++ (32 ∷ following) → least ≤ literal_place k l
+    → ReadInOrder k bytes (line ++ (l ∷ [])) following (literal_place k l + 1)
+one_in_order k bytes line rest following l least r n e h = record {
+  read = one_read bytes line rest following l r.read n e;
   words =
-      let f : word_of (named_literal l) ++ (32 ∷ behind) ≡ words_text (named_literal l ∷ []) ++ behind = sym (append_assoc (word_of (named_literal l)) (32 ∷ []) behind) in
+      let f : word_of (named_literal l) ++ (32 ∷ following) ≡ words_text (named_literal l ∷ []) ++ following = sym (append_assoc (word_of (named_literal l)) (32 ∷ []) following) in
       let g : words_text (named_literals (line ++ (l ∷ []))) ≡ words_text (named_literals line) ++ words_text (named_literal l ∷ [])
       = ap words_text (map-append named_literal line (l ∷ [])) ∙ words_joined (named_literals line) (named_literal l ∷ []) in
-      r.words ∙ ap (λ t. words_text (named_literals line) ++ t) (e ∙ f) ∙ sym (append_assoc (words_text (named_literals line)) (words_text (named_literal l ∷ [])) behind) ∙ ap (λ t. t ++ behind) (sym g);
+      r.words ∙ ap (λ t. words_text (named_literals line) ++ t) (e ∙ f) ∙ sym (append_assoc (words_text (named_literals line)) (words_text (named_literal l ∷ [])) following) ∙ ap (λ t. t ++ following) (sym g);
   order = goes_on k line l least r.order h;
 }
 
@@ -92,24 +92,24 @@ begun k bytes line rest ls tail d r o e =
     (more.0, (same_literals ls (named_literals line ++ more.0) tail tail n m (sym e ∙ r.back more.0 tail more.1.1)).0)
 
 -- a place below the least one
-pub out_of_order : (k : AnswerKind) (bytes line rest behind : List ℕ) (l least : ℕ) → HasLine k → ReadInOrder k bytes line rest least → IsName (named_literal l).name → rest ≡ word_of (named_literal l) ++ (32 ∷ behind) → literal_place k l < least
+pub out_of_order : (k : AnswerKind) (bytes line rest following : List ℕ) (l least : ℕ) → HasLine k → ReadInOrder k bytes line rest least → IsName (named_literal l).name → rest ≡ word_of (named_literal l) ++ (32 ∷ following) → literal_place k l < least
     → NoLiterals k bytes Text
-out_of_order k bytes line rest behind l least d r n e low ls tail o f =
-    let b = begun k bytes (line ++ (l ∷ [])) behind ls tail d (one_read bytes line rest behind l r.read n e) o f in
+out_of_order k bytes line rest following l least d r n e low ls tail o f =
+    let b = begun k bytes (line ++ (l ∷ [])) following ls tail d (one_read bytes line rest following l r.read n e) o f in
     let s : IsOrdered (outcome_of k (named_literals (line ++ (l ∷ [])))) = ordered_front k (named_literals (line ++ (l ∷ []))) b.0 (subst (λ t. IsOrdered (outcome_of k t)) b.1 o.1) in
     let p : RiseFrom 0 (map (literal_place k) line ++ (literal_place k l ∷ [])) = subst (RiseFrom 0) (map-append (literal_place k) line (l ∷ [])) (ordered_rise k (line ++ (l ∷ [])) d s) in
     let q = ((r.order (literal_place k l ∷ [])).0 p).0 in
     omega arith
 
 -- memory is wanted for a literal in its order
-pub no_room : (k : AnswerKind) (bytes line rest behind : List ℕ) (l least : ℕ) → HasLine k → ReadInOrder k bytes line rest least → IsName (named_literal l).name → rest ≡ word_of (named_literal l) ++ (32 ∷ behind) → least ≤ literal_place k l
+pub no_room : (k : AnswerKind) (bytes line rest following : List ℕ) (l least : ℕ) → HasLine k → ReadInOrder k bytes line rest least → IsName (named_literal l).name → rest ≡ word_of (named_literal l) ++ (32 ∷ following) → least ≤ literal_place k l
     → NoLiterals k bytes OutOfMemory
-no_room k bytes line rest behind l least d r n e h =
-    let s = one_in_order k bytes line rest behind l least r n e h in
+no_room k bytes line rest following l least d r n e h =
+    let s = one_in_order k bytes line rest following l least r n e h in
     let t : named_literals (line ++ (l ∷ [])) ≡ named_literals line ++ (named_literal l ∷ []) = map-append named_literal line (l ∷ []) in
-    let o = subst (λ ls. IsInForm (outcome_of k ls)) t (in_form k bytes (line ++ (l ∷ [])) behind (literal_place k l + 1) d s) in
-    let w = s.words ∙ ap (λ ls. words_text ls ++ behind) t in
-    (d, (named_literals line, named_literal l, (o, (words_text (named_literals line ++ (named_literal l ∷ [])), behind, (words_ended (named_literals line ++ (named_literal l ∷ [])), w)))))
+    let o = subst (λ ls. IsInForm (outcome_of k ls)) t (in_form k bytes (line ++ (l ∷ [])) following (literal_place k l + 1) d s) in
+    let w = s.words ∙ ap (λ ls. words_text ls ++ following) t in
+    (d, (named_literals line, named_literal l, (o, (words_text (named_literals line ++ (named_literal l ∷ [])), following, (words_ended (named_literals line ++ (named_literal l ∷ [])), w)))))
 
 -- BYTES THAT MAY GO ON
 
@@ -118,21 +118,21 @@ pub record ReadSoFar (k : AnswerKind) (bytes rest : List ℕ) (least : ℕ) : Ty
   pub line : List ℕ
   pub before : (more : List ℕ) → ReadInOrder k (bytes ++ more) line (rest ++ more) least
 
--- the word, the space and what is behind it, with what would follow
-behind_space : (l : ℕ) (rest behind more : List ℕ) → rest ≡ word_of (named_literal l) ++ (32 ∷ behind) → rest ++ more ≡ word_of (named_literal l) ++ (32 ∷ (behind ++ more))
-behind_space l rest behind more e = ap (λ t. t ++ more) e ∙ append_assoc (word_of (named_literal l)) (32 ∷ behind) more
+-- the word, the space and what is after it, with what would follow
+after_space : (l : ℕ) (rest following more : List ℕ) → rest ≡ word_of (named_literal l) ++ (32 ∷ following) → rest ++ more ≡ word_of (named_literal l) ++ (32 ∷ (following ++ more))
+after_space l rest following more e = ap (λ t. t ++ more) e ∙ append_assoc (word_of (named_literal l)) (32 ∷ following) more
 
-pub one_so_far : (k : AnswerKind) (bytes rest behind : List ℕ) (l least : ℕ) → ReadSoFar k bytes rest least → IsName (named_literal l).name → rest ≡ word_of (named_literal l) ++ (32 ∷ behind) → least ≤ literal_place k l
-    → ReadSoFar k bytes behind (literal_place k l + 1)
-one_so_far k bytes rest behind l least r n e h = record {
+pub one_so_far : (k : AnswerKind) (bytes rest following : List ℕ) (l least : ℕ) → ReadSoFar k bytes rest least → IsName (named_literal l).name → rest ≡ word_of (named_literal l) ++ (32 ∷ following) → least ≤ literal_place k l
+    → ReadSoFar k bytes following (literal_place k l + 1)
+one_so_far k bytes rest following l least r n e h = record {
   line = r.line ++ (l ∷ []);
-  before = λ more. one_in_order k (bytes ++ more) r.line (rest ++ more) (behind ++ more) l least (r.before more) n (behind_space l rest behind more e) h;
+  before = λ more. one_in_order k (bytes ++ more) r.line (rest ++ more) (following ++ more) l least (r.before more) n (after_space l rest following more e) h;
 }
 
-pub starts_out_of_order : (k : AnswerKind) (bytes rest behind : List ℕ) (l least : ℕ) → HasLine k → ReadSoFar k bytes rest least → IsName (named_literal l).name → rest ≡ word_of (named_literal l) ++ (32 ∷ behind) → literal_place k l < least
+pub starts_out_of_order : (k : AnswerKind) (bytes rest following : List ℕ) (l least : ℕ) → HasLine k → ReadSoFar k bytes rest least → IsName (named_literal l).name → rest ≡ word_of (named_literal l) ++ (32 ∷ following) → literal_place k l < least
     → StartsNoLiterals k bytes
-starts_out_of_order k bytes rest behind l least d r n e low ls more o f =
-    out_of_order k (bytes ++ more) r.line (rest ++ more) (behind ++ more) l least d (r.before more) n (behind_space l rest behind more e) low ls [] o (sym f ∙ sym (append-nil (literals_text ls)))
+starts_out_of_order k bytes rest following l least d r n e low ls more o f =
+    out_of_order k (bytes ++ more) r.line (rest ++ more) (following ++ more) l least d (r.before more) n (after_space l rest following more e) low ls [] o (sym f ∙ sym (append-nil (literals_text ls)))
 
 pub starts_neither : (k : AnswerKind) (bytes rest : List ℕ) (least : ℕ) → HasLine k → ReadSoFar k bytes rest least → StartsNoLiteral rest → ((more : List ℕ) → 48 ∷ 10 ∷ [] ≡ rest ++ more → ⊥) → StartsNoLiterals k bytes
 starts_neither k bytes rest least d r none end ls more o f =

@@ -7,7 +7,7 @@ use Rattle.sat_base.specs.script.Script.{Literal}
 use Rattle.certify.specs.answers.Answers.{literals_text, word_of}
 use Rattle.certify.specs.answers.AnswerForms.{HaveNames, IsName, named_literal, named_literals}
 use Rattle.certify.specs.answers.AnswerReading.{NoLiteral}
-use Rattle.certify.proofs.lemmas.laws.DistinctTexts.{plain_word, at_space, not_end, same_literals as literals_told}
+use Rattle.certify.proofs.lemmas.laws.DistinctTexts.{plain_word, at_space, not_end, same_literals as literals_of_texts}
 
 within_limit : (ls : List Literal) → HaveNames ls → AllByRecursion (λ l. l.name ≤ var_limit) ls
 within_limit [] h = tt
@@ -15,7 +15,7 @@ within_limit (l ∷ ls) h = (h.0.1, within_limit ls h.1)
 
 -- a line's text tells its literals
 pub same_literals : (ls ks : List Literal) (x y : List ℕ) → HaveNames ls → HaveNames ks → literals_text ls ++ x ≡ literals_text ks ++ y → (ls ≡ ks) × (x ≡ y)
-same_literals ls ks x y h k e = literals_told ls ks x y (within_limit ls h) (within_limit ks k) e
+same_literals ls ks x y h k e = literals_of_texts ls ks x y (within_limit ls h) (within_limit ks k) e
 
 -- The line's literals have been read and the rest of the bytes is left. Any line that begins the bytes goes on in the rest, and the other way round.
 pub record Read (bytes line rest : List ℕ) : Type 0 where
@@ -27,16 +27,16 @@ have_names_snoc : (ls : List Literal) (l : Literal) → HaveNames ls → IsName 
 have_names_snoc [] l h k = (k, tt)
 have_names_snoc (m ∷ ls) l h k = (h.0, have_names_snoc ls l h.1 k)
 
-behind_word : (m : Literal) (more : List Literal) (behind tail : List ℕ) → IsName m.name → HaveNames more → word_of m ++ (32 ∷ behind) ≡ literals_text more ++ tail → (left : List Literal) × (HaveNames left × (behind ≡ literals_text left ++ tail))
-behind_word m [] behind tail h k e = absurd (not_end (word_of m) tail behind (plain_word m h.1) (sym e))
-behind_word m (l ∷ ls) behind tail h k e =
-    let p = at_space (word_of m) (word_of l) behind (literals_text ls ++ tail) (plain_word m h.1) (plain_word l k.0.1) (e ∙ append_assoc (word_of l) (32 ∷ literals_text ls) tail) in
+after_word : (m : Literal) (more : List Literal) (following tail : List ℕ) → IsName m.name → HaveNames more → word_of m ++ (32 ∷ following) ≡ literals_text more ++ tail → (left : List Literal) × (HaveNames left × (following ≡ literals_text left ++ tail))
+after_word m [] following tail h k e = absurd (not_end (word_of m) tail following (plain_word m h.1) (sym e))
+after_word m (l ∷ ls) following tail h k e =
+    let p = at_space (word_of m) (word_of l) following (literals_text ls ++ tail) (plain_word m h.1) (plain_word l k.0.1) (e ∙ append_assoc (word_of l) (32 ∷ literals_text ls) tail) in
     (ls, (k.1, p.1))
 
-pub one_read : (bytes line rest behind : List ℕ) (l : ℕ) → Read bytes line rest → IsName (named_literal l).name → rest ≡ word_of (named_literal l) ++ (32 ∷ behind) → Read bytes (line ++ (l ∷ [])) behind
-one_read bytes line rest behind l r h e = record {
+pub one_read : (bytes line rest following : List ℕ) (l : ℕ) → Read bytes line rest → IsName (named_literal l).name → rest ≡ word_of (named_literal l) ++ (32 ∷ following) → Read bytes (line ++ (l ∷ [])) following
+one_read bytes line rest following l r h e = record {
   names = subst HaveNames (sym (map-append named_literal line (l ∷ []))) (have_names_snoc (named_literals line) (named_literal l) r.names h);
-  forth = λ ls tail k f. let more = r.forth ls tail k f in behind_word (named_literal l) more.0 behind tail h more.1.0 (sym e ∙ more.1.1);
+  forth = λ ls tail k f. let more = r.forth ls tail k f in after_word (named_literal l) more.0 following tail h more.1.0 (sym e ∙ more.1.1);
   back = λ more tail f.
       let g : rest ≡ literals_text (named_literal l ∷ more) ++ tail
       = e ∙ ap (λ t. word_of (named_literal l) ++ (32 ∷ t)) f ∙ sym (append_assoc (word_of (named_literal l)) (32 ∷ literals_text more) tail) in

@@ -12,13 +12,13 @@ use Rattle.certify.proofs.lemmas.laws.DistinctTexts.{Plain, plain_digits, small,
 digits : (n : ℕ) → n ≤ var_limit → AllDigits 10 (decimal n)
 digits n h = (numeral n h).0
 
-digit_behind : (ds : List ℕ) (b : ℕ) (more : List ℕ) → AllDigits 10 (ds ++ (b ∷ more)) → (48 ≤ b) × (b ≤ 57)
-digit_behind [] b more d = digit_from_value b d.0
-digit_behind (c ∷ ds) b more d = digit_behind ds b more d.1
+digit_after : (ds : List ℕ) (b : ℕ) (more : List ℕ) → AllDigits 10 (ds ++ (b ∷ more)) → (48 ≤ b) × (b ≤ 57)
+digit_after [] b more d = digit_from_value b d.0
+digit_after (c ∷ ds) b more d = digit_after ds b more d.1
 
 -- a byte that is no digit
 pub no_digit : (name b : ℕ) → ((48 ≤ b) × (b ≤ 57) → ⊥) → NoNameDigit name b
-no_digit name b wrong n more h e = wrong (digit_behind (digits_so_far name) b more (subst (AllDigits 10) e (digits n h.1)))
+no_digit name b wrong n more h e = wrong (digit_after (digits_so_far name) b more (subst (AllDigits 10) e (digits n h.1)))
 
 -- a leading zero
 pub no_zero : (name b : ℕ) → 48 ≤ b → 10 * name + (b - 48) ≡ 0 → NoNameDigit name b
@@ -28,7 +28,7 @@ no_zero zero b low z n more h e =
     omega arith
 no_zero (suc name) b low z n more h e = absurd (omega arith)
 
--- a digit behind those of a name
+-- a digit after those of a name
 pub next_digit : (name b : ℕ) → name ≤ var_limit → 48 ≤ b → b ≤ 57 → 0 < 10 * name + (b - 48) → decimal (10 * name + (b - 48)) ≡ digits_so_far name ++ (b ∷ [])
 next_digit zero b h low high more =
     let e : 10 * 0 + (b - 48) ≡ b - 48 = omega arith in
@@ -70,7 +70,7 @@ no_space [] (c ∷ es) y p e = cc
 no_space (d ∷ ds) [] y p e = p.0.0 (let r : d ≡ 32 = cc in r)
 no_space (d ∷ ds) (c ∷ es) y p e = no_space ds es y p.1 (let r : ds ≡ es ++ (32 ∷ y) = cc in r)
 
--- a word that goes on behind another's bytes
+-- a word that goes on after another's bytes
 goes_on : (ds es : List ℕ) (b : ℕ) (x y : List ℕ) → Plain ds → (b ≡ 32 → ⊥) → ds ++ (b ∷ x) ≡ es ++ (32 ∷ y) → (more : List ℕ) × (es ≡ ds ++ (b ∷ more))
 goes_on [] [] b x y p other e = absurd (other (let r : b ≡ 32 = cc in r))
 goes_on [] (c ∷ es) b x y p other e = (es, let r : c ≡ b = cc in ap (λ c. c ∷ es) r)
@@ -115,20 +115,20 @@ no_minus n x y h e = go (decimal n) (digits n h) (decimal_nonempty n (small n h)
     go [] d k e = omega arith
     go (c ∷ cs) d k e = let r = digit_from_value c d.0 in let s : c ≡ 45 = cc in omega arith
 
-pub no_negative : (bytes behind : List ℕ) → bytes ≡ 45 ∷ behind → NoName behind → NoLiteral bytes
-no_negative bytes behind e none l tail h f = go l.positive l.name h f
+pub no_negative : (bytes following : List ℕ) → bytes ≡ 45 ∷ following → NoName following → NoLiteral bytes
+no_negative bytes following e none l tail h f = go l.positive l.name h f
   where
     go : (s : Bool) (n : ℕ) → IsName n → bytes ≡ (cond s [] (45 ∷ []) ++ decimal n) ++ (32 ∷ tail) → ⊥
-    go true n h f = no_minus n tail behind h.1 (sym f ∙ e)
-    go false n h f = none n tail h (let r : 45 ∷ behind ≡ 45 ∷ (decimal n ++ (32 ∷ tail)) = sym e ∙ f in let t : behind ≡ decimal n ++ (32 ∷ tail) = cc in t)
+    go true n h f = no_minus n tail following h.1 (sym f ∙ e)
+    go false n h f = none n tail h (let r : 45 ∷ following ≡ 45 ∷ (decimal n ++ (32 ∷ tail)) = sym e ∙ f in let t : following ≡ decimal n ++ (32 ∷ tail) = cc in t)
 
 -- BYTES WITH WHICH NONE BEGINS
 
 pub starts_no_name : (name b : ℕ) (bytes x : List ℕ) → name ≤ var_limit → (b ≡ 32 → name ≡ 0) → NoNameDigit name b → bytes ≡ digits_so_far name ++ (b ∷ x) → StartsNoName bytes
 starts_no_name name b bytes x h space none e more = no_name_so name b (bytes ++ more) (x ++ more) h space none (ap (λ t. t ++ more) e ∙ append_assoc (digits_so_far name) (b ∷ x) more)
 
-pub starts_no_negative : (bytes behind : List ℕ) → bytes ≡ 45 ∷ behind → StartsNoName behind → StartsNoLiteral bytes
-starts_no_negative bytes behind e none more = no_negative (bytes ++ more) (behind ++ more) (ap (λ t. t ++ more) e) (none more)
+pub starts_no_negative : (bytes following : List ℕ) → bytes ≡ 45 ∷ following → StartsNoName following → StartsNoLiteral bytes
+starts_no_negative bytes following e none more = no_negative (bytes ++ more) (following ++ more) (ap (λ t. t ++ more) e) (none more)
 
 -- some name begins with no bytes
 starts_some : (bytes : List ℕ) → StartsNoName bytes → bytes ≡ [] → ⊥

@@ -1,11 +1,11 @@
 -- Short definitions of scripts and answers say the same as those that code is proved against.
 use Rattle.std.proofs.Common.{ℕ, ◌+◌, ◌≡◌, ◌∙◌, Bool, true, false, not, cond, ◌&&◌, Option, Some, None, List, ◌∷◌, ◌++◌, map, nat_eq, refl, sym, ap, subst, []}
 use Rattle.std.specs.Prelude.{is_some, unwrap_or, decimal, if◌then◌else◌}
-use Rattle.sat_base.specs.text.Text.{is_letter, is_none, lines, words, begins_with, digits, header_in, header_if, header_first, on_line, plain, minus, behind_minus, alone, token, tokens_of, scan, tokens, dimacs_header, Token, Number, Letter, Header, Wrong}
+use Rattle.sat_base.specs.text.Text.{is_letter, is_none, lines, words, begins_with, digits, header_in, header_if, header_first, on_line, plain, minus, after_minus, alone, token, tokens_of, scan, tokens, dimacs_header, Token, Number, Letter, Header, Wrong}
 use Rattle.sat_base.specs.script.Script.{Literal, Command, Clause, Ask, Hide, Witness, Sample, ScriptEnding, Clean, Malformed, names_of}
 use Rattle.sat_base.specs.script.ScriptState.{ScriptState, Refusal, PastLimit, WitnessName, refusal_of, start}
 use Rattle.sat_checker.specs.matching.Expected.{Outcome, Sat, Unsat, Unknown}
-use Rattle.sat_base.specs.script.Language.{Reading, reading, written, with_ask, spoken, Kind, OfClause, OfAsk, OfHide, OfWitness, OfSample, command_of, CommandHand, Nothing, Within, GoesOn, Ends, Fails, commands_of, beginning, behind_command_turn, command_in, turn_with_literal}
+use Rattle.sat_base.specs.script.Language.{Reading, reading, written, with_ask, spoken, Kind, OfClause, OfAsk, OfHide, OfWitness, OfSample, command_of, CommandHand, Nothing, Within, GoesOn, Ends, Fails, commands_of, beginning, after_command_turn, command_in, turn_with_literal}
 use Rattle.sat_base.specs.steps.Steps.{Step}
 use Rattle.sat_checker.specs.matching.ProofChecking.{checker_rules}
 use Rattle.certify.specs.confirm.Matches.{StepsMatch}
@@ -24,10 +24,10 @@ plain_number : (o : Option ℕ) → number false o ≡ plain o
 plain_number None = refl
 plain_number (Some n) = refl
 
-behind_number : (bs : List ℕ) → number true (digits 0 bs) ≡ behind_minus bs
+after_number : (bs : List ℕ) → number true (digits 0 bs) ≡ after_minus bs
 unfolding digits
-behind_number [] = refl
-behind_number (d ∷ ds) = minus_number (digits 0 (d ∷ ds))
+after_number [] = refl
+after_number (d ∷ ds) = minus_number (digits 0 (d ∷ ds))
 
 same_single : (b : ℕ) (bs : List ℕ) → single (Letter b) bs ≡ alone b bs
 same_single b [] = refl
@@ -41,7 +41,7 @@ when false false a b c d e f p q r = r
 same_token : (w : List ℕ) → token_in w ≡ token w
 unfolding token
 same_token [] = refl
-same_token (b ∷ bs) = when (nat_eq b 45) (is_letter b) _ _ _ _ _ _ (behind_number bs) (same_single b bs) (plain_number (digits 0 (b ∷ bs)))
+same_token (b ∷ bs) = when (nat_eq b 45) (is_letter b) _ _ _ _ _ _ (after_number bs) (same_single b bs) (plain_number (digits 0 (b ∷ bs)))
 
 -- LINES
 
@@ -89,18 +89,18 @@ names_append : (ls : List Literal) (l : Literal) → names_of ls ++ l.name ∷ [
 names_append [] l = refl
 names_append (k ∷ ls) l = ap (λ (ns : List ℕ). k.name ∷ ns) (names_append ls l)
 
--- what is said behind a hand is the same
+-- what is said after a hand is the same
 abbrev Agree : (Option Command → Reading) → (CommandHand → Reading) → Type 0
 Agree short long = (h : CommandHand) → short (hand_in h) ≡ long h
 
 named_turn : (p : Bool) (command : Command) (kind : Kind) (ls : List Literal) (short : Option Command → Reading) (long : CommandHand → Reading)
     → Agree short long → command ≡ command_of kind ls
-    → going_on (cond p (Some command) None) short ≡ behind_command_turn (cond p (GoesOn (Within kind ls)) Fails) long
+    → going_on (cond p (Some command) None) short ≡ after_command_turn (cond p (GoesOn (Within kind ls)) Fails) long
 named_turn true command kind ls short long same e = ap (λ (c : Command). short (Some c)) e ∙ same (Within kind ls)
 named_turn false command kind ls short long same e = refl
 
 literal_turn : (h : CommandHand) (l : Literal) (short : Option Command → Reading) (long : CommandHand → Reading) → Agree short long
-    → going_on (command_with_literal l (unwrap_or (hand_in h) (Clause []))) short ≡ behind_command_turn (turn_with_literal h l) long
+    → going_on (command_with_literal l (unwrap_or (hand_in h) (Clause []))) short ≡ after_command_turn (turn_with_literal h l) long
 literal_turn Nothing l short long same = same (Within OfClause (l ∷ []))
 literal_turn (Within OfClause ls) l short long same = same (Within OfClause (ls ++ l ∷ []))
 literal_turn (Within OfAsk ls) l short long same = same (Within OfAsk (ls ++ l ∷ []))
@@ -112,19 +112,19 @@ literal_turn (Within OfSample ls) l short long same =
     named_turn l.positive (Sample (names_of ls ++ l.name ∷ [])) OfSample (ls ++ l ∷ []) short long same (ap Sample (names_append ls l))
 
 ended : (h : CommandHand) (short : Option Command → Reading) (long : CommandHand → Reading) → Agree short long
-    → (unwrap_or (hand_in h) (Clause []) ∷ (short None).0, (short None).1) ≡ behind_command_turn (Ends (command_in h)) long
+    → (unwrap_or (hand_in h) (Clause []) ∷ (short None).0, (short None).1) ≡ after_command_turn (Ends (command_in h)) long
 ended Nothing short long same = ap (λ (r : Reading). (Clause [] ∷ r.0, r.1)) (same Nothing)
 ended (Within kind ls) short long same = ap (λ (r : Reading). (command_of kind ls ∷ r.0, r.1)) (same Nothing)
 
 number_turn : (x : Bool) (h : CommandHand) (l : Literal) (short : Option Command → Reading) (long : CommandHand → Reading) → Agree short long
     → cond x (unwrap_or (hand_in h) (Clause []) ∷ (short None).0, (short None).1) (going_on (command_with_literal l (unwrap_or (hand_in h) (Clause []))) short)
-    ≡ behind_command_turn (cond x (Ends (command_in h)) (turn_with_literal h l)) long
+    ≡ after_command_turn (cond x (Ends (command_in h)) (turn_with_literal h l)) long
 number_turn true h l short long same = ended h short long same
 number_turn false h l short long same = literal_turn h l short long same
 
 letter_turn : (a h w s : Bool) (short : Option Command → Reading) (long : CommandHand → Reading) → Agree short long
     → going_on (cond a (Some (Ask [])) (cond h (Some (Hide [])) (cond w (Some (Witness [])) (cond s (Some (Sample [])) None)))) short
-    ≡ behind_command_turn (beginning (cond a (Some OfAsk) (cond h (Some OfHide) (cond w (Some OfWitness) (cond s (Some OfSample) None))))) long
+    ≡ after_command_turn (beginning (cond a (Some OfAsk) (cond h (Some OfHide) (cond w (Some OfWitness) (cond s (Some OfSample) None))))) long
 letter_turn true h w s short long same = same (Within OfAsk [])
 letter_turn false true w s short long same = same (Within OfHide [])
 letter_turn false false true s short long same = same (Within OfWitness [])

@@ -13,7 +13,7 @@ use Rattle.certify.specs.confirm.CertificatePlaces.{CanMeet, MeetsExactly, Meets
 use Rattle.certify.specs.confirm.Matches.{InForm}
 use Rattle.certify.specs.judge.Names.{NamesHaveState}
 use Rattle.sat_base.specs.script.ScriptStateLaws.{NamesIncrease}
-use Rattle.certify.specs.confirm.Following.{StandFor}
+use Rattle.certify.specs.confirm.Following.{AreVariablesOfNames}
 use Rattle.certify.specs.confirm.Variables.{variable_in}
 use Rattle.certify.specs.declared.judge.names.Names.{Names}
 use Rattle.certify.specs.declared.confirm.variables.NamedVars.{NamedVars}
@@ -36,7 +36,7 @@ all_listed names j h up line e =
 abbrev pub Within : List Step → Type 0
 Within earlier = (name v : ℕ) → variable_of earlier name ≡ Some v → IsName name
 
-pub all_within : (variables : NamedVars) (earlier : List Step) → StandFor variables earlier → Within earlier
+pub all_within : (variables : NamedVars) (earlier : List Step) → AreVariablesOfNames variables earlier → Within earlier
 all_within variables earlier s name v e = go name (sym (ap (λ (f : ℕ → Option ℕ). f name) s.named) ∙ e) (s.few name v e)
   where
     go : (name : ℕ) → variable_in variables name ≡ Some v → name ≤ var_limit → IsName name
@@ -61,7 +61,7 @@ form_of (Sat line) h = tt
 form_of (Unsat core) h = h.1
 form_of Unknown h = tt
 
--- the answer is still to be read, behind the ask's assumptions
+-- the answer is still to be read, after the ask's assumptions
 pub record Answerable (j : ScriptState) (n : ℕ) (earlier : List Step) (ask : List Literal) (cs : List Command) (ending : ScriptEnding) (answers certificate : List ℕ) : Type 0 where
   pub outcome : Outcome
   pub tail : List ℕ
@@ -98,12 +98,12 @@ module _ (j : ScriptState) (n : ℕ) (ask : List Literal) (cs : List Command) (e
           let here = left_on (Opens ask a.outcome ∷ more) next (n + 1) cs ending a.tail named a.left in
           let allowed : (ready_after third).unsat ≡ true → a.outcome ≡ Unsat [] = λ u. alone a.outcome (more ++ expected next (accepted_of next cs) here.outcomes) here.certified u in
           let there = left_on more next (n + 1) cs ending a.tail (opened a.outcome allowed) here in
-          let behind = expected next (accepted_of next cs) there.outcomes in
+          let following = expected next (accepted_of next cs) there.outcomes in
           record {
             outcome = a.outcome;
             tail = a.tail;
             answered = a.answered;
-            readable = shown_form next ask a.outcome third f (Closes ∷ behind) listed within a.in_form (subst (λ es. CanMeet third es f) (append_assoc (showing next ask a.outcome) (Closes ∷ []) behind) there.certified);
+            readable = shown_form next ask a.outcome third f (Closes ∷ following) listed within a.in_form (subst (λ es. CanMeet third es f) (append_assoc (showing next ask a.outcome) (Closes ∷ []) following) there.certified);
             alone = allowed;
             left = there;
           }

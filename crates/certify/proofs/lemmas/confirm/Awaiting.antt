@@ -24,19 +24,19 @@ use Rattle.certify.proofs.lemmas.confirm.Streams.{going_then, confirms_none, con
 use Rattle.certify.proofs.lemmas.confirm.Following.{others}
 
 -- what a round that ends brings
-module _ (names : NamedVars) (old : CertificateState) (new : CertificateState) (unsat : Bool) (told : (steps : List Step) → HasAccepted old.checker steps → unsat ≡ (ready_after steps).unsat) where
+module _ (names : NamedVars) (old : CertificateState) (new : CertificateState) (unsat : Bool) (unsat_is : (steps : List Step) → HasAccepted old.checker steps → unsat ≡ (ready_after steps).unsat) where
   -- unsat is recorded
   is_cut : unsat ≡ true → (earlier : List Step) → CheckerIsAt old.checker names earlier → UnsatIsRecorded names old earlier old
-  is_cut is earlier s = record { later = earlier; stands = s; closed = sym (told earlier s.taken.stands) ∙ is; skips = skips_none earlier old.rest }
+  is_cut is earlier s = record { later = earlier; valid = s; closed = sym (unsat_is earlier s.taken.valid) ∙ is; skips = skips_none earlier old.rest }
 
   module _ (is : unsat ≡ false) where
     -- an ordered step stands there
     is_step : ReadsStep (certificate_place old) (certificate_place new) → is_ordered new.step ≡ true → new.checker ≡ old.checker → (earlier : List Step) → CheckerIsAt old.checker names earlier → StepIsReady names old earlier new
     is_step r o k earlier s =
-        let open_yet = sym (told earlier s.taken.stands) ∙ is in
+        let open_yet = sym (unsat_is earlier s.taken.valid) ∙ is in
         record {
           later = earlier;
-          stands = record { taken = subst (λ x. HasTaken x earlier) (sym k) s.taken; stand = s.stand };
+          valid = record { taken = subst (λ x. HasTaken x earlier) (sym k) s.taken; stand = s.stand };
           open_yet = open_yet;
           offers = offers_step one_step earlier new.step old.rest r.text new.rest open_yet r.front r.spelt o;
         }
@@ -44,11 +44,11 @@ module _ (names : NamedVars) (old : CertificateState) (new : CertificateState) (
     -- another one stands there
     is_passed : ReadsStep (certificate_place old) (certificate_place new) → is_ordered new.step ≡ false → FeedsStep (Ok tt) old.checker new.step new.checker → (earlier : List Step) → CheckerIsAt old.checker names earlier → StepWasPassed names old earlier new
     is_passed r o a earlier s =
-        let open_yet = sym (told earlier s.taken.stands) ∙ is in
+        let open_yet = sym (unsat_is earlier s.taken.valid) ∙ is in
         let fed = a earlier s.taken in
         record {
           later = new.step ∷ earlier;
-          stands = record { taken = fed.1; stand = others names earlier new.step s.stand o fed.0 };
+          valid = record { taken = fed.1; stand = others names earlier new.step s.stand o fed.0 };
           skips = skips_step one_step earlier new.step old.rest r.text new.rest open_yet r.front r.spelt o fed.0;
         }
 
@@ -56,48 +56,48 @@ module _ (names : NamedVars) (old : CertificateState) (new : CertificateState) (
     is_refused : (mid : CertificateState) → ReadsStep (certificate_place old) (certificate_place mid) → is_ordered mid.step ≡ false → ((steps : List Step) → HasTaken old.checker steps → Accepts (ready_after steps) mid.step → ⊥)
         → (earlier : List Step) → CheckerIsAt old.checker names earlier → MeetsNothing earlier old.rest
     is_refused mid r o a earlier s =
-        let open_yet = sym (told earlier s.taken.stands) ∙ is in
+        let open_yet = sym (unsat_is earlier s.taken.valid) ∙ is in
         stops_at_step one_step earlier mid.step old.rest r.text mid.rest open_yet r.front r.spelt o (a earlier s.taken)
 
 -- ONE STEP
 
-module _ (names : NamedVars) (a : Stream) (unsat : Bool) (told : (steps : List Step) → HasAccepted a.checker steps → unsat ≡ (ready_after steps).unsat) where
+module _ (names : NamedVars) (a : Stream) (unsat : Bool) (unsat_is : (steps : List Step) → HasAccepted a.checker steps → unsat ≡ (ready_after steps).unsat) where
   pub steps_cut : unsat ≡ true → GoesOrStops is_fed_so_far (Ok (Some awaited.Cut)) a a (StepsOnce names)
-  steps_cut is = confirms_none (Some awaited.Cut) a (StepsOnce names) (λ total. is_cut names (seen_in total a) (seen_in total a) unsat told is)
+  steps_cut is = confirms_none (Some awaited.Cut) a (StepsOnce names) (λ total. is_cut names (seen_in total a) (seen_in total a) unsat unsat_is is)
 
   module _ (b : Stream) (open_yet : AtEnd a.source → ⊥) (is : unsat ≡ false) where
     pub steps_none : (e : Stop) → Confirms {A = Unit {0}} (Err e) a b ReadsOne → Confirms {A = Option Awaited} (Err e) a b (StepsOnce names)
-    steps_none e p = confirms_stop e a b ReadsOne (StepsOnce names) (λ total why none earlier s. no_step earlier (rest_in total a.source) (sym (told earlier s.taken.stands) ∙ is) none) p
+    steps_none e p = confirms_stop e a b ReadsOne (StepsOnce names) (λ total why none earlier s. no_step earlier (rest_in total a.source) (sym (unsat_is earlier s.taken.valid) ∙ is) none) p
 
     module _ (p : GoesOrStops {A = Unit {0}} (λ x. false) (Ok tt) a b ReadsOne) (c : b.checker ≡ a.checker) where
       pub steps_step : is_ordered b.step ≡ true → GoesOrStops is_fed_so_far (Ok (Some awaited.Step)) a b (StepsOnce names)
-      steps_step o = (p.0, (λ total k. is_step names (seen_in total a) (seen_in total b) unsat told is (p.1 total k) o c), p.2)
+      steps_step o = (p.0, (λ total k. is_step names (seen_in total a) (seen_in total b) unsat unsat_is is (p.1 total k) o c), p.2)
 
       pub steps_passed : (next : Kernel) → is_ordered b.step ≡ false → FeedsStep (Ok tt) b.checker b.step next → LooksAtMost b.checker b.step next → GoesOrStops is_fed_so_far (Ok None) a (record b { checker = next }) (StepsOnce names)
       steps_passed next o d l = feeds_on a b next (λ x y. ReadsOne x y (Ok tt)) (λ x y. StepsOnce names x y (Ok None)) d l
-          (λ total r. is_passed names (seen_in total a) (seen_in total (record b { checker = next })) unsat told is r o (subst (λ (x : Kernel). FeedsStep (Ok tt) x b.step next) c d)) p
+          (λ total r. is_passed names (seen_in total a) (seen_in total (record b { checker = next })) unsat unsat_is is r o (subst (λ (x : Kernel). FeedsStep (Ok tt) x b.step next) c d)) p
 
       pub steps_refused : (e : Stop) (next : Kernel) → is_ordered b.step ≡ false → FeedsStep (Err e) b.checker b.step next → LooksAtMost b.checker b.step next → Confirms {A = Option Awaited} (Err e) a (record b { checker = next }) (StepsOnce names)
       steps_refused e next o d l = feeds_stop e a b next (λ x y. ReadsOne x y (Ok tt)) (StepsOnce names) open_yet d l
-          (λ total why r h. is_refused names (seen_in total a) (seen_in total (record b { checker = next })) unsat told is (seen_in total b) r o
+          (λ total why r h. is_refused names (seen_in total a) (seen_in total (record b { checker = next })) unsat unsat_is is (seen_in total b) r o
           (subst (λ (x : Kernel). (steps : List Step) → HasTaken x steps → Accepts (ready_after steps) b.step → ⊥) c h)) p
 
 -- ROUNDS FOLLOW ONE ANOTHER
 
 module _ (names : NamedVars) where
   pub passed_none : (a : Stream) → Confirms (Ok tt) a a (PassesUnordered names)
-  passed_none a = confirms_none tt a (PassesUnordered names) (λ total earlier s. record { later = earlier; stands = s; skips = skips_none earlier (rest_in total a.source) })
+  passed_none a = confirms_none tt a (PassesUnordered names) (λ total earlier s. record { later = earlier; valid = s; skips = skips_none earlier (rest_in total a.source) })
 
   passed_on : (u v w : CertificateState) → PassesUnordered names u v (Ok tt) → StepsOnce names v w (Ok None) → PassesUnordered names u w (Ok tt)
   passed_on u v w p h earlier s =
       let x = p earlier s in
-      let y = h x.later x.stands in
-      record { later = y.later; stands = y.stands; skips = skips_on x.skips y.skips }
+      let y = h x.later x.valid in
+      record { later = y.later; valid = y.valid; skips = skips_on x.skips y.skips }
 
   ends : (u v w : CertificateState) (y : Result Awaited Why) → PassesUnordered names u v (Ok tt) → AwaitsNext names v w y → AwaitsNext names u w y
-  ends u v w (Ok awaited.Step) p h = λ earlier s. let x = p earlier s in let y = h x.later x.stands in record { later = y.later; stands = y.stands; open_yet = y.open_yet; offers = skips_offer x.skips y.offers }
-  ends u v w (Ok awaited.Cut) p h = λ earlier s. let x = p earlier s in let y = h x.later x.stands in record { later = y.later; stands = y.stands; closed = y.closed; skips = skips_on x.skips y.skips }
-  ends u v w (Err why) p h = λ earlier s. let x = p earlier s in skips_stop x.skips (h x.later x.stands)
+  ends u v w (Ok awaited.Step) p h = λ earlier s. let x = p earlier s in let y = h x.later x.valid in record { later = y.later; valid = y.valid; open_yet = y.open_yet; offers = skips_offer x.skips y.offers }
+  ends u v w (Ok awaited.Cut) p h = λ earlier s. let x = p earlier s in let y = h x.later x.valid in record { later = y.later; valid = y.valid; closed = y.closed; skips = skips_on x.skips y.skips }
+  ends u v w (Err why) p h = λ earlier s. let x = p earlier s in skips_stop x.skips (h x.later x.valid)
 
   module _ (a b c : Stream) (open_yet : AtEnd a.source → ⊥) (p : Confirms (Ok tt) a b (PassesUnordered names)) where
     pub rounds_more : GoesOrStops is_fed_so_far (Ok None) b c (StepsOnce names) → Confirms (Ok tt) a c (PassesUnordered names)
@@ -115,15 +115,15 @@ module _ (names : NamedVars) where
   awaits_settled : (x : Awaited) (u v : CertificateState) (next : Kernel) → SettlesConflict (Ok tt) v.checker next → AwaitsNext names u v (Ok x) → AwaitsNext names u (record v { checker = next }) (Ok x)
   awaits_settled awaited.Step u v next settled h = λ earlier s.
       let y = h earlier s in
-      record { later = y.later; stands = record { taken = (settled y.later y.stands.taken).0; stand = y.stands.stand }; open_yet = y.open_yet; offers = y.offers }
+      record { later = y.later; valid = record { taken = (settled y.later y.valid.taken).0; stand = y.valid.stand }; open_yet = y.open_yet; offers = y.offers }
   awaits_settled awaited.Cut u v next settled h = λ earlier s.
       let y = h earlier s in
-      record { later = y.later; stands = record { taken = (settled y.later y.stands.taken).0; stand = y.stands.stand }; closed = y.closed; skips = y.skips }
+      record { later = y.later; valid = record { taken = (settled y.later y.valid.taken).0; stand = y.valid.stand }; closed = y.closed; skips = y.skips }
 
   -- a checker that goes on refuses to settle none
   awaits_never : (x : Awaited) (u v w : CertificateState) (why : Why) → AwaitsNext names u v (Ok x) → ((steps : List Step) → HasTaken v.checker steps → ⊥) → AwaitsNext names u w (Err why)
-  awaits_never awaited.Step u v w why h none = λ earlier s. let y = h earlier s in absurd (none y.later y.stands.taken)
-  awaits_never awaited.Cut u v w why h none = λ earlier s. let y = h earlier s in absurd (none y.later y.stands.taken)
+  awaits_never awaited.Step u v w why h none = λ earlier s. let y = h earlier s in absurd (none y.later y.valid.taken)
+  awaits_never awaited.Cut u v w why h none = λ earlier s. let y = h earlier s in absurd (none y.later y.valid.taken)
 
   module _ (a b : Stream) (x : Awaited) (p : GoesOrStops is_fed (Ok x) a b (AwaitsNext names)) (next : Kernel) where
     pub settled_goes : SettlesConflict (Ok tt) b.checker next → GoesOrStops is_fed (Ok x) a (record b { checker = next }) (AwaitsNext names)

@@ -23,8 +23,8 @@ leads_on {earlier} {mid} {later} {bytes} {between} {rest} {p} {q} l m = record {
   back = λ es h. subst (λ xs. CanMeet earlier xs bytes) (sym (append_assoc p q es)) (l.back (q ++ es) (m.back es h));
 }
 
-pub bars_behind : {earlier mid : List Step} {bytes between : List ℕ} {p q : List Expected} → MeetsExactly earlier bytes p mid between → MeetsNoneOf mid between q → MeetsNoneOf earlier bytes (p ++ q)
-bars_behind {earlier} {mid} {bytes} {between} {p} {q} l b = record { none = λ es h. b.none es (l.on (q ++ es) (subst (λ xs. CanMeet earlier xs bytes) (append_assoc p q es) h)) }
+pub bars_after : {earlier mid : List Step} {bytes between : List ℕ} {p q : List Expected} → MeetsExactly earlier bytes p mid between → MeetsNoneOf mid between q → MeetsNoneOf earlier bytes (p ++ q)
+bars_after {earlier} {mid} {bytes} {between} {p} {q} l b = record { none = λ es h. b.none es (l.on (q ++ es) (subst (λ xs. CanMeet earlier xs bytes) (append_assoc p q es) h)) }
 
 pub bars_more : {earlier : List Step} {bytes : List ℕ} {p : List Expected} (q : List Expected) → MeetsNoneOf earlier bytes p → MeetsNoneOf earlier bytes (p ++ q)
 bars_more {earlier} {bytes} {p} q b = record { none = λ es h. b.none (q ++ es) (subst (λ xs. CanMeet earlier xs bytes) (append_assoc p q es) h) }
@@ -46,9 +46,9 @@ all_back : (p es : List Expected) → AllByRecursion MayBeUnmet p → AllByRecur
 all_back [] es x y = y
 all_back (e ∷ p) es x y = (x.0, all_back p es x.1 y)
 
-all_behind : (p es : List Expected) → AllByRecursion MayBeUnmet (p ++ es) → AllByRecursion MayBeUnmet es
-all_behind [] es x = x
-all_behind (e ∷ p) es x = all_behind p es x.1
+all_after : (p es : List Expected) → AllByRecursion MayBeUnmet (p ++ es) → AllByRecursion MayBeUnmet es
+all_after [] es x = x
+all_after (e ∷ p) es x = all_after p es x.1
 
 all_before : (p es : List Expected) → AllByRecursion MayBeUnmet (p ++ es) → AllByRecursion MayBeUnmet p
 all_before [] es x = tt
@@ -56,7 +56,7 @@ all_before (e ∷ p) es x = (x.0, all_before p es x.1)
 
 pub leads_cut : (earlier : List Step) (bytes : List ℕ) (p : List Expected) → (ready_after earlier).unsat ≡ true → AllByRecursion MayBeUnmet p → MeetsExactly earlier bytes p earlier bytes
 leads_cut earlier bytes p u x = record {
-  on = λ es h. cut_met earlier es bytes u (all_behind p es (when_cut earlier (p ++ es) bytes u h));
+  on = λ es h. cut_met earlier es bytes u (all_after p es (when_cut earlier (p ++ es) bytes u h));
   back = λ es h. cut_met earlier (p ++ es) bytes u (all_back p es x (when_cut earlier es bytes u h));
 }
 
@@ -71,9 +71,9 @@ not_over earlier e es u (cut v x) = true≢false (sym v ∙ u)
 pub no_step : (earlier : List Step) (bytes : List ℕ) → (ready_after earlier).unsat ≡ false → ((step : Step) (text rest : List ℕ) → bytes ≡ text ++ rest → SpellsStep step text → ⊥) → MeetsNothing earlier bytes
 no_step earlier bytes u none = record { none = λ e es m. go e es m.rest m.steps m.text m.begins m.spelt m.meets }
   where
-    go : (e : Expected) (es : List Expected) (behind : List ℕ) (steps : List Step) (text : List ℕ) → bytes ≡ text ++ behind → SpellsSteps steps text → Meets checker_rules earlier steps (e ∷ es) → ⊥
-    go e es behind [] text b s k = not_over earlier e es u k
-    go e es behind (step ∷ steps) text b s k = none step s.0 (s.1 ++ behind) (b ∙ ap (λ x. x ++ behind) s.4 ∙ append_assoc s.0 s.1 behind) s.2
+    go : (e : Expected) (es : List Expected) (following : List ℕ) (steps : List Step) (text : List ℕ) → bytes ≡ text ++ following → SpellsSteps steps text → Meets checker_rules earlier steps (e ∷ es) → ⊥
+    go e es following [] text b s k = not_over earlier e es u k
+    go e es following (step ∷ steps) text b s k = none step s.0 (s.1 ++ following) (b ∙ ap (λ x. x ++ following) s.4 ∙ append_assoc s.0 s.1 following) s.2
 
 -- what is met from a place where this step stands
 record Begun (earlier : List Step) (step : Step) (es : List Expected) (more : List ℕ) : Type 0 where

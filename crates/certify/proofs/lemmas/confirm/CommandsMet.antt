@@ -41,12 +41,12 @@ for_names (Hide names) j = hiding names j
 for_names (Witness names) j = setting Witnessed names j
 for_names (Sample names) j = setting Sampled names j
 
--- and behind them
-abbrev behind_names : Command → List Expected
-behind_names (Clause ls) = Adds ls ∷ []
-behind_names e = []
+-- and after them
+abbrev after_names : Command → List Expected
+after_names (Clause ls) = Adds ls ∷ []
+after_names e = []
 
-expected_on : (c : Command) → NoAsk c → (j : ScriptState) (cs : List Command) (os : List Outcome) → expected j (c ∷ cs) os ≡ (for_names c j ++ behind_names c) ++ expected (accepted c j) cs os
+expected_on : (c : Command) → NoAsk c → (j : ScriptState) (cs : List Command) (os : List Outcome) → expected j (c ∷ cs) os ≡ (for_names c j ++ after_names c) ++ expected (accepted c j) cs os
 expected_on (Clause ls) a j cs os = sym (append_assoc (bringing (names_of ls) j) (Adds ls ∷ []) (expected (accepted (Clause ls) j) cs os))
 expected_on (Ask ls) a j cs os = absurd a
 expected_on (Hide names) a j cs os = ap (λ (es : List Expected). es ++ expected (accepted (Hide names) j) cs os) (sym (append-nil (hiding names j)))
@@ -66,7 +66,7 @@ all_left (Ask ls) a os = absurd a
 all_left e a os = refl
 
 command_pending : (c : Command) → NoAsk c → (j : ScriptState) (n : ℕ) (earlier : List Step) (cs : List Command) (ending : ScriptEnding) (answers certificate : List ℕ) → refusal_of j c ≡ None
-    → Rest j n earlier [] (c ∷ cs) ending answers certificate ↔ Rest (accepted c j) (n + 1) earlier (for_names c j ++ behind_names c) cs ending answers certificate
+    → Rest j n earlier [] (c ∷ cs) ending answers certificate ↔ Rest (accepted c j) (n + 1) earlier (for_names c j ++ after_names c) cs ending answers certificate
 command_pending c a j n earlier cs ending answers certificate e =
     let next = accepted c j in
     let text : (os : List Outcome) → piece n None c os ++ answers_from (n + 1) next cs ending (outcomes_left None c os) ≡ answers_from (n + 1) next cs ending os = λ os.
@@ -95,29 +95,29 @@ after_refused j c r e = rw e refl
 after_accepted : (j : ScriptState) (c : Command) → refusal_of j c ≡ None → after_command c j ≡ accepted c j
 after_accepted j c e = rw e refl
 
--- behind a command that leaves this state
-confirmed : (before behind : List ℕ) (old new : CertificateState) (j next : ScriptState) (earlier later : List Step) (n : ℕ) (c : Command) (t : Table) → after_command c j ≡ next → HoldsAt t new next later
-    → ((cs : List Command) (ending : ScriptEnding) → ToConfirm j n earlier (c ∷ cs) ending before old.rest → ToConfirm next (n + 1) later cs ending behind new.rest)
-    → ((cs : List Command) (ending : ScriptEnding) → ToConfirm next (n + 1) later cs ending behind new.rest → ToConfirm j n earlier (c ∷ cs) ending before old.rest)
-    → Confirmed before behind old new j earlier n c t
-confirmed before behind old new j next earlier later n c t e s on back = record {
+-- after a command that leaves this state
+confirmed : (before following : List ℕ) (old new : CertificateState) (j next : ScriptState) (earlier later : List Step) (n : ℕ) (c : Command) (t : Table) → after_command c j ≡ next → HoldsAt t new next later
+    → ((cs : List Command) (ending : ScriptEnding) → ToConfirm j n earlier (c ∷ cs) ending before old.rest → ToConfirm next (n + 1) later cs ending following new.rest)
+    → ((cs : List Command) (ending : ScriptEnding) → ToConfirm next (n + 1) later cs ending following new.rest → ToConfirm j n earlier (c ∷ cs) ending before old.rest)
+    → Confirmed before following old new j earlier n c t
+confirmed before following old new j next earlier later n c t e s on back = record {
   later = later;
-  stands = subst (λ x. HoldsAt t new x later) (sym e) s;
-  on = λ cs ending h. subst (λ x. ToConfirm x (n + 1) later cs ending behind new.rest) (sym e) (on cs ending h);
-  back = λ cs ending h. back cs ending (subst (λ x. ToConfirm x (n + 1) later cs ending behind new.rest) e h);
+  valid = subst (λ x. HoldsAt t new x later) (sym e) s;
+  on = λ cs ending h. subst (λ x. ToConfirm x (n + 1) later cs ending following new.rest) (sym e) (on cs ending h);
+  back = λ cs ending h. back cs ending (subst (λ x. ToConfirm x (n + 1) later cs ending following new.rest) e h);
 }
 
-pub command_refused : (before behind : List ℕ) (u : CertificateState) (n : ℕ) (c : Command) (t : Table) (r : Refusal) (y : Result (Unit {0}) Why) → ((j : ScriptState) → NamesHaveState t.names j → refusal_of j c ≡ Some r)
-    → TakesDueLine before behind (refused_line n r) y → ConfirmsNext n c t t before behind u u y
-command_refused before behind u n c t r (Ok x) refused line = λ j earlier s.
+pub command_refused : (before following : List ℕ) (u : CertificateState) (n : ℕ) (c : Command) (t : Table) (r : Refusal) (y : Result (Unit {0}) Why) → ((j : ScriptState) → NamesHaveState t.names j → refusal_of j c ≡ Some r)
+    → TakesDueLine before following (refused_line n r) y → ConfirmsNext n c t t before following u u y
+command_refused before following u n c t r (Ok x) refused line = λ j earlier s.
     let e = refused j s.judged in
-    confirmed before behind u u j j earlier earlier n c t (after_refused j c r e) s
+    confirmed before following u u j j earlier earlier n c t (after_refused j c r e) s
     (λ cs ending h.
     let p = refused_on j n earlier c cs ending before u.rest r e h in
-    let tail : p.0 ≡ behind = append_cancel_left (refused_line n r) p.0 behind (sym p.1 ∙ line) in
+    let tail : p.0 ≡ following = append_cancel_left (refused_line n r) p.0 following (sym p.1 ∙ line) in
     subst (λ x. Rest j (n + 1) earlier [] cs ending x u.rest) tail p.2)
-    (λ cs ending h. refused_back j n earlier c cs ending before behind u.rest r e line h)
-command_refused before behind u n c t r (Err why) refused line = λ j earlier s cs ending h.
+    (λ cs ending h. refused_back j n earlier c cs ending before following u.rest r e line h)
+command_refused before following u n c t r (Err why) refused line = λ j earlier s cs ending h.
     let p = refused_on j n earlier c cs ending before u.rest r (refused j s.judged) h in
     line p.0 p.1
 
@@ -149,9 +149,9 @@ unnamed_barred (Clause ls) j n earlier cs ending answers certificate e b h = lef
 unnamed_barred (Ask ls) j n earlier cs ending answers certificate e b h = ask_unnamed j n ls cs ending answers e earlier certificate b h
 unnamed_barred x j n earlier cs ending answers certificate e b h = left_barred [] (accepted x j) (n + 1) cs ending answers b ((command_pending x tt j n earlier cs ending answers certificate e).0 h)
 
-pub command_unnamed : (kind : Kind) (ls : List Literal) (t next : Table) (before behind : List ℕ) (u v : CertificateState) (n : ℕ) (after : NamedVars) (why : Why) → ((j : ScriptState) → NamesHaveState t.names j → refusal_of j (command_of kind ls) ≡ None)
-    → ((j : ScriptState) → NamesHaveState t.names j → MeetsAll (naming_all kind (names_of ls) j) t.variables after u v (Err why)) → ConfirmsNext n (command_of kind ls) t next before behind u v (Err why)
-command_unnamed kind ls t next before behind u v n after why allowed met j earlier s cs ending h =
+pub command_unnamed : (kind : Kind) (ls : List Literal) (t next : Table) (before following : List ℕ) (u v : CertificateState) (n : ℕ) (after : NamedVars) (why : Why) → ((j : ScriptState) → NamesHaveState t.names j → refusal_of j (command_of kind ls) ≡ None)
+    → ((j : ScriptState) → NamesHaveState t.names j → MeetsAll (naming_all kind (names_of ls) j) t.variables after u v (Err why)) → ConfirmsNext n (command_of kind ls) t next before following u v (Err why)
+command_unnamed kind ls t next before following u v n after why allowed met j earlier s cs ending h =
     unnamed_barred (command_of kind ls) j n earlier cs ending before u.rest (allowed j s.judged) (subst (MeetsNoneOf earlier u.rest) (naming_is kind ls j) (met j s.judged earlier s.at)) h
 
 named_on : (kind : Kind) (ls : List Literal) (t next : Table) (u v : CertificateState) → MeetsCommandNames kind ls t next u v → (j : ScriptState) (earlier : List Step) → HoldsAt t u j earlier → GoesOnTo (for_names (command_of kind ls) j) next.variables u earlier v
@@ -162,29 +162,29 @@ module _ (kind : Kind) (ls : List Literal) (a : NoAsk (command_of kind ls)) (t n
   c : Command
   c = command_of kind ls
 
-  pub plain_confirmed : (next : Table) (w : CertificateState) (y : Result (Unit {0}) Why) → next.names ≡ named.names → MeetsAll (behind_names (command_of kind ls)) named.variables next.variables v w y → ConfirmsNext n (command_of kind ls) t next before before u w y
+  pub plain_confirmed : (next : Table) (w : CertificateState) (y : Result (Unit {0}) Why) → next.names ≡ named.names → MeetsAll (after_names (command_of kind ls)) named.variables next.variables v w y → ConfirmsNext n (command_of kind ls) t next before before u w y
   plain_confirmed next w (Ok x) same met = λ j earlier s.
       let e = is.allowed j s.judged in
       let first = named_on kind ls t named u v is j earlier s in
-      let second = met first.later first.stands in
+      let second = met first.later first.valid in
       let left = accepted (command_of kind ls) j in
       let pending = command_pending (command_of kind ls) a j n earlier in
-      let stands : NamesHaveState next.names left = subst (λ (x : Names). NamesHaveState x left) (sym same) (left_is kind ls j named.names (is.changes j s.judged)) in
+      let valid : NamesHaveState next.names left = subst (λ (x : Names). NamesHaveState x left) (sym same) (left_is kind ls j named.names (is.changes j s.judged)) in
       confirmed before before u w j left earlier second.later n (command_of kind ls) next (after_accepted j (command_of kind ls) e)
-      (record { judged = stands; kept = accepted_kept (command_of kind ls) j e s.kept; at = second.stands })
+      (record { judged = valid; kept = accepted_kept (command_of kind ls) j e s.kept; at = second.valid })
       (λ cs ending h. left_on [] left (n + 1) cs ending before second.leads
-      (subst (λ (es : List Expected). Rest left (n + 1) first.later es cs ending before v.rest) (sym (append-nil (behind_names (command_of kind ls))))
-      (left_on (behind_names (command_of kind ls)) left (n + 1) cs ending before first.leads ((pending cs ending before u.rest e).0 h))))
+      (subst (λ (es : List Expected). Rest left (n + 1) first.later es cs ending before v.rest) (sym (append-nil (after_names (command_of kind ls))))
+      (left_on (after_names (command_of kind ls)) left (n + 1) cs ending before first.leads ((pending cs ending before u.rest e).0 h))))
       (λ cs ending h. (pending cs ending before u.rest e).1
-      (left_back (behind_names (command_of kind ls)) left (n + 1) cs ending before first.leads
-      (subst (λ (es : List Expected). Rest left (n + 1) first.later es cs ending before v.rest) (append-nil (behind_names (command_of kind ls))) (left_back [] left (n + 1) cs ending before second.leads h))))
+      (left_back (after_names (command_of kind ls)) left (n + 1) cs ending before first.leads
+      (subst (λ (es : List Expected). Rest left (n + 1) first.later es cs ending before v.rest) (append-nil (after_names (command_of kind ls))) (left_back [] left (n + 1) cs ending before second.leads h))))
   plain_confirmed next w (Err why) same met = λ j earlier s cs ending h.
       let e = is.allowed j s.judged in
       let first = named_on kind ls t named u v is j earlier s in
       let left = accepted (command_of kind ls) j in
-      left_barred [] left (n + 1) cs ending before (met first.later first.stands)
-      (subst (λ (es : List Expected). Rest left (n + 1) first.later es cs ending before v.rest) (sym (append-nil (behind_names (command_of kind ls))))
-      (left_on (behind_names (command_of kind ls)) left (n + 1) cs ending before first.leads ((command_pending (command_of kind ls) a j n earlier cs ending before u.rest e).0 h)))
+      left_barred [] left (n + 1) cs ending before (met first.later first.valid)
+      (subst (λ (es : List Expected). Rest left (n + 1) first.later es cs ending before v.rest) (sym (append-nil (after_names (command_of kind ls))))
+      (left_on (after_names (command_of kind ls)) left (n + 1) cs ending before first.leads ((command_pending (command_of kind ls) a j n earlier cs ending before u.rest e).0 h)))
 
 -- AN ASK
 
@@ -192,14 +192,14 @@ module _ (ls : List Literal) (t named : Table) (u v : CertificateState) (n : ℕ
   first : (j : ScriptState) (earlier : List Step) → HoldsAt t u j earlier → GoesOnTo (bringing (names_of ls) j) named.variables u earlier v
   first j earlier s = named_on OfAsk ls t named u v is j earlier s
 
-  pub ask_without_assumptions : (next : Table) (before behind : List ℕ) (after : NamedVars) (w : CertificateState) (why : Why) → MeetsDue (λ o ask. Opens ls o) named.variables after v w (Err why) → ConfirmsNext n (Ask ls) t next before behind u w (Err why)
-  ask_without_assumptions next before behind after w why bars j earlier s cs ending h =
+  pub ask_without_assumptions : (next : Table) (before following : List ℕ) (after : NamedVars) (w : CertificateState) (why : Why) → MeetsDue (λ o ask. Opens ls o) named.variables after v w (Err why) → ConfirmsNext n (Ask ls) t next before following u w (Err why)
+  ask_without_assumptions next before following after w why bars j earlier s cs ending h =
       let f = first j earlier s in
-      ask_unopened j n ls cs ending before (is.allowed j s.judged) earlier f.later u.rest v.rest f.leads (λ o. bars f.later f.stands o []) h
+      ask_unopened j n ls cs ending before (is.allowed j s.judged) earlier f.later u.rest v.rest f.leads (λ o. bars f.later f.valid o []) h
 
   module _ (asked : Table) (w : CertificateState) (same : named.names ≡ asked.names) (opens : MeetsDue (λ o ask. Opens ls o) named.variables asked.variables v w (Ok tt)) (before : List ℕ) where
     second : (j : ScriptState) (earlier : List Step) (s : HoldsAt t u j earlier) → IsDueMet (λ o ask. Opens ls o) asked.variables v (first j earlier s).later w
-    second j earlier s = let f = first j earlier s in opens f.later f.stands
+    second j earlier s = let f = first j earlier s in opens f.later f.valid
 
     holds : (j : ScriptState) (earlier : List Step) (s : HoldsAt t u j earlier) → HoldsAt asked w (accepted (Ask ls) j) (second j earlier s).later
     holds j earlier s =
@@ -207,7 +207,7 @@ module _ (ls : List Literal) (t named : Table) (u v : CertificateState) (n : ℕ
         record {
           judged = subst (λ (x : Names). NamesHaveState x (accepted (Ask ls) j)) same (left_is OfAsk ls j named.names (is.changes j s.judged));
           kept = accepted_kept (Ask ls) j e s.kept;
-          at = (second j earlier s).stands;
+          at = (second j earlier s).valid;
         }
 
     listed : (j : ScriptState) (earlier : List Step) → HoldsAt t u j earlier → Listed (accepted (Ask ls) j)
@@ -216,44 +216,44 @@ module _ (ls : List Literal) (t named : Table) (u v : CertificateState) (n : ℕ
     within : (j : ScriptState) (earlier : List Step) (s : HoldsAt t u j earlier) → Within (second j earlier s).later
     within j earlier s = let h = holds j earlier s in all_within asked.variables (second j earlier s).later h.at.stand
 
-    pub ask_without_answer : (next : Table) (behind : List ℕ) (x : CertificateState) (why : Why)
+    pub ask_without_answer : (next : Table) (following : List ℕ) (x : CertificateState) (why : Why)
         → ((steps : List Step) → HasTakenSteps w.checker steps → (o : Outcome) (tail : List ℕ) → IsInForm o → ((ready_after steps).unsat ≡ true → o ≡ Unsat []) → before ≡ outcome_text o ++ tail → ⊥)
-        → ConfirmsNext n (Ask ls) t next before behind u x (Err why)
-    ask_without_answer next behind x why none j earlier s cs ending h =
+        → ConfirmsNext n (Ask ls) t next before following u x (Err why)
+    ask_without_answer next following x why none j earlier s cs ending h =
         let f = first j earlier s in
         let g = second j earlier s in
         ask_unread j n ls cs ending before (is.allowed j s.judged) earlier f.later u.rest v.rest f.leads g.later w.rest (λ o only. g.leads o [] only) (λ o es m closed. g.alone o [] es m closed) (listed j earlier s) (within j earlier s)
-        (none g.later g.stands.taken.stands) h
+        (none g.later g.valid.taken.valid) h
 
-    module _ (o : Outcome) (behind : List ℕ)
-        (read : (steps : List Step) → HasTakenSteps w.checker steps → (before ≡ outcome_text o ++ behind) × IsInForm o × ((ready_after steps).unsat ≡ true → o ≡ Unsat [])) where
-      pub ask_answered : (next : Table) (y : CertificateState) (r : Result (Unit {0}) Why) → next.names ≡ asked.names → MeetsOutcome asked.names ls o asked.variables next.variables w y r → ConfirmsNext n (Ask ls) t next before behind u y r
+    module _ (o : Outcome) (following : List ℕ)
+        (read : (steps : List Step) → HasTakenSteps w.checker steps → (before ≡ outcome_text o ++ following) × IsInForm o × ((ready_after steps).unsat ≡ true → o ≡ Unsat [])) where
+      pub ask_answered : (next : Table) (y : CertificateState) (r : Result (Unit {0}) Why) → next.names ≡ asked.names → MeetsOutcome asked.names ls o asked.variables next.variables w y r → ConfirmsNext n (Ask ls) t next before following u y r
       ask_answered next y (Ok z) kept met = λ j earlier s.
           let e = is.allowed j s.judged in
           let f = first j earlier s in
           let g = second j earlier s in
-          let q = read g.later g.stands.taken.stands in
+          let q = read g.later g.valid.taken.valid in
           let left = accepted (Ask ls) j in
           let h = holds j earlier s in
-          let m = met left h.judged h.kept.order g.later g.stands in
+          let m = met left h.judged h.kept.order g.later g.valid in
           let more = showing left ls o ++ Closes ∷ [] in
-          confirmed before behind u y j left earlier m.later n (Ask ls) next (after_accepted j (Ask ls) e)
-          (record { judged = subst (λ (x : Names). NamesHaveState x left) (sym kept) h.judged; kept = h.kept; at = m.stands })
-          (λ cs ending p. left_on [] left (n + 1) cs ending behind m.leads
-          (subst (λ (es : List Expected). Rest left (n + 1) g.later es cs ending behind w.rest) (sym (append-nil more))
-          (answered_on j n ls cs ending before e earlier f.later u.rest v.rest f.leads g.later w.rest (λ o only. g.leads o [] only) (λ o es m closed. g.alone o [] es m closed) (listed j earlier s) (within j earlier s) o behind q.1 q.0 p)))
-          (λ cs ending p. answered_back j n ls cs ending before e earlier f.later u.rest v.rest f.leads g.later w.rest (λ o only. g.leads o [] only) (λ o es m closed. g.alone o [] es m closed) (listed j earlier s) (within j earlier s) o behind q.1 q.0 q.2
-          (subst (λ (es : List Expected). Rest left (n + 1) g.later es cs ending behind w.rest) (append-nil more) (left_back [] left (n + 1) cs ending behind m.leads p)))
+          confirmed before following u y j left earlier m.later n (Ask ls) next (after_accepted j (Ask ls) e)
+          (record { judged = subst (λ (x : Names). NamesHaveState x left) (sym kept) h.judged; kept = h.kept; at = m.valid })
+          (λ cs ending p. left_on [] left (n + 1) cs ending following m.leads
+          (subst (λ (es : List Expected). Rest left (n + 1) g.later es cs ending following w.rest) (sym (append-nil more))
+          (answered_on j n ls cs ending before e earlier f.later u.rest v.rest f.leads g.later w.rest (λ o only. g.leads o [] only) (λ o es m closed. g.alone o [] es m closed) (listed j earlier s) (within j earlier s) o following q.1 q.0 p)))
+          (λ cs ending p. answered_back j n ls cs ending before e earlier f.later u.rest v.rest f.leads g.later w.rest (λ o only. g.leads o [] only) (λ o es m closed. g.alone o [] es m closed) (listed j earlier s) (within j earlier s) o following q.1 q.0 q.2
+          (subst (λ (es : List Expected). Rest left (n + 1) g.later es cs ending following w.rest) (append-nil more) (left_back [] left (n + 1) cs ending following m.leads p)))
       ask_answered next y (Err why) kept met = λ j earlier s cs ending p.
           let f = first j earlier s in
           let g = second j earlier s in
-          let q = read g.later g.stands.taken.stands in
+          let q = read g.later g.valid.taken.valid in
           let left = accepted (Ask ls) j in
           let h = holds j earlier s in
           let more = showing left ls o ++ Closes ∷ [] in
-          left_barred [] left (n + 1) cs ending behind (met left h.judged h.kept.order g.later g.stands)
-          (subst (λ (es : List Expected). Rest left (n + 1) g.later es cs ending behind w.rest) (sym (append-nil more))
-          (answered_on j n ls cs ending before (is.allowed j s.judged) earlier f.later u.rest v.rest f.leads g.later w.rest (λ o only. g.leads o [] only) (λ o es m closed. g.alone o [] es m closed) (listed j earlier s) (within j earlier s) o behind q.1 q.0 p))
+          left_barred [] left (n + 1) cs ending following (met left h.judged h.kept.order g.later g.valid)
+          (subst (λ (es : List Expected). Rest left (n + 1) g.later es cs ending following w.rest) (sym (append-nil more))
+          (answered_on j n ls cs ending before (is.allowed j s.judged) earlier f.later u.rest v.rest f.leads g.later w.rest (λ o only. g.leads o [] only) (λ o es m closed. g.alone o [] es m closed) (listed j earlier s) (within j earlier s) o following q.1 q.0 p))
 
 -- THE END
 
@@ -268,16 +268,16 @@ over_done n t after before u v met a j earlier s =
 pub over_extra : (n : ℕ) (t : Table) (before : List ℕ) (u : CertificateState) (why : Why) → (before ≡ [] → ⊥) → ConfirmsLast n ([], Clean) t before u (Err why)
 over_extra n t before u why x j earlier s h = x (end_on j n earlier Clean before u.rest h).0
 
--- behind the last line of the answers to a malformed text
-pub malformed_barred : (n : ℕ) (t : Table) (before behind : List ℕ) (u : CertificateState) (why : Why) → TakesDueLine before behind (malformed_line n) (Err why) → ConfirmsLast n ([], Malformed) t before u (Err why)
-malformed_barred n t before behind u why line j earlier s h = line [] ((end_on j n earlier Malformed before u.rest h).0 ∙ sym (append-nil (malformed_line n)))
+-- after the last line of the answers to a malformed text
+pub malformed_barred : (n : ℕ) (t : Table) (before following : List ℕ) (u : CertificateState) (why : Why) → TakesDueLine before following (malformed_line n) (Err why) → ConfirmsLast n ([], Malformed) t before u (Err why)
+malformed_barred n t before following u why line j earlier s h = line [] ((end_on j n earlier Malformed before u.rest h).0 ∙ sym (append-nil (malformed_line n)))
 
-pub malformed_then : (n : ℕ) (t : Table) (before behind : List ℕ) (u : CertificateState) (y : Result (Unit {0}) Why) → TakesDueLine before behind (malformed_line n) (Ok tt) → ConfirmsLast n ([], Clean) t behind u y → ConfirmsLast n ([], Malformed) t before u y
-malformed_then n t before behind u (Ok x) line k = λ j earlier s.
-    let p = end_on j n earlier Clean behind u.rest (k j earlier s) in
+pub malformed_then : (n : ℕ) (t : Table) (before following : List ℕ) (u : CertificateState) (y : Result (Unit {0}) Why) → TakesDueLine before following (malformed_line n) (Ok tt) → ConfirmsLast n ([], Clean) t following u y → ConfirmsLast n ([], Malformed) t before u y
+malformed_then n t before following u (Ok x) line k = λ j earlier s.
+    let p = end_on j n earlier Clean following u.rest (k j earlier s) in
     end_back j n earlier Malformed before u.rest (line ∙ ap (λ x. malformed_line n ++ x) p.0 ∙ append-nil (malformed_line n)) p.1
-malformed_then n t before behind u (Err why) line k = λ j earlier s h.
+malformed_then n t before following u (Err why) line k = λ j earlier s h.
     let p = end_on j n earlier Malformed before u.rest h in
     k j earlier s
-    (end_back j n earlier Clean behind u.rest
-    (append_cancel_left (malformed_line n) behind [] (sym line ∙ p.0 ∙ sym (append-nil (malformed_line n)))) p.1)
+    (end_back j n earlier Clean following u.rest
+    (append_cancel_left (malformed_line n) following [] (sym line ∙ p.0 ∙ sym (append-nil (malformed_line n)))) p.1)

@@ -37,9 +37,9 @@ module _ (known : Known) (step : Step) where
       differ (sym (ap (λ (f : ℕ → Option ℕ). f (name + 1)) k.named) ∙ p.2 ∙ ap Some (sym v_is))
 
   -- sets
-  module _ (ls codes : List ℕ) (same : Bool) (why : Why) (r : Option Why) (is : r ≡ cond same None (Some why)) (told : MatchBool same (SameSet (vars known) (named_literals ls) codes) (SameSet (vars known) (named_literals ls) codes → ⊥)) where
-    pub clause_told : step ≡ AddClause codes → Compares (λ o ask. Adds (named_literals ls)) known step r
-    clause_told e = subst (Compares (λ o ask. Adds (named_literals ls)) known step) (sym is) (go same told)
+  module _ (ls codes : List ℕ) (same : Bool) (why : Why) (r : Option Why) (is : r ≡ cond same None (Some why)) (compared : MatchBool same (SameSet (vars known) (named_literals ls) codes) (SameSet (vars known) (named_literals ls) codes → ⊥)) where
+    pub clause_compared : step ≡ AddClause codes → Compares (λ o ask. Adds (named_literals ls)) known step r
+    clause_compared e = subst (Compares (λ o ask. Adds (named_literals ls)) known step) (sym is) (go same compared)
       where
         go : (b : Bool) → MatchBool b (SameSet (vars known) (named_literals ls) codes) (SameSet (vars known) (named_literals ls) codes → ⊥) → Compares (λ o ask. Adds (named_literals ls)) known step (cond b None (Some why))
         go true s = λ earlier k o ask. (fits_adds checker_rules earlier (named_literals ls) step).1 (codes, e, subst (λ (f : ℕ → Option ℕ). SameSet f (named_literals ls) codes) (sym k.named) s)
@@ -49,8 +49,8 @@ module _ (known : Known) (step : Step) where
             let codes_are : p.0 ≡ codes = cc in
             n (subst (λ (cs : List ℕ). SameSet (vars known) (named_literals ls) cs) codes_are (subst (λ (f : ℕ → Option ℕ). SameSet f (named_literals ls) p.0) k.named p.2))
 
-    pub ask_told : step ≡ Assumptions codes → Compares (λ o ask. Opens (named_literals ls) o) known step r
-    ask_told e = subst (Compares (λ o ask. Opens (named_literals ls) o) known step) (sym is) (go same told)
+    pub ask_compared : step ≡ Assumptions codes → Compares (λ o ask. Opens (named_literals ls) o) known step r
+    ask_compared e = subst (Compares (λ o ask. Opens (named_literals ls) o) known step) (sym is) (go same compared)
       where
         go : (b : Bool) → MatchBool b (SameSet (vars known) (named_literals ls) codes) (SameSet (vars known) (named_literals ls) codes → ⊥) → Compares (λ o ask. Opens (named_literals ls) o) known step (cond b None (Some why))
         go true s = λ earlier k o ask. (fits_opens checker_rules earlier (named_literals ls) o step).1 (codes, e, subst (λ (f : ℕ → Option ℕ). SameSet f (named_literals ls) codes) (sym k.named) s)
@@ -60,8 +60,8 @@ module _ (known : Known) (step : Step) where
             let codes_are : p.0 ≡ codes = cc in
             n (subst (λ (cs : List ℕ). SameSet (vars known) (named_literals ls) cs) codes_are (subst (λ (f : ℕ → Option ℕ). SameSet f (named_literals ls) p.0) k.named p.2))
 
-    pub core_told : (hashes : List ℕ) → step ≡ FailedAssumptions codes hashes → Compares (λ o ask. Fails ask (named_literals ls)) known step r
-    core_told hashes e = subst (Compares (λ o ask. Fails ask (named_literals ls)) known step) (sym is) (go same told)
+    pub core_compared : (hashes : List ℕ) → step ≡ FailedAssumptions codes hashes → Compares (λ o ask. Fails ask (named_literals ls)) known step r
+    core_compared hashes e = subst (Compares (λ o ask. Fails ask (named_literals ls)) known step) (sym is) (go same compared)
       where
         go : (b : Bool) → MatchBool b (SameSet (vars known) (named_literals ls) codes) (SameSet (vars known) (named_literals ls) codes → ⊥) → Compares (λ o ask. Fails ask (named_literals ls)) known step (cond b None (Some why))
         go true s = λ earlier k o ask. (fits_fails checker_rules earlier ask (named_literals ls) step).1 (codes, hashes, e, subst (λ (f : ℕ → Option ℕ). SameSet f (named_literals ls) codes) (sym k.named) s)
@@ -74,7 +74,7 @@ module _ (known : Known) (step : Step) where
 -- what is looked up of the model that a step is
 pub line_reported : (known : Known) (step : Step) (line codes : List ℕ) (shown : Bool) (why : Why) (r : Option Why) → r ≡ cond shown None (Some why) → step ≡ Model codes
     → MatchBool shown (EachSpelt (vars known) (named_literals line) codes) (EachSpelt (vars known) (named_literals line) codes → ⊥) → ComparesLine known line step r
-line_reported known step line codes shown why r is e told = subst (ComparesLine known line step) (sym is) (go shown told)
+line_reported known step line codes shown why r is e compared = subst (ComparesLine known line step) (sym is) (go shown compared)
   where
     go : (b : Bool) → MatchBool b (EachSpelt (vars known) (named_literals line) codes) (EachSpelt (vars known) (named_literals line) codes → ⊥) → ComparesLine known line step (cond b None (Some why))
     go true s = (codes, e, s)

@@ -39,7 +39,7 @@ use Rattle.certify.proofs.lemmas.confirm.UsedNames.{used_names}
 -- ONE THING THAT IS EXPECTED
 
 at_ask : (due : Due) (o : Outcome) (ask : List Literal) → MayStayUnmet (due o ask) → (before after : NamedVars) (u v : CertificateState) (y : Result (Unit {0}) Why) → MeetsDue due before after u v y → MeetsAll (due o ask ∷ []) before after u v y
-at_ask due o ask free before after u v (Ok x) m = λ earlier s. let k = m earlier s in record { later = k.later; stands = k.stands; leads = k.leads o ask (λ closed. free) }
+at_ask due o ask free before after u v (Ok x) m = λ earlier s. let k = m earlier s in record { later = k.later; valid = k.valid; leads = k.leads o ask (λ closed. free) }
 at_ask due o ask free before after u v (Err why) m = λ earlier s. m earlier s o ask
 
 pub expects_one : (due : Due) (o : Outcome) (ask : List Literal) → MayStayUnmet (due o ask) → (before after : NamedVars) (r : Result (Unit {0}) Stop) (s t : Stream) → Confirms r s t (MeetsDue due before after) → Confirms r s t (MeetsAll (due o ask ∷ []) before after)
@@ -70,26 +70,26 @@ module _ (names : Names) (ask : List Literal) (o : Outcome) (before mid after : 
 
 -- AN ANSWER
 
-module _ (n : ℕ) (ask : List Literal) (asked next : Table) (a b : Source) (s : Stream) (settled : Bool) (told : (steps : List Step) → HasTakenSteps s.checker steps → settled ≡ (ready_after steps).unsat) (reply : Outcome) (here : AtEnd a → ⊥) (open_yet : AtEnd s.source → ⊥) where
-  pub answer_unread : (e : Stop) → Replies {A = Unit {0}} true (Err e) a b (λ before behind y. IsReply before behind reply settled y) → Joins {A = Unit {0}} ⊥ true (Err e) a b s s (ConfirmsAnswer n ask asked next)
-  answer_unread e h = replies_end ⊥ true e a b s (λ before behind y. IsReply before behind reply settled y) (ConfirmsAnswer n ask asked next) open_yet
-      (λ p q more why none t named x v is same opens. ask_without_answer ask t named x v n is asked (seen_in more s) same opens p next q (seen_in more s) why (λ steps taken o tail form alone e. none o tail form (λ closed. alone (sym (told steps taken) ∙ closed)) e)) h
+module _ (n : ℕ) (ask : List Literal) (asked next : Table) (a b : Source) (s : Stream) (settled : Bool) (settled_is : (steps : List Step) → HasTakenSteps s.checker steps → settled ≡ (ready_after steps).unsat) (reply : Outcome) (here : AtEnd a → ⊥) (open_yet : AtEnd s.source → ⊥) where
+  pub answer_unread : (e : Stop) → Replies {A = Unit {0}} true (Err e) a b (λ before following y. IsReply before following reply settled y) → Joins {A = Unit {0}} ⊥ true (Err e) a b s s (ConfirmsAnswer n ask asked next)
+  answer_unread e h = replies_end ⊥ true e a b s (λ before following y. IsReply before following reply settled y) (ConfirmsAnswer n ask asked next) open_yet
+      (λ p q more why none t named x v is same opens. ask_without_answer ask t named x v n is asked (seen_in more s) same opens p next q (seen_in more s) why (λ steps taken o tail form alone e. none o tail form (λ closed. alone (sym (settled_is steps taken) ∙ closed)) e)) h
 
   -- the answer, and that unsat is recorded or isn't
   abbrev Answered : List ℕ → List ℕ → CertificateState → CertificateState → Result (Unit {0}) Why → Type 0
-  Answered before behind u v y = (u ≡ v) × IsReply before behind reply settled (Ok tt) × ((steps : List Step) → HasTakenSteps u.checker steps → settled ≡ (ready_after steps).unsat)
+  Answered before following u v y = (u ≡ v) × IsReply before following reply settled (Ok tt) × ((steps : List Step) → HasTakenSteps u.checker steps → settled ≡ (ready_after steps).unsat)
 
-  pub answer_closes : (r : Result (Unit {0}) Stop) (t : Stream) → next.names ≡ asked.names → Replies {A = Unit {0}} true (Ok tt) a b (λ before behind y. IsReply before behind reply settled y)
+  pub answer_closes : (r : Result (Unit {0}) Stop) (t : Stream) → next.names ≡ asked.names → Replies {A = Unit {0}} true (Ok tt) a b (λ before following y. IsReply before following reply settled y)
       → Confirms r s t (MeetsOutcome asked.names ask reply asked.variables next.variables) → (AtEnd b → ⊥) → Joins ⊥ true r a b s t (ConfirmsAnswer n ask asked next)
-  answer_closes r t kept h p behind_open = joins_then ⊥ true tt r a b b s s t Answered (λ q z w y (m : Result (Unit {0}) Why). (q ≡ z) × MeetsOutcome asked.names ask reply asked.variables next.variables w y m) (ConfirmsAnswer n ask asked next)
+  answer_closes r t kept h p after_open = joins_then ⊥ true tt r a b b s s t Answered (λ q z w y (m : Result (Unit {0}) Why). (q ≡ z) × MeetsOutcome asked.names ask reply asked.variables next.variables w y m) (ConfirmsAnswer n ask asked next)
       here open_yet
       (λ p q z v w y m f g t named x u is same opens.
       let read : (steps : List Step) → HasTakenSteps w.checker steps → (p ≡ outcome_text reply ++ z) × IsInForm reply × ((ready_after steps).unsat ≡ true → reply ≡ Unsat []) = λ steps taken.
       (f.1.0 ∙ ap (λ (rest : List ℕ). outcome_text reply ++ rest) g.0, f.1.1, (λ closed. f.1.2 (f.2 steps (subst (λ (k : CertificateState). HasTakenSteps k.checker steps) (sym f.0) taken) ∙ closed))) in
       let opened : MeetsDue (λ o under. Opens ask o) named.variables asked.variables u w (Ok tt) = subst (λ (k : CertificateState). MeetsDue (λ o under. Opens ask o) named.variables asked.variables u k (Ok tt)) f.0 opens in
       ask_answered ask t named x u n is asked w same opened p reply z read next y m kept g.1)
-      (replies_go ⊥ tt tt a b s (λ before behind y. IsReply before behind reply settled y) Answered (λ p q more k. (refl, k, told)) h)
-      (certificate_joins ⊥ r b s t (MeetsOutcome asked.names ask reply asked.variables next.variables) (λ q z w y (m : Result (Unit {0}) Why). (q ≡ z) × MeetsOutcome asked.names ask reply asked.variables next.variables w y m) behind_open (λ p u v y k. (refl, k)) p)
+      (replies_go ⊥ tt tt a b s (λ before following y. IsReply before following reply settled y) Answered (λ p q more k. (refl, k, settled_is)) h)
+      (certificate_joins ⊥ r b s t (MeetsOutcome asked.names ask reply asked.variables next.variables) (λ q z w y (m : Result (Unit {0}) Why). (q ≡ z) × MeetsOutcome asked.names ask reply asked.variables next.variables w y m) after_open (λ p u v y k. (refl, k)) p)
 
 -- A COMMAND'S CONTENT
 
@@ -118,7 +118,7 @@ content_asked n ls named asked next a b s t u r here open_yet same p h = joins_t
 
 -- a command that isn't refused is lent whole
 pub lent_whole : (lent : Lent) (c : Command) → lent.past_limit ≡ false → IsLent lent c → c ≡ command_of (kind_of lent.kind) (named_literals lent.literals.now)
-lent_whole lent c none (ls, f, e) = e ∙ ap (command_of (kind_of lent.kind)) (f.whole ∙ ap (λ (bs : List Literal). named_literals lent.literals.now ++ bs) (go lent.past_limit none f.behind f.limit) ∙ append-nil (named_literals lent.literals.now))
+lent_whole lent c none (ls, f, e) = e ∙ ap (command_of (kind_of lent.kind)) (f.whole ∙ ap (λ (bs : List Literal). named_literals lent.literals.now ++ bs) (go lent.past_limit none f.following f.limit) ∙ append-nil (named_literals lent.literals.now))
   where
     go : (b : Bool) → b ≡ false → (bs : List Literal) → BeginsPast b bs → bs ≡ []
     go false x bs h = h
@@ -137,10 +137,10 @@ if_ok (Ok x) h = h
 if_ok (Err e) h = tt
 
 module _ (n : ℕ) (lent : Lent) (c : Command) (is : IsLent lent c) (t next : Table) (a b : Source) (s : Stream) where
-  pub refused : (refusal : CodeRefusal) (r : Result (Unit {0}) Stop) → (AtEnd s.source → ⊥) → ReportsRefusal (Some refusal) t.names lent → next ≡ t → Replies {A = Unit {0}} true r a b (λ before behind. TakesDueLine before behind (refused_line n (refusal_in refusal)))
+  pub refused : (refusal : CodeRefusal) (r : Result (Unit {0}) Stop) → (AtEnd s.source → ⊥) → ReportsRefusal (Some refusal) t.names lent → next ≡ t → Replies {A = Unit {0}} true r a b (λ before following. TakesDueLine before following (refused_line n (refusal_in refusal)))
       → Joins {A = Unit {0}} ⊥ true r a b s s (ConfirmsNext n c t next)
   refused refusal r open_yet judges same h = subst (λ (x : Table). Joins {A = Unit {0}} ⊥ true r a b s s (ConfirmsNext n c t x)) (sym same)
-      (replies_join ⊥ true r a b s (λ before behind. TakesDueLine before behind (refused_line n (refusal_in refusal))) (ConfirmsNext n c t t) open_yet
+      (replies_join ⊥ true r a b s (λ before following. TakesDueLine before following (refused_line n (refusal_in refusal))) (ConfirmsNext n c t t) open_yet
       (λ p q more y line. command_refused p q (seen_in more s) n c t (refusal_in refusal) y (λ j h. sym (judges j c h is)) line) h)
 
 module _ (n : ℕ) (kind : Kind) (ls : List Literal) (t next : Table) (a : Source) (s u : Stream) (here : AtEnd a → ⊥) (allowed : (j : ScriptState) → NamesHaveState t.names j → refusal_of j (command_of kind ls) ≡ None) where
@@ -157,45 +157,45 @@ module _ (n : ℕ) (kind : Kind) (ls : List Literal) (t next : Table) (a : Sourc
 -- THE END
 
 module _ (n : ℕ) (t : Table) (after : NamedVars) (a : Source) (s u : Stream) (here : AtEnd a → ⊥) where
-  pub end_stops : (e : Stop) → Confirms {A = Unit {0}} (Err e) s u (MeetsDue (λ o under. Finish) t.variables after) → Joins {A = Unit {0}} ⊥ false (Err e) a a s u (λ before behind x y. ConfirmsLast n ([], Clean) t before x)
-  end_stops e p = certificate_stops ⊥ false e a s u (MeetsDue (λ o under. Finish) t.variables after) (λ before behind x y. ConfirmsLast n ([], Clean) t before x) here
+  pub end_stops : (e : Stop) → Confirms {A = Unit {0}} (Err e) s u (MeetsDue (λ o under. Finish) t.variables after) → Joins {A = Unit {0}} ⊥ false (Err e) a a s u (λ before following x y. ConfirmsLast n ([], Clean) t before x)
+  end_stops e p = certificate_stops ⊥ false e a s u (MeetsDue (λ o under. Finish) t.variables after) (λ before following x y. ConfirmsLast n ([], Clean) t before x) here
       (λ q x y why m. over_barred n t after q x y why (at_ask (λ o under. Finish) Unknown [] tt t.variables after x y (Err why) m)) p
 
-  pub end_goes : (b : Source) (r : Result (Unit {0}) Stop) → (AtEnd s.source → ⊥) → (AtEnd u.source → ⊥) → Confirms (Ok tt) s u (MeetsDue (λ o under. Finish) t.variables after) → Replies {A = Unit {0}} false r a b (λ before behind. SaysSo (before ≡ []))
-      → Joins {A = Unit {0}} ⊥ false r a b s u (λ before behind x y. ConfirmsLast n ([], Clean) t before x)
-  end_goes b r open_yet behind_open p h = joins_then ⊥ false tt r a a b s u u (λ p q x y (m : Result (Unit {0}) Why). (p ≡ q) × MeetsDue (λ o under. Finish) t.variables after x y (Ok tt)) (λ q z x y. SaysSo (q ≡ [])) (λ before behind x y. ConfirmsLast n ([], Clean) t before x) here open_yet said
+  pub end_goes : (b : Source) (r : Result (Unit {0}) Stop) → (AtEnd s.source → ⊥) → (AtEnd u.source → ⊥) → Confirms (Ok tt) s u (MeetsDue (λ o under. Finish) t.variables after) → Replies {A = Unit {0}} false r a b (λ before following. SaysSo (before ≡ []))
+      → Joins {A = Unit {0}} ⊥ false r a b s u (λ before following x y. ConfirmsLast n ([], Clean) t before x)
+  end_goes b r open_yet after_open p h = joins_then ⊥ false tt r a a b s u u (λ p q x y (m : Result (Unit {0}) Why). (p ≡ q) × MeetsDue (λ o under. Finish) t.variables after x y (Ok tt)) (λ q z x y. SaysSo (q ≡ [])) (λ before following x y. ConfirmsLast n ([], Clean) t before x) here open_yet said
       (certificate_goes ⊥ tt a s u (MeetsDue (λ o under. Finish) t.variables after) (λ p q x y (m : Result (Unit {0}) Why). (p ≡ q) × MeetsDue (λ o under. Finish) t.variables after x y (Ok tt)) (λ p x y m. (refl, m)) p)
-      (replies_join ⊥ false r a b u (λ before behind. SaysSo (before ≡ [])) (λ q z x y. SaysSo (q ≡ [])) behind_open (λ p q more y k. k) h)
+      (replies_join ⊥ false r a b u (λ before following. SaysSo (before ≡ [])) (λ q z x y. SaysSo (q ≡ [])) after_open (λ p q more y k. k) h)
     where
       said : (p q z : List ℕ) (v w y : CertificateState) (m : Result (Unit {0}) Why) → (p ≡ q) × MeetsDue (λ o under. Finish) t.variables after v w (Ok tt) → SaysSo (q ≡ []) m → ConfirmsLast n ([], Clean) t p v m
       said p q z v w y (Ok x) f g = over_done n t after p v w (at_ask (λ o under. Finish) Unknown [] tt t.variables after v w (Ok tt) f.1) (f.0 ∙ g)
       said p q z v w y (Err why) f g = over_extra n t p v why (λ e. g (sym f.0 ∙ e))
 
 module _ (n : ℕ) (t : Table) (a b : Source) (s : Stream) (here : AtEnd a → ⊥) (open_yet : AtEnd s.source → ⊥) where
-  pub malformed_stops : (e : Stop) → Replies {A = Unit {0}} true (Err e) a b (λ before behind. TakesDueLine before behind (malformed_line n)) → Joins {A = Unit {0}} ⊥ false (Err e) a b s s (λ before behind x y. ConfirmsLast n ([], Malformed) t before x)
-  malformed_stops e h = replies_end ⊥ false e a b s (λ before behind. TakesDueLine before behind (malformed_line n)) (λ before behind x y. ConfirmsLast n ([], Malformed) t before x) open_yet
+  pub malformed_stops : (e : Stop) → Replies {A = Unit {0}} true (Err e) a b (λ before following. TakesDueLine before following (malformed_line n)) → Joins {A = Unit {0}} ⊥ false (Err e) a b s s (λ before following x y. ConfirmsLast n ([], Malformed) t before x)
+  malformed_stops e h = replies_end ⊥ false e a b s (λ before following. TakesDueLine before following (malformed_line n)) (λ before following x y. ConfirmsLast n ([], Malformed) t before x) open_yet
       (λ p q more why line. malformed_barred n t p q (seen_in more s) why line) h
 
-  pub malformed_goes : (c : Source) (u : Stream) (r : Result (Unit {0}) Stop) → Replies {A = Unit {0}} true (Ok tt) a b (λ before behind. TakesDueLine before behind (malformed_line n)) → Joins {A = Unit {0}} ⊥ false r b c s u (λ before behind x y. ConfirmsLast n ([], Clean) t before x)
-      → Joins {A = Unit {0}} ⊥ false r a c s u (λ before behind x y. ConfirmsLast n ([], Malformed) t before x)
-  malformed_goes c u r h k = joins_then ⊥ false tt r a b c s s u (λ p q x y (m : Result (Unit {0}) Why). (x ≡ y) × TakesDueLine p q (malformed_line n) (Ok tt)) (λ before behind x y. ConfirmsLast n ([], Clean) t before x) (λ before behind x y. ConfirmsLast n ([], Malformed) t before x) here open_yet
+  pub malformed_goes : (c : Source) (u : Stream) (r : Result (Unit {0}) Stop) → Replies {A = Unit {0}} true (Ok tt) a b (λ before following. TakesDueLine before following (malformed_line n)) → Joins {A = Unit {0}} ⊥ false r b c s u (λ before following x y. ConfirmsLast n ([], Clean) t before x)
+      → Joins {A = Unit {0}} ⊥ false r a c s u (λ before following x y. ConfirmsLast n ([], Malformed) t before x)
+  malformed_goes c u r h k = joins_then ⊥ false tt r a b c s s u (λ p q x y (m : Result (Unit {0}) Why). (x ≡ y) × TakesDueLine p q (malformed_line n) (Ok tt)) (λ before following x y. ConfirmsLast n ([], Clean) t before x) (λ before following x y. ConfirmsLast n ([], Malformed) t before x) here open_yet
       (λ p q z v w y m f g. malformed_then n t p q v m f.1 (subst (λ (x : CertificateState). ConfirmsLast n ([], Clean) t q x m) (sym f.0) g))
-      (replies_go ⊥ tt tt a b s (λ before behind. TakesDueLine before behind (malformed_line n)) (λ p q x y (m : Result (Unit {0}) Why). (x ≡ y) × TakesDueLine p q (malformed_line n) (Ok tt)) (λ p q more line. (refl, line)) h) k
+      (replies_go ⊥ tt tt a b s (λ before following. TakesDueLine before following (malformed_line n)) (λ p q x y (m : Result (Unit {0}) Why). (x ≡ y) × TakesDueLine p q (malformed_line n) (Ok tt)) (λ p q more line. (refl, line)) h) k
 
 -- an ask under no literals, and the end
 module _ (n m : ℕ) (t mid : Table) (a b c : Source) (s u v : Stream) (here : AtEnd a → ⊥) (open_yet : AtEnd s.source → ⊥) where
   asked_end : (w : Command) (r : Reading) (p q z : List ℕ) (x y k : CertificateState) (h : Result (Unit {0}) Why) → m ≡ n + 1 → ConfirmsNext n w t mid p q x y (Ok tt) → ConfirmsLast m r mid q y h → ConfirmsLast n (w ∷ r.0, r.1) t p x h
   asked_end w r p q z x y k (Ok o) is f g = λ j earlier s.
       let d = f j earlier s in
-      d.back r.0 r.1 (subst (λ (i : ℕ). ToConfirm (after_command w j) i d.later r.0 r.1 q y.rest) is (g (after_command w j) d.later d.stands))
+      d.back r.0 r.1 (subst (λ (i : ℕ). ToConfirm (after_command w j) i d.later r.0 r.1 q y.rest) is (g (after_command w j) d.later d.valid))
   asked_end w r p q z x y k (Err why) is f g = λ j earlier s e.
       let d = f j earlier s in
-      g (after_command w j) d.later d.stands (subst (λ (i : ℕ). ToConfirm (after_command w j) i d.later r.0 r.1 q y.rest) (sym is) (d.on r.0 r.1 e))
+      g (after_command w j) d.later d.valid (subst (λ (i : ℕ). ToConfirm (after_command w j) i d.later r.0 r.1 q y.rest) (sym is) (d.on r.0 r.1 e))
 
-  pub command_end : (M : Type 0) (w : Command) (r : Reading) (h : Result (Unit {0}) Stop) → m ≡ n + 1 → Joins {A = Unit {0}} M true (Ok tt) a b s u (ConfirmsNext n w t mid) → Joins {A = Unit {0}} M false h b c u v (λ before behind x y. ConfirmsLast m r mid before x)
-      → Joins {A = Unit {0}} M false h a c s v (λ before behind x y. ConfirmsLast n (w ∷ r.0, r.1) t before x)
-  command_end M w r h is p q = joins_then M false tt h a b c s u v (λ p q x y (k : Result (Unit {0}) Why). ConfirmsNext n w t mid p q x y (Ok tt)) (λ before behind x y. ConfirmsLast m r mid before x) (λ before behind x y. ConfirmsLast n (w ∷ r.0, r.1) t before x) here open_yet
+  pub command_end : (M : Type 0) (w : Command) (r : Reading) (h : Result (Unit {0}) Stop) → m ≡ n + 1 → Joins {A = Unit {0}} M true (Ok tt) a b s u (ConfirmsNext n w t mid) → Joins {A = Unit {0}} M false h b c u v (λ before following x y. ConfirmsLast m r mid before x)
+      → Joins {A = Unit {0}} M false h a c s v (λ before following x y. ConfirmsLast n (w ∷ r.0, r.1) t before x)
+  command_end M w r h is p q = joins_then M false tt h a b c s u v (λ p q x y (k : Result (Unit {0}) Why). ConfirmsNext n w t mid p q x y (Ok tt)) (λ before following x y. ConfirmsLast m r mid before x) (λ before following x y. ConfirmsLast n (w ∷ r.0, r.1) t before x) here open_yet
       (λ p q z x y k d f g. asked_end w r p q z x y k d is f g) p q
 
-  pub command_stops : (M : Type 0) (w : Command) (r : Reading) (e : Stop) → Joins {A = Unit {0}} M true (Err e) a b s u (ConfirmsNext n w t mid) → Joins {A = Unit {0}} M false (Err e) a b s u (λ before behind x y. ConfirmsLast n (w ∷ r.0, r.1) t before x)
-  command_stops M w r e p = joins_stop M false e a b s u (ConfirmsNext n w t mid) (λ before behind x y. ConfirmsLast n (w ∷ r.0, r.1) t before x) (λ p q x y why f j earlier s k. f j earlier s r.0 r.1 k) p
+  pub command_stops : (M : Type 0) (w : Command) (r : Reading) (e : Stop) → Joins {A = Unit {0}} M true (Err e) a b s u (ConfirmsNext n w t mid) → Joins {A = Unit {0}} M false (Err e) a b s u (λ before following x y. ConfirmsLast n (w ∷ r.0, r.1) t before x)
+  command_stops M w r e p = joins_stop M false e a b s u (ConfirmsNext n w t mid) (λ before following x y. ConfirmsLast n (w ∷ r.0, r.1) t before x) (λ p q x y why f j earlier s k. f j earlier s r.0 r.1 k) p

@@ -22,7 +22,7 @@ use Rattle.certify.specs.confirm.ConfirmedScript.{ConfirmsScript, ConfirmsThroug
 use Rattle.certify.specs.script.LastPiece.{FaultsAhead, NoReadFailedAhead, TakesSome}
 use Rattle.certify.specs.script.Commands.{HasWhole, ReaderMeans, ReachesCommand, end_reading}
 use Rattle.certify.specs.script.Streaming.{Arrives, NextComes}
-use Rattle.certify.proofs.lemmas.confirm.Streams.{all_over, confirms_none, nothing_behind, says_stop, taken_front}
+use Rattle.certify.proofs.lemmas.confirm.Streams.{all_over, confirms_none, nothing_after, says_stop, taken_front}
 use Rattle.certify.proofs.lemmas.confirm.Joining.{covers_given, covers_took, failed_then, joins_stop, joins_then, kept_then, took_halted, took_kept, took_none, took_open, took_then}
 
 -- BEFORE THE FIRST COMMAND
@@ -36,7 +36,7 @@ through_none text s reader m = record {
   joins = λ total k. (
     took_none s.answers,
     λ more c. confirms_none tt s.certificate (Through s.number (text (rest_in total s.script)) s.table s.number (text (rest_in total s.script)) s.table (rest_in more s.answers) (rest_in more s.answers))
-        (λ rest j earlier h. record { judge = j; later = earlier; stands = h; on = λ x. x; back = λ x. x }),
+        (λ rest j earlier h. record { judge = j; later = earlier; valid = h; on = λ x. x; back = λ x. x }),
   );
 }
 
@@ -50,25 +50,25 @@ through_command : (n m k : ℕ) (script : Reading) (c : Command) (left : Reading
     → Through n script t m (onto_commands (c ∷ []) left) between p q u v (Ok tt) → ConfirmsNext m c between next q z v w (Ok tt) → Through n script t k left next p z u w (Ok tt)
 through_command n m k script c left t between next p q z u v w e f g j earlier s =
     let x = f j earlier s in
-    let y = g x.judge x.later x.stands in
+    let y = g x.judge x.later x.valid in
     record {
       judge = after_command c x.judge;
       later = y.later;
-      stands = y.stands;
+      valid = y.valid;
       on = λ h. subst (λ i. ToConfirm (after_command c x.judge) i y.later left.0 left.1 z w.rest) (sym e) (y.on left.0 left.1 (x.on h));
       back = λ h. x.back (y.back left.0 left.1 (subst (λ i. ToConfirm (after_command c x.judge) i y.later left.0 left.1 z w.rest) e h));
     }
 
 -- nothing of what is left can be confirmed
 abbrev Nothing : ℕ → Reading → Table → List ℕ → List ℕ → CertificateState → CertificateState → Result (Unit {0}) Why → Type 0
-Nothing n script t before behind old new r = (j : ScriptState) (earlier : List Step) → HoldsAt t old j earlier → ToConfirm j n earlier script.0 script.1 before old.rest → ⊥
+Nothing n script t before following old new r = (j : ScriptState) (earlier : List Step) → HoldsAt t old j earlier → ToConfirm j n earlier script.0 script.1 before old.rest → ⊥
 
 through_last : (n m : ℕ) (script left : Reading) (t between : Table) (p q z : List ℕ) (u v w : CertificateState) (y : Result (Unit {0}) Why) → Through n script t m left between p q u v (Ok tt) → ConfirmsLast m left between q v y → ConfirmsLast n script t p u y
-through_last n m script left t between p q z u v w (Ok x) f g = λ j earlier s. let h = f j earlier s in h.back (g h.judge h.later h.stands)
-through_last n m script left t between p q z u v w (Err why) f g = λ j earlier s k. let h = f j earlier s in g h.judge h.later h.stands (h.on k)
+through_last n m script left t between p q z u v w (Ok x) f g = λ j earlier s. let h = f j earlier s in h.back (g h.judge h.later h.valid)
+through_last n m script left t between p q z u v w (Err why) f g = λ j earlier s k. let h = f j earlier s in g h.judge h.later h.valid (h.on k)
 
 through_nothing : (n m : ℕ) (script left : Reading) (t between : Table) (p q z : List ℕ) (u v w : CertificateState) (y : Result (Unit {0}) Why) → Through n script t m left between p q u v (Ok tt) → Nothing m left between q z v w y → Nothing n script t p z u w y
-through_nothing n m script left t between p q z u v w y f g j earlier s k = let h = f j earlier s in g h.judge h.later h.stands (h.on k)
+through_nothing n m script left t between p q z u v w y f g j earlier s k = let h = f j earlier s in g h.judge h.later h.valid (h.on k)
 
 -- what a call leaves that went on
 pub quits : (a b : Source) (s t : Stream) (P : List ℕ → List ℕ → CertificateState → CertificateState → Result (Unit {0}) Why → Type 0) → (AtEnd s.source → ⊥) → Joins ⊥ true (Ok tt) a b s t P → NoReadFailedAhead a b × Confirms {A = Unit {0}} (Err stop.OutOfMemory) s t Any
@@ -78,7 +78,7 @@ quits a b s t P open_yet h =
 
 -- by what is said of the whole script
 ends_by : (M : Type 0) (text : List ℕ → Reading) (r : Result (Unit {0}) Stop) (old new : ConfirmPlace) → TakesSome false old.script new.script → (M → (total : List ℕ) → Covers new.script total → 2 ^ 64 < old.number + numbers (text (rest_in total old.script)))
-    → ((total : List ℕ) → Covers new.script total → Joins M false r old.answers new.answers old.certificate new.certificate (λ before behind u v. ConfirmsLast old.number (text (rest_in total old.script)) old.table before u)) → ConfirmsScript text r old new
+    → ((total : List ℕ) → Covers new.script total → Joins M false r old.answers new.answers old.certificate new.certificate (λ before following u v. ConfirmsLast old.number (text (rest_in total old.script)) old.table before u)) → ConfirmsScript text r old new
 ends_by M text (Ok x) old new took many joins = (took, joins)
 ends_by M text (Err (stop.No why)) old new took many joins = (took, joins)
 ends_by M text (Err stop.ScriptRead) old new took many joins = absurd (joins new.script.reader.given (covers_given new.script))
@@ -105,7 +105,7 @@ module _ (text : List ℕ → Reading) (old mid : ConfirmPlace) (reader after_re
   -- the end
   module _ (new : ConfirmPlace) (M : Type 0) (took : TakesSome false mid.script new.script) (left : Reading) (is : (total : List ℕ) → Covers new.script total → through.left (rest_in total mid.script) ≡ left) where
     whole : (r : Result (Unit {0}) Stop) → (M → 2 ^ 64 < mid.number + numbers left)
-        → Joins M false r mid.answers new.answers mid.certificate new.certificate (λ before behind u v. ConfirmsLast mid.number left mid.table before u) → ConfirmsScript text r old new
+        → Joins M false r mid.answers new.answers mid.certificate new.certificate (λ before following u v. ConfirmsLast mid.number left mid.table before u) → ConfirmsScript text r old new
     whole r many joins = ends_by M text r old new (took_then false old.script mid.script new.script through.took took)
         (λ x total k.
         let before = covers_took false mid.script new.script total mid_open took k in
@@ -116,20 +116,20 @@ module _ (text : List ℕ → Reading) (old mid : ConfirmPlace) (reader after_re
         (λ total k.
         let before = covers_took false mid.script new.script total mid_open took k in
         joins_then M false tt r old.answers mid.answers new.answers old.certificate mid.certificate new.certificate
-        (Through old.number (text (rest_in total old.script)) old.table mid.number left mid.table) (λ before behind u v. ConfirmsLast mid.number left mid.table before u) (λ before behind u v. ConfirmsLast old.number (text (rest_in total old.script)) old.table before u)
+        (Through old.number (text (rest_in total old.script)) old.table mid.number left mid.table) (λ before following u v. ConfirmsLast mid.number left mid.table before u) (λ before following u v. ConfirmsLast old.number (text (rest_in total old.script)) old.table before u)
         answers_open open_yet (λ p q z u v w y f g. through_last old.number mid.number (text (rest_in total old.script)) left old.table mid.table p q z u v w y f g)
         (subst (λ (x : Reading). Joins M true (Ok tt) old.answers mid.answers old.certificate mid.certificate (Through old.number (text (rest_in total old.script)) old.table mid.number x mid.table)) (is total k) (through.joins total before)) joins)
 
   pub ends_so : (new : ConfirmPlace) (e : ScriptEnd) (r : Result (Unit {0}) Stop) → Arrives (next.End e) mid.script new.script reader after_reader
-      → Joins (2 ^ 64 < mid.number + numbers (end_reading e)) false r mid.answers new.answers mid.certificate new.certificate (λ before behind u v. ConfirmsLast mid.number (end_reading e) mid.table before u) → ConfirmsScript text r old new
+      → Joins (2 ^ 64 < mid.number + numbers (end_reading e)) false r mid.answers new.answers mid.certificate new.certificate (λ before following u v. ConfirmsLast mid.number (end_reading e) mid.table before u) → ConfirmsScript text r old new
   ends_so new e r a joins = whole new (2 ^ 64 < mid.number + numbers (end_reading e)) a.0 (end_reading e) (a.1 true through.left through.means) r (λ x. x) joins
 
   pub ends_last : (new : ConfirmPlace) (e : ScriptEnd) (r : Result (Unit {0}) Stop) → Arrives (next.Last e) mid.script new.script reader after_reader
-      → ((c : Command) → HasWhole after_reader c → Joins (2 ^ 64 < mid.number + numbers (onto_commands (c ∷ []) (end_reading e))) false r mid.answers new.answers mid.certificate new.certificate (λ before behind u v. ConfirmsLast mid.number (onto_commands (c ∷ []) (end_reading e)) mid.table before u)) → ConfirmsScript text r old new
+      → ((c : Command) → HasWhole after_reader c → Joins (2 ^ 64 < mid.number + numbers (onto_commands (c ∷ []) (end_reading e))) false r mid.answers new.answers mid.certificate new.certificate (λ before following u v. ConfirmsLast mid.number (onto_commands (c ∷ []) (end_reading e)) mid.table before u)) → ConfirmsScript text r old new
   ends_last new e r a joins =
       let k = a.2 true through.left through.means in
       whole new (2 ^ 64 < mid.number + numbers (onto_commands (k.0 ∷ []) (end_reading e))) ((a.0, a.1.0), λ h. all_over new.script a.1.1) (onto_commands (k.0 ∷ []) (end_reading e))
-      (λ total c. ap through.left (nothing_behind mid.script new.script a.0 total a.1 c) ∙ k.2) r (λ x. x) (joins k.0 k.1)
+      (λ total c. ap through.left (nothing_after mid.script new.script a.0 total a.1 c) ∙ k.2) r (λ x. x) (joins k.0 k.1)
 
   -- a command
   module _ (new : ConfirmPlace) (a : Arrives next.Command mid.script new.script reader after_reader) where
@@ -146,7 +146,7 @@ module _ (text : List ℕ → Reading) (old mid : ConfirmPlace) (reader after_re
         → ((c : Command) → HasWhole after_reader c → Joins (2 ^ 64 ≤ mid.number) true (Ok tt) mid.answers new.answers mid.certificate new.certificate (ConfirmsNext mid.number c mid.table new.table)) → ConfirmsThrough text old new after_reader
     one_more n joins = record {
       left = reaches.after;
-      means = reaches.stands;
+      means = reaches.valid;
       took = took_then true old.script mid.script new.script through.took took;
       counted = λ total k.
           let c = through.counted total (covers_took true mid.script new.script total mid_open took k) in
@@ -174,7 +174,7 @@ module _ (text : List ℕ → Reading) (old mid : ConfirmPlace) (reader after_re
         let script = text (rest_in total old.script) in
         let here = joins_stop (2 ^ 64 ≤ mid.number) false e mid.answers new.answers mid.certificate new.certificate (ConfirmsNext mid.number reaches.command mid.table new.table) (Nothing mid.number left mid.table)
         (λ p q u v why f j earlier s h. f j earlier s (reaches.after (rest_in total new.script)).0 (reaches.after (rest_in total new.script)).1 h) (joins reaches.command reaches.whole) in
-        joins_stop (2 ^ 64 ≤ mid.number) false e old.answers new.answers old.certificate new.certificate (Nothing old.number script old.table) (λ before behind u v. ConfirmsLast old.number script old.table before u) (λ p q u v why f. f)
+        joins_stop (2 ^ 64 ≤ mid.number) false e old.answers new.answers old.certificate new.certificate (Nothing old.number script old.table) (λ before following u v. ConfirmsLast old.number script old.table before u) (λ p q u v why f. f)
         (joins_then (2 ^ 64 ≤ mid.number) false tt (Err e) old.answers mid.answers new.answers old.certificate mid.certificate new.certificate
         (Through old.number script old.table mid.number left mid.table) (Nothing mid.number left mid.table) (Nothing old.number script old.table)
         answers_open open_yet (λ p q z u v w y f g. through_nothing old.number mid.number script left old.table mid.table p q z u v w y f g)

@@ -57,13 +57,13 @@ sound_as (Ok v) script answers certificate h = λ said.
 -- HOW EACH READER WAS LEFT
 
 -- what an answer says of three readers, of which the last reads are counted: a read of one text failed at most, that of its fault
-abbrev pub Tells : Reader → Reader → Reader → Source → Source → Source → Result Verdict ConfirmFault → Type 0
-Tells x a c y b d (Ok v) = NoReadFailedAhead (unread x) y × NoReadFailedAhead (unread a) b × NoReadFailedAhead (unread c) d × Exact (x, y.reader) (a, b.reader) (c, d.reader) v
-Tells x a c y b d (Err fault.ScriptRead) = FaultsAhead (unread x) y × NoReadFailedAhead (unread a) b × NoReadFailedAhead (unread c) d
-Tells x a c y b d (Err fault.AnswersRead) = NoReadFailedAhead (unread x) y × FaultsAhead (unread a) b × NoReadFailedAhead (unread c) d
-Tells x a c y b d (Err fault.CertificateRead) = NoReadFailedAhead (unread x) y × NoReadFailedAhead (unread a) b × FaultsAhead (unread c) d
-Tells x a c y b d (Err fault.OutOfMemory) = NoReadFailedAhead (unread x) y × NoReadFailedAhead (unread a) b × NoReadFailedAhead (unread c) d
-Tells x a c y b d (Err fault.CounterEnd) = ⊥
+abbrev pub ResultSays : Reader → Reader → Reader → Source → Source → Source → Result Verdict ConfirmFault → Type 0
+ResultSays x a c y b d (Ok v) = NoReadFailedAhead (unread x) y × NoReadFailedAhead (unread a) b × NoReadFailedAhead (unread c) d × Exact (x, y.reader) (a, b.reader) (c, d.reader) v
+ResultSays x a c y b d (Err fault.ScriptRead) = FaultsAhead (unread x) y × NoReadFailedAhead (unread a) b × NoReadFailedAhead (unread c) d
+ResultSays x a c y b d (Err fault.AnswersRead) = NoReadFailedAhead (unread x) y × FaultsAhead (unread a) b × NoReadFailedAhead (unread c) d
+ResultSays x a c y b d (Err fault.CertificateRead) = NoReadFailedAhead (unread x) y × NoReadFailedAhead (unread a) b × FaultsAhead (unread c) d
+ResultSays x a c y b d (Err fault.OutOfMemory) = NoReadFailedAhead (unread x) y × NoReadFailedAhead (unread a) b × NoReadFailedAhead (unread c) d
+ResultSays x a c y b d (Err fault.CounterEnd) = ⊥
 
 -- no read failed, or one did and this is so
 abbrev Leaves : Type 0 → Reader → Source → Type 0
@@ -78,28 +78,28 @@ few_calls rc tc tr m e h = omega arith
 few_reads : (P : Type 0) (x : Reader) (y : Source) → Leaves P x y → y.reads ≤ most_reads → y.reader.calls ≤ x.calls + most_reads
 few_reads P x y h m = elim h [ inl k ↦ few_calls x.calls y.reader.calls y.reads most_reads k.1 m | inr f ↦ few_calls x.calls y.reader.calls y.reads most_reads f.1.1.calls m ]
 
-script_left : (x a c : Reader) (y b d : Source) (r : Result Verdict ConfirmFault) → Tells x a c y b d r → Leaves (r ≡ Err fault.ScriptRead) x y
+script_left : (x a c : Reader) (y b d : Source) (r : Result Verdict ConfirmFault) → ResultSays x a c y b d r → Leaves (r ≡ Err fault.ScriptRead) x y
 script_left x a c y b d (Err fault.ScriptRead) h = inr (refl, h.0)
 script_left x a c y b d (Err fault.CounterEnd) h = absurd h
 script_left x a c y b d e h = inl h.0
 
-answers_left : (x a c : Reader) (y b d : Source) (r : Result Verdict ConfirmFault) → Tells x a c y b d r → Leaves (r ≡ Err fault.AnswersRead) a b
+answers_left : (x a c : Reader) (y b d : Source) (r : Result Verdict ConfirmFault) → ResultSays x a c y b d r → Leaves (r ≡ Err fault.AnswersRead) a b
 answers_left x a c y b d (Err fault.AnswersRead) h = inr (refl, h.1)
 answers_left x a c y b d (Err fault.CounterEnd) h = absurd h
 answers_left x a c y b d e h = inl h.1
 
-certificate_left : (x a c : Reader) (y b d : Source) (r : Result Verdict ConfirmFault) → Tells x a c y b d r → Leaves (r ≡ Err fault.CertificateRead) c d
+certificate_left : (x a c : Reader) (y b d : Source) (r : Result Verdict ConfirmFault) → ResultSays x a c y b d r → Leaves (r ≡ Err fault.CertificateRead) c d
 certificate_left x a c y b d (Err fault.CertificateRead) h = inr (refl, h.2)
 certificate_left x a c y b d (Err fault.CounterEnd) h = absurd h
 certificate_left x a c y b d e h = inl h.2
 
-said_exact : (x a c : Reader) (y b d : Source) (r : Result Verdict ConfirmFault) → Tells x a c y b d r → IfOk r (Exact (x, y.reader) (a, b.reader) (c, d.reader))
+said_exact : (x a c : Reader) (y b d : Source) (r : Result Verdict ConfirmFault) → ResultSays x a c y b d r → IfOk r (Exact (x, y.reader) (a, b.reader) (c, d.reader))
 said_exact x a c y b d (Ok v) h = h.3
 said_exact x a c y b d (Err e) h = tt
 
-promised : (x a c : Reader) (y b d : Source) (r : Result Verdict ConfirmFault) → y.reads ≤ most_reads → b.reads ≤ most_reads → d.reads ≤ most_reads → Tells x a c y b d r → Promised r (x, y.reader) (a, b.reader) (c, d.reader)
+promised : (x a c : Reader) (y b d : Source) (r : Result Verdict ConfirmFault) → y.reads ≤ most_reads → b.reads ≤ most_reads → d.reads ≤ most_reads → ResultSays x a c y b d r → Promised r (x, y.reader) (a, b.reader) (c, d.reader)
 promised x a c y b d r m n k h =
-    let T = Tells x a c y b d in
+    let T = ResultSays x a c y b d in
     let exact = said_exact x a c y b d r h in
     let s = script_left x a c y b d r h in
     let t = answers_left x a c y b d r h in
@@ -188,21 +188,21 @@ module _ (x a c : Reader) (checker : Kernel) (step : Step) (table : Table) (fres
       gave_enough c new.certificate.source p.0.0.0 (λ u. (No ask why ≡ Yes) ↔ TextsMatch s t u) p.0.0.1 p.0.1
       (λ more m. ((λ said. absurd (cc)), (λ same. absurd (unmatched s t (rest_in more (unread c)) why (p.1 more m) same))))))
 
-  tells : (r : Result (Unit {0}) Stop) (asks : ℕ) → new.script.reads ≤ most_reads → new.certificate.source.reads ≤ most_reads → ConfirmsScript reading r old new → Tells x a c new.script new.answers new.certificate.source (said_by r asks)
-  tells (Ok u) asks short few e =
+  result_says : (r : Result (Unit {0}) Stop) (asks : ℕ) → new.script.reads ≤ most_reads → new.certificate.source.reads ≤ most_reads → ConfirmsScript reading r old new → ResultSays x a c new.script new.answers new.certificate.source (said_by r asks)
+  result_says (Ok u) asks short few e =
       let j = e.1 last (covers_given new.script) in
       let p = j.1 new.answers.reader.given (covers_given new.answers) in
       (took_kept false old.script new.script e.0, took_kept false old.answers new.answers j.0, (p.0.1.failures, p.0.1.calls), yes_exact e)
-  tells (Err (stop.No why)) asks short few e =
+  result_says (Err (stop.No why)) asks short few e =
       let j = e.1 last (covers_given new.script) in
       let p = j.1 new.answers.reader.given (covers_given new.answers) in
       (took_kept false old.script new.script e.0, took_kept false old.answers new.answers j.0, (p.0.0.1.failures, p.0.0.1.calls), no_exact (min (asks + 1) (2 ^ 64 - 1)) why e)
-  tells (Err stop.CertificateRead) asks short few e = let p = e.1.1 in (e.0, e.1.0, (p.0.0, p.0.1))
-  tells (Err stop.CounterEnd) asks short few e =
+  result_says (Err stop.CertificateRead) asks short few e = let p = e.1.1 in (e.0, e.1.0, (p.0.0, p.0.1))
+  result_says (Err stop.CounterEnd) asks short few e =
       let p = e.1.1 in
       let all = new.certificate.source.reader.given in
       absurd (nothing_spent (rest_in all (unread c)) (few_given 1 c new.certificate.source p.0.0.0 p.0.0.1 few) (p.1 all (covers_given new.certificate.source) [] (fresh (rest_in all (unread c))).at.taken))
-  tells (Err stop.TooMany) asks short few e =
+  result_says (Err stop.TooMany) asks short few e =
       let all = new.script.reader.given in
       let text = rest_in all (unread x) in
       let many = e.1 all (covers_given new.script) in
@@ -212,7 +212,7 @@ module _ (x a c : Reader) (checker : Kernel) (step : Step) (table : Table) (fres
     where
       too_many : (n l : ℕ) → 2 ^ 64 < 1 + n → n ≤ l + 2 → l ≤ most_bytes → ⊥
       too_many n l h k m = absurd (let e : most_bytes + 2 < 2 ^ 64 = omega arith in omega arith)
-  tells (Err z) asks short few e = let p = e.1.1 in (e.0, e.1.0, (p.0.0.1.failures, p.0.0.1.calls))
+  result_says (Err z) asks short few e = let p = e.1.1 in (e.0, e.1.0, (p.0.0.1.failures, p.0.0.1.calls))
 
   -- HOW MANY LOOKS IT TOOK
 
@@ -256,7 +256,7 @@ module _ (x a c : Reader) (checker : Kernel) (step : Step) (table : Table) (fres
 pub keeps_promises : (x a c : Reader) (checker : Kernel) (step : Step) (table : Table) (new : ConfirmPlace) → IsBegun checker step table → (r : Result (Unit {0}) Stop) (asks : ℕ) → new.script.reads ≤ most_reads → new.answers.reads ≤ most_reads → new.certificate.source.reads ≤ most_reads
     → ConfirmsScript reading r (begun x a c checker step table) new → Promised (said_by r asks) (x, new.script.reader) (a, new.answers.reader) (c, new.certificate.source.reader)
 keeps_promises x a c checker step table new fresh r asks m n k h =
-    promised x a c new.script new.answers new.certificate.source (said_by r asks) m n k (tells x a c checker step table fresh new r asks m k h)
+    promised x a c new.script new.answers new.certificate.source (said_by r asks) m n k (result_says x a c checker step table fresh new r asks m k h)
 
 -- by how the three are read as it begins
 pub begins : (r : Result (Unit {0}) Stop) (x a c : Reader) (script answers : LastPiece) (certificate : Source) (checker : Kernel) (step : Step) (number : ℕ) (table : Table) (new : ConfirmPlace)

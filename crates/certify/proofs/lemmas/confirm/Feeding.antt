@@ -9,24 +9,24 @@ use Rattle.sat_checker.specs.declared.error.CheckerError.TheVariants as errors
 use Rattle.certify.specs.confirm.Feeding.{stop_by, FeedsStep, SettlesConflict}
 
 pub fed : (old : Kernel) (step : Step) (new : Kernel) → ChecksStep (Ok tt) old step new → FeedsStep (Ok tt) old step new
-fed old step new h = λ steps t. let x = h steps t.stands in (x.1.accepts, record { stands = x.1.stands; goes_on = x.1.goes_on })
+fed old step new h = λ steps t. let x = h steps t.valid in (x.1.accepts, record { valid = x.1.valid; goes_on = x.1.goes_on })
 
 pub unfed : (e : CheckerError) (old : Kernel) (step : Step) (new : Kernel) → ChecksStep (Err e) old step new → FeedsStep (Err (stop_by e)) old step new
-unfed errors.CheckFailed old step new h = λ steps t. (h steps t.stands).1
+unfed errors.CheckFailed old step new h = λ steps t. (h steps t.valid).1
 unfed errors.OutOfMemory old step new h = tt
-unfed errors.CounterEnd old step new h = λ steps t. (h steps t.stands).1
-unfed errors.HasFailed old step new h = λ steps t. absurd (true≢false (sym (h steps t.stands).0 ∙ t.goes_on))
+unfed errors.CounterEnd old step new h = λ steps t. (h steps t.valid).1
+unfed errors.HasFailed old step new h = λ steps t. absurd (true≢false (sym (h steps t.valid).0 ∙ t.goes_on))
 unfed (errors.ProofProcessorError cause) old step new h = tt
-unfed e old step new h = λ steps t. absurd (h steps t.stands)
+unfed e old step new h = λ steps t. absurd (h steps t.valid)
 
 -- A UNIT CONFLICT THAT WAS PENDING
 
 pub settles : (old new : Kernel) → ChecksDelayed (Ok tt) old new → SettlesConflict (Ok tt) old new
-settles old new h = λ steps t. let x = h steps t.stands in (record { stands = x.2; goes_on = x.3 }, x.1)
+settles old new h = λ steps t. let x = h steps t.valid in (record { valid = x.2; goes_on = x.3 }, x.1)
 
 pub unsettled : (e : CheckerError) (old new : Kernel) → ChecksDelayed (Err e) old new → SettlesConflict (Err (stop_by e)) old new
-unsettled errors.CounterEnd old new h = λ steps t. let x = h steps t.stands in (x.2, x.1)
-unsettled errors.HasFailed old new h = λ steps t. true≢false (sym (h steps t.stands).0 ∙ t.goes_on)
-unsettled errors.OutOfMemory old new h = λ steps t. (h steps t.stands).1
-unsettled (errors.ProofProcessorError cause) old new h = λ steps t. (h steps t.stands).1
-unsettled e old new h = λ steps t. h steps t.stands
+unsettled errors.CounterEnd old new h = λ steps t. let x = h steps t.valid in (x.2, x.1)
+unsettled errors.HasFailed old new h = λ steps t. true≢false (sym (h steps t.valid).0 ∙ t.goes_on)
+unsettled errors.OutOfMemory old new h = λ steps t. (h steps t.valid).1
+unsettled (errors.ProofProcessorError cause) old new h = λ steps t. (h steps t.valid).1
+unsettled e old new h = λ steps t. h steps t.valid

@@ -29,9 +29,9 @@ spent_before f n i l spent = elim spent [
   })
 ]
 
-spells_one : (steps : List Step) (text : List ℕ) (step : Step) (behind : List ℕ) → SpellsSteps steps text → SpellsStep step behind → SpellsSteps (steps ++ step ∷ []) (text ++ behind)
-spells_one [] text step behind s h = (behind, [], h, refl, ap (λ z. z ++ behind) s ∙ sym (append-nil behind))
-spells_one (x ∷ xs) text step behind s h = (s.0, s.1 ++ behind, s.2, spells_one xs s.1 step behind s.3 h, ap (λ z. z ++ behind) s.4 ∙ append_assoc s.0 s.1 behind)
+spells_one : (steps : List Step) (text : List ℕ) (step : Step) (following : List ℕ) → SpellsSteps steps text → SpellsStep step following → SpellsSteps (steps ++ step ∷ []) (text ++ following)
+spells_one [] text step following s h = (following, [], h, refl, ap (λ z. z ++ following) s ∙ sym (append-nil following))
+spells_one (x ∷ xs) text step following s h = (s.0, s.1 ++ following, s.2, spells_one xs s.1 step following s.3 h, ap (λ z. z ++ following) s.4 ∙ append_assoc s.0 s.1 following)
 
 longer : (text step rest bytes : List ℕ) → bytes ≡ step ++ rest → length text + length bytes ≤ most_bytes → length (text ++ step) + length rest ≤ most_bytes
 longer text step rest bytes e l =
@@ -41,18 +41,18 @@ longer text step rest bytes e l =
 
 none_spent : (earlier done : List Step) (text bytes : List ℕ) → taken_after done [] ≡ earlier → SpellsSteps done text → length text + length bytes ≤ most_bytes → (IsSpent (ready_after earlier) → ⊥) → ReachesCounterEnd earlier bytes → ⊥
 none_spent earlier done text bytes e s l low (spent_settling h) = low h
-none_spent earlier done text bytes e s l low (spent_trying step behind rest cut spelt h) =
-    let few : length (text ++ behind) ≤ most_bytes = let k = longer text behind rest bytes cut l in omega arith in
-    none_is_spent done step (text ++ behind) (spells_one done text step behind s spelt) few (subst (λ z. SpentBy step (stored_after z)) (sym e) h)
-none_spent earlier done text bytes e s l low (spent_taking step behind rest cut spelt accepts h) =
-    let more = spells_one done text step behind s spelt in
-    let k = longer text behind rest bytes cut l in
-    let few : length (text ++ behind) ≤ most_bytes = omega arith in
+none_spent earlier done text bytes e s l low (spent_trying step following rest cut spelt h) =
+    let few : length (text ++ following) ≤ most_bytes = let k = longer text following rest bytes cut l in omega arith in
+    none_is_spent done step (text ++ following) (spells_one done text step following s spelt) few (subst (λ z. SpentBy step (stored_after z)) (sym e) h)
+none_spent earlier done text bytes e s l low (spent_taking step following rest cut spelt accepts h) =
+    let more = spells_one done text step following s spelt in
+    let k = longer text following rest bytes cut l in
+    let few : length (text ++ following) ≤ most_bytes = omega arith in
     let whole : taken_after (done ++ step ∷ []) [] ≡ step ∷ earlier = taken_one done step [] ∙ ap (λ z. step ∷ z) e in
-    let ids : (ready_after (step ∷ earlier)).next_id ≤ length (text ++ behind) = subst (λ z. (ready_after z).next_id ≤ length (text ++ behind)) whole (ids_within_bytes (done ++ step ∷ []) (text ++ behind) more) in
-    none_spent (step ∷ earlier) (done ++ step ∷ []) (text ++ behind) rest whole more k
-    (λ spent. none_is_spent done step (text ++ behind) more few
-    (subst (λ z. SpentBy step (stored_after z)) (sym e) (inr (accepts, spent_before (effect step (ready_after earlier)) (length (text ++ behind)) ids few spent)))) h
+    let ids : (ready_after (step ∷ earlier)).next_id ≤ length (text ++ following) = subst (λ z. (ready_after z).next_id ≤ length (text ++ following)) whole (ids_within_bytes (done ++ step ∷ []) (text ++ following) more) in
+    none_spent (step ∷ earlier) (done ++ step ∷ []) (text ++ following) rest whole more k
+    (λ spent. none_is_spent done step (text ++ following) more few
+    (subst (λ z. SpentBy step (stored_after z)) (sym e) (inr (accepts, spent_before (effect step (ready_after earlier)) (length (text ++ following)) ids few spent)))) h
 
 pub nothing_spent : (bytes : List ℕ) → length bytes ≤ most_bytes → ReachesCounterEnd [] bytes → ⊥
 nothing_spent bytes l = none_spent [] [] [] bytes refl refl (let k : length bytes ≤ most_bytes = l in omega arith) none_begun

@@ -1,4 +1,4 @@
--- What names stand for behind one step more.
+-- What names stand for after one step more.
 use Rattle.std.proofs.Common.{ℕ, ◌+◌, ◌≤◌, ◌<◌, ◌≡◌, Bool, true, false, cond, eqb, List, ◌∷◌, Option, Some, None, refl, sym, ◌∙◌, ap, subst, arith, inl, inr}
 use Rattle.std.proofs.Common.{Result, Ok, Err, OnOk}
 use Rattle.std.proofs.lemmas.Bool.{true≢false, eqb-true, eqb-false, eq-eqb}
@@ -12,7 +12,7 @@ use Rattle.sat_checker.specs.matching.Expected.{Outcome, Expected, NewName, NoNa
 use Rattle.sat_checker.specs.matching.ProofChecking.{checker_rules}
 use Rattle.sat_checker.proofs.lemmas.matching.CheckerIsSound.{the_checking_sound}
 use Rattle.certify.specs.confirm.Variables.{PutsVariable}
-use Rattle.certify.specs.confirm.Following.{StandFor, NamesFollow, OthersPass}
+use Rattle.certify.specs.confirm.Following.{AreVariablesOfNames, NamesFollow, OthersPass}
 use Rattle.certify.specs.confirm.Comparing.{Due}
 use Rattle.certify.specs.declared.confirm.variables.NamedVars.{NamedVars}
 use Rattle.certify.proofs.lemmas.confirm.FittingSteps.{fits_new_name, fits_no_name}
@@ -35,7 +35,7 @@ known_still earlier step m v all a e k = elim (the_checking_sound.keeps earlier 
   | inr d ↦ absurd (the_checking_sound.nameless earlier v m all (subst (λ (s : Step). Accepts (ready_after earlier) s) d a) e)
 ]
 
-pub stays : (variables : NamedVars) (earlier : List Step) (step : Step) → StandFor variables earlier → Accepts (ready_after earlier) step → variable_of (step ∷ earlier) ≡ variable_of earlier → StandFor variables (step ∷ earlier)
+pub stays : (variables : NamedVars) (earlier : List Step) (step : Step) → AreVariablesOfNames variables earlier → Accepts (ready_after earlier) step → variable_of (step ∷ earlier) ≡ variable_of earlier → AreVariablesOfNames variables (step ∷ earlier)
 stays variables earlier step s a same =
     let at : (m v : ℕ) → variable_of (step ∷ earlier) m ≡ Some v → variable_of earlier m ≡ Some v = λ m v e. sym (ap (λ (f : ℕ → Option ℕ). f m) same) ∙ e in
     record {
@@ -50,8 +50,8 @@ pub others : OthersPass
 others variables earlier step s o a = stays variables earlier step s a (unnamed step earlier o)
 
 -- A NEW NAME
-module _ (old new : NamedVars) (earlier : List Step) (s : StandFor old earlier) where
-  names_a : (v index : ℕ) → checker_rules.knows earlier v ≡ false → Accepts (ready_after earlier) (UserVarName v (Some index)) → index + 1 ≤ var_limit → PutsVariable old new (index + 1) (Some v) → StandFor new (UserVarName v (Some index) ∷ earlier)
+module _ (old new : NamedVars) (earlier : List Step) (s : AreVariablesOfNames old earlier) where
+  names_a : (v index : ℕ) → checker_rules.knows earlier v ≡ false → Accepts (ready_after earlier) (UserVarName v (Some index)) → index + 1 ≤ var_limit → PutsVariable old new (index + 1) (Some v) → AreVariablesOfNames new (UserVarName v (Some index) ∷ earlier)
   names_a v index unknown a low p = record {
     accepted = (s.accepted, a);
     named = fun_ext (λ m. ap (λ (o : Option ℕ). cond (eqb (index + 1) m) (Some v) o) (ap (λ (f : ℕ → Option ℕ). f m) s.named) ∙ sym (p.each m));
@@ -78,7 +78,7 @@ module _ (old new : NamedVars) (earlier : List Step) (s : StandFor old earlier) 
       is_few m w false e x = s.few m w x
 
   -- A NAME TAKEN
-  takes_a : (name v : ℕ) → variable_of earlier name ≡ Some v → Accepts (ready_after earlier) (UserVarName v None) → PutsVariable old new name None → StandFor new (UserVarName v None ∷ earlier)
+  takes_a : (name v : ℕ) → variable_of earlier name ≡ Some v → Accepts (ready_after earlier) (UserVarName v None) → PutsVariable old new name None → AreVariablesOfNames new (UserVarName v None ∷ earlier)
   takes_a name v at a p = record {
     accepted = (s.accepted, a);
     named = fun_ext (λ m. taken m (eqb name m) refl (variable_of earlier m) refl ∙ ap (λ (o : Option ℕ). cond (eqb name m) None o) (ap (λ (f : ℕ → Option ℕ). f m) s.named) ∙ sym (p.each m));
@@ -108,20 +108,20 @@ module _ (old new : NamedVars) (earlier : List Step) (s : StandFor old earlier) 
           go true x = absurd (none_some x)
           go false x = x
 
-  pub puts_new : (name v : ℕ) (step : Step) → Fits (checker_rules.knows earlier) earlier (NewName (name + 1)) step → (u : Option ℕ) → step ≡ UserVarName v u → Accepts (ready_after earlier) step → name < var_limit → PutsVariable old new (name + 1) (Some v) → StandFor new (step ∷ earlier)
+  pub puts_new : (name v : ℕ) (step : Step) → Fits (checker_rules.knows earlier) earlier (NewName (name + 1)) step → (u : Option ℕ) → step ≡ UserVarName v u → Accepts (ready_after earlier) step → name < var_limit → PutsVariable old new (name + 1) (Some v) → AreVariablesOfNames new (step ∷ earlier)
   puts_new name v step f u e a low p =
       let q = (fits_new_name checker_rules earlier (name + 1) step).0 f in
       let index : q.1 ≡ name = let at = q.3 in omega arith in
       let same : UserVarName v u ≡ UserVarName q.0 (Some q.1) = sym e ∙ q.2 in
       let v_is : q.0 ≡ v = cc in
       let whole : step ≡ UserVarName v (Some name) = q.2 ∙ ap (λ (x : ℕ). UserVarName x (Some q.1)) v_is ∙ ap (λ (x : ℕ). UserVarName v (Some x)) index in
-      subst (λ (z : Step). StandFor new (z ∷ earlier)) (sym whole)
+      subst (λ (z : Step). AreVariablesOfNames new (z ∷ earlier)) (sym whole)
       (names_a v name (subst (λ (x : ℕ). checker_rules.knows earlier x ≡ false) v_is q.4) (subst (λ (z : Step). Accepts (ready_after earlier) z) whole a) (omega arith) p)
 
-  pub takes_name : (name : ℕ) (step : Step) → Fits (checker_rules.knows earlier) earlier (NoName name) step → Accepts (ready_after earlier) step → PutsVariable old new name None → StandFor new (step ∷ earlier)
+  pub takes_name : (name : ℕ) (step : Step) → Fits (checker_rules.knows earlier) earlier (NoName name) step → Accepts (ready_after earlier) step → PutsVariable old new name None → AreVariablesOfNames new (step ∷ earlier)
   takes_name name step f a p =
       let q = (fits_no_name checker_rules earlier name step).0 f in
-      subst (λ (z : Step). StandFor new (z ∷ earlier)) (sym q.1) (takes_a name q.0 q.2 (subst (λ (z : Step). Accepts (ready_after earlier) z) q.1 a) p)
+      subst (λ (z : Step). AreVariablesOfNames new (z ∷ earlier)) (sym q.1) (takes_a name q.0 q.2 (subst (λ (z : Step). Accepts (ready_after earlier) z) q.1 a) p)
 
 abbrev pub puts_name : Expected → Bool
 puts_name (NewName name) = true
@@ -143,6 +143,6 @@ pub on_ok : {A E : Type 0} (r : Result A E) (P Q : Type 0) → (P → Q) → OnO
 on_ok (Ok x) P Q f p = f p
 on_ok (Err e) P Q f p = tt
 
--- nothing changes behind one
+-- nothing changes after one
 pub unchanged : (due : Due) (variables : NamedVars) (step : Step) → ((o : Outcome) (ask : List Literal) → puts_name (due o ask) ≡ false) → NamesFollow due variables step variables
 unchanged due variables step less earlier o ask s f a = stays variables earlier step s a (unput earlier (due o ask) step f false (less o ask) refl)

@@ -76,7 +76,7 @@ replies_stop goes stop.OutOfMemory a b P Q f h = h
 replies_stop goes stop.AnswersRead a b P Q f h = h
 replies_stop goes e a b P Q f h = absurd h
 
--- behind a call that went on
+-- after a call that went on
 pub replies_then : {A B : Type 0} (goes : Bool) (x : A) (r : Result B Stop) (a b c : Source) (P : List ℕ → List ℕ → Result A Why → Type 0) (Q R : List ℕ → List ℕ → Result B Why → Type 0) → (AtEnd a → ⊥)
     → ((p q s : List ℕ) (y : Result B Why) → P p q (Ok x) → Q q s y → R p s y) → Replies true (Ok x) a b P → Replies goes r b c Q → Replies goes r a c R
 replies_then goes x (Ok y) a b c P Q R open_yet f h k =
@@ -87,7 +87,7 @@ replies_then goes x (Err stop.OutOfMemory) a b c P Q R open_yet f h k = kept_the
 replies_then goes x (Err stop.AnswersRead) a b c P Q R open_yet f h k = failed_then a b c h.0 k
 replies_then goes x (Err e) a b c P Q R open_yet f h k = absurd k
 
--- a no behind a call that went on, of what reads nothing
+-- a no after a call that went on, of what reads nothing
 pub replies_no : {A B : Type 0} (goes : Bool) (x : A) (why : Why) (a b : Source) (P : List ℕ → List ℕ → Result A Why → Type 0) (R : List ℕ → List ℕ → Result B Why → Type 0) → (AtEnd a → ⊥)
     → ((p q : List ℕ) → P p q (Ok x) → R p q (Err why)) → Replies true (Ok x) a b P → Replies {A = B} goes (Err (stop.No why)) a b R
 replies_no goes x why a b P R open_yet f h = (took_halted a b open_yet h.0, λ total k. f (rest_in total a) (rest_in total b) (h.1 total k))
@@ -139,13 +139,13 @@ joins_stop {A} {B} M goes stop.ScriptRead a b s t P R f h = absurd h
 joins_stop {A} {B} M goes stop.TooMany a b s t P R f h = (h.0, any_stop A B stop.OutOfMemory s t Any h.1, h.2)
 joins_stop {A} {B} M goes e a b s t P R f h = (h.0, any_stop A B e s t Any h.1)
 
--- a stop behind a call that went on
+-- a stop after a call that went on
 stop_then : (A B : Type 0) (M : Type 0) (x : A) (e : Stop) (a b : Source) (s t u : Stream) (P : List ℕ → List ℕ → CertificateState → CertificateState → Result A Why → Type 0) → (AtEnd s.source → ⊥) → Joins M true (Ok x) a b s t P → Confirms {A = B} (Err e) t u Any → Confirms {A = B} (Err e) s u Any
 stop_then A B M x e a b s t u P open_yet h k =
     let total = b.reader.given in
     then_stop {A = A} {B = B} {C = B} x e s t u (P (rest_in total a) (rest_in total b)) Any Any open_yet (λ more why f g. tt) (h.1 total (covers_given b)) k
 
--- one behind another that went on
+-- one after another that went on
 pub joins_then : {A B : Type 0} (M : Type 0) (goes : Bool) (x : A) (r : Result B Stop) (a b c : Source) (s t u : Stream) (P : List ℕ → List ℕ → CertificateState → CertificateState → Result A Why → Type 0) (Q R : List ℕ → List ℕ → CertificateState → CertificateState → Result B Why → Type 0)
     → (AtEnd a → ⊥) → (AtEnd s.source → ⊥) → ((p q z : List ℕ) (v w y : CertificateState) (n : Result B Why) → P p q v w (Ok x) → Q q z w y n → R p z v y n)
     → Joins M true (Ok x) a b s t P → Joins M goes r b c t u Q → Joins M goes r a c s u R

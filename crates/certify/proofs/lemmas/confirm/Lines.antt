@@ -28,7 +28,7 @@ use Rattle.certify.specs.declared.confirm.lines.Wanted.{Wanted}
 use Rattle.certify.specs.declared.confirm.lines.Wanted.TheVariants as wanted
 use Rattle.certify.specs.declared.verdict.Why.{Why}
 use Rattle.certify.proofs.lemmas.answers.AnswerLines.{lines_of, same_kind, printed}
-use Rattle.certify.proofs.lemmas.confirm.Streams.{all_over, nothing_behind, taken_front}
+use Rattle.certify.proofs.lemmas.confirm.Streams.{all_over, nothing_after, taken_front}
 use Rattle.certify.proofs.lemmas.laws.DistinctTexts.{same_outcome}
 use Rattle.certify.proofs.lemmas.confirm.Joining.{failed_then, replies_no, replies_stop, replies_then, took_halted, took_kept, took_none}
 
@@ -38,11 +38,11 @@ pub no_lf_append : (xs ys : List ℕ) → HasNoLf xs → HasNoLf ys → HasNoLf 
 no_lf_append [] ys h k = k
 no_lf_append (x ∷ xs) ys h k = (h.0, no_lf_append xs ys h.1 k)
 
-no_lf_in : (xs front behind : List ℕ) → HasNoLf xs → xs ≡ front ++ 10 ∷ behind → ⊥
-no_lf_in [] [] behind h e = cc
-no_lf_in [] (f ∷ fs) behind h e = cc
-no_lf_in (x ∷ xs) [] behind h e = let same : x ≡ 10 = cc in h.0 same
-no_lf_in (x ∷ xs) (f ∷ fs) behind h e = let rest : xs ≡ fs ++ 10 ∷ behind = cc in no_lf_in xs fs behind h.1 rest
+no_lf_in : (xs front following : List ℕ) → HasNoLf xs → xs ≡ front ++ 10 ∷ following → ⊥
+no_lf_in [] [] following h e = cc
+no_lf_in [] (f ∷ fs) following h e = cc
+no_lf_in (x ∷ xs) [] following h e = let same : x ≡ 10 = cc in h.0 same
+no_lf_in (x ∷ xs) (f ∷ fs) following h e = let rest : xs ≡ fs ++ 10 ∷ following = cc in no_lf_in xs fs following h.1 rest
 
 first_lf : (xs ys x y : List ℕ) → HasNoLf xs → HasNoLf ys → xs ++ 10 ∷ x ≡ ys ++ 10 ∷ y → (xs ≡ ys) × (x ≡ y)
 first_lf [] [] x y h k e = let rest : x ≡ y = cc in (refl, rest)
@@ -135,7 +135,7 @@ FirstLine P line bytes more = (IsOneLine line × (bytes ≡ line ++ more)) ⊎ (
 module _ (P : List ℕ → Type 0) (a b : Source) (line total : List ℕ) (c : Covers b total) where
   first_of : IsNextLine P a b line → FirstLine P line (rest_in total a) (rest_in total b)
   first_of (inl h) = inl (h.1, taken_front 0 a b line total h.0 c)
-  first_of (inr (inl h)) = inr (inl (h.1, nothing_behind a b line total h.0 c))
+  first_of (inr (inl h)) = inr (inl (h.1, nothing_after a b line total h.0 c))
   first_of (inr (inr h)) = inr (inr ((h.0.1, taken_front 0 a b line total h.0.0 c), h.1))
 
 -- a line that may stand there, and does, is the one
@@ -153,9 +153,9 @@ the_line P line bytes more text tail right t (inr (inr h)) e =
     absurd (h.1.0 f.0 (subst P (t.whole ∙ f.1) right))
 
 -- a text in front of the line is all of it
-front_is_line : (line text behind : List ℕ) → IsOneLine text → IsOneLine line → line ≡ text ++ behind → line ≡ text
-front_is_line line text behind t l e =
-    let r = first_lf l.front t.front [] behind l.none t.none (sym l.whole ∙ e ∙ ap (λ (z : List ℕ). z ++ behind) t.whole ∙ append_assoc t.front (10 ∷ []) behind) in
+front_is_line : (line text following : List ℕ) → IsOneLine text → IsOneLine line → line ≡ text ++ following → line ≡ text
+front_is_line line text following t l e =
+    let r = first_lf l.front t.front [] following l.none t.none (sym l.whole ∙ e ∙ ap (λ (z : List ℕ). z ++ following) t.whole ∙ append_assoc t.front (10 ∷ []) following) in
     l.whole ∙ ap (λ (z : List ℕ). z ++ 10 ∷ []) r.0 ∙ sym t.whole
 
 module _ (P : List ℕ → Type 0) (a b : Source) (line : List ℕ) (open_yet : AtEnd a → ⊥) where
@@ -165,23 +165,23 @@ module _ (P : List ℕ → Type 0) (a b : Source) (line : List ℕ) (open_yet : 
   line_halts (inr (inr h)) = took_halted a b open_yet (line, h.0.0)
 
   -- a line that is the text, or begins with it
-  line_taken : (text behind : List ℕ) → IsOneLine text → line ≡ text ++ behind → IsNextLine P a b line → TakesSome true a b × ((total : List ℕ) → Covers b total → rest_in total a ≡ text ++ rest_in total b)
-  line_taken text behind t e (inl h) =
-      let same = front_is_line line text behind t h.1 e in
+  line_taken : (text following : List ℕ) → IsOneLine text → line ≡ text ++ following → IsNextLine P a b line → TakesSome true a b × ((total : List ℕ) → Covers b total → rest_in total a ≡ text ++ rest_in total b)
+  line_taken text following t e (inl h) =
+      let same = front_is_line line text following t h.1 e in
       ((line, h.0), λ total c. taken_front 0 a b line total h.0 c ∙ ap (λ (z : List ℕ). z ++ rest_in total b) same)
-  line_taken text behind t e (inr (inl h)) = absurd (no_lf_in line t.front behind h.1 (e ∙ ap (λ (z : List ℕ). z ++ behind) t.whole ∙ append_assoc t.front (10 ∷ []) behind))
-  line_taken text behind t e (inr (inr h)) = absurd (no_lf_in line t.front behind h.0.1 (e ∙ ap (λ (z : List ℕ). z ++ behind) t.whole ∙ append_assoc t.front (10 ∷ []) behind))
+  line_taken text following t e (inr (inl h)) = absurd (no_lf_in line t.front following h.1 (e ∙ ap (λ (z : List ℕ). z ++ following) t.whole ∙ append_assoc t.front (10 ∷ []) following))
+  line_taken text following t e (inr (inr h)) = absurd (no_lf_in line t.front following h.0.1 (e ∙ ap (λ (z : List ℕ). z ++ following) t.whole ∙ append_assoc t.front (10 ∷ []) following))
 
   -- THE LINE THAT IS DUE
-  pub due_taken : (due : List ℕ) → IsOneLine due → line ≡ due → IsNextLine P a b line → Replies {A = Unit {0}} true (Ok tt) a b (λ before behind. TakesDueLine before behind due)
+  pub due_taken : (due : List ℕ) → IsOneLine due → line ≡ due → IsNextLine P a b line → Replies {A = Unit {0}} true (Ok tt) a b (λ before following. TakesDueLine before following due)
   due_taken due d e h = let r = line_taken due [] d (e ∙ sym (append-nil due)) h in (r.0, r.1)
 
-  pub due_differs : (due : List ℕ) (why : Why) → P due → IsOneLine due → (line ≡ due → ⊥) → IsNextLine P a b line → Replies {A = Unit {0}} true (Err (stop.No why)) a b (λ before behind. TakesDueLine before behind due)
+  pub due_differs : (due : List ℕ) (why : Why) → P due → IsOneLine due → (line ≡ due → ⊥) → IsNextLine P a b line → Replies {A = Unit {0}} true (Err (stop.No why)) a b (λ before following. TakesDueLine before following due)
   due_differs due why right d differ h = (line_halts h, λ total c tail e. differ (the_line P line (rest_in total a) (rest_in total b) due tail right d (first_of P a b line total c h) e).0)
 
   -- AN ANSWER'S FIRST LINE
-  pub kind_read : (k : AnswerKind) (behind : List ℕ) → line ≡ first_answer_line k ++ behind → IsNextLine P a b line → Replies true (Ok k) a b ReadsFirst
-  kind_read k behind e h = line_taken (first_answer_line k) behind (first_is_line k) e h
+  pub kind_read : (k : AnswerKind) (following : List ℕ) → line ≡ first_answer_line k ++ following → IsNextLine P a b line → Replies true (Ok k) a b ReadsFirst
+  kind_read k following e h = line_taken (first_answer_line k) following (first_is_line k) e h
 
   pub kind_differs : ((k : AnswerKind) → P (first_answer_line k)) → (w : AnswerFault) → NoKind line w → IsNextLine P a b line → Replies {A = AnswerKind} true (Err (stop_after w)) a b ReadsFirst
   kind_differs right fault.Missing n h = (line_halts h, none)
@@ -202,8 +202,8 @@ module _ (P : List ℕ → Type 0) (a b : Source) (line : List ℕ) (open_yet : 
   kind_differs right fault.OutOfMemory n h = absurd n
 
   -- ITS SECOND LINE
-  pub second_read : (k : AnswerKind) (ls : List Literal) (behind : List ℕ) → HasLine k → IsInForm (outcome_of k ls) → line ≡ second_line (outcome_of k ls) ++ behind → IsNextLine P a b line → Replies {A = Unit {0}} true (Ok tt) a b (ReadsSecond k ls)
-  second_read k ls behind u f e h = let r = line_taken (second_line (outcome_of k ls)) behind (second_is_line k u ls f) e h in (r.0, λ total c. (r.1 total c, f))
+  pub second_read : (k : AnswerKind) (ls : List Literal) (following : List ℕ) → HasLine k → IsInForm (outcome_of k ls) → line ≡ second_line (outcome_of k ls) ++ following → IsNextLine P a b line → Replies {A = Unit {0}} true (Ok tt) a b (ReadsSecond k ls)
+  second_read k ls following u f e h = let r = line_taken (second_line (outcome_of k ls)) following (second_is_line k u ls f) e h in (r.0, λ total c. (r.1 total c, f))
 
   pub second_differs : (k : AnswerKind) (ls : List Literal) → ((ks : List Literal) → IsInForm (outcome_of k ks) → P (second_line (outcome_of k ks))) → (w : AnswerFault) → HasLine k → NoLine k line w → IsNextLine P a b line → Replies {A = Unit {0}} true (Err (stop_after w)) a b (ReadsSecond k ls)
   second_differs k ls right fault.Missing u n h = (line_halts h, none)
@@ -225,15 +225,15 @@ module _ (P : List ℕ → Type 0) (a b : Source) (line : List ℕ) (open_yet : 
       line_kept h = took_kept false a b (line_halts h)
 
   -- THE END OF THE ANSWERS
-  pub over_here : line ≡ [] → IsNextLine P a b line → Replies {A = Unit {0}} false (Ok tt) a b (λ before behind. SaysSo (before ≡ []))
+  pub over_here : line ≡ [] → IsNextLine P a b line → Replies {A = Unit {0}} false (Ok tt) a b (λ before following. SaysSo (before ≡ []))
   over_here e h = (line_halts h, λ total c. here total c h)
     where
       here : (total : List ℕ) → Covers b total → IsNextLine P a b line → rest_in total a ≡ []
       here total c (inl k) = absurd (no_lf_in [] k.1.front [] tt (sym e ∙ k.1.whole))
-      here total c (inr (inl k)) = nothing_behind a b line total k.0 c ∙ e
+      here total c (inr (inl k)) = nothing_after a b line total k.0 c ∙ e
       here total c (inr (inr k)) = absurd (k.1.1 e)
 
-  pub more_here : (why : Why) → (line ≡ [] → ⊥) → IsNextLine P a b line → Replies {A = Unit {0}} false (Err (stop.No why)) a b (λ before behind. SaysSo (before ≡ []))
+  pub more_here : (why : Why) → (line ≡ [] → ⊥) → IsNextLine P a b line → Replies {A = Unit {0}} false (Err (stop.No why)) a b (λ before following. SaysSo (before ≡ []))
   more_here why some h = (line_halts h, λ total c e. some (nothing total c h e))
     where
       empty : (xs ys : List ℕ) → xs ++ ys ≡ [] → xs ≡ []
@@ -242,7 +242,7 @@ module _ (P : List ℕ → Type 0) (a b : Source) (line : List ℕ) (open_yet : 
 
       nothing : (total : List ℕ) → Covers b total → IsNextLine P a b line → rest_in total a ≡ [] → line ≡ []
       nothing total c (inl k) e = empty line (rest_in total b) (sym (taken_front 0 a b line total k.0 c) ∙ e)
-      nothing total c (inr (inl k)) e = sym (nothing_behind a b line total k.0 c) ∙ e
+      nothing total c (inr (inl k)) e = sym (nothing_after a b line total k.0 c) ∙ e
       nothing total c (inr (inr k)) e = empty line (rest_in total b) (sym (taken_front 0 a b line total k.0.0 c) ∙ e)
 
 -- WHOLE ANSWERS
@@ -379,17 +379,17 @@ NoReply settled p = (o : Outcome) (tail : List ℕ) → IsInForm o → (settled 
 abbrev NoSecond : AnswerKind → List ℕ → Type 0
 NoSecond k q = (ls : List Literal) (tail : List ℕ) → IsInForm (outcome_of k ls) → q ≡ second_line (outcome_of k ls) ++ tail → ⊥
 
-pub reply_without_first : (e : Stop) (a b : Source) (reply : Outcome) (settled : Bool) → Replies {A = AnswerKind} true (Err e) a b ReadsFirst → Replies {A = Unit {0}} true (Err e) a b (λ before behind. IsReply before behind reply settled)
-reply_without_first e a b reply settled h = replies_stop true e a b ReadsFirst (λ before behind. IsReply before behind reply settled) (λ p q why none o tail form alone x. none o tail x) h
+pub reply_without_first : (e : Stop) (a b : Source) (reply : Outcome) (settled : Bool) → Replies {A = AnswerKind} true (Err e) a b ReadsFirst → Replies {A = Unit {0}} true (Err e) a b (λ before following. IsReply before following reply settled)
+reply_without_first e a b reply settled h = replies_stop true e a b ReadsFirst (λ before following. IsReply before following reply settled) (λ p q why none o tail form alone x. none o tail x) h
 
 module _ (k : AnswerKind) (a b : Source) (settled : Bool) (open_yet : AtEnd a → ⊥) (first : Replies true (Ok k) a b ReadsFirst) where
-  pub reply_other : (why : Why) (reply : Outcome) → (settled ≡ true) × (k ≡ kind.Unsat → ⊥) → Replies {A = Unit {0}} true (Err (stop.No why)) a b (λ before behind. IsReply before behind reply settled)
-  reply_other why reply u = replies_no true k why a b ReadsFirst (λ before behind. IsReply before behind reply settled) open_yet (λ p q e o tail form alone x. not_alone k p q u.1 e o tail (alone u.0) x) first
+  pub reply_other : (why : Why) (reply : Outcome) → (settled ≡ true) × (k ≡ kind.Unsat → ⊥) → Replies {A = Unit {0}} true (Err (stop.No why)) a b (λ before following. IsReply before following reply settled)
+  reply_other why reply u = replies_no true k why a b ReadsFirst (λ before following. IsReply before following reply settled) open_yet (λ p q e o tail form alone x. not_alone k p q u.1 e o tail (alone u.0) x) first
 
-  pub reply_without_second : (e : Stop) (d : Source) (ls : List Literal) (reply : Outcome) → Replies {A = Unit {0}} true (Err e) b d (ReadsSecond k ls) → Replies {A = Unit {0}} true (Err e) a d (λ before behind. IsReply before behind reply settled)
+  pub reply_without_second : (e : Stop) (d : Source) (ls : List Literal) (reply : Outcome) → Replies {A = Unit {0}} true (Err e) b d (ReadsSecond k ls) → Replies {A = Unit {0}} true (Err e) a d (λ before following. IsReply before following reply settled)
   reply_without_second e d ls reply h =
       let none = replies_stop true e b d (ReadsSecond k ls) (λ q s (y : Result (Unit {0}) Why). NoSecond k q) (λ q s why n. n) h in
-      replies_stop true e a d (λ p s (y : Result (Unit {0}) Why). NoReply settled p) (λ before behind. IsReply before behind reply settled) (λ p s why n. n)
+      replies_stop true e a d (λ p s (y : Result (Unit {0}) Why). NoReply settled p) (λ before following. IsReply before following reply settled) (λ p s why n. n)
       (replies_then true k (Err e) a b d ReadsFirst (λ q s (y : Result (Unit {0}) Why). NoSecond k q) (λ p s (y : Result (Unit {0}) Why). NoReply settled p) open_yet (λ p q s y f n o tail form alone x. no_second k p q f n o tail form x) first none)
 
   module _ (d : Source) (ls : List Literal) (second : Replies {A = Unit {0}} true (Ok tt) b d (ReadsSecond k ls)) where
@@ -399,10 +399,10 @@ module _ (k : AnswerKind) (a b : Source) (settled : Bool) (open_yet : AtEnd a �
     two : Replies {A = Unit {0}} true (Ok tt) a d TwoLines
     two = replies_then true k (Ok tt) a b d ReadsFirst (λ q s (y : Result (Unit {0}) Why). ReadsSecond k ls q s (Ok tt)) TwoLines open_yet (λ p q s y f g. (q, f, g)) first second
 
-    pub reply_more : (why : Why) (reply : Outcome) → (settled ≡ true) × (ls ≡ [] → ⊥) → Replies {A = Unit {0}} true (Err (stop.No why)) a d (λ before behind. IsReply before behind reply settled)
-    reply_more why reply u = replies_no true tt why a d TwoLines (λ before behind. IsReply before behind reply settled) open_yet (λ p s t o tail form alone x. not_empty k ls p t.0 s u.1 t.1 t.2 o tail (alone u.0) x) two
+    pub reply_more : (why : Why) (reply : Outcome) → (settled ≡ true) × (ls ≡ [] → ⊥) → Replies {A = Unit {0}} true (Err (stop.No why)) a d (λ before following. IsReply before following reply settled)
+    reply_more why reply u = replies_no true tt why a d TwoLines (λ before following. IsReply before following reply settled) open_yet (λ p s t o tail form alone x. not_empty k ls p t.0 s u.1 t.1 t.2 o tail (alone u.0) x) two
 
-    pub reply_read : (settled ≡ true → k ≡ kind.Unsat) → (settled ≡ true → ls ≡ []) → Replies {A = Unit {0}} true (Ok tt) a d (λ before behind. IsReply before behind (outcome_of k ls) settled)
+    pub reply_read : (settled ≡ true → k ≡ kind.Unsat) → (settled ≡ true → ls ≡ []) → Replies {A = Unit {0}} true (Ok tt) a d (λ before following. IsReply before following (outcome_of k ls) settled)
     reply_read u n = (
       two.0,
       λ total c.

@@ -230,11 +230,11 @@ looks_within earlier bytes from to (looks_taken step text rest between e spelt a
     let count = literal_count (ready_after earlier) in
     let fits = step_fits step text spelt in
     let grown = step_grows step earlier in
-    let behind = looks_within (step ∷ earlier) rest between to reach in
+    let following = looks_within (step ∷ earlier) rest between to reach in
     let one = step_looks (hashes_named step) (length text) count (length text + length rest) (let k : hashes_named step + 1 ≤ length text = omega (arith, fits) in k) in
     let two = two_looks (length text) (length rest) count (literal_count (ready_after (step ∷ earlier))) (omega (arith, grown, fits)) in
     let joined : length bytes ≡ length text + length rest = ap length e ∙ length-append text rest in
-    rw joined (omega (arith, one, two, most, behind))
+    rw joined (omega (arith, one, two, most, following))
 
 square : (n : ℕ) → n ^ 2 ≡ n * n
 square n = pow-succ' n 1 ∙ ap (λ (k : ℕ). n * k) (pow-succ' n 0 ∙ ap (λ (k : ℕ). n * k) (pow-zero n) ∙ mul-one n)

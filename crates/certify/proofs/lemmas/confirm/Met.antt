@@ -54,29 +54,29 @@ module _ (due : Due) (before after : NamedVars) (old mid : CertificateState) whe
 
   module _ (h : AwaitsNext before old mid (Ok awaited.Step)) (known : Known) (at : (earlier : List Step) → CheckerIsAt mid.checker before earlier → AreKnown known earlier) where
     met_unfit : (why : Why) → Compares due known mid.step (Some why) → MeetsDue due before after old mid (Err why)
-    met_unfit why x earlier s o ask = let k = h earlier s in bars_unfit (due o ask) k.offers (x k.later (at k.later k.stands) o ask)
+    met_unfit why x earlier s o ask = let k = h earlier s in bars_unfit (due o ask) k.offers (x k.later (at k.later k.valid) o ask)
 
     met_fed : (next : Kernel) → Compares due known mid.step None → FeedsStep (Ok tt) mid.checker mid.step next → NamesFollow due before mid.step after → MeetsDue due before after old (record mid { checker = next }) (Ok tt)
     met_fed next x d follows = λ earlier s.
         let k = h earlier s in
-        let fit = λ (o : Outcome) (ask : List Literal). x k.later (at k.later k.stands) o ask in
-        let fed = d k.later k.stands.taken in
+        let fit = λ (o : Outcome) (ask : List Literal). x k.later (at k.later k.valid) o ask in
+        let fed = d k.later k.valid.taken in
         record {
           later = mid.step ∷ k.later;
-          stands = record { taken = fed.1; stand = follows k.later Unknown [] k.stands.stand (fit Unknown []) fed.0 };
+          valid = record { taken = fed.1; stand = follows k.later Unknown [] k.valid.stand (fit Unknown []) fed.0 };
           leads = λ o ask only. leads_step (due o ask) k.offers (fit o ask) fed.0;
           alone = λ o ask es m v. still_allowed k.later (due o ask) mid.step (fit o ask) k.open_yet v;
         }
 
   met_refused : (next : Kernel) (why : Why) → AwaitsNext before old mid (Ok awaited.Step) → ((steps : List Step) → HasTaken mid.checker steps → Accepts (ready_after steps) mid.step → ⊥) → MeetsDue due before after old (record mid { checker = next }) (Err why)
-  met_refused next why h d = λ earlier s o ask. let k = h earlier s in bars_refused (due o ask) k.offers (d k.later k.stands.taken)
+  met_refused next why h d = λ earlier s o ask. let k = h earlier s in bars_refused (due o ask) k.offers (d k.later k.valid.taken)
 
 unmet_met : (due : Due) (names : NamedVars) (old mid : CertificateState) → AwaitsNext names old mid (Ok awaited.Cut) → ExcusesDue due None → MeetsDue due names names old mid (Ok tt)
 unmet_met due names old mid h x = λ earlier s.
     let k = h earlier s in
     record {
       later = k.later;
-      stands = k.stands;
+      valid = k.valid;
       leads = λ o ask only. leads_skip (due o ask) k.skips k.closed (x o ask (only k.closed));
       alone = λ o ask es m v. allowed (due o ask) (when_cut k.later (due o ask ∷ es) mid.rest v (k.skips.on (due o ask) es m)).0;
     }

@@ -18,15 +18,15 @@ use Rattle.certify.specs.declared.confirm.stop.Stop.TheVariants as stop
 use Rattle.certify.specs.declared.judge.names.Names.{Names}
 use Rattle.certify.specs.declared.confirm.variables.NamedVars.{NamedVars}
 use Rattle.certify.specs.declared.verdict.Why.{Why}
-use Rattle.certify.proofs.lemmas.confirm.CertificatePlaces.{leads_nowhere, leads_on, bars_behind, bars_more}
+use Rattle.certify.proofs.lemmas.confirm.CertificatePlaces.{leads_nowhere, leads_on, bars_after, bars_more}
 use Rattle.certify.proofs.lemmas.confirm.NamesFrom.{from_more, from_split}
 use Rattle.certify.proofs.lemmas.confirm.Streams.{confirms_none, confirms_so, confirms_stop, confirms_then, says_stop}
 
 pub nothing : (names : NamedVars) (u : CertificateState) → MeetsAll [] names names u u (Ok tt)
-nothing names u earlier s = record { later = earlier; stands = s; leads = leads_nowhere earlier u.rest }
+nothing names u earlier s = record { later = earlier; valid = s; leads = leads_nowhere earlier u.rest }
 
 pub all_none : (names : NamedVars) (a : Stream) → Confirms (Ok tt) a a (MeetsAll [] names names)
-all_none names a = confirms_none tt a (MeetsAll [] names names) (λ total earlier s. record { later = earlier; stands = s; leads = leads_nowhere earlier (seen_in total a).rest })
+all_none names a = confirms_none tt a (MeetsAll [] names names) (λ total earlier s. record { later = earlier; valid = s; leads = leads_nowhere earlier (seen_in total a).rest })
 
 -- one thing that is expected, whatever outcome and ask
 pub one : (due : Due) (e : Expected) → ((o : Outcome) (ask : List Literal) → due o ask ≡ e) → MayStayUnmet e → (before after : NamedVars) (u v : CertificateState) (y : Result (Unit {0}) Why) → MeetsDue due before after u v y → MeetsAll (e ∷ []) before after u v y
@@ -34,7 +34,7 @@ one due e is free before after u v (Ok x) m = λ earlier s.
     let k = m earlier s in
     record {
       later = k.later;
-      stands = k.stands;
+      valid = k.valid;
       leads = subst (λ (d : Expected). MeetsExactly earlier u.rest (d ∷ []) k.later v.rest) (is Unknown []) (k.leads Unknown [] (λ closed. subst MayStayUnmet (sym (is Unknown [])) free));
     }
 one due e is free before after u v (Err why) m = λ earlier s. subst (λ (d : Expected). MeetsNoneOf earlier u.rest (d ∷ [])) (is Unknown []) (m earlier s Unknown [])
@@ -43,9 +43,9 @@ one due e is free before after u v (Err why) m = λ earlier s. subst (λ (d : Ex
 pub both : (p q : List Expected) (first mid last : NamedVars) (u v w : CertificateState) (y : Result (Unit {0}) Why) → MeetsAll p first mid u v (Ok tt) → MeetsAll q mid last v w y → MeetsAll (p ++ q) first last u w y
 both p q first mid last u v w (Ok x) f g = λ earlier s.
     let k = f earlier s in
-    let m = g k.later k.stands in
-    record { later = m.later; stands = m.stands; leads = leads_on k.leads m.leads }
-both p q first mid last u v w (Err why) f g = λ earlier s. let k = f earlier s in bars_behind k.leads (g k.later k.stands)
+    let m = g k.later k.valid in
+    record { later = m.later; valid = m.valid; leads = leads_on k.leads m.leads }
+both p q first mid last u v w (Err why) f g = λ earlier s. let k = f earlier s in bars_after k.leads (g k.later k.valid)
 
 -- where the first aren't met
 pub first_barred : (p q : List Expected) (before after end : NamedVars) (u v : CertificateState) (why : Why) → MeetsAll p before after u v (Err why) → MeetsAll (p ++ q) before end u v (Err why)
@@ -93,16 +93,16 @@ module _ (count first done name : ℕ) (low : done < count) (is : name ≡ first
 
 -- THE NAMES OF A COMMAND
 
-module _ (kind : Kind) (name : ℕ) (names : Names) (count first : ℕ) (told : (j : ScriptState) → NamesHaveState names j → new_names name j ≡ names_from count first) (before after : NamedVars) where
+module _ (kind : Kind) (name : ℕ) (names : Names) (count first : ℕ) (new_names_are : (j : ScriptState) → NamesHaveState names j → new_names name j ≡ names_from count first) (before after : NamedVars) where
   pub name_stop : (unused : NamedVars) (e : Stop) (a b : Stream) → Confirms {A = Unit {0}} (Err e) a b (MeetsAll (news count first) before unused) → Confirms {A = Unit {0}} (Err e) a b (MeetsName kind name names before after)
   name_stop unused e a b p = confirms_stop e a b (MeetsAll (news count first) before unused) (MeetsName kind name names before after)
-      (λ total why f j s. subst (λ (ns : List ℕ). MeetsAll (map NewName ns ++ hidden_by kind name) before after (seen_in total a) (seen_in total b) (Err why)) (sym (told j s))
+      (λ total why f j s. subst (λ (ns : List ℕ). MeetsAll (map NewName ns ++ hidden_by kind name) before after (seen_in total a) (seen_in total b) (Err why)) (sym (new_names_are j s))
       (first_barred (news count first) (hidden_by kind name) before unused after (seen_in total a) (seen_in total b) why f)) p
 
   pub name_goes : (mid : NamedVars) (r : Result (Unit {0}) Stop) (a b c : Stream) → (AtEnd a.source → ⊥) → Confirms (Ok tt) a b (MeetsAll (news count first) before mid) → Confirms r b c (MeetsAll (hidden_by kind name) mid after)
       → Confirms r a c (MeetsName kind name names before after)
   name_goes mid r a b c open_yet p q = confirms_so r a c (MeetsAll (news count first ++ hidden_by kind name) before after) (MeetsName kind name names before after)
-      (λ total y f j s. subst (λ (ns : List ℕ). MeetsAll (map NewName ns ++ hidden_by kind name) before after (seen_in total a) (seen_in total c) y) (sym (told j s)) f)
+      (λ total y f j s. subst (λ (ns : List ℕ). MeetsAll (map NewName ns ++ hidden_by kind name) before after (seen_in total a) (seen_in total c) y) (sym (new_names_are j s)) f)
       (meets_both (news count first) (hidden_by kind name) before mid after r a b c open_yet p q)
 
   pub name_short : (mid : NamedVars) (a b c : Stream) → (AtEnd a.source → ⊥) → Confirms (Ok tt) a b (MeetsAll (news count first) before mid) → Confirms (Ok tt) b c (MeetsAll (hidden_by kind name) mid after)

@@ -64,12 +64,12 @@ taken_front n s t text total p c =
     rest_is s total (p.fresh ++ c.later) whole ∙ sym (append_assoc s.waiting p.fresh c.later) ∙ ap (λ (z : List ℕ). z ++ c.later) p.flows
     ∙ append_assoc text t.waiting c.later ∙ ap (λ (z : List ℕ). text ++ z) (sym (rest_is t total c.later c.whole))
 
--- none stand behind them where the end was found
-pub nothing_behind : (s t : Source) (text total : List ℕ) → ConsumesToEnd s t text → Covers t total → rest_in total s ≡ text
-nothing_behind s t text total p c =
+-- none stand after them where the end was found
+pub nothing_after : (s t : Source) (text total : List ℕ) → ConsumesToEnd s t text → Covers t total → rest_in total s ≡ text
+nothing_after s t text total p c =
     let none : c.later ≡ [] = c.none (p.1.read, p.1.ended) in
-    let behind : rest_in total t ≡ [] = rest_is t total c.later c.whole ∙ ap (λ (z : List ℕ). z ++ c.later) p.1.waiting ∙ none in
-    taken_front 1 s t text total p.0 c ∙ ap (λ (z : List ℕ). text ++ z) behind ∙ append-nil text
+    let following : rest_in total t ≡ [] = rest_is t total c.later c.whole ∙ ap (λ (z : List ℕ). z ++ c.later) p.1.waiting ∙ none in
+    taken_front 1 s t text total p.0 c ∙ ap (λ (z : List ℕ). text ++ z) following ∙ append-nil text
 
 -- WHERE NO STEP STANDS
 
@@ -79,10 +79,10 @@ no_step_at_byte s t front byte total p live shut c =
     no_way SpellsStep one_step (rest_in total s) front (rest_in total t) byte (taken_front 0 s t (front ++ byte ∷ []) total p c ∙ append_assoc front (byte ∷ []) (rest_in total t)) live shut
 
 pub no_step_cut : (s t : Source) (text total : List ℕ) → ConsumesToEnd s t text → IsProperFront SpellsStep text → Covers t total → BeginsNoStep (rest_in total s)
-no_step_cut s t text total p live c = no_whole SpellsStep one_step (rest_in total s) (subst (IsProperFront SpellsStep) (sym (nothing_behind s t text total p c)) live)
+no_step_cut s t text total p live c = no_whole SpellsStep one_step (rest_in total s) (subst (IsProperFront SpellsStep) (sym (nothing_after s t text total p c)) live)
 
 pub no_step_over : (s t : Source) (total : List ℕ) → ConsumesToEnd s t [] → Covers t total → BeginsNoStep (rest_in total s)
-no_step_over s t total p c step text rest e h = let u : [] ≡ tag_of step ∷ (h.0 ++ rest) = sym (nothing_behind s t [] total p c) ∙ e ∙ ap (λ (z : List ℕ). z ++ rest) h.1 in cc
+no_step_over s t total p c step text rest e h = let u : [] ≡ tag_of step ∷ (h.0 ++ rest) = sym (nothing_after s t [] total p c) ∙ e ∙ ap (λ (z : List ℕ). z ++ rest) h.1 in cc
 
 -- ONE CALL AFTER ANOTHER
 
@@ -117,7 +117,7 @@ over_fault : (a b c : Stream) (text : List ℕ) (P Q R : CertificateState → Ce
     → ((total : List ℕ) → P (seen_in total a) (seen_in total b) → Q (seen_in total b) (seen_in total c) → R (seen_in total a) (seen_in total c)) → HoldsWhateverFollows a b P → HoldsWhateverFollows b c Q → HoldsWhateverFollows a c R
 over_fault a b c text P Q R open_yet p f g h total k = f total (g total (covers_fault b.source c.source text total open_yet p k)) (h total k)
 
--- a call that goes on behind one that went on
+-- a call that goes on after one that went on
 pub going_then : (fed : Bool) (a b c : Stream) (P Q R : CertificateState → CertificateState → Type 0) → (AtEnd a.source → ⊥)
     → ((total : List ℕ) → P (seen_in total a) (seen_in total b) → Q (seen_in total b) (seen_in total c) → R (seen_in total a) (seen_in total c)) → GoesOnWith true a b P → GoesOnWith fed b c Q → GoesOnWith fed a c R
 going_then fed a b c P Q R open_yet f p q =
@@ -127,7 +127,7 @@ going_then fed a b c P Q R open_yet f p q =
       over_then 0 a b c q.0.0 FeedsAllSteps (walks_if fed) (walks_if fed) here q.0.1 (λ total. walks_on fed (seen_in total a) (seen_in total b) (seen_in total c)) p.2 q.2,
     )
 
--- an error behind a call that went on
+-- an error after a call that went on
 pub then_stop : {A B C : Type 0} (x : A) (e : Stop) (a b c : Stream) (P : CertificateState → CertificateState → Result A Why → Type 0) (Q : CertificateState → CertificateState → Result B Why → Type 0) (R : CertificateState → CertificateState → Result C Why → Type 0) → (AtEnd a.source → ⊥)
     → ((total : List ℕ) (why : Why) → P (seen_in total a) (seen_in total b) (Ok x) → Q (seen_in total b) (seen_in total c) (Err why) → R (seen_in total a) (seen_in total c) (Err why))
     → Confirms (Ok x) a b P → Confirms {A = B} (Err e) b c Q → Confirms {A = C} (Err e) a c R
@@ -155,7 +155,7 @@ then_stop x stop.CounterEnd a b c P Q R open_yet f p q =
     )
 then_stop x e a b c P Q R open_yet f p q = absurd q
 
--- behind a call that went on
+-- after a call that went on
 pub confirms_then : {A B : Type 0} (x : A) (r : Result B Stop) (a b c : Stream) (P : CertificateState → CertificateState → Result A Why → Type 0) (Q R : CertificateState → CertificateState → Result B Why → Type 0) → (AtEnd a.source → ⊥)
     → ((total : List ℕ) (y : Result B Why) → P (seen_in total a) (seen_in total b) (Ok x) → Q (seen_in total b) (seen_in total c) y → R (seen_in total a) (seen_in total c) y) → Confirms (Ok x) a b P → Confirms r b c Q → Confirms r a c R
 confirms_then x (Ok y) a b c P Q R open_yet f p q = going_then true a b c (λ u v. P u v (Ok x)) (λ u v. Q u v (Ok y)) (λ u v. R u v (Ok y)) open_yet (λ total. f total (Ok y)) p q
@@ -170,7 +170,7 @@ confirms_stop stop.AnswersRead a b P R f p = absurd p
 confirms_stop stop.TooMany a b P R f p = absurd p
 confirms_stop e a b P R f p = p
 
--- the same of what is said behind it
+-- the same of what is said after it
 pub confirms_so : {A : Type 0} (r : Result A Stop) (a b : Stream) (P R : CertificateState → CertificateState → Result A Why → Type 0) → ((total : List ℕ) (y : Result A Why) → P (seen_in total a) (seen_in total b) y → R (seen_in total a) (seen_in total b) y) → Confirms r a b P → Confirms r a b R
 confirms_so (Ok x) a b P R f p = (p.0, (λ total k. f total (Ok x) (p.1 total k)), p.2)
 confirms_so (Err e) a b P R f p = confirms_stop e a b P R (λ total why. f total (Err why)) p
@@ -180,7 +180,7 @@ confirms_so (Err e) a b P R f p = confirms_stop e a b P R (λ total why. f total
 pub confirms_none : {A : Type 0} (x : A) (a : Stream) (P : CertificateState → CertificateState → Result A Why → Type 0) → ((total : List ℕ) → P (seen_in total a) (seen_in total a) (Ok x)) → Confirms (Ok x) a a P
 confirms_none x a P f = (([], passes_none a.source), (λ total k. f total), (λ total k. walks_none (seen_in total a)))
 
--- an error of what reads nothing, behind a call that went on
+-- an error of what reads nothing, after a call that went on
 pub says_stop : {B C : Type 0} (fed : Bool) (e : Stop) (a b : Stream) (P : CertificateState → CertificateState → Type 0) (S : Result B Why → Type 0) (R : CertificateState → CertificateState → Result C Why → Type 0) → (AtEnd a.source → ⊥)
     → ((total : List ℕ) (why : Why) → P (seen_in total a) (seen_in total b) → S (Err why) → R (seen_in total a) (seen_in total b) (Err why))
     → GoesOnWith fed a b P → SaysAlone {A = B} (Err e) S → Confirms {A = C} (Err e) a b R
@@ -303,7 +303,7 @@ pub gave_enough : (r : Reader) (t : Source) (text : List ℕ) (P : List ℕ → 
     → ((total : List ℕ) → Covers t total → P (rest_in total (unread r))) → GaveEnough r t.reader P
 gave_enough r t text P p over f = record {
   text = p.fresh;
-  front = record { gave = p.gave; told = reported_front r.to_come t.reader.to_come t.waiting text p.fresh p.flows p.bytes; loans = p.loans };
+  front = record { gave = p.gave; known_bytes = reported_front r.to_come t.reader.to_come t.waiting text p.fresh p.flows p.bytes; loans = p.loans };
   over = λ called e. over (read_some r.calls t.reader.calls t.reads p.calls called, e);
   few = few_of r.calls t.reader.calls t.reads r.given t.reader.given p.fresh p.calls p.few p.gave;
   holds = λ rest k.
@@ -332,7 +332,7 @@ read_fails r t text b p = (
 pub passed_front : (n : ℕ) (r : Reader) (t : Source) (text : List ℕ) (P : List ℕ → Type 0) → ConsumesWithReads n (unread r) t text → ((total : List ℕ) → Covers t total → P (rest_in total (unread r))) → GaveFrontOf r t.reader P
 passed_front n r t text P p f = record {
   text = p.fresh;
-  front = record { gave = p.gave; told = reported_front r.to_come t.reader.to_come t.waiting text p.fresh p.flows p.bytes; loans = p.loans };
+  front = record { gave = p.gave; known_bytes = reported_front r.to_come t.reader.to_come t.waiting text p.fresh p.flows p.bytes; loans = p.loans };
   holds = λ rest k.
       let whole : t.reader.given ++ rest ≡ r.given ++ (p.fresh ++ rest) = ap (λ (z : List ℕ). z ++ rest) p.gave ∙ append_assoc r.given p.fresh rest in
       subst P (rest_is (unread r) (t.reader.given ++ rest) (p.fresh ++ rest) whole)
@@ -342,7 +342,7 @@ passed_front n r t text P p f = record {
 pub faulted_front : (r : Reader) (t : Source) (text : List ℕ) (P : List ℕ → Type 0) → ConsumesAndFails (unread r) t text → ((total : List ℕ) → Covers t total → P (rest_in total (unread r))) → GaveFrontOf r t.reader P
 faulted_front r t text P p f = record {
   text = p.fresh;
-  front = record { gave = p.gave; told = reported_front r.to_come t.reader.to_come t.waiting text p.fresh (p.flows ∙ sym (append-nil text) ∙ ap (λ (z : List ℕ). text ++ z) (sym p.none)) p.bytes; loans = p.loans };
+  front = record { gave = p.gave; known_bytes = reported_front r.to_come t.reader.to_come t.waiting text p.fresh (p.flows ∙ sym (append-nil text) ∙ ap (λ (z : List ℕ). text ++ z) (sym p.none)) p.bytes; loans = p.loans };
   holds = λ rest k.
       let whole : t.reader.given ++ rest ≡ r.given ++ (p.fresh ++ rest) = ap (λ (z : List ℕ). z ++ rest) p.gave ∙ append_assoc r.given p.fresh rest in
       subst P (rest_is (unread r) (t.reader.given ++ rest) (p.fresh ++ rest) whole)
@@ -352,7 +352,7 @@ faulted_front r t text P p f = record {
 -- what is so of the looks whatever would follow
 pub took_looks : (n : ℕ) (r : Reader) (t : Source) (text : List ℕ) (to : ℕ) → ConsumesWithReads n (unread r) t text → ((total : List ℕ) → Covers t total → LooksReach [] (rest_in total (unread r)) 0 to) → TakesLooks r t.reader 0 to
 took_looks n r t text to p f = takes_looks r t.reader p.fresh 0 to
-    (record { gave = p.gave; told = reported_front r.to_come t.reader.to_come t.waiting text p.fresh p.flows p.bytes; loans = p.loans }) (omega arith)
+    (record { gave = p.gave; known_bytes = reported_front r.to_come t.reader.to_come t.waiting text p.fresh p.flows p.bytes; loans = p.loans }) (omega arith)
     (λ rest k.
     let whole : t.reader.given ++ rest ≡ r.given ++ (p.fresh ++ rest) = ap (λ (z : List ℕ). z ++ rest) p.gave ∙ append_assoc r.given p.fresh rest in
     subst (λ bytes. LooksReach [] bytes 0 to) (rest_is (unread r) (t.reader.given ++ rest) (p.fresh ++ rest) whole)
@@ -361,7 +361,7 @@ took_looks n r t text to p f = takes_looks r t.reader p.fresh 0 to
 -- the same where reading failed
 pub took_faulted : (r : Reader) (t : Source) (text : List ℕ) (to : ℕ) → ConsumesAndFails (unread r) t text → ((total : List ℕ) → Covers t total → LooksReach [] (rest_in total (unread r)) 0 to) → TakesLooks r t.reader 0 to
 took_faulted r t text to p f = takes_looks r t.reader p.fresh 0 to
-    (record { gave = p.gave; told = reported_front r.to_come t.reader.to_come t.waiting text p.fresh (p.flows ∙ sym (append-nil text) ∙ ap (λ (z : List ℕ). text ++ z) (sym p.none)) p.bytes; loans = p.loans }) (omega arith)
+    (record { gave = p.gave; known_bytes = reported_front r.to_come t.reader.to_come t.waiting text p.fresh (p.flows ∙ sym (append-nil text) ∙ ap (λ (z : List ℕ). text ++ z) (sym p.none)) p.bytes; loans = p.loans }) (omega arith)
     (λ rest k.
     let whole : t.reader.given ++ rest ≡ r.given ++ (p.fresh ++ rest) = ap (λ (z : List ℕ). z ++ rest) p.gave ∙ append_assoc r.given p.fresh rest in
     subst (λ bytes. LooksReach [] bytes 0 to) (rest_is (unread r) (t.reader.given ++ rest) (p.fresh ++ rest) whole)

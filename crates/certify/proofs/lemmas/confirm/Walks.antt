@@ -15,7 +15,7 @@ use Rattle.certify.specs.declared.confirm.stop.Stop.TheVariants as stop
 pub walks_none : (u : CertificateState) → FeedsAllSteps u u
 walks_none u earlier t = record { later = earlier; taken = t; reaches = λ n r. r; spends = λ s. s }
 
--- ONE BEHIND ANOTHER
+-- ONE AFTER ANOTHER
 
 pub walks_on : (fed : Bool) (u v w : CertificateState) → FeedsAllSteps u v → walks_if fed v w → walks_if fed u w
 walks_on true u v w f g = λ earlier t.
@@ -64,7 +64,7 @@ pub walks_fed : (u v w : CertificateState) → w.rest ≡ v.rest → FeedsStep (
 walks_fed u v w same fed most f earlier t =
     let x = f.2 earlier t in
     let y = fed x.later x.taken in
-    let bound = most x.later x.taken.stands in
+    let bound = most x.later x.taken.valid in
     let here : f.0 ++ v.rest ≡ f.0 ++ w.rest = subst (λ bytes. f.0 ++ v.rest ≡ f.0 ++ bytes) (sym same) refl in
     record {
       later = v.step ∷ x.later;
@@ -74,7 +74,7 @@ walks_fed u v w same fed most f earlier t =
     }
 
 pub tries_fed : (u v w : CertificateState) → LooksAtMost v.checker v.step w.checker → WalksBefore u v → FeedsSomeSteps u w
-tries_fed u v w most f earlier t = let x = f.2 earlier t in x.reaches (kernel_looks w.checker) (looks_tried v.step f.0 v.rest refl f.1 (most x.later x.taken.stands))
+tries_fed u v w most f earlier t = let x = f.2 earlier t in x.reaches (kernel_looks w.checker) (looks_tried v.step f.0 v.rest refl f.1 (most x.later x.taken.valid))
 
 pub runs_fed : (u v w : CertificateState) (next : Kernel) → FeedsStep (Err stop.CounterEnd) v.checker v.step next → WalksBefore u v → RunsOut u w
 runs_fed u v w next fed f earlier t = let x = f.2 earlier t in x.spends (spent_trying v.step f.0 v.rest refl f.1 (fed x.later x.taken))

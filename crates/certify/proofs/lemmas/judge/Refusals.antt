@@ -32,7 +32,7 @@ within name h = go (ltb var_limit name) refl
     go true e = let x = ltb-true var_limit name e in absurd (omega arith)
     go false e = refl
 
--- the next literal decides, or those behind it
+-- the next literal decides, or those after it
 refused_next : (names : Names) (j : ScriptState) (code : ℕ) (codes : List ℕ) (tail : List Literal) → NamesHaveState names j → variable code < var_limit
     → refused_literal j (names_of (named_literals (code ∷ codes) ++ tail))
     ≡ cond (is_witnessed (state_in (states_of names) (variable code + 1))) (Some (WitnessName (variable code + 1))) (refused_literal j (names_of (named_literals codes ++ tail)))
@@ -48,7 +48,7 @@ refused_at names j codes tail k code b h within at low e =
     ∙ refused_next names j code (drop (k + 1) codes) tail h low
     ∙ ap (λ (d : Bool). cond d (Some (WitnessName (variable code + 1))) (refused_literal j (names_of (named_literals (drop (k + 1) codes) ++ tail)))) e
 
--- behind all codes stands nothing, or a literal past the limit
+-- after all codes stands nothing, or a literal past the limit
 past_literals : (j : ScriptState) (past : Bool) (ls : List Literal) → BeginsPast past ls → refused_literal j (names_of ls) ≡ refusal_said (limit_refusal past)
 past_literals j false ls h = ap (λ (ks : List Literal). refused_literal j (names_of ks)) h
 past_literals j true [] h = absurd h
@@ -59,16 +59,16 @@ past_names j false ls h = ap (λ (ks : List Literal). first_refusal true j (name
 past_names j true [] h = absurd h
 past_names j true (l ∷ ls) h = let e : ltb var_limit l.name ≡ true = lt-ltb var_limit l.name h in rw e refl
 
-pub refused_end : (j : ScriptState) (codes : List ℕ) (past : Bool) (ls : List Literal) (k : ℕ) → (f : IsFront codes past ls) → length codes ≤ k → refused_literal j (names_of (named_literals (drop k codes) ++ f.behind)) ≡ refusal_said (limit_refusal past)
+pub refused_end : (j : ScriptState) (codes : List ℕ) (past : Bool) (ls : List Literal) (k : ℕ) → (f : IsFront codes past ls) → length codes ≤ k → refused_literal j (names_of (named_literals (drop k codes) ++ f.following)) ≡ refusal_said (limit_refusal past)
 refused_end j codes past ls k f over =
-    ap (λ (xs : List ℕ). refused_literal j (names_of (named_literals xs ++ f.behind))) (drop_all k codes over) ∙ past_literals j past f.behind f.limit
+    ap (λ (xs : List ℕ). refused_literal j (names_of (named_literals xs ++ f.following))) (drop_all k codes over) ∙ past_literals j past f.following f.limit
 
 names_within : (j : ScriptState) (codes : List ℕ) (tail : List Literal) → AllByRecursion (λ code. code < 2 * var_limit) codes → first_refusal true j (names_of (named_literals codes ++ tail)) ≡ first_refusal true j (names_of tail)
 names_within j [] tail h = refl
 names_within j (code ∷ codes) tail h = let low = h.0 in rw (within (variable code + 1) (omega arith)) (names_within j codes tail h.1)
 
 pub names_refused : (j : ScriptState) (codes : List ℕ) (past : Bool) (ls : List Literal) → IsFront codes past ls → first_refusal true j (names_of ls) ≡ refusal_said (limit_refusal past)
-names_refused j codes past ls f = ap (λ (ks : List Literal). first_refusal true j (names_of ks)) f.whole ∙ names_within j codes f.behind f.within ∙ past_names j past f.behind f.limit
+names_refused j codes past ls f = ap (λ (ks : List Literal). first_refusal true j (names_of ks)) f.whole ∙ names_within j codes f.following f.within ∙ past_names j past f.following f.limit
 
 -- WHOLE COMMANDS
 pub says_literals : (names : Names) (lent : Lent) (r : Option CodeRefusal) → (kind_of lent.kind ≡ OfClause) ⊎ (kind_of lent.kind ≡ OfAsk)

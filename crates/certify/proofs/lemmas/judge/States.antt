@@ -31,7 +31,7 @@ pub past_states : (xs : List NameState) (name : ℕ) → length xs < name → st
 past_states xs zero h = refl
 past_states xs (suc i) h = past_end xs i (omega arith)
 
--- one more behind the last
+-- one more after the last
 pub pushed_at : (xs : List NameState) (s : NameState) (m : ℕ) → state_in (xs ++ s ∷ []) m ≡ cond (eqb (length xs + 1) m) s (state_in xs m)
 pushed_at xs s zero = let e : eqb (length xs + 1) zero ≡ false = ne_eqb (length xs + 1) zero (λ x. omega arith) in rw e refl
 pushed_at xs s (suc i) = go (eqb (length xs + 1) (suc i)) refl (ltb i (length xs)) refl

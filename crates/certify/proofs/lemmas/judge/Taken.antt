@@ -137,7 +137,7 @@ taken_next kind codes k code v mid within at e =
 pub all_taken : (n : Names) (kind : Kind) (codes : List ℕ) (past : Bool) (ls : List Literal) (j mid : ScriptState) (k : ℕ) → past ≡ false → IsFront codes past ls → length codes ≤ k → NamesHaveState n mid
     → taken_all kind (names_of (named_literals codes)) j ≡ taken_all kind (names_of (named_literals (drop k codes))) mid → NamesHaveState n (accepted (command_of kind ls) j)
 all_taken n kind codes past ls j mid k not_past f over h same =
-    let none : f.behind ≡ [] = subst (λ (b : Bool). BeginsPast b f.behind) not_past f.limit in
+    let none : f.following ≡ [] = subst (λ (b : Bool). BeginsPast b f.following) not_past f.limit in
     let whole : ls ≡ named_literals codes = f.whole ∙ ap (λ (ks : List Literal). named_literals codes ++ ks) none ∙ append-nil (named_literals codes) in
     let end : taken_all kind (names_of (named_literals codes)) j ≡ mid = same ∙ ap (λ (xs : List ℕ). taken_all kind (names_of (named_literals xs)) mid) (drop_all k codes over) in
     accepted_stands n kind ls j (subst (NamesHaveState n) (sym end ∙ ap (λ (ks : List Literal). taken_all kind (names_of ks) j) (sym whole)) h)

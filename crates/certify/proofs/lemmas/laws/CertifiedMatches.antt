@@ -17,7 +17,7 @@ use Rattle.certify.specs.answers.Answers.{answers_text}
 use Rattle.certify.specs.answers.RightAnswers.{AreRight, AnswersAreRight}
 use Rattle.certify.specs.confirm.Matches.{OneEach, InForm, MayBeUnmet, Meets, met, cut, other, ordered, Matches}
 use Rattle.certify.specs.run.Certifies as by
-use Rattle.certify.specs.run.Certifies.{Certifies, MayLack, MayStand}
+use Rattle.certify.specs.run.Certifies.{Certifies, MayLack, MayOccur}
 use Rattle.certify.proofs.lemmas.confirm.Settled.{settled_unsat}
 
 -- recorded unsat stays
@@ -31,7 +31,7 @@ lacked_excused (Adds ls) h = tt
 lacked_excused (Fails ask core) h = h
 lacked_excused e h = absurd h
 
-stood_excused : (e : Expected) → MayStand true e → MayBeUnmet e
+stood_excused : (e : Expected) → MayOccur true e → MayBeUnmet e
 stood_excused (Fails ask core) h = absurd (both_ways true h refl)
 stood_excused (Opens ls o) h = absurd h
 stood_excused (Shows names ask line) h = absurd (both_ways true h refl)
@@ -44,13 +44,13 @@ excused by.complete u = tt
 excused (by.left_out {e = e} m r c) u = (lacked_excused e m, excused c u)
 excused (by.other {earlier = earlier} {step = step} n c) u = excused c (stays earlier step u)
 excused (by.ordered {earlier = earlier} {step = step} {e = e} m f c) u =
-    (stood_excused e (subst (λ b. MayStand b e) u m), excused c (stays earlier step u))
+    (stood_excused e (subst (λ b. MayOccur b e) u m), excused c (stays earlier step u))
 excused (by.asked {earlier = earlier} {step = step} i f c) u = ((i u).outcome, excused c (stays earlier step u))
 excused (by.answered {earlier = earlier} {step = step} i f c) u = (tt, excused c (stays earlier step u))
 
--- STEPS BEHIND STEPS
+-- STEPS AFTER STEPS
 
--- these, oldest first, behind the earlier ones
+-- these, oldest first, after the earlier ones
 abbrev onto : List Step → List Step → List Step
 onto [] earlier = earlier
 onto (step ∷ steps) earlier = onto steps (step ∷ earlier)
@@ -64,26 +64,26 @@ accepted_front : (steps earlier : List Step) → Accepted checker_rules (onto st
 accepted_front [] earlier h = h
 accepted_front (step ∷ steps) earlier h = (accepted_front steps (step ∷ earlier) h).0
 
--- all steps are some behind those so far
-behind : {all : List Step} {current : Option Outcome} {earlier : List Step} {es : List Expected} {counts : List ℕ}
+-- all steps are some after those so far
+following : {all : List Step} {current : Option Outcome} {earlier : List Step} {es : List Expected} {counts : List ℕ}
     → Certifies checker_rules all current earlier es counts → (steps : List Step) × (all ≡ onto steps earlier)
-behind by.complete = ([], refl)
-behind (by.left_out m r c) = behind c
-behind (by.other {step = step} n c) = let h = behind c in (step ∷ h.0, h.1)
-behind (by.ordered {step = step} m f c) = let h = behind c in (step ∷ h.0, h.1)
-behind (by.asked {step = step} i f c) = let h = behind c in (step ∷ h.0, h.1)
-behind (by.answered {step = step} i f c) = let h = behind c in (step ∷ h.0, h.1)
+following by.complete = ([], refl)
+following (by.left_out m r c) = following c
+following (by.other {step = step} n c) = let h = following c in (step ∷ h.0, h.1)
+following (by.ordered {step = step} m f c) = let h = following c in (step ∷ h.0, h.1)
+following (by.asked {step = step} i f c) = let h = following c in (step ∷ h.0, h.1)
+following (by.answered {step = step} i f c) = let h = following c in (step ∷ h.0, h.1)
 
 -- the next step is accepted
 next_accepted : {all : List Step} {current : Option Outcome} {step : Step} {earlier : List Step} {es : List Expected} {counts : List ℕ}
     → Accepted checker_rules all → Certifies checker_rules all current (step ∷ earlier) es counts → checker_rules.Accepts earlier step
 next_accepted {step = step} {earlier = earlier} a c =
-    let h = behind c in
+    let h = following c in
     (accepted_front h.0 (step ∷ earlier) (subst (Accepted checker_rules) h.1 a)).1
 
 -- WHAT IS MET
 
--- some steps behind the earlier ones meet what is expected, and these may be followed by others
+-- some steps after the earlier ones meet what is expected, and these may be followed by others
 record Front (all earlier : List Step) (es : List Expected) : Type 0 where
   pub steps : List Step
   pub rest : List Step
@@ -93,7 +93,7 @@ record Front (all earlier : List Step) (es : List Expected) : Type 0 where
 module _ (all : List Step) (a : Accepted checker_rules all) where
   met_by : {current : Option Outcome} {earlier : List Step} {es : List Expected} {counts : List ℕ}
       → Certifies checker_rules all current earlier es counts → (b : Bool) → checker_rules.unsat earlier ≡ b → Front all earlier es
-  met_by c true u = let h = behind c in record { steps = []; rest = h.0; meets = cut u (excused c u); whole = h.1 }
+  met_by c true u = let h = following c in record { steps = []; rest = h.0; meets = cut u (excused c u); whole = h.1 }
   met_by by.complete false u = record { steps = []; rest = []; meets = met u; whole = refl }
   met_by (by.left_out {earlier = earlier} m r c) false u = absurd (both_ways (checker_rules.unsat earlier) u r.recorded)
   met_by (by.other {earlier = earlier} {step = step} n c) false u =
@@ -141,18 +141,18 @@ in_form j (Sample names ∷ commands) (o ∷ os) h = in_form (accepted (Sample n
 -- the text of a front is a front of the text
 record TextFront (front rest : List Step) (text : List ℕ) : Type 0 where
   pub begins : List ℕ
-  pub behind : List ℕ
-  pub parts : text ≡ begins ++ behind
+  pub following : List ℕ
+  pub parts : text ≡ begins ++ following
   pub spelt : SpellsSteps front begins
 
 text_front : (front rest : List Step) (text : List ℕ) → SpellsSteps (front ++ rest) text → TextFront front rest text
-text_front [] rest text h = record { begins = []; behind = text; parts = refl; spelt = refl }
+text_front [] rest text h = record { begins = []; following = text; parts = refl; spelt = refl }
 text_front (step ∷ front) rest text h =
     let more = text_front front rest h.1 h.3 in
     record {
       begins = h.0 ++ more.begins;
-      behind = more.behind;
-      parts = h.4 ∙ ap (λ s. h.0 ++ s) more.parts ∙ sym (append_assoc h.0 more.begins more.behind);
+      following = more.following;
+      parts = h.4 ∙ ap (λ s. h.0 ++ s) more.parts ∙ sym (append_assoc h.0 more.begins more.following);
       spelt = (h.0, more.begins, h.2, more.spelt, refl);
     }
 
@@ -171,7 +171,7 @@ certified_matches reading script certificate outcomes steps counts right a c spe
       outcomes = outcomes;
       steps = h.steps;
       text = t.begins;
-      rest = t.behind;
+      rest = t.following;
       answered = refl;
       begins = t.parts;
       spelt = t.spelt;

@@ -7,7 +7,7 @@ use Rattle.sat_checker.specs.matching.Expected.{Outcome, Sat, Unsat, Expected, N
 use Rattle.sat_checker.specs.matching.Checking.{is_ordered}
 use Rattle.sat_checker.specs.matching.ProofChecking.{checker_rules}
 use Rattle.certify.specs.run.Certifies.{Certifies, IsKnown, complete, left_out, other, ordered, asked, answered}
-use Rattle.certify.specs.laws.Rows.{BehindEndUncertified, ChainCertified, ClauseAndAskCertified, ClauseUncertified, CoreUncertified, EarlyUncertified, EndAloneUncertified, KnownWithoutRounds, LeftOutCertified, ModelUncertified, UnknownUncertified, neg, pos}
+use Rattle.certify.specs.laws.Rows.{AfterEndUncertified, ChainCertified, ClauseAndAskCertified, ClauseUncertified, CoreUncertified, EarlyUncertified, EndAloneUncertified, KnownWithoutRounds, LeftOutCertified, ModelUncertified, UnknownUncertified, neg, pos}
 use Rattle.certify.proofs.lemmas.confirm.FittingSteps.{fits_new_name, fits_adds, fits_shows}
 use Rattle.certify.proofs.lemmas.run.Written.{certified_front, next_same}
 
@@ -213,15 +213,15 @@ pub model_needed : ModelUncertified
 model_needed counts c = let opened = next_asked (End ∷ Assumptions [] ∷ []) (Assumptions []) refl refl c in no_model opened.rest opened.leads
 
 -- where nothing is expected, nothing stands
-none_behind : {all : List Step} {current : Option Outcome} {earlier : List Step} {es : List Expected} {counts : List ℕ} → Certifies checker_rules all current earlier es counts → es ≡ [] → all ≡ earlier
-none_behind complete e = refl
-none_behind (left_out m none c) e = absurd (cc)
-none_behind (other o c) e = absurd (cc)
-none_behind (ordered s f c) e = absurd (cc)
-none_behind (asked k f c) e = absurd (cc)
-none_behind (answered k f c) e = absurd (cc)
+none_following : {all : List Step} {current : Option Outcome} {earlier : List Step} {es : List Expected} {counts : List ℕ} → Certifies checker_rules all current earlier es counts → es ≡ [] → all ≡ earlier
+none_following complete e = refl
+none_following (left_out m none c) e = absurd (cc)
+none_following (other o c) e = absurd (cc)
+none_following (ordered s f c) e = absurd (cc)
+none_following (asked k f c) e = absurd (cc)
+none_following (answered k f c) e = absurd (cc)
 
-pub behind_end : BehindEndUncertified
-behind_end step counts (left_out m none c) = m
-behind_end step counts (other {step = next} o c) = no_other (step ∷ []) End refl refl next o c
-behind_end step counts (ordered {step = next} s f c) = let e = none_behind c refl in absurd (let l : length (step ∷ End ∷ []) ≡ length (next ∷ []) = ap length e in cc)
+pub following_end : AfterEndUncertified
+following_end step counts (left_out m none c) = m
+following_end step counts (other {step = next} o c) = no_other (step ∷ []) End refl refl next o c
+following_end step counts (ordered {step = next} s f c) = let e = none_following c refl in absurd (let l : length (step ∷ End ∷ []) ≡ length (next ∷ []) = ap length e in cc)

@@ -9,8 +9,8 @@ use Rattle.sat_base.specs.script.ScriptState.{ScriptState, identity_of, over, br
 use Rattle.certify.specs.laws.Laws.{NotBoth, RepeatChangesNothing, TautologyChangesNothing, AskLeavesNames}
 use Rattle.sat_base.proofs.lemmas.script.LiteralValues.{literal_coded, among_true, among_mapped, some_mapped, all_at, all_map, true_mapped, mapped_true}
 
-pub not_both : NotBoth
-not_both j ask line core m c = c.none m.valuation
+pub model_excludes_core : NotBoth
+model_excludes_core j ask line core m c = c.none m.valuation
     (true_mapped m.valuation (over j) core (all_map (λ l. Among l ask) (λ l. literal_true m.valuation (over j l) ≡ true) core
     (λ l x. all_at (λ l. literal_true m.valuation (over j l) ≡ true) l ask (mapped_true m.valuation (over j) ask m.asked) x) c.among))
     m.clauses

@@ -25,8 +25,8 @@ can_be a b P text c g =
     let same : c.given ≡ g.text = append_cancel_left a.given c.given g.text (sym c.front.gave ∙ g.front.gave) in
     subst P (sym (c.whole ∙ ap (λ (xs : List ℕ). xs ++ c.rest) same)) (g.holds c.rest c.follows)
 
-pub backed_matches : (budget : ℕ) (summary : Summary) (text answered certified : List ℕ) → CertificateGuarantee text budget summary answered certified → TextsMatch text answered certified
-backed_matches budget summary text answered certified b =
+pub guaranteed_matches : (budget : ℕ) (summary : Summary) (text answered certified : List ℕ) → CertificateGuarantee text budget summary answered certified → TextsMatch text answered certified
+guaranteed_matches budget summary text answered certified b =
     let a = b.is_answered in
     (same_matches text answered certified).1 (subst (λ s. Matches checker_rules reading text s certified) (sym a.answers)
     (certified_matches reading text certified a.outcomes b.steps (rounds_of_asks summary.asks.items) a.right b.accepted b.certifies b.certificate))
@@ -34,19 +34,19 @@ backed_matches budget summary text answered certified b =
 pub finished_confirmed : FinishedIsConfirmed
 finished_confirmed script answers certificate v budget summary text answered certified s a c b e =
     let exact = can_be certificate.0 certificate.1 _ certified c (can_be answers.0 answers.1 _ answered a (can_be script.0 script.1 _ text s e)) in
-    exact.1 (backed_matches budget summary text answered certified b)
+    exact.1 (guaranteed_matches budget summary text answered certified b)
 
 -- what is said of a text that is told
-pub told : (a b : Reader) (P : List ℕ → Type 0) (text : List ℕ) → a.to_come ≡ Some text → GaveEnough a b P → P text
-told a b P text e g = subst (λ o. IfSome o P) e (enough_reported a b P g)
+pub of_known_text : (a b : Reader) (P : List ℕ → Type 0) (text : List ℕ) → a.to_come ≡ Some text → GaveEnough a b P → P text
+of_known_text a b P text e g = subst (λ o. IfSome o P) e (enough_reported a b P g)
 
 pub says : (r : Result Verdict ConfirmFault) (a x b y c z : Reader) (s t u : List ℕ) → a.to_come ≡ Some s → b.to_come ≡ Some t → c.to_come ≡ Some u
     → IfOk r (Exact (a, x) (b, y) (c, z)) → IfOk r (IsSoundVerdict (a, x) (b, y)) → IfOk r (VerdictSays s t u)
 says (Ok v) a x b y c z s t u d e f h k = record {
-  exact = told c z (λ n. (v ≡ Yes) ↔ TextsMatch s t n) u f
-      (told b y (λ m. GaveTextWith (c, z) (λ n. (v ≡ Yes) ↔ TextsMatch s m n)) t e
-      (told a x (λ l. GaveTextWith (b, y) (λ m. GaveTextWith (c, z) (λ n. (v ≡ Yes) ↔ TextsMatch l m n))) s d h));
-  sound = λ yes. told b y (AreRightAnswers s) t e (told a x (λ l. GaveTextWith (b, y) (AreRightAnswers l)) s d (k yes));
+  exact = of_known_text c z (λ n. (v ≡ Yes) ↔ TextsMatch s t n) u f
+      (of_known_text b y (λ m. GaveTextWith (c, z) (λ n. (v ≡ Yes) ↔ TextsMatch s m n)) t e
+      (of_known_text a x (λ l. GaveTextWith (b, y) (λ m. GaveTextWith (c, z) (λ n. (v ≡ Yes) ↔ TextsMatch l m n))) s d h));
+  sound = λ yes. of_known_text b y (AreRightAnswers s) t e (of_known_text a x (λ l. GaveTextWith (b, y) (AreRightAnswers l)) s d (k yes));
 }
 says (Err e) a x b y c z s t u d f g h k = tt
 
@@ -69,7 +69,7 @@ squares_rise m n h =
 
 pub looks_within : (c z : Reader) (s t u : List ℕ) (from to : ℕ) → c.to_come ≡ Some u → TakesLooks c z from to → to ≤ from + most_looks_over s t u
 looks_within c z s t u from to e k =
-    let few = consumed c.to_come z.to_come u k.text e k.front.told in
+    let few = consumed c.to_come z.to_come u k.text e k.front.known_bytes in
     let up = squares_rise (length k.text + 1) (length s + length t + length u + 1) (omega (arith, few)) in
     omega (arith, up, k.bound)
 
@@ -86,11 +86,11 @@ pub run_finished : (budget : ℕ) (summary : Summary) (x y : Reader) (a b c d : 
     → a.contents ≡ Some [] → b.contents ≡ Some answers → c.contents ≡ Some [] → d.contents ≡ Some certificate
     → TookCertificate budget summary (x, y) (a, b) (c, d) → CertificateGuarantee text budget summary answers certificate
 run_finished budget summary x y a b c d text answers certificate e f g h i took =
-    let p = told x y (λ t. (answered : List ℕ) × (certified : List ℕ) × WriterTakes a b answered × WriterTakes c d certified × CertificateGuarantee t budget summary answered certified) text e took in
-    let is_answered : answers ≡ p.0 = appended a.contents b.contents p.0 answers p.2.told f g in
-    let is_certified : certificate ≡ p.1 = appended c.contents d.contents p.1 certificate p.3.told h i in
+    let p = of_known_text x y (λ t. (answered : List ℕ) × (certified : List ℕ) × WriterTakes a b answered × WriterTakes c d certified × CertificateGuarantee t budget summary answered certified) text e took in
+    let is_answered : answers ≡ p.0 = appended a.contents b.contents p.0 answers p.2.known_bytes f g in
+    let is_certified : certificate ≡ p.1 = appended c.contents d.contents p.1 certificate p.3.known_bytes h i in
     subst (λ s. CertificateGuarantee text budget summary answers s) (sym is_certified) (subst (λ s. CertificateGuarantee text budget summary s p.1) (sym is_answered) p.4)
 
 -- a verdict on what a finished run wrote is yes
-pub backed_yes : (budget : ℕ) (summary : Summary) (script answers certificate : List ℕ) (v : Verdict) → CertificateGuarantee script budget summary answers certificate → VerdictSays script answers certificate v → v ≡ Yes
-backed_yes budget summary script answers certificate v b s = s.exact.1 (backed_matches budget summary script answers certificate b)
+pub guaranteed_yes : (budget : ℕ) (summary : Summary) (script answers certificate : List ℕ) (v : Verdict) → CertificateGuarantee script budget summary answers certificate → VerdictSays script answers certificate v → v ≡ Yes
+guaranteed_yes budget summary script answers certificate v b s = s.exact.1 (guaranteed_matches budget summary script answers certificate b)

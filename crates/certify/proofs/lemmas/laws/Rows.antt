@@ -230,8 +230,8 @@ outcome_says = refl
 not_twice : (o : Outcome) (steps : List Step) → StepsMatch checker_rules clause_and_ask (o ∷ []) steps → clause_and_ask_text ++ clause_and_ask_text ≡ outcome_text o ++ [] → ⊥
 not_twice (Sat line) steps m e =
     let r = (matching_right checker_rules the_checking_sound clause_and_ask (Sat line ∷ []) steps m).0 in
-    let told : outcome_text (Sat (neg 1 ∷ pos 2 ∷ [])) ++ clause_and_ask_text ≡ outcome_text (Sat line) ++ [] = ap (λ x. x ++ clause_and_ask_text) outcome_says ∙ e in
-    let p = same_outcome (Sat (neg 1 ∷ pos 2 ∷ [])) (Sat line) clause_and_ask_text [] (omega arith, (omega arith, tt)) (prints line r.names) told in
+    let texts_same : outcome_text (Sat (neg 1 ∷ pos 2 ∷ [])) ++ clause_and_ask_text ≡ outcome_text (Sat line) ++ [] = ap (λ x. x ++ clause_and_ask_text) outcome_says ∙ e in
+    let p = same_outcome (Sat (neg 1 ∷ pos 2 ∷ [])) (Sat line) clause_and_ask_text [] (omega arith, (omega arith, tt)) (prints line r.names) texts_same in
     absurd (let q = p.1 in cc)
   where
     prints : (ls : List Literal) → names_of ls ≡ 1 ∷ 2 ∷ [] → AllByRecursion (λ l. l.name ≤ var_limit) ls

@@ -70,9 +70,9 @@ is_hinted steps written (Err (Refused error)) from to old new e c t = t
 is_hinted steps written (Err z) from to old new e c t = tt
 
 pub runs_have_hints : RunsHaveHints
-runs_have_hints budget summary text answered certified more result from to old new b told c =
+runs_have_hints budget summary text answered certified more result from to old new b text_is c =
     let ends : EndsWith b.steps = run_ends b.follows b.cuts in
     let spelt = subst (λ xs. SpellsSteps (reverse xs) certified) ends.last b.certificate in
     let certificate : IsCertificate (reverse ends.before) certified = certificate_of ends.before certified spelt (subst AcceptsAll ends.last b.accepted) ends.goes_on in
     is_hinted b.steps (reverse ends.before) result from to old new (ap (λ xs. End ∷ xs) (taken_back ends.before) ∙ sym ends.last) c
-    (accepted_converts (reverse ends.before) certified more result from to old new certificate told c)
+    (accepted_converts (reverse ends.before) certified more result from to old new certificate text_is c)

@@ -41,14 +41,14 @@ module _ (text answers : List ℕ) (is : IsAnswered text answers) where
     answers = answers;
     answered = is;
     bytes = t.front;
-    behind = t.behind ++ line;
-    whole = ap (λ (xs : List ℕ). xs ++ line) t.whole ∙ append_assoc t.front t.behind line;
+    following = t.following ++ line;
+    whole = ap (λ (xs : List ℕ). xs ++ line) t.whole ∙ append_assoc t.front t.following line;
     took = bytes_broken a b answers t;
   }
 
   -- the answers
   pub prefix_reported : (a b : Writer) → WriterTakes a b answers → PrintsPrefix text a b
-  prefix_reported a b t = record { answers = answers; answered = is; bytes = answers; behind = line; whole = refl; took = bytes_taken a b answers t }
+  prefix_reported a b t = record { answers = answers; answered = is; bytes = answers; following = line; whole = refl; took = bytes_taken a b answers t }
 
   -- and a part of the last line
   pub prefix_line : (a b d : Writer) → WriterTakes a b answers → WriterBreaks b d line → PrintsPrefix text a d
@@ -56,8 +56,8 @@ module _ (text answers : List ℕ) (is : IsAnswered text answers) where
     answers = answers;
     answered = is;
     bytes = answers ++ k.front;
-    behind = k.behind;
-    whole = ap (λ (xs : List ℕ). answers ++ xs) k.whole ∙ sym (append_assoc answers k.front k.behind);
+    following = k.following;
+    whole = ap (λ (xs : List ℕ). answers ++ xs) k.whole ∙ sym (append_assoc answers k.front k.following);
     took = bytes_later a b d answers k.front t (bytes_broken b d line k);
   }
 
@@ -67,7 +67,7 @@ module _ (text answers : List ℕ) (is : IsAnswered text answers) where
     answers = answers;
     answered = is;
     bytes = answers ++ (line ++ []);
-    behind = [];
+    following = [];
     whole = ap (λ (xs : List ℕ). answers ++ xs) (sym (append-nil line)) ∙ sym (append-nil (answers ++ (line ++ [])));
     took = bytes_later a b f answers (line ++ []) t (bytes_later b d f line [] k e);
   }

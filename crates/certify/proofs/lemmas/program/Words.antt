@@ -13,10 +13,10 @@ use Rattle.certify.specs.program.Calls.{IsRoundCount}
 
 -- THE WORDS OF A LIST
 
--- the word in its place, and those behind it
-pub word_at : (words : List (String Global)) (i : ℕ) (s : String Global) (word : List ℕ) (behind : List (List ℕ)) → i < length words → s ≡ get_or words i s → word ≡ string_bytes s
-    → map string_bytes (drop (i + 1) words) ≡ behind → map string_bytes (drop i words) ≡ word ∷ behind
-word_at words i s word behind l e f g =
+-- the word in its place, and those after it
+pub word_at : (words : List (String Global)) (i : ℕ) (s : String Global) (word : List ℕ) (following : List (List ℕ)) → i < length words → s ≡ get_or words i s → word ≡ string_bytes s
+    → map string_bytes (drop (i + 1) words) ≡ following → map string_bytes (drop i words) ≡ word ∷ following
+word_at words i s word following l e f g =
     ap (map string_bytes) (drop_more words i s l) ∙ ap (λ (t : String Global). string_bytes t ∷ map string_bytes (drop (i + 1) words)) (sym e)
     ∙ ap (λ (w : List ℕ). w ∷ map string_bytes (drop (i + 1) words)) (sym f) ∙ ap (λ (ws : List (List ℕ)). word ∷ ws) g
 
@@ -30,7 +30,7 @@ digits_from word i b l d =
     let step : all_ascii_digits (drop i word) ≡ is_ascii_digit (get_or word i 0) && all_ascii_digits (drop (i + 1) word) = at_drop_more all_ascii_digits word i 0 l in
     step ∙ ap (λ (x : Bool). x && all_ascii_digits (drop (i + 1) word)) d
 
--- a digit leaves it to the bytes behind it whether all are digits,
+-- a digit leaves it to the bytes after it whether all are digits,
 pub one_more_digit : (word : List ℕ) (i : ℕ) → i < length word → is_ascii_digit (get_or word i 0) ≡ true → all_ascii_digits (drop i word) ≡ all_ascii_digits word
     → all_ascii_digits (drop (i + 1) word) ≡ all_ascii_digits word
 one_more_digit word i l d e = sym (digits_from word i true l d) ∙ e
@@ -40,7 +40,7 @@ pub no_digit : (word : List ℕ) (i : ℕ) → i < length word → is_ascii_digi
     → (n : ℕ) → IsRoundCount word n → ⊥
 no_digit word i l d e n s = let no : true ≡ false = sym s.digits ∙ sym e ∙ digits_from word i false l d in absurd (cc)
 
--- behind the last byte all are
+-- after the last byte all are
 pub all_digits : (word : List ℕ) (i : ℕ) → length word ≤ i → all_ascii_digits (drop i word) ≡ all_ascii_digits word → all_ascii_digits word ≡ true
 all_digits word i l e = sym e ∙ ap all_ascii_digits (drop_all i word l)
 

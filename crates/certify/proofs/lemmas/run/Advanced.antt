@@ -32,7 +32,7 @@ use Rattle.sat_solver.specs.schedule.Solving as made_steps
 use Rattle.sat_solver.specs.declared.proof.hash_bits.Counting.{Counting}
 use Rattle.sat_solver.proofs.lemmas.session.Mapped.{among_mapped}
 use Rattle.sat_solver.proofs.lemmas.session.WidthLemmas.{wide, after_wide}
-use Rattle.certify.specs.run.Advancing.{PropagatesTo, leads_none, leads_one, supposed, IsOpenStill, LeavesOpen, AdvancesStored, DerivesAdvancing}
+use Rattle.certify.specs.run.Advancing.{PropagatesTo, leads_none, leads_one, start_literals, IsOpenStill, LeavesOpen, AdvancesStored, DerivesAdvancing}
 
 -- A SESSION IS WHAT STEPS MAKE OF THE STATE
 session_is : (steps : List Step) → (last : Option (List ℕ)) × (session_after steps ≡ session_with last (contents_of steps).state)
@@ -41,7 +41,7 @@ session_is (step ∷ earlier) = let h = session_is earlier in (last_after step h
 
 -- WIDTHS CHANGE NOTHING ELSE
 
--- behind a width that is told
+-- after a width that is told
 pub reported_wide : (same : Bool) (now : ℕ) (written : List Step) (c : ProofState) (x : ℕ) → (contents_of written).state ≡ wide x c
     → (y : ℕ) × ((contents_of ((if same then [] else ChangeHashBits now ∷ []) ++ written)).state ≡ wide y c)
 reported_wide true now written c x e = (x, e)
@@ -123,7 +123,7 @@ leads_on steps s same {start} {reached} (leads_one clause o a u rest) holds h =
     let more = leads_on steps s same rest (λ l. (o == l) || holds l) (λ m. ap (λ (b : Bool). (o == m) || b) (h m)) in
     (clause ∷ more.0, (is_live steps s same clause a, (o, each_so _ _ (false_by o start holds h) clause u.others, u.within, more.1)))
 
-denied_is : (f : Stored) (s : Session) → IsSame f s → (ls : List ℕ) (m : ℕ) → is_among (supposed f ls) m ≡ denied_in s ls m
+denied_is : (f : Stored) (s : Session) → IsSame f s → (ls : List ℕ) (m : ℕ) → is_among (start_literals f ls) m ≡ denied_in s ls m
 denied_is f s same ls m = among-append (map negated ls) (unit_literals f) m ∙ ap (λ (b : Bool). is_among (map negated ls) m || b) (same.units m)
 
 either_way : (b : Bool) → (b ≡ true) ⊎ (b ≡ false)
@@ -255,6 +255,6 @@ never_as steps s same w (AtClause r clause hashes) never (l, among, leaves) =
     never l (record {
       among = among;
       agree = λ m e. sym (d (negated m)) ∙ leaves.agree m (d m ∙ e);
-      stays = stays steps s same l (supposed (ready_after steps) others) (denied_in s others) d leaves.open_still;
+      stays = stays steps s same l (start_literals (ready_after steps) others) (denied_in s others) d leaves.open_still;
     })
 never_as steps s same w step never a = a

@@ -30,7 +30,7 @@ use Rattle.certify.specs.declared.summary.AskReport.{AskReport}
 use Rattle.certify.specs.run.FinishedRun.{IsBounded, SpendsWithinBudget, answer_kind}
 use Rattle.certify.specs.run.SolverCalls.{AnswerIs, Searched}
 use Rattle.certify.specs.run.Certifies.{IsKnown}
-use Rattle.certify.specs.run.Standing.{AgreesWithState}
+use Rattle.certify.specs.run.BetweenCommands.{AgreesWithState}
 use Rattle.sat_checker.proofs.lemmas.matching.Traces.{closed_by_none}
 use Rattle.sat_checker.specs.matching.Traces.{HasTrace, no_step, silent, visible}
 use Rattle.certify.specs.run.Stretches.{AskStretches, LearnsBetween, LearnsEachRound, showing_if}
@@ -52,7 +52,7 @@ sorted_core es ask core {t = t} (visible {s = s} {step = step} {e = x} {es = ys}
     let tl : ys ≡ es = cc in
     visible (fails_sorted s ask core step (subst (λ y. Fits (checker_rules.knows s) s y step) hd f)) (subst (HasTrace checker_rules (step ∷ s) t) tl m)
 
--- what an ask was answered, by what is known behind it
+-- what an ask was answered, by what is known after it
 module _ {C : Type 0} (now : Solver C) (ask : List Literal) (asked : named_literals now.assumed.items ≡ ask) (j : ScriptState) (live : Live) (agree : solver.NamesAgree now.names (steps_in now) j live) where
   line_listed : IsReportedRight kind.Sat now → names_of (named_literals (line_in now)) ≡ map (λ n. n.name) j.in_use
   line_listed right = (right j live agree).names
@@ -103,43 +103,43 @@ unsat_outcome now kind.Unknown e h = absurd (unknown_apart now.state (unknown_st
 
 -- what shows an answer
 module _ {C : Type 0} (now : Solver C) (whole : SolverInvariant now) (ask : List Literal) (asked : named_literals now.assumed.items ≡ ask) (j : ScriptState) (before : State) (s : List Step) where
-  abbrev Told : State → State → Type 0
-  Told b st = HasTrace checker_rules s (steps_in now) (due_between_states b st (line_in now) now.assumed.items now.reported.failed_core.items)
+  abbrev ReportsBetween : State → State → Type 0
+  ReportsBetween b st = HasTrace checker_rules s (steps_in now) (due_between_states b st (line_in now) now.assumed.items now.reported.failed_core.items)
 
   abbrev Shown : Bool → Outcome → Type 0
   Shown unsat o = HasTrace checker_rules s (steps_in now) (showing_if unsat j ask o)
 
-  -- behind a search that goes on
+  -- after a search that goes on
   shown_going : (o : Outcome) → (now.state ≡ states.Unsat → ⊥) → HasTrace checker_rules s (steps_in now) (showing j ask o) → Shown (checker_rules.unsat (steps_in now)) o
   shown_going o n m = subst (λ b. Shown b o) (sym (going_on now whole n)) m
 
-  sat_shown : now.state ≡ states.Sat → before ≡ states.Unknown → names_of (named_literals (line_in now)) ≡ map (λ n. n.name) j.in_use → Told before now.state → Shown (checker_rules.unsat (steps_in now)) (outcome_for kind.Sat now)
+  sat_shown : now.state ≡ states.Sat → before ≡ states.Unknown → names_of (named_literals (line_in now)) ≡ map (λ n. n.name) j.in_use → ReportsBetween before now.state → Shown (checker_rules.unsat (steps_in now)) (outcome_for kind.Sat now)
   sat_shown e b names w =
-      let v : Told states.Unknown states.Sat = subst (λ st. Told states.Unknown st) e (subst (λ st. Told st now.state) b w) in
+      let v : ReportsBetween states.Unknown states.Sat = subst (λ st. ReportsBetween states.Unknown st) e (subst (λ st. ReportsBetween st now.state) b w) in
       let m = subst (HasTrace checker_rules s (steps_in now))
       (ap (λ ns. Shows ns (named_literals now.assumed.items) (named_literals (line_in now)) ∷ []) names ∙ ap (λ q. Shows (map (λ n. n.name) j.in_use) q (named_literals (line_in now)) ∷ []) asked) v in
       shown_going (outcome_for kind.Sat now) (sat_apart now.state e) m
 
-  core_shown : now.state ≡ states.UnsatUnderAssumptions → before ≡ states.Unknown → Told before now.state → Shown (checker_rules.unsat (steps_in now)) (outcome_for kind.Unsat now)
+  core_shown : now.state ≡ states.UnsatUnderAssumptions → before ≡ states.Unknown → ReportsBetween before now.state → Shown (checker_rules.unsat (steps_in now)) (outcome_for kind.Unsat now)
   core_shown e b w =
-      let v : Told states.Unknown states.UnsatUnderAssumptions = subst (λ st. Told states.Unknown st) e (subst (λ st. Told st now.state) b w) in
+      let v : ReportsBetween states.Unknown states.UnsatUnderAssumptions = subst (λ st. ReportsBetween states.Unknown st) e (subst (λ st. ReportsBetween st now.state) b w) in
       let core = now.reported.failed_core.items in
       let m = subst (HasTrace checker_rules s (steps_in now)) (ap (λ q. Fails q (named_literals core) ∷ []) asked) v in
       let sorted = sorted_core [] ask core m refl in
       shown_going (outcome_for kind.Unsat now) (core_apart now.state e)
       (subst (λ st. HasTrace checker_rules s (steps_in now) (Fails ask (named_literals (canonical (core_for st now))) ∷ [])) (sym e) sorted)
 
-  none_reported : (b : State) → Told b states.Unsat → HasTrace checker_rules s (steps_in now) []
+  none_reported : (b : State) → ReportsBetween b states.Unsat → HasTrace checker_rules s (steps_in now) []
   none_reported states.Unknown w = w
   none_reported e w = w
 
-  unsat_shown : now.state ≡ states.Unsat → Told before now.state → (o : Outcome) → Shown (checker_rules.unsat (steps_in now)) o
-  unsat_shown e w o = subst (λ b. Shown b o) (sym (known_unsat now whole e)) (none_reported before (subst (λ st. Told before st) e w))
+  unsat_shown : now.state ≡ states.Unsat → ReportsBetween before now.state → (o : Outcome) → Shown (checker_rules.unsat (steps_in now)) o
+  unsat_shown e w o = subst (λ b. Shown b o) (sym (known_unsat now whole e)) (none_reported before (subst (λ st. ReportsBetween before st) e w))
 
-  unknown_shown : now.state ≡ states.Unknown → before ≡ states.Unknown → Told before now.state → Shown (checker_rules.unsat (steps_in now)) (outcome_for kind.Unknown now)
-  unknown_shown e b w = shown_going (outcome_for kind.Unknown now) (unknown_apart now.state e) (subst (λ st. Told states.Unknown st) e (subst (λ st. Told st now.state) b w))
+  unknown_shown : now.state ≡ states.Unknown → before ≡ states.Unknown → ReportsBetween before now.state → Shown (checker_rules.unsat (steps_in now)) (outcome_for kind.Unknown now)
+  unknown_shown e b w = shown_going (outcome_for kind.Unknown now) (unknown_apart now.state e) (subst (λ st. ReportsBetween states.Unknown st) e (subst (λ st. ReportsBetween st now.state) b w))
 
-  pub answer_shown : (a : Answer) → AnswerIs now.state a → ((now.state ≡ states.Unsat → ⊥) → before ≡ states.Unknown) → (a ≡ kind.Sat → names_of (named_literals (line_in now)) ≡ map (λ n. n.name) j.in_use) → Told before now.state
+  pub answer_shown : (a : Answer) → AnswerIs now.state a → ((now.state ≡ states.Unsat → ⊥) → before ≡ states.Unknown) → (a ≡ kind.Sat → names_of (named_literals (line_in now)) ≡ map (λ n. n.name) j.in_use) → ReportsBetween before now.state
       → Shown (checker_rules.unsat (steps_in now)) (outcome_for a now)
   answer_shown kind.Sat h b names w = let e = sat_state now.state h in sat_shown e (b (sat_apart now.state e)) (names refl) w
   answer_shown kind.Unsat h b names w = elim (unsat_state now.state h) [ inl e ↦ core_shown e (b (core_apart now.state e)) w | inr e ↦ unsat_shown e w (outcome_for kind.Unsat now) ]
@@ -208,8 +208,8 @@ module _ {C : Type 0} (seen : C → Writer) (old mid now : Solver C) (user : Lis
   count = let r = searched.rounds in let l = searched.limited.rounds in omega arith
 
   -- an answer that wasn't known took a round
-  sought : checker_rules.unsat (steps_in mid) ≡ false → (now.state ≡ states.Unknown → ⊥) → 0 < report.steps
-  sought g known_now =
+  takes_rounds : checker_rules.unsat (steps_in mid) ≡ false → (now.state ≡ states.Unknown → ⊥) → 0 < report.steps
+  takes_rounds g known_now =
       let before : searched.mid.state ≡ states.Unknown = elim (forgets_either old.state mid.state opened.state) [
         | inl e ↦ searched.limited.state ∙ e
         | inr e ↦ absurd (both_ways (checker_rules.unsat (steps_in mid)) g (known_unsat mid (opened.did Unknown).whole e))
@@ -230,7 +230,7 @@ module _ {C : Type 0} (seen : C → Writer) (old mid now : Solver C) (user : Lis
     where
       counted : (b : Bool) → checker_rules.unsat (steps_in mid) ≡ b → LearnsEachRound b (outcome_for report.answer now) report.steps (learned_of now.state report.steps)
       counted true u = let k = (known u).rounds in (k, ap (learned_of now.state) k ∙ none_learned now.state)
-      counted false g = answer_learns now now.state report.answer report.steps searched.solved.answer_is (sought g)
+      counted false g = answer_learns now now.state report.answer report.steps searched.solved.answer_is (takes_rounds g)
 
   pub ask_spent : SpendsWithinBudget budget old.clock.rounds report
   ask_spent = subst (λ (n : ℕ). SpendsWithinBudget budget n report) (ap (λ (x : _). x.rounds) opened.clock) searched.spent

@@ -48,7 +48,7 @@ reported_aside before now = go (nat_eq before now)
     go false = (width_aside, tt)
 
 -- in what is made
-aside_still : {step : Step} (s : Session) → IsAside step → made.StandsStill s step
+aside_still : {step : Step} (s : Session) → IsAside step → made.NeverAdvancesByForm s step
 aside_still s index_aside = record { quiet = refl; never = tt }
 aside_still s width_aside = record { quiet = refl; never = tt }
 
@@ -56,14 +56,14 @@ pub asides_still : (earlier front xs : List Step) (k : ℕ) → AreAside front �
 asides_still earlier [] xs k h t = t
 asides_still earlier (s ∷ front) xs k h t = inl (asides_still earlier front xs k h.1 t, aside_still (session_after ((front ++ xs) ++ earlier)) h.0)
 
-pub behind_asides : (earlier mid xs : List Step) (k : ℕ) → AreAside mid → made.AdvanceTimes (mid ++ earlier) xs k → made.AdvanceTimes earlier (xs ++ mid) k
-behind_asides earlier mid [] k h t =
+pub after_asides : (earlier mid xs : List Step) (k : ℕ) → AreAside mid → made.AdvanceTimes (mid ++ earlier) xs k → made.AdvanceTimes earlier (xs ++ mid) k
+after_asides earlier mid [] k h t =
     let none : k ≡ 0 = t in
     subst (λ (n : ℕ). made.AdvanceTimes earlier mid n) (sym none) (subst (λ (ms : List Step). made.AdvanceTimes earlier ms 0) (append-nil mid) (asides_still earlier mid [] 0 h refl))
-behind_asides earlier mid (x ∷ xs) k h (inl (t, still)) =
-    inl (behind_asides earlier mid xs k h t, subst (λ (v : List Step). made.StandsStill (session_after v) x) (sym (append_assoc xs mid earlier)) still)
-behind_asides earlier mid (x ∷ xs) k h (inr (j, e, a, t)) =
-    inr (j, e, subst (λ (v : List Step). made.IsAdvancing (session_after v) x) (sym (append_assoc xs mid earlier)) a, behind_asides earlier mid xs j h t)
+after_asides earlier mid (x ∷ xs) k h (inl (t, still)) =
+    inl (after_asides earlier mid xs k h t, subst (λ (v : List Step). made.NeverAdvancesByForm (session_after v) x) (sym (append_assoc xs mid earlier)) still)
+after_asides earlier mid (x ∷ xs) k h (inr (j, e, a, t)) =
+    inr (j, e, subst (λ (v : List Step). made.IsAdvancing (session_after v) x) (sym (append_assoc xs mid earlier)) a, after_asides earlier mid xs j h t)
 
 -- in what is written
 aside_never : {step : Step} (f : Stored) → IsAside step → DerivesAdvancing f step → ⊥
@@ -145,11 +145,11 @@ pub record Timed (c : Counting) (opened written steps : List Step) (k : ℕ) : T
 -- the last step that was made, and what stands before it
 pub record Head (c : Counting) (step : Step) (made written : List Step) : Type 0 where
   pub bits : ℕ
-  pub told : List Step
+  pub widths : List Step
   pub back : List Step
   pub mid : Counting
-  pub whole : written ≡ narrowed bits step ∷ (told ++ back)
-  pub aside : AreAside told
+  pub whole : written ≡ narrowed bits step ∷ (widths ++ back)
+  pub aside : AreAside widths
   pub cuts : TruncatesHashes c made back mid
 
 pub head_cut : {c d : Counting} {m w : List Step} → TruncatesHashes c m w d → (step : Step) (made : List Step) → m ≡ step ∷ made → Head c step made w
@@ -159,7 +159,7 @@ head_cut {c} (one_made {d = d} {made = m} {written = w} s k p) step made e =
     let now = (counted s d).bits in
     record {
       bits = now;
-      told = width_change d.bits now;
+      widths = width_change d.bits now;
       back = w;
       mid = d;
       whole = ap (λ (x : Step). narrowed now x ∷ (width_change d.bits now ++ w)) (same_first s step m made e);

@@ -16,9 +16,9 @@ use Rattle.sat_checker.specs.declared.processing.Nobody.{Nobody}
 use Rattle.sat_solver.specs.declared.proof.checker.Checked.{Checked}
 use Rattle.sat_solver.specs.declared.proof.made.CheckFault.{CheckFault}
 use Rattle.sat_solver.specs.declared.proof.made.CheckFault.TheVariants as checks
-use Rattle.sat_solver.specs.variables.VariableRoom.{users_in}
+use Rattle.sat_solver.specs.variables.VariableRoom.{user_vars_in}
 use Rattle.sat_solver.specs.cdcl.Going.{IsFaultOr, EmitsUpToFault}
-use Rattle.sat_solver.specs.proof.MadeView.{ComplainsIn, listed_in}
+use Rattle.sat_solver.specs.proof.MadeView.{CheckerComplains, listed_in}
 use Rattle.sat_solver.specs.proof.ProofView.{FailsCheck, is_checked}
 use Rattle.sat_solver.specs.solver.Whole.{HasFullStore}
 use Rattle.certify.specs.declared.fault.RunFault.{RunFault}
@@ -50,7 +50,7 @@ module _ {C : Type 0} (seen : C → Writer) (a b : Solver C) where
   pub complains_never : (k : CheckFault) → is_checked (proof_in a) ≡ false → (steps : List Step) → FailsCheck seen k steps (proof_in a) (proof_in b) → ⊥
   complains_never k alone steps h = go (proof_in b).made.own (ap is_some h.adds.listening ∙ alone) h.why
     where
-      go : (own : Option (Checked Nobody)) → is_some (listed_in own (proof_in b).made.roll.items) ≡ false → ComplainsIn ghosts.takes k own (proof_in b).made.roll.items (proof_in b).made.history.steps → ⊥
+      go : (own : Option (Checked Nobody)) → is_some (listed_in own (proof_in b).made.roll.items) ≡ false → CheckerComplains ghosts.takes k own (proof_in b).made.roll.items (proof_in b).made.history.steps → ⊥
       go None e c = c
       go (Some own) e c = absurd (apart e)
 
@@ -102,39 +102,39 @@ module _ {C : Type 0} (seen : C → Writer) (a b : Solver C) where
     assume_fault errors.VariableLimit h = inr refl
     assume_fault e h = h.2.breaks.fault
 
-    pub clause_caused : (e : SolverError) → AddsClause seen (Err e) a b user → IsCaused (fault_for e) (HasFullStore b) (RefusedForRoom a b (users_in user))
+    pub clause_caused : (e : SolverError) → AddsClause seen (Err e) a b user → IsCaused (fault_for e) (HasFullStore b) (RefusedForRoom a b (user_vars_in user))
     clause_caused errors.WitnessVariable h = absurd (named h.cause.1)
     clause_caused errors.NotInDrat h = absurd (apart (sym h.cause.1.0 ∙ ready.no_lines seen))
     clause_caused errors.HasFailed h = absurd (apart (sym h.cause ∙ ready.going))
     clause_caused errors.VariableLimit h = (h.cause.1.2, h.same)
-    clause_caused e h = ends_caused (HasFullStore b) (RefusedForRoom a b (users_in user)) e ready h.2
+    clause_caused e h = ends_caused (HasFullStore b) (RefusedForRoom a b (user_vars_in user)) e ready h.2
 
-    pub assume_caused : (e : SolverError) → AssumesOrRefuses seen (Err e) a b user → IsCaused (fault_for e) ⊥ (RefusedForRoom a b (users_in user))
+    pub assume_caused : (e : SolverError) → AssumesOrRefuses seen (Err e) a b user → IsCaused (fault_for e) ⊥ (RefusedForRoom a b (user_vars_in user))
     assume_caused errors.WitnessVariable h = absurd (named h.cause.1)
     assume_caused errors.NotInDrat h = absurd (apart (sym h.cause.1 ∙ ready.no_lines seen))
     assume_caused errors.HasFailed h = absurd (apart (sym h.cause ∙ ready.going))
     assume_caused errors.VariableLimit h = (h.cause.2, h.same)
-    assume_caused e h = ends_caused ⊥ (RefusedForRoom a b (users_in user)) e ready h.2
+    assume_caused e h = ends_caused ⊥ (RefusedForRoom a b (user_vars_in user)) e ready h.2
 
   -- no name is assumed where nothing is
   none_asked : (user : ℕ) → a.assumed.items ≡ [] → IsAsked a user → ⊥
   none_asked user free h = subst (Among h.0) free h.1
 
-  module _ (user : ℕ) (judge : ScriptState → ScriptState) (due : ScriptState → List Expected) (May : List Step → Step → Type 0) (ready : IsReadySolver a) (free : a.assumed.items ≡ []) where
-    pub name_fails : (e : SolverError) → ChangesMode seen (Err e) a b user judge due May → FailsSolver seen (fault_for e) a b
+  module _ (user : ℕ) (judge : ScriptState → ScriptState) (due : ScriptState → List Expected) (IsAllowedStep : List Step → Step → Type 0) (ready : IsReadySolver a) (free : a.assumed.items ≡ []) where
+    pub name_fails : (e : SolverError) → ChangesMode seen (Err e) a b user judge due IsAllowedStep → FailsSolver seen (fault_for e) a b
     name_fails errors.AssumedVariable h = absurd (none_asked user free h.cause.1)
     name_fails errors.HasFailed h = absurd (apart (sym h.cause ∙ ready.going))
     name_fails errors.VariableLimit h = stays h.same
     name_fails e h = ends e h.2
 
-    pub name_fault : (e : SolverError) → ChangesMode seen (Err e) a b user judge due May → IsSolverFault e
+    pub name_fault : (e : SolverError) → ChangesMode seen (Err e) a b user judge due IsAllowedStep → IsSolverFault e
     name_fault errors.AssumedVariable h = absurd (none_asked user free h.cause.1)
     name_fault errors.HasFailed h = absurd (apart (sym h.cause ∙ ready.going))
     name_fault errors.StoreFull h = inl tt
     name_fault errors.VariableLimit h = inr refl
     name_fault e h = h.2.breaks.fault
 
-    pub name_caused : (e : SolverError) → ChangesMode seen (Err e) a b user judge due May → IsCaused (fault_for e) ⊥ (RefusedForRoom a b (user ∷ []))
+    pub name_caused : (e : SolverError) → ChangesMode seen (Err e) a b user judge due IsAllowedStep → IsCaused (fault_for e) ⊥ (RefusedForRoom a b (user ∷ []))
     name_caused errors.AssumedVariable h = absurd (none_asked user free h.cause.1)
     name_caused errors.HasFailed h = absurd (apart (sym h.cause ∙ ready.going))
     name_caused errors.VariableLimit h = (h.cause.2, h.same)

@@ -9,15 +9,15 @@ use Rattle.sat_solver.specs.solver.Whole.{steps_in}
 use Rattle.certify.specs.declared.run.session.RunState.{RunState}
 use Rattle.certify.specs.run.Obeying.{Obeyed}
 use Rattle.certify.specs.run.Serving.{RunPlace, Serves, place_after}
-use Rattle.certify.specs.run.Standing.{CarriedOut, last_place, place_in}
+use Rattle.certify.specs.run.BetweenCommands.{CarriedOut, last_place, place_in}
 use Rattle.certify.specs.run.Stretches.{IsNoAsk}
 use Rattle.certify.proofs.lemmas.run.ServedOnce.{serves_plain}
 use Rattle.certify.specs.run.Quiet.{Solver}
 
--- where a run stands behind the last command that came
-pub place_behind : {C : Type 0} (old new : RunState C) (c : Command) (j : ScriptState) (rounds : ℕ) → new.commands ≡ old.commands → rounds ≡ new.solver.clock.rounds
+-- where a run stands after the last command that came
+pub place_following : {C : Type 0} (old new : RunState C) (c : Command) (j : ScriptState) (rounds : ℕ) → new.commands ≡ old.commands → rounds ≡ new.solver.clock.rounds
     → place_after (last_place old j) c (steps_in new.solver) rounds ≡ place_in new (accepted c j)
-place_behind old new c j rounds e f = ap (λ (k : ℕ). at (k + 1) rounds) (sym e) ∙ ap (at (new.commands + 1)) f
+place_following old new c j rounds e f = ap (λ (k : ℕ). at (k + 1) rounds) (sym e) ∙ ap (at (new.commands + 1)) f
   where
     at : ℕ → ℕ → RunPlace
     at k n = record { judge = accepted c j; number = k; steps = steps_in new.solver; rounds = n }
@@ -33,14 +33,14 @@ obeyed_carried seen old s c w quiet free o = record {
   refused = refl;
   budget = refl;
   text = [];
-  told = took_none w;
+  written = took_none w;
   reports = [];
   asks = sym (append-nil old.asks.items);
   serves = λ j live means allowed.
       let k = o.keeps j live means.agree in (
         k.0,
         k.1,
-        subst (λ b. Serves old.budget (last_place old j) b (c ∷ []) [] [] 0) (place_behind old (record old { solver = s }) c j old.solver.clock.rounds refl (ap (λ (x : _). x.rounds) (sym o.clock)))
+        subst (λ b. Serves old.budget (last_place old j) b (c ∷ []) [] [] 0) (place_following old (record old { solver = s }) c j old.solver.clock.rounds refl (ap (λ (x : _). x.rounds) (sym o.clock)))
             (serves_plain old.budget (last_place old j) c (steps_in s) quiet allowed k.2),
       );
 }

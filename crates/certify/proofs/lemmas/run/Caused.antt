@@ -7,7 +7,7 @@ use Rattle.sat_base.specs.script.Language.{Reading, onto_commands}
 use Rattle.sat_base.specs.script.ScriptState.{ScriptState, accepted, after_command, after_script, refusal_of}
 use Rattle.sat_base.specs.values.Literals.{var_limit, variable}
 use Rattle.sat_solver.specs.variables.Refusing.{names_in}
-use Rattle.sat_solver.specs.variables.VariableRoom.{users_in}
+use Rattle.sat_solver.specs.variables.VariableRoom.{user_vars_in}
 use Rattle.sat_base.specs.steps.Steps.{Step}
 use Rattle.sat_solver.specs.solver.Whole.{HasFullStore, steps_in}
 use Rattle.certify.specs.answers.AnswerForms.{named_literals}
@@ -24,7 +24,7 @@ use Rattle.certify.specs.run.Lacking.{CommandLacks}
 use Rattle.certify.specs.run.SolverCalls.{IsCaused, LacksFor, RefusedForRoom}
 use Rattle.certify.specs.run.Obeying.{Obeyed, command_to}
 use Rattle.certify.specs.run.Quiet.{Solver}
-use Rattle.certify.specs.run.Standing.{CausedBy, CausedOver, HasStateBetweenCommands, ServedNext, spelled_by}
+use Rattle.certify.specs.run.BetweenCommands.{CausedBy, CausedOver, HasStateBetweenCommands, ServedNext, spelled_by}
 use Rattle.certify.proofs.lemmas.run.CallFaults.{caused_map}
 use Rattle.certify.proofs.lemmas.run.Lent.{lent_is, spelled_as}
 use Rattle.certify.proofs.lemmas.run.Needing.{clause_needs, names_need_more, script_grows}
@@ -55,7 +55,7 @@ caused_all e full A P a h = tt
 
 -- NAMES
 
--- the names of literals up to one, its own and those behind it
+-- the names of literals up to one, its own and those after it
 names_split : (codes : List ℕ) (k code user : ℕ) → k < length codes → code ≡ get_or codes k code → user ≡ variable code → names_in (take k codes) ++ ((user + 1) ∷ [] ++ names_in (drop (k + 1) codes)) ≡ names_in codes
 names_split codes k code user lt is at =
     sym (append_assoc (names_in (take k codes)) ((user + 1) ∷ []) (names_in (drop (k + 1) codes))) ∙ ap (λ ns. ns ++ names_in (drop (k + 1) codes)) (name_more codes k code user lt is at)
@@ -70,9 +70,9 @@ names_caused seen st codes k code user a b c e lt is at done h =
 -- COMMANDS
 
 module _ {C : Type 0} (lent : Lent) (old : RunState C) (r : Result (Unit {0}) RunFault) (new : Solver C) where
-  pub clause_caused_by : lent.kind ≡ kind.Clause → IfErr r (λ e. IsCaused e (HasFullStore new) (RefusedForRoom old.solver new (users_in lent.literals.now))) → CausedBy r old (record old { solver = new }) (spelled_by lent)
+  pub clause_caused_by : lent.kind ≡ kind.Clause → IfErr r (λ e. IsCaused e (HasFullStore new) (RefusedForRoom old.solver new (user_vars_in lent.literals.now))) → CausedBy r old (record old { solver = new }) (spelled_by lent)
   clause_caused_by e h = subst (λ c. CausedBy r old (record old { solver = new }) c) (sym (spelled_as lent kind.Clause e))
-      (caused_if r (HasFullStore new) (RefusedForRoom old.solver new (users_in lent.literals.now)) (HasFullStore new) (LacksFor old.solver new (Clause (named_literals lent.literals.now))) (λ x. x) (clause_needs old.solver new lent.literals.now) h)
+      (caused_if r (HasFullStore new) (RefusedForRoom old.solver new (user_vars_in lent.literals.now)) (HasFullStore new) (LacksFor old.solver new (Clause (named_literals lent.literals.now))) (λ x. x) (clause_needs old.solver new lent.literals.now) h)
 
   pub names_caused_by : (c : Command) → spelled_by lent ≡ c → IfErr r (λ e. IsCaused e ⊥ (LacksFor old.solver new c)) → CausedBy r old (record old { solver = new }) (spelled_by lent)
   names_caused_by c e h = subst (λ d. CausedBy r old (record old { solver = new }) d) (sym e)
@@ -83,7 +83,7 @@ ask_caused_by lent old new r e h = subst (λ c. CausedBy r old new c) (sym (spel
 
 -- WHAT IS LEFT OF A SCRIPT
 
--- what comes behind takes no identity back
+-- what comes after takes no identity back
 pub needs_exceed : {C : Type 0} (old : RunState C) (new : Solver C) (c : Command) (left : Reading) (j : ScriptState) → HasStateBetweenCommands old j → refusal_of j c ≡ None → LacksFor old.solver new c
     → Exceeds old.commands j (onto_commands (c ∷ []) left) (steps_in new)
 needs_exceed old new c left j at free needs =
@@ -92,7 +92,7 @@ needs_exceed old new c left j at free needs =
     let g = script_grows left.0 (accepted c j) in
     inr (
       subst (λ i. var_limit < (after_script left.0 i).identity_count) (sym (after_accepted j c free)) (omega arith),
-      record { before = []; command = c; behind = left.0; whole = refl; accepted_one = free; lacks = both.1 },
+      record { before = []; command = c; following = left.0; whole = refl; accepted_one = free; lacks = both.1 },
     )
 
 module _ {C : Type 0} (old mid new : RunState C) (lent : Lent) (r : Result (Unit {0}) RunFault) where
@@ -117,16 +117,16 @@ exceeds_later n m cs script j steps e (inr (needs, one)) = inr (
   record {
     before = cs ++ one.before;
     command = one.command;
-    behind = one.behind;
-    whole = ap (λ (xs : List Command). cs ++ xs) one.whole ∙ sym (append_assoc cs one.before (one.command ∷ one.behind));
+    following = one.following;
+    whole = ap (λ (xs : List Command). cs ++ xs) one.whole ∙ sym (append_assoc cs one.before (one.command ∷ one.following));
     accepted_one = subst (λ i. refusal_of i one.command ≡ None) (sym (after_both cs one.before j)) one.accepted_one;
     lacks = subst (λ i. CommandLacks i one.command steps) (sym (after_both cs one.before j)) one.lacks;
   },
 )
 
 -- one command, and what is left
-pub caused_behind : {T C : Type 0} (seen : C → Writer) (r : Result T RunFault) (c : Command) (script : Reading) (a b new : RunState C) (u v : Writer) → ServedNext seen a b c u v → CausedOver r b new script → CausedOver r a new (onto_commands (c ∷ []) script)
-caused_behind seen r c script a b new u v f h =
+pub caused_after : {T C : Type 0} (seen : C → Writer) (r : Result T RunFault) (c : Command) (script : Reading) (a b new : RunState C) (u v : Writer) → ServedNext seen a b c u v → CausedOver r b new script → CausedOver r a new (onto_commands (c ∷ []) script)
+caused_after seen r c script a b new u v f h =
     caused_if r (HasFullStore new.solver) ((j : ScriptState) → HasStateBetweenCommands b j → Exceeds b.commands j script (steps_in new.solver)) (HasFullStore new.solver) ((j : ScriptState) → HasStateBetweenCommands a j → Exceeds a.commands j (onto_commands (c ∷ []) script) (steps_in new.solver)) (λ x. x)
     (λ k j at. exceeds_later a.commands b.commands (c ∷ []) script j (steps_in new.solver) f.commands (k (after_command c j) (f.serves j at).0)) h
 

@@ -12,10 +12,10 @@ use Rattle.sat_solver.specs.session.Coming.{EachIsAllowed}
 use Rattle.sat_checker.specs.matching.Traces.{HasTrace, no_step, silent, visible}
 use Rattle.certify.proofs.lemmas.confirm.Settled.{settled_unsat}
 
-made_behind : {s t : List Step} {es : List Expected} → HasTrace checker_rules s t es → (zs : List Step) × (t ≡ zs ++ s)
-made_behind no_step = ([], refl)
-made_behind (silent {s = s} {step = step} q m) = let r = made_behind m in (r.0 ++ (step ∷ []), r.1 ∙ sym (append_assoc r.0 (step ∷ []) s))
-made_behind (visible {s = s} {step = step} f m) = let r = made_behind m in (r.0 ++ (step ∷ []), r.1 ∙ sym (append_assoc r.0 (step ∷ []) s))
+made_after : {s t : List Step} {es : List Expected} → HasTrace checker_rules s t es → (zs : List Step) × (t ≡ zs ++ s)
+made_after no_step = ([], refl)
+made_after (silent {s = s} {step = step} q m) = let r = made_after m in (r.0 ++ (step ∷ []), r.1 ∙ sym (append_assoc r.0 (step ∷ []) s))
+made_after (visible {s = s} {step = step} f m) = let r = made_after m in (r.0 ++ (step ∷ []), r.1 ∙ sym (append_assoc r.0 (step ∷ []) s))
 
 each_first : (s : List Step) (x : Step) (ys : List Step) → EachIsAllowed (MayTake []) s (ys ++ (x ∷ [])) → MayTake [] s x × EachIsAllowed (MayTake []) (x ∷ s) ys
 each_first s x [] h = (h.1, tt)
@@ -24,14 +24,14 @@ each_first s x (y ∷ ys) h = let r = each_first s x ys h.0 in (r.0, (r.1, subst
 record Onwards (s t : List Step) (x : Step) : Type 0 where
   may : MayTake [] s x
   steps : List Step
-  behind : t ≡ steps ++ (x ∷ s)
+  following : t ≡ steps ++ (x ∷ s)
   each : EachIsAllowed (MayTake []) (x ∷ s) steps
 
 first_comes : (s t : List Step) (x : Step) (ys zs : List Step) → t ≡ ys ++ s → EachIsAllowed (MayTake []) s ys → t ≡ zs ++ (x ∷ s) → Onwards s t x
 first_comes s t x ys zs b c d =
     let e : ys ≡ zs ++ (x ∷ []) = append_cancel_right ys (zs ++ (x ∷ [])) s (sym b ∙ d ∙ sym (append_assoc zs (x ∷ []) s)) in
     let h = each_first s x zs (subst (EachIsAllowed (MayTake []) s) e c) in
-    record { may = h.0; steps = zs; behind = d; each = h.1 }
+    record { may = h.0; steps = zs; following = d; each = h.1 }
 
 -- a step that comes of itself records nothing
 keeps_going : (s : List Step) (step : Step) → is_ordered step ≡ false → MayTake [] s step → checker_rules.unsat s ≡ false → checker_rules.unsat (step ∷ s) ≡ false
@@ -46,10 +46,10 @@ close_keeps s x step f e g = absurd (cc)
 pub closing : {s t : List Step} {es : List Expected} → HasTrace checker_rules s t es → AllByRecursion (λ e. e ≡ Closes) es → (ys : List Step) → t ≡ ys ++ s → EachIsAllowed (MayTake []) s ys → checker_rules.unsat s ≡ false → checker_rules.unsat t ≡ false
 closing no_step h ys b c g = g
 closing {t = t} (silent {s = s} {step = step} q m) h ys b c g =
-    let z = made_behind m in
+    let z = made_after m in
     let r = first_comes s t step ys z.0 b c z.1 in
-    closing m h r.steps r.behind r.each (keeps_going s step q r.may g)
+    closing m h r.steps r.following r.each (keeps_going s step q r.may g)
 closing {t = t} (visible {s = s} {step = step} {e = x} f m) h ys b c g =
-    let z = made_behind m in
+    let z = made_after m in
     let r = first_comes s t step ys z.0 b c z.1 in
-    closing m h.1 r.steps r.behind r.each (close_keeps s x step f h.0 g)
+    closing m h.1 r.steps r.following r.each (close_keeps s x step f h.0 g)

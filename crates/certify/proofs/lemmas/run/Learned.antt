@@ -21,17 +21,17 @@ use Rattle.sat_solver.specs.session.Coming.{EachIsAllowed}
 use Rattle.certify.specs.run.Advancing.{AdvanceTimesStored, AreUnordered}
 use Rattle.certify.specs.run.Learning.{assumed_times, LearnsIn, EachLearns}
 use Rattle.certify.specs.run.Stretches.{IsNoAsk, Stretch, AskStretches, LearnsEachRound, ServesCommands, due_for, made_none, made_one, made_ask, showing_if}
-use Rattle.certify.proofs.lemmas.run.Between.{IsAside, index_aside, width_aside, AreAside, Head, Split, Timed, append_unordered, asides_never, asides_still, asides_unordered, asides_unsat, behind_asides, cut_unsat, head_cut, split, timed}
+use Rattle.certify.proofs.lemmas.run.Between.{IsAside, index_aside, width_aside, AreAside, Head, Split, Timed, append_unordered, asides_never, asides_still, asides_unordered, asides_unsat, after_asides, cut_unsat, head_cut, split, timed}
 
--- STEPS BEHIND STEPS
+-- STEPS AFTER STEPS
 abbrev Ext : List Step → List Step → Type 0
 Ext from to = (steps : List Step) × (to ≡ steps ++ from)
 
 onward : {a b c : List Step} → Ext a b → Ext b c → Ext a c
 onward {a} {b} {c} x y = (y.0 ++ x.0, y.1 ∙ ap (λ (s : List Step). y.0 ++ s) x.1 ∙ sym (append_assoc y.0 x.0 a))
 
-ext_of : {May : List Step → Step → Type 0} {from to : List Step} {es : List Expected} → Stretch May from to es → Ext from to
-ext_of s = (s.comes.steps, s.comes.behind)
+ext_of : {IsAllowedStep : List Step → Step → Type 0} {from to : List Step} {es : List Expected} → Stretch IsAllowedStep from to es → Ext from to
+ext_of s = (s.comes.steps, s.comes.following)
 
 extends : {j : ScriptState} {s t : List Step} {cs : List Command} {os : List Outcome} {ns : List ℕ} → ServesCommands j s t cs os ns → Ext s t
 extends made_none = ([], refl)
@@ -60,14 +60,14 @@ quiet_between (silent {s = s} {step = step} n m) e =
     (h.0 ++ (step ∷ []), h.1 ∙ sym (append_assoc h.0 (step ∷ []) s), append_unordered h.0 (step ∷ []) h.2 (n, tt))
 quiet_between (visible {e = x} {es = xs} f m) e = absurd (cc)
 
--- where it stands, behind others that are due
+-- where it stands, after others that are due
 record LastDue (k : CheckerRules) (s t : List Step) (fs : List Expected) (e : Expected) : Type 0 where
   front : List Step
   step : Step
-  behind : List Step
-  whole : t ≡ behind ++ (step ∷ (front ++ s))
+  following : List Step
+  whole : t ≡ following ++ (step ∷ (front ++ s))
   fits : Fits (k.knows (front ++ s)) (front ++ s) e step
-  unordered : AreUnordered behind
+  unordered : AreUnordered following
   alone : fs ≡ [] → AreUnordered front
 
 last_due : {k : CheckerRules} {s t : List Step} {es : List Expected} → HasTrace k s t es → (fs : List Expected) (e : Expected) → es ≡ fs ++ (e ∷ []) → LastDue k s t fs e
@@ -78,8 +78,8 @@ last_due {k} (silent {s = s} {step = step} n m) fs e h =
     record {
       front = d.front ++ (step ∷ []);
       step = d.step;
-      behind = d.behind;
-      whole = d.whole ∙ ap (λ (v : List Step). d.behind ++ (d.step ∷ v)) place;
+      following = d.following;
+      whole = d.whole ∙ ap (λ (v : List Step). d.following ++ (d.step ∷ v)) place;
       fits = subst (λ (v : List Step). Fits (k.knows v) v e d.step) place d.fits;
       unordered = d.unordered;
       alone = λ z. append_unordered d.front (step ∷ []) (d.alone z) (n, tt);
@@ -89,7 +89,7 @@ last_due {k} (visible {s = s} {step = step} {e = x} {es = xs} f m) [] e h =
     record {
       front = [];
       step = step;
-      behind = q.0;
+      following = q.0;
       whole = q.1;
       fits = subst (λ (y : Expected). Fits (k.knows s) s y step) (first_is x e xs [] h) f;
       unordered = q.2;
@@ -101,8 +101,8 @@ last_due {k} (visible {s = s} {step = step} {e = x} {es = xs} f m) (y ∷ fs) e 
     record {
       front = d.front ++ (step ∷ []);
       step = d.step;
-      behind = d.behind;
-      whole = d.whole ∙ ap (λ (v : List Step). d.behind ++ (d.step ∷ v)) place;
+      following = d.following;
+      whole = d.whole ∙ ap (λ (v : List Step). d.following ++ (d.step ∷ v)) place;
       fits = subst (λ (v : List Step). Fits (k.knows v) v e d.step) place d.fits;
       unordered = d.unordered;
       alone = λ z. absurd (not_none y fs z);
@@ -118,15 +118,15 @@ closing expecting.closes = refl
 
 -- each of these steps comes somewhere
 abbrev ComesThere : (List Step → Step → Type 0) → List Step → Type 0
-ComesThere May = AllByRecursion (λ step. (earlier : List Step) × May earlier step)
+ComesThere IsAllowedStep = AllByRecursion (λ step. (earlier : List Step) × IsAllowedStep earlier step)
 
-first_come : (May : List Step → Step → Type 0) (earlier xs ys : List Step) → EachIsAllowed May earlier (xs ++ ys) → ComesThere May xs
-first_come May earlier [] ys h = tt
-first_come May earlier (x ∷ xs) ys h = (((xs ++ ys) ++ earlier, h.1), first_come May earlier xs ys h.0)
+first_come : (IsAllowedStep : List Step → Step → Type 0) (earlier xs ys : List Step) → EachIsAllowed IsAllowedStep earlier (xs ++ ys) → ComesThere IsAllowedStep xs
+first_come IsAllowedStep earlier [] ys h = tt
+first_come IsAllowedStep earlier (x ∷ xs) ys h = (((xs ++ ys) ++ earlier, h.1), first_come IsAllowedStep earlier xs ys h.0)
 
-later_come : (May : List Step → Step → Type 0) (earlier xs ys : List Step) → EachIsAllowed May earlier (xs ++ ys) → EachIsAllowed May earlier ys
-later_come May earlier [] ys h = h
-later_come May earlier (x ∷ xs) ys h = later_come May earlier xs ys h.0
+later_come : (IsAllowedStep : List Step → Step → Type 0) (earlier xs ys : List Step) → EachIsAllowed IsAllowedStep earlier (xs ++ ys) → EachIsAllowed IsAllowedStep earlier ys
+later_come IsAllowedStep earlier [] ys h = h
+later_come IsAllowedStep earlier (x ∷ xs) ys h = later_come IsAllowedStep earlier xs ys h.0
 
 aside_one : (names : List ℕ) (earlier : List Step) (step : Step) → MayTake names earlier step → is_ordered step ≡ false → IsAside step
 aside_one names earlier (SolverVarName v index) m n = index_aside
@@ -142,19 +142,19 @@ aside_each : (names : List ℕ) (xs : List Step) → ComesThere (MayTake names) 
 aside_each names [] h u = tt
 aside_each names (x ∷ xs) h u = (aside_one names h.0.0 x h.0.1 u.0, aside_each names xs h.1 u.1)
 
--- the steps before and behind the last that is due
+-- the steps before and after the last that is due
 module _ (names : List ℕ) (from to : List Step) (es : List Expected) (st : Stretch (MayTake names) from to es) (fs : List Expected) (e : Expected) (d : LastDue checker_rules from to fs e) where
-  steps_are : st.comes.steps ≡ d.behind ++ (d.step ∷ d.front)
-  steps_are = append_cancel_right st.comes.steps (d.behind ++ (d.step ∷ d.front)) from (sym st.comes.behind ∙ d.whole ∙ sym (append_assoc d.behind (d.step ∷ d.front) from))
+  steps_are : st.comes.steps ≡ d.following ++ (d.step ∷ d.front)
+  steps_are = append_cancel_right st.comes.steps (d.following ++ (d.step ∷ d.front)) from (sym st.comes.following ∙ d.whole ∙ sym (append_assoc d.following (d.step ∷ d.front) from))
 
-  each : EachIsAllowed (MayTake names) from (d.behind ++ (d.step ∷ d.front))
+  each : EachIsAllowed (MayTake names) from (d.following ++ (d.step ∷ d.front))
   each = subst (EachIsAllowed (MayTake names) from) steps_are st.comes.each
 
-  behind_aside : AreAside d.behind
-  behind_aside = aside_each names d.behind (first_come (MayTake names) from d.behind (d.step ∷ d.front) each) d.unordered
+  after_aside : AreAside d.following
+  after_aside = aside_each names d.following (first_come (MayTake names) from d.following (d.step ∷ d.front) each) d.unordered
 
   front_each : EachIsAllowed (MayTake names) from (d.front ++ [])
-  front_each = subst (EachIsAllowed (MayTake names) from) (sym (append-nil d.front)) (later_come (MayTake names) from d.behind (d.step ∷ d.front) each).0
+  front_each = subst (EachIsAllowed (MayTake names) from) (sym (append-nil d.front)) (later_come (MayTake names) from d.following (d.step ∷ d.front) each).0
 
   front_aside : fs ≡ [] → AreAside d.front
   front_aside z = aside_each names d.front (first_come (MayTake names) from d.front [] front_each) (d.alone z)
@@ -202,9 +202,9 @@ both_times (Fails ask core ∷ xs) ys = both_times xs ys
 both_times (Closes ∷ xs) ys = let h = both_times xs ys in omega (arith, h)
 both_times (Finish ∷ xs) ys = both_times xs ys
 
--- behind what is no assumption
-behind_none : (xs ys : List Expected) → due_times xs ≡ 0 → due_times (xs ++ ys) ≡ due_times ys
-behind_none xs ys e = let h = both_times xs ys in omega (arith, h, e)
+-- after what is no assumption
+after_none : (xs ys : List Expected) → due_times xs ≡ 0 → due_times (xs ++ ys) ≡ due_times ys
+after_none xs ys e = let h = both_times xs ys in omega (arith, h, e)
 
 new_times : (names : List ℕ) → due_times (map NewName names) ≡ 0
 new_times [] = refl
@@ -212,22 +212,22 @@ new_times (name ∷ names) = new_times names
 
 bringing_times : (names : List ℕ) (j : ScriptState) → due_times (bringing names j) ≡ 0
 bringing_times [] j = refl
-bringing_times (name ∷ names) j = behind_none (map NewName (new_names name j)) (bringing names (bring_in name j)) (new_times (new_names name j)) ∙ bringing_times names (bring_in name j)
+bringing_times (name ∷ names) j = after_none (map NewName (new_names name j)) (bringing names (bring_in name j)) (new_times (new_names name j)) ∙ bringing_times names (bring_in name j)
 
 hiding_times : (names : List ℕ) (j : ScriptState) → due_times (hiding names j) ≡ 0
 hiding_times [] j = refl
 hiding_times (name ∷ names) j =
-    behind_none (map NewName (new_names name j)) (NoName name ∷ hiding names (without_name name (bring_in name j))) (new_times (new_names name j)) ∙ hiding_times names (without_name name (bring_in name j))
+    after_none (map NewName (new_names name j)) (NoName name ∷ hiding names (without_name name (bring_in name j))) (new_times (new_names name j)) ∙ hiding_times names (without_name name (bring_in name j))
 
 setting_times : (mode : NameMode) (names : List ℕ) (j : ScriptState) → due_times (setting mode names j) ≡ 0
 setting_times mode [] j = refl
 setting_times mode (name ∷ names) j =
-    behind_none (map NewName (new_names name j)) (setting mode names (with_mode mode name (bring_in name j))) (new_times (new_names name j)) ∙ setting_times mode names (with_mode mode name (bring_in name j))
+    after_none (map NewName (new_names name j)) (setting mode names (with_mode mode name (bring_in name j))) (new_times (new_names name j)) ∙ setting_times mode names (with_mode mode name (bring_in name j))
 
 -- a command that is no ask assumes nothing
 due_none : (unsat : Bool) (c : Command) (j : ScriptState) → IsNoAsk c → due_times (due_for unsat c j) ≡ 0
-due_none true (Clause ls) j h = behind_none (bringing (names_of ls) j) [] (bringing_times (names_of ls) j)
-due_none false (Clause ls) j h = behind_none (bringing (names_of ls) j) (Adds ls ∷ []) (bringing_times (names_of ls) j)
+due_none true (Clause ls) j h = after_none (bringing (names_of ls) j) [] (bringing_times (names_of ls) j)
+due_none false (Clause ls) j h = after_none (bringing (names_of ls) j) (Adds ls ∷ []) (bringing_times (names_of ls) j)
 due_none unsat (Ask ls) j h = absurd h
 due_none unsat (Hide names) j h = hiding_times names j
 due_none unsat (Witness names) j h = setting_times Witnessed names j
@@ -288,8 +288,8 @@ record MadeAsk (from to : List Step) (o : Outcome) (rounds : ℕ) : Type 0 where
   before : List Step
   ask : List ℕ
   middle : List Step
-  behind : List Step
-  whole : to ≡ behind ++ (Assumptions [] ∷ (middle ++ (Assumptions ask ∷ before)))
+  following : List Step
+  whole : to ≡ following ++ (Assumptions [] ∷ (middle ++ (Assumptions ask ∷ before)))
   opened_at : assumed_times before ≡ assumed_times from
   closed_at : assumed_times to ≡ assumed_times (middle ++ (Assumptions ask ∷ before)) + 1
   learned : ℕ
@@ -310,14 +310,14 @@ module _ (j : ScriptState) (ls : List Literal) (o : Outcome) (n : ℕ) (from to 
   abbrev start : List Step
   start = Assumptions asked ∷ (first.front ++ from)
 
-  opened_is : a.opened ≡ first.behind ++ start
-  opened_is = first.whole ∙ ap (λ (s : Step). first.behind ++ (s ∷ (first.front ++ from))) (opening first.fits).1
+  opened_is : a.opened ≡ first.following ++ start
+  opened_is = first.whole ∙ ap (λ (s : Step). first.following ++ (s ∷ (first.front ++ from))) (opening first.fits).1
 
-  first_aside : AreAside first.behind
-  first_aside = behind_aside (names_of ls) from a.opened (bringing (names_of ls) j ++ (Opens ls o ∷ [])) a.opens (bringing (names_of ls) j) (Opens ls o) first
+  first_aside : AreAside first.following
+  first_aside = after_aside (names_of ls) from a.opened (bringing (names_of ls) j ++ (Opens ls o ∷ [])) a.opens (bringing (names_of ls) j) (Opens ls o) first
 
-  last_behind : AreAside last.behind
-  last_behind = behind_aside [] a.shown to (Closes ∷ []) a.closes [] Closes last
+  last_following : AreAside last.following
+  last_following = after_aside [] a.shown to (Closes ∷ []) a.closes [] Closes last
 
   last_front : AreAside last.front
   last_front = front_aside [] a.shown to (Closes ∷ []) a.closes [] Closes last refl
@@ -325,51 +325,51 @@ module _ (j : ScriptState) (ls : List Literal) (o : Outcome) (n : ℕ) (from to 
   abbrev found : List Step
   found = a.learns.times.steps
 
-  shown_is : last.front ++ a.shown ≡ (last.front ++ (found ++ first.behind)) ++ start
+  shown_is : last.front ++ a.shown ≡ (last.front ++ (found ++ first.following)) ++ start
   shown_is =
-      ap (λ (v : List Step). last.front ++ v) (a.learns.times.behind ∙ ap (λ (v : List Step). found ++ v) opened_is ∙ sym (append_assoc found first.behind start))
-      ∙ sym (append_assoc last.front (found ++ first.behind) start)
+      ap (λ (v : List Step). last.front ++ v) (a.learns.times.following ∙ ap (λ (v : List Step). found ++ v) opened_is ∙ sym (append_assoc found first.following start))
+      ∙ sym (append_assoc last.front (found ++ first.following) start)
 
-  to_is : to ≡ last.behind ++ (Assumptions [] ∷ ((last.front ++ (found ++ first.behind)) ++ start))
-  to_is = last.whole ∙ ap (λ (s : Step). last.behind ++ (s ∷ (last.front ++ a.shown))) (closing last.fits) ∙ ap (λ (v : List Step). last.behind ++ (Assumptions [] ∷ v)) shown_is
+  to_is : to ≡ last.following ++ (Assumptions [] ∷ ((last.front ++ (found ++ first.following)) ++ start))
+  to_is = last.whole ∙ ap (λ (s : Step). last.following ++ (s ∷ (last.front ++ a.shown))) (closing last.fits) ∙ ap (λ (v : List Step). last.following ++ (Assumptions [] ∷ v)) shown_is
 
   opened_times : assumed_times (first.front ++ from) ≡ assumed_times from
   opened_times =
-      let h : assumed_times a.opened ≡ assumed_times from + 1 = makes_times a.opens.due ∙ ap (λ (k : ℕ). assumed_times from + k) (behind_none (bringing (names_of ls) j) (Opens ls o ∷ []) (bringing_times (names_of ls) j)) in
+      let h : assumed_times a.opened ≡ assumed_times from + 1 = makes_times a.opens.due ∙ ap (λ (k : ℕ). assumed_times from + k) (after_none (bringing (names_of ls) j) (Opens ls o ∷ []) (bringing_times (names_of ls) j)) in
       let e = ap assumed_times opened_is in
-      let f : assumed_times (first.behind ++ start) ≡ assumed_times (first.front ++ from) + 1 = asides_times first.behind start first_aside in
+      let f : assumed_times (first.following ++ start) ≡ assumed_times (first.front ++ from) + 1 = asides_times first.following start first_aside in
       omega (arith, h, e, f)
 
-  closed_times : assumed_times to ≡ assumed_times ((last.front ++ (found ++ first.behind)) ++ start) + 1
-  closed_times = ap assumed_times to_is ∙ asides_times last.behind (Assumptions [] ∷ ((last.front ++ (found ++ first.behind)) ++ start)) last_behind
+  closed_times : assumed_times to ≡ assumed_times ((last.front ++ (found ++ first.following)) ++ start) + 1
+  closed_times = ap assumed_times to_is ∙ asides_times last.following (Assumptions [] ∷ ((last.front ++ (found ++ first.following)) ++ start)) last_following
 
   found_unordered : o ≡ Unknown → AreUnordered found
   found_unordered e =
       let none : showing_if (checker_rules.unsat a.shown) (accepted (Ask ls) j) ls o ≡ [] =
       ap (showing_if (checker_rules.unsat a.shown) (accepted (Ask ls) j) ls) e ∙ shows_none (checker_rules.unsat a.shown) (accepted (Ask ls) j) ls in
       let q = quiet_between a.searches.due none in
-      subst AreUnordered (append_cancel_right q.0 found a.opened (sym q.1 ∙ a.learns.times.behind)) q.2
+      subst AreUnordered (append_cancel_right q.0 found a.opened (sym q.1 ∙ a.learns.times.following)) q.2
 
   made_ask_is : MadeAsk from to o n
   made_ask_is = record {
     before = first.front ++ from;
     ask = asked;
-    middle = last.front ++ (found ++ first.behind);
-    behind = last.behind;
+    middle = last.front ++ (found ++ first.following);
+    following = last.following;
     whole = to_is;
     opened_at = opened_times;
     closed_at = closed_times;
     learned = a.learns.learned;
-    times = asides_still start last.front (found ++ first.behind) a.learns.learned last_front
-        (behind_asides start first.behind found a.learns.learned first_aside (subst (λ (v : List Step). made.AdvanceTimes v found a.learns.learned) opened_is a.learns.times.times));
-    counts = subst (λ (b : Bool). LearnsEachRound b o n a.learns.learned) (ap (λ (v : List Step). checker_rules.unsat v) opened_is ∙ asides_unsat first.behind start first_aside) a.learns.counts;
-    unordered = λ e. append_unordered last.front (found ++ first.behind) (asides_unordered last.front last_front)
-        (append_unordered found first.behind (found_unordered e) (asides_unordered first.behind first_aside));
+    times = asides_still start last.front (found ++ first.following) a.learns.learned last_front
+        (after_asides start first.following found a.learns.learned first_aside (subst (λ (v : List Step). made.AdvanceTimes v found a.learns.learned) opened_is a.learns.times.times));
+    counts = subst (λ (b : Bool). LearnsEachRound b o n a.learns.learned) (ap (λ (v : List Step). checker_rules.unsat v) opened_is ∙ asides_unsat first.following start first_aside) a.learns.counts;
+    unordered = λ e. append_unordered last.front (found ++ first.following) (asides_unordered last.front last_front)
+        (append_unordered found first.following (found_unordered e) (asides_unordered first.following first_aside));
   }
 
   ask_closed : assumed_times to ≡ assumed_times from + 2
   ask_closed =
-      let opened : assumed_times a.opened ≡ assumed_times from + 1 = makes_times a.opens.due ∙ ap (λ (k : ℕ). assumed_times from + k) (behind_none (bringing (names_of ls) j) (Opens ls o ∷ []) (bringing_times (names_of ls) j)) in
+      let opened : assumed_times a.opened ≡ assumed_times from + 1 = makes_times a.opens.due ∙ ap (λ (k : ℕ). assumed_times from + k) (after_none (bringing (names_of ls) j) (Opens ls o ∷ []) (bringing_times (names_of ls) j)) in
       let shown = makes_times a.searches.due in
       let none = shown_none (checker_rules.unsat a.shown) (accepted (Ask ls) j) ls o in
       let closed : assumed_times to ≡ assumed_times a.shown + 1 = makes_times a.closes.due in
@@ -382,10 +382,10 @@ module _ {c d : Counting} {whole steps : List Step} (p : TruncatesHashes c whole
   opened = Assumptions m.ask ∷ m.before
 
   abbrev later : List Step
-  later = ext.0 ++ m.behind
+  later = ext.0 ++ m.following
 
   made_is : whole ≡ later ++ (Assumptions [] ∷ (m.middle ++ opened))
-  made_is = ext.1 ∙ ap (λ (v : List Step). ext.0 ++ v) m.whole ∙ sym (append_assoc ext.0 m.behind (Assumptions [] ∷ (m.middle ++ opened)))
+  made_is = ext.1 ∙ ap (λ (v : List Step). ext.0 ++ v) m.whole ∙ sym (append_assoc ext.0 m.following (Assumptions [] ∷ (m.middle ++ opened)))
 
   cut : Split c (Assumptions [] ∷ (m.middle ++ opened)) steps
   cut = split p later (Assumptions [] ∷ (m.middle ++ opened)) made_is
@@ -400,15 +400,15 @@ module _ {c d : Counting} {whole steps : List Step} (p : TruncatesHashes c whole
   opened_head = head_cut between.cuts (Assumptions m.ask) m.before refl
 
   abbrev before_is : List Step
-  before_is = opened_head.told ++ opened_head.back
+  before_is = opened_head.widths ++ opened_head.back
 
   abbrev middle_is : List Step
-  middle_is = closed_head.told ++ between.middle
+  middle_is = closed_head.widths ++ between.middle
 
   whole_is : steps ≡ cut.front ++ (Assumptions [] ∷ (middle_is ++ (Assumptions m.ask ∷ before_is)))
   whole_is =
-      let inner : closed_head.told ++ closed_head.back ≡ middle_is ++ (Assumptions m.ask ∷ before_is) =
-      ap (λ (v : List Step). closed_head.told ++ v) (between.whole ∙ ap (λ (v : List Step). between.middle ++ v) opened_head.whole) ∙ sym (append_assoc closed_head.told between.middle (Assumptions m.ask ∷ before_is)) in
+      let inner : closed_head.widths ++ closed_head.back ≡ middle_is ++ (Assumptions m.ask ∷ before_is) =
+      ap (λ (v : List Step). closed_head.widths ++ v) (between.whole ∙ ap (λ (v : List Step). between.middle ++ v) opened_head.whole) ∙ sym (append_assoc closed_head.widths between.middle (Assumptions m.ask ∷ before_is)) in
       cut.whole ∙ ap (λ (v : List Step). cut.front ++ v) (closed_head.whole ∙ ap (λ (v : List Step). Assumptions [] ∷ v) inner)
 
   opened_same : assumed_times between.before ≡ assumed_times from + 1
@@ -421,24 +421,24 @@ module _ {c d : Counting} {whole steps : List Step} (p : TruncatesHashes c whole
   only_is =
       let all = cut_times closed_head.cuts in
       let parts = ap assumed_times between.whole ∙ both_assumed between.middle between.before in
-      let told = asides_times closed_head.told between.middle closed_head.aside in
+      let head_times = asides_times closed_head.widths between.middle closed_head.aside in
       let f = opened_same in let closed = m.closed_at in
-      omega (arith, all, parts, told, f, closed, shut)
+      omega (arith, all, parts, head_times, f, closed, shut)
 
   learns_in : LearnsIn steps asks o n
   learns_in = record {
     before = before_is;
     ask = m.ask;
     middle = middle_is;
-    behind = cut.front;
+    following = cut.front;
     whole = whole_is;
     place = place_is;
     only = only_is;
     learned = m.learned;
-    times = asides_never (Assumptions m.ask ∷ before_is) closed_head.told between.middle m.learned closed_head.aside
+    times = asides_never (Assumptions m.ask ∷ before_is) closed_head.widths between.middle m.learned closed_head.aside
         (subst (λ (v : List Step). AdvanceTimesStored v between.middle m.learned) opened_head.whole between.times);
     counts = subst (λ (b : Bool). LearnsEachRound b o n m.learned) (sym (ap (λ (v : List Step). checker_rules.unsat v) (sym opened_head.whole) ∙ cut_unsat between.cuts)) m.counts;
-    unordered = λ e. append_unordered closed_head.told between.middle (asides_unordered closed_head.told closed_head.aside) (between.unordered (m.unordered e));
+    unordered = λ e. append_unordered closed_head.widths between.middle (asides_unordered closed_head.widths closed_head.aside) (between.unordered (m.unordered e));
   }
 
 each_learns : (c d : Counting) {j : ScriptState} {s t : List Step} {cs : List Command} {os : List Outcome} {ns : List ℕ} (asks : ℕ) (whole steps : List Step)

@@ -20,7 +20,7 @@ use Rattle.certify.specs.script.Commands.{BeginsPast, IsLent, kind_of}
 use Rattle.sat_base.specs.script.Language.{Reading, command_of}
 use Rattle.certify.specs.run.SolverCalls.{FailsSolver, IsAllowed}
 use Rattle.certify.specs.run.Obeying.{Obeyed, command_to}
-use Rattle.certify.specs.run.Standing.{NamesAllow, CarriedOut, RunGoesOn, StopsCarrying, WritesBoth, spelled_by}
+use Rattle.certify.specs.run.BetweenCommands.{NamesAllow, CarriedOut, RunGoesOn, StopsCarrying, WritesBoth, spelled_by}
 use Rattle.certify.proofs.lemmas.run.Carried.{obeyed_carried}
 use Rattle.certify.proofs.lemmas.run.NamesIn.{names_same}
 use Rattle.certify.proofs.lemmas.run.Obeys.{clause_obeyed, names_ask_nothing}
@@ -34,14 +34,14 @@ on_ok (Err e) f h = h
 -- a command that is lent, none of whose names is past the limit
 pub lent_is : (lent : Lent) (c : Command) → IsLent lent c → lent.past_limit ≡ false → c ≡ spelled_by lent
 lent_is lent c (ls, f, e) within =
-    let none : f.behind ≡ [] = subst (λ b. BeginsPast b f.behind) within f.limit in
+    let none : f.following ≡ [] = subst (λ b. BeginsPast b f.following) within f.limit in
     let whole : ls ≡ named_literals lent.literals.now = f.whole ∙ ap (λ ks. named_literals lent.literals.now ++ ks) none ∙ append-nil (named_literals lent.literals.now) in
     e ∙ ap (command_of (kind_of lent.kind)) whole
 
 -- names that refuse nothing of what is lent
 pub lent_allowed : (names : Names) (lent : Lent) → (c : Command) × IsLent lent c → lent.past_limit ≡ false → ReportsRefusal None names lent → NamesAllow names (spelled_by lent)
-lent_allowed names lent h within judges j stands =
-    sym (judges j (spelled_by lent) stands (subst (IsLent lent) (lent_is lent h.0 h.1 within) h.1))
+lent_allowed names lent h within judges j valid =
+    sym (judges j (spelled_by lent) valid (subst (IsLent lent) (lent_is lent h.0 h.1 within) h.1))
 
 module _ (lent : Lent) where
   pub spelled_as : (k : CommandKind) → lent.kind ≡ k → spelled_by lent ≡ command_of (kind_of k) (named_literals lent.literals.now)

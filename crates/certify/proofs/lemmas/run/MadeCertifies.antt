@@ -7,7 +7,7 @@ use Rattle.sat_base.specs.script.ScriptState.{ScriptState, Sampled, Witnessed, a
 use Rattle.sat_base.specs.steps.Steps.{Step}
 use Rattle.sat_checker.specs.matching.Expected.{Outcome, Sat, Unsat, Unknown, Expected, Adds, Opens, Fails, Closes, Finish, bringing, hiding, setting, showing, expected}
 use Rattle.sat_checker.specs.matching.ProofChecking.{checker_rules}
-use Rattle.sat_solver.specs.session.Session.{MayAll}
+use Rattle.sat_solver.specs.session.Session.{AreAllowedSteps}
 use Rattle.certify.specs.run.Certifies.{Certifies}
 use Rattle.sat_checker.specs.matching.Traces.{HasTrace}
 use Rattle.certify.specs.run.Stretches.{AskStretches, IsNoAsk, ServesCommands, due_for, made_ask, made_none, made_one, showing_if}
@@ -19,25 +19,25 @@ use Rattle.certify.proofs.lemmas.run.Recorded.{recorded_at}
 -- EARLIER STEPS
 
 -- what may be made to some step may be made up to an earlier one
-may_before : (later earlier : List Step) → MayAll (later ++ earlier) → MayAll earlier
+may_before : (later earlier : List Step) → AreAllowedSteps (later ++ earlier) → AreAllowedSteps earlier
 may_before [] earlier m = m
 may_before (step ∷ later) earlier m = may_before later earlier m.0
 
-may_at : (from to later : List Step) → to ≡ later ++ from → MayAll to → MayAll from
-may_at from to later e m = may_before later from (subst MayAll e m)
+may_at : (from to later : List Step) → to ≡ later ++ from → AreAllowedSteps to → AreAllowedSteps from
+may_at from to later e m = may_before later from (subst AreAllowedSteps e m)
 
-behind_both : (from mid to xs ys : List Step) → mid ≡ xs ++ from → to ≡ ys ++ mid → to ≡ (ys ++ xs) ++ from
-behind_both from mid to xs ys a b = b ∙ ap (λ s. ys ++ s) a ∙ sym (append_assoc ys xs from)
+following_both : (from mid to xs ys : List Step) → mid ≡ xs ++ from → to ≡ ys ++ mid → to ≡ (ys ++ xs) ++ from
+following_both from mid to xs ys a b = b ∙ ap (λ s. ys ++ s) a ∙ sym (append_assoc ys xs from)
 
-made_behind : {j : ScriptState} {from to : List Step} {cs : List Command} {os : List Outcome} {counts : List ℕ} → ServesCommands j from to cs os counts → (later : List Step) × (to ≡ later ++ from)
-made_behind made_none = ([], refl)
-made_behind (made_one {from = from} {to = to} mid h s m) = let r = made_behind m in (r.0 ++ s.comes.steps, behind_both from mid to s.comes.steps r.0 s.comes.behind r.1)
-made_behind (made_ask {from = from} {to = to} mid a m) =
-    let r = made_behind m in
+made_after : {j : ScriptState} {from to : List Step} {cs : List Command} {os : List Outcome} {counts : List ℕ} → ServesCommands j from to cs os counts → (later : List Step) × (to ≡ later ++ from)
+made_after made_none = ([], refl)
+made_after (made_one {from = from} {to = to} mid h s m) = let r = made_after m in (r.0 ++ s.comes.steps, following_both from mid to s.comes.steps r.0 s.comes.following r.1)
+made_after (made_ask {from = from} {to = to} mid a m) =
+    let r = made_after m in
     let x = a.opens.comes in let y = a.searches.comes in let z = a.closes.comes in
-    let searched = behind_both from a.opened a.shown x.steps y.steps x.behind y.behind in
-    let whole = behind_both from a.shown mid (y.steps ++ x.steps) z.steps searched z.behind in
-    (r.0 ++ (z.steps ++ (y.steps ++ x.steps)), behind_both from mid to (z.steps ++ (y.steps ++ x.steps)) r.0 whole r.1)
+    let searched = following_both from a.opened a.shown x.steps y.steps x.following y.following in
+    let whole = following_both from a.shown mid (y.steps ++ x.steps) z.steps searched z.following in
+    (r.0 ++ (z.steps ++ (y.steps ++ x.steps)), following_both from mid to (z.steps ++ (y.steps ++ x.steps)) r.0 whole r.1)
 
 -- SOMETHING IS EXPECTED TO THE END
 
@@ -86,7 +86,7 @@ leads_expected {s} {t} es leads all j cs os counts c =
     (leads all None m.0 m.1 counts (subst (λ fs. Certifies checker_rules all None t fs counts) m.2 c))
 
 -- what was made for it leads on, with the clause that is left out once unsat is recorded
-plain_leads : (from mid : List Step) (j : ScriptState) (c : Command) → HasTrace checker_rules from mid (due_for (checker_rules.unsat from) c j) → MayAll mid → Leads from mid (due_for false c j)
+plain_leads : (from mid : List Step) (j : ScriptState) (c : Command) → HasTrace checker_rules from mid (due_for (checker_rules.unsat from) c j) → AreAllowedSteps mid → Leads from mid (due_for false c j)
 plain_leads from mid j c m may = at (checker_rules.unsat from) refl
   where
     left_out : (c : Command) → checker_rules.unsat from ≡ true → HasTrace checker_rules from mid (due_for true c j) → Leads from mid (due_for false c j)
@@ -111,7 +111,7 @@ showing_going j ls Unknown = tt
 
 -- what was shown, or is left out once unsat is recorded
 shown_leads : {opened shown : List Step} (j : ScriptState) (ls : List Literal) (o : Outcome) → HasTrace checker_rules opened shown (showing_if (checker_rules.unsat shown) j ls o)
-    → (checker_rules.unsat shown ≡ true → o ≡ Unsat []) → MayAll shown → Leads opened shown (showing j ls o)
+    → (checker_rules.unsat shown ≡ true → o ≡ Unsat []) → AreAllowedSteps shown → Leads opened shown (showing j ls o)
 shown_leads {opened} {shown} j ls o m recorded may = at (checker_rules.unsat shown) refl
   where
     at : (b : Bool) → checker_rules.unsat shown ≡ b → Leads opened shown (showing j ls o)
@@ -121,9 +121,9 @@ shown_leads {opened} {shown} j ls o m recorded may = at (checker_rules.unsat sho
         subst (λ o. Leads opened shown (showing j ls o)) (sym (recorded e)) all
     at false e = leads_going (subst (λ b. HasTrace checker_rules opened shown (showing_if b j ls o)) e m) e (showing_going j ls o)
 
-module _ {from to : List Step} {j : ScriptState} {ls : List Literal} {o : Outcome} {rounds : ℕ} (a : AskStretches j ls o rounds from to) (may : MayAll to) where
-  may_shown : MayAll a.shown
-  may_shown = may_at a.shown to a.closes.comes.steps a.closes.comes.behind may
+module _ {from to : List Step} {j : ScriptState} {ls : List Literal} {o : Outcome} {rounds : ℕ} (a : AskStretches j ls o rounds from to) (may : AreAllowedSteps to) where
+  may_shown : AreAllowedSteps a.shown
+  may_shown = may_at a.shown to a.closes.comes.steps a.closes.comes.following may
 
   -- it is closed by steps that record nothing
   knows : checker_rules.unsat to ≡ true → o ≡ Unsat []
@@ -131,7 +131,7 @@ module _ {from to : List Step} {j : ScriptState} {ls : List Literal} {o : Outcom
     where
       at : (b : Bool) → checker_rules.unsat a.shown ≡ b → o ≡ Unsat []
       at true e = a.recorded e
-      at false e = absurd (both_ways (checker_rules.unsat to) (closing a.closes.due (refl, tt) a.closes.comes.steps a.closes.comes.behind a.closes.comes.each e) u)
+      at false e = absurd (both_ways (checker_rules.unsat to) (closing a.closes.due (refl, tt) a.closes.comes.steps a.closes.comes.following a.closes.comes.each e) u)
 
   opening : (all : List Step) (counts : List ℕ) (s : List Step) → HasTrace checker_rules s a.opened (Opens ls o ∷ []) → (es : List Expected) (e : Expected) (fs : List Expected)
       → Certifies checker_rules all (Some o) a.opened (es ++ (e ∷ fs)) counts → Certifies checker_rules all None s (Opens ls o ∷ (es ++ (e ∷ fs))) (rounds ∷ counts)
@@ -152,13 +152,13 @@ module _ {from to : List Step} {j : ScriptState} {ls : List Literal} {o : Outcom
 
 -- ALL COMMANDS
 
-pub made_certifies : {j : ScriptState} {from to : List Step} {cs : List Command} {os : List Outcome} {counts : List ℕ} (all : List Step) → ServesCommands j from to cs os counts → MayAll to
+pub made_certifies : {j : ScriptState} {from to : List Step} {cs : List Command} {os : List Outcome} {counts : List ℕ} (all : List Step) → ServesCommands j from to cs os counts → AreAllowedSteps to
     → Certifies checker_rules all None to (Finish ∷ []) [] → Certifies checker_rules all None from (expected j cs os) counts
 made_certifies all made_none may last = last
 made_certifies {j} {from} {to} all (made_one {c = c} {cs = cs} {os = os} {counts = counts} mid h s m) may last =
-    let r = made_behind m in
+    let r = made_after m in
     subst (λ es. Certifies checker_rules all None from es counts) (sym (expects_next j c cs os h))
     (leads_expected (due_for false c j) (plain_leads from mid j c s.due (may_at mid to r.0 r.1 may)) all (accepted c j) cs os counts (made_certifies all m may last))
 made_certifies {to = to} all (made_ask {cs = cs} {os = os} {counts = counts} mid a m) may last =
-    let r = made_behind m in
+    let r = made_after m in
     ask_leads a (may_at mid to r.0 r.1 may) all cs os counts (made_certifies all m may last)

@@ -1,4 +1,4 @@
--- Steps that a call makes lead to what is expected behind them.
+-- Steps that a call makes lead to what is expected after them.
 use Rattle.std.proofs.Common.{ℕ, ◌≡◌, ◌∙◌, Bool, true, false, Option, Some, None, List, [], ◌∷◌, ◌++◌, map, refl, sym, subst, append_assoc}
 use Rattle.std.proofs.lemmas.Bool.{both_ways}
 use Rattle.std.specs.List.{AllByRecursion}
@@ -10,7 +10,7 @@ use Rattle.sat_checker.proofs.lemmas.invariants.Stored.{unsat_stays}
 use Rattle.sat_checker.specs.matching.Checking.{is_ordered}
 use Rattle.sat_checker.specs.matching.Expected.{Outcome, Unsat, Expected, NewName, NoName, Adds, Opens, Closes, bringing, hiding, setting}
 use Rattle.sat_checker.specs.matching.ProofChecking.{checker_rules}
-use Rattle.certify.specs.run.Certifies.{Certifies, IsKnown, IsRecorded, MayStand, MayLack, left_out, other, ordered, asked, answered}
+use Rattle.certify.specs.run.Certifies.{Certifies, IsKnown, IsRecorded, MayOccur, MayLack, left_out, other, ordered, asked, answered}
 use Rattle.sat_checker.specs.matching.Traces.{HasTrace, no_step, silent, visible}
 use Rattle.certify.specs.run.Stretches.{due_for}
 use Rattle.certify.proofs.lemmas.confirm.Settled.{settled_unsat}
@@ -22,7 +22,7 @@ Leads from to es = (all : List Step) (current : Option Outcome) (e : Expected) (
 
 -- it may stand wherever it is expected
 abbrev pub IsFree : Expected → Type 0
-IsFree e = (unsat : Bool) → MayStand unsat e
+IsFree e = (unsat : Bool) → MayOccur unsat e
 
 -- something is expected, so another step may come
 other_before : (es : List Expected) {all : List Step} {current : Option Outcome} {earlier : List Step} {step : Step} (e : Expected) (fs : List Expected) {counts : List ℕ}
@@ -37,10 +37,10 @@ leads_free (visible {s = s} f m) h = λ all current e fs counts c. ordered (h.0 
 
 pub leads_both : {s t u : List Step} (es gs : List Expected) → Leads s t es → Leads t u gs → Leads s u (es ++ gs)
 leads_both {s} {t} {u} es gs f g = λ all current e fs counts c.
-    subst (λ xs. Certifies checker_rules all current s xs counts) (sym (append_assoc es gs (e ∷ fs))) (behind all current e fs counts (g all current e fs counts c))
+    subst (λ xs. Certifies checker_rules all current s xs counts) (sym (append_assoc es gs (e ∷ fs))) (following all current e fs counts (g all current e fs counts c))
   where
-    behind : (all : List Step) (current : Option Outcome) (e : Expected) (fs : List Expected) (counts : List ℕ) → Certifies checker_rules all current t (gs ++ (e ∷ fs)) counts → Certifies checker_rules all current s (es ++ (gs ++ (e ∷ fs))) counts
-    behind all current e fs counts = at gs
+    following : (all : List Step) (current : Option Outcome) (e : Expected) (fs : List Expected) (counts : List ℕ) → Certifies checker_rules all current t (gs ++ (e ∷ fs)) counts → Certifies checker_rules all current s (es ++ (gs ++ (e ∷ fs))) counts
+    following all current e fs counts = at gs
       where
         at : (gs : List Expected) → Certifies checker_rules all current t (gs ++ (e ∷ fs)) counts → Certifies checker_rules all current s (es ++ (gs ++ (e ∷ fs))) counts
         at [] c = f all current e fs counts c
@@ -82,14 +82,14 @@ closes_ask (visible {s = s} {step = step} f m) known all e fs counts c =
 
 -- what may stand where unsat isn't recorded
 abbrev pub IsGoing : Expected → Type 0
-IsGoing e = MayStand false e
+IsGoing e = MayOccur false e
 
 -- what a search that goes on shows
 pub leads_going : {s t : List Step} {es : List Expected} → HasTrace checker_rules s t es → checker_rules.unsat t ≡ false → AllByRecursion IsGoing es → Leads s t es
 leads_going no_step g h = λ all current e fs counts c. c
 leads_going (silent {es = es} q m) g h = λ all current e fs counts c. other_before es e fs q (leads_going m g h all current e fs counts c)
 leads_going {t = t} (visible {s = s} {step = step} {e = x} f m) g h = λ all current e fs counts c.
-    ordered (subst (λ b. MayStand b x) (sym (going_by (visible f m) g)) h.0) f (leads_going m g h.1 all current e fs counts c)
+    ordered (subst (λ b. MayOccur b x) (sym (going_by (visible f m) g)) h.0) f (leads_going m g h.1 all current e fs counts c)
 
 -- names may come in and go wherever that is expected
 free_both : (es fs : List Expected) → AllByRecursion IsFree es → AllByRecursion IsFree fs → AllByRecursion IsFree (es ++ fs)

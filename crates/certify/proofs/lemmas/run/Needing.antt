@@ -18,7 +18,7 @@ use Rattle.sat_solver.specs.variables.Calls.{NamesAgree}
 use Rattle.sat_solver.specs.variables.Counting.{count_to}
 use Rattle.sat_solver.specs.variables.Live.{given, given_of}
 use Rattle.sat_solver.specs.variables.Refusing.{names_in}
-use Rattle.sat_solver.specs.variables.VariableRoom.{HasVariablesFor, coming, is_hidden_name, is_listed, live_count, reach, users_in}
+use Rattle.sat_solver.specs.variables.VariableRoom.{HasVariablesFor, coming, is_hidden_name, is_listed, live_count, reach, user_vars_in}
 use Rattle.sat_solver.specs.variables.Variables.{global_of, names_used, variables_used}
 use Rattle.sat_solver.specs.solver.Adding.{ReplacesAssumptions}
 use Rattle.sat_solver.specs.solver.Whole.{steps_in}
@@ -75,7 +75,7 @@ never false = refl
 count_none : (n : ℕ) (j : ScriptState) → count_to n (is_asked j []) ≡ 0
 count_none n j = count_same n (is_asked j []) (λ k. false) (λ k lt. never (not (is_some (identity_of j (k + 1))))) ∙ no_one n
 
--- this is of the names from one on, where it is of those behind
+-- this is of the names from one on, where it is of those after
 abbrev Brings : List ℕ → Type 0
 Brings us = (used : ℕ) (j : ScriptState) → j.first_unused ≡ used + 1 → j.identity_count + (reach used us - used) + count_to used (is_asked j us) ≤ (bring_all (map (λ u. u + 1) us) j).identity_count
 
@@ -268,12 +268,12 @@ lacks_variables n steps j live users agree lacks = record {
 lacks_more : (steps : List Step) (k l : ℕ) → k ≤ l → LacksVariables steps k → LacksVariables steps l
 lacks_more steps k l le h = record { in_use = h.in_use; once = h.once; known = h.known; more = let m = h.more in omega arith }
 
-users_names : (ls : List ℕ) → map (λ u. u + 1) (users_in ls) ≡ names_in ls
+users_names : (ls : List ℕ) → map (λ u. u + 1) (user_vars_in ls) ≡ names_in ls
 users_names [] = refl
 users_names (l ∷ ls) = ap (λ xs. (variable l + 1) ∷ xs) (users_names ls)
 
 -- the names of literals, as scripts have them
-names_of_users : (ls : List ℕ) → map (λ u. u + 1) (users_in ls) ≡ names_of (named_literals ls)
+names_of_users : (ls : List ℕ) → map (λ u. u + 1) (user_vars_in ls) ≡ names_of (named_literals ls)
 names_of_users ls = users_names ls ∙ sym (names_same ls)
 
 -- COMMANDS
@@ -289,14 +289,14 @@ module _ {C : Type 0} (s t : Solver C) where
     subst (λ steps. LacksVariables steps (introduced_for (map (λ u. u + 1) users) j)) (steps_same h.1) (lacks_variables s.names (steps_in s) j live users agree h.0),
   )
 
-  literals_need : (ls : List ℕ) → RefusedForRoom s t (users_in ls) → (j : ScriptState) (live : Live) → NamesAgree s.names (steps_in s) j live
+  literals_need : (ls : List ℕ) → RefusedForRoom s t (user_vars_in ls) → (j : ScriptState) (live : Live) → NamesAgree s.names (steps_in s) j live
       → (var_limit < (bring_all (names_of (named_literals ls)) j).identity_count) × LacksVariables (steps_in t) (introduced_for (names_of (named_literals ls)) j)
-  literals_need ls h j live agree = subst (λ names. (var_limit < (bring_all names j).identity_count) × LacksVariables (steps_in t) (introduced_for names j)) (names_of_users ls) (both_need (users_in ls) h j live agree)
+  literals_need ls h j live agree = subst (λ names. (var_limit < (bring_all names j).identity_count) × LacksVariables (steps_in t) (introduced_for names j)) (names_of_users ls) (both_need (user_vars_in ls) h j live agree)
 
-  pub clause_needs : (ls : List ℕ) → RefusedForRoom s t (users_in ls) → LacksFor s t (Clause (named_literals ls))
+  pub clause_needs : (ls : List ℕ) → RefusedForRoom s t (user_vars_in ls) → LacksFor s t (Clause (named_literals ls))
   clause_needs ls h j live agree = literals_need ls h j live agree
 
-  pub ask_needs : (ls : List ℕ) → RefusedForRoom s t (users_in ls) → LacksFor s t (Ask (named_literals ls))
+  pub ask_needs : (ls : List ℕ) → RefusedForRoom s t (user_vars_in ls) → LacksFor s t (Ask (named_literals ls))
   ask_needs ls h j live agree = literals_need ls h j live agree
 
 -- the identities that one name of a command needs
@@ -305,11 +305,11 @@ one_needs state.Hidden name j h = h
 one_needs state.Sampled name j h = h
 one_needs state.Witnessed name j h = h
 
-next_lacks : (st : NameState) (names : List ℕ) (j : ScriptState) (steps : List Step) (first : List ℕ) (name : ℕ) (behind : List ℕ) → names ≡ first ++ (name ∷ behind)
+next_lacks : (st : NameState) (names : List ℕ) (j : ScriptState) (steps : List Step) (first : List ℕ) (name : ℕ) (following : List ℕ) → names ≡ first ++ (name ∷ following)
     → LacksVariables steps (introduced_for (name ∷ []) (accepted (command_to st first) j)) → CommandLacks j (command_to st names) steps
-next_lacks state.Hidden names j steps first name behind e h = record { first = first; name = name; behind = behind; whole = e; lacks = h }
-next_lacks state.Sampled names j steps first name behind e h = record { first = first; name = name; behind = behind; whole = e; lacks = h }
-next_lacks state.Witnessed names j steps first name behind e h = record { first = first; name = name; behind = behind; whole = e; lacks = h }
+next_lacks state.Hidden names j steps first name following e h = record { first = first; name = name; following = following; whole = e; lacks = h }
+next_lacks state.Sampled names j steps first name following e h = record { first = first; name = name; following = following; whole = e; lacks = h }
+next_lacks state.Witnessed names j steps first name following e h = record { first = first; name = name; following = following; whole = e; lacks = h }
 
 -- after names that were introduced, and before others
 pub names_need_more : {C : Type 0} (seen : C → Writer) (st : NameState) (xs zs : List ℕ) (user : ℕ) (a b c : Solver C) → Obeyed seen (command_to st xs) a b → RefusedForRoom b c (user ∷ [])

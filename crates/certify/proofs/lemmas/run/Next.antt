@@ -13,7 +13,7 @@ use Rattle.certify.specs.judge.Names.{NamesHaveState}
 use Rattle.sat_solver.specs.solver.View.{proof_in}
 use Rattle.certify.specs.run.SolverCalls.{IsReadySolver}
 use Rattle.certify.specs.run.Serving.{RunPlace, Serves}
-use Rattle.certify.specs.run.Standing.{NamesAllow, CarriedOut, RunGoesOn, HasStateBetweenCommands, AgreesWithState, Refused, ServedNext, place_in}
+use Rattle.certify.specs.run.BetweenCommands.{NamesAllow, CarriedOut, RunGoesOn, HasStateBetweenCommands, AgreesWithState, Refused, ServedNext, place_in}
 use Rattle.sat_base.proofs.lemmas.script.ScriptStates.{accepted_kept, start_kept}
 use Rattle.certify.proofs.lemmas.run.ServedOnce.{serves_refused}
 use Rattle.certify.proofs.lemmas.run.RunStateCalls.{took_none}
@@ -35,11 +35,11 @@ after_refused j c r e = rw e refl
 
 module _ {C : Type 0} (seen : C → Writer) (old new : RunState C) (c : Command) (before after : Writer) (on : RunGoesOn old) where
   -- it was taken
-  module _ (carried : CarriedOut seen (counted old) new c before after) (allowed : NamesAllow old.names c) (stands : (j : ScriptState) → NamesHaveState old.names j → NamesHaveState new.names (accepted c j)) where
+  module _ (carried : CarriedOut seen (counted old) new c before after) (allowed : NamesAllow old.names c) (valid : (j : ScriptState) → NamesHaveState old.names j → NamesHaveState new.names (accepted c j)) where
     taken_at : (j : ScriptState) → HasStateBetweenCommands old j → HasStateBetweenCommands new (accepted c j) × Serves old.budget (place_in old j) (place_in new (accepted c j)) (c ∷ []) carried.text carried.reports 0
     taken_at j at =
         let s = carried.serves j at.live at.means (allowed j at.names) in
-        (record { live = s.0; means = record { agree = s.1; kept = accepted_kept c j (allowed j at.names) at.means.kept }; names = stands j at.names }, s.2)
+        (record { live = s.0; means = record { agree = s.1; kept = accepted_kept c j (allowed j at.names) at.means.kept }; names = valid j at.names }, s.2)
 
     pub taken_next : ServedNext seen old new c before after
     taken_next = record {
@@ -54,7 +54,7 @@ module _ {C : Type 0} (seen : C → Writer) (old new : RunState C) (c : Command)
       commands = carried.commands;
       budget = carried.budget;
       text = carried.text;
-      told = carried.told;
+      written = carried.written;
       reports = carried.reports;
       asks = carried.asks;
       refused = 0;
@@ -94,7 +94,7 @@ module _ {C : Type 0} (seen : C → Writer) (old new : RunState C) (c : Command)
       commands = refused.commands;
       budget = refused.budget;
       text = refused_line (old.commands + 1) why;
-      told = refused.told;
+      written = refused.written;
       reports = [];
       asks = ap (λ (v : _). v.items) refused.asks ∙ sym (append-nil old.asks.items);
       refused = 1;

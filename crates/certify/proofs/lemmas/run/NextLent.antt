@@ -11,7 +11,7 @@ use Rattle.certify.specs.declared.run.session.RunState.{RunState}
 use Rattle.certify.specs.judge.Names.{ReportsRefusal, NamesHaveState, refusal_in}
 use Rattle.certify.specs.script.Commands.{IsLent}
 use Rattle.certify.specs.run.Unfinished.{TookAnswersFront}
-use Rattle.certify.specs.run.Standing.{CarriedOut, RunGoesOn, Refused, ServedNext, StopsCarrying, StopsOver, spelled_by}
+use Rattle.certify.specs.run.BetweenCommands.{CarriedOut, RunGoesOn, Refused, ServedNext, StopsCarrying, StopsOver, spelled_by}
 use Rattle.certify.proofs.lemmas.run.Lent.{lent_is}
 use Rattle.certify.proofs.lemmas.run.Next.{counted, refused_next, taken_next}
 

@@ -14,8 +14,8 @@ use Rattle.sat_solver.specs.proof.OutputView.{text_in}
 use Rattle.sat_solver.specs.proof.ProofTexts.{TookAcceptedSteps}
 use Rattle.sat_solver.specs.proof.ProofView.{Open, Target, TargetTakes, TakesAll, GivesWriter, target_of}
 use Rattle.sat_solver.specs.proof.Counting.{nothing_counted as uncounted}
-use Rattle.sat_solver.specs.session.Session.{MayAll}
-use Rattle.sat_solver.specs.solver.Fronts.{ReachesBySteps, HandsFront}
+use Rattle.sat_solver.specs.session.Session.{AreAllowedSteps}
+use Rattle.sat_solver.specs.solver.Fronts.{ReachesBySteps, ReturnsAcceptedPrefix}
 use Rattle.sat_solver.specs.solver.Proving.{ClosesProof}
 use Rattle.sat_solver.specs.solver.Whole.{steps_in}
 use Rattle.sat_solver.proofs.lemmas.session.CutsLemmas.{cuts_are_free}
@@ -37,9 +37,9 @@ front_of from given made h = record {
   cuts = h.cuts;
   accepted = h.accepts;
   bytes = h.front;
-  behind = h.behind;
+  following = h.following;
   whole = h.whole;
-  took = record { taken = h.taken; told = h.told };
+  took = record { taken = h.taken; known_bytes = h.known_bytes };
 }
 
 -- all of the text is a front of it
@@ -51,13 +51,13 @@ whole_of from given now h = record {
   cuts = h.since.took.cuts;
   accepted = h.accepted;
   bytes = text_in Varisat h.since.took.written;
-  behind = [];
+  following = [];
   whole = sym (append-nil (text_in Varisat h.since.took.written));
-  took = record { taken = h.since.took.takes.taken; told = h.since.took.takes.told };
+  took = record { taken = h.since.took.takes.taken; known_bytes = h.since.took.takes.known_bytes };
 }
 
 -- of the text of steps that were carried, each of which may be made
-pub carried_front : (from given : Writer) (steps : List Step) (now : Target) → MayAll steps → TargetTakes (Open Varisat uncounted (empty_sink from)) steps now → GivesWriter now (Some given)
+pub carried_front : (from given : Writer) (steps : List Step) (now : Target) → AreAllowedSteps steps → TargetTakes (Open Varisat uncounted (empty_sink from)) steps now → GivesWriter now (Some given)
     → (k : StepsFront from given) × (k.made ≡ steps)
 carried_front from given steps now may h g =
     let q : Some given ≡ Some h.1.writer = subst (λ (z : Target). GivesWriter z (Some given)) h.2 g in
@@ -70,11 +70,11 @@ carried_front from given steps now may h g =
         cuts = h.3.cuts;
         accepted = (sessions_are_accepted h.3.written (cuts_are_free steps h.3.written h.0 h.3.cuts may).may).0;
         bytes = sent.fresh;
-        behind = h.1.waiting;
+        following = h.1.waiting;
         whole = sent.flows;
         took = record {
           taken = ap (λ (z : Writer). z.taken) (sym same) ∙ sent.takes.taken;
-          told = subst (λ (z : Writer). Appends from.contents z.contents sent.fresh) same sent.takes.told;
+          known_bytes = subst (λ (z : Writer). Appends from.contents z.contents sent.fresh) same sent.takes.known_bytes;
         };
       },
       refl,
@@ -92,15 +92,15 @@ module _ {C : Type 0} (seen : C → Writer) where
   -- WHAT IS GIVEN BACK
 
   -- as it is
-  pub front_handed : (s : Solver C) (handed : Option C) (given : C) → handed ≡ Some given → HandsFront seen handed s → GivesFront seen s given
-  front_handed s handed given is h = record {
+  pub returned_prefix : (s : Solver C) (returned : Option C) (given : C) → returned ≡ Some given → ReturnsAcceptedPrefix seen returned s → GivesFront seen s given
+  returned_prefix s returned given is h = record {
     front = λ opened from open_then none went.
         ∥∥₁_elim (h opened Varisat from given is open_then (ap has_begun none) went) ∥∥₁_prop (λ k. ∣ front_of from (seen given) k.steps k.front ∣₁);
   }
 
-  -- behind a call that failed to end it
-  pub front_behind : (s new : Solver C) (given : C) (e : SolverError) → ClosesProof seen (Err e) s new → GivesFront seen new given → GivesFront seen s given
-  front_behind s new given e h g = record {
+  -- after a call that failed to end it
+  pub front_after : (s new : Solver C) (given : C) (e : SolverError) → ClosesProof seen (Err e) s new → GivesFront seen new given → GivesFront seen s given
+  front_after s new given e h g = record {
     front = λ opened from open_then none went.
         g.front opened from open_then none (went_more seen (proof_in opened) (proof_in s) (proof_in new) went ((calls_go_on seen s new).closing_fails e h));
   }
@@ -112,7 +112,7 @@ module _ {C : Type 0} (seen : C → Writer) where
         let now = target_of seen (proof_in s) in
         let follows = subst (λ (t : Target). TargetTakesFront t went.steps now) open_then went.target in
         elim follows [
-          | inl k ↦ ∣ whole_of from (seen given) (steps_in new) (h.certificate Varisat from [] refl (record { steps = went.steps; behind = went.history ∙ ap (λ (xs : List Step). went.steps ++ xs) none; target = k })) ∣₁
+          | inl k ↦ ∣ whole_of from (seen given) (steps_in new) (h.certificate Varisat from [] refl (record { steps = went.steps; following = went.history ∙ ap (λ (xs : List Step). went.steps ++ xs) none; target = k })) ∣₁
           | inr k ↦ absurd (subst (λ (t : Target). TakesAll t (End ∷ []) (seen given)) k.3.1 h.closes.takes)
         ];
   }

@@ -4,7 +4,7 @@ use Rattle.std.proofs.lemmas.Bool.{both_ways}
 use Rattle.sat_base.specs.steps.Steps.{Step}
 use Rattle.sat_checker.specs.matching.ProofChecking.{checker_rules}
 use Rattle.sat_checker.proofs.lemmas.meaning.Answers.{unsat_means_none}
-use Rattle.sat_solver.specs.session.Session.{MayAll, session_after}
+use Rattle.sat_solver.specs.session.Session.{AreAllowedSteps, session_after}
 use Rattle.sat_solver.specs.declared.state.State.{State}
 use Rattle.sat_solver.specs.declared.state.State.TheVariants as states
 use Rattle.sat_solver.specs.solver.Whole.{SolverInvariant, StateSays, steps_in, session_in}
@@ -12,26 +12,26 @@ use Rattle.sat_solver.proofs.lemmas.session.StepLemmas.{sessions_are_accepted}
 use Rattle.certify.specs.run.Certifies.{IsRecorded}
 use Rattle.certify.specs.run.Quiet.{Solver}
 
-unsat_as : (steps : List Step) → MayAll steps → checker_rules.unsat steps ≡ (session_after steps).unsat
+unsat_as : (steps : List Step) → AreAllowedSteps steps → checker_rules.unsat steps ≡ (session_after steps).unsat
 unsat_as steps may = (sessions_are_accepted steps may).1.unsat
 
-pub recorded_at : (steps : List Step) → MayAll steps → checker_rules.unsat steps ≡ true → IsRecorded checker_rules steps
+pub recorded_at : (steps : List Step) → AreAllowedSteps steps → checker_rules.unsat steps ≡ true → IsRecorded checker_rules steps
 recorded_at steps may u = record { recorded = u; none = λ a h. unsat_means_none steps a (sessions_are_accepted steps may).0 u h }
 
 module _ {C : Type 0} (s : Solver C) (whole : SolverInvariant s) where
   -- it is where the clauses alone are known to be unsatisfiable
   pub known_unsat : s.state ≡ states.Unsat → checker_rules.unsat (steps_in s) ≡ true
-  known_unsat e = unsat_as (steps_in s) whole.stands.may ∙ subst (λ st. StateSays st s.core s.names s.asked s.assumed.items s.reported.failed_core.items) e whole.says
+  known_unsat e = unsat_as (steps_in s) whole.valid.may ∙ subst (λ st. StateSays st s.core s.names s.asked s.assumed.items s.reported.failed_core.items) e whole.says
 
   going_by : (st : State) → (st ≡ states.Unsat → ⊥) → StateSays st s.core s.names s.asked s.assumed.items s.reported.failed_core.items → (session_in s).unsat ≡ false
-  going_by states.Unknown n h = h.joined.sound.search.stands.fits.consistent
-  going_by states.Sat n h = h.0.joined.sound.search.stands.fits.consistent
-  going_by states.UnsatUnderAssumptions n h = h.0.joined.sound.search.stands.fits.consistent
+  going_by states.Unknown n h = h.joined.sound.search.valid.fits.consistent
+  going_by states.Sat n h = h.0.joined.sound.search.valid.fits.consistent
+  going_by states.UnsatUnderAssumptions n h = h.0.joined.sound.search.valid.fits.consistent
   going_by states.Unsat n h = absurd (n refl)
 
   -- and nowhere else
   pub going_on : (s.state ≡ states.Unsat → ⊥) → checker_rules.unsat (steps_in s) ≡ false
-  going_on n = unsat_as (steps_in s) whole.stands.may ∙ going_by s.state n whole.says
+  going_on n = unsat_as (steps_in s) whole.valid.may ∙ going_by s.state n whole.says
 
   -- so where it is recorded, they are known to be
   pub unsat_known : checker_rules.unsat (steps_in s) ≡ true → s.state ≡ states.Unsat
@@ -53,4 +53,4 @@ module _ {C : Type 0} (s : Solver C) (whole : SolverInvariant s) where
           apart x = cc
 
   pub recorded : s.state ≡ states.Unsat → IsRecorded checker_rules (steps_in s)
-  recorded e = recorded_at (steps_in s) whole.stands.may (known_unsat e)
+  recorded e = recorded_at (steps_in s) whole.valid.may (known_unsat e)

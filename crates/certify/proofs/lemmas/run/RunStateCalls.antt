@@ -27,10 +27,10 @@ use Rattle.certify.specs.run.Asking.{AskEffect}
 use Rattle.sat_solver.specs.solver.View.{proof_in}
 use Rattle.certify.specs.run.SolverCalls.{FaultSays, FailsSolver, IsAllowed, IsReadySolver, Searched}
 use Rattle.certify.specs.run.Serving.{Serves, place_after}
-use Rattle.certify.specs.run.Standing.{CarriedOut, AgreesWithState, StopsCarrying, WritesBoth, last_place, place_in}
+use Rattle.certify.specs.run.BetweenCommands.{CarriedOut, AgreesWithState, StopsCarrying, WritesBoth, last_place, place_in}
 use Rattle.certify.specs.run.Reporting.{outcome_for}
 use Rattle.certify.proofs.lemmas.run.AskServed.{ask_bounded, ask_steps, ask_right, ask_then, ask_spent, ask_rounds, kind_reported}
-use Rattle.certify.proofs.lemmas.run.Carried.{place_behind}
+use Rattle.certify.proofs.lemmas.run.Carried.{place_following}
 use Rattle.certify.proofs.lemmas.run.NoLines.{none_still}
 use Rattle.certify.proofs.lemmas.run.ServedOnce.{serves_ask}
 use Rattle.certify.proofs.lemmas.run.Stopping.{front_answered, front_cut, front_none, front_served}
@@ -62,8 +62,8 @@ did_ready seen a b judge due ready did = record { solver = λ g. did.whole; goin
 pub searched_ready : {C : Type 0} (seen : C → Writer) (budget : ℕ) (report : AskReport) (a b : Solver C) → Searched seen budget report a b → IsReadySolver b
 searched_ready seen budget report a b s = did_ready seen s.mid b _ _ s.limited.ready s.solved.answered.did
 
-pub sought_took : {C : Type 0} (seen : C → Writer) (a b c : Solver C) (user : List ℕ) (budget : ℕ) (report : AskReport) → ReplacesAssumptions seen a b user → Searched seen budget report b c → ComesBySteps seen (proof_in a) (proof_in c)
-sought_took seen a b c user budget report opened s = took_both seen (proof_in a) (proof_in b) (proof_in c) (opened.did Unknown).took (search_took seen budget report b c s)
+pub ask_took : {C : Type 0} (seen : C → Writer) (a b c : Solver C) (user : List ℕ) (budget : ℕ) (report : AskReport) → ReplacesAssumptions seen a b user → Searched seen budget report b c → ComesBySteps seen (proof_in a) (proof_in c)
+ask_took seen a b c user budget report opened s = took_both seen (proof_in a) (proof_in b) (proof_in c) (opened.did Unknown).took (search_took seen budget report b c s)
 
 -- a solver still agrees with the judge
 pub agree_still : {C : Type 0} (seen : C → Writer) (a b c : Solver C) (user : List ℕ) (budget : ℕ) (report : AskReport) → ReplacesAssumptions seen a b user → Searched seen budget report b c
@@ -84,60 +84,60 @@ allowed_still seen a b c user budget report allowed opened s =
 pub asked_of : {C : Type 0} (seen : C → Writer) (old new : RunState C) (now : Solver C) (user text : List ℕ) (report : AskReport) (before after : Writer)
     → AskEffect seen old.budget report user text old.solver now → WriterTakes before after text → ReplacesAssumptions seen now new.solver [] → new.commands ≡ old.commands → new.refused ≡ old.refused → new.budget ≡ old.budget → new.asks.items ≡ old.asks.items ++ report ∷ []
     → CarriedOut seen old new (Ask (named_literals user)) before after
-asked_of seen old new now user text report before after sought told closed commands refused budget asks = record {
-  ready = did_ready seen now new.solver _ _ (searched_ready seen old.budget report sought.mid now sought.searched) (closed.did Unknown);
+asked_of seen old new now user text report before after effect written closed commands refused budget asks = record {
+  ready = did_ready seen now new.solver _ _ (searched_ready seen old.budget report effect.mid now effect.searched) (closed.did Unknown);
   free = closed.assumed;
-  took = took_both seen (proof_in old.solver) (proof_in now) (proof_in new.solver) (sought_took seen old.solver sought.mid now user old.budget report sought.opened sought.searched) (closed.did Unknown).took;
+  took = took_both seen (proof_in old.solver) (proof_in now) (proof_in new.solver) (ask_took seen old.solver effect.mid now user old.budget report effect.opened effect.searched) (closed.did Unknown).took;
   commands = commands;
   refused = refused;
   budget = budget;
   text = text;
-  told = told;
+  written = written;
   reports = report ∷ [];
   asks = asks;
   serves = λ j live means free.
-      let then = ask_then seen old.solver sought.mid now user old.budget report sought.opened sought.searched sought.right j live means free new.solver closed in
-      let right = ask_right seen old.solver sought.mid now user old.budget report sought.opened sought.searched sought.right j live means free in
-      let steps = ask_steps seen old.solver sought.mid now user old.budget report sought.opened sought.searched sought.right j live means free new.solver closed in
-      let bounded = ask_bounded seen old.solver sought.mid now user old.budget report sought.opened sought.searched sought.right j live means free in
-      let spent = ask_spent seen old.solver sought.mid now user old.budget report sought.opened sought.searched sought.right in
-      let rounds = ask_rounds seen old.solver sought.mid now user old.budget report sought.opened sought.searched sought.right new.solver closed in
+      let then = ask_then seen old.solver effect.mid now user old.budget report effect.opened effect.searched effect.right j live means free new.solver closed in
+      let right = ask_right seen old.solver effect.mid now user old.budget report effect.opened effect.searched effect.right j live means free in
+      let steps = ask_steps seen old.solver effect.mid now user old.budget report effect.opened effect.searched effect.right j live means free new.solver closed in
+      let bounded = ask_bounded seen old.solver effect.mid now user old.budget report effect.opened effect.searched effect.right j live means free in
+      let spent = ask_spent seen old.solver effect.mid now user old.budget report effect.opened effect.searched effect.right in
+      let rounds = ask_rounds seen old.solver effect.mid now user old.budget report effect.opened effect.searched effect.right new.solver closed in
       let serves = serves_ask old.budget (last_place old j) (named_literals user) (outcome_for report.answer now) report (steps_in new.solver) free right (kind_reported report.answer now) spent bounded steps in (
         then.0,
         then.1,
-        subst (λ b. Serves old.budget (last_place old j) b (Ask (named_literals user) ∷ []) text (report ∷ []) 0) (place_behind old new (Ask (named_literals user)) j (old.solver.clock.rounds + report.steps) commands rounds)
-            (subst (λ t. Serves old.budget (last_place old j) (place_after (last_place old j) (Ask (named_literals user)) (steps_in new.solver) (old.solver.clock.rounds + report.steps)) (Ask (named_literals user) ∷ []) t (report ∷ []) 0) (sym sought.text_is) serves),
+        subst (λ b. Serves old.budget (last_place old j) b (Ask (named_literals user) ∷ []) text (report ∷ []) 0) (place_following old new (Ask (named_literals user)) j (old.solver.clock.rounds + report.steps) commands rounds)
+            (subst (λ t. Serves old.budget (last_place old j) (place_after (last_place old j) (Ask (named_literals user)) (steps_in new.solver) (old.solver.clock.rounds + report.steps)) (Ask (named_literals user) ∷ []) t (report ∷ []) 0) (sym effect.text_is) serves),
       );
 }
 
 -- WHERE A PART FAILED
 
 -- an answer that was found is right, of which all was written or a front
-module _ {C : Type 0} (seen : C → Writer) (old : RunState C) (now : Solver C) (user text : List ℕ) (report : AskReport) (before after : Writer) (sought : AskEffect seen old.budget report user text old.solver now)
+module _ {C : Type 0} (seen : C → Writer) (old : RunState C) (now : Solver C) (user text : List ℕ) (report : AskReport) (before after : Writer) (effect : AskEffect seen old.budget report user text old.solver now)
     (left : Reading) (j : ScriptState) (live : Live) (means : AgreesWithState old.solver j live) (free : refusal_of j (Ask (named_literals user)) ≡ None) where
   right : IsRight (accepted (Ask (named_literals user)) j) (named_literals user) (outcome_for report.answer now)
-  right = ask_right seen old.solver sought.mid now user old.budget report sought.opened sought.searched sought.right j live means free
+  right = ask_right seen old.solver effect.mid now user old.budget report effect.opened effect.searched effect.right j live means free
 
   kind_is : report.answer ≡ answer_kind (outcome_for report.answer now)
   kind_is = kind_reported report.answer now
 
   spends : SpendsWithinBudget old.budget old.solver.clock.rounds report
-  spends = ask_spent seen old.solver sought.mid now user old.budget report sought.opened sought.searched sought.right
+  spends = ask_spent seen old.solver effect.mid now user old.budget report effect.opened effect.searched effect.right
 
   bounded : IsBounded (accepted (Ask (named_literals user)) j).identity_count old.budget old.solver.clock.rounds report
-  bounded = ask_bounded seen old.solver sought.mid now user old.budget report sought.opened sought.searched sought.right j live means free
+  bounded = ask_bounded seen old.solver effect.mid now user old.budget report effect.opened effect.searched effect.right j live means free
 
   pub ask_reported : WriterTakes before after text → TookAnswersFront old.budget old.solver.clock.rounds old.commands j (onto_commands (Ask (named_literals user) ∷ []) left) before after
-  ask_reported t = front_answered old.budget old.solver.clock.rounds old.commands j (named_literals user) (outcome_for report.answer now) report left before after free right kind_is spends bounded (subst (WriterTakes before after) sought.text_is t)
+  ask_reported t = front_answered old.budget old.solver.clock.rounds old.commands j (named_literals user) (outcome_for report.answer now) report left before after free right kind_is spends bounded (subst (WriterTakes before after) effect.text_is t)
 
   pub ask_cut : WriterBreaks before after text → TookAnswersFront old.budget old.solver.clock.rounds old.commands j (onto_commands (Ask (named_literals user) ∷ []) left) before after
-  ask_cut b = front_cut old.budget old.solver.clock.rounds old.commands j (named_literals user) (outcome_for report.answer now) report left before after free right kind_is spends bounded (subst (WriterBreaks before after) sought.text_is b)
+  ask_cut b = front_cut old.budget old.solver.clock.rounds old.commands j (named_literals user) (outcome_for report.answer now) report left before after free right kind_is spends bounded (subst (WriterBreaks before after) effect.text_is b)
 
 -- a command that was carried out
 pub carried_stops : {C : Type 0} (seen : C → Writer) (old new : RunState C) (c : Command) (before after : Writer) (left : Reading) → CarriedOut seen old new c before after
     → (j : ScriptState) (live : Live) → AgreesWithState old.solver j live → refusal_of j c ≡ None → TookAnswersFront old.budget old.solver.clock.rounds old.commands j (onto_commands (c ∷ []) left) before after
 carried_stops seen old new c before after left h j live means free =
-    front_served old.budget (last_place old j) (place_in new (accepted c j)) (c ∷ []) left h.text h.reports 0 before after (h.serves j live means free).2 h.told
+    front_served old.budget (last_place old j) (place_in new (accepted c j)) (c ∷ []) left h.text h.reports 0 before after (h.serves j live means free).2 h.written
 
 -- nothing was written
 pub nothing_stops : {T C : Type 0} (r : Result T RunFault) (old : RunState C) (c : Command) (left : Reading) (w : Writer) → StopsCarrying r old c left w w
@@ -173,8 +173,8 @@ pub memory_says : {C : Type 0} (seen : C → Writer) (e : RunFault) (before afte
 memory_says seen e before after a b m n t = subst (λ x. Says seen x before after a b) (sym m) (n, t)
 
 -- what was sought left the solver's writer so
-pub sought_writes : {C : Type 0} (seen : C → Writer) (a c : Solver C) (user text : List ℕ) (budget : ℕ) (report : AskReport) → AskEffect seen budget report user text a c → ComesBySteps seen (proof_in a) (proof_in c)
-sought_writes seen a c user text budget report s = sought_took seen a s.mid c user budget report s.opened s.searched
+pub ask_writes : {C : Type 0} (seen : C → Writer) (a c : Solver C) (user text : List ℕ) (budget : ℕ) (report : AskReport) → AskEffect seen budget report user text a c → ComesBySteps seen (proof_in a) (proof_in c)
+ask_writes seen a c user text budget report s = ask_took seen a s.mid c user budget report s.opened s.searched
 
 pub takes_none : (a b : Writer) (text : List ℕ) → WriterTakes a b text → NoneFailed a b
 takes_none a b text t = (t.failures, t.loans)

@@ -16,7 +16,7 @@ use Rattle.sat_solver.specs.session.Making.{ComesBySteps, BreaksEmitting}
 use Rattle.sat_solver.specs.proof.OutputView.{text_in}
 use Rattle.sat_solver.specs.proof.ProofTexts.{TookText}
 use Rattle.sat_solver.specs.proof.ProofView.{Closed, Open, Broken, TargetTakes, TargetFails, GivesWriter, TakesAll, is_open, target_of}
-use Rattle.sat_solver.specs.session.Session.{MayAll}
+use Rattle.sat_solver.specs.session.Session.{AreAllowedSteps}
 use Rattle.sat_solver.specs.solver.Fronts.{ReachesBySteps}
 use Rattle.sat_solver.specs.solver.Whole.{HasFullStore, steps_in}
 use Rattle.sat_solver.proofs.lemmas.session.CutsLemmas.{cuts_are_free}
@@ -41,7 +41,7 @@ use Rattle.certify.specs.run.SolverCalls.{IsCaused, FaultSays, IsReadySolver}
 use Rattle.certify.specs.run.Lacking.{OneLacks}
 use Rattle.certify.specs.run.Certifies.{Certifies, complete, ordered}
 use Rattle.certify.specs.run.Ending.{ClosedBy, EndsRun, GivenBack, GivesFront, HasTarget, HasOpenTarget, SumsUp}
-use Rattle.certify.specs.run.Standing.{place_in}
+use Rattle.certify.specs.run.BetweenCommands.{place_in}
 use Rattle.certify.specs.run.Stretches.{ServesCommands}
 use Rattle.certify.specs.run.ServedScript.{ServesScript, FailsWhole, ServesWhole}
 use Rattle.certify.proofs.lemmas.run.Unhidden.{none_deletes}
@@ -125,8 +125,8 @@ module _ {C : Type 0} (seen : C → Writer) (budget : ℕ) (w : Writer) (s t : R
   text_of : TookText Varisat w (seen given) (End ∷ serves.took.0)
   text_of = closed_text seen w (proof_in s.solver) (proof_in t.solver) fresh.target (seen given) serves.took closed.takes
 
-  may : MayAll (End ∷ serves.took.0)
-  may = subst (λ (xs : List Step). MayAll (End ∷ xs)) made_all closed.may
+  may : AreAllowedSteps (End ∷ serves.took.0)
+  may = subst (λ (xs : List Step). AreAllowedSteps (End ∷ xs)) made_all closed.may
 
   asks_are : summary.asks.items ≡ serves.reports
   asks_are = ap (λ (x : _). x.items) sums.asks ∙ serves.asks ∙ ap (λ rs. rs ++ serves.reports) fresh.asks
@@ -156,14 +156,14 @@ module _ {C : Type 0} (seen : C → Writer) (budget : ℕ) (w : Writer) (s t : R
   certified_made =
       let all = End ∷ serves.took.0 in
       let last : Certifies checker_rules all None (steps_in t.solver) (Finish ∷ []) [] = subst (λ (xs : List Step). Certifies checker_rules all None xs (Finish ∷ []) []) (sym made_all) (ordered tt finish complete) in
-      made_certifies all followed (subst MayAll (sym made_all) may.0) last
+      made_certifies all followed (subst AreAllowedSteps (sym made_all) may.0) last
 
   follows : ServesCommands start [] serves.took.0 (accepted_of start (reading text).0) serves.serves.outcomes (rounds_of_asks summary.asks.items)
   follows = subst (λ rs. ServesCommands start [] serves.took.0 (accepted_of start (reading text).0) serves.serves.outcomes (rounds_of_asks rs)) (sym asks_are)
       (subst (λ (xs : List Step). ServesCommands start [] xs (accepted_of start (reading text).0) serves.serves.outcomes (rounds_of_asks serves.reports)) made_all followed)
 
-  is_backed : CertificateGuarantee text budget summary serves.text (text_in Varisat text_of.written)
-  is_backed = record {
+  guarantee : CertificateGuarantee text budget summary serves.text (text_in Varisat text_of.written)
+  guarantee = record {
     is_answered = is_answered;
     steps = text_of.written;
     certificate = text_of.spells refl;
@@ -182,9 +182,9 @@ module _ {C : Type 0} (seen : C → Writer) (budget : ℕ) (w : Writer) (s t : R
   wrote_text = record {
     answered = serves.text;
     certified = text_in Varisat text_of.written;
-    tells = subst (WriterTakes u z) (append-nil serves.text) (writes.took_more u v z serves.text [] serves.told took);
+    writes_answers = subst (WriterTakes u z) (append-nil serves.text) (writes.took_more u v z serves.text [] serves.written took);
     certifies = text_of.takes;
-    is_backed = is_backed;
+    guarantee = guarantee;
   }
 
   pub flushed_text : (seen given).flushed ≡ true
@@ -209,19 +209,19 @@ module _ {C : Type 0} (seen : C → Writer) (budget : ℕ) (w : Writer) (s t : R
   ended_fault fault.AnswersWrite at h f =
       let k = h.2 b.reader.given (covers_given b) in
       let text = closed_text seen w (proof_in s.solver) (proof_in t.solver) fresh.target (seen given) k.took f.1.takes in
-      ((took_kept false (unread x) b h.0).0, one_both u v z (k.told.failures, k.told.loans) f.0, (text.takes.failures, text.takes.loans))
+      ((took_kept false (unread x) b h.0).0, one_both u v z (k.written.failures, k.written.loans) f.0, (text.takes.failures, text.takes.loans))
   ended_fault fault.CertificateWrite at h f =
       let k = h.2 b.reader.given (covers_given b) in
-      ((took_kept false (unread x) b h.0).0, none_both u v z (k.told.failures, k.told.loans) f.0, given_one seen w (proof_in s.solver) f.1.proof fresh.target (seen given) (broke_later seen (proof_in s.solver) (proof_in t.solver) f.1.proof k.took f.1.goes) f.1.gives)
+      ((took_kept false (unread x) b h.0).0, none_both u v z (k.written.failures, k.written.loans) f.0, given_one seen w (proof_in s.solver) f.1.proof fresh.target (seen given) (broke_later seen (proof_in s.solver) (proof_in t.solver) f.1.proof k.took f.1.goes) f.1.gives)
   ended_fault fault.OutOfMemory at h f =
       let k = h.2 b.reader.given (covers_given b) in
-      ((took_kept false (unread x) b h.0).0, none_both u v z (k.told.failures, k.told.loans) f.0, given_none seen w (proof_in s.solver) f.1.proof fresh.target (seen given) (took_both seen (proof_in s.solver) (proof_in t.solver) f.1.proof k.took f.1.goes) f.1.gives)
+      ((took_kept false (unread x) b h.0).0, none_both u v z (k.written.failures, k.written.loans) f.0, given_none seen w (proof_in s.solver) f.1.proof fresh.target (seen given) (took_both seen (proof_in s.solver) (proof_in t.solver) f.1.proof k.took f.1.goes) f.1.gives)
   ended_fault fault.StoreFull at h f =
       let k = h.2 b.reader.given (covers_given b) in
-      ((took_kept false (unread x) b h.0).0, none_both u v z (k.told.failures, k.told.loans) f.0, given_none seen w (proof_in s.solver) f.1.proof fresh.target (seen given) (took_both seen (proof_in s.solver) (proof_in t.solver) f.1.proof k.took f.1.goes) f.1.gives)
+      ((took_kept false (unread x) b h.0).0, none_both u v z (k.written.failures, k.written.loans) f.0, given_none seen w (proof_in s.solver) f.1.proof fresh.target (seen given) (took_both seen (proof_in s.solver) (proof_in t.solver) f.1.proof k.took f.1.goes) f.1.gives)
   ended_fault fault.CounterEnd at h f =
       let k = h.2 b.reader.given (covers_given b) in
-      ((took_kept false (unread x) b h.0).0, none_both u v z (k.told.failures, k.told.loans) f.0, given_none seen w (proof_in s.solver) f.1.proof fresh.target (seen given) (took_both seen (proof_in s.solver) (proof_in t.solver) f.1.proof k.took f.1.goes) f.1.gives)
+      ((took_kept false (unread x) b h.0).0, none_both u v z (k.written.failures, k.written.loans) f.0, given_none seen w (proof_in s.solver) f.1.proof fresh.target (seen given) (took_both seen (proof_in s.solver) (proof_in t.solver) f.1.proof k.took f.1.goes) f.1.gives)
 
   -- not all was served
   served_fault : (e : RunFault) → FailsWhole seen e (unread x) b s.solver t.solver u v → z ≡ v → GivesWriter (target_of seen (proof_in t.solver)) (Some (seen given)) → FinishesOrFaults (Err e) budget (x, b.reader) (u, z) (w, seen given)
@@ -239,7 +239,7 @@ module _ {C : Type 0} (seen : C → Writer) (budget : ℕ) (w : Writer) (s t : R
         wrote = gave_enough x b h.0.0.0 (λ text. WritesRun text budget summary (u, z) (w, seen given)) h.0.0.1 h.0.1
             (λ total c. wrote_text seen budget w s t fresh (rest_in total (unread x)) at summary given u v z (h.2 total c) f.0.0 f.0.1 f.1);
         read = (took_kept false (unread x) b h.0).0;
-        told = none_both u v z (k.told.failures, k.told.loans) (f.0.1.failures, f.0.1.loans);
+        answered = none_both u v z (k.written.failures, k.written.loans) (f.0.1.failures, f.0.1.loans);
         certified = n;
         answers_flushed = f.0.2;
         certificate_flushed = flushed_text seen budget w s t fresh all at summary given u v z k f.0.0 f.0.1 f.1;
@@ -265,7 +265,7 @@ module _ {C : Type 0} (seen : C → Writer) (budget : ℕ) (w : Writer) (s t : R
   unfinished_so (Ok at) (Err e) h f = passed_front 1 x b h.0.0.0 (λ text. Front text z) h.0.0.1
       (λ total k.
       let all = h.2 total k in
-      first_command (rest_in total (unread x)) z (front_whole s.budget (place_in s start) (reading (rest_in total (unread x))) (steps_in t.solver) all.text all.reports all.refused u v z all.serves all.told f.1))
+      first_command (rest_in total (unread x)) z (front_whole s.budget (place_in s start) (reading (rest_in total (unread x))) (steps_in t.solver) all.text all.reports all.refused u v z all.serves all.written f.1))
   unfinished_so (Err e) r h f = subst (λ (q : Result Summary RunFault). OnErr q (Unfinished budget (x, b.reader) (u, z))) (sym f.0)
       (served_front e h.0 (λ total k. subst (λ (w : Writer). Front (rest_in total (unread x)) w) (sym f.1) (first_command (rest_in total (unread x)) v (h.1 total k))))
 
@@ -274,7 +274,7 @@ module _ {C : Type 0} (seen : C → Writer) (budget : ℕ) (w : Writer) (s t : R
   made_front took gives =
       let all : steps_in t.solver ≡ took.0 = took.1.history ∙ ap (λ xs. took.0 ++ xs) fresh.steps ∙ append-nil took.0 in
       ∥∥₁_elim (proof_in t.solver).made.may ∥∥₁_prop (λ may.
-      let front = carried_front w (seen given) took.0 (target_of seen (proof_in t.solver)) (subst MayAll all may) (carried seen w (proof_in s.solver) (proof_in t.solver) fresh.target took) gives in
+      let front = carried_front w (seen given) took.0 (target_of seen (proof_in t.solver)) (subst AreAllowedSteps all may) (carried seen w (proof_in s.solver) (proof_in t.solver) fresh.target took) gives in
       ∣ (front.0, front.1 ∙ sym all) ∣₁)
 
   -- why a counter has ended
@@ -341,7 +341,7 @@ unlent_loans : (a b : Writer) (given back : ℕ) → (lent_writer back b).loans 
 unlent_loans a b given back loans = let h : ◌≡◌ {A = List ℕ} (back ∷ b.loans) (given ∷ a.loans) = loans in cc
 
 unlent_takes : (a b : Writer) (given back : ℕ) (text : List ℕ) → WriterTakes (lent_writer given a) (lent_writer back b) text → WriterTakes a b text
-unlent_takes a b given back text p = record { taken = p.taken; told = p.told; failures = p.failures; calls = p.calls; few = p.few; loans = unlent_loans a b given back p.loans }
+unlent_takes a b given back text p = record { taken = p.taken; known_bytes = p.known_bytes; failures = p.failures; calls = p.calls; few = p.few; loans = unlent_loans a b given back p.loans }
 
 module _ (budget : ℕ) (x y : Reader) (u z a b : Writer) (given back : ℕ) where
   unlent_none : NoneFailed (lent_writer given a) (lent_writer back b) → NoneFailed a b
@@ -362,9 +362,9 @@ module _ (budget : ℕ) (x y : Reader) (u z a b : Writer) (given back : ℕ) whe
   unlent_wrote text s h = record {
     answered = h.answered;
     certified = h.certified;
-    tells = h.tells;
+    writes_answers = h.writes_answers;
     certifies = unlent_takes a b given back h.certified h.certifies;
-    is_backed = h.is_backed;
+    guarantee = h.guarantee;
   }
 
   unlent_fault : (e : RunFault) → FinishesOrFaults (Err e) budget (x, y) (u, z) (lent_writer given a, lent_writer back b) → FinishesOrFaults (Err e) budget (x, y) (u, z) (a, b)
@@ -375,7 +375,7 @@ module _ (budget : ℕ) (x y : Reader) (u z a b : Writer) (given back : ℕ) whe
   unlent (Ok s) h = record {
     wrote = enough_so x y (λ text. WritesRun text budget s (u, z) (lent_writer given a, lent_writer back b)) (λ text. WritesRun text budget s (u, z) (a, b)) (λ text. unlent_wrote text s) h.wrote;
     read = h.read;
-    told = h.told;
+    answered = h.answered;
     certified = unlent_none h.certified;
     answers_flushed = h.answers_flushed;
     certificate_flushed = h.certificate_flushed;
@@ -397,9 +397,9 @@ unlent_front a b given back k = record {
   cuts = k.cuts;
   accepted = k.accepted;
   bytes = k.bytes;
-  behind = k.behind;
+  following = k.following;
   whole = k.whole;
-  took = record { taken = k.took.taken; told = k.took.told };
+  took = record { taken = k.took.taken; known_bytes = k.took.known_bytes };
 }
 
 unlent_steps : (a b : Writer) (given back : ℕ) → TookSteps (lent_writer given a, lent_writer back b) → TookSteps (a, b)
@@ -432,9 +432,9 @@ counter_lent seen budget x y u z a c v given back same r h k =
 
 module _ (budget : ℕ) (x y : Reader) (u z a b : Writer) where
   pub answered_if : (r : Result Summary RunFault) → FinishesOrFaults r budget (x, y) (u, z) (a, b) → IfOk r (λ s. WritesAnswers budget s (x, y) (u, z))
-  answered_if (Ok s) h = enough_so x y (λ text. WritesRun text budget s (u, z) (a, b)) (λ text. (answered : List ℕ) × WriterTakes u z answered × ReportsRightly text budget s answered) (λ text k. (k.answered, k.tells, (same_reports text budget s k.answered).1 k.is_backed.is_answered)) h.wrote
+  answered_if (Ok s) h = enough_so x y (λ text. WritesRun text budget s (u, z) (a, b)) (λ text. (answered : List ℕ) × WriterTakes u z answered × ReportsRightly text budget s answered) (λ text k. (k.answered, k.writes_answers, (same_reports text budget s k.answered).1 k.guarantee.is_answered)) h.wrote
   answered_if (Err e) h = tt
 
-  pub backed_if : (r : Result Summary RunFault) → FinishesOrFaults r budget (x, y) (u, z) (a, b) → IfOk r (λ s. TookCertificate budget s (x, y) (u, z) (a, b))
-  backed_if (Ok s) h = enough_so x y (λ text. WritesRun text budget s (u, z) (a, b)) (λ text. (answered : List ℕ) × (certified : List ℕ) × WriterTakes u z answered × WriterTakes a b certified × CertificateGuarantee text budget s answered certified) (λ text k. (k.answered, k.certified, k.tells, k.certifies, k.is_backed)) h.wrote
-  backed_if (Err e) h = tt
+  pub guaranteed_if : (r : Result Summary RunFault) → FinishesOrFaults r budget (x, y) (u, z) (a, b) → IfOk r (λ s. TookCertificate budget s (x, y) (u, z) (a, b))
+  guaranteed_if (Ok s) h = enough_so x y (λ text. WritesRun text budget s (u, z) (a, b)) (λ text. (answered : List ℕ) × (certified : List ℕ) × WriterTakes u z answered × WriterTakes a b certified × CertificateGuarantee text budget s answered certified) (λ text k. (k.answered, k.certified, k.writes_answers, k.certifies, k.guarantee)) h.wrote
+  guaranteed_if (Err e) h = tt

@@ -32,10 +32,10 @@ use Rattle.certify.specs.run.Unfinished.{Exceeds, TookAnswersFront}
 use Rattle.sat_solver.specs.solver.View.{proof_in}
 use Rattle.certify.specs.run.SolverCalls.{FaultSays, IsCaused, IsReadySolver}
 use Rattle.certify.specs.run.Serving.{RunPlace, Serves}
-use Rattle.certify.specs.run.Standing.{CarriedOut, CausedOver, RunGoesOn, HasStateBetweenCommands, ServedNext, StopsCarrying, StopsOver, WritesBoth, last_place, place_in}
+use Rattle.certify.specs.run.BetweenCommands.{CarriedOut, CausedOver, RunGoesOn, HasStateBetweenCommands, ServedNext, StopsCarrying, StopsOver, WritesBoth, last_place, place_in}
 use Rattle.certify.specs.run.Stretches.{ServesCommands, made_none}
 use Rattle.certify.specs.run.ServedScript.{ServesScript, FailsWhole, ServesThrough, ServedAll, ServesTo, ServesWhole, run_fault}
-use Rattle.certify.proofs.lemmas.confirm.Streams.{all_over, covers_fault, nothing_behind, taken_front}
+use Rattle.certify.proofs.lemmas.confirm.Streams.{all_over, covers_fault, nothing_after, taken_front}
 use Rattle.certify.proofs.lemmas.confirm.Joining.{covers_took, failed_then, took_none as took_nothing, took_open, took_passed, took_then}
 use Rattle.certify.proofs.lemmas.run.CallFaults.{caused_map}
 use Rattle.certify.proofs.lemmas.run.Caused.{after_both, caused_all, exceeds_later}
@@ -83,7 +83,7 @@ module _ {C : Type 0} (seen : C → Writer) where
     counted = omega arith;
     budget = refl;
     text = [];
-    told = writes.took_none w;
+    written = writes.took_none w;
     reports = [];
     asks = sym (append-nil s.asks.items);
     refused = 0;
@@ -106,7 +106,7 @@ module _ {C : Type 0} (seen : C → Writer) where
         counted = omega arith;
         budget = g.budget ∙ f.budget;
         text = f.text ++ g.text;
-        told = writes.took_more u v w f.text g.text f.told g.told;
+        written = writes.took_more u v w f.text g.text f.written g.written;
         reports = f.reports ++ g.reports;
         asks = g.asks ∙ ap (λ rs. rs ++ g.reports) f.asks ∙ append_assoc a.asks.items f.reports g.reports;
         refused = f.refused + g.refused;
@@ -127,7 +127,7 @@ module _ {C : Type 0} (seen : C → Writer) where
         counted = omega arith;
         ends = g.ends ∙ ap (λ (i : ℕ). malformed_at i script.1) e;
         text = f.text ++ g.text;
-        told = writes.took_more u v w f.text g.text f.told g.told;
+        written = writes.took_more u v w f.text g.text f.written g.written;
         reports = f.reports ++ g.reports;
         asks = g.asks ∙ ap (λ rs. rs ++ g.reports) f.asks ∙ append_assoc a.asks.items f.reports g.reports;
         refused = f.refused + g.refused;
@@ -155,7 +155,7 @@ module _ {C : Type 0} (seen : C → Writer) where
     counted = omega arith;
     ends = refl;
     text = [];
-    told = writes.took_none w;
+    written = writes.took_none w;
     reports = [];
     asks = sym (append-nil s.asks.items);
     refused = 0;
@@ -165,12 +165,12 @@ module _ {C : Type 0} (seen : C → Writer) where
 
   -- its last line
   pub ends_malformed : (j : ScriptState) (a b : RunState C) (u v : Writer) (number : ℕ) → number ≡ a.commands + 1 → b.solver ≡ a.solver → b.commands ≡ a.commands → b.refused ≡ a.refused → b.asks ≡ a.asks → WriterTakes u v (malformed_line number) → ServesWhole seen j ([], Malformed) 0 (Some number) a b u v
-  ends_malformed j a b u v number e solver commands refused asks told = record {
+  ends_malformed j a b u v number e solver commands refused asks written = record {
     took = subst (λ x. ComesBySteps seen (proof_in a.solver) (proof_in x)) (sym solver) (took_none seen (proof_in a.solver));
     counted = omega (arith, commands);
     ends = ap Some (let x : number ≡ a.commands + 0 + 1 = omega (arith, e) in x);
     text = malformed_line (a.commands + 1);
-    told = subst (λ n. WriterTakes u v (malformed_line n)) e told;
+    written = subst (λ n. WriterTakes u v (malformed_line n)) e written;
     reports = [];
     asks = ap (λ (rs : _). rs.items) asks ∙ sym (append-nil a.asks.items);
     refused = 0;
@@ -178,7 +178,7 @@ module _ {C : Type 0} (seen : C → Writer) where
     serves = subst (λ x. ServesTo a.budget (place_in a j) ([], Malformed) (steps_in x) (malformed_line (a.commands + 1)) [] 0) (sym solver) (to_end a.budget (place_in a j) Malformed);
   }
 
-  -- the ask behind a header, which has no number
+  -- the ask after a header, which has no number
   unnumbered : (j : ScriptState) (k l : ℕ) (os : List Outcome) → answers_from k j (Ask [] ∷ []) Clean os ≡ answers_from l j (Ask [] ∷ []) Clean os
   unnumbered j k l [] = refl
   unnumbered j k l (o ∷ os) = refl
@@ -192,10 +192,10 @@ module _ {C : Type 0} (seen : C → Writer) where
         bytes = k.bytes;
         took = k.took;
         front = record {
-          told = f.told;
+          answered = f.answered;
           later = f.later;
           right = f.right;
-          begins = λ others same. let h = f.begins others same in (h.0, unnumbered j (a.commands + 1) a.commands (f.told ++ others) ∙ h.1);
+          begins = λ others same. let h = f.begins others same in (h.0, unnumbered j (a.commands + 1) a.commands (f.answered ++ others) ∙ h.1);
           reports = f.reports;
           kinds = f.kinds;
           spent = f.spent;
@@ -216,7 +216,7 @@ module _ {C : Type 0} (seen : C → Writer) where
         counted = omega arith;
         ends = refl;
         text = h.text;
-        told = h.told;
+        written = h.written;
         reports = h.reports;
         asks = h.asks;
         refused = 0;
@@ -234,15 +234,15 @@ module _ {C : Type 0} (seen : C → Writer) where
 
   -- FAULTS
 
-  -- behind one command that was served
-  pub stops_behind : {T : Type 0} (r : Result T RunFault) (c : Command) (script : Reading) (a b : RunState C) (u v w : Writer) → ServedNext seen a b c u v → StopsOver r b script v w → StopsOver r a (onto_commands (c ∷ []) script) u w
-  stops_behind (Ok x) c script a b u v w f g = tt
-  stops_behind (Err e) c script a b u v w f g = λ j at.
+  -- after one command that was served
+  pub stops_following : {T : Type 0} (r : Result T RunFault) (c : Command) (script : Reading) (a b : RunState C) (u v w : Writer) → ServedNext seen a b c u v → StopsOver r b script v w → StopsOver r a (onto_commands (c ∷ []) script) u w
+  stops_following (Ok x) c script a b u v w f g = tt
+  stops_following (Err e) c script a b u v w f g = λ j at.
       let h = f.serves j at in
-      front_later a.budget (place_in a j) (place_in b (after_command c j)) (c ∷ []) script f.text f.reports f.refused u v w h.1 f.told
+      front_later a.budget (place_in a j) (place_in b (after_command c j)) (c ∷ []) script f.text f.reports f.refused u v w h.1 f.written
       (subst (λ budget. TookAnswersFront budget b.solver.clock.rounds (b.commands + 1) (after_command c j) script v w) f.budget (g (after_command c j) h.0))
 
-  -- what a part behind others says of its devices
+  -- what a part after others says of its devices
   pub fails_then : (e : RunFault) (a b : Source) (p q r : Solver C) (u v w : Writer) → TakesSomeOrEnds a b → NoneFailed u v → ComesBySteps seen (proof_in p) (proof_in q)
       → FaultSays e (OneFailed v w × ComesBySteps seen (proof_in q) (proof_in r)) (NoneFailed v w × BreaksEmitting seen (proof_in q) (proof_in r)) (NoneFailed v w × ComesBySteps seen (proof_in q) (proof_in r)) → FailsWhole seen e a b p r u w
   fails_then fault.ScriptRead a b p q r u v w k n t h = absurd h
@@ -253,7 +253,7 @@ module _ {C : Type 0} (seen : C → Writer) where
   fails_then fault.CertificateWrite a b p q r u v w k n t h = (k, (h.0.0 ∙ n.0, h.0.1 ∙ n.1), broke_later seen (proof_in p) (proof_in q) (proof_in r) t h.1)
   fails_then e a b p q r u v w k n t h = (k, (h.0.0 ∙ n.0, h.0.1 ∙ n.1), took_both seen (proof_in p) (proof_in q) (proof_in r) t h.1)
 
-  -- one behind another
+  -- one after another
   pub both_then : {B : Type 0} (r : Result B RunFault) (p q s : Solver C) (u v w : Writer) → NoneFailed u v × ComesBySteps seen (proof_in p) (proof_in q) → WritesBoth r seen v w q s → WritesBoth r seen u w p s
   both_then (Err fault.ScriptRead) p q s u v w f g = absurd g
   both_then (Err fault.AnswersWrite) p q s u v w f g = ((let n = f.0.0 in let m = g.0.0 in omega arith, g.0.1, g.0.2 ∙ f.0.1), took_both seen (proof_in p) (proof_in q) (proof_in s) f.1 g.1)
@@ -282,20 +282,20 @@ module _ {C : Type 0} (seen : C → Writer) (j : ScriptState) (text counted : Li
   mid_open = took_open a b script_open through.took
 
   none_failed : NoneFailed u v
-  none_failed = (through.served.told.failures, through.served.told.loans)
+  none_failed = (through.served.written.failures, through.served.written.loans)
 
-  -- a front of right answers behind those to the commands that were served
-  behind : (c : Source) (script : List ℕ → Reading) (w : Writer) → ((total : List ℕ) → Covers c total → Covers b total) → ((total : List ℕ) → Covers c total → through.left (rest_in total b) ≡ script total)
+  -- a front of right answers after those to the commands that were served
+  following : (c : Source) (script : List ℕ → Reading) (w : Writer) → ((total : List ℕ) → Covers c total → Covers b total) → ((total : List ℕ) → Covers c total → through.left (rest_in total b) ≡ script total)
       → ((total : List ℕ) → Covers c total → TookAnswersFront mid.budget mid.solver.clock.rounds (mid.commands + 1) through.served.judge (script total) v w)
       → (total : List ℕ) → Covers c total → TookAnswersFront old.budget old.solver.clock.rounds (old.commands + 1) j (text (rest_in total a)) u w
-  behind c script w back is front total k =
+  following c script w back is front total k =
       let f = through.served in
       subst (λ s. TookAnswersFront old.budget old.solver.clock.rounds (old.commands + 1) j s u w) (sym (through.reads total (back total k) ∙ ap (onto_commands through.commands) (is total k)))
-      (front_later old.budget (place_in old j) (place_in mid f.judge) through.commands (script total) f.text f.reports f.refused u v w f.serves f.told
+      (front_later old.budget (place_in old j) (place_in mid f.judge) through.commands (script total) f.text f.reports f.refused u v w f.serves f.written
       (subst (λ budget. TookAnswersFront budget mid.solver.clock.rounds (mid.commands + 1) f.judge (script total) v w) f.budget (front total k)))
 
   served_so_far : (c : Source) → ((total : List ℕ) → Covers c total → Covers b total) → (total : List ℕ) → Covers c total → TookAnswersFront old.budget old.solver.clock.rounds (old.commands + 1) j (text (rest_in total a)) u v
-  served_so_far c back = behind c (λ total. through.left (rest_in total b)) v back (λ total k. refl) (λ total k. front_none mid.budget mid.solver.clock.rounds (mid.commands + 1) through.served.judge (through.left (rest_in total b)) v)
+  served_so_far c back = following c (λ total. through.left (rest_in total b)) v back (λ total k. refl) (λ total k. front_none mid.budget mid.solver.clock.rounds (mid.commands + 1) through.served.judge (through.left (rest_in total b)) v)
 
   -- why no more was served, but for devices and memory
   caused : (e : RunFault) (c : Source) (new : RunState C) (script : List ℕ → Reading) → ((total : List ℕ) → Covers c total → Covers b total) → ((total : List ℕ) → Covers c total → through.left (rest_in total b) ≡ script total)
@@ -326,7 +326,7 @@ module _ {C : Type 0} (seen : C → Writer) (j : ScriptState) (text counted : Li
     )
     whole (Err e) ready serves both front cause = (
       fails_then seen e a c old.solver mid.solver new.solver u v w (took_passed false a c (took_then false a b c through.took took)) none_failed through.served.took both,
-      behind c (λ total. left) w (λ total k. covers_took false b c total mid_open took k) is (λ total k. front through.served.judge through.served.at),
+      following c (λ total. left) w (λ total k. covers_took false b c total mid_open took k) is (λ total k. front through.served.judge through.served.at),
       caused e c new (λ total. left) (λ total k. covers_took false b c total mid_open took k) is (caused_map e (HasFullStore new.solver) ((i : ScriptState) → HasStateBetweenCommands mid i → Exceeds mid.commands i left (steps_in new.solver)) (HasFullStore new.solver) (List ℕ → (i : ScriptState) → HasStateBetweenCommands mid i → Exceeds mid.commands i left (steps_in new.solver)) (λ x. x) (λ k total. k) cause),
     )
 
@@ -351,7 +351,7 @@ module _ {C : Type 0} (seen : C → Writer) (j : ScriptState) (text counted : Li
       let none = no_commands e in
       let one : length (n.0 ∷ (end_if false e).0) ≡ 1 = omega arith in
       whole c new w ((came.0, came.1.0), λ h. all_over c came.1.1) (onto_commands (k.0 ∷ []) (end_reading e)) (onto_commands (n.0 ∷ []) (end_if false e))
-      (λ total x. ap through.left (nothing_behind b c came.0 total came.1 x) ∙ k.2) (λ total x. ap through.plain (nothing_behind b c came.0 total came.1 x) ∙ n.2) r ready
+      (λ total x. ap through.left (nothing_after b c came.0 total came.1 x) ∙ k.2) (λ total x. ap through.plain (nothing_after b c came.0 total came.1 x) ∙ n.2) r ready
       (subst (λ (i : ℕ). IfOk r (λ at. ServesWhole seen through.served.judge (onto_commands (k.0 ∷ []) (end_reading e)) i at mid new v w)) (sym one) (serves k.0 k.1 through.served.judge through.served.at)) both (front k.0 k.1) (cause k.0 k.1)
 
   -- a command
@@ -373,9 +373,9 @@ module _ {C : Type 0} (seen : C → Writer) (j : ScriptState) (text counted : Li
         record {
           commands = cs ++ x ∷ [];
           left = reaches.after;
-          means = reaches.stands;
+          means = reaches.valid;
           plain = plainly.after;
-          counts = plainly.stands;
+          counts = plainly.valid;
           took = took_then true a b c through.took took;
           reads = λ total k.
               let before = covers_took true b c total mid_open took k in
@@ -399,7 +399,7 @@ module _ {C : Type 0} (seen : C → Writer) (j : ScriptState) (text counted : Li
         → ServesScript seen j text counted (Err e) a c old new u w
     stops e both front cause = (
       fails_then seen e a c old.solver mid.solver new.solver u v w (took_passed true a c (took_then true a b c through.took took)) none_failed through.served.took both,
-      behind c (λ total. onto_commands (reaches.command ∷ []) (reaches.after (rest_in total c))) w (λ total k. covers_took true b c total mid_open took k)
+      following c (λ total. onto_commands (reaches.command ∷ []) (reaches.after (rest_in total c))) w (λ total k. covers_took true b c total mid_open took k)
           (λ total k. ap through.left (taken_front 0 b c came.0 total came.1 k) ∙ reaches.reads (rest_in total c))
           (λ total k. front reaches.command reaches.whole (reaches.after (rest_in total c)) through.served.judge through.served.at),
       caused e c new (λ total. onto_commands (reaches.command ∷ []) (reaches.after (rest_in total c))) (λ total k. covers_took true b c total mid_open took k)

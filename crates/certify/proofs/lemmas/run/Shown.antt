@@ -54,7 +54,7 @@ few_rounds false (Sat line) rounds learned h = omega (arith, h)
 few_rounds false (Unsat core) rounds learned h = omega (arith, h)
 
 module _ (steps : List Step) where
-  -- behind an end of the steps that has no more assumptions than the earlier asks
+  -- after an end of the steps that has no more assumptions than the earlier asks
   from_here : (asks : ℕ) (outcomes : List Outcome) (rounds : List ℕ) → EachLearns steps asks outcomes rounds
       → (front here : List Step) → steps ≡ front ++ here → assumed_times here ≤ 2 * asks → sum rounds + length here ≤ length steps
   from_here asks [] [] h front here e few = let c = ap length e in omega (arith, c, length-append front here)
@@ -64,14 +64,14 @@ module _ (steps : List Step) where
       let l = h.0 in
       let opened = Assumptions l.ask ∷ l.before in
       let closed = Assumptions [] ∷ (l.middle ++ opened) in
-      let again : (l.behind ++ (Assumptions [] ∷ l.middle)) ++ opened ≡ l.behind ++ closed = append_assoc l.behind (Assumptions [] ∷ l.middle) opened in
+      let again : (l.following ++ (Assumptions [] ∷ l.middle)) ++ opened ≡ l.following ++ closed = append_assoc l.following (Assumptions [] ∷ l.middle) opened in
       let last : assumed_times closed ≡ 2 * (asks + 1) = (let c = assumed_append l.middle opened in omega (arith, c, l.place, l.only)) in
       let learned = few_learned opened l.middle l.learned l.times in
       let took = few_rounds (checker_rules.unsat opened) o n l.learned l.counts in
       let whole = length-append l.middle opened in
-      let rest = from_here (asks + 1) os ns h.1 l.behind closed l.whole (omega (arith, last)) in
+      let rest = from_here (asks + 1) os ns h.1 l.following closed l.whole (omega (arith, last)) in
       let longer : length here < length opened = lt_of_not-le (λ short.
-      let c = ends front (l.behind ++ (Assumptions [] ∷ l.middle)) here opened (sym e ∙ l.whole ∙ sym again) short in
+      let c = ends front (l.following ++ (Assumptions [] ∷ l.middle)) here opened (sym e ∙ l.whole ∙ sym again) short in
       omega (arith, c, few, l.place)) in
       let more : sum (n ∷ ns) ≡ n + sum ns = sum_by-cons (λ x. x) n ns in
       omega (arith, rest, longer, whole, learned, took, more)

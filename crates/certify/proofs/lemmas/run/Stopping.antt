@@ -71,7 +71,7 @@ padded budget before (n ∷ ns) (r ∷ rs) h = let k = padded budget (before + r
 module _ (budget before n : ℕ) (j : ScriptState) where
   pub begins_none : (script : Reading) → BeginAnswers budget before n j script []
   begins_none script = record {
-    told = [];
+    answered = [];
     later = unknowns (accepted_of j script.0);
     right = unknowns_right j (accepted_of j script.0);
     begins = λ others e. (answers_from n j script.0 script.1 others, refl);
@@ -82,7 +82,7 @@ module _ (budget before n : ℕ) (j : ScriptState) where
 
   begins_less : (script : Reading) (bytes more : List ℕ) → BeginAnswers budget before n j script (bytes ++ more) → BeginAnswers budget before n j script bytes
   begins_less script bytes more h = record {
-    told = h.told;
+    answered = h.answered;
     later = h.later;
     right = h.right;
     begins = λ others e. let k = h.begins others e in (more ++ k.0, k.1 ∙ append_assoc bytes more k.0);
@@ -97,7 +97,7 @@ module _ (budget before n : ℕ) (j : ScriptState) where
   begins_ask ls o report left e right same spends bounded =
       let later = accepted_of (accepted (Ask ls) j) left.0 in
       record {
-        told = o ∷ [];
+        answered = o ∷ [];
         later = unknowns later;
         right = subst (λ cs. AreRight j cs (o ∷ unknowns later)) (sym (accepted_next j (Ask ls) left.0 e)) (right, unknowns_right (accepted (Ask ls) j) later);
         begins = λ others e2. (answers_from (n + 1) (accepted (Ask ls) j) left.0 left.1 others, rw e refl);
@@ -110,7 +110,7 @@ module _ (budget before n : ℕ) (j : ScriptState) where
   begins_refused c r left e =
       let later = accepted_of j left.0 in
       record {
-        told = [];
+        answered = [];
         later = unknowns later;
         right = subst (λ cs. AreRight j cs (unknowns later)) (sym (accepted_refused j c r left.0 e)) (unknowns_right j later);
         begins = λ others same. (answers_from (n + 1) j left.0 left.1 others, rw e refl);
@@ -121,7 +121,7 @@ module _ (budget before n : ℕ) (j : ScriptState) where
 
   begins_malformed : BeginAnswers budget before n j ([], Malformed) (malformed_line n)
   begins_malformed = record {
-    told = [];
+    answered = [];
     later = [];
     right = tt;
     begins = λ others e. ([], sym (append-nil (malformed_line n)));
@@ -138,16 +138,16 @@ begins_later budget a b cs script text bytes rs k f g =
     let given = identities_given a.judge (accepted_of a.judge (cs ++ script.0)) in
     let spent = f.spent script.0 (g.reports ++ whole.0) whole.1 in
     record {
-      told = f.outcomes ++ g.told;
+      answered = f.outcomes ++ g.answered;
       later = g.later;
-      right = subst (AreRight a.judge (accepted_of a.judge (cs ++ script.0))) (sym (append_assoc f.outcomes g.told g.later)) (f.right script.0 (g.told ++ g.later) g.right);
+      right = subst (AreRight a.judge (accepted_of a.judge (cs ++ script.0))) (sym (append_assoc f.outcomes g.answered g.later)) (f.right script.0 (g.answered ++ g.later) g.right);
       begins = λ others e.
           let h = g.begins others e in
-          (h.0, ap (answers_from a.number a.judge (cs ++ script.0) script.1) (append_assoc f.outcomes g.told others) ∙ f.says script.0 script.1 (g.told ++ others) ∙ ap (λ u. text ++ u) h.1 ∙ sym (append_assoc text bytes h.0));
+          (h.0, ap (answers_from a.number a.judge (cs ++ script.0) script.1) (append_assoc f.outcomes g.answered others) ∙ f.says script.0 script.1 (g.answered ++ others) ∙ ap (λ u. text ++ u) h.1 ∙ sym (append_assoc text bytes h.0));
       reports = rs ++ g.reports;
       kinds =
           map-append (λ (r : AskReport). r.answer) rs g.reports ∙ ap (λ ks. ks ++ map (λ (r : AskReport). r.answer) g.reports) f.kinds ∙ ap (λ ks. map answer_kind f.outcomes ++ ks) g.kinds
-          ∙ sym (map-append answer_kind f.outcomes g.told);
+          ∙ sym (map-append answer_kind f.outcomes g.answered);
       spent = spent_first budget a.rounds given (rs ++ g.reports) whole.0 (subst (AreWithinBudget budget a.rounds given) (sym (append_assoc rs g.reports whole.0)) spent);
     }
 
@@ -158,18 +158,18 @@ none_left (o ∷ os) e = absurd (cc)
 -- WHAT A WRITER TOOK
 
 pub bytes_none : (w : Writer) → TookBytes w w []
-bytes_none w = record { taken = sym (append-nil w.taken); told = appends_none w.contents }
+bytes_none w = record { taken = sym (append-nil w.taken); known_bytes = appends_none w.contents }
 
 pub bytes_taken : (u v : Writer) (text : List ℕ) → WriterTakes u v text → TookBytes u v text
-bytes_taken u v text t = record { taken = t.taken; told = t.told }
+bytes_taken u v text t = record { taken = t.taken; known_bytes = t.known_bytes }
 
 pub bytes_broken : (u v : Writer) (text : List ℕ) → (b : WriterBreaks u v text) → TookBytes u v b.front
-bytes_broken u v text b = record { taken = b.taken; told = b.told }
+bytes_broken u v text b = record { taken = b.taken; known_bytes = b.known_bytes }
 
 pub bytes_later : (u v w : Writer) (text bytes : List ℕ) → WriterTakes u v text → TookBytes v w bytes → TookBytes u w (text ++ bytes)
 bytes_later u v w text bytes t b = record {
   taken = b.taken ∙ ap (λ (z : List ℕ). z ++ bytes) t.taken ∙ append_assoc u.taken text bytes;
-  told = appends_more u.contents v.contents w.contents text bytes t.told b.told;
+  known_bytes = appends_more u.contents v.contents w.contents text bytes t.known_bytes b.known_bytes;
 }
 
 -- BOTH
@@ -183,7 +183,7 @@ module _ (budget before n : ℕ) (j : ScriptState) where
   front_all script u v text h t = record { bytes = text; took = bytes_taken u v text t; front = h }
 
   front_broken : (script : Reading) (u v : Writer) (text : List ℕ) → BeginAnswers budget before n j script text → WriterBreaks u v text → TookAnswersFront budget before n j script u v
-  front_broken script u v text h b = record { bytes = b.front; took = bytes_broken u v text b; front = begins_less budget before n j script b.front b.behind (subst (BeginAnswers budget before n j script) b.whole h) }
+  front_broken script u v text h b = record { bytes = b.front; took = bytes_broken u v text b; front = begins_less budget before n j script b.front b.following (subst (BeginAnswers budget before n j script) b.whole h) }
 
   -- the line of a refusal
   pub front_refused : (c : Command) (r : Refusal) (left : Reading) (u v : Writer) → refusal_of j c ≡ Some r → WriterBreaks u v (refused_line n r) → TookAnswersFront budget before n j (onto_commands (c ∷ []) left) u v
@@ -202,7 +202,7 @@ module _ (budget before n : ℕ) (j : ScriptState) where
     pub front_cut : WriterBreaks u v (outcome_text o) → TookAnswersFront budget before n j (onto_commands (Ask ls ∷ []) left) u v
     front_cut b = front_broken (onto_commands (Ask ls ∷ []) left) u v (outcome_text o) (begins_ask budget before n j ls o report left e right same spends bounded) b
 
--- behind commands that were served
+-- after commands that were served
 pub front_later : (budget : ℕ) (a b : RunPlace) (cs : List Command) (script : Reading) (text : List ℕ) (rs : List AskReport) (k : ℕ) (u v w : Writer)
     → Serves budget a b cs text rs k → WriterTakes u v text → TookAnswersFront budget b.rounds b.number b.judge script v w → TookAnswersFront budget a.rounds a.number a.judge (onto_commands cs script) u w
 front_later budget a b cs script text rs k u v w f t g = record {
@@ -216,14 +216,14 @@ pub front_served : (budget : ℕ) (a b : RunPlace) (cs : List Command) (script :
     → Serves budget a b cs text rs k → WriterTakes u v text → TookAnswersFront budget a.rounds a.number a.judge (onto_commands cs script) u v
 front_served budget a b cs script text rs k u v f t = front_later budget a b cs script text rs k u v v f t (front_none budget b.rounds b.number b.judge script v)
 
--- to the whole script, behind which nothing more was written
+-- to the whole script, after which nothing more was written
 pub front_whole : (budget : ℕ) (a : RunPlace) (script : Reading) (to : List Step) (text : List ℕ) (rs : List AskReport) (k : ℕ) (u v w : Writer)
     → ServesTo budget a script to text rs k → WriterTakes u v text → TookBytes v w [] → TookAnswersFront budget a.rounds a.number a.judge script u w
 front_whole budget a script to text rs k u v w f t b = record {
   bytes = text ++ [];
   took = bytes_later u v w text [] t b;
   front = record {
-    told = f.outcomes;
+    answered = f.outcomes;
     later = [];
     right = subst (AreRight a.judge (accepted_of a.judge script.0)) (sym (append-nil f.outcomes)) f.right;
     begins = λ others e.
@@ -242,4 +242,4 @@ keeps_appends (Some x) (Some y) k = k ∙ sym (append-nil x)
 
 -- a flush gives a writer nothing
 pub bytes_flushed : {E : Type 0} (e : E) (u v : Writer) → FlushesOnce {E = E} (Err e) u v → TookBytes u v []
-bytes_flushed e u v f = record { taken = f.taken ∙ sym (append-nil u.taken); told = keeps_appends u.contents v.contents f.told }
+bytes_flushed e u v f = record { taken = f.taken ∙ sym (append-nil u.taken); known_bytes = keeps_appends u.contents v.contents f.known_bytes }

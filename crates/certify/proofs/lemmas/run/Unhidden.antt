@@ -13,7 +13,7 @@ use Rattle.sat_checker.specs.matching.Checking.{CheckerRules, is_ordered}
 use Rattle.sat_checker.specs.matching.Expected.{Outcome, Sat, Unsat, Unknown, Expected, NewName, NoName, Adds, Opens, Finish, Fits, new_name, no_name, adds, opens, shows, fails, closes, finish, bringing, hiding, setting}
 use Rattle.sat_checker.specs.matching.ProofChecking.{checker_rules}
 use Rattle.sat_checker.specs.matching.Traces.{HasTrace, no_step, silent, visible}
-use Rattle.sat_solver.specs.session.Session.{Session, with_fact, session_after, MayAll}
+use Rattle.sat_solver.specs.session.Session.{Session, with_fact, session_after, AreAllowedSteps}
 use Rattle.sat_solver.proofs.lemmas.session.Changes.{with_facts, with_sorted, with_live_clause, knowing, changed, session_if}
 use Rattle.sat_solver.specs.proof.Widths.{narrowed}
 use Rattle.sat_solver.specs.proof.Counting.{TruncatesHashes, none_made, ask_begun, one_made, width_change, counted}
@@ -201,7 +201,7 @@ none_hidden [] p = λ v e. cc
 none_hidden (step ∷ steps) p = changed_none step (session_after steps) p.0 (none_hidden steps p.1)
 
 -- SO NONE IS DELETED
-none_deleted : (steps : List Step) → MayAll steps → ArePlain false steps → has_delete_var steps ≡ false
+none_deleted : (steps : List Step) → AreAllowedSteps steps → ArePlain false steps → has_delete_var steps ≡ false
 none_deleted [] m p = refl
 none_deleted (SolverVarName v name ∷ steps) m p = none_deleted steps m.0 p.1
 none_deleted (UserVarName v name ∷ steps) m p = none_deleted steps m.0 p.1
@@ -279,7 +279,7 @@ cuts_end (one_made {d = d} {made = earlier} {written = written} step keeps k) ma
     }
 
 module _ {j : ScriptState} {all written : List Step} {cs : List Command} {os : List Outcome} {counts : List ℕ} {c d : Counting} (follows : ServesCommands j [] all cs os counts) (cuts : TruncatesHashes c (End ∷ all) written d) where
-  pub none_deletes : AllByRecursion HidesNothing cs → MayAll all → has_delete_var written ≡ false
+  pub none_deletes : AllByRecursion HidesNothing cs → AreAllowedSteps all → has_delete_var written ≡ false
   none_deletes hides may = cuts_delete cuts ∙ none_deleted all may (made_plain false follows (none_allowed cs hides) tt)
 
   pub run_ends : EndsWith written

@@ -7,11 +7,11 @@ use Rattle.sat_checker.specs.matching.Checking.{is_ordered, variable_of}
 use Rattle.sat_checker.specs.matching.Expected.{Outcome, Expected, Opens, Closes, Fits, new_name, no_name, adds, opens, shows, fails, closes, finish, EachSpelt, SameSet}
 use Rattle.sat_checker.specs.matching.ProofChecking.{checker_rules}
 use Rattle.sat_solver.specs.proof.Counting.{nothing_counted, counted, width_change, written_for, TruncatesHashes, none_made, ask_begun, one_made}
-use Rattle.sat_solver.specs.session.Session.{MayAll}
+use Rattle.sat_solver.specs.session.Session.{AreAllowedSteps}
 use Rattle.sat_solver.specs.proof.Widths.{IsNarrowedTo, none_yet, width_changes, one_more, KeepsWidth, MayAt, narrowed}
 use Rattle.sat_solver.proofs.lemmas.session.Narrowing.{widths_are_free}
 use Rattle.sat_solver.proofs.lemmas.session.StepLemmas.{sessions_are_accepted}
-use Rattle.certify.specs.run.Certifies.{Certifies, complete, left_out, other, ordered, asked, answered, IsRecorded, MayStand}
+use Rattle.certify.specs.run.Certifies.{Certifies, complete, left_out, other, ordered, asked, answered, IsRecorded, MayOccur}
 use Rattle.certify.proofs.lemmas.run.Recorded.{recorded_at}
 
 -- STEP BY STEP
@@ -22,7 +22,7 @@ data Narrows : List Step → List Step → ℕ → List Step → List Step → T
   same_width : {e w made written : List Step} {width : ℕ} (step : Step) → KeepsWidth step → Narrows (step ∷ e) (narrowed width step ∷ w) width made written → Narrows e w width made written
   new_width : {e w made written : List Step} {width : ℕ} (bits : ℕ) (step : Step) → KeepsWidth step → Narrows (step ∷ e) (narrowed bits step ∷ ChangeHashBits bits ∷ w) bits made written → Narrows e w width made written
 
-one_narrowed : {e w made written : List Step} (before now : ℕ) (step : Step) → KeepsWidth step → (told : Bool) → eqb before now ≡ told → Narrows (step ∷ e) (written_for before now step ++ w) now made written → Narrows e w before made written
+one_narrowed : {e w made written : List Step} (before now : ℕ) (step : Step) → KeepsWidth step → (equal : Bool) → eqb before now ≡ equal → Narrows (step ∷ e) (written_for before now step ++ w) now made written → Narrows e w before made written
 one_narrowed {e} {w} {made} {written} before now step k true same n =
     subst (λ b. Narrows e w b made written) (sym (eqb-true before now same)) (same_width step k (subst (λ (t : List Step). Narrows (step ∷ e) (narrowed now step ∷ (t ++ w)) now made written) (none before now same) n))
   where
@@ -86,8 +86,8 @@ variable_written none_yet name = refl
 variable_written (width_changes bits p) name = variable_written p name
 variable_written (one_more {wide = e} {written = w} {width = width} step k p) name = variable_narrowed width step w e name (variable_written p name)
 
--- it sees the same behind what is written
-module _ (e w : List Step) (width : ℕ) (p : IsNarrowedTo e w width) (may : MayAll e) where
+-- it sees the same after what is written
+module _ (e w : List Step) (width : ℕ) (p : IsNarrowedTo e w width) (may : AreAllowedSteps e) where
   at : MayAt e w width
   at = widths_are_free e w width p may
 
@@ -104,8 +104,8 @@ module _ (e w : List Step) (width : ℕ) (p : IsNarrowedTo e w width) (may : May
   pub recorded_same : IsRecorded checker_rules e → IsRecorded checker_rules w
   recorded_same r = recorded_at w at.may (unsat_same ∙ r.recorded)
 
-  pub stands_same : (x : Expected) → MayStand (checker_rules.unsat e) x → MayStand (checker_rules.unsat w) x
-  stands_same x = subst (λ b. MayStand b x) (sym unsat_same)
+  pub stands_same : (x : Expected) → MayOccur (checker_rules.unsat e) x → MayOccur (checker_rules.unsat w) x
+  stands_same x = subst (λ b. MayOccur b x) (sym unsat_same)
 
   known_not : (v : ℕ) → checker_rules.knows e v ≡ false → checker_rules.knows w v ≡ false
   known_not v h = ap (λ f. f v) knows_same ∙ h
@@ -125,19 +125,19 @@ module _ (e w : List Step) (width : ℕ) (p : IsNarrowedTo e w width) (may : May
 
 -- ALL STEPS
 
-may_front : {e w made written : List Step} {width : ℕ} → Narrows e w width made written → MayAll made → MayAll e
+may_front : {e w made written : List Step} {width : ℕ} → Narrows e w width made written → AreAllowedSteps made → AreAllowedSteps e
 may_front all_narrowed m = m
 may_front (same_width step k n) m = (may_front n m).0
 may_front (new_width bits step k n) m = (may_front n m).0
 
--- what is written next, and what is certified behind it
+-- what is written next, and what is certified after it
 record Turned (e w made written : List Step) (width : ℕ) (step : Step) : Type 0 where
   now : ℕ
-  told : List Step
-  is_told : (es : List Expected) (x : Expected) (current : Option Outcome) (counts : List ℕ) → Certifies checker_rules written current (told ++ w) (x ∷ es) counts → Certifies checker_rules written current w (x ∷ es) counts
-  before : IsNarrowedTo e (told ++ w) now
-  next : Narrows (step ∷ e) (narrowed now step ∷ (told ++ w)) now made written
-  behind : IsNarrowedTo (step ∷ e) (narrowed now step ∷ (told ++ w)) now
+  widths : List Step
+  skips_widths : (es : List Expected) (x : Expected) (current : Option Outcome) (counts : List ℕ) → Certifies checker_rules written current (widths ++ w) (x ∷ es) counts → Certifies checker_rules written current w (x ∷ es) counts
+  before : IsNarrowedTo e (widths ++ w) now
+  next : Narrows (step ∷ e) (narrowed now step ∷ (widths ++ w)) now made written
+  following : IsNarrowedTo (step ∷ e) (narrowed now step ∷ (widths ++ w)) now
 
 turned_to : {e w made written : List Step} {width : ℕ} (step : Step) (later : List Step) → made ≡ later ++ step ∷ e → IsNarrowedTo e w width → Narrows e w width made written → Turned e w made written width step
 turned_to {e} {w} {made} {written} {width} step later h p all_narrowed = absurd (too_long later step e h)
@@ -146,22 +146,22 @@ turned_to {e} {w} {made} {written} {width} step later h p (same_width other_step
     let same : other_step ≡ step = next_same f.0 later other_step step e (sym f.1 ∙ h) in
     subst (λ s. Turned e w made written width s) same record {
       now = width;
-      told = [];
-      is_told = λ es x current counts c. c;
+      widths = [];
+      skips_widths = λ es x current counts c. c;
       before = p;
       next = n;
-      behind = one_more other_step k p;
+      following = one_more other_step k p;
     }
 turned_to {e} {w} {made} {written} {width} step later h p (new_width bits other_step k n) =
     let f = narrowed_front n in
     let same : other_step ≡ step = next_same f.0 later other_step step e (sym f.1 ∙ h) in
     subst (λ s. Turned e w made written width s) same record {
       now = bits;
-      told = ChangeHashBits bits ∷ [];
-      is_told = λ es x current counts c. other refl c;
+      widths = ChangeHashBits bits ∷ [];
+      skips_widths = λ es x current counts c. other refl c;
       before = width_changes bits p;
       next = n;
-      behind = one_more other_step k (width_changes bits p);
+      following = one_more other_step k (width_changes bits p);
     }
 
 at_end : {e all w written : List Step} {width : ℕ} → e ≡ all → Narrows e w width all written → w ≡ written
@@ -169,28 +169,28 @@ at_end same all_narrowed = refl
 at_end {e} same (same_width step k n) = let f = narrowed_front n in absurd (too_long f.0 step e (same ∙ f.1))
 at_end {e} same (new_width bits step k n) = let f = narrowed_front n in absurd (too_long f.0 step e (same ∙ f.1))
 
-transferred : {made written : List Step} (may : MayAll made) {current : Option Outcome} {e w : List Step} {width : ℕ} {es : List Expected} {counts : List ℕ} → IsNarrowedTo e w width → Narrows e w width made written → Certifies checker_rules made current e es counts → Certifies checker_rules written current w es counts
+transferred : {made written : List Step} (may : AreAllowedSteps made) {current : Option Outcome} {e w : List Step} {width : ℕ} {es : List Expected} {counts : List ℕ} → IsNarrowedTo e w width → Narrows e w width made written → Certifies checker_rules made current e es counts → Certifies checker_rules written current w es counts
 transferred {made} {written} may p n complete = subst (λ w. Certifies checker_rules written None w [] []) (sym (at_end refl n)) complete
 transferred may {e = e} {w = w} {width = width} p n (left_out m r c) = left_out m (recorded_same e w width p (may_front n may) r) (transferred may p n c)
 transferred may {current = current} {e = e} {w = w} {width = width} {counts = counts} p n (other {step = step} {e = x} {es = es} q c) =
     let f = certified_front c in
     let t = turned_to step f.0 f.1 p n in
-    t.is_told es x current counts (other (quiet_narrowed t.now step ∙ q) (transferred may t.behind t.next c))
+    t.skips_widths es x current counts (other (quiet_narrowed t.now step ∙ q) (transferred may t.following t.next c))
 transferred may {current = current} {e = e} {w = w} {width = width} {counts = counts} p n (ordered {step = step} {e = x} {es = es} m s c) =
     let f = certified_front c in
     let t = turned_to step f.0 f.1 p n in
     let may_here = may_front n may in
-    t.is_told es x current counts (ordered (stands_same e (t.told ++ w) t.now t.before may_here x m) (fits_same e (t.told ++ w) t.now t.before may_here t.now x step s) (transferred may t.behind t.next c))
+    t.skips_widths es x current counts (ordered (stands_same e (t.widths ++ w) t.now t.before may_here x m) (fits_same e (t.widths ++ w) t.now t.before may_here t.now x step s) (transferred may t.following t.next c))
 transferred may {e = e} {w = w} {width = width} p n (asked {step = step} {ask = ask} {o = o} {n = rounds} {es = es} {counts = counts} k s c) =
     let f = certified_front c in
     let t = turned_to step f.0 f.1 p n in
     let may_here = may_front n may in
-    t.is_told es (Opens ask o) None (rounds ∷ counts) (asked (λ u. k (sym (unsat_same e (t.told ++ w) t.now t.before may_here) ∙ u)) (fits_same e (t.told ++ w) t.now t.before may_here t.now (Opens ask o) step s) (transferred may t.behind t.next c))
+    t.skips_widths es (Opens ask o) None (rounds ∷ counts) (asked (λ u. k (sym (unsat_same e (t.widths ++ w) t.now t.before may_here) ∙ u)) (fits_same e (t.widths ++ w) t.now t.before may_here t.now (Opens ask o) step s) (transferred may t.following t.next c))
 transferred may {e = e} {w = w} {width = width} p n (answered {step = step} {o = o} {es = es} {counts = counts} k s c) =
     let f = certified_front c in
     let t = turned_to step f.0 f.1 p n in
     let may_here = may_front n may in
-    t.is_told es Closes (Some o) counts (answered (λ u. k (sym (unsat_same e (t.told ++ w) t.now t.before may_here) ∙ u)) (fits_same e (t.told ++ w) t.now t.before may_here t.now Closes step s) (transferred may t.behind t.next c))
+    t.skips_widths es Closes (Some o) counts (answered (λ u. k (sym (unsat_same e (t.widths ++ w) t.now t.before may_here) ∙ u)) (fits_same e (t.widths ++ w) t.now t.before may_here t.now Closes step s) (transferred may t.following t.next c))
 
-pub written_certifies : (made written : List Step) (c : _) (es : List Expected) (counts : List ℕ) → TruncatesHashes nothing_counted made written c → MayAll made → Certifies checker_rules made None [] es counts → Certifies checker_rules written None [] es counts
+pub written_certifies : (made written : List Step) (c : _) (es : List Expected) (counts : List ℕ) → TruncatesHashes nothing_counted made written c → AreAllowedSteps made → Certifies checker_rules made None [] es counts → Certifies checker_rules written None [] es counts
 written_certifies made written c es counts p may h = transferred may none_yet (narrows refl p all_narrowed) h

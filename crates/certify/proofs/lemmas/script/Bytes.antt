@@ -6,8 +6,8 @@ use Rattle.std.proofs.lemmas.List.{length-take, take-take}
 use Rattle.sat_base.specs.declared.text.Token.{Token as CodeToken}
 use Rattle.sat_base.specs.declared.text.Tokenizer.{Tokenizer}
 use Rattle.sat_base.specs.text.Text.{Token, Number, Letter, Header, Wrong, Scan, scan, tokens, header_first, header_from, dimacs_header}
-use Rattle.sat_base.specs.text.Tokenizing.{TakesFront, StandsBefore, GivesLast, held_token}
-use Rattle.sat_base.specs.text.WrongWords.{WrongAhead}
+use Rattle.sat_base.specs.text.Tokenizing.{TakesFront, IsPositionedBefore, GivesLast, held_token}
+use Rattle.sat_base.specs.text.WrongWords.{HasNoValidContinuation}
 use Rattle.sat_base.specs.text.Chunks.{Follows, IgnoresRest}
 use Rattle.sat_base.proofs.lemmas.text.HeaderFirst.{IsWord, AreWords, AreScript, text_is}
 use Rattle.sat_base.specs.script.Language.{Reading, spoken, CommandHand, Nothing, commands_of, with_ask, written, reading}
@@ -24,42 +24,42 @@ reader tokenizer commands = record { tokenizer = tokenizer; commands = commands 
 
 pub bytes_go : (old : ScriptReader) (bytes : List ℕ) (next : Tokenizer) → TakesFront old.tokenizer bytes None next → (asks : Bool) → Follows (MeansIf asks) old bytes (reader next old.commands)
 bytes_go old bytes next t asks before m =
-    let h = t m.scan_of m.stands in (
+    let h = t m.scan_of m.valid in (
       λ rest. meaning asks old.commands m.hand (spoken (h.0 rest).tokens),
-      record { hand = m.hand; holds = m.holds; scan_of = h.0; stands = h.1; reads = λ rest. refl },
+      record { hand = m.hand; holds = m.holds; scan_of = h.0; valid = h.1; reads = λ rest. refl },
       λ rest. m.reads (bytes ++ rest) ∙ ap (λ (s : Scan). meaning asks old.commands m.hand (spoken s.tokens)) (h.2 rest),
     )
 
 pub bytes_take : (r : Reached) (old : ScriptReader) (bytes : List ℕ) (t : CodeToken) (next : Tokenizer) (new : Commands) → TakesFront old.tokenizer bytes (Some t) next
     → ((given : Token) → t ≡ held_token given → TakesToken r old.commands given new) → TakesBytes r old bytes (reader next new)
 bytes_take reached.More old bytes t next new k r = λ asks before m.
-    let h = k m.scan_of m.stands in
+    let h = k m.scan_of m.valid in
     let given = h.2.0 in
     let n = r given h.2.1 m.hand m.holds in (
       λ rest. meaning asks new n.0 (spoken (h.0 rest).tokens),
-      record { hand = n.0; holds = n.1; scan_of = h.0; stands = h.1; reads = λ rest. refl },
+      record { hand = n.0; holds = n.1; scan_of = h.0; valid = h.1; reads = λ rest. refl },
       λ rest. m.reads (bytes ++ rest) ∙ ap (λ (s : Scan). meaning asks old.commands m.hand (spoken s.tokens)) (h.2.2 rest) ∙ n.2 asks (spoken (h.0 rest).tokens),
     )
 bytes_take reached.Command old bytes t next new k r = λ asks before m.
-    let h = k m.scan_of m.stands in
+    let h = k m.scan_of m.valid in
     let given = h.2.0 in
     let n = r given h.2.1 m.hand m.holds in
     record {
       command = n.0;
       whole = record { whole = n.1 };
       after = λ rest. meaning asks new Nothing (spoken (h.0 rest).tokens);
-      stands = record { hand = Nothing; holds = n.2; scan_of = h.0; stands = h.1; reads = λ rest. refl };
+      valid = record { hand = Nothing; holds = n.2; scan_of = h.0; valid = h.1; reads = λ rest. refl };
       reads = λ rest. m.reads (bytes ++ rest) ∙ ap (λ (s : Scan). meaning asks old.commands m.hand (spoken s.tokens)) (h.2.2 rest) ∙ n.3 asks (spoken (h.0 rest).tokens);
     }
 bytes_take reached.Malformed old bytes t next new k r = λ asks before m rest.
-    let h = k m.scan_of m.stands in
+    let h = k m.scan_of m.valid in
     m.reads (bytes ++ rest) ∙ ap (λ (s : Scan). meaning asks old.commands m.hand (spoken s.tokens)) (h.2.2 rest) ∙ r h.2.0 h.2.1 m.hand m.holds asks (spoken (h.0 rest).tokens)
 
--- behind them a word is wrong, whatever follows
-pub bytes_wrong : (old : ScriptReader) (bytes : List ℕ) (next : Tokenizer) → TakesFront old.tokenizer bytes None next → ((after : List ℕ → Scan) → StandsBefore next after → WrongAhead after)
+-- after them a word is wrong, whatever follows
+pub bytes_wrong : (old : ScriptReader) (bytes : List ℕ) (next : Tokenizer) → TakesFront old.tokenizer bytes None next → ((after : List ℕ → Scan) → IsPositionedBefore next after → HasNoValidContinuation after)
     → TakesBytes reached.Malformed old bytes (reader next old.commands)
 bytes_wrong old bytes next t w = λ asks before m rest.
-    let h = t m.scan_of m.stands in
+    let h = t m.scan_of m.valid in
     let wrong = w h.0 h.1 rest in
     m.reads (bytes ++ rest) ∙ ap (λ (s : Scan). meaning asks old.commands m.hand (spoken s.tokens)) (h.2 rest)
     ∙ ap (λ (ts : List (ℕ × Token)). meaning asks old.commands m.hand (spoken ts)) wrong.1 ∙ fails old.commands m.hand Wrong refl asks (spoken wrong.0)
@@ -77,7 +77,7 @@ followed reached.Command a b c xs ys f t = λ asks before m.
       command = k.command;
       whole = k.whole;
       after = k.after;
-      stands = k.stands;
+      valid = k.valid;
       reads = λ rest. ap before (append_assoc xs ys rest) ∙ h.2 (ys ++ rest) ∙ k.reads rest;
     }
 followed reached.Malformed a b c xs ys f t = λ asks before m rest.
@@ -90,7 +90,7 @@ goes_nowhere a asks before m = (before, m, λ rest. refl)
 pub no_more : (xs : List ℕ) (n k : ℕ) → n ≤ length xs → k ≤ length (take (length xs - n) (drop n xs)) → n + k ≤ length xs
 no_more xs n k h i = let l = length-take (length xs - n) (drop n xs) in omega arith
 
--- the first bytes, and then some of those behind them
+-- the first bytes, and then some of those after them
 front_and : (n k : ℕ) (xs : List ℕ) → n ≤ length xs → k ≤ length (take (length xs - n) (drop n xs)) → take (n + k) xs ≡ take n xs ++ take k (take (length xs - n) (drop n xs))
 front_and n k xs h i = take-add n k xs ∙ ap (λ (ys : List ℕ). take n xs ++ ys) (sym (take-take k (length xs - n) (drop n xs) (let l = length-take (length xs - n) (drop n xs) in omega arith)))
 
@@ -100,27 +100,27 @@ followed_front r a b c xs n k h i f t =
     subst (λ (bs : List ℕ). TakesBytes r a bs c) (sym (front_and n k xs h i)) (followed r a b c (take n xs) (take k (take (length xs - n) (drop n xs))) f t)
 
 -- THE END
-pub ends_none : (asks : Bool) (old : ScriptReader) (before : List ℕ → Reading) (r : Reading) → ((scan_of : List ℕ → Scan) → StandsBefore old.tokenizer scan_of → GivesLast None (scan_of [])) → MeansIf asks old before
+pub ends_none : (asks : Bool) (old : ScriptReader) (before : List ℕ → Reading) (r : Reading) → ((scan_of : List ℕ → Scan) → IsPositionedBefore old.tokenizer scan_of → GivesLast None (scan_of [])) → MeansIf asks old before
     → ((hand : CommandHand) → HoldsHand old.commands.draft hand → r ≡ meaning asks old.commands hand []) → before [] ≡ r
-ends_none asks old before r k m e = m.reads [] ∙ ap (λ (ts : List (ℕ × Token)). meaning asks old.commands m.hand (spoken ts)) (k m.scan_of m.stands) ∙ sym (e m.hand m.holds)
+ends_none asks old before r k m e = m.reads [] ∙ ap (λ (ts : List (ℕ × Token)). meaning asks old.commands m.hand (spoken ts)) (k m.scan_of m.valid) ∙ sym (e m.hand m.holds)
 
 -- where what follows is ignored, and no token is in hand
-pub ends_over : (asks : Bool) (old : ScriptReader) (before : List ℕ → Reading) (r : Reading) → ((scan_of : List ℕ → Scan) → StandsBefore old.tokenizer scan_of → IgnoresRest scan_of)
-    → ((scan_of : List ℕ → Scan) → StandsBefore old.tokenizer scan_of → (scan_of []).tokens ≡ []) → MeansIf asks old before
+pub ends_over : (asks : Bool) (old : ScriptReader) (before : List ℕ → Reading) (r : Reading) → ((scan_of : List ℕ → Scan) → IsPositionedBefore old.tokenizer scan_of → IgnoresRest scan_of)
+    → ((scan_of : List ℕ → Scan) → IsPositionedBefore old.tokenizer scan_of → (scan_of []).tokens ≡ []) → MeansIf asks old before
     → ((hand : CommandHand) → HoldsHand old.commands.draft hand → r ≡ meaning asks old.commands hand []) → (rest : List ℕ) → before rest ≡ r
 ends_over asks old before r over none m e rest =
-    m.reads rest ∙ ap (λ (s : Scan). meaning asks old.commands m.hand (spoken s.tokens)) (over m.scan_of m.stands rest)
-    ∙ ap (λ (ts : List (ℕ × Token)). meaning asks old.commands m.hand (spoken ts)) (none m.scan_of m.stands) ∙ sym (e m.hand m.holds)
+    m.reads rest ∙ ap (λ (s : Scan). meaning asks old.commands m.hand (spoken s.tokens)) (over m.scan_of m.valid rest)
+    ∙ ap (λ (ts : List (ℕ × Token)). meaning asks old.commands m.hand (spoken ts)) (none m.scan_of m.valid) ∙ sym (e m.hand m.holds)
 
 lasts : (asks completes : Bool) (e : ScriptEnd) (new : ScriptReader) (r : Reading) → EndsSo asks completes e new.commands r → EndsLast asks completes e new r
 lasts asks true e new r h = (h.0, record { whole = h.1 }, h.2)
 lasts asks false e new r h = h
 
-pub ends_some : (asks : Bool) (old new : ScriptReader) (t : CodeToken) (completes : Bool) (e : ScriptEnd) (before : List ℕ → Reading) → ((scan_of : List ℕ → Scan) → StandsBefore old.tokenizer scan_of → GivesLast (Some t) (scan_of [])) → MeansIf asks old before
+pub ends_some : (asks : Bool) (old new : ScriptReader) (t : CodeToken) (completes : Bool) (e : ScriptEnd) (before : List ℕ → Reading) → ((scan_of : List ℕ → Scan) → IsPositionedBefore old.tokenizer scan_of → GivesLast (Some t) (scan_of [])) → MeansIf asks old before
     → ((given : Token) → t ≡ held_token given → (hand : CommandHand) → HoldsHand old.commands.draft hand → EndsSo asks completes e new.commands (meaning asks old.commands hand (given ∷ [])))
     → EndsLast asks completes e new (before [])
 ends_some asks old new t completes e before k m r =
-    let h = k m.scan_of m.stands in
+    let h = k m.scan_of m.valid in
     let same : before [] ≡ meaning asks old.commands m.hand (h.0 ∷ []) = m.reads [] ∙ ap (λ (ts : List (ℕ × Token)). meaning asks old.commands m.hand (spoken ts)) h.2 in
     subst (λ (x : Reading). EndsLast asks completes e new x) (sym same) (lasts asks completes e new (meaning asks old.commands m.hand (h.0 ∷ [])) (r h.0 h.1 m.hand m.holds))
 
@@ -167,12 +167,12 @@ read_from_start c text h a =
     ∙ ap (λ (b : Bool). with_ask b (commands_of Nothing (spoken (tokens text)))) (sym (headed_by (tokens text) (text_is text)) ∙ sym (and_true (any_header (spoken (tokens text)))))
     ∙ sym (rw (h, a) refl)
 
-pub means_first : (tokenizer : Tokenizer) (commands : Commands) → StandsBefore tokenizer scan → HoldsHand commands.draft Nothing → commands.headed ≡ false → commands.asked ≡ false → ReaderMeans (reader tokenizer commands) reading
-means_first tokenizer commands s n h a = record { hand = Nothing; holds = n; scan_of = scan; stands = s; reads = λ text. read_from_start commands text h a }
+pub means_first : (tokenizer : Tokenizer) (commands : Commands) → IsPositionedBefore tokenizer scan → HoldsHand commands.draft Nothing → commands.headed ≡ false → commands.asked ≡ false → ReaderMeans (reader tokenizer commands) reading
+means_first tokenizer commands s n h a = record { hand = Nothing; holds = n; scan_of = scan; valid = s; reads = λ text. read_from_start commands text h a }
 
 written_is : (text : List ℕ) → written text ≡ commands_of Nothing (spoken (tokens text))
 unfolding written
 written_is text = refl
 
-pub counts_first : (tokenizer : Tokenizer) (commands : Commands) → StandsBefore tokenizer scan → HoldsHand commands.draft Nothing → MeansIf false (reader tokenizer commands) written
-counts_first tokenizer commands s n = record { hand = Nothing; holds = n; scan_of = scan; stands = s; reads = λ text. written_is text }
+pub counts_first : (tokenizer : Tokenizer) (commands : Commands) → IsPositionedBefore tokenizer scan → HoldsHand commands.draft Nothing → MeansIf false (reader tokenizer commands) written
+counts_first tokenizer commands s n = record { hand = Nothing; holds = n; scan_of = scan; valid = s; reads = λ text. written_is text }

@@ -3,7 +3,7 @@ use Rattle.std.proofs.Common.{ℕ, ◌+◌, ◌≤◌, ◌<◌, ◌≡◌, ◌�
 use Rattle.std.proofs.lemmas.List.{length-map}
 use Rattle.sat_base.specs.text.Text.{Token, is_blank, goes_on, begins_with, header_if, dimacs_header, is_none, lines, onto_first, on_line, words, token, tokens, tokens_of, scan}
 use Rattle.sat_base.specs.script.Script.{Command, Ask, Clean, Malformed, has_ask, is_clean}
-use Rattle.sat_base.specs.script.Language.{Reading, CommandHand, Nothing, Within, CommandTurn, GoesOn, Ends, Fails, command_at_end, behind_command_turn, commands_of, onto_commands, reading, spoken, command_turn, with_ask, written}
+use Rattle.sat_base.specs.script.Language.{Reading, CommandHand, Nothing, Within, CommandTurn, GoesOn, Ends, Fails, command_at_end, after_command_turn, commands_of, onto_commands, reading, spoken, command_turn, with_ask, written}
 use Rattle.certify.specs.confirm.VerdictPromises.{numbers}
 
 -- WORDS AND LINES
@@ -109,7 +109,7 @@ commands_none : (hand : CommandHand) → commands_of hand [] ≡ ([], command_at
 unfolding commands_of
 commands_none hand = refl
 
-commands_next : (hand : CommandHand) (t : Token) (ts : List Token) → commands_of hand (t ∷ ts) ≡ behind_command_turn (command_turn hand t) (λ h. commands_of h ts)
+commands_next : (hand : CommandHand) (t : Token) (ts : List Token) → commands_of hand (t ∷ ts) ≡ after_command_turn (command_turn hand t) (λ h. commands_of h ts)
 unfolding commands_of
 commands_next hand t ts = refl
 
@@ -117,7 +117,7 @@ few_none : (hand : CommandHand) → numbers ([], command_at_end hand) ≤ 1
 few_none Nothing = omega arith
 few_none (Within k ls) = omega arith
 
-few_turn : (u : CommandTurn) (more : CommandHand → Reading) (n : ℕ) → ((h : CommandHand) → numbers (more h) ≤ n + 1) → numbers (behind_command_turn u more) ≤ n + 1 + 1
+few_turn : (u : CommandTurn) (more : CommandHand → Reading) (n : ℕ) → ((h : CommandHand) → numbers (more h) ≤ n + 1) → numbers (after_command_turn u more) ≤ n + 1 + 1
 few_turn (GoesOn hand) more n f = let h = f hand in omega arith
 few_turn (Ends c) more n f = let h = f Nothing in let e = one_more c (more Nothing) in omega arith
 few_turn Fails more n f = omega arith

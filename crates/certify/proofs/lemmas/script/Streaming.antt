@@ -21,7 +21,7 @@ use Rattle.certify.specs.declared.script.reader.ScriptReader.{ScriptReader}
 use Rattle.certify.specs.declared.script.stream.CommandStream.{CommandStream}
 use Rattle.certify.specs.declared.script.stream.Next.{Next}
 use Rattle.certify.specs.declared.script.stream.Next.TheVariants as next
-use Rattle.certify.proofs.lemmas.confirm.Streams.{all_over, nothing_behind, stays_open, taken_front}
+use Rattle.certify.proofs.lemmas.confirm.Streams.{all_over, nothing_after, stays_open, taken_front}
 use Rattle.certify.proofs.lemmas.confirm.Joining.{covers_took, failed_then, took_halted, took_none, took_then}
 use Rattle.certify.proofs.lemmas.script.LastPieces.{passes_front}
 use Rattle.certify.proofs.lemmas.script.Bytes.{followed, goes_nowhere}
@@ -86,7 +86,7 @@ refill_ends n next.Command a b old new none h f = absurd f
 refill_ends n (next.Last e) a b old new none h f = ([], (gave_nothing n a b none h.0, h.1 none), f)
 refill_ends n (next.End e) a b old new none h f =
     let ends : ConsumesToEnd a b [] = (gave_nothing n a b none h.0, h.1 none) in
-    ((([], ends.0), λ x. all_over b ends.1), λ asks before m total c. ap before (nothing_behind a b [] total ends c) ∙ f asks before m)
+    ((([], ends.0), λ x. all_over b ends.1), λ asks before m total c. ap before (nothing_after a b [] total ends c) ∙ f asks before m)
 
 -- THE TEXT HAS ENDED, AND IS NOT READ ON
 pub brings_over : (a : Source) (reader : ScriptReader) (e : ScriptEnd) → (AtEnd a → ⊥) → EndsWhateverFollows reader e → Brings (Ok (Some (next.End e))) a a reader reader

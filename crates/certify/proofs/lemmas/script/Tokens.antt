@@ -6,7 +6,7 @@ use Rattle.sat_base.specs.declared.text.Token.TheVariants as code
 use Rattle.sat_base.specs.text.Text.{Token, Number, Letter, Header, Wrong}
 use Rattle.sat_base.specs.text.Tokenizing.{held, held_token}
 use Rattle.sat_base.specs.script.Script.{Literal, Command, Ask, ScriptEnding, Clean, Malformed, has_ask, is_clean}
-use Rattle.sat_base.specs.script.Language.{Reading, onto_commands, Kind, OfClause, command_of, CommandHand, Nothing, Within, CommandTurn, GoesOn, Ends, Fails, command_in, may_stand, turn_with_literal, kind_of_letter, beginning, with_letter, command_turn, command_at_end, behind_command_turn, commands_of, with_ask}
+use Rattle.sat_base.specs.script.Language.{Reading, onto_commands, Kind, OfClause, command_of, CommandHand, Nothing, Within, CommandTurn, GoesOn, Ends, Fails, command_in, may_stand, turn_with_literal, kind_of_letter, beginning, with_letter, command_turn, command_at_end, after_command_turn, commands_of, with_ask}
 use Rattle.sat_base.proofs.lemmas.script.ScriptSpellings.{commands_of_nil, commands_of_cons}
 use Rattle.certify.specs.script.Commands.{kind_of, is_ask_kind, IsWholeCommand, HoldsHand, opened, is_header, any_header, meaning, TakesToken, end_if}
 use Rattle.certify.specs.declared.script.Reached.TheVariants as reached
@@ -67,23 +67,23 @@ is_asked OfClause ls = refl
 is_asked e ls = refl
 
 -- TOKENS
-behind : (asks : Bool) (old : Commands) (hand : CommandHand) (t : Token) (k : CommandTurn) (ts : List Token) → command_turn hand t ≡ k
-    → meaning asks old hand (t ∷ ts) ≡ with_ask (asks && ((old.headed || (is_header t || any_header ts)) && not old.asked)) (behind_command_turn k (λ d. commands_of d ts))
-behind asks old hand t k ts e =
-    ap (with_ask (asks && ((old.headed || (is_header t || any_header ts)) && not old.asked))) (commands_of_cons hand t ts ∙ ap (λ (j : CommandTurn). behind_command_turn j (λ d. commands_of d ts)) e)
+following : (asks : Bool) (old : Commands) (hand : CommandHand) (t : Token) (k : CommandTurn) (ts : List Token) → command_turn hand t ≡ k
+    → meaning asks old hand (t ∷ ts) ≡ with_ask (asks && ((old.headed || (is_header t || any_header ts)) && not old.asked)) (after_command_turn k (λ d. commands_of d ts))
+following asks old hand t k ts e =
+    ap (with_ask (asks && ((old.headed || (is_header t || any_header ts)) && not old.asked))) (commands_of_cons hand t ts ∙ ap (λ (j : CommandTurn). after_command_turn j (λ d. commands_of d ts)) e)
 
--- a token that is no header, behind which the command goes on
+-- a token that is no header, after which the command goes on
 pub goes_on : (old new : Commands) (hand next : CommandHand) (t : Token) → is_header t ≡ false → new.headed ≡ old.headed → new.asked ≡ old.asked → command_turn hand t ≡ GoesOn next
     → (asks : Bool) (ts : List Token) → meaning asks old hand (t ∷ ts) ≡ meaning asks new next ts
-goes_on old new hand next t w h a e asks ts = behind asks old hand t (GoesOn next) ts e ∙ rw (w, h, a) refl
+goes_on old new hand next t w h a e asks ts = following asks old hand t (GoesOn next) ts e ∙ rw (w, h, a) refl
 
 pub fails : (old : Commands) (hand : CommandHand) (t : Token) → command_turn hand t ≡ Fails → (asks : Bool) (ts : List Token) → meaning asks old hand (t ∷ ts) ≡ ([], Malformed)
-fails old hand t e asks ts = behind asks old hand t Fails ts e ∙ malformed_if (asks && ((old.headed || (is_header t || any_header ts)) && not old.asked))
+fails old hand t e asks ts = following asks old hand t Fails ts e ∙ malformed_if (asks && ((old.headed || (is_header t || any_header ts)) && not old.asked))
 
 -- a header
 pub header_taken : (old new : Commands) (v c : ℕ) → new ≡ record old { headed = true } → TakesToken reached.More old (Header v c) new
 header_taken old new v c e hand h =
-    let whole = λ (asks : Bool) (ts : List Token). behind asks old hand (Header v c) (GoesOn hand) ts refl ∙ ap (λ (b : Bool). with_ask (asks && (b && not old.asked)) (commands_of hand ts)) (or_true old.headed) in
+    let whole = λ (asks : Bool) (ts : List Token). following asks old hand (Header v c) (GoesOn hand) ts refl ∙ ap (λ (b : Bool). with_ask (asks && (b && not old.asked)) (commands_of hand ts)) (or_true old.headed) in
     rw e (hand, h, whole)
 
 -- a zero
@@ -95,7 +95,7 @@ zero_taken old new negative h a none whole hand holds =
     let k : is_ask c ≡ is_ask_kind (kind_of new.draft.kind) = ap is_ask w.2 ∙ is_asked (kind_of new.draft.kind) w.0 in
     let asked : new.asked ≡ (old.asked || is_ask c) = a ∙ ap (λ (b : Bool). old.asked || b) (sym k) in
     let read = λ (asks : Bool) (ts : List Token).
-    behind asks old hand (Number negative 0) (Ends c) ts refl
+    following asks old hand (Number negative 0) (Ends c) ts refl
     ∙ ask_onto_if asks (old.headed || any_header ts) old.asked c (commands_of Nothing ts)
     ∙ ap (λ (b : Bool). onto_commands (c ∷ []) (with_ask (asks && ((old.headed || any_header ts) && not b)) (commands_of Nothing ts))) (sym asked)
     ∙ ap (λ (b : Bool). onto_commands (c ∷ []) (with_ask (asks && ((b || any_header ts) && not new.asked)) (commands_of Nothing ts))) (sym h) in
@@ -106,10 +106,10 @@ pub turn_number : (hand : CommandHand) (negative : Bool) (value : ℕ) → 0 < v
 turn_number hand negative value some = let e : nat_eq value 0 ≡ false = grind (arith, nat_tests) in rw e refl
 
 -- a literal where it may stand
-pub stands : (d : Draft) (hand : CommandHand) (l : Literal) → HoldsHand d (opened hand) → may_stand (kind_of d.kind) l.positive ≡ true
+pub valid : (d : Draft) (hand : CommandHand) (l : Literal) → HoldsHand d (opened hand) → may_stand (kind_of d.kind) l.positive ≡ true
     → (kind : Kind) × (ls : List Literal) × HoldsHand d (Within kind ls) × (turn_with_literal hand l ≡ GoesOn (Within kind (ls ++ l ∷ [])))
-stands d Nothing l h m = (OfClause, [], h, refl)
-stands d (Within kind ls) l h m = (kind, ls, h, let e : may_stand kind l.positive ≡ true = ap (λ (k : Kind). may_stand k l.positive) h.1 ∙ m in rw e refl)
+valid d Nothing l h m = (OfClause, [], h, refl)
+valid d (Within kind ls) l h m = (kind, ls, h, let e : may_stand kind l.positive ≡ true = ap (λ (k : Kind). may_stand k l.positive) h.1 ∙ m in rw e refl)
 
 pub misplaced : (d : Draft) (hand : CommandHand) (l : Literal) → HoldsHand d (opened hand) → may_stand (kind_of d.kind) l.positive ≡ false → turn_with_literal hand l ≡ Fails
 misplaced d Nothing l h m = absurd (let e : may_stand OfClause l.positive ≡ may_stand (kind_of d.kind) l.positive = ap (λ (k : Kind). may_stand k l.positive) h.1 in cc)
@@ -178,7 +178,7 @@ ends_clean asks commands (Within kind ls) o h e = absurd (cc (h.0))
 -- a last word that goes on in a command, or fails
 pub ends_with : (asks : Bool) (commands : Commands) (hand : CommandHand) (t : Token) → ((kind : Kind) × (ls : List Literal) × (command_turn hand t ≡ GoesOn (Within kind ls))) → end_if asks ends.Malformed ≡ meaning asks commands hand (t ∷ [])
 ends_with asks commands hand t x =
-    end_malformed asks ∙ sym (behind asks commands hand t (GoesOn (Within x.0 x.1)) [] x.2 ∙ ap (with_ask (asks && ((commands.headed || (is_header t || false)) && not commands.asked))) (commands_of_nil (Within x.0 x.1)) ∙ malformed_if (asks && ((commands.headed || (is_header t || false)) && not commands.asked)))
+    end_malformed asks ∙ sym (following asks commands hand t (GoesOn (Within x.0 x.1)) [] x.2 ∙ ap (with_ask (asks && ((commands.headed || (is_header t || false)) && not commands.asked))) (commands_of_nil (Within x.0 x.1)) ∙ malformed_if (asks && ((commands.headed || (is_header t || false)) && not commands.asked)))
 
 pub ends_wrong : (asks : Bool) (commands : Commands) (hand : CommandHand) (t : Token) → command_turn hand t ≡ Fails → end_if asks ends.Malformed ≡ meaning asks commands hand (t ∷ [])
 ends_wrong asks commands hand t e = end_malformed asks ∙ sym (fails commands hand t e asks [])
@@ -202,8 +202,8 @@ pub letter_ends : (asks : Bool) (commands : Commands) (hand : CommandHand) (b : 
 letter_ends asks commands Nothing b = letter_at asks commands b (kind_of_letter b) refl
 letter_ends asks commands (Within kind ls) b = ends_wrong asks commands (Within kind ls) (Letter b) refl
 
--- behind a last header
+-- after a last header
 pub header_ends : (asks : Bool) (old new : Commands) (hand : CommandHand) (v c : ℕ) → new ≡ record old { headed = true } → meaning asks old hand (Header v c ∷ []) ≡ meaning asks new hand []
 header_ends asks old new hand v c e =
-    let whole = behind asks old hand (Header v c) (GoesOn hand) [] refl ∙ ap (λ (b : Bool). with_ask (asks && (b && not old.asked)) (commands_of hand [])) (or_true old.headed) in
+    let whole = following asks old hand (Header v c) (GoesOn hand) [] refl ∙ ap (λ (b : Bool). with_ask (asks && (b && not old.asked)) (commands_of hand [])) (or_true old.headed) in
     rw e whole

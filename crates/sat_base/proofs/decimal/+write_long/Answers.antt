@@ -1,5 +1,5 @@
 use Rattle.std.proofs.Common.{◌≡◌, ◌+◌, ◌≤◌, length, decimal, arith}
-use Rattle.sat_base.proofs.lemmas.values.Decimals.{more_length, behind_pair}
+use Rattle.sat_base.proofs.lemmas.values.Decimals.{more_length, after_pair}
 use Rattle.sat_base.proofs.decimal.+write_long.Goals as goal
 
 pub write_long-at-requires : goal.write_long-at-requires
@@ -22,4 +22,4 @@ returns-clause-end t c =
 
 pub returns-clause-text : goal.returns-clause-text
 returns-clause-text t c =
-    behind_pair c.args.bytes.now c.write_long-at.new.bytes c.write_pair.new.bytes c.args.len c.write_long-at.result c.args.number (omega arith) c.ranges.number.fits c.write_long-at.ensures.text c.write_pair.ensures.text
+    after_pair c.args.bytes.now c.write_long-at.new.bytes c.write_pair.new.bytes c.args.len c.write_long-at.result c.args.number (omega arith) c.ranges.number.fits c.write_long-at.ensures.text c.write_pair.ensures.text

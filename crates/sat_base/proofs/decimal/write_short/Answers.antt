@@ -1,7 +1,7 @@
 use Rattle.std.proofs.Common.{◌≡◌, ◌+◌, ◌<◌, ◌≤◌, ◌/◌, ◌++◌, ◌∷◌, [], length, take, set, decimal, arith, sym, ap, subst, ◌∙◌}
 use Rattle.std.proofs.lemmas.Fmt.{decimal_digit}
 use Rattle.std.proofs.lemmas.List.{length-set}
-use Rattle.sat_base.proofs.lemmas.values.Decimals.{two_digits, three_length, four_length, one_put, behind_pair}
+use Rattle.sat_base.proofs.lemmas.values.Decimals.{two_digits, three_length, four_length, one_put, after_pair}
 use Rattle.sat_base.proofs.decimal.write_short.Goals as goal
 
 -- ONE DIGIT
@@ -59,7 +59,7 @@ returns-then-number-lt1000-clause-text c =
     = one_put c.args.bytes.now c.args.len (48 + c.args.number / 100) (omega (arith, l, r)) ∙ ap (λ ds. take c.args.len c.args.bytes.now ++ ds) (sym d) in
     let n : c.args.len + 3 ≡ c.args.len + 1 + 2 = omega arith in
     ap (λ m. take m c.write_pair-then-number-lt1000.new.bytes) n
-    ∙ behind_pair c.args.bytes.now first c.write_pair-then-number-lt1000.new.bytes c.args.len (c.args.len + 1) c.args.number c.if-number-lt100.false (omega arith) e c.write_pair-then-number-lt1000.ensures.text
+    ∙ after_pair c.args.bytes.now first c.write_pair-then-number-lt1000.new.bytes c.args.len (c.args.len + 1) c.args.number c.if-number-lt100.false (omega arith) e c.write_pair-then-number-lt1000.ensures.text
 
 -- FOUR
 pub write_pair-requires-2-clause-room : goal.write_pair-requires-2-clause-room
@@ -84,4 +84,4 @@ returns-clause-text c =
     = c.write_pair-2.ensures.text ∙ ap (λ ds. take c.args.len c.args.bytes.now ++ ds) (sym d) in
     let n : c.args.len + 4 ≡ c.args.len + 2 + 2 = omega arith in
     ap (λ m. take m c.write_pair-3.new.bytes) n
-    ∙ behind_pair c.args.bytes.now c.write_pair-2.new.bytes c.write_pair-3.new.bytes c.args.len (c.args.len + 2) c.args.number (omega arith) (omega arith) e c.write_pair-3.ensures.text
+    ∙ after_pair c.args.bytes.now c.write_pair-2.new.bytes c.write_pair-3.new.bytes c.args.len (c.args.len + 2) c.args.number (omega arith) (omega arith) e c.write_pair-3.ensures.text

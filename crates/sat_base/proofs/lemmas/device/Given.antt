@@ -8,7 +8,7 @@ use Rattle.sat_base.specs.device.Device.{Reader, ReadsOnce, FewReads, GaveFront,
 use Rattle.sat_base.proofs.lemmas.device.Known.{consumes_none, consumes_more}
 
 pub gave_none : (r : Reader) → GaveFront r r []
-gave_none r = record { gave = sym (append-nil r.given); told = consumes_none r.to_come; loans = refl }
+gave_none r = record { gave = sym (append-nil r.given); known_bytes = consumes_none r.to_come; loans = refl }
 
 -- one read more than the bytes given, at most
 pub few_reads : (a c : Reader) (xs : List ℕ) → c.given ≡ a.given ++ xs → c.calls ≤ a.calls + length xs + 1 → FewReads a c
@@ -21,7 +21,7 @@ few_front a c xs g h = few_reads a c xs g.gave h
 pub gave_more : {E : Type 0} (a b c : Reader) (xs : List ℕ) (n : ℕ) (room : List ℕ) → GaveFront a b xs → ReadsOnce {E = E} (Ok n) room b c → GaveFront a c (xs ++ take n room)
 gave_more a b c xs n room p r = record {
   gave = r.given ∙ ap (λ (z : List ℕ). z ++ take n room) p.gave ∙ append_assoc a.given xs (take n room);
-  told = consumes_more a.to_come b.to_come c.to_come xs (take n room) p.told r.told.0;
+  known_bytes = consumes_more a.to_come b.to_come c.to_come xs (take n room) p.known_bytes r.known_bytes.0;
   loans = r.loans ∙ p.loans;
 }
 
@@ -35,7 +35,7 @@ consumed_still (Some s) (Some t) (Some u) xs h k = h ∙ ap (λ (z : List ℕ). 
 pub gave_still : {E : Type 0} (e : E) (a b c : Reader) (xs room : List ℕ) → GaveFront a b xs → ReadsOnce {E = E} (Err e) room b c → GaveFront a c xs
 gave_still e a b c xs room p r = record {
   gave = r.given ∙ p.gave;
-  told = consumed_still a.to_come b.to_come c.to_come xs p.told r.told;
+  known_bytes = consumed_still a.to_come b.to_come c.to_come xs p.known_bytes r.known_bytes;
   loans = r.loans ∙ p.loans;
 }
 
@@ -58,8 +58,8 @@ gave_to_end a b c xs n room p r e h some few =
     record {
       gave = g.gave;
       ends = r.ended ∙ at_end n room e h;
-      told = g.told;
-      over = r.told.1 e h;
+      known_bytes = g.known_bytes;
+      over = r.known_bytes.1 e h;
       called = omega (arith, r.calls);
       few = few_reads a c xs g.gave (omega (arith, r.calls));
       loans = g.loans;
@@ -120,7 +120,7 @@ still_open c T h e = absurd (let k : ◌≡◌ {A = Bool} true false = sym e ∙
 pub enough_all : (a c : Reader) (P : List ℕ → Type 0) (xs : List ℕ) → GaveAll a c xs → P xs → GaveEnough a c P
 enough_all a c P xs g p = record {
   text = xs;
-  front = record { gave = g.gave; told = g.told; loans = g.loans };
+  front = record { gave = g.gave; known_bytes = g.known_bytes; loans = g.loans };
   over = λ called. is_over a c xs g;
   few = g.few;
   holds = λ rest f. subst P (sym (ap (λ (z : List ℕ). xs ++ z) (f g.called g.ends) ∙ append-nil xs)) p;
@@ -147,7 +147,7 @@ reported_of (Some all) (Some rest) xs P h k = subst P (sym h) (k rest refl)
 
 -- where the reader tells its bytes, it is so of all that there were
 pub enough_reported : (a c : Reader) (P : List ℕ → Type 0) → GaveEnough a c P → IfSome a.to_come P
-enough_reported a c P g = reported_of a.to_come c.to_come g.text P g.front.told (λ rest h. g.holds rest (λ called e. rest_ends c.to_come rest h (g.over called e)))
+enough_reported a c P g = reported_of a.to_come c.to_come g.text P g.front.known_bytes (λ rest h. g.holds rest (λ called e. rest_ends c.to_come rest h (g.over called e)))
 
 -- what follows from it is so, too
 pub enough_as : (a c : Reader) (P Q : List ℕ → Type 0) → ((text : List ℕ) → P text → Q text) → GaveEnough a c P → GaveEnough a c Q

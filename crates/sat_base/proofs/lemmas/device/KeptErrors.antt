@@ -13,7 +13,7 @@ puts_alike (Err f) (Ok x) text v w e p = absurd cc
 puts_alike (Err f) (Err x) text v w e p = p
 
 pub flush_alike : {E F : Type 0} (q : Result (Unit {0}) F) (r : Result (Unit {0}) E) (v w : Writer) → is_ok q ≡ is_ok r → FlushesOnce r v w → FlushesOnce q v w
-flush_alike (Ok u) (Ok x) v w e p = record { told = p.told; taken = p.taken; flushed = p.flushed; flushes = p.flushes; failures = p.failures; calls = p.calls; loans = p.loans }
+flush_alike (Ok u) (Ok x) v w e p = record { known_bytes = p.known_bytes; taken = p.taken; flushed = p.flushed; flushes = p.flushes; failures = p.failures; calls = p.calls; loans = p.loans }
 flush_alike (Ok u) (Err x) v w e p = absurd cc
 flush_alike (Err f) (Ok x) v w e p = absurd cc
-flush_alike (Err f) (Err x) v w e p = record { told = p.told; taken = p.taken; flushed = p.flushed; flushes = p.flushes; failures = p.failures; calls = p.calls; loans = p.loans }
+flush_alike (Err f) (Err x) v w e p = record { known_bytes = p.known_bytes; taken = p.taken; flushed = p.flushed; flushes = p.flushes; failures = p.failures; calls = p.calls; loans = p.loans }

@@ -89,7 +89,7 @@ faults_now e a b ws vs room names n r d f = record {
   gave = r.given ∙ sym (append-nil a.given);
   flows = append-nil ws ∙ d;
   none = f;
-  bytes = keeps_none a.to_come b.to_come ws vs d f r.told;
+  bytes = keeps_none a.to_come b.to_come ws vs d f r.known_bytes;
   cause = inl (r.failures.0, r.failures.1);
   calls = omega (arith, r.calls);
   room = omega arith;
@@ -142,7 +142,7 @@ refilled count a b ws room names n r within size e =
         fresh = take count room;
         gave = r.given;
         flows = ap (λ (z : List ℕ). z ++ take count room) e;
-        bytes = fills_known a.to_come b.to_come ws (take count room) e r.told.0;
+        bytes = fills_known a.to_come b.to_come ws (take count room) e r.known_bytes.0;
         failures = r.failures.0;
         calls = omega (arith, r.calls);
         room = omega (arith, l, within, size);
@@ -155,7 +155,7 @@ refilled count a b ws room names n r within size e =
         read = omega arith;
         ended = subst (λ (m : ℕ). b.ended ≡ (nat_eq 0 0 && nat_lt 0 m)) size (subst (λ (k : ℕ). b.ended ≡ (nat_eq k 0 && nat_lt 0 (length room))) h r.ended);
         waiting = none h;
-        over = over_known b.to_come (take count room) (none h) (r.told.1 h (omega (arith, size)));
+        over = over_known b.to_come (take count room) (none h) (r.known_bytes.1 h (omega (arith, size)));
       },
     )
 

@@ -103,7 +103,7 @@ of_same text left more old new e g = subst (λ (z : List ℕ). SentOf text z old
 pub stops_same : (a b : Sink) (xs ys text : List ℕ) → xs ++ ys ≡ text → SinkFails a b xs → SinkFails a b text
 stops_same a b xs ys text e q = subst (λ (z : List ℕ). SinkFails a b z) e (sends_stops a b xs ys q)
 
--- what waits is written out behind a text
+-- what waits is written out after a text
 pub sends_last : {E : Type 0} (a b c : Sink) (xs : List ℕ) (r : Result (Unit {0}) E) → AddsToSink a b xs → SendsText [] r b c → SendsText xs r a c
 sends_last a b c xs r p w = sends_same a c (xs ++ []) xs r (append-nil xs) (sends_more a b c xs [] r p w)
 

@@ -8,26 +8,26 @@ use Rattle.sat_base.specs.device.Device.{Writer, WritesOnce, FlushesOnce, Writer
 use Rattle.sat_base.proofs.lemmas.device.Known.{appends_none, appends_more, rest_is}
 
 pub took_none : (w : Writer) → WriterTakes w w []
-took_none w = record { taken = sym (append-nil w.taken); told = appends_none w.contents; failures = refl; calls = omega arith; few = omega arith; loans = refl }
+took_none w = record { taken = sym (append-nil w.taken); known_bytes = appends_none w.contents; failures = refl; calls = omega arith; few = omega arith; loans = refl }
 
 pub took_more : (a b c : Writer) (xs ys : List ℕ) → WriterTakes a b xs → WriterTakes b c ys → WriterTakes a c (xs ++ ys)
 took_more a b c xs ys p q = record {
   taken = q.taken ∙ ap (λ (z : List ℕ). z ++ ys) p.taken ∙ append_assoc a.taken xs ys;
-  told = appends_more a.contents b.contents c.contents xs ys p.told q.told;
+  known_bytes = appends_more a.contents b.contents c.contents xs ys p.known_bytes q.known_bytes;
   failures = q.failures ∙ p.failures;
   calls = omega (arith, p.calls, q.calls);
   few = omega (arith, p.few, q.few, length-append xs ys);
   loans = q.loans ∙ p.loans;
 }
 
--- a failure behind what was taken
+-- a failure after what was taken
 pub breaks_later : (a b c : Writer) (xs ys : List ℕ) → WriterTakes a b xs → WriterBreaks b c ys → WriterBreaks a c (xs ++ ys)
 breaks_later a b c xs ys p q = record {
   front = xs ++ q.front;
-  behind = q.behind;
-  whole = ap (λ (z : List ℕ). xs ++ z) q.whole ∙ sym (append_assoc xs q.front q.behind);
+  following = q.following;
+  whole = ap (λ (z : List ℕ). xs ++ z) q.whole ∙ sym (append_assoc xs q.front q.following);
   taken = q.taken ∙ ap (λ (z : List ℕ). z ++ q.front) p.taken ∙ append_assoc a.taken xs q.front;
-  told = appends_more a.contents b.contents c.contents xs q.front p.told q.told;
+  known_bytes = appends_more a.contents b.contents c.contents xs q.front p.known_bytes q.known_bytes;
   failures = q.failures ∙ ap (λ (n : ℕ). n + 1) p.failures;
   failed = q.failed;
   calls = omega (arith, p.calls, q.calls);
@@ -39,10 +39,10 @@ breaks_later a b c xs ys p q = record {
 pub breaks_within : (a b : Writer) (xs ys : List ℕ) → WriterBreaks a b xs → WriterBreaks a b (xs ++ ys)
 breaks_within a b xs ys q = record {
   front = q.front;
-  behind = q.behind ++ ys;
-  whole = ap (λ (z : List ℕ). z ++ ys) q.whole ∙ append_assoc q.front q.behind ys;
+  following = q.following ++ ys;
+  whole = ap (λ (z : List ℕ). z ++ ys) q.whole ∙ append_assoc q.front q.following ys;
   taken = q.taken;
-  told = q.told;
+  known_bytes = q.known_bytes;
   failures = q.failures;
   failed = q.failed;
   calls = q.calls;
@@ -69,7 +69,7 @@ counted_one false old new h e = absurd (let k : ◌≡◌ {A = Bool} false true 
 pub wrote_some : {E : Type 0} (a b : Writer) (rest : List ℕ) (n : ℕ) → WritesOnce {E = E} (Ok n) rest a b → n ≤ length rest → (n ≡ 0 → ⊥) → WriterTakes a b (take n rest)
 wrote_some a b rest n w k h = record {
   taken = w.taken;
-  told = w.told;
+  known_bytes = w.known_bytes;
   failures = counted (takes_none n rest) a.failures b.failures w.failures.0 (some_taken n rest h);
   calls = omega (arith, w.calls);
   few = let e = length-take-le n rest k in omega (arith, w.calls, w.flushes);
@@ -87,10 +87,10 @@ none_at n rest h = ap (λ (k : ℕ). take k rest) h
 pub wrote_none : {E : Type 0} (a b : Writer) (rest : List ℕ) (n : ℕ) → WritesOnce {E = E} (Ok n) rest a b → n ≡ 0 → 0 < length rest → WriterBreaks a b rest
 wrote_none a b rest n w h k = record {
   front = [];
-  behind = rest;
+  following = rest;
   whole = refl;
   taken = w.taken ∙ ap (λ (z : List ℕ). a.taken ++ z) (none_at n rest h);
-  told = subst (Appends a.contents b.contents) (none_at n rest h) w.told;
+  known_bytes = subst (Appends a.contents b.contents) (none_at n rest h) w.known_bytes;
   failures = counted_one (takes_none n rest) a.failures b.failures w.failures.0 (none_taken n rest h k);
   failed = w.failures.1 ∙ none_taken n rest h k;
   calls = omega (arith, w.calls);
@@ -101,10 +101,10 @@ wrote_none a b rest n w h k = record {
 pub write_fails : {E : Type 0} (e : E) (a b : Writer) (rest : List ℕ) → WritesOnce {E = E} (Err e) rest a b → WriterBreaks a b rest
 write_fails e a b rest w = record {
   front = [];
-  behind = rest;
+  following = rest;
   whole = refl;
   taken = w.taken ∙ sym (append-nil a.taken);
-  told = keeps_appends a.contents b.contents w.told;
+  known_bytes = keeps_appends a.contents b.contents w.known_bytes;
   failures = w.failures.0;
   failed = w.failures.1;
   calls = omega (arith, w.calls);
@@ -117,7 +117,7 @@ write_fails e a b rest w = record {
 pub flush_takes : {E : Type 0} {u : Unit {0}} (a b : Writer) → FlushesOnce {E = E} (Ok u) a b → WriterTakes a b []
 flush_takes a b f = record {
   taken = f.taken ∙ sym (append-nil a.taken);
-  told = keeps_appends a.contents b.contents f.told;
+  known_bytes = keeps_appends a.contents b.contents f.known_bytes;
   failures = f.failures.0;
   calls = omega (arith, f.calls);
   few = omega (arith, f.calls, f.flushes);
@@ -127,10 +127,10 @@ flush_takes a b f = record {
 pub flush_fails : {E : Type 0} (e : E) (a b : Writer) → FlushesOnce {E = E} (Err e) a b → WriterBreaks a b []
 flush_fails e a b f = record {
   front = [];
-  behind = [];
+  following = [];
   whole = refl;
   taken = f.taken ∙ sym (append-nil a.taken);
-  told = keeps_appends a.contents b.contents f.told;
+  known_bytes = keeps_appends a.contents b.contents f.known_bytes;
   failures = f.failures.0;
   failed = f.failures.1;
   calls = omega (arith, f.calls);
@@ -162,7 +162,7 @@ loans_end W z v given back xs ys h e = h (let k : given ≡ back = cc in k)
 lent_takes : (a b : Writer) (given back : ℕ) (text : List ℕ) → WriterTakes (lent_writer given a) (lent_writer back b) text → WriterTakes a b text
 lent_takes a b given back text p = record {
   taken = p.taken;
-  told = p.told;
+  known_bytes = p.known_bytes;
   failures = p.failures;
   calls = p.calls;
   few = p.few;
@@ -172,10 +172,10 @@ lent_takes a b given back text p = record {
 lent_breaks : (a b : Writer) (given back : ℕ) (text : List ℕ) → WriterBreaks (lent_writer given a) (lent_writer back b) text → WriterBreaks a b text
 lent_breaks a b given back text p = record {
   front = p.front;
-  behind = p.behind;
+  following = p.following;
   whole = p.whole;
   taken = p.taken;
-  told = p.told;
+  known_bytes = p.known_bytes;
   failures = p.failures;
   failed = p.failed;
   calls = p.calls;

@@ -7,15 +7,15 @@ use Rattle.sat_base.specs.values.Literals.{coded, var_limit}
 use Rattle.sat_base.specs.text.Text.{is_blank, Token, Number, Letter, Header, Wrong, Scan, scan}
 use Rattle.sat_base.specs.text.Position.{onto}
 use Rattle.sat_base.specs.text.Tokenizing.{held, held_token, IsOfHeader, HoldsNoWord}
-use Rattle.sat_base.specs.dimacs.Dimacs.{Hand, Turn, GoesOn, Ends, Fails, Ending, Limit, Dimacs, literals_in, turn, at_end, behind_turn, clauses_of, dimacs_of, dimacs, has_blank, up_to_last_blank}
+use Rattle.sat_base.specs.dimacs.Dimacs.{Hand, Turn, GoesOn, Ends, Fails, Ending, Limit, Dimacs, literals_in, turn, at_end, after_turn, clauses_of, dimacs_of, dimacs, has_blank, up_to_last_blank}
 use Rattle.sat_base.specs.dimacs.Collecting.{token_of}
 use Rattle.sat_base.specs.dimacs.Parsing.{has_LF, whole_lines, NoFault, unless_fault}
 use Rattle.sat_base.specs.dimacs.ParserPlaces.{onto_clauses, HaveTakenTokens}
 
 -- TEXTS
-has_blank-behind : (text : List ℕ) (b : ℕ) → is_blank b ≡ true → has_blank (text ++ b ∷ []) ≡ true
-has_blank-behind [] b e = rw e refl
-has_blank-behind (x ∷ xs) b e = rw (has_blank-behind xs b e) (or_true (is_blank x))
+has_blank-following : (text : List ℕ) (b : ℕ) → is_blank b ≡ true → has_blank (text ++ b ∷ []) ≡ true
+has_blank-following [] b e = rw e refl
+has_blank-following (x ∷ xs) b e = rw (has_blank-following xs b e) (or_true (is_blank x))
   where
     or_true : (c : Bool) → (c || true) ≡ true
     or_true true = refl
@@ -23,7 +23,7 @@ has_blank-behind (x ∷ xs) b e = rw (has_blank-behind xs b e) (or_true (is_blan
 
 pub settled_blank : (text : List ℕ) (b : ℕ) → is_blank b ≡ true → up_to_last_blank (text ++ b ∷ []) ≡ text ++ b ∷ []
 settled_blank [] b e = rw e refl
-settled_blank (x ∷ xs) b e = rw (has_blank-behind (x ∷ xs) b e) (ap (λ (ys : List ℕ). x ∷ ys) (settled_blank xs b e))
+settled_blank (x ∷ xs) b e = rw (has_blank-following (x ∷ xs) b e) (ap (λ (ys : List ℕ). x ∷ ys) (settled_blank xs b e))
 
 has_blank-inside : (text : List ℕ) (b : ℕ) → is_blank b ≡ false → has_blank (text ++ b ∷ []) ≡ has_blank text
 has_blank-inside [] b e = rw e refl
@@ -33,9 +33,9 @@ pub settled_inside : (text : List ℕ) (b : ℕ) → is_blank b ≡ false → up
 settled_inside [] b e = rw e refl
 settled_inside (x ∷ xs) b e = rw (has_blank-inside (x ∷ xs) b e, settled_inside xs b e) refl
 
-has_LF-behind : (text : List ℕ) (b : ℕ) → nat_eq b 10 ≡ true → has_LF (text ++ b ∷ []) ≡ true
-has_LF-behind [] b e = rw e refl
-has_LF-behind (x ∷ xs) b e = rw (has_LF-behind xs b e) (or_true (nat_eq x 10))
+has_LF-following : (text : List ℕ) (b : ℕ) → nat_eq b 10 ≡ true → has_LF (text ++ b ∷ []) ≡ true
+has_LF-following [] b e = rw e refl
+has_LF-following (x ∷ xs) b e = rw (has_LF-following xs b e) (or_true (nat_eq x 10))
   where
     or_true : (c : Bool) → (c || true) ≡ true
     or_true true = refl
@@ -43,7 +43,7 @@ has_LF-behind (x ∷ xs) b e = rw (has_LF-behind xs b e) (or_true (nat_eq x 10))
 
 pub whole_LF : (text : List ℕ) (b : ℕ) → nat_eq b 10 ≡ true → whole_lines (text ++ b ∷ []) ≡ text ++ b ∷ []
 whole_LF [] b e = rw e refl
-whole_LF (x ∷ xs) b e = rw (has_LF-behind (x ∷ xs) b e) (ap (λ (ys : List ℕ). x ∷ ys) (whole_LF xs b e))
+whole_LF (x ∷ xs) b e = rw (has_LF-following (x ∷ xs) b e) (ap (λ (ys : List ℕ). x ∷ ys) (whole_LF xs b e))
 
 has_LF-inside : (text : List ℕ) (b : ℕ) → nat_eq b 10 ≡ false → has_LF (text ++ b ∷ []) ≡ has_LF text
 has_LF-inside [] b e = rw e refl
@@ -54,7 +54,7 @@ whole_inside [] b e = rw e refl
 whole_inside (x ∷ xs) b e = rw (has_LF-inside (x ∷ xs) b e, whole_inside xs b e) refl
 
 -- TOKENS
-pub clauses_of_cons : (h : Hand) (last : ℕ) (t : ℕ × Token) (ts : List (ℕ × Token)) → clauses_of h last (t ∷ ts) ≡ behind_turn (turn h t.0 t.1) (λ k. clauses_of k last ts)
+pub clauses_of_cons : (h : Hand) (last : ℕ) (t : ℕ × Token) (ts : List (ℕ × Token)) → clauses_of h last (t ∷ ts) ≡ after_turn (turn h t.0 t.1) (λ k. clauses_of k last ts)
 unfolding clauses_of
 clauses_of_cons h last t ts = refl
 
@@ -86,10 +86,10 @@ turned_first = record { says = λ last ts. refl; sound = λ ts h. h }
 -- one token more
 module _ (before : List (ℕ × Token)) (all : List (List ℕ)) (hand : Hand) (n : ℕ) (t : Token) (m : HaveTakenTokens before all hand) where
   pub says_next : (k : Turn) → turn hand n t ≡ k → (last : ℕ) (ts : List (ℕ × Token))
-      → clauses_of None last ((before ++ (n, t) ∷ []) ++ ts) ≡ onto_clauses all (behind_turn k (λ h. clauses_of h last ts))
+      → clauses_of None last ((before ++ (n, t) ∷ []) ++ ts) ≡ onto_clauses all (after_turn k (λ h. clauses_of h last ts))
   says_next k e last ts =
       ap (clauses_of None last) (append_assoc before ((n, t) ∷ []) ts) ∙ m.says last ((n, t) ∷ ts)
-      ∙ ap (onto_clauses all) (clauses_of_cons hand last (n, t) ts ∙ ap (λ (j : Turn). behind_turn j (λ h. clauses_of h last ts)) e)
+      ∙ ap (onto_clauses all) (clauses_of_cons hand last (n, t) ts ∙ ap (λ (j : Turn). after_turn j (λ h. clauses_of h last ts)) e)
 
   sound_next : (k : Turn) → turn hand n t ≡ k → (ts : List (ℕ × Token)) → unless_fault k (λ h. NoFault h ts) → NoFault None ((before ++ (n, t) ∷ []) ++ ts)
   sound_next k e ts h =

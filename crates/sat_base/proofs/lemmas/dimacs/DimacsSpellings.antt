@@ -6,7 +6,7 @@ use Rattle.std.proofs.lemmas.Bool.Decides.{nat_tests}
 use Rattle.sat_base.specs.values.Literals.{variable, is_positive, coded, var_limit}
 use Rattle.sat_base.specs.text.Text.{Token, Number, Letter, Header, Wrong, tokens, scan}
 use Rattle.sat_base.specs.script.Language.{spoken}
-use Rattle.sat_base.specs.dimacs.Dimacs.{Ending, Clean, Malformed, Limit, Dimacs, Hand, Turn, GoesOn, Ends, literals_in, with_number, turn, at_end, behind_turn, clauses_of, dimacs}
+use Rattle.sat_base.specs.dimacs.Dimacs.{Ending, Clean, Malformed, Limit, Dimacs, Hand, Turn, GoesOn, Ends, literals_in, with_number, turn, at_end, after_turn, clauses_of, dimacs}
 use Rattle.sat_base.specs.script.ScriptSpelling.{IsZero}
 use Rattle.sat_base.specs.dimacs.DimacsSpelling.{signed_number, AreWithinLimit, SpellsClauses, SpellsFormula, OneFormula, CleanIfSpelled}
 use Rattle.sat_base.proofs.lemmas.dimacs.WrittenIsRead.{clauses_nil, clauses_cons, coded_back}
@@ -16,7 +16,7 @@ use Rattle.sat_base.proofs.lemmas.text.HeaderFirst.{IsWord, AreWords, AreScript,
 abbrev clean : List (List ℕ) → Dimacs
 clean cs = record { clauses = cs; ending = Clean }
 
--- what is still to come, behind what is in hand
+-- what is still to come, after what is in hand
 pub record SpellsRest (done : List ℕ) (cs : List (List ℕ)) (ts : List Token) : Type 0 where
   pub literals : List ℕ
   pub last : Token
@@ -32,7 +32,7 @@ abbrev SpellsFrom : Hand → List (List ℕ) → List Token → Type 0
 SpellsFrom None cs ts = SpellsClauses cs ts
 SpellsFrom (Some done) cs ts = SpellsRest done cs ts
 
--- what the next token is, and what is to come behind it
+-- what the next token is, and what is to come after it
 pub record ByZero (h : Hand) (cs : List (List ℕ)) (t : Token) (ts : List Token) : Type 0 where
   pub more : List (List ℕ)
   pub is_zero : IsZero t
@@ -61,8 +61,8 @@ rest_next : (h : Hand) (literals : List ℕ) (last : Token) (later : List Token)
     → IsZero last → AreWithinLimit literals → cs ≡ (literals_in h ++ literals) ∷ clauses → t ∷ ts ≡ (map signed_number literals ++ last ∷ []) ++ later → SpellsClauses clauses later → Next h cs t ts
 rest_next h [] last later clauses cs t ts z w f e s =
     let same : t ≡ last = ap first_of e in
-    let behind : ts ≡ later = ap rest_of e in
-    inl (record { more = clauses; is_zero = subst IsZero (sym same) z; first = f ∙ ap (λ (ls : List ℕ). ls ∷ clauses) (append-nil (literals_in h)); rest = subst (SpellsClauses clauses) (sym behind) s })
+    let following : ts ≡ later = ap rest_of e in
+    inl (record { more = clauses; is_zero = subst IsZero (sym same) z; first = f ∙ ap (λ (ls : List ℕ). ls ∷ clauses) (append-nil (literals_in h)); rest = subst (SpellsClauses clauses) (sym following) s })
 rest_next h (l ∷ ls) last later clauses cs t ts z w f e s =
     inr (record {
       literal = l;
@@ -165,14 +165,14 @@ none_read None last [] s = refl
 none_read None last (c ∷ cs) s = let e : [] ≡ (map signed_number c ++ s.2.0 ∷ []) ++ s.1 = s.4 ∙ ap (λ (us : List Token). us ++ s.1) s.2.3 in absurd (none_whole c s.2.0 s.1 e)
 none_read (Some done) last cs s = absurd (none_whole s.literals s.last s.later s.whole)
 
-next_read : (h : Hand) (last : ℕ) (cs : List (List ℕ)) (t : ℕ × Token) (ts : List (ℕ × Token)) → AllRead last ts → Next h cs t.1 (spoken ts) → behind_turn (turn h t.0 t.1) (λ k. clauses_of k last ts) ≡ clean cs
+next_read : (h : Hand) (last : ℕ) (cs : List (List ℕ)) (t : ℕ × Token) (ts : List (ℕ × Token)) → AllRead last ts → Next h cs t.1 (spoken ts) → after_turn (turn h t.0 t.1) (λ k. clauses_of k last ts) ≡ clean cs
 next_read h last cs t ts ih (inl z) =
-    ap (λ (k : Turn). behind_turn k (λ k. clauses_of k last ts)) (turn_zero h t.0 t.1 z.is_zero)
+    ap (λ (k : Turn). after_turn k (λ k. clauses_of k last ts)) (turn_zero h t.0 t.1 z.is_zero)
     ∙ ap (λ (d : Dimacs). record { clauses = literals_in h ∷ d.clauses; ending = d.ending }) (ih None z.more z.rest)
     ∙ ap clean (sym z.first)
 next_read h last cs t ts ih (inr n) =
-    ap (λ (u : Token). behind_turn (turn h t.0 u) (λ k. clauses_of k last ts)) n.is_literal
-    ∙ ap (λ (k : Turn). behind_turn k (λ k. clauses_of k last ts)) (turn_literal h t.0 n.literal n.within)
+    ap (λ (u : Token). after_turn (turn h t.0 u) (λ k. clauses_of k last ts)) n.is_literal
+    ∙ ap (λ (k : Turn). after_turn k (λ k. clauses_of k last ts)) (turn_literal h t.0 n.literal n.within)
     ∙ ih (Some (literals_in h ++ n.literal ∷ [])) cs n.rest
 
 all_read : (last : ℕ) (ts : List (ℕ × Token)) → AllRead last ts
@@ -206,7 +206,7 @@ zero_spelled h last cs t ts z ih e =
     })
 
 literal_spelled : (h : Hand) (last line : ℕ) (cs : List (List ℕ)) (negative : Bool) (value : ℕ) (ts : List (ℕ × Token)) (is_past : Bool) → nat_lt var_limit value ≡ is_past → 0 < value → AllSpelled last ts
-    → behind_turn (with_number h line negative value) (λ k. clauses_of k last ts) ≡ clean cs → Next h cs (Number negative value) (spoken ts)
+    → after_turn (with_number h line negative value) (λ k. clauses_of k last ts) ≡ clean cs → Next h cs (Number negative value) (spoken ts)
 literal_spelled h last line cs negative value ts true p some ih e = past line cs (rw p at e)
 literal_spelled h last line cs negative value ts false p some ih e =
     let l = coded (value - 1) (not negative) in
@@ -215,7 +215,7 @@ literal_spelled h last line cs negative value ts false p some ih e =
     inr (record { literal = l; is_literal = number_is negative value some; within = omega (arith, v); rest = ih (Some (literals_in h ++ l ∷ [])) cs (rw p at e) })
 
 number_spelled : (h : Hand) (last line : ℕ) (cs : List (List ℕ)) (negative : Bool) (value : ℕ) (ts : List (ℕ × Token)) (zero : Bool) → nat_eq value 0 ≡ zero → AllSpelled last ts
-    → behind_turn (turn h line (Number negative value)) (λ k. clauses_of k last ts) ≡ clean cs → Next h cs (Number negative value) (spoken ts)
+    → after_turn (turn h line (Number negative value)) (λ k. clauses_of k last ts) ≡ clean cs → Next h cs (Number negative value) (spoken ts)
 number_spelled h last line cs negative value ts true z ih e =
     let same : value ≡ 0 = grind (arith, nat_tests) in
     zero_spelled h last cs (Number negative value) ts same ih (rw z at e)
@@ -224,7 +224,7 @@ number_spelled h last line cs negative value ts false z ih e =
     literal_spelled h last line cs negative value ts (nat_lt var_limit value) refl some ih (rw z at e)
 
 token_spelled : (h : Hand) (last line : ℕ) (cs : List (List ℕ)) (t : Token) (ts : List (ℕ × Token)) → IsWord t → AllSpelled last ts
-    → behind_turn (turn h line t) (λ k. clauses_of k last ts) ≡ clean cs → Next h cs t (spoken ts)
+    → after_turn (turn h line t) (λ k. clauses_of k last ts) ≡ clean cs → Next h cs t (spoken ts)
 token_spelled h last line cs (Number negative value) ts w ih e = number_spelled h last line cs negative value ts (nat_eq value 0) refl ih e
 token_spelled h last line cs (Letter b) ts w ih e = unclean line cs e
 token_spelled h last line cs (Header v c) ts w ih e = absurd w
@@ -265,7 +265,7 @@ headed last v c t ts cs is w = (
 )
   where
     goes_on : clauses_of None last (t ∷ ts) ≡ clauses_of None last ts
-    goes_on = clauses_cons None last t ts ∙ ap (λ (u : Token). behind_turn (turn None t.0 u) (λ k. clauses_of k last ts)) is
+    goes_on = clauses_cons None last t ts ∙ ap (λ (u : Token). after_turn (turn None t.0 u) (λ k. clauses_of k last ts)) is
 
     to : SpellsFormula cs (spoken (t ∷ ts)) → clauses_of None last (t ∷ ts) ≡ clean cs
     to (inl s) = none_headed cs v c (spoken ts) (subst (λ (u : Token). SpellsClauses cs (u ∷ spoken ts)) is s)

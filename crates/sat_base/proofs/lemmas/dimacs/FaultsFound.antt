@@ -9,8 +9,8 @@ use Rattle.sat_base.specs.declared.dimacs.error.DimacsError.{DimacsError}
 use Rattle.sat_base.specs.declared.dimacs.error.DimacsError.TheVariants as errors
 use Rattle.sat_base.specs.text.Text.{is_blank, Token, Wrong, Scan, scan, tokens}
 use Rattle.sat_base.specs.text.Position.{onto}
-use Rattle.sat_base.specs.text.WrongWords.{RightAhead, WrongAhead}
-use Rattle.sat_base.specs.text.Tokenizing.{held, held_token, StandsBefore}
+use Rattle.sat_base.specs.text.WrongWords.{HasValidContinuation, HasNoValidContinuation}
+use Rattle.sat_base.specs.text.Tokenizing.{held, held_token, IsPositionedBefore}
 use Rattle.sat_base.specs.dimacs.Dimacs.{Hand, Turn, GoesOn, Ends, Fails, Ending, Malformed, Limit, Dimacs, turn, clauses_of, dimacs}
 use Rattle.sat_base.specs.dimacs.Collecting.{token_of}
 use Rattle.sat_base.specs.dimacs.Parsing.{Progress, NoFault, unless_fault, whole_lines, EndsAtFault, FeedsPiece, HasFaultOn, RefusesPiece}
@@ -38,14 +38,14 @@ module _ (text : List ℕ) (b : ℕ) (old new : Tokenizer) (h : HasTakenSoundly 
       subst (NoFault None) (sym same) here
   next_sound xs after all hand gives ended m false e = subst (λ (z : List ℕ). NoFault None (tokens z)) (sym (whole_inside text b e)) h.sound
 
-  next_with : (xs : List (ℕ × Token)) (after : List ℕ → Scan) (all : List (List ℕ)) (hand : Hand) → StandsBefore new after → Left xs after → (b ≡ 10 → (after []).tokens ≡ []) → HaveTakenTokens (h.before ++ xs) all hand → RightAhead after
+  next_with : (xs : List (ℕ × Token)) (after : List ℕ → Scan) (all : List (List ℕ)) (hand : Hand) → IsPositionedBefore new after → Left xs after → (b ≡ 10 → (after []).tokens ≡ []) → HaveTakenTokens (h.before ++ xs) all hand → HasValidContinuation after
       → HasTakenSoundly (text ++ b ∷ []) new
   next_with xs after all hand st gives ended m r = record {
     before = h.before ++ xs;
     all = all;
     hand = hand;
     left_of = after;
-    stands = st;
+    valid = st;
     scans = scans_next text b h.before xs h.left_of after h.scans gives;
     turned = m;
     sound = next_sound xs after all hand gives ended m (nat_eq b 10) refl;
@@ -53,17 +53,17 @@ module _ (text : List ℕ) (b : ℕ) (old new : Tokenizer) (h : HasTakenSoundly 
   }
 
   -- a byte that ends no token
-  pub next_none : Pushed old new b None → ((after : List ℕ → Scan) → StandsBefore new after → RightAhead after) → HasTakenSoundly (text ++ b ∷ []) new
+  pub next_none : Pushed old new b None → ((after : List ℕ → Scan) → IsPositionedBefore new after → HasValidContinuation after) → HasTakenSoundly (text ++ b ∷ []) new
   next_none p r =
-      let q = p.takes h.left_of h.stands in
+      let q = p.takes h.left_of h.valid in
       let m : HaveTakenTokens (h.before ++ []) h.all h.hand = rw (append-nil h.before) h.turned in
       next_with [] q.0 h.all h.hand q.1 q.2 (λ k. p.ended k q.0 q.1) m (r q.0 q.1)
 
   -- or makes a word wrong
-  pub next_wrong : (line : ℕ) → Pushed old new b None → ((after : List ℕ → Scan) → StandsBefore new after → WrongAhead after) → ((after : List ℕ → Scan) → StandsBefore new after → line ≡ held (after []).last)
+  pub next_wrong : (line : ℕ) → Pushed old new b None → ((after : List ℕ → Scan) → IsPositionedBefore new after → HasNoValidContinuation after) → ((after : List ℕ → Scan) → IsPositionedBefore new after → line ≡ held (after []).last)
       → FindsFault (Err (errors.Malformed line)) (text ++ b ∷ []) new
   next_wrong line p w l =
-      let q = p.takes h.left_of h.stands in
+      let q = p.takes h.left_of h.valid in
       let n = (q.0 []).last in
       let x : ℕ × Token = (n, Wrong) in
       let wrong = w q.0 q.1 in
@@ -89,7 +89,7 @@ module _ (text : List ℕ) (b : ℕ) (old new : Tokenizer) (h : HasTakenSoundly 
     -- a byte that ends a token, which is no fault
     next_some : ((hand : Hand) (n : ℕ) → unless_fault (turn hand n (token_of t)) (λ g. Unit {0})) → HasTakenSoundly (text ++ b ∷ []) new
     next_some judged =
-        let q = p.takes h.left_of h.stands in
+        let q = p.takes h.left_of h.valid in
         let n = (q.0 []).last in
         let given = q.2.0 in
         let m = turned_next n given (turn h.hand n given) refl (subst (λ (k : Turn). unless_fault k (λ g. Unit {0})) (turn_same given q.2.1 n) (judged h.hand n)) in
@@ -97,10 +97,10 @@ module _ (text : List ℕ) (b : ℕ) (old new : Tokenizer) (h : HasTakenSoundly 
         next_with ((n, given) ∷ []) q.0 m.0 m.1 q.1 q.2.2 (λ k. p.ended k q.0 q.1) m.2 (p.right blank q.0 q.1)
 
     -- or is one
-    next_fails : (ending : ℕ → Ending) (line : ℕ) → ((hand : Hand) (n : ℕ) → turn hand n (token_of t) ≡ Fails (ending n)) → ((after : List ℕ → Scan) → StandsBefore new after → line ≡ held (after []).last)
+    next_fails : (ending : ℕ → Ending) (line : ℕ) → ((hand : Hand) (n : ℕ) → turn hand n (token_of t) ≡ Fails (ending n)) → ((after : List ℕ → Scan) → IsPositionedBefore new after → line ≡ held (after []).last)
         → (n : ℕ) × (line ≡ held n) × ((rest : List ℕ) → (dimacs ((text ++ b ∷ []) ++ rest)).ending ≡ ending n)
     next_fails ending line judged l =
-        let q = p.takes h.left_of h.stands in
+        let q = p.takes h.left_of h.valid in
         let n = (q.0 []).last in
         let given = q.2.0 in
         let e : turn h.hand n given ≡ Fails (ending n) = sym (turn_same given q.2.1 n) ∙ judged h.hand n in (
@@ -110,7 +110,7 @@ module _ (text : List ℕ) (b : ℕ) (old new : Tokenizer) (h : HasTakenSoundly 
               ∙ fails_there h.before h.all h.hand n given h.turned (ending n) e (q.0 rest).last (q.0 rest).tokens),
         )
 
-    pub next_judged : (r : Result (Unit {0}) DimacsError) (line : ℕ) → JudgesToken r line (token_of t) → ((after : List ℕ → Scan) → StandsBefore new after → line ≡ held (after []).last) → FindsFault r (text ++ b ∷ []) new
+    pub next_judged : (r : Result (Unit {0}) DimacsError) (line : ℕ) → JudgesToken r line (token_of t) → ((after : List ℕ → Scan) → IsPositionedBefore new after → line ≡ held (after []).last) → FindsFault r (text ++ b ∷ []) new
     next_judged (Ok u) line j l = next_some j
     next_judged (Err (errors.Malformed k)) line j l = let f = next_fails Malformed line j.1 l in (f.0, j.0 ∙ f.1, f.2)
     next_judged (Err (errors.Limit k)) line j l = let f = next_fails Limit line j.1 l in (f.0, j.0 ∙ f.1, f.2)

@@ -16,11 +16,11 @@ use Rattle.sat_base.specs.declared.text.Tokenizer.{Tokenizer}
 use Rattle.sat_base.specs.text.Text.{is_blank, Token, Number, Letter, Header, Wrong, Scan, lines, tokens_of, last_line, scan, HasEnded, header_from, header_first, dimacs_header}
 use Rattle.sat_base.specs.text.Chunks.{IgnoresRest}
 use Rattle.sat_base.specs.text.Position.{onto}
-use Rattle.sat_base.specs.text.WrongWords.{HaveNoWrongWord, RightAhead, WrongAhead}
-use Rattle.sat_base.specs.text.Tokenizing.{held, held_token, StandsBefore, TakesByte, GivesLast, IsOfHeader, HoldsNoWord}
+use Rattle.sat_base.specs.text.WrongWords.{HaveNoWrongWord, HasValidContinuation, HasNoValidContinuation}
+use Rattle.sat_base.specs.text.Tokenizing.{held, held_token, IsPositionedBefore, TakesByte, GivesLast, IsOfHeader, HoldsNoWord}
 use Rattle.sat_base.specs.values.Formulas.{Formula, no_formula, vars_in, vars_of}
 use Rattle.sat_base.specs.dimacs.Dimacs.{Hand, Turn, GoesOn, Ends, Fails, Ending, Clean, Malformed, Limit, Dimacs, literals_in, turn, at_end, clauses_of, dimacs, up_to_last_blank}
-use Rattle.sat_base.specs.dimacs.Collecting.{token_of, hand_in, header_behind, is_literal, NeedsRoom, SameClausesAndCount, SameClausesAndHeader, TakesTokenTurn}
+use Rattle.sat_base.specs.dimacs.Collecting.{token_of, hand_in, header_after, is_literal, NeedsRoom, SameClausesAndCount, SameClausesAndHeader, TakesTokenTurn}
 use Rattle.sat_base.specs.dimacs.Parsing.{Progress, SaysEnded, NoFault, unless_fault, IsSoundText, GoesWell, EndsWell, EndsAtFault, FeedsPiece, Finishes, with_fed, cut_short, at_its_end, clauses_read, lines_read, whole_lines, held_numbers, last_byte}
 use Rattle.sat_base.specs.dimacs.ParserPlaces.{progress_of, all_in, onto_clauses, HaveTakenTokens, IsGoingParser, IsParser, EndsClean}
 use Rattle.sat_base.specs.dimacs.Faults.{HasTakenSoundly}
@@ -109,12 +109,12 @@ module _ (old new : Parser) (g : IsGoingParser old) (b : ℕ) (xs : List (ℕ ×
   step_last =
       ap last_byte s.fed ∙ get_or_push old.history.fed b 10 (length (old.history.fed ++ b ∷ []) - 1) (omega (arith, length_push old.history.fed b))
 
-  pub step_goes : new.ended ≡ false → StandsBefore new.tokenizer after → RightAhead after → HaveTakenTokens (g.before ++ xs) (all_in new) (hand_in new.clauses) → IsGoingParser new
+  pub step_goes : new.ended ≡ false → IsPositionedBefore new.tokenizer after → HasValidContinuation after → HaveTakenTokens (g.before ++ xs) (all_in new) (hand_in new.clauses) → IsGoingParser new
   step_goes e st r m = record {
     ended = e;
     before = g.before ++ xs;
     left_of = after;
-    stands = st;
+    valid = st;
     scans = step_scans;
     turned = m;
     heads = step_heads (nat_eq b 10) refl;
@@ -143,7 +143,7 @@ header_open p e h = rw e h
 pub header_before : (p : Parser) → IsParser p → (g : IsGoingParser p) → p.clauses.header ≡ held_numbers (header_first g.before)
 header_before p i g = let h = rw g.ended at i.header in h ∙ ap held_numbers g.heads
 
-pub step_parser : (old new : Parser) (g : IsGoingParser old) (b : ℕ) (xs : List (ℕ × Token)) (after : List ℕ → Scan) → Stepped old new g b xs after → IsParser old → new.ended ≡ false → StandsBefore new.tokenizer after → RightAhead after
+pub step_parser : (old new : Parser) (g : IsGoingParser old) (b : ℕ) (xs : List (ℕ × Token)) (after : List ℕ → Scan) → Stepped old new g b xs after → IsParser old → new.ended ≡ false → IsPositionedBefore new.tokenizer after → HasValidContinuation after
     → (is_blank b ≡ false → all_in new ≡ all_in old) → HaveTakenTokens (g.before ++ xs) (all_in new) (hand_in new.clauses) → Counted new.history.taken new.clauses → new.clauses.header ≡ held_numbers (header_first (g.before ++ xs))
     → IsParser new
 step_parser old new g b xs after s i e st r inside m c h =
@@ -160,13 +160,13 @@ step_parser old new g b xs after s i e st r inside m c h =
 pub record Pushed (old new : Tokenizer) (b : ℕ) (given : Option CodeToken) : Type 0 where
   pub takes : TakesByte old b given new
   pub inside : is_blank b ≡ false → given ≡ None
-  pub quiet : is_blank b ≡ true → (after : List ℕ → Scan) → StandsBefore new after → HoldsNoWord (after [])
-  pub ended : b ≡ 10 → (after : List ℕ → Scan) → StandsBefore new after → (after []).tokens ≡ []
-  pub right : is_blank b ≡ true → (after : List ℕ → Scan) → StandsBefore new after → RightAhead after
+  pub quiet : is_blank b ≡ true → (after : List ℕ → Scan) → IsPositionedBefore new after → HoldsNoWord (after [])
+  pub ended : b ≡ 10 → (after : List ℕ → Scan) → IsPositionedBefore new after → (after []).tokens ≡ []
+  pub right : is_blank b ≡ true → (after : List ℕ → Scan) → IsPositionedBefore new after → HasValidContinuation after
 
 pub pushed : (old new : Tokenizer) (b : ℕ) (given : Option CodeToken) → TakesByte old b given new → (is_blank b ≡ false → given ≡ None)
-    → (is_blank b ≡ true → (after : List ℕ → Scan) → StandsBefore new after → HoldsNoWord (after [])) → (b ≡ 10 → (after : List ℕ → Scan) → StandsBefore new after → (after []).tokens ≡ [])
-    → (is_blank b ≡ true → (after : List ℕ → Scan) → StandsBefore new after → RightAhead after) → Pushed old new b given
+    → (is_blank b ≡ true → (after : List ℕ → Scan) → IsPositionedBefore new after → HoldsNoWord (after [])) → (b ≡ 10 → (after : List ℕ → Scan) → IsPositionedBefore new after → (after []).tokens ≡ [])
+    → (is_blank b ≡ true → (after : List ℕ → Scan) → IsPositionedBefore new after → HasValidContinuation after) → Pushed old new b given
 pushed old new b given t i q e r = record { takes = t; inside = i; quiet = q; ended = e; right = r }
 
 -- the bytes taken and the clauses handed over grow by a byte
@@ -178,9 +178,9 @@ same_all : (old new : Parser) → new.history.taken ≡ old.history.taken → ne
 same_all old new t f = rw (t, f) refl
 
 -- a byte that ends no token
-stepped_none : (old new : Parser) (g : IsGoingParser old) (b : ℕ) (p : Pushed old.tokenizer new.tokenizer b None) → ByteTaken old new b → Stepped old new g b [] (p.takes g.left_of g.stands).0
+stepped_none : (old new : Parser) (g : IsGoingParser old) (b : ℕ) (p : Pushed old.tokenizer new.tokenizer b None) → ByteTaken old new b → Stepped old new g b [] (p.takes g.left_of g.valid).0
 stepped_none old new g b p t =
-    let q = p.takes g.left_of g.stands in
+    let q = p.takes g.left_of g.valid in
     record {
       fed = t.fed;
       gives = q.2;
@@ -190,10 +190,10 @@ stepped_none old new g b p t =
     }
 
 pub push_none : (old new : Parser) (b : ℕ) → IsParser old → old.stopped ≡ false → Pushed old.tokenizer new.tokenizer b None → ByteTaken old new b → new.clauses ≡ old.clauses → new.ended ≡ old.ended
-    → ((after : List ℕ → Scan) → StandsBefore new.tokenizer after → RightAhead after) → IsParser new
+    → ((after : List ℕ → Scan) → IsPositionedBefore new.tokenizer after → HasValidContinuation after) → IsParser new
 push_none old new b i o p t c e r =
     let g = i.goes o in
-    let q = p.takes g.left_of g.stands in
+    let q = p.takes g.left_of g.valid in
     let same : all_in new ≡ all_in old = same_all old new t.taken (ap (λ (x : Clauses). x.formula) c) in
     let none : g.before ++ [] ≡ g.before = append-nil g.before in
     let s = stepped_none old new g b p t in
@@ -201,7 +201,7 @@ push_none old new b i o p t c e r =
     let counts : Counted new.history.taken new.clauses = rw (t.taken, c) (i.count, i.vars) in
     step_parser old new g b [] q.0 s i (e ∙ g.ended) q.1 (r q.0 q.1) (λ _. same) m counts (ap (λ (x : Clauses). x.header) c ∙ header_before old i g ∙ ap (λ (ts : List (ℕ × Token)). held_numbers (header_first ts)) (sym none))
 
--- where a token that is no header stands behind others, or first
+-- where a token that is no header stands after others, or first
 header_aside : (before : List (ℕ × Token)) (x : ℕ × Token) → header_from x.1 ≡ None → header_first (before ++ x ∷ []) ≡ header_first before
 header_aside [] x e = e
 header_aside (y ∷ ys) x e = refl
@@ -211,7 +211,7 @@ abbrev pub First : List (ℕ × Token) → Token → Type 0
 First before t = (header_from t ≡ None) ⊎ (before ≡ [])
 
 pub header_next : (before : List (ℕ × Token)) (n : ℕ) (t : Token) (h : Option (ℕ × ℕ)) → First before t → h ≡ held_numbers (header_first before)
-    → header_behind (token_of (held_token t)) h ≡ held_numbers (header_first (before ++ (n, t) ∷ []))
+    → header_after (token_of (held_token t)) h ≡ held_numbers (header_first (before ++ (n, t) ∷ []))
 header_next before n (Number negative value) h f e = e ∙ ap held_numbers (sym (header_aside before (n, Number negative value) refl))
 header_next before n (Letter b) h f e = e ∙ ap held_numbers (sym (header_aside before (n, Letter b) refl))
 header_next before n (Header v c) h (inl f) e = absurd (let g : ◌≡◌ {A = Option (ℕ × ℕ)} (Some (v, c)) None = f in cc)
@@ -236,23 +236,23 @@ pub not_false : (b : Bool) → (b ≡ false → ⊥) → b ≡ true
 not_false true h = refl
 not_false false h = absurd (h refl)
 
--- A token was given, behind this byte: what the token is, and what is then still to be read.
+-- A token was given, after this byte: what the token is, and what is then still to be read.
 pub record Gave (old new : Parser) (g : IsGoingParser old) (b : ℕ) (t : CodeToken) : Type 0 where
   pub given : Token
   pub held : t ≡ held_token given
   pub after : List ℕ → Scan
-  pub stands : StandsBefore new.tokenizer after
+  pub valid : IsPositionedBefore new.tokenizer after
   pub stepped : Stepped old new g b (((after []).last, given) ∷ []) after
   pub blank : is_blank b ≡ false → ⊥
   pub first : First g.before given
 
 pub gave : (old new : Parser) (g : IsGoingParser old) (b : ℕ) (t : CodeToken) → Pushed old.tokenizer new.tokenizer b (Some t) → ByteTaken old new b → Gave old new g b t
 gave old new g b t p y =
-    let q = p.takes g.left_of g.stands in
+    let q = p.takes g.left_of g.valid in
     let n = (q.0 []).last in
     let given = q.2.0 in
     let is : t ≡ held_token given = q.2.1 in
-    let plain : nat_eq b 10 ≡ false → header_from given ≡ None = λ k. plain_given old.tokenizer b n given g.left_of q.0 g.stands k (not_false (is_blank b) (λ u. let z = p.inside u in cc)) q.2.2 in
+    let plain : nat_eq b 10 ≡ false → header_from given ≡ None = λ k. plain_given old.tokenizer b n given g.left_of q.0 g.valid k (not_false (is_blank b) (λ u. let z = p.inside u in cc)) q.2.2 in
     let s : Stepped old new g b ((n, given) ∷ []) q.0 = record {
       fed = y.fed;
       gives = q.2.2;
@@ -266,7 +266,7 @@ gave old new g b t p y =
       given = given;
       held = is;
       after = q.0;
-      stands = q.1;
+      valid = q.1;
       stepped = s;
       blank = λ k. let z = p.inside k in cc;
       first = first_stands new.history.fed g.before (q.0 []).tokens n given tokens;
@@ -275,15 +275,15 @@ gave old new g b t p y =
 turn_of : (c : Clauses) (n : ℕ) (t : CodeToken) (given : Token) → t ≡ held_token given → turn (hand_in c) n (token_of t) ≡ turn (hand_in c) n given
 turn_of c n t given e = ap (λ (k : CodeToken). turn (hand_in c) n (token_of k)) e ∙ turn-held (hand_in c) n given
 
-header_given : (old new : Parser) (g : IsGoingParser old) (b : ℕ) (t : CodeToken) (v : Gave old new g b t) → IsParser old → new.clauses.header ≡ header_behind (token_of t) old.clauses.header
+header_given : (old new : Parser) (g : IsGoingParser old) (b : ℕ) (t : CodeToken) (v : Gave old new g b t) → IsParser old → new.clauses.header ≡ header_after (token_of t) old.clauses.header
     → new.clauses.header ≡ held_numbers (header_first (g.before ++ ((v.after []).last, v.given) ∷ []))
 header_given old new g b t v i h =
-    h ∙ ap (λ (k : CodeToken). header_behind (token_of k) old.clauses.header) v.held
+    h ∙ ap (λ (k : CodeToken). header_after (token_of k) old.clauses.header) v.held
     ∙ header_next g.before (v.after []).last v.given old.clauses.header v.first (header_before old i g)
 
 -- a byte that ends a token, which is taken
 pub push_some : (old new : Parser) (b : ℕ) (t : CodeToken) → IsParser old → old.stopped ≡ false → Pushed old.tokenizer new.tokenizer b (Some t) → ByteTaken old new b → new.ended ≡ old.ended
-    → ((n : ℕ) → TakesTokenTurn (turn (hand_in old.clauses) n (token_of t)) old.clauses new.clauses) → new.clauses.header ≡ header_behind (token_of t) old.clauses.header
+    → ((n : ℕ) → TakesTokenTurn (turn (hand_in old.clauses) n (token_of t)) old.clauses new.clauses) → new.clauses.header ≡ header_after (token_of t) old.clauses.header
     → IsParser new
 push_some old new b t i o p y e c h =
     let g = i.goes o in
@@ -293,7 +293,7 @@ push_some old new b t i o p y e c h =
     let turns : TakesTokenTurn k old.clauses new.clauses = subst (λ (j : Turn). TakesTokenTurn j old.clauses new.clauses) (turn_of old.clauses n t v.given v.held) (c n) in
     let m = turned_by g.before old.history.taken old.clauses new.clauses n v.given k refl g.turned turns in
     let counts = counted_by old.history.taken old.clauses new.clauses k turns (i.count, i.vars) in
-    step_parser old new g b ((n, v.given) ∷ []) v.after v.stepped i (e ∙ g.ended) v.stands (p.right (not_false (is_blank b) v.blank) v.after v.stands) (λ k. absurd (v.blank k))
+    step_parser old new g b ((n, v.given) ∷ []) v.after v.stepped i (e ∙ g.ended) v.valid (p.right (not_false (is_blank b) v.blank) v.after v.valid) (λ k. absurd (v.blank k))
     (subst (λ (cs : List (List ℕ)). HaveTakenTokens (g.before ++ (n, v.given) ∷ []) (cs ++ new.clauses.formula.clauses) (hand_in new.clauses)) (sym y.taken) m)
     (subst (λ (cs : List (List ℕ)). Counted cs new.clauses) (sym y.taken) counts)
     (header_given old new g b t v i h)
@@ -334,7 +334,7 @@ pub record FaultAt (ending : ℕ → Ending) (line b : ℕ) (old new : Parser) :
 
 pub push_fails : (old new : Parser) (b : ℕ) (t : CodeToken) (ending : ℕ → Ending) (line : ℕ) → IsParser old → old.stopped ≡ false → Pushed old.tokenizer new.tokenizer b (Some t) → ByteTaken old new b
     → new.stopped ≡ true → new.ended ≡ true → SameClausesAndHeader old.clauses new.clauses → ((n : ℕ) → turn (hand_in old.clauses) n (token_of t) ≡ Fails (ending n))
-    → ((before : List ℕ → Scan) → StandsBefore new.tokenizer before → line ≡ held (before []).last) → FaultAt ending line b old new
+    → ((before : List ℕ → Scan) → IsPositionedBefore new.tokenizer before → line ≡ held (before []).last) → FaultAt ending line b old new
 push_fails old new b t ending line i o p y st en stay f l =
     let g = i.goes o in
     let v = gave old new g b t p y in
@@ -354,24 +354,24 @@ push_fails old new b t ending line i o p y st en stay f l =
     let good = over_parser new (ending n) (header_first g.before) st en whole counts (stay.1 ∙ header_before old i g) heads in
     record {
       n = n;
-      shown = l v.after v.stands;
+      shown = l v.after v.valid;
       parser = good;
       faults = record {
         front = b ∷ [];
-        behind = [];
+        following = [];
         whole = refl;
         progress = progress_is new (old.history.fed ++ b ∷ []) old.history.taken true true y.fed y.taken st en;
         ends = λ rest. says rest ∙ ap (λ (cs : List (List ℕ)). record { clauses = cs; ending = ending n }) (sym good.clauses);
       };
     }
 
--- a byte behind which a wrong word is in hand, whatever follows
+-- a byte after which a wrong word is in hand, whatever follows
 pub push_wrong : (old new : Parser) (b line : ℕ) → IsParser old → old.stopped ≡ false → Pushed old.tokenizer new.tokenizer b None → ByteTaken old new b
-    → new.stopped ≡ true → new.ended ≡ true → new.clauses ≡ old.clauses → ((before : List ℕ → Scan) → StandsBefore new.tokenizer before → WrongAhead before)
-    → ((before : List ℕ → Scan) → StandsBefore new.tokenizer before → line ≡ held (before []).last) → FaultAt Malformed line b old new
+    → new.stopped ≡ true → new.ended ≡ true → new.clauses ≡ old.clauses → ((before : List ℕ → Scan) → IsPositionedBefore new.tokenizer before → HasNoValidContinuation before)
+    → ((before : List ℕ → Scan) → IsPositionedBefore new.tokenizer before → line ≡ held (before []).last) → FaultAt Malformed line b old new
 push_wrong old new b line i o p y st en c w l =
     let g = i.goes o in
-    let q = p.takes g.left_of g.stands in
+    let q = p.takes g.left_of g.valid in
     let s = stepped_none old new g b p y in
     let n = (q.0 []).last in
     let x : ℕ × Token = (n, Wrong) in
@@ -396,7 +396,7 @@ push_wrong old new b line i o p y st en c w l =
       parser = good;
       faults = record {
         front = b ∷ [];
-        behind = [];
+        following = [];
         whole = refl;
         progress = progress_is new (old.history.fed ++ b ∷ []) old.history.taken true true y.fed y.taken st en;
         ends = λ rest. says rest ∙ ap (λ (cs : List (List ℕ)). record { clauses = cs; ending = Malformed n }) (sym good.clauses);
@@ -429,7 +429,7 @@ taken_soundly p g = record {
   all = all_in p;
   hand = hand_in p.clauses;
   left_of = g.left_of;
-  stands = g.stands;
+  valid = g.valid;
   scans = g.scans;
   turned = g.turned;
   sound = g.sound;
@@ -477,9 +477,9 @@ pub fed_more : (xs ys all : List ℕ) (p q r : Progress) → all ≡ xs ++ ys �
 fed_more xs ys all p q r a e f =
     f ∙ ap (with_fed ys) e ∙ ap (λ (bytes : List ℕ). record p { fed = bytes }) (append_assoc p.fed xs ys ∙ ap (λ (zs : List ℕ). p.fed ++ zs) (sym a))
 
-stops_more : (xs ys zs all front behind : List ℕ) → all ≡ xs ++ (ys ++ zs) → ys ≡ front ++ behind → all ≡ (xs ++ front) ++ (behind ++ zs)
-stops_more xs ys zs all front behind a w =
-    a ∙ ap (λ (ks : List ℕ). xs ++ (ks ++ zs)) w ∙ ap (λ (ks : List ℕ). xs ++ ks) (append_assoc front behind zs) ∙ sym (append_assoc xs front (behind ++ zs))
+stops_more : (xs ys zs all front following : List ℕ) → all ≡ xs ++ (ys ++ zs) → ys ≡ front ++ following → all ≡ (xs ++ front) ++ (following ++ zs)
+stops_more xs ys zs all front following a w =
+    a ∙ ap (λ (ks : List ℕ). xs ++ (ks ++ zs)) w ∙ ap (λ (ks : List ℕ). xs ++ ks) (append_assoc front following zs) ∙ sym (append_assoc xs front (following ++ zs))
 
 still_open : (xs : List ℕ) (p q : Progress) → q ≡ with_fed xs p → q.stopped ≡ p.stopped
 still_open xs p q e = ap (λ (k : Progress). k.stopped) e
@@ -487,8 +487,8 @@ still_open xs p q e = ap (λ (k : Progress). k.stopped) e
 faults_more : (ending : Ending) (xs ys zs all : List ℕ) (p q r : Progress) → all ≡ xs ++ (ys ++ zs) → q ≡ with_fed xs p → EndsAtFault ending ys q r → EndsAtFault ending all p r
 faults_more ending xs ys zs all p q r a e f = record {
   front = xs ++ f.front;
-  behind = f.behind ++ zs;
-  whole = stops_more xs ys zs all f.front f.behind a f.whole;
+  following = f.following ++ zs;
+  whole = stops_more xs ys zs all f.front f.following a f.whole;
   progress = f.progress ∙ ap at_its_end (fed_more xs f.front (xs ++ f.front) p q (with_fed f.front q) refl e refl);
   ends = f.ends;
 }
@@ -502,8 +502,8 @@ feeds_err errors.OutOfMemory xs ys zs all p q r a o e f = (
   record {
     front = xs ++ f.1.front;
     byte = f.1.byte;
-    behind = f.1.behind ++ zs;
-    whole = stops_more xs ys zs all f.1.front (f.1.byte ∷ f.1.behind) a f.1.whole;
+    following = f.1.following ++ zs;
+    whole = stops_more xs ys zs all f.1.front (f.1.byte ∷ f.1.following) a f.1.whole;
     progress = f.1.progress ∙ ap cut_short (fed_more xs f.1.front (xs ++ f.1.front) p q (with_fed f.1.front q) refl e refl);
     well = subst (λ (text : List ℕ). GoesWell text f.1.byte) (ap (λ (bytes : List ℕ). bytes ++ f.1.front) (ap (λ (k : Progress). k.fed) e) ∙ append_assoc p.fed xs f.1.front) f.1.well;
   },
@@ -560,7 +560,7 @@ pub finish_answer : (a : Result (Unit {0}) DimacsError) (old p : Parser) (g : Is
 finish_answer (Ok u) old p g o r e =
     (o, ended_progress old p r.history, ap (λ (d : Dimacs). d.ending) (whole_dimacs old p g r) ∙ clean_of (hand_in p.clauses) (g.left_of []).last e)
 finish_answer (Err (errors.Malformed line)) old p g o r e =
-    let st : StandsBefore p.tokenizer g.left_of = subst (λ (t : Tokenizer). StandsBefore t g.left_of) (sym r.tokenizer) g.stands in
+    let st : IsPositionedBefore p.tokenizer g.left_of = subst (λ (t : Tokenizer). IsPositionedBefore t g.left_of) (sym r.tokenizer) g.valid in
     (o, ended_progress old p r.history, (g.left_of []).last, e.1 g.left_of st, ap (λ (d : Dimacs). d.ending) (whole_dimacs old p g r) ∙ cut_of (hand_in p.clauses) (g.left_of []).last e.0.0 e.0.1)
 finish_answer (Err x) old p g o r e = absurd e
 
@@ -584,7 +584,7 @@ last_first old g t n e =
 
 -- a word is, and is taken
 pub read_some : (old p : Parser) (i : IsParser old) (g : IsGoingParser old) (t : CodeToken) → p.history ≡ old.history → p.tokenizer ≡ old.tokenizer → GivesLast (Some t) (g.left_of [])
-    → ((n : ℕ) → TakesTokenTurn (turn (hand_in old.clauses) n (token_of t)) old.clauses p.clauses) → p.clauses.header ≡ header_behind (token_of t) old.clauses.header → Read old p g
+    → ((n : ℕ) → TakesTokenTurn (turn (hand_in old.clauses) n (token_of t)) old.clauses p.clauses) → p.clauses.header ≡ header_after (token_of t) old.clauses.header → Read old p g
 read_some old p i g t h k l c e =
     let n = (g.left_of []).last in
     let given = l.0 in
@@ -598,7 +598,7 @@ read_some old p i g t h k l c e =
       tokens = l.2;
       turned = subst (λ (cs : List (List ℕ)). HaveTakenTokens (g.before ++ (n, given) ∷ []) (cs ++ p.clauses.formula.clauses) (hand_in p.clauses)) (sym taken) (turned_by g.before old.history.taken old.clauses p.clauses n given j refl g.turned turns);
       counted = subst (λ (cs : List (List ℕ)). Counted cs p.clauses) (sym taken) (counted_by old.history.taken old.clauses p.clauses j turns (i.count, i.vars));
-      header = e ∙ ap (λ (u : CodeToken). header_behind (token_of u) old.clauses.header) l.1
+      header = e ∙ ap (λ (u : CodeToken). header_after (token_of u) old.clauses.header) l.1
           ∙ header_next g.before n given old.clauses.header (last_first old g given n l.2) (header_before old i g);
     }
 
@@ -607,12 +607,12 @@ pub record FaultAtEnd (ending : ℕ → Ending) (line : ℕ) (old new : Parser) 
   pub parser : IsParser new
   pub answer : (old.stopped ≡ false) × (progress_of new ≡ at_its_end (progress_of old)) × (n : ℕ) × (line ≡ held n) × ((dimacs old.history.fed).ending ≡ ending n)
 
-pub finish_fails : (old p : Parser) (i : IsParser old) (o : old.stopped ≡ false) (t : CodeToken) (ending : ℕ → Ending) (line : ℕ) → p.history ≡ old.history → ((left_of : List ℕ → Scan) → StandsBefore old.tokenizer left_of → GivesLast (Some t) (left_of []))
-    → SameClausesAndHeader old.clauses p.clauses → ((n : ℕ) → turn (hand_in old.clauses) n (token_of t) ≡ Fails (ending n)) → ((before : List ℕ → Scan) → StandsBefore old.tokenizer before → line ≡ held (before []).last)
+pub finish_fails : (old p : Parser) (i : IsParser old) (o : old.stopped ≡ false) (t : CodeToken) (ending : ℕ → Ending) (line : ℕ) → p.history ≡ old.history → ((left_of : List ℕ → Scan) → IsPositionedBefore old.tokenizer left_of → GivesLast (Some t) (left_of []))
+    → SameClausesAndHeader old.clauses p.clauses → ((n : ℕ) → turn (hand_in old.clauses) n (token_of t) ≡ Fails (ending n)) → ((before : List ℕ → Scan) → IsPositionedBefore old.tokenizer before → line ≡ held (before []).last)
     → FaultAtEnd ending line old (at_end_of p)
 finish_fails old p i o t ending line h gives stay f l =
     let g = i.goes o in
-    let q = gives g.left_of g.stands in
+    let q = gives g.left_of g.valid in
     let n = (g.left_of []).last in
     let x : ℕ × Token = (n, q.0) in
     let e : turn (hand_in old.clauses) n q.0 ≡ Fails (ending n) = sym (turn_of old.clauses n t q.0 q.1) ∙ f n in
@@ -631,7 +631,7 @@ finish_fails old p i o t ending line h gives stay f l =
     let counts : Counted p.history.taken p.clauses = subst (λ (cs : List (List ℕ)). Counted cs p.clauses) (sym taken) (counted_stay old.history.taken old.clauses p.clauses stay.0 (i.count, i.vars)) in
     record {
       parser = over_parser (at_end_of p) (ending n) (header_first g.before) refl refl (ap dimacs fed ∙ says) counts (stay.1 ∙ header_before old i g) heads;
-      answer = (o, ended_progress old p h, n, l g.left_of g.stands, ap (λ (d : Dimacs). d.ending) says);
+      answer = (o, ended_progress old p h, n, l g.left_of g.valid, ap (λ (d : Dimacs). d.ending) says);
     }
 
 literal_turn : (negative : Bool) (value : ℕ) (e z : Bool) → nat_eq value 0 ≡ e → nat_lt var_limit value ≡ z → (not e && not z) ≡ true → (hand : Hand) (n : ℕ) → (ls : List ℕ) × (turn hand n (Number negative value) ≡ GoesOn (Some ls))
@@ -640,16 +640,16 @@ literal_turn negative value true z p q h hand n = absurd (let g : ◌≡◌ {A =
 literal_turn negative value false true p q h hand n = absurd (let g : ◌≡◌ {A = Bool} false true = h in cc)
 
 -- a literal goes on with a clause, or begins one, and is no header
-pub literal_goes : (t : CodeToken) → is_literal (token_of t) ≡ true → ((hand : Hand) (n : ℕ) → (ls : List ℕ) × (turn hand n (token_of t) ≡ GoesOn (Some ls))) × ((h : Option (ℕ × ℕ)) → h ≡ header_behind (token_of t) h)
+pub literal_goes : (t : CodeToken) → is_literal (token_of t) ≡ true → ((hand : Hand) (n : ℕ) → (ls : List ℕ) × (turn hand n (token_of t) ≡ GoesOn (Some ls))) × ((h : Option (ℕ × ℕ)) → h ≡ header_after (token_of t) h)
 literal_goes (code.Number negative value) e = (literal_turn negative value (nat_eq value 0) (nat_lt var_limit value) refl refl e, (λ h. refl))
 literal_goes x e = absurd (let g : ◌≡◌ {A = Bool} false true = e in cc)
 
--- the text is over behind a literal
-pub finish_inside : (old : Parser) (i : IsParser old) (o : old.stopped ≡ false) (t : CodeToken) (line : ℕ) → ((left_of : List ℕ → Scan) → StandsBefore old.tokenizer left_of → GivesLast (Some t) (left_of [])) → is_literal (token_of t) ≡ true
-    → ((before : List ℕ → Scan) → StandsBefore old.tokenizer before → line ≡ held (before []).last) → FaultAtEnd Malformed line old (at_end_of old)
+-- the text is over after a literal
+pub finish_inside : (old : Parser) (i : IsParser old) (o : old.stopped ≡ false) (t : CodeToken) (line : ℕ) → ((left_of : List ℕ → Scan) → IsPositionedBefore old.tokenizer left_of → GivesLast (Some t) (left_of [])) → is_literal (token_of t) ≡ true
+    → ((before : List ℕ → Scan) → IsPositionedBefore old.tokenizer before → line ≡ held (before []).last) → FaultAtEnd Malformed line old (at_end_of old)
 finish_inside old i o t line gives lit l =
     let g = i.goes o in
-    let q = gives g.left_of g.stands in
+    let q = gives g.left_of g.valid in
     let n = (g.left_of []).last in
     let x : ℕ × Token = (n, q.0) in
     let goes = literal_goes t lit in
@@ -666,11 +666,11 @@ finish_inside old i o t line gives lit l =
     let heads : dimacs_header old.history.fed ≡ header_first (g.before ++ x ∷ []) =
     ap (λ (k : Scan). header_first k.tokens) (scan_whole old g) ∙ ap (λ (ts : List (ℕ × Token)). header_first (g.before ++ ts)) q.2 in
     let header : old.clauses.header ≡ held_numbers (header_first (g.before ++ x ∷ [])) =
-    goes.1 old.clauses.header ∙ ap (λ (u : CodeToken). header_behind (token_of u) old.clauses.header) q.1
+    goes.1 old.clauses.header ∙ ap (λ (u : CodeToken). header_after (token_of u) old.clauses.header) q.1
     ∙ header_next g.before n q.0 old.clauses.header (last_first old g q.0 n q.2) (header_before old i g) in
     record {
       parser = over_parser (at_end_of old) (Malformed n) (header_first (g.before ++ x ∷ [])) refl refl says (i.count, i.vars) header heads;
-      answer = (o, ended_progress old old refl, n, l g.left_of g.stands, ap (λ (d : Dimacs). d.ending) says);
+      answer = (o, ended_progress old old refl, n, l g.left_of g.valid, ap (λ (d : Dimacs). d.ending) says);
     }
 
 -- memory is taken for numbers alone
@@ -686,12 +686,12 @@ true_not true h = absurd (h refl)
 true_not false h = refl
 
 -- there was no memory for the clause that the text's end ends
-pub finish_short : (old : Parser) (i : IsParser old) (o : old.stopped ≡ false) (t : CodeToken) → ((left_of : List ℕ → Scan) → StandsBefore old.tokenizer left_of → GivesLast (Some t) (left_of [])) → is_literal (token_of t) ≡ false → NeedsRoom (token_of t)
+pub finish_short : (old : Parser) (i : IsParser old) (o : old.stopped ≡ false) (t : CodeToken) → ((left_of : List ℕ → Scan) → IsPositionedBefore old.tokenizer left_of → GivesLast (Some t) (left_of [])) → is_literal (token_of t) ≡ false → NeedsRoom (token_of t)
     → EndsWell old.history.fed
 finish_short old i o t gives lit (inl is) = absurd (let g : ◌≡◌ {A = Bool} true false = sym is ∙ lit in cc)
 finish_short old i o t gives lit (inr ends) =
     let g = i.goes o in
-    let q = gives g.left_of g.stands in
+    let q = gives g.left_of g.valid in
     let n = (g.left_of []).last in
     let x : ℕ × Token = (n, q.0) in
     let c = literals_in (hand_in old.clauses) in
@@ -718,7 +718,7 @@ finish_short old i o t gives lit (inr ends) =
             ∙ ap (λ (m : ℕ). g.before ++ (m, Number k.0 k.1) ∷ []) (sym (ap (λ (z : Scan). z.last) (scan_whole old g)));
       };
       clean = clean;
-      goes_on = λ h. given_goes_on old.tokenizer g.left_of g.stands (λ e. let z : ◌≡◌ {A = List (ℕ × Token)} [] (x ∷ []) = sym e ∙ q.2 in cc) (goes_here old g h);
+      goes_on = λ h. given_goes_on old.tokenizer g.left_of g.valid (λ e. let z : ◌≡◌ {A = List (ℕ × Token)} [] (x ∷ []) = sym e ∙ q.2 in cc) (goes_here old g h);
     }
 
 -- there was no memory for the word that a byte ends
@@ -739,7 +739,7 @@ push_short old new b t i o p y r =
     let blank : is_blank b ≡ true = not_false (is_blank b) v.blank in
     let none : (is_LF : Bool) → nat_eq b 10 ≡ is_LF → (v.after []).tokens ≡ [] = λ is_LF. elim is_LF as (λ (k : Bool). nat_eq b 10 ≡ k → (v.after []).tokens ≡ []) [
       | true ↦ λ e. let l : b ≡ 10 = grind (arith, nat_tests) in v.stepped.ended l
-      | false ↦ λ e. alone_given old.tokenizer b n v.given g.left_of v.after g.stands e blank v.stepped.gives
+      | false ↦ λ e. alone_given old.tokenizer b n v.given g.left_of v.after g.valid e blank v.stepped.gives
     ] in
     let text : (scan (old.history.fed ++ b ∷ [])).tokens ≡ g.before ++ x ∷ [] =
     ap (λ (bytes : List ℕ). (scan bytes).tokens) (sym y.fed) ∙ ap (λ (k : Scan). k.tokens) (step_scan old new g b (x ∷ []) v.after v.stepped)
@@ -752,7 +752,7 @@ push_short old new b t i o p y r =
     record {
       blank = blank;
       number = record {
-        in_word = true_not (is_blank (last_byte old.history.fed)) (λ e. header (quiet_given old.tokenizer b n v.given g.left_of v.after g.stands (g.quiet e) blank v.stepped.gives));
+        in_word = true_not (is_blank (last_byte old.history.fed)) (λ e. header (quiet_given old.tokenizer b n v.given g.left_of v.after g.valid (g.quiet e) blank v.stepped.gives));
         before = g.before;
         negative = k.0;
         value = k.1;
@@ -762,7 +762,7 @@ push_short old new b t i o p y r =
     }
 
 -- THE START
-pub first_parser : (p : Parser) → p.history.fed ≡ [] → p.history.taken ≡ [] → p.clauses.formula ≡ no_formula → hand_in p.clauses ≡ None → p.clauses.count ≡ 0 → p.clauses.header ≡ None → p.ended ≡ false → StandsBefore p.tokenizer scan
+pub first_parser : (p : Parser) → p.history.fed ≡ [] → p.history.taken ≡ [] → p.clauses.formula ≡ no_formula → hand_in p.clauses ≡ None → p.clauses.count ≡ 0 → p.clauses.header ≡ None → p.ended ≡ false → IsPositionedBefore p.tokenizer scan
     → IsParser p
 unfolding dimacs clauses_of scan lines tokens_of last_line
 first_parser p f t m h c e o s =
@@ -776,7 +776,7 @@ first_parser p f t m h c e o s =
         ended = o;
         before = [];
         left_of = scan;
-        stands = s;
+        valid = s;
         scans = λ rest. rw f refl;
         turned = rw (none, h) turned_first;
         heads = rw f refl;

@@ -17,20 +17,20 @@ use Rattle.sat_base.specs.text.Text.{dimacs_header, scan, tokens_of, lines}
 pub fault_ends : (ending : Ending) (fed piece : List ℕ) (p q : Progress) → p.fed ≡ fed → EndsAtFault ending piece p q → (rest : List ℕ) → (dimacs ((fed ++ piece) ++ rest)).ending ≡ ending
 fault_ends ending fed piece p q e f rest =
     let is : q.fed ≡ fed ++ f.front = ap (λ (k : Progress). k.fed) f.progress ∙ ap (λ (k : List ℕ). k ++ f.front) e in
-    let text : (fed ++ piece) ++ rest ≡ q.fed ++ (f.behind ++ rest) =
-    ap (λ (xs : List ℕ). (fed ++ xs) ++ rest) f.whole ∙ ap (λ (xs : List ℕ). xs ++ rest) (sym (append_assoc fed f.front f.behind)) ∙ append_assoc (fed ++ f.front) f.behind rest
-    ∙ ap (λ (xs : List ℕ). xs ++ (f.behind ++ rest)) (sym is) in
-    ap (λ (k : List ℕ). (dimacs k).ending) text ∙ ap (λ (d : Dimacs). d.ending) (f.ends (f.behind ++ rest))
+    let text : (fed ++ piece) ++ rest ≡ q.fed ++ (f.following ++ rest) =
+    ap (λ (xs : List ℕ). (fed ++ xs) ++ rest) f.whole ∙ ap (λ (xs : List ℕ). xs ++ rest) (sym (append_assoc fed f.front f.following)) ∙ append_assoc (fed ++ f.front) f.following rest
+    ∙ ap (λ (xs : List ℕ). xs ++ (f.following ++ rest)) (sym is) in
+    ap (λ (k : List ℕ). (dimacs k).ending) text ∙ ap (λ (d : Dimacs). d.ending) (f.ends (f.following ++ rest))
 
 -- there was no memory within it
 pub short_on : (fed piece : List ℕ) (p q : Progress) → p.fed ≡ fed → FallsShort piece p q → (rest : List ℕ)
-    → (front : List ℕ) × (byte : ℕ) × (behind : List ℕ) × ((fed ++ piece) ++ rest ≡ front ++ byte ∷ behind) × GoesWell front byte
+    → (front : List ℕ) × (byte : ℕ) × (following : List ℕ) × ((fed ++ piece) ++ rest ≡ front ++ byte ∷ following) × GoesWell front byte
 short_on fed piece p q e f rest = (
   fed ++ f.front,
   f.byte,
-  f.behind ++ rest,
-  append_assoc fed piece rest ∙ ap (λ (xs : List ℕ). fed ++ (xs ++ rest)) f.whole ∙ ap (λ (xs : List ℕ). fed ++ xs) (append_assoc f.front (f.byte ∷ f.behind) rest)
-      ∙ sym (append_assoc fed f.front (f.byte ∷ (f.behind ++ rest))),
+  f.following ++ rest,
+  append_assoc fed piece rest ∙ ap (λ (xs : List ℕ). fed ++ (xs ++ rest)) f.whole ∙ ap (λ (xs : List ℕ). fed ++ xs) (append_assoc f.front (f.byte ∷ f.following) rest)
+      ∙ sym (append_assoc fed f.front (f.byte ∷ (f.following ++ rest))),
   subst (λ (xs : List ℕ). GoesWell (xs ++ f.front) f.byte) e f.well,
 )
 

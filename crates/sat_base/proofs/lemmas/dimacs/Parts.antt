@@ -34,12 +34,12 @@ last_at_end calls (Ok u) (Ok v) r reader f h p q s is whole ends seen = rw is (r
 
 pub parsed_at_end : {E : Type 0} (seen : Result (Unit {0}) E) (answer : Result (Unit {0}) DimacsError) (r : Result (Unit {0}) (IncrementalError E)) (a c : Reader) (fed : List ℕ) (p q s : Progress)
     → r ≡ refusal_or seen answer → ReadToEnd a c fed p.fed → HasAccepted fed p → s ≡ record q { taken = s.taken } → Finishes answer p q → ParsesInParts a c (with_parser s r)
-parsed_at_end (Err e) answer r a c fed p q s is all stands kept ends = rw is tt
-parsed_at_end (Ok u) (Err e) r a c fed p q s is all stands kept ends =
-    rw is (enough_read (Err e) a c fed (subst (ReadToEnd a c fed) (ap (λ (z : Progress). z.fed) stands) all) (ends_by e fed p q stands ends))
-parsed_at_end (Ok u) (Ok v) r a c fed p q s is all stands kept ends =
-    let whole = subst (ReadToEnd a c fed) (ap (λ (z : Progress). z.fed) stands) all in
-    rw is (fed, read_front a c fed fed whole, parts_clean fed p q s stands kept (ends.1, ends.2), read_whole a c fed fed whole)
+parsed_at_end (Err e) answer r a c fed p q s is all valid kept ends = rw is tt
+parsed_at_end (Ok u) (Err e) r a c fed p q s is all valid kept ends =
+    rw is (enough_read (Err e) a c fed (subst (ReadToEnd a c fed) (ap (λ (z : Progress). z.fed) valid) all) (ends_by e fed p q valid ends))
+parsed_at_end (Ok u) (Ok v) r a c fed p q s is all valid kept ends =
+    let whole = subst (ReadToEnd a c fed) (ap (λ (z : Progress). z.fed) valid) all in
+    rw is (fed, read_front a c fed fed whole, parts_clean fed p q s valid kept (ends.1, ends.2), read_whole a c fed fed whole)
 
 pub no_read_at_end : {E X : Type 0} (seen : Result (Unit {0}) E) (answer : Result (Unit {0}) DimacsError) (r : Result (Unit {0}) (IncrementalError E)) (p q s : Progress)
     → r ≡ refusal_or seen answer → Finishes answer p q → with_parser s r ≡ Err (parts.Dimacs errors.Read) → X
@@ -59,10 +59,10 @@ last_at_piece calls (Ok u) (Ok v) r e reader piece f h p q s is err some feeds s
 pub parsed_at_piece : {E : Type 0} (seen : Result (Unit {0}) E) (answer : Result (Unit {0}) DimacsError) (r : Result (Unit {0}) (IncrementalError E)) (e : IncrementalError E) (a c : Reader) (fed piece : List ℕ) (p q s : Progress)
     → r ≡ refusal_or seen answer → r ≡ Err e → GaveFront a c (fed ++ piece) → c.ended ≡ false → c.calls ≤ a.calls + length (fed ++ piece) + 1 → HasAccepted fed p → FeedsPiece answer piece p q
     → ParsesInParts a c (with_parser s r)
-parsed_at_piece (Err d) answer r e a c fed piece p q s is err front going few stands feeds = rw is tt
-parsed_at_piece (Ok u) (Err d) r e a c fed piece p q s is err front going few stands feeds =
-    rw is (enough_front a c (Parses (Err d)) (fed ++ piece) front going few (λ rest. stops_on d fed piece p q (ap (λ (z : Progress). z.fed) stands) (ap (λ (z : Progress). z.stopped) stands) feeds rest))
-parsed_at_piece (Ok u) (Ok v) r e a c fed piece p q s is err front going few stands feeds = absurd cc
+parsed_at_piece (Err d) answer r e a c fed piece p q s is err front going few valid feeds = rw is tt
+parsed_at_piece (Ok u) (Err d) r e a c fed piece p q s is err front going few valid feeds =
+    rw is (enough_front a c (Parses (Err d)) (fed ++ piece) front going few (λ rest. stops_on d fed piece p q (ap (λ (z : Progress). z.fed) valid) (ap (λ (z : Progress). z.stopped) valid) feeds rest))
+parsed_at_piece (Ok u) (Ok v) r e a c fed piece p q s is err front going few valid feeds = absurd cc
 
 pub no_read_at_piece : {E X : Type 0} (seen : Result (Unit {0}) E) (answer : Result (Unit {0}) DimacsError) (r : Result (Unit {0}) (IncrementalError E)) (piece : List ℕ) (p q s : Progress)
     → r ≡ refusal_or seen answer → FeedsPiece answer piece p q → with_parser s r ≡ Err (parts.Dimacs errors.Read) → X

@@ -68,7 +68,7 @@ pub none_has_ended : HasEnded [] → ⊥
 none_has_ended h = open_looks (standing (at.Fresh true) 0) (λ e. absurd cc) scan stands_first h
 
 pub read_front : (a c : Reader) (gave text : List ℕ) → ReadToEnd a c gave text → GaveFront a c gave
-read_front a c gave text (inl all) = record { gave = all.gave; told = all.told; loans = all.loans }
+read_front a c gave text (inl all) = record { gave = all.gave; known_bytes = all.known_bytes; loans = all.loans }
 read_front a c gave text (inr s) = s.front
 
 pub read_pieces : (a c : Reader) (pieces : List (List ℕ)) (text : List ℕ) → ReadToEnd a c (concat pieces) text → GaveFront a c (concat pieces ++ [])

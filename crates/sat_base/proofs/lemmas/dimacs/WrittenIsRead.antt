@@ -8,7 +8,7 @@ use Rattle.std.proofs.lemmas.Fmt.{decimal_by_steps}
 use Rattle.sat_base.specs.values.Literals.{variable, is_positive, coded, var_limit}
 use Rattle.sat_base.specs.values.Formulas.{vars_in, vars_of}
 use Rattle.sat_base.specs.text.Text.{is_blank, is_digit, onto_first, lines, goes_on, words, begins_with, Token, Number, Header, digits, minus, token, header_in, with_numbers, header_if, on_line, is_none, tokens_of, last_line, scan, header_first}
-use Rattle.sat_base.specs.dimacs.Dimacs.{Clean, Dimacs, Hand, Turn, GoesOn, Ends, literals_in, turn, at_end, behind_turn, clauses_of, dimacs}
+use Rattle.sat_base.specs.dimacs.Dimacs.{Clean, Dimacs, Hand, Turn, GoesOn, Ends, literals_in, turn, at_end, after_turn, clauses_of, dimacs}
 use Rattle.sat_base.specs.dimacs.DimacsText.{number_text, clause_line, clause_lines, header_line, dimacs_text}
 use Rattle.sat_base.specs.dimacs.WrittenDimacs.{WrittenIsRead}
 use Rattle.sat_base.proofs.lemmas.text.Words.{word_plain, word_minus, no_minus_digit, no_letter_digit}
@@ -223,7 +223,7 @@ pub clauses_nil : (hand : Hand) (last : ℕ) → clauses_of hand last [] ≡ rec
 unfolding clauses_of
 clauses_nil hand last = refl
 
-pub clauses_cons : (hand : Hand) (last : ℕ) (t : ℕ × Token) (ts : List (ℕ × Token)) → clauses_of hand last (t ∷ ts) ≡ behind_turn (turn hand t.0 t.1) (λ h. clauses_of h last ts)
+pub clauses_cons : (hand : Hand) (last : ℕ) (t : ℕ × Token) (ts : List (ℕ × Token)) → clauses_of hand last (t ∷ ts) ≡ after_turn (turn hand t.0 t.1) (λ h. clauses_of h last ts)
 unfolding clauses_of
 clauses_cons hand last t ts = refl
 
@@ -256,12 +256,12 @@ reads_clause : (hand : Hand) (last k : ℕ) (ls : List ℕ) (rest : List (ℕ ×
     → clauses_of hand last (on_line k (clause_words ls) ++ rest) ≡ ended (literals_in hand ++ ls) (clauses_of None last rest)
 reads_clause hand last k [] rest w =
     clauses_cons hand last (k, token (48 ∷ [])) rest
-    ∙ ap (λ (t : Turn). behind_turn t (λ h. clauses_of h last rest)) (turn_zero hand k)
+    ∙ ap (λ (t : Turn). after_turn t (λ h. clauses_of h last rest)) (turn_zero hand k)
     ∙ ap (λ (c : List ℕ). ended c (clauses_of None last rest)) (sym (append-nil (literals_in hand)))
 reads_clause hand last k (l ∷ ls) rest w =
     let more = on_line k (clause_words ls) ++ rest in
     clauses_cons hand last (k, token (number_text l)) more
-    ∙ ap (λ (t : Turn). behind_turn t (λ h. clauses_of h last more)) (turn_literal hand k l w.0)
+    ∙ ap (λ (t : Turn). after_turn t (λ h. clauses_of h last more)) (turn_literal hand k l w.0)
     ∙ reads_clause (Some (literals_in hand ++ l ∷ [])) last k ls rest w.1
     ∙ ap (λ (c : List ℕ). ended c (clauses_of None last rest)) (append_assoc (literals_in hand) (l ∷ []) ls)
 
@@ -307,9 +307,9 @@ lines_header v c rest h k =
 text_tokens : (v c : ℕ) (cs : List (List ℕ)) → v < 2 ^ 64 → c < 2 ^ 64
     → tokens_of true 0 (lines (header_line v c ++ clause_lines cs)) ≡ (0 + 1, Header v c) ∷ tokens_of false (0 + 1) (lines (clause_lines cs))
 text_tokens v c cs h k =
-    let behind = 32 ∷ 99 ∷ 110 ∷ 102 ∷ 32 ∷ (decimal v ++ (32 ∷ (decimal c ++ 10 ∷ []))) in
+    let following = 32 ∷ 99 ∷ 110 ∷ 102 ∷ 32 ∷ (decimal v ++ (32 ∷ (decimal c ++ 10 ∷ []))) in
     ap (tokens_of true 0) (lines_header v c (clause_lines cs) h k)
-    ∙ tokens_header true 0 (header_line v c) (lines (clause_lines cs)) (begins 37 112 behind refl) (begins 99 112 behind refl) (begins 112 112 behind refl)
+    ∙ tokens_header true 0 (header_line v c) (lines (clause_lines cs)) (begins 37 112 following refl) (begins 99 112 following refl) (begins 112 112 following refl)
     ∙ ap (λ (t : Token). (0 + 1, t) ∷ tokens_of false (0 + 1) (lines (clause_lines cs))) (header_says v c h k)
 
 literals_within : (ls : List ℕ) → vars_in ls ≤ var_limit → Within ls

@@ -13,7 +13,7 @@ same_increasing [] (y ∷ ys) h k there back = absurd (back y (inl refl))
 same_increasing (x ∷ xs) [] h k there back = absurd (there x (inl refl))
 same_increasing (x ∷ xs) (y ∷ ys) h k there back =
     let e = first in
-    ap (λ z. z ∷ xs) e ∙ ap (λ zs. y ∷ zs) (same_increasing xs ys h.1 k.1 (λ n m. forth n m (there n (inr m))) (λ n m. behind n m (back n (inr m))))
+    ap (λ z. z ∷ xs) e ∙ ap (λ zs. y ∷ zs) (same_increasing xs ys h.1 k.1 (λ n m. forth n m (there n (inr m))) (λ n m. following n m (back n (inr m))))
   where
     both : Among x ys → (y ≡ x) ⊎ Among y xs → x ≡ y
     both m at = elim at [ inl e ↦ sym e | inr l ↦ let below = all_at (λ z. y < z) x ys k.0 m in let above = all_at (λ z. x < z) y xs h.0 l in absurd (omega arith) ]
@@ -24,8 +24,8 @@ same_increasing (x ∷ xs) (y ∷ ys) h k there back =
     forth : (n : ℕ) → Among n xs → Among n (y ∷ ys) → Among n ys
     forth n m at = elim at [ inl e ↦ let above = all_at (λ z. x < z) n xs h.0 m in let f = first in absurd (omega arith) | inr l ↦ l ]
 
-    behind : (n : ℕ) → Among n ys → Among n (x ∷ xs) → Among n xs
-    behind n m at = elim at [ inl e ↦ let above = all_at (λ z. y < z) n ys k.0 m in let f = first in absurd (omega arith) | inr l ↦ l ]
+    following : (n : ℕ) → Among n ys → Among n (x ∷ xs) → Among n xs
+    following n m at = elim at [ inl e ↦ let above = all_at (λ z. y < z) n ys k.0 m in let f = first in absurd (omega arith) | inr l ↦ l ]
 
 all_names : (P : ℕ → Type 0) (ns : List Named) → AllByRecursion (λ n. P n.name) ns → AllByRecursion P (map (λ n. n.name) ns)
 all_names P [] h = tt

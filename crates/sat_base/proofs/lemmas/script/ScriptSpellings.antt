@@ -5,7 +5,7 @@ use Rattle.std.proofs.lemmas.List.{append-nil}
 use Rattle.std.proofs.lemmas.Bool.Decides.{nat_tests}
 use Rattle.sat_base.specs.text.Text.{Token, Number, Letter, Header, Wrong, tokens, header_from, header_first, dimacs_header}
 use Rattle.sat_base.specs.script.Script.{Literal, Command, ScriptEnding, Clean, Malformed, has_ask}
-use Rattle.sat_base.specs.script.Language.{Reading, onto_commands, spoken, Kind, OfClause, OfAsk, OfHide, OfWitness, OfSample, command_of, CommandHand, Nothing, Within, CommandTurn, GoesOn, Ends, command_in, may_stand, turn_with_literal, kind_of_letter, beginning, with_letter, command_turn, command_at_end, behind_command_turn, commands_of, with_ask, written, reading}
+use Rattle.sat_base.specs.script.Language.{Reading, onto_commands, spoken, Kind, OfClause, OfAsk, OfHide, OfWitness, OfSample, command_of, CommandHand, Nothing, Within, CommandTurn, GoesOn, Ends, command_in, may_stand, turn_with_literal, kind_of_letter, beginning, with_letter, command_turn, command_at_end, after_command_turn, commands_of, with_ask, written, reading}
 use Rattle.sat_base.specs.script.ScriptSpelling.{OneReading, number_of, AreNamesOfKind, IsZero, letter_of, SpellsCommand, SpellsCommands, BeginsNone, SpellsTo, asked, SpellsScript, ReadIfSpelled}
 use Rattle.sat_base.proofs.lemmas.text.HeaderFirst.{IsWord, AreWords, AreScript, text_is}
 
@@ -13,7 +13,7 @@ pub commands_of_nil : (h : CommandHand) → commands_of h [] ≡ ([], command_at
 unfolding commands_of
 commands_of_nil h = refl
 
-pub commands_of_cons : (h : CommandHand) (t : Token) (ts : List Token) → commands_of h (t ∷ ts) ≡ behind_command_turn (command_turn h t) (λ k. commands_of k ts)
+pub commands_of_cons : (h : CommandHand) (t : Token) (ts : List Token) → commands_of h (t ∷ ts) ≡ after_command_turn (command_turn h t) (λ k. commands_of k ts)
 unfolding commands_of
 commands_of_cons h t ts = refl
 
@@ -46,7 +46,7 @@ turn_zero h e z = absurd z
 
 -- SPELLED, AND SO READ
 reads_zero : (h : CommandHand) (t : Token) (ts : List Token) → IsZero t → commands_of h (t ∷ ts) ≡ onto_commands (command_in h ∷ []) (commands_of Nothing ts)
-reads_zero h t ts z = commands_of_cons h t ts ∙ ap (λ (k : CommandTurn). behind_command_turn k (λ k. commands_of k ts)) (turn_zero h t z)
+reads_zero h t ts z = commands_of_cons h t ts ∙ ap (λ (k : CommandTurn). after_command_turn k (λ k. commands_of k ts)) (turn_zero h t z)
 
 reads_literals : (k : Kind) (done ls : List Literal) (t : Token) (ts : List Token) → AreNamesOfKind k ls → IsZero t
     → commands_of (hand_of k done) ((map number_of ls ++ t ∷ []) ++ ts) ≡ onto_commands (command_of k (done ++ ls) ∷ []) (commands_of Nothing ts)
@@ -54,7 +54,7 @@ reads_literals k done [] t ts n z =
     reads_zero (hand_of k done) t ts z ∙ ap (λ (c : Command). onto_commands (c ∷ []) (commands_of Nothing ts)) (hand_ends k done ∙ ap (command_of k) (sym (append-nil done)))
 reads_literals k done (l ∷ ls) t ts n z =
     commands_of_cons (hand_of k done) (number_of l) ((map number_of ls ++ t ∷ []) ++ ts)
-    ∙ ap (λ (j : CommandTurn). behind_command_turn j (λ d. commands_of d ((map number_of ls ++ t ∷ []) ++ ts))) (turn_number (hand_of k done) l n.0.0 ∙ hand_more k done l n.0.1)
+    ∙ ap (λ (j : CommandTurn). after_command_turn j (λ d. commands_of d ((map number_of ls ++ t ∷ []) ++ ts))) (turn_number (hand_of k done) l n.0.0 ∙ hand_more k done l n.0.1)
     ∙ reads_literals k (done ++ l ∷ []) ls t ts n.1 z
     ∙ ap (λ (ks : List Literal). onto_commands (command_of k ks ∷ []) (commands_of Nothing ts)) (append_assoc done (l ∷ []) ls)
 
@@ -82,7 +82,7 @@ reads_spelled (c ∷ cs) front ts s =
     ∙ ap (onto_commands (c ∷ [])) (reads_spelled cs s.1 ts s.3)
 
 -- READ, AND SO SPELLED
--- the first command, behind what is in hand
+-- the first command, after what is in hand
 pub record Firstly (k : Kind) (done : List Literal) (c : Command) (cs : List Command) (end : ScriptEnding) (ts : List Token) : Type 0 where
   pub literals : List Literal
   pub last : Token
@@ -116,7 +116,7 @@ same_head b c bs cs e = cc
 same_tail : (b c : Command) (bs cs : List Command) → ◌≡◌ {A = List Command} (b ∷ bs) (c ∷ cs) → bs ≡ cs
 same_tail b c bs cs e = cc
 
--- behind a zero
+-- after a zero
 zero_first : (h : CommandHand) (t : Token) (ts : List Token) (cs : List Command) (end : ScriptEnding) → IsZero t → commands_of Nothing ts ≡ (cs, end) → From h (command_in h) cs end (t ∷ ts)
 zero_first Nothing t ts cs end z e = record {
   front = t ∷ [];
@@ -143,7 +143,7 @@ same_number : (negative : Bool) (value : ℕ) → Number negative value ≡ numb
 same_number true value = refl
 same_number false value = refl
 
--- behind a literal
+-- after a literal
 clause_first : (t : Token) (l : Literal) (ts : List Token) (c : Command) (cs : List Command) (end : ScriptEnding) → t ≡ number_of l → 0 < l.name → Firstly OfClause (l ∷ []) c cs end ts → First c cs end (t ∷ ts)
 clause_first t l ts c cs end e n s = record {
   front = map number_of (l ∷ s.literals) ++ s.last ∷ [];
@@ -166,18 +166,18 @@ literal_first k t l done ts c cs end e n m s = record {
   left = s.left;
 }
 
-within_left : (k : Kind) (done : List Literal) (t : Token) (l : Literal) (ts : List Token) (c : Command) (cs : List Command) (end : ScriptEnding) (stands : Bool) → may_stand k l.positive ≡ stands
-    → t ≡ number_of l → 0 < l.name → AllFirst ts → behind_command_turn (turn_with_literal (Within k done) l) (λ j. commands_of j ts) ≡ (c ∷ cs, end) → Firstly k done c cs end (t ∷ ts)
+within_left : (k : Kind) (done : List Literal) (t : Token) (l : Literal) (ts : List Token) (c : Command) (cs : List Command) (end : ScriptEnding) (valid : Bool) → may_stand k l.positive ≡ valid
+    → t ≡ number_of l → 0 < l.name → AllFirst ts → after_command_turn (turn_with_literal (Within k done) l) (λ j. commands_of j ts) ≡ (c ∷ cs, end) → Firstly k done c cs end (t ∷ ts)
 within_left k done t l ts c cs end true m e n ih f = literal_first k t l done ts c cs end e n m (ih (Within k (done ++ l ∷ [])) c cs end (rw m at f))
 within_left k done t l ts c cs end false m e n ih f = none_read Malformed end c cs (rw m at f)
 
 literal_left : (h : CommandHand) (t : Token) (l : Literal) (ts : List Token) (c : Command) (cs : List Command) (end : ScriptEnding) → t ≡ number_of l → 0 < l.name → AllFirst ts
-    → behind_command_turn (turn_with_literal h l) (λ j. commands_of j ts) ≡ (c ∷ cs, end) → From h c cs end (t ∷ ts)
+    → after_command_turn (turn_with_literal h l) (λ j. commands_of j ts) ≡ (c ∷ cs, end) → From h c cs end (t ∷ ts)
 literal_left Nothing t l ts c cs end e n ih f = clause_first t l ts c cs end e n (ih (Within OfClause (l ∷ [])) c cs end f)
 literal_left (Within k done) t l ts c cs end e n ih f = within_left k done t l ts c cs end (may_stand k l.positive) refl e n ih f
 
 number_left : (h : CommandHand) (negative : Bool) (value : ℕ) (ts : List Token) (c : Command) (cs : List Command) (end : ScriptEnding) (zero : Bool) → nat_eq value 0 ≡ zero → AllFirst ts
-    → behind_command_turn (command_turn h (Number negative value)) (λ j. commands_of j ts) ≡ (c ∷ cs, end) → From h c cs end (Number negative value ∷ ts)
+    → after_command_turn (command_turn h (Number negative value)) (λ j. commands_of j ts) ≡ (c ∷ cs, end) → From h c cs end (Number negative value ∷ ts)
 number_left h negative value ts c cs end true z ih f =
     let same : value ≡ 0 = grind (arith, nat_tests) in
     ends_first h (Number negative value) ts c cs end same (rw z at f)
@@ -185,7 +185,7 @@ number_left h negative value ts c cs end false z ih f =
     let some : 0 < value = grind (arith, nat_tests) in
     literal_left h (Number negative value) (record { name = value; positive = not negative }) ts c cs end (same_number negative value) some ih (rw z at f)
 
--- behind a letter
+-- after a letter
 begun : (k : Kind) (b : ℕ) (ts : List Token) (c : Command) (cs : List Command) (end : ScriptEnding) → Letter b ∷ [] ≡ letter_of k → Firstly k [] c cs end ts → First c cs end (Letter b ∷ ts)
 begun k b ts c cs end e s = record {
   front = letter_of k ++ (map number_of s.literals ++ s.last ∷ []);
@@ -199,18 +199,18 @@ letter_is : (b n : ℕ) → nat_eq b n ≡ true → ◌≡◌ {A = List Token} (
 letter_is b n e = let same : b ≡ n = grind (arith, nat_tests) in ap (λ (m : ℕ). Letter m ∷ []) same
 
 letter_left : (b : ℕ) (ts : List Token) (c : Command) (cs : List Command) (end : ScriptEnding) (is_a is_h is_w is_s : Bool) → nat_eq b 97 ≡ is_a → nat_eq b 104 ≡ is_h → nat_eq b 119 ≡ is_w → nat_eq b 115 ≡ is_s → AllFirst ts
-    → behind_command_turn (with_letter Nothing b) (λ j. commands_of j ts) ≡ (c ∷ cs, end) → First c cs end (Letter b ∷ ts)
+    → after_command_turn (with_letter Nothing b) (λ j. commands_of j ts) ≡ (c ∷ cs, end) → First c cs end (Letter b ∷ ts)
 letter_left b ts c cs end true is_h is_w is_s p q u v ih f = begun OfAsk b ts c cs end (letter_is b 97 p) (ih (Within OfAsk []) c cs end (rw p at f))
 letter_left b ts c cs end false true is_w is_s p q u v ih f = begun OfHide b ts c cs end (letter_is b 104 q) (ih (Within OfHide []) c cs end (rw (p, q) at f))
 letter_left b ts c cs end false false true is_s p q u v ih f = begun OfWitness b ts c cs end (letter_is b 119 u) (ih (Within OfWitness []) c cs end (rw (p, q, u) at f))
 letter_left b ts c cs end false false false true p q u v ih f = begun OfSample b ts c cs end (letter_is b 115 v) (ih (Within OfSample []) c cs end (rw (p, q, u, v) at f))
 letter_left b ts c cs end false false false false p q u v ih f = none_read Malformed end c cs (rw (p, q, u, v) at f)
 
-in_hand_left : (h : CommandHand) (b : ℕ) (ts : List Token) (c : Command) (cs : List Command) (end : ScriptEnding) → AllFirst ts → behind_command_turn (with_letter h b) (λ j. commands_of j ts) ≡ (c ∷ cs, end) → From h c cs end (Letter b ∷ ts)
+in_hand_left : (h : CommandHand) (b : ℕ) (ts : List Token) (c : Command) (cs : List Command) (end : ScriptEnding) → AllFirst ts → after_command_turn (with_letter h b) (λ j. commands_of j ts) ≡ (c ∷ cs, end) → From h c cs end (Letter b ∷ ts)
 in_hand_left Nothing b ts c cs end ih f = letter_left b ts c cs end (nat_eq b 97) (nat_eq b 104) (nat_eq b 119) (nat_eq b 115) refl refl refl refl ih f
 in_hand_left (Within k done) b ts c cs end ih f = none_read Malformed end c cs f
 
-token_left : (h : CommandHand) (t : Token) (ts : List Token) (c : Command) (cs : List Command) (end : ScriptEnding) → IsWord t → AllFirst ts → behind_command_turn (command_turn h t) (λ j. commands_of j ts) ≡ (c ∷ cs, end) → From h c cs end (t ∷ ts)
+token_left : (h : CommandHand) (t : Token) (ts : List Token) (c : Command) (cs : List Command) (end : ScriptEnding) → IsWord t → AllFirst ts → after_command_turn (command_turn h t) (λ j. commands_of j ts) ≡ (c ∷ cs, end) → From h c cs end (t ∷ ts)
 token_left h (Number negative value) ts c cs end w ih f = number_left h negative value ts c cs end (nat_eq value 0) refl ih f
 token_left h (Letter b) ts c cs end w ih f = in_hand_left h b ts c cs end ih f
 token_left h (Header v x) ts c cs end w ih f = absurd w
@@ -220,10 +220,10 @@ all_first : (ts : List Token) → AreWords ts → AllFirst ts
 all_first [] w h c cs end e = none_read (command_at_end h) end c cs (sym (commands_of_nil h) ∙ e)
 all_first (t ∷ ts) w h c cs end e = token_left h t ts c cs end w.0 (all_first ts w.1) (sym (commands_of_cons h t ts) ∙ e)
 
--- words behind words are words
-words_behind : (front rest : List Token) → AreWords (front ++ rest) → AreWords rest
-words_behind [] rest w = w
-words_behind (t ∷ front) rest w = words_behind front rest w.1
+-- words after words are words
+words_after : (front rest : List Token) → AreWords (front ++ rest) → AreWords rest
+words_after [] rest w = w
+words_after (t ∷ front) rest w = words_after front rest w.1
 
 -- all commands that are read
 pub record Spelled (cs : List Command) (end : ScriptEnding) (ts : List Token) : Type 0 where
@@ -238,7 +238,7 @@ all_spelled : (cs : List Command) (end : ScriptEnding) (ts : List Token) → Are
 all_spelled [] end ts w e = record { front = []; rest = ts; spelled = refl; whole = refl; left = e; words = w }
 all_spelled (c ∷ cs) end ts w e =
     let f = all_first ts w Nothing c cs end e in
-    let v : AreWords f.later = words_behind f.front f.later (subst AreWords f.whole w) in
+    let v : AreWords f.later = words_after f.front f.later (subst AreWords f.whole w) in
     let s = all_spelled cs end f.later v f.left in
     record {
       front = f.front ++ s.front;
@@ -266,29 +266,29 @@ malformed e = let f : Malformed ≡ Clean = ap (λ (r : Reading). r.1) e in absu
 within_none : {A : Type 0} (k : Kind) (ls : List Literal) → ◌≡◌ {A = CommandHand} (Within k ls) Nothing → A
 within_none k ls e = absurd (cc)
 
-none_within : (k : Kind) (done : List Literal) (l : Literal) (ts : List Token) (stands : Bool) → may_stand k l.positive ≡ stands → ((h : CommandHand) → NoneClean h ts)
-    → behind_command_turn (turn_with_literal (Within k done) l) (λ j. commands_of j ts) ≡ ([], Clean) → ⊥
+none_within : (k : Kind) (done : List Literal) (l : Literal) (ts : List Token) (valid : Bool) → may_stand k l.positive ≡ valid → ((h : CommandHand) → NoneClean h ts)
+    → after_command_turn (turn_with_literal (Within k done) l) (λ j. commands_of j ts) ≡ ([], Clean) → ⊥
 none_within k done l ts true m ih f = within_none k (done ++ l ∷ []) (ih (Within k (done ++ l ∷ [])) (rw m at f)).0
 none_within k done l ts false m ih f = malformed (rw m at f)
 
-none_literal : (h : CommandHand) (l : Literal) (ts : List Token) → ((h : CommandHand) → NoneClean h ts) → behind_command_turn (turn_with_literal h l) (λ j. commands_of j ts) ≡ ([], Clean) → ⊥
+none_literal : (h : CommandHand) (l : Literal) (ts : List Token) → ((h : CommandHand) → NoneClean h ts) → after_command_turn (turn_with_literal h l) (λ j. commands_of j ts) ≡ ([], Clean) → ⊥
 none_literal Nothing l ts ih f = within_none OfClause (l ∷ []) (ih (Within OfClause (l ∷ [])) f).0
 none_literal (Within k done) l ts ih f = none_within k done l ts (may_stand k l.positive) refl ih f
 
 none_number : (h : CommandHand) (negative : Bool) (value : ℕ) (ts : List Token) (zero : Bool) → nat_eq value 0 ≡ zero → ((h : CommandHand) → NoneClean h ts)
-    → behind_command_turn (command_turn h (Number negative value)) (λ j. commands_of j ts) ≡ ([], Clean) → ⊥
+    → after_command_turn (command_turn h (Number negative value)) (λ j. commands_of j ts) ≡ ([], Clean) → ⊥
 none_number h negative value ts true z ih f = onto_some (command_in h) (commands_of Nothing ts) Clean (rw z at f)
 none_number h negative value ts false z ih f = none_literal h (record { name = value; positive = not negative }) ts ih (rw z at f)
 
-none_begun : (o : Option Kind) (ts : List Token) → ((h : CommandHand) → NoneClean h ts) → behind_command_turn (beginning o) (λ j. commands_of j ts) ≡ ([], Clean) → ⊥
+none_begun : (o : Option Kind) (ts : List Token) → ((h : CommandHand) → NoneClean h ts) → after_command_turn (beginning o) (λ j. commands_of j ts) ≡ ([], Clean) → ⊥
 none_begun None ts ih f = malformed f
 none_begun (Some k) ts ih f = within_none k [] (ih (Within k []) f).0
 
-none_letter : (h : CommandHand) (b : ℕ) (ts : List Token) → ((h : CommandHand) → NoneClean h ts) → behind_command_turn (with_letter h b) (λ j. commands_of j ts) ≡ ([], Clean) → ⊥
+none_letter : (h : CommandHand) (b : ℕ) (ts : List Token) → ((h : CommandHand) → NoneClean h ts) → after_command_turn (with_letter h b) (λ j. commands_of j ts) ≡ ([], Clean) → ⊥
 none_letter Nothing b ts ih f = none_begun (kind_of_letter b) ts ih f
 none_letter (Within k done) b ts ih f = malformed f
 
-none_token : (h : CommandHand) (t : Token) (ts : List Token) → IsWord t → ((h : CommandHand) → NoneClean h ts) → behind_command_turn (command_turn h t) (λ j. commands_of j ts) ≡ ([], Clean) → ⊥
+none_token : (h : CommandHand) (t : Token) (ts : List Token) → IsWord t → ((h : CommandHand) → NoneClean h ts) → after_command_turn (command_turn h t) (λ j. commands_of j ts) ≡ ([], Clean) → ⊥
 none_token h (Number negative value) ts w ih f = none_number h negative value ts (nat_eq value 0) refl ih f
 none_token h (Letter b) ts w ih f = none_letter h b ts ih f
 none_token h (Header v c) ts w ih f = absurd w
@@ -333,7 +333,7 @@ to_read : (cs : List Command) (end : ScriptEnding) (ts : List Token) → AreWord
 to_read cs Clean ts w s =
     ap (commands_of Nothing) (sym (append-nil ts)) ∙ reads_spelled cs ts [] s ∙ ap (onto_commands cs) (commands_of_nil Nothing) ∙ onto_none cs Clean
 to_read cs Malformed ts w s =
-    let v : AreWords s.1 = words_behind s.0 s.1 (subst AreWords s.4 w) in
+    let v : AreWords s.1 = words_after s.0 s.1 (subst AreWords s.4 w) in
     ap (commands_of Nothing) s.4 ∙ reads_spelled cs s.0 s.1 s.2 ∙ ap (onto_commands cs) (broken_reads s.1 v s.3) ∙ onto_none cs Malformed
 
 -- WITH A HEADER
@@ -377,7 +377,7 @@ headless ts cs end w =
       λ s. ap (λ (b : Bool). with_ask b (commands_of Nothing ts)) none ∙ headless_read ts cs end w s,
     )
 
--- behind a header
+-- after a header
 asked_clean : (w : List Command) (ask : Bool) → has_ask w ≡ ask → with_ask true (w, Clean) ≡ (asked w Clean, Clean)
 asked_clean w true a = rw a refl
 asked_clean w false a = rw a refl

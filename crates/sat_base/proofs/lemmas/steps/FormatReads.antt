@@ -61,7 +61,7 @@ item_read {A} F one n x old mid new i r h =
     subst (λ (z : Result (List A) StepError). ReadsValue (Times F (suc n)) z old new) (consed x r)
     (reads_as (Then F (λ _. Times F n)) (Times F (suc n)) (λ y. y.0 ∷ y.1) (to_items F n) (from_items F n) (valued (λ y. (x, y)) r) old new (second_gives F (λ _. Times F n) one x i.0 old mid new i.2 i.1 r h))
 
--- A LOOP OVER A COUNT: whatever is read of the rest, behind what is read already, is read of all
+-- A LOOP OVER A COUNT: whatever is read of the rest, after what is read already, is read of all
 pub record Counted {A : Type 0} (F : Format A) (count left : ℕ) (xs : List A) (old mid : Source) : Type 0 where
   pub rests : (r : Result (List A) StepError) (new : Source) → ReadsValue (Times F left) r mid new → ReadsValue (Times F count) (with_front xs r) old new
 
@@ -86,7 +86,7 @@ counted_more {A} F one count left more xs x old mid later e i c = record {
 pub counted_fails : {A : Type 0} (F : Format A) → IsUniquelyDecodable F → HasText F → (count left more : ℕ) (xs : List A) (old mid new : Source) (e : StepError) → left ≡ suc more → ReadsValue F (Err e) mid new → Counted F count left xs old mid → ReadsValue (Times F count) (Err e) old new
 counted_fails F one some count left more xs old mid new e is i c = c.rests (Err e) new (subst (λ (n : ℕ). ReadsValue (Times F n) (Err e) mid new) (sym is) (item_fails F one some more e mid new i))
 
--- an item that was read, and then no room for it: some text has it there, and so many more behind it
+-- an item that was read, and then no room for it: some text has it there, and so many more after it
 pub counted_no_room : {A : Type 0} (F : Format A) → IsUniquelyDecodable F → HasText F → (count left more : ℕ) (xs : List A) (x : A) (old mid new : Source) → left ≡ suc more → ReadsValue F (Ok x) mid new → Counted F count left xs old mid → ReadsValue (Times F count) (Err errors.OutOfMemory) old new
 counted_no_room F one some count left more xs x old mid new is i c = (counted_more F one count left more xs x old mid new is i c).rests (Err errors.OutOfMemory) new ([], passes_none new, Times_text F some more)
 

@@ -20,6 +20,6 @@ no_whole {A} F one bytes l x text rest e f =
 abbrev Any : Format (Unit {0})
 Any x bytes = Unit {0}
 
-pub no_way : {A : Type 0} (F : Format A) → IsUniquelyDecodable F → (bytes front behind : List ℕ) (b : ℕ) → bytes ≡ front ++ b ∷ behind → IsProperFront F front → (BeginsText F (front ++ b ∷ []) → ⊥) → BeginsNo F bytes
-no_way F one bytes front behind b e l shut x text rest w f =
-    shut_first F (λ _. Any) one front b l shut ((x, tt), behind, (text, rest, f, tt, append_assoc front (b ∷ []) behind ∙ sym e ∙ w))
+pub no_way : {A : Type 0} (F : Format A) → IsUniquelyDecodable F → (bytes front following : List ℕ) (b : ℕ) → bytes ≡ front ++ b ∷ following → IsProperFront F front → (BeginsText F (front ++ b ∷ []) → ⊥) → BeginsNo F bytes
+no_way F one bytes front following b e l shut x text rest w f =
+    shut_first F (λ _. Any) one front b l shut ((x, tt), following, (text, rest, f, tt, append_assoc front (b ∷ []) following ∙ sym e ∙ w))

@@ -75,7 +75,7 @@ groups_end number rest old mid new r h g w =
 
 -- THEY WAIT
 
--- the groups of a number that wait behind what waited before, and room for the rest of it
+-- the groups of a number that wait after what waited before, and room for the rest of it
 pub record GroupsWait (number rest : ℕ) (before now : List ℕ) (size : ℕ) : Type 0 where
   pub left : ℕ
   pub whole : now ++ groups left rest ≡ before ++ groups 9 number
@@ -142,7 +142,7 @@ pub both_written : {A B E : Type 0} (F : Format A) (G : Format B) (x : A) (y : B
 both_written F G x y s t a b c (Ok u) p f w = (sent_more a b c s t p w.0, (s, t, f, w.1, refl))
 both_written F G x y s t a b c (Err e) p f w = sends_breaks a b c s t p w
 
--- what waits is written out behind a value
+-- what waits is written out after a value
 pub writes_last : {A E : Type 0} (F : Format A) (x : A) (text : List ℕ) (a b c : Sink) (r : Result (Unit {0}) E) → AddsToSink a b text → F x text → SendsText [] r b c → Writes F x text r a c
 writes_last F x text a b c (Ok u) p f w = (sends_last {E = Unit {0}} a b c text (Ok u) p w, f)
 writes_last F x text a b c (Err e) p f w = sends_last a b c text (Err e) p w

@@ -2,11 +2,11 @@
 use Rattle.std.proofs.Common.{◌≡◌, ℕ, zero, suc, ◌+◌, ◌*◌, ◌-◌, ◌<◌, ◌≤◌, List, [], ◌∷◌, ◌++◌, ◌⊎◌, inl, inr, Option, Some, None, append_assoc, refl, sym, ap, subst, ◌∙◌, arith}
 use Rattle.std.proofs.Math.Nat.{mul-le-mul_left}
 use Rattle.sat_base.specs.declared.device.ahead.Ahead.{Ahead}
-use Rattle.sat_base.specs.device.TakenAhead.{StandsBetween, from}
+use Rattle.sat_base.specs.device.TakenAhead.{IsEncodedBetween, from}
 use Rattle.sat_base.specs.steps.Numbers.{IsBelow}
 use Rattle.sat_base.proofs.lemmas.steps.Numbers.{Front, front_none, front_more, last_read}
 
--- Groups that go on were looked at: they stand for value, and what stands behind them counts place times.
+-- Groups that go on were looked at: they stand for value, and what stands after them counts place times.
 pub record LookedAt (value place : ℕ) (whole rest : List ℕ) : Type 0 where
   pub front : List ℕ
   pub is : Front front value place
@@ -48,24 +48,24 @@ pub looked_at_last : (limit value place b : ℕ) (whole rest more : List ℕ) �
 looked_at_last limit value place b whole rest more l e p z h =
     (l.front ++ b ∷ [], last_read limit l.front value place b l.is p (last_begins l.front place b l.begun z) h, split_more whole l.front rest more b l.split e)
 
--- the number that was read, and the place behind it
-abbrev told : Option (ℕ × ℕ) → ℕ × ℕ
-told (Some p) = p
-told None = (0, 0)
+-- the number that was read, and the place after it
+abbrev or_zeros : Option (ℕ × ℕ) → ℕ × ℕ
+or_zeros (Some p) = p
+or_zeros None = (0, 0)
 
-pub stands_between : (limit m n at after behind : ℕ) (a : Ahead) → (let p : Option (ℕ × ℕ) = Some (m, after) in let q : Option (ℕ × ℕ) = Some (n, behind) in p ≡ q) → StandsBetween limit m at after a → StandsBetween limit n at behind a
-stands_between limit m n at after behind a e s =
-    let f : m ≡ n = ap (λ (p : Option (ℕ × ℕ)). (told p).0) e in
-    let g : after ≡ behind = ap (λ (p : Option (ℕ × ℕ)). (told p).1) e in
-    subst (λ (k : ℕ). StandsBetween limit k at behind a) f (subst (λ (k : ℕ). StandsBetween limit m at k a) g s)
+pub stands_between : (limit m n at after following : ℕ) (a : Ahead) → (let p : Option (ℕ × ℕ) = Some (m, after) in let q : Option (ℕ × ℕ) = Some (n, following) in p ≡ q) → IsEncodedBetween limit m at after a → IsEncodedBetween limit n at following a
+stands_between limit m n at after following a e s =
+    let f : m ≡ n = ap (λ (p : Option (ℕ × ℕ)). (or_zeros p).0) e in
+    let g : after ≡ following = ap (λ (p : Option (ℕ × ℕ)). (or_zeros p).1) e in
+    subst (λ (k : ℕ). IsEncodedBetween limit k at following a) f (subst (λ (k : ℕ). IsEncodedBetween limit m at k a) g s)
 
--- a last group behind those that were looked at
-pub stands_last : (limit value place b n at next behind : ℕ) (a : Ahead) (rest : List ℕ) → LookedAt value place (from at a) rest → rest ≡ b ∷ from next a → b < 128 → (0 < b) ⊎ (place ≤ 1) → value + place * b ≡ n → n < limit → next ≡ behind
-    → StandsBetween limit n at behind a
-stands_last limit value place b n at next behind a rest l e p z v h w =
-    subst (λ (k : ℕ). StandsBetween limit k at behind a) v (subst (λ (k : ℕ). StandsBetween limit (value + place * b) at k a) w (looked_at_last limit value place b (from at a) rest (from next a) l e p z (omega (arith, v, h))))
+-- a last group after those that were looked at
+pub stands_last : (limit value place b n at next following : ℕ) (a : Ahead) (rest : List ℕ) → LookedAt value place (from at a) rest → rest ≡ b ∷ from next a → b < 128 → (0 < b) ⊎ (place ≤ 1) → value + place * b ≡ n → n < limit → next ≡ following
+    → IsEncodedBetween limit n at following a
+stands_last limit value place b n at next following a rest l e p z v h w =
+    subst (λ (k : ℕ). IsEncodedBetween limit k at following a) v (subst (λ (k : ℕ). IsEncodedBetween limit (value + place * b) at k a) w (looked_at_last limit value place b (from at a) rest (from next a) l e p z (omega (arith, v, h))))
 
--- a group that goes on, and what stands behind it
+-- a group that goes on, and what stands after it
 pub looked_on : (value place b at next after : ℕ) (a : Ahead) (rest : List ℕ) → LookedAt value place (from at a) rest → rest ≡ b ∷ from next a → 128 ≤ b → b < 256 → next ≡ after
     → LookedAt (value + place * (b - 128)) (place * 128) (from at a) (from after a)
 looked_on value place b at next after a rest l e p q w =

@@ -8,7 +8,7 @@ use Rattle.sat_base.specs.steps.Numbers.{IsBelow}
 use Rattle.sat_base.specs.steps.Steps.{Deletion, Redundant, Simplified, Satisfied, Step, SolverVarName, UserVarName, DeleteVar, ChangeSamplingMode, AddClause, AtClause, UnitClauses, DeleteClause, ChangeHashBits, Model, Assumptions, FailedAssumptions, End}
 use Rattle.sat_base.specs.steps.StepText.{IsVariable, IsOptionalVariable, IsLiteral, IsHash, IsFlag, IsWidth, IsDeletion, AreLiterals, AreHashes, AreHashedLiterals, tag_of, SpellsFields, SpellsStep, SpellsSteps}
 use Rattle.sat_base.specs.steps.Kinds.{is_tag}
-use Rattle.sat_base.specs.device.Reading.{Source, ConsumesBytes, ReadsValue, AnswersStepRead, Behind, NextByte}
+use Rattle.sat_base.specs.device.Reading.{Source, ConsumesBytes, ReadsValue, AnswersStepRead, FieldsAfter, NextByte}
 use Rattle.sat_base.proofs.lemmas.steps.Formats.{HasText, cancel, one_then}
 use Rattle.sat_base.proofs.lemmas.steps.Numbers.{one_below, some_below}
 use Rattle.sat_base.proofs.lemmas.device.ReadLemmas.{passes_more, faults_later}
@@ -172,20 +172,20 @@ pub deletion_satisfied : (n : ℕ) (old new : Source) → (n ≡ 0 → ⊥) → 
 deletion_satisfied n old new d e h = let f : n ≡ 2 = omega (arith, h.2.1) in (h.0, h.1, subst (λ (k : ℕ). IsBelow 3 k h.0) f h.2)
 
 -- THE TAG AND THE FIELDS
-spelled : (tag : ℕ) (step : Step) (b : List ℕ) → Behind tag step b → SpellsStep step (tag ∷ b)
+spelled : (tag : ℕ) (step : Step) (b : List ℕ) → FieldsAfter tag step b → SpellsStep step (tag ∷ b)
 spelled tag step b h = (b, ap (λ (n : ℕ). n ∷ b) (sym h.0), h.1)
 
-behind : (tag : ℕ) (step : Step) (b : List ℕ) → SpellsStep step (tag ∷ b) → Behind tag step b
-behind tag step b h = let e : tag ≡ tag_of step = let d = h.1 in cc in let f : h.0 ≡ b = let d = h.1 in cc in (sym e, subst (SpellsFields step) f h.2)
+following : (tag : ℕ) (step : Step) (b : List ℕ) → SpellsStep step (tag ∷ b) → FieldsAfter tag step b
+following tag step b h = let e : tag ≡ tag_of step = let d = h.1 in cc in let f : h.0 ≡ b = let d = h.1 in cc in (sym e, subst (SpellsFields step) f h.2)
 
-pub answers_behind : (tag : ℕ) (old mid new : Source) (r : Result Step StepError) → ConsumesBytes old mid (tag ∷ []) → ReadsValue (Behind tag) r mid new → AnswersStepRead r old new
-answers_behind tag old mid new (Ok step) p r = (tag ∷ r.0, passes_more old mid new (tag ∷ []) r.0 p r.1, spelled tag step r.0 r.2)
-answers_behind tag old mid new (Err errors.Cut) p r = (tag, r.0, (passes_more old mid new (tag ∷ []) r.0 p r.1.0, r.1.1), (r.2.0, r.2.1, r.2.2, spelled tag r.2.0 (r.0 ++ r.2.1 ∷ r.2.2) r.2.3))
-answers_behind tag old mid new (Err errors.BadByte) p r = (tag ∷ r.0, r.1, passes_more old mid new (tag ∷ []) (r.0 ++ r.1 ∷ []) p r.2, (r.3.0, r.3.1, r.3.2, spelled tag r.3.0 (r.0 ++ r.3.1 ∷ r.3.2) r.3.3), λ o. r.4 (o.0, o.1, behind tag o.0 ((r.0 ++ r.1 ∷ []) ++ o.1) o.2))
-answers_behind tag old mid new (Err errors.Read) p r = (tag ∷ r.0, faults_later old mid new (tag ∷ []) r.0 p r.1, (r.2.0, r.2.1, r.2.2, spelled tag r.2.0 (r.0 ++ r.2.1 ∷ r.2.2) r.2.3))
-answers_behind tag old mid new (Err errors.OutOfMemory) p r = (tag, r.0, passes_more old mid new (tag ∷ []) r.0 p r.1, (r.2.0, r.2.1, spelled tag r.2.0 (r.0 ++ r.2.1) r.2.2))
-answers_behind tag old mid new (Err errors.Ends) p r = absurd r
-answers_behind tag old mid new (Err errors.HasFailed) p r = absurd r
+pub answers_after : (tag : ℕ) (old mid new : Source) (r : Result Step StepError) → ConsumesBytes old mid (tag ∷ []) → ReadsValue (FieldsAfter tag) r mid new → AnswersStepRead r old new
+answers_after tag old mid new (Ok step) p r = (tag ∷ r.0, passes_more old mid new (tag ∷ []) r.0 p r.1, spelled tag step r.0 r.2)
+answers_after tag old mid new (Err errors.Cut) p r = (tag, r.0, (passes_more old mid new (tag ∷ []) r.0 p r.1.0, r.1.1), (r.2.0, r.2.1, r.2.2, spelled tag r.2.0 (r.0 ++ r.2.1 ∷ r.2.2) r.2.3))
+answers_after tag old mid new (Err errors.BadByte) p r = (tag ∷ r.0, r.1, passes_more old mid new (tag ∷ []) (r.0 ++ r.1 ∷ []) p r.2, (r.3.0, r.3.1, r.3.2, spelled tag r.3.0 (r.0 ++ r.3.1 ∷ r.3.2) r.3.3), λ o. r.4 (o.0, o.1, following tag o.0 ((r.0 ++ r.1 ∷ []) ++ o.1) o.2))
+answers_after tag old mid new (Err errors.Read) p r = (tag ∷ r.0, faults_later old mid new (tag ∷ []) r.0 p r.1, (r.2.0, r.2.1, r.2.2, spelled tag r.2.0 (r.0 ++ r.2.1 ∷ r.2.2) r.2.3))
+answers_after tag old mid new (Err errors.OutOfMemory) p r = (tag, r.0, passes_more old mid new (tag ∷ []) r.0 p r.1, (r.2.0, r.2.1, spelled tag r.2.0 (r.0 ++ r.2.1) r.2.2))
+answers_after tag old mid new (Err errors.Ends) p r = absurd r
+answers_after tag old mid new (Err errors.HasFailed) p r = absurd r
 
 -- the byte that was taken
 pub some_byte : (byte : ℕ) (o : Option ℕ) (old new : Source) → o ≡ Some byte → NextByte (Ok o) old new → ConsumesBytes old new (byte ∷ [])
@@ -196,11 +196,11 @@ known : (step : Step) → is_tag (tag_of step) ≡ true
 known (SolverVarName v u) = refl
 known step = refl
 
-no_step : (step : Step) (tag : ℕ) (b : List ℕ) → is_tag tag ≡ false → Behind tag step b → ⊥
+no_step : (step : Step) (tag : ℕ) (b : List ℕ) → is_tag tag ≡ false → FieldsAfter tag step b → ⊥
 no_step step tag b n h = let e : is_tag tag ≡ true = ap is_tag (sym h.0) ∙ known step in cc
 
 pub unknown_tag : (tag : ℕ) (old new : Source) → is_tag tag ≡ false → ConsumesBytes old new (tag ∷ []) → AnswersStepRead (Err errors.BadByte) old new
-unknown_tag tag old new n p = ([], tag, p, (End, 13, [], ([], refl, refl)), λ o. no_step o.0 tag o.1 n (behind tag o.0 o.1 o.2))
+unknown_tag tag old new n p = ([], tag, p, (End, 13, [], ([], refl, refl)), λ o. no_step o.0 tag o.1 n (following tag o.0 o.1 o.2))
 
 -- no step's text begins another's, and no text has two steps
 one_variables : IsUniquelyDecodable (Both IsVariable IsOptionalVariable)
@@ -209,28 +209,28 @@ one_variables = one_both IsVariable IsOptionalVariable (one_below var_limit) one
 one_lists : IsUniquelyDecodable (Both AreLiterals AreHashes)
 one_lists = one_both AreLiterals AreHashes one_literals one_hashes
 
-end_one : (x y : Step) (a b : List ℕ) → Behind 13 x a → Behind 13 y b → (a ≡ b) × (x ≡ y)
+end_one : (x y : Step) (a b : List ℕ) → FieldsAfter 13 x a → FieldsAfter 13 y b → (a ≡ b) × (x ≡ y)
 end_one End End a b h k = (h.1 ∙ sym k.1, refl)
 end_one End _ a b h k = absurd (omega (arith, k.0))
 end_one _ y a b h k = absurd (omega (arith, h.0))
 
-behind_one : (step : Step) → IsUniquelyDecodable (Behind (tag_of step))
-behind_one (SolverVarName v u) = form_one 1 (Both IsVariable IsOptionalVariable) (λ x. SolverVarName x.0 x.1) solver_form one_variables
-behind_one (UserVarName v u) = form_one 2 (Both IsVariable IsOptionalVariable) (λ x. UserVarName x.0 x.1) user_form one_variables
-behind_one (DeleteVar v) = form_one 3 IsVariable DeleteVar variable_form (one_below var_limit)
-behind_one (ChangeSamplingMode v f) = form_one 4 (Both IsVariable IsFlag) (λ x. ChangeSamplingMode x.0 x.1) mode_form (one_both IsVariable IsFlag (one_below var_limit) one_flag)
-behind_one (AddClause c) = form_one 5 AreLiterals AddClause clause_form one_literals
-behind_one (AtClause f c hs) = form_one 6 (Both IsFlag (Both AreLiterals AreHashes)) (λ x. AtClause x.0 x.1.0 x.1.1) at_form (one_both IsFlag (Both AreLiterals AreHashes) one_flag one_lists)
-behind_one (UnitClauses us) = form_one 7 AreHashedLiterals UnitClauses units_form one_units
-behind_one (DeleteClause c d) = form_one 8 (Both AreLiterals IsDeletion) (λ x. DeleteClause x.0 x.1) deletion_form (one_both AreLiterals IsDeletion one_literals one_deletion)
-behind_one (ChangeHashBits n) = form_one 9 IsWidth ChangeHashBits width_form (one_below 65)
-behind_one (Model c) = form_one 10 AreLiterals Model model_form one_literals
-behind_one (Assumptions c) = form_one 11 AreLiterals Assumptions assumptions_form one_literals
-behind_one (FailedAssumptions c hs) = form_one 12 (Both AreLiterals AreHashes) (λ x. FailedAssumptions x.0 x.1) failed_form one_lists
-behind_one End = λ x y a b s t h k e. end_one x y a b h k
+after_one : (step : Step) → IsUniquelyDecodable (FieldsAfter (tag_of step))
+after_one (SolverVarName v u) = form_one 1 (Both IsVariable IsOptionalVariable) (λ x. SolverVarName x.0 x.1) solver_form one_variables
+after_one (UserVarName v u) = form_one 2 (Both IsVariable IsOptionalVariable) (λ x. UserVarName x.0 x.1) user_form one_variables
+after_one (DeleteVar v) = form_one 3 IsVariable DeleteVar variable_form (one_below var_limit)
+after_one (ChangeSamplingMode v f) = form_one 4 (Both IsVariable IsFlag) (λ x. ChangeSamplingMode x.0 x.1) mode_form (one_both IsVariable IsFlag (one_below var_limit) one_flag)
+after_one (AddClause c) = form_one 5 AreLiterals AddClause clause_form one_literals
+after_one (AtClause f c hs) = form_one 6 (Both IsFlag (Both AreLiterals AreHashes)) (λ x. AtClause x.0 x.1.0 x.1.1) at_form (one_both IsFlag (Both AreLiterals AreHashes) one_flag one_lists)
+after_one (UnitClauses us) = form_one 7 AreHashedLiterals UnitClauses units_form one_units
+after_one (DeleteClause c d) = form_one 8 (Both AreLiterals IsDeletion) (λ x. DeleteClause x.0 x.1) deletion_form (one_both AreLiterals IsDeletion one_literals one_deletion)
+after_one (ChangeHashBits n) = form_one 9 IsWidth ChangeHashBits width_form (one_below 65)
+after_one (Model c) = form_one 10 AreLiterals Model model_form one_literals
+after_one (Assumptions c) = form_one 11 AreLiterals Assumptions assumptions_form one_literals
+after_one (FailedAssumptions c hs) = form_one 12 (Both AreLiterals AreHashes) (λ x. FailedAssumptions x.0 x.1) failed_form one_lists
+after_one End = λ x y a b s t h k e. end_one x y a b h k
 
 fields_one : (x y : Step) (a b s t : List ℕ) → tag_of x ≡ tag_of y → SpellsFields x a → SpellsFields y b → a ++ s ≡ b ++ t → (a ≡ b) × (x ≡ y)
-fields_one x y a b s t g h k e = behind_one x x y a b s t (refl, h) (sym g, k) e
+fields_one x y a b s t g h k e = after_one x x y a b s t (refl, h) (sym g, k) e
 
 pub one_step : IsUniquelyDecodable SpellsStep
 one_step x y a b s t h k e =

@@ -13,12 +13,12 @@ use Rattle.sat_base.proofs.lemmas.device.ReadLemmas.{passes_none, took_text}
 use Rattle.sat_base.proofs.lemmas.steps.Formats.{HasText, Times_text}
 use Rattle.sat_base.proofs.lemmas.steps.FormatReads.{Counted, item_read, with_front, front_none}
 
--- the texts of so many items stand in front of the rest, and the items behind those of before
+-- the texts of so many items stand in front of the rest, and the items after those of before
 pub record Taken (F : Format ℕ) (n : ℕ) (before now whole rest : List ℕ) : Type 0 where
   pub items : List ℕ
   pub text : List ℕ
   pub count : length items ≡ n
-  pub behind : now ≡ before ++ items
+  pub following : now ≡ before ++ items
   pub spelt : Items F items text
   pub split : whole ≡ text ++ rest
 
@@ -31,7 +31,7 @@ taken_more F n x before now whole rest text more t f e = record {
   items = t.items ++ x ∷ [];
   text = t.text ++ text;
   count = length-append t.items (x ∷ []) ∙ ap (λ (k : ℕ). k + 1) t.count;
-  behind = ap (λ (z : List ℕ). z ++ x ∷ []) t.behind ∙ append_assoc before t.items (x ∷ []);
+  following = ap (λ (z : List ℕ). z ++ x ∷ []) t.following ∙ append_assoc before t.items (x ∷ []);
   spelt = items_more F t.items x t.text text t.spelt f;
   split = t.split ∙ ap (λ (z : List ℕ). t.text ++ z) e ∙ sym (append_assoc t.text text more);
 }
@@ -48,7 +48,7 @@ front_two : {A : Type 0} (xs ys : List A) (r : Result (List A) StepError) → wi
 front_two xs ys (Ok zs) = ap (λ ws. Ok ws) (sym (append_assoc xs ys zs))
 front_two xs ys (Err e) = refl
 
--- whatever is read of the rest, behind items that waited
+-- whatever is read of the rest, after items that waited
 items_then : (F : Format ℕ) → IsUniquelyDecodable F → (more : ℕ) (xs text ws : List ℕ) (s : Reader) (n : ℕ) (names : List ℕ) (r : Result (List ℕ) StepError) (new : Source) → Items F xs text → ReadsValue (Times F more) r (with_waiting s ws n names) new
     → ReadsValue (Times F (length xs + more)) (with_front xs r) (with_waiting s (text ++ ws) n names) new
 items_then F one more [] text ws s n names r new i h =

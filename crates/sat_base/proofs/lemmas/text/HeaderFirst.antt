@@ -1,7 +1,7 @@
 -- Of a text's tokens only the first may be a header.
 use Rattle.std.proofs.Common.{◌≡◌, ℕ, ◌+◌, List, [], ◌∷◌, ◌++◌, Bool, true, false, cond, Option, Some, None, refl, sym, subst, ◌⊎◌, inl, inr}
 use Rattle.std.specs.Prelude.{nat_eq, ◌&&◌}
-use Rattle.sat_base.specs.text.Text.{words, begins_with, is_letter, digits, plain, minus, behind_minus, alone, token, header_if, is_none, on_line, Token, Number, Header, Wrong, tokens_of, lines, scan, tokens}
+use Rattle.sat_base.specs.text.Text.{words, begins_with, is_letter, digits, plain, minus, after_minus, alone, token, header_if, is_none, on_line, Token, Number, Header, Wrong, tokens_of, lines, scan, tokens}
 use Rattle.sat_base.specs.script.Language.{spoken}
 
 -- no header
@@ -24,9 +24,9 @@ minus_word : (o : Option ℕ) → IsWord (minus o)
 minus_word None = tt
 minus_word (Some n) = either (nat_eq n 0) Wrong (Number true n) tt tt
 
-behind_minus_word : (w : List ℕ) → IsWord (behind_minus w)
-behind_minus_word [] = tt
-behind_minus_word (b ∷ bs) = minus_word (digits 0 (b ∷ bs))
+after_minus_word : (w : List ℕ) → IsWord (after_minus w)
+after_minus_word [] = tt
+after_minus_word (b ∷ bs) = minus_word (digits 0 (b ∷ bs))
 
 plain_word : (o : Option ℕ) → IsWord (plain o)
 plain_word None = tt
@@ -39,7 +39,7 @@ alone_word b (c ∷ bs) = tt
 pub word_token : (w : List ℕ) → IsWord (token w)
 unfolding token
 word_token [] = tt
-word_token (b ∷ bs) = either (nat_eq b 45) _ _ (behind_minus_word bs) (either (is_letter b) _ _ (alone_word b bs) (plain_word (digits 0 (b ∷ bs))))
+word_token (b ∷ bs) = either (nat_eq b 45) _ _ (after_minus_word bs) (either (is_letter b) _ _ (alone_word b bs) (plain_word (digits 0 (b ∷ bs))))
 
 line_words : (n : ℕ) (ws : List (List ℕ)) (more : List (ℕ × Token)) → AreWords (spoken more) → AreWords (spoken (on_line n ws ++ more))
 line_words n [] more h = h
@@ -73,13 +73,13 @@ late n (line ∷ ls) =
     subst (λ (ts : List (ℕ × Token)). AreWords (spoken ts)) (sym (of_line false n line ls))
     (chosen (λ ts. AreWords (spoken ts)) (begins_with 37 line) (begins_with 99 line) (begins_with 112 line) _ _ _ _ tt rest (tt, rest) (line_words (n + 1) (words line) _ rest))
 
-behind_header : (t : Token) (ts : List Token) → AreWords ts → AreScript (t ∷ ts)
-behind_header (Header v c) ts h = inr (v, c, ts, h, refl)
-behind_header e ts h = inl (tt, h)
+after_header : (t : Token) (ts : List Token) → AreWords ts → AreScript (t ∷ ts)
+after_header (Header v c) ts h = inr (v, c, ts, h, refl)
+after_header e ts h = inl (tt, h)
 
-behind_words : (n : ℕ) (ws : List (List ℕ)) (ls : List (List ℕ)) → AreScript (spoken (tokens_of true n ls)) → AreScript (spoken (on_line n ws ++ tokens_of (is_none ws) n ls))
-behind_words n [] ls h = h
-behind_words n (w ∷ ws) ls h = inl (line_words n (w ∷ ws) _ (late n ls))
+after_words : (n : ℕ) (ws : List (List ℕ)) (ls : List (List ℕ)) → AreScript (spoken (tokens_of true n ls)) → AreScript (spoken (on_line n ws ++ tokens_of (is_none ws) n ls))
+after_words n [] ls h = h
+after_words n (w ∷ ws) ls h = inl (line_words n (w ∷ ws) _ (late n ls))
 
 -- where one may
 early : (n : ℕ) (ls : List (List ℕ)) → AreScript (spoken (tokens_of true n ls))
@@ -87,7 +87,7 @@ early n [] = rw (of_none true n) (inl tt)
 early n (line ∷ ls) =
     let rest = early (n + 1) ls in
     subst (λ (ts : List (ℕ × Token)). AreScript (spoken ts)) (sym (of_line true n line ls))
-    (chosen (λ ts. AreScript (spoken ts)) (begins_with 37 line) (begins_with 99 line) (begins_with 112 line) _ _ _ _ (inl tt) rest (behind_header _ _ (late (n + 1) ls)) (behind_words (n + 1) (words line) ls rest))
+    (chosen (λ ts. AreScript (spoken ts)) (begins_with 37 line) (begins_with 99 line) (begins_with 112 line) _ _ _ _ (inl tt) rest (after_header _ _ (late (n + 1) ls)) (after_words (n + 1) (words line) ls rest))
 
 pub text_is : (text : List ℕ) → AreScript (spoken (tokens text))
 unfolding scan

@@ -9,11 +9,11 @@ use Rattle.sat_base.specs.declared.text.header.Stage.TheVariants as stage
 use Rattle.sat_base.specs.declared.text.Token.{Token as CodeToken}
 use Rattle.sat_base.specs.declared.text.Token.TheVariants as code
 use Rattle.sat_base.specs.text.Text.{is_blank, is_digit, digits, Token, Header}
-use Rattle.sat_base.specs.text.Position.{Stage, Begun, Named, Format, Vars, Both, with_value, stage_end, behind_word, Position, HeaderWithin, Spoilt, HasNoBlank, in_hand, behind_header_word}
-use Rattle.sat_base.specs.text.Tokenizing.{held_token, BeginsSpoilt, IsAtHeader, MovesPosition, MovesHeader, BeganHeader, grown, IsHeldToken, SaysInHand, ended_stage, IsStageIf, LeadsBehind}
+use Rattle.sat_base.specs.text.Position.{Stage, Begun, Named, Format, Vars, Both, with_value, stage_end, after_word, Position, HeaderWithin, Spoilt, HasNoBlank, in_hand, after_header_word}
+use Rattle.sat_base.specs.text.Tokenizing.{held_token, BeginsSpoilt, IsAtHeader, MovesPosition, MovesHeader, BeganHeader, grown, IsHeldToken, SaysInHand, ended_stage, IsStageIf, LeadsAfter}
 use Rattle.sat_base.proofs.lemmas.text.Positions.{Solid-more, header_between_word, header_within_more, header_spoilt}
 use Rattle.sat_base.proofs.lemmas.text.Words.{SpellsHeld_one, SpellsHeld_more, digits_stop, digits_wrong_in}
-use Rattle.sat_base.proofs.lemmas.text.Places.{no_LF, behind_word_in_header}
+use Rattle.sat_base.proofs.lemmas.text.Places.{no_LF, after_word_in_header}
 
 -- a byte that is no digit leaves no number
 spoilt_number : (d : ℕ) (w : List ℕ) → is_digit d ≡ false → (s : ℕ → Stage) → (more : List ℕ) → with_value s (digits 0 ((d ∷ w) ++ more)) ≡ None
@@ -38,8 +38,8 @@ begun_clauses vars b f d small s (v, h, e) = rw e (v, b, [], h, (f, tt), SpellsH
 pub begun_no_clauses : (vars b : ℕ) → is_digit b ≡ false → BeganHeader (stage.Vars vars) b None
 begun_no_clauses vars b d s (v, h, e) more = rw e (spoilt_number b [] d (Both v) more)
 
-pub begun_behind_both : (vars clauses b : ℕ) → BeganHeader (stage.Both vars clauses) b None
-begun_behind_both vars clauses b s (v, c, h, k, e) more = rw e refl
+pub begun_after_both : (vars clauses b : ℕ) → BeganHeader (stage.Both vars clauses) b None
+begun_after_both vars clauses b s (v, c, h, k, e) more = rw e refl
 
 -- WORDS GO ON
 -- a byte that begins a word
@@ -105,13 +105,13 @@ abbrev pub EndsAs : HeaderPlace → Option CodeStage → Type 0
 EndsAs place o = (spot : Position) → IsAtHeader place spot → IsStageIf o (ended_stage spot)
 
 -- where the line ends
-in_hand_is : (p : HeaderPlace) (spot : Position) (n : ℕ) → IsAtHeader p spot → in_hand spot n ≡ (n + 1, behind_word (ended_stage spot) stage_end) ∷ []
+in_hand_is : (p : HeaderPlace) (spot : Position) (n : ℕ) → IsAtHeader p spot → in_hand spot n ≡ (n + 1, after_word (ended_stage spot) stage_end) ∷ []
 in_hand_is (header.Between ended) spot n (s, h, e) = rw e refl
 in_hand_is (header.Vars value) spot n (x, w, s, h, e) = rw e refl
 in_hand_is (header.Clauses vars value) spot n (v, x, w, k, s, h, e) = rw e refl
 in_hand_is z spot n e = rw e refl
 
-given_at_end : (p : HeaderPlace) (spot : Position) (t : Token) (given : CodeToken) → IsAtHeader p spot → given ≡ held_token t → behind_word (ended_stage spot) stage_end ≡ t → IsHeldToken (Some given) (in_hand spot)
+given_at_end : (p : HeaderPlace) (spot : Position) (t : Token) (given : CodeToken) → IsAtHeader p spot → given ≡ held_token t → after_word (ended_stage spot) stage_end ≡ t → IsHeldToken (Some given) (in_hand spot)
 given_at_end p spot t given i h e = (t, h, λ n. in_hand_is p spot n i ∙ ap (λ (u : Token). (n + 1, u) ∷ []) e)
 
 pub says_header : (p : HeaderPlace) (vars clauses : ℕ) → EndsAs p (Some (stage.Both vars clauses)) → SaysInHand (Some (code.Header vars clauses)) (at.Header p)
@@ -119,10 +119,10 @@ says_header p vars clauses ends spot i =
     let h = ends spot i in
     let both = h.1 in
     given_at_end p spot (Header both.0 both.1) (code.Header vars clauses) i (rw (both.2, both.3) refl)
-    (ap (λ (o : Option Stage). behind_word o stage_end) h.2 ∙ ap stage_end both.4)
+    (ap (λ (o : Option Stage). after_word o stage_end) h.2 ∙ ap stage_end both.4)
 
-pub behind_spoilt : (p : HeaderPlace) → EndsAs p None → LeadsBehind (at.Header p) (at.Comment false)
-behind_spoilt p ends spot i = behind_word_in_header p spot i ∙ ap behind_header_word (ends spot i)
+pub after_spoilt : (p : HeaderPlace) → EndsAs p None → LeadsAfter (at.Header p) (at.Comment false)
+after_spoilt p ends spot i = after_word_in_header p spot i ∙ ap after_header_word (ends spot i)
 
-pub behind_ended : (p : HeaderPlace) (ended : CodeStage) → EndsAs p (Some ended) → LeadsBehind (at.Header p) (at.Header (header.Between ended))
-behind_ended p ended ends spot i = let h = ends spot i in (h.0, h.1, behind_word_in_header p spot i ∙ ap behind_header_word h.2)
+pub after_ended : (p : HeaderPlace) (ended : CodeStage) → EndsAs p (Some ended) → LeadsAfter (at.Header p) (at.Header (header.Between ended))
+after_ended p ended ends spot i = let h = ends spot i in (h.0, h.1, after_word_in_header p spot i ∙ ap after_header_word h.2)

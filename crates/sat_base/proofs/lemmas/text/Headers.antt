@@ -2,13 +2,13 @@
 use Rattle.std.proofs.Common.{◌≡◌, ℕ, List, [], ◌∷◌, Bool, true, false, cond, Option, Some, None, refl, ap, ◌∙◌}
 use Rattle.std.specs.Prelude.{◌&&◌, codes}
 use Rattle.sat_base.specs.text.Text.{digits, same_bytes, with_numbers, header_in, Token, Wrong}
-use Rattle.sat_base.specs.text.Position.{Stage, Begun, Named, Format, Vars, Both, with_value, stage_behind, stage_end, behind_word, stage_token}
+use Rattle.sat_base.specs.text.Position.{Stage, Begun, Named, Format, Vars, Both, with_value, stage_after, stage_end, after_word, stage_token}
 
 pub stage_nil : (stage : Stage) → stage_token stage [] ≡ stage_end stage
 unfolding stage_token
 stage_nil stage = refl
 
-pub stage_cons : (stage : Stage) (w : List ℕ) (ws : List (List ℕ)) → stage_token stage (w ∷ ws) ≡ behind_word (stage_behind stage w) (λ s. stage_token s ws)
+pub stage_cons : (stage : Stage) (w : List ℕ) (ws : List (List ℕ)) → stage_token stage (w ∷ ws) ≡ after_word (stage_after stage w) (λ s. stage_token s ws)
 unfolding stage_token
 stage_cons stage w ws = refl
 
@@ -16,11 +16,11 @@ stage_cons stage w ws = refl
 abbrev Fails : Stage → List (List ℕ) → Type 0
 Fails stage ws = stage_token stage ws ≡ Wrong
 
-if_fails : (b : Bool) (s : Stage) (more : Stage → Token) → more s ≡ Wrong → behind_word (cond b (Some s) None) more ≡ Wrong
+if_fails : (b : Bool) (s : Stage) (more : Stage → Token) → more s ≡ Wrong → after_word (cond b (Some s) None) more ≡ Wrong
 if_fails true s more h = h
 if_fails false s more h = refl
 
-value_fails : (o : Option ℕ) (stage : ℕ → Stage) (more : Stage → Token) → ((n : ℕ) → more (stage n) ≡ Wrong) → behind_word (with_value stage o) more ≡ Wrong
+value_fails : (o : Option ℕ) (stage : ℕ → Stage) (more : Stage → Token) → ((n : ℕ) → more (stage n) ≡ Wrong) → after_word (with_value stage o) more ≡ Wrong
 value_fails None stage more h = refl
 value_fails (Some n) stage more h = h n
 
@@ -37,15 +37,15 @@ vars_fails : (v : ℕ) (w : List ℕ) (ws : List (List ℕ)) → ((c : ℕ) → 
 vars_fails v w ws h = stage_cons (Vars v) w ws ∙ value_fails (digits 0 w) (Both v) (λ s. stage_token s ws) h
 
 -- LINES OF FOUR
-if_goes : (b : Bool) (s : Stage) (more : Stage → Token) → behind_word (cond b (Some s) None) more ≡ cond b (more s) Wrong
+if_goes : (b : Bool) (s : Stage) (more : Stage → Token) → after_word (cond b (Some s) None) more ≡ cond b (more s) Wrong
 if_goes true s more = refl
 if_goes false s more = refl
 
-one_number : (v : ℕ) (c : Option ℕ) → behind_word (with_value (Both v) c) (λ s. stage_token s []) ≡ with_numbers (Some v) c
+one_number : (v : ℕ) (c : Option ℕ) → after_word (with_value (Both v) c) (λ s. stage_token s []) ≡ with_numbers (Some v) c
 one_number v None = refl
 one_number v (Some c) = stage_nil (Both v c)
 
-two_numbers : (v : Option ℕ) (c : List ℕ) → behind_word (with_value Vars v) (λ s. stage_token s (c ∷ [])) ≡ with_numbers v (digits 0 c)
+two_numbers : (v : Option ℕ) (c : List ℕ) → after_word (with_value Vars v) (λ s. stage_token s (c ∷ [])) ≡ with_numbers v (digits 0 c)
 two_numbers None c = refl
 two_numbers (Some v) c = stage_cons (Vars v) c [] ∙ one_number v (digits 0 c)
 

@@ -9,8 +9,8 @@ use Rattle.sat_base.specs.declared.text.header.HeaderPlace.TheVariants as header
 use Rattle.sat_base.specs.declared.text.Token.{Token as CodeToken}
 use Rattle.sat_base.specs.declared.text.Token.TheVariants as code
 use Rattle.sat_base.specs.text.Text.{is_blank, is_digit, minus, token, Token, Number, Letter, Wrong}
-use Rattle.sat_base.specs.text.Position.{Stage, Position, Fresh, Leading, Comment, Within, HeaderWithin, Spoilt, Over, IsPosition, in_hand, behind_header_word, behind_blank, line_at}
-use Rattle.sat_base.specs.text.Tokenizing.{held, held_token, IsAtHeader, IsAt, MovesPosition, MovesPlace, Began, grown, IsHeldToken, SaysInHand, ended_stage, LeadsBehind, LeadsBelow, may_come}
+use Rattle.sat_base.specs.text.Position.{Stage, Position, Fresh, Leading, Comment, Within, HeaderWithin, Spoilt, Over, IsPosition, in_hand, after_header_word, following_blank, line_at}
+use Rattle.sat_base.specs.text.Tokenizing.{held, held_token, IsAtHeader, IsAt, MovesPosition, MovesPlace, Began, grown, IsHeldToken, SaysInHand, ended_stage, LeadsAfter, LeadsBelow, may_come}
 use Rattle.sat_base.proofs.lemmas.text.Positions.{Solid-more, fresh_leads, leading_comment, leading_end, leading_header, leading_late_header, leading_word, comment_more, between_word, within_more, spoilt_more, over_more}
 use Rattle.sat_base.proofs.lemmas.text.Words.{SpellsHeld_one, SpellsHeld_more, BeginsWrong_more, BeginsWrong_letter, BeginsWrong_plain, BeginsWrong_minus, BeginsWrong_negative, word_plain, word_minus, word_bare, word_letter, word_wrong}
 
@@ -104,13 +104,13 @@ pub line-in_hand : (spot : Position) (n : ℕ) (t : ℕ × Token) → in_hand sp
 line-in_hand (Fresh may) n t e = absurd (cc)
 line-in_hand x n t e = refl
 
-line-header_word : (o : Option Stage) (n : ℕ) → line_at (behind_header_word o) n ≡ n + 1
+line-header_word : (o : Option Stage) (n : ℕ) → line_at (after_header_word o) n ≡ n + 1
 line-header_word None n = refl
 line-header_word (Some s) n = refl
 
-pub line-behind_blank : (spot : Position) (n : ℕ) → line_at (behind_blank spot) n ≡ n + 1
-line-behind_blank (HeaderWithin s x w) n = line-header_word _ n
-line-behind_blank e n = refl
+pub line-following_blank : (spot : Position) (n : ℕ) → line_at (following_blank spot) n ≡ n + 1
+line-following_blank (HeaderWithin s x w) n = line-header_word _ n
+line-following_blank e n = refl
 
 pub line-Fresh : (p : Place) (may : Bool) (spot : Position) (n : ℕ) → p ≡ at.Fresh may → IsAt p spot → line_at spot n ≡ n
 line-Fresh p may spot n e i = let f : IsAt (at.Fresh may) spot = rw e at i in rw f refl
@@ -130,16 +130,16 @@ line-other at.Bad spot n h (x, w, s, k, e) = rw e refl
 line-other (at.Header place) spot n h i = header-line place spot n i
 line-other z spot n h e = rw e refl
 
--- BEHIND BLANKS
-pub behind_number : (negative : Bool) (v : ℕ) → LeadsBehind (at.Digits negative v) at.Between
-behind_number false v spot (x, w, s, h, n, l, e) = rw e refl
-behind_number true v spot (w, s, some_w, h, e) = rw e refl
+-- AFTER BLANKS
+pub after_number : (negative : Bool) (v : ℕ) → LeadsAfter (at.Digits negative v) at.Between
+after_number false v spot (x, w, s, h, n, l, e) = rw e refl
+after_number true v spot (w, s, some_w, h, e) = rw e refl
 
-pub behind_word_in_header : (p : HeaderPlace) (spot : Position) → IsAtHeader p spot → behind_blank spot ≡ behind_header_word (ended_stage spot)
-behind_word_in_header (header.Between ended) spot (s, h, e) = rw e refl
-behind_word_in_header (header.Vars value) spot (x, w, s, h, e) = rw e refl
-behind_word_in_header (header.Clauses vars value) spot (v, x, w, k, s, h, e) = rw e refl
-behind_word_in_header z spot e = rw e refl
+pub after_word_in_header : (p : HeaderPlace) (spot : Position) → IsAtHeader p spot → following_blank spot ≡ after_header_word (ended_stage spot)
+after_word_in_header (header.Between ended) spot (s, h, e) = rw e refl
+after_word_in_header (header.Vars value) spot (x, w, s, h, e) = rw e refl
+after_word_in_header (header.Clauses vars value) spot (v, x, w, k, s, h, e) = rw e refl
+after_word_in_header z spot e = rw e refl
 
 pub below : (p : Place) → (p ≡ at.Over → ⊥) → LeadsBelow p (at.Fresh (may_come p))
 below (at.Digits false value) h spot (x, w, s, k, m, l, e) = rw e refl

@@ -3,7 +3,7 @@ use Rattle.std.proofs.Common.{◌≡◌, ℕ, ◌+◌, List, [], ◌∷◌, ◌+
 use Rattle.std.specs.Prelude.{nat_eq, not, ◌&&◌}
 use Rattle.std.proofs.lemmas.List.{append-nil}
 use Rattle.sat_base.specs.text.Text.{is_blank, onto_first, lines, goes_on, words, begins_with, header_if, is_none, on_line, last_line, Wrong, tokens_of, Scan, scan}
-use Rattle.sat_base.specs.text.Position.{first_line, later_lines, Stage, Begun, stage_behind, stage_end, behind_word, stage_token, Position, Fresh, Leading, Comment, Between, Within, HeaderBetween, HeaderWithin, Spoilt, Over, HasNoBlank, IsPosition, left, in_hand, behind_LF, lines_behind, behind_header_word, behind_blank, spoils, ended_by_blank, line_at, onto}
+use Rattle.sat_base.specs.text.Position.{first_line, later_lines, Stage, Begun, stage_after, stage_end, after_word, stage_token, Position, Fresh, Leading, Comment, Between, Within, HeaderBetween, HeaderWithin, Spoilt, Over, HasNoBlank, IsPosition, left, in_hand, after_LF, lines_after, after_header_word, following_blank, spoils, ended_by_blank, line_at, onto}
 use Rattle.sat_base.specs.text.Tokenizing.{BeginsSpoilt}
 use Rattle.sat_base.proofs.lemmas.text.Headers.{stage_nil, stage_cons, header_in_is}
 
@@ -171,15 +171,15 @@ unfolding left scan
 start text = refl
 
 -- a word of a header line, where the line ends
-last_word : (o : Option Stage) → behind_word o (λ s. stage_token s []) ≡ behind_word o stage_end
+last_word : (o : Option Stage) → after_word o (λ s. stage_token s []) ≡ after_word o stage_end
 last_word None = refl
 last_word (Some s) = stage_nil s
 
-stage_one : (stage : Stage) (w : List ℕ) → stage_token stage (w ∷ []) ≡ behind_word (stage_behind stage w) stage_end
-stage_one stage w = stage_cons stage w [] ∙ last_word (stage_behind stage w)
+stage_one : (stage : Stage) (w : List ℕ) → stage_token stage (w ∷ []) ≡ after_word (stage_after stage w) stage_end
+stage_one stage w = stage_cons stage w [] ∙ last_word (stage_after stage w)
 
 -- LF: what is in hand ends, and so does the line
-pub LF_left : (spot : Position) (n : ℕ) (bs : List ℕ) → IsPosition spot → left spot n (10 ∷ bs) ≡ onto (in_hand spot n) (left (behind_LF spot) (lines_behind spot n) bs)
+pub LF_left : (spot : Position) (n : ℕ) (bs : List ℕ) → IsPosition spot → left spot n (10 ∷ bs) ≡ onto (in_hand spot n) (left (after_LF spot) (lines_after spot n) bs)
 unfolding left
 LF_left (Fresh may) n bs s = rw (lines_LF bs, of_blanks may n (10 ∷ []) (lines bs) LF_begins (words_blank_one 10 refl), last_line_cons n (10 ∷ []) (lines bs) (LF_begins.ends)) refl
 LF_left (Leading may) n bs s = rw (lines_LF bs, of_blanks may n (10 ∷ []) (lines bs) LF_begins (words_blank_one 10 refl), last_line_cons n (10 ∷ []) (lines bs) (LF_begins.ends)) refl
@@ -191,7 +191,7 @@ LF_left (HeaderWithin stage x w) n bs s = rw (lines_LF bs, word_cut x w 10 [] s 
 LF_left Spoilt n bs s = rw (lines_LF bs) refl
 LF_left Over n bs s = refl
 
--- any other byte at a line's start is as behind blanks
+-- any other byte at a line's start is as after blanks
 pub fresh_leads : (may : Bool) (n b : ℕ) (bs : List ℕ) → nat_eq b 10 ≡ false → left (Fresh may) n (b ∷ bs) ≡ left (Leading may) n (b ∷ bs)
 unfolding left
 fresh_leads may n b bs e = rw (lines_more b bs e) refl
@@ -201,16 +201,16 @@ unfolding left
 leading_blank may n b bs e f =
     rw (lines_more b bs e, skips may n b (first_line (lines bs)) (later_lines (lines bs)) f, last_skips n b (first_line (lines bs)) (later_lines (lines bs)) f) refl
 
--- a blank behind a word of a header line
+-- a blank after a word of a header line
 header_blank : (o : Option Stage) (n : ℕ) (bs : List ℕ)
-    → record { tokens = (n + 1, behind_word o (λ s. stage_token s (words (first_line (lines bs))))) ∷ tokens_of false (n + 1) (later_lines (lines bs)); last = last_line (n + 1) (later_lines (lines bs)) }
-    ≡ onto (spoils o n) (left (behind_header_word o) n bs)
+    → record { tokens = (n + 1, after_word o (λ s. stage_token s (words (first_line (lines bs))))) ∷ tokens_of false (n + 1) (later_lines (lines bs)); last = last_line (n + 1) (later_lines (lines bs)) }
+    ≡ onto (spoils o n) (left (after_header_word o) n bs)
 unfolding left
 header_blank None n bs = refl
 header_blank (Some stage) n bs = refl
 
 -- a blank that ends no line: the word in hand ends
-pub blank_left : (spot : Position) (n b : ℕ) (bs : List ℕ) → IsPosition spot → nat_eq b 10 ≡ false → is_blank b ≡ true → left spot n (b ∷ bs) ≡ onto (ended_by_blank spot n) (left (behind_blank spot) n bs)
+pub blank_left : (spot : Position) (n b : ℕ) (bs : List ℕ) → IsPosition spot → nat_eq b 10 ≡ false → is_blank b ≡ true → left spot n (b ∷ bs) ≡ onto (ended_by_blank spot n) (left (following_blank spot) n bs)
 unfolding left
 blank_left (Fresh may) n b bs s e f = fresh_leads may n b bs e ∙ leading_blank may n b bs e f
 blank_left (Leading may) n b bs s e f = leading_blank may n b bs e f
@@ -219,7 +219,7 @@ blank_left Between n b bs s e f = rw (lines_more b bs e, words_blank b (first_li
 blank_left (Within x w) n b bs s e f = rw (lines_more b bs e, word_cut x w b (first_line (lines bs)) s f) refl
 blank_left (HeaderBetween stage) n b bs s e f = rw (lines_more b bs e, words_blank b (first_line (lines bs)) f) refl
 blank_left (HeaderWithin stage x w) n b bs s e f =
-    rw (lines_more b bs e, word_cut x w b (first_line (lines bs)) s f, stage_cons stage (x ∷ w) (words (first_line (lines bs)))) (header_blank (stage_behind stage (x ∷ w)) n bs)
+    rw (lines_more b bs e, word_cut x w b (first_line (lines bs)) s f, stage_cons stage (x ∷ w) (words (first_line (lines bs)))) (header_blank (stage_after stage (x ∷ w)) n bs)
 blank_left Spoilt n b bs s e f = rw (lines_more b bs e) refl
 blank_left Over n b bs s e f = refl
 
@@ -293,7 +293,7 @@ header_within_more stage x w n b bs e = rw (lines_more b bs e, sym (append_assoc
 spoils_line : (stage : Stage) (x : ℕ) (w bs : List ℕ) → HasNoBlank (x ∷ w) → BeginsSpoilt stage (x ∷ w) → stage_token stage (words ((x ∷ w) ++ bs)) ≡ Wrong
 spoils_line stage x w bs s h =
     let front = first_word x w bs s in
-    ap (stage_token stage) front.2 ∙ stage_cons stage ((x ∷ w) ++ front.0) front.1 ∙ ap (λ (o : Option Stage). behind_word o (λ s. stage_token s front.1)) (h front.0)
+    ap (stage_token stage) front.2 ∙ stage_cons stage ((x ∷ w) ++ front.0) front.1 ∙ ap (λ (o : Option Stage). after_word o (λ s. stage_token s front.1)) (h front.0)
 
 pub header_spoilt : (stage : Stage) (x : ℕ) (w : List ℕ) (n : ℕ) (bs : List ℕ) → HasNoBlank (x ∷ w) → BeginsSpoilt stage (x ∷ w) → left (HeaderWithin stage x w) n bs ≡ left Spoilt n bs
 unfolding left

@@ -10,16 +10,16 @@ use Rattle.sat_base.specs.declared.text.Token.{Token as CodeToken}
 use Rattle.sat_base.specs.declared.text.Token.TheVariants as code
 use Rattle.sat_base.specs.declared.text.Tokenizer.{Tokenizer}
 use Rattle.sat_base.specs.text.Text.{is_blank, lines, on_line, tokens_of, Token, Wrong, Scan}
-use Rattle.sat_base.specs.text.Position.{first_line, later_lines, Stage, Named, Format, Position, Within, Spoilt, HasNoBlank, left, in_hand, spoils, ended_by_blank, behind_blank}
-use Rattle.sat_base.specs.text.WrongWords.{HaveNoWrongWord, RightAhead, WrongAhead}
-use Rattle.sat_base.specs.text.Tokenizing.{held_token, BeginsWrong, IsAtHeader, IsAt, MovesPlace, BeganHeader, grown, IsHeldToken, SaysInHand, SaysAtBlank, ended_stage, LeadsBehind, IsQuiet, StandsBefore}
+use Rattle.sat_base.specs.text.Position.{first_line, later_lines, Stage, Named, Format, Position, Within, Spoilt, HasNoBlank, left, in_hand, spoils, ended_by_blank, following_blank}
+use Rattle.sat_base.specs.text.WrongWords.{HaveNoWrongWord, HasValidContinuation, HasNoValidContinuation}
+use Rattle.sat_base.specs.text.Tokenizing.{held_token, BeginsWrong, IsAtHeader, IsAt, MovesPlace, BeganHeader, grown, IsHeldToken, SaysInHand, SaysAtBlank, ended_stage, LeadsAfter, IsQuiet, IsPositionedBefore}
 use Rattle.sat_base.proofs.lemmas.text.Positions.{first_word, blank_left, end_left, last_left_end}
 use Rattle.sat_base.proofs.lemmas.text.Places.{IsSpot_of, moves_minus_digit, moves_digit, says_letter, says_number}
-use Rattle.sat_base.proofs.lemmas.text.HeaderPlaces.{EndsAs, begun_c, begun_vars, begun_clauses, between_moves, c_n, cn_f, ended_vars, ended_clauses, says_header, behind_ended}
+use Rattle.sat_base.proofs.lemmas.text.HeaderPlaces.{EndsAs, begun_c, begun_vars, begun_clauses, between_moves, c_n, cn_f, ended_vars, ended_clauses, says_header, after_ended}
 
 -- some bytes may follow at this place so that nothing more is wrong
 abbrev MayBeRight : Place → Type 0
-MayBeRight p = (spot : Position) → IsAt p spot → (n : ℕ) → RightAhead (left spot n)
+MayBeRight p = (spot : Position) → IsAt p spot → (n : ℕ) → HasValidContinuation (left spot n)
 
 -- none is in hand, or one that isn't wrong
 abbrev IsRight : Option CodeToken → Type 0
@@ -43,9 +43,9 @@ right_before p q b m r spot i n =
     (b ∷ h.0, subst (λ (s : Scan). HaveNoWrongWord s.tokens) (sym (k.2 n h.0)) h.1)
 
 -- a space may follow
-right_before_blank : (p q : Place) → LeadsBehind p q → SaysAtBlank None p → MayBeRight q → MayBeRight p
+right_before_blank : (p q : Place) → LeadsAfter p q → SaysAtBlank None p → MayBeRight q → MayBeRight p
 right_before_blank p q leads says r spot i n =
-    let h = r (behind_blank spot) (leads spot i) n in
+    let h = r (following_blank spot) (leads spot i) n in
     (32 ∷ h.0, subst (λ (s : Scan). HaveNoWrongWord s.tokens) (sym (blank_left spot n 32 h.0 (IsSpot_of p spot i) refl refl)) (rw (says spot i n) h.1))
 
 -- WORDS
@@ -72,7 +72,7 @@ ended_in_header z spot n e = rw e refl
 
 -- a space may end a word that may stand there
 right_before_space : (p : HeaderPlace) (ended : CodeStage) → EndsAs p (Some ended) → MayBeRight (at.Header (header.Between ended)) → MayBeRight (at.Header p)
-right_before_space p ended ends = right_before_blank (at.Header p) (at.Header (header.Between ended)) (behind_ended p ended ends)
+right_before_space p ended ends = right_before_blank (at.Header p) (at.Header (header.Between ended)) (after_ended p ended ends)
     (λ spot i n. let h = ends spot i in ended_in_header p spot n i ∙ ap (λ (o : Option Stage). spoils o n) h.2)
 
 header_right : (p : HeaderPlace) (vars clauses : ℕ) → EndsAs p (Some (stage.Both vars clauses)) → MayBeRight (at.Header p)
@@ -91,17 +91,17 @@ clauses_right vars value = header_right (header.Clauses vars value) vars value (
 begun_right : (ended : CodeStage) (b : ℕ) (p : HeaderPlace) → is_blank b ≡ false → BeganHeader ended b (Some p) → MayBeRight (at.Header p) → MayBeRight (at.Header (header.Between ended))
 begun_right ended b p f began = right_before (at.Header (header.Between ended)) (at.Header p) b (between_moves ended b (Some p) f began)
 
-behind_vars_right : (vars : ℕ) → MayBeRight (at.Header (header.Between (stage.Vars vars)))
-behind_vars_right vars = begun_right (stage.Vars vars) 49 (header.Clauses vars 1) refl (begun_clauses vars 49 refl refl (omega arith)) (clauses_right vars 1)
+after_vars_right : (vars : ℕ) → MayBeRight (at.Header (header.Between (stage.Vars vars)))
+after_vars_right vars = begun_right (stage.Vars vars) 49 (header.Clauses vars 1) refl (begun_clauses vars 49 refl refl (omega arith)) (clauses_right vars 1)
 
 vars_right : (value : ℕ) → MayBeRight (at.Header (header.Vars value))
-vars_right value = right_before_space (header.Vars value) (stage.Vars value) (ended_vars value) (behind_vars_right value)
+vars_right value = right_before_space (header.Vars value) (stage.Vars value) (ended_vars value) (after_vars_right value)
 
-behind_format_right : MayBeRight (at.Header (header.Between stage.Format))
-behind_format_right = begun_right stage.Format 49 (header.Vars 1) refl (begun_vars 49 refl refl (omega arith)) (vars_right 1)
+after_format_right : MayBeRight (at.Header (header.Between stage.Format))
+after_format_right = begun_right stage.Format 49 (header.Vars 1) refl (begun_vars 49 refl refl (omega arith)) (vars_right 1)
 
 cnf_right : MayBeRight (at.Header header.Cnf)
-cnf_right = right_before_space header.Cnf stage.Format (λ spot e. rw e (Format, refl, refl)) behind_format_right
+cnf_right = right_before_space header.Cnf stage.Format (λ spot e. rw e (Format, refl, refl)) after_format_right
 
 cn_right : MayBeRight (at.Header header.Cn)
 cn_right = right_before (at.Header header.Cn) (at.Header header.Cnf) 102 cn_f cnf_right
@@ -109,20 +109,20 @@ cn_right = right_before (at.Header header.Cn) (at.Header header.Cnf) 102 cn_f cn
 c_right : MayBeRight (at.Header header.C)
 c_right = right_before (at.Header header.C) (at.Header header.Cn) 110 c_n cn_right
 
-behind_p_right : MayBeRight (at.Header (header.Between stage.Named))
-behind_p_right = begun_right stage.Named 99 header.C refl begun_c c_right
+after_p_right : MayBeRight (at.Header (header.Between stage.Named))
+after_p_right = begun_right stage.Named 99 header.C refl begun_c c_right
 
 p_right : MayBeRight (at.Header header.P)
-p_right = right_before_space header.P stage.Named (λ spot e. rw e (Named, refl, refl)) behind_p_right
+p_right = right_before_space header.P stage.Named (λ spot e. rw e (Named, refl, refl)) after_p_right
 
-behind_stage_right : (ended : CodeStage) → MayBeRight (at.Header (header.Between ended))
-behind_stage_right stage.Named = behind_p_right
-behind_stage_right stage.Format = behind_format_right
-behind_stage_right (stage.Vars vars) = behind_vars_right vars
-behind_stage_right (stage.Both vars clauses) = both_right vars clauses
+after_stage_right : (ended : CodeStage) → MayBeRight (at.Header (header.Between ended))
+after_stage_right stage.Named = after_p_right
+after_stage_right stage.Format = after_format_right
+after_stage_right (stage.Vars vars) = after_vars_right vars
+after_stage_right (stage.Both vars clauses) = both_right vars clauses
 
 in_header_right : (p : HeaderPlace) → MayBeRight (at.Header p)
-in_header_right (header.Between ended) = behind_stage_right ended
+in_header_right (header.Between ended) = after_stage_right ended
 in_header_right header.P = p_right
 in_header_right header.C = c_right
 in_header_right header.Cn = cn_right
@@ -131,7 +131,7 @@ in_header_right (header.Vars value) = vars_right value
 in_header_right (header.Clauses vars value) = clauses_right vars value
 
 -- ALL PLACES
--- in a word that is wrong, or behind one of a header line
+-- in a word that is wrong, or after one of a header line
 abbrev IsWrongPlace : Place → Type 0
 IsWrongPlace at.Bad = Unit {0}
 IsWrongPlace at.Spoilt = Unit {0}
@@ -149,8 +149,8 @@ place_right (at.Header p) w = in_header_right p
 place_right at.Spoilt w = absurd (w tt)
 place_right x w = none_right x (λ spot e. rw e (λ n. refl))
 
-pub right_ahead : (machine : Tokenizer) → (machine.place ≡ at.Bad → ⊥) → (machine.place ≡ at.Spoilt → ⊥) → (before : List ℕ → Scan) → StandsBefore machine before → RightAhead before
-unfolding StandsBefore
+pub right_ahead : (machine : Tokenizer) → (machine.place ≡ at.Bad → ⊥) → (machine.place ≡ at.Spoilt → ⊥) → (before : List ℕ → Scan) → IsPositionedBefore machine before → HasValidContinuation before
+unfolding IsPositionedBefore
 right_ahead machine b s before (spot, n, i, l, e) =
     let h = place_right machine.place (apart machine.place b s) spot i n in
     (h.0, subst (λ (k : Scan). HaveNoWrongWord k.tokens) (sym (e h.0)) h.1)
@@ -160,12 +160,12 @@ right_ahead machine b s before (spot, n, i, l, e) =
     apart at.Spoilt b s w = s refl
     apart p b s w = w
 
--- behind a blank
-pub right_behind : (machine : Tokenizer) → IsQuiet machine.place → (before : List ℕ → Scan) → StandsBefore machine before → RightAhead before
-right_behind machine q = right_ahead machine (λ e. subst IsQuiet e q) (λ e. subst IsQuiet e q)
+-- after a blank
+pub right_after : (machine : Tokenizer) → IsQuiet machine.place → (before : List ℕ → Scan) → IsPositionedBefore machine before → HasValidContinuation before
+right_after machine q = right_ahead machine (λ e. subst IsQuiet e q) (λ e. subst IsQuiet e q)
 
 -- WRONG WORDS
--- what is left behind a line's word in hand
+-- what is left after a line's word in hand
 word_wrong : (x : ℕ) (w : List ℕ) (n : ℕ) (rest : List ℕ) → HasNoBlank (x ∷ w) → BeginsWrong (x ∷ w) → (more : List (ℕ × Token)) × ((left (Within x w) n rest).tokens ≡ (n + 1, Wrong) ∷ more)
 unfolding left
 word_wrong x w n rest s h =
@@ -180,23 +180,23 @@ line_wrong n rest = (tokens_of false (n + 1) (later_lines (lines rest)), refl)
 
 -- on the line of the last byte
 on_last : (before : List ℕ → Scan) (spot : Position) (n : ℕ) → ((rest : List ℕ) → before rest ≡ left spot n rest) → (left spot n []).last ≡ n + 1
-    → ((rest : List ℕ) → (more : List (ℕ × Token)) × ((left spot n rest).tokens ≡ (n + 1, Wrong) ∷ more)) → WrongAhead before
+    → ((rest : List ℕ) → (more : List (ℕ × Token)) × ((left spot n rest).tokens ≡ (n + 1, Wrong) ∷ more)) → HasNoValidContinuation before
 on_last before spot n e l h rest =
     let k = h rest in
     let last : n + 1 ≡ (before []).last = sym (ap (λ (s : Scan). s.last) (e []) ∙ l) in
     (k.0, ap (λ (s : Scan). s.tokens) (e rest) ∙ k.1 ∙ ap (λ (m : ℕ). (m, Wrong) ∷ k.0) last)
 
-pub wrong_word : (machine : Tokenizer) → machine.place ≡ at.Bad → (before : List ℕ → Scan) → StandsBefore machine before → WrongAhead before
-unfolding StandsBefore
+pub wrong_word : (machine : Tokenizer) → machine.place ≡ at.Bad → (before : List ℕ → Scan) → IsPositionedBefore machine before → HasNoValidContinuation before
+unfolding IsPositionedBefore
 wrong_word machine p before (spot, n, i, l, e) = let j : IsAt at.Bad spot = rw p at i in of_word spot n e j
   where
-    of_word : (spot : Position) (n : ℕ) → ((rest : List ℕ) → before rest ≡ left spot n rest) → IsAt at.Bad spot → WrongAhead before
+    of_word : (spot : Position) (n : ℕ) → ((rest : List ℕ) → before rest ≡ left spot n rest) → IsAt at.Bad spot → HasNoValidContinuation before
     of_word spot n e (x, w, s, h, f) =
         let g : (rest : List ℕ) → before rest ≡ left (Within x w) n rest = λ rest. e rest ∙ ap (λ (k : Position). left k n rest) f in
         on_last before (Within x w) n g (last_left_end (Within x w) n s) (λ rest. word_wrong x w n rest s h)
 
-pub wrong_line : (machine : Tokenizer) → machine.place ≡ at.Spoilt → (before : List ℕ → Scan) → StandsBefore machine before → WrongAhead before
-unfolding StandsBefore
+pub wrong_line : (machine : Tokenizer) → machine.place ≡ at.Spoilt → (before : List ℕ → Scan) → IsPositionedBefore machine before → HasNoValidContinuation before
+unfolding IsPositionedBefore
 wrong_line machine p before (spot, n, i, l, e) =
     let j : spot ≡ Spoilt = rw p at i in
     let g : (rest : List ℕ) → before rest ≡ left Spoilt n rest = λ rest. e rest ∙ ap (λ (k : Position). left k n rest) j in

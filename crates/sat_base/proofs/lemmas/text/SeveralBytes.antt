@@ -11,7 +11,7 @@ use Rattle.sat_base.specs.declared.text.Tokenizer.{Tokenizer}
 use Rattle.sat_base.specs.text.Text.{is_blank, is_digit}
 use Rattle.sat_base.specs.text.Position.{left}
 use Rattle.sat_base.specs.text.Chunks.{Follows}
-use Rattle.sat_base.specs.text.Tokenizing.{MovesPlace, MovesBy, BeginsWord, Began, grown, StandsBefore, TakesByte, TakesFront}
+use Rattle.sat_base.specs.text.Tokenizing.{MovesPlace, MovesBy, BeginsWord, Began, grown, IsPositionedBefore, TakesByte, TakesFront}
 use Rattle.sat_base.proofs.lemmas.text.Words.{SpellsHeld_one, no_minus_digit, no_letter_digit}
 use Rattle.sat_base.proofs.lemmas.text.Places.{moves_word, moves_fresh, moves_between, moves_minus_digit, moves_digit}
 
@@ -46,8 +46,8 @@ moves_first_digit old b w d =
     moves_begun old (at.Digits false (b - 48)) b w f (grind (arith, nat_tests)) (grind (arith, nat_tests)) (grind (arith, nat_tests))
     (b, [], (f, tt), SpellsHeld_one b d small, no_minus_digit b d, no_letter_digit b d, refl)
 
-pub moves_digit_behind_minus : (b : ℕ) → is_digit b ≡ true → MovesPlace at.Minus b (at.Digits true (b - 48))
-moves_digit_behind_minus b d = moves_minus_digit b (grind (arith, nat_tests)) d (grind (arith, nat_tests))
+pub moves_digit_after_minus : (b : ℕ) → is_digit b ≡ true → MovesPlace at.Minus b (at.Digits true (b - 48))
+moves_digit_after_minus b d = moves_minus_digit b (grind (arith, nat_tests)) d (grind (arith, nat_tests))
 
 -- a digit more
 pub moves_further_digit : (a : Place) (negative : Bool) (v : ℕ) (xs : List ℕ) (i : ℕ) → i < length xs → is_digit (get_or xs i 0) ≡ true → MovesBy a (take i xs) (at.Digits negative v) → MovesBy a (take (i + 1) xs) (at.Digits negative (grown v (get_or xs i 0)))
@@ -59,32 +59,32 @@ moves_further_digit a negative v xs i small d m =
 first_of_some : (xs : List ℕ) (k : ℕ) → 0 < length xs → take (k + 1) xs ≡ get_or xs 0 0 ∷ take k (drop 1 xs)
 first_of_some xs k h = grind (arith, common_steps)
 
-all_behind_first : (xs : List ℕ) → take (length xs - 1) (drop 1 xs) ≡ drop 1 xs
-all_behind_first xs = grind (arith, common_steps)
+all_after_first : (xs : List ℕ) → take (length xs - 1) (drop 1 xs) ≡ drop 1 xs
+all_after_first xs = grind (arith, common_steps)
 
 -- a byte before those at the front of the others
 pub moves_from_first : (a b c : Place) (xs : List ℕ) (k : ℕ) → 0 < length xs → MovesPlace a (get_or xs 0 0) b → MovesBy b (take k (take (length xs - 1) (drop 1 xs))) c → MovesBy a (take (k + 1) xs) c
 moves_from_first a b c xs k h f g =
-    let behind : MovesBy b (take k (drop 1 xs)) c = subst (λ (ys : List ℕ). MovesBy b (take k ys) c) (all_behind_first xs) g in
-    subst (λ (bs : List ℕ). MovesBy a bs c) (sym (first_of_some xs k h)) (moves_first a b c (get_or xs 0 0) (take k (drop 1 xs)) f behind)
+    let following : MovesBy b (take k (drop 1 xs)) c = subst (λ (ys : List ℕ). MovesBy b (take k ys) c) (all_after_first xs) g in
+    subst (λ (bs : List ℕ). MovesBy a bs c) (sym (first_of_some xs k h)) (moves_first a b c (get_or xs 0 0) (take k (drop 1 xs)) f following)
 
 -- the machine
-pub follows_by : (old : Tokenizer) (bytes : List ℕ) (place : Place) → MovesBy old.place bytes place → Follows StandsBefore old bytes (record { place = place; lines = old.lines })
-unfolding StandsBefore
+pub follows_by : (old : Tokenizer) (bytes : List ℕ) (place : Place) → MovesBy old.place bytes place → Follows IsPositionedBefore old bytes (record { place = place; lines = old.lines })
+unfolding IsPositionedBefore
 follows_by old bytes place m before (spot, n, i, l, e) =
     let k = m spot i in
     (left k.0 n, (k.0, n, k.1, l, λ rest. refl), λ rest. e (bytes ++ rest) ∙ k.2 n rest)
 
--- behind some bytes that end no token a further one
-pub takes_front : (a b c : Tokenizer) (xs : List ℕ) (i : ℕ) (given : Option CodeToken) → i < length xs → Follows StandsBefore a (take i xs) b → TakesByte b (get_or xs i 0) given c → TakesFront a (take (i + 1) xs) given c
-takes_front a b c xs i given small f t = subst (λ (bs : List ℕ). TakesFront a bs given c) (sym (take_more xs i 0 small)) (behind given t)
+-- after some bytes that end no token a further one
+pub takes_front : (a b c : Tokenizer) (xs : List ℕ) (i : ℕ) (given : Option CodeToken) → i < length xs → Follows IsPositionedBefore a (take i xs) b → TakesByte b (get_or xs i 0) given c → TakesFront a (take (i + 1) xs) given c
+takes_front a b c xs i given small f t = subst (λ (bs : List ℕ). TakesFront a bs given c) (sym (take_more xs i 0 small)) (following given t)
   where
-    behind : (g : Option CodeToken) → TakesByte b (get_or xs i 0) g c → TakesFront a (take i xs ++ get_or xs i 0 ∷ []) g c
-    behind None k before m =
+    following : (g : Option CodeToken) → TakesByte b (get_or xs i 0) g c → TakesFront a (take i xs ++ get_or xs i 0 ∷ []) g c
+    following None k before m =
         let h = f before m in
         let j = k h.0 h.1 in
         (j.0, j.1, λ rest. ap before (append_assoc (take i xs) (get_or xs i 0 ∷ []) rest) ∙ h.2 (get_or xs i 0 ∷ rest) ∙ j.2 rest)
-    behind (Some token) k before m =
+    following (Some token) k before m =
         let h = f before m in
         let j = k h.0 h.1 in
         (j.0, j.1, (j.2.0, j.2.1, λ rest. ap before (append_assoc (take i xs) (get_or xs i 0 ∷ []) rest) ∙ h.2 (get_or xs i 0 ∷ rest) ∙ j.2.2 rest))

@@ -2,7 +2,7 @@
 use Rattle.std.proofs.Common.{◌≡◌, ℕ, ◌+◌, ◌*◌, ◌-◌, ◌<◌, List, [], ◌∷◌, ◌++◌, Bool, true, false, cond, eqb, Option, Some, None, refl, sym, ap, subst, ◌∙◌, append_assoc, arith}
 use Rattle.std.proofs.lemmas.List.{append-nil}
 use Rattle.std.proofs.lemmas.Bool.Decides.{nat_tests}
-use Rattle.sat_base.specs.text.Text.{is_digit, is_letter, digits, plain, minus, behind_minus, alone, token, Number, Letter, Wrong}
+use Rattle.sat_base.specs.text.Text.{is_digit, is_letter, digits, plain, minus, after_minus, alone, token, Number, Letter, Wrong}
 use Rattle.sat_base.specs.text.Tokenizing.{SpellsHeld, BeginsWrong, grown}
 
 digits_cons : (n d : ℕ) (ds : List ℕ) → is_digit d ≡ true → digits n (d ∷ ds) ≡ digits (10 * n + (d - 48)) ds
@@ -58,7 +58,7 @@ token_plain : (x : ℕ) (w : List ℕ) → (x ≡ 45 → ⊥) → is_letter x �
 unfolding token
 token_plain x w n l = rw (not_eqb x 45 n, l) refl
 
-token_minus : (w : List ℕ) → token (45 ∷ w) ≡ behind_minus w
+token_minus : (w : List ℕ) → token (45 ∷ w) ≡ after_minus w
 unfolding token
 token_minus w = refl
 
@@ -86,18 +86,18 @@ BeginsWrong_first b e l n more = token_plain b more n l ∙ ap plain (digits_sto
 pub BeginsWrong_letter : (b c : ℕ) → is_letter b ≡ true → BeginsWrong (b ∷ c ∷ [])
 BeginsWrong_letter b c l more = token_letter b (c ∷ more) (no_minus_letter b l) l
 
--- behind digits comes no digit
+-- after digits comes no digit
 pub BeginsWrong_plain : (x : ℕ) (w : List ℕ) (v b : ℕ) → SpellsHeld (x ∷ w) v → (x ≡ 45 → ⊥) → is_letter x ≡ false → is_digit b ≡ false → BeginsWrong ((x ∷ w) ++ b ∷ [])
 BeginsWrong_plain x w v b s n l e more =
     ap token (append_assoc (x ∷ w) (b ∷ []) more) ∙ token_plain x (w ++ b ∷ more) n l ∙ ap plain (digits_wrong 0 s.0 b (x ∷ w) more s.1 e)
 
--- behind `-` comes no digit
+-- after `-` comes no digit
 pub BeginsWrong_minus : (b : ℕ) → is_digit b ≡ false → BeginsWrong (45 ∷ b ∷ [])
 BeginsWrong_minus b e more = token_minus (b ∷ more) ∙ ap minus (digits_stop 0 b more e)
 
-behind_minus_is : (w : List ℕ) → (w ≡ [] → ⊥) → behind_minus w ≡ minus (digits 0 w)
-behind_minus_is [] h = absurd (h refl)
-behind_minus_is (d ∷ w) h = refl
+after_minus_is : (w : List ℕ) → (w ≡ [] → ⊥) → after_minus w ≡ minus (digits 0 w)
+after_minus_is [] h = absurd (h refl)
+after_minus_is (d ∷ w) h = refl
 
 some_more : (w : List ℕ) (b : ℕ) (more : List ℕ) → w ++ b ∷ more ≡ [] → ⊥
 some_more [] b more e = cc
@@ -105,14 +105,14 @@ some_more (x ∷ w) b more e = cc
 
 pub BeginsWrong_negative : (w : List ℕ) (v b : ℕ) → SpellsHeld w v → is_digit b ≡ false → BeginsWrong ((45 ∷ w) ++ b ∷ [])
 BeginsWrong_negative w v b s e more =
-    ap token (append_assoc (45 ∷ w) (b ∷ []) more) ∙ token_minus (w ++ b ∷ more) ∙ behind_minus_is (w ++ b ∷ more) (some_more w b more) ∙ ap minus (digits_wrong 0 s.0 b w more s.1 e)
+    ap token (append_assoc (45 ∷ w) (b ∷ []) more) ∙ token_minus (w ++ b ∷ more) ∙ after_minus_is (w ++ b ∷ more) (some_more w b more) ∙ ap minus (digits_wrong 0 s.0 b w more s.1 e)
 
 -- what a word in hand says, where it ends
 pub word_plain : (x : ℕ) (w : List ℕ) (m : ℕ) → digits 0 (x ∷ w) ≡ Some m → (x ≡ 45 → ⊥) → is_letter x ≡ false → token (x ∷ w) ≡ Number false m
 word_plain x w m e n l = token_plain x w n l ∙ ap plain e
 
 pub word_minus : (w : List ℕ) (m : ℕ) → digits 0 w ≡ Some m → (w ≡ [] → ⊥) → token (45 ∷ w) ≡ minus (Some m)
-word_minus w m e n = token_minus w ∙ behind_minus_is w n ∙ ap minus e
+word_minus w m e n = token_minus w ∙ after_minus_is w n ∙ ap minus e
 
 pub word_bare : token (45 ∷ []) ≡ Wrong
 word_bare = token_minus []

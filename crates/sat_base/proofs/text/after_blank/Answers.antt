@@ -1,10 +1,10 @@
 use Rattle.std.proofs.Common.{refl}
-use Rattle.sat_base.proofs.lemmas.text.Places.{behind_number}
-use Rattle.sat_base.proofs.lemmas.text.HeaderPlaces.{behind_spoilt, behind_ended}
+use Rattle.sat_base.proofs.lemmas.text.Places.{after_number}
+use Rattle.sat_base.proofs.lemmas.text.HeaderPlaces.{after_spoilt, after_ended}
 use Rattle.sat_base.proofs.text.after_blank.Goals as goal
 
 pub returns-in-Digits : goal.returns-in-Digits
-returns-in-Digits c = record { leads = rw c.in-Digits.is (behind_number _ _); quiet = tt }
+returns-in-Digits c = record { leads = rw c.in-Digits.is (after_number _ _); quiet = tt }
 
 pub returns-in-Between : goal.returns-in-Between
 returns-in-Between c = record { leads = rw c.in-Between.is (λ spot e. rw e refl); quiet = tt }
@@ -28,10 +28,10 @@ pub returns-in-Comment : goal.returns-in-Comment
 returns-in-Comment c = record { leads = rw c.in-Comment.is (λ spot e. rw e refl); quiet = tt }
 
 pub returns-in-Some : goal.returns-in-Some
-returns-in-Some c = record { leads = rw c.in-Header.is (behind_ended c.in-Header.header c.in-Some.ended c.in-Some.ensures); quiet = tt }
+returns-in-Some c = record { leads = rw c.in-Header.is (after_ended c.in-Header.header c.in-Some.ended c.in-Some.ensures); quiet = tt }
 
 pub returns-in-None : goal.returns-in-None
-returns-in-None c = record { leads = rw c.in-Header.is (behind_spoilt c.in-Header.header c.in-None.ensures); quiet = tt }
+returns-in-None c = record { leads = rw c.in-Header.is (after_spoilt c.in-Header.header c.in-None.ensures); quiet = tt }
 
 pub returns-in-Spoilt : goal.returns-in-Spoilt
 returns-in-Spoilt c = record { leads = rw c.in-Spoilt.is (λ spot e. rw e refl); quiet = tt }

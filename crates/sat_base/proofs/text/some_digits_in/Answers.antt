@@ -1,6 +1,6 @@
 use Rattle.std.proofs.Common.{false, true, ◌-◌, get_or, arith}
 use Rattle.sat_base.specs.declared.text.Place.TheVariants as at
-use Rattle.sat_base.proofs.lemmas.text.SeveralBytes.{moves_from_first, moves_first_digit, moves_digit_behind_minus}
+use Rattle.sat_base.proofs.lemmas.text.SeveralBytes.{moves_from_first, moves_first_digit, moves_digit_after_minus}
 use Rattle.sat_base.proofs.text.some_digits_in.Goals as goal
 
 pub returns-clause-plain : goal.returns-clause-plain
@@ -13,4 +13,4 @@ pub returns-clause-negative : goal.returns-clause-negative
 returns-clause-negative c =
     let xs = c.args.bytes.now in
     let r = c.digits_in-value.result in
-    moves_from_first at.Minus (at.Digits true (get_or xs 0 0 - 48)) (at.Digits true r.0) xs r.1 (grind arith) (moves_digit_behind_minus (get_or xs 0 0) (cc)) (c.digits_in-value.ensures.moves true)
+    moves_from_first at.Minus (at.Digits true (get_or xs 0 0 - 48)) (at.Digits true r.0) xs r.1 (grind arith) (moves_digit_after_minus (get_or xs 0 0) (cc)) (c.digits_in-value.ensures.moves true)

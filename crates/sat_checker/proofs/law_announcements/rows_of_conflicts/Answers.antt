@@ -2,4 +2,4 @@ use Rattle.sat_checker.proofs.lemmas.announcements.Notices.{contradiction, confl
 use Rattle.sat_checker.proofs.law_announcements.rows_of_conflicts.Goals as goal
 
 pub returns : goal.returns
-returns c = record { contradiction = contradiction; unit_behind = conflict_and_unit }
+returns c = record { contradiction = contradiction; unit_after = conflict_and_unit }

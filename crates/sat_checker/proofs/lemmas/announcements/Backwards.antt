@@ -58,9 +58,9 @@ among_front : (xs ys : List ℕ) (m : ℕ) → is_among xs m ≡ true → is_amo
 among_front [] ys m e = absurd (true≢false (sym e))
 among_front (x ∷ xs) ys m e = elim (or_cases (eqb x m) (is_among xs m) e) [ inl s ↦ or_left (eqb x m) (is_among (xs ++ ys) m) s | inr t ↦ or_right (eqb x m) (is_among (xs ++ ys) m) (among_front xs ys m t) ]
 
-among_behind : (xs ys : List ℕ) (m : ℕ) → is_among ys m ≡ true → is_among (xs ++ ys) m ≡ true
-among_behind [] ys m e = e
-among_behind (x ∷ xs) ys m e = or_right (eqb x m) (is_among (xs ++ ys) m) (among_behind xs ys m e)
+among_after : (xs ys : List ℕ) (m : ℕ) → is_among ys m ≡ true → is_among (xs ++ ys) m ≡ true
+among_after [] ys m e = e
+among_after (x ∷ xs) ys m e = or_right (eqb x m) (is_among (xs ++ ys) m) (among_after xs ys m e)
 
 among_either : (xs ys : List ℕ) (m : ℕ) → is_among (xs ++ ys) m ≡ true → (is_among xs m ≡ true) ⊎ (is_among ys m ≡ true)
 among_either [] ys m e = inr e
@@ -202,7 +202,7 @@ module _ (assumed : List ℕ) (c : StoredClause) (cs : List StoredClause) where
         literals = λ m. (forth m, back m);
         clauses = ap (λ xs. c ∷ xs) (d.is_ground.clauses ∙ ap (λ xs. map (λ r. r.clause) xs ++ d.is_ground.last ∷ []) (filter_same (keeps g.literals) (keeps (others_denied o c.literals ++ g.literals)) d.is_ground.reasons
             (map_each (λ r. is_among assumed r.literal ≡ false) (λ r. keeps g.literals r ≡ keeps (others_denied o c.literals ++ g.literals) r) d.is_ground.reasons (λ r e. same r.literal e) fresh_still)))
-            ∙ ap (λ b. map (λ r. r.clause) (cond b (this ∷ filter (keeps (others_denied o c.literals ++ g.literals)) d.is_ground.reasons) (filter (keeps (others_denied o c.literals ++ g.literals)) d.is_ground.reasons)) ++ d.is_ground.last ∷ []) (sym (among_behind (others_denied o c.literals) g.literals o n));
+            ∙ ap (λ b. map (λ r. r.clause) (cond b (this ∷ filter (keeps (others_denied o c.literals ++ g.literals)) d.is_ground.reasons) (filter (keeps (others_denied o c.literals ++ g.literals)) d.is_ground.reasons)) ++ d.is_ground.last ∷ []) (sym (among_after (others_denied o c.literals) g.literals o n));
       };
       fresh = (u.not_true, fresh_still);
     }
@@ -211,7 +211,7 @@ module _ (assumed : List ℕ) (c : StoredClause) (cs : List StoredClause) where
         same m e = go (is_among g.literals m) refl
           where
             go : (b : Bool) → is_among g.literals m ≡ b → b ≡ is_among (others_denied o c.literals ++ g.literals) m
-            go true t = sym (among_behind (others_denied o c.literals) g.literals m t)
+            go true t = sym (among_after (others_denied o c.literals) g.literals m t)
             go false t = sym (false_from_ne_true (is_among (others_denied o c.literals ++ g.literals) m) (λ k. elim (among_either (others_denied o c.literals) g.literals m k) [
               | inl a ↦ both_ways (is_among assumed m) e (others_assumed m a)
               | inr b ↦ both_ways (is_among g.literals m) t b
@@ -228,7 +228,7 @@ module _ (assumed : List ℕ) (c : StoredClause) (cs : List StoredClause) where
         ]
 
         back : (m : ℕ) → IsNeededLiteral (this ∷ d.is_ground.reasons) d.is_ground.last m → is_among (others_denied o c.literals ++ g.literals) m ≡ true
-        back m (of_last l k) = among_behind (others_denied o c.literals) g.literals (negated l) ((d.is_ground.literals (negated l)).1 (of_last l k))
+        back m (of_last l k) = among_after (others_denied o c.literals) g.literals (negated l) ((d.is_ground.literals (negated l)).1 (of_last l k))
         back m (of_reason r l k w h e) = go (back r.literal w) k
           where
             go : is_among (others_denied o c.literals ++ g.literals) r.literal ≡ true → (r ≡ this) ⊎ IsOneOf r d.is_ground.reasons → is_among (others_denied o c.literals ++ g.literals) (negated l) ≡ true
@@ -236,7 +236,7 @@ module _ (assumed : List ℕ) (c : StoredClause) (cs : List StoredClause) where
                 (among_negated (filter (λ x. not (eqb x o)) c.literals) l (to_but o c.literals l (subst (λ x. is_among x.clause.literals l ≡ true) s h) (ne_eqb l o (λ q. e (q ∙ ap (λ x. x.literal) (sym s))))))
             go ih (inr t) = elim (among_either (others_denied o c.literals) g.literals r.literal ih) [
               | inl a ↦ absurd (both_ways (is_among assumed r.literal) (each_reason (λ x. is_among assumed x.literal ≡ false) d.is_ground.reasons r fresh_still t) (others_assumed r.literal a))
-              | inr b ↦ among_behind (others_denied o c.literals) g.literals (negated l) ((d.is_ground.literals (negated l)).1 (of_reason r l t ((d.is_ground.literals r.literal).0 b) h e))
+              | inr b ↦ among_after (others_denied o c.literals) g.literals (negated l) ((d.is_ground.literals (negated l)).1 (of_reason r l t ((d.is_ground.literals r.literal).0 b) h e))
             ]
 
 abbrev Follow : List StoredClause → Type 0

@@ -1,7 +1,7 @@
 -- Worked rows of each announcement, by computing.
 use Rattle.std.proofs.Common.{refl, inl, inr, lit<}
 use Rattle.sat_checker.specs.Propagation.{unit_true, tautology}
-use Rattle.sat_checker.specs.announcements.Rows.{InputNew, InputDuplicate, InputRedundant, InputUnitAgain, InputTautology, InputBehindUnsat, DerivedNew, DerivedIrredundant, DerivedRedundantAgain, DerivedIrredundantAgain, DerivedUnitAgain, DerivedTautology, RedundantGone, RedundantStays, SatisfiedGone, SatisfiedKept, SimplifiedGone, SimplifiedByEmpty, SatisfiedStays}
+use Rattle.sat_checker.specs.announcements.Rows.{InputNew, InputDuplicate, InputRedundant, InputUnitAgain, InputTautology, InputAfterUnsat, DerivedNew, DerivedIrredundant, DerivedRedundantAgain, DerivedIrredundantAgain, DerivedUnitAgain, DerivedTautology, RedundantGone, RedundantStays, SatisfiedGone, SatisfiedKept, SimplifiedGone, SimplifiedByEmpty, SatisfiedStays}
 use Rattle.sat_checker.proofs.lemmas.rows.Accepted.{refuted_twice}
 
 pub input_new : InputNew
@@ -19,8 +19,8 @@ input_unit_again = (((tt, inr (refl, tt)), inr (refl, (refl, tt))), refl)
 pub input_tautology : InputTautology
 input_tautology = ((tt, inr (refl, (refl, (refl, tt)))), refl)
 
-pub behind_unsat : InputBehindUnsat
-behind_unsat = (((tt, inr tt), inl refl), refl)
+pub after_unsat : InputAfterUnsat
+after_unsat = (((tt, inr tt), inl refl), refl)
 
 pub derived_new : DerivedNew
 derived_new = (((tt, inr (refl, tt)), unit_true refl), refl)

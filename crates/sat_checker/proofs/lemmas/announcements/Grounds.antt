@@ -105,8 +105,8 @@ falsified_known : (known assumed clause : List ℕ) → Covers known assumed (ma
 falsified_known known assumed clause k f =
     each_from (λ l. is_among known (negated l) ≡ true) clause (λ m e. k.enough (negated m) (among_negated clause m e) (each_at (λ l. is_among assumed (negated l) ≡ true) clause m f e))
 
-unit_known : (known assumed clause behind : List ℕ) (o : ℕ) → Covers known assumed (others_denied o clause ++ behind) → IsUnit assumed clause o → IsUnit known clause o
-unit_known known assumed clause behind o k u = record {
+unit_known : (known assumed clause following : List ℕ) (o : ℕ) → Covers known assumed (others_denied o clause ++ following) → IsUnit assumed clause o → IsUnit known clause o
+unit_known known assumed clause following o k u = record {
   within = u.within;
   not_true = not_within known assumed o k.within u.not_true;
   not_false = not_within known assumed (negated o) k.within u.not_false;
@@ -122,11 +122,11 @@ unit_known known assumed clause behind o k u = record {
     other m e false s =
         elim (each_at (λ l. (l ≡ o) ⊎ (is_among assumed (negated l) ≡ true)) clause m u.others e) [
           | inl t ↦ inl t
-          | inr t ↦ inr (k.enough (negated m) (front (others_denied o clause) behind (negated m) (among_negated (filter (λ x. not (eqb x o)) clause) m (among_filter (λ x. not (eqb x o)) clause m e (rw s refl)))) t)
+          | inr t ↦ inr (k.enough (negated m) (front (others_denied o clause) following (negated m) (among_negated (filter (λ x. not (eqb x o)) clause) m (among_filter (λ x. not (eqb x o)) clause m e (rw s refl)))) t)
         ]
 
-behind_covers : (known assumed front behind : List ℕ) (o : ℕ) → Covers known assumed (front ++ behind) → Covers (o ∷ known) (o ∷ assumed) behind
-behind_covers known assumed front behind o k = record {
+after_covers : (known assumed front following : List ℕ) (o : ℕ) → Covers known assumed (front ++ following) → Covers (o ∷ known) (o ∷ assumed) following
+after_covers known assumed front following o k = record {
   within = record { each = λ m e. elim (or_cases (eqb o m) (is_among known m) e) [ inl s ↦ or_left (eqb o m) (is_among assumed m) s | inr t ↦ or_right (eqb o m) (is_among assumed m) (k.within.each m t) ] };
   enough = λ m n e. elim (or_cases (eqb o m) (is_among assumed m) e) [
     | inl s ↦ or_left (eqb o m) (is_among known m) s
@@ -134,16 +134,16 @@ behind_covers known assumed front behind o k = record {
   ];
 }
   where
-    later : (xs : List ℕ) (m : ℕ) → is_among behind m ≡ true → is_among (xs ++ behind) m ≡ true
+    later : (xs : List ℕ) (m : ℕ) → is_among following m ≡ true → is_among (xs ++ following) m ≡ true
     later [] m e = e
-    later (x ∷ xs) m e = or_right (eqb x m) (is_among (xs ++ behind) m) (later xs m e)
+    later (x ∷ xs) m e = or_right (eqb x m) (is_among (xs ++ following) m) (later xs m e)
 
 -- the literal that was opened isn't needed
-aside_covers : (known assumed behind : List ℕ) (o : ℕ) → is_among behind o ≡ false → Covers known assumed behind → Covers known (o ∷ assumed) behind
-aside_covers known assumed behind o n k = record {
+aside_covers : (known assumed following : List ℕ) (o : ℕ) → is_among following o ≡ false → Covers known assumed following → Covers known (o ∷ assumed) following
+aside_covers known assumed following o n k = record {
   within = record { each = λ m e. or_right (eqb o m) (is_among assumed m) (k.within.each m e) };
   enough = λ m b e. elim (or_cases (eqb o m) (is_among assumed m) e) [
-    | inl s ↦ absurd (both_ways (is_among behind o) n (subst (λ x. is_among behind x ≡ true) (sym (eqb-true o m s)) b))
+    | inl s ↦ absurd (both_ways (is_among following o) n (subst (λ x. is_among following x ≡ true) (sym (eqb-true o m s)) b))
     | inr t ↦ k.enough m b t
   ];
 }
@@ -164,7 +164,7 @@ grounds_run (c ∷ cs) assumed known e k = go (grounds_run cs) (verdict assumed 
         → Turns known (cond b (record { literals = others_denied o c.literals ++ (conflict_causes (o ∷ assumed) cs).literals; clauses = c ∷ (conflict_causes (o ∷ assumed) cs).clauses }) (conflict_causes (o ∷ assumed) cs))
     opened ih o u w true n k' =
         unit_front known c.literals o (literals_of (conflict_causes (o ∷ assumed) cs).clauses) (unit_known known assumed c.literals (conflict_causes (o ∷ assumed) cs).literals o k' u)
-        (ih (o ∷ assumed) (o ∷ known) w (behind_covers known assumed (others_denied o c.literals) (conflict_causes (o ∷ assumed) cs).literals o k'))
+        (ih (o ∷ assumed) (o ∷ known) w (after_covers known assumed (others_denied o c.literals) (conflict_causes (o ∷ assumed) cs).literals o k'))
     opened ih o u w false n k' = ih (o ∷ assumed) known w (aside_covers known assumed (conflict_causes (o ∷ assumed) cs).literals o n k')
 
     go : Run cs → (v : Verdict) → Says assumed c.literals v → and_then (walk_on v assumed) (λ more. walk more (literals_of cs)) ≡ None

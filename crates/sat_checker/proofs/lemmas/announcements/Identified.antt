@@ -23,9 +23,9 @@ one_front : {A : Type 0} (x : A) (xs ys : List A) → IsOneOf x xs → IsOneOf x
 one_front x [] ys h = absurd h
 one_front x (y ∷ xs) ys h = elim h [ inl e ↦ inl e | inr k ↦ inr (one_front x xs ys k) ]
 
-one_behind : {A : Type 0} (x : A) (xs ys : List A) → IsOneOf x ys → IsOneOf x (xs ++ ys)
-one_behind x [] ys h = h
-one_behind x (y ∷ xs) ys h = inr (one_behind x xs ys h)
+one_after : {A : Type 0} (x : A) (xs ys : List A) → IsOneOf x ys → IsOneOf x (xs ++ ys)
+one_after x [] ys h = h
+one_after x (y ∷ xs) ys h = inr (one_after x xs ys h)
 
 one_mapped : {A B : Type 0} (g : A → B) (x : A) (xs : List A) → IsOneOf x xs → IsOneOf (g x) (map g xs)
 one_mapped g x [] h = absurd h
@@ -46,8 +46,8 @@ IsNews id clause news = (a : Announcement) × IsOneOf a news × IsAnnouncedAs id
 news_front : (id : ℕ) (ls : List ℕ) (xs ys : List Announcement) → IsNews id ls xs → IsNews id ls (xs ++ ys)
 news_front id ls xs ys n = (n.0, one_front n.0 xs ys n.1, n.2)
 
-news_behind : (id : ℕ) (ls : List ℕ) (xs ys : List Announcement) → IsNews id ls ys → IsNews id ls (xs ++ ys)
-news_behind id ls xs ys n = (n.0, one_behind n.0 xs ys n.1, n.2)
+news_after : (id : ℕ) (ls : List ℕ) (xs ys : List Announcement) → IsNews id ls ys → IsNews id ls (xs ++ ys)
+news_after id ls xs ys n = (n.0, one_after n.0 xs ys n.1, n.2)
 
 news_reported : (f : Stored) (id : ℕ) (ls : List ℕ) (news : List Announcement) → IsNews id ls news → IsAnnounced id ls (notices_over f news)
 news_reported f id ls news n = (record { announcement = n.0; variables = f.variables }, one_mapped (λ a. record { announcement = a; variables = f.variables }) n.0 news n.1, n.2)
@@ -55,8 +55,8 @@ news_reported f id ls news n = (record { announcement = n.0; variables = f.varia
 reported_front : (id : ℕ) (ls : List ℕ) (xs ys : List Notice) → IsAnnounced id ls xs → IsAnnounced id ls (xs ++ ys)
 reported_front id ls xs ys t = (t.0, one_front t.0 xs ys t.1, t.2)
 
-reported_behind : (id : ℕ) (ls : List ℕ) (xs ys : List Notice) → IsAnnounced id ls ys → IsAnnounced id ls (xs ++ ys)
-reported_behind id ls xs ys t = (t.0, one_behind t.0 xs ys t.1, t.2)
+reported_after : (id : ℕ) (ls : List ℕ) (xs ys : List Notice) → IsAnnounced id ls ys → IsAnnounced id ls (xs ++ ys)
+reported_after id ls xs ys t = (t.0, one_after t.0 xs ys t.1, t.2)
 
 -- a clause that isn't stored yet is announced under the next id
 derived_news : (r : Bool) (c hs : List ℕ) (f : Stored) → is_tautology c ≡ false → id_of_set (canonical c) f ≡ None → IsNews f.next_id (canonical c) (derived r c hs f)
@@ -237,7 +237,7 @@ module _ (reported : List Notice) where
   units_announced (u ∷ us) f w a =
       let this : List Announcement = derived false (u.0 ∷ []) (u.1 ∷ []) f in
       let others : List Announcement = derived_units us (with_unit u.0 f) in
-      units_announced us (with_unit u.0 f) (λ id ls n. w id ls (news_behind id ls this others n))
+      units_announced us (with_unit u.0 f) (λ id ls n. w id ls (news_after id ls this others n))
       (unit_announced u.0 f (λ e. w f.next_id (u.0 ∷ []) (news_front f.next_id (u.0 ∷ []) this others (derived_news false (u.0 ∷ []) (u.1 ∷ []) f refl e))) a)
 
   deleted_announced : (r : Bool) (ls : List ℕ) (f : Stored) → AreAnnounced f reported → AreAnnounced (record f { clauses = without_clause r ls f.clauses }) reported
@@ -290,7 +290,7 @@ identified (step ∷ earlier) =
     let f : Stored = ready_after earlier in
     let reported : List Notice = all_notices_after earlier in
     let more : List Notice = notices_over f (announced f step) in
-    effect_announced (reported ++ more) step f (settled_none (stored_after earlier)) (λ id ls n. reported_behind id ls reported more (news_reported f id ls (announced f step) n))
+    effect_announced (reported ++ more) step f (settled_none (stored_after earlier)) (λ id ls n. reported_after id ls reported more (news_reported f id ls (announced f step) n))
     (reported_more f reported (reported ++ more) (λ id ls t. reported_front id ls reported more t) (ready_announced earlier (identified earlier)))
 
 -- the two ids of a delayed empty clause

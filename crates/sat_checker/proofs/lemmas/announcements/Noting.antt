@@ -109,7 +109,7 @@ module _ (ss : List Slot) (places : List ℕ) (i : ℕ) (inside : i < length pla
   next_named = ap (λ hs. named hs ss) (drop_more places i 0 inside)
 
 module _ (ss : List Slot) (old mid new : WalkNotes) (assumed more most : List ℕ) where
-  -- the first place of a hash, and those behind it
+  -- the first place of a hash, and those after it
   module _ (hash place : ℕ) (places : List ℕ) (all : places_of hash ss ≡ place ∷ places) where
     pub leads_first : KeepsGround ss old assumed (clause_at ss place ∷ []) new most [] → KeepsGround ss old assumed (filed hash ss) new most (map (clause_at ss) places)
     leads_first h =

@@ -7,7 +7,7 @@ use Rattle.sat_base.specs.steps.Steps.{Step, AddClause, AtClause, Assumptions}
 use Rattle.sat_checker.specs.Accepts.{PassesByHashes, MayGetName, stored_after, ready_after}
 use Rattle.sat_checker.specs.Stored.{Sample, Witness, Stored, StoredClause, bucket, unit_literals, unknown}
 use Rattle.sat_checker.specs.Propagation.{unit_true, tautology}
-use Rattle.sat_checker.specs.Rows.{AllAccepted, behind, ready_by}
+use Rattle.sat_checker.specs.Rows.{AllAccepted, following, ready_by}
 use Rattle.sat_checker.specs.inner.Walk.{walk_buckets}
 use Rattle.sat_checker.specs.announcements.Announcements as announcements
 use Rattle.sat_checker.specs.announcements.Announcements.{Announcement, Notice, announced, delayed, notices_after, notices_over}
@@ -65,7 +65,7 @@ reported_again : (f : Stored) (xs : List Announcement) → announcements_of (not
 reported_again f [] = refl
 reported_again f (x ∷ xs) = ap (λ ys. x ∷ ys) (reported_again f xs)
 
--- the last step's announcements come behind those before it, where nothing was delayed
+-- the last step's announcements come after those before it, where nothing was delayed
 reports_last : (earlier : List Step) (last : Step) (reported : List Announcement) → delayed (stored_after earlier) ≡ [] → announced (ready_after earlier) last ≡ reported → announcements_of (notices_after (last ∷ earlier)) ≡ announcements_of (notices_after earlier) ++ reported
 reports_last earlier last reported d a =
     let s : Stored = stored_after earlier in
@@ -91,20 +91,20 @@ held_is = refl
 all_taken : AllAccepted units_and_clauses
 all_taken = (((((((tt, inr (refl, tt)), inr (refl, tt)), inr (refl, (refl, (refl, tt)))), inr (refl, (refl, tt))), inr (refl, (refl, tt))), inr (refl, (refl, (refl, tt)))), tt)
 
-behind_them : (last : Step) (reported : List Announcement) → announced held last ≡ reported → announcements_of (notices_after (last ∷ behind units_and_clauses [])) ≡ announcements_of (notices_after (behind units_and_clauses [])) ++ reported
-behind_them last reported a = reports_last (behind units_and_clauses []) last reported refl (ap (λ f. announced f last) held_is ∙ a)
+after_them : (last : Step) (reported : List Announcement) → announced held last ≡ reported → announcements_of (notices_after (last ∷ following units_and_clauses [])) ≡ announcements_of (notices_after (following units_and_clauses [])) ++ reported
+after_them last reported a = reports_last (following units_and_clauses []) last reported refl (ap (λ f. announced f last) held_is ∙ a)
 
 passes_there : (clause : List ℕ) → walk_buckets (map negated clause ++ unit_literals held) (map (bucket held) (0 ∷ [])) ≡ true → PassesByHashes (ready_by units_and_clauses) clause (0 ∷ [])
 passes_there clause e = subst (λ f. PassesByHashes f clause (0 ∷ [])) (sym held_is) (walked held clause (0 ∷ []) e)
 
 pub units_first : UnitsFirst
-units_first = ((all_taken, passes_there (8 ∷ 14 ∷ []) refl), behind_them (AtClause true (8 ∷ 14 ∷ []) (0 ∷ [])) (announcements.AtClause 6 true (8 ∷ 14 ∷ []) (0 ∷ 1 ∷ 2 ∷ 3 ∷ 5 ∷ []) ∷ []) refl)
+units_first = ((all_taken, passes_there (8 ∷ 14 ∷ []) refl), after_them (AtClause true (8 ∷ 14 ∷ []) (0 ∷ [])) (announcements.AtClause 6 true (8 ∷ 14 ∷ []) (0 ∷ 1 ∷ 2 ∷ 3 ∷ 5 ∷ []) ∷ []) refl)
 
 pub units_held : UnitsHeld
-units_held = ((all_taken, passes_there (8 ∷ 1 ∷ 3 ∷ []) refl), behind_them (AtClause true (8 ∷ 1 ∷ 3 ∷ []) (0 ∷ [])) (announcements.AtClause 6 true (1 ∷ 3 ∷ 8 ∷ []) (2 ∷ 3 ∷ 5 ∷ []) ∷ []) refl)
+units_held = ((all_taken, passes_there (8 ∷ 1 ∷ 3 ∷ []) refl), after_them (AtClause true (8 ∷ 1 ∷ 3 ∷ []) (0 ∷ [])) (announcements.AtClause 6 true (1 ∷ 3 ∷ 8 ∷ []) (2 ∷ 3 ∷ 5 ∷ []) ∷ []) refl)
 
 pub not_needed : PassedNotNeeded
-not_needed = ((all_taken, passes_there (8 ∷ 10 ∷ []) refl), behind_them (AtClause true (8 ∷ 10 ∷ []) (0 ∷ [])) (announcements.AtClause 6 true (8 ∷ 10 ∷ []) (0 ∷ 1 ∷ 2 ∷ 3 ∷ 5 ∷ []) ∷ []) refl)
+not_needed = ((all_taken, passes_there (8 ∷ 10 ∷ []) refl), after_them (AtClause true (8 ∷ 10 ∷ []) (0 ∷ [])) (announcements.AtClause 6 true (8 ∷ 10 ∷ []) (0 ∷ 1 ∷ 2 ∷ 3 ∷ 5 ∷ []) ∷ []) refl)
 
 pub unit_alone : UnitAlone
 unit_alone = (((((tt, inr (refl, tt)), inr (refl, tt)), inr (refl, (refl, tt))), unit_true refl), refl)

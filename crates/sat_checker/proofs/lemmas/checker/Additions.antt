@@ -8,7 +8,7 @@ use Rattle.sat_checker.specs.Accepts.{MayBeAdded, ready_after}
 use Rattle.sat_checker.specs.Looks.{most_looks}
 use Rattle.sat_checker.specs.KernelView.{LooksAtMost, KeepsAfter}
 use Rattle.sat_checker.specs.CheckerView.{CheckerView, has_failed, looks_of, AnswersStep, AnswersClause}
-use Rattle.sat_checker.specs.ProofView.{taken_after, most_looks_behind, StandsUnfailed}
+use Rattle.sat_checker.specs.ProofView.{taken_after, most_looks_after, HasAcceptedUnfailed}
 use Rattle.sat_checker.specs.ClausesView.{additions, AddsFirstClauses, after_additions, AnswersClauses}
 use Rattle.sat_checker.specs.announcements.Announcements.{Notice}
 use Rattle.sat_checker.specs.declared.processing.ProcessingError.{ProcessingError}
@@ -22,11 +22,11 @@ additions_one : (cs : List (List ℕ)) (c : List ℕ) → additions (cs ++ c ∷
 additions_one [] c = refl
 additions_one (d ∷ ds) c = ap (λ (z : List Step). AddClause d ∷ z) (additions_one ds c)
 
-behind_one : (cs : List (List ℕ)) (c : List ℕ) (earlier : List Step) → after_additions (cs ++ c ∷ []) earlier ≡ AddClause c ∷ after_additions cs earlier
-behind_one cs c earlier = ap (λ (z : List Step). taken_after z earlier) (additions_one cs c) ∙ taken_one (additions cs) (AddClause c) earlier
+after_one : (cs : List (List ℕ)) (c : List ℕ) (earlier : List Step) → after_additions (cs ++ c ∷ []) earlier ≡ AddClause c ∷ after_additions cs earlier
+after_one cs c earlier = ap (λ (z : List Step). taken_after z earlier) (additions_one cs c) ∙ taken_one (additions cs) (AddClause c) earlier
 
-cost_one : (cs : List (List ℕ)) (c : List ℕ) (earlier : List Step) → most_looks_behind (additions (cs ++ c ∷ [])) earlier ≡ most_looks_behind (additions cs) earlier + most_looks (ready_after (after_additions cs earlier)) (AddClause c)
-cost_one cs c earlier = ap (λ (z : List Step). most_looks_behind z earlier) (additions_one cs c) ∙ looks_one (additions cs) (AddClause c) earlier
+cost_one : (cs : List (List ℕ)) (c : List ℕ) (earlier : List Step) → most_looks_after (additions (cs ++ c ∷ [])) earlier ≡ most_looks_after (additions cs) earlier + most_looks (ready_after (after_additions cs earlier)) (AddClause c)
+cost_one cs c earlier = ap (λ (z : List Step). most_looks_after z earlier) (additions_one cs c) ∙ looks_one (additions cs) (AddClause c) earlier
 
 -- a unit conflict that is settled is no bar
 may_settle : (f : Stored) (c : List ℕ) → MayBeAdded f c → MayBeAdded (settled f) c
@@ -44,11 +44,11 @@ module _ {L : Type 0} (Hears : L → Notice → Result Unit ProcessingError → 
   pub record Added (old new : CheckerView L) (clauses rest : List (List ℕ)) (earlier : List Step) : Type 0 where
     pub added : List (List ℕ)
     pub split : clauses ≡ added ++ rest
-    pub goes_on : StandsUnfailed Hears before begun new (after_additions added earlier)
-    pub looks : looks_of new ≤ looks_of old + most_looks_behind (additions added) earlier
+    pub goes_on : HasAcceptedUnfailed Hears before begun new (after_additions added earlier)
+    pub looks : looks_of new ≤ looks_of old + most_looks_after (additions added) earlier
 
   tried_cost : (a b d : CheckerView L) (clauses rest : List (List ℕ)) (c : List ℕ) (earlier : List Step) → (p : Added a b clauses rest earlier) → LooksAtMost b.kernel (AddClause c) d.kernel
-      → looks_of d ≤ looks_of a + most_looks_behind (additions (p.added ++ c ∷ [])) earlier
+      → looks_of d ≤ looks_of a + most_looks_after (additions (p.added ++ c ∷ [])) earlier
   tried_cost a b d clauses rest c earlier p l = looks_more (looks_of a) (looks_of b) (looks_of d) _ _ _ p.looks (l (after_additions p.added earlier) p.goes_on.0.kernel) (cost_one p.added c earlier)
 
   split_one : (clauses added rest more : List (List ℕ)) (c : List ℕ) → clauses ≡ added ++ rest → rest ≡ c ∷ more → clauses ≡ (added ++ c ∷ []) ++ more
@@ -59,7 +59,7 @@ module _ {L : Type 0} (Hears : L → Notice → Result Unit ProcessingError → 
   added_one a b d clauses rest more c earlier e p l k = record {
     added = p.added ++ c ∷ [];
     split = split_one clauses p.added rest more c p.split e;
-    goes_on = subst (StandsUnfailed Hears before begun d) (sym (behind_one p.added c earlier)) (k.1.stands, k.1.goes_on);
+    goes_on = subst (HasAcceptedUnfailed Hears before begun d) (sym (after_one p.added c earlier)) (k.1.valid, k.1.goes_on);
     looks = tried_cost a b d clauses rest c earlier p l;
   }
 
@@ -69,7 +69,7 @@ module _ {L : Type 0} (Hears : L → Notice → Result Unit ProcessingError → 
 
   pub added_stops : (a b d : CheckerView L) (g : CheckerError) (clauses rest more : List (List ℕ)) (c : List ℕ) (earlier : List Step) → has_failed a ≡ false → rest ≡ c ∷ more → (p : Added a b clauses rest earlier) → LooksAtMost b.kernel (AddClause c) d.kernel
       → AnswersClause Hears before begun (Err g) b c d (after_additions p.added earlier) → AnswersClauses Hears before begun (Err g) a d clauses earlier
-  added_stops a b d errors.CheckFailed clauses rest more c earlier h e p l k = (p.added, c, adds_tried a b d clauses rest more c earlier h e p l, k.1, subst (λ z. StandsUnfailed Hears before begun z (after_additions p.added earlier)) (sym k.2) p.goes_on)
+  added_stops a b d errors.CheckFailed clauses rest more c earlier h e p l k = (p.added, c, adds_tried a b d clauses rest more c earlier h e p l, k.1, subst (λ z. HasAcceptedUnfailed Hears before begun z (after_additions p.added earlier)) (sym k.2) p.goes_on)
   added_stops a b d errors.CounterEnd clauses rest more c earlier h e p l k = (p.added, c, adds_tried a b d clauses rest more c earlier h e p l, k.1, k.2)
   added_stops a b d errors.OutOfMemory clauses rest more c earlier h e p l k = (p.added, c, adds_tried a b d clauses rest more c earlier h e p l, k.1)
   added_stops a b d (errors.ProofProcessorError cause) clauses rest more c earlier h e p l k = (p.added, c, adds_tried a b d clauses rest more c earlier h e p l, k.1)
@@ -84,9 +84,9 @@ module _ {L : Type 0} (Hears : L → Notice → Result Unit ProcessingError → 
           well = h;
           left = [];
           split = sym (append-nil clauses) ∙ sym (append-nil (clauses ++ []));
-          looks = subst (λ (z : List Step). looks_of b ≤ looks_of a + most_looks_behind z earlier) cost p.looks;
+          looks = subst (λ (z : List Step). looks_of b ≤ looks_of a + most_looks_after z earlier) cost p.looks;
         },
-        subst (λ (z : List (List ℕ)). StandsUnfailed Hears before begun b (after_additions z earlier)) (sym all) p.goes_on,
+        subst (λ (z : List (List ℕ)). HasAcceptedUnfailed Hears before begun b (after_additions z earlier)) (sym all) p.goes_on,
       )
 
   -- a clause that may be added is accepted

@@ -4,9 +4,9 @@ use Rattle.std.specs.Prelude.{nat_eq, ◌||◌}
 use Rattle.std.proofs.lemmas.List.{append-nil}
 use Rattle.std.proofs.lemmas.Bool.Decides.{nat_tests}
 use Rattle.sat_base.specs.text.Text.{is_blank, Token, Scan, scan}
-use Rattle.sat_base.specs.text.Position.{Stage, Begun, stage_end, stage_behind, Position, Fresh, Leading, Comment, Between, Within, HeaderBetween, HeaderWithin, Spoilt, Over, IsPosition, left, in_hand, behind_LF, lines_behind, behind_header_word, behind_blank, ended_by_blank, onto}
+use Rattle.sat_base.specs.text.Position.{Stage, Begun, stage_end, stage_after, Position, Fresh, Leading, Comment, Between, Within, HeaderBetween, HeaderWithin, Spoilt, Over, IsPosition, left, in_hand, after_LF, lines_after, after_header_word, following_blank, ended_by_blank, onto}
 use Rattle.sat_base.specs.text.Tokenizing.{HoldsNoWord}
-use Rattle.sat_base.specs.dimacs.Dimacs.{Hand, Turn, GoesOn, Ends, Fails, Dimacs, turn, behind_turn, clauses_of, dimacs, has_blank, up_to_last_blank}
+use Rattle.sat_base.specs.dimacs.Dimacs.{Hand, Turn, GoesOn, Ends, Fails, Dimacs, turn, after_turn, clauses_of, dimacs, has_blank, up_to_last_blank}
 use Rattle.sat_base.proofs.lemmas.text.Positions.{Solid-more, start, LF_left, fresh_leads, blank_left, leading_comment, leading_end, leading_header, leading_late_header, leading_word, comment_more, between_word, within_more, header_between_word, header_within_more, spoilt_more, over_more, end_left}
 use Rattle.sat_base.proofs.lemmas.text.TextRuns.{QuietTokens, of_header}
 use Rattle.sat_base.proofs.lemmas.dimacs.Collected.{clauses_of_cons, dimacs_is, quiet_clauses}
@@ -23,29 +23,29 @@ record Stepped (spot : Position) (n b : ℕ) : Type 0 where
   good : IsPosition next
   leaves : (rest : List ℕ) → left spot n (b ∷ rest) ≡ onto gives (left next lines rest)
 
-LF_good : (spot : Position) → IsPosition (behind_LF spot)
+LF_good : (spot : Position) → IsPosition (after_LF spot)
 LF_good (Fresh may) = tt
 LF_good e = tt
 
-LF_quiet : (spot : Position) (n : ℕ) → in_hand (behind_LF spot) n ≡ []
+LF_quiet : (spot : Position) (n : ℕ) → in_hand (after_LF spot) n ≡ []
 LF_quiet (Fresh may) n = refl
 LF_quiet e n = refl
 
-header_good : (o : Option Stage) → IsPosition (behind_header_word o)
+header_good : (o : Option Stage) → IsPosition (after_header_word o)
 header_good None = tt
 header_good (Some stage) = tt
 
-header_quiet : (o : Option Stage) (n : ℕ) → QuietTokens (in_hand (behind_header_word o) n)
+header_quiet : (o : Option Stage) (n : ℕ) → QuietTokens (in_hand (after_header_word o) n)
 header_quiet None n = inl refl
 header_quiet (Some stage) n = inr (n + 1, stage_end stage, of_header stage, refl)
 
-blank_good : (spot : Position) → IsPosition (behind_blank spot)
-blank_good (HeaderWithin stage x w) = header_good (stage_behind stage (x ∷ w))
+blank_good : (spot : Position) → IsPosition (following_blank spot)
+blank_good (HeaderWithin stage x w) = header_good (stage_after stage (x ∷ w))
 blank_good e = tt
 
-blank_quiet : (spot : Position) (n : ℕ) → QuietTokens (in_hand (behind_blank spot) n)
+blank_quiet : (spot : Position) (n : ℕ) → QuietTokens (in_hand (following_blank spot) n)
 blank_quiet (HeaderBetween stage) n = inr (n + 1, stage_end stage, of_header stage, refl)
-blank_quiet (HeaderWithin stage x w) n = header_quiet (stage_behind stage (x ∷ w)) n
+blank_quiet (HeaderWithin stage x w) n = header_quiet (stage_after stage (x ∷ w)) n
 blank_quiet e n = inl refl
 
 -- a blank ends the word in hand
@@ -59,17 +59,17 @@ by_blank spot n b true e f g =
     record {
       step = record {
         gives = in_hand spot n;
-        next = behind_LF spot;
-        lines = lines_behind spot n;
+        next = after_LF spot;
+        lines = lines_after spot n;
         good = LF_good spot;
         leaves = λ rest. ap (λ (k : ℕ). left spot n (k ∷ rest)) ten ∙ LF_left spot n rest g;
       };
-      quiet = inl (LF_quiet spot (lines_behind spot n));
+      quiet = inl (LF_quiet spot (lines_after spot n));
     }
 by_blank spot n b false e f g = record {
   step = record {
     gives = ended_by_blank spot n;
-    next = behind_blank spot;
+    next = following_blank spot;
     lines = n;
     good = blank_good spot;
     leaves = λ rest. blank_left spot n b rest g e f;
@@ -167,14 +167,14 @@ rests front b e =
 
 -- CLAUSES
 
--- the clauses of these tokens, whatever comes behind
+-- the clauses of these tokens, whatever comes after
 record Keeps (hand : Hand) (before : List (ℕ × Token)) : Type 0 where
   clauses : List (List ℕ)
   more : (last : ℕ) (ts : List (ℕ × Token)) → (left : List (List ℕ)) × ((clauses_of hand last (before ++ ts)).clauses ≡ clauses ++ left)
   quiet : (s : Scan) → HoldsNoWord s → (clauses_of hand s.last (before ++ s.tokens)).clauses ≡ clauses
 
-turned : (hand : Hand) (t : ℕ × Token) (ts : List (ℕ × Token)) (k : Turn) → turn hand t.0 t.1 ≡ k → (last : ℕ) → (clauses_of hand last (t ∷ ts)).clauses ≡ (behind_turn k (λ h. clauses_of h last ts)).clauses
-turned hand t ts k e last = ap (λ (d : Dimacs). d.clauses) (clauses_of_cons hand last t ts ∙ ap (λ (j : Turn). behind_turn j (λ h. clauses_of h last ts)) e)
+turned : (hand : Hand) (t : ℕ × Token) (ts : List (ℕ × Token)) (k : Turn) → turn hand t.0 t.1 ≡ k → (last : ℕ) → (clauses_of hand last (t ∷ ts)).clauses ≡ (after_turn k (λ h. clauses_of h last ts)).clauses
+turned hand t ts k e last = ap (λ (d : Dimacs). d.clauses) (clauses_of_cons hand last t ts ∙ ap (λ (j : Turn). after_turn j (λ h. clauses_of h last ts)) e)
 
 keeps_turn : (hand : Hand) (t : ℕ × Token) (ts : List (ℕ × Token)) → ((h : Hand) → Keeps h ts) → (k : Turn) → turn hand t.0 t.1 ≡ k → Keeps hand (t ∷ ts)
 keeps_turn hand t ts later (GoesOn h) e =
@@ -205,8 +205,8 @@ keeps [] hand = record {
 }
 keeps (t ∷ ts) hand = keeps_turn hand t ts (λ h. keeps ts h) (turn hand t.0 t.1) refl
 
-behind_rest : (text rest : List ℕ) → Rests text → AreFirst (dimacs text).clauses (text ++ rest)
-behind_rest text rest r =
+after_rest : (text rest : List ℕ) → Rests text → AreFirst (dimacs text).clauses (text ++ rest)
+after_rest text rest r =
     let k = keeps r.gives None in
     let m = k.more (r.left_of rest).last (r.left_of rest).tokens in
     let all : (dimacs (text ++ rest)).clauses ≡ k.clauses ++ m.0 = ap (λ (d : Dimacs). d.clauses) (dimacs_is (text ++ rest) r.gives (r.left_of rest) (r.scans rest)) ∙ m.1 in
@@ -254,7 +254,7 @@ unsettled (b ∷ bs) = unsettled_if b bs (has_blank (b ∷ bs)) refl (unsettled 
 first_if : (text rest : List ℕ) (blank : Bool) → has_blank text ≡ blank → AreFirst (dimacs (up_to_last_blank text)).clauses (up_to_last_blank text ++ rest)
 first_if text rest true e =
     let c = cuts text e in
-    subst (λ (s : List ℕ). AreFirst (dimacs s).clauses (s ++ rest)) (sym c.cut) (behind_rest (c.front ++ c.byte ∷ []) rest (rests c.front c.byte c.blank))
+    subst (λ (s : List ℕ). AreFirst (dimacs s).clauses (s ++ rest)) (sym c.cut) (after_rest (c.front ++ c.byte ∷ []) rest (rests c.front c.byte c.blank))
 first_if text rest false e = subst (λ (s : List ℕ). AreFirst (dimacs s).clauses (s ++ rest)) (sym (settled_none text e)) ((dimacs rest).clauses, ap (λ (cs : List (List ℕ)). cs ++ (dimacs rest).clauses) (sym no_clauses))
 
 -- the clauses of the words that have ended stay the first, however the text goes on

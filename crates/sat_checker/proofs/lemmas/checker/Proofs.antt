@@ -22,7 +22,7 @@ use Rattle.sat_checker.specs.Accepts.{ready_after}
 use Rattle.sat_checker.specs.Looks.{most_looks}
 use Rattle.sat_checker.specs.CheckerView.{CheckerView, has_failed, looks_of, IsSettled, HasAccepted, FailsBeforeStep, AnswersStep}
 use Rattle.sat_checker.specs.inner.DimacsPieces.{with_flag}
-use Rattle.sat_checker.specs.ProofView.{taken_after, most_bytes, most_looks_behind, GaveSteps, ReadsProofPart, StandsUnfailed, FoundNoEnd, AnswersProof}
+use Rattle.sat_checker.specs.ProofView.{taken_after, most_bytes, most_looks_after, GaveSteps, ReadsProofPart, HasAcceptedUnfailed, FoundNoEnd, AnswersProof}
 use Rattle.sat_checker.specs.inner.ProofSteps.{CountsReads, CheckerAtSource, at_source, TriesStep, StepsOn, TakesStepsBeforeEnd, read_error, is_final, bytes_left}
 use Rattle.sat_checker.specs.announcements.Announcements.{Notice}
 use Rattle.sat_checker.specs.declared.processing.ProcessingError.{ProcessingError}
@@ -50,12 +50,12 @@ pub taken_one : (xs : List Step) (x : Step) (earlier : List Step) → taken_afte
 taken_one [] x earlier = refl
 taken_one (y ∷ ys) x earlier = taken_one ys x (y ∷ earlier)
 
-pub looks_one : (xs : List Step) (x : Step) (earlier : List Step) → most_looks_behind (xs ++ x ∷ []) earlier ≡ most_looks_behind xs earlier + most_looks (ready_after (taken_after xs earlier)) x
+pub looks_one : (xs : List Step) (x : Step) (earlier : List Step) → most_looks_after (xs ++ x ∷ []) earlier ≡ most_looks_after xs earlier + most_looks (ready_after (taken_after xs earlier)) x
 looks_one [] x earlier = added (most_looks (ready_after earlier) x)
   where
     added : (n : ℕ) → n + 0 ≡ 0 + n
     added n = omega arith
-looks_one (y ∷ ys) x earlier = apart (most_looks (ready_after earlier) y) (most_looks_behind (ys ++ x ∷ []) (y ∷ earlier)) (most_looks_behind ys (y ∷ earlier)) (most_looks (ready_after (taken_after ys (y ∷ earlier))) x) (looks_one ys x (y ∷ earlier))
+looks_one (y ∷ ys) x earlier = apart (most_looks (ready_after earlier) y) (most_looks_after (ys ++ x ∷ []) (y ∷ earlier)) (most_looks_after ys (y ∷ earlier)) (most_looks (ready_after (taken_after ys (y ∷ earlier))) x) (looks_one ys x (y ∷ earlier))
   where
     apart : (a b c d : ℕ) → b ≡ c + d → a + b ≡ a + c + d
     apart a b c d e = omega arith
@@ -155,7 +155,7 @@ gave_steps n r t steps text more h b p spelt =
       spelt = spelt;
       front = record {
         gave = p.gave ∙ ap (λ (z : List ℕ). r.given ++ z) fresh;
-        told = subst (Consumes r.to_come t.reader.to_come) (append_assoc text more t.waiting) (reported_front r.to_come t.reader.to_come t.waiting (text ++ more) p.bytes);
+        known_bytes = subst (Consumes r.to_come t.reader.to_come) (append_assoc text more t.waiting) (reported_front r.to_come t.reader.to_come t.waiting (text ++ more) p.bytes);
         loans = p.loans;
       };
       few = few_of n r.calls t.reader.calls t.reads 0 r.given t.reader.given p.fresh h p.calls p.few p.gave;
@@ -169,7 +169,7 @@ faulted_steps r t steps text more b p spelt = record {
   spelt = spelt;
   front = record {
     gave = p.gave ∙ ap (λ (z : List ℕ). r.given ++ z) p.flows;
-    told = subst (Consumes r.to_come t.reader.to_come) (append-nil (text ++ more)) (reported_front r.to_come t.reader.to_come [] (text ++ more) (subst (λ (z : List ℕ). Consumes (prepend_known [] r.to_come) (prepend_known z t.reader.to_come) (text ++ more)) p.none p.bytes));
+    known_bytes = subst (Consumes r.to_come t.reader.to_come) (append-nil (text ++ more)) (reported_front r.to_come t.reader.to_come [] (text ++ more) (subst (λ (z : List ℕ). Consumes (prepend_known [] r.to_come) (prepend_known z t.reader.to_come) (text ++ more)) p.none p.bytes));
     loans = p.loans;
   };
   few = few_of 1 r.calls t.reader.calls t.reads 0 r.given t.reader.given p.fresh (omega arith) p.calls p.few p.gave;
@@ -192,8 +192,8 @@ from_start P s e h = subst P e h
 looks_still : (a b c m n : ℕ) → b ≤ a + m → c ≡ b → n ≡ m → c ≤ a + n
 looks_still a b c m n h e f = omega arith
 
-none_behind : (xs earlier : List Step) → most_looks_behind (xs ++ []) earlier ≡ most_looks_behind xs earlier
-none_behind xs earlier = ap (λ (z : List Step). most_looks_behind z earlier) (append-nil xs)
+none_following : (xs earlier : List Step) → most_looks_after (xs ++ []) earlier ≡ most_looks_after xs earlier
+none_following xs earlier = ap (λ (z : List Step). most_looks_after z earlier) (append-nil xs)
 
 live_still : (more waiting : List ℕ) → waiting ≡ [] → IsProperFront SpellsStep more → IsProperFront SpellsStep (more ++ waiting)
 live_still more waiting e h = subst (IsProperFront SpellsStep) (sym (ap (λ (z : List ℕ). more ++ z) e ∙ append-nil more)) h
@@ -204,13 +204,13 @@ none_waits (Some xs) ws e h = sym (ap (λ (z : List ℕ). z ++ xs) e) ∙ h
 
 module _ {L : Type 0} (Hears : L → Notice → Result Unit ProcessingError → L → Type 0) (before : List Notice) (begun : L) where
   -- the checker with its flag as it was
-  unfailed : (c : CheckerView L) (steps : List Step) → has_failed c ≡ false → HasAccepted Hears before begun c steps → StandsUnfailed Hears before begun (with_flag false c) steps
+  unfailed : (c : CheckerView L) (steps : List Step) → has_failed c ≡ false → HasAccepted Hears before begun c steps → HasAcceptedUnfailed Hears before begun (with_flag false c) steps
   unfailed c steps h s = (record { kernel = record { accepted = s.kernel.accepted; records = s.kernel.records; kept = λ e. s.kernel.kept h }; heard = λ e. s.heard h }, refl)
 
   pub failed_now : (c : CheckerView L) (steps : List Step) → has_failed c ≡ false → HasAccepted Hears before begun c steps → FailsBeforeStep Hears before begun (with_flag true c) steps
   failed_now c steps h s = record {
     fails = record {
-      stands = record { kernel = record { accepted = s.kernel.accepted; records = s.kernel.records; kept = λ e. absurd (true≢false e) }; heard = λ e. absurd (true≢false e) };
+      valid = record { kernel = record { accepted = s.kernel.accepted; records = s.kernel.records; kept = λ e. absurd (true≢false e) }; heard = λ e. absurd (true≢false e) };
       failed = refl;
     };
     heard = heard_some Hears c.kernel.state.formula.status.conflict steps before begun c.listeners (s.heard h);
@@ -219,31 +219,31 @@ module _ {L : Type 0} (Hears : L → Notice → Result Unit ProcessingError → 
   pub unread_answer : {R : Type 0} (seen : R → Reader) (c : CheckerView L) (s t : StepReader R Buffers) (e : StepError) (step : Step) (earlier : List Step)
       → has_failed c ≡ false → reading.has_reader_failed s ≡ false → Next seen s t (giving step (Err e)) → HasAccepted Hears before begun c earlier
       → StepsOn Hears before begun (Err (read_error e)) (at_source c (reader_source seen s)) (at_source (with_flag (is_final e) c) (reader_source seen t)) earlier
-  unread_answer seen c s t unread_by.Ends step earlier h k n stands = ([], n.answer, live_none, record { goes_on = unfailed c earlier h stands; looks = refl })
-  unread_answer seen c s t unread_by.Cut step earlier h k n stands = let a = n.answer in (a.0 ∷ a.1, a.2, a.3, record { goes_on = unfailed c earlier h stands; looks = refl })
-  unread_answer seen c s t unread_by.BadByte step earlier h k n stands = let a = n.answer in (a.0, a.1, a.2, a.3, a.4, record { goes_on = unfailed c earlier h stands; looks = refl })
-  unread_answer seen c s t unread_by.Read step earlier h k n stands = let a = n.answer in (a.0, a.1, a.2, record { goes_on = unfailed c earlier h stands; looks = refl })
-  unread_answer seen c s t unread_by.OutOfMemory step earlier h k n stands =
-      let a = n.answer in inl (record { tag = a.0; more = a.1; passes = a.2; begins = a.3; looks = refl }, failed_now c earlier h stands)
-  unread_answer seen c s t unread_by.HasFailed step earlier h k n stands = absurd (true≢false (sym n.was ∙ k))
+  unread_answer seen c s t unread_by.Ends step earlier h k n valid = ([], n.answer, live_none, record { goes_on = unfailed c earlier h valid; looks = refl })
+  unread_answer seen c s t unread_by.Cut step earlier h k n valid = let a = n.answer in (a.0 ∷ a.1, a.2, a.3, record { goes_on = unfailed c earlier h valid; looks = refl })
+  unread_answer seen c s t unread_by.BadByte step earlier h k n valid = let a = n.answer in (a.0, a.1, a.2, a.3, a.4, record { goes_on = unfailed c earlier h valid; looks = refl })
+  unread_answer seen c s t unread_by.Read step earlier h k n valid = let a = n.answer in (a.0, a.1, a.2, record { goes_on = unfailed c earlier h valid; looks = refl })
+  unread_answer seen c s t unread_by.OutOfMemory step earlier h k n valid =
+      let a = n.answer in inl (record { tag = a.0; more = a.1; passes = a.2; begins = a.3; looks = refl }, failed_now c earlier h valid)
+  unread_answer seen c s t unread_by.HasFailed step earlier h k n valid = absurd (true≢false (sym n.was ∙ k))
 
-  tried_looks : (a b c : CheckerAtSource L) (earlier xs : List Step) (x : Step) → TakesStepsBeforeEnd Hears before begun a b earlier xs → TriesStep b c (taken_after xs earlier) x → looks_of c.checker ≤ looks_of a.checker + most_looks_behind (xs ++ x ∷ []) earlier
+  tried_looks : (a b c : CheckerAtSource L) (earlier xs : List Step) (x : Step) → TakesStepsBeforeEnd Hears before begun a b earlier xs → TriesStep b c (taken_after xs earlier) x → looks_of c.checker ≤ looks_of a.checker + most_looks_after (xs ++ x ∷ []) earlier
   tried_looks a b c earlier xs x p t = looks_more (looks_of a.checker) (looks_of b.checker) (looks_of c.checker) _ _ _ p.looks t.looks (looks_one xs x earlier)
 
   pub passed_none : (a : CheckerAtSource L) (earlier : List Step) → has_failed a.checker ≡ false → HasAccepted Hears before begun a.checker earlier → TakesStepsBeforeEnd Hears before begun a a earlier []
   passed_none a earlier h s = record { text = []; passes = passes_none a.source; spelt = refl; unended = tt; goes_on = (s, h); looks = omega arith }
 
-  pub passed_one : (a b c : CheckerAtSource L) (earlier xs : List Step) (x : Step) → TakesStepsBeforeEnd Hears before begun a b earlier xs → TriesStep b c (taken_after xs earlier) x → (x ≢ End) → StandsUnfailed Hears before begun c.checker (x ∷ taken_after xs earlier) → TakesStepsBeforeEnd Hears before begun a c earlier (xs ++ x ∷ [])
+  pub passed_one : (a b c : CheckerAtSource L) (earlier xs : List Step) (x : Step) → TakesStepsBeforeEnd Hears before begun a b earlier xs → TriesStep b c (taken_after xs earlier) x → (x ≢ End) → HasAcceptedUnfailed Hears before begun c.checker (x ∷ taken_after xs earlier) → TakesStepsBeforeEnd Hears before begun a c earlier (xs ++ x ∷ [])
   passed_one a b c earlier xs x p t n g = record {
     text = p.text ++ t.text;
     passes = passes_more a.source b.source c.source p.text t.text p.passes t.passes;
     spelt = items_one SpellsStep xs x p.text t.text p.spelt t.spelt;
     unended = all_one (λ step. step ≢ End) xs x p.unended n;
-    goes_on = subst (StandsUnfailed Hears before begun c.checker) (sym (taken_one xs x earlier)) g;
+    goes_on = subst (HasAcceptedUnfailed Hears before begun c.checker) (sym (taken_one xs x earlier)) g;
     looks = tried_looks a b c earlier xs x p t;
   }
 
-  -- steps that were taken, and then the last one, behind which bytes may wait
+  -- steps that were taken, and then the last one, after which bytes may wait
   went_tried : (a b c : CheckerAtSource L) (earlier xs : List Step) (x : Step) → a.source ≡ unread a.source.reader → has_failed a.checker ≡ false → c.source.reads ≤ most_reads
       → TakesStepsBeforeEnd Hears before begun a b earlier xs → TriesStep b c (taken_after xs earlier) x → ReadsProofPart a.checker c.checker a.source.reader c.source.reader earlier xs (x ∷ []) ([] ++ c.source.waiting)
   went_tried a b c earlier xs x e h k p t =
@@ -266,7 +266,7 @@ module _ {L : Type 0} (Hears : L → Notice → Result Unit ProcessingError → 
         (from_start (λ s. ConsumesWithReads n s c.source (p.text ++ more)) a.source e (passes_more a.source b.source c.source p.text more p.passes w))
         (subst (λ (z : List Step). SpellsSteps z p.text) (sym (append-nil xs)) p.spelt);
     unended = p.unended;
-    looks = looks_still (looks_of a.checker) (looks_of b.checker) (looks_of c.checker) _ _ p.looks l (none_behind xs earlier);
+    looks = looks_still (looks_of a.checker) (looks_of b.checker) (looks_of c.checker) _ _ p.looks l (none_following xs earlier);
   }
 
   went_faulted : (a b c : CheckerAtSource L) (earlier xs : List Step) (more : List ℕ) → a.source ≡ unread a.source.reader → has_failed a.checker ≡ false → c.source.reads ≤ most_reads
@@ -277,14 +277,14 @@ module _ {L : Type 0} (Hears : L → Notice → Result Unit ProcessingError → 
         (from_start (λ s. ConsumesAndFails s c.source (p.text ++ more)) a.source e (faults_later a.source b.source c.source p.text more p.passes w))
         (subst (λ (z : List Step). SpellsSteps z p.text) (sym (append-nil xs)) p.spelt);
     unended = p.unended;
-    looks = looks_still (looks_of a.checker) (looks_of b.checker) (looks_of c.checker) _ _ p.looks l (none_behind xs earlier);
+    looks = looks_still (looks_of a.checker) (looks_of b.checker) (looks_of c.checker) _ _ p.looks l (none_following xs earlier);
   }
 
   -- no read failed
   kept_by : (n : ℕ) (a b c : CheckerAtSource L) (earlier xs : List Step) (more : List ℕ) → TakesStepsBeforeEnd Hears before begun a b earlier xs → ConsumesWithReads n b.source c.source more → c.source.reader.failures ≡ a.source.reader.failures
   kept_by n a b c earlier xs more p w = w.failures ∙ p.passes.failures
 
-  -- an error behind steps that were taken
+  -- an error after steps that were taken
   pub stops : (a b c : CheckerAtSource L) (e : CheckerError) (earlier xs : List Step) → a.source ≡ unread a.source.reader → has_failed a.checker ≡ false → c.source.reads ≤ most_reads
       → TakesStepsBeforeEnd Hears before begun a b earlier xs → StepsOn Hears before begun (Err e) b c (taken_after xs earlier) → AnswersProof Hears before begun (Err e) a.checker c.checker a.source.reader c.source.reader earlier
   stops a b c errors.CheckFailed earlier xs e h k p s =
@@ -301,7 +301,7 @@ module _ {L : Type 0} (Hears : L → Notice → Result Unit ProcessingError → 
           kept_by 0 a b c earlier xs _ p w.0.passes,
           inl (
             went_waiting 0 a b c earlier xs (w.0.tag ∷ w.0.more) (omega arith) e h k w.0.looks p w.0.passes,
-            record { tag = w.0.tag; more = w.0.more; behind = c.source.waiting; whole = refl; begins = w.0.begins },
+            record { tag = w.0.tag; more = w.0.more; following = c.source.waiting; whole = refl; begins = w.0.begins },
             w.1,
           ),
         )
@@ -324,7 +324,7 @@ module _ {L : Type 0} (Hears : L → Notice → Result Unit ProcessingError → 
     (s.0 ++ s.1 ∷ []) ++ c.source.waiting,
     went_waiting 0 a b c earlier xs (s.0 ++ s.1 ∷ []) (omega arith) e h k s.5.looks p s.2,
     kept_by 0 a b c earlier xs _ p s.2,
-    record { front = s.0; byte = s.1; behind = c.source.waiting; whole = append_assoc s.0 (s.1 ∷ []) c.source.waiting; live = s.3; shut = s.4 },
+    record { front = s.0; byte = s.1; following = c.source.waiting; whole = append_assoc s.0 (s.1 ∷ []) c.source.waiting; live = s.3; shut = s.4 },
     s.5.goes_on,
   )
   stops a b c errors.IoError earlier xs e h k p s = (
@@ -337,15 +337,15 @@ module _ {L : Type 0} (Hears : L → Notice → Result Unit ProcessingError → 
   )
   stops a b c errors.HasFailed earlier xs e h k p s = absurd s
 
-  -- behind an end nothing is pending
+  -- after an end nothing is pending
   settled_end : (steps : List Step) (c : CheckerView L) → has_failed c ≡ false → HasAccepted Hears before begun c (End ∷ steps) → IsSettled c
   settled_end steps c h s = let k = s.kernel.kept h in none_pending c.kernel (End ∷ steps) k (end_settled steps)
 
-  -- the end behind steps that were taken
+  -- the end after steps that were taken
   pub finishes : (a b c : CheckerAtSource L) (earlier xs : List Step) (x : Step) → a.source ≡ unread a.source.reader → has_failed a.checker ≡ false → c.source.reads ≤ most_reads
-      → TakesStepsBeforeEnd Hears before begun a b earlier xs → TriesStep b c (taken_after xs earlier) x → x ≡ End → StandsUnfailed Hears before begun c.checker (x ∷ taken_after xs earlier) → AnswersProof Hears before begun (Ok tt) a.checker c.checker a.source.reader c.source.reader earlier
+      → TakesStepsBeforeEnd Hears before begun a b earlier xs → TriesStep b c (taken_after xs earlier) x → x ≡ End → HasAcceptedUnfailed Hears before begun c.checker (x ∷ taken_after xs earlier) → AnswersProof Hears before begun (Ok tt) a.checker c.checker a.source.reader c.source.reader earlier
   finishes a b c earlier xs x e h k p t is g =
-      let on : StandsUnfailed Hears before begun c.checker (End ∷ taken_after xs earlier) = subst (λ (z : Step). StandsUnfailed Hears before begun c.checker (z ∷ taken_after xs earlier)) is g in (
+      let on : HasAcceptedUnfailed Hears before begun c.checker (End ∷ taken_after xs earlier) = subst (λ (z : Step). HasAcceptedUnfailed Hears before begun c.checker (z ∷ taken_after xs earlier)) is g in (
         xs,
         [] ++ c.source.waiting,
         subst (λ (z : Step). ReadsProofPart a.checker c.checker a.source.reader c.source.reader earlier xs (z ∷ []) ([] ++ c.source.waiting)) is (went_tried a b c earlier xs x e h k p t),

@@ -12,11 +12,11 @@ use Rattle.sat_base.proofs.lemmas.device.Given.{enough_all, enough_front}
 use Rattle.sat_base.proofs.lemmas.dimacs.Parsed.{HasAccepted as HasFed, stops_on, ends_by}
 use Rattle.sat_base.specs.steps.Steps.{Step, AddClause}
 use Rattle.sat_checker.specs.Accepts.{Accepts, stored_after, ready_after}
-use Rattle.sat_checker.specs.CheckerView.{CheckerView, has_failed, looks_of, HasAccepted, FailsBeforeStep, BreaksAt, StarvesAt}
+use Rattle.sat_checker.specs.CheckerView.{CheckerView, has_failed, looks_of, HasAccepted, FailsBeforeStep, BreaksAt, RunsOutOfMemoryAt}
 use Rattle.sat_checker.specs.announcements.Announcements.{Notice}
-use Rattle.sat_checker.specs.ProofView.{taken_after, most_looks_behind, NoReadFailed, StandsUnfailed}
+use Rattle.sat_checker.specs.ProofView.{taken_after, most_looks_after, NoReadFailed, HasAcceptedUnfailed}
 use Rattle.sat_checker.specs.ClausesView.{additions, AddsFirstClauses, after_additions, AnswersClauses}
-use Rattle.sat_checker.specs.DimacsView.{AreOfFront, AreRead, FailsBehind, StandsBehind, AnswersDimacs, AddsDimacs}
+use Rattle.sat_checker.specs.DimacsView.{AreOfFront, AreRead, FailsAfter, ContinuesAfter, AnswersDimacs, AddsDimacs}
 use Rattle.sat_checker.specs.inner.DimacsPieces.{is_out_of_memory, with_flag, AddsRead}
 use Rattle.sat_checker.specs.Spent.{SpentBy}
 use Rattle.sat_checker.specs.declared.processing.ProcessingError.{ProcessingError}
@@ -27,14 +27,14 @@ use Rattle.sat_checker.specs.declared.error.CheckerDimacsError.{CheckerDimacsErr
 use Rattle.sat_checker.specs.declared.error.CheckerDimacsError.TheVariants as refused
 use Rattle.sat_checker.proofs.lemmas.checker.Proofs.{looks_more, failed_now}
 
--- CLAUSES BEHIND CLAUSES
+-- CLAUSES AFTER CLAUSES
 
 taken_joined : (xs ys earlier : List Step) → taken_after (xs ++ ys) earlier ≡ taken_after ys (taken_after xs earlier)
 taken_joined [] ys earlier = refl
 taken_joined (x ∷ xs) ys earlier = taken_joined xs ys (x ∷ earlier)
 
-looks_joined : (xs ys earlier : List Step) → most_looks_behind (xs ++ ys) earlier ≡ most_looks_behind xs earlier + most_looks_behind ys (taken_after xs earlier)
-looks_joined [] ys earlier = none (most_looks_behind ys earlier)
+looks_joined : (xs ys earlier : List Step) → most_looks_after (xs ++ ys) earlier ≡ most_looks_after xs earlier + most_looks_after ys (taken_after xs earlier)
+looks_joined [] ys earlier = none (most_looks_after ys earlier)
   where
     none : (n : ℕ) → n ≡ 0 + n
     none n = omega arith
@@ -43,11 +43,11 @@ looks_joined (x ∷ xs) ys earlier = apart _ _ _ _ (looks_joined xs ys (x ∷ ea
     apart : (a b c d : ℕ) → b ≡ c + d → a + b ≡ (a + c) + d
     apart a b c d e = omega arith
 
-behind_joined : (cs ds : List (List ℕ)) (earlier : List Step) → after_additions (cs ++ ds) earlier ≡ after_additions ds (after_additions cs earlier)
-behind_joined cs ds earlier = ap (λ (z : List Step). taken_after z earlier) (map-append AddClause cs ds) ∙ taken_joined (additions cs) (additions ds) earlier
+after_joined : (cs ds : List (List ℕ)) (earlier : List Step) → after_additions (cs ++ ds) earlier ≡ after_additions ds (after_additions cs earlier)
+after_joined cs ds earlier = ap (λ (z : List Step). taken_after z earlier) (map-append AddClause cs ds) ∙ taken_joined (additions cs) (additions ds) earlier
 
-cost_joined : (cs ds : List (List ℕ)) (earlier : List Step) → most_looks_behind (additions (cs ++ ds)) earlier ≡ most_looks_behind (additions cs) earlier + most_looks_behind (additions ds) (after_additions cs earlier)
-cost_joined cs ds earlier = ap (λ (z : List Step). most_looks_behind z earlier) (map-append AddClause cs ds) ∙ looks_joined (additions cs) (additions ds) earlier
+cost_joined : (cs ds : List (List ℕ)) (earlier : List Step) → most_looks_after (additions (cs ++ ds)) earlier ≡ most_looks_after (additions cs) earlier + most_looks_after (additions ds) (after_additions cs earlier)
+cost_joined cs ds earlier = ap (λ (z : List Step). most_looks_after z earlier) (map-append AddClause cs ds) ∙ looks_joined (additions cs) (additions ds) earlier
 
 none_more : (n : ℕ) → n ≤ n + 0
 none_more n = omega arith
@@ -80,17 +80,17 @@ has_ending d clauses ending c e = subst (λ (z : Ending). d ≡ record { clauses
 fault_says : (ending : Ending) (text piece : List ℕ) (p q : Progress) → HasFed text p → EndsAtFault ending piece p q → (rest : List ℕ) → IsDimacs ((text ++ piece) ++ rest) (clauses_read q) ending
 fault_says ending text piece p q is f rest =
     let fed : q.fed ≡ text ++ f.front = ap (λ (z : Progress). z.fed) f.progress ∙ ap (λ (z : List ℕ). z ++ f.front) (fed_of text p is) in
-    let all : (text ++ piece) ++ rest ≡ q.fed ++ (f.behind ++ rest) =
-    ap (λ (z : List ℕ). (text ++ z) ++ rest) f.whole ∙ ap (λ (z : List ℕ). z ++ rest) (sym (append_assoc text f.front f.behind)) ∙ append_assoc (text ++ f.front) f.behind rest
-    ∙ ap (λ (z : List ℕ). z ++ (f.behind ++ rest)) (sym fed) in
-    ap dimacs all ∙ f.ends (f.behind ++ rest)
+    let all : (text ++ piece) ++ rest ≡ q.fed ++ (f.following ++ rest) =
+    ap (λ (z : List ℕ). (text ++ z) ++ rest) f.whole ∙ ap (λ (z : List ℕ). z ++ rest) (sym (append_assoc text f.front f.following)) ∙ append_assoc (text ++ f.front) f.following rest
+    ∙ ap (λ (z : List ℕ). z ++ (f.following ++ rest)) (sym fed) in
+    ap dimacs all ∙ f.ends (f.following ++ rest)
 
 -- and where there is no memory, those of a front
 short_says : (text piece : List ℕ) (p q : Progress) → HasFed text p → FallsShort piece p q → (rest : List ℕ) → AreOfFront ((text ++ piece) ++ rest) (clauses_read q)
 short_says text piece p q is f rest = (
   text ++ f.front,
-  (f.byte ∷ f.behind) ++ rest,
-  ap (λ (z : List ℕ). (text ++ z) ++ rest) f.whole ∙ ap (λ (z : List ℕ). z ++ rest) (sym (append_assoc text f.front (f.byte ∷ f.behind))) ∙ append_assoc (text ++ f.front) (f.byte ∷ f.behind) rest,
+  (f.byte ∷ f.following) ++ rest,
+  ap (λ (z : List ℕ). (text ++ z) ++ rest) f.whole ∙ ap (λ (z : List ℕ). z ++ rest) (sym (append_assoc text f.front (f.byte ∷ f.following))) ∙ append_assoc (text ++ f.front) (f.byte ∷ f.following) rest,
   ap clauses_read (f.progress ∙ ap (λ (z : Progress). cut_short (with_fed f.front z)) is),
 )
 
@@ -116,7 +116,7 @@ clean_by_end text p q is f = has_ending (dimacs text) (clauses_read q) Clean (ov
 
 -- what a fault says
 pub fails_by_piece : (e : DimacsError) (from to : Reader) (text piece : List ℕ) (p q : Progress) → HasFed text p → FeedsPiece (Err e) piece p q → NoReadFailed from to → GaveFront from to (text ++ piece) → to.ended ≡ false
-    → to.calls ≤ from.calls + length (text ++ piece) + 1 → FailsBehind e from to (clauses_read q)
+    → to.calls ≤ from.calls + length (text ++ piece) + 1 → FailsAfter e from to (clauses_read q)
 fails_by_piece (texts.Malformed line) from to text piece p q is f n g o few = (n, enough_front from to _ (text ++ piece) g o few (λ rest. (f.1, f.2, fault_says (Malformed f.1) text piece p q is f.3 rest)))
 fails_by_piece (texts.Limit line) from to text piece p q is f n g o few = (n, enough_front from to _ (text ++ piece) g o few (λ rest. (f.1, f.2, fault_says (Limit f.1) text piece p q is f.3 rest)))
 fails_by_piece texts.OutOfMemory from to text piece p q is f n g o few =
@@ -124,7 +124,7 @@ fails_by_piece texts.OutOfMemory from to text piece p q is f n g o few =
 fails_by_piece texts.Read from to text piece p q is f n g o few = absurd f
 fails_by_piece texts.HasFailed from to text piece p q is f n g o few = stopped_not _ text p is f.0
 
-pub fails_by_end : (e : DimacsError) (from to : Reader) (text : List ℕ) (p q : Progress) → HasFed text p → Finishes (Err e) p q → NoReadFailed from to → GaveAll from to text → FailsBehind e from to (clauses_read q)
+pub fails_by_end : (e : DimacsError) (from to : Reader) (text : List ℕ) (p q : Progress) → HasFed text p → Finishes (Err e) p q → NoReadFailed from to → GaveAll from to text → FailsAfter e from to (clauses_read q)
 fails_by_end (texts.Malformed line) from to text p q is f n g =
     (n, enough_all from to _ text g (f.2, f.3, has_ending (dimacs text) (clauses_read q) (Malformed f.2) (over_read text p q is f.1) (ap (λ (z : List ℕ). (dimacs z).ending) (sym (fed_of text p is)) ∙ f.4)))
 fails_by_end (texts.Limit line) from to text p q is f n g =
@@ -158,37 +158,37 @@ module _ {L : Type 0} (Hears : L → Notice → Result Unit ProcessingError → 
     well = p.well;
     left = q.left;
     split = ap (λ (z : List (List ℕ)). cs ++ z) q.split ∙ sym (append_assoc cs (added ++ tried) q.left) ∙ ap (λ (z : List (List ℕ)). z ++ q.left) (sym (append_assoc cs added tried));
-    looks = looks_more (looks_of a) (looks_of b) (looks_of d) _ _ _ (subst (λ (z : List (List ℕ)). looks_of b ≤ looks_of a + most_looks_behind (additions z) earlier) (append-nil cs) p.looks) q.looks
-        (ap (λ (z : List (List ℕ)). most_looks_behind (additions z) earlier) (append_assoc cs added tried) ∙ cost_joined cs (added ++ tried) earlier);
+    looks = looks_more (looks_of a) (looks_of b) (looks_of d) _ _ _ (subst (λ (z : List (List ℕ)). looks_of b ≤ looks_of a + most_looks_after (additions z) earlier) (append-nil cs) p.looks) q.looks
+        (ap (λ (z : List (List ℕ)). most_looks_after (additions z) earlier) (append_assoc cs added tried) ∙ cost_joined cs (added ++ tried) earlier);
   }
 
   joined : (r : Result Unit CheckerError) (a b d : CheckerView L) (cs ds : List (List ℕ)) (earlier : List Step) → AnswersClauses Hears before begun (Ok tt) a b cs earlier → AnswersClauses Hears before begun r b d ds (after_additions cs earlier) → AnswersClauses Hears before begun r a d (cs ++ ds) earlier
-  joined (Ok x) a b d cs ds earlier p q = (adds_joined a b d cs ds ds [] earlier p.0 q.0, subst (StandsUnfailed Hears before begun d) (sym (behind_joined cs ds earlier)) q.1)
+  joined (Ok x) a b d cs ds earlier p q = (adds_joined a b d cs ds ds [] earlier p.0 q.0, subst (HasAcceptedUnfailed Hears before begun d) (sym (after_joined cs ds earlier)) q.1)
   joined (Err errors.CheckFailed) a b d cs ds earlier p q = (
     cs ++ q.0,
     q.1,
     adds_joined a b d cs ds q.0 (q.1 ∷ []) earlier p.0 q.2,
-    subst (λ (z : List Step). Accepts (ready_after z) (AddClause q.1) → ⊥) (sym (behind_joined cs q.0 earlier)) q.3,
-    subst (StandsUnfailed Hears before begun d) (sym (behind_joined cs q.0 earlier)) q.4,
+    subst (λ (z : List Step). Accepts (ready_after z) (AddClause q.1) → ⊥) (sym (after_joined cs q.0 earlier)) q.3,
+    subst (HasAcceptedUnfailed Hears before begun d) (sym (after_joined cs q.0 earlier)) q.4,
   )
   joined (Err errors.CounterEnd) a b d cs ds earlier p q = (
     cs ++ q.0,
     q.1,
     adds_joined a b d cs ds q.0 (q.1 ∷ []) earlier p.0 q.2,
-    subst (λ (z : List Step). SpentBy (AddClause q.1) (stored_after z)) (sym (behind_joined cs q.0 earlier)) q.3,
-    subst (FailsBeforeStep Hears before begun d) (sym (behind_joined cs q.0 earlier)) q.4,
+    subst (λ (z : List Step). SpentBy (AddClause q.1) (stored_after z)) (sym (after_joined cs q.0 earlier)) q.3,
+    subst (FailsBeforeStep Hears before begun d) (sym (after_joined cs q.0 earlier)) q.4,
   )
   joined (Err errors.OutOfMemory) a b d cs ds earlier p q = (
     cs ++ q.0,
     q.1,
     adds_joined a b d cs ds q.0 (q.1 ∷ []) earlier p.0 q.2,
-    subst (StarvesAt Hears before begun d (AddClause q.1)) (sym (behind_joined cs q.0 earlier)) q.3,
+    subst (RunsOutOfMemoryAt Hears before begun d (AddClause q.1)) (sym (after_joined cs q.0 earlier)) q.3,
   )
   joined (Err (errors.ProofProcessorError cause)) a b d cs ds earlier p q = (
     cs ++ q.0,
     q.1,
     adds_joined a b d cs ds q.0 (q.1 ∷ []) earlier p.0 q.2,
-    subst (λ (z : List Step). BreaksAt Hears before begun (faults.ProofProcessorError cause) d (AddClause q.1) z) (sym (behind_joined cs q.0 earlier)) q.3,
+    subst (λ (z : List Step). BreaksAt Hears before begun (faults.ProofProcessorError cause) d (AddClause q.1) z) (sym (after_joined cs q.0 earlier)) q.3,
   )
   joined (Err errors.HasFailed) a b d cs ds earlier p q = absurd (true≢false (sym q.0 ∙ p.1.1))
   joined (Err e) a b d cs ds earlier p q = absurd q
@@ -196,35 +196,35 @@ module _ {L : Type 0} (Hears : L → Notice → Result Unit ProcessingError → 
   pub none_added : (c : CheckerView L) (earlier : List Step) → has_failed c ≡ false → HasAccepted Hears before begun c earlier → AnswersClauses Hears before begun (Ok tt) c c [] earlier
   none_added c earlier h s = (record { well = h; left = []; split = refl; looks = none_more (looks_of c) }, (s, h))
 
-  unflagged : (mid : CheckerView L) (steps : List Step) → StandsUnfailed Hears before begun mid steps → StandsUnfailed Hears before begun (with_flag false mid) steps
+  unflagged : (mid : CheckerView L) (steps : List Step) → HasAcceptedUnfailed Hears before begun mid steps → HasAcceptedUnfailed Hears before begun (with_flag false mid) steps
   unflagged mid steps g = (record { kernel = record { accepted = g.0.kernel.accepted; records = g.0.kernel.records; kept = λ h. g.0.kernel.kept g.1 }; heard = λ h. g.0.heard g.1 }, refl)
 
-  set_failed : (e : DimacsError) (mid : CheckerView L) (steps : List Step) → StandsUnfailed Hears before begun mid steps → StandsBehind Hears before begun e (with_flag (is_out_of_memory e) mid) steps
+  set_failed : (e : DimacsError) (mid : CheckerView L) (steps : List Step) → HasAcceptedUnfailed Hears before begun mid steps → ContinuesAfter Hears before begun e (with_flag (is_out_of_memory e) mid) steps
   set_failed texts.OutOfMemory mid steps g = failed_now Hears before begun mid steps g.1 g.0
   set_failed e mid steps g = unflagged mid steps g
 
   -- those that were read before were added, and these are tried
   module _ (old cur new : CheckerView L) (q : Progress) (earlier : List Step) (clauses : List (List ℕ)) (first : AnswersClauses Hears before begun (Ok tt) old cur q.taken earlier) (split : clauses_read q ≡ q.taken ++ clauses) where
-    pub behind_first : (r : Result Unit CheckerError) (last : CheckerView L) → ((steps : List Step) → HasAccepted Hears before begun cur steps → AnswersClauses Hears before begun r cur last clauses steps) → AnswersClauses Hears before begun r old last (clauses_read q) earlier
-    behind_first r last a = subst (λ (z : List (List ℕ)). AnswersClauses Hears before begun r old last z earlier) (sym split) (joined r old cur last q.taken clauses earlier first (a (after_additions q.taken earlier) first.1.0))
+    pub after_first : (r : Result Unit CheckerError) (last : CheckerView L) → ((steps : List Step) → HasAccepted Hears before begun cur steps → AnswersClauses Hears before begun r cur last clauses steps) → AnswersClauses Hears before begun r old last (clauses_read q) earlier
+    after_first r last a = subst (λ (z : List (List ℕ)). AnswersClauses Hears before begun r old last z earlier) (sym split) (joined r old cur last q.taken clauses earlier first (a (after_additions q.taken earlier) first.1.0))
 
   pub answers_dimacs : (result : Result Unit CheckerDimacsError) (answer : Result Unit DimacsError) (old cur new : CheckerView L) (from to : Reader) (q : Progress) (earlier : List Step) → NoReadFailed from to
       → AnswersClauses Hears before begun (Ok tt) old cur q.taken earlier → (result ≡ Ok tt → answer ≡ Ok tt → GaveEnough from to (λ text. IsDimacs text (clauses_read q) Clean))
-      → ((e : DimacsError) → answer ≡ Err e → FailsBehind e from to (clauses_read q)) → GaveEnough from to (λ text. AreRead text (clauses_read q)) → AddsRead Hears result answer q cur new → AnswersDimacs Hears before begun result old new from to earlier
-  answers_dimacs (Ok x) answer old cur new from to q earlier n first clean fails read a = (n, clauses_read q, clean refl a.2.0, behind_first old cur new q earlier a.0 first a.1 (Ok tt) new (a.2.1 before begun))
+      → ((e : DimacsError) → answer ≡ Err e → FailsAfter e from to (clauses_read q)) → GaveEnough from to (λ text. AreRead text (clauses_read q)) → AddsRead Hears result answer q cur new → AnswersDimacs Hears before begun result old new from to earlier
+  answers_dimacs (Ok x) answer old cur new from to q earlier n first clean fails read a = (n, clauses_read q, clean refl a.2.0, after_first old cur new q earlier a.0 first a.1 (Ok tt) new (a.2.1 before begun))
   answers_dimacs (Err (refused.Dimacs e)) answer old cur new from to q earlier n first clean fails read a =
       let mid : CheckerView L = a.2.1 in
-      let all = behind_first old cur new q earlier a.0 first a.1 (Ok tt) mid (a.2.2 before begun) in (
+      let all = after_first old cur new q earlier a.0 first a.1 (Ok tt) mid (a.2.2 before begun) in (
         clauses_read q,
         fails e a.2.0,
         subst (λ (z : CheckerView L). AddsFirstClauses old z (clauses_read q) (clauses_read q) [] earlier) (sym a.2.3) (record { well = all.0.well; left = all.0.left; split = all.0.split; looks = all.0.looks }),
-        subst (λ (z : CheckerView L). StandsBehind Hears before begun e z (after_additions (clauses_read q) earlier)) (sym a.2.3) (set_failed e mid (after_additions (clauses_read q) earlier) all.1),
+        subst (λ (z : CheckerView L). ContinuesAfter Hears before begun e z (after_additions (clauses_read q) earlier)) (sym a.2.3) (set_failed e mid (after_additions (clauses_read q) earlier) all.1),
       )
   answers_dimacs (Err (refused.Checker errors.HasFailed)) answer old cur new from to q earlier n first clean fails read a = absurd (true≢false (sym (a.2 before begun (after_additions q.taken earlier) first.1.0).0 ∙ first.1.1))
-  answers_dimacs (Err (refused.Checker errors.CheckFailed)) answer old cur new from to q earlier n first clean fails read a = (n, clauses_read q, read, behind_first old cur new q earlier a.0 first a.1 (Err errors.CheckFailed) new (a.2 before begun))
-  answers_dimacs (Err (refused.Checker errors.CounterEnd)) answer old cur new from to q earlier n first clean fails read a = (n, clauses_read q, read, behind_first old cur new q earlier a.0 first a.1 (Err errors.CounterEnd) new (a.2 before begun))
-  answers_dimacs (Err (refused.Checker errors.OutOfMemory)) answer old cur new from to q earlier n first clean fails read a = (n, clauses_read q, read, behind_first old cur new q earlier a.0 first a.1 (Err errors.OutOfMemory) new (a.2 before begun))
-  answers_dimacs (Err (refused.Checker (errors.ProofProcessorError cause))) answer old cur new from to q earlier n first clean fails read a = (n, clauses_read q, read, behind_first old cur new q earlier a.0 first a.1 (Err (errors.ProofProcessorError cause)) new (a.2 before begun))
+  answers_dimacs (Err (refused.Checker errors.CheckFailed)) answer old cur new from to q earlier n first clean fails read a = (n, clauses_read q, read, after_first old cur new q earlier a.0 first a.1 (Err errors.CheckFailed) new (a.2 before begun))
+  answers_dimacs (Err (refused.Checker errors.CounterEnd)) answer old cur new from to q earlier n first clean fails read a = (n, clauses_read q, read, after_first old cur new q earlier a.0 first a.1 (Err errors.CounterEnd) new (a.2 before begun))
+  answers_dimacs (Err (refused.Checker errors.OutOfMemory)) answer old cur new from to q earlier n first clean fails read a = (n, clauses_read q, read, after_first old cur new q earlier a.0 first a.1 (Err errors.OutOfMemory) new (a.2 before begun))
+  answers_dimacs (Err (refused.Checker (errors.ProofProcessorError cause))) answer old cur new from to q earlier n first clean fails read a = (n, clauses_read q, read, after_first old cur new q earlier a.0 first a.1 (Err (errors.ProofProcessorError cause)) new (a.2 before begun))
   answers_dimacs (Err x) answer old cur new from to q earlier n first clean fails read a = absurd (a.2 before begun (after_additions q.taken earlier) first.1.0)
 
 module _ {L : Type 0} (Hears : L → Notice → Result Unit ProcessingError → L → Type 0) where
@@ -233,10 +233,10 @@ module _ {L : Type 0} (Hears : L → Notice → Result Unit ProcessingError → 
   AddedBefore old cur p = (before : List Notice) (begun : L) (earlier : List Step) → HasAccepted Hears before begun old earlier → AnswersClauses Hears before begun (Ok tt) old cur p.taken earlier
 
   pub start : (c : CheckerView L) (p : Progress) → has_failed c ≡ false → p ≡ no_progress → AddedBefore c c p
-  start c p h is = λ before begun earlier stands. subst (λ (z : List (List ℕ)). AnswersClauses Hears before begun (Ok tt) c c z earlier) (sym (ap (λ (z : Progress). z.taken) is)) (none_added Hears before begun c earlier h stands)
+  start c p h is = λ before begun earlier valid. subst (λ (z : List (List ℕ)). AnswersClauses Hears before begun (Ok tt) c c z earlier) (sym (ap (λ (z : Progress). z.taken) is)) (none_added Hears before begun c earlier h valid)
 
   first_of : (old cur : CheckerView L) (p q : Progress) → AddedBefore old cur p → q.taken ≡ p.taken → (before : List Notice) (begun : L) (earlier : List Step) → HasAccepted Hears before begun old earlier → AnswersClauses Hears before begun (Ok tt) old cur q.taken earlier
-  first_of old cur p q added e before begun earlier stands = subst (λ (z : List (List ℕ)). AnswersClauses Hears before begun (Ok tt) old cur z earlier) (sym e) (added before begun earlier stands)
+  first_of old cur p q added e before begun earlier valid = subst (λ (z : List (List ℕ)). AnswersClauses Hears before begun (Ok tt) old cur z earlier) (sym e) (added before begun earlier valid)
 
   -- a piece without a fault
   pub piece_added : (old cur new : CheckerView L) (text piece : List ℕ) (p q r : Progress) (answer : Result Unit DimacsError) → HasFed text p → FeedsPiece answer piece p q → r ≡ all_taken q → AddsRead Hears (Ok tt) answer q cur new → AddedBefore old cur p
@@ -245,14 +245,14 @@ module _ {L : Type 0} (Hears : L → Notice → Result Unit ProcessingError → 
       let fed : q ≡ with_fed piece p = (subst (λ (z : Result Unit DimacsError). FeedsPiece z piece p q) a.2.0 f).1 in (
         fed_more text piece p q r is fed t,
         ap (λ (z : Progress). z.taken) t ∙ open_read text piece p q is fed,
-        λ before begun earlier stands. subst (λ (z : List (List ℕ)). AnswersClauses Hears before begun (Ok tt) old new z earlier) (sym (ap (λ (z : Progress). z.taken) t))
-            (behind_first Hears before begun old cur new q earlier a.0 (first_of old cur p q added (ap (λ (z : Progress). z.taken) fed) before begun earlier stands) a.1 (Ok tt) new (a.2.1 before begun)),
+        λ before begun earlier valid. subst (λ (z : List (List ℕ)). AnswersClauses Hears before begun (Ok tt) old new z earlier) (sym (ap (λ (z : Progress). z.taken) t))
+            (after_first Hears before begun old cur new q earlier a.0 (first_of old cur p q added (ap (λ (z : Progress). z.taken) fed) before begun earlier valid) a.1 (Ok tt) new (a.2.1 before begun)),
       )
 
   -- one at which reading stops
   pub piece_answers : (e : CheckerDimacsError) (answer : Result Unit DimacsError) (old cur new : CheckerView L) (from to : Reader) (text piece : List ℕ) (p q : Progress) → HasFed text p → FeedsPiece answer piece p q → NoReadFailed from to
       → GaveFront from to (text ++ piece) → to.ended ≡ false → to.calls ≤ from.calls + length (text ++ piece) + 1 → AddedBefore old cur p → AddsRead Hears (Err e) answer q cur new → AddsDimacs Hears (Err e) old new from to
-  piece_answers e answer old cur new from to text piece p q is f n g o few added a = λ before begun earlier stands. answers_dimacs Hears before begun (Err e) answer old cur new from to q earlier n (first_of old cur p q added (taken_by_piece answer text piece p q is f) before begun earlier stands)
+  piece_answers e answer old cur new from to text piece p q is f n g o few added a = λ before begun earlier valid. answers_dimacs Hears before begun (Err e) answer old cur new from to q earlier n (first_of old cur p q added (taken_by_piece answer text piece p q is f) before begun earlier valid)
       (λ no. let k : ◌≡◌ {A = Result Unit CheckerDimacsError} (Err e) (Ok tt) = no in absurd cc)
       (λ d s. fails_by_piece d from to text piece p q is (subst (λ (z : Result Unit DimacsError). FeedsPiece z piece p q) s f) n g o few)
       (enough_front from to _ (text ++ piece) g o few (λ rest. read_by_piece answer text piece p q is f rest))
@@ -261,7 +261,7 @@ module _ {L : Type 0} (Hears : L → Notice → Result Unit ProcessingError → 
   -- the end of the text
   pub end_answers : (result : Result Unit CheckerDimacsError) (answer : Result Unit DimacsError) (old cur new : CheckerView L) (from to : Reader) (text : List ℕ) (p q : Progress) → HasFed text p → Finishes answer p q → NoReadFailed from to
       → GaveAll from to text → AddedBefore old cur p → AddsRead Hears result answer q cur new → AddsDimacs Hears result old new from to
-  end_answers result answer old cur new from to text p q is f n g added a = λ before begun earlier stands. answers_dimacs Hears before begun result answer old cur new from to q earlier n (first_of old cur p q added (taken_by_end answer p q f) before begun earlier stands)
+  end_answers result answer old cur new from to text p q is f n g added a = λ before begun earlier valid. answers_dimacs Hears before begun result answer old cur new from to q earlier n (first_of old cur p q added (taken_by_end answer p q f) before begun earlier valid)
       (λ ok s. enough_all from to _ text g (clean_by_end text p q is (subst (λ (z : Result Unit DimacsError). Finishes z p q) s f)))
       (λ d s. fails_by_end d from to text p q is (subst (λ (z : Result Unit DimacsError). Finishes z p q) s f) n g)
       (enough_all from to _ text g (read_by_end answer text p q is f))
@@ -270,4 +270,4 @@ module _ {L : Type 0} (Hears : L → Notice → Result Unit ProcessingError → 
   -- a read that failed
   pub read_answers : (old cur : CheckerView L) (from to : Reader) (text : List ℕ) (p : Progress) → HasFed text p → ReadFails from to → GaveFront from to text → IsSoundSoFar p → p.taken ≡ (dimacs (up_to_last_blank text)).clauses → AddedBefore old cur p
       → AddsDimacs Hears (Err (refused.Dimacs texts.Read)) old cur from to
-  read_answers old cur from to text p is r g s t added = λ before begun earlier stands. let all = added before begun earlier stands in (p.taken, (r, text, g, subst IsSoundText (fed_of text p is) s, t), all.0, all.1)
+  read_answers old cur from to text p is r g s t added = λ before begun earlier valid. let all = added before begun earlier valid in (p.taken, (r, text, g, subst IsSoundText (fed_of text p is) s, t), all.0, all.1)

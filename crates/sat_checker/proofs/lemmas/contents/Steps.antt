@@ -1,4 +1,4 @@
--- Whatever steps there were, their contents are those of what is stored behind them.
+-- Whatever steps there were, their contents are those of what is stored after them.
 use Rattle.std.proofs.Common.{◌≡◌, Bool, true, false, List, [], ◌∷◌, refl, ◌∙◌, ap, None}
 use Rattle.sat_base.specs.steps.Steps.{Step}
 use Rattle.sat_checker.specs.Accepts.{stored_after, ready_after}

@@ -12,7 +12,7 @@ use Rattle.sat_checker.specs.Accepts.{IsStrictSubset}
 use Rattle.sat_checker.specs.inner.Marks.{IsIncreasing}
 use Rattle.sat_checker.specs.inner.SlotView.{Slot, slot_ids, live}
 use Rattle.sat_checker.specs.inner.StoreView.{PlacesIds, AreIdsInOrder, KeepsIds}
-use Rattle.sat_checker.specs.inner.FormulaView.{RestOfStored, IsIdOfUnit, LastUnitIsPut, AreNumbered, KeepsFormula, last_in}
+use Rattle.sat_checker.specs.inner.FormulaView.{RestOfStored, IsIdOfUnit, LastUnitIsPut, AreNumbered, RepresentsFormula, last_in}
 use Rattle.sat_checker.specs.declared.state.status.LastClause.{LastClause}
 use Rattle.sat_checker.specs.declared.state.status.LastClause.TheVariants as code
 use Rattle.sat_checker.specs.declared.formula.Formula.{Formula}
@@ -69,14 +69,14 @@ abbrev unit_of : ℕ → ℕ → StoredUnit
 unit_of id l = record { id = id; literal = l }
 
 put_unit : (last : LastClause) (us : List StoredUnit) (n l : ℕ) → LastUnitIsPut last us n → LastUnitIsPut last (us ++ unit_of n l ∷ []) (n + 1)
-put_unit (code.Single id k) us n l h = (omega (arith, below), behind us h.1)
+put_unit (code.Single id k) us n l h = (omega (arith, below), following us h.1)
   where
     below : id < n
     below = h.0
 
-    behind : (vs : List StoredUnit) → AllByRecursion (IsIdOfUnit id k) vs → AllByRecursion (IsIdOfUnit id k) (vs ++ unit_of n l ∷ [])
-    behind [] a = (((λ e. absurd (omega (arith, e, below))), (λ e. omega (arith, below))), tt)
-    behind (v ∷ vs) a = (a.0, behind vs a.1)
+    following : (vs : List StoredUnit) → AllByRecursion (IsIdOfUnit id k) vs → AllByRecursion (IsIdOfUnit id k) (vs ++ unit_of n l ∷ [])
+    following [] a = (((λ e. absurd (omega (arith, e, below))), (λ e. omega (arith, below))), tt)
+    following (v ∷ vs) a = (a.0, following vs a.1)
 put_unit x us n l h = tt
 
 pub numbered_unit : (is : List ℕ) (us : List StoredUnit) (last : LastClause) (n l : ℕ) → AreNumbered is us last n → AreNumbered is (us ++ (record { id = n; literal = l }) ∷ []) last (n + 1)
@@ -189,7 +189,7 @@ id_missed None id e q = absurd cc
 id_missed (Some x) id e q = let k : x ≡ id = cc in true≢false (e ∙ ap not (eq-eqb x id k))
 
 -- the last irredundant clause stored stands where it was put, or nowhere
-module _ (F : Formula) (f : Stored) (k : KeepsFormula F f) where
+module _ (F : Formula) (f : Stored) (k : RepresentsFormula F f) where
   last_is : (last : LastClause) → F.status.last ≡ last → last_literals f.last f ≡ last_literals (last_in last) f
   last_is last e = ap (λ (s : RestOfStored). last_literals s.last f) (sym k.status) ∙ ap (λ x. last_literals (last_in x) f) e
 

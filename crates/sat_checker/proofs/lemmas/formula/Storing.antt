@@ -9,9 +9,9 @@ use Rattle.sat_checker.specs.Stored.{Stored, StoredClause, StoredUnit, Last, Uni
 use Rattle.sat_checker.specs.Storing.{with_count, new_clause, with_stored_clause, clause_with, irredundant_count, redundant_count, unit_id, unit_at, long_at, with_unit, with_contradiction, with_new_unit, with_set, with_canonical, with_stored, with_input}
 use Rattle.sat_checker.specs.inner.AssumedRoom.{HasClauseRoom, RoomStays, with_room}
 use Rattle.sat_checker.specs.inner.SlotView.{slot_ids}
-use Rattle.sat_checker.specs.inner.StoreView.{KeepsClauses, StoreEffect, PlacesIds, store_count_in, id_in}
+use Rattle.sat_checker.specs.inner.StoreView.{RepresentsClauses, StoreEffect, PlacesIds, store_count_in, id_in}
 use Rattle.sat_checker.specs.inner.UnitView.{UnitsAndRoom}
-use Rattle.sat_checker.specs.inner.FormulaView.{RestOfStored, standing_of, standing_in, AreNumbered, KeepsFormula, KeepsOrSpends}
+use Rattle.sat_checker.specs.inner.FormulaView.{RestOfStored, standing_of, standing_in, AreNumbered, RepresentsFormula, KeepsOrSpends}
 use Rattle.sat_checker.specs.declared.store.Placed.{Placed}
 use Rattle.sat_checker.specs.declared.store.Store.{Store}
 use Rattle.sat_checker.specs.declared.store.StoreError.{StoreError}
@@ -48,8 +48,8 @@ last_same l f = go (is_unit f l) (is_unit f (negated l))
     go false true = refl
     go false false = refl
 
-pub single_noted : (F : Formula) (r : Bool) (l id : ℕ) (f : Stored) → r ≡ false → KeepsFormula F (with_unit l f) → unit_id l F.units.units ≡ Some id
-    → KeepsFormula (record F { status = record F.status { last = code.Single id l } }) (with_canonical r (l ∷ []) f)
+pub single_noted : (F : Formula) (r : Bool) (l id : ℕ) (f : Stored) → r ≡ false → RepresentsFormula F (with_unit l f) → unit_id l F.units.units ≡ Some id
+    → RepresentsFormula (record F { status = record F.status { last = code.Single id l } }) (with_canonical r (l ∷ []) f)
 single_noted F true l id f e k u = absurd (true≢false e)
 single_noted F false l id f e k u = record {
   clauses = k.clauses;
@@ -62,7 +62,7 @@ single_noted F false l id f e k u = record {
   marks = k.marks;
 }
 
-pub single_passed : (F : Formula) (r : Bool) (l : ℕ) (f : Stored) → r ≡ false → KeepsFormula F (with_unit l f) → unit_id l F.units.units ≡ None → KeepsFormula F (with_canonical r (l ∷ []) f)
+pub single_passed : (F : Formula) (r : Bool) (l : ℕ) (f : Stored) → r ≡ false → RepresentsFormula F (with_unit l f) → unit_id l F.units.units ≡ None → RepresentsFormula F (with_canonical r (l ∷ []) f)
 single_passed F true l f e k u = absurd (true≢false e)
 single_passed F false l f e k u = record {
   clauses = k.clauses;
@@ -110,17 +110,17 @@ counts_spent f false ls h = record { literals = ls; past = inl h }
 abbrev noted : Bool → Placed → Status → Status
 noted r p s = cond r s (record s { last = code.Long p.id })
 
-next_of : (F : Formula) (f : Stored) → KeepsFormula F f → F.status.next_id ≡ f.next_id
+next_of : (F : Formula) (f : Stored) → RepresentsFormula F f → F.status.next_id ≡ f.next_id
 next_of F f k = ap (λ (s : RestOfStored). s.next_id) k.status
 
 -- a new unit
-pub unit_stored : (F : Formula) (f : Stored) (l id : ℕ) (units : UnitsAndRoom) (status : Status) → KeepsFormula F f → is_among (map (λ u. u.literal) F.units.units) l ≡ false → is_among (map (λ u. u.literal) F.units.units) (negated l) ≡ false → units ≡ record { units = F.units.units ++ (record { id = id; literal = l }) ∷ []; room = with_room l F.units.room }
-    → (id ≡ F.status.next_id) × (status ≡ record F.status { next_id = F.status.next_id + 1 }) → KeepsFormula (record F { units = units; status = status }) (with_unit l f)
+pub unit_stored : (F : Formula) (f : Stored) (l id : ℕ) (units : UnitsAndRoom) (status : Status) → RepresentsFormula F f → is_among (map (λ u. u.literal) F.units.units) l ≡ false → is_among (map (λ u. u.literal) F.units.units) (negated l) ≡ false → units ≡ record { units = F.units.units ++ (record { id = id; literal = l }) ∷ []; room = with_room l F.units.room }
+    → (id ≡ F.status.next_id) × (status ≡ record F.status { next_id = F.status.next_id + 1 }) → RepresentsFormula (record F { units = units; status = status }) (with_unit l f)
 unit_stored F f l id units status k a b u s =
     let e : with_unit l f ≡ with_new_unit l f =
     ap (λ us. cond (is_among (map (λ (w : StoredUnit). w.literal) us) l) f (cond (is_unit f (negated l)) (with_contradiction l f) (with_new_unit l f))) (sym k.units) ∙ ap (λ b. cond b f (cond (is_unit f (negated l)) (with_contradiction l f) (with_new_unit l f))) a
     ∙ ap (λ us. cond (is_among (map (λ (w : StoredUnit). w.literal) us) (negated l)) (with_contradiction l f) (with_new_unit l f)) (sym k.units) ∙ ap (λ b. cond b (with_contradiction l f) (with_new_unit l f)) b in
-    subst (KeepsFormula (record F { units = units; status = status })) (sym e) (record {
+    subst (RepresentsFormula (record F { units = units; status = status })) (sym e) (record {
       clauses = k.clauses;
       units = ap (λ (w : UnitsAndRoom). w.units) u ∙ ap (λ us. us ++ (record { id = id; literal = l }) ∷ []) k.units ∙ ap (λ n. f.units ++ (record { id = n; literal = l }) ∷ []) (s.0 ∙ next_of F f k);
       status = ap standing_in s.1 ∙ ap (λ (t : RestOfStored). record t { next_id = t.next_id + 1 }) k.status;
@@ -136,15 +136,15 @@ next_swap false true n e = refl
 next_swap false false n e = absurd (true≢false (sym e))
 
 -- a clause of two literals or more was stored
-module _ (F : Formula) (store : Store) (f : Stored) (x y : ℕ) (ls : List ℕ) (p : Placed) (k : KeepsFormula F f) where
+module _ (F : Formula) (store : Store) (f : Stored) (x y : ℕ) (ls : List ℕ) (p : Placed) (k : RepresentsFormula F f) where
   abbrev all : List ℕ
   all = x ∷ y ∷ ls
 
   abbrev there : Option StoredClause
   there = clause_with all f.clauses
 
-  kept_so : (r : Bool) → KeepsClauses store (record f { clauses = with_stored_clause r F.status.next_id all f.clauses }) → KeepsClauses store (record f { clauses = with_stored_clause r f.next_id all f.clauses })
-  kept_so r h = subst (λ n. KeepsClauses store (record f { clauses = with_stored_clause r n all f.clauses })) (next_of F f k) h
+  kept_so : (r : Bool) → RepresentsClauses store (record f { clauses = with_stored_clause r F.status.next_id all f.clauses }) → RepresentsClauses store (record f { clauses = with_stored_clause r f.next_id all f.clauses })
+  kept_so r h = subst (λ n. RepresentsClauses store (record f { clauses = with_stored_clause r n all f.clauses })) (next_of F f k) h
 
   numbered_so : PlacesIds F.store.clauses store.clauses F.status.next_id p.is_new → p.is_new ≡ not (is_some there) → AreNumbered (slot_ids store.clauses) f.units F.status.last (cond (is_some there) f.next_id (f.next_id + 1))
   numbered_so h e =
@@ -152,7 +152,7 @@ module _ (F : Formula) (store : Store) (f : Stored) (x y : ℕ) (ls : List ℕ) 
 
   long_done : (r : Bool) (status : Status) → HasClauseRoom F.units.room all × HasClauseRoom F.marks.room all → StoreEffect store f F.status.next_id r all p.id p.is_new → PlacesIds F.store.clauses store.clauses F.status.next_id p.is_new
       → status ≡ record (noted r p F.status) { next_id = cond p.is_new ((noted r p F.status).next_id + 1) (noted r p F.status).next_id }
-      → KeepsFormula (record F { store = store; status = status }) (with_canonical r all f)
+      → RepresentsFormula (record F { store = store; status = status }) (with_canonical r all f)
   long_done true status roomy s h e = record {
     clauses = kept_so true s.stored;
     units = k.units;
@@ -196,25 +196,25 @@ abbrev pub Takes : {T : Type 0} → Result T StoreError → Status → Bool → 
 Takes result old needed new =
     MatchResult result (λ x. new ≡ record old { next_id = cond needed (old.next_id + 1) old.next_id }) (λ e. (e ≡ CounterEnd) × (needed ≡ true) × (2 ^ 64 ≤ old.next_id + 1))
 
-pub long_stored : {T : Type 0} (result : Result T StoreError) (F : Formula) (store : Store) (was status : Status) (f : Stored) (r : Bool) (ls : List ℕ) (p : Placed) → 2 ≤ length ls → KeepsFormula F f → HasClauseRoom F.units.room ls × HasClauseRoom F.marks.room ls → StoreEffect store f F.status.next_id r ls p.id p.is_new → PlacesIds F.store.clauses store.clauses F.status.next_id p.is_new
-    → was ≡ noted r p F.status → Takes result was p.is_new status → KeepsOrSpends result (KeepsFormula (record F { store = store; status = status }) (with_canonical r ls f)) (with_canonical r ls f)
+pub long_stored : {T : Type 0} (result : Result T StoreError) (F : Formula) (store : Store) (was status : Status) (f : Stored) (r : Bool) (ls : List ℕ) (p : Placed) → 2 ≤ length ls → RepresentsFormula F f → HasClauseRoom F.units.room ls × HasClauseRoom F.marks.room ls → StoreEffect store f F.status.next_id r ls p.id p.is_new → PlacesIds F.store.clauses store.clauses F.status.next_id p.is_new
+    → was ≡ noted r p F.status → Takes result was p.is_new status → KeepsOrSpends result (RepresentsFormula (record F { store = store; status = status }) (with_canonical r ls f)) (with_canonical r ls f)
 long_stored result F store was status f r [] p l k q s h w m = absurd (omega arith)
 long_stored result F store was status f r (x ∷ []) p l k q s h w m = absurd (omega arith)
 long_stored {T = T} result F store was status f r (x ∷ y ∷ ls) p l k q s h w m = go result (subst (λ t. Takes result t p.is_new status) w m)
   where
-    go : (result : Result T StoreError) → Takes result (noted r p F.status) p.is_new status → KeepsOrSpends result (KeepsFormula (record F { store = store; status = status }) (with_canonical r (x ∷ y ∷ ls) f)) (with_canonical r (x ∷ y ∷ ls) f)
+    go : (result : Result T StoreError) → Takes result (noted r p F.status) p.is_new status → KeepsOrSpends result (RepresentsFormula (record F { store = store; status = status }) (with_canonical r (x ∷ y ∷ ls) f)) (with_canonical r (x ∷ y ∷ ls) f)
     go (Ok v) m = long_done F store f x y ls p k r status q s h m
     go (Err e) m =
-        subst (λ d. KeepsOrSpends {T = T} (Err d) (KeepsFormula (record F { store = store; status = status }) (with_canonical r (x ∷ y ∷ ls) f)) (with_canonical r (x ∷ y ∷ ls) f)) (sym m.0) (long_spent F store f x y ls p k r s.new_is m.1 m.2)
+        subst (λ d. KeepsOrSpends {T = T} (Err d) (RepresentsFormula (record F { store = store; status = status }) (with_canonical r (x ∷ y ∷ ls) f)) (with_canonical r (x ∷ y ∷ ls) f)) (sym m.0) (long_spent F store f x y ls p k r s.new_is m.1 m.2)
 
-long_fails : (e : StoreError) (T K : Type 0) (F : Formula) (f : Stored) (r : Bool) (ls : List ℕ) → 2 ≤ length ls → KeepsFormula F f
+long_fails : (e : StoreError) (T K : Type 0) (F : Formula) (f : Stored) (r : Bool) (ls : List ℕ) → 2 ≤ length ls → RepresentsFormula F f
     → (e ≡ CounterEnd → 2 ^ 64 ≤ store_count_in r (clause_with ls f.clauses) + 1) → KeepsOrSpends {T = T} (Err e) K (with_canonical r ls f)
 long_fails e T K F f r [] l k h = absurd (omega arith)
 long_fails e T K F f r (x ∷ []) l k h = absurd (omega arith)
 long_fails OutOfMemory T K F f r (x ∷ y ∷ ls) l k h = tt
 long_fails CounterEnd T K F f r (x ∷ y ∷ ls) l k h = count_spent F F.store f x y ls (record { id = 0; is_new = true; irredundant = 0 }) k r (h refl)
 
-pub long_refused : {T : Type 0} (result : Result T StoreError) (d e : StoreError) → result ≡ Err d → d ≡ e → (K : Type 0) (F : Formula) (f : Stored) (r : Bool) (ls : List ℕ) → 2 ≤ length ls → KeepsFormula F f
+pub long_refused : {T : Type 0} (result : Result T StoreError) (d e : StoreError) → result ≡ Err d → d ≡ e → (K : Type 0) (F : Formula) (f : Stored) (r : Bool) (ls : List ℕ) → 2 ≤ length ls → RepresentsFormula F f
     → (e ≡ CounterEnd → 2 ^ 64 ≤ store_count_in r (clause_with ls f.clauses) + 1) → KeepsOrSpends result K (with_canonical r ls f)
 long_refused {T = T} result d e i s K F f r ls l k h = subst (λ x. KeepsOrSpends x K (with_canonical r ls f)) (sym (i ∙ ap Err s)) (long_fails e T K F f r ls l k h)
 
@@ -252,14 +252,14 @@ next_input : (n m : ℕ) (b : Bool) → n ≤ m → b ≡ eqb m n → cond b (m 
 next_input n m true l e = let h : m ≡ n = eqb-true m n (sym e) in omega arith
 next_input n m false l e = let h : (m ≡ n → ⊥) = eqb-false m n (sym e) in omega arith
 
-pub input_stored : {T : Type 0} (result : Result T StoreError) (F G : Formula) (status : Status) (f : Stored) (c : List ℕ) (b : Bool) → KeepsFormula F f → KeepsFormula G (with_stored false c f) → b ≡ eqb G.status.next_id F.status.next_id
-    → Takes result G.status b status → KeepsOrSpends result (KeepsFormula (record G { status = status }) (with_input c f)) (with_input c f)
+pub input_stored : {T : Type 0} (result : Result T StoreError) (F G : Formula) (status : Status) (f : Stored) (c : List ℕ) (b : Bool) → RepresentsFormula F f → RepresentsFormula G (with_stored false c f) → b ≡ eqb G.status.next_id F.status.next_id
+    → Takes result G.status b status → KeepsOrSpends result (RepresentsFormula (record G { status = status }) (with_input c f)) (with_input c f)
 input_stored {T = T} result F G status f c b k g e m = go result m
   where
     same : cond b ((with_stored false c f).next_id + 1) (with_stored false c f).next_id ≡ max (with_stored false c f).next_id (f.next_id + 1)
     same = next_input f.next_id (with_stored false c f).next_id b (next_stored false c f) (e ∙ ap (λ n. eqb n F.status.next_id) (next_of G (with_stored false c f) g) ∙ ap (eqb (with_stored false c f).next_id) (next_of F f k))
 
-    go : (result : Result T StoreError) → Takes result G.status b status → KeepsOrSpends result (KeepsFormula (record G { status = status }) (with_input c f)) (with_input c f)
+    go : (result : Result T StoreError) → Takes result G.status b status → KeepsOrSpends result (RepresentsFormula (record G { status = status }) (with_input c f)) (with_input c f)
     go (Ok v) m = record {
       clauses = g.clauses;
       units = g.units;
@@ -271,7 +271,7 @@ input_stored {T = T} result F G status f c b k g e m = go result m
       marks = g.marks;
     }
     go (Err e) m =
-        subst (λ d. KeepsOrSpends {T = T} (Err d) (KeepsFormula (record G { status = status }) (with_input c f)) (with_input c f)) (sym m.0)
+        subst (λ d. KeepsOrSpends {T = T} (Err d) (RepresentsFormula (record G { status = status }) (with_input c f)) (with_input c f)) (sym m.0)
         (inl (let a = next_of G (with_stored false c f) g in let t = ap (λ x. cond x ((with_stored false c f).next_id + 1) (with_stored false c f).next_id) m.1 in omega (arith, a, t, same, m.2)))
 
 -- by their number

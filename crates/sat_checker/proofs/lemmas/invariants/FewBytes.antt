@@ -54,7 +54,7 @@ input_more c f = let a = stored_more false c f in at (with_stored false c f).nex
     at : (m n : ℕ) → m ≤ n + 1 → max m (n + 1) ≤ n + 1
     at m n h = omega arith
 
--- the ids that a step takes at most, but for that of a unit conflict that waits behind it
+-- the ids that a step takes at most, but for that of a unit conflict that waits after it
 abbrev ids_by : Step → ℕ
 ids_by (AddClause clause) = 1
 ids_by (AtClause redundant clause hashes) = 1

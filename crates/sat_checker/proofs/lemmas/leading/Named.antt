@@ -13,9 +13,9 @@ use Rattle.sat_checker.proofs.lemmas.meaning.Clauses.{same}
 use Rattle.sat_checker.proofs.lemmas.leading.AnyOrder.{hash_any_order}
 use Rattle.sat_checker.proofs.lemmas.leading.Turns.{longer, picked_from, sorted_lead}
 
-behind : (b xs ys : List (List ℕ)) → IsSubsequence xs ys → IsSubsequence xs (b ++ ys)
-behind [] xs ys h = h
-behind (y ∷ b) xs ys h = longer xs y (b ++ ys) (behind b xs ys h)
+following : (b xs ys : List (List ℕ)) → IsSubsequence xs ys → IsSubsequence xs (b ++ ys)
+following [] xs ys h = h
+following (y ∷ b) xs ys h = longer xs y (b ++ ys) (following b xs ys h)
 
 sub_trans : (xs ys zs : List (List ℕ)) → IsSubsequence xs ys → IsSubsequence ys zs → IsSubsequence xs zs
 sub_trans [] ys zs s t = tt
@@ -53,45 +53,45 @@ in_bucket f set h k e = has_filter (λ c. eqb (hash_by f.solver_names f.width c)
 
 from_bucket : (x : List ℕ) (b xs ys : List (List ℕ)) → Has x b → IsSubsequence xs ys → IsSubsequence (x ∷ xs) (b ++ ys)
 from_bucket x [] xs ys h s = absurd h
-from_bucket x (y ∷ b) xs ys h s = elim h [ inl e ↦ inl (e, behind b xs ys s) | inr k ↦ inr (from_bucket x b xs ys k s) ]
+from_bucket x (y ∷ b) xs ys h s = elim h [ inl e ↦ inl (e, following b xs ys s) | inr k ↦ inr (from_bucket x b xs ys k s) ]
 
 not_empty : (x : List ℕ) (b : List (List ℕ)) → Has x b → b ≢ []
 not_empty x [] h e = h
 not_empty x (y ∷ b) h e = cc
 
 -- sets, and hashes whose buckets have them
-abbrev StandIn : Stored → List (List ℕ) → List ℕ → Type 0
-StandIn f [] [] = Unit {0}
-StandIn f [] (h ∷ hs) = ⊥
-StandIn f (c ∷ cs) [] = ⊥
-StandIn f (c ∷ cs) (h ∷ hs) = Has c (bucket f h) × StandIn f cs hs
+abbrev AreInBuckets : Stored → List (List ℕ) → List ℕ → Type 0
+AreInBuckets f [] [] = Unit {0}
+AreInBuckets f [] (h ∷ hs) = ⊥
+AreInBuckets f (c ∷ cs) [] = ⊥
+AreInBuckets f (c ∷ cs) (h ∷ hs) = Has c (bucket f h) × AreInBuckets f cs hs
 
-all_chosen : (f : Stored) (cs : List (List ℕ)) (hs : List ℕ) → StandIn f cs hs → IsSubsequence cs (clauses_in (map (bucket f) hs))
+all_chosen : (f : Stored) (cs : List (List ℕ)) (hs : List ℕ) → AreInBuckets f cs hs → IsSubsequence cs (clauses_in (map (bucket f) hs))
 all_chosen f [] hs h = tt
 all_chosen f (c ∷ cs) [] h = absurd h
 all_chosen f (c ∷ cs) (k ∷ ks) h = from_bucket c (bucket f k) cs (clauses_in (map (bucket f) ks)) h.0 (all_chosen f cs ks h.1)
 
-none_empty : (f : Stored) (cs : List (List ℕ)) (hs : List ℕ) → StandIn f cs hs → AllByRecursion (λ b. b ≢ []) (map (bucket f) hs)
+none_empty : (f : Stored) (cs : List (List ℕ)) (hs : List ℕ) → AreInBuckets f cs hs → AllByRecursion (λ b. b ≢ []) (map (bucket f) hs)
 none_empty f [] [] h = tt
 none_empty f [] (k ∷ ks) h = absurd h
 none_empty f (c ∷ cs) [] h = absurd h
 none_empty f (c ∷ cs) (k ∷ ks) h = (not_empty c (bucket f k) h.0, none_empty f cs ks h.1)
 
 -- what is picked of them is chosen from the buckets
-chosen_from : (f : Stored) (picked cs : List (List ℕ)) (hs : List ℕ) → IsSubsequence picked cs → StandIn f cs hs → IsSubsequence picked (clauses_in (map (bucket f) hs))
+chosen_from : (f : Stored) (picked cs : List (List ℕ)) (hs : List ℕ) → IsSubsequence picked cs → AreInBuckets f cs hs → IsSubsequence picked (clauses_in (map (bucket f) hs))
 chosen_from f picked cs hs s h = sub_trans picked cs (clauses_in (map (bucket f) hs)) s (all_chosen f cs hs h)
 
-stand_in : (f : Stored) (named : List (List ℕ)) (hashes : List ℕ) → AreStoredByHash f named hashes → StandIn f (map canonical named) hashes
-stand_in f [] [] h = tt
-stand_in f [] (k ∷ ks) h = absurd h
-stand_in f (c ∷ cs) [] h = absurd h
-stand_in f (c ∷ cs) (k ∷ ks) h =
-    (in_bucket f (canonical c) k (has_found (canonical c) f.clauses h.0.stored) (hash_any_order f.solver_names f.width c h.0.once ∙ sym h.0.hash), stand_in f cs ks h.1)
+in_buckets : (f : Stored) (named : List (List ℕ)) (hashes : List ℕ) → AreStoredByHash f named hashes → AreInBuckets f (map canonical named) hashes
+in_buckets f [] [] h = tt
+in_buckets f [] (k ∷ ks) h = absurd h
+in_buckets f (c ∷ cs) [] h = absurd h
+in_buckets f (c ∷ cs) (k ∷ ks) h =
+    (in_bucket f (canonical c) k (has_found (canonical c) f.clauses h.0.stored) (hash_any_order f.solver_names f.width c h.0.once ∙ sym h.0.hash), in_buckets f cs ks h.1)
 
 lead_to_conflict : (f : Stored) (clause hashes : List ℕ) (named : List (List ℕ)) → AreStoredByHash f named hashes → LeadsToConflict (denied f clause) named → LeadToConflict (map negated clause ++ unit_literals f) (map (bucket f) hashes)
 lead_to_conflict f clause hashes named n lead =
     let r = picked_from (map canonical named) (denied f clause) (map negated clause ++ unit_literals f) (λ l. sym (among-append (map negated clause) (unit_literals f) l)) (sorted_lead named (denied f clause) lead) in
-    let s = stand_in f named hashes n in
+    let s = in_buckets f named hashes n in
     record {
       first = map (bucket f) hashes;
       rest = [];

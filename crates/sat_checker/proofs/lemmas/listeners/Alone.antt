@@ -3,8 +3,8 @@ use Rattle.std.proofs.Common.{ℕ, ◌≡◌, List, [], ◌∷◌, Result, Ok, E
 use Rattle.anyhow.specs.declared.error.Error.{Error}
 use Rattle.sat_base.specs.device.Device.{Reader}
 use Rattle.sat_base.specs.steps.Steps.{Step}
-use Rattle.sat_checker.specs.CheckerView.{CheckerView, seen, HasAccepted, Fails, FailsRefusing, FailsBeforeStep, FailsAtListener, BreaksAt, StarvesAt, AnswersStep, AnswersDelayed}
-use Rattle.sat_checker.specs.ProofView.{ReadsProofPart, StandsUnfailed, AnswersProof}
+use Rattle.sat_checker.specs.CheckerView.{CheckerView, seen, HasAccepted, Fails, FailsRefusing, FailsBeforeStep, FailsAtListener, BreaksAt, RunsOutOfMemoryAt, AnswersStep, AnswersDelayed}
+use Rattle.sat_checker.specs.ProofView.{ReadsProofPart, HasAcceptedUnfailed, AnswersProof}
 use Rattle.sat_checker.specs.announcements.Announcements.{Notice}
 use Rattle.sat_checker.specs.listeners.Hearing.{Hearers, hearers, takes_all, HearsAll, HearsUpTo, HearsSince, HearsSinceUpTo, HearsFirst}
 use Rattle.sat_checker.specs.declared.kernel.Kernel.{Kernel}
@@ -55,7 +55,7 @@ module _ {V L : Type 0} (Hears : L → Notice → Result Unit ProcessingError �
     stands_down c steps s = record { kernel = s.kernel; heard = λ e. since_down before _ (hearers nobody begun) c.listeners (s.heard e) }
 
     fails_down : (c : CheckerView (Hearers V L)) (steps : List Step) → Fails (HearsFirst takes_all Hears) before (hearers nobody begun) c steps → Fails Hears before begun (others_of c) steps
-    fails_down c steps f = record { stands = stands_down c steps f.stands; failed = f.failed }
+    fails_down c steps f = record { valid = stands_down c steps f.valid; failed = f.failed }
 
     refuses_down : (c : CheckerView (Hearers V L)) (steps : List Step) → FailsRefusing (HearsFirst takes_all Hears) before (hearers nobody begun) c steps → FailsRefusing Hears before begun (others_of c) steps
     refuses_down c steps f = record { fails = fails_down c steps f.fails; heard = since_down before _ (hearers nobody begun) c.listeners f.heard }
@@ -72,7 +72,7 @@ module _ {V L : Type 0} (Hears : L → Notice → Result Unit ProcessingError �
     breaks_at_down : (e : ProcessingError) (c : CheckerView (Hearers V L)) (step : Step) (steps : List Step) → BreaksAt (HearsFirst takes_all Hears) before (hearers nobody begun) e c step steps → BreaksAt Hears before begun e (others_of c) step steps
     breaks_at_down e c step steps f = elim f [ inl b ↦ inl (b.0, breaks_down e _ c steps b.1) | inr b ↦ inr (b.0, breaks_down e _ c (step ∷ steps) b.1) ]
 
-    starves_down : (c : CheckerView (Hearers V L)) (step : Step) (steps : List Step) → StarvesAt (HearsFirst takes_all Hears) before (hearers nobody begun) c step steps → StarvesAt Hears before begun (others_of c) step steps
+    starves_down : (c : CheckerView (Hearers V L)) (step : Step) (steps : List Step) → RunsOutOfMemoryAt (HearsFirst takes_all Hears) before (hearers nobody begun) c step steps → RunsOutOfMemoryAt Hears before begun (others_of c) step steps
     starves_down c step steps f = elim f [ inl h ↦ inl (h.0, stops_down c steps h.1) | inr h ↦ inr (breaks_at_down _ c step steps h) ]
 
     same_down : (c d : CheckerView (Hearers V L)) → d ≡ c → others_of d ≡ others_of c
@@ -80,7 +80,7 @@ module _ {V L : Type 0} (Hears : L → Notice → Result Unit ProcessingError �
 
     pub step_down : (r : Result Unit CheckerError) (c : CheckerView (Hearers V L)) (step : Step) (d : CheckerView (Hearers V L)) (steps : List Step) → AnswersStep (HearsFirst takes_all Hears) before (hearers nobody begun) r c step d steps
         → AnswersStep Hears before begun r (others_of c) step (others_of d) steps
-    step_down (Ok x) c step d steps a = (a.0, record { accepts = a.1.accepts; stands = stands_down d (step ∷ steps) a.1.stands; goes_on = a.1.goes_on })
+    step_down (Ok x) c step d steps a = (a.0, record { accepts = a.1.accepts; valid = stands_down d (step ∷ steps) a.1.valid; goes_on = a.1.goes_on })
     step_down (Err errors.CheckFailed) c step d steps a = (a.0, a.1, refuses_down d steps a.2)
     step_down (Err errors.CounterEnd) c step d steps a = (a.0, a.1, stops_down d steps a.2)
     step_down (Err errors.OutOfMemory) c step d steps a = (a.0, starves_down d step steps a.1)
@@ -99,7 +99,7 @@ module _ {V L : Type 0} (Hears : L → Notice → Result Unit ProcessingError �
     went_down : (c d : CheckerView (Hearers V L)) (from to : Reader) (earlier passed last : List Step) (rest : List ℕ) → ReadsProofPart c d from to earlier passed last rest → ReadsProofPart (others_of c) (others_of d) from to earlier passed last rest
     went_down c d from to earlier passed last rest w = record { well = w.well; steps = w.steps; unended = w.unended; looks = w.looks }
 
-    on_down : (c : CheckerView (Hearers V L)) (steps : List Step) → StandsUnfailed (HearsFirst takes_all Hears) before (hearers nobody begun) c steps → StandsUnfailed Hears before begun (others_of c) steps
+    on_down : (c : CheckerView (Hearers V L)) (steps : List Step) → HasAcceptedUnfailed (HearsFirst takes_all Hears) before (hearers nobody begun) c steps → HasAcceptedUnfailed Hears before begun (others_of c) steps
     on_down c steps g = (stands_down c steps g.0, g.1)
 
     pub proof_down : (r : Result Unit CheckerError) (c d : CheckerView (Hearers V L)) (from to : Reader) (steps : List Step) → AnswersProof (HearsFirst takes_all Hears) before (hearers nobody begun) r c d from to steps → AnswersProof Hears before begun r (others_of c) (others_of d) from to steps

@@ -36,7 +36,7 @@ module _ {L : Type 0} (Hears : L → Notice → Result Unit ProcessingError → 
   up_to_more e [] us a b c h k = subst (λ x. HearsUpTo Hears e us x c) h k
   up_to_more e (t ∷ ts) us a b c h k = inr (h.0, h.1, up_to_more e ts us h.0 b c h.2 k)
 
-  -- behind what they have heard since
+  -- after what they have heard since
   pub since_more : (before ts us : List Notice) (a b c : L) → HearsSince Hears before ts a b → HearsAll Hears us b c → HearsSince Hears before (ts ++ us) a c
   since_more before ts us a b c h k = (h.0 ++ us, ap (λ z. z ++ us) h.1 ∙ append_assoc before h.0 us, all_more h.0 us a b c h.2 k)
 
@@ -68,7 +68,7 @@ module _ {L : Type 0} (Hears : L → Notice → Result Unit ProcessingError → 
 
   module _ (before : List Notice) (begun : L) where
     pub failing : (new : CheckerView L) (steps : List Step) → kernels.Fails new.kernel steps → Fails Hears before begun new steps
-    failing new steps f = record { stands = record { kernel = f.stands; heard = λ e. absurd (true≢false (sym f.failed ∙ e)) }; failed = f.failed }
+    failing new steps f = record { valid = record { kernel = f.valid; heard = λ e. absurd (true≢false (sym f.failed ∙ e)) }; failed = f.failed }
 
   -- NOBODY LISTENS
 

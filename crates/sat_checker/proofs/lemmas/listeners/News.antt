@@ -1,4 +1,4 @@
--- Announcements that wait, as their literals and ids are put behind those of others.
+-- Announcements that wait, as their literals and ids are put after those of others.
 use Rattle.std.proofs.Common.{ℕ, zero, suc, ◌<◌, ◌≡◌, List, [], ◌∷◌, ◌++◌, length, take, get_or, map, refl, sym, ◌∙◌, ap, subst, arith, length-append}
 use Rattle.std.proofs.lemmas.List.{get_or-map, get_or_append_left, get_or_at, length-map, map-append, take-map}
 use Rattle.std.specs.List.{All}
@@ -28,7 +28,7 @@ items_more ls ids more less is right = λ k d l. item_more ls ids more less (get
 pub items_kept : (ls ids new newer more less : Lists) (is js : List Item) → All (IsItem ls ids) is → new ≡ ls ++ more → newer ≡ ids ++ less → js ≡ is → All (IsItem new newer) js
 items_kept ls ids new newer more less is js right n m j = rw (n, m, j) (items_more ls ids more less is right)
 
--- one more item behind them
+-- one more item after them
 all_pushed : (P : Item → Type 0) (is : List Item) (i : Item) → All P is → P i → All P (is ++ i ∷ [])
 all_pushed P [] i right p zero d l = p
 all_pushed P [] i right p (suc k) d l = absurd (omega arith)

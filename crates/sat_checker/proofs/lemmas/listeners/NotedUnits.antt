@@ -5,18 +5,18 @@ use Rattle.sat_base.specs.values.Literals.{negated}
 use Rattle.sat_checker.specs.Stored.{Stored, is_unit}
 use Rattle.sat_checker.specs.Storing.{clause_with, with_unit, with_contradiction, with_new_unit}
 use Rattle.sat_checker.specs.announcements.Announcements.{derived, derived_units}
-use Rattle.sat_checker.specs.inner.FormulaView.{KeepsFormula}
+use Rattle.sat_checker.specs.inner.FormulaView.{RepresentsFormula}
 use Rattle.sat_checker.specs.listeners.AnnouncingView.{AreLong}
 use Rattle.sat_checker.specs.listeners.NotedView.{AppendsNews}
 use Rattle.sat_checker.specs.declared.formula.Formula.{Formula}
 use Rattle.sat_checker.specs.declared.announce.notes.Notes.{Notes}
 use Rattle.sat_checker.proofs.lemmas.store.Buckets.{looks_more, looks_rest, looks_within}
-use Rattle.sat_checker.proofs.lemmas.listeners.Noting.{none_behind}
+use Rattle.sat_checker.proofs.lemmas.listeners.Noting.{none_following}
 
 -- What was noted so far, and what will be of the units that are left, is what all of them announce.
 pub record Noted (F : Formula) (f : Stored) (all left : List (ℕ × ℕ)) (before notes : Notes) : Type 0 where
   pub now : Stored
-  pub kept : KeepsFormula F now
+  pub kept : RepresentsFormula F now
   pub long : AreLong now
   pub hears : notes.hears ≡ before.hears
   pub reported : IsTrue before.hears → notes.news ++ derived_units left now ≡ before.news ++ derived_units all f
@@ -31,7 +31,7 @@ clauses_stay l f = go (is_unit f l) (is_unit f (negated l))
 
 -- the next one of those that are left
 pub noted_more : (F : Formula) (f : Stored) (all : List (ℕ × ℕ)) (i : ℕ) (u : ℕ × ℕ) (inside : i < length all) (is : u ≡ get_or all i u) (before notes : Notes) (noted : Noted F f all (drop i all) before notes) (G : Formula) (more : Notes) → more.hears ≡ notes.hears
-    → AppendsNews notes (derived false (u.0 ∷ []) (u.1 ∷ []) noted.now) more → KeepsFormula G (with_unit u.0 noted.now) → Noted G f all (drop (i + 1) all) before more
+    → AppendsNews notes (derived false (u.0 ∷ []) (u.1 ∷ []) noted.now) more → RepresentsFormula G (with_unit u.0 noted.now) → Noted G f all (drop (i + 1) all) before more
 noted_more F f all i u inside is before notes noted G more h e k = record {
   now = with_unit u.0 noted.now;
   kept = k;
@@ -46,7 +46,7 @@ noted_more F f all i u inside is before notes noted G more h e k = record {
 
 -- none is left
 pub noted_all : (F : Formula) (f : Stored) (all : List (ℕ × ℕ)) (i : ℕ) (before notes : Notes) → length all ≤ i → Noted F f all (drop i all) before notes → AppendsNews before (derived_units all f) notes
-noted_all F f all i before notes l noted = λ t. sym (none_behind notes.news) ∙ ap (λ us. notes.news ++ derived_units us noted.now) (sym (past all i l)) ∙ noted.reported t
+noted_all F f all i before notes l noted = λ t. sym (none_following notes.news) ∙ ap (λ us. notes.news ++ derived_units us noted.now) (sym (past all i l)) ∙ noted.reported t
   where
     past : (xs : List (ℕ × ℕ)) (i : ℕ) → length xs ≤ i → drop i xs ≡ []
     past [] zero l = refl
@@ -54,7 +54,7 @@ noted_all F f all i before notes l noted = λ t. sym (none_behind notes.news) �
     past (x ∷ xs) zero l = absurd (omega arith)
     past (x ∷ xs) (suc i) l = past xs i (omega arith)
 
--- nothing is accepted behind a fault
+-- nothing is accepted after a fault
 pub none_noted : {E : Type 0} (r : Result Bool E) (P : Type 0) → IfOk r (λ passes. passes ≡ false) → IfOk r (λ passes. passes ≡ true → P)
 none_noted (Ok true) P h = absurd (let e : true ≡ false = h in cc)
 none_noted (Ok false) P h = λ e. absurd (let d : false ≡ true = e in cc)

@@ -16,12 +16,12 @@ use Rattle.sat_checker.specs.declared.state.State.{State}
 use Rattle.sat_checker.specs.declared.store.StoreError.{StoreError}
 use Rattle.sat_checker.proofs.lemmas.sets.Canonical.{canonical_tautology}
 
-pub none_behind : (xs : List Announcement) → xs ++ [] ≡ xs
-none_behind [] = refl
-none_behind (x ∷ xs) = ap (λ ys. x ∷ ys) (none_behind xs)
+pub none_following : (xs : List Announcement) → xs ++ [] ≡ xs
+none_following [] = refl
+none_following (x ∷ xs) = ap (λ ys. x ∷ ys) (none_following xs)
 
 pub none_added : (notes : Notes) → AppendsNews notes [] notes
-none_added notes = λ h. sym (none_behind notes.news)
+none_added notes = λ h. sym (none_following notes.news)
 
 pub nothing_noted : (r : Result Bool StoreError) (old : State) (step : Step) (notes : Notes) → ((f : Stored) → announced f step ≡ []) → Announces r old step notes notes
 nothing_noted (Ok b) old step notes e = λ _ f k a h. none_added notes h ∙ ap (λ x. notes.news ++ x) (sym (e f))
@@ -76,6 +76,6 @@ looks_noted before old mid noted len n l b h r k = let e = once_more n l in omeg
 pub looks_followed : (before old mid noted len n l : ℕ) → old ≤ before + l → mid ≤ old + n * l → len + old ≤ mid → noted ≤ mid + len → noted ≤ before + (5 + 2 * n) * l
 looks_followed before old mid noted len n l b h r k = let e = once_more n l in omega arith
 
--- what was noted behind other notes, which announce the same so far
-pub noted_behind : (before mid after : Notes) (reported : List Announcement) → mid.hears ≡ before.hears → mid.news ≡ before.news → AppendsNews mid reported after → AppendsNews before reported after
-noted_behind before mid after reported h n a = λ t. a (subst IsTrue (sym h) t) ∙ ap (λ xs. xs ++ reported) n
+-- what was noted after other notes, which announce the same so far
+pub noted_after : (before mid after : Notes) (reported : List Announcement) → mid.hears ≡ before.hears → mid.news ≡ before.news → AppendsNews mid reported after → AppendsNews before reported after
+noted_after before mid after reported h n a = λ t. a (subst IsTrue (sym h) t) ∙ ap (λ xs. xs ++ reported) n

@@ -12,8 +12,8 @@ use Rattle.sat_checker.specs.KernelView as kernels
 use Rattle.sat_checker.specs.KernelView.{KeepsAfter, LeavesConflict, records_of}
 use Rattle.sat_checker.specs.CheckerView.{CheckerView, seen, has_failed, Fails, AnswersStep, AnswersDelayed}
 use Rattle.sat_checker.specs.announcements.Announcements.{Announcement, AtClause, Notice, announced, delayed, delayed_by, notices_over, notices_after, all_notices_after}
-use Rattle.sat_checker.specs.inner.FormulaView.{KeepsFormula, refiled_in, FormulaEffectIf, RestOfStored, KeepsOrSpends}
-use Rattle.sat_checker.specs.inner.StateView.{KeepsStored}
+use Rattle.sat_checker.specs.inner.FormulaView.{RepresentsFormula, refiled_in, FormulaEffectIf, RestOfStored, KeepsOrSpends}
+use Rattle.sat_checker.specs.inner.StateView.{RepresentsStored}
 use Rattle.sat_checker.specs.inner.NotifyingSteps.{announced_by, changed_by, put_back, failure_of, fault_of, records_in, NotifiesAndKeepsState}
 use Rattle.sat_checker.specs.inner.VariablesView.{variable_at}
 use Rattle.sat_checker.specs.listeners.Hearing.{SameNotice, HearsSame, HearsAll, HearsUpTo, HearsSince, HearsSinceUpTo, notices_by}
@@ -69,7 +69,7 @@ module _ (old : Kernel) (steps : List Step) (s : kernels.HasAccepted old steps) 
   is_stored = stored_is old steps kept (one, other) waits
 
   -- what is stored then
-  pub settled_stands : (new : Kernel) → (KeepsFormula (refiled_in old.state.formula) kept.formula → KeepsFormula (refiled_in new.state.formula) (settled kept.formula))
+  pub settled_stands : (new : Kernel) → (RepresentsFormula (refiled_in old.state.formula) kept.formula → RepresentsFormula (refiled_in new.state.formula) (settled kept.formula))
       → new.state.variables ≡ old.state.variables → new.state.assumed ≡ old.state.assumed → new.records ≡ old.records → kernels.HasAccepted new steps
   settled_stands new k v a r = record {
     accepted = s.accepted;
@@ -85,7 +85,7 @@ module _ (old : Kernel) (steps : List Step) (s : kernels.HasAccepted old steps) 
   settled_spent h = subst (λ f. IsSpent (settled f)) is_stored h
 
   settled_fails : (new : Kernel) → new.records ≡ old.records → kernels.kernel_has_failed new ≡ true → kernels.Fails new steps
-  settled_fails new r f = record { stands = record { accepted = s.accepted; records = r ∙ s.records; kept = λ e. absurd (true≢false (sym f ∙ e)) }; failed = f }
+  settled_fails new r f = record { valid = record { accepted = s.accepted; records = r ∙ s.records; kept = λ e. absurd (true≢false (sym f ∙ e)) }; failed = f }
 
   left : (stored_after steps).conflict ≡ Some (one, other)
   left = ap (λ (f : Stored). f.conflict) (sym is_stored) ∙ sym (conflict_of old steps kept) ∙ waits
@@ -146,7 +146,7 @@ changed_same (DeleteVar v) g h e = ap (λ (x : Variable). Some (v, x)) (e v)
 changed_same (ChangeSamplingMode v sample) g h e = ap (λ (x : Variable). Some (v, x)) (e v)
 changed_same step g h e = refl
 
-records_same : (new : Kernel) (g : Stored) → KeepsFormula (refiled_in new.state.formula) g → records_in new.state.formula.status ≡ records_of g
+records_same : (new : Kernel) (g : Stored) → RepresentsFormula (refiled_in new.state.formula) g → records_in new.state.formula.status ≡ records_of g
 records_same new g k = ap (λ (z : RestOfStored). record { unsat = z.unsat; ended = z.ended; var_deleted = z.var_deleted }) k.status
 
 -- nothing waits, so all was reported
@@ -156,11 +156,11 @@ reported_now None steps e =
     sym (ap (λ d. notices_after steps ++ notices_over (stored_after steps) (delayed_by (stored_after steps).next_id d)) e ∙ append-nil (notices_after steps))
 
 module _ (old : Kernel) (steps : List Step) (s : kernels.HasAccepted old steps) (well : kernels.kernel_has_failed old ≡ false) (none : old.state.formula.status.conflict ≡ None) where
-  pub ready_kept : KeepsStored old.state (ready_after steps)
-  ready_kept = let k = s.kept well in subst (KeepsStored old.state) (ready_is old steps k none) k.keeps
+  pub ready_kept : RepresentsStored old.state (ready_after steps)
+  ready_kept = let k = s.kept well in subst (RepresentsStored old.state) (ready_is old steps k none) k.keeps
 
   module _ (step : Step) where
-    pub step_stands : (new : Kernel) → Accepts (ready_after steps) step → KeepsStored new.state (effect step (ready_after steps)) → new.records ≡ records_in new.state.formula.status → kernels.HasAccepted new (step ∷ steps)
+    pub step_stands : (new : Kernel) → Accepts (ready_after steps) step → RepresentsStored new.state (effect step (ready_after steps)) → new.records ≡ records_in new.state.formula.status → kernels.HasAccepted new (step ∷ steps)
     step_stands new a k r = record {
       accepted = (s.accepted, a);
       records = r ∙ records_same new (effect step (ready_after steps)) k.formula;
@@ -168,13 +168,13 @@ module _ (old : Kernel) (steps : List Step) (s : kernels.HasAccepted old steps) 
     }
 
     pub step_fails : (new : Kernel) → new.records ≡ old.records → kernels.kernel_has_failed new ≡ true → kernels.Fails new steps
-    step_fails new r f = record { stands = record { accepted = s.accepted; records = r ∙ s.records; kept = λ e. absurd (true≢false (sym f ∙ e)) }; failed = f }
+    step_fails new r f = record { valid = record { accepted = s.accepted; records = r ∙ s.records; kept = λ e. absurd (true≢false (sym f ∙ e)) }; failed = f }
 
     module _ {L : Type 0} (Hears : L → Notice → Result Unit ProcessingError → L → Type 0) (before : List Notice) (begun l : L) (heard : HearsSince Hears before (notices_by old.state.formula.status.conflict steps) begun l) where
       pub all_before : HearsSince Hears before (all_notices_after steps) begun l
       all_before = subst (λ c. HearsSince Hears before (notices_by c steps) begun l) none heard
 
-      module _ (new : Kernel) (k : KeepsStored new.state (effect step (ready_after steps))) (news : List Announcement) (noted : news ≡ announced (ready_after steps) step) (was : Option (ℕ × Variable)) (put : was ≡ changed_by (variable_at old.state.variables) step) where
+      module _ (new : Kernel) (k : RepresentsStored new.state (effect step (ready_after steps))) (news : List Announcement) (noted : news ≡ announced (ready_after steps) step) (was : Option (ℕ × Variable)) (put : was ≡ changed_by (variable_at old.state.variables) step) where
         abbrev names : ℕ → Variable
         names = put_back was (variable_at new.state.variables)
 
@@ -224,12 +224,12 @@ noted_reported begun noted hears step f old new was same none put adds h =
 
 module _ (old : Kernel) (steps : List Step) (s : kernels.HasAccepted old steps) (well : kernels.kernel_has_failed old ≡ false) (none : old.state.formula.status.conflict ≡ None) (step : Step) where
   -- it couldn't be stored
-  pub short_judges : (new : Kernel) (error : StoreError) → FormulaEffectIf (Err error) (Accepts (ready_after steps) step) (KeepsStored new.state (effect step (ready_after steps))) (effect step (ready_after steps)) → new.records ≡ old.records → kernels.kernel_has_failed new ≡ true
+  pub short_judges : (new : Kernel) (error : StoreError) → FormulaEffectIf (Err error) (Accepts (ready_after steps) step) (RepresentsStored new.state (effect step (ready_after steps))) (effect step (ready_after steps)) → new.records ≡ old.records → kernels.kernel_has_failed new ≡ true
       → kernels.AnswersStep (Err (failure_of error)) old step new steps
   short_judges new stores.OutOfMemory h r f = (well, inl (h, step_fails old steps s well none step new r f))
   short_judges new stores.CounterEnd h r f = (well, inr h, step_fails old steps s well none step new r f)
 
-  pub short_alone : (new : Kernel) (error : StoreError) (refusal : StepRefusal) → kernels.step_error refusal ≡ failure_of error → FormulaEffectIf (Err error) (Accepts (ready_after steps) step) (KeepsStored new.state (effect step (ready_after steps))) (effect step (ready_after steps)) → new.records ≡ old.records
+  pub short_alone : (new : Kernel) (error : StoreError) (refusal : StepRefusal) → kernels.step_error refusal ≡ failure_of error → FormulaEffectIf (Err error) (Accepts (ready_after steps) step) (RepresentsStored new.state (effect step (ready_after steps))) (effect step (ready_after steps)) → new.records ≡ old.records
       → kernels.kernel_has_failed new ≡ true → kernels.AnswersStep (Err (kernels.step_error refusal)) old step new steps
   short_alone new error refusal e h r f = subst (λ x. kernels.AnswersStep (Err x) old step new steps) (sym e) (short_judges new error h r f)
 
@@ -237,16 +237,16 @@ module _ (old : Kernel) (steps : List Step) (s : kernels.HasAccepted old steps) 
   pub refused_judges : (new : Kernel) → (Accepts (ready_after steps) step → ⊥) → new.records ≡ old.records → kernels.kernel_has_failed new ≡ true → kernels.AnswersStep (Err errors.CheckFailed) old step new steps
   refused_judges new h r f = (well, h, step_fails old steps s well none step new r f)
 
-  module _ {L : Type 0} (Hears : L → Notice → Result Unit ProcessingError → L → Type 0) (reported : List Notice) (mid : Kernel) (l : L) (accepts : Accepts (ready_after steps) step) (k : KeepsStored mid.state (effect step (ready_after steps))) where
+  module _ {L : Type 0} (Hears : L → Notice → Result Unit ProcessingError → L → Type 0) (reported : List Notice) (mid : Kernel) (l : L) (accepts : Accepts (ready_after steps) step) (k : RepresentsStored mid.state (effect step (ready_after steps))) where
     pub taken_judges : (new : Kernel) (m : L) (r : Result Unit CheckerError) → NotifiesAndKeepsState Hears reported r (seen mid l) (seen new m) → kernels.AnswersStep r old step new steps
     taken_judges new m (Ok x) t = (
       well,
-      record { accepts = accepts; stands = step_stands old steps s well none step new accepts (subst (λ z. KeepsStored z (effect step (ready_after steps))) (sym t.0.state) k) t.1.1; goes_on = t.1.0 },
+      record { accepts = accepts; valid = step_stands old steps s well none step new accepts (subst (λ z. RepresentsStored z (effect step (ready_after steps))) (sym t.0.state) k) t.1.1; goes_on = t.1.0 },
     )
     taken_judges new m (Err e) t = subst (λ z. kernels.AnswersStep (Err z) old step new steps) (sym t.1.3) (go t.1.2)
       where
         fails : kernels.Fails new (step ∷ steps)
-        fails = record { stands = step_stands old steps s well none step new accepts (subst (λ z. KeepsStored z (effect step (ready_after steps))) (sym t.0.state) k) t.1.1; failed = t.1.0 }
+        fails = record { valid = step_stands old steps s well none step new accepts (subst (λ z. RepresentsStored z (effect step (ready_after steps))) (sym t.0.state) k) t.1.1; failed = t.1.0 }
 
         go : (f : ProcessingError) → kernels.AnswersStep (Err (fault_of f)) old step new steps
         go faults.OutOfMemory = (well, inr (inr (accepts, fails)))
@@ -259,7 +259,7 @@ module _ (old : Kernel) (steps : List Step) (s : kernels.HasAccepted old steps) 
     failed_with : (new : Kernel) (m : L) → new.records ≡ old.records → kernels.kernel_has_failed new ≡ true → Fails Hears before begun (seen new m) steps
     failed_with new m r f = failing Hears before begun (seen new m) steps (step_fails old steps s well none step new r f)
 
-    pub short_notifies : (new : Kernel) (error : StoreError) → FormulaEffectIf (Err error) (Accepts (ready_after steps) step) (KeepsStored new.state (effect step (ready_after steps))) (effect step (ready_after steps)) → new.records ≡ old.records → kernels.kernel_has_failed new ≡ true
+    pub short_notifies : (new : Kernel) (error : StoreError) → FormulaEffectIf (Err error) (Accepts (ready_after steps) step) (RepresentsStored new.state (effect step (ready_after steps))) (effect step (ready_after steps)) → new.records ≡ old.records → kernels.kernel_has_failed new ≡ true
         → AnswersStep Hears before begun (Err (failure_of error)) (seen old l) step (seen new l) steps
     short_notifies new stores.OutOfMemory h r f = (well, inl (h, record { fails = failed_with new l r f; heard = inr before_it }))
     short_notifies new stores.CounterEnd h r f = (well, inr h, record { fails = failed_with new l r f; heard = inr before_it })
@@ -267,7 +267,7 @@ module _ (old : Kernel) (steps : List Step) (s : kernels.HasAccepted old steps) 
     pub refused_notifies : (new : Kernel) → (Accepts (ready_after steps) step → ⊥) → new.records ≡ old.records → kernels.kernel_has_failed new ≡ true → AnswersStep Hears before begun (Err errors.CheckFailed) (seen old l) step (seen new l) steps
     refused_notifies new h r f = (well, h, record { fails = failed_with new l r f; heard = before_it })
 
-    module _ (mid : Kernel) (accepts : Accepts (ready_after steps) step) (k : KeepsStored mid.state (effect step (ready_after steps))) (news : List Announcement) (noted : news ≡ announced (ready_after steps) step) (was : Option (ℕ × Variable)) (put : was ≡ changed_by (variable_at old.state.variables) step) where
+    module _ (mid : Kernel) (accepts : Accepts (ready_after steps) step) (k : RepresentsStored mid.state (effect step (ready_after steps))) (news : List Announcement) (noted : news ≡ announced (ready_after steps) step) (was : Option (ℕ × Variable)) (put : was ≡ changed_by (variable_at old.state.variables) step) where
       abbrev reported : List Notice
       reported = announced_by (put_back was (variable_at mid.state.variables)) news
 
@@ -276,8 +276,8 @@ module _ (old : Kernel) (steps : List Step) (s : kernels.HasAccepted old steps) 
         well,
         record {
           accepts = accepts;
-          stands = record {
-            kernel = step_stands old steps s well none step new accepts (subst (λ z. KeepsStored z (effect step (ready_after steps))) (sym t.0.state) k) t.1.1;
+          valid = record {
+            kernel = step_stands old steps s well none step new accepts (subst (λ z. RepresentsStored z (effect step (ready_after steps))) (sym t.0.state) k) t.1.1;
             heard = λ e. step_heard old steps s well none step Hears before begun l heard mid k news noted was put new.state.formula.status.conflict m (ap (λ (z : State). z.formula.status.conflict) (sym t.0.state)) t.1.2;
           };
           goes_on = t.1.0;
@@ -286,7 +286,7 @@ module _ (old : Kernel) (steps : List Step) (s : kernels.HasAccepted old steps) 
       taken_notifies new m (Err e) t = subst (λ z. AnswersStep Hears before begun (Err z) (seen old l) step (seen new m) steps) (sym t.1.3) (go t.1.2 t.1.4)
         where
           fails : Fails Hears before begun (seen new m) (step ∷ steps)
-          fails = failing Hears before begun (seen new m) (step ∷ steps) (record { stands = step_stands old steps s well none step new accepts (subst (λ z. KeepsStored z (effect step (ready_after steps))) (sym t.0.state) k) t.1.1; failed = t.1.0 })
+          fails = failing Hears before begun (seen new m) (step ∷ steps) (record { valid = step_stands old steps s well none step new accepts (subst (λ z. RepresentsStored z (effect step (ready_after steps))) (sym t.0.state) k) t.1.1; failed = t.1.0 })
 
           go : (f : ProcessingError) → HearsUpTo Hears f reported l m → AnswersStep Hears before begun (Err (fault_of f)) (seen old l) step (seen new m) steps
           go faults.OutOfMemory u = (well, inr (inr (accepts, record { fails = fails; heard = step_broken old steps s well none step Hears before begun l heard mid k news noted was put faults.OutOfMemory m u })))
@@ -326,7 +326,7 @@ module _ {L : Type 0} (Hears : L → Notice → Result Unit ProcessingError → 
   delayed_stops old new errors.HasFailed a = a
   delayed_stops old new e a = absurd a
 
-  -- and the step behind it
+  -- and the step after it
   pub settled_goes_on : (old mid new : CheckerView L) (r : Result Unit CheckerError) → has_failed old ≡ false → has_failed mid ≡ false → AnswersStep Hears before begun r mid step new steps → AnswersStep Hears before begun r old step new steps
   settled_goes_on old mid new (Ok x) h k a = (h, a.1)
   settled_goes_on old mid new (Err errors.CheckFailed) h k a = (h, a.1, a.2)

@@ -180,11 +180,11 @@ irredundant_more r id ls ms (c ∷ cs) n = go r (irredundant_more r id ls ms cs)
     once_more false true k = omega arith
     once_more r false k = k
 
-    behind : (r d : Bool) → (0 < irredundant_count (clause_with ls cs) → 0 < irredundant_count (clause_with ls (with_stored_clause r id ms cs))) → 0 < irredundant_count (cond d (Some c) (clause_with ls cs)) → 0 < irredundant_count (cond d (Some c) (clause_with ls (with_stored_clause r id ms cs)))
-    behind r true ih k = k
-    behind r false ih k = ih k
+    following : (r d : Bool) → (0 < irredundant_count (clause_with ls cs) → 0 < irredundant_count (clause_with ls (with_stored_clause r id ms cs))) → 0 < irredundant_count (cond d (Some c) (clause_with ls cs)) → 0 < irredundant_count (cond d (Some c) (clause_with ls (with_stored_clause r id ms cs)))
+    following r true ih k = k
+    following r false ih k = ih k
 
     go : (r : Bool) → (0 < irredundant_count (clause_with ls cs) → 0 < irredundant_count (clause_with ls (with_stored_clause r id ms cs))) → (b : Bool) → 0 < irredundant_count (clause_with ls (c ∷ cs)) → 0 < irredundant_count (clause_with ls (cond b (with_count r c ∷ cs) (c ∷ with_stored_clause r id ms cs)))
     go true ih true k = once_more true (same_literals c.literals ls) k
     go false ih true k = once_more false (same_literals c.literals ls) k
-    go r ih false k = behind r (same_literals c.literals ls) ih k
+    go r ih false k = following r (same_literals c.literals ls) ih k

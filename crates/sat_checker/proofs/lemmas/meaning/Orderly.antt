@@ -108,14 +108,14 @@ numbered_with false id n ls ms [] e = go (eqb n id) refl e
     go false h e = inl e
 numbered_with r id n ls ms (c ∷ cs) e = go r (numbered_with r id n ls ms cs) (same_literals c.literals ls) e
   where
-    behind : (r b : Bool) → (clause_numbered id (with_stored_clause r n ls cs) ≡ Some ms → (clause_numbered id cs ≡ Some ms) ⊎ (id ≡ n)) → cond b (Some c.literals) (clause_numbered id (with_stored_clause r n ls cs)) ≡ Some ms → (cond b (Some c.literals) (clause_numbered id cs) ≡ Some ms) ⊎ (id ≡ n)
-    behind r true ih e = inl e
-    behind r false ih e = ih e
+    following : (r b : Bool) → (clause_numbered id (with_stored_clause r n ls cs) ≡ Some ms → (clause_numbered id cs ≡ Some ms) ⊎ (id ≡ n)) → cond b (Some c.literals) (clause_numbered id (with_stored_clause r n ls cs)) ≡ Some ms → (cond b (Some c.literals) (clause_numbered id cs) ≡ Some ms) ⊎ (id ≡ n)
+    following r true ih e = inl e
+    following r false ih e = ih e
 
     go : (r : Bool) → (clause_numbered id (with_stored_clause r n ls cs) ≡ Some ms → (clause_numbered id cs ≡ Some ms) ⊎ (id ≡ n)) → (b : Bool) → clause_numbered id (cond b (with_count r c ∷ cs) (c ∷ with_stored_clause r n ls cs)) ≡ Some ms → (clause_numbered id (c ∷ cs) ≡ Some ms) ⊎ (id ≡ n)
     go true ih true e = inl e
     go false ih true e = inl e
-    go r ih false e = behind r (eqb c.id id) ih e
+    go r ih false e = following r (eqb c.id id) ih e
 
 -- the last one stays the last where another clause is stored
 last_beside : (r : Bool) (n : ℕ) (ls : List ℕ) (last : Last) (unsat : Bool) (us : List ℕ) (cs : List StoredClause) → LastBelow n last → LastHolds last unsat us cs → LastHolds last unsat us (with_stored_clause r n ls cs)

@@ -140,13 +140,13 @@ numbered_before r id ls ms (c ∷ cs) h e = go r (numbered_before r id ls ms cs 
     left_over true false e = e
     left_over false false e = e
 
-    behind : (r b : Bool) → (clause_numbered id (without_clause r ls cs) ≡ Some ms → clause_numbered id cs ≡ Some ms) → cond b (Some c.literals) (clause_numbered id (without_clause r ls cs)) ≡ Some ms → cond b (Some c.literals) (clause_numbered id cs) ≡ Some ms
-    behind r true ih e = e
-    behind r false ih e = ih e
+    following : (r b : Bool) → (clause_numbered id (without_clause r ls cs) ≡ Some ms → clause_numbered id cs ≡ Some ms) → cond b (Some c.literals) (clause_numbered id (without_clause r ls cs)) ≡ Some ms → cond b (Some c.literals) (clause_numbered id cs) ≡ Some ms
+    following r true ih e = e
+    following r false ih e = ih e
 
     go : (r : Bool) → (clause_numbered id (without_clause r ls cs) ≡ Some ms → clause_numbered id cs ≡ Some ms) → (d : Bool) → clause_numbered id (cond d (unless_gone (without_count r c) ++ cs) (c ∷ without_clause r ls cs)) ≡ Some ms → clause_numbered id (c ∷ cs) ≡ Some ms
     go r ih true e = left_over r (eqb (without_count r c).irredundant 0 && eqb (without_count r c).redundant 0) e
-    go r ih false e = behind r (eqb c.id id) ih e
+    go r ih false e = following r (eqb c.id id) ih e
 
 -- a count may be taken where what supported the last clause supports it still
 last_without : (f : Stored) (r : Bool) (ls : List ℕ) → Orderly f → ((ms : List ℕ) → last_literals f.last f ≡ Some ms → Supported (unit_literals f) f.clauses ms → Supported (unit_literals f) (without_clause r ls f.clauses) ms) → LastHolds f.last f.unsat (unit_literals f) (without_clause r ls f.clauses)

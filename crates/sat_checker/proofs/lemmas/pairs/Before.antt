@@ -51,7 +51,7 @@ first_put p ps a h = inserted_first p ps (all_weaker (λ q. (p.place < q.place) 
 pub put_in : (links new : List Link) (at : ℕ) (p : Pair) (b : ℕ) (ps : List Pair) → LinksPairs links at ps → AreInOrder ps → AllByRecursion (λ q. p.place < q.place) ps → last_or None (below p.hash ps) ≡ Some b → p.place < length links → IsPutIn links new p b → LinksPairs new at (inserted p ps)
 put_in links new at p b [] l o a e i r = absurd cc
 put_in links new at p b (q ∷ qs) l o a e i r = elim (cases_lt q.hash p.hash) [
-  | inl within ↦ subst (LinksPairs new at) (sym (ap (λ d. cond d (p ∷ q ∷ qs) (q ∷ inserted p qs)) (not-before p q (behind within))))
+  | inl within ↦ subst (LinksPairs new at) (sym (ap (λ d. cond d (p ∷ q ∷ qs) (q ∷ inserted p qs)) (not-before p q (following within))))
       (go within (below p.hash qs) refl (λ s. put_in links new (link_at links at).next p b qs l.1 o.1 a.1 s i r))
   | inr past ↦ absurd (let k : below p.hash (q ∷ qs) ≡ [] = below_none p.hash (q ∷ qs) (all_from p.hash q qs o past) in let n : last_or None (below p.hash (q ∷ qs)) ≡ None = ap (last_or None) k in cc)
 ]
@@ -68,8 +68,8 @@ put_in links new at p b (q ∷ qs) l o a e i r = elim (cases_lt q.hash p.hash) [
     count : length new ≡ length links
     count = r.count
 
-    behind : q.hash < p.hash → IsPairBefore q p
-    behind w = record { hash = omega arith; place = λ s. absurd (omega arith) }
+    following : q.hash < p.hash → IsPairBefore q p
+    following w = record { hash = omega arith; place = λ s. absurd (omega arith) }
 
     apart : AllByRecursion (λ y. y.place ≢ q.place) qs
     apart = all_weaker (λ y. IsThere links y × IsPairBefore q y) (λ y. y.place ≢ q.place) (λ y k. there_apart links q y there.0 k.0 k.1) qs (all_both (IsThere links) (IsPairBefore q) qs there.1 o.0)
@@ -148,9 +148,9 @@ module _ (heads : List ℕ) (links : List Link) (shift : ℕ) (a : AreLinked hea
         last_member (λ x. p.place < x) None (below p.hash (part_at heads links top)) b (sym e) (λ s. absurd cc)
         (all_filter (λ q. p.place < q.place) _ (part_at heads links top) (part_above top inside))
 
-    pub put_behind_lower : (new : List Link) (b : ℕ) → Some b ≡ last_or None (below p.hash (part_at heads links top))
+    pub put_after_lower : (new : List Link) (b : ℕ) → Some b ≡ last_or None (below p.hash (part_at heads links top))
         → new ≡ slice_set (slice_set links p.place (record { hash = p.hash; next = (link_at links b).next })) b (record { hash = (link_at links b).hash; next = p.place }) → LinksListPairs heads new shift (inserted p (listed_pairs heads links))
-    put_behind_lower new b e n =
+    put_after_lower new b e n =
         has_inserted heads links shift a heads new refl (omega (arith, count, a.few)) top inside p t apart (omega (arith, count)) (omega (arith, count, room))
         (put_in links new (head_at heads top) p b (part_at heads links top) (a.parts top inside).leads (a.parts top inside).in_order (part_above top inside) (sym e) i is_in)
         (λ s j m. leads_same links new (head_at heads s) (part_at heads links s) (a.parts s j).leads (omega (arith, count))

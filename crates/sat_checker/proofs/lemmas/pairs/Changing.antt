@@ -13,7 +13,7 @@ use Rattle.sat_checker.specs.declared.store.links.Link.{Link}
 use Rattle.sat_checker.proofs.lemmas.pairs.Order.{all_weaker, all_both, all_filter, all_inserted, order_filter, order_inserted, length_inserted, length_filter, inserted_first}
 use Rattle.sat_checker.proofs.lemmas.pairs.Parts.{Tops, filter_joined, inserted_joined, length_part, all_part}
 use Rattle.sat_checker.proofs.lemmas.pairs.Walks.{IsThere, leads_there, there_apart}
-use Rattle.sat_checker.proofs.lemmas.pairs.Links.{are_linked, listed_is, tops_of, all_there, all_in_order, leads_same, link_behind, link_first, last_member, before_member, IsRelinked, unlink, unlink_first, unlink_none, without_none, IsUnlinked}
+use Rattle.sat_checker.proofs.lemmas.pairs.Links.{are_linked, listed_is, tops_of, all_there, all_in_order, leads_same, link_after, link_first, last_member, before_member, IsRelinked, unlink, unlink_first, unlink_none, without_none, IsUnlinked}
 
 module _ (heads : List ℕ) (links : List Link) (shift : ℕ) (a : AreLinked heads links shift) (now : List ℕ) (new : List Link) (counts : length now ≡ length heads) (few : length new ≤ nowhere) (top : ℕ) (inside : top < length heads) where
   module _ (p : Pair) (t : top_of shift (length heads) p.hash ≡ top) (apart : AllByRecursion (λ q. p.place ≢ q.place) (part_at heads links top)) (more : length links ≤ length new) (room : length (listed_pairs heads links) + 1 ≤ length new)
@@ -128,11 +128,11 @@ module _ (heads : List ℕ) (links : List Link) (shift : ℕ) (a : AreLinked hea
     new_apart : AllByRecursion (λ q. length links ≢ q.place) (part_at heads links top)
     new_apart = all_weaker (IsThere links) (λ q. length links ≢ q.place) (λ q k e. let l : q.place < length links = k.inside in omega arith) (part_at heads links top) (there top inside)
 
-    pub put_behind : (new : List Link) (b : ℕ) → Some b ≡ last_or None (up_to h (part_at heads links top)) → new ≡ slice_set (links ++ record { hash = h; next = (link_at links b).next } ∷ []) b (record { hash = (link_at links b).hash; next = length links })
+    pub write_out_and_put : (new : List Link) (b : ℕ) → Some b ≡ last_or None (up_to h (part_at heads links top)) → new ≡ slice_set (links ++ record { hash = h; next = (link_at links b).next } ∷ []) b (record { hash = (link_at links b).hash; next = length links })
         → LinksListPairs heads new shift (inserted (record { hash = h; place = length links }) (listed_pairs heads links))
-    put_behind new b e n =
+    write_out_and_put new b e n =
         has_inserted heads links shift a heads new refl (omega (arith, longer, few)) top inside (record { hash = h; place = length links }) t new_apart (omega (arith, longer)) (omega (arith, longer, a.count))
-        (link_behind links new (head_at heads top) h b (part_at heads links top) (a.parts top inside).leads (a.parts top inside).in_order (sym e) relinked)
+        (link_after links new (head_at heads top) h b (part_at heads links top) (a.parts top inside).leads (a.parts top inside).in_order (sym e) relinked)
         (λ s i m. leads_same links new (head_at heads s) (part_at heads links s) (a.parts s i).leads (omega (arith, longer))
         (all_weaker (λ q. IsThere links q × (q.place ≢ b)) (λ q. link_at new q.place ≡ link_at links q.place) (λ q k. same q.place k.0.inside k.1) (part_at heads links s) (all_both (IsThere links) (λ q. q.place ≢ b) (part_at heads links s) (there s i) (not_in b (last_there h b e).1 s i m))))
       where
@@ -190,8 +190,8 @@ module _ (heads : List ℕ) (links : List Link) (shift : ℕ) (a : AreLinked hea
         (λ q k. (k.0.inside, ap (top_of shift (length heads)) (sym k.0.hash) ∙ k.1)) (part_at heads links top)
         (all_both (IsThere links) (λ q. top_of shift (length heads) q.hash ≡ top) (part_at heads links top) (there top inside) (a.parts top inside).tops))
 
-    pub take_behind : (new : List Link) (b : ℕ) → Some b ≡ place_before x (part_at heads links top) → new ≡ slice_set links b (record { hash = (link_at links b).hash; next = (link_at links x).next }) → LinksListPairs heads new shift (without_pair x (listed_pairs heads links))
-    take_behind new b e n =
+    pub take_after : (new : List Link) (b : ℕ) → Some b ≡ place_before x (part_at heads links top) → new ≡ slice_set links b (record { hash = (link_at links b).hash; next = (link_at links x).next }) → LinksListPairs heads new shift (without_pair x (listed_pairs heads links))
+    take_after new b e n =
         has_left heads links shift a heads new refl (omega (arith, count, a.few)) top inside x (not_in x t) count
         (unlink links new (head_at heads top) x b (part_at heads links top) (a.parts top inside).leads (a.parts top inside).in_order (sym e) unlinked)
         (λ s j d. leads_same links new (head_at heads s) (part_at heads links s) (a.parts s j).leads (omega (arith, count))
@@ -284,7 +284,7 @@ distinct_drop zero ps d = d
 distinct_drop (suc i) [] d = d
 distinct_drop (suc i) (p ∷ ps) d = distinct_drop i ps (IsDistinct-tail same_place p ps d)
 
--- the pair at a place of the list comes before those behind it
+-- the pair at a place of the list comes before those after it
 pub front_of : (ps : List Pair) (i : ℕ) → i < length ps → AreInOrder ps → IsDistinct same_place ps
     → AllByRecursion (IsPairBefore (slice_index_or ps i (record { hash = 0; place = 0 }))) (drop (i + 1) ps) × AllByRecursion (λ q. (slice_index_or ps i (record { hash = 0; place = 0 })).place ≢ q.place) (drop (i + 1) ps)
 front_of ps i l o d =

@@ -3,7 +3,7 @@ use Rattle.std.proofs.Common.{ltb, ◌||◌, ℕ, ◌+◌, ◌<◌, ◌≤◌, �
 use Rattle.std.proofs.lemmas.Bool.{cases_lt, eq-eqb, ne_eqb, eqb-true, eqb-false, true≢false}
 use Rattle.std.proofs.lemmas.Bool.Decides.{nat_tests}
 use Rattle.std.specs.List.{AllByRecursion}
-use Rattle.sat_checker.specs.inner.PairView.{IsPairBefore, AreInOrder, inserted, without_pair, places_in, places_behind}
+use Rattle.sat_checker.specs.inner.PairView.{IsPairBefore, AreInOrder, inserted, without_pair, places_in, places_after}
 use Rattle.sat_checker.specs.LiteralSets.{is_among}
 use Rattle.sat_checker.specs.inner.LinkView.{nowhere, link_at, rest, LinksPairs, joined, top_of, head_at, part_at, listed_pairs, IsWalk, IsPairChain, AreLinked, up_to, last_or, place_before}
 use Rattle.sat_checker.specs.declared.store.links.Pair.{Pair}
@@ -45,7 +45,7 @@ leads_same links new at (p ∷ ps) h l s = (
     here : link_at new at ≡ link_at links at
     here = let e : p.place ≡ at = ap (λ (q : Pair). q.place) h.0.is in ap (link_at new) (sym e) ∙ s.0 ∙ ap (link_at links) e
 
--- a link behind the others, and one that leads there
+-- a link after the others, and one that leads there
 pub record IsRelinked (links new : List Link) (hash before : ℕ) : Type 0 where
   pub longer : length new ≡ length links + 1
   pub same : (x : ℕ) → x < length links → x ≢ before → link_at new x ≡ link_at links x
@@ -71,7 +71,7 @@ up_to_none h ps k = filter_none (λ p. leb p.hash h) ps (all_weaker (λ p. h < p
     no : (a b : ℕ) → b < a → leb a b ≡ false
     no a b k = grind (arith, nat_tests)
 
--- all behind a pair that is past are past
+-- all after a pair that is past are past
 all_past : (h : ℕ) (p : Pair) (ps : List Pair) → AreInOrder (p ∷ ps) → h < p.hash → AllByRecursion (λ q. h < q.hash) (p ∷ ps)
 all_past h p ps o l = (l, all_weaker (IsPairBefore p) (λ q. h < q.hash) (λ q b. let k : p.hash ≤ q.hash = b.hash in omega arith) ps o.0)
 
@@ -86,15 +86,15 @@ none_up_to h (p ∷ ps) o e = elim (cases_lt h p.hash) [
 new_before : (links : List Link) (h : ℕ) (q : Pair) → h < q.hash → IsPairBefore (new_pair links h) q
 new_before links h q l = record { hash = omega arith; place = λ e. absurd (omega arith) }
 
-new_behind : (links : List Link) (h : ℕ) (q : Pair) → q.hash ≤ h → q.place < length links → IsPairBefore q (new_pair links h)
-new_behind links h q l k = record { hash = l; place = λ e. k }
+new_after : (links : List Link) (h : ℕ) (q : Pair) → q.hash ≤ h → q.place < length links → IsPairBefore q (new_pair links h)
+new_after links h q l k = record { hash = l; place = λ e. k }
 
-pub link_behind : (links new : List Link) (at h b : ℕ) (ps : List Pair) → LinksPairs links at ps → AreInOrder ps → last_or None (up_to h ps) ≡ Some b → IsRelinked links new h b → LinksPairs new at (inserted (new_pair links h) ps)
-link_behind links new at h b [] l o e r = absurd cc
-link_behind links new at h b (p ∷ ps) l o e r = elim (cases_lt h p.hash) [
+pub link_after : (links new : List Link) (at h b : ℕ) (ps : List Pair) → LinksPairs links at ps → AreInOrder ps → last_or None (up_to h ps) ≡ Some b → IsRelinked links new h b → LinksPairs new at (inserted (new_pair links h) ps)
+link_after links new at h b [] l o e r = absurd cc
+link_after links new at h b (p ∷ ps) l o e r = elim (cases_lt h p.hash) [
   | inl past ↦ absurd (let k : up_to h (p ∷ ps) ≡ [] = up_to_none h (p ∷ ps) (all_past h p ps o past) in let n : last_or None (up_to h (p ∷ ps)) ≡ None = ap (last_or None) k in cc)
-  | inr within ↦ subst (LinksPairs new at) (sym (ap (λ d. cond d (new_pair links h ∷ p ∷ ps) (p ∷ inserted (new_pair links h) ps)) (not-before (new_pair links h) p (behind within))))
-      (go within (up_to h ps) refl (λ s. link_behind links new (link_at links at).next h b ps l.1 o.1 s r))
+  | inr within ↦ subst (LinksPairs new at) (sym (ap (λ d. cond d (new_pair links h ∷ p ∷ ps) (p ∷ inserted (new_pair links h) ps)) (not-before (new_pair links h) p (following within))))
+      (go within (up_to h ps) refl (λ s. link_after links new (link_at links at).next h b ps l.1 o.1 s r))
 ]
   where
     there : AllByRecursion (IsThere links) (p ∷ ps)
@@ -106,8 +106,8 @@ link_behind links new at h b (p ∷ ps) l o e r = elim (cases_lt h p.hash) [
     inside : at < length links
     inside = l.0.inside
 
-    behind : p.hash ≤ h → IsPairBefore p (new_pair links h)
-    behind w = new_behind links h p w (let i : at < length links = l.0.inside in omega (arith, place))
+    following : p.hash ≤ h → IsPairBefore p (new_pair links h)
+    following w = new_after links h p w (let i : at < length links = l.0.inside in omega (arith, place))
 
     apart : AllByRecursion (λ q. q.place ≢ p.place) ps
     apart = all_weaker (λ q. IsThere links q × IsPairBefore p q) (λ q. q.place ≢ p.place) (λ q k. there_apart links p q there.0 k.0 k.1) ps (all_both (IsThere links) (IsPairBefore p) ps there.1 o.0)
@@ -195,8 +195,8 @@ pub record IsUnlinked (links new : List Link) (place before : ℕ) : Type 0 wher
   pub same : (x : ℕ) → x ≢ before → link_at new x ≡ link_at links x
   pub there : link_at new before ≡ record { hash = (link_at links before).hash; next = (link_at links place).next }
 
-apart_behind : (links : List Link) (at : ℕ) (p : Pair) (ps : List Pair) → LinksPairs links at (p ∷ ps) → AreInOrder (p ∷ ps) → AllByRecursion (λ q. q.place ≢ p.place) ps
-apart_behind links at p ps l o =
+apart_after : (links : List Link) (at : ℕ) (p : Pair) (ps : List Pair) → LinksPairs links at (p ∷ ps) → AreInOrder (p ∷ ps) → AllByRecursion (λ q. q.place ≢ p.place) ps
+apart_after links at p ps l o =
     let there = leads_there links at (p ∷ ps) l in
     all_weaker (λ q. IsThere links q × IsPairBefore p q) (λ q. q.place ≢ p.place) (λ q k. there_apart links p q there.0 k.0 k.1) ps (all_both (IsThere links) (IsPairBefore p) ps there.1 o.0)
 
@@ -209,10 +209,10 @@ unlink links new at x b (p ∷ q ∷ qs) l o e r = go (eqb q.place x) refl e (λ
     place = ap (λ (y : Pair). y.place) l.0.is
 
     apart : AllByRecursion (λ y. y.place ≢ p.place) (q ∷ qs)
-    apart = apart_behind links at p (q ∷ qs) l o
+    apart = apart_after links at p (q ∷ qs) l o
 
     apart_next : AllByRecursion (λ y. y.place ≢ q.place) qs
-    apart_next = apart_behind links (link_at links at).next q qs l.1 o.1
+    apart_next = apart_after links (link_at links at).next q qs l.1 o.1
 
     more : length links ≤ length new
     more = let k : length new ≡ length links = r.count in omega arith
@@ -244,7 +244,7 @@ pub unlink_first : (links : List Link) (x : ℕ) (ps : List Pair) → length lin
 unlink_first links x [] f i l o = absurd (omega (arith, l))
 unlink_first links x (p ∷ ps) f i l o =
     let place : p.place ≡ x = ap (λ (y : Pair). y.place) l.0.is in
-    subst (LinksPairs links (link_at links x).next) (sym (without_head x p ps place (subst (λ y. AllByRecursion (λ z. z.place ≢ y) ps) place (apart_behind links x p ps l o)))) l.1
+    subst (LinksPairs links (link_at links x).next) (sym (without_head x p ps place (subst (λ y. AllByRecursion (λ z. z.place ≢ y) ps) place (apart_after links x p ps l o)))) l.1
 
 -- none goes
 pub unlink_none : (links : List Link) (at x : ℕ) (ps : List Pair) → LinksPairs links at ps → at ≢ x → place_before x ps ≡ None → without_pair x ps ≡ ps
@@ -259,9 +259,9 @@ past_same h p e (t ∷ ts) b = pick (eqb t.hash h) refl (past_same h p e ts b.1)
     pick true d ih = ((b.0).place (e ∙ sym (eqb-true t.hash h d)), ih)
     pick false d ih = ih
 
-behind_whole : (y : ℕ) (ys : List ℕ) → AllByRecursion (λ z. y < z) ys → places_behind y ys ≡ ys
-behind_whole y [] k = refl
-behind_whole y (z ∷ zs) k = ap (λ b. cond b (z ∷ places_behind y zs) (places_behind y zs)) (less y z k.0) ∙ ap (λ qs. z ∷ qs) (behind_whole y zs k.1)
+after_whole : (y : ℕ) (ys : List ℕ) → AllByRecursion (λ z. y < z) ys → places_after y ys ≡ ys
+after_whole y [] k = refl
+after_whole y (z ∷ zs) k = ap (λ b. cond b (z ∷ places_after y zs) (places_after y zs)) (less y z k.0) ∙ ap (λ qs. z ∷ qs) (after_whole y zs k.1)
   where
     less : (a b : ℕ) → a < b → ltb a b ≡ true
     less a b j = grind (arith, nat_tests)
@@ -274,11 +274,11 @@ member_above x y (z ∷ zs) k e = pick (eqb z x) refl e (λ k'. member_above x y
     pick true d e' ih = subst (λ w. y < w) (eqb-true z x d) k.0
     pick false d e' ih = ih e'
 
--- the links behind a place of a hash lead over the others of the hash behind it
-pub walk_behind : (links : List Link) (at h x : ℕ) (ps : List Pair) → length links ≤ nowhere → length ps ≤ length links → LinksPairs links at ps → AreInOrder ps → is_among (places_in h ps) x ≡ true
-    → IsWalk links (link_at links x).next × (places_behind x (places_in h ps) ≡ places_in h (rest links (link_at links x).next))
-walk_behind links at h x [] f s l o m = absurd (true≢false (sym m))
-walk_behind links at h x (p ∷ ps) f s l o m = go (eqb p.hash h) refl m (λ k. walk_behind links (link_at links at).next h x ps f (omega arith) l.1 o.1 k)
+-- the links after a place of a hash lead over the others of the hash after it
+pub walk_after : (links : List Link) (at h x : ℕ) (ps : List Pair) → length links ≤ nowhere → length ps ≤ length links → LinksPairs links at ps → AreInOrder ps → is_among (places_in h ps) x ≡ true
+    → IsWalk links (link_at links x).next × (places_after x (places_in h ps) ≡ places_in h (rest links (link_at links x).next))
+walk_after links at h x [] f s l o m = absurd (true≢false (sym m))
+walk_after links at h x (p ∷ ps) f s l o m = go (eqb p.hash h) refl m (λ k. walk_after links (link_at links at).next h x ps f (omega arith) l.1 o.1 k)
   where
     place : p.place ≡ at
     place = ap (λ (q : Pair). q.place) l.0.is
@@ -289,24 +289,24 @@ walk_behind links at h x (p ∷ ps) f s l o m = go (eqb p.hash h) refl m (λ k. 
     not_less : (a b : ℕ) → b ≤ a → ltb a b ≡ false
     not_less a b j = grind (arith, nat_tests)
 
-    skip : (y : ℕ) (ys : List ℕ) → y ≤ x → places_behind x (y ∷ ys) ≡ places_behind x ys
-    skip y ys j = ap (λ b. cond b (y ∷ places_behind x ys) (places_behind x ys)) (not_less x y j)
+    skip : (y : ℕ) (ys : List ℕ) → y ≤ x → places_after x (y ∷ ys) ≡ places_after x ys
+    skip y ys j = ap (λ b. cond b (y ∷ places_after x ys) (places_after x ys)) (not_less x y j)
 
     go : (d : Bool) → eqb p.hash h ≡ d → is_among (map (λ (q : Pair). q.place) (cond d (p ∷ filter (λ q. eqb q.hash h) ps) (filter (λ q. eqb q.hash h) ps))) x ≡ true
-        → (is_among (places_in h ps) x ≡ true → IsWalk links (link_at links x).next × (places_behind x (places_in h ps) ≡ places_in h (rest links (link_at links x).next)))
-        → IsWalk links (link_at links x).next × (places_behind x (map (λ (q : Pair). q.place) (cond d (p ∷ filter (λ q. eqb q.hash h) ps) (filter (λ q. eqb q.hash h) ps))) ≡ places_in h (rest links (link_at links x).next))
+        → (is_among (places_in h ps) x ≡ true → IsWalk links (link_at links x).next × (places_after x (places_in h ps) ≡ places_in h (rest links (link_at links x).next)))
+        → IsWalk links (link_at links x).next × (places_after x (map (λ (q : Pair). q.place) (cond d (p ∷ filter (λ q. eqb q.hash h) ps) (filter (λ q. eqb q.hash h) ps))) ≡ places_in h (rest links (link_at links x).next))
     go false d k ih = ih k
     go true d k ih = here (eqb p.place x) refl k
       where
         same : p.hash ≡ h
         same = eqb-true p.hash h d
 
-        here : (b : Bool) → eqb p.place x ≡ b → (b || is_among (places_in h ps) x) ≡ true → IsWalk links (link_at links x).next × (places_behind x (p.place ∷ places_in h ps) ≡ places_in h (rest links (link_at links x).next))
+        here : (b : Bool) → eqb p.place x ≡ b → (b || is_among (places_in h ps) x) ≡ true → IsWalk links (link_at links x).next × (places_after x (p.place ∷ places_in h ps) ≡ places_in h (rest links (link_at links x).next))
         here true b k' =
             let is : at ≡ x = sym place ∙ eqb-true p.place x b in
             let px : p.place ≡ x = eqb-true p.place x b in (
               subst (λ y. IsWalk links (link_at links y).next) is (record { few = f; leads = subst (LinksPairs links (link_at links at).next) (sym then) l.1; in_order = subst AreInOrder (sym then) o.1 }),
-              skip p.place (places_in h ps) (omega (arith, px)) ∙ ap (λ y. places_behind y (places_in h ps)) (sym px) ∙ behind_whole p.place (places_in h ps) (past_same h p same ps o.0) ∙ ap (places_in h) (sym then) ∙ ap (λ y. places_in h (rest links (link_at links y).next)) is,
+              skip p.place (places_in h ps) (omega (arith, px)) ∙ ap (λ y. places_after y (places_in h ps)) (sym px) ∙ after_whole p.place (places_in h ps) (past_same h p same ps o.0) ∙ ap (places_in h) (sym then) ∙ ap (λ y. places_in h (rest links (link_at links y).next)) is,
             )
         here false b k' =
             let r = ih k' in
@@ -330,17 +330,17 @@ module _ (heads : List ℕ) (links : List Link) (shift : ℕ) (a : AreLinked hea
   pub places_part : (top : ℕ) → top < length heads → top_of shift (length heads) h ≡ top → places_in h (listed_pairs heads links) ≡ places_in h (part_at heads links top)
   places_part top l t = places_joined shift (length heads) (part_at heads links) h (length heads) (omega (arith, l, t)) (tops_of heads links shift a) ∙ ap (λ s. places_in h (part_at heads links s)) t
 
-  -- a place of the hash is there, and the links behind it lead over the others of the hash behind it
-  pub next_of : (x : ℕ) → is_among (places_in h (listed_pairs heads links)) x ≡ true → (x < length links) × IsWalk links (link_at links x).next × (places_behind x (places_in h (listed_pairs heads links)) ≡ places_in h (rest links (link_at links x).next))
+  -- a place of the hash is there, and the links after it lead over the others of the hash after it
+  pub next_of : (x : ℕ) → is_among (places_in h (listed_pairs heads links)) x ≡ true → (x < length links) × IsWalk links (link_at links x).next × (places_after x (places_in h (listed_pairs heads links)) ≡ places_in h (rest links (link_at links x).next))
   next_of x m = go (cases_lt (top_of shift (length heads) h) (length heads))
     where
-      go : (top_of shift (length heads) h < length heads) ⊎ (length heads ≤ top_of shift (length heads) h) → (x < length links) × IsWalk links (link_at links x).next × (places_behind x (places_in h (listed_pairs heads links)) ≡ places_in h (rest links (link_at links x).next))
+      go : (top_of shift (length heads) h < length heads) ⊎ (length heads ≤ top_of shift (length heads) h) → (x < length links) × IsWalk links (link_at links x).next × (places_after x (places_in h (listed_pairs heads links)) ≡ places_in h (rest links (link_at links x).next))
       go (inl l) =
           let top = top_of shift (length heads) h in
           let same : places_in h (listed_pairs heads links) ≡ places_in h (part_at heads links top) = places_part top l refl in
           let part : IsPairChain links shift (length heads) top (head_at heads top) (part_at heads links top) = a.parts top l in
-          let w = walk_behind links (head_at heads top) h x (part_at heads links top) a.few part.short part.leads part.in_order (ap (λ ps. is_among ps x) (sym same) ∙ m) in
-          (place_inside links h x (listed_pairs heads links) (all_there heads links shift a) m, w.0, ap (places_behind x) same ∙ w.1)
+          let w = walk_after links (head_at heads top) h x (part_at heads links top) a.few part.short part.leads part.in_order (ap (λ ps. is_among ps x) (sym same) ∙ m) in
+          (place_inside links h x (listed_pairs heads links) (all_there heads links shift a) m, w.0, ap (places_after x) same ∙ w.1)
       go (inr l) =
           let none : listed_pairs heads links ≡ [] = ap (joined (part_at heads links)) (let z : length heads ≡ 0 = omega arith in z) in
           absurd (true≢false (sym m ∙ ap (λ ps. is_among (places_in h ps) x) none))

@@ -87,9 +87,9 @@ pub inserted_first : (p : Pair) (ps : List Pair) → AllByRecursion (IsPairBefor
 inserted_first p [] h = refl
 inserted_first p (q ∷ qs) h = ap (λ b. cond b (p ∷ q ∷ qs) (q ∷ inserted p qs)) (is-before p q h.0)
 
-pub inserted_behind : (p : Pair) (xs ys : List Pair) → AllByRecursion (λ x. IsPairBefore x p) xs → inserted p (xs ++ ys) ≡ xs ++ inserted p ys
-inserted_behind p [] ys h = refl
-inserted_behind p (x ∷ xs) ys h = ap (λ b. cond b (p ∷ x ∷ (xs ++ ys)) (x ∷ inserted p (xs ++ ys))) (not-before p x h.0) ∙ ap (λ zs. x ∷ zs) (inserted_behind p xs ys h.1)
+pub inserted_after : (p : Pair) (xs ys : List Pair) → AllByRecursion (λ x. IsPairBefore x p) xs → inserted p (xs ++ ys) ≡ xs ++ inserted p ys
+inserted_after p [] ys h = refl
+inserted_after p (x ∷ xs) ys h = ap (λ b. cond b (p ∷ x ∷ (xs ++ ys)) (x ∷ inserted p (xs ++ ys))) (not-before p x h.0) ∙ ap (λ zs. x ∷ zs) (inserted_after p xs ys h.1)
 
 pub inserted_within : (p : Pair) (xs ys : List Pair) → AllByRecursion (IsPairBefore p) ys → inserted p (xs ++ ys) ≡ inserted p xs ++ ys
 inserted_within p [] ys h = inserted_first p ys h
@@ -138,7 +138,7 @@ length_filter t (p ∷ ps) = go (t p) (length_filter t ps)
 pub places_past : (h : ℕ) (ps : List Pair) → AllByRecursion (λ p. h < p.hash) ps → places_in h ps ≡ []
 places_past h ps a = ap (map (λ (p : Pair). p.place)) (filter_none (λ p. eqb p.hash h) ps (all_weaker (λ p. h < p.hash) (λ p. eqb p.hash h ≡ false) (λ p l. ne_eqb p.hash h (λ e. omega arith)) ps a))
 
--- a pair that comes in stands behind the others of its hash
+-- a pair that comes in stands after the others of its hash
 pub places_inserted : (q : ℕ) (p : Pair) (ps : List Pair) → AreInOrder ps → AllByRecursion (λ x. x.place < p.place) ps → places_in q (inserted p ps) ≡ cond (eqb q p.hash) (places_in q ps ++ p.place ∷ []) (places_in q ps)
 places_inserted q p [] o l = ap (λ b. map (λ (x : Pair). x.place) (cond b (p ∷ []) [])) (eqb_flip p.hash q) ∙ go (eqb q p.hash)
   where
@@ -167,14 +167,14 @@ places_inserted q p (x ∷ xs) o l = by_place (places_inserted q p xs o.1 l.1) (
         let none : places_in q (x ∷ xs) ≡ [] = subst (λ h. places_in h (x ∷ xs) ≡ []) (sym (eqb-true q p.hash d)) (places_past p.hash (x ∷ xs) (past e)) in
         ap (λ ys. p.place ∷ ys) none ∙ sym (ap (λ ys. ys ++ p.place ∷ []) none)
 
-    behind_x : (b d : Bool) → places_in q (inserted p xs) ≡ cond d (places_in q xs ++ p.place ∷ []) (places_in q xs)
+    after_x : (b d : Bool) → places_in q (inserted p xs) ≡ cond d (places_in q xs ++ p.place ∷ []) (places_in q xs)
         → map (λ (y : Pair). y.place) (cond b (x ∷ filter (λ y. eqb y.hash q) (inserted p xs)) (filter (λ y. eqb y.hash q) (inserted p xs)))
         ≡ cond d (map (λ (y : Pair). y.place) (cond b (x ∷ filter (λ y. eqb y.hash q) xs) (filter (λ y. eqb y.hash q) xs)) ++ p.place ∷ []) (map (λ (y : Pair). y.place) (cond b (x ∷ filter (λ y. eqb y.hash q) xs) (filter (λ y. eqb y.hash q) xs)))
-    behind_x true true h = ap (λ ys. x.place ∷ ys) h
-    behind_x true false h = ap (λ ys. x.place ∷ ys) h
-    behind_x false true h = h
-    behind_x false false h = h
+    after_x true true h = ap (λ ys. x.place ∷ ys) h
+    after_x true false h = ap (λ ys. x.place ∷ ys) h
+    after_x false true h = h
+    after_x false false h = h
 
     by_place : places_in q (inserted p xs) ≡ cond (eqb q p.hash) (places_in q xs ++ p.place ∷ []) (places_in q xs) → (b : Bool) → is_before p x ≡ b → places_in q (cond b (p ∷ x ∷ xs) (x ∷ inserted p xs)) ≡ cond (eqb q p.hash) (places_in q (x ∷ xs) ++ p.place ∷ []) (places_in q (x ∷ xs))
     by_place ih true e = ap (λ b. map (λ (y : Pair). y.place) (cond b (p ∷ filter (λ y. eqb y.hash q) (x ∷ xs)) (filter (λ y. eqb y.hash q) (x ∷ xs)))) (eqb_flip p.hash q) ∙ new_first (eqb q p.hash) refl e
-    by_place ih false e = behind_x (eqb x.hash q) (eqb q p.hash) ih
+    by_place ih false e = after_x (eqb x.hash q) (eqb q p.hash) ih

@@ -8,7 +8,7 @@ use Rattle.std.specs.List.{AllByRecursion}
 use Rattle.sat_checker.specs.inner.PairView.{IsPairBefore, AreInOrder, inserted, places_in}
 use Rattle.sat_checker.specs.inner.LinkView.{joined, top_of}
 use Rattle.sat_checker.specs.declared.store.links.Pair.{Pair}
-use Rattle.sat_checker.proofs.lemmas.pairs.Order.{all_append, all_left, all_right, all_weaker, filter_none, filter_two, order_append, inserted_behind, inserted_within}
+use Rattle.sat_checker.proofs.lemmas.pairs.Order.{all_append, all_left, all_right, all_weaker, filter_none, filter_two, order_append, inserted_after, inserted_within}
 
 pub joined_same : (f g : ℕ → List Pair) (n : ℕ) → ((s : ℕ) → s < n → f s ≡ g s) → joined f n ≡ joined g n
 joined_same f g zero h = refl
@@ -108,4 +108,4 @@ module _ (shift count : ℕ) where
             let e : n ≡ top = omega arith in
             ap (λ ps. ps ++ g n) (joined_same g f n (λ s j. other s (omega arith) (λ d. omega (arith, j, d, k))))
             ∙ ap (λ ps. joined f n ++ ps) (ap g e ∙ here ∙ ap (λ s. inserted p (f s)) (sym e))
-            ∙ sym (inserted_behind p (joined f n) (f n) (all_joined (λ q. IsPairBefore q p) f n (λ s j. above_part p s (f s) (omega (arith, j, k, t)) (h s (omega arith)))))
+            ∙ sym (inserted_after p (joined f n) (f n) (all_joined (λ q. IsPairBefore q p) f n (λ s j. above_part p s (f s) (omega (arith, j, k, t)) (h s (omega arith)))))

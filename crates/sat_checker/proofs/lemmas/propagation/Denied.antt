@@ -149,13 +149,13 @@ pub clause_is_map : (negate : Bool) (ls : List ℕ) → signed negate ls ≡ map
 clause_is_map true ls = refl
 clause_is_map false ls = sym (map-id ls)
 
--- it has one literal more, behind those before
+-- it has one literal more, after those before
 pub clause_more : (negate : Bool) (ls : List ℕ) (i d : ℕ) → i < length ls → signed negate (take (i + 1) ls) ≡ signed negate (take i ls) ++ negated_if negate (get_or ls i d) ∷ []
 clause_more negate ls i d h =
     clause_is_map negate (take (i + 1) ls) ∙ ap (map (negated_if negate)) (take_more ls i d h) ∙ map-append (negated_if negate) (take i ls) (get_or ls i d ∷ [])
     ∙ ap (λ xs. xs ++ negated_if negate (get_or ls i d) ∷ []) (sym (clause_is_map negate (take i ls)))
 
--- and the rest behind
+-- and the rest after
 pub clause_split : (negate : Bool) (ls : List ℕ) (i : ℕ) → signed negate (take i ls) ++ signed negate (drop i ls) ≡ signed negate ls
 clause_split true ls i = sym (map-append negated (take i ls) (drop i ls)) ∙ ap (map negated) (take-append-drop i ls)
 clause_split false ls i = take-append-drop i ls

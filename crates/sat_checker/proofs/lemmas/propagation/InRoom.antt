@@ -109,7 +109,7 @@ module _ (old mid : LiteralsAndRoom) (seen : List ℕ) (x : ℕ) (within : (l : 
       swap false true a = refl
       swap false false a = refl
 
--- the literal at a place, behind those that are denied already
+-- the literal at a place, after those that are denied already
 module _ (old mid : LiteralsAndRoom) (negate : Bool) (ls before : List ℕ) (i l : ℕ) (inside : i < length ls) (is : l ≡ get_or ls i l) (front : before ≡ take i ls) (room : mid.room ≡ old.room)
     (within : (m : ℕ) → is_among old.literals m ≡ true → is_among old.room m ≡ true) (denied : DeniedInRoom old (signed negate (take i ls)) mid) where
   one_more : signed negate (take (i + 1) ls) ≡ signed negate (take i ls) ++ negated_if negate l ∷ []

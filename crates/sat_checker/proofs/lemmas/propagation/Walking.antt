@@ -103,7 +103,7 @@ walk-met assumed clause rest more e = ap (λ o. and_then o (λ m. walk m rest)) 
 pub walk-conflict : (assumed clause : List ℕ) (rest : List (List ℕ)) → walk_on (verdict assumed clause) assumed ≡ None → walk assumed (clause ∷ rest) ≡ None
 walk-conflict assumed clause rest e = ap (λ o. and_then o (λ m. walk m rest)) e
 
--- the clause at a place is walked over, and those behind it are left
+-- the clause at a place is walked over, and those after it are left
 module _ (literals : ℕ → List ℕ) (places : List ℕ) (i : ℕ) (inside : i < length places) where
   pub walk_more : (whole : Option (List ℕ)) (mid more : List ℕ) → whole ≡ walk mid (map literals (drop i places)) → walk_on (verdict mid (literals (get_or places i 0))) mid ≡ Some more → whole ≡ walk more (map literals (drop (i + 1) places))
   walk_more whole mid more h e = h ∙ walk_next literals places i inside mid ∙ walk-met mid (literals (get_or places i 0)) (map literals (drop (i + 1) places)) more e

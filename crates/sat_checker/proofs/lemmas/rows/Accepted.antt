@@ -86,8 +86,8 @@ solver_names =
 pub unit_conflict : UnitConflict
 unit_conflict = (((tt, inr (refl, tt)), inr (refl, tt)), refl, refl, refl, refl, refl)
 
-pub unit_behind : ConflictAndUnit
-unit_behind =
+pub unit_after : ConflictAndUnit
+unit_after =
     let before : List Step = ChangeHashBits 0 ∷ AddClause (0 ∷ []) ∷ AddClause (1 ∷ 2 ∷ []) ∷ AddClause (1 ∷ 3 ∷ []) ∷ [] in
     let f : Stored = ready_by before in (
       (

@@ -6,7 +6,7 @@ use Rattle.sat_base.specs.steps.Steps.{SolverVarName, DeleteVar, AddClause}
 use Rattle.sat_checker.specs.Stored.{Stored, Sample, Witness, unknown}
 use Rattle.sat_checker.specs.Storing.{with_unit}
 use Rattle.sat_checker.specs.Propagation.{unit_true, tautology}
-use Rattle.sat_checker.specs.Rows.{ready_by, BySolverName, ByNameLeft, for_units, TwoUnits, UnitsTurned, ByDuplicate, TwoCounts, ByOneCount, BehindUnsat, Tautologies, WitnessNamed, UnknownMode, two_clauses, EmptyBehind, EmptyBefore, LastBehindConflict, LastUnit}
+use Rattle.sat_checker.specs.Rows.{ready_by, BySolverName, ByNameLeft, for_units, TwoUnits, UnitsTurned, ByDuplicate, TwoCounts, ByOneCount, AfterUnsat, Tautologies, WitnessNamed, UnknownMode, two_clauses, EmptyAfter, EmptyBefore, LastAfterConflict, LastUnit}
 use Rattle.sat_checker.proofs.lemmas.rows.Accepted.{walked, stuck}
 
 pub by_name : BySolverName
@@ -44,8 +44,8 @@ two_counts = (
 pub by_one_count : ByOneCount
 by_one_count = ((((((tt, inr (refl, tt)), inr (refl, (refl, (refl, tt)))), inr (refl, (refl, tt))), unit_true refl), (lit< tt, refl)), (lit< tt, (refl, refl)))
 
-pub behind_unsat : BehindUnsat
-behind_unsat = (((tt, inr tt), inl refl), refl, refl)
+pub after_unsat : AfterUnsat
+after_unsat = (((tt, inr tt), inl refl), refl, refl)
 
 pub tautologies : Tautologies
 tautologies = ((tt, inr (refl, (refl, tt))), refl, refl, refl, (tt, tautology refl), refl, refl, refl)
@@ -61,8 +61,8 @@ witness_named = ((((tt, tt), refl), record { free = λ w e. none_left (eqb w 0) 
 pub unknown_mode : UnknownMode
 unknown_mode = (tt, λ h. true≢false (sym h))
 
-pub empty_behind : EmptyBehind
-empty_behind = (((tt, inr (refl, (refl, tt))), inr (refl, (refl, tt))), walked (ready_by two_clauses) (0 ∷ []) (hash_of (0 ∷ 2 ∷ []) ∷ hash_of (0 ∷ 3 ∷ []) ∷ 5 ∷ []) refl)
+pub empty_after : EmptyAfter
+empty_after = (((tt, inr (refl, (refl, tt))), inr (refl, (refl, tt))), walked (ready_by two_clauses) (0 ∷ []) (hash_of (0 ∷ 2 ∷ []) ∷ hash_of (0 ∷ 3 ∷ []) ∷ 5 ∷ []) refl)
 
 pub empty_before : EmptyBefore
 empty_before = (
@@ -70,8 +70,8 @@ empty_before = (
   stuck (ready_by two_clauses) (0 ∷ []) (5 ∷ hash_of (0 ∷ 2 ∷ []) ∷ hash_of (0 ∷ 3 ∷ []) ∷ []) refl refl (tt, (((refl, (refl, tt)), tt), (((refl, (refl, tt)), tt), tt))) refl,
 )
 
-pub behind_conflict : LastBehindConflict
-behind_conflict = (((((tt, inr (refl, tt)), inr (refl, (refl, (refl, tt)))), inr (refl, (refl, tt))), inr (refl, tt)), (lit< tt, (refl, refl)))
+pub after_conflict : LastAfterConflict
+after_conflict = (((((tt, inr (refl, tt)), inr (refl, (refl, (refl, tt)))), inr (refl, (refl, tt))), inr (refl, tt)), (lit< tt, (refl, refl)))
 
 pub last_unit : LastUnit
 last_unit = ((((tt, inr (refl, (refl, tt))), inr (refl, tt)), inr (refl, tt)), λ h. true≢false (sym h.1.0))

@@ -13,15 +13,15 @@ increasing_drop [] (suc i) h = h
 increasing_drop (x ∷ xs) zero h = h
 increasing_drop (x ∷ xs) (suc i) h = increasing_drop xs i h.1
 
--- what is above the first of a list is looked for behind it
-all_behind : (x : ℕ) (xs ms : List ℕ) → AllByRecursion (λ m. x < m) ms → list_all (is_among (x ∷ xs)) ms ≡ list_all (is_among xs) ms
-all_behind x xs [] h = refl
-all_behind x xs (m ∷ ms) h =
+-- what is above the first of a list is looked for after it
+all_after : (x : ℕ) (xs ms : List ℕ) → AllByRecursion (λ m. x < m) ms → list_all (is_among (x ∷ xs)) ms ≡ list_all (is_among xs) ms
+all_after x xs [] h = refl
+all_after x xs (m ∷ ms) h =
     let e : eqb x m ≡ false = ne_eqb x m (λ q. let k : x < m = h.0 in omega arith) in
-    rw e (ap (λ b. is_among xs m && b) (all_behind x xs ms h.1))
+    rw e (ap (λ b. is_among xs m && b) (all_after x xs ms h.1))
 
 part_same : (s : ℕ) (ss xs : List ℕ) → AllByRecursion (λ m. s < m) ss → is_part (s ∷ ss) (s ∷ xs) ≡ is_part ss xs
-part_same s ss xs h = let e : eqb s s ≡ true = eq-eqb s s refl in rw e (all_behind s xs ss h)
+part_same s ss xs h = let e : eqb s s ≡ true = eq-eqb s s refl in rw e (all_after s xs ss h)
 
 above_all : (x s : ℕ) (ss : List ℕ) → x < s → AllByRecursion (λ m. s < m) ss → AllByRecursion (λ m. x < m) ss
 above_all x s [] l h = tt
@@ -32,7 +32,7 @@ lower_or_higher s x n = grind arith
 
 part_past : (s x : ℕ) (ss xs : List ℕ) → s ≢ x → IsIncreasing (s ∷ ss) → IsIncreasing (x ∷ xs) → is_part (s ∷ ss) (x ∷ xs) ≡ is_part (s ∷ ss) xs
 part_past s x ss xs n h k = elim (lower_or_higher s x n) [
-  | inl l ↦ all_behind x xs (s ∷ ss) (l, above_all x s ss l h.0)
+  | inl l ↦ all_after x xs (s ∷ ss) (l, above_all x s ss l h.0)
   | inr l ↦
       let far : is_among (x ∷ xs) s ≡ false = below_all s (x ∷ xs) (l, above_all s x xs l k.0) in
       let near : is_among xs s ≡ false = below_all s xs (above_all s x xs l k.0) in

@@ -73,15 +73,15 @@ pub record HasAccepted (places : LitNumbers) (trail : List ℕ) (l : ℕ) : Type
   pub there : get_or trail place 0 ≡ l
   pub noted : number_at places l ≡ Some place
 
-pub stands : (places : LitNumbers) (trail : List ℕ) (l : ℕ) → AreTrailPlaces places trail → is_among trail l ≡ true → HasAccepted places trail l
-stands places trail l placed among =
+pub valid : (places : LitNumbers) (trail : List ℕ) (l : ℕ) → AreTrailPlaces places trail → is_among trail l ≡ true → HasAccepted places trail l
+valid places trail l placed among =
     let c = contains_from_among trail l among in
     let there : get_or trail c.0 0 ≡ l = sym (get_or_default_zero trail c.0 l c.1) ∙ c.2 in
     record { place = c.0; inside = c.1; there = there; noted = ap (number_at places) (sym there) ∙ placed c.0 c.1 }
 
 pub stands_at : (places : LitNumbers) (trail : List ℕ) (l n : ℕ) → AreTrailPlaces places trail → is_among trail l ≡ true → number_at places l ≡ Some n → (n < length trail) × (get_or trail n 0 ≡ l)
 stands_at places trail l n placed among e =
-    let s = stands places trail l placed among in
+    let s = valid places trail l placed among in
     let same : s.place ≡ n = same_number s.place n (sym s.noted ∙ e) in
     (subst (λ k. k < length trail) same s.inside, subst (λ k. get_or trail k 0 ≡ l) same s.there)
 

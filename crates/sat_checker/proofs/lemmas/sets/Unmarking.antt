@@ -51,7 +51,7 @@ marks_without old new ls left room gone set rest there once are = record {
     among l true h = absurd (true≢false (sym h))
     among l false h = are.within l h
 
--- what stands before doesn't stand behind
+-- what stands before doesn't stand after
 apart : (xs ys : List ℕ) → NoRepeats (xs ++ ys) → (l : ℕ) → is_among xs l ≡ true → is_among ys l ≡ false
 apart [] ys h l e = absurd (true≢false (sym e))
 apart (x ∷ xs) ys h l e =
@@ -60,9 +60,9 @@ apart (x ∷ xs) ys h l e =
       | inr b ↦ apart xs ys h.1 l b
     ]
 
-behind : (xs ys : List ℕ) → NoRepeats (xs ++ ys) → NoRepeats ys
-behind [] ys h = h
-behind (x ∷ xs) ys h = behind xs ys h.1
+following : (xs ys : List ℕ) → NoRepeats (xs ++ ys) → NoRepeats ys
+following [] ys h = h
+following (x ∷ xs) ys h = following xs ys h.1
 
 -- the oldest so many of a trail are left, the newest first
 module _ (trail : List ℕ) (left : ℕ) where
@@ -74,12 +74,12 @@ module _ (trail : List ℕ) (left : ℕ) where
       ap (λ xs. is_among xs l) (sym split) ∙ among-append (reverse (drop left trail)) (reverse (take left trail)) l
       ∙ ap (λ b. b || is_among (reverse (take left trail)) l) (among-reverse (drop left trail) l)
 
-  pub among_behind : (l : ℕ) → is_among (drop left trail) l ≡ true → is_among (reverse trail) l ≡ true
-  among_behind l h = either l ∙ or_left (is_among (drop left trail) l) (is_among (reverse (take left trail)) l) h
+  pub among_after : (l : ℕ) → is_among (drop left trail) l ≡ true → is_among (reverse trail) l ≡ true
+  among_after l h = either l ∙ or_left (is_among (drop left trail) l) (is_among (reverse (take left trail)) l) h
 
   pub marks_left : (old new : Table Mark) (room : List ℕ) → AreMarks old (reverse trail) room → ((l : ℕ) → mark_at new l ≡ cond (is_among (drop left trail) l) mark.Room (mark_at old l)) → AreMarks new (reverse (take left trail)) room
   marks_left old new room are set =
-      marks_without old new (reverse trail) (reverse (take left trail)) room (is_among (drop left trail)) set (λ l. go l (is_among (drop left trail) l) refl) among_behind (behind (reverse (drop left trail)) (reverse (take left trail)) parts) are
+      marks_without old new (reverse trail) (reverse (take left trail)) room (is_among (drop left trail)) set (λ l. go l (is_among (drop left trail) l) refl) among_after (following (reverse (drop left trail)) (reverse (take left trail)) parts) are
     where
       parts : NoRepeats (reverse (drop left trail) ++ reverse (take left trail))
       parts = subst NoRepeats (sym split) are.once

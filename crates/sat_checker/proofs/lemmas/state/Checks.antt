@@ -4,22 +4,22 @@ use Rattle.std.specs.Result.{OnErr}
 use Rattle.sat_checker.specs.Propagation.{PassesCheck}
 use Rattle.sat_checker.specs.Stored.{Stored, StoredUnit, bucket}
 use Rattle.sat_checker.specs.Accepts.{PassesByHashes}
-use Rattle.sat_checker.specs.inner.FormulaView.{ChecksAs, ChecksBeside, KeepsFormula, AreNumbered, standing_in}
+use Rattle.sat_checker.specs.inner.FormulaView.{ChecksAs, ChecksBeside, RepresentsFormula, AreNumbered, standing_in}
 use Rattle.sat_checker.specs.inner.AssumedRoom.{HasStoredRoom}
 use Rattle.sat_checker.specs.inner.SlotView.{slot_ids}
-use Rattle.sat_checker.specs.inner.StoreView.{KeepsClauses}
+use Rattle.sat_checker.specs.inner.StoreView.{RepresentsClauses}
 use Rattle.sat_checker.specs.inner.UnitView.{UnitsAndRoom}
 use Rattle.sat_checker.specs.declared.formula.Formula.{Formula}
 use Rattle.sat_checker.specs.declared.state.status.Status.{Status}
 use Rattle.sat_checker.proofs.lemmas.state.Rooms.{stored_stays}
 
-pub checks_as : (F : Formula) (f : Stored) → KeepsFormula F f → ChecksAs F f
+pub checks_as : (F : Formula) (f : Stored) → RepresentsFormula F f → ChecksAs F f
 checks_as F f k = record { clauses = k.clauses; units = ap (map (λ (u : StoredUnit). u.literal)) k.units; room = k.room }
 
 -- the notes of a check are no part of what is kept
-pub kept_beside : (F G : Formula) (f : Stored) → ChecksBeside F G → KeepsFormula F f → KeepsFormula G f
+pub kept_beside : (F G : Formula) (f : Stored) → ChecksBeside F G → RepresentsFormula F f → RepresentsFormula G f
 kept_beside F G f e k = record {
-  clauses = subst (λ s. KeepsClauses s f) (sym e.store) k.clauses;
+  clauses = subst (λ s. RepresentsClauses s f) (sym e.store) k.clauses;
   units = e.units ∙ k.units;
   status = ap standing_in e.status ∙ k.status;
   numbered = subst (λ s. AreNumbered (slot_ids s.clauses) f.units G.status.last f.next_id) (sym e.store) (subst (λ (s : Status). AreNumbered (slot_ids F.store.clauses) f.units s.last f.next_id) (sym e.status) k.numbered);
@@ -29,7 +29,7 @@ kept_beside F G f e k = record {
 
 pub checked_beside : (F G : Formula) (f : Stored) → ChecksBeside F G → ChecksAs F f → ChecksAs G f
 checked_beside F G f e k = record {
-  clauses = subst (λ s. KeepsClauses s f) (sym e.store) k.clauses;
+  clauses = subst (λ s. RepresentsClauses s f) (sym e.store) k.clauses;
   units = ap (map (λ (u : StoredUnit). u.literal)) e.units ∙ k.units;
   room = stored_stays F.units.room G.units.room f.clauses e.room k.room;
 }
@@ -42,7 +42,7 @@ passes_under : (F : Formula) (f : Stored) (clause hashes : List ℕ) → ChecksA
 unfolding under
 passes_under F f clause hashes a b h = subst (λ us. (b ≡ true) ↔ PassesCheck us clause (map (bucket f) hashes)) a.units h
 
-keeps_under : (F : Formula) (f : Stored) → KeepsClauses F.store f → KeepsClauses F.store (under F f)
+keeps_under : (F : Formula) (f : Stored) → RepresentsClauses F.store f → RepresentsClauses F.store (under F f)
 unfolding under
 keeps_under F f k = k
 
@@ -55,13 +55,13 @@ unfolding under
 room_under F f room h = h
 
 pub checked_as : {E : Type 0} (r : Result Bool E) (F : Formula) (clause hashes : List ℕ)
-    → IfOk r (λ b. (f : Stored) → KeepsClauses F.store f → F.units.units ≡ f.units → HasStoredRoom F.units.room f.clauses → (b ≡ true) ↔ PassesByHashes f clause hashes)
+    → IfOk r (λ b. (f : Stored) → RepresentsClauses F.store f → F.units.units ≡ f.units → HasStoredRoom F.units.room f.clauses → (b ≡ true) ↔ PassesByHashes f clause hashes)
     → IfOk r (λ b. (f : Stored) → ChecksAs F f → (b ≡ true) ↔ PassesByHashes f clause hashes)
 checked_as (Ok b) F clause hashes h = λ f a. passes_under F f clause hashes a b (h (under F f) (keeps_under F f a.clauses) (units_under F f) (room_under F f F.units.room a.room))
 checked_as (Err e) F clause hashes h = tt
 
 -- want of memory never comes where all is kept
-pub short_as : {E : Type 0} (r : Result Bool E) (F : Formula) → OnErr r ((f : Stored) → KeepsClauses F.store f → HasStoredRoom F.units.room f.clauses → ⊥) → OnErr r ((f : Stored) → ChecksAs F f → ⊥)
+pub short_as : {E : Type 0} (r : Result Bool E) (F : Formula) → OnErr r ((f : Stored) → RepresentsClauses F.store f → HasStoredRoom F.units.room f.clauses → ⊥) → OnErr r ((f : Stored) → ChecksAs F f → ⊥)
 short_as (Ok b) F h = tt
 short_as (Err e) F h = λ f a. h f a.clauses a.room
 

@@ -9,7 +9,7 @@ use Rattle.sat_checker.specs.LiteralSets.{is_among, is_part, canonical, same_lit
 use Rattle.sat_checker.specs.Stored.{Stored, StoredClause}
 use Rattle.sat_checker.specs.Storing.{clause_with}
 use Rattle.sat_checker.specs.Accepts.{Accepts, FitsModel, IsStrictSubset}
-use Rattle.sat_checker.specs.inner.FormulaView.{ChecksBeside, KeepsFormula, refiled_in}
+use Rattle.sat_checker.specs.inner.FormulaView.{ChecksBeside, RepresentsFormula, refiled_in}
 use Rattle.sat_checker.specs.inner.ModelTests.{are_all_true}
 use Rattle.sat_checker.specs.inner.AssumedRoom.{LiteralsAndRoom, RoomStays, AgreesOn, HasClauseRoom, HasStoredRoom}
 use Rattle.sat_checker.specs.inner.StoreView.{store_count_in, refiled}
@@ -84,21 +84,21 @@ within_room room c l h = go (is_among c l) refl
     go false e = none (is_among room l)
 
 -- marks are no part of what is kept
-pub refiled_beside : (F G : Formula) (f : Stored) → ChecksBeside F G → KeepsFormula (refiled_in F) f → KeepsFormula (refiled_in G) f
+pub refiled_beside : (F G : Formula) (f : Stored) → ChecksBeside F G → RepresentsFormula (refiled_in F) f → RepresentsFormula (refiled_in G) f
 refiled_beside F G f e k = kept_beside (refiled_in F) (refiled_in G) f (record { store = ap refiled e.store; status = e.status; units = e.units; room = e.room; marks = e.marks }) k
 
-pub marks_kept : (F : Formula) (marks : LiteralsAndRoom) (f : Stored) → RoomStays F.marks.room marks.room → KeepsFormula (refiled_in F) f → KeepsFormula (refiled_in (record F { marks = marks })) f
+pub marks_kept : (F : Formula) (marks : LiteralsAndRoom) (f : Stored) → RoomStays F.marks.room marks.room → RepresentsFormula (refiled_in F) f → RepresentsFormula (refiled_in (record F { marks = marks })) f
 marks_kept F marks f s k = record { clauses = k.clauses; units = k.units; status = k.status; numbered = k.numbered; room = k.room; marks = stored_stays F.marks.room marks.room f.clauses s k.marks }
 
 pub stays_through : (old mid left : LiteralsAndRoom) (room : List ℕ) → mid ≡ old → left.room ≡ mid.room → RoomStays left.room room → RoomStays old.room room
 stays_through old mid left room e s h l k = h l (ap (λ xs. is_among xs l) s ∙ ap (λ (t : LiteralsAndRoom). is_among t.room l) e ∙ k)
 
 -- a model that is judged by other marks
-pub judged_over : {E : Type 0} (r : Result Bool E) (F G : Formula) (ls : List ℕ) → ((f : Stored) → KeepsFormula F f → KeepsFormula G f) → OnErr r ((f : Stored) → KeepsFormula G f → FitsModel f ls) → OnErr r ((f : Stored) → KeepsFormula F f → FitsModel f ls)
+pub judged_over : {E : Type 0} (r : Result Bool E) (F G : Formula) (ls : List ℕ) → ((f : Stored) → RepresentsFormula F f → RepresentsFormula G f) → OnErr r ((f : Stored) → RepresentsFormula G f → FitsModel f ls) → OnErr r ((f : Stored) → RepresentsFormula F f → FitsModel f ls)
 judged_over (Ok b) F G ls on h = tt
 judged_over (Err e) F G ls on h = λ f k. h f (on f k)
 
-pub exact_over : {E : Type 0} (r : Result Bool E) (F G : Formula) (ls : List ℕ) → ((f : Stored) → KeepsFormula F f → KeepsFormula G f) → IfOk r (λ b. (f : Stored) → KeepsFormula G f → (b ≡ true) ↔ FitsModel f ls)
-    → IfOk r (λ b. (f : Stored) → KeepsFormula F f → (b ≡ true) ↔ FitsModel f ls)
+pub exact_over : {E : Type 0} (r : Result Bool E) (F G : Formula) (ls : List ℕ) → ((f : Stored) → RepresentsFormula F f → RepresentsFormula G f) → IfOk r (λ b. (f : Stored) → RepresentsFormula G f → (b ≡ true) ↔ FitsModel f ls)
+    → IfOk r (λ b. (f : Stored) → RepresentsFormula F f → (b ≡ true) ↔ FitsModel f ls)
 exact_over (Ok b) F G ls on h = λ f k. h f (on f k)
 exact_over (Err e) F G ls on h = tt

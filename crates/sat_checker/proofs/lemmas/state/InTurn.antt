@@ -10,11 +10,11 @@ use Rattle.sat_checker.specs.Propagation.{PassesCheck, tautology, unit_true, con
 use Rattle.sat_checker.specs.Stored.{Stored, StoredUnit, is_unit, unit_literals, bucket}
 use Rattle.sat_checker.specs.Storing.{with_unit, with_contradiction, with_new_unit}
 use Rattle.sat_checker.specs.Accepts.{PassesByHashes, PassInTurn}
-use Rattle.sat_checker.specs.inner.InTurn.{with_supposed, stands_first, AssumesUnits, PassBehind}
+use Rattle.sat_checker.specs.inner.InTurn.{with_assumed, stands_first, AssumesUnits, PassAfter}
 use Rattle.sat_checker.specs.inner.Look.{AssumesMore}
 use Rattle.sat_checker.specs.inner.AssumedRoom.{LiteralsAndRoom, AgreesOn, HasClausesRoom, HasStoredRoom}
 use Rattle.sat_checker.specs.inner.SlotView.{bucket_of, live}
-use Rattle.sat_checker.specs.inner.StoreView.{KeepsClauses}
+use Rattle.sat_checker.specs.inner.StoreView.{RepresentsClauses}
 use Rattle.sat_checker.specs.inner.UnitView.{UnitsAndRoom}
 use Rattle.sat_checker.specs.inner.FormulaView.{ChecksAs}
 use Rattle.sat_checker.specs.declared.store.Store.{Store}
@@ -34,7 +34,7 @@ pub first_next : (us : List (ℕ × ℕ)) (i : ℕ) (u : ℕ × ℕ) (l : ℕ) �
     → stands_first (firsts (drop i us)) l ≡ cond (eqb u.0 l) true (cond (eqb u.0 (negated l)) false (stands_first (firsts (drop (i + 1) us)) l))
 first_next us i u l inside is = ap (λ vs. stands_first (firsts vs) l) (drop_more us i u inside ∙ ap (λ x. x ∷ drop (i + 1) us) (sym is))
 
--- one more stands behind the others
+-- one more stands after the others
 first_more : (ms : List ℕ) (x l : ℕ) → stands_first (ms ++ x ∷ []) l ≡ cond (stands_first ms l) true (cond (stands_first ms (negated l)) false (eqb x l))
 first_more [] x l = go (eqb x l) (eqb x (negated l)) refl refl
   where
@@ -66,9 +66,9 @@ unit_with x l f = go (is_unit f x) (is_unit f (negated x))
         ap (λ ls. is_among ls l) (map-append (λ (u : StoredUnit). u.literal) f.units ((record { id = f.next_id; literal = x }) ∷ []))
         ∙ among-append (unit_literals f) (x ∷ []) l ∙ ap (λ b. is_unit f l || b) (or_false (eqb x l))
 
--- one more is with_supposed
+-- one more is with_assumed
 module _ (t : LiteralsAndRoom) (before : List ℕ) (f : Stored) (x : ℕ) (s : AssumesUnits t before f) (paired : (l : ℕ) → is_among t.room l ≡ is_among t.room (negated l)) where
-  same_room : (l : ℕ) → is_among t.room l ≡ true → is_among (with_supposed x t) l ≡ is_unit (with_unit x f) l
+  same_room : (l : ℕ) → is_among t.room l ≡ true → is_among (with_assumed x t) l ≡ is_unit (with_unit x f) l
   same_room l r = go (is_among t.room x) refl ∙ sym (unit_with x l f)
     where
       among : (b : Bool) → is_among (cond b (x ∷ t.literals) t.literals) l ≡ cond b (eqb x l || is_among t.literals l) (is_among t.literals l)
@@ -92,7 +92,7 @@ module _ (t : LiteralsAndRoom) (before : List ℕ) (f : Stored) (x : ℕ) (s : A
       other : is_among t.room x ≡ false → eqb x l ≡ false
       other n = ne_eqb x l (λ e. both_ways (is_among t.room x) n (ap (is_among t.room) e ∙ r))
 
-      go : (b : Bool) → is_among t.room x ≡ b → is_among (with_supposed x t) l ≡ cond (is_unit f x) (is_unit f l) (cond (is_unit f (negated x)) (is_unit f l) (is_unit f l || eqb x l))
+      go : (b : Bool) → is_among t.room x ≡ b → is_among (with_assumed x t) l ≡ cond (is_unit f x) (is_unit f l) (cond (is_unit f (negated x)) (is_unit f l) (is_unit f l || eqb x l))
       go true e =
           ap (λ b. is_among (cond (b && not (is_among t.literals x) && not (is_among t.literals (negated x))) (x ∷ t.literals) t.literals) l) e
           ∙ ap (λ b. is_among (cond (not b && not (is_among t.literals (negated x))) (x ∷ t.literals) t.literals) l) (s.agrees x e)
@@ -135,12 +135,12 @@ module _ (t : LiteralsAndRoom) (before : List ℕ) (f : Stored) (x : ℕ) (s : A
           ap (λ y. cond (is_unit f y) (is_unit f l) (cond (is_unit f (negated y)) (is_unit f l) (is_unit f l || true))) is ∙ itself (is_unit f l) (is_unit f (negated l))
       go false k = another (is_unit f x) (is_unit f (negated x)) (is_unit f l) (is_unit f (negated l))
 
-  pub supposes_more : AssumesUnits (record t { literals = with_supposed x t }) (before ++ x ∷ []) (with_unit x f)
-  supposes_more = record { agrees = same_room; others = same_others }
+  pub assumes_more : AssumesUnits (record t { literals = with_assumed x t }) (before ++ x ∷ []) (with_unit x f)
+  assumes_more = record { agrees = same_room; others = same_others }
 
 -- what is assumed stays below
-pub supposed_more : (old mid new : LiteralsAndRoom) (x : ℕ) → AssumesMore old mid → new ≡ record mid { literals = with_supposed x mid } → AssumesMore old new
-supposed_more old mid new x h e = subst (AssumesMore old) (sym e) (go (is_among mid.room x && not (is_among mid.literals x) && not (is_among mid.literals (negated x))))
+pub assumed_more : (old mid new : LiteralsAndRoom) (x : ℕ) → AssumesMore old mid → new ≡ record mid { literals = with_assumed x mid } → AssumesMore old new
+assumed_more old mid new x h e = subst (AssumesMore old) (sym e) (go (is_among mid.room x && not (is_among mid.literals x) && not (is_among mid.literals (negated x))))
   where
     go : (b : Bool) → AssumesMore old (record mid { literals = cond b (x ∷ mid.literals) mid.literals })
     go true = Extends-more old mid (record mid { literals = x ∷ mid.literals }) x h refl (λ l k. k)
@@ -167,7 +167,7 @@ module _ (store : Store) (t : LiteralsAndRoom) (before : List ℕ) (l h : ℕ) (
 
   pub unit_exact : {E : Type 0} (r : Result Bool E) → ((m : ℕ) → is_among t.literals m ≡ true → is_among t.room m ≡ true)
       → IfOk r (λ yes'. HasStoredRoom t.room (live store.clauses) → (yes' ≡ true) ↔ PassesCheck t.literals (l ∷ []) (map (bucket_of store.clauses) (h ∷ [])))
-      → IfOk r (λ yes'. (f : Stored) → KeepsClauses store f → HasStoredRoom t.room f.clauses → AssumesUnits t before f → (yes' ≡ true) ↔ PassesByHashes f (l ∷ []) (h ∷ []))
+      → IfOk r (λ yes'. (f : Stored) → RepresentsClauses store f → HasStoredRoom t.room f.clauses → AssumesUnits t before f → (yes' ≡ true) ↔ PassesByHashes f (l ∷ []) (h ∷ []))
   unit_exact (Err x) stand k = tt
   unit_exact (Ok b) stand k = λ f c r s.
       let stored = subst (HasStoredRoom t.room) (sym c.clauses) r in
@@ -180,10 +180,10 @@ module _ (store : Store) (t : LiteralsAndRoom) (before : List ℕ) (l h : ℕ) (
       )
 
 -- what a unit leaves of the clauses
-kept_with : (store : Store) (x : ℕ) (f : Stored) → KeepsClauses store f → KeepsClauses store (with_unit x f)
+kept_with : (store : Store) (x : ℕ) (f : Stored) → RepresentsClauses store f → RepresentsClauses store (with_unit x f)
 kept_with store x f k = go (is_unit f x) (is_unit f (negated x))
   where
-    go : (b d : Bool) → KeepsClauses store (cond b f (cond d (with_contradiction x f) (with_new_unit x f)))
+    go : (b d : Bool) → RepresentsClauses store (cond b f (cond d (with_contradiction x f) (with_new_unit x f)))
     go true d = k
     go false true = record { clauses = k.clauses; hashed = k.hashed; names = k.names; width = k.width }
     go false false = record { clauses = k.clauses; hashed = k.hashed; names = k.names; width = k.width }
@@ -196,23 +196,23 @@ roomy_with room x f h = go (is_unit f x) (is_unit f (negated x))
     go false true = h
     go false false = h
 
--- The units before one came in, it passed, and those behind it are left.
+-- The units before one came in, it passed, and those after it are left.
 pub record Passing (store : Store) (room : List ℕ) (f : Stored) (all : List (ℕ × ℕ)) (i : ℕ) (trail : LiteralsAndRoom) : Type 0 where
   pub now : Stored
-  pub kept : KeepsClauses store now
+  pub kept : RepresentsClauses store now
   pub roomy : HasStoredRoom room now.clauses
-  pub supposes : AssumesUnits trail (firsts (take i all)) now
-  pub on : PassBehind now (drop i all) → PassBehind f all
-  pub back : PassBehind f all → PassBehind now (drop i all)
+  pub assumes : AssumesUnits trail (firsts (take i all)) now
+  pub on : PassAfter now (drop i all) → PassAfter f all
+  pub back : PassAfter f all → PassAfter now (drop i all)
 
 -- none came in
-pub passing_none : (store : Store) (trail : LiteralsAndRoom) (f : Stored) (all : List (ℕ × ℕ)) → ((l : ℕ) → is_among trail.literals l ≡ true → is_among trail.room l ≡ true) → KeepsClauses store f → ((l : ℕ) → is_among trail.literals l ≡ is_unit f l)
+pub passing_none : (store : Store) (trail : LiteralsAndRoom) (f : Stored) (all : List (ℕ × ℕ)) → ((l : ℕ) → is_among trail.literals l ≡ true → is_among trail.room l ≡ true) → RepresentsClauses store f → ((l : ℕ) → is_among trail.literals l ≡ is_unit f l)
     → HasStoredRoom trail.room f.clauses → Passing store trail.room f all 0 trail
 passing_none store trail f all stand k is h = record {
   now = f;
   kept = k;
   roomy = h;
-  supposes = record { agrees = λ l r. is l; others = λ l n. sym (is l) ∙ none l n (is_among trail.literals l) refl };
+  assumes = record { agrees = λ l r. is l; others = λ l n. sym (is l) ∙ none l n (is_among trail.literals l) refl };
   on = λ p. p;
   back = λ p. p;
 }
@@ -221,11 +221,11 @@ passing_none store trail f all stand k is h = record {
     none l n false e = refl
     none l n true e = absurd (both_ways (is_among trail.room l) n (stand l e))
 
--- the next one comes in, and the one behind it is judged
+-- the next one comes in, and the one after it is judged
 module _ (store : Store) (room : List ℕ) (f : Stored) (all : List (ℕ × ℕ)) (i place : ℕ) (trail : LiteralsAndRoom) (u v : ℕ × ℕ) (some : i + 1 ≡ place) (inside : place < length all) (is : u ≡ get_or all i u) (next : v ≡ get_or all place v)
     (p : Passing store room f all i trail) where
-  abbrev pub behind : Stored
-  behind = with_unit u.0 p.now
+  abbrev pub following : Stored
+  following = with_unit u.0 p.now
 
   first_split : drop i all ≡ u ∷ drop place all
   first_split = drop_more all i u (omega arith) ∙ ap (λ x. x ∷ drop (i + 1) all) (sym is) ∙ ap (λ j. u ∷ drop j all) some
@@ -237,36 +237,36 @@ module _ (store : Store) (room : List ℕ) (f : Stored) (all : List (ℕ × ℕ)
   came = ap (λ j. firsts (take j all)) (sym some) ∙ ap firsts (take_more all i u (omega arith) ∙ ap (λ x. take i all ++ x ∷ []) (sym is)) ∙ map-append (λ (w : ℕ × ℕ). w.0) (take i all) (u ∷ [])
 
   -- it is judged over what is assumed then
-  module _ (new : LiteralsAndRoom) (same : trail.room ≡ room) (paired : (l : ℕ) → is_among room l ≡ is_among room (negated l)) (e : new ≡ record trail { literals = with_supposed u.0 trail }) where
-    behind_supposes : AssumesUnits new (firsts (take place all)) behind
-    behind_supposes =
-        subst (λ t. AssumesUnits t (firsts (take place all)) behind) (sym e) (subst (λ ls. AssumesUnits (record trail { literals = with_supposed u.0 trail }) ls behind) (sym came)
-        (supposes_more trail (firsts (take i all)) p.now u.0 p.supposes (subst (λ r. (l : ℕ) → is_among r l ≡ is_among r (negated l)) (sym same) paired)))
+  module _ (new : LiteralsAndRoom) (same : trail.room ≡ room) (paired : (l : ℕ) → is_among room l ≡ is_among room (negated l)) (e : new ≡ record trail { literals = with_assumed u.0 trail }) where
+    after_assumes : AssumesUnits new (firsts (take place all)) following
+    after_assumes =
+        subst (λ t. AssumesUnits t (firsts (take place all)) following) (sym e) (subst (λ ls. AssumesUnits (record trail { literals = with_assumed u.0 trail }) ls following) (sym came)
+        (assumes_more trail (firsts (take i all)) p.now u.0 p.assumes (subst (λ r. (l : ℕ) → is_among r l ≡ is_among r (negated l)) (sym same) paired)))
 
-    pub behind_judged : (before : List (ℕ × ℕ)) → before ≡ take place all → (b : Bool) → ((g : Stored) → KeepsClauses store g → HasStoredRoom new.room g.clauses → AssumesUnits new (firsts before) g → (b ≡ true) ↔ PassesByHashes g (v.0 ∷ []) (v.1 ∷ []))
-        → (b ≡ true) ↔ PassesByHashes behind (v.0 ∷ []) (v.1 ∷ [])
-    behind_judged before front b exact =
-        exact behind (kept_with store u.0 p.now p.kept) (subst (λ r. HasStoredRoom r behind.clauses) (sym (ap (λ (t : LiteralsAndRoom). t.room) e ∙ same)) (roomy_with room u.0 p.now p.roomy))
-        (subst (λ us. AssumesUnits new (firsts us) behind) (sym front) behind_supposes)
+    pub after_judged : (before : List (ℕ × ℕ)) → before ≡ take place all → (b : Bool) → ((g : Stored) → RepresentsClauses store g → HasStoredRoom new.room g.clauses → AssumesUnits new (firsts before) g → (b ≡ true) ↔ PassesByHashes g (v.0 ∷ []) (v.1 ∷ []))
+        → (b ≡ true) ↔ PassesByHashes following (v.0 ∷ []) (v.1 ∷ [])
+    after_judged before front b exact =
+        exact following (kept_with store u.0 p.now p.kept) (subst (λ r. HasStoredRoom r following.clauses) (sym (ap (λ (t : LiteralsAndRoom). t.room) e ∙ same)) (roomy_with room u.0 p.now p.roomy))
+        (subst (λ us. AssumesUnits new (firsts us) following) (sym front) after_assumes)
 
-    pub behind_passing : (j : ℕ) → j ≡ place → (more : LiteralsAndRoom) → more ≡ new → PassesByHashes behind (v.0 ∷ []) (v.1 ∷ []) → Passing store room f all j more
-    behind_passing j k more m q = subst (λ n. Passing store room f all n more) (sym k) (record {
-      now = behind;
+    pub after_passing : (j : ℕ) → j ≡ place → (more : LiteralsAndRoom) → more ≡ new → PassesByHashes following (v.0 ∷ []) (v.1 ∷ []) → Passing store room f all j more
+    after_passing j k more m q = subst (λ n. Passing store room f all n more) (sym k) (record {
+      now = following;
       kept = kept_with store u.0 p.now p.kept;
       roomy = roomy_with room u.0 p.now p.roomy;
-      supposes = subst (λ t. AssumesUnits t (firsts (take place all)) behind) (sym m) behind_supposes;
-      on = λ r. p.on (subst (PassBehind p.now) (sym first_split) (subst (PassInTurn behind) (sym next_split) (q, subst (PassBehind behind) next_split r)));
-      back = λ r. subst (PassBehind behind) (sym next_split) (subst (PassInTurn behind) next_split (subst (PassBehind p.now) first_split (p.back r))).1;
+      assumes = subst (λ t. AssumesUnits t (firsts (take place all)) following) (sym m) after_assumes;
+      on = λ r. p.on (subst (PassAfter p.now) (sym first_split) (subst (PassInTurn following) (sym next_split) (q, subst (PassAfter following) next_split r)));
+      back = λ r. subst (PassAfter following) (sym next_split) (subst (PassInTurn following) next_split (subst (PassAfter p.now) first_split (p.back r))).1;
     })
 
-  pub behind_refused : (PassesByHashes behind (v.0 ∷ []) (v.1 ∷ []) → ⊥) → PassBehind f all → ⊥
-  behind_refused n r = n (subst (PassInTurn behind) next_split (subst (PassBehind p.now) first_split (p.back r))).0
+  pub following_refused : (PassesByHashes following (v.0 ∷ []) (v.1 ∷ []) → ⊥) → PassAfter f all → ⊥
+  following_refused n r = n (subst (PassInTurn following) next_split (subst (PassAfter p.now) first_split (p.back r))).0
 
 -- none is left
-pub passing_all : (store : Store) (room : List ℕ) (f : Stored) (all : List (ℕ × ℕ)) (i : ℕ) (trail : LiteralsAndRoom) → length all ≤ i + 1 → Passing store room f all i trail → PassBehind f all
+pub passing_all : (store : Store) (room : List ℕ) (f : Stored) (all : List (ℕ × ℕ)) (i : ℕ) (trail : LiteralsAndRoom) → length all ≤ i + 1 → Passing store room f all i trail → PassAfter f all
 passing_all store room f all i trail l p = p.on (rest p.now all i l)
   where
-    rest : (g : Stored) (us : List (ℕ × ℕ)) (j : ℕ) → length us ≤ j + 1 → PassBehind g (drop j us)
+    rest : (g : Stored) (us : List (ℕ × ℕ)) (j : ℕ) → length us ≤ j + 1 → PassAfter g (drop j us)
     rest g [] zero l = tt
     rest g [] (suc j) l = tt
     rest g (u ∷ []) zero l = tt
@@ -282,17 +282,17 @@ looks_end old looks p m n l h = let e : (p - 1) * n ≤ (m - 1) * n = grind arit
 
 -- over units, whatever their ids
 pub passed_units : {E : Type 0} (r : Result Bool E) (store : Store) (value : UnitsAndRoom) (trail : LiteralsAndRoom) (units : List (ℕ × ℕ)) → ((l : ℕ) → is_among trail.literals l ≡ is_among (map (λ u. u.literal) value.units) l) → trail.room ≡ value.room
-    → IfOk r (λ b. (f : Stored) → KeepsClauses store f → ((l : ℕ) → is_among trail.literals l ≡ is_unit f l) → HasStoredRoom trail.room f.clauses → (b ≡ true) ↔ PassBehind f units)
-    → IfOk r (λ b. (f : Stored) → KeepsClauses store f → map (λ u. u.literal) value.units ≡ unit_literals f → HasStoredRoom value.room f.clauses → (b ≡ true) ↔ PassBehind f units)
+    → IfOk r (λ b. (f : Stored) → RepresentsClauses store f → ((l : ℕ) → is_among trail.literals l ≡ is_unit f l) → HasStoredRoom trail.room f.clauses → (b ≡ true) ↔ PassAfter f units)
+    → IfOk r (λ b. (f : Stored) → RepresentsClauses store f → map (λ u. u.literal) value.units ≡ unit_literals f → HasStoredRoom value.room f.clauses → (b ≡ true) ↔ PassAfter f units)
 passed_units (Ok b) store value trail units same room h = λ f k u r. h f k (λ l. same l ∙ ap (λ ls. is_among ls l) u) (subst (λ x. HasStoredRoom x f.clauses) (sym room) r)
 passed_units (Err e) store value trail units same room h = tt
 
-pub short_units : {E : Type 0} (r : Result Bool E) (store : Store) (old new : List ℕ) → old ≡ new → OnErr r ((f : Stored) → KeepsClauses store f → HasStoredRoom old f.clauses → ⊥) → OnErr r ((f : Stored) → KeepsClauses store f → HasStoredRoom new f.clauses → ⊥)
-short_units r store old new e h = subst (λ x. OnErr r ((f : Stored) → KeepsClauses store f → HasStoredRoom x f.clauses → ⊥)) e h
+pub short_units : {E : Type 0} (r : Result Bool E) (store : Store) (old new : List ℕ) → old ≡ new → OnErr r ((f : Stored) → RepresentsClauses store f → HasStoredRoom old f.clauses → ⊥) → OnErr r ((f : Stored) → RepresentsClauses store f → HasStoredRoom new f.clauses → ⊥)
+short_units r store old new e h = subst (λ x. OnErr r ((f : Stored) → RepresentsClauses store f → HasStoredRoom x f.clauses → ⊥)) e h
 
 -- over all that a check needs
 pub passed_as : {E : Type 0} (r : Result Bool E) (F : Formula) (units : List (ℕ × ℕ))
-    → IfOk r (λ b. (f : Stored) → KeepsClauses F.store f → map (λ u. u.literal) F.units.units ≡ unit_literals f → HasStoredRoom F.units.room f.clauses → (b ≡ true) ↔ PassBehind f units)
-    → IfOk r (λ b. (f : Stored) → ChecksAs F f → (b ≡ true) ↔ PassBehind f units)
+    → IfOk r (λ b. (f : Stored) → RepresentsClauses F.store f → map (λ u. u.literal) F.units.units ≡ unit_literals f → HasStoredRoom F.units.room f.clauses → (b ≡ true) ↔ PassAfter f units)
+    → IfOk r (λ b. (f : Stored) → ChecksAs F f → (b ≡ true) ↔ PassAfter f units)
 passed_as (Ok b) F units h = λ f a. h f a.clauses a.units a.room
 passed_as (Err e) F units h = tt

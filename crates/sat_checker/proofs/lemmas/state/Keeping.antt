@@ -8,8 +8,8 @@ use Rattle.sat_checker.specs.Stored.{Stored, Variable, Sample, mode_of}
 use Rattle.sat_checker.specs.Storing.{settled, with_stored, with_input, with_literals_known, with_solver_name, with_known}
 use Rattle.sat_checker.specs.Accepts.{effect, IsStrictSubset}
 use Rattle.sat_checker.specs.Spent.{IsSpent}
-use Rattle.sat_checker.specs.inner.FormulaView.{KeepsFormula, refiled_in, FormulaEffectIf, KeepsOrSpends}
-use Rattle.sat_checker.specs.inner.StateView.{KeepsStored, with_added_clause}
+use Rattle.sat_checker.specs.inner.FormulaView.{RepresentsFormula, refiled_in, FormulaEffectIf, KeepsOrSpends}
+use Rattle.sat_checker.specs.inner.StateView.{RepresentsStored, with_added_clause}
 use Rattle.sat_checker.specs.inner.VariablesView.{KeepsVariables, AreSampling}
 use Rattle.sat_checker.specs.declared.store.StoreError.{StoreError}
 use Rattle.sat_checker.specs.declared.store.StoreError.TheVariants.{OutOfMemory, CounterEnd}
@@ -39,28 +39,28 @@ turns_then (Err OutOfMemory) K L g f k = tt
 turns_then (Err CounterEnd) K L g f k = k
 
 -- a clause that was derived
-pub derived : (new : State) (f : Stored) (r : Bool) (c : List ℕ) → KeepsFormula new.formula (with_stored r c (with_literals_known c f)) → KeepsVariables new.variables (with_literals_known c f).variables → new.assumed ≡ canonical f.assumed
-    → KeepsStored new (with_stored r c (with_literals_known c f))
+pub derived : (new : State) (f : Stored) (r : Bool) (c : List ℕ) → RepresentsFormula new.formula (with_stored r c (with_literals_known c f)) → KeepsVariables new.variables (with_literals_known c f).variables → new.assumed ≡ canonical f.assumed
+    → RepresentsStored new (with_stored r c (with_literals_known c f))
 derived new f r c F V a = let s = stored_same r c (with_literals_known c f) in record { formula = loosened new.formula (with_stored r c (with_literals_known c f)) F; variables = subst (KeepsVariables new.variables) (sym s.variables) V; assumed = a ∙ ap canonical (sym s.assumed) }
 
 -- a clause of the formula
-pub input_kept : (new : State) (f : Stored) (c : List ℕ) → KeepsFormula new.formula (with_input c (with_literals_known c f)) → KeepsVariables new.variables (with_literals_known c f).variables → new.assumed ≡ canonical f.assumed → KeepsStored new (with_added_clause c f)
+pub input_kept : (new : State) (f : Stored) (c : List ℕ) → RepresentsFormula new.formula (with_input c (with_literals_known c f)) → KeepsVariables new.variables (with_literals_known c f).variables → new.assumed ≡ canonical f.assumed → RepresentsStored new (with_added_clause c f)
 input_kept new f c F V a =
     let s = stored_same false c (with_literals_known c f) in record { formula = loosened new.formula (with_input c (with_literals_known c f)) F; variables = subst (KeepsVariables new.variables) (sym s.variables) V; assumed = a ∙ ap canonical (sym s.assumed) }
 
-pub added : (new : State) (f : Stored) (c : List ℕ) → f.unsat ≡ false → KeepsStored new (with_added_clause c f) → KeepsStored new (effect (AddClause c) f)
-added new f c e k = subst (λ b. KeepsStored new (cond b f (with_added_clause c f))) (sym e) k
+pub added : (new : State) (f : Stored) (c : List ℕ) → f.unsat ≡ false → RepresentsStored new (with_added_clause c f) → RepresentsStored new (effect (AddClause c) f)
+added new f c e k = subst (λ b. RepresentsStored new (cond b f (with_added_clause c f))) (sym e) k
 
 pub added_spent : (f : Stored) (c : List ℕ) → f.unsat ≡ false → IsSpent (with_added_clause c f) → IsSpent (effect (AddClause c) f)
 added_spent f c e k = subst (λ b. IsSpent (cond b f (with_added_clause c f))) (sym e) k
 
 -- a solver name
-pub renamed : (new : State) (f : Stored) (v : ℕ) (name : Option ℕ) (n : ℕ) → name ≡ Some n → KeepsFormula (refiled_in new.formula) (with_solver_name v (Some n) f) → KeepsVariables new.variables (with_known (v ∷ []) f).variables → new.assumed ≡ canonical f.assumed
-    → KeepsStored new (effect (SolverVarName v name) f)
-renamed new f v name n e F V a = subst (λ o. KeepsStored new (effect (SolverVarName v o) f)) (sym e) (record { formula = F; variables = V; assumed = a })
+pub renamed : (new : State) (f : Stored) (v : ℕ) (name : Option ℕ) (n : ℕ) → name ≡ Some n → RepresentsFormula (refiled_in new.formula) (with_solver_name v (Some n) f) → KeepsVariables new.variables (with_known (v ∷ []) f).variables → new.assumed ≡ canonical f.assumed
+    → RepresentsStored new (effect (SolverVarName v name) f)
+renamed new f v name n e F V a = subst (λ o. RepresentsStored new (effect (SolverVarName v o) f)) (sym e) (record { formula = F; variables = V; assumed = a })
 
-pub unnamed : (new : State) (f : Stored) (v : ℕ) (name : Option ℕ) → name ≡ None → KeepsFormula (refiled_in new.formula) (with_solver_name v None f) → KeepsVariables new.variables f.variables → new.assumed ≡ canonical f.assumed → KeepsStored new (effect (SolverVarName v name) f)
-unnamed new f v name e F V a = subst (λ o. KeepsStored new (effect (SolverVarName v o) f)) (sym e) (record { formula = F; variables = V; assumed = a })
+pub unnamed : (new : State) (f : Stored) (v : ℕ) (name : Option ℕ) → name ≡ None → RepresentsFormula (refiled_in new.formula) (with_solver_name v None f) → KeepsVariables new.variables f.variables → new.assumed ≡ canonical f.assumed → RepresentsStored new (effect (SolverVarName v name) f)
+unnamed new f v name e F V a = subst (λ o. RepresentsStored new (effect (SolverVarName v o) f)) (sym e) (record { formula = F; variables = V; assumed = a })
 
 -- the last irredundant clause, beside a clause or its sorted literals
 pub strict_on : (o : Option (List ℕ)) (c ls : List ℕ) → ls ≡ canonical c → IsStrictSubset o c → IsStrictSubset o ls
@@ -82,15 +82,15 @@ deletion_same f c Redundant = record { variables = refl; deleted = refl; assumed
 deletion_same f c Satisfied = record { variables = refl; deleted = refl; assumed = refl }
 deletion_same f c Simplified = record { variables = refl; deleted = refl; assumed = refl }
 
-pub deleted_kept : (old new : State) (f : Stored) (c : List ℕ) (p : Deletion) → KeepsStored old f → KeepsFormula new.formula (effect (DeleteClause c p) f) → new.variables ≡ old.variables → new.assumed ≡ old.assumed → KeepsStored new (effect (DeleteClause c p) f)
+pub deleted_kept : (old new : State) (f : Stored) (c : List ℕ) (p : Deletion) → RepresentsStored old f → RepresentsFormula new.formula (effect (DeleteClause c p) f) → new.variables ≡ old.variables → new.assumed ≡ old.assumed → RepresentsStored new (effect (DeleteClause c p) f)
 deleted_kept old new f c p k F v a = let s = deletion_same f c p in record {
   formula = loosened new.formula (effect (DeleteClause c p) f) F;
   variables = subst (λ vs. KeepsVariables vs (effect (DeleteClause c p) f).variables) (sym v) (subst (KeepsVariables old.variables) (sym s.variables) k.variables);
   assumed = a ∙ k.assumed ∙ ap canonical (sym s.assumed);
 }
 
--- what a step answers behind a settled conflict
-pub settled_kept : (old new : State) (f : Stored) → KeepsStored old f → KeepsFormula (refiled_in new.formula) (settled f) → new.variables ≡ old.variables → new.assumed ≡ old.assumed → KeepsStored new (settled f)
+-- what a step answers after a settled conflict
+pub settled_kept : (old new : State) (f : Stored) → RepresentsStored old f → RepresentsFormula (refiled_in new.formula) (settled f) → new.variables ≡ old.variables → new.assumed ≡ old.assumed → RepresentsStored new (settled f)
 settled_kept old new f k F v a = let s = settled_same f in record {
   formula = F;
   variables = subst (λ vs. KeepsVariables vs (settled f).variables) (sym v) (subst (KeepsVariables old.variables) (sym s.variables) k.variables);

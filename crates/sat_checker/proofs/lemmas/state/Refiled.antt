@@ -1,7 +1,7 @@
 -- What is kept while clauses wait to be filed by other hashes.
 use Rattle.std.proofs.Common.{ℕ, ◌≡◌, ◌∙◌, List, sym, subst}
 use Rattle.sat_checker.specs.Stored.{Stored, StoredUnit}
-use Rattle.sat_checker.specs.inner.FormulaView.{AreNumbered, KeepsFormula, refiled_in}
+use Rattle.sat_checker.specs.inner.FormulaView.{AreNumbered, RepresentsFormula, refiled_in}
 use Rattle.sat_checker.specs.inner.SlotView.{slot_ids}
 use Rattle.sat_checker.specs.inner.StoreView.{refiled}
 use Rattle.sat_checker.specs.declared.formula.Formula.{Formula}
@@ -14,7 +14,7 @@ pub numbered_by : (old new : Store) (units : List StoredUnit) (last : LastClause
 numbered_by old new units last next_id e n = subst (λ ids. AreNumbered ids units last next_id) (refiled_ids old ∙ sym e ∙ sym (refiled_ids new)) n
 
 -- what is kept where all are filed
-pub loosened : (F : Formula) (f : Stored) → KeepsFormula F f → KeepsFormula (refiled_in F) f
+pub loosened : (F : Formula) (f : Stored) → RepresentsFormula F f → RepresentsFormula (refiled_in F) f
 loosened F f k = record {
   clauses = refiled_kept F.store f k.clauses;
   units = k.units;
@@ -25,5 +25,5 @@ loosened F f k = record {
 }
 
 -- and once they are
-pub filed_now : (F : Formula) (store : Store) → store ≡ refiled F.store → (f : Stored) → KeepsFormula (refiled_in F) f → KeepsFormula (record F { store = store }) f
-filed_now F store e f k = subst (λ s. KeepsFormula (record F { store = s }) f) (sym e) k
+pub filed_now : (F : Formula) (store : Store) → store ≡ refiled F.store → (f : Stored) → RepresentsFormula (refiled_in F) f → RepresentsFormula (record F { store = store }) f
+filed_now F store e f k = subst (λ s. RepresentsFormula (record F { store = s }) f) (sym e) k

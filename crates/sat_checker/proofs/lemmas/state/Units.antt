@@ -10,9 +10,9 @@ use Rattle.sat_checker.specs.Spent.{IsSpent}
 use Rattle.sat_checker.specs.Stored.{Stored, is_unit}
 use Rattle.sat_checker.specs.Storing.{with_unit, with_contradiction, with_new_unit, with_units, with_known, with_literals_known}
 use Rattle.sat_checker.specs.Accepts.{PassesByHashes, PassInTurn, effect}
-use Rattle.sat_checker.specs.inner.FormulaView.{KeepsFormula, FormulaEffectIf}
-use Rattle.sat_checker.specs.inner.InTurn.{PassBehind}
-use Rattle.sat_checker.specs.inner.StateView.{KeepsStored}
+use Rattle.sat_checker.specs.inner.FormulaView.{RepresentsFormula, FormulaEffectIf}
+use Rattle.sat_checker.specs.inner.InTurn.{PassAfter}
+use Rattle.sat_checker.specs.inner.StateView.{RepresentsStored}
 use Rattle.sat_checker.specs.inner.VariablesView.{KeepsVariables}
 use Rattle.sat_checker.specs.declared.store.StoreError.{StoreError}
 use Rattle.sat_checker.specs.declared.store.StoreError.TheVariants.{OutOfMemory, CounterEnd}
@@ -27,7 +27,7 @@ firsts us = map (λ u. u.0) us
 -- Some units were checked and stored, and these are left.
 pub record Left (F : Formula) (f : Stored) (all left : List (ℕ × ℕ)) : Type 0 where
   pub now : Stored
-  pub kept : KeepsFormula F now
+  pub kept : RepresentsFormula F now
   pub on : PassInTurn now left → PassInTurn f all
   pub back : PassInTurn f all → PassInTurn now left
   pub same : with_units (firsts left) now ≡ with_units (firsts all) f
@@ -61,7 +61,7 @@ module _ (F : Formula) (f : Stored) (all : List (ℕ × ℕ)) (i : ℕ) (u : ℕ
   split : drop i all ≡ u ∷ drop (i + 1) all
   split = drop_more all i u inside ∙ ap (λ x. x ∷ drop (i + 1) all) (sym is)
 
-  pub passed : (G : Formula) → PassesByHashes left.now (u.0 ∷ []) (u.1 ∷ []) → KeepsFormula G (with_unit u.0 left.now) → Left G f all (drop (i + 1) all)
+  pub passed : (G : Formula) → PassesByHashes left.now (u.0 ∷ []) (u.1 ∷ []) → RepresentsFormula G (with_unit u.0 left.now) → Left G f all (drop (i + 1) all)
   passed G p k = record {
     now = with_unit u.0 left.now;
     kept = k;
@@ -71,11 +71,11 @@ module _ (F : Formula) (f : Stored) (all : List (ℕ × ℕ)) (i : ℕ) (u : ℕ
     count = count_unit u.0 left.now ∙ left.count;
   }
 
-  pub accepted_behind : PassesByHashes left.now (u.0 ∷ []) (u.1 ∷ []) → PassBehind left.now (drop i all) → PassInTurn f all
-  accepted_behind p q = left.on (subst (PassInTurn left.now) (sym split) (p, subst (PassBehind left.now) split q))
+  pub accepted_after : PassesByHashes left.now (u.0 ∷ []) (u.1 ∷ []) → PassAfter left.now (drop i all) → PassInTurn f all
+  accepted_after p q = left.on (subst (PassInTurn left.now) (sym split) (p, subst (PassAfter left.now) split q))
 
-  pub back_behind : PassInTurn f all → PassBehind left.now (drop i all)
-  back_behind q = subst (PassBehind left.now) (sym split) (subst (PassInTurn left.now) split (left.back q)).1
+  pub back_after : PassInTurn f all → PassAfter left.now (drop i all)
+  back_after q = subst (PassAfter left.now) (sym split) (subst (PassInTurn left.now) split (left.back q)).1
 
   pub stopped : (PassesByHashes left.now (u.0 ∷ []) (u.1 ∷ []) → ⊥) → PassInTurn f all → ⊥
   stopped n q = n (subst (PassInTurn left.now) split (left.back q)).0
@@ -84,8 +84,8 @@ module _ (F : Formula) (f : Stored) (all : List (ℕ × ℕ)) (i : ℕ) (u : ℕ
   spent_then s = subst IsSpent (ap (λ us. with_units (firsts us) left.now) (sym split) ∙ left.same) (spent_units (firsts (drop (i + 1) all)) (with_unit u.0 left.now) s)
 
 -- none is left
-pub finished : (F : Formula) (f : Stored) (all : List (ℕ × ℕ)) (i : ℕ) → length all ≤ i → Left F f all (drop i all) → PassInTurn f all × KeepsFormula F (with_units (firsts all) f)
-finished F f all i l left = let e = past all i l in (left.on (subst (PassInTurn left.now) (sym e) tt), subst (KeepsFormula F) (ap (λ us. with_units (firsts us) left.now) (sym e) ∙ left.same) left.kept)
+pub finished : (F : Formula) (f : Stored) (all : List (ℕ × ℕ)) (i : ℕ) → length all ≤ i → Left F f all (drop i all) → PassInTurn f all × RepresentsFormula F (with_units (firsts all) f)
+finished F f all i l left = let e = past all i l in (left.on (subst (PassInTurn left.now) (sym e) tt), subst (RepresentsFormula F) (ap (λ us. with_units (firsts us) left.now) (sym e) ∙ left.same) left.kept)
   where
     past : (xs : List (ℕ × ℕ)) (i : ℕ) → length xs ≤ i → drop i xs ≡ []
     past [] zero l = refl
@@ -93,7 +93,7 @@ finished F f all i l left = let e = past all i l in (left.on (subst (PassInTurn 
     past (x ∷ xs) zero l = absurd (omega arith)
     past (x ∷ xs) (suc i) l = past xs i (omega arith)
 
--- A fault was met at one of them, which passes: those behind it pass too, or the units are refused.
+-- A fault was met at one of them, which passes: those after it pass too, or the units are refused.
 pub failed : (r : Result Bool StoreError) (fault : StoreError) (A B P K L : Type 0) (g h : Stored) → FormulaEffectIf (Err fault) A K g → (IsSpent g → IsSpent h) → (A → P → B) → (B → P)
     → MatchResult r (λ passes. (passes ≡ false) × (P → ⊥)) (λ e. (e ≡ fault) × P) → FormulaEffectIf r B L h
 failed (Ok true) fault A B P K L g h t spent on back m = absurd (let e : true ≡ false = m.0 in cc)
@@ -117,10 +117,10 @@ pub known_units : (vs ls : List ℕ) (f : Stored) → with_units ls (with_known 
 known_units vs [] f = refl
 known_units vs (l ∷ ls) f = ap (with_units ls) (known_unit vs l f) ∙ known_units vs ls (with_unit l f)
 
-pub units_stored : (new : State) (f : Stored) (us : List (ℕ × ℕ)) → KeepsFormula new.formula (with_units (firsts us) f) → KeepsVariables new.variables (with_literals_known (firsts us) f).variables → new.assumed ≡ canonical f.assumed → KeepsStored new (effect (UnitClauses us) f)
+pub units_stored : (new : State) (f : Stored) (us : List (ℕ × ℕ)) → RepresentsFormula new.formula (with_units (firsts us) f) → KeepsVariables new.variables (with_literals_known (firsts us) f).variables → new.assumed ≡ canonical f.assumed → RepresentsStored new (effect (UnitClauses us) f)
 units_stored new f us F V a =
     let s = units_same (firsts us) f in
-    subst (KeepsStored new) (sym (known_units (map variable (firsts us)) (firsts us) f)) (record {
+    subst (RepresentsStored new) (sym (known_units (map variable (firsts us)) (firsts us) f)) (record {
       formula = loosened new.formula (with_units (firsts us) f) F;
       variables = subst (λ g. KeepsVariables new.variables (with_literals_known (firsts us) (record f { variables = g })).variables) (sym s.variables) V;
       assumed = a ∙ ap canonical (sym s.assumed);

@@ -13,13 +13,13 @@ use Rattle.sat_checker.proofs.lemmas.store.Places.{gone_more, gone_not}
 
 module _ (l : ℕ) where
   -- how often the literal stands in a slot's clause, if it isn't gone
-  abbrev pub times_at : Slot → ℕ
-  times_at s = cond (is_gone s) 0 (times_in l s.clause.literals)
+  abbrev pub occurrences_of : Slot → ℕ
+  occurrences_of s = cond (is_gone s) 0 (times_in l s.clause.literals)
 
   -- one slot more at the end
-  times_push : (ss : List Slot) (s : Slot) → times_stored l (ss ++ s ∷ []) ≡ times_stored l ss + times_at s
+  times_push : (ss : List Slot) (s : Slot) → times_stored l (ss ++ s ∷ []) ≡ times_stored l ss + occurrences_of s
   times_push [] s = omega arith
-  times_push (t ∷ ss) s = let ih : times_stored l (ss ++ s ∷ []) ≡ times_stored l ss + times_at s = times_push ss s in omega (arith, ih)
+  times_push (t ∷ ss) s = let ih : times_stored l (ss ++ s ∷ []) ≡ times_stored l ss + occurrences_of s = times_push ss s in omega (arith, ih)
 
   -- and one that is stored once
   pub times_more : (redundant : Bool) (id hash : ℕ) (literals : List ℕ) (ss : List Slot) → times_stored l (ss ++ stored_slot redundant id hash literals ∷ []) ≡ times_stored l ss + times_in l literals
@@ -27,12 +27,12 @@ module _ (l : ℕ) where
   times_more false id hash literals ss = times_push ss (stored_slot false id hash literals)
 
   -- a slot that is set
-  times_set : (ss : List Slot) (i : ℕ) (t : Slot) → i < length ss → times_stored l (slice_set ss i t) + times_at (slot_at ss i) ≡ times_stored l ss + times_at t
+  times_set : (ss : List Slot) (i : ℕ) (t : Slot) → i < length ss → times_stored l (slice_set ss i t) + occurrences_of (slot_at ss i) ≡ times_stored l ss + occurrences_of t
   times_set [] i t k = absurd (omega arith)
   times_set (s ∷ ss) zero t k = omega arith
-  times_set (s ∷ ss) (suc i) t k = let ih : times_stored l (slice_set ss i t) + times_at (slot_at ss i) ≡ times_stored l ss + times_at t = times_set ss i t (omega arith) in omega (arith, ih)
+  times_set (s ∷ ss) (suc i) t k = let ih : times_stored l (slice_set ss i t) + occurrences_of (slot_at ss i) ≡ times_stored l ss + occurrences_of t = times_set ss i t (omega arith) in omega (arith, ih)
 
-  at_state : (s : Slot) (b : Bool) → is_gone s ≡ b → times_at s ≡ cond b 0 (times_in l s.clause.literals)
+  at_state : (s : Slot) (b : Bool) → is_gone s ≡ b → occurrences_of s ≡ cond b 0 (times_in l s.clause.literals)
   at_state s b e = ap (λ g. cond g 0 (times_in l s.clause.literals)) e
 
   counted_literals : (r : Bool) (c : StoredClause) → times_in l (with_count r c).literals ≡ times_in l c.literals
@@ -49,9 +49,9 @@ module _ (l : ℕ) where
       let c : StoredClause = (slot_at ss i).clause in
       let h : ℕ = (slot_at ss i).hash in
       let t : Slot = record { clause = with_count r c; hash = h } in
-      let e : times_stored l (slice_set ss i t) + times_at (slot_at ss i) ≡ times_stored l ss + times_at t = times_set ss i t k in
-      let a : times_at (slot_at ss i) ≡ times_in l c.literals = at_state (slot_at ss i) false g in
-      let b : times_at t ≡ times_in l c.literals = at_state t false (gone_more c h r) ∙ counted_literals r c in
+      let e : times_stored l (slice_set ss i t) + occurrences_of (slot_at ss i) ≡ times_stored l ss + occurrences_of t = times_set ss i t k in
+      let a : occurrences_of (slot_at ss i) ≡ times_in l c.literals = at_state (slot_at ss i) false g in
+      let b : occurrences_of t ≡ times_in l c.literals = at_state t false (gone_more c h r) ∙ counted_literals r c in
       omega (arith, e, a, b)
 
   -- a count less of one that stays, and of one that is gone then
@@ -59,19 +59,19 @@ module _ (l : ℕ) where
     abbrev left : Slot
     left = record { clause = without_count r (slot_at ss i).clause; hash = (slot_at ss i).hash }
 
-    was : times_at (slot_at ss i) ≡ times_in l (literals_at ss i)
+    was : occurrences_of (slot_at ss i) ≡ times_in l (literals_at ss i)
     was = at_state (slot_at ss i) false (gone_not (slot_at ss i) r g)
 
     pub times_left : is_gone (record { clause = without_count r (slot_at ss i).clause; hash = (slot_at ss i).hash }) ≡ false → times_stored l (without_count_at r i ss) ≡ times_stored l ss
     times_left h =
-        let e : times_stored l (without_count_at r i ss) + times_at (slot_at ss i) ≡ times_stored l ss + times_at left = times_set ss i left k in
-        let b : times_at left ≡ times_in l (literals_at ss i) = at_state left false h ∙ left_literals r (slot_at ss i).clause in
+        let e : times_stored l (without_count_at r i ss) + occurrences_of (slot_at ss i) ≡ times_stored l ss + occurrences_of left = times_set ss i left k in
+        let b : occurrences_of left ≡ times_in l (literals_at ss i) = at_state left false h ∙ left_literals r (slot_at ss i).clause in
         omega (arith, e, was, b)
 
     pub times_gone : is_gone (record { clause = without_count r (slot_at ss i).clause; hash = (slot_at ss i).hash }) ≡ true → times_stored l (without_count_at r i ss) + times_in l (literals_at ss i) ≡ times_stored l ss
     times_gone h =
-        let e : times_stored l (without_count_at r i ss) + times_at (slot_at ss i) ≡ times_stored l ss + times_at left = times_set ss i left k in
-        let b : times_at left ≡ 0 = at_state left true h in
+        let e : times_stored l (without_count_at r i ss) + occurrences_of (slot_at ss i) ≡ times_stored l ss + occurrences_of left = times_set ss i left k in
+        let b : occurrences_of left ≡ 0 = at_state left true h in
         omega (arith, e, was, b)
 
   -- filed anew
@@ -79,9 +79,9 @@ module _ (l : ℕ) where
   times_hashed names width [] = refl
   times_hashed names width (s ∷ ss) = go (is_gone s) refl (times_hashed names width ss)
     where
-      go : (b : Bool) → is_gone s ≡ b → times_stored l (all_hashed_by names width ss) ≡ times_stored l ss → times_at (cond b s (record s { hash = hash_by names width s.clause.literals })) + times_stored l (all_hashed_by names width ss) ≡ times_at s + times_stored l ss
-      go true e ih = ap (λ n. times_at s + n) ih
-      go false e ih = ap (λ n. times_at s + n) ih
+      go : (b : Bool) → is_gone s ≡ b → times_stored l (all_hashed_by names width ss) ≡ times_stored l ss → occurrences_of (cond b s (record s { hash = hash_by names width s.clause.literals })) + times_stored l (all_hashed_by names width ss) ≡ occurrences_of s + times_stored l ss
+      go true e ih = ap (λ n. occurrences_of s + n) ih
+      go false e ih = ap (λ n. occurrences_of s + n) ih
 
   -- a literal stands once at most in a sorted clause, and so no more often than there are clauses
   times_beyond : (ls : List ℕ) → is_among ls l ≡ false → times_in l ls ≡ 0

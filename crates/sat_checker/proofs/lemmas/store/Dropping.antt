@@ -12,7 +12,7 @@ use Rattle.sat_checker.specs.inner.IndexView.{IndexesSlots, pairs_from}
 use Rattle.sat_checker.specs.inner.PairView.{Indexed, inserted, inserted_all, places_in, mixed}
 use Rattle.sat_checker.specs.inner.OccurrenceView.{times_in, times_stored, SlotsInvariant}
 use Rattle.sat_checker.specs.inner.SlotView.{Slot, unstored, slot_at, stored_slot, is_gone, is_filed, places_from, gone_count, slots_present, MayDrop, live, slot_ids, slot_count, with_count_at, without_count_at, all_hashed_by}
-use Rattle.sat_checker.specs.inner.StoreView.{AreHashed, KeepsClauses, AreIdsInOrder, KeepsIds}
+use Rattle.sat_checker.specs.inner.StoreView.{AreHashed, RepresentsClauses, AreIdsInOrder, KeepsIds}
 use Rattle.sat_checker.specs.declared.hash.ClauseHasher.{ClauseHasher}
 use Rattle.sat_checker.specs.declared.store.occurrences.Occurrences.{Occurrences}
 use Rattle.sat_checker.specs.declared.store.Store.{Store}
@@ -156,7 +156,7 @@ kept_standing ss new index next o k e f = record {
 }
 
 -- what the store keeps of the definition's state
-pub keeps_dropped : (store : Store) (new : List Slot) (f : Stored) → MayDrop store.clauses new → KeepsClauses store f → KeepsClauses (record store { clauses = new }) f
+pub keeps_dropped : (store : Store) (new : List Slot) (f : Stored) → MayDrop store.clauses new → RepresentsClauses store f → RepresentsClauses (record store { clauses = new }) f
 keeps_dropped store new f (inl e) k = record {
   clauses = ap live e ∙ k.clauses;
   hashed = subst (AreHashed store.hasher) (sym e) k.hashed;

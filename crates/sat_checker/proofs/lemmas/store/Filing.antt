@@ -7,7 +7,7 @@ use Rattle.std.specs.Option.{IfSome}
 use Rattle.sat_checker.specs.LiteralSets.{is_among}
 use Rattle.sat_checker.specs.inner.Marks.{IsIncreasing}
 use Rattle.sat_checker.specs.inner.IndexView.{without_place, pairs_from, pairs_of, IndexesSlots}
-use Rattle.sat_checker.specs.inner.PairView.{Indexed, AreInOrder, is_before, inserted, inserted_all, without_pair, places_in, first_of, places_behind, from_on, mixed}
+use Rattle.sat_checker.specs.inner.PairView.{Indexed, AreInOrder, is_before, inserted, inserted_all, without_pair, places_in, first_of, places_after, from_on, mixed}
 use Rattle.sat_checker.specs.inner.SlotView.{Slot, is_gone, is_filed, places_from, places_of}
 use Rattle.sat_checker.specs.declared.store.links.Pair.{Pair}
 use Rattle.sat_checker.proofs.lemmas.pairs.Order.{all_inserted, all_weaker, is-before, order_inserted}
@@ -147,9 +147,9 @@ module _ (x : ℕ) where
   at_most : (y : ℕ) → x < y → leb x y ≡ true
   at_most y l = grind (arith, nat_tests)
 
-  pub whole_behind : (ys : List ℕ) → AllByRecursion (λ y. x < y) ys → places_behind x ys ≡ ys
-  whole_behind [] h = refl
-  whole_behind (y ∷ ys) h = ap (λ b. cond b (y ∷ places_behind x ys) (places_behind x ys)) (less y h.0) ∙ ap (λ zs. y ∷ zs) (whole_behind ys h.1)
+  pub whole_after : (ys : List ℕ) → AllByRecursion (λ y. x < y) ys → places_after x ys ≡ ys
+  whole_after [] h = refl
+  whole_after (y ∷ ys) h = ap (λ b. cond b (y ∷ places_after x ys) (places_after x ys)) (less y h.0) ∙ ap (λ zs. y ∷ zs) (whole_after ys h.1)
 
   pub whole_on : (ys : List ℕ) → AllByRecursion (λ y. x < y) ys → from_on (Some x) ys ≡ ys
   whole_on [] h = refl
@@ -164,8 +164,8 @@ not_itself x = grind (arith, nat_tests)
 passed_on : (x y : ℕ) → y < x → leb x y ≡ false
 passed_on x y l = grind (arith, nat_tests)
 
-passed_behind : (x y : ℕ) → y < x → ltb x y ≡ false
-passed_behind x y l = grind (arith, nat_tests)
+passed_after : (x y : ℕ) → y < x → ltb x y ≡ false
+passed_after x y l = grind (arith, nat_tests)
 
 pub from_first : (ps : List ℕ) → IsIncreasing ps → (o : Option ℕ) → o ≡ first_of ps → from_on o ps ≡ ps
 from_first ps i o e = ap (λ x. from_on x ps) e ∙ go ps i
@@ -182,40 +182,40 @@ member_above x y (z ∷ zs) k e = pick (eqb z x) refl e (λ k'. member_above x y
     pick true d e' ih = subst (λ w. y < w) (eqb-true z x d) k.0
     pick false d e' ih = ih e'
 
--- the first of those behind a place, and the first of all, are among them
+-- the first of those after a place, and the first of all, are among them
 pub first_among : (ps : List ℕ) (p : ℕ) → Some p ≡ first_of ps → is_among ps p ≡ true
 first_among [] p e = absurd cc
 first_among (q ∷ qs) p e = let s : p ≡ q = cc in ap (λ b. b || is_among qs p) (eq-eqb q p (sym s))
 
-pub behind_among : (x : ℕ) (ps : List ℕ) (p : ℕ) → is_among (places_behind x ps) p ≡ true → is_among ps p ≡ true
-behind_among x [] p e = e
-behind_among x (q ∷ qs) p e = go (ltb x q) e (λ k. behind_among x qs p k)
+pub after_among : (x : ℕ) (ps : List ℕ) (p : ℕ) → is_among (places_after x ps) p ≡ true → is_among ps p ≡ true
+after_among x [] p e = e
+after_among x (q ∷ qs) p e = go (ltb x q) e (λ k. after_among x qs p k)
   where
     or_true : (b : Bool) → (b || true) ≡ true
     or_true true = refl
     or_true false = refl
 
-    here : (b : Bool) → (b || is_among (places_behind x qs) p) ≡ true → (is_among (places_behind x qs) p ≡ true → is_among qs p ≡ true) → (b || is_among qs p) ≡ true
+    here : (b : Bool) → (b || is_among (places_after x qs) p) ≡ true → (is_among (places_after x qs) p ≡ true → is_among qs p ≡ true) → (b || is_among qs p) ≡ true
     here true k ih = refl
     here false k ih = ih k
 
-    go : (d : Bool) → is_among (cond d (q ∷ places_behind x qs) (places_behind x qs)) p ≡ true → (is_among (places_behind x qs) p ≡ true → is_among qs p ≡ true) → (eqb q p || is_among qs p) ≡ true
+    go : (d : Bool) → is_among (cond d (q ∷ places_after x qs) (places_after x qs)) p ≡ true → (is_among (places_after x qs) p ≡ true → is_among qs p ≡ true) → (eqb q p || is_among qs p) ≡ true
     go true k ih = here (eqb q p) k ih
     go false k ih = ap (λ b. eqb q p || b) (ih k) ∙ or_true (eqb q p)
 
-pub next_among : (x : ℕ) (ps : List ℕ) (o : Option ℕ) → o ≡ first_of (places_behind x ps) → IfSome o (λ p. is_among ps p ≡ true)
+pub next_among : (x : ℕ) (ps : List ℕ) (o : Option ℕ) → o ≡ first_of (places_after x ps) → IfSome o (λ p. is_among ps p ≡ true)
 next_among x ps None e = tt
-next_among x ps (Some p) e = behind_among x ps p (first_among (places_behind x ps) p e)
+next_among x ps (Some p) e = after_among x ps p (first_among (places_after x ps) p e)
 
--- the first of those behind x is above x
-first_above : (x : ℕ) (ps : List ℕ) (p : ℕ) → Some p ≡ first_of (places_behind x ps) → x < p
+-- the first of those after x is above x
+first_above : (x : ℕ) (ps : List ℕ) (p : ℕ) → Some p ≡ first_of (places_after x ps) → x < p
 first_above x [] p e = absurd cc
 first_above x (q ∷ qs) p e = go (ltb x q) refl e (λ k. first_above x qs p k)
   where
     above : (y : ℕ) → ltb x y ≡ true → x < y
     above y k = grind (arith, nat_tests)
 
-    go : (b : Bool) → ltb x q ≡ b → Some p ≡ first_of (cond b (q ∷ places_behind x qs) (places_behind x qs)) → (Some p ≡ first_of (places_behind x qs) → x < p) → x < p
+    go : (b : Bool) → ltb x q ≡ b → Some p ≡ first_of (cond b (q ∷ places_after x qs) (places_after x qs)) → (Some p ≡ first_of (places_after x qs) → x < p) → x < p
     go true b k ih = let s : p ≡ q = cc in subst (λ y. x < y) (sym s) (above q b)
     go false b k ih = ih k
 
@@ -224,21 +224,21 @@ on_tail x xs None h = refl
 on_tail x xs (Some p) h = ap (λ b. cond b (x ∷ from_on (Some p) xs) (from_on (Some p) xs)) (passed_on p x (h p refl))
 
 -- those from a place on are that place and those from the next one on
-pub from_step : (ps : List ℕ) → IsIncreasing ps → (x : ℕ) → is_among ps x ≡ true → (o : Option ℕ) → o ≡ first_of (places_behind x ps) → from_on (Some x) ps ≡ x ∷ from_on o ps
+pub from_step : (ps : List ℕ) → IsIncreasing ps → (x : ℕ) → is_among ps x ≡ true → (o : Option ℕ) → o ≡ first_of (places_after x ps) → from_on (Some x) ps ≡ x ∷ from_on o ps
 from_step [] i x m o e = absurd (true≢false (sym m))
 from_step (p ∷ ps) i x m o e = go (eqb p x) refl m (λ k o' e'. from_step ps i.1 x k o' e')
   where
-    go : (b : Bool) → eqb p x ≡ b → (b || is_among ps x) ≡ true → (is_among ps x ≡ true → (o' : Option ℕ) → o' ≡ first_of (places_behind x ps) → from_on (Some x) ps ≡ x ∷ from_on o' ps) → from_on (Some x) (p ∷ ps) ≡ x ∷ from_on o (p ∷ ps)
+    go : (b : Bool) → eqb p x ≡ b → (b || is_among ps x) ≡ true → (is_among ps x ≡ true → (o' : Option ℕ) → o' ≡ first_of (places_after x ps) → from_on (Some x) ps ≡ x ∷ from_on o' ps) → from_on (Some x) (p ∷ ps) ≡ x ∷ from_on o (p ∷ ps)
     go true b k ih =
         let s : p ≡ x = eqb-true p x b in
         let all : AllByRecursion (λ y. x < y) ps = subst (λ z. AllByRecursion (λ y. z < y) ps) s i.0 in
-        let rest : places_behind x (p ∷ ps) ≡ ps = ap (λ z. cond (ltb x z) (z ∷ places_behind x ps) (places_behind x ps)) s ∙ ap (λ d. cond d (x ∷ places_behind x ps) (places_behind x ps)) (not_itself x) ∙ whole_behind x ps all in
+        let rest : places_after x (p ∷ ps) ≡ ps = ap (λ z. cond (ltb x z) (z ∷ places_after x ps) (places_after x ps)) s ∙ ap (λ d. cond d (x ∷ places_after x ps) (places_after x ps)) (not_itself x) ∙ whole_after x ps all in
         let next : o ≡ first_of ps = e ∙ ap first_of rest in
         let left : from_on o (p ∷ ps) ≡ ps = on_tail p ps o (λ q z. subst (λ y. y < q) (sym s) (first_above x (p ∷ ps) q (sym z ∙ e))) ∙ from_first ps i.1 o next in
         ap (λ z. cond (leb x z) (z ∷ from_on (Some x) ps) (from_on (Some x) ps)) s ∙ ap (λ d. cond d (x ∷ from_on (Some x) ps) (from_on (Some x) ps)) (itself x) ∙ ap (λ zs. x ∷ zs) (whole_on x ps all) ∙ ap (λ zs. x ∷ zs) (sym left)
     go false b k ih =
         let l : p < x = member_above x p ps i.0 k in
-        let rest : places_behind x (p ∷ ps) ≡ places_behind x ps = ap (λ d. cond d (p ∷ places_behind x ps) (places_behind x ps)) (passed_behind x p l) in
+        let rest : places_after x (p ∷ ps) ≡ places_after x ps = ap (λ d. cond d (p ∷ places_after x ps) (places_after x ps)) (passed_after x p l) in
         ap (λ d. cond d (p ∷ from_on (Some x) ps) (from_on (Some x) ps)) (passed_on x p l) ∙ ih k o (e ∙ ap first_of rest)
         ∙ ap (λ zs. x ∷ zs) (sym (on_tail p ps o (λ q z. let j : x < q = first_above x (p ∷ ps) q (sym z ∙ e) in omega arith)))
 
@@ -246,7 +246,7 @@ pub first_ok : (ps : List ℕ) (o : Option ℕ) → o ≡ first_of ps → IfSome
 first_ok ps None e = tt
 first_ok ps (Some p) e = first_among ps p e
 
--- what is left from a place of the hash on is that place and what is left behind it
-pub left_step : (h : ℕ) (ss : List Slot) (now : Option ℕ) (x : ℕ) → now ≡ Some x → IfSome now (λ p. is_among (places_of h ss) p ≡ true) → (next : Option ℕ) → next ≡ first_of (places_behind x (places_of h ss))
+-- what is left from a place of the hash on is that place and what is left after it
+pub left_step : (h : ℕ) (ss : List Slot) (now : Option ℕ) (x : ℕ) → now ≡ Some x → IfSome now (λ p. is_among (places_of h ss) p ≡ true) → (next : Option ℕ) → next ≡ first_of (places_after x (places_of h ss))
     → from_on now (places_of h ss) ≡ x ∷ from_on next (places_of h ss)
 left_step h ss now x e m next n = ap (λ o. from_on o (places_of h ss)) e ∙ from_step (places_of h ss) (increasing_places 0 h ss) x (subst (λ o. IfSome o (λ p. is_among (places_of h ss) p ≡ true)) e m) next n

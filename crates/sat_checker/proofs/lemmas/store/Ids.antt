@@ -39,7 +39,7 @@ ids_hashed names width (s ∷ ss) = ap (λ x. x ∷ slot_ids (all_hashed_by name
     same true = refl
     same false = refl
 
--- a new one stands behind the others
+-- a new one stands after the others
 pub ids_pushed : (r : Bool) (n hash : ℕ) (ls : List ℕ) (ss : List Slot) → slot_ids (ss ++ stored_slot r n hash ls ∷ []) ≡ slot_ids ss ++ n ∷ []
 ids_pushed r n hash ls ss = map-append (λ (s : Slot). s.clause.id) ss (stored_slot r n hash ls ∷ []) ∙ ap (λ x. slot_ids ss ++ x ∷ []) (same r)
   where
@@ -55,7 +55,7 @@ slot_id_at (s ∷ ss) (suc i) l = slot_id_at ss i (omega arith)
 ids_length : (ss : List Slot) → length (slot_ids ss) ≡ length ss
 ids_length ss = length-map ss (λ (s : Slot). s.clause.id)
 
--- a clause is put behind the others, or counted once more
+-- a clause is put after the others, or counted once more
 pub placed_new : (old new : List Slot) (r : Bool) (id hash : ℕ) (ls : List ℕ) → new ≡ old ++ stored_slot r id hash ls ∷ [] → PlacesIds old new id true
 placed_new old new r id hash ls n = ap slot_ids n ∙ ids_pushed r id hash ls old
 

@@ -11,7 +11,7 @@ use Rattle.std.specs.Result.{OnErr}
 use Rattle.sat_checker.specs.inner.Reasons.{filed, named}
 use Rattle.sat_checker.specs.inner.AssumedRoom.{HasStoredRoom}
 use Rattle.sat_checker.specs.inner.SlotView.{Slot, is_gone, is_filed, all_lits, live, live_length, bucket_in, bucket_of}
-use Rattle.sat_checker.specs.inner.StoreView.{AreHashed, KeepsClauses}
+use Rattle.sat_checker.specs.inner.StoreView.{AreHashed, RepresentsClauses}
 use Rattle.sat_checker.specs.declared.store.Store.{Store}
 use Rattle.sat_checker.specs.declared.hash.ClauseHasher.{ClauseHasher}
 
@@ -44,10 +44,10 @@ bucket_live h f k (s ∷ ss) a n w = go (is_gone s) refl (bucket_live h f k ss a
         pick true ih = ap (λ ls. s.clause.literals ∷ ls) ih
         pick false ih = ih
 
-pub bucket_same : (store : Store) (f : Stored) → KeepsClauses store f → (k : ℕ) → bucket_of store.clauses k ≡ bucket f k
+pub bucket_same : (store : Store) (f : Stored) → RepresentsClauses store f → (k : ℕ) → bucket_of store.clauses k ≡ bucket f k
 bucket_same store f p k = bucket_live store.hasher f k store.clauses p.hashed p.names p.width ∙ ap (λ cs. filter (λ c. eqb (hash_by f.solver_names f.width c) k) (map (λ c. c.literals) cs)) p.clauses
 
-buckets_same : (store : Store) (f : Stored) → KeepsClauses store f → (hashes : List ℕ) → map (bucket_of store.clauses) hashes ≡ map (bucket f) hashes
+buckets_same : (store : Store) (f : Stored) → RepresentsClauses store f → (hashes : List ℕ) → map (bucket_of store.clauses) hashes ≡ map (bucket f) hashes
 buckets_same store f p [] = refl
 buckets_same store f p (k ∷ ks) = ap (λ b. b ∷ map (bucket_of store.clauses) ks) (bucket_same store f p k) ∙ ap (λ bs. bucket f k ∷ bs) (buckets_same store f p ks)
 
@@ -69,22 +69,22 @@ filed_live h f k (s ∷ ss) a n w = go (is_gone s) refl (filed_live h f k ss a.1
         pick true ih = ap (λ cs. s.clause ∷ cs) ih
         pick false ih = ih
 
-pub named_same : (store : Store) (f : Stored) → KeepsClauses store f → (hashes : List ℕ) → named hashes store.clauses ≡ clauses_named hashes f
+pub named_same : (store : Store) (f : Stored) → RepresentsClauses store f → (hashes : List ℕ) → named hashes store.clauses ≡ clauses_named hashes f
 named_same store f p [] = refl
 named_same store f p (k ∷ ks) =
     ap (λ cs. cs ++ named ks store.clauses) (filed_live store.hasher f k store.clauses p.hashed p.names p.width ∙ ap (filter (λ c. eqb (hash_by f.solver_names f.width c.literals) k)) p.clauses)
     ∙ ap (λ cs. filter (λ c. eqb (hash_by f.solver_names f.width c.literals) k) f.clauses ++ cs) (named_same store f p ks)
 
 -- there is room for the clauses that are kept
-room_kept : (store : Store) (room : List ℕ) (f : Stored) → KeepsClauses store f → HasStoredRoom room f.clauses → HasStoredRoom room (live store.clauses)
+room_kept : (store : Store) (room : List ℕ) (f : Stored) → RepresentsClauses store f → HasStoredRoom room f.clauses → HasStoredRoom room (live store.clauses)
 room_kept store room f k h = subst (HasStoredRoom room) (sym k.clauses) h
 
 pub checked : {E : Type 0} (r : Result Bool E) (store : Store) (room units clause hashes : List ℕ) → IfOk r (λ yes'. HasStoredRoom room (live store.clauses) → (yes' ≡ true) ↔ PassesCheck units clause (map (bucket_of store.clauses) hashes))
-    → IfOk r (λ yes'. (f : Stored) → KeepsClauses store f → HasStoredRoom room f.clauses → (yes' ≡ true) ↔ PassesCheck units clause (map (bucket f) hashes))
+    → IfOk r (λ yes'. (f : Stored) → RepresentsClauses store f → HasStoredRoom room f.clauses → (yes' ≡ true) ↔ PassesCheck units clause (map (bucket f) hashes))
 checked (Ok b) store room units clause hashes h = λ f k roomy. subst (λ bs. (b ≡ true) ↔ PassesCheck units clause bs) (buckets_same store f k hashes) (h (room_kept store room f k roomy))
 checked (Err e) store room units clause hashes h = tt
 
-pub short_checked : {E : Type 0} (r : Result Bool E) (store : Store) (room : List ℕ) → OnErr r (HasStoredRoom room (live store.clauses) → ⊥) → OnErr r ((f : Stored) → KeepsClauses store f → HasStoredRoom room f.clauses → ⊥)
+pub short_checked : {E : Type 0} (r : Result Bool E) (store : Store) (room : List ℕ) → OnErr r (HasStoredRoom room (live store.clauses) → ⊥) → OnErr r ((f : Stored) → RepresentsClauses store f → HasStoredRoom room f.clauses → ⊥)
 short_checked (Ok b) store room h = tt
 short_checked (Err e) store room h = λ f k roomy. h (room_kept store room f k roomy)
 
@@ -93,10 +93,10 @@ pub under_premise : {E : Type 0} (r : Result Bool E) (S A B : Type 0) → (IfOk 
 under_premise (Ok b) S A B law h = λ t s. law (λ t'. h t' s) t
 under_premise (Err e) S A B law h = tt
 
-pub length_same : (store : Store) (f : Stored) → KeepsClauses store f → live_length store.clauses ≡ literal_count f
+pub length_same : (store : Store) (f : Stored) → RepresentsClauses store f → live_length store.clauses ≡ literal_count f
 length_same store f k = ap (λ cs. total_length (map (λ c. c.literals) cs)) k.clauses
 
-pub looks_same : (store : Store) (old new n : ℕ) → new ≤ old + n * live_length store.clauses → (f : Stored) → KeepsClauses store f → new ≤ old + n * literal_count f
+pub looks_same : (store : Store) (old new n : ℕ) → new ≤ old + n * live_length store.clauses → (f : Stored) → RepresentsClauses store f → new ≤ old + n * literal_count f
 looks_same store old new n h f k = subst (λ m. new ≤ old + n * m) (length_same store f k) h
 
 pub ruleset checking = (checked, looks_same)

@@ -5,7 +5,7 @@ use Rattle.sat_checker.specs.Stored.{Stored, StoredClause, hash_by}
 use Rattle.sat_checker.specs.Storing.{clause_with}
 use Rattle.sat_checker.specs.HasherView.{solver_name_of, width_of}
 use Rattle.sat_checker.specs.inner.SlotView.{Slot, literals_at, slot_at, slot_count, places_of, found_among}
-use Rattle.sat_checker.specs.inner.StoreView.{KeepsClauses, found_in}
+use Rattle.sat_checker.specs.inner.StoreView.{RepresentsClauses, found_in}
 use Rattle.sat_checker.specs.declared.store.Store.{Store}
 use Rattle.sat_checker.proofs.lemmas.meaning.Clauses.{same}
 use Rattle.sat_checker.proofs.lemmas.store.Storing.{stands_found, stands_none}
@@ -28,7 +28,7 @@ literals_there ss literals p (q ∷ ps) e = go (literals_there ss literals p ps)
     go ih true n e = let r : p ≡ q = cc in sym (ap (literals_at ss) r ∙ same (literals_at ss q) literals n)
     go ih false n e = ih e
 
-module _ (store : Store) (f : Stored) (k : KeepsClauses store f) (literals : List ℕ) (hash : ℕ) (e : hash ≡ hash_by (solver_name_of store.hasher) (width_of store.hasher) literals) where
+module _ (store : Store) (f : Stored) (k : RepresentsClauses store f) (literals : List ℕ) (hash : ℕ) (e : hash ≡ hash_by (solver_name_of store.hasher) (width_of store.hasher) literals) where
   pub none_found : None ≡ found_among store.clauses literals (places_of hash store.clauses) → clause_with literals f.clauses ≡ None
   none_found found = ap (clause_with literals) (sym k.clauses) ∙ (stands_none store.hasher store.clauses literals hash k.hashed e found).none
 

@@ -43,7 +43,7 @@ pub get_last : (ss : List Slot) (s d : Slot) → get_or (ss ++ s ∷ []) (length
 get_last [] s d = refl
 get_last (x ∷ ss) s d = get_last ss s d
 
--- the clause that was put behind the others gets its count
+-- the clause that was put after the others gets its count
 pub counted_last : (redundant : Bool) (id hash : ℕ) (literals : List ℕ) (ss : List Slot) → with_count_at redundant (length ss) (ss ++ unstored id hash literals ∷ []) ≡ ss ++ stored_slot redundant id hash literals ∷ []
 counted_last redundant id hash literals ss =
     ap (λ (s : Slot). slice_set (ss ++ unstored id hash literals ∷ []) (length ss) (record s { clause = with_count redundant s.clause })) (get_last ss (unstored id hash literals) (unstored 0 0 []))

@@ -7,7 +7,7 @@ use Rattle.sat_checker.specs.Storing.{with_count, new_clause, with_stored_clause
 use Rattle.sat_checker.specs.HasherView.{solver_name_of, width_of}
 use Rattle.sat_checker.specs.inner.SlotView.{Slot, stored_slot, slot_at, slot_count, with_count_at, without_count_at, is_gone, live, live_length, bucket_in, places_from, places_of, is_same_at, found_among}
 use Rattle.sat_checker.specs.Looks.{total_length, literal_count}
-use Rattle.sat_checker.specs.inner.StoreView.{AreHashed, KeepsClauses, StoreEffect, store_count_in, id_in}
+use Rattle.sat_checker.specs.inner.StoreView.{AreHashed, RepresentsClauses, StoreEffect, store_count_in, id_in}
 use Rattle.sat_checker.specs.declared.store.Store.{Store}
 use Rattle.sat_checker.specs.declared.hash.ClauseHasher.{ClauseHasher}
 use Rattle.sat_checker.proofs.lemmas.meaning.Clauses.{same}
@@ -44,14 +44,14 @@ found_is h all (s ∷ ss) literals k hash at a e = go (is_gone s) refl (found_is
         by_hash false m false n = ih
 
 -- what is known of the place where a clause stands
-pub record StandsAt (ss : List Slot) (literals : List ℕ) (i : ℕ) : Type 0 where
+pub record IsStoredAt (ss : List Slot) (literals : List ℕ) (i : ℕ) : Type 0 where
   pub inside : i < length ss
   pub there : is_gone (slot_at ss i) ≡ false
   pub is : clause_with literals (live ss) ≡ Some (slot_at ss i).clause
   pub more : (r : Bool) (id : ℕ) → with_stored_clause r id literals (live ss) ≡ live (with_count_at r i ss)
   pub less : (r : Bool) → without_clause r literals (live ss) ≡ live (without_count_at r i ss)
 
-pub record StandsNowhere (ss : List Slot) (literals : List ℕ) : Type 0 where
+pub record IsStoredNowhere (ss : List Slot) (literals : List ℕ) : Type 0 where
   pub none : clause_with literals (live ss) ≡ None
   pub new : (r : Bool) (id hash : ℕ) → with_stored_clause r id literals (live ss) ≡ live (ss ++ stored_slot r id hash literals ∷ [])
 
@@ -61,7 +61,7 @@ not_gone c e = ap (λ b. cond b [] (c ∷ [])) e
 not_gone_more : (r : Bool) (c : StoredClause) → unless_gone (with_count r c) ≡ with_count r c ∷ []
 not_gone_more r c = not_gone (with_count r c) (gone_more c 0 r)
 
-stands_first : (s : Slot) (ss : List Slot) (literals : List ℕ) → is_gone s ≡ false → same_literals s.clause.literals literals ≡ true → StandsAt (s ∷ ss) literals 0
+stands_first : (s : Slot) (ss : List Slot) (literals : List ℕ) → is_gone s ≡ false → same_literals s.clause.literals literals ≡ true → IsStoredAt (s ∷ ss) literals 0
 stands_first s ss literals g e = record {
   inside = omega arith;
   there = g;
@@ -73,10 +73,10 @@ stands_first s ss literals g e = record {
       ap (λ cs. without_clause r literals (cs ++ live ss)) (not_gone s.clause g) ∙ ap (λ b. cond b (unless_gone (without_count r s.clause) ++ live ss) (s.clause ∷ without_clause r literals (live ss))) e;
 }
 
-stands_behind : (s : Slot) (ss : List Slot) (literals : List ℕ) (i : ℕ) → (not (is_gone s) && same_literals s.clause.literals literals) ≡ false → StandsAt ss literals i → StandsAt (s ∷ ss) literals (suc i)
-stands_behind s ss literals i n k = go (is_gone s) refl n
+stands_after : (s : Slot) (ss : List Slot) (literals : List ℕ) (i : ℕ) → (not (is_gone s) && same_literals s.clause.literals literals) ≡ false → IsStoredAt ss literals i → IsStoredAt (s ∷ ss) literals (suc i)
+stands_after s ss literals i n k = go (is_gone s) refl n
   where
-    go : (g : Bool) → is_gone s ≡ g → (not g && same_literals s.clause.literals literals) ≡ false → StandsAt (s ∷ ss) literals (suc i)
+    go : (g : Bool) → is_gone s ≡ g → (not g && same_literals s.clause.literals literals) ≡ false → IsStoredAt (s ∷ ss) literals (suc i)
     go true g n = record {
       inside = let l : i < length ss = k.inside in omega arith;
       there = k.there;
@@ -96,7 +96,7 @@ stands_behind s ss literals i n k = go (is_gone s) refl n
           ∙ ap (λ cs. s.clause ∷ cs) (k.less r) ∙ sym (ap (λ b. cond b [] (s.clause ∷ []) ++ live (without_count_at r i ss)) g);
     }
 
-place_there : (literals : List ℕ) (ss : List Slot) (k p : ℕ) → find_place literals k ss ≡ Some p → (i : ℕ) × (p ≡ k + i) × StandsAt ss literals i
+place_there : (literals : List ℕ) (ss : List Slot) (k p : ℕ) → find_place literals k ss ≡ Some p → (i : ℕ) × (p ≡ k + i) × IsStoredAt ss literals i
 unfolding find_place
 place_there literals [] k p e = absurd cc
 place_there literals (s ∷ ss) k p e = go (place_there literals ss (k + 1) p) (not (is_gone s) && same_literals s.clause.literals literals) refl e
@@ -105,11 +105,11 @@ place_there literals (s ∷ ss) k p e = go (place_there literals ss (k + 1) p) (
     parts true b h = absurd (true≢false (sym h))
     parts false b h = (refl, h)
 
-    go : (find_place literals (k + 1) ss ≡ Some p → (i : ℕ) × (p ≡ k + 1 + i) × StandsAt ss literals i) → (b : Bool) → (not (is_gone s) && same_literals s.clause.literals literals) ≡ b → cond b (Some k) (find_place literals (k + 1) ss) ≡ Some p → (i : ℕ) × (p ≡ k + i) × StandsAt (s ∷ ss) literals i
+    go : (find_place literals (k + 1) ss ≡ Some p → (i : ℕ) × (p ≡ k + 1 + i) × IsStoredAt ss literals i) → (b : Bool) → (not (is_gone s) && same_literals s.clause.literals literals) ≡ b → cond b (Some k) (find_place literals (k + 1) ss) ≡ Some p → (i : ℕ) × (p ≡ k + i) × IsStoredAt (s ∷ ss) literals i
     go ih true n e = let q : k ≡ p = cc in let m = parts (is_gone s) (same_literals s.clause.literals literals) n in (0, omega arith, stands_first s ss literals m.0 m.1)
-    go ih false n e = let r = ih e in (suc r.0, (let q : p ≡ k + 1 + r.0 = r.1 in omega arith), stands_behind s ss literals r.0 n r.2)
+    go ih false n e = let r = ih e in (suc r.0, (let q : p ≡ k + 1 + r.0 = r.1 in omega arith), stands_after s ss literals r.0 n r.2)
 
-place_nowhere : (literals : List ℕ) (ss : List Slot) (k : ℕ) → find_place literals k ss ≡ None → StandsNowhere ss literals
+place_nowhere : (literals : List ℕ) (ss : List Slot) (k : ℕ) → find_place literals k ss ≡ None → IsStoredNowhere ss literals
 unfolding find_place
 place_nowhere literals [] k e = record { none = refl; new = λ r id hash. fresh_one r id }
   where
@@ -118,11 +118,11 @@ place_nowhere literals [] k e = record { none = refl; new = λ r id hash. fresh_
     fresh_one false id = refl
 place_nowhere literals (s ∷ ss) k e = go (place_nowhere literals ss (k + 1)) (not (is_gone s) && same_literals s.clause.literals literals) refl e
   where
-    go : (find_place literals (k + 1) ss ≡ None → StandsNowhere ss literals) → (b : Bool) → (not (is_gone s) && same_literals s.clause.literals literals) ≡ b → cond b (Some k) (find_place literals (k + 1) ss) ≡ None → StandsNowhere (s ∷ ss) literals
+    go : (find_place literals (k + 1) ss ≡ None → IsStoredNowhere ss literals) → (b : Bool) → (not (is_gone s) && same_literals s.clause.literals literals) ≡ b → cond b (Some k) (find_place literals (k + 1) ss) ≡ None → IsStoredNowhere (s ∷ ss) literals
     go ih true n e = absurd cc
     go ih false n e = by_gone (is_gone s) refl n (ih e)
       where
-        by_gone : (g : Bool) → is_gone s ≡ g → (not g && same_literals s.clause.literals literals) ≡ false → StandsNowhere ss literals → StandsNowhere (s ∷ ss) literals
+        by_gone : (g : Bool) → is_gone s ≡ g → (not g && same_literals s.clause.literals literals) ≡ false → IsStoredNowhere ss literals → IsStoredNowhere (s ∷ ss) literals
         by_gone true g n ih = record {
           none = ap (λ b. clause_with literals (cond b [] (s.clause ∷ []) ++ live ss)) g ∙ ih.none;
           new = λ r id hash. ap (λ b. with_stored_clause r id literals (cond b [] (s.clause ∷ []) ++ live ss)) g ∙ ih.new r id hash ∙ sym (ap (λ b. cond b [] (s.clause ∷ []) ++ live (ss ++ stored_slot r id hash literals ∷ [])) g);
@@ -138,10 +138,10 @@ module _ (h : ClauseHasher) (ss : List Slot) (literals : List ℕ) (hash : ℕ) 
   from_start : found_among ss literals (places_of hash ss) ≡ find_place literals 0 ss
   from_start = found_is h ss ss literals 0 hash (λ j. let z : 0 + j ≡ j = omega arith in ap (slot_at ss) z) a e
 
-  pub stands_found : (p : ℕ) → Some p ≡ found_among ss literals (places_of hash ss) → StandsAt ss literals p
-  stands_found p f = let r = place_there literals ss 0 p (sym (f ∙ from_start)) in subst (StandsAt ss literals) (let q : p ≡ 0 + r.0 = r.1 in let z : r.0 ≡ p = omega arith in z) r.2
+  pub stands_found : (p : ℕ) → Some p ≡ found_among ss literals (places_of hash ss) → IsStoredAt ss literals p
+  stands_found p f = let r = place_there literals ss 0 p (sym (f ∙ from_start)) in subst (IsStoredAt ss literals) (let q : p ≡ 0 + r.0 = r.1 in let z : r.0 ≡ p = omega arith in z) r.2
 
-  pub stands_none : None ≡ found_among ss literals (places_of hash ss) → StandsNowhere ss literals
+  pub stands_none : None ≡ found_among ss literals (places_of hash ss) → IsStoredNowhere ss literals
   stands_none f = place_nowhere literals ss 0 (sym (f ∙ from_start))
 
 -- hashes stay right
@@ -192,12 +192,12 @@ inside_more r p ss new l e = let n : length (with_count_at r p ss) ≡ length ss
     same_length (x ∷ xs) zero t = refl
     same_length (x ∷ xs) (suc i) t = ap suc (same_length xs i t)
 
-pub looks_one : (store : Store) (hash old new : ℕ) → new ≤ old + total_length (bucket_in hash store.clauses) → (f : Stored) → KeepsClauses store f → new ≤ old + literal_count f
+pub looks_one : (store : Store) (hash old new : ℕ) → new ≤ old + total_length (bucket_in hash store.clauses) → (f : Stored) → RepresentsClauses store f → new ≤ old + literal_count f
 looks_one store hash old new h f k =
     let a : total_length (bucket_in hash store.clauses) ≤ live_length store.clauses = bucket_length hash store.clauses in
     let b : live_length store.clauses ≡ literal_count f = length_same store f k in omega arith
 
-module _ (store : Store) (f : Stored) (k : KeepsClauses store f) (literals : List ℕ) (hash : ℕ) (e : hash ≡ hash_by (solver_name_of store.hasher) (width_of store.hasher) literals) where
+module _ (store : Store) (f : Stored) (k : RepresentsClauses store f) (literals : List ℕ) (hash : ℕ) (e : hash ≡ hash_by (solver_name_of store.hasher) (width_of store.hasher) literals) where
   pub count_there : (p : ℕ) → Some p ≡ found_among store.clauses literals (places_of hash store.clauses) → (r : Bool) → store_count_in r (clause_with literals f.clauses) ≡ slot_count r (slot_at store.clauses p)
   count_there p found r = ap (store_count_in r) (ap (clause_with literals) (sym k.clauses) ∙ (stands_found store.hasher store.clauses literals hash k.hashed e p found).is)
 
@@ -256,7 +256,7 @@ module _ (store : Store) (f : Stored) (k : KeepsClauses store f) (literals : Lis
       fresh_literals false = refl
 
   pub deleted_one : (p : ℕ) → Some p ≡ found_among store.clauses literals (places_of hash store.clauses) → (r : Bool) (new : List Slot) → new ≡ without_count_at r p store.clauses
-      → KeepsClauses (record store { clauses = new }) (record f { clauses = without_clause r literals f.clauses })
+      → RepresentsClauses (record store { clauses = new }) (record f { clauses = without_clause r literals f.clauses })
   deleted_one p found r new n =
       let s = stands_found store.hasher store.clauses literals hash k.hashed e p found in
       record {

@@ -16,7 +16,7 @@ still_left ls i x k e =
     let is : cond (eqb (get_or ls i x) x) 1 0 ≡ one = ap (λ b. cond b 1 0) (eq-eqb _ _ (sym e)) in
     omega (arith, here, is)
 
--- what is left is the next one and those behind it
+-- what is left is the next one and those after it
 pub next_times : (ls : List ℕ) (i x : ℕ) → i < length ls → x ≡ get_or ls i x → (k : ℕ) → times_in k (drop i ls) ≡ cond (eqb k x) 1 0 + times_in k (drop (i + 1) ls)
 next_times ls i x h e k =
     ap (times_in k) (drop_more ls i x h) ∙ ap (λ y. cond (eqb y k) 1 0 + times_in k (drop (i + 1) ls)) (sym e) ∙ ap (λ b. cond b 1 0 + times_in k (drop (i + 1) ls)) (eqb_comm x k)

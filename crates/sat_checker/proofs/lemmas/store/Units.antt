@@ -9,7 +9,7 @@ use Rattle.sat_checker.specs.LiteralSets.{is_among}
 use Rattle.sat_checker.specs.Propagation.{PassesCheck}
 use Rattle.sat_checker.specs.Stored.{Stored, StoredUnit, unit_literals, bucket}
 use Rattle.sat_checker.specs.Accepts.{PassesByHashes}
-use Rattle.sat_checker.specs.inner.StoreView.{KeepsClauses}
+use Rattle.sat_checker.specs.inner.StoreView.{RepresentsClauses}
 use Rattle.sat_checker.specs.declared.store.Store.{Store}
 use Rattle.sat_checker.proofs.lemmas.propagation.Members.{same_passes}
 use Rattle.sat_checker.proofs.lemmas.propagation.Soundness.{negated-negated}
@@ -91,13 +91,13 @@ contradicted_same us ls = same_tests _ _
     any_true (negated_in (map (λ u. u.literal) us)) ls (negated s.literal) s.passes (ap (is_among (map (λ u. u.literal) us)) (negated-negated s.literal) ∙ s.within))
 
 -- the check over what is kept is the definition's, whatever the order in which the units are assumed
-pub short_units : {E : Type 0} (r : Result Bool E) (store : Store) (room roomy : List ℕ) → roomy ≡ room → OnErr r ((f : Stored) → KeepsClauses store f → HasStoredRoom roomy f.clauses → ⊥) → OnErr r ((f : Stored) → KeepsClauses store f → HasStoredRoom room f.clauses → ⊥)
+pub short_units : {E : Type 0} (r : Result Bool E) (store : Store) (room roomy : List ℕ) → roomy ≡ room → OnErr r ((f : Stored) → RepresentsClauses store f → HasStoredRoom roomy f.clauses → ⊥) → OnErr r ((f : Stored) → RepresentsClauses store f → HasStoredRoom room f.clauses → ⊥)
 short_units (Ok b) store room roomy w h = tt
 short_units (Err e) store room roomy w h = λ f k there. h f k (subst (λ r. HasStoredRoom r f.clauses) (sym w) there)
 
 pub checked_units : {E : Type 0} (r : Result Bool E) (store : Store) (value : List StoredUnit) (room roomy assigned clause hashes : List ℕ) → ((l : ℕ) → is_among assigned l ≡ is_among (map (λ u. u.literal) value) l) → roomy ≡ room
-    → IfOk r (λ b. (f : Stored) → KeepsClauses store f → HasStoredRoom roomy f.clauses → (b ≡ true) ↔ PassesCheck assigned clause (map (bucket f) hashes))
-    → IfOk r (λ b. (f : Stored) → KeepsClauses store f → value ≡ f.units → HasStoredRoom room f.clauses → (b ≡ true) ↔ PassesByHashes f clause hashes)
+    → IfOk r (λ b. (f : Stored) → RepresentsClauses store f → HasStoredRoom roomy f.clauses → (b ≡ true) ↔ PassesCheck assigned clause (map (bucket f) hashes))
+    → IfOk r (λ b. (f : Stored) → RepresentsClauses store f → value ≡ f.units → HasStoredRoom room f.clauses → (b ≡ true) ↔ PassesByHashes f clause hashes)
 checked_units (Err e) store value room roomy assigned clause hashes same w h = tt
 checked_units (Ok b) store value room roomy assigned clause hashes same w h = λ f k e there.
     let exact = h f k (subst (λ r. HasStoredRoom r f.clauses) (sym w) there) in

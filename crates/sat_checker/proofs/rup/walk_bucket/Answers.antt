@@ -3,7 +3,7 @@ use Rattle.std.proofs.lemmas.Result.{IfOk-from_err, err_from_is_err_and}
 use Rattle.std.specs.Option.{IfSome}
 use Rattle.sat_checker.specs.LiteralSets.{is_among}
 use Rattle.sat_checker.specs.Looks.{total_length}
-use Rattle.sat_checker.specs.inner.PairView.{first_of, places_behind, from_on}
+use Rattle.sat_checker.specs.inner.PairView.{first_of, places_after, from_on}
 use Rattle.sat_checker.specs.inner.Reasons.{clause_at, filed, KeepsGround}
 use Rattle.sat_checker.specs.inner.AssumedRoom.{HasClauseRoom, HasClausesRoom}
 use Rattle.sat_checker.specs.inner.SlotView.{Slot, bucket_in, literals_at, places_of}
@@ -47,7 +47,7 @@ module _ (c : After-meet) where
   extends = Extends-further c.args.assigned.now c.loop-next.assigned c.meet.new.assigned c.loop-next.invariant.extends c.meet.ensures.extends
 
 -- the clauses from this one on
-module _ (c : After-meet) (next : Option ℕ) (is : next ≡ first_of (places_behind (place c) (ps c))) where
+module _ (c : After-meet) (next : Option ℕ) (is : next ≡ first_of (places_after (place c) (ps c))) where
   abbrev left : List ℕ
   left = place c ∷ from_on next (ps c)
 
@@ -66,7 +66,7 @@ module _ (c : After-meet) (next : Option ℕ) (is : next ≡ first_of (places_be
 -- if the walk ends at this clause
 module _ (c : After-meet) where
   abbrev rest : List ℕ
-  rest = left c (first_of (places_behind (place c) (ps c))) refl
+  rest = left c (first_of (places_after (place c) (ps c))) refl
 
   looked : LooksUpTo (total_length (bucket_in c.args.hash (ss c))) c.args.looks.now c.meet.new.looks
   looked = record {

@@ -4,7 +4,7 @@ use Rattle.std.proofs.lemmas.List.{length-reverse}
 use Rattle.sat_checker.specs.LiteralSets.{is_among}
 use Rattle.sat_checker.specs.inner.LitNumbers.{number_at}
 use Rattle.sat_checker.proofs.lemmas.sets.Order.{among-reverse}
-use Rattle.sat_checker.proofs.lemmas.sets.Trails.{number_has_room, stands, stands_at, placed_without}
+use Rattle.sat_checker.proofs.lemmas.sets.Trails.{number_has_room, valid, stands_at, placed_without}
 use Rattle.sat_checker.proofs.units.take_out.Goals as goal
 
 pub returns : goal.returns
@@ -39,5 +39,5 @@ forget_at-requires c =
 -- what is assumed has a place
 pub returns-in_default-clause-assumed : goal.returns-in_default-clause-assumed
 returns-in_default-clause-assumed c =
-    let there = stands c.args.places.now (reverse c.args.assigned.now.literals) c.args.lit c.requires.placed (among-reverse c.args.assigned.now.literals c.args.lit ∙ c.requires.assumed) in
+    let there = valid c.args.places.now (reverse c.args.assigned.now.literals) c.args.lit c.requires.placed (among-reverse c.args.assigned.now.literals c.args.lit ∙ c.requires.assumed) in
     absurd (let e : ◌≡◌ {A = Option ℕ} (Some there.place) None = sym there.noted ∙ sym c.get.ensures ∙ c.in_default.is in cc)

@@ -26,9 +26,9 @@ returns-in-Ok-clause-proved g c =
     let steps : List Step = End ∷ taken_after k.0 [] in
     let none : c.new-out.result.device.items ≡ [] = rw c.new-out.ensures.device c.new.ensures.items in
     let same : c.into_inner-text.result.items ≡ c.convert.new.out.device.items = rw c.into_inner-text.ensures refl in
-    let text : c.deref.result.now ≡ hint_text steps = c.deref.ensures.value ∙ same ∙ k.4.told ∙ ap (λ xs. xs ++ hint_text steps) none in
+    let text : c.deref.result.now ≡ hint_text steps = c.deref.ensures.value ∙ same ∙ k.4.known_bytes ∙ ap (λ xs. xs ++ hint_text steps) none in
     of_steps c.verdict_on.result steps (c.verdict_on.ensures _ _ _ (subst (λ t. Judges (hint_verdict steps) t) (sym text) k.3))
 
 pub returns-in-Err-clause-accepted : goal.returns-in-Err-clause-accepted
-returns-in-Err-clause-accepted g c = λ steps text more certificate told e is.
-    not_refused c.in-Err.error steps _ _ (accepted_converts steps text more (Err c.in-Err.error) _ _ _ _ certificate told c.in-Err.ensures) e is
+returns-in-Err-clause-accepted g c = λ steps text more certificate text_is e is.
+    not_refused c.in-Err.error steps _ _ (accepted_converts steps text more (Err c.in-Err.error) _ _ _ _ certificate text_is c.in-Err.ensures) e is

@@ -10,7 +10,7 @@ use Rattle.sat_store.specs.clause.Header.{Header, index_of}
 use Rattle.sat_store.specs.declared.clause.tier.Tier.{Tier}
 use Rattle.sat_store.specs.declared.clause.tier.Tier.TheVariants.{Irred}
 use Rattle.sat_store.proofs.lemmas.clause.Laying.{same_count, clause_within, kept_below}
-use Rattle.sat_parts.specs.clause.Db.{Db, is_live, live_refs, is_live_of, garbage_of, AreRising, HoldsDb, tier_count_more, tier_count_less, AddsLongClause, PutsHeader, DeletesClause, MovesClause, ShortensClause}
+use Rattle.sat_parts.specs.clause.Db.{Db, is_live, live_refs, is_live_of, garbage_of, AreRising, DbMatchesBuffer, tier_count_more, tier_count_less, AddsLongClause, PutsHeader, DeletesClause, MovesClause, ShortensClause}
 use Rattle.sat_parts.proofs.lemmas.prop.BuildLemmas.{live_in, live_same}
 use Rattle.sat_parts.proofs.lemmas.clause.ListLemmas.{rising_push, sum_same, sum_changed, count_less, counted_some, filter_without, filter_same}
 
@@ -68,7 +68,7 @@ garbage_changed words words' refs o h rising has put =
     sum_changed (garbage_of words) (garbage_of words') refs o rising has (λ p c n. kept_garbage words words' p (put.others p c n))
 
 -- a number by tier that one is taken from isn't 0
-pub counted_one : (words : List ℕ) (db : Db) (o : ℕ) → HoldsDb words db → Contains (live_refs words db.refs) o → 0 < get_or db.counts (index_of (header_at words o).tier) 0
+pub counted_one : (words : List ℕ) (db : Db) (o : ℕ) → DbMatchesBuffer words db → Contains (live_refs words db.refs) o → 0 < get_or db.counts (index_of (header_at words o).tier) 0
 counted_one words db o h c = elim (cases_eq (get_or db.counts (index_of (header_at words o).tier) 0) 0) [
   | inl e ↦
       let tier : Tier = (header_at words o).tier in
@@ -106,7 +106,7 @@ after_delete words o db = record db {
   garbage = min (db.garbage + (length (lits_at words o) + 3)) (2 ^ 64 - 1);
 }
 
-pub deletes : (words : List ℕ) (db : Db) (words' : List ℕ) (o : ℕ) → HoldsDb words db → Contains (live_refs words db.refs) o →
+pub deletes : (words : List ℕ) (db : Db) (words' : List ℕ) (o : ℕ) → DbMatchesBuffer words db → Contains (live_refs words db.refs) o →
     PutsHeader words words' db.refs o (record (header_at words o) { deleted = true }) → DeletesClause words db words' (after_delete words o db) o
 deletes words db words' o h c put =
     let tier : Tier = (header_at words o).tier in
@@ -171,7 +171,7 @@ garbage_put words words' refs o h rising has live live' put =
     let now : garbage_of words' o ≡ 0 = cond-true (is_live words' o) 0 (length (lits_at words' o) + 3) live' in
     omega arith
 
-pub moves : (words : List ℕ) (db : Db) (words' : List ℕ) (o : ℕ) (tier : Tier) → HoldsDb words db → Contains (live_refs words db.refs) o → index_of (header_at words o).tier ≢ index_of tier →
+pub moves : (words : List ℕ) (db : Db) (words' : List ℕ) (o : ℕ) (tier : Tier) → DbMatchesBuffer words db → Contains (live_refs words db.refs) o → index_of (header_at words o).tier ≢ index_of tier →
     PutsHeader words words' db.refs o (record (header_at words o) { tier = tier }) → MovesClause words db words' (after_move words o tier db) o tier
 moves words db words' o tier h c differ put =
     let old : Tier = (header_at words o).tier in
@@ -227,10 +227,10 @@ abbrev pub after_add : ℕ → Tier → Db → Db
 after_add o tier db = record db { refs = db.refs ++ o ∷ []; counts = tier_count_more tier db.counts }
 
 -- the clauses of the list are kept by an addition
-added_keeps : (words words' : List ℕ) (db : Db) (o : ℕ) (header : Header) (lits : List ℕ) → HoldsDb words db → AppendsClause words words' o header lits → (p : ℕ) → Contains db.refs p → SameClauseAt words words' p
+added_keeps : (words words' : List ℕ) (db : Db) (o : ℕ) (header : Header) (lits : List ℕ) → DbMatchesBuffer words db → AppendsClause words words' o header lits → (p : ℕ) → Contains db.refs p → SameClauseAt words words' p
 added_keeps words words' db o header lits h added p c = kept_below words words' db.refs o p header lits h.laid c added
 
-pub adds : (words : List ℕ) (db : Db) (words' : List ℕ) (o : ℕ) (header : Header) (lits : List ℕ) → HoldsDb words db → header.deleted ≡ false → 3 ≤ length lits → length (db.refs ++ o ∷ []) < 2 ^ 64 →
+pub adds : (words : List ℕ) (db : Db) (words' : List ℕ) (o : ℕ) (header : Header) (lits : List ℕ) → DbMatchesBuffer words db → header.deleted ≡ false → 3 ≤ length lits → length (db.refs ++ o ∷ []) < 2 ^ 64 →
     AppendsClause words words' o header lits → AddsLongClause words db words' (after_add o header.tier db) o header lits
 adds words db words' o header lits h new three few added =
     let tier : Tier = header.tier in
@@ -274,11 +274,11 @@ adds words db words' o header lits h new three few added =
     }
 
 -- the clause at a live place, and what its tier is counted with
-pub live_clause : (words : List ℕ) (db : Db) (o : ℕ) → HoldsDb words db → Contains (live_refs words db.refs) o → IsClause words o
+pub live_clause : (words : List ℕ) (db : Db) (o : ℕ) → DbMatchesBuffer words db → Contains (live_refs words db.refs) o → IsClause words o
 live_clause words db o h c = h.laid.clauses o (live_in words db.refs o c)
 
 -- a tier that a live clause isn't of has room for one more
-pub room_in_tier : (words : List ℕ) (db : Db) (o : ℕ) (tier : Tier) → HoldsDb words db → Contains (live_refs words db.refs) o → index_of (header_at words o).tier ≢ index_of tier →
+pub room_in_tier : (words : List ℕ) (db : Db) (o : ℕ) (tier : Tier) → DbMatchesBuffer words db → Contains (live_refs words db.refs) o → index_of (header_at words o).tier ≢ index_of tier →
     get_or (tier_count_less (header_at words o).tier db.counts) (index_of tier) 0 + 1 < 2 ^ 64
 room_in_tier words db o tier h c differ =
     let old : Tier = (header_at words o).tier in
@@ -287,7 +287,7 @@ room_in_tier words db o tier h c differ =
     omega (arith, set_elsewhere db.counts old tier (get_or db.counts (index_of old) 0 - 1) differ, h.counts tier, less, h.few)
 
 -- the same with the length that the header says
-pub deleted_by : (words : List ℕ) (db : Db) (words' : List ℕ) (o : ℕ) → HoldsDb words db → Contains (live_refs words db.refs) o →
+pub deleted_by : (words : List ℕ) (db : Db) (words' : List ℕ) (o : ℕ) → DbMatchesBuffer words db → Contains (live_refs words db.refs) o →
     PutsHeader words words' db.refs o (record (header_at words o) { deleted = true }) →
     DeletesClause words db words'
     (record db { counts = tier_count_less (header_at words o).tier db.counts; garbage = min (db.garbage + ((header_at words o).len + 3)) (2 ^ 64 - 1) }) o
@@ -298,7 +298,7 @@ deleted_by words db words' o h c put =
 -- the same for an addition, in the words of the call
 pub added_by : (words : List ℕ) (db db' inside : Db) (words' items : List ℕ) (tier : Tier) (o : ℕ) (header : Header) (lits : List ℕ) → inside ≡ db →
     db' ≡ record inside { refs = items; counts = tier_count_more tier inside.counts } → items ≡ inside.refs ++ o ∷ [] → tier ≡ header.tier →
-    HoldsDb words db → header.deleted ≡ false → 3 ≤ length lits → length items < 2 ^ 64 → AppendsClause words words' o header lits → AddsLongClause words db words' db' o header lits
+    DbMatchesBuffer words db → header.deleted ≡ false → 3 ≤ length lits → length items < 2 ^ 64 → AppendsClause words words' o header lits → AddsLongClause words db words' db' o header lits
 added_by words db db' inside words' items tier o header lits same is items_is tier_is h new three few added =
     let refs_is : items ≡ db.refs ++ o ∷ [] = items_is ∙ ap (λ (d : Db). d.refs ++ o ∷ []) same in
     let whole : db' ≡ after_add o header.tier db =
@@ -309,7 +309,7 @@ added_by words db db' inside words' items tier o header lits same is items_is ti
     (adds words db words' o header lits h new three (subst (λ (xs : List ℕ). length xs < 2 ^ 64) refs_is few) added)
 
 -- the clause at o came to be shorter, as `set_header` says it
-pub shortens : (words : List ℕ) (db : Db) (words' : List ℕ) (o len : ℕ) → HoldsDb words db → Contains (live_refs words db.refs) o → 3 ≤ len → len ≤ length (lits_at words o) →
+pub shortens : (words : List ℕ) (db : Db) (words' : List ℕ) (o len : ℕ) → DbMatchesBuffer words db → Contains (live_refs words db.refs) o → 3 ≤ len → len ≤ length (lits_at words o) →
     header_at words' o ≡ record (header_at words o) { len = len } → lits_at words' o ≡ take len (lits_at words o) → ChangesAt words words' o → ShortensClause words db words' o len
 shortens words db words' o len h c long fits header lits change =
     let has : Contains db.refs o = live_in words db.refs o c in

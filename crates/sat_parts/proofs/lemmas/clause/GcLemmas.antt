@@ -12,7 +12,7 @@ use Rattle.sat_store.proofs.lemmas.clause.Laying.{same_count, clause_within, end
 use Rattle.sat_parts.specs.declared.prop.graph.ImplNode.{ImplNode}
 use Rattle.sat_parts.specs.declared.prop.graph.Reason.{Reason}
 use Rattle.sat_parts.specs.declared.prop.graph.Reason.TheVariants.{Unit as NoCause, Binary, Long}
-use Rattle.sat_parts.specs.clause.Db.{Db, is_live, live_refs, is_live_of, garbage_of, AreRising, HoldsDb}
+use Rattle.sat_parts.specs.clause.Db.{Db, is_live, live_refs, is_live_of, garbage_of, AreRising, DbMatchesBuffer}
 use Rattle.sat_parts.specs.clause.Stored.{lit_of}
 use Rattle.sat_parts.specs.clause.Collected.{Copies, CopyInvariant, words_of, FollowsClause, FollowsFirst, AreFollowed, AreFirsts, Collects, after_collection}
 use Rattle.sat_parts.specs.prop.Graphs.{node_of, with_node, new_node}
@@ -301,7 +301,7 @@ copy_live_is words live w r h all x c =
     let lt : c.0 < length live = omega (arith, c.1, h.size) in
     ap (λ z. is_live w z) (sym (at_place r x c)) ∙ ap (λ (y : Header). not y.deleted) (h.headers c.0 lt) ∙ all (get_or live c.0 0) (place_in live c.0 lt)
 
-pub holds_copies : (words w r : List ℕ) (db : Db) (i : ℕ) → HoldsDb words db → CopyInvariant words db.refs w r i → i ≡ length db.refs → HoldsDb w (after_collection r db)
+pub holds_copies : (words w r : List ℕ) (db : Db) (i : ℕ) → DbMatchesBuffer words db → CopyInvariant words db.refs w r i → i ≡ length db.refs → DbMatchesBuffer w (after_collection r db)
 holds_copies words w r db i h x e =
     let c : Copies words (live_refs words db.refs) w r = (copying_all words db.refs w r i x e).0 in
     let live : (p : ℕ) → Contains r p → is_live w p ≡ true = copy_live_is words (live_refs words db.refs) w r c (λ p d. live_is words db.refs p d) in
@@ -325,7 +325,7 @@ holds_copies words w r db i h x e =
           (h.long (get_or (live_refs words db.refs) d.0 0) (live_in words db.refs (get_or (live_refs words db.refs) d.0 0) (place_in (live_refs words db.refs) d.0 lt)));
     }
 
-pub collected : (words w r lits : List ℕ) (db : Db) (i n : ℕ) (nodes nodes' : List ImplNode) → HoldsDb words db → CopyInvariant words db.refs w r i → i ≡ length db.refs →
+pub collected : (words w r lits : List ℕ) (db : Db) (i n : ℕ) (nodes nodes' : List ImplNode) → DbMatchesBuffer words db → CopyInvariant words db.refs w r i → i ≡ length db.refs →
     AreFirsts words (live_refs words db.refs) lits nodes → AreFollowed (live_refs words db.refs) r lits n nodes nodes' → n ≡ length (live_refs words db.refs) →
     Collects words db nodes lits w (after_collection r db) nodes'
 collected words w r lits db i n nodes nodes' h x e firsts f all =
@@ -365,7 +365,7 @@ rising_filter p [] h = h
 rising_filter p (x ∷ xs) h = rising_kept p x xs (p x) refl h (rising_filter p xs (rising_tail x xs h))
 
 -- one turn of the walk, in the words of the call
-pub followed_by : (words : List ℕ) (db : Db) (refs' lits : List ℕ) (n first from to : ℕ) (nodes one two : List ImplNode) → HoldsDb words db → length refs' ≡ length (live_refs words db.refs) →
+pub followed_by : (words : List ℕ) (db : Db) (refs' lits : List ℕ) (n first from to : ℕ) (nodes one two : List ImplNode) → DbMatchesBuffer words db → length refs' ≡ length (live_refs words db.refs) →
     ((k : ℕ) → k < length refs' → get_or refs' k 0 ≤ get_or (live_refs words db.refs) k 0) → AreFollowed (live_refs words db.refs) refs' lits n nodes one →
     AreFirsts words (live_refs words db.refs) lits nodes → n < length refs' → from ≡ get_or (live_refs words db.refs) n 0 → first ≡ lit_of words from 0 → to ≡ get_or refs' n 0 →
     ((node_of one (variable first)).reason ≡ Long from → two ≡ with_node (variable first) (record (node_of one (variable first)) { reason = Long to }) one) →

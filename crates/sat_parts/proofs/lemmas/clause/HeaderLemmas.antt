@@ -6,7 +6,7 @@ use Rattle.std.proofs.lemmas.List.Elements.{filter_more}
 use Rattle.std.specs.List.{Contains, filter}
 use Rattle.sat_store.specs.clause.Buffer.{header_at, lits_at}
 use Rattle.sat_store.specs.clause.Header.{Header, index_of}
-use Rattle.sat_parts.specs.clause.Db.{Db, is_live, live_refs, is_live_of, garbage_of, HoldsDb, PutsHeader}
+use Rattle.sat_parts.specs.clause.Db.{Db, is_live, live_refs, is_live_of, garbage_of, DbMatchesBuffer, PutsHeader}
 use Rattle.sat_parts.specs.clause.Activity.{PutsHeaders, PutsFirst}
 use Rattle.sat_parts.proofs.lemmas.clause.ListLemmas.{at_place, sum_same, filter_same}
 
@@ -23,8 +23,8 @@ first_all words one refs f n x e = record {
 }
 
 -- headers with the tiers and marks of deletion that there were leave the list as it is
-pub holds_headers : (words one : List ℕ) (db : Db) (f : ℕ → Header) → HoldsDb words db → PutsHeaders words one db.refs f →
-    ((p : ℕ) → Contains db.refs p → (f p).deleted ≡ (header_at words p).deleted) → ((p : ℕ) → Contains db.refs p → (f p).tier ≡ (header_at words p).tier) → HoldsDb one db
+pub holds_headers : (words one : List ℕ) (db : Db) (f : ℕ → Header) → DbMatchesBuffer words db → PutsHeaders words one db.refs f →
+    ((p : ℕ) → Contains db.refs p → (f p).deleted ≡ (header_at words p).deleted) → ((p : ℕ) → Contains db.refs p → (f p).tier ≡ (header_at words p).tier) → DbMatchesBuffer one db
 holds_headers words one db f h x dead tier =
     let live : (p : ℕ) → Contains db.refs p → is_live one p ≡ is_live words p = λ p c. ap (λ (y : Header). not y.deleted) (x.headers p c) ∙ ap (λ b. not b) (dead p c) in
     let same : (p : ℕ) → Contains db.refs p → (header_at one p).tier ≡ (header_at words p).tier = λ p c. ap (λ (y : Header). y.tier) (x.headers p c) ∙ tier p c in
@@ -67,8 +67,8 @@ one_of words o p h f e = elim (cases_eq p o) [
   | inr n ↦ ap (λ (x : Header). f x) (cond-false (p == o) h (header_at words p) (ne_eqb p o n))
 ]
 
-pub holds_put : (words one : List ℕ) (db : Db) (o : ℕ) (h : Header) → HoldsDb words db → PutsHeader words one db.refs o h → h.deleted ≡ (header_at words o).deleted → h.tier ≡ (header_at words o).tier →
-    HoldsDb one db × (live_refs one db.refs ≡ live_refs words db.refs)
+pub holds_put : (words one : List ℕ) (db : Db) (o : ℕ) (h : Header) → DbMatchesBuffer words db → PutsHeader words one db.refs o h → h.deleted ≡ (header_at words o).deleted → h.tier ≡ (header_at words o).tier →
+    DbMatchesBuffer one db × (live_refs one db.refs ≡ live_refs words db.refs)
 holds_put words one db o h x put dead tier =
     let all : PutsHeaders words one db.refs (λ p. cond (p == o) h (header_at words p)) = put_one words one db.refs o h put in
     let dead' : (p : ℕ) → Contains db.refs p → (cond (p == o) h (header_at words p)).deleted ≡ (header_at words p).deleted = λ p c. one_of words o p h (λ (z : Header). z.deleted) dead in

@@ -2,12 +2,12 @@
 use Rattle.std.proofs.Common.{ℕ, ◌+◌, ◌-◌, ◌^◌, ◌≤◌, min, List, length, sym, ap, ◌∙◌, subst, not, ◌&&◌, ◌==◌, cond}
 use Rattle.sat_store.specs.clause.Buffer.{lits_at}
 use Rattle.sat_store.specs.clause.Header.{Header, index_of}
-use Rattle.sat_parts.specs.clause.Db.{Db, HoldsDb, is_live, live_refs, is_live_of, garbage_of}
+use Rattle.sat_parts.specs.clause.Db.{Db, DbMatchesBuffer, is_live, live_refs, is_live_of, garbage_of}
 use Rattle.sat_parts.specs.clause.Orders.{SameUpToOrder, PermutesClauses}
 use Rattle.sat_parts.proofs.lemmas.clause.ListLemmas.{sum_same}
 use Rattle.sat_parts.proofs.lemmas.prop.BuildLemmas.{live_in}
 
-pub held_kept : (old new : List ℕ) (db : Db) → HoldsDb old db → SameUpToOrder old new db.refs → HoldsDb new db
+pub held_kept : (old new : List ℕ) (db : Db) → DbMatchesBuffer old db → SameUpToOrder old new db.refs → DbMatchesBuffer new db
 held_kept old new db h k = record {
   laid = k.laid;
   rising = h.rising;
@@ -20,5 +20,5 @@ held_kept old new db h k = record {
   long = λ p c. subst (λ n. 3 ≤ n) (sym (k.lits p c).size) (h.long p c);
 }
 
-pub held_reordered : (old new : List ℕ) (db : Db) → HoldsDb old db → PermutesClauses old new (live_refs old db.refs) → HoldsDb new db
+pub held_reordered : (old new : List ℕ) (db : Db) → DbMatchesBuffer old db → PermutesClauses old new (live_refs old db.refs) → DbMatchesBuffer new db
 held_reordered old new db h r = held_kept old new db h (r.all db.refs (λ o g. live_in old db.refs o g) h.laid)

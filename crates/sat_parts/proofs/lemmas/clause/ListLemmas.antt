@@ -27,7 +27,7 @@ rising_above x xs p h c =
     let lt : x < get_or xs c.0 0 = h 0 (suc c.0) (omega arith) (omega (arith, c.1)) in
     omega (arith, at_place xs p c)
 
--- a number above all others behind them
+-- a number above all others after them
 pub rising_push : (xs : List ℕ) (x : ℕ) → AreRising xs → ((p : ℕ) → Contains xs p → p < x) → AreRising (xs ++ x ∷ [])
 rising_push xs x h above j k a b =
     let n : length (xs ++ x ∷ []) ≡ length xs + 1 = length_push xs x in

@@ -108,9 +108,9 @@ placed_next ls below place l s x lt is h free there k =
     }
 
 -- a level begins at a place of a list or none does
-begins_behind : (x : ℕ) (xs : List ℕ) (i : ℕ) → x ≢ i → BeginsNoLevel xs i → BeginsNoLevel (x ∷ xs) i
-begins_behind x xs i n none zero b e = n e
-begins_behind x xs i n none (suc k) b e = none k (omega arith) e
+begins_after : (x : ℕ) (xs : List ℕ) (i : ℕ) → x ≢ i → BeginsNoLevel xs i → BeginsNoLevel (x ∷ xs) i
+begins_after x xs i n none zero b e = n e
+begins_after x xs i n none (suc k) b e = none k (omega arith) e
 
 begins_or_not : (starts : List ℕ) (i : ℕ) → ((k : ℕ) × ((k < length starts) × (get_or starts k 0 ≡ i))) ⊎ BeginsNoLevel starts i
 begins_or_not [] i = inr (λ k b e. absurd (omega arith))
@@ -118,7 +118,7 @@ begins_or_not (x ∷ xs) i = elim (cases_eq x i) [
   | inl e ↦ inl (0, (omega arith, e))
   | inr n ↦ elim (begins_or_not xs i) [
     | inl y ↦ inl (suc y.0, (omega (arith, y.1.0), y.1.1))
-    | inr none ↦ inr (begins_behind x xs i n none)
+    | inr none ↦ inr (begins_after x xs i n none)
   ]
 ]
 

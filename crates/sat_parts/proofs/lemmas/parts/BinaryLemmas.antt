@@ -16,7 +16,7 @@ use Rattle.sat_parts.specs.prop.Trails.{Trailed, with_lit}
 use Rattle.sat_parts.specs.prop.Graphs.{with_node, node_at}
 use Rattle.sat_parts.specs.prop.WatchLists.{Watching}
 use Rattle.sat_parts.specs.prop.State.{State, level, current_level, lit_at, HasLeftQueue, StateIsConsistent, TrailGrows, enqueued}
-use Rattle.sat_parts.specs.prop.Reasons.{Implies, AreInTurn}
+use Rattle.sat_parts.specs.prop.Reasons.{Implies, AreUnitInTurn}
 use Rattle.sat_parts.specs.prop.Ready.{state_of}
 use Rattle.sat_parts.specs.prop.Asks.{PropagationInvariant, EnqueuePrecondition, IsOwnBinary}
 use Rattle.sat_parts.proofs.lemmas.prop.StateLemmas.{grows_enqueued, lit_last, negated_variable}
@@ -117,7 +117,7 @@ asks_binary_added words refs w x s top lit a b r h small_a small_b one two =
     }
 
 pub turns_binary : (words live : List ℕ) (x : Binaries) (s : State) (a b : ℕ) → negated a < length x.implied → negated b < length x.implied →
-    AreInTurn words live x.implied s 0 → AreInTurn words live (with_binary a b x).implied s 0
+    AreUnitInTurn words live x.implied s 0 → AreUnitInTurn words live (with_binary a b x).implied s 0
 turns_binary words live x s a b first second h =
     turns_by words words live live x.implied (with_binary a b x).implied s (λ i o lt e c. (c, refl)) (λ i ls lt e c. binary_kept x a b (negated (get_or ls 0 0)) (lit_at s i) first second c) h
 

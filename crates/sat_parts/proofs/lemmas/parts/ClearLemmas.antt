@@ -16,12 +16,12 @@ use Rattle.sat_parts.specs.prop.Trails.{Trailed, with_lit, with_cleared}
 use Rattle.sat_parts.specs.prop.Graphs.{with_node, node_at, node_of, removed_node, new_node}
 use Rattle.sat_parts.specs.prop.WatchLists.{Watching}
 use Rattle.sat_parts.specs.prop.State.{State, node, level, lit_at, IsRemoved, HasLeftQueue, StateIsConsistent, IsSatisfied, enqueued}
-use Rattle.sat_parts.specs.prop.Reasons.{Implies, AreInTurn}
+use Rattle.sat_parts.specs.prop.Reasons.{Implies, AreUnitInTurn}
 use Rattle.sat_parts.specs.prop.Ready.{state_of, AreWatched, AreLists}
 use Rattle.sat_parts.proofs.lemmas.prop.StateLemmas.{level_low, left_true, true_back, true_new, node_new, lit_front, agrees_enqueued, lit_from_parts}
 use Rattle.sat_parts.proofs.lemmas.prop.RoomLemmas.{room_for, below_from_value}
 use Rattle.sat_parts.proofs.lemmas.prop.WordLemmas.{levels_stay}
-use Rattle.sat_parts.specs.parts.Round.{UnitsAreUncaused, IsSoundBelow, RoundInvariant}
+use Rattle.sat_parts.specs.parts.Round.{UnitsHaveNoReason, IsSoundBelow, RoundInvariant}
 use Rattle.sat_parts.specs.parts.Units.{removed, again}
 use Rattle.sat_parts.proofs.lemmas.parts.LevelLemmas.{left_all}
 use Rattle.sat_parts.proofs.lemmas.parts.ValueLemmas.{some_none}
@@ -150,7 +150,7 @@ sound_cleared words db w b a g t q h e done =
     }
 
 -- at level 0 the reasons between rounds are those of units
-pub turns_of_units : (words live : List ℕ) (implied : List (List ℕ)) (s : State) → StateIsConsistent s → length s.trail.starts ≡ 0 → UnitsAreUncaused s → AreInTurn words live implied s 0
+pub turns_of_units : (words live : List ℕ) (implied : List (List ℕ)) (s : State) → StateIsConsistent s → length s.trail.starts ≡ 0 → UnitsHaveNoReason s → AreUnitInTurn words live implied s 0
 turns_of_units words live implied s h n x i le b =
     subst (λ (r : Reason). Implies words live implied s i r) (sym (x i b (omega (arith, (h.levels i b).within)))) tt
 
@@ -290,7 +290,7 @@ sound_again words db w b a g t q l h e x =
       holds = again_true s l (get_or ls z.place 0) old x z.holds;
       low = omega (arith, z.low, again_level s l (get_or ls z.place 0) old x n);
     } in
-    let units : UnitsAreUncaused (enqueued l NoCause (dropped l (state_of a g t))) = units_enqueued u l NoCause mid free (omega arith) (λ f. refl) h.units in
+    let units : UnitsHaveNoReason (enqueued l NoCause (dropped l (state_of a g t))) = units_enqueued u l NoCause mid free (omega arith) (λ f. refl) h.units in
     record {
       below = record {
         held = y.held;

@@ -13,7 +13,7 @@ use Rattle.sat_store.specs.heap.Vsids.{Queue}
 use Rattle.sat_parts.specs.declared.prop.graph.ImplNode.{ImplNode}
 use Rattle.sat_parts.specs.declared.prop.graph.Reason.{Reason}
 use Rattle.sat_parts.specs.declared.prop.graph.Reason.TheVariants.{Unit as NoCause, Binary, Long}
-use Rattle.sat_parts.specs.clause.Db.{Db, HoldsDb, live_refs, without, PutsHeader, DeletesClause, MovesClause, IsLockedClause}
+use Rattle.sat_parts.specs.clause.Db.{Db, DbMatchesBuffer, live_refs, without, PutsHeader, DeletesClause, MovesClause, IsLockedClause}
 use Rattle.sat_parts.specs.clause.Activity.{PutsHeaders, Scale, StaysBelow, ReachesRescale, BumpsOne, BumpsAll, DecaysAll, later_bump, shifted, raised, with_activity, bumped_shifted}
 use Rattle.sat_parts.specs.clause.Collected.{FollowsClause, Collects, CollectsNothing}
 use Rattle.sat_parts.specs.clause.Stored.{lit_of}
@@ -48,7 +48,7 @@ unused_fewer words refs words' refs' implied v same u = record {
 }
 
 pub sound_fewer : (words words' : List ℕ) (db db' : Db) (w w' : Watching) (b : Binaries) (a : Values) (g : List ImplNode) (t : Trailed) (q : Queue) →
-    RoundInvariant words db w b a g t q → HoldsDb words' db' → LeavesClauses words db.refs words' db'.refs → KeepsReasons words' db'.refs (state_of a g t) → length w'.lists ≡ length w.lists →
+    RoundInvariant words db w b a g t q → DbMatchesBuffer words' db' → LeavesClauses words db.refs words' db'.refs → KeepsReasons words' db'.refs (state_of a g t) → length w'.lists ≡ length w.lists →
     (w'.enabled ≡ true → AreWatched words' (live_refs words' db'.refs) w'.lists (length a.current)) → RoundInvariant words' db' w' b a g t q
 sound_fewer words words' db db' w w' b a g t q h held same reasons size watched =
     let s : State = state_of a g t in
@@ -190,7 +190,7 @@ watched_same words words' live w count same h = record {
 
 -- only headers changed, and the same clauses are live
 pub sound_put : (words words' : List ℕ) (db db' : Db) (w : Watching) (b : Binaries) (a : Values) (g : List ImplNode) (t : Trailed) (q : Queue) (f : ℕ → Header) →
-    RoundInvariant words db w b a g t q → HoldsDb words' db' → PutsHeaders words words' db.refs f → db'.refs ≡ db.refs → live_refs words' db'.refs ≡ live_refs words db.refs → RoundInvariant words' db' w b a g t q
+    RoundInvariant words db w b a g t q → DbMatchesBuffer words' db' → PutsHeaders words words' db.refs f → db'.refs ≡ db.refs → live_refs words' db'.refs ≡ live_refs words db.refs → RoundInvariant words' db' w b a g t q
 sound_put words words' db db' w b a g t q f h held x refs live =
     let y : IsSoundBelow words db w b a g t q (length t.starts + 1) = h.below in
     let back : LeavesClauses words db.refs words' db'.refs = λ p c.
@@ -219,7 +219,7 @@ sound_tried words words' db db' w w' b a g t q o false h free deleted off same =
 
 -- the header of one clause changed, but for what the list counts
 pub sound_put_one : (words words' : List ℕ) (db : Db) (w : Watching) (b : Binaries) (a : Values) (g : List ImplNode) (t : Trailed) (q : Queue) (o : ℕ) (header : Header) →
-    RoundInvariant words db w b a g t q → PutsHeader words words' db.refs o header → HoldsDb words' db → live_refs words' db.refs ≡ live_refs words db.refs → RoundInvariant words' db w b a g t q
+    RoundInvariant words db w b a g t q → PutsHeader words words' db.refs o header → DbMatchesBuffer words' db → live_refs words' db.refs ≡ live_refs words db.refs → RoundInvariant words' db w b a g t q
 sound_put_one words words' db w b a g t q o header h x held live =
     let y : IsSoundBelow words db w b a g t q (length t.starts + 1) = h.below in
     let lits : (p : ℕ) → Contains db.refs p → lits_at words' p ≡ lits_at words p = λ p c. elim (cases_eq p o) [
@@ -252,7 +252,7 @@ sound_tier words words' db db' w b a g t q o tier h x =
 -- later bumps raise more
 pub sound_clause_decayed : (words words' : List ℕ) (db : Db) (w : Watching) (b : Binaries) (a : Values) (g : List ImplNode) (t : Trailed) (q : Queue) (c c' : Scale) →
     RoundInvariant words db w b a g t q → (later_bump c < 2 ^ 30 → words' ≡ words) → (2 ^ 30 ≤ later_bump c → DecaysAll words words' db.refs c c') →
-    HoldsDb words' db → live_refs words' db.refs ≡ live_refs words db.refs → RoundInvariant words' db w b a g t q
+    DbMatchesBuffer words' db → live_refs words' db.refs ≡ live_refs words db.refs → RoundInvariant words' db w b a g t q
 sound_clause_decayed words words' db w b a g t q c c' h later all held live = elim (cases_lt (later_bump c) (2 ^ 30)) [
   | inl lt ↦ subst (λ (ws : List ℕ). RoundInvariant ws db w b a g t q) (sym (later lt)) h
   | inr le ↦ sound_put words words' db db w b a g t q (shifted words) h held (all le).1 refl live
@@ -312,7 +312,7 @@ others_tried words words' db db' o false deleted same p n c = (let y = same refl
 -- a clause's activity is raised
 pub sound_clause_bumped : (words words' : List ℕ) (db : Db) (w : Watching) (b : Binaries) (a : Values) (g : List ImplNode) (t : Trailed) (q : Queue) (o : ℕ) (c c' : Scale) →
     RoundInvariant words db w b a g t q → (StaysBelow words o c → BumpsOne words words' db.refs o c c') → (ReachesRescale words o c → BumpsAll words words' db.refs o c c') →
-    HoldsDb words' db → live_refs words' db.refs ≡ live_refs words db.refs → RoundInvariant words' db w b a g t q
+    DbMatchesBuffer words' db → live_refs words' db.refs ≡ live_refs words db.refs → RoundInvariant words' db w b a g t q
 sound_clause_bumped words words' db w b a g t q o c c' h one all held live = elim (cases_lt (raised words o c.bump) (2 ^ 30)) [
   | inl lt ↦ sound_put_one words words' db w b a g t q o (with_activity (header_at words o) (raised words o c.bump)) h (one lt).1 held live
   | inr le ↦ sound_put words words' db db w b a g t q (bumped_shifted words o c.bump) h held (all le).1 refl live

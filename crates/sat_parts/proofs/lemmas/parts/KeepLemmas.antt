@@ -23,7 +23,7 @@ keeps_trans top a b c x y = record {
   begun = λ j lt b. (let p = x.begun j lt b in let q = y.begun j lt p.0 in (q.0, q.1 ∙ p.1));
 }
 
--- open literals become true behind the others
+-- open literals become true after the others
 pub keeps_grown : (top : ℕ) (a b : State) → TrailGrows a b → IsLevelled a → KeepsTo top a b
 keeps_grown top a b g x = record {
   low = λ l t le. (g.kept l t, ap (λ (n : ImplNode). n.level) (g.nodes l t));

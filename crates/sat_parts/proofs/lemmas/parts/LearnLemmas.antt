@@ -9,7 +9,7 @@ use Rattle.sat_store.specs.clause.Header.{Header}
 use Rattle.sat_store.specs.heap.Vsids.{Queue}
 use Rattle.sat_parts.specs.declared.prop.graph.ImplNode.{ImplNode}
 use Rattle.sat_parts.specs.declared.prop.graph.Reason.TheVariants.{Unit as NoCause, Long}
-use Rattle.sat_parts.specs.clause.Db.{Db, HoldsDb, live_refs, AddsLongClause}
+use Rattle.sat_parts.specs.clause.Db.{Db, DbMatchesBuffer, live_refs, AddsLongClause}
 use Rattle.sat_parts.specs.clause.Stored.{lit_of}
 use Rattle.sat_parts.specs.prop.Binaries.{Binaries}
 use Rattle.sat_parts.specs.prop.Values.{Values, value_of, made_true, IsFalseLit, IsOpenLit}
@@ -17,7 +17,7 @@ use Rattle.sat_parts.specs.prop.Trails.{Trailed, with_lit}
 use Rattle.sat_parts.specs.prop.Graphs.{with_node, node_at, node_of}
 use Rattle.sat_parts.specs.prop.WatchLists.{Watching, with_firsts}
 use Rattle.sat_parts.specs.prop.State.{State, level, current_level, HasLeftQueue, StateIsConsistent, TrailGrows, IsSatisfied, enqueued}
-use Rattle.sat_parts.specs.prop.Reasons.{IsFalseBefore, Implies, AreInTurn}
+use Rattle.sat_parts.specs.prop.Reasons.{IsFalseBefore, Implies, AreUnitInTurn}
 use Rattle.sat_parts.specs.prop.Ready.{state_of}
 use Rattle.sat_parts.specs.prop.Asks.{IsOwnLong}
 use Rattle.sat_parts.proofs.lemmas.prop.StateLemmas.{grows_enqueued, true_from_false, negated_variable, left_true, lit_last}
@@ -55,8 +55,8 @@ pending_below s q ls x k b = elim (cases_eq k 0) [
 ]
 
 -- the reasons of the trail stay so where a long clause is added
-pub turns_added : (words words' : List ℕ) (db db' : Db) (o : ℕ) (header : Header) (lits : List ℕ) (implied : List (List ℕ)) (s : State) → HoldsDb words db → AddsLongClause words db words' db' o header lits →
-    AreInTurn words (live_refs words db.refs) implied s 0 → AreInTurn words' (live_refs words' db'.refs) implied s 0
+pub turns_added : (words words' : List ℕ) (db db' : Db) (o : ℕ) (header : Header) (lits : List ℕ) (implied : List (List ℕ)) (s : State) → DbMatchesBuffer words db → AddsLongClause words db words' db' o header lits →
+    AreUnitInTurn words (live_refs words db.refs) implied s 0 → AreUnitInTurn words' (live_refs words' db'.refs) implied s 0
 turns_added words words' db db' o header lits implied s held x h =
     turns_by words words' (live_refs words db.refs) (live_refs words' db'.refs) implied implied s
     (λ i p b e c. (
@@ -66,7 +66,7 @@ turns_added words words' db db' o header lits implied s held x h =
     (λ i ls b e c. c) h
 
 -- a variable that no clause has isn't in a new one either, where it has no value there and the literals of that have one
-pub unused_added : (words words' : List ℕ) (db db' : Db) (o : ℕ) (header : Header) (lits : List ℕ) (implied : List (List ℕ)) (v : ℕ) → HoldsDb words db → AddsLongClause words db words' db' o header lits →
+pub unused_added : (words words' : List ℕ) (db db' : Db) (o : ℕ) (header : Header) (lits : List ℕ) (implied : List (List ℕ)) (v : ℕ) → DbMatchesBuffer words db → AddsLongClause words db words' db' o header lits →
     ((k : ℕ) → k < length lits → variable (get_or lits k 0) ≢ v) → IsUnused words (live_refs words db.refs) implied v → IsUnused words' (live_refs words' db'.refs) implied v
 unused_added words words' db db' o header lits implied v held x apart u = record {
   long = λ p k c b e. elim (Contains-push_cases (live_refs words db.refs) o p (subst (λ (xs : List ℕ). Contains xs p) x.live c)) [

@@ -8,19 +8,19 @@ use Rattle.sat_store.specs.heap.Vsids.{Queue}
 use Rattle.sat_parts.specs.declared.prop.graph.ImplNode.{ImplNode}
 use Rattle.sat_parts.specs.declared.prop.graph.Conflict.{Conflict}
 use Rattle.sat_parts.specs.clause.Orders.{SameUpToOrder}
-use Rattle.sat_parts.specs.clause.Db.{Db, HoldsDb, live_refs}
+use Rattle.sat_parts.specs.clause.Db.{Db, DbMatchesBuffer, live_refs}
 use Rattle.sat_parts.specs.prop.Binaries.{Binaries}
 use Rattle.sat_parts.specs.prop.Values.{Values, value_of}
 use Rattle.sat_parts.specs.prop.Trails.{Trailed, LevelIs}
 use Rattle.sat_parts.specs.prop.WatchLists.{Watching}
 use Rattle.sat_parts.specs.prop.State.{State, node, level, lit_at, StateIsConsistent, TrailGrows}
-use Rattle.sat_parts.specs.prop.Reasons.{AreInTurn, PropagatesOn}
+use Rattle.sat_parts.specs.prop.Reasons.{AreUnitInTurn, PropagatesOn}
 use Rattle.sat_parts.specs.prop.Ready.{state_of, IsConflict}
 use Rattle.sat_parts.specs.prop.Asks.{PropagationInvariant, PropagationResult}
 use Rattle.sat_parts.proofs.lemmas.prop.BuildLemmas.{live_in}
 use Rattle.sat_parts.proofs.lemmas.prop.WordLemmas.{levels_stay}
 use Rattle.sat_parts.proofs.lemmas.clause.HeldLemmas.{held_reordered}
-use Rattle.sat_parts.specs.parts.Round.{AreReady, UnitsAreUncaused, IsBased, IsSoundBelow}
+use Rattle.sat_parts.specs.parts.Round.{AreReady, UnitsHaveNoReason, IsBased, IsSoundBelow}
 use Rattle.sat_parts.proofs.lemmas.parts.ValueLemmas.{open_or_true, not_true}
 
 -- what is open after a piece of propagation was open before
@@ -45,7 +45,7 @@ ready_moved words words' refs implied s s' q m kept e h v b none = elim (h v (om
 ]
 
 pub sound_moved : (words words' : List ℕ) (db : Db) (w w' : Watching) (b : Binaries) (a a' : Values) (g g' : List ImplNode) (t t' : Trailed) (q : Queue) (top top' : ℕ) →
-    IsSoundBelow words db w b a g t q top → HoldsDb words' db → PropagatesOn (live_refs words db.refs) b.implied words (state_of a g t) words' (state_of a' g' t') →
+    IsSoundBelow words db w b a g t q top → DbMatchesBuffer words' db → PropagatesOn (live_refs words db.refs) b.implied words (state_of a g t) words' (state_of a' g' t') →
     live_refs words' db.refs ≡ live_refs words db.refs → PropagationInvariant words' db.refs w' b.implied (state_of a' g' t') top' →
     IsSoundBelow words' db w' b a' g' t' q top'
 sound_moved words words' db w w' b a a' g g' t t' q top top' h held m e asks =
@@ -54,7 +54,7 @@ sound_moved words words' db w w' b a a' g g' t t' q top top' h held m e asks =
     record {
       held = held;
       asks = asks;
-      turns = subst (λ (xs : List ℕ). AreInTurn words' xs b.implied s' 0) (sym e) (m.turns 0 (omega arith) h.turns);
+      turns = subst (λ (xs : List ℕ). AreUnitInTurn words' xs b.implied s' 0) (sym e) (m.turns 0 (omega arith) h.turns);
       levelled = levels_stay.moves words (live_refs words db.refs) words' b.implied s s' h.asks.agrees m h.levelled;
       queue = h.queue ∙ sym m.grows.size;
       ready = ready_moved words words' db.refs b.implied s s' q m (m.reorders.all db.refs (λ o c. live_in words db.refs o c) h.asks.laid) e h.ready;
@@ -87,7 +87,7 @@ base_given words words' refs implied a a' g g' t t' w' r given some h =
     }
 
 -- above level 0 propagation leaves the literals of level 0 as they are
-pub units_moved : (live : List ℕ) (implied : List (List ℕ)) (words words' : List ℕ) (s s' : State) → StateIsConsistent s → StateIsConsistent s' → PropagatesOn live implied words s words' s' → 0 < length s.trail.starts → UnitsAreUncaused s → UnitsAreUncaused s'
+pub units_moved : (live : List ℕ) (implied : List (List ℕ)) (words words' : List ℕ) (s s' : State) → StateIsConsistent s → StateIsConsistent s' → PropagatesOn live implied words s words' s' → 0 < length s.trail.starts → UnitsHaveNoReason s → UnitsHaveNoReason s'
 units_moved live implied words words' s s' h h' m some x i b e = elim (cases_lt i (length s.trail.lits)) [
   | inl lt ↦
       let same : node s' (lit_at s' i) ≡ node s (lit_at s i) = ap (λ l. node s' l) (m.grows.front i lt) ∙ m.grows.nodes (lit_at s i) (h.holds i lt) in

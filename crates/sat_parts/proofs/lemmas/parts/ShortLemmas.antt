@@ -1,4 +1,4 @@
--- Clauses whose literals behind the first two change places, and clauses that are shortened.
+-- Clauses whose literals after the first two change places, and clauses that are shortened.
 use Rattle.std.proofs.Common.{ℕ, ◌≡◌, ◌≢◌, ◌+◌, ◌*◌, ◌<◌, ◌≤◌, inl, inr, List, take, length, get_or, refl, sym, ap, ◌∙◌, subst, arith, false}
 use Rattle.std.proofs.lemmas.Bool.{cases_eq, true≢false}
 use Rattle.std.proofs.lemmas.List.{get_or-take, length-take-le}

@@ -12,12 +12,12 @@ use Rattle.sat_parts.specs.clause.Stored.{lit_of}
 use Rattle.sat_parts.specs.prop.Values.{IsOpenLit}
 use Rattle.sat_parts.specs.prop.Binaries.{implied_by}
 use Rattle.sat_parts.specs.prop.State.{State, node, level, lit_at, StateIsConsistent, TrailGrows, enqueued}
-use Rattle.sat_parts.specs.prop.Reasons.{IsFalseBefore, Implies, AreInTurn}
+use Rattle.sat_parts.specs.prop.Reasons.{IsFalseBefore, Implies, AreUnitInTurn}
 use Rattle.sat_parts.proofs.lemmas.prop.StateLemmas.{grows_enqueued, lit_front, lit_last, node_kept, node_new}
 use Rattle.sat_parts.proofs.lemmas.prop.ReasonLemmas.{implies_forth}
 use Rattle.sat_parts.proofs.lemmas.prop.RoomLemmas.{room_for}
 use Rattle.sat_parts.proofs.lemmas.prop.StepLemmas.{raised}
-use Rattle.sat_parts.specs.parts.Round.{UnitsAreUncaused}
+use Rattle.sat_parts.specs.parts.Round.{UnitsHaveNoReason}
 
 -- a reason that is unit in turn stays so where its clause and what was false before stay
 pub implies_by : (words words' live live' : List ℕ) (implied implied' : List (List ℕ)) (s s' : State) (i : ℕ) (r : Reason) → lit_at s' i ≡ lit_at s i →
@@ -41,13 +41,13 @@ pub turns_by : (words words' live live' : List ℕ) (implied implied' : List (Li
     ((i o : ℕ) → i < length s.trail.lits → (node s (lit_at s i)).reason ≡ Long o → Contains live o → Contains live' o × (lits_at words' o ≡ lits_at words o)) →
     ((i : ℕ) (ls : List ℕ) → i < length s.trail.lits → (node s (lit_at s i)).reason ≡ Binary ls →
     Contains (implied_by implied (negated (get_or ls 0 0))) (lit_at s i) → Contains (implied_by implied' (negated (get_or ls 0 0))) (lit_at s i)) →
-    AreInTurn words live implied s 0 → AreInTurn words' live' implied' s 0
+    AreUnitInTurn words live implied s 0 → AreUnitInTurn words' live' implied' s 0
 turns_by words words' live live' implied implied' s long binary h i p b =
     implies_by words words' live live' implied implied' s s i (node s (lit_at s i)).reason refl (λ m x. x) (λ o e. long i o b e) (λ ls e. binary i ls b e) (h i p b)
 
 -- an open literal becomes true by a reason that is unit in turn
 pub turns_enqueued : (words live : List ℕ) (implied : List (List ℕ)) (s : State) (l : ℕ) (r : Reason) → StateIsConsistent s → IsOpenLit s.values l → variable l < length s.values →
-    Implies words live implied (enqueued l r s) (length s.trail.lits) r → AreInTurn words live implied s 0 → AreInTurn words live implied (enqueued l r s) 0
+    Implies words live implied (enqueued l r s) (length s.trail.lits) r → AreUnitInTurn words live implied s 0 → AreUnitInTurn words live implied (enqueued l r s) 0
 turns_enqueued words live implied s l r h n below cause x i p y =
     let t : State = enqueued l r s in
     let g : TrailGrows s t = grows_enqueued s l r h n below (room_for s l r h n below) in
@@ -63,7 +63,7 @@ turns_enqueued words live implied s l r h n below cause x i p y =
     ]
 
 -- a level begins
-pub turns_raised : (words live : List ℕ) (implied : List (List ℕ)) (s : State) → AreInTurn words live implied s 0 → AreInTurn words live implied (raised s) 0
+pub turns_raised : (words live : List ℕ) (implied : List (List ℕ)) (s : State) → AreUnitInTurn words live implied s 0 → AreUnitInTurn words live implied (raised s) 0
 turns_raised words live implied s h i p b =
     implies_by words words live live implied implied s (raised s) i (node s (lit_at s i)).reason refl
     (λ m x. elim x [
@@ -73,7 +73,7 @@ turns_raised words live implied s h i p b =
     (λ o e c. (c, refl)) (λ ls e c. c) (h i p b)
 
 -- a literal becomes true, at level 0 without a clause as its reason
-pub units_enqueued : (s : State) (l : ℕ) (r : Reason) → StateIsConsistent s → IsOpenLit s.values l → variable l < length s.values → (length s.trail.starts ≡ 0 → r ≡ NoCause) → UnitsAreUncaused s → UnitsAreUncaused (enqueued l r s)
+pub units_enqueued : (s : State) (l : ℕ) (r : Reason) → StateIsConsistent s → IsOpenLit s.values l → variable l < length s.values → (length s.trail.starts ≡ 0 → r ≡ NoCause) → UnitsHaveNoReason s → UnitsHaveNoReason (enqueued l r s)
 units_enqueued s l r h n below bottom x i b e =
     let t : State = enqueued l r s in
     let size : length (s.trail.lits ++ l ∷ []) ≡ length s.trail.lits + 1 = length_push s.trail.lits l in

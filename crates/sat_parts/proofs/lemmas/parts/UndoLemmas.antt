@@ -19,7 +19,7 @@ use Rattle.sat_parts.proofs.lemmas.prop.BacktrackLemmas.{asks_after, turns_after
 use Rattle.sat_parts.proofs.lemmas.prop.StateLemmas.{true_from_false, false_from_true, negated_variable, negated_twice}
 use Rattle.sat_parts.proofs.lemmas.prop.RoomLemmas.{below_from_value}
 use Rattle.sat_parts.proofs.lemmas.prop.WordLemmas.{levels_stay}
-use Rattle.sat_parts.specs.parts.Round.{UnitsAreUncaused, IsBased, IsSoundBelow}
+use Rattle.sat_parts.specs.parts.Round.{UnitsHaveNoReason, IsBased, IsSoundBelow}
 use Rattle.sat_parts.specs.parts.Learned.{IsAnalyzedClause, IsPending}
 use Rattle.sat_parts.proofs.lemmas.parts.ValueLemmas.{open_or_true, not_true, available_kept, available_length, available_there}
 
@@ -64,7 +64,7 @@ sound_undone words db w b a g t q top v h lt below =
       ];
     }
 
-pub units_undone : (a : Values) (g : List ImplNode) (t : Trailed) (v : ℕ) → StateIsConsistent (state_of a g t) → v < length t.starts → UnitsAreUncaused (state_of a g t) → UnitsAreUncaused (state_of (undone_to v t a) g (cut_to v t))
+pub units_undone : (a : Values) (g : List ImplNode) (t : Trailed) (v : ℕ) → StateIsConsistent (state_of a g t) → v < length t.starts → UnitsHaveNoReason (state_of a g t) → UnitsHaveNoReason (state_of (undone_to v t a) g (cut_to v t))
 units_undone a g t v h lt x i b e =
     let s : State = state_of a g t in
     let k : KeepsLow v (state_of a g t) (state_of (undone_to v t a) g (cut_to v t)) = keeps_low v a g t h lt in

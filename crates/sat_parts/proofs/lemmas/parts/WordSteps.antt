@@ -67,12 +67,12 @@ below_front (P ∷ u) w (D ∷ z) h = h
 below_front (P ∷ u) w (P ∷ z) h = below_front u w z h
 
 -- the same letters before both
-below_behind : (k : ℕ) (u v : List Letter) → IsLowerWord u v → IsLowerWord (replicate k P ++ u) (replicate k P ++ v)
-below_behind zero u v h = h
-below_behind (suc k) u v h = below_behind k u v h
+below_after : (k : ℕ) (u v : List Letter) → IsLowerWord u v → IsLowerWord (replicate k P ++ u) (replicate k P ++ v)
+below_after zero u v h = h
+below_after (suc k) u v h = below_after k u v h
 
-begins_behind : (k : ℕ) (u v : List Letter) → Begins u v → Begins (replicate k P ++ u) (replicate k P ++ v)
-begins_behind k u v x = (x.0, ap (λ (z : List Letter). replicate k P ++ z) x.1 ∙ sym (append_assoc (replicate k P) u x.0))
+begins_after : (k : ℕ) (u v : List Letter) → Begins u v → Begins (replicate k P ++ u) (replicate k P ++ v)
+begins_after k u v x = (x.0, ap (λ (z : List Letter). replicate k P ++ z) x.1 ∙ sym (append_assoc (replicate k P) u x.0))
 
 -- letters go by places alone
 letters_length : (starts xs ys : List ℕ) (at : ℕ) → length xs ≡ length ys → letters starts xs at ≡ letters starts ys at
@@ -367,7 +367,7 @@ word_goes am s q s' q' stay more = (
     replicate (length x.gone) P ++ trail_letters s'.trail,
     (
       record { gone = x.gone; distinct = x.distinct; each = λ k b. stay.gone (get_or x.gone k 0) (x.each k b); is = refl },
-      subst (λ (u : List Letter). Begins u (replicate (length x.gone) P ++ trail_letters s'.trail)) (sym x.is) (begins_behind (length x.gone) (trail_letters s.trail) (trail_letters s'.trail) more),
+      subst (λ (u : List Letter). Begins u (replicate (length x.gone) P ++ trail_letters s'.trail)) (sym x.is) (begins_after (length x.gone) (trail_letters s.trail) (trail_letters s'.trail) more),
     ),
   ),
 )
@@ -379,7 +379,7 @@ word_rises am s q s' q' stay more = (
     replicate (length x.gone) P ++ trail_letters s'.trail,
     (
       record { gone = x.gone; distinct = x.distinct; each = λ k b. stay.gone (get_or x.gone k 0) (x.each k b); is = refl },
-      subst (λ (u : List Letter). IsLowerWord u (replicate (length x.gone) P ++ trail_letters s'.trail)) (sym x.is) (below_behind (length x.gone) (trail_letters s.trail) (trail_letters s'.trail) more),
+      subst (λ (u : List Letter). IsLowerWord u (replicate (length x.gone) P ++ trail_letters s'.trail)) (sym x.is) (below_after (length x.gone) (trail_letters s.trail) (trail_letters s'.trail) more),
     ),
   ),
 )

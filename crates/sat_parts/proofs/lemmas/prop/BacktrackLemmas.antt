@@ -18,7 +18,7 @@ use Rattle.sat_parts.specs.prop.Binaries.{implied_by}
 use Rattle.sat_parts.specs.prop.WatchLists.{Watching}
 use Rattle.sat_parts.specs.prop.Backtracked.{KeepsLow}
 use Rattle.sat_parts.specs.prop.State.{State, node, level, lit_at, IsRemoved, IsBefore, HasLeftQueue, StateIsConsistent, IsQueueCurrent, IsSatisfied}
-use Rattle.sat_parts.specs.prop.Reasons.{IsFalseBefore, Implies, AreInTurn}
+use Rattle.sat_parts.specs.prop.Reasons.{IsFalseBefore, Implies, AreUnitInTurn}
 use Rattle.sat_parts.specs.prop.Ready.{AreWatched, AreLists}
 use Rattle.sat_parts.specs.prop.Asks.{PropagationInvariant, PropagationPrecondition}
 use Rattle.sat_parts.proofs.lemmas.prop.StateLemmas.{left_true}
@@ -95,7 +95,7 @@ cut_length v a nodes t h lt = length-take-le (cut_at v t) t.lits (cut_within v a
 cut_lit : (v : ℕ) (a : Values) (nodes : List ImplNode) (t : Trailed) (i : ℕ) → i < cut_at v t → lit_at (after v a nodes t) i ≡ lit_at (before a nodes t) i
 cut_lit v a nodes t i lt = get_or-take (cut_at v t) t.lits i 0 lt
 
--- an undone literal stood at a place behind the cut
+-- an undone literal stood at a place after the cut
 undone_lit : (v : ℕ) (a : Values) (nodes : List ImplNode) (t : Trailed) (k : ℕ) → get_or (drop (cut_at v t) t.lits) k 0 ≡ lit_at (before a nodes t) (cut_at v t + k)
 undone_lit v a nodes t k = get_or-drop (cut_at v t) t.lits k 0
 
@@ -274,9 +274,9 @@ keeps_low v a nodes t h lt =
           omega (arith, l.not_begun v low lt);
     }
 
--- all that was undone was in the queue or behind its head
-head_behind : (v : ℕ) (a : Values) (nodes : List ImplNode) (t : Trailed) → StateIsConsistent (before a nodes t) → IsQueueCurrent (before a nodes t) → v < length t.starts → cut_at v t ≤ t.head
-head_behind v a nodes t h q lt = elim (cases_lt t.head (length t.lits)) [
+-- all that was undone was in the queue or after its head
+head_after : (v : ℕ) (a : Values) (nodes : List ImplNode) (t : Trailed) → StateIsConsistent (before a nodes t) → IsQueueCurrent (before a nodes t) → v < length t.starts → cut_at v t ≤ t.head
+head_after v a nodes t h q lt = elim (cases_lt t.head (length t.lits)) [
   | inl b ↦
       let s : State = before a nodes t in
       let l : LevelIs t.starts t.head (level s (lit_at s t.head)) = h.levels t.head b in
@@ -288,7 +288,7 @@ left_after : (v : ℕ) (a : Values) (nodes : List ImplNode) (t : Trailed) (m : �
     HasLeftQueue (after v a nodes t) m → HasLeftQueue (before a nodes t) m × (level (before a nodes t) m ≤ v)
 left_after v a nodes t m h q lt f =
     let x : IsTrueLit a.current m × IsKept v a nodes t m = true_kept v a nodes t m h lt (left_true (after v a nodes t) m (agrees_after v a nodes t h lt) f) in
-    let le : cut_at v t ≤ t.head = head_behind v a nodes t h q lt in (
+    let le : cut_at v t ≤ t.head = head_after v a nodes t h q lt in (
       elim x.1 [
         | inl b ↦ inl (record { place = b.place; before = omega (arith, b.before); within = b.within; there = b.there })
         | inr r ↦ inr r
@@ -357,7 +357,7 @@ implies_after words live implied v a nodes t i (Long o) h lt b x =
 
 -- reasons that are unit in turn stay so
 pub turns_after : (words live : List ℕ) (implied : List (List ℕ)) (v : ℕ) (a : Values) (nodes : List ImplNode) (t : Trailed) (from : ℕ) → StateIsConsistent (before a nodes t) → v < length t.starts →
-    AreInTurn words live implied (before a nodes t) from → AreInTurn words live implied (after v a nodes t) from
+    AreUnitInTurn words live implied (before a nodes t) from → AreUnitInTurn words live implied (after v a nodes t) from
 turns_after words live implied v a nodes t from h lt x i le b =
     let n : length (take (cut_at v t) t.lits) ≡ cut_at v t = cut_length v a nodes t h lt in
     let q : i < cut_at v t = omega arith in

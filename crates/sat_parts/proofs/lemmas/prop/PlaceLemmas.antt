@@ -6,7 +6,7 @@ use Rattle.std.proofs.lemmas.List.{ext_get_or, get_or_past, get_or-take, get_or-
 use Rattle.std.proofs.lemmas.List.Sums.{sum_by_more}
 use Rattle.std.specs.List.{sum_by}
 use Rattle.sat_parts.specs.declared.binary.Place.{Place}
-use Rattle.sat_parts.specs.prop.Places.{no_place, place_at, part_of, lists_of, HaveNoCommonPlace, ArePlaces, CopiesPart}
+use Rattle.sat_parts.specs.prop.Places.{no_place, place_at, part_of, lists_of, HaveNoCommonPlace, ArePlaces, CopiesPadded}
 
 pub lists_at : (places : List Place) (lits : List ℕ) (l : ℕ) → get_or (lists_of places lits) l [] ≡ part_of lits (place_at places l)
 lists_at places lits l = get_or-map (part_of lits) places l no_place
@@ -92,7 +92,7 @@ part_kept places lits more code m h le n same =
     ]))
 
 pub lists_moved : (places : List Place) (lits more : List ℕ) (code room : ℕ) → ArePlaces places (length lits) → code < length places → (place_at places code).len ≤ room →
-    CopiesPart (place_at places code).start (place_at places code).len room lits more →
+    CopiesPadded (place_at places code).start (place_at places code).len room lits more →
     lists_of (set places code (record { start = length lits; len = (place_at places code).len; room = room })) more ≡ lists_of places lits
 lists_moved places lits more code room h lt few c =
     let p : Place = place_at places code in
@@ -208,8 +208,8 @@ pub pushed_by : (places : List Place) (lits : List ℕ) (code x : ℕ) (p : Plac
 pushed_by places lits code x p e h lt room = rw e (lists_pushed places lits code x h lt room)
 
 pub moved_by : (places : List Place) (lits more : List ℕ) (code start room : ℕ) (p : Place) → p ≡ place_at places code → start ≡ length lits → ArePlaces places (length lits) → code < length places → p.len ≤ room →
-    CopiesPart p.start p.len room lits more → lists_of (set places code (record { start = start; len = p.len; room = room })) more ≡ lists_of places lits
-moved_by places lits more code start room p e s h lt few c = rw (s, e) (lists_moved places lits more code room h lt (subst (λ (q : Place). q.len ≤ room) e few) (subst (λ (q : Place). CopiesPart q.start q.len room lits more) e c))
+    CopiesPadded p.start p.len room lits more → lists_of (set places code (record { start = start; len = p.len; room = room })) more ≡ lists_of places lits
+moved_by places lits more code start room p e s h lt few c = rw (s, e) (lists_moved places lits more code room h lt (subst (λ (q : Place). q.len ≤ room) e few) (subst (λ (q : Place). CopiesPadded q.start q.len room lits more) e c))
 
 pub left_by : (places : List Place) (lits more : List ℕ) (code left : ℕ) (f : List ℕ → List ℕ) (p : Place) → p ≡ place_at places code → ArePlaces places (length lits) → length more ≡ length lits → code < length places →
     take left (drop p.start more) ≡ f (part_of lits p) →
@@ -227,15 +227,15 @@ left_len places more code left start room lt within =
     let q : Place = record { start = start; len = left; room = room } in
     sym (ap (λ (xs : List ℕ). length xs) (lists_at (set places code q) more code ∙ ap (λ (r : Place). part_of more r) (get_or-set_same places code q no_place lt)) ∙ part_len more q within)
 
--- outside a part nothing is changed, where what is before and behind it is the same
+-- outside a part nothing is changed, where what is before and after it is the same
 pub rest_by : (old cur : List ℕ) (start len : ℕ) → take start cur ≡ take start old → drop len (drop start cur) ≡ drop len (drop start old) → (k : ℕ) → (k < start) ⊎ (start + len ≤ k) → get_or cur k 0 ≡ get_or old k 0
-rest_by old cur start len front behind k away = elim away [
+rest_by old cur start len front following k away = elim away [
   | inl lt ↦ sym (get_or-take start cur k 0 lt) ∙ ap (λ (xs : List ℕ). get_or xs k 0) front ∙ get_or-take start old k 0 lt
   | inr le ↦
       let e : start + (len + (k - (start + len))) ≡ k = omega arith in
       let at : (xs : List ℕ) → get_or (drop len (drop start xs)) (k - (start + len)) 0 ≡ get_or xs k 0 = λ xs.
       get_or-drop len (drop start xs) (k - (start + len)) 0 ∙ get_or-drop start xs (len + (k - (start + len))) 0 ∙ ap (λ (i : ℕ). get_or xs i 0) e in
-      sym (at cur) ∙ ap (λ (xs : List ℕ). get_or xs (k - (start + len)) 0) behind ∙ at old
+      sym (at cur) ∙ ap (λ (xs : List ℕ). get_or xs (k - (start + len)) 0) following ∙ at old
 ]
 
 -- one list more is counted, in the code's words

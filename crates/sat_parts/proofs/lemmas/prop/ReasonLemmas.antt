@@ -13,7 +13,7 @@ use Rattle.sat_parts.specs.clause.Stored.{AreClauses, lit_of, size_of}
 use Rattle.sat_parts.specs.prop.Values.{IsTrueLit, IsOpenLit}
 use Rattle.sat_parts.specs.prop.Graphs.{is_unit_reason}
 use Rattle.sat_parts.specs.prop.State.{State, node, lit_at, StateIsConsistent, TrailGrows, enqueued}
-use Rattle.sat_parts.specs.prop.Reasons.{HasClauseReason, IsFalseBefore, Implies, AreInTurn, HaveFirsts, PropagatesOn}
+use Rattle.sat_parts.specs.prop.Reasons.{HasClauseReason, IsFalseBefore, Implies, AreUnitInTurn, HaveFirsts, PropagatesOn}
 use Rattle.sat_parts.proofs.lemmas.clause.OrderLemmas.{reorders_refl, reorders_trans, reorders_one}
 use Rattle.sat_parts.proofs.lemmas.prop.StateLemmas.{before_forth, removed_forth, grows_refl, grows_trans, grows_enqueued, lit_front, lit_last, node_kept, node_new, true_new}
 
@@ -156,6 +156,6 @@ firsts_moved live implied words s words' s' a m h i o p e = elim (cases_lt i (le
       let x : Contains live o × (lit_of words o 0 ≡ lit_at s i) = h i o lt (sym f ∙ e) in
       (x.0, m.firsts o x.0 (subst (λ (l : ℕ). IsTrueLit s.values l) (sym x.1) (a.holds i lt)) ∙ x.1 ∙ sym (m.grows.front i lt))
   | inr le ↦
-      let none : AreInTurn words live implied s (length s.trail.lits) = λ j x y. absurd (omega arith) in
+      let none : AreUnitInTurn words live implied s (length s.trail.lits) = λ j x y. absurd (omega arith) in
       from_long words' live implied s' i o (node s' (lit_at s' i)).reason e (m.turns (length s.trail.lits) (omega arith) none i le p)
 ]

@@ -36,8 +36,8 @@ same_sign b e = grind (arith, nat_tests)
 some_back : (x y : Bool) → Some x ≡ Some y → x ≡ y
 some_back x y e = cc
 
-pub not_both : (values : List (Option Bool)) (l : ℕ) → IsTrueLit values l → IsFalseLit values l → ⊥
-not_both values l t f = same_sign (is_positive l) (some_back (is_positive l) (not (is_positive l)) (sym t ∙ f))
+pub model_excludes_core : (values : List (Option Bool)) (l : ℕ) → IsTrueLit values l → IsFalseLit values l → ⊥
+model_excludes_core values l t f = same_sign (is_positive l) (some_back (is_positive l) (not (is_positive l)) (sym t ∙ f))
 
 some_none : {b : Bool} {o : Option Bool} → o ≡ Some b → o ≡ None → ⊥
 some_none p q = (let e : Some _ ≡ None = sym p ∙ q in cc)
@@ -49,7 +49,7 @@ open_other values l m n t e = some_none t (ap (λ v. value_of values v) e ∙ n)
 pub lit_from_parts : (m l : ℕ) → variable m ≡ variable l → is_positive m ≡ is_positive l → m ≡ l
 lit_from_parts m l v p = grind (arith, nat_tests)
 
--- the literals of the trail stay, one behind them is new
+-- the literals of the trail stay, one after them is new
 pub lit_front : (s : State) (l : ℕ) (r : Reason) (i : ℕ) → i < length s.trail.lits → lit_at (enqueued l r s) i ≡ lit_at s i
 lit_front s l r i h = get_or_append_left s.trail.lits (l ∷ []) 0 i h
 

@@ -10,7 +10,7 @@ pub cut_more : (items old : List Watch) (w : Watch) (kept at to from : ℕ) →
     w ≡ get_or items from w → get_or items from no_watch ≡ get_or old from no_watch →
     take to items ≡ take kept old ++ take (from - at) (drop at old) →
     take (to + 1) (set items to w) ≡ take kept old ++ take (from + 1 - at) (drop at old)
-cut_more items old w kept at to from place behind order lt size read rest moved =
+cut_more items old w kept at to from place following order lt size read rest moved =
     let n : from + 1 - at ≡ (from - at) + 1 = omega arith in
     let len : length (drop at old) ≡ length old - at = length-drop at old in
     let same : w ≡ get_or (drop at old) (from - at) no_watch =
@@ -24,7 +24,7 @@ cut_more items old w kept at to from place behind order lt size read rest moved 
     ∙ sym (take_more (drop at old) (from - at) no_watch (omega arith))
     ∙ ap (λ k. take k (drop at old)) (sym n))
 
--- what was put behind a list is taken out again
+-- what was put after a list is taken out again
 pub pushed_back : {A : Type 0} (lists : List (List A)) (l : ℕ) (x : A) → l < length lists →
     set (set lists l (get_or lists l [] ++ x ∷ [])) l (take (length (get_or (set lists l (get_or lists l [] ++ x ∷ [])) l []) - 1) (get_or (set lists l (get_or lists l [] ++ x ∷ [])) l [])) ≡ lists
 pushed_back {A} lists l x lt =

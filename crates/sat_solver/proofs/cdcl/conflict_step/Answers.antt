@@ -7,7 +7,7 @@ use Rattle.sat_solver.specs.declared.cdcl.find_conflict.FoundConflict.TheVariant
 use Rattle.sat_solver.specs.cdcl.Turns.{StopsSearch}
 use Rattle.sat_solver.specs.cdcl.Rounds.{RoundSays}
 use Rattle.sat_solver.proofs.lemmas.cdcl.EndingLemmas.{ends_refuted, ends_on}
-use Rattle.sat_solver.proofs.lemmas.cdcl.GoingLemmas.{goes_behind, goes_failing, goes_or, goes_quietly}
+use Rattle.sat_solver.proofs.lemmas.cdcl.GoingLemmas.{goes_after, goes_failing, goes_or, goes_quietly}
 use Rattle.sat_solver.proofs.lemmas.cdcl.RoundLemmas.{round_from, search_failed}
 use Rattle.sat_solver.proofs.lemmas.unit_simplify.PassesLemmas.{falls_or}
 use Rattle.sat_solver.proofs.cdcl.conflict_step.Goals as goal
@@ -56,7 +56,7 @@ returns-in-Falsified g c =
     let f = c.find_conflict.new.search in
     let e = c.resolve-in-Falsified.new.search in
     ends_on g.W.CountedWrite.seen _ _ _ _ _ _ (rw c.in-None.is at c.in_ok-begun.ensures) c.resolve-in-Falsified.result z e
-    (goes_behind g.W.CountedWrite.seen _ c.resolve-in-Falsified.result _ q z _ _ _ c.in_ok-stop.ensures c.resolve-in-Falsified.ensures
+    (goes_after g.W.CountedWrite.seen _ c.resolve-in-Falsified.result _ q z _ _ _ c.in_ok-stop.ensures c.resolve-in-Falsified.ensures
     (λ xs ys outcome added quiet stopped says.
     let x : StopsSearch (Falsified c.in-Falsified.conflict) (session_of q) d f = subst (λ stop. StopsSearch stop (session_of q) d f) c.in-Falsified.is stopped in
     round_from outcome (steps_of c.begin_round.new.proof) xs ys (session_of z) d f e x.moved x.word quiet

@@ -10,7 +10,7 @@ use Rattle.sat_solver.specs.session.FitLaws.{named_hashes}
 use Rattle.sat_solver.proofs.lemmas.fits.UnitLemmas.{empty_may}
 use Rattle.sat_solver.proofs.lemmas.fits.StepLemmas.{orderly_from, conflict_clause}
 use Rattle.sat_solver.specs.cdcl.Going.{proof_fault}
-use Rattle.sat_solver.proofs.lemmas.cdcl.GoingLemmas.{goes_starved, goes_step, goes_broken, goes_behind, goes_then_fails}
+use Rattle.sat_solver.proofs.lemmas.cdcl.GoingLemmas.{goes_starved, goes_step, goes_broken, goes_after, goes_then_fails}
 use Rattle.sat_solver.proofs.lemmas.cdcl.RoundLemmas.{refutes_later}
 use Rattle.sat_solver.specs.cdcl.Rounds.{LastRefutes}
 use Rattle.sat_solver.specs.declared.error.SolverError.TheVariants as errors
@@ -39,7 +39,7 @@ step-requires-clause-may g c =
 pub returns : goal.returns
 returns g c =
     let step : Step = AtClause false [] c.deref.result.now in
-    goes_behind g.W.CountedWrite.seen c.in_ok-write_units.field-0 (Ok tt) c.args.proof.now c.write_units.new.proof c.step.new.self _ _ _ c.in_ok-write_units.ensures
+    goes_after g.W.CountedWrite.seen c.in_ok-write_units.field-0 (Ok tt) c.args.proof.now c.write_units.new.proof c.step.new.self _ _ _ c.in_ok-write_units.ensures
     (goes_step g.W.CountedWrite.seen tt c.write_units.new.proof c.step.new.self step (λ _ steps. LastRefutes (steps_of c.write_units.new.proof) steps (session_of c.step.new.self)) tt refl c.in_ok-step.ensures.keeps c.in_ok-step.ensures.records
     (record { last = step; rest = []; is = refl; before = c.in_ok-write_units.ensures.ends.fits.consistent; now = ap (λ ss. (session_after ss).unsat) c.in_ok-step.ensures.records.history; quiet = (refl, tt) }))
     (λ xs ys y added quiet a b. refutes_later (steps_of c.args.proof.now) xs ys (session_of c.step.new.self) quiet (subst (λ zs. LastRefutes zs ys (session_of c.step.new.self)) added b))

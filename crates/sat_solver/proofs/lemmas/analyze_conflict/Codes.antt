@@ -38,7 +38,7 @@ last_place s flags p at lits e lt f others = record {
 
 -- the clause of a reason above level 0 stands in the buffer
 pub taken_stands : (words : List ℕ) (s : State) (p o : ℕ) (r : Reason) → CanAnalyze words s → get_or s.trail.starts 0 0 ≤ p → p < length s.trail.lits → r ≡ (node s (lit_at s p)).reason → r ≡ Long o → IsClause words o × (0 < length (lits_at words o))
-taken_stands words s p o r can first within r_is e = can.stands p o first within (sym r_is ∙ e)
+taken_stands words s p o r can first within r_is e = can.valid p o first within (sym r_is ∙ e)
 
 -- and its literals have nodes
 pub before_nodes : (words : List ℕ) (s : State) (p k : ℕ) (ls : List ℕ) → CanAnalyze words s → get_or s.trail.starts 0 0 ≤ p → p < length s.trail.lits → ls ≡ causes_at words s (lit_at s p) → k < length ls → variable (get_or ls k 0) < length s.nodes
@@ -49,7 +49,7 @@ before_nodes words s p k ls can first within e lt =
 -- a used literal stands on the trail: the clause of its reason stands in the buffer, and its literals have nodes
 pub reasoned_stands : (words : List ℕ) (s : State) (l o : ℕ) (r : Reason) → CanAnalyze words s → IsReasoned s 0 l → r ≡ (node s l).reason → r ≡ Long o → IsClause words o × (0 < length (lits_at words o))
 reasoned_stands words s l o r can x r_is e =
-    can.stands x.place o (above_first s x.place l can.agrees x.within x.there x.above can.above) x.within (ap (λ z. (node s z).reason) x.there ∙ sym r_is ∙ e)
+    can.valid x.place o (above_first s x.place l can.agrees x.within x.there x.above can.above) x.within (ap (λ z. (node s z).reason) x.there ∙ sym r_is ∙ e)
 
 pub reasoned_nodes : (words : List ℕ) (s : State) (l k : ℕ) (ls : List ℕ) → CanAnalyze words s → IsReasoned s 0 l → ls ≡ causes_at words s l → k < length ls → variable (get_or ls k 0) < length s.nodes
 reasoned_nodes words s l k ls can x e lt =

@@ -43,7 +43,7 @@ not_listed s met flags at r a h above l f c = elim (l.passed (variable r) c) [
   | inl t ↦ both_ways (get_or flags (variable r) false) f t
   | inr x ↦
       let b : IsBefore s at (negated r) = stands_before s at r h above in
-      omega (arith, x.behind, b.before, places_apart s b.place x.place a b.within x.within (ap (λ z. variable z) b.there ∙ negated_variable r ∙ sym x.there))
+      omega (arith, x.following, b.before, places_apart s b.place x.place a b.within x.within (ap (λ z. variable z) b.there ∙ negated_variable r ∙ sym x.there))
 ]
 
 -- one that is flagged now is listed
@@ -154,10 +154,10 @@ listed_passed s w p at lt le l = record {
   within = l.within;
   flagged = λ u e. l.flagged u (lowered w.flags (variable (lit_at s p)) u e);
   passed = λ u c. elim (cases_eq u (variable (lit_at s p))) [
-    | inl q ↦ inr (record { place = p; behind = omega arith; within = omega arith; there = sym q })
+    | inl q ↦ inr (record { place = p; following = omega arith; within = omega arith; there = sym q })
     | inr n ↦ elim (l.passed u c) [
       | inl t ↦ inl (get_or-set_other w.flags (variable (lit_at s p)) u false false n ∙ t)
-      | inr x ↦ inr (record { place = x.place; behind = omega (arith, x.behind); within = x.within; there = x.there })
+      | inr x ↦ inr (record { place = x.place; following = omega (arith, x.following); within = x.within; there = x.there })
     ]
   ];
 }

@@ -92,10 +92,10 @@ dropped words s conflict first low c xs ys w w' h other m x =
       lower = λ r b. elim (h.lower r (in_middle xs ys c r b)) [ inl e ↦ inl e | inr l ↦ inr (lower_kept s w1 w' r m (same_flags s w (negated c) r l)) ];
       only = λ v e. elim (m.raised v e) [
         | inl f ↦ elim (h.only v f) [
-          | inl y ↦ has_other xs ys c w w' low v h.searching.behind y c_at (omega (arith, m.longer))
-          | inr y ↦ inr (record { place = y.place; behind = y.behind; within = omega (arith, y.within, m.longer); there = ap (λ z. variable z) (old_at y.place y.within) ∙ y.there })
+          | inl y ↦ has_other xs ys c w w' low v h.searching.following y c_at (omega (arith, m.longer))
+          | inr y ↦ inr (record { place = y.place; following = y.following; within = omega (arith, y.within, m.longer); there = ap (λ z. variable z) (old_at y.place y.within) ∙ y.there })
         ]
-        | inr y ↦ inr (record { place = y.place; behind = omega (arith, y.behind, h.searching.behind); within = y.within; there = y.there })
+        | inr y ↦ inr (record { place = y.place; following = omega (arith, y.following, h.searching.following); within = y.within; there = y.there })
       ];
       apart = λ l a b.
           let l_at : get_or w'.used a.0 0 ≡ l = at_place w'.used l a in
@@ -108,7 +108,7 @@ dropped words s conflict first low c xs ys w w' h other m x =
               | inr d ↦
                   let fresh : get_or w.flags (variable l) false ≡ false = ap (λ z. get_or w.flags (variable z) false) (sym l_at) ∙ m.fresh a.0 (omega arith) a.1 in
                   elim (h.lower (negated l) (in_middle xs ys c (negated l) b)) [
-                    | inl e ↦ low_not_top s low w'.flags a.0 l first (subst (λ z. IsUse s low w'.flags a.0 z) l_at (x.uses a.0 a.1)) (omega (arith, h.searching.behind)) e h.top
+                    | inl e ↦ low_not_top s low w'.flags a.0 l first (subst (λ z. IsUse s low w'.flags a.0 z) l_at (x.uses a.0 a.1)) (omega (arith, h.searching.following)) e h.top
                     | inr y ↦ both_ways (get_or w.flags (variable l) false) fresh (ap (λ v. get_or w.flags v false) (sym (negated_variable l)) ∙ y.flagged)
                   ]
             ]
@@ -119,8 +119,8 @@ dropped words s conflict first low c xs ys w w' h other m x =
     same_flags s w l r h = h
 
     has_other : (xs ys : List ℕ) (c : ℕ) (w w' : Work) (low v : ℕ) → low ≤ length w.used → HasVariable (xs ++ c ∷ ys) v → get_or w'.used (length w.used) 0 ≡ negated c → length w.used < length w'.used → HasVariable (xs ++ ys) v ⊎ IsNewUse w'.used low v
-    has_other xs ys c w w' low v behind y c_at lt = elim (out_of_middle xs ys c (get_or (xs ++ c ∷ ys) y.0 0) (place_in (xs ++ c ∷ ys) y.0 y.1.0)) [
-      | inl e ↦ inr (record { place = length w.used; behind = behind; within = lt; there = ap (λ z. variable z) c_at ∙ negated_variable c ∙ ap (λ z. variable z) e ∙ y.1.1 })
+    has_other xs ys c w w' low v following y c_at lt = elim (out_of_middle xs ys c (get_or (xs ++ c ∷ ys) y.0 0) (place_in (xs ++ c ∷ ys) y.0 y.1.0)) [
+      | inl e ↦ inr (record { place = length w.used; following = following; within = lt; there = ap (λ z. variable z) c_at ∙ negated_variable c ∙ ap (λ z. variable z) e ∙ y.1.1 })
       | inr d ↦ inl (d.0, (d.1, ap (λ z. variable z) (at_place (xs ++ ys) (get_or (xs ++ c ∷ ys) y.0 0) d) ∙ y.1.1))
     ]
 

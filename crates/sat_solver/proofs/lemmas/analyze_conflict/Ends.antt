@@ -94,7 +94,7 @@ joined xs r =
       first = ap (λ (ys : List ℕ). get_or ys 0 0) (sym is) ∙ swapped_at (xs ++ r ∷ []) 0 (length xs) 0 (omega arith) (omega arith) ∙ ap (λ k. get_or (xs ++ r ∷ []) k 0) (other_end (length xs)) ∙ get_or_push xs r 0 (length xs) refl;
     }
 
--- a literal of the other clause behind the first one
+-- a literal of the other clause after the first one
 record FromOld (xs ys : List ℕ) (k : ℕ) : Type 0 where
   place : ℕ
   within : place < length xs
@@ -114,8 +114,8 @@ from_either xs r ys k h lt =
 joined_distinct : (xs : List ℕ) (r : ℕ) (ys : List ℕ) → Joined xs r ys → AreDistinct xs → ((k : ℕ) → k < length xs → get_or xs k 0 ≡ r → ⊥) → AreDistinct ys
 joined_distinct xs r ys h d other = h.lits.apart (distinct_push xs r d other)
 
-from_behind : (xs : List ℕ) (r : ℕ) (ys : List ℕ) (k : ℕ) → Joined xs r ys → AreDistinct ys → 0 < k → k < length ys → FromOld xs ys k
-from_behind xs r ys k h d pos lt = elim (from_either xs r ys k h lt) [
+from_after : (xs : List ℕ) (r : ℕ) (ys : List ℕ) (k : ℕ) → Joined xs r ys → AreDistinct ys → 0 < k → k < length ys → FromOld xs ys k
+from_after xs r ys k h d pos lt = elim (from_either xs r ys k h lt) [
   | inl e ↦ absurd (omega (arith, d k 0 lt (omega arith) (e ∙ sym h.first)))
   | inr o ↦ o
 ]
@@ -158,7 +158,7 @@ asserting_first s w p ys a within top m j d =
       ];
       top = ap (λ z. level s z) j.first ∙ level_by_variable s (negated (lit_at s p)) (lit_at s p) (negated_variable (lit_at s p)) ∙ top;
       lower = λ k b lt.
-          let o : FromOld w.clause ys k = from_behind w.clause (negated (lit_at s p)) ys k j d b lt in
+          let o : FromOld w.clause ys k = from_after w.clause (negated (lit_at s p)) ys k j d b lt in
           subst (λ z. (0 < level s z) × (level s z < current_level s)) o.same ((m.lower o.place o.within).above, (m.lower o.place o.within).below);
       distinct = d;
     }
@@ -223,7 +223,7 @@ finished words s conflict w p at can r one h b =
             (no_flag s t (set w.flags (variable l) false) p x.place none x.before x.high) (ap (λ z. get_or (set w.flags (variable l) false) z false) x.there ∙ e))
       ];
       flagged = λ k pos lt.
-          let o : FromOld w.clause ys k = from_behind w.clause (negated l) ys k j d pos lt in
+          let o : FromOld w.clause ys k = from_after w.clause (negated l) ys k j d pos lt in
           ap (λ z. get_or (set w.flags (variable l) false) (variable z) false) (sym o.same) ∙ (m.lower o.place o.within).flagged;
     }
   where

@@ -31,7 +31,7 @@ grounds_shuffled words s conflict learned learned' used p g =
     moved s learned learned' used r p (grounded_clause c) = grounded_clause (Contains-permutation learned learned' r p.order c)
     moved s learned learned' used r p (grounded_reason c) = grounded_reason c
 
--- each literal of the other order was at a place, and behind the first one at one behind the first
+-- each literal of the other order was at a place, and after the first one at one after the first
 at_other : (ls ms : List ℕ) (k : ℕ) → IsReordering ls ms → k < length ms → (j : ℕ) × ((j < length ls) × (get_or ls j 0 ≡ get_or ms k 0))
 at_other ls ms k p lt = p.back k (omega (arith, p.size))
 

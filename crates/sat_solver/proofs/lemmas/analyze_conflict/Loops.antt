@@ -39,7 +39,7 @@ minimal_over words s conflict first low rest xs w h = record {
   searching = record {
     size = h.searching.size;
     within = h.searching.within;
-    behind = h.searching.behind;
+    following = h.searching.following;
     reasons = h.searching.reasons;
     uses = h.searching.uses;
     distinct = h.searching.distinct;
@@ -58,7 +58,7 @@ minimal_over words s conflict first low rest xs w h = record {
 pub record HasAccepted (words : List ℕ) (s : State) (conflict : List ℕ) (first low kept at : ℕ) (clause : List ℕ) (w : Work) : Type 0 where
   pub minimal : Minimal words s conflict first low (take kept clause ++ drop at clause) w
   pub some : 1 ≤ kept
-  pub behind : kept ≤ at
+  pub following : kept ≤ at
   pub within : at < length clause
   pub head : get_or clause 0 0 ≡ first
 
@@ -81,7 +81,7 @@ pub not_first : (words : List ℕ) (s : State) (conflict : List ℕ) (first low 
 not_first words s conflict first low kept at clause w h e =
     let c : ℕ = get_or clause at 0 in
     let rest : List ℕ = take kept clause ++ c ∷ drop (at + 1) clause in
-    let n : length (take kept clause) ≡ kept = length-take-le kept clause (omega (arith, h.behind, h.within)) in
+    let n : length (take kept clause) ≡ kept = length-take-le kept clause (omega (arith, h.following, h.within)) in
     let m : length rest ≡ length (take kept clause) + length (c ∷ drop (at + 1) clause) = length-append (take kept clause) (c ∷ drop (at + 1) clause) in
     let a : get_or rest 0 0 ≡ first = get_or_append_left (take kept clause) (c ∷ drop (at + 1) clause) 0 0 (omega (arith, h.some)) ∙ get_or-take kept clause 0 0 (omega (arith, h.some)) ∙ h.head in
     let b : get_or rest kept 0 ≡ c = get_or_at (take kept clause) c (drop (at + 1) clause) 0 kept n in
@@ -90,7 +90,7 @@ not_first words s conflict first low kept at clause w h e =
 
 pub lower_here : (words : List ℕ) (s : State) (conflict : List ℕ) (first low kept at : ℕ) (clause : List ℕ) (w : Work) → HasAccepted words s conflict first low kept at clause w → IsLower s (current_level s) w.flags (get_or clause at 0)
 lower_here words s conflict first low kept at clause w h =
-    elim ((split words s conflict first low kept at clause w h).lower (get_or clause at 0) (in_rest kept at clause h.behind h.within)) [
+    elim ((split words s conflict first low kept at clause w h).lower (get_or clause at 0) (in_rest kept at clause h.following h.within)) [
       | inl e ↦ absurd (not_first words s conflict first low kept at clause w h e)
       | inr x ↦ x
     ]
@@ -122,7 +122,7 @@ pub record Goes (words : List ℕ) (s : State) (conflict : List ℕ) (first low 
   pub front : KeepsFront old w
   pub minimal : Minimal words s conflict first low (take kept w.clause ++ drop at w.clause) w
   pub some : 1 ≤ kept
-  pub behind : kept ≤ at
+  pub following : kept ≤ at
   pub length_is : length w.clause ≡ size
   pub head : get_or w.clause 0 0 ≡ first
 
@@ -141,10 +141,10 @@ goes_kept words s conflict first low kept at old w w1 w2 f h same e =
     let other : 0 ≢ kept = λ q. omega (arith, h.some, q) in
     subst (λ (x : Work). Goes words s conflict first low (kept + 1) (at + 1) (length w.clause) old x) (sym is) (record {
       front = record { met = f.met; involved = f.involved; longer = f.longer; front = f.front };
-      minimal = subst (λ (xs : List ℕ). Minimal words s conflict first low xs new) (sym (kept_list kept at c w.clause h.behind h.within))
+      minimal = subst (λ (xs : List ℕ). Minimal words s conflict first low xs new) (sym (kept_list kept at c w.clause h.following h.within))
           (minimal_over words s conflict first low (take kept w.clause ++ c ∷ drop (at + 1) w.clause) (set w.clause kept c) w (split words s conflict first low kept at w.clause w h));
       some = omega arith;
-      behind = omega (arith, h.behind);
+      following = omega (arith, h.following);
       length_is = length-set w.clause kept c;
       head = get_or-set_other w.clause kept 0 c 0 other ∙ h.head;
     })
@@ -158,7 +158,7 @@ goes_dropped words s conflict first low kept at old w w' f h m x =
       minimal = subst (λ (xs : List ℕ). Minimal words s conflict first low (take kept xs ++ drop (at + 1) xs) w') (sym m.clause)
           (dropped words s conflict first low c (take kept w.clause) (drop (at + 1) w.clause) w w' (split words s conflict first low kept at w.clause w h) (not_first words s conflict first low kept at w.clause w h) m x);
       some = h.some;
-      behind = omega (arith, h.behind);
+      following = omega (arith, h.following);
       length_is = ap (λ (xs : List ℕ). length xs) m.clause;
       head = ap (λ (xs : List ℕ). get_or xs 0 0) m.clause ∙ h.head;
     }
@@ -189,7 +189,7 @@ pub minimal_cut : (words : List ℕ) (s : State) (conflict : List ℕ) (first lo
 minimal_cut words s conflict first low kept at clause w le m =
     subst (λ (xs : List ℕ). Minimal words s conflict first low xs w) (ap (λ (ys : List ℕ). take kept clause ++ ys) (drop_all at clause le) ∙ append-nil (take kept clause)) m
 
--- the literals that were used behind the resolved ones are of lower levels
+-- the literals that were used after the resolved ones are of lower levels
 pub lower_rest : (words : List ℕ) (s : State) (conflict : List ℕ) (first low : ℕ) (rest : List ℕ) (w : Work) → Minimal words s conflict first low rest w → (k : ℕ) → low ≤ k → k < length w.used → level s (get_or w.used k 0) < current_level s
 lower_rest words s conflict first low rest w m k le lt = low_use s low w.flags k (get_or w.used k 0) (m.searching.uses k lt) le
   where

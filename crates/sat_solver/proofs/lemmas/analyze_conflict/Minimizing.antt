@@ -63,9 +63,9 @@ more_trans a b c x y = record {
   raised = λ v e. elim (y.raised v e) [
     | inl t ↦ elim (x.raised v t) [
       | inl u ↦ inl u
-      | inr n ↦ inr (record { place = n.place; behind = n.behind; within = omega (arith, n.within, y.longer); there = ap (λ z. variable z) (front_at b c n.place 0 y n.within) ∙ n.there })
+      | inr n ↦ inr (record { place = n.place; following = n.following; within = omega (arith, n.within, y.longer); there = ap (λ z. variable z) (front_at b c n.place 0 y n.within) ∙ n.there })
     ]
-    | inr n ↦ inr (record { place = n.place; behind = omega (arith, n.behind, x.longer); within = n.within; there = n.there })
+    | inr n ↦ inr (record { place = n.place; following = omega (arith, n.following, x.longer); within = n.within; there = n.there })
   ];
 }
   where
@@ -91,7 +91,7 @@ more_one r w lt f =
           let e : k ≡ length w.used = omega arith in
           ap (λ z. get_or w.flags (variable z) false) (ap (λ z. get_or (w.used ++ negated r ∷ []) z 0) e ∙ last) ∙ ap (λ v. get_or w.flags v false) (negated_variable r) ∙ f;
       raised = λ v e. elim (cases_eq v (variable r)) [
-        | inl q ↦ inr (record { place = length w.used; behind = omega arith; within = omega arith; there = ap (λ z. variable z) last ∙ negated_variable r ∙ sym q })
+        | inl q ↦ inr (record { place = length w.used; following = omega arith; within = omega arith; there = ap (λ z. variable z) last ∙ negated_variable r ∙ sym q })
         | inr d ↦ inl (sym (get_or-set_other w.flags (variable r) v true false d) ∙ e)
       ];
     }
@@ -145,7 +145,7 @@ searching_mark words s conflict first low w at r h f c =
     record {
       size = length-set w.flags (variable r) true ∙ h.size;
       within = omega (arith, h.within);
-      behind = h.behind;
+      following = h.following;
       reasons = λ k b. elim (cases_eq k (length w.used)) [
         | inl e ↦ subst (λ z. IsReasoned s 0 z) (sym (last k e)) c.reasoned
         | inr d ↦
@@ -154,7 +154,7 @@ searching_mark words s conflict first low w at r h f c =
       ];
       uses = λ k b. elim (cases_eq k (length w.used)) [
         | inl e ↦ subst (λ z. IsUse s low (set w.flags (variable r) true) k z) (sym (last k e))
-            (use_low (omega (arith, h.behind, h.within)) c.below (ap (λ v. get_or (set w.flags (variable r) true) v false) (negated_variable r) ∙ get_or-set_same w.flags (variable r) true false lt))
+            (use_low (omega (arith, h.following, h.within)) c.below (ap (λ v. get_or (set w.flags (variable r) true) v false) (negated_variable r) ∙ get_or-set_same w.flags (variable r) true false lt))
         | inr d ↦
             let q : k < length w.used = omega arith in
             subst (λ z. IsUse s low (set w.flags (variable r) true) k z) (sym (get_or_append_left w.used (negated r ∷ []) 0 k q)) (use_kept s low w r k (get_or w.used k 0) lt (h.uses k q))
@@ -250,7 +250,7 @@ pub searching_next : (words : List ℕ) (s : State) (conflict : List ℕ) (first
 searching_next words s conflict first low w at h lt m = record {
   size = h.size;
   within = omega arith;
-  behind = omega (arith, h.behind);
+  following = omega (arith, h.following);
   reasons = h.reasons;
   uses = h.uses;
   distinct = h.distinct;
@@ -268,7 +268,7 @@ search_step words s conflict first low at filter w can h lt =
     let l : ℕ = get_or w.used at 0 in
     let x : IsReasoned s 0 l = h.reasons at lt in
     let first_place : get_or s.trail.starts 0 0 ≤ x.place = above_first s x.place l can.agrees x.within x.there x.above can.above in
-    let below : level s (lit_at s x.place) < current_level s = subst (λ z. level s z < current_level s) (sym x.there) (low_use s low w.flags at l (h.uses at lt) h.behind) in
+    let below : level s (lit_at s x.place) < current_level s = subst (λ z. level s z < current_level s) (sym x.there) (low_use s low w.flags at l (h.uses at lt) h.following) in
     follows words s conflict first low at filter x.place (causes_at words s l) w can.agrees x.within below
     (λ k b. causes_before words s x.place l k can x.within x.there first_place b) h
   where
@@ -286,7 +286,7 @@ searching_start words s conflict first low w c h m =
     record {
       size = h.size;
       within = omega arith;
-      behind = h.behind;
+      following = h.following;
       reasons = λ k b. elim (cases_eq k (length w.used)) [
         | inl e ↦ subst (λ z. IsReasoned s 0 z) (sym (last k e)) m.reasoned
         | inr d ↦
@@ -294,7 +294,7 @@ searching_start words s conflict first low w c h m =
             subst (λ z. IsReasoned s 0 z) (sym (get_or_append_left w.used (negated c ∷ []) 0 k q)) (h.reasons k q)
       ];
       uses = λ k b. elim (cases_eq k (length w.used)) [
-        | inl e ↦ subst (λ z. IsUse s low w.flags k z) (sym (last k e)) (use_low (omega (arith, h.behind)) m.below (ap (λ v. get_or w.flags v false) (negated_variable c) ∙ m.flagged))
+        | inl e ↦ subst (λ z. IsUse s low w.flags k z) (sym (last k e)) (use_low (omega (arith, h.following)) m.below (ap (λ v. get_or w.flags v false) (negated_variable c) ∙ m.flagged))
         | inr d ↦
             let q : k < length w.used = omega arith in
             subst (λ z. IsUse s low w.flags k z) (sym (get_or_append_left w.used (negated c ∷ []) 0 k q)) (h.uses k q)

@@ -25,11 +25,11 @@ pub record IsLastFlagged (s : State) (flags : List Bool) (p at : ℕ) : Type 0 w
 pub last_high : (s : State) (top : ℕ) (flags : List Bool) (p at : ℕ) → StateIsConsistent s → at ≤ length s.trail.lits → IsLastFlagged s flags p at → OpenPlace s top flags at → top ≤ level s (lit_at s p)
 last_high s top flags p at a le h x =
     let in_trail : p < length s.trail.lits = omega (arith, h.before) in
-    let behind : x.place ≤ p = elim (cases_lt p x.place) [
+    let following : x.place ≤ p = elim (cases_lt p x.place) [
       | inl lt ↦ absurd (both_ways (get_or flags (variable (lit_at s x.place)) false) (h.others x.place lt x.before) x.flagged)
       | inr ge ↦ ge
     ] in
-    omega (arith, levels_rise s x.place p a behind in_trail, x.high)
+    omega (arith, levels_rise s x.place p a following in_trail, x.high)
 
 -- that of the current level is just this one
 pub at_current : (s : State) (p : ℕ) → StateIsConsistent s → p < length s.trail.lits → current_level s ≤ level s (lit_at s p) → level s (lit_at s p) ≡ current_level s
@@ -109,7 +109,7 @@ taken_covered s top w n p at r a le h (covered_open x) = elim (passed_waiting s 
   | inr e ↦ covered_reason (subst (λ z. Contains (w.used ++ lit_at s p ∷ []) z) e (Contains-push w.used (lit_at s p)))
 ]
 
--- a literal of the current level behind another one isn't a decision
+-- a literal of the current level after another one isn't a decision
 not_decided : (words : List ℕ) (s : State) (q p : ℕ) → CanAnalyze words s → q < p → p < length s.trail.lits → level s (lit_at s q) ≡ current_level s → is_unit_reason (node s (lit_at s p)).reason ≡ false
 not_decided words s q p can lt within top =
     let in_trail : q < length s.trail.lits = omega arith in

@@ -13,7 +13,7 @@ use Rattle.sat_parts.specs.clause.Glue.{AreClear}
 use Rattle.sat_parts.specs.clause.Orders.{AreDistinct}
 use Rattle.sat_parts.specs.prop.Causes.{falsified}
 use Rattle.sat_parts.specs.prop.Ready.{IsConflict}
-use Rattle.sat_parts.specs.prop.Reasons.{Implies, AreInTurn}
+use Rattle.sat_parts.specs.prop.Reasons.{Implies, AreUnitInTurn}
 use Rattle.sat_parts.specs.prop.State.{State, node, level, current_level, StateIsConsistent}
 use Rattle.sat_parts.proofs.lemmas.clause.ListLemmas.{at_place, place_in, in_head, in_tail}
 use Rattle.sat_solver.specs.analyze_conflict.Work.{Work, long_of, long_falsified}
@@ -69,7 +69,7 @@ conflict_live words live implied s o (conflicts.Long q) h c =
     subst (λ z. Contains live z) (ap (λ k. get_or (q ∷ []) k 0) e ∙ at_place (q ∷ []) o c) h.0
 
 -- each long clause that took part is live
-pub involved_live : (words live : List ℕ) (implied : List (List ℕ)) (s : State) (e : Conflict) (w : Work) → StateIsConsistent s → 0 < current_level s → AreInTurn words live implied s (get_or s.trail.starts 0 0) → IsConflict words live implied s.values e →
+pub involved_live : (words live : List ℕ) (implied : List (List ℕ)) (s : State) (e : Conflict) (w : Work) → StateIsConsistent s → 0 < current_level s → AreUnitInTurn words live implied s (get_or s.trail.starts 0 0) → IsConflict words live implied s.values e →
     ((l : ℕ) → Contains w.used l → IsReasoned s 0 l) → IsResolution words s e w → (o : ℕ) → Contains w.involved o → Contains live o
 involved_live words live implied s e w a above turns conflict reasons r o c =
     elim (Contains-append_cases (long_falsified e) (longs_of s r.resolved) o (subst (λ (xs : List ℕ). Contains xs o) r.involved c)) [
@@ -80,7 +80,7 @@ involved_live words live implied s e w a above turns conflict reasons r o c =
     ]
 
 -- the same where the analysis answers
-pub live_ok : {E : Type 0} (words live : List ℕ) (implied : List (List ℕ)) (s : State) (e : Conflict) (w : Work) (r : Result ℕ E) → StateIsConsistent s → 0 < current_level s → AreInTurn words live implied s (get_or s.trail.starts 0 0) →
+pub live_ok : {E : Type 0} (words live : List ℕ) (implied : List (List ℕ)) (s : State) (e : Conflict) (w : Work) (r : Result ℕ E) → StateIsConsistent s → 0 < current_level s → AreUnitInTurn words live implied s (get_or s.trail.starts 0 0) →
     IsConflict words live implied s.values e → IfOk r (λ back. Learns words s (falsified words e) w back) → OnOk r (IsResolution words s e w) → OnOk r ((o : ℕ) → Contains w.involved o → Contains live o)
 live_ok words live implied s e w (Ok back) a above turns conflict l i = λ o c.
     involved_live words live implied s e w a above turns conflict (λ m d. subst (λ z. IsReasoned s 0 z) (at_place w.used m d) (l.reasons d.0 d.1)) i o c

@@ -1,4 +1,4 @@
--- A search that failed leaves nothing behind.
+-- A search that failed leaves nothing after.
 use Rattle.std.proofs.Common.{ℕ, ◌≡◌, ◌+◌, ◌<◌, ◌≤◌, ◌⊎◌, inl, inr, suc, zero, false, List, [], ◌∷◌, ◌++◌, length, take, get_or, refl, sym, ap, ◌∙◌, arith}
 use Rattle.std.proofs.lemmas.Bool.{cases_eq, cases_lt, cases_Bool, both_ways}
 use Rattle.std.proofs.lemmas.List.{length_push, take_at, take-take, ext_get_or}
@@ -33,10 +33,10 @@ restored_at l w w' w2 v m u =
       | inl x ↦
           sym (ap (λ z. get_or w2.flags z false) x.1.2) ∙ u.cleared x.0 (omega (arith, x.1.0)) x.1.1 ∙ sym (m.fresh x.0 (omega (arith, x.1.0)) x.1.1) ∙ ap (λ z. get_or w.flags z false) x.1.2
       | inr none ↦
-          u.others v (λ x. none (x.place, (x.behind, x.within, x.there))) ∙ elim (cases_Bool (get_or w'.flags v false)) [
+          u.others v (λ x. none (x.place, (x.following, x.within, x.there))) ∙ elim (cases_Bool (get_or w'.flags v false)) [
             | inl t ↦ elim (m.raised v t) [
               | inl g ↦ t ∙ sym g
-              | inr x ↦ absurd (none (x.place, (omega (arith, x.behind), x.within, x.there)))
+              | inr x ↦ absurd (none (x.place, (omega (arith, x.following), x.within, x.there)))
             ]
             | inr f ↦ elim (cases_Bool (get_or w.flags v false)) [
               | inl t ↦ absurd (both_ways (get_or w'.flags v false) f (m.kept v t))

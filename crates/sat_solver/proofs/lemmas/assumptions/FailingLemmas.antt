@@ -86,17 +86,17 @@ module _ (p : Parts) (assumed : List ℕ) (failed : ℕ) (holds : PartsInvariant
         let v : variable (lit_at (state p) x.place) < length p.assignment.current = below_from_value p.assignment.current (variable (lit_at (state p) x.place)) _ (holds.below.asks.agrees.holds x.place x.within) in
         subst (λ l. variable l < length p.graph) x.there (omega (arith, holds.below.asks.agrees.nodes))
 
-    stands : (k o : ℕ) → k < length used → (node (state p) (get_or used k 0)).reason ≡ Long o → IsClause p.clauses o × (0 < length (lits_at p.clauses o))
-    stands k o lt r =
+    valid : (k o : ℕ) → k < length used → (node (state p) (get_or used k 0)).reason ≡ Long o → IsClause p.clauses o × (0 < length (lits_at p.clauses o))
+    valid k o lt r =
         let x : IsReasoned (state p) 0 (get_or used k 0) = used_reasoned core used f k lt in
         stands_by p.clauses (live_refs p.clauses p.db.refs) p.binary.implied (state p) x.place o (node (state p) (lit_at (state p) x.place)).reason (length p.assignment.current) holds.below.asks.clauses
         (holds.below.turns x.place (omega arith) x.within) (ap (λ l. (node (state p) l).reason) x.there ∙ r)
 
     pub cause_clause : (k o : ℕ) → k < length used → (node (state p) (get_or used k 0)).reason ≡ Long o → IsClause p.clauses o
-    cause_clause k o lt r = (stands k o lt r).0
+    cause_clause k o lt r = (valid k o lt r).0
 
     pub cause_some : (k o : ℕ) → k < length used → (node (state p) (get_or used k 0)).reason ≡ Long o → 0 < length (lits_at p.clauses o)
-    cause_some k o lt r = (stands k o lt r).1
+    cause_some k o lt r = (valid k o lt r).1
 
 module _ {W L : Type 0} {G : Ghosts L} (seen : W → Writer) (a b : Proof W L G) (c c' : Search) where
   -- no memory was left before anything was written
@@ -122,11 +122,11 @@ module _ {W L : Type 0} {G : Ghosts L} (seen : W → Writer) (a b : Proof W L G)
     loss = tt;
     ends = record {
       is = rw (core_is, hashes_is) refl;
-      failed = fails_failed c.parts c.assumptions.lits.items c.failed search.stands.holds failing c'.analysis.core c'.analysis.used f;
+      failed = fails_failed c.parts c.assumptions.lits.items c.failed search.valid.holds failing c'.analysis.core c'.analysis.used f;
       search = record {
-        stands = record {
-          holds = rw parts search.stands.holds;
-          fits = rw (parts, globals, adds.history) (parts_rests c.parts (session_of a) (global_in c) search.stands.fits (FailedAssumptions core hashes) tt);
+        valid = record {
+          holds = rw parts search.valid.holds;
+          fits = rw (parts, globals, adds.history) (parts_rests c.parts (session_of a) (global_in c) search.valid.fits (FailedAssumptions core hashes) tt);
         };
         ready = ready_moved (session_of a) (session_of b) c c' search.ready (rw adds.history (record { assumed = refl; names = λ v. refl })) moved (rw parts (goes_refl (assumed_indices c) (state c.parts) c.parts.vsids)) (rw (parts, assumptions) search.ready.placed) free;
       };

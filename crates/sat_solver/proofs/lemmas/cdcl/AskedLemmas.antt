@@ -85,9 +85,9 @@ asked_after steps earlier h = (all steps earlier h).asked
 pub names_after : (steps earlier : List Step) (names : ℕ → Option ℕ) → AreSearched names steps → (session_after (steps ++ earlier)).solver_names ≡ (session_after earlier).solver_names
 names_after steps earlier names h = (all steps earlier (kinds_of names steps h)).names
 
--- and so are those behind steps that were written
-pub names_behind : (steps later earlier : List Step) (names : ℕ → Option ℕ) → later ≡ steps ++ earlier → AreSearched names steps → (session_after later).solver_names ≡ (session_after earlier).solver_names
-names_behind steps later earlier names written h = ap (λ ss. (session_after ss).solver_names) written ∙ names_after steps earlier names h
+-- and so are those after steps that were written
+pub names_following : (steps later earlier : List Step) (names : ℕ → Option ℕ) → later ≡ steps ++ earlier → AreSearched names steps → (session_after later).solver_names ≡ (session_after earlier).solver_names
+names_following steps later earlier names written h = ap (λ ss. (session_after ss).solver_names) written ∙ names_after steps earlier names h
 
 -- so is what is assumed
 pub leaves_after : (steps earlier : List Step) → AllByRecursion (λ step. is_searched step ≡ true) steps → SameAssumedAndNames (session_after earlier) (session_after (steps ++ earlier))

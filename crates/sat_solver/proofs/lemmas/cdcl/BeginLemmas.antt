@@ -16,7 +16,7 @@ none_clear k = refl
 pub search_begins : (c : Search) → PartsInvariant c.parts → c.parts.db.refs ≡ [] → c.parts.binary.implied ≡ [] → c.parts.trail ≡ no_trail → c.parts.assignment.current ≡ [] → c.globals.items ≡ [] → c.analysis.flags ≡ [] → c.flags.flags.items ≡ [] → c.assumptions.lits.items ≡ [] →
     ((s : State) → ArePlaced c.assumptions s) → IsSearch nothing c
 search_begins c holds refs implied trail values globals flags marks lits placed = record {
-  stands = record {
+  valid = record {
     holds = holds;
     fits = rw (refs, implied) (nothing_fits c.parts.clauses (state c.parts) (global_in c) values (ap (λ (t : Trailed). t.lits) trail));
   };

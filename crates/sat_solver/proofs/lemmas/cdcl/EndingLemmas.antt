@@ -6,7 +6,7 @@ use Rattle.sat_checker.specs.declared.processing.ProofProcessor.{Ghosts}
 use Rattle.sat_parts.specs.declared.prop.graph.Conflict.{Conflict}
 use Rattle.sat_solver.specs.session.Making.{ComesByCheckedSteps}
 use Rattle.sat_solver.specs.proof.ProofView.{steps_of, session_of}
-use Rattle.sat_solver.specs.session.Session.{Session, MayAll}
+use Rattle.sat_solver.specs.session.Session.{Session, AreAllowedSteps}
 use Rattle.sat_solver.specs.declared.proof.Proof.{Proof}
 use Rattle.sat_solver.proofs.lemmas.session.ProofLemmas.{gains_none, gains_more}
 use Rattle.sat_solver.specs.declared.schedule.Outcome.{Outcome}
@@ -27,12 +27,12 @@ use Rattle.sat_solver.specs.declared.context.Search.{Search}
 use Rattle.sat_solver.specs.variables.Shared.{SharesIndices}
 use Rattle.sat_solver.proofs.lemmas.cdcl.GoingLemmas.{goes_failing}
 use Rattle.sat_solver.proofs.lemmas.cdcl.RoundLemmas.{round_from}
-use Rattle.sat_solver.proofs.lemmas.solver.BehindLemmas.{nothing_behind}
+use Rattle.sat_solver.proofs.lemmas.solver.AfterLemmas.{nothing_after}
 use Rattle.sat_solver.proofs.lemmas.solver.ReportingLemmas.{shares_moved}
 use Rattle.sat_solver.specs.unit_simplify.Freed.{KeepsAsked}
-use Rattle.sat_solver.specs.unit_simplify.Passes.{StandTogether, PassesQuietly, FindsFalseClause}
+use Rattle.sat_solver.specs.unit_simplify.Passes.{JointInvariant, PassesQuietly, FindsFalseClause}
 use Rattle.sat_solver.proofs.lemmas.unit_simplify.FreedLemmas.{asked_refl}
-use Rattle.sat_solver.proofs.lemmas.unit_simplify.LighterLemmas.{goes_leaves}
+use Rattle.sat_solver.proofs.lemmas.unit_simplify.StrengthenSearchLemmas.{goes_leaves}
 use Rattle.sat_solver.proofs.lemmas.unit_simplify.PassesLemmas.{falls_goes, falls_later}
 
 -- what a round began with
@@ -52,10 +52,10 @@ shares_on outcomes.Unsat earlier steps s m d e h x = tt
 shares_on outcomes.Failed earlier steps s m d e h x = shares_moved m d e h x.0.moved
 
 module _ {W L : Type 0} {G : Ghosts L} (seen : W → Writer) (n m : Variables) (p q : Proof W L G) (c d : Search) where
-  ends_behind : Reaches seen n m p q c d → (r : Result Outcome SolverError) (z : Proof W L G) (e : Search) → EmitsStepsOr (IsFull e.parts) seen r q z (λ o steps. RoundSays o (steps_of q) steps (session_of z) d e) → EndsRound seen r n m p z c e
-  ends_behind b (Ok o) z e g =
-      let may : MayAll (g.steps ++ steps_of q) = subst MayAll g.went.history g.keeps in
-      let quiet : DoesNothing m m (steps_of q) (steps_of z) = subst (DoesNothing m m (steps_of q)) (sym g.went.history) (nothing_behind m (steps_of q) g.steps b.does.stands may g.searched) in
+  ends_after : Reaches seen n m p q c d → (r : Result Outcome SolverError) (z : Proof W L G) (e : Search) → EmitsStepsOr (IsFull e.parts) seen r q z (λ o steps. RoundSays o (steps_of q) steps (session_of z) d e) → EndsRound seen r n m p z c e
+  ends_after b (Ok o) z e g =
+      let may : AreAllowedSteps (g.steps ++ steps_of q) = subst AreAllowedSteps g.went.history g.keeps in
+      let quiet : DoesNothing m m (steps_of q) (steps_of z) = subst (DoesNothing m m (steps_of q)) (sym g.went.history) (nothing_after m (steps_of q) g.steps b.does.valid may g.searched) in
       record {
         steps = g.steps ++ b.took.0;
         adds = gains_more seen b.took.0 g.steps p q z b.took.1 g.went;
@@ -65,21 +65,21 @@ module _ {W L : Type 0} {G : Ghosts L} (seen : W → Writer) (n m : Variables) (
         says = round_from o (steps_of p) b.took.0 g.steps (session_of z) c d e b.moved b.word (comes_quiet (steps_of p) (steps_of q) b.took.0 b.quiet b.took.1.history) (subst (λ zs. RoundSays o zs g.steps (session_of z) d e) b.took.1.history g.ends);
         shares = shares_on o (steps_of q) g.steps (session_of z) m d e b.shares g.ends;
       }
-  ends_behind b (Err f) z e g = falls_later seen f p q z b.took (falls_goes seen f q z (λ _ _. ⊥) (goes_failing seen f q z (λ o steps. RoundSays o (steps_of q) steps (session_of z) d e) (λ (_ : Unit {0}) _. ⊥) g))
+  ends_after b (Err f) z e g = falls_later seen f p q z b.took (falls_goes seen f q z (λ _ _. ⊥) (goes_failing seen f q z (λ o steps. RoundSays o (steps_of q) steps (session_of z) d e) (λ (_ : Unit {0}) _. ⊥) g))
 
-  -- behind a simplification, or nothing
+  -- after a simplification, or nothing
   pub ends_on : PassesQuietly seen n m p q c d → (r : Result Outcome SolverError) (z : Proof W L G) (e : Search) → EmitsStepsOr (IsFull e.parts) seen r q z (λ o steps. RoundSays o (steps_of q) steps (session_of z) d e) → EndsRound seen r n m p z c e
-  ends_on b = ends_behind (record { took = b.took; quiet = b.quiet; does = b.does; asked = b.asked; shares = b.together.shares; moved = b.moved; word = b.word })
+  ends_on b = ends_after (record { took = b.took; quiet = b.quiet; does = b.does; asked = b.asked; shares = b.together.shares; moved = b.moved; word = b.word })
 
-  -- behind a clause that is false at level 0
-  pub ends_refuted : StandTogether n p c → (f : Conflict) → FindsFalseClause n m p q c d f → (r : Result Outcome SolverError) (z : Proof W L G) (e : Search) → EmitsStepsOr (IsFull e.parts) seen r q z (λ o steps. RoundSays o (steps_of q) steps (session_of z) d e) → EndsRound seen r n m p z c e
-  ends_refuted h f b = ends_behind reaches
+  -- after a clause that is false at level 0
+  pub ends_refuted : JointInvariant n p c → (f : Conflict) → FindsFalseClause n m p q c d f → (r : Result Outcome SolverError) (z : Proof W L G) (e : Search) → EmitsStepsOr (IsFull e.parts) seen r q z (λ o steps. RoundSays o (steps_of q) steps (session_of z) d e) → EndsRound seen r n m p z c e
+  ends_refuted h f b = ends_after reaches
     where
       here : Reaches seen n n p p c d
       here = record {
         took = ([], gains_none seen p);
         quiet = quiet_comes (steps_of p) (steps_of p) [] refl tt;
-        does = does_none n (steps_of p) h.stands;
+        does = does_none n (steps_of p) h.valid;
         asked = asked_refl n (session_of p);
         shares = shares_moved n c d h.shares b.moved;
         moved = b.moved;

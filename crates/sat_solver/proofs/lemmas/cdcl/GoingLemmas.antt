@@ -22,7 +22,7 @@ use Rattle.sat_solver.specs.declared.error.SolverError.TheVariants as errors
 use Rattle.sat_solver.specs.session.Quiet.{is_quiet, AreQuiet}
 use Rattle.sat_solver.proofs.lemmas.fits.QuietLemmas.{quiet_both}
 use Rattle.sat_solver.specs.cdcl.Going.{AreSearched, IsSearched, AreQuietUnless, check_fault_of, proof_fault, IsFault, IsFaultOr, EmitsUpToFault, EmitsSteps, EmitsStepsOr, EmitsStepsWith}
-use Rattle.sat_solver.proofs.lemmas.cdcl.AskedLemmas.{names_behind}
+use Rattle.sat_solver.proofs.lemmas.cdcl.AskedLemmas.{names_following}
 
 both : (names : ℕ → Option ℕ) (ys xs : List Step) → AreSearched names ys → AreSearched names xs → AreSearched names (ys ++ xs)
 both names [] xs h k = k
@@ -31,7 +31,7 @@ both names (y ∷ ys) xs h k = (h.0, both names ys xs h.1 k)
 -- Steps of a search, and then later ones of it: the solver names are the same.
 pub searched_both : (ys xs later earlier : List Step) → later ≡ xs ++ earlier → AreSearched (session_after later).solver_names ys → AreSearched (session_after earlier).solver_names xs → AreSearched (session_after earlier).solver_names (ys ++ xs)
 searched_both ys xs later earlier written h k =
-    both (session_after earlier).solver_names ys xs (subst (λ names. AreSearched names ys) (names_behind xs later earlier (session_after earlier).solver_names written k) h) k
+    both (session_after earlier).solver_names ys xs (subst (λ names. AreSearched names ys) (names_following xs later earlier (session_after earlier).solver_names written k) h) k
 
 -- what may happen where no clause is stored may happen where one is
 pub fault_or : (full : Type 0) (e : SolverError) → IsFault e → IsFaultOr full e
@@ -66,7 +66,7 @@ check_loss checks.OutOfMemory p q h = inr h
 check_loss checks.CounterEnd p q h = tt
 check_loss (checks.Processor cause) p q h = tt
 
--- behind a call that lost no step
+-- after a call that lost no step
 pub loss_later : {W L : Type 0} {G : Ghosts L} (e : SolverError) (a b c : Proof W L G) → is_lost b ≡ is_lost a → NamesLoss e b c → NamesLoss e a c
 loss_later (errors.ProofProcessorError cause) a b c same h = tt
 loss_later (errors.ProofIoError cause) a b c same h = tt
@@ -74,9 +74,9 @@ loss_later errors.OutOfMemory a b c same h = elim h [ inl k ↦ inl (k ∙ same)
 loss_later errors.CounterEnd a b c same h = tt
 loss_later e a b c same h = h ∙ same
 
-loss_behind : {A W L : Type 0} {G : Ghosts L} (r : Result A SolverError) (a b c : Proof W L G) → is_lost b ≡ is_lost a → IfErr r (λ e. NamesLoss e b c) → IfErr r (λ e. NamesLoss e a c)
-loss_behind (Ok x) a b c same h = tt
-loss_behind (Err e) a b c same h = loss_later e a b c same h
+loss_after : {A W L : Type 0} {G : Ghosts L} (r : Result A SolverError) (a b c : Proof W L G) → is_lost b ≡ is_lost a → IfErr r (λ e. NamesLoss e b c) → IfErr r (λ e. NamesLoss e a c)
+loss_after (Ok x) a b c same h = tt
+loss_after (Err e) a b c same h = loss_later e a b c same h
 
 -- NOTHING IS LEARNED
 
@@ -127,17 +127,17 @@ module _ {W L : Type 0} {G : Ghosts L} (seen : W → Writer) where
   goes_refused stores.StoreFull p q step P s keeps gains f = record { steps = step ∷ []; went = gains_adds seen (step ∷ []) p q gains; searched = (s, tt); quiet = tt; keeps = keeps; kept = tt; loss = gains.taking; ends = f refl }
   goes_refused stores.OutOfMemory p q step P s keeps gains f = record { steps = step ∷ []; went = gains_adds seen (step ∷ []) p q gains; searched = (s, tt); quiet = tt; keeps = keeps; kept = tt; loss = inl gains.taking; ends = tt }
 
-  -- a fault behind steps that were made
-  pub went_behind : (A : Type 0) (e : SolverError) (xs ys : List Step) (a b c : Proof W L G) → EmitsExactly seen xs a b → EmitsUpToFault {A = A} seen (Err e) ys b c → EmitsUpToFault {A = A} seen (Err e) (ys ++ xs) a c
-  went_behind A (errors.ProofIoError cause) xs ys a b c h k = fails_later seen xs ys a b c h k
-  went_behind A (errors.ProofProcessorError cause) xs ys a b c h k = check_later seen xs ys a b c h k
-  went_behind A errors.CounterEnd xs ys a b c h k = check_later seen xs ys a b c h k
-  went_behind A e xs ys a b c h k = adds_more seen xs ys a b c h k
+  -- a fault after steps that were made
+  pub went_after : (A : Type 0) (e : SolverError) (xs ys : List Step) (a b c : Proof W L G) → EmitsExactly seen xs a b → EmitsUpToFault {A = A} seen (Err e) ys b c → EmitsUpToFault {A = A} seen (Err e) (ys ++ xs) a c
+  went_after A (errors.ProofIoError cause) xs ys a b c h k = fails_later seen xs ys a b c h k
+  went_after A (errors.ProofProcessorError cause) xs ys a b c h k = check_later seen xs ys a b c h k
+  went_after A errors.CounterEnd xs ys a b c h k = check_later seen xs ys a b c h k
+  went_after A e xs ys a b c h k = adds_more seen xs ys a b c h k
 
-  -- a call behind another that went well
+  -- a call after another that went well
   pub went_later : {A : Type 0} (r : Result A SolverError) (xs ys : List Step) (a b c : Proof W L G) → EmitsChecked seen xs a b → EmitsUpToFault seen r ys b c → EmitsUpToFault seen r (ys ++ xs) a c
   went_later (Ok x) xs ys a b c h k = gains_more seen xs ys a b c h k
-  went_later {A = A} (Err e) xs ys a b c h k = went_behind A e xs ys a b c (gains_adds seen xs a b h) k
+  went_later {A = A} (Err e) xs ys a b c h k = went_after A e xs ys a b c (gains_adds seen xs a b h) k
 
   -- what was answered says more
   pub goes_map : {A full : Type 0} {learns : Bool} (r : Result A SolverError) (p q : Proof W L G) (P Q : A → List Step → Type 0) → ((x : A) (steps : List Step) → P x steps → Q x steps) → EmitsStepsWith full learns seen r p q P → EmitsStepsWith full learns seen r p q Q
@@ -153,7 +153,7 @@ module _ {W L : Type 0} {G : Ghosts L} (seen : W → Writer) where
     searched = searched_both k.steps h.steps (steps_of b) (steps_of a) h.went.history k.searched h.searched;
     keeps = k.keeps;
     kept = k.kept;
-    loss = loss_behind r a b c h.went.taking k.loss;
+    loss = loss_after r a b c h.went.taking k.loss;
     ends = ends_with full r (λ y. Q y k.steps) (λ y. R y (k.steps ++ h.steps)) (λ y. f h.steps k.steps y h.ends) k.ends;
   }
 
@@ -162,16 +162,16 @@ module _ {W L : Type 0} {G : Ghosts L} (seen : W → Writer) where
   went_failing A B e steps a b h = h
 
   -- the same, where the second call's answer speaks of the steps before it
-  pub goes_behind : {A B full : Type 0} {learns : Bool} (x : A) (r : Result B SolverError) (a b c : Proof W L G) (P : A → List Step → Type 0) (Q R : B → List Step → Type 0) → EmitsSteps seen (Ok x) a b P → EmitsStepsWith full learns seen r b c Q →
+  pub goes_after : {A B full : Type 0} {learns : Bool} (x : A) (r : Result B SolverError) (a b c : Proof W L G) (P : A → List Step → Type 0) (Q R : B → List Step → Type 0) → EmitsSteps seen (Ok x) a b P → EmitsStepsWith full learns seen r b c Q →
       ((xs ys : List Step) (y : B) → steps_of b ≡ xs ++ steps_of a → AreQuiet xs → P x xs → Q y ys → R y (ys ++ xs)) → EmitsStepsWith full learns seen r a c R
-  goes_behind {full} {learns} x r a b c P Q R h k f = record {
+  goes_after {full} {learns} x r a b c P Q R h k f = record {
     steps = k.steps ++ h.steps;
     went = went_later r h.steps k.steps a b c h.went k.went;
     quiet = quiet_then learns r h.steps k.steps h.quiet k.quiet;
     searched = searched_both k.steps h.steps (steps_of b) (steps_of a) h.went.history k.searched h.searched;
     keeps = k.keeps;
     kept = k.kept;
-    loss = loss_behind r a b c h.went.taking k.loss;
+    loss = loss_after r a b c h.went.taking k.loss;
     ends = ends_with full r (λ y. Q y k.steps) (λ y. R y (k.steps ++ h.steps)) (λ y. f h.steps k.steps y h.went.history h.quiet h.ends) k.ends;
   }
 

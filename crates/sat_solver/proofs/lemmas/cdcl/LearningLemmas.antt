@@ -70,10 +70,10 @@ module _ (p : Parts) (e : Conflict) (w : Work) (back : ℕ) (steps : List Step) 
 -- what became of all
 pub learned_whole : (steps new : List Step) (step : Step) (c c' : Search) → IsReadySearch (session_after steps) c → is_searched step ≡ true → new ≡ step ∷ steps → PartsSessionInvariant c'.parts (session_after new) (global_in c) → TrailWordRises c.parts c'.parts → SameSize c.parts c'.parts → LastAdvances steps (step ∷ []) →
     c'.globals ≡ c.globals → c'.assumptions.lits ≡ c.assumptions.lits → ArePlaced c'.assumptions (state c'.parts) → IsFree c' → LearnsAndRises steps (step ∷ []) (session_after new) c c'
-learned_whole steps new step c c' ready s added stands rises size last globals lits placed free =
+learned_whole steps new step c c' ready s added valid rises size last globals lits placed free =
     let moved : SameVarsAndAssumptions c c' = record { globals = globals; lits = lits; size = size } in
     record {
-      search = record { stands = rw globals stands; ready = ready_moved (session_after steps) (session_after new) c c' ready (rw added (leaves_after (step ∷ []) steps (s, tt))) moved (rises (assumed_indices c)).0 placed free };
+      search = record { valid = rw globals valid; ready = ready_moved (session_after steps) (session_after new) c c' ready (rw added (leaves_after (step ∷ []) steps (s, tt))) moved (rises (assumed_indices c)).0 placed free };
       moved = moved;
       rises = rises;
       last = last;

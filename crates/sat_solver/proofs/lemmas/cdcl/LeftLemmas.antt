@@ -3,7 +3,7 @@ use Rattle.std.proofs.Common.{ℕ, ◌≡◌, ◌<◌, ◌+◌, ◌∙◌, List,
 use Rattle.sat_base.specs.steps.Steps.{UnitClauses}
 use Rattle.sat_parts.specs.clause.Db.{live_refs}
 use Rattle.sat_parts.specs.declared.parts.Parts.{Parts}
-use Rattle.sat_parts.specs.parts.Round.{UnitsAreUncaused, IsBased}
+use Rattle.sat_parts.specs.parts.Round.{UnitsHaveNoReason, IsBased}
 use Rattle.sat_parts.specs.prop.State.{State}
 use Rattle.sat_parts.specs.parts.Assumed.{IsPlaced}
 use Rattle.sat_parts.specs.parts.Whole.{state, PartsInvariant, HoldsBelow, IsFullyPropagated}
@@ -60,9 +60,9 @@ placed_cleared ls below place s s' bottom none clears x =
     }
 
 -- above level 0 nothing is done
-pub settled_above : (p : Parts) (s : Session) (global : ℕ → ℕ) → 0 < length p.trail.starts → HoldsBelow (length p.trail.starts + 1) p → IsFullyPropagated p → UnitsAreUncaused (state p) × IsBased p.trail → SessionMatchesParts p s global → TakesUnitsOff p p s global
+pub settled_above : (p : Parts) (s : Session) (global : ℕ → ℕ) → 0 < length p.trail.starts → HoldsBelow (length p.trail.starts + 1) p → IsFullyPropagated p → UnitsHaveNoReason (state p) × IsBased p.trail → SessionMatchesParts p s global → TakesUnitsOff p p s global
 settled_above p s global above h done units fits = record {
-  stands = record { holds = record { below = h; units = units.0; base = units.1 }; fits = fits };
+  valid = record { holds = record { below = h; units = units.0; base = units.1 }; fits = fits };
   done = done;
   starts = refl;
   empty = λ e. absurd (let n : length p.trail.starts ≡ 0 = ap (λ (xs : List ℕ). length xs) e in omega arith);
@@ -74,7 +74,7 @@ settled_above p s global above h done units fits = record {
 -- at level 0 units were taken off the trail
 pub settled_bottom : (p q : Parts) (s : Session) (global : ℕ → ℕ) → AllUnits p s global → length p.trail.starts ≡ 0 → PartsInvariant q → IsFullyPropagated q → q.trail.starts ≡ [] → q.trail.lits ≡ [] → SameClauses p q → TakesOffUnits (state p) (state q) → TrailWordExtends p q → TakesUnitsOff p q s global
 settled_bottom p q s global all bottom holds done none empty same clears word = record {
-  stands = record { holds = holds; fits = rw (same.0, same.1, same.2) (fits_cleared p.clauses (live_refs p.clauses p.db.refs) p.binary.implied (state p) (state q) s global clears all) };
+  valid = record { holds = holds; fits = rw (same.0, same.1, same.2) (fits_cleared p.clauses (live_refs p.clauses p.db.refs) p.binary.implied (state p) (state q) s global clears all) };
   done = done;
   starts = none ∙ sym (starts_none p bottom);
   empty = λ e. empty;

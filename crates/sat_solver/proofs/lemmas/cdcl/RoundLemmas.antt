@@ -38,7 +38,7 @@ refutes_later earlier xs ys s quiet l = record {
   quiet = quiet_both xs ys quiet l.quiet;
 }
 
--- what is said of a later state behind an earlier one
+-- what is said of a later state after an earlier one
 pub round_from : (outcome : Outcome) (earlier xs ys : List Step) (s : Session) (a b c : Search) → SameVarsAndAssumptions a b → TrailWordExtendsFor (assumed_indices a) a.parts b.parts → AreQuiet xs → RoundSays outcome (xs ++ earlier) ys s b c → RoundSays outcome earlier (ys ++ xs) s a c
 round_from outcomes.Learned earlier xs ys s a b c moved word quiet r = record {
   search = r.search;
@@ -53,7 +53,7 @@ round_from outcomes.Failed earlier xs ys s a b c moved word quiet r = (record { 
 -- which assumption failed is noted
 pub search_failed : (s : Session) (c : Search) (l : ℕ) → IsSearch s c → IsSearch s (record c { failed = l })
 search_failed s c l h = record {
-  stands = h.stands;
+  valid = h.valid;
   ready = record {
     free = record { names = h.ready.free.names; size = h.ready.free.size; clear = h.ready.free.clear; flags_size = h.ready.free.flags_size; flags_clear = h.ready.free.flags_clear };
     placed = h.ready.placed;

@@ -7,7 +7,7 @@ use Rattle.sat_base.specs.steps.Steps.{Model}
 use Rattle.sat_checker.specs.LiteralSets.{is_among}
 use Rattle.sat_checker.specs.SortedSets.{NoRepeats}
 use Rattle.sat_solver.specs.session.LiveClauses.{with_var}
-use Rattle.sat_solver.specs.session.Session.{Session, May}
+use Rattle.sat_solver.specs.session.Session.{Session, IsAllowedStep}
 use Rattle.sat_parts.proofs.lemmas.parts.AnswerLemmas.{is_modelled}
 use Rattle.sat_solver.specs.session.Units.{AreTrueLits}
 use Rattle.sat_solver.proofs.lemmas.fits.CodeLemmas.{coded_by}
@@ -91,7 +91,7 @@ are_true_lits values = record {
 }
 
 -- the true literals may be shown
-pub complete_may : (s : Session) (c : Search) → IsSearch s c → IsComplete c.assumptions.lits.items c.parts → May s (Model (map (with_var (global_in c)) (true_lits 0 c.parts.assignment.current)))
+pub complete_may : (s : Session) (c : Search) → IsSearch s c → IsComplete c.assumptions.lits.items c.parts → IsAllowedStep s (Model (map (with_var (global_in c)) (true_lits 0 c.parts.assignment.current)))
 complete_may s c search complete =
-    model_may c.parts s (global_in c) (true_lits 0 c.parts.assignment.current) search.stands.fits (ready_names s c search.ready) search.stands.holds (are_true_lits c.parts.assignment.current) complete.all
-    (is_modelled c.parts search.stands.holds complete.done complete.all)
+    model_may c.parts s (global_in c) (true_lits 0 c.parts.assignment.current) search.valid.fits (ready_names s c search.ready) search.valid.holds (are_true_lits c.parts.assignment.current) complete.all
+    (is_modelled c.parts search.valid.holds complete.done complete.all)

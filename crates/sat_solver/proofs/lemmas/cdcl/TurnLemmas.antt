@@ -8,7 +8,7 @@ use Rattle.sat_parts.specs.prop.Ready.{IsConflict}
 use Rattle.sat_parts.specs.declared.parts.Parts.{Parts}
 use Rattle.sat_parts.specs.parts.Assumed.{ArePlaced}
 use Rattle.sat_parts.specs.parts.Frame.{ReordersLits, AddsNoUnit, KeepsTo}
-use Rattle.sat_parts.specs.parts.Round.{UnitsAreUncaused, IsBased}
+use Rattle.sat_parts.specs.parts.Round.{UnitsHaveNoReason, IsBased}
 use Rattle.sat_parts.specs.parts.Whole.{state, HoldsBelow, IsFullyPropagated}
 use Rattle.sat_parts.specs.parts.Words.{TrailWordExtends, TrailWordExtendsFor, GoneAndIdleStay}
 use Rattle.sat_parts.proofs.lemmas.parts.AssumeLemmas.{placed_kept}
@@ -96,18 +96,18 @@ module _ (s : Session) (c c' : Search) (search : IsSearch s c) (globals : c'.glo
       (free_moved c c' search.ready.free propagated_moved analysis flags)
 
   propagated_fits : HoldsBelow (length c'.parts.trail.starts) c'.parts → SessionMatchesParts c'.parts s (global_in c')
-  propagated_fits holds = rw globals (fits_propagated c.parts c'.parts s (global_in c) moved carries holds.asks.clauses search.stands.fits)
+  propagated_fits holds = rw globals (fits_propagated c.parts c'.parts s (global_in c) moved carries holds.asks.clauses search.valid.fits)
 
   propagated_fits_all : HoldsBelow (length c'.parts.trail.starts + 1) c'.parts → SessionMatchesParts c'.parts s (global_in c')
-  propagated_fits_all holds = rw globals (fits_propagated c.parts c'.parts s (global_in c) moved carries holds.asks.clauses search.stands.fits)
+  propagated_fits_all holds = rw globals (fits_propagated c.parts c'.parts s (global_in c) moved carries holds.asks.clauses search.valid.fits)
 
-  pub propagation : HoldsBelow (length c'.parts.trail.starts + 1) c'.parts → IsFullyPropagated c'.parts → (0 < length c.parts.trail.starts → UnitsAreUncaused (state c.parts) → UnitsAreUncaused (state c'.parts)) →
+  pub propagation : HoldsBelow (length c'.parts.trail.starts + 1) c'.parts → IsFullyPropagated c'.parts → (0 < length c.parts.trail.starts → UnitsHaveNoReason (state c.parts) → UnitsHaveNoReason (state c'.parts)) →
       (0 < length c.parts.trail.starts → IsBased c.parts.trail → IsBased c'.parts.trail) → Propagation s c c'
   propagation holds done units base = record {
     whole = record {
       holds = holds;
       done = done;
-      units = λ some. (let old : 0 < length c.parts.trail.starts = rw starts at some in (units old search.stands.holds.units, base old search.stands.holds.base));
+      units = λ some. (let old : 0 < length c.parts.trail.starts = rw starts at some in (units old search.valid.holds.units, base old search.valid.holds.base));
       fits = propagated_fits_all holds;
       ready = propagated_ready;
     };
@@ -117,10 +117,10 @@ module _ (s : Session) (c c' : Search) (search : IsSearch s c) (globals : c'.glo
   }
 
   pub falsified_whole : (e : Conflict) → HoldsBelow (length c'.parts.trail.starts) c'.parts → IsConflict c'.parts.clauses (live_refs c'.parts.clauses c'.parts.db.refs) c'.parts.binary.implied c'.parts.assignment.current e →
-      (0 < length c.parts.trail.starts → UnitsAreUncaused (state c.parts) → UnitsAreUncaused (state c'.parts)) → (0 < length c.parts.trail.starts → IsBased c.parts.trail → IsBased c'.parts.trail) → TakesTurn (Some (Falsified e)) s c c'
+      (0 < length c.parts.trail.starts → UnitsHaveNoReason (state c.parts) → UnitsHaveNoReason (state c'.parts)) → (0 < length c.parts.trail.starts → IsBased c.parts.trail → IsBased c'.parts.trail) → TakesTurn (Some (Falsified e)) s c c'
   falsified_whole e holds conflict units base = record {
     says = record {
-      refuted = (holds, conflict, λ some. let old : 0 < length c.parts.trail.starts = rw starts at some in (units old search.stands.holds.units, base old search.stands.holds.base));
+      refuted = (holds, conflict, λ some. let old : 0 < length c.parts.trail.starts = rw starts at some in (units old search.valid.holds.units, base old search.valid.holds.base));
       fits = propagated_fits holds;
       ready = propagated_ready;
     };
@@ -130,7 +130,7 @@ module _ (s : Session) (c c' : Search) (search : IsSearch s c) (globals : c'.glo
 
 -- A LEVEL BEGINS, OR NONE
 
--- what is said of a later state behind an earlier one
+-- what is said of a later state after an earlier one
 pub turned_from : (found : Option FoundConflict) (s : Session) (a b c : Search) → SameVarsAndAssumptions a b → TrailWordExtendsFor (assumed_indices a) a.parts b.parts → length b.parts.trail.starts ≡ length a.parts.trail.starts → TakesTurn found s b c → TakesTurn found s a c
 turned_from found s a b c moved word starts t = record {
   says = later found t.says;
@@ -166,7 +166,7 @@ module _ (s s' : Session) (c c' : Search) (mid : Parts) (propagated : IsPropagat
 
       search : IsSearch s' c'
       search = record {
-        stands = record { holds = d.holds; fits = rw globals (fits_undone mid c'.parts s' (global_in c) d.same d.carries settled.stands.fits) };
+        valid = record { holds = d.holds; fits = rw globals (fits_undone mid c'.parts s' (global_in c) d.same d.carries settled.valid.fits) };
         ready = ready_moved s s' c c' propagated.ready leaves moved word.0 d.placed (free_moved c c' propagated.ready.free moved analysis flags);
       }
 

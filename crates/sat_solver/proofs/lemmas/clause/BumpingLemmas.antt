@@ -28,7 +28,7 @@ pub bumped_same : (s : Session) (c c' : Search) → IsSearch s c → c'.globals 
 bumped_same s c c' search globals assumptions analysis flags holds clauses states word =
     let size : SameSize c.parts c'.parts = ap (λ a. length a.current) states.0 in
     record {
-      search = still s s c c' search globals assumptions analysis flags (leaves_refl s) holds (fits_undone c.parts c'.parts s (global_in c) clauses (carries_same c.parts c'.parts states) search.stands.fits) size word (rw (same_state c.parts c'.parts states) search.ready.placed);
+      search = still s s c c' search globals assumptions analysis flags (leaves_refl s) holds (fits_undone c.parts c'.parts s (global_in c) clauses (carries_same c.parts c'.parts states) search.valid.fits) size word (rw (same_state c.parts c'.parts states) search.ready.placed);
       moved = still_moved s s c c' search globals assumptions analysis flags size;
       word = word;
     }

@@ -13,7 +13,7 @@ use Rattle.sat_parts.specs.clause.Db.{live_refs, is_live, is_live_of}
 use Rattle.sat_parts.proofs.lemmas.clause.ListLemmas.{place_in}
 use Rattle.sat_parts.proofs.lemmas.clause.OrderLemmas.{shuffled_eq}
 use Rattle.sat_solver.specs.session.LiveClauses.{with_var}
-use Rattle.sat_solver.specs.session.Session.{Session, May, after}
+use Rattle.sat_solver.specs.session.Session.{Session, IsAllowedStep, after}
 use Rattle.sat_parts.specs.declared.parts.Parts.{Parts}
 use Rattle.sat_parts.specs.parts.Assumed.{ArePlaced}
 use Rattle.sat_parts.specs.parts.Frame.{SameState, ChangesHeaders, DropsLongClause, MovesLongClauses}
@@ -79,7 +79,7 @@ module _ (s s' : Session) (c c' : Search) (search : IsSearch s c) (globals : c'.
 
   pub still : SameAssumedAndNames s s' → PartsInvariant c'.parts → SessionMatchesParts c'.parts s' (global_in c) → SameSize c.parts c'.parts → TrailWordExtends c.parts c'.parts → ArePlaced c.assumptions (state c'.parts) → IsSearch s' c'
   still leaves holds fits size word placed = record {
-    stands = record { holds = holds; fits = rw globals fits };
+    valid = record { holds = holds; fits = rw globals fits };
     ready = ready_moved s s' c c' search.ready leaves (still_moved size) (word (assumed_indices c)).0 (rw assumptions placed) (free_moved c c' search.ready.free (still_moved size) analysis flags);
   }
 
@@ -89,7 +89,7 @@ module _ (s : Session) (c c' : Search) (search : IsSearch s c) (globals : c'.glo
   reduced_headed holds h word =
       let size : SameSize c.parts c'.parts = ap (λ a. length a.current) h.same.0.0 in
       record {
-        search = still s s c c' search globals assumptions analysis flags (leaves_refl s) holds (fits_headed c.parts c'.parts s (global_in c) search.stands.fits h) size word (rw (same_state c.parts c'.parts h.same.0) search.ready.placed);
+        search = still s s c c' search globals assumptions analysis flags (leaves_refl s) holds (fits_headed c.parts c'.parts s (global_in c) search.valid.fits h) size word (rw (same_state c.parts c'.parts h.same.0) search.ready.placed);
         moved = still_moved s s c c' search globals assumptions analysis flags size;
         word = word (assumed_indices c);
       }
@@ -100,7 +100,7 @@ module _ (s : Session) (c c' : Search) (search : IsSearch s c) (globals : c'.glo
       let a = search.ready.placed in
       let size : SameSize c.parts c'.parts = ap (λ a. length a.current) h.values in
       record {
-        search = still s s c c' search globals assumptions analysis flags (leaves_refl s) holds (fits_copied c.parts c'.parts s (global_in c) search.stands.fits h) size word
+        search = still s s c c' search globals assumptions analysis flags (leaves_refl s) holds (fits_copied c.parts c'.parts s (global_in c) search.valid.fits h) size word
             (placed_kept c.assumptions.lits.items c.assumptions.below.items c.assumptions.place (length c.assumptions.below.items) (state c.parts) (state c'.parts) a (h.keeps (length c.assumptions.below.items)) (omega arith) (rw h.trail a.levels) (rw h.trail a.all));
         moved = still_moved s s c c' search globals assumptions analysis flags size;
         word = word (assumed_indices c);
@@ -111,7 +111,7 @@ module _ (s : Session) (c c' : Search) (search : IsSearch s c) (globals : c'.glo
   deleted_none o reason parts =
       let size : SameSize c.parts c'.parts = ap (λ p. length p.assignment.current) parts in
       record {
-        search = still s s c c' search globals assumptions analysis flags (leaves_refl s) (rw parts search.stands.holds) (rw parts search.stands.fits) size (rw parts (extends_refl c.parts)) (rw parts search.ready.placed);
+        search = still s s c c' search globals assumptions analysis flags (leaves_refl s) (rw parts search.valid.holds) (rw parts search.valid.fits) size (rw parts (extends_refl c.parts)) (rw parts search.ready.placed);
         moved = still_moved s s c c' search globals assumptions analysis flags size;
         word = rw parts (extends_refl c.parts);
         others = λ p ne x. rw parts x;
@@ -122,13 +122,13 @@ module _ (s : Session) (c c' : Search) (search : IsSearch s c) (globals : c'.glo
     abbrev step : Step
     step = DeleteClause (map (with_var (global_in c)) (lits_at c.parts.clauses o)) Redundant
 
-    both : May s step × SessionMatchesParts c'.parts (after step s) (global_in c)
+    both : IsAllowedStep s step × SessionMatchesParts c'.parts (after step s) (global_in c)
     both =
-        fits_dropped_redundant c.parts c'.parts s (global_in c) search.stands.fits search.stands.holds o learnt.live (lits_at c.parts.clauses o) (shuffled_eq (lits_at c.parts.clauses o) (lits_at c.parts.clauses o) refl) dropped learnt.learned
+        fits_dropped_redundant c.parts c'.parts s (global_in c) search.valid.fits search.valid.holds o learnt.live (lits_at c.parts.clauses o) (shuffled_eq (lits_at c.parts.clauses o) (lits_at c.parts.clauses o) refl) dropped learnt.learned
 
     -- its step may be written
-    pub deleted_may : (clause : List ℕ) → clause ≡ map (with_var (global_in c)) (lits_at c.parts.clauses o) → May s (DeleteClause clause Redundant)
-    deleted_may clause e = subst (λ (ls : List ℕ). May s (DeleteClause ls Redundant)) (sym e) both.0
+    pub deleted_may : (clause : List ℕ) → clause ≡ map (with_var (global_in c)) (lits_at c.parts.clauses o) → IsAllowedStep s (DeleteClause clause Redundant)
+    deleted_may clause e = subst (λ (ls : List ℕ). IsAllowedStep s (DeleteClause ls Redundant)) (sym e) both.0
 
     -- and leaves what is searched
     pub deleted_one : (s' : Session) (clause : List ℕ) → clause ≡ map (with_var (global_in c)) (lits_at c.parts.clauses o) → s' ≡ after (DeleteClause clause Redundant) s → PartsInvariant c'.parts → TrailWordExtends c.parts c'.parts →

@@ -7,15 +7,15 @@ use Rattle.sat_store.specs.clause.Header.{Header, is_learned}
 use Rattle.sat_checker.specs.LiteralSets.{is_among, is_tautology, canonical}
 use Rattle.sat_checker.proofs.lemmas.sets.Canonical.{same_tautology}
 use Rattle.sat_parts.specs.declared.prop.graph.Reason.{Reason}
-use Rattle.sat_parts.specs.clause.Db.{Db, HoldsDb, live_refs, AddsLongClause}
+use Rattle.sat_parts.specs.clause.Db.{Db, DbMatchesBuffer, live_refs, AddsLongClause}
 use Rattle.sat_parts.specs.clause.Orders.{AreDistinct, IsReordering}
 use Rattle.sat_parts.specs.prop.Binaries.{Binaries, with_binary}
 use Rattle.sat_parts.specs.prop.Graphs.{is_unit_reason}
 use Rattle.sat_parts.specs.prop.Values.{IsTrueLit, IsFalseLit}
 use Rattle.sat_parts.specs.prop.State.{State, node, level, lit_at, StateIsConsistent}
 use Rattle.sat_parts.proofs.lemmas.clause.OrderLemmas.{shuffled_trans}
-use Rattle.sat_parts.proofs.lemmas.prop.StateLemmas.{negated_variable, negated_twice, false_from_true, not_both}
-use Rattle.sat_solver.specs.session.Session.{Session, with_fact, after, May}
+use Rattle.sat_parts.proofs.lemmas.prop.StateLemmas.{negated_variable, negated_twice, false_from_true, model_excludes_core}
+use Rattle.sat_solver.specs.session.Session.{Session, with_fact, after, IsAllowedStep}
 use Rattle.sat_solver.proofs.lemmas.session.Changes.{with_live_clause, with_sorted, knowing_literals, session_if}
 use Rattle.sat_solver.specs.session.LiveClauses.{LiveClause, with_var, AreMapped}
 use Rattle.sat_solver.proofs.lemmas.session.Mapped.{negated_mapped, apart}
@@ -23,7 +23,7 @@ use Rattle.sat_solver.proofs.lemmas.session.StepsOfClauses.{short_leaves}
 use Rattle.sat_solver.specs.session.SolverClauses.{solver_clauses, InsertsClause}
 use Rattle.sat_solver.proofs.lemmas.trail.UnitLemmas.{fact_keeps, fact_only, fact_names, fact_width}
 use Rattle.sat_solver.proofs.lemmas.trail.InsertedLemmas.{inserted_first}
-use Rattle.sat_parts.specs.parts.Round.{UnitsAreUncaused as AreBare}
+use Rattle.sat_parts.specs.parts.Round.{UnitsHaveNoReason as AreBare}
 use Rattle.sat_parts.specs.parts.Frame.{IsUnitLit}
 use Rattle.sat_solver.specs.session.Fits.{is_redundant, SessionMatches}
 use Rattle.sat_solver.specs.session.Listed.{FitsList}
@@ -62,7 +62,7 @@ module _ (words live : List ℕ) (implied : List (List ℕ)) (st : State) (s : S
       let known : Session = knowing_literals (with_var global l ∷ []) s in
       let none : s.units (negated (with_var global l)) ≡ false = false_from_ne_true (s.units (negated w)) (λ u.
       let x = fits.sound (negated l) (subst (λ v. s.solver_names (global v) ≡ Some v) (sym (negated_variable l)) own) (subst (λ z. s.units z ≡ true) (sym (negated_mapped global l)) u) in
-      not_both st.values (negated l) x.0 (false_from_true st.values l holds)) in
+      model_excludes_core st.values (negated l) x.0 (false_from_true st.values l holds)) in
       let derived : FitsList all st (after (AtClause false (with_var global l ∷ []) []) s) global = record {
         clauses = short_leaves s global all false (w ∷ []) [] (refl, tt) (omega arith) refl fits.clauses;
         known = λ m u. fact_keeps known w (with_var global m) (fits.known m u);
@@ -84,7 +84,7 @@ module _ (words live : List ℕ) (implied : List (List ℕ)) (st : State) (s : S
       let known : Session = knowing_literals (w ∷ []) s in
       let x = unit_true st (negated l) agrees unit in
       let open_here : s.units (with_var global l) ≡ false = false_from_ne_true (s.units (with_var global l)) (λ u.
-      not_both st.values l (fits.sound l own u).0 (subst (λ z. IsFalseLit st.values z) (negated_twice l) (false_from_true st.values (negated l) x.0))) in
+      model_excludes_core st.values l (fits.sound l own u).0 (subst (λ z. IsFalseLit st.values z) (negated_twice l) (false_from_true st.values (negated l) x.0))) in
       let other : s.units (negated (with_var global l)) ≡ true = subst (λ z. s.units z ≡ true) (negated_mapped global l) (fits.known (negated l) unit) in
       ap (λ b. (session_if b s (with_fact w known)).unsat) fits.consistent
       ∙ ap (λ b. (session_if b known (session_if (s.units (negated w)) (record known { unsat = true }) (record known { units = λ m. eqb w m || s.units m }))).unsat) open_here
@@ -122,7 +122,7 @@ module _ (words live : List ℕ) (implied : List (List ℕ)) (st : State) (s : S
 
     -- true by a unit: it comes in and goes at once, its literals in whatever order both times
     pub satisfied_at_once : (ns : List ℕ) (l : ℕ) → IsReordering ns ms → is_among ns l ≡ true → IsUnitLit st l →
-        May (after (AddClause (map (with_var global) ls)) s) (DeleteClause (map (with_var global) ns) Satisfied)
+        IsAllowedStep (after (AddClause (map (with_var global) ls)) s) (DeleteClause (map (with_var global) ns) Satisfied)
         × SessionMatches words live implied st (after (DeleteClause (map (with_var global) ns) Satisfied) (after (AddClause (map (with_var global) ls)) s)) global
     satisfied_at_once ns l again there unit =
         let t : Session = after (AddClause (map (with_var global) ls)) s in
@@ -151,7 +151,7 @@ fits_added_binary words live x st s global agrees fits ls a b order differ small
 
 -- a long one
 pub fits_added_long_as : (words words' : List ℕ) (db db' : Db) (implied : List (List ℕ)) (st : State) (s : Session) (global : ℕ → ℕ) → StateIsConsistent st → SessionMatches words (live_refs words db.refs) implied st s global →
-    (ls ms : List ℕ) (o : ℕ) (header : Header) → HoldsDb words db → AddsLongClause words db words' db' o header ms → is_learned header.tier ≡ false → IsReordering ls ms → AreDistinct ls → 3 ≤ length ms →
+    (ls ms : List ℕ) (o : ℕ) (header : Header) → DbMatchesBuffer words db → AddsLongClause words db words' db' o header ms → is_learned header.tier ≡ false → IsReordering ls ms → AreDistinct ls → 3 ≤ length ms →
     AreMapped global s.solver_names ms → is_tautology ls ≡ false →
     SessionMatches words' (live_refs words' db'.refs) implied st (after (AddClause (map (with_var global) ls)) s) global
 fits_added_long_as words words' db db' implied st s global agrees fits ls ms o header held adds side order differ three names taut =

@@ -7,7 +7,7 @@ use Rattle.sat_checker.specs.Propagation.{UnitInTurn}
 use Rattle.sat_parts.specs.clause.Db.{live_refs}
 use Rattle.sat_parts.specs.prop.Values.{IsFalseLit}
 use Rattle.sat_parts.specs.prop.State.{level}
-use Rattle.sat_solver.specs.session.Session.{Session, after, May}
+use Rattle.sat_solver.specs.session.Session.{Session, after, IsAllowedStep}
 use Rattle.sat_solver.specs.session.LiveClauses.{with_var}
 use Rattle.sat_solver.specs.analyze_conflict.Marks.{IsReasoned}
 use Rattle.sat_solver.specs.analyze_conflict.Derivation.{clause_of, AreLevelZeroLits}
@@ -29,10 +29,10 @@ module _ (p : Parts) (s : Session) (global : ℕ → ℕ) (fits : SessionMatches
     -- a core that clauses refute: those of the used literals, the last of which is falsified where the core is true
     pub parts_core_may : (core used assumed : List ℕ) → s.assumed ≡ map (with_var global) assumed → is_part core assumed ≡ true → ((k : ℕ) → k < length used → IsReasoned (state p) 0 (get_or used k 0)) →
         ((units : List ℕ) → AreLevelZeroLits (state p) units → UnitInTurn (core ++ units) (map (clause_of p.clauses (state p)) used)) →
-        May s (FailedAssumptions (map (with_var global) core) (map (λ l. hash_of (clause_of p.clauses (state p) l)) used))
+        IsAllowedStep s (FailedAssumptions (map (with_var global) core) (map (λ l. hash_of (clause_of p.clauses (state p) l)) used))
     parts_core_may = core_may p.clauses live p.binary.implied (state p) s global fits holds.below.asks.agrees holds.below.asks.clauses holds.units holds.below.turns
 
     -- an assumption that is false at level 0
     pub parts_bottom_may : (failed : ℕ) (assumed hashes : List ℕ) → s.assumed ≡ map (with_var global) assumed → is_among assumed failed ≡ true → IsFalseLit p.assignment.current failed → level (state p) failed ≡ 0 →
-        May s (FailedAssumptions (with_var global failed ∷ []) hashes)
+        IsAllowedStep s (FailedAssumptions (with_var global failed ∷ []) hashes)
     parts_bottom_may = core_bottom_may p.clauses live p.binary.implied (state p) s global fits holds.below.asks.agrees holds.below.asks.clauses holds.units holds.below.turns

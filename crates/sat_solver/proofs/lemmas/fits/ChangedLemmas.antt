@@ -5,7 +5,7 @@ use Rattle.std.specs.List.{Contains}
 use Rattle.sat_base.specs.values.Literals.{negated}
 use Rattle.sat_store.specs.clause.Buffer.{lits_at}
 use Rattle.sat_store.specs.clause.Header.{Header, is_learned}
-use Rattle.sat_parts.specs.clause.Db.{Db, HoldsDb, AreRising, is_live, live_refs, without, AddsLongClause, DeletesClause}
+use Rattle.sat_parts.specs.clause.Db.{Db, DbMatchesBuffer, AreRising, is_live, live_refs, without, AddsLongClause, DeletesClause}
 use Rattle.sat_parts.specs.clause.Orders.{AreDistinct, IsReordering}
 use Rattle.sat_parts.specs.prop.Binaries.{Binaries, with_binary}
 use Rattle.sat_parts.proofs.lemmas.clause.ListLemmas.{rising_tail, rising_above, rising_distinct, place_in, in_without}
@@ -14,7 +14,7 @@ use Rattle.sat_parts.proofs.lemmas.prop.BuildLemmas.{live_in}
 use Rattle.sat_solver.specs.session.LiveClauses.{LiveClause}
 use Rattle.sat_solver.specs.session.SolverClauses.{pair, binaries, longs, solver_clauses, InsertsClause}
 use Rattle.sat_solver.proofs.lemmas.trail.ClauseLemmas.{binary_comes, binary_comes_turned}
-use Rattle.sat_solver.proofs.lemmas.trail.InsertedLemmas.{inserted_behind, inserted_before, long_goes, long_comes}
+use Rattle.sat_solver.proofs.lemmas.trail.InsertedLemmas.{inserted_after, inserted_before, long_goes, long_comes}
 use Rattle.sat_solver.specs.session.Fits.{is_redundant}
 use Rattle.sat_solver.proofs.lemmas.fits.FitLemmas.{longs_same}
 
@@ -33,7 +33,7 @@ rising_live words (x ∷ xs) h = go (is_live words x) (rising_live words xs (ris
     go true ih = rising_cons x (live_refs words xs) (λ p c. rising_above x xs p h (live_in words xs p c)) ih
     go false ih = ih
 
-pub live_distinct : (words : List ℕ) (db : Db) → HoldsDb words db → AreDistinct (live_refs words db.refs)
+pub live_distinct : (words : List ℕ) (db : Db) → DbMatchesBuffer words db → AreDistinct (live_refs words db.refs)
 live_distinct words db h j k a b e = rising_distinct (live_refs words db.refs) j k (rising_live words db.refs h.rising) a b e
 
 module _ (words words' : List ℕ) (db db' : Db) (implied : List (List ℕ)) where
@@ -44,7 +44,7 @@ module _ (words words' : List ℕ) (db db' : Db) (implied : List (List ℕ)) whe
   live' = live_refs words' db'.refs
 
   -- a long clause that came
-  pub added_there : (o : ℕ) (header : Header) (ls : List ℕ) (r : Bool) → HoldsDb words db → AddsLongClause words db words' db' o header ls → is_learned header.tier ≡ r →
+  pub added_there : (o : ℕ) (header : Header) (ls : List ℕ) (r : Bool) → DbMatchesBuffer words db → AddsLongClause words db words' db' o header ls → is_learned header.tier ≡ r →
       InsertsClause (solver_clauses (is_redundant words) words live implied) (solver_clauses (is_redundant words') words' live' implied) (record { redundant = r; literals = ls })
   added_there o header ls r held adds side =
       let its : longs (is_redundant words') words' live ≡ longs (is_redundant words) words live =
@@ -53,13 +53,13 @@ module _ (words words' : List ℕ) (db db' : Db) (implied : List (List ℕ)) whe
       let c : LiveClause = record { redundant = is_redundant words' o; literals = lits_at words' o } in
       let new : LiveClause = record { redundant = r; literals = ls } in
       let same : c ≡ new = ap (λ b. record { redundant = b; literals = lits_at words' o }) (ap (λ (h : Header). is_learned h.tier) adds.added.header_there ∙ side) ∙ ap (λ ms. record { redundant = r; literals = ms }) adds.added.lits_there in
-      inserted_behind (binaries implied) (longs (is_redundant words) words live) (longs (is_redundant words') words' live') new
+      inserted_after (binaries implied) (longs (is_redundant words) words live) (longs (is_redundant words') words' live') new
       (subst (λ ds. InsertsClause ds (longs (is_redundant words') words' live') new) its
       (subst (λ os. InsertsClause (longs (is_redundant words') words' live) (longs (is_redundant words') words' os) new) (sym adds.live)
       (subst (λ d. InsertsClause (longs (is_redundant words') words' live) (longs (is_redundant words') words' (live ++ o ∷ [])) d) same (long_comes (is_redundant words') words' live o))))
 
   -- and one that went
-  pub deleted_there : (o : ℕ) → HoldsDb words db → Contains live o → DeletesClause words db words' db' o →
+  pub deleted_there : (o : ℕ) → DbMatchesBuffer words db → Contains live o → DeletesClause words db words' db' o →
       InsertsClause (solver_clauses (is_redundant words') words' live' implied) (solver_clauses (is_redundant words) words live implied) (record { redundant = is_redundant words o; literals = lits_at words o })
   deleted_there o held there d =
       let its : longs (is_redundant words') words' (without o live) ≡ longs (is_redundant words) words (without o live) =
@@ -67,7 +67,7 @@ module _ (words words' : List ℕ) (db db' : Db) (implied : List (List ℕ)) whe
       let x = in_without o p live k in
       let kept = d.put.others p (live_in words db.refs p x.0) x.1 in (ap (λ (h : Header). is_learned h.tier) kept.header, kept.lits)) in
       let c : LiveClause = record { redundant = is_redundant words o; literals = lits_at words o } in
-      inserted_behind (binaries implied) (longs (is_redundant words') words' live') (longs (is_redundant words) words live) c
+      inserted_after (binaries implied) (longs (is_redundant words') words' live') (longs (is_redundant words) words live) c
       (subst (λ os. InsertsClause (longs (is_redundant words') words' os) (longs (is_redundant words) words live) c) (sym d.live)
       (subst (λ ds. InsertsClause ds (longs (is_redundant words) words live) c) (sym its) (long_goes (is_redundant words) words live o (live_distinct words db held) there)))
 

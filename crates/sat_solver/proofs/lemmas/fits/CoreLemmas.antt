@@ -11,17 +11,17 @@ use Rattle.sat_checker.proofs.lemmas.sets.Canonical.{tautology_from, both_signs}
 use Rattle.sat_parts.specs.clause.Stored.{AreClauses}
 use Rattle.sat_parts.specs.prop.Graphs.{is_unit_reason, node_of}
 use Rattle.sat_parts.specs.prop.State.{State, node, level, StateIsConsistent}
-use Rattle.sat_parts.specs.prop.Reasons.{AreInTurn}
+use Rattle.sat_parts.specs.prop.Reasons.{AreUnitInTurn}
 use Rattle.sat_parts.specs.prop.Values.{IsFalseLit}
 use Rattle.sat_parts.proofs.lemmas.prop.StateLemmas.{negated_twice, negated_variable, true_from_false}
 use Rattle.sat_checker.specs.Leading.{LeadsToConflict}
-use Rattle.sat_solver.specs.session.Session.{Session, May, MayDerive, AreLiveByHash, denied_in, by_clauses, by_derivation, by_signs, by_unit}
+use Rattle.sat_solver.specs.session.Session.{Session, IsAllowedStep, MayDerive, AreLiveByHash, denied_in, by_clauses, by_derivation, by_signs, by_unit}
 use Rattle.sat_solver.specs.session.LiveClauses.{with_var}
 use Rattle.sat_solver.proofs.lemmas.session.Mapped.{negated_mapped, among_mapped, leads_mapped, Carries}
 use Rattle.sat_solver.specs.session.TrailUnits.{IsUsable}
 use Rattle.sat_solver.specs.analyze_conflict.Marks.{IsReasoned}
 use Rattle.sat_solver.specs.analyze_conflict.Derivation.{clause_of, AreLevelZeroLits}
-use Rattle.sat_parts.specs.parts.Round.{UnitsAreUncaused as AreBare}
+use Rattle.sat_parts.specs.parts.Round.{UnitsHaveNoReason as AreBare}
 use Rattle.sat_solver.specs.session.Fits.{SessionMatches}
 use Rattle.sat_solver.proofs.lemmas.fits.MayLemmas.{bottom, bottom_units, leads_from_turns, AllUsable, named_by, place_usable, bottom_known}
 use Rattle.sat_solver.proofs.lemmas.fits.AnswerLemmas.{assumed_part}
@@ -38,7 +38,7 @@ one_part : (l : ℕ) (ls : List ℕ) → is_among ls l ≡ true → is_part (l �
 one_part l ls t = rw t refl
 
 -- by the clauses of used literals, the last of which is falsified where the core is true
-module _ (words live : List ℕ) (implied : List (List ℕ)) (st : State) (s : Session) (global : ℕ → ℕ) (fits : SessionMatches words live implied st s global) (agrees : StateIsConsistent st) (clauses : AreClauses words live (length st.values)) (bare : AreBare st) (turns : AreInTurn words live implied st 0) where
+module _ (words live : List ℕ) (implied : List (List ℕ)) (st : State) (s : Session) (global : ℕ → ℕ) (fits : SessionMatches words live implied st s global) (agrees : StateIsConsistent st) (clauses : AreClauses words live (length st.values)) (bare : AreBare st) (turns : AreUnitInTurn words live implied st 0) where
   all_usable : (used : List ℕ) → ((k : ℕ) → k < length used → IsReasoned st 0 (get_or used k 0)) → AllUsable s global (map (clause_of words st) used)
   all_usable [] r = tt
   all_usable (l ∷ ls) r =
@@ -65,12 +65,12 @@ module _ (words live : List ℕ) (implied : List (List ℕ)) (st : State) (s : S
 
   pub core_may : (core used assumed : List ℕ) → s.assumed ≡ map (with_var global) assumed → is_part core assumed ≡ true → ((k : ℕ) → k < length used → IsReasoned st 0 (get_or used k 0)) →
       ((units : List ℕ) → AreLevelZeroLits st units → UnitInTurn (core ++ units) (map (clause_of words st) used)) →
-      May s (FailedAssumptions (map (with_var global) core) (map (λ l. hash_of (clause_of words st l)) used))
+      IsAllowedStep s (FailedAssumptions (map (with_var global) core) (map (λ l. hash_of (clause_of words st l)) used))
   core_may core used assumed e within reasons acceptable = (assumed_part s global core assumed e within, by_derivation (core_derives core used reasons acceptable))
 
   -- an assumption that is false at level 0 fails alone
   pub core_bottom_may : (failed : ℕ) (assumed hashes : List ℕ) → s.assumed ≡ map (with_var global) assumed → is_among assumed failed ≡ true → IsFalseLit st.values failed → level st failed ≡ 0 →
-      May s (FailedAssumptions (with_var global failed ∷ []) hashes)
+      IsAllowedStep s (FailedAssumptions (with_var global failed ∷ []) hashes)
   core_bottom_may failed assumed hashes e among fails low =
       let z : level st (negated failed) ≡ 0 = ap (λ v. (node_of st.nodes v).level) (negated_variable failed) ∙ low in
       let u : s.units (with_var global (negated failed)) ≡ true = bottom_known words live implied st s global fits clauses turns agrees bare (negated failed) (true_from_false st.values failed fails) z in (
@@ -80,7 +80,7 @@ module _ (words live : List ℕ) (implied : List (List ℕ)) (st : State) (s : S
 
 -- both signs of a variable among the assumptions fail by themselves
 pub core_signs_may : (s : Session) (global : ℕ → ℕ) (core assumed hashes : List ℕ) → s.assumed ≡ map (with_var global) assumed → is_part core assumed ≡ true → is_tautology core ≡ true →
-    May s (FailedAssumptions (map (with_var global) core) hashes)
+    IsAllowedStep s (FailedAssumptions (map (with_var global) core) hashes)
 core_signs_may s global core assumed hashes e within taut =
     let b = both_signs core taut in
     let ks : List ℕ = map (with_var global) core in
@@ -91,7 +91,7 @@ core_signs_may s global core assumed hashes e within taut =
 
 -- an assumption and its negation
 pub core_pair_may : (s : Session) (global : ℕ → ℕ) (failed : ℕ) (assumed hashes : List ℕ) → s.assumed ≡ map (with_var global) assumed → is_part (failed ∷ negated failed ∷ []) assumed ≡ true →
-    May s (FailedAssumptions (map (with_var global) (failed ∷ negated failed ∷ [])) hashes)
+    IsAllowedStep s (FailedAssumptions (map (with_var global) (failed ∷ negated failed ∷ [])) hashes)
 core_pair_may s global failed assumed hashes e within =
     core_signs_may s global (failed ∷ negated failed ∷ []) assumed hashes e within
     (or_left (is_among (negated failed ∷ []) (negated failed)) (is_tautology (negated failed ∷ [])) (or_left (eqb (negated failed) (negated failed)) false (eq-eqb (negated failed) (negated failed) refl)))

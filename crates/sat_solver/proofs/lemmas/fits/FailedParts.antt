@@ -9,7 +9,7 @@ use Rattle.sat_checker.proofs.lemmas.sets.Canonical.{among_from_contains}
 use Rattle.sat_parts.specs.prop.Values.{IsFalseLit}
 use Rattle.sat_parts.specs.prop.State.{State}
 use Rattle.sat_parts.proofs.lemmas.clause.ListLemmas.{place_in}
-use Rattle.sat_solver.specs.session.Session.{Session, May}
+use Rattle.sat_solver.specs.session.Session.{Session, IsAllowedStep}
 use Rattle.sat_solver.specs.session.LiveClauses.{with_var}
 use Rattle.sat_solver.specs.analyze_conflict.Derivation.{clause_of}
 use Rattle.sat_solver.specs.assumptions.Failing.{IsChosen, IsFailedAssumption, fails_bottom, fails_signs, fails_clauses}
@@ -37,7 +37,7 @@ module _ (p : Parts) (s : Session) (global : ℕ → ℕ) (fits : SessionMatches
   both c (suc zero) lt = chosen_assumed (state p) assumed 0 (negated failed) decided c
   both c (suc (suc k)) lt = absurd (omega arith)
 
-  pub fails_may : (core used : List ℕ) → IsFailedAssumption p.clauses (state p) failed core used → May s (FailedAssumptions (map (with_var global) core) (map (λ l. hash_of (clause_of p.clauses (state p) l)) used))
+  pub fails_may : (core used : List ℕ) → IsFailedAssumption p.clauses (state p) failed core used → IsAllowedStep s (FailedAssumptions (map (with_var global) core) (map (λ l. hash_of (clause_of p.clauses (state p) l)) used))
   fails_may core used (fails_bottom low only none) = rw (only, none) (parts_bottom_may p s global fits holds failed assumed [] its (among_from_contains assumed failed there) fails low)
   fails_may core used (fails_signs chosen two none) = rw (two, none) (core_pair_may s global failed assumed [] its (part_from (failed ∷ negated failed ∷ []) assumed (both chosen)))
   fails_may core used (fails_clauses r) =

@@ -33,7 +33,7 @@ use Rattle.sat_parts.specs.parts.Frame.{IsUnitLit, AddsNoUnit}
 use Rattle.sat_parts.proofs.lemmas.parts.BinaryLemmas.{binary_all, binary_kept, binary_new, implied_kept, implied_new}
 use Rattle.sat_solver.specs.session.Fits.{ArePaired, is_redundant, SessionMatches}
 use Rattle.sat_solver.proofs.lemmas.fits.UsableLemmas.{among_place, once_distinct}
-use Rattle.sat_solver.proofs.lemmas.trail.ClauseLemmas.{in_behind, long_there}
+use Rattle.sat_solver.proofs.lemmas.trail.ClauseLemmas.{in_after, long_there}
 
 -- WHERE NO UNIT IS NEW
 
@@ -144,7 +144,7 @@ of_reordered words words' live implied s global count clauses kept h = record {
         let old : LiveClause = record { redundant = is_redundant words x.place; literals = lits_at words x.place } in
         subst (λ (d : LiveClause). AreMapped global s.solver_names d.literals) (sym x.same)
         (mapped_shuffled global s.solver_names (lits_at words x.place) (lits_at words' x.place) (kept.lits x.place x.there)
-        (h.named old (in_behind old (binaries implied) (longs (is_redundant words) words live) (long_there (is_redundant words) words live x.place x.there))))
+        (h.named old (in_after old (binaries implied) (longs (is_redundant words) words live) (long_there (is_redundant words) words live x.place x.there))))
   ];
   once = λ c k. elim (in_either c (binaries implied) (longs (is_redundant words') words' live) k) [
     | inl a ↦ h.once c (in_front c (binaries implied) (longs (is_redundant words) words live) a)

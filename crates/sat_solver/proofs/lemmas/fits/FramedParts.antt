@@ -14,7 +14,7 @@ use Rattle.sat_parts.specs.prop.Values.{IsTrueLit}
 use Rattle.sat_parts.specs.prop.State.{level, current_level, StateIsConsistent}
 use Rattle.sat_parts.proofs.lemmas.clause.OrderLemmas.{shuffled_eq}
 use Rattle.sat_parts.proofs.lemmas.prop.StateLemmas.{level_low}
-use Rattle.sat_solver.specs.session.Session.{Session, after, May}
+use Rattle.sat_solver.specs.session.Session.{Session, after, IsAllowedStep}
 use Rattle.sat_solver.specs.session.LiveClauses.{LiveClause, with_var, AreOf}
 use Rattle.sat_solver.specs.session.SolverClauses.{longs, solver_clauses}
 use Rattle.sat_parts.specs.declared.parts.Parts.{Parts}
@@ -37,10 +37,10 @@ use Rattle.sat_solver.proofs.lemmas.fits.ListedLemmas.{listed, fits_listed}
 abbrev clauses_of : Parts → List LiveClause
 clauses_of p = solver_clauses (is_redundant p.clauses) p.clauses (live_refs p.clauses p.db.refs) p.binary.implied
 
--- two steps, and what fits behind them
+-- two steps, and what fits after them
 pub record BothParts (p p' : Parts) (s : Session) (global : ℕ → ℕ) (first second : Step) : Type 0 where
-  pub derive : May s first
-  pub delete : May (after first s) second
+  pub derive : IsAllowedStep s first
+  pub delete : IsAllowedStep (after first s) second
   pub fits : SessionMatchesParts p' (after second (after first s)) global
 
 -- at level 0 what is true is a unit
@@ -77,11 +77,11 @@ module _ (p p' : Parts) (s : Session) (global : ℕ → ℕ) (fits : SessionMatc
   module _ (holds : PartsInvariant p) (o : ℕ) (there : Contains live o) (ls : List ℕ) (order : IsReordering ls (lits_at p.clauses o)) where
     -- a long clause goes
     pub fits_dropped_redundant : DropsLongClause p p' o → is_redundant p.clauses o ≡ true →
-        May s (DeleteClause (map (with_var global) ls) Redundant) × SessionMatchesParts p' (after (DeleteClause (map (with_var global) ls) Redundant) s) global
+        IsAllowedStep s (DeleteClause (map (with_var global) ls) Redundant) × SessionMatchesParts p' (after (DeleteClause (map (with_var global) ls) Redundant) s) global
     fits_dropped_redundant d side = rw (same_state p p' d.same.0, d.same.1) (fits_deleted_redundant p.clauses p'.clauses p.db p'.db p.binary.implied (state p) s global fits holds.below.held o there d.deletes ls order side)
 
     pub fits_dropped_satisfied : DropsLongClause p p' o → is_redundant p.clauses o ≡ false → (l : ℕ) → is_among ls l ≡ true → IsUnitLit (state p) l →
-        May s (DeleteClause (map (with_var global) ls) Satisfied) × SessionMatchesParts p' (after (DeleteClause (map (with_var global) ls) Satisfied) s) global
+        IsAllowedStep s (DeleteClause (map (with_var global) ls) Satisfied) × SessionMatchesParts p' (after (DeleteClause (map (with_var global) ls) Satisfied) s) global
     fits_dropped_satisfied d side l t unit = rw (same_state p p' d.same.0, d.same.1) (fits_deleted_satisfied p.clauses p'.clauses p.db p'.db p.binary.implied (state p) s global fits holds.below.held o there d.deletes ls order side l t unit)
 
     -- a part of it takes its place, named by the hash of its literals in the order hs

@@ -1,4 +1,4 @@
--- From what an analysis gives to what a round takes in, and the session behind the clause that is learned.
+-- From what an analysis gives to what a round takes in, and the session after the clause that is learned.
 use Rattle.std.proofs.Common.{ℕ, ◌*◌, ◌<◌, ◌≤◌, ◌≡◌, ◌≢◌, Bool, false, eqb, List, [], ◌∷◌, ◌++◌, map, length, get_or, sym, ◌∙◌, ap, subst, arith, inl, inr, Option, Some, append_assoc, length-set}
 use Rattle.std.proofs.lemmas.Bool.{cases_eq, ne_eqb, eqb-true, true≢false}
 use Rattle.std.proofs.lemmas.List.{append-nil}
@@ -15,7 +15,7 @@ use Rattle.sat_store.specs.heap.Vsids.{Queue}
 use Rattle.sat_checker.specs.LiteralSets.{is_tautology}
 use Rattle.sat_checker.specs.SortedSets.{NoRepeats}
 use Rattle.sat_parts.specs.declared.prop.graph.Reason.{Reason}
-use Rattle.sat_parts.specs.clause.Db.{Db, HoldsDb, live_refs, AddsLongClause}
+use Rattle.sat_parts.specs.clause.Db.{Db, DbMatchesBuffer, live_refs, AddsLongClause}
 use Rattle.sat_parts.specs.clause.Orders.{AreDistinct}
 use Rattle.sat_parts.specs.prop.Binaries.{Binaries, with_binary}
 use Rattle.sat_parts.specs.prop.Graphs.{is_unit_reason}
@@ -23,7 +23,7 @@ use Rattle.sat_parts.specs.prop.Values.{IsFalseLit}
 use Rattle.sat_parts.specs.prop.State.{State, level, current_level, StateIsConsistent, enqueued}
 use Rattle.sat_parts.specs.prop.Ready.{AreAllFalse}
 use Rattle.sat_parts.proofs.lemmas.clause.ListLemmas.{at_place}
-use Rattle.sat_parts.proofs.lemmas.prop.StateLemmas.{true_from_false, not_both}
+use Rattle.sat_parts.proofs.lemmas.prop.StateLemmas.{true_from_false, model_excludes_core}
 use Rattle.sat_parts.proofs.lemmas.prop.RoomLemmas.{below_from_value}
 use Rattle.sat_parts.proofs.lemmas.prop.BuildLemmas.{live_in}
 use Rattle.sat_solver.specs.session.Session.{Session, after}
@@ -76,7 +76,7 @@ is_learned_clause words st conflict w back a h =
     }
 
 pub false_signs : (values : List (Option Bool)) (ls : List ℕ) → AreAllFalse values ls → is_tautology ls ≡ false
-false_signs values ls h = no_signs values ls (λ j k a b e. not_both values (negated (get_or ls j 0)) (true_from_false values (get_or ls j 0) (h j a)) (subst (λ z. IsFalseLit values z) e (h k b)))
+false_signs values ls h = no_signs values ls (λ j k a b e. model_excludes_core values (negated (get_or ls j 0)) (true_from_false values (get_or ls j 0) (h j a)) (subst (λ z. IsFalseLit values z) e (h k b)))
 
 -- THE CLAUSE COMES IN
 
@@ -118,7 +118,7 @@ module _ (s : Session) (global : ℕ → ℕ) (header : Header) (ls hashes : Lis
         fits_long_by words (live_refs words db.refs) x.implied st s global agrees fits words (live_refs words db.refs) (with_binary (get_or ls 0 0) (get_or ls 1 0) x).implied (get_or ls 0 0) r flag (map (with_var global) ls) hashes
         pending.open_first pending.there caused (once_mapped global s.solver_names ls mapped_here once_here) (mapped_long (omega arith)) plain (paired_binary x a b first second differ fits.paired) comes
 
-    pub learnt_as_long : (r : Reason) (words' : List ℕ) (db' : Db) (o : ℕ) → is_unit_reason r ≡ false → 3 ≤ length ls → HoldsDb words db → AddsLongClause words db words' db' o header ls →
+    pub learnt_as_long : (r : Reason) (words' : List ℕ) (db' : Db) (o : ℕ) → is_unit_reason r ≡ false → 3 ≤ length ls → DbMatchesBuffer words db → AddsLongClause words db words' db' o header ls →
         SessionMatches words' (live_refs words' db'.refs) x.implied (enqueued (get_or ls 0 0) r st) now global
     learnt_as_long r words' db' o caused three held adds =
         let live : List ℕ = live_refs words db.refs in

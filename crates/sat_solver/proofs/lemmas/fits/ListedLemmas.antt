@@ -8,7 +8,7 @@ use Rattle.sat_checker.specs.SortedSets.{NoRepeats}
 use Rattle.sat_checker.proofs.lemmas.sets.Subsets.{any_true}
 use Rattle.sat_parts.specs.clause.Orders.{IsReordering}
 use Rattle.sat_parts.specs.prop.State.{State}
-use Rattle.sat_solver.specs.session.Session.{Session, after, May, MayReplace}
+use Rattle.sat_solver.specs.session.Session.{Session, after, IsAllowedStep, MayReplace}
 use Rattle.sat_solver.proofs.lemmas.session.Changes.{with_live_clause, with_live, without_live, knowing_literals, session_if}
 use Rattle.sat_solver.specs.session.LiveClauses.{LiveClause, IsIn, with_var, mapped, AreMapped, AreOf}
 use Rattle.sat_solver.proofs.lemmas.session.Lists.{in_counts}
@@ -75,7 +75,7 @@ module _ (s : Session) (global : ℕ → ℕ) (ls ms : List ℕ) (c : MayCome s.
         let d : LiveClause = record { redundant = r; literals = ms } in
         let t : Session = after (AtClause r ks hashes) s in
         let same : with_live_clause r ks (knowing_literals ks s) ≡ with_live r set (knowing_literals ks s) = comes_as r (knowing_literals ks s) in
-        let from : AreOf s global (i.before ++ i.behind) = subst (λ cs. AreOf s global cs) i.was h.clauses in
+        let from : AreOf s global (i.before ++ i.following) = subst (λ cs. AreOf s global cs) i.was h.clauses in
         listed_as old st s global h t new
         (record {
           names = λ v. ap (λ (x : Session). x.solver_names v) same;
@@ -84,8 +84,8 @@ module _ (s : Session) (global : ℕ → ℕ) (ls ms : List ℕ) (c : MayCome s.
           width = ap (λ (x : Session). x.width) same;
         })
         (subst (λ cs. AreOf t global cs) (sym i.is)
-        (still_of (with_live r set s) t global (i.before ++ d ∷ i.behind) (λ q u. ap (λ (x : Session). x.live q u) same) (ap (λ (x : Session). x.solver_names) same)
-        (comes_in s global i.before i.behind d from c.mapped c.once)))
+        (still_of (with_live r set s) t global (i.before ++ d ∷ i.following) (λ q u. ap (λ (x : Session). x.live q u) same) (ap (λ (x : Session). x.solver_names) same)
+        (comes_in s global i.before i.following d from c.mapped c.once)))
 
 -- a clause of the formula does what an irredundant derived one does, while unsat isn't recorded
 pub listed_by : (cs : List LiveClause) (st : State) (s : Session) (global : ℕ → ℕ) (ks hashes : List ℕ) → s.unsat ≡ false →
@@ -115,35 +115,35 @@ module _ (s : Session) (global : ℕ → ℕ) (st : State) (old new : List LiveC
   same_set : canonical (map (with_var global) ls) ≡ canonical (map (with_var global) ms)
   same_set = set_shuffled (with_var global) ls ms order
 
-  from : AreOf s global (i.before ++ d ∷ i.behind)
+  from : AreOf s global (i.before ++ d ∷ i.following)
   from = subst (λ cs. AreOf s global cs) i.is h.clauses
 
   pub is_counted : 0 < s.live r its
   is_counted =
-      subst (λ n. 0 < n) (sym (ap (s.live r) same_set ∙ from.counts r (canonical (map (with_var global) ms)))) (in_counts (map (mapped global) (i.before ++ d ∷ i.behind)) (mapped global d) (in_mapped_middle global i.before i.behind d))
+      subst (λ n. 0 < n) (sym (ap (s.live r) same_set ∙ from.counts r (canonical (map (with_var global) ms)))) (in_counts (map (mapped global) (i.before ++ d ∷ i.following)) (mapped global d) (in_mapped_middle global i.before i.following d))
 
   -- without it, whatever else the step changes
   listed_without : (t : Session) → SameFacts s t → t.solver_names ≡ s.solver_names → ((q : Bool) (set : List ℕ) → t.live q set ≡ (without_live r its s).live q set) → FitsList new st t global
   listed_without t f n e =
       listed_as old st s global h t new f
       (subst (λ cs. AreOf t global cs) (sym i.was)
-      (still_of (without_live r (canonical (map (with_var global) ms)) s) t global (i.before ++ i.behind) (λ q set. e q set ∙ ap (λ k. (without_live r k s).live q set) same_set) n (goes s global i.before i.behind d from)))
+      (still_of (without_live r (canonical (map (with_var global) ms)) s) t global (i.before ++ i.following) (λ q set. e q set ∙ ap (λ k. (without_live r k s).live q set) same_set) n (goes s global i.before i.following d from)))
 
-  pub listed_redundant : r ≡ true → May s (DeleteClause (map (with_var global) ls) Redundant) × FitsList new st (after (DeleteClause (map (with_var global) ls) Redundant) s) global
+  pub listed_redundant : r ≡ true → IsAllowedStep s (DeleteClause (map (with_var global) ls) Redundant) × FitsList new st (after (DeleteClause (map (with_var global) ls) Redundant) s) global
   listed_redundant e = (
     subst (λ b. 0 < s.live b its) e is_counted,
     listed_without (after (DeleteClause (map (with_var global) ls) Redundant) s) (record { names = λ v. refl; units = λ l. refl; unsat = refl; width = refl }) refl
         (λ q set. ap (λ b. (without_live b its s).live q set) (sym e)),
   )
 
-  pub listed_satisfied : r ≡ false → list_any s.units (map (with_var global) ls) ≡ true → May s (DeleteClause (map (with_var global) ls) Satisfied) × FitsList new st (after (DeleteClause (map (with_var global) ls) Satisfied) s) global
+  pub listed_satisfied : r ≡ false → list_any s.units (map (with_var global) ls) ≡ true → IsAllowedStep s (DeleteClause (map (with_var global) ls) Satisfied) × FitsList new st (after (DeleteClause (map (with_var global) ls) Satisfied) s) global
   listed_satisfied e u = (
     (subst (λ b. 0 < s.live b its) e is_counted, u),
     listed_without (after (DeleteClause (map (with_var global) ls) Satisfied) s) (record { names = λ v. refl; units = λ l. refl; unsat = refl; width = refl }) refl
         (λ q set. ap (λ b. (without_live b its s).live q set) (sym e)),
   )
 
-  pub listed_simplified : r ≡ false → MayReplace s (map (with_var global) ls) → May s (DeleteClause (map (with_var global) ls) Simplified) × FitsList new st (after (DeleteClause (map (with_var global) ls) Simplified) s) global
+  pub listed_simplified : r ≡ false → MayReplace s (map (with_var global) ls) → IsAllowedStep s (DeleteClause (map (with_var global) ls) Simplified) × FitsList new st (after (DeleteClause (map (with_var global) ls) Simplified) s) global
   listed_simplified e p = (
     (subst (λ b. 0 < s.live b its) e is_counted, p),
     listed_without (after (DeleteClause (map (with_var global) ls) Simplified) s) (record { names = λ v. refl; units = λ l. refl; unsat = refl; width = refl }) refl

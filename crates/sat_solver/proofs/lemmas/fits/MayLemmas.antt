@@ -13,7 +13,7 @@ use Rattle.sat_parts.specs.prop.Causes.{falsified}
 use Rattle.sat_parts.specs.prop.Graphs.{is_unit_reason}
 use Rattle.sat_parts.specs.prop.Values.{IsTrueLit}
 use Rattle.sat_parts.specs.prop.State.{State, node, level, lit_at, StateIsConsistent}
-use Rattle.sat_parts.specs.prop.Reasons.{AreInTurn}
+use Rattle.sat_parts.specs.prop.Reasons.{AreUnitInTurn}
 use Rattle.sat_parts.proofs.lemmas.prop.RoomLemmas.{below_from_value}
 use Rattle.sat_checker.specs.Leading.{LeadsToConflict}
 use Rattle.sat_solver.specs.session.Session.{Session, AreLiveByHash, denied_in, by_clauses}
@@ -24,7 +24,7 @@ use Rattle.sat_solver.specs.session.AnswerFacts.{is_true}
 use Rattle.sat_solver.proofs.lemmas.trail.AnswerLemmas.{true_lit, lit_true}
 use Rattle.sat_solver.specs.analyze_conflict.Marks.{IsReasoned}
 use Rattle.sat_solver.specs.analyze_conflict.Derivation.{clause_of, AreLevelZeroLits}
-use Rattle.sat_parts.specs.parts.Round.{UnitsAreUncaused as AreBare}
+use Rattle.sat_parts.specs.parts.Round.{UnitsHaveNoReason as AreBare}
 use Rattle.sat_solver.specs.session.Fits.{SessionMatches}
 use Rattle.sat_solver.specs.session.FitLaws.{named_clauses, LearnedMay}
 use Rattle.sat_solver.proofs.lemmas.fits.UsableLemmas.{reason_usable, conflict_usable, reason_clauses}
@@ -103,7 +103,7 @@ pub named_by : (s : Session) (global : ℕ → ℕ) (cs : List (List ℕ)) → s
 named_by s global [] w h = tt
 named_by s global (c ∷ cs) w h = (h.0.live, whole s (hash_of c) w ∙ h.0.hash, named_by s global cs w h.1)
 
-module _ (words live : List ℕ) (implied : List (List ℕ)) (st : State) (s : Session) (global : ℕ → ℕ) (fits : SessionMatches words live implied st s global) (clauses : AreClauses words live (length st.values)) (turns : AreInTurn words live implied st 0) where
+module _ (words live : List ℕ) (implied : List (List ℕ)) (st : State) (s : Session) (global : ℕ → ℕ) (fits : SessionMatches words live implied st s global) (clauses : AreClauses words live (length st.values)) (turns : AreUnitInTurn words live implied st 0) where
   pub place_usable : (i : ℕ) → i < length st.trail.lits → is_unit_reason (node st (lit_at st i)).reason ≡ false → IsUsable s global (clause_of words st (lit_at st i))
   place_usable i lt u =
       subst (λ c. IsUsable s global c) (sym (reason_clauses words live implied st i (length st.values) (node st (lit_at st i)).reason clauses u (turns i (omega arith) lt)))

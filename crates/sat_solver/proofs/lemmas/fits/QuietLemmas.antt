@@ -33,10 +33,10 @@ quiet_each from [] h = tt
 quiet_each from (x ∷ xs) h = (quiet_each from xs h.1, h.0)
 
 pub quiet_comes : (from to xs : List Step) → to ≡ xs ++ from → AreQuiet xs → ComesQuietly from to
-quiet_comes from to xs e h = record { steps = xs; behind = e; each = quiet_each from xs h }
+quiet_comes from to xs e h = record { steps = xs; following = e; each = quiet_each from xs h }
 
 pub comes_quiet : (from to xs : List Step) → ComesQuietly from to → to ≡ xs ++ from → AreQuiet xs
-comes_quiet from to xs c e = subst AreQuiet (append_cancel_right c.steps xs from (sym c.behind ∙ e)) (each_quiet from c.steps c.each)
+comes_quiet from to xs c e = subst AreQuiet (append_cancel_right c.steps xs from (sym c.following ∙ e)) (each_quiet from c.steps c.each)
 
 -- ONE CLAUSE
 

@@ -12,13 +12,13 @@ use Rattle.sat_parts.specs.prop.State.{State, level, current_level, StateIsConsi
 use Rattle.sat_parts.proofs.lemmas.clause.ListLemmas.{at_place, place_in}
 use Rattle.sat_parts.proofs.lemmas.clause.OrderLemmas.{shuffled_refl}
 use Rattle.sat_parts.proofs.lemmas.prop.StateLemmas.{negated_variable, negated_twice, level_low}
-use Rattle.sat_solver.specs.session.Session.{Session, after, May}
+use Rattle.sat_solver.specs.session.Session.{Session, after, IsAllowedStep}
 use Rattle.sat_solver.specs.session.LiveClauses.{LiveClause, with_var}
 use Rattle.sat_solver.specs.session.SolverClauses.{pair, binaries, longs, InsertsClause, is_open_clause, binaries_left}
 use Rattle.sat_solver.proofs.lemmas.trail.InsertedLemmas.{inserted_before}
 use Rattle.sat_solver.proofs.lemmas.trail.OpenLemmas.{binaries_open}
 use Rattle.sat_solver.proofs.lemmas.trail.LeftLemmas.{left_start, left_list, left_end, left_other, left_open, left_set}
-use Rattle.sat_parts.specs.parts.Round.{UnitsAreUncaused as AreBare}
+use Rattle.sat_parts.specs.parts.Round.{UnitsHaveNoReason as AreBare}
 use Rattle.sat_parts.proofs.lemmas.parts.ValueLemmas.{open_or_true}
 use Rattle.sat_solver.specs.session.Fits.{ArePaired, is_redundant, SessionMatches}
 use Rattle.sat_solver.specs.session.Listed.{FitsList}
@@ -130,7 +130,7 @@ module _ (words live : List ℕ) (x : Binaries) (st : State) (global : ℕ → �
 
     -- or goes, with its step
     pub removal_deletes : negated l < m → is_open_clause st.values (pair (negated l) m) ≡ false →
-        May t (DeleteClause (map (with_var global) (negated l ∷ m ∷ [])) Satisfied) × LeftFits words live x st global (after (DeleteClause (map (with_var global) (negated l ∷ m ∷ [])) Satisfied) t) l (k + 1)
+        IsAllowedStep t (DeleteClause (map (with_var global) (negated l ∷ m ∷ [])) Satisfied) × LeftFits words live x st global (after (DeleteClause (map (with_var global) (negated l ∷ m ∷ [])) Satisfied) t) l (k + 1)
     removal_deletes lower n =
         let a : ℕ = negated l in
         let ls : List ℕ = negated l ∷ m ∷ [] in
@@ -139,7 +139,7 @@ module _ (words live : List ℕ) (x : Binaries) (st : State) (global : ℕ → �
         let new : List LiveClause = binaries_left st.values x.implied l (k + 1) ++ rest in
         let i : InsertsClause new old (pair (negated l) m) = inserted_before rest (binaries_left st.values x.implied l (k + 1)) (binaries_left st.values x.implied l k) (pair a m) (left_set st.values x.implied l k lt (lt-ltb a m lower) n) in
         let c : Contains (implied_by x.implied (negated (negated l))) m = subst (λ z. Contains (implied_by x.implied z) m) (sym (negated_twice l)) (place_in (implied_by x.implied l) k lt) in
-        let unit : (z : ℕ) → is_among (negated l ∷ m ∷ []) z ≡ true → IsTrueLit st.values z → May t (DeleteClause (map (with_var global) (negated l ∷ m ∷ [])) Satisfied) × LeftFits words live x st global (after (DeleteClause (map (with_var global) (negated l ∷ m ∷ [])) Satisfied) t) l (k + 1) = λ z there holds.
+        let unit : (z : ℕ) → is_among (negated l ∷ m ∷ []) z ≡ true → IsTrueLit st.values z → IsAllowedStep t (DeleteClause (map (with_var global) (negated l ∷ m ∷ [])) Satisfied) × LeftFits words live x st global (after (DeleteClause (map (with_var global) (negated l ∷ m ∷ [])) Satisfied) t) l (k + 1) = λ z there holds.
         let low : level st z ≡ 0 = (let e : level st z ≤ current_level st = level_low st z agrees holds in omega arith) in
         let u = some_unit t global st old new false ls ls (shuffled_refl ls) i h z there (h.known z (true_unit st z agrees bare holds low)) in
         listed_satisfied t global st old new false ls ls (shuffled_refl ls) i h refl u in

@@ -7,7 +7,7 @@ use Rattle.sat_parts.specs.prop.Binaries.{implied_by, RemovesAssigned}
 use Rattle.sat_parts.specs.prop.Values.{IsTrueLit}
 use Rattle.sat_parts.specs.prop.State.{level, current_level, HasLeftQueue, StateIsConsistent}
 use Rattle.sat_parts.proofs.lemmas.prop.StateLemmas.{level_low}
-use Rattle.sat_solver.specs.session.Session.{Session, after, May}
+use Rattle.sat_solver.specs.session.Session.{Session, after, IsAllowedStep}
 use Rattle.sat_solver.specs.session.LiveClauses.{with_var}
 use Rattle.sat_solver.specs.session.SolverClauses.{pair, is_open_clause}
 use Rattle.sat_parts.specs.declared.parts.Parts.{Parts}
@@ -48,7 +48,7 @@ module _ (p : Parts) (global : ℕ → ℕ) (holds : PartsInvariant p) (paired :
     parts_removal_passes = removal_passes p.clauses live p.binary (state p) global agrees holds.units none paired complete s l k lt h
 
     pub parts_removal_deletes : negated l < m → is_open_clause p.assignment.current (pair (negated l) m) ≡ false →
-        May s (DeleteClause (map (with_var global) (negated l ∷ m ∷ [])) Satisfied) × LeftParts p (after (DeleteClause (map (with_var global) (negated l ∷ m ∷ [])) Satisfied) s) global l (k + 1)
+        IsAllowedStep s (DeleteClause (map (with_var global) (negated l ∷ m ∷ [])) Satisfied) × LeftParts p (after (DeleteClause (map (with_var global) (negated l ∷ m ∷ [])) Satisfied) s) global l (k + 1)
     parts_removal_deletes = removal_deletes p.clauses live p.binary (state p) global agrees holds.units none paired complete s l k lt h
 
   -- and then they are removed

@@ -9,12 +9,12 @@ use Rattle.sat_base.specs.steps.Steps.{Step, AtClause, DeleteClause, Redundant, 
 use Rattle.sat_store.specs.clause.Buffer.{lits_at}
 use Rattle.sat_store.specs.clause.Header.{Header, is_learned}
 use Rattle.sat_checker.specs.LiteralSets.{is_among}
-use Rattle.sat_parts.specs.clause.Db.{Db, HoldsDb, live_refs, ShortensClause}
+use Rattle.sat_parts.specs.clause.Db.{Db, DbMatchesBuffer, live_refs, ShortensClause}
 use Rattle.sat_parts.specs.clause.Orders.{AreDistinct, IsReordering}
 use Rattle.sat_parts.specs.clause.Stored.{AreClauses, lit_of, size_of}
 use Rattle.sat_parts.specs.prop.State.{State, StateIsConsistent}
 use Rattle.sat_parts.proofs.lemmas.prop.BuildLemmas.{live_in}
-use Rattle.sat_solver.specs.session.Session.{Session, after, May}
+use Rattle.sat_solver.specs.session.Session.{Session, after, IsAllowedStep}
 use Rattle.sat_solver.specs.session.LiveClauses.{LiveClause, with_var}
 use Rattle.sat_solver.specs.session.SolverClauses.{binaries, longs, solver_clauses, InsertsClause}
 use Rattle.sat_solver.proofs.lemmas.trail.InsertedLemmas.{Splits, splits, longs_both, replaces}
@@ -27,10 +27,10 @@ use Rattle.sat_solver.proofs.lemmas.fits.ListedLemmas.{MayCome, listed, fits_lis
 use Rattle.sat_solver.proofs.lemmas.fits.ChangedLemmas.{live_distinct}
 use Rattle.sat_solver.proofs.lemmas.fits.PartLemmas.{come_shorter, derive_shorter, replace_shorter}
 
--- two steps that may be written one after the other, and what fits behind them
+-- two steps that may be written one after the other, and what fits after them
 pub record Both (words live : List ℕ) (implied : List (List ℕ)) (st : State) (s : Session) (global : ℕ → ℕ) (first second : Step) : Type 0 where
-  pub derive : May s first
-  pub delete : May (after first s) second
+  pub derive : IsAllowedStep s first
+  pub delete : IsAllowedStep (after first s) second
   pub fits : SessionMatches words live implied st (after second (after first s)) global
 
 -- the long clauses where one of them was shortened, and where both stand
@@ -38,7 +38,7 @@ record Shortened (old mid new : List LiveClause) (c d : LiveClause) : Type 0 whe
   comes : InsertsClause old mid d
   goes : InsertsClause new mid c
 
-shortened_there : (words words' : List ℕ) (db : Db) (implied : List (List ℕ)) (o len : ℕ) → HoldsDb words db → Contains (live_refs words db.refs) o → ShortensClause words db words' o len →
+shortened_there : (words words' : List ℕ) (db : Db) (implied : List (List ℕ)) (o len : ℕ) → DbMatchesBuffer words db → Contains (live_refs words db.refs) o → ShortensClause words db words' o len →
     (mid : List LiveClause) × Shortened (solver_clauses (is_redundant words) words (live_refs words db.refs) implied) mid (solver_clauses (is_redundant words') words' (live_refs words' db.refs) implied)
     (record { redundant = is_redundant words o; literals = lits_at words o }) (record { redundant = is_redundant words o; literals = take len (lits_at words o) })
 shortened_there words words' db implied o len held there short =
@@ -69,7 +69,7 @@ shortened_there words words' db implied o len held there short =
 
 -- LONG TO LONG
 
-module _ (words words' : List ℕ) (db : Db) (implied : List (List ℕ)) (st : State) (s : Session) (global : ℕ → ℕ) (agrees : StateIsConsistent st) (fits : SessionMatches words (live_refs words db.refs) implied st s global) (held : HoldsDb words db) (clauses : AreClauses words (live_refs words db.refs) (length st.values)) (plain : ArePlain s) (o len : ℕ) (there : Contains (live_refs words db.refs) o) (short : ShortensClause words db words' o len) (long : 3 ≤ len) (fewer : len < size_of words o) (false_by : (k : ℕ) → len ≤ k → k < size_of words o → IsUnitLit st (negated (lit_of words o k))) (ls part : List ℕ) (order : IsReordering ls (lits_at words o)) (part_order : IsReordering part (take len (lits_at words o))) (hs : List ℕ) (hash_order : IsReordering hs (lits_at words o)) (hash_distinct : AreDistinct hs) (hash : ℕ) (its : hash ≡ hash_of hs) where
+module _ (words words' : List ℕ) (db : Db) (implied : List (List ℕ)) (st : State) (s : Session) (global : ℕ → ℕ) (agrees : StateIsConsistent st) (fits : SessionMatches words (live_refs words db.refs) implied st s global) (held : DbMatchesBuffer words db) (clauses : AreClauses words (live_refs words db.refs) (length st.values)) (plain : ArePlain s) (o len : ℕ) (there : Contains (live_refs words db.refs) o) (short : ShortensClause words db words' o len) (long : 3 ≤ len) (fewer : len < size_of words o) (false_by : (k : ℕ) → len ≤ k → k < size_of words o → IsUnitLit st (negated (lit_of words o k))) (ls part : List ℕ) (order : IsReordering ls (lits_at words o)) (part_order : IsReordering part (take len (lits_at words o))) (hs : List ℕ) (hash_order : IsReordering hs (lits_at words o)) (hash_distinct : AreDistinct hs) (hash : ℕ) (its : hash ≡ hash_of hs) where
   abbrev live : List ℕ
   live = live_refs words db.refs
 
@@ -111,7 +111,7 @@ module _ (words words' : List ℕ) (db : Db) (implied : List (List ℕ)) (st : S
   come : MayCome s.solver_names global part d
   come = come_shorter words live implied st s global agrees fits clauses plain o there part d part_order differ (omega (arith, size)) within
 
-  derive : (flag : Bool) → May s (AtClause flag (map (with_var global) part) (hash ∷ []))
+  derive : (flag : Bool) → IsAllowedStep s (AtClause flag (map (with_var global) part) (hash ∷ []))
   derive flag = derive_shorter words live implied st s global agrees fits clauses plain o there part d part_order differ (omega (arith, size)) within hs hash hash_order hash_distinct its each
 
   abbrev step : Bool → Step

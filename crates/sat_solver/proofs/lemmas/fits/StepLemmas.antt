@@ -24,17 +24,17 @@ use Rattle.sat_parts.specs.clause.Stored.{AreClauses}
 use Rattle.sat_solver.proofs.lemmas.fits.FitLemmas.{fits_carried, fits_reordered}
 
 module _ (p : Parts) (e : Conflict) (w : Work) (back : ℕ) (refuted : IsRefuted p e) (learns : Learns p.clauses (state p) (falsified p.clauses e) w back) where
-  stands : (k o : ℕ) → k < length w.used → (node (state p) (get_or w.used k 0)).reason ≡ Long o → IsClause p.clauses o × (0 < length (lits_at p.clauses o))
-  stands k o lt r =
+  valid : (k o : ℕ) → k < length w.used → (node (state p) (get_or w.used k 0)).reason ≡ Long o → IsClause p.clauses o × (0 < length (lits_at p.clauses o))
+  valid k o lt r =
       let x : IsReasoned (state p) 0 (get_or w.used k 0) = learns.reasons k lt in
       stands_by p.clauses (live_refs p.clauses p.db.refs) p.binary.implied (state p) x.place o (node (state p) (lit_at (state p) x.place)).reason (length p.assignment.current) refuted.0.asks.clauses
       (refuted.0.turns x.place (omega arith) x.within) (ap (λ l. (node (state p) l).reason) x.there ∙ r)
 
   pub used_clause : (k o : ℕ) → k < length w.used → (node (state p) (get_or w.used k 0)).reason ≡ Long o → IsClause p.clauses o
-  used_clause k o lt r = (stands k o lt r).0
+  used_clause k o lt r = (valid k o lt r).0
 
   pub used_some : (k o : ℕ) → k < length w.used → (node (state p) (get_or w.used k 0)).reason ≡ Long o → 0 < length (lits_at p.clauses o)
-  used_some k o lt r = (stands k o lt r).1
+  used_some k o lt r = (valid k o lt r).1
 
   pub used_there : (k : ℕ) → k < length w.used → variable (get_or w.used k 0) < length p.graph
   used_there k lt =

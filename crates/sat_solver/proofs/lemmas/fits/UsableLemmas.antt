@@ -30,7 +30,7 @@ use Rattle.sat_solver.proofs.lemmas.session.Naming.{live_same}
 use Rattle.sat_solver.specs.session.SolverClauses.{pair, binaries, longs, solver_clauses}
 use Rattle.sat_solver.specs.session.TrailUnits.{IsUsable}
 use Rattle.sat_solver.specs.session.TrailEntries.{reason_clause}
-use Rattle.sat_solver.proofs.lemmas.trail.ClauseLemmas.{binary_there, long_there, in_front, in_behind}
+use Rattle.sat_solver.proofs.lemmas.trail.ClauseLemmas.{binary_there, long_there, in_front, in_after}
 use Rattle.sat_solver.specs.session.Fits.{ArePaired, is_redundant}
 
 -- a literal among others stands at a place
@@ -105,12 +105,12 @@ module _ (words live : List ℕ) (implied : List (List ℕ)) (s : Session) (glob
   pub long_usable : (o : ℕ) → Contains live o → IsUsable s global (lits_at words o)
   long_usable o c =
       usable_in (record { redundant = is_redundant words o; literals = lits_at words o })
-      (in_behind (record { redundant = is_redundant words o; literals = lits_at words o }) (binaries implied) (longs (is_redundant words) words live) (long_there (is_redundant words) words live o c))
+      (in_after (record { redundant = is_redundant words o; literals = lits_at words o }) (binaries implied) (longs (is_redundant words) words live) (long_there (is_redundant words) words live o c))
 
   pub long_named : (o : ℕ) → Contains live o → AreMapped global s.solver_names (lits_at words o)
   long_named o c =
       let it : LiveClause = record { redundant = is_redundant words o; literals = lits_at words o } in
-      clauses.named it (in_behind it (binaries implied) (longs (is_redundant words) words live) (long_there (is_redundant words) words live o c))
+      clauses.named it (in_after it (binaries implied) (longs (is_redundant words) words live) (long_there (is_redundant words) words live o c))
 
   -- the clause by which a literal of the trail is true
   pub reason_usable : (st : State) (i : ℕ) (r : Reason) → is_unit_reason r ≡ false → Implies words live implied st i r → IsUsable s global (reason_clause words (lit_at st i) r)

@@ -22,10 +22,10 @@ mapped_alike global f h (l ∷ ls) same m = (same (global (variable l)) ∙ m.0,
 
 pub search_alike : (s t : Session) (c : Search) → IsSearch s c → LooksAlike s t → IsSearch t c
 search_alike s t c x a =
-    let fits = x.stands.fits in
+    let fits = x.valid.fits in
     record {
-      stands = record {
-        holds = x.stands.holds;
+      valid = record {
+        holds = x.valid.holds;
         fits = record {
           clauses = record {
             named = λ d k. mapped_alike (global_in c) s.solver_names t.solver_names d.literals a.names (fits.clauses.named d k);
@@ -33,7 +33,7 @@ search_alike s t c x a =
             counts = λ r set. a.live r set ∙ fits.clauses.counts r set;
           };
           paired = fits.paired;
-          known = λ l u. unit_same l (ready_names s c x.ready l (unit_true (state c.parts) l x.stands.holds.below.asks.agrees u).0) ∙ fits.known l u;
+          known = λ l u. unit_same l (ready_names s c x.ready l (unit_true (state c.parts) l x.valid.holds.below.asks.agrees u).0) ∙ fits.known l u;
           sound = λ l n u. (let own = sym (a.names (global_in c (variable l))) ∙ n in fits.sound l own (sym (unit_same l own) ∙ u));
           consistent = a.unsat ∙ fits.consistent;
           width = a.width ∙ fits.width;
@@ -57,14 +57,14 @@ tautology_loads steps c ls added both =
     let x = added.search in
     let p = c.parts in
     rw added.added (record {
-      stands = record { holds = x.stands.holds; fits = fits_added_tautology p.clauses (live_refs p.clauses p.db.refs) p.binary.implied (state p) (session_after added.earlier) (global_in c) x.stands.holds.below.asks.agrees x.stands.fits ls both };
+      valid = record { holds = x.valid.holds; fits = fits_added_tautology p.clauses (live_refs p.clauses p.db.refs) p.binary.implied (state p) (session_after added.earlier) (global_in c) x.valid.holds.below.asks.agrees x.valid.fits ls both };
       ready = record {
         free = x.ready.free;
         placed = x.ready.placed;
         there = x.ready.there;
-        asked = asked_added (map (with_var (global_in c)) ls) added.earlier x.stands.fits.consistent ∙ x.ready.asked;
+        asked = asked_added (map (with_var (global_in c)) ls) added.earlier x.valid.fits.consistent ∙ x.ready.asked;
         used = λ v lt. elim (x.ready.used v lt) [
-          | inl own ↦ inl ((leaves_added (map (with_var (global_in c)) ls) added.earlier x.stands.fits.consistent).names (global_in c v) ∙ own)
+          | inl own ↦ inl ((leaves_added (map (with_var (global_in c)) ls) added.earlier x.valid.fits.consistent).names (global_in c v) ∙ own)
           | inr idle ↦ inr idle
         ];
       };

@@ -37,7 +37,7 @@ fully_restarted c p a bottom holds same carries stay placed lits =
       rest = refl;
       free = λ f. free_moved c c' f moved refl refl;
       search = λ s x. record {
-        stands = record { holds = holds; fits = fits_undone c.parts p s (global_in c) same carries x.stands.fits };
+        valid = record { holds = holds; fits = fits_undone c.parts p s (global_in c) same carries x.valid.fits };
         ready = ready_moved s s c c' x.ready (leaves_refl s) moved (stay (assumed_indices c)) placed (free_moved c c' x.ready.free moved refl refl);
       };
     }
@@ -70,7 +70,7 @@ assumed c a bottom there placed = record {
   lits = refl;
   same = refl;
   search = λ s x named. record {
-    stands = record { holds = x.stands.holds; fits = parts_rests c.parts s (global_in c) x.stands.fits (Asks _) tt };
+    valid = record { holds = x.valid.holds; fits = parts_rests c.parts s (global_in c) x.valid.fits (Asks _) tt };
     ready = record {
       free = record { names = x.ready.free.names; size = x.ready.free.size; clear = x.ready.free.clear; flags_size = x.ready.free.flags_size; flags_clear = x.ready.free.flags_clear };
       placed = placed (state c.parts) bottom;

@@ -19,5 +19,5 @@ pub comes_true : {W L full : Type 0} {G : Ghosts L} (seen : W → Writer) (r : R
     EmitsStepsOr full seen r p q (λ left _. IsLoaded left (session_of q) c c') → IsLastAdded (steps_of p) clause → OnOk r (OnlyAllowedSteps DeletesAdded (steps_of p) (steps_of q))
 comes_true seen (Ok left) p q clause c c' g h last =
     let goes_on : IsSearch (session_of q) c' = subst (λ l. SearchGoesOn l (session_of q) c') g.ends.0 h.ends.goes_on in
-    comes_one DeletesAdded (steps_of p) (steps_of q) (DeleteClause clause Satisfied) g.ends.1 (last, sym (ap (λ ss. (session_after ss).unsat) g.ends.1) ∙ goes_on.stands.fits.consistent)
+    comes_one DeletesAdded (steps_of p) (steps_of q) (DeleteClause clause Satisfied) g.ends.1 (last, sym (ap (λ ss. (session_after ss).unsat) g.ends.1) ∙ goes_on.valid.fits.consistent)
 comes_true seen (Err e) p q clause c c' g h last = tt

@@ -31,7 +31,7 @@ use Rattle.sat_solver.specs.declared.context.Search.{Search}
 use Rattle.sat_solver.specs.cdcl.Joint.{global_in, assumed_indices, IsFree, IsSearch}
 use Rattle.sat_solver.proofs.lemmas.cdcl.TurnLemmas.{ready_names}
 use Rattle.sat_solver.specs.load.Restart.{FullyRestarted}
-use Rattle.sat_solver.specs.variables.Initialized.{GivesLit, IsVacant, AreVacant, TakesIndices, Renames, IsGivenTo, GivesNames, GivesSearchIndices}
+use Rattle.sat_solver.specs.variables.Initialized.{GivesLit, IsVacant, AreVacant, ActivatesIndices, Renames, IsGivenTo, GivesNames, GivesSearchIndices}
 use Rattle.sat_solver.proofs.lemmas.load.IndexLemmas.{given_or_not, lit_given}
 
 -- two maps of literals agree where their variables do
@@ -118,7 +118,7 @@ placed_bottom ls below place s s' e e' kept h =
     }
 
 module _ (c c' : Search) (globals : List ℕ) (gs : List Given) (count : ℕ) (holds : PartsInvariant c.parts) (bottom : c.parts.trail.starts ≡ []) (next : length c.globals.items ≡ length c.parts.assignment.current) (more : length c.globals.items ≤ count) (least : length c.globals.items ≤ length globals → count ≤ length globals) (past : AllByRecursion (λ g. g.solver < count) gs)
-    (p : Parts) (grown : AddsVars c.parts p count) (takes : TakesIndices gs p c'.parts)
+    (p : Parts) (grown : AddsVars c.parts p count) (takes : ActivatesIndices gs p c'.parts)
     (xs : List ℕ) (front : (v : ℕ) → v < length c.globals.items → get_or xs v 0 ≡ get_or c.globals.items v 0) (many : length xs ≡ count) (renamed : Renames gs globals xs c'.globals.items)
     (assumptions : c'.assumptions ≡ c.assumptions) (flags : length c'.analysis.flags ≡ count) (clear : AreClear c.analysis.flags → AreClear c'.analysis.flags) (glue : GrowsFlags count c.flags.flags.items c'.flags.flags.items) where
   abbrev n : ℕ
@@ -148,7 +148,7 @@ module _ (c c' : Search) (globals : List ℕ) (gs : List Given) (count : ℕ) (h
     new_named v h = ap t.solver_names (renamed.named v h) ∙ (found globals s t gs v g.each h).named
 
     grown_fits : SessionMatchesParts p s (global_in c)
-    grown_fits = fits_grown c.parts p count s (global_in c) holds (omega (arith, next, more)) grown x.stands.fits
+    grown_fits = fits_grown c.parts p count s (global_in c) holds (omega (arith, next, more)) grown x.valid.fits
 
     names : TrueLitsHaveNames c.parts.assignment.current s (global_in c)
     names = ready_names s c x.ready
@@ -235,7 +235,7 @@ module _ (c c' : Search) (globals : List ℕ) (gs : List Given) (count : ℕ) (h
 
     still : IsSearch t c'
     still = record {
-      stands = record { holds = takes.holds; fits = fits };
+      valid = record { holds = takes.holds; fits = fits };
       ready = record {
         free = free;
         placed = placed;
@@ -267,7 +267,7 @@ module _ (c c' : Search) (globals : List ℕ) (gs : List Given) (count : ℕ) (h
 pub idle_index : (s : Session) (c : Search) (x : ℕ) → IsSearch s c → ((v : ℕ) → s.solver_names v ≢ Some x) → (value_of c.parts.assignment.current x ≡ None) × (may_pick c.parts.vsids x ≡ false)
 idle_index s c x h none = elim (cases_lt x (length c.parts.assignment.current)) [
   | inl lt ↦ elim (h.ready.used x lt) [ inl own ↦ absurd (none (global_in c x) own) | inr idle ↦ (idle.0, idle.1) ]
-  | inr ge ↦ (get_or_past c.parts.assignment.current x None ge, get_or_past c.parts.vsids.available x false (omega (arith, h.stands.holds.below.queue)))
+  | inr ge ↦ (get_or_past c.parts.assignment.current x None ge, get_or_past c.parts.vsids.available x false (omega (arith, h.valid.holds.below.queue)))
 ]
 
 pub are_vacant : (globals : List ℕ) (s t : Session) (c : Search) (count : ℕ) (gs : List Given) → IsSearch s c → AllByRecursion (IsGivenTo globals s t) gs → AllByRecursion (λ g. g.solver < count) gs → GivenApart gs → AreVacant c.parts count gs
@@ -309,19 +309,19 @@ front_kept xs zs count m x le e v lt = ap (λ ws. get_or ws v 0) e ∙ ap (λ ws
 -- a session in which only variables without an index got names is the same to a search
 none_given : (globals : List ℕ) (count : ℕ) (s t : Session) (c : Search) → IsSearch s c → GivesNames globals [] count s t → IsSearch t c
 none_given globals count s t c x g = record {
-  stands = record {
-    holds = x.stands.holds;
+  valid = record {
+    holds = x.valid.holds;
     fits = record {
       clauses = of_on (global_in c) (global_in c) s.solver_names t.solver_names (λ v own. (refl, g.stays (global_in c v) v own)) s t
-          (solver_clauses (is_redundant c.parts.clauses) c.parts.clauses (live_refs c.parts.clauses c.parts.db.refs) c.parts.binary.implied) refl refl g.keeps.live x.stands.fits.clauses;
-      paired = x.stands.fits.paired;
-      known = λ l u. ap (λ f. f (with_var (global_in c) l)) g.keeps.units ∙ x.stands.fits.known l u;
+          (solver_clauses (is_redundant c.parts.clauses) c.parts.clauses (live_refs c.parts.clauses c.parts.db.refs) c.parts.binary.implied) refl refl g.keeps.live x.valid.fits.clauses;
+      paired = x.valid.fits.paired;
+      known = λ l u. ap (λ f. f (with_var (global_in c) l)) g.keeps.units ∙ x.valid.fits.known l u;
       sound = λ l own u. elim (g.others (global_in c (variable l)) (variable l) own) [
-        | inl old ↦ x.stands.fits.sound l old (ap (λ f. f (with_var (global_in c) l)) (sym g.keeps.units) ∙ u)
+        | inl old ↦ x.valid.fits.sound l old (ap (λ f. f (with_var (global_in c) l)) (sym g.keeps.units) ∙ u)
         | inr h ↦ absurd h
       ];
-      consistent = g.keeps.unsat ∙ x.stands.fits.consistent;
-      width = g.keeps.width ∙ x.stands.fits.width;
+      consistent = g.keeps.unsat ∙ x.valid.fits.consistent;
+      width = g.keeps.width ∙ x.valid.fits.width;
     };
   };
   ready = record {

@@ -13,7 +13,7 @@ use Rattle.sat_parts.specs.parts.Whole.{state, PartsInvariant}
 use Rattle.sat_parts.specs.parts.Frame.{SameClauses, SameState, GainsUnit, IsUnitLit}
 use Rattle.sat_solver.specs.variables.Search.{HasGiven}
 use Rattle.sat_solver.specs.declared.variables.solver_vars.Given.{Given}
-use Rattle.sat_solver.specs.variables.Initialized.{GivesLit, IsVacant, TakesIndices, Renames}
+use Rattle.sat_solver.specs.variables.Initialized.{GivesLit, IsVacant, ActivatesIndices, Renames}
 
 pub given_or_not : (gs : List Given) (v : ℕ) → HasGiven gs v ⊎ (HasGiven gs v → ⊥)
 given_or_not [] v = inr (λ x. x)
@@ -36,7 +36,7 @@ none_other : (g : Given) (v : ℕ) → g.solver ≢ v → HasGiven (g ∷ []) v 
 none_other g v n (inl e) = n e
 none_other g v n (inr k) = k
 
-pub takes_none : (p : Parts) → PartsInvariant p → p.trail.starts ≡ [] → TakesIndices [] p p
+pub takes_none : (p : Parts) → PartsInvariant p → p.trail.starts ≡ [] → ActivatesIndices [] p p
 takes_none p holds bottom = record {
   holds = holds;
   bottom = bottom;
@@ -50,7 +50,7 @@ takes_none p holds bottom = record {
   its = λ l h. absurd h;
 }
 
-pub takes_cons : (g : Given) (gs : List Given) (p m q : Parts) → AllByRecursion (λ h. h.solver ≢ g.solver) gs → TakesIndices (g ∷ []) p m → TakesIndices gs m q → TakesIndices (g ∷ gs) p q
+pub takes_cons : (g : Given) (gs : List Given) (p m q : Parts) → AllByRecursion (λ h. h.solver ≢ g.solver) gs → ActivatesIndices (g ∷ []) p m → ActivatesIndices gs m q → ActivatesIndices (g ∷ gs) p q
 takes_cons g gs p m q apart x y = record {
   holds = y.holds;
   bottom = y.bottom;
@@ -73,7 +73,7 @@ takes_cons g gs p m q apart x y = record {
 }
 
 -- the others are vacant still
-pub vacant_on : (g : Given) (gs : List Given) (p m : Parts) (count : ℕ) → AllByRecursion (λ h. h.solver ≢ g.solver) gs → TakesIndices (g ∷ []) p m → AllByRecursion (IsVacant p count) gs → AllByRecursion (IsVacant m count) gs
+pub vacant_on : (g : Given) (gs : List Given) (p m : Parts) (count : ℕ) → AllByRecursion (λ h. h.solver ≢ g.solver) gs → ActivatesIndices (g ∷ []) p m → AllByRecursion (IsVacant p count) gs → AllByRecursion (IsVacant m count) gs
 vacant_on g [] p m count apart x h = tt
 vacant_on g (k ∷ ks) p m count apart x h =
     let out : HasGiven (g ∷ []) k.solver → ⊥ = none_other g k.solver (λ e. apart.0 (sym e)) in
@@ -87,7 +87,7 @@ module _ (p m p' : Parts) (g : Given) (bottom : p.trail.starts ≡ []) (vacant :
   same_state = rw (same.1.0, same.1.1, same.1.2) refl
 
   -- one with a unit
-  pub takes_restored : (l : ℕ) → variable l ≡ g.solver → g.unit ≡ Some (is_positive l) → SameClauses m p' → GainsUnit l (state m) (state p') → p'.assignment ≡ made_true l m.assignment → p'.vsids ≡ m.vsids → p'.trail ≡ m.trail → TakesIndices (g ∷ []) p p'
+  pub takes_restored : (l : ℕ) → variable l ≡ g.solver → g.unit ≡ Some (is_positive l) → SameClauses m p' → GainsUnit l (state m) (state p') → p'.assignment ≡ made_true l m.assignment → p'.vsids ≡ m.vsids → p'.trail ≡ m.trail → ActivatesIndices (g ∷ []) p p'
   takes_restored l var unit clauses gains values queue trail =
       let its : (k : ℕ) → variable l ≡ variable k → is_positive l ≡ is_positive k → k ≡ l = λ k e b. lit_from_parts k l (sym e) (sym b) in
       record {

@@ -21,7 +21,7 @@ use Rattle.sat_parts.specs.parts.Whole.{state, PartsInvariant}
 use Rattle.sat_parts.proofs.lemmas.parts.LoadFrames.{carries_same, says_size, says_units, says_bottom}
 use Rattle.sat_parts.proofs.lemmas.parts.SortLemmas.{shuffled_last}
 use Rattle.sat_parts.proofs.lemmas.parts.WordSteps.{fits_below}
-use Rattle.sat_solver.specs.session.Session.{Session, May, after, session_after}
+use Rattle.sat_solver.specs.session.Session.{Session, IsAllowedStep, after, session_after}
 use Rattle.sat_solver.proofs.lemmas.session.Changes.{with_live_clause, knowing_literals, session_if}
 use Rattle.sat_solver.specs.session.Coming.{IsLastAdded}
 use Rattle.sat_solver.specs.session.LiveClauses.{with_var}
@@ -88,7 +88,7 @@ loaded_scratch s c c' x h =
     let r = h.goes_on.ready in
     record {
       goes_on = record {
-        stands = h.goes_on.stands;
+        valid = h.goes_on.valid;
         ready = record { free = free_moved c' (record c' { scratch = x }) r.free (record { globals = refl; lits = refl; size = refl }) refl refl; placed = r.placed; there = r.there; asked = r.asked; used = r.used };
       };
       moved = record { globals = h.moved.globals; lits = h.moved.lits; size = h.moved.size };
@@ -109,7 +109,7 @@ module _ (c : Search) (ls : List ℕ) (steps : List Step) (added : IsAdded steps
   same_values = ready.1.0
 
   fits1 : SessionMatchesParts p1 s (global_in c)
-  fits1 = fits_undone c.parts p1 s (global_in c) ready.0 (carries_same c.parts p1 ready.1) added.search.stands.fits
+  fits1 = fits_undone c.parts p1 s (global_in c) ready.0 (carries_same c.parts p1 ready.1) added.search.valid.fits
 
   fits2 : (r : Loaded) → LoadEffect r p1 p2 ms → LoadFits r p2 s (global_in c) ls ms
   fits2 r says =
@@ -156,7 +156,7 @@ module _ (c : Search) (ls : List ℕ) (steps : List Step) (added : IsAdded steps
 
   whole : (r : Loaded) → LoadEffect r p1 p2 ms → (t : Session) → SameAssumedAndNames s t → SessionMatchesParts p2 t (global_in c) → IsSearch t c'
   whole r says t leaves fits = record {
-    stands = record { holds = holds2; fits = fits };
+    valid = record { holds = holds2; fits = fits };
     ready = record {
       free = free_moved c c' added.search.ready.free (moved2 r says) refl refl;
       placed = placed2 r says;
@@ -167,7 +167,7 @@ module _ (c : Search) (ls : List ℕ) (steps : List Step) (added : IsAdded steps
   }
 
   asked : SameAssumedAndNames s (session_after steps)
-  asked = rw added.added (leaves_added (map (with_var (global_in c)) ls) added.earlier added.search.stands.fits.consistent)
+  asked = rw added.added (leaves_added (map (with_var (global_in c)) ls) added.earlier added.search.valid.fits.consistent)
 
   now : session_after steps ≡ after (AddClause (map (with_var (global_in c)) ls)) s
   now = ap (λ ss. session_after ss) added.added
@@ -195,7 +195,7 @@ module _ (c : Search) (ls : List ℕ) (steps : List Step) (added : IsAdded steps
     bottom = kept.1;
   }
 
-  pub loaded_may : LoadEffect Satisfied p1 p2 ms → 2 ≤ length ms → May (session_after steps) (DeleteClause (map (with_var (global_in c)) ms) True)
+  pub loaded_may : LoadEffect Satisfied p1 p2 ms → 2 ≤ length ms → IsAllowedStep (session_after steps) (DeleteClause (map (with_var (global_in c)) ms) True)
   loaded_may says two = rw now ((fits2 Satisfied says).1 two).0
 
   pub loaded_deleted : LoadEffect Satisfied p1 p2 ms → 2 ≤ length ms → IsLoaded true (session_after (DeleteClause (map (with_var (global_in c)) ms) True ∷ steps)) c c'
@@ -214,9 +214,9 @@ module _ (c : Search) (ls : List ℕ) (steps : List Step) (added : IsAdded steps
       let names : length c.parts.assignment.current ≤ length c.globals.items = added.search.ready.free.names in
       omega arith
 
-  pub loaded_behind : LoadEffect Satisfied p1 p2 ms → 2 ≤ length ms → (ds : List ℕ) → ds ≡ ms → (later : List Step) → later ≡ DeleteClause (map (with_var (global_in c')) ds) True ∷ steps → (left : Bool) → left ≡ true → (c4 : Search) → c4 ≡ record c' { scratch = c4.scratch } →
+  pub loaded_after : LoadEffect Satisfied p1 p2 ms → 2 ≤ length ms → (ds : List ℕ) → ds ≡ ms → (later : List Step) → later ≡ DeleteClause (map (with_var (global_in c')) ds) True ∷ steps → (left : Bool) → left ≡ true → (c4 : Search) → c4 ≡ record c' { scratch = c4.scratch } →
       IsLoaded left (session_after later) c c4
-  loaded_behind says two ds same later made left good c4 rest =
+  loaded_after says two ds same later made left good c4 rest =
       let e : later ≡ DeleteClause (map (with_var (global_in c)) ms) True ∷ steps = rw same at made in
       let h : IsLoaded true (session_after later) c c' = rw e (loaded_deleted says two) in
       rw good (subst (λ z. IsLoaded true (session_after later) c z) (sym rest) (loaded_scratch (session_after later) c c' c4.scratch h))

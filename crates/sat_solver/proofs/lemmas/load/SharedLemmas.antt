@@ -40,7 +40,7 @@ module _ (old new : Variables) (s t : Session) (gs : List Given) (tidy : AreTidy
   all_below (k ∷ ks) h = ((let lt : k.solver < indices_used new = some_within new.solver_from_global.bwd k.solver h.0.variable h.0.taken in omega (arith, tidy'.globals_count)), all_below ks h.1)
 
   module _ (c : Search) (shares : SharesIndices old c) where
-    -- the session behind the steps is one where the search may take the indices
+    -- the session after the steps is one where the search may take the indices
     pub gives_names : GivesNames new.globals.items gs (length c.globals.items) s t
     gives_names = record {
       keeps = keeps;

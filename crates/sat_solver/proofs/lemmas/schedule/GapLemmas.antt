@@ -57,14 +57,14 @@ window_below (suc n) j s h p =
 pub window : (j s : ℕ) → 0 < s → (t : ℕ) × ((s ≤ t) × (t + 1 < s + 2 ^ suc j) × (2 ^ j ≤ luby t))
 window j s p = window_below s j s (omega arith) p
 
-behind_less : (t : ℕ) → t ≢ 2 ^ 64 - 1 → wrapped_number t ≡ t
-behind_less t d = let e : (t == 2 ^ 64 - 1) ≡ false = grind (arith, nat_tests) in rw e refl
+after_less : (t : ℕ) → t ≢ 2 ^ 64 - 1 → wrapped_number t ≡ t
+after_less t d = let e : (t == 2 ^ 64 - 1) ≡ false = grind (arith, nat_tests) in rw e refl
 
 -- terms that are no last ones are given in turn
 given_in_turn : (d t : ℕ) → ((i : ℕ) → i < d → t + i + 1 ≢ 2 ^ 64 - 1) → given_after d t ≡ t + d
 given_in_turn zero t h = omega arith
 given_in_turn (suc d) t h =
-    let e : wrapped_number (t + 1) ≡ t + 1 = behind_less (t + 1) (λ q. h 0 (omega arith) (omega arith)) in
+    let e : wrapped_number (t + 1) ≡ t + 1 = after_less (t + 1) (λ q. h 0 (omega arith) (omega arith)) in
     ap (λ z. given_after d z) e ∙ given_in_turn d (t + 1) (λ i b q. h (i + 1) (omega arith) (omega arith)) ∙ omega arith
 
 -- whatever terms were given, one of the next 2 ^ (j + 1) - 1 is at least 2 ^ j, also where the terms begin again

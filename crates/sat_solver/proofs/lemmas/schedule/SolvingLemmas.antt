@@ -5,7 +5,7 @@ use Rattle.sat_base.specs.steps.Steps.{Step}
 use Rattle.sat_checker.specs.declared.processing.ProofProcessor.{Ghosts}
 use Rattle.sat_parts.specs.prop.TrailWord.{Letter}
 use Rattle.sat_solver.specs.proof.ProofView.{EmitsChecked, steps_of, session_of}
-use Rattle.sat_solver.specs.session.Session.{Session, MayAll, session_after}
+use Rattle.sat_solver.specs.session.Session.{Session, AreAllowedSteps, session_after}
 use Rattle.sat_solver.proofs.lemmas.session.ProofLemmas.{gains_none, gains_more}
 use Rattle.sat_solver.specs.session.Coming.{OnlyAllowedSteps, EndsAtUnsat}
 use Rattle.sat_solver.proofs.lemmas.session.ComingLemmas.{comes_open, comes_last}
@@ -40,36 +40,36 @@ use Rattle.sat_solver.specs.cdcl.Joint.{assumed_indices, SameVarsAndAssumptions,
 use Rattle.sat_solver.specs.cdcl.Learning.{LastAdvances}
 use Rattle.sat_solver.specs.clause.Reduced.{ReductionEffect, Reduces, ReductionBySteps}
 use Rattle.sat_solver.specs.cdcl.Rounds.{RoundLearns, RoundSays}
-use Rattle.sat_solver.specs.schedule.Solving.{AdvanceTimes, StandsStill, words_in, values_in, ComesByRounds, TakesNoRounds, EndSays, Ended, BreaksRounds, ReducedAt}
+use Rattle.sat_solver.specs.schedule.Solving.{AdvanceTimes, NeverAdvancesByForm, words_in, values_in, ComesByRounds, TakesNoRounds, EndSays, Ended, BreaksRounds, ReducedAt}
 use Rattle.sat_solver.proofs.lemmas.cdcl.TurnLemmas.{moved_refl, moved_trans, ready_moved, free_moved, leaves_refl}
 use Rattle.sat_parts.specs.parts.Frame.{SameClauses, AddsNoUnit}
 use Rattle.sat_solver.proofs.lemmas.fits.LearnedLemmas.{fits_undone}
 
 -- STEPS THAT ADVANCE
 
--- steps by which nothing is learned come behind them
-pub times_quiet : (earlier xs ys : List Step) (k : ℕ) → MayAll (ys ++ (xs ++ earlier)) → AreQuiet ys → AdvanceTimes earlier xs k → AdvanceTimes earlier (ys ++ xs) k
+-- steps by which nothing is learned come after them
+pub times_quiet : (earlier xs ys : List Step) (k : ℕ) → AreAllowedSteps (ys ++ (xs ++ earlier)) → AreQuiet ys → AdvanceTimes earlier xs k → AdvanceTimes earlier (ys ++ xs) k
 times_quiet earlier xs [] k may quiet h = h
 times_quiet earlier xs (y ∷ ys) k may quiet h =
     inl (
       times_quiet earlier xs ys k may.0 quiet.1 h,
-      subst (λ zs. StandsStill (session_after zs) y) (sym (append_assoc ys xs earlier)) (record { quiet = quiet.0; never = quiet_never (session_after (ys ++ (xs ++ earlier))) y may.1 quiet.0 }),
+      subst (λ zs. NeverAdvancesByForm (session_after zs) y) (sym (append_assoc ys xs earlier)) (record { quiet = quiet.0; never = quiet_never (session_after (ys ++ (xs ++ earlier))) y may.1 quiet.0 }),
     )
 
 -- and then one that advances
-times_more : (earlier xs ys : List Step) (k : ℕ) → MayAll (ys ++ (xs ++ earlier)) → LastAdvances (xs ++ earlier) ys → AdvanceTimes earlier xs k → AdvanceTimes earlier (ys ++ xs) (k + 1)
+times_more : (earlier xs ys : List Step) (k : ℕ) → AreAllowedSteps (ys ++ (xs ++ earlier)) → LastAdvances (xs ++ earlier) ys → AdvanceTimes earlier xs k → AdvanceTimes earlier (ys ++ xs) (k + 1)
 times_more earlier xs ys k may l h =
     subst (λ zs. AdvanceTimes earlier (zs ++ xs) (k + 1)) (sym l.is)
     (inr (
       k,
       refl,
       subst (λ zs. Advances (session_after zs) l.clause) (sym (append_assoc l.rest xs earlier)) l.advances,
-      times_quiet earlier xs l.rest k (subst (λ zs. MayAll (zs ++ (xs ++ earlier))) l.is may).0 l.quiet h,
+      times_quiet earlier xs l.rest k (subst (λ zs. AreAllowedSteps (zs ++ (xs ++ earlier))) l.is may).0 l.quiet h,
     ))
 
 -- all steps from these on, as what was allowed in turn
-allowed : {W L : Type 0} {G : Ghosts L} (s a b : Core W L G) (xs ys : List Step) → steps_of a.proof ≡ xs ++ steps_of s.proof → steps_of b.proof ≡ ys ++ steps_of a.proof → MayAll (steps_of b.proof) → MayAll (ys ++ (xs ++ steps_of s.proof))
-allowed s a b xs ys e f may = subst (λ zs. MayAll (ys ++ zs)) e (subst MayAll f may)
+allowed : {W L : Type 0} {G : Ghosts L} (s a b : Core W L G) (xs ys : List Step) → steps_of a.proof ≡ xs ++ steps_of s.proof → steps_of b.proof ≡ ys ++ steps_of a.proof → AreAllowedSteps (steps_of b.proof) → AreAllowedSteps (ys ++ (xs ++ steps_of s.proof))
+allowed s a b xs ys e f may = subst (λ zs. AreAllowedSteps (ys ++ zs)) e (subst AreAllowedSteps f may)
 
 -- WORDS
 
@@ -87,7 +87,7 @@ pub search_undone : (s : Session) (c : Search) (p : Parts) → IsSearch s c → 
 search_undone s c p h holds same carries stay placed =
     let moved : SameVarsAndAssumptions c (record c { parts = p }) = record { globals = refl; lits = refl; size = carries.size } in
     record {
-      stands = record { holds = holds; fits = fits_undone c.parts p s (global_in c) same carries h.stands.fits };
+      valid = record { holds = holds; fits = fits_undone c.parts p s (global_in c) same carries h.valid.fits };
       ready = ready_moved s s c (record c { parts = p }) h.ready (leaves_refl s) moved (stay (assumed_indices c)) placed (free_moved c (record c { parts = p }) h.ready.free moved refl refl);
     }
 
@@ -95,10 +95,10 @@ search_undone s c p h holds same carries stay placed =
 
 module _ {W L : Type 0} {G : Ghosts L} (seen : W → Writer) where
   pub gone_none : (a : Core W L G) (n : Variables) → NamesInvariant n (steps_of a.proof) → ComesByRounds seen a n 0 a n
-  gone_none a n stands = record {
+  gone_none a n valid = record {
     steps = [];
     adds = gains_none seen a.proof;
-    does = does_none n (steps_of a.proof) stands;
+    does = does_none n (steps_of a.proof) valid;
     asked = asked_refl n (session_of a.proof);
     moved = moved_refl a.search;
     config = refl;
@@ -118,7 +118,7 @@ module _ {W L : Type 0} {G : Ghosts L} (seen : W → Writer) where
       times = times;
     }
 
-    -- a fault behind what went well
+    -- a fault after what went well
     falls : (e : SolverError) → PassFailsOr (IsFull b.search.parts) seen e a.proof b.proof → (s : Core W L G) (n : Variables) (k : ℕ) → ComesByRounds seen s n k a na → BreaksRounds seen s e b
     falls e f s n k gone = falls_later seen e s.proof a.proof b.proof (gone.steps, gone.adds) f
 
@@ -137,7 +137,7 @@ module _ {W L : Type 0} {G : Ghosts L} (seen : W → Writer) where
         locals = h.sound.locals;
         mids = h.sound.mids;
       };
-      stands = h.stands;
+      valid = h.valid;
       shares = shares_moved n a.search undone.search h.shares (record { globals = refl; lits = refl; size = carries.size });
     }
 
@@ -167,7 +167,7 @@ module _ {W L : Type 0} {G : Ghosts L} (seen : W → Writer) where
     pub reduced_goes : (x : Unit {0}) → Reduction (Ok x) → (s : Core W L G) (m : Variables) (k : ℕ) → ComesByRounds seen s m k a n → ComesByRounds seen s m k b n
     reduced_goes x g = λ s m k gone.
         (let P : Unit {0} → List Step → Type 0 = λ _ _. ReductionEffect (session_of b.proof) a.search b.search × Reduces a.config round a.search.parts b.search.parts in
-        let p : PassesQuietly seen n n a.proof b.proof a.search b.search = passes_goes seen x n a.proof b.proof a.search b.search P joined.stands joined.shares g g.ends.0.search g.ends.0.moved g.ends.0.word in
+        let p : PassesQuietly seen n n a.proof b.proof a.search b.search = passes_goes seen x n a.proof b.proof a.search b.search P joined.valid joined.shares g g.ends.0.search g.ends.0.moved g.ends.0.word in
         gone_on a b n n config g.steps g.went p.does p.asked g.ends.0.moved s m k k gone (times_quiet (steps_of s.proof) gone.steps g.steps k (allowed s a b gone.steps g.steps gone.adds.history g.went.history g.keeps) g.quiet gone.times))
 
     pub reduced_fails : (e : SolverError) → Reduction (Err e) → (s : Core W L G) (m : Variables) (k : ℕ) → ComesByRounds seen s m k a n → BreaksRounds seen s e b
@@ -192,7 +192,7 @@ module _ {W L : Type 0} {G : Ghosts L} (seen : W → Writer) where
         locals = subst (λ (c : SolverConfig). 0 < c.reduce_locals_interval) (sym config) joined.sound.locals;
         mids = subst (λ (c : SolverConfig). 0 < c.reduce_mids_interval) (sym config) joined.sound.mids;
       };
-      stands = g.does.stands;
+      valid = g.does.valid;
       shares = subst (λ z. RoundShares z nb b.search) e g.shares;
     }
 
@@ -203,7 +203,7 @@ module _ {W L : Type 0} {G : Ghosts L} (seen : W → Writer) where
     round_words o g = λ e w h.
         (let l : RoundLearns (steps_of a.proof) g.steps (session_of b.proof) a.search b.search = learns o g.steps e g.says in
         let y = l.rises.1 w h in
-        let fits : length y.0 ≤ length b.search.parts.assignment.current = word_fits (assumed_indices a.search) (state b.search.parts) b.search.parts.vsids y.0 l.search.stands.holds.below.asks.agrees y.1.0 in
+        let fits : length y.0 ≤ length b.search.parts.assignment.current = word_fits (assumed_indices a.search) (state b.search.parts) b.search.parts.vsids y.0 l.search.valid.holds.below.asks.agrees y.1.0 in
         (y.0, (words_moved b.search.parts a.search b.search l.moved y.0 y.1.0, y.1.1, omega (arith, fits, l.moved.size))))
 
     pub round_goes : (o : Outcome) → Round (Ok o) → o ≡ outcomes.Learned → (s : Core W L G) (n : Variables) (k : ℕ) → ComesByRounds seen s n k a na → ComesByRounds seen s n (k + 1) b nb
@@ -212,8 +212,8 @@ module _ {W L : Type 0} {G : Ghosts L} (seen : W → Writer) where
         gone_on a b na nb config g.steps g.adds g.does g.asked l.moved s n (k + 1) k gone
         (times_more (steps_of s.proof) gone.steps g.steps k (allowed s a b gone.steps g.steps gone.adds.history g.adds.history g.keeps) (subst (λ zs. LastAdvances zs g.steps) gone.adds.history l.last) gone.times))
 
-    behind : (s : Core W L G) (steps before : List Step) → steps_of b.proof ≡ steps ++ steps_of a.proof → steps_of a.proof ≡ before ++ steps_of s.proof → steps_of b.proof ≡ (steps ++ before) ++ steps_of s.proof
-    behind s steps before e f = e ∙ ap (λ ss. steps ++ ss) f ∙ sym (append_assoc steps before (steps_of s.proof))
+    following : (s : Core W L G) (steps before : List Step) → steps_of b.proof ≡ steps ++ steps_of a.proof → steps_of a.proof ≡ before ++ steps_of s.proof → steps_of b.proof ≡ (steps ++ before) ++ steps_of s.proof
+    following s steps before e f = e ∙ ap (λ ss. steps ++ ss) f ∙ sym (append_assoc steps before (steps_of s.proof))
 
     end_says : (o : Outcome) (earlier steps : List Step) (s : Session) (c : Search) → o ≢ outcomes.Learned → SameVarsAndAssumptions c a.search → RoundSays o earlier steps s a.search b.search → RoundShares o nb b.search → EndSays o s nb c b.search
     end_says outcomes.Learned earlier steps s c n m x shares = absurd (n refl)
@@ -224,8 +224,8 @@ module _ {W L : Type 0} {G : Ghosts L} (seen : W → Writer) where
     end_comes : (o : Outcome) (steps : List Step) → o ≢ outcomes.Learned → steps_of b.proof ≡ steps ++ steps_of a.proof → RoundSays o (steps_of a.proof) steps (session_of b.proof) a.search b.search →
         (s : Core W L G) (before : List Step) → steps_of a.proof ≡ before ++ steps_of s.proof → OnlyAllowedSteps EndsAtUnsat (steps_of s.proof) (steps_of b.proof)
     end_comes outcomes.Learned steps n e x s before f = absurd (n refl)
-    end_comes outcomes.Model steps n e x s before f = comes_open (steps_of s.proof) (steps_of b.proof) (steps ++ before) (behind s steps before e f) x.0.search.stands.fits.consistent
-    end_comes outcomes.Failed steps n e x s before f = comes_open (steps_of s.proof) (steps_of b.proof) (steps ++ before) (behind s steps before e f) x.0.search.stands.fits.consistent
+    end_comes outcomes.Model steps n e x s before f = comes_open (steps_of s.proof) (steps_of b.proof) (steps ++ before) (following s steps before e f) x.0.search.valid.fits.consistent
+    end_comes outcomes.Failed steps n e x s before f = comes_open (steps_of s.proof) (steps_of b.proof) (steps ++ before) (following s steps before e f) x.0.search.valid.fits.consistent
     end_comes outcomes.Unsat steps n e x s before f =
         comes_last (steps_of s.proof) (x.rest ++ steps_of a.proof) (steps_of b.proof) (x.rest ++ before) x.last (ap (λ ss. x.rest ++ ss) f ∙ sym (append_assoc x.rest before (steps_of s.proof))) x.before
         (e ∙ ap (λ ss. ss ++ steps_of a.proof) x.is)

@@ -15,7 +15,7 @@ use Rattle.sat_checker.specs.Leading as stored
 use Rattle.sat_checker.proofs.lemmas.contents.Counts.{found}
 use Rattle.sat_checker.proofs.lemmas.invariants.Counted.{TidyClauses}
 use Rattle.sat_checker.proofs.lemmas.leading.Named.{leading_passes}
-use Rattle.sat_solver.specs.session.Session.{AreLiveByHash, MayDerive, MayFail, by_signs, by_derivation, by_unit, by_clauses, MayProve, MayForget, MayShow, MayReplace, May}
+use Rattle.sat_solver.specs.session.Session.{AreLiveByHash, MayDerive, MayFail, by_signs, by_derivation, by_unit, by_clauses, MayProve, MayForget, MayShow, MayReplace, IsAllowedStep}
 use Rattle.sat_solver.proofs.lemmas.session.Views.{view, view_unit}
 use Rattle.sat_solver.proofs.lemmas.session.LastLemmas.{LastIs}
 
@@ -80,7 +80,7 @@ strict_by : (last : Option (List ℕ)) (f : Stored) (clause : List ℕ) → Last
 strict_by last f clause h m = subst (λ o. IsStrictSubset o clause) (sym (h m.part m.last)) (m.within, m.strict)
 
 -- a step that may be written by the session's view is accepted
-pub accepts_view : (step : Step) (last : Option (List ℕ)) (f : Stored) → TidyClauses f.clauses → LastIs last f → May (view last f) step → Accepts f step
+pub accepts_view : (step : Step) (last : Option (List ℕ)) (f : Stored) → TidyClauses f.clauses → LastIs last f → IsAllowedStep (view last f) step → Accepts f step
 accepts_view (SolverVarName v name) last f t l m = tt
 accepts_view (UserVarName v (Some name)) last f t l m = record { free = m.free; nameless = m.nameless; not_hidden = m.not_hidden }
 accepts_view (DeleteVar v) last f t l m = record { known = m.known; nameless = m.nameless; unused = unused_by f last v m f.clauses (found f.clauses t.once) t.counted; not_assumed = m.not_assumed }

@@ -5,10 +5,10 @@ use Rattle.sat_base.specs.device.Device.{Writer}
 use Rattle.sat_base.specs.steps.Steps.{Step, SolverVarName, UserVarName, DeleteVar, ChangeSamplingMode, AddClause, AtClause, UnitClauses, DeleteClause, ChangeHashBits, Model, Assumptions, FailedAssumptions, End}
 use Rattle.sat_solver.specs.proof.Checked.{has_begun}
 use Rattle.sat_solver.specs.proof.ProofTexts.{TookAcceptedSteps, TookSince}
-use Rattle.sat_solver.specs.session.Session.{May, MayAll, nothing, after, session_after}
+use Rattle.sat_solver.specs.session.Session.{IsAllowedStep, AreAllowedSteps, nothing, after, session_after}
 use Rattle.sat_solver.specs.declared.proof.format.ProofFormat.{ProofFormat}
 use Rattle.sat_solver.proofs.lemmas.session.CutsLemmas.{cuts_are_free}
-use Rattle.sat_solver.proofs.lemmas.session.StepLemmas.{stands}
+use Rattle.sat_solver.proofs.lemmas.session.StepLemmas.{valid}
 
 -- ends of proofs leave nothing
 none_begun : (before : List Step) → has_begun before ≡ false → session_after before ≡ nothing
@@ -28,16 +28,16 @@ none_begun (Assumptions ls ∷ steps) e = absurd (true≢false e)
 none_begun (FailedAssumptions core hashes ∷ steps) e = absurd (true≢false e)
 
 module _ (before : List Step) (none : session_after before ≡ nothing) where
-  session_behind : (steps : List Step) → session_after (steps ++ before) ≡ session_after steps
-  session_behind [] = none
-  session_behind (step ∷ steps) = ap (after step) (session_behind steps)
+  session_following : (steps : List Step) → session_after (steps ++ before) ≡ session_after steps
+  session_following [] = none
+  session_following (step ∷ steps) = ap (after step) (session_following steps)
 
-  -- what comes behind them may come first
-  may_behind : (steps : List Step) → MayAll (steps ++ before) → MayAll steps
-  may_behind [] h = tt
-  may_behind (step ∷ steps) h = (may_behind steps h.0, subst (λ s. May s step) (session_behind steps) h.1)
+  -- what comes after them may come first
+  may_after : (steps : List Step) → AreAllowedSteps (steps ++ before) → AreAllowedSteps steps
+  may_after [] h = tt
+  may_after (step ∷ steps) h = (may_after steps h.0, subst (λ s. IsAllowedStep s step) (session_following steps) h.1)
 
-pub is_certificate : (f : ProofFormat) (from given : Writer) (before now : List Step) → has_begun before ≡ false → MayAll now → TookSince f from given before now → TookAcceptedSteps f from given before now
+pub is_certificate : (f : ProofFormat) (from given : Writer) (before now : List Step) → has_begun before ≡ false → AreAllowedSteps now → TookSince f from given before now → TookAcceptedSteps f from given before now
 is_certificate f from given before now e may since =
-    let written = cuts_are_free since.steps since.took.written since.took.counting since.took.cuts (may_behind before (none_begun before e) since.steps (subst MayAll since.behind may)) in
-    record { since = since; accepted = (stands since.took.written written.may).0 }
+    let written = cuts_are_free since.steps since.took.written since.took.counting since.took.cuts (may_after before (none_begun before e) since.steps (subst AreAllowedSteps since.following may)) in
+    record { since = since; accepted = (valid since.took.written written.may).0 }

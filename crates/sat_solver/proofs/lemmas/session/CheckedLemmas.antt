@@ -2,7 +2,7 @@
 use Rattle.std.proofs.Common.{ℕ, ◌≡◌, ◌∙◌, ◌⊎◌, inl, inr, Bool, true, false, cond, eqb, not, ◌||◌, Option, None, Some, List, [], ◌∷◌, ◌++◌, Result, Ok, Err, refl, sym, ap, subst}
 use Rattle.std.proofs.lemmas.Bool.{true≢false, eq-eqb, eqb-true}
 use Rattle.sat_solver.specs.proof.Counting.{width_change}
-use Rattle.sat_solver.proofs.lemmas.session.CutsLemmas.{told}
+use Rattle.sat_solver.proofs.lemmas.session.CutsLemmas.{width_changed}
 use Rattle.std.proofs.Math.Bool.{Bool-set}
 use Rattle.std.proofs.Math.Logic.{∥∥₁_elim, ∥∥₁_prop}
 use Rattle.anyhow.specs.declared.error.Error.{Error}
@@ -24,12 +24,12 @@ use Rattle.sat_checker.proofs.lemmas.listeners.Heard.{nobody_fails}
 use Rattle.sat_checker.specs.declared.processing.ProofProcessor.{Ghosts}
 use Rattle.sat_solver.specs.declared.proof.made.CheckFault.{CheckFault}
 use Rattle.sat_solver.specs.declared.proof.made.CheckFault.TheVariants as checks
-use Rattle.sat_solver.specs.proof.Checked.{is_end, unended, has_begun, who_listens, AreGiven, none_given, one_given, end_given, AreGivenAndWidth, FedUnless, IsFed, IsFedBy, Heard, HeardWhole, FailsWhileHeard, IsCause, cause_in, OkOrCause, TakesStep, TakesWidth, TakesDelayed, FeedsOwnChecker, AddsOwnListener, BeginsAnew}
+use Rattle.sat_solver.specs.proof.Checked.{is_end, unended, has_begun, who_listens, AreGiven, none_given, one_given, end_given, AreGivenAndWidth, FedUnless, IsFed, IsFedBy, Heard, HeardWhole, FailsWhileHeard, IsCause, cause_in, OkOrCause, TakesStep, TakesWidth, TakesDelayed, FeedsOwnChecker, AddsOwnListener, CheckerRestarts}
 use Rattle.sat_solver.specs.session.Due.{kept_if}
 use Rattle.sat_solver.specs.proof.Listening.{AreJustListeners, Hears, FailedOf, reads_nothing}
-use Rattle.sat_solver.specs.proof.MadeView.{made_audience, listed_in, MadeHandsBack, HandedIn, MadeHandsBackWhole, HandedWholeIn, HasListeners, IsHanded, IsHandedWhole, MadeListedAnew, cleared_complaint}
+use Rattle.sat_solver.specs.proof.MadeView.{made_audience, listed_in, MadeReturnsListeners, ReturnsIfChecked, MadeReturnsNotifiedListeners, ReturnsNotifiedIfChecked, HasListeners, AddedAfterHearing, AddedAfterHearingAll, MadeListenersAtRestart, cleared_complaint}
 use Rattle.sat_solver.specs.declared.proof.made.Made.{Made}
-use Rattle.sat_solver.specs.session.Session.{MayAll}
+use Rattle.sat_solver.specs.session.Session.{AreAllowedSteps}
 use Rattle.sat_solver.specs.proof.Widths.{KeepsWidth, narrowed, IsNarrowedTo, none_yet, width_changes, one_more}
 use Rattle.sat_solver.specs.declared.proof.checker.Checked.{Checked}
 use Rattle.sat_solver.proofs.lemmas.session.EndedLemmas.{unended_may}
@@ -40,12 +40,12 @@ use Rattle.sat_solver.proofs.lemmas.session.Narrowing.{widths_are_free}
 given_narrowed : {steps given : List Step} {width : ℕ} → AreGiven steps given width → IsNarrowedTo (unended steps) given width
 given_narrowed none_given = none_yet
 given_narrowed (one_given {steps} {given} {before} step now e k g) =
-    subst (λ x. IsNarrowedTo x (narrowed now step ∷ (width_change before now ++ given)) now) (sym (ap (λ b. kept_if (not b) step (unended steps)) e)) (one_more step k (told before now (given_narrowed g)))
+    subst (λ x. IsNarrowedTo x (narrowed now step ∷ (width_change before now ++ given)) now) (sym (ap (λ b. kept_if (not b) step (unended steps)) e)) (one_more step k (width_changed before now (given_narrowed g)))
 given_narrowed (end_given {steps} {given} {before} step now e g) =
-    subst (λ x. IsNarrowedTo x (width_change before now ++ given) now) (sym (ap (λ b. kept_if (not b) step (unended steps)) e)) (told before now (given_narrowed g))
+    subst (λ x. IsNarrowedTo x (width_change before now ++ given) now) (sym (ap (λ b. kept_if (not b) step (unended steps)) e)) (width_changed before now (given_narrowed g))
 
 then_narrowed : {steps given : List Step} {now : ℕ} → AreGivenAndWidth steps given now → IsNarrowedTo (unended steps) given now
-then_narrowed {steps} {given} {now} t = subst (λ x. IsNarrowedTo (unended steps) x now) (sym t.told) (told t.before now (given_narrowed t.cut))
+then_narrowed {steps} {given} {now} t = subst (λ x. IsNarrowedTo (unended steps) x now) (sym t.given_is) (width_changed t.before now (given_narrowed t.cut))
 
 -- a width that stays isn't told
 width_same : (bits : ℕ) (written : List Step) → written ≡ width_change bits bits ++ written
@@ -96,13 +96,13 @@ module _ {L : Type 0} (takes : L → Notice → Result Unit Error → L → Type
     cut = subst (AreGiven [] []) (sym e) none_given;
     begun = who_listens own;
     were = listed;
-    stands = record { kernel = s; heard = λ f. rw settled ([], refl, refl) };
+    valid = record { kernel = s; heard = λ f. rw settled ([], refl, refl) };
     going = g;
   }
 
-  -- one that has taken nothing stands behind ends of proofs
+  -- one that has taken nothing stands after ends of proofs
   pub fed_ended : (own : Checked L) (added : List L) (steps : List Step) → has_begun steps ≡ false → IsFed takes own added [] → IsFed takes own added steps
-  fed_ended own added steps e fed = record { written = fed.written; cut = given_ended steps fed.written own.bits fed.cut e; begun = fed.begun; were = fed.were; stands = fed.stands; going = fed.going }
+  fed_ended own added steps e fed = record { written = fed.written; cut = given_ended steps fed.written own.bits fed.cut e; begun = fed.begun; were = fed.were; valid = fed.valid; going = fed.going }
 
   -- those who listen have heard what it told
   pub fed_heard : (own : Checked L) (added : List L) (steps : List Step) → IsFed takes own added steps → Heard takes added (listeners_of (who_listens own)) steps
@@ -115,7 +115,7 @@ module _ {L : Type 0} (takes : L → Notice → Result Unit Error → L → Type
     cut = given_narrowed fed.cut;
     begun = fed.begun;
     were = fed.were;
-    heard = (who_listens own, refl, inl (heard_all takes fed.begun (who_listens own) fed.written own.checker.kernel.state.formula.status.conflict (fed.stands.heard fed.going)));
+    heard = (who_listens own, refl, inl (heard_all takes fed.begun (who_listens own) fed.written own.checker.kernel.state.formula.status.conflict (fed.valid.heard fed.going)));
   }
 
   -- all of it
@@ -130,7 +130,7 @@ module _ {L : Type 0} (takes : L → Notice → Result Unit Error → L → Type
       cut = given_narrowed fed.cut;
       begun = fed.begun;
       were = fed.were;
-      heard = (who_listens own, refl, heard_all takes fed.begun (who_listens own) fed.written own.checker.kernel.state.formula.status.conflict (fed.stands.heard fed.going));
+      heard = (who_listens own, refl, heard_all takes fed.begun (who_listens own) fed.written own.checker.kernel.state.formula.status.conflict (fed.valid.heard fed.going));
     },
     refl,
   )
@@ -148,16 +148,16 @@ module _ {L : Type 0} (takes : L → Notice → Result Unit Error → L → Type
 
   -- a width stays
   pub width_kept : (old : Checked L) (bits : ℕ) → old.bits ≡ bits → TakesWidth takes (Ok tt) old old
-  width_kept old bits e added steps may fed = record { written = fed.written; cut = record { before = old.bits; earlier = fed.written; cut = fed.cut; told = width_same old.bits fed.written }; begun = fed.begun; were = fed.were; stands = fed.stands; going = fed.going }
+  width_kept old bits e added steps may fed = record { written = fed.written; cut = record { before = old.bits; earlier = fed.written; cut = fed.cut; given_is = width_same old.bits fed.written }; begun = fed.begun; were = fed.were; valid = fed.valid; going = fed.going }
 
   module _ (r : Result (Unit {0}) CheckerError) (old new : Checked L) where
     -- a width was told
     pub width_fed : (bits : ℕ) → (old.bits ≡ bits → ⊥) → new.bits ≡ bits → FeedsOwnChecker takes r (seen_of old.checker) (ChangeHashBits bits) (seen_of new.checker) → TakesWidth takes r old new
     width_fed bits other e feeds added steps may fed =
         cause_map r _ (IsFedBy takes (AreGivenAndWidth steps) new added) _ (FailsWhileHeard takes added (listeners_of (who_listens new)) steps)
-        (λ s. record { written = ChangeHashBits bits ∷ fed.written; cut = subst (AreGivenAndWidth steps (ChangeHashBits bits ∷ fed.written)) (sym e) (record { before = old.bits; earlier = fed.written; cut = fed.cut; told = ap (λ ws. ws ++ fed.written) (width_other old.bits bits other) }); begun = fed.begun; were = fed.were; stands = s.0; going = s.1 })
+        (λ s. record { written = ChangeHashBits bits ∷ fed.written; cut = subst (AreGivenAndWidth steps (ChangeHashBits bits ∷ fed.written)) (sym e) (record { before = old.bits; earlier = fed.written; cut = fed.cut; given_is = ap (λ ws. ws ++ fed.written) (width_other old.bits bits other) }); begun = fed.begun; were = fed.were; valid = s.0; going = s.1 })
         failed
-        (feeds fed.begun fed.written fed.stands fed.going ((widths_are_free (unended steps) fed.written old.bits (given_narrowed fed.cut) (unended_may steps may)).may, tt))
+        (feeds fed.begun fed.written fed.valid fed.going ((widths_are_free (unended steps) fed.written old.bits (given_narrowed fed.cut) (unended_may steps may)).may, tt))
       where
         changed : IsNarrowedTo (unended steps) (ChangeHashBits bits ∷ fed.written) bits
         changed = width_changes bits (given_narrowed fed.cut)
@@ -168,22 +168,22 @@ module _ {L : Type 0} (takes : L → Notice → Result Unit Error → L → Type
 
     -- what waited was told
     pub delayed_fed : new.bits ≡ old.bits → ChecksDelayed (Hears takes) r (seen_of old.checker) (seen_of new.checker) → TakesDelayed takes r old new
-    delayed_fed e tells added steps fed =
+    delayed_fed e checks_delayed added steps fed =
         cause_map r _ _ _ _
-        (λ s. (record { written = fed.written; cut = subst (AreGiven steps fed.written) (sym e) fed.cut; begun = fed.begun; were = fed.were; stands = s.0; going = s.1 }, s.2))
+        (λ s. (record { written = fed.written; cut = subst (AreGiven steps fed.written) (sym e) fed.cut; begun = fed.begun; were = fed.were; valid = s.0; going = s.1 }, s.2))
         (λ fault h. record { later = []; taken = steps; all = refl; written = fed.written; bits = old.bits; cut = given_narrowed fed.cut; begun = fed.begun; were = fed.were; heard = (who_listens new, refl, h) })
-        (answered_delayed takes fed.begun (seen_of old.checker) (seen_of new.checker) fed.written fed.going r (tells [] fed.begun fed.written fed.stands))
+        (answered_delayed takes fed.begun (seen_of old.checker) (seen_of new.checker) fed.written fed.going r (checks_delayed [] fed.begun fed.written fed.valid))
 
   module _ (old : Checked L) (step : Step) where
     -- a step was taken at its width
     pub step_fed : (r : Result (Unit {0}) CheckerError) (mid new : Checked L) (cut_step : Step) → is_end step ≡ false → KeepsWidth step → TakesWidth takes (Ok tt) old mid → new.bits ≡ mid.bits → cut_step ≡ narrowed mid.bits step
         → FeedsOwnChecker takes r (seen_of mid.checker) cut_step (seen_of new.checker) → TakesStep takes r old step new
-    step_fed r mid new cut_step e k told same is feeds added steps may fed =
+    step_fed r mid new cut_step e k takes_width same is feeds added steps may fed =
         cause_map r Fed (IsFed takes new added (step ∷ steps)) _ (FailsWhileHeard takes added (listeners_of (who_listens new)) (step ∷ steps)) by failed
-        (subst (λ x. FeedsOwnChecker takes r (seen_of mid.checker) x (seen_of new.checker)) is feeds f.begun f.written f.stands f.going (widths_are_free (step ∷ unended steps) (narrowed mid.bits step ∷ f.written) mid.bits cut allowed).may)
+        (subst (λ x. FeedsOwnChecker takes r (seen_of mid.checker) x (seen_of new.checker)) is feeds f.begun f.written f.valid f.going (widths_are_free (step ∷ unended steps) (narrowed mid.bits step ∷ f.written) mid.bits cut allowed).may)
       where
         f : IsFedBy takes (AreGivenAndWidth steps) mid added
-        f = told added steps may.0 fed
+        f = takes_width added steps may.0 fed
 
         kept : unended (step ∷ steps) ≡ step ∷ unended steps
         kept = ap (λ b. kept_if (not b) step (unended steps)) e
@@ -194,8 +194,8 @@ module _ {L : Type 0} (takes : L → Notice → Result Unit Error → L → Type
         cut_all : IsNarrowedTo (unended (step ∷ steps)) (narrowed mid.bits step ∷ f.written) mid.bits
         cut_all = subst (λ x. IsNarrowedTo x (narrowed mid.bits step ∷ f.written) mid.bits) (sym kept) cut
 
-        allowed : MayAll (step ∷ unended steps)
-        allowed = subst MayAll kept (unended_may (step ∷ steps) may)
+        allowed : AreAllowedSteps (step ∷ unended steps)
+        allowed = subst AreAllowedSteps kept (unended_may (step ∷ steps) may)
 
         Fed : Type 0
         Fed = HasAccepted (Hears takes) [] f.begun (seen_of new.checker) (narrowed mid.bits step ∷ f.written) × (kernel_has_failed (kernel_of new.checker) ≡ false)
@@ -204,10 +204,10 @@ module _ {L : Type 0} (takes : L → Notice → Result Unit Error → L → Type
         by h = record {
           written = narrowed mid.bits step ∷ f.written;
           cut = subst (AreGiven (step ∷ steps) (narrowed mid.bits step ∷ f.written)) (sym same)
-              (subst (λ x. AreGiven (step ∷ steps) (narrowed mid.bits step ∷ x) mid.bits) (sym f.cut.told) (one_given step mid.bits e k f.cut.cut));
+              (subst (λ x. AreGiven (step ∷ steps) (narrowed mid.bits step ∷ x) mid.bits) (sym f.cut.given_is) (one_given step mid.bits e k f.cut.cut));
           begun = f.begun;
           were = f.were;
-          stands = h.0;
+          valid = h.0;
           going = h.1;
         }
 
@@ -217,13 +217,13 @@ module _ {L : Type 0} (takes : L → Notice → Result Unit Error → L → Type
 
     -- a width alone was told
     pub width_taken : (r : Result (Unit {0}) CheckerError) (new : Checked L) → is_end step ≡ true → TakesWidth takes r old new → TakesStep takes r old step new
-    width_taken r new e told added steps may fed =
-        cause_map r _ _ _ _ (λ (f : IsFedBy takes (AreGivenAndWidth steps) new added). record { written = f.written; cut = subst (λ x. AreGiven (step ∷ steps) x new.bits) (sym f.cut.told) (end_given step new.bits e f.cut.cut); begun = f.begun; were = f.were; stands = f.stands; going = f.going })
-        (failed_later added (listeners_of (who_listens new)) step steps) (told added steps may.0 fed)
+    width_taken r new e takes_width added steps may fed =
+        cause_map r _ _ _ _ (λ (f : IsFedBy takes (AreGivenAndWidth steps) new added). record { written = f.written; cut = subst (λ x. AreGiven (step ∷ steps) x new.bits) (sym f.cut.given_is) (end_given step new.bits e f.cut.cut); begun = f.begun; were = f.were; valid = f.valid; going = f.going })
+        (failed_later added (listeners_of (who_listens new)) step steps) (takes_width added steps may.0 fed)
 
     -- the width wasn't
     pub width_untaken : (er : CheckerError) (new : Checked L) → TakesWidth takes (Err er) old new → TakesStep takes (Err er) old step new
-    width_untaken er new told added steps may fed = (let h = told added steps may.0 fed in (h.0, failed_later added (listeners_of (who_listens new)) step steps (cause_in er) h.1))
+    width_untaken er new takes_width added steps may fed = (let h = takes_width added steps may.0 fed in (h.0, failed_later added (listeners_of (who_listens new)) step steps (cause_in er) h.1))
 
 -- LISTENERS
 
@@ -231,8 +231,8 @@ listed_more : {L : Type 0} (added : List L) (one : L) (old new : Processing L No
 listed_more added one old new e f = f ∙ ap (λ (z : Listeners _ Nobody). record z { processors = z.processors ++ one ∷ [] }) e
 
 module _ {L : Type 0} (takes : L → Notice → Result Unit Error → L → Type 0) where
-  heard_none : (told : List Notice) (begun now : Processing L Nobody) → told ≡ [] → HearsSince (Hears takes) [] told begun now → now ≡ begun
-  heard_none told begun now e h = go h.0 (sym h.1 ∙ e) h.2
+  heard_none : (notices : List Notice) (begun now : Processing L Nobody) → notices ≡ [] → HearsSince (Hears takes) [] notices begun now → now ≡ begun
+  heard_none notices begun now e h = go h.0 (sym h.1 ∙ e) h.2
     where
       go : (since : List Notice) → since ≡ [] → HearsAll (Hears takes) since begun now → now ≡ begun
       go [] e k = k
@@ -245,9 +245,9 @@ module _ {L : Type 0} (takes : L → Notice → Result Unit Error → L → Type
     written = fed.written;
     cut = subst (AreGiven steps fed.written) (sym bits) fed.cut;
     begun = who_listens new;
-    were = listed_more added one (who_listens old) (who_listens new) (ap listeners_of (heard_none (notices_by conflict fed.written) fed.begun (who_listens old) silent (fed.stands.heard fed.going)) ∙ fed.were) listed;
-    stands = record {
-      kernel = subst (λ k. kernels.HasAccepted k fed.written) (sym kernel) fed.stands.kernel;
+    were = listed_more added one (who_listens old) (who_listens new) (ap listeners_of (heard_none (notices_by conflict fed.written) fed.begun (who_listens old) silent (fed.valid.heard fed.going)) ∙ fed.were) listed;
+    valid = record {
+      kernel = subst (λ k. kernels.HasAccepted k fed.written) (sym kernel) fed.valid.kernel;
       heard = λ f. ([], subst (λ (k : Kernel). notices_by k.state.formula.status.conflict fed.written ≡ []) (sym kernel) silent, refl);
     };
     going = ap kernel_has_failed kernel ∙ fed.going;
@@ -320,49 +320,49 @@ module _ {L : Type 0} (takes : L → Notice → Result Unit Error → L → Type
     was = subst (λ o. ∥ FedUnless takes lost o added steps ∥₁) is fed
 
     -- those who listen are handed back
-    pub handed : (given : List L) → given ≡ (listeners_of (who_listens old)).processors → ∥ IsHanded takes added given steps ∥₁
-    handed given e = ∥∥₁_elim was ∥∥₁_prop (λ f. ∣ record { now = listeners_of (who_listens old); are = sym e; heard = f.1 } ∣₁)
+    pub returned : (given : List L) → given ≡ (listeners_of (who_listens old)).processors → ∥ AddedAfterHearing takes added given steps ∥₁
+    returned given e = ∥∥₁_elim was ∥∥₁_prop (λ f. ∣ record { now = listeners_of (who_listens old); are = sym e; heard = f.1 } ∣₁)
 
-    -- behind all that is told of all steps, where none was lost
-    pub handed_whole : (given : List L) → given ≡ (listeners_of (who_listens old)).processors → lost ≡ false → ∥ IsHandedWhole takes added given steps ∥₁
-    handed_whole given e l = ∥∥₁_elim was ∥∥₁_prop (λ f. ∣ record { now = listeners_of (who_listens old); are = sym e; heard = fed_whole takes old added steps (f.0 l) } ∣₁)
+    -- after all that is told of all steps, where none was lost
+    pub returned_notified : (given : List L) → given ≡ (listeners_of (who_listens old)).processors → lost ≡ false → ∥ AddedAfterHearingAll takes added given steps ∥₁
+    returned_notified given e l = ∥∥₁_elim was ∥∥₁_prop (λ f. ∣ record { now = listeners_of (who_listens old); are = sym e; heard = fed_whole takes old added steps (f.0 l) } ∣₁)
 
     module _ (new : Checked L) where
       -- a step was taken
-      pub taken_fed : (step : Step) (now : List Step) → now ≡ step ∷ steps → lost ≡ false → MayAll (step ∷ steps) → TakesStep takes (Ok tt) old step new → ∥ FedUnless takes lost (Some new) added now ∥₁
+      pub taken_fed : (step : Step) (now : List Step) → now ≡ step ∷ steps → lost ≡ false → AreAllowedSteps (step ∷ steps) → TakesStep takes (Ok tt) old step new → ∥ FedUnless takes lost (Some new) added now ∥₁
       taken_fed step now e l may takes_step = subst (λ x. ∥ FedUnless takes lost (Some new) added x ∥₁) (sym e)
           (∥∥₁_elim was ∥∥₁_prop (λ f. let k = takes_step added steps may (f.0 l) in ∣ ((λ _. k), fed_heard takes new added (step ∷ steps) k) ∣₁))
 
       -- it failed at a step
-      pub failed_fed : (e : CheckerError) (step : Step) (now : List Step) → now ≡ step ∷ steps → lost ≡ false → MayAll (step ∷ steps) → TakesStep takes (Err e) old step new → ∥ FedUnless takes true (Some new) added now ∥₁
+      pub failed_fed : (e : CheckerError) (step : Step) (now : List Step) → now ≡ step ∷ steps → lost ≡ false → AreAllowedSteps (step ∷ steps) → TakesStep takes (Err e) old step new → ∥ FedUnless takes true (Some new) added now ∥₁
       failed_fed e step now q l may takes_step = subst (λ x. ∥ FedUnless takes true (Some new) added x ∥₁) (sym q)
           (∥∥₁_elim was ∥∥₁_prop (λ f. ∣ ((λ t. absurd (true≢false t)), failed_heard takes added (listeners_of (who_listens new)) (step ∷ steps) (cause_in e) (takes_step added steps may (f.0 l)).1) ∣₁))
 
       -- and this is why
-      pub taken_cause : (e : CheckerError) (step : Step) → lost ≡ false → MayAll (step ∷ steps) → TakesStep takes (Err e) old step new → IsCause e
+      pub taken_cause : (e : CheckerError) (step : Step) → lost ≡ false → AreAllowedSteps (step ∷ steps) → TakesStep takes (Err e) old step new → IsCause e
       taken_cause e step l may takes_step = ∥∥₁_elim was (cause_prop e) (λ f. (takes_step added steps may (f.0 l)).0)
 
-      pub taken_why : (e : CheckerError) (step : Step) (now : List Step) → now ≡ step ∷ steps → lost ≡ false → MayAll (step ∷ steps) → TakesStep takes (Err e) old step new → ∥ FailsWhileHeard takes added (listeners_of (who_listens new)) now (cause_in e) ∥₁ × HasListeners (cause_in e) (Some added)
+      pub taken_why : (e : CheckerError) (step : Step) (now : List Step) → now ≡ step ∷ steps → lost ≡ false → AreAllowedSteps (step ∷ steps) → TakesStep takes (Err e) old step new → ∥ FailsWhileHeard takes added (listeners_of (who_listens new)) now (cause_in e) ∥₁ × HasListeners (cause_in e) (Some added)
       taken_why e step now q l may takes_step =
           with_listeners takes (cause_in e) added (listeners_of (who_listens new)) now (subst (λ x. ∥ FailsWhileHeard takes added (listeners_of (who_listens new)) x (cause_in e) ∥₁) (sym q) (∥∥₁_elim was ∥∥₁_prop (λ f. ∣ (takes_step added steps may (f.0 l)).1 ∣₁)))
 
       -- what waited was told
-      pub told_fed : lost ≡ false → TakesDelayed takes (Ok tt) old new → ∥ FedUnless takes lost (Some new) added steps ∥₁
-      told_fed l tells = ∥∥₁_elim was ∥∥₁_prop (λ f. let k = tells added steps (f.0 l) in ∣ ((λ _. k.0), fed_heard takes new added steps k.0) ∣₁)
+      pub reported_fed : lost ≡ false → TakesDelayed takes (Ok tt) old new → ∥ FedUnless takes lost (Some new) added steps ∥₁
+      reported_fed l takes_delayed = ∥∥₁_elim was ∥∥₁_prop (λ f. let k = takes_delayed added steps (f.0 l) in ∣ ((λ _. k.0), fed_heard takes new added steps k.0) ∣₁)
 
       -- and nothing waits any more
-      pub told_settled : lost ≡ false → TakesDelayed takes (Ok tt) old new → KernelIsSettled (kernel_of new.checker)
-      told_settled l tells = none_stable new.checker.kernel.state.formula.status.conflict (λ n. ∥∥₁_elim was (λ x y. absurd x) (λ f. n (tells added steps (f.0 l)).1))
+      pub reported_settled : lost ≡ false → TakesDelayed takes (Ok tt) old new → KernelIsSettled (kernel_of new.checker)
+      reported_settled l takes_delayed = none_stable new.checker.kernel.state.formula.status.conflict (λ n. ∥∥₁_elim was (λ x y. absurd x) (λ f. n (takes_delayed added steps (f.0 l)).1))
 
       -- or it failed
-      pub untold_fed : (e : CheckerError) → lost ≡ false → TakesDelayed takes (Err e) old new → ∥ FedUnless takes true (Some new) added steps ∥₁
-      untold_fed e l tells = ∥∥₁_elim was ∥∥₁_prop (λ f. ∣ ((λ t. absurd (true≢false t)), failed_heard takes added (listeners_of (who_listens new)) steps (cause_in e) (tells added steps (f.0 l)).1) ∣₁)
+      pub unreported_fed : (e : CheckerError) → lost ≡ false → TakesDelayed takes (Err e) old new → ∥ FedUnless takes true (Some new) added steps ∥₁
+      unreported_fed e l takes_delayed = ∥∥₁_elim was ∥∥₁_prop (λ f. ∣ ((λ t. absurd (true≢false t)), failed_heard takes added (listeners_of (who_listens new)) steps (cause_in e) (takes_delayed added steps (f.0 l)).1) ∣₁)
 
-      pub told_cause : (e : CheckerError) → lost ≡ false → TakesDelayed takes (Err e) old new → IsCause e
-      told_cause e l tells = ∥∥₁_elim was (cause_prop e) (λ f. (tells added steps (f.0 l)).0)
+      pub unreported_cause : (e : CheckerError) → lost ≡ false → TakesDelayed takes (Err e) old new → IsCause e
+      unreported_cause e l takes_delayed = ∥∥₁_elim was (cause_prop e) (λ f. (takes_delayed added steps (f.0 l)).0)
 
-      pub told_why : (e : CheckerError) → lost ≡ false → TakesDelayed takes (Err e) old new → ∥ FailsWhileHeard takes added (listeners_of (who_listens new)) steps (cause_in e) ∥₁ × HasListeners (cause_in e) (Some added)
-      told_why e l tells = with_listeners takes (cause_in e) added (listeners_of (who_listens new)) steps (∥∥₁_elim was ∥∥₁_prop (λ f. ∣ (tells added steps (f.0 l)).1 ∣₁))
+      pub unreported_why : (e : CheckerError) → lost ≡ false → TakesDelayed takes (Err e) old new → ∥ FailsWhileHeard takes added (listeners_of (who_listens new)) steps (cause_in e) ∥₁ × HasListeners (cause_in e) (Some added)
+      unreported_why e l takes_delayed = with_listeners takes (cause_in e) added (listeners_of (who_listens new)) steps (∥∥₁_elim was ∥∥₁_prop (λ f. ∣ (takes_delayed added steps (f.0 l)).1 ∣₁))
 
       -- another one listens
       pub listens_fed : (one : L) (more : List L) → more ≡ added ++ one ∷ [] → has_begun steps ≡ false → lost ≡ false → AddsOwnListener takes (Ok tt) old one new → ∥ FedUnless takes lost (Some new) more steps ∥₁
@@ -395,10 +395,10 @@ module _ {L : Type 0} (takes : L → Notice → Result Unit Error → L → Type
 
   -- a checker began anew
   pub anew : (old new : Checked L) (added given : List L) → added ≡ given → given ≡ (listeners_of (who_listens old)).processors → new.bits ≡ 64 → kernels.HasAccepted (kernel_of new.checker) [] → kernel_has_failed (kernel_of new.checker) ≡ false
-      → kernels.KernelIsSettled (kernel_of new.checker) → listeners_of (who_listens new) ≡ record { processors = given; transcripts = [] } → BeginsAnew takes old new added
-  anew old new added given e f bits stands going settled listed = record {
+      → kernels.KernelIsSettled (kernel_of new.checker) → listeners_of (who_listens new) ≡ record { processors = given; transcripts = [] } → CheckerRestarts takes old new added
+  anew old new added given e f bits valid going settled listed = record {
     listed = e ∙ f;
-    fed = fed_first takes new added bits stands going settled (listed ∙ ap (λ (xs : List L). record { processors = xs; transcripts = [] }) (sym e));
+    fed = fed_first takes new added bits valid going settled (listed ∙ ap (λ (xs : List L). record { processors = xs; transcripts = [] }) (sym e));
   }
 
   nil_stable : (xs : List L) → ∥ xs ≡ [] ∥₁ → xs ≡ []
@@ -413,21 +413,21 @@ module _ {L : Type 0} (takes : L → Notice → Result Unit Error → L → Type
 
 module _ {L : Type 0} {G : Ghosts L} (m : Made L G) where
   -- those who listened are handed back
-  pub made_handed : (own : Checked L) (given : List L) → m.own ≡ Some own → given ≡ (listeners_of (who_listens own)).processors → MadeHandsBack m given
-  made_handed own given is e = subst (λ o. HandedIn G.takes (listed_in o m.roll.items) given m.history.steps) (sym is) (handed G.takes m.lost m.own m.roll.items m.history.steps m.fed own is given e)
+  pub made_returned : (own : Checked L) (given : List L) → m.own ≡ Some own → given ≡ (listeners_of (who_listens own)).processors → MadeReturnsListeners m given
+  made_returned own given is e = subst (λ o. ReturnsIfChecked G.takes (listed_in o m.roll.items) given m.history.steps) (sym is) (returned G.takes m.lost m.own m.roll.items m.history.steps m.fed own is given e)
 
-  pub made_handed_whole : (own : Checked L) (given : List L) → m.own ≡ Some own → given ≡ (listeners_of (who_listens own)).processors → MadeHandsBackWhole m given
-  made_handed_whole own given is e l = subst (λ o. HandedWholeIn G.takes (listed_in o m.roll.items) given m.history.steps) (sym is) (handed_whole G.takes m.lost m.own m.roll.items m.history.steps m.fed own is given e l)
+  pub made_returned_notified : (own : Checked L) (given : List L) → m.own ≡ Some own → given ≡ (listeners_of (who_listens own)).processors → MadeReturnsNotifiedListeners m given
+  made_returned_notified own given is e l = subst (λ o. ReturnsNotifiedIfChecked G.takes (listed_in o m.roll.items) given m.history.steps) (sym is) (returned_notified G.takes m.lost m.own m.roll.items m.history.steps m.fed own is given e l)
 
   -- who listens as checking begins
-  pub listed_first : m.own ≡ None → MadeListedAnew m.lost m (made_audience m) m.roll.items
-  listed_first is = subst (λ o. MadeListedAnew m.lost m (listed_in o m.roll.items) m.roll.items) (sym is) (none_listed G.takes m.lost m.own m.roll.items m.history.steps m.fed is)
+  pub listed_first : m.own ≡ None → MadeListenersAtRestart m.lost m (made_audience m) m.roll.items
+  listed_first is = subst (λ o. MadeListenersAtRestart m.lost m (listed_in o m.roll.items) m.roll.items) (sym is) (none_listed G.takes m.lost m.own m.roll.items m.history.steps m.fed is)
 
-  pub listed_again : (own : Checked L) (given : List L) → m.own ≡ Some own → m.lost ≡ true → given ≡ (listeners_of (who_listens own)).processors → MadeListedAnew m.lost m (made_audience m) given
-  listed_again own given is l e = subst (λ o. MadeListedAnew m.lost m (listed_in o m.roll.items) given) (sym is) (subst (λ b. MadeListedAnew b m (Some m.roll.items) given) (sym l) (made_handed own given is e))
+  pub listed_again : (own : Checked L) (given : List L) → m.own ≡ Some own → m.lost ≡ true → given ≡ (listeners_of (who_listens own)).processors → MadeListenersAtRestart m.lost m (made_audience m) given
+  listed_again own given is l e = subst (λ o. MadeListenersAtRestart m.lost m (listed_in o m.roll.items) given) (sym is) (subst (λ b. MadeListenersAtRestart b m (Some m.roll.items) given) (sym l) (made_returned own given is e))
 
 -- a complaint was told, and nothing else has changed
-pub complaint_reported : {L : Type 0} {G : Ghosts L} (m : Made L G) (complaint : Option Error) (counted : m.begun ≡ has_begun m.history.steps) (may : ∥ MayAll m.history.steps ∥₁) (fed : ∥ FedUnless G.takes m.lost m.own m.roll.items m.history.steps ∥₁) → complaint ≡ None
+pub complaint_reported : {L : Type 0} {G : Ghosts L} (m : Made L G) (complaint : Option Error) (counted : m.begun ≡ has_begun m.history.steps) (may : ∥ AreAllowedSteps m.history.steps ∥₁) (fed : ∥ FedUnless G.takes m.lost m.own m.roll.items m.history.steps ∥₁) → complaint ≡ None
     → record { history = m.history; own = m.own; roll = m.roll; begun = m.begun; lost = m.lost; complaint = complaint; counted = counted; may = may; fed = fed } ≡ cleared_complaint m
 complaint_reported m complaint counted may fed none = λ i. record m {
   complaint = none i;
@@ -437,5 +437,5 @@ complaint_reported m complaint counted may fed none = λ i. record m {
 }
 
 -- a step more may be made
-pub may_more : (steps now : List Step) (step : Step) → now ≡ step ∷ steps → MayAll (step ∷ steps) → ∥ MayAll now ∥₁
-may_more steps now step e may = ∣ subst MayAll (sym e) may ∣₁
+pub may_more : (steps now : List Step) (step : Step) → now ≡ step ∷ steps → AreAllowedSteps (step ∷ steps) → ∥ AreAllowedSteps now ∥₁
+may_more steps now step e may = ∣ subst AreAllowedSteps (sym e) may ∣₁

@@ -6,22 +6,22 @@ use Rattle.sat_solver.specs.session.Session.{session_after}
 use Rattle.sat_solver.specs.session.Coming.{EachIsAllowed, OnlyAllowedSteps, EndsAtUnsat}
 use Rattle.sat_solver.proofs.lemmas.session.PlainLemmas.{unsat_stays}
 
-module _ (May : List Step → Step → Type 0) where
-  pub comes_none : (steps : List Step) → OnlyAllowedSteps May steps steps
-  comes_none steps = record { steps = []; behind = refl; each = tt }
+module _ (IsAllowedStep : List Step → Step → Type 0) where
+  pub comes_none : (steps : List Step) → OnlyAllowedSteps IsAllowedStep steps steps
+  comes_none steps = record { steps = []; following = refl; each = tt }
 
-  pub comes_one : (from to : List Step) (step : Step) → to ≡ step ∷ from → May from step → OnlyAllowedSteps May from to
-  comes_one from to step e m = record { steps = step ∷ []; behind = e; each = (tt, m) }
+  pub comes_one : (from to : List Step) (step : Step) → to ≡ step ∷ from → IsAllowedStep from step → OnlyAllowedSteps IsAllowedStep from to
+  comes_one from to step e m = record { steps = step ∷ []; following = e; each = (tt, m) }
 
-  each_both : (earlier xs ys : List Step) → EachIsAllowed May earlier xs → EachIsAllowed May (xs ++ earlier) ys → EachIsAllowed May earlier (ys ++ xs)
+  each_both : (earlier xs ys : List Step) → EachIsAllowed IsAllowedStep earlier xs → EachIsAllowed IsAllowedStep (xs ++ earlier) ys → EachIsAllowed IsAllowedStep earlier (ys ++ xs)
   each_both earlier xs [] a b = a
-  each_both earlier xs (y ∷ ys) a b = (each_both earlier xs ys a b.0, subst (λ ss. May ss y) (sym (append_assoc ys xs earlier)) b.1)
+  each_both earlier xs (y ∷ ys) a b = (each_both earlier xs ys a b.0, subst (λ ss. IsAllowedStep ss y) (sym (append_assoc ys xs earlier)) b.1)
 
-  pub comes_both : (from mids to : List Step) → OnlyAllowedSteps May from mids → OnlyAllowedSteps May mids to → OnlyAllowedSteps May from to
+  pub comes_both : (from mids to : List Step) → OnlyAllowedSteps IsAllowedStep from mids → OnlyAllowedSteps IsAllowedStep mids to → OnlyAllowedSteps IsAllowedStep from to
   comes_both from mids to a b = record {
     steps = b.steps ++ a.steps;
-    behind = b.behind ∙ ap (λ ss. b.steps ++ ss) a.behind ∙ sym (append_assoc b.steps a.steps from);
-    each = each_both from a.steps b.steps a.each (subst (λ ss. EachIsAllowed May ss b.steps) a.behind b.each);
+    following = b.following ∙ ap (λ ss. b.steps ++ ss) a.following ∙ sym (append_assoc b.steps a.steps from);
+    each = each_both from a.steps b.steps a.each (subst (λ ss. EachIsAllowed IsAllowedStep ss b.steps) a.following b.each);
   }
 
 -- what may come may come by another rule
@@ -30,7 +30,7 @@ each_map P Q f earlier [] h = tt
 each_map P Q f earlier (step ∷ steps) h = (each_map P Q f earlier steps h.0, f (steps ++ earlier) step h.1)
 
 pub comes_map : (P Q : List Step → Step → Type 0) → ((earlier : List Step) (step : Step) → P earlier step → Q earlier step) → (from to : List Step) → OnlyAllowedSteps P from to → OnlyAllowedSteps Q from to
-comes_map P Q f from to c = record { steps = c.steps; behind = c.behind; each = each_map P Q f from c.steps c.each }
+comes_map P Q f from to c = record { steps = c.steps; following = c.following; each = each_map P Q f from c.steps c.each }
 
 -- unsat wasn't recorded before, where it isn't by now
 not_before : (step : Step) (earlier : List Step) → (session_after (step ∷ earlier)).unsat ≡ false → (session_after earlier).unsat ≡ false
@@ -46,9 +46,9 @@ each_ends earlier (step ∷ steps) e =
     let before = not_before step (steps ++ earlier) e in
     (each_ends earlier steps before, λ u. absurd (true≢false (sym u ∙ before)))
 
--- steps behind which unsat isn't recorded
+-- steps after which unsat isn't recorded
 pub comes_open : (from to steps : List Step) → to ≡ steps ++ from → (session_after to).unsat ≡ false → OnlyAllowedSteps EndsAtUnsat from to
-comes_open from to steps e open_still = record { steps = steps; behind = e; each = each_ends from steps (subst (λ ss. (session_after ss).unsat ≡ false) e open_still) }
+comes_open from to steps e open_still = record { steps = steps; following = e; each = each_ends from steps (subst (λ ss. (session_after ss).unsat ≡ false) e open_still) }
 
 -- and one that may have recorded it
 pub comes_last : (from mids to steps : List Step) (step : Step) → mids ≡ steps ++ from → (session_after mids).unsat ≡ false → to ≡ step ∷ mids → OnlyAllowedSteps EndsAtUnsat from to

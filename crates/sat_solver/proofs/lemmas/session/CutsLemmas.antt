@@ -9,8 +9,8 @@ use Rattle.sat_solver.specs.declared.proof.hash_bits.Counting.{Counting}
 use Rattle.sat_solver.proofs.lemmas.session.Narrowing.{widths_are_free}
 
 -- a width that changes was written
-pub told : {made written : List Step} (before now : ℕ) → IsNarrowedTo made written before → IsNarrowedTo made (width_change before now ++ written) now
-told {made} {written} before now w = go (eqb before now) refl
+pub width_changed : {made written : List Step} (before now : ℕ) → IsNarrowedTo made written before → IsNarrowedTo made (width_change before now ++ written) now
+width_changed {made} {written} before now w = go (eqb before now) refl
   where
     go : (b : Bool) → eqb before now ≡ b → IsNarrowedTo made (cond b [] (ChangeHashBits now ∷ []) ++ written) now
     go true e = subst (IsNarrowedTo made written) (eqb-true before now e) w
@@ -20,7 +20,7 @@ told {made} {written} before now w = go (eqb before now) refl
 pub is_written : {c d : Counting} {made written : List Step} → c ≡ nothing_counted → TruncatesHashes c made written d → IsNarrowedTo made written d.bits
 is_written e none_made = subst (λ (x : Counting). IsNarrowedTo [] [] x.bits) (sym e) none_yet
 is_written e (ask_begun p) = is_written e p
-is_written e (one_made {d = d} step k p) = one_more step k (told d.bits (counted step d).bits (is_written e p))
+is_written e (one_made {d = d} step k p) = one_more step k (width_changed d.bits (counted step d).bits (is_written e p))
 
 pub cuts_are_free : CutsAreFree
 cuts_are_free made written c p m = widths_are_free made written c.bits (is_written refl p) m

@@ -7,12 +7,12 @@ use Rattle.sat_base.specs.values.Literals.{variable, negated}
 use Rattle.sat_base.specs.steps.Steps.{Redundant, Simplified, Satisfied, Step, SolverVarName, UserVarName, DeleteVar, AddClause, AtClause, UnitClauses, DeleteClause}
 use Rattle.sat_checker.specs.LiteralSets.{is_among, is_tautology, canonical, same_literals}
 use Rattle.sat_checker.proofs.lemmas.propagation.Soundness.{negated-negated}
-use Rattle.sat_solver.specs.proof.Drat.{times, without_set, behind_lines, behind_step, present, RefutesByUnits, LinesStand, IsDratDerivation, DratStands}
+use Rattle.sat_solver.specs.proof.Drat.{times, without_set, after_lines, following_step, present, RefutesByUnits, DratLinesAreRight, IsDratDerivation, DratIsRight}
 use Rattle.sat_solver.specs.proof.DratText.{unit_lines, drat_lines}
 use Rattle.sat_checker.specs.Contents.{more_if, less_if, same_side}
-use Rattle.sat_solver.specs.session.Session.{Session, nothing, with_fact, after, session_after, AreLiveByHash, denied_in, MayDerive, by_unit, by_clauses, MayProve, May, MayAll}
+use Rattle.sat_solver.specs.session.Session.{Session, nothing, with_fact, after, session_after, AreLiveByHash, denied_in, MayDerive, by_unit, by_clauses, MayProve, IsAllowedStep, AreAllowedSteps}
 use Rattle.sat_solver.proofs.lemmas.session.Changes.{with_live, without_live, with_facts, with_sorted, with_live_clause, knowing_literals, session_if}
-use Rattle.sat_solver.proofs.lemmas.session.DratLemmas.{times_behind, times_itself, times_left, times_less, refutes_one, refutes_unit, leads_refute, units_first, negations, leads_within, units_in, units_there, units_are}
+use Rattle.sat_solver.proofs.lemmas.session.DratLemmas.{times_after, times_itself, times_left, times_less, refutes_one, refutes_unit, leads_refute, units_first, negations, leads_within, units_in, units_there, units_are}
 
 -- of two literals or more
 abbrev pub IsLong : List ℕ → Type 0
@@ -34,7 +34,7 @@ pub record Kept (s : Session) (ps : List (List ℕ)) : Type 0 where
 -- ONE MORE
 
 still : (set c : List ℕ) (ps : List (List ℕ)) → 0 < times set ps → 0 < times set (c ∷ ps)
-still set c ps h = let e = times_behind set c ps in omega (arith, e, h)
+still set c ps h = let e = times_after set c ps in omega (arith, e, h)
 
 here : (c : List ℕ) (ps : List (List ℕ)) → 0 < times c (c ∷ ps)
 here c ps = let e = times_itself c ps in omega (arith, e)
@@ -45,7 +45,7 @@ conflict_more c ps (inr h) = inr (h.0, still (h.0 ∷ []) c ps h.1, still (negat
 
 kept_more : (s : Session) (c : List ℕ) (ps : List (List ℕ)) → Kept s ps → Kept s (c ∷ ps)
 kept_more s c ps k = record {
-  counts = λ set. (let a = k.counts set in let e = times_behind set c ps in omega (arith, a, e));
+  counts = λ set. (let a = k.counts set in let e = times_after set c ps in omega (arith, a, e));
   long = k.long;
   units = λ l e. still (l ∷ []) c ps (k.units l e);
   unsat = λ e. conflict_more c ps (k.unsat e);
@@ -102,7 +102,7 @@ clause_kept r clause s ps k = go (is_tautology clause)
     go true = kept_more s (canonical clause) ps k
     go false = sorted_kept r (canonical clause) s ps k
 
-units_kept : (us : List (ℕ × ℕ)) (s : Session) (ps : List (List ℕ)) → Kept s ps → Kept (with_facts (map (λ u. u.0) us) s) (behind_lines (unit_lines us) ps)
+units_kept : (us : List (ℕ × ℕ)) (s : Session) (ps : List (List ℕ)) → Kept s ps → Kept (with_facts (map (λ u. u.0) us) s) (after_lines (unit_lines us) ps)
 units_kept [] s ps k = k
 units_kept (u ∷ us) s ps k = units_kept us (with_fact u.0 s) ((u.0 ∷ []) ∷ ps) (fact_kept u.0 s ps k)
 
@@ -195,9 +195,9 @@ derive_refutes s ps clause hashes k (by_clauses named n lead) =
       | inr t ↦ or_left (is_among us l) (is_among (map negated clause) l) (units_there s.units (negations named) l a t)
     ]
 
-units_stand : (us : List (ℕ × ℕ)) (s : Session) (ps : List (List ℕ)) → Kept s ps → MayProve s us → LinesStand (unit_lines us) ps
-units_stand [] s ps k m = tt
-units_stand (u ∷ us) s ps k m = (derive_refutes s ps (u.0 ∷ []) (u.1 ∷ []) k m.0, units_stand us (with_fact u.0 s) ((u.0 ∷ []) ∷ ps) (fact_kept u.0 s ps k) m.1)
+unit_lines_right : (us : List (ℕ × ℕ)) (s : Session) (ps : List (List ℕ)) → Kept s ps → MayProve s us → DratLinesAreRight (unit_lines us) ps
+unit_lines_right [] s ps k m = tt
+unit_lines_right (u ∷ us) s ps k m = (derive_refutes s ps (u.0 ∷ []) (u.1 ∷ []) k m.0, unit_lines_right us (with_fact u.0 s) ((u.0 ∷ []) ∷ ps) (fact_kept u.0 s ps k) m.1)
 
 -- STEPS
 
@@ -210,7 +210,7 @@ moved s t ps a b c k = record {
   unsat = subst (λ u. u ≡ true → Conflict ps) (sym c) k.unsat;
 }
 
-step_kept : (step : Step) (s : Session) (ps : List (List ℕ)) → Kept s ps → May s step → Kept (after step s) (behind_step step ps)
+step_kept : (step : Step) (s : Session) (ps : List (List ℕ)) → Kept s ps → IsAllowedStep s step → Kept (after step s) (following_step step ps)
 step_kept (SolverVarName v None) s ps k m = moved s (after (SolverVarName v None) s) ps refl refl refl k
 step_kept (UserVarName v None) s ps k m = moved s (after (UserVarName v None) s) ps refl refl refl k
 step_kept (DeleteVar v) s ps k m = record { counts = k.counts; long = k.long; units = λ l e. k.units l (and_parts (s.units l) (not (eqb (variable l) v)) e).0; unsat = k.unsat }
@@ -243,13 +243,13 @@ present_of : (r : Bool) (set : List ℕ) (s : Session) (ps : List (List ℕ)) �
 present_of true set s ps k h = let a = k.counts set in omega (arith, a, h)
 present_of false set s ps k h = let a = k.counts set in omega (arith, a, h)
 
-step_stands : (step : Step) (s : Session) (ps : List (List ℕ)) → Kept s ps → May s step → LinesStand (drat_lines step) ps
-step_stands (AtClause r clause hashes) s ps k m = (derive_refutes s ps clause hashes k m, tt)
-step_stands (UnitClauses us) s ps k m = units_stand us s ps k m
-step_stands (DeleteClause clause Redundant) s ps k m = (present_of true (canonical clause) s ps k m, tt)
-step_stands (DeleteClause clause Simplified) s ps k m = (present_of false (canonical clause) s ps k m.0, tt)
-step_stands (DeleteClause clause Satisfied) s ps k m = (present_of false (canonical clause) s ps k m.0, tt)
-step_stands step s ps k m = tt
+step_lines_right : (step : Step) (s : Session) (ps : List (List ℕ)) → Kept s ps → IsAllowedStep s step → DratLinesAreRight (drat_lines step) ps
+step_lines_right (AtClause r clause hashes) s ps k m = (derive_refutes s ps clause hashes k m, tt)
+step_lines_right (UnitClauses us) s ps k m = unit_lines_right us s ps k m
+step_lines_right (DeleteClause clause Redundant) s ps k m = (present_of true (canonical clause) s ps k m, tt)
+step_lines_right (DeleteClause clause Simplified) s ps k m = (present_of false (canonical clause) s ps k m.0, tt)
+step_lines_right (DeleteClause clause Satisfied) s ps k m = (present_of false (canonical clause) s ps k m.0, tt)
+step_lines_right step s ps k m = tt
 
 none_false : {A : Type 0} → false ≡ true → A
 none_false e = absurd (true≢false (sym e))
@@ -260,18 +260,18 @@ kept_nothing = record { counts = λ set. omega arith; long = λ r set h. absurd 
     none : 0 < 0 → ⊥
     none h = omega (arith, h)
 
-both : (steps : List Step) → MayAll steps → Kept (session_after steps) (present steps) × IsDratDerivation steps
+both : (steps : List Step) → AreAllowedSteps steps → Kept (session_after steps) (present steps) × IsDratDerivation steps
 both [] m = (kept_nothing, tt)
 both (step ∷ earlier) m =
     let ih = both earlier m.0 in
-    (step_kept step (session_after earlier) (present earlier) ih.0 m.1, (ih.1, step_stands step (session_after earlier) (present earlier) ih.0 m.1))
+    (step_kept step (session_after earlier) (present earlier) ih.0 m.1, (ih.1, step_lines_right step (session_after earlier) (present earlier) ih.0 m.1))
 
--- what is left behind recorded unsat is refuted
+-- what is left after recorded unsat is refuted
 conflict_refutes : (ps : List (List ℕ)) → Conflict ps → RefutesByUnits ps []
 conflict_refutes ps (inl h) = refutes_one ps [] [] h tt
 conflict_refutes ps (inr h) =
     refutes_unit ps [] (h.0 ∷ []) h.0 h.1 (record { within = or_left (eqb h.0 h.0) false (eq-eqb h.0 h.0 refl); not_true = refl; not_false = refl; others = (inl refl, tt) })
     (refutes_one ps (h.0 ∷ []) (negated h.0 ∷ []) h.2 (or_left (eqb h.0 (negated (negated h.0))) false (eq-eqb h.0 (negated (negated h.0)) (sym (negated-negated h.0))), tt))
 
-pub drat_stands : DratStands
-drat_stands steps m = let b = both steps m in (b.1, λ e. conflict_refutes (present steps) (b.0.unsat e))
+pub drat_is_right : DratIsRight
+drat_is_right steps m = let b = both steps m in (b.1, λ e. conflict_refutes (present steps) (b.0.unsat e))

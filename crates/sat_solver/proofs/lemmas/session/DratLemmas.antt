@@ -19,8 +19,8 @@ more_or true n = omega arith
 more_or false n = omega arith
 
 -- one more set leaves the others
-pub times_behind : (set c : List ℕ) (cs : List (List ℕ)) → times set cs ≤ times set (c ∷ cs)
-times_behind set c cs = more_or (same_literals c set) (times set cs)
+pub times_after : (set c : List ℕ) (cs : List (List ℕ)) → times set cs ≤ times set (c ∷ cs)
+times_after set c cs = more_or (same_literals c set) (times set cs)
 
 -- a set is itself
 same_itself : (xs : List ℕ) → same_literals xs xs ≡ true

@@ -3,7 +3,7 @@ use Rattle.std.proofs.Common.{ℕ, ◌≡◌, Option, None, Some, List, [], ◌�
 use Rattle.sat_base.specs.values.Literals.{negated}
 use Rattle.sat_base.specs.steps.Steps.{Simplified, Step, SolverVarName, UserVarName, DeleteVar, AtClause, UnitClauses, DeleteClause, ChangeHashBits, Model, Assumptions, FailedAssumptions, End}
 use Rattle.sat_checker.specs.Contents.{state_after}
-use Rattle.sat_solver.specs.session.Session.{Session, proof_state, session_with, with_fact, last_after, after, session_after, AreLiveByHash, MayDerive, MayFail, by_signs, by_derivation, by_unit, by_clauses, MayProve, May, MayAll}
+use Rattle.sat_solver.specs.session.Session.{Session, proof_state, session_with, with_fact, last_after, after, session_after, AreLiveByHash, MayDerive, MayFail, by_signs, by_derivation, by_unit, by_clauses, MayProve, IsAllowedStep, AreAllowedSteps}
 use Rattle.sat_solver.specs.proof.Checked.{unended}
 
 -- the session with another last clause
@@ -45,7 +45,7 @@ longer_after (ChangeHashBits bits) a b h = h
 longer_after step a b h = λ part e. e
 
 -- what may be made may be where the last clause is kept
-may_longer : (o : Option (List ℕ)) (step : Step) (s : Session) → Longer s.last o → May s step → May (at o s) step
+may_longer : (o : Option (List ℕ)) (step : Step) (s : Session) → Longer s.last o → IsAllowedStep s step → IsAllowedStep (at o s) step
 may_longer o (SolverVarName v name) s l m = tt
 may_longer o (UserVarName v (Some name)) s l m = record { free = m.free; nameless = m.nameless; not_hidden = m.not_hidden }
 may_longer o (DeleteVar v) s l m = record { known = m.known; nameless = m.nameless; hidden = m.hidden; unused = m.unused; not_assumed = m.not_assumed }
@@ -81,14 +81,14 @@ alike : (steps : List Step) → Alike (session_after steps) (session_after (unen
 alike [] = record { same = refl; longer = λ part e. e }
 alike (step ∷ steps) = alike_next step steps (alike steps)
 
-may_alike : (step : Step) (s t : Session) → Alike s t → May s step → May t step
-may_alike step s t h m = subst (λ x. May x step) (sym h.same) (may_longer t.last step s h.longer m)
+may_alike : (step : Step) (s t : Session) → Alike s t → IsAllowedStep s step → IsAllowedStep t step
+may_alike step s t h m = subst (λ x. IsAllowedStep x step) (sym h.same) (may_longer t.last step s h.longer m)
 
-may_next : (step : Step) (steps : List Step) → MayAll (unended steps) → May (session_after steps) step → MayAll (unended (step ∷ steps))
+may_next : (step : Step) (steps : List Step) → AreAllowedSteps (unended steps) → IsAllowedStep (session_after steps) step → AreAllowedSteps (unended (step ∷ steps))
 may_next End steps h m = h
 may_next step steps h m = (h, may_alike step _ _ (alike steps) m)
 
 -- what may be made in turn may be without the ends
-pub unended_may : (steps : List Step) → MayAll steps → MayAll (unended steps)
+pub unended_may : (steps : List Step) → AreAllowedSteps steps → AreAllowedSteps (unended steps)
 unended_may [] h = tt
 unended_may (step ∷ steps) h = may_next step steps (unended_may steps h.0) h.1

@@ -10,14 +10,14 @@ use Rattle.sat_solver.specs.proof.Checked.{has_begun}
 use Rattle.sat_solver.specs.proof.Counting.{nothing_counted}
 use Rattle.sat_solver.specs.proof.Fronts.{FrontText, TargetTakesFront, GoesOnFrom, FrontsAreAccepted}
 use Rattle.sat_solver.specs.proof.ProofView.{Target, Closed, Open, Broken as Faulty, TargetTakes, TargetFails, GivesWriter, target_of, steps_of, EmitsExactly, FailsToEmit}
-use Rattle.sat_solver.specs.session.Session.{nothing, May, MayAll, after, session_after}
+use Rattle.sat_solver.specs.session.Session.{nothing, IsAllowedStep, AreAllowedSteps, after, session_after}
 use Rattle.sat_solver.specs.declared.proof.format.ProofFormat.{ProofFormat}
 use Rattle.sat_solver.specs.declared.proof.Proof.{Proof}
 use Rattle.sat_solver.proofs.lemmas.session.CutsLemmas.{cuts_are_free}
 use Rattle.sat_solver.proofs.lemmas.session.ProofLemmas.{carries_none, carries_more, stops_later}
 use Rattle.sat_solver.proofs.lemmas.session.StepLemmas.{sessions_are_accepted}
 
--- STEPS BEHIND AN END
+-- STEPS AFTER AN END
 
 -- nothing but ends of proofs leaves nothing
 ended : (before : List Step) → has_begun before ≡ false → session_after before ≡ nothing
@@ -36,18 +36,18 @@ ended (Model ls ∷ before) h = absurd (true≢false h)
 ended (Assumptions ls ∷ before) h = absurd (true≢false h)
 ended (FailedAssumptions c hs ∷ before) h = absurd (true≢false h)
 
--- so the steps behind it leave what they leave alone
+-- so the steps after it leave what they leave alone
 alone : (before steps : List Step) → has_begun before ≡ false → session_after (steps ++ before) ≡ session_after steps
 alone before [] h = ended before h
 alone before (step ∷ steps) h = ap (after step) (alone before steps h)
 
 -- and may be made alone
-may_alone : (before steps : List Step) → has_begun before ≡ false → MayAll (steps ++ before) → MayAll steps
+may_alone : (before steps : List Step) → has_begun before ≡ false → AreAllowedSteps (steps ++ before) → AreAllowedSteps steps
 may_alone before [] h m = tt
-may_alone before (step ∷ steps) h m = (may_alone before steps h m.0, subst (λ s. May s step) (alone before steps h) m.1)
+may_alone before (step ∷ steps) h m = (may_alone before steps h m.0, subst (λ s. IsAllowedStep s step) (alone before steps h) m.1)
 
 -- the first of them might be made
-may_first : (later first : List Step) → MayAll (later ++ first) → MayAll first
+may_first : (later first : List Step) → AreAllowedSteps (later ++ first) → AreAllowedSteps first
 may_first [] first m = m
 may_first (step ∷ later) first m = may_first later first m.0
 
@@ -55,7 +55,7 @@ may_first (step ∷ later) first m = may_first later first m.0
 
 module _ (f : ProofFormat) (from given : Writer) where
   -- of the text of steps that were carried
-  carried_front : (steps : List Step) (now : Target) → MayAll steps → TargetTakes (Open f nothing_counted (empty_sink from)) steps now → GivesWriter now (Some given) → FrontText f from given steps
+  carried_front : (steps : List Step) (now : Target) → AreAllowedSteps steps → TargetTakes (Open f nothing_counted (empty_sink from)) steps now → GivesWriter now (Some given) → FrontText f from given steps
   carried_front steps now m h g =
       let q : Some given ≡ Some h.1.writer = subst (λ (z : Target). GivesWriter z (Some given)) h.2 g in
       let same : h.1.writer ≡ given = cc in
@@ -67,14 +67,14 @@ module _ (f : ProofFormat) (from given : Writer) where
         may = may;
         accepts = (sessions_are_accepted h.3.written may).0;
         front = h.3.wrote.sent.fresh;
-        behind = h.1.waiting;
+        following = h.1.waiting;
         whole = h.3.wrote.sent.flows;
         taken = ap (λ (z : Writer). z.taken) (sym same) ∙ h.3.wrote.sent.takes.taken;
-        told = subst (λ (z : Writer). Appends from.contents z.contents h.3.wrote.sent.fresh) same h.3.wrote.sent.takes.told;
+        known_bytes = subst (λ (z : Writer). Appends from.contents z.contents h.3.wrote.sent.fresh) same h.3.wrote.sent.takes.known_bytes;
       }
 
   -- of the text at which a call failed
-  stopped_front : (steps : List Step) (now : Target) → MayAll steps → TargetFails (Open f nothing_counted (empty_sink from)) steps now → GivesWriter now (Some given) → FrontText f from given steps
+  stopped_front : (steps : List Step) (now : Target) → AreAllowedSteps steps → TargetFails (Open f nothing_counted (empty_sink from)) steps now → GivesWriter now (Some given) → FrontText f from given steps
   stopped_front steps now m h g =
       let q : Some given ≡ Some h.0 = subst (λ (z : Target). GivesWriter z (Some given)) h.1 g in
       let same : h.0 ≡ given = cc in
@@ -86,22 +86,22 @@ module _ (f : ProofFormat) (from given : Writer) where
         may = may;
         accepts = (sessions_are_accepted h.2.written may).0;
         front = h.2.breaks.front;
-        behind = h.2.breaks.behind;
+        following = h.2.breaks.following;
         whole = h.2.breaks.whole;
         taken = ap (λ (z : Writer). z.taken) (sym same) ∙ h.2.breaks.taken;
-        told = subst (λ (z : Writer). Appends from.contents z.contents h.2.breaks.front) same h.2.breaks.told;
+        known_bytes = subst (λ (z : Writer). Appends from.contents z.contents h.2.breaks.front) same h.2.breaks.known_bytes;
       }
 
 pub fronts_are_accepted : FrontsAreAccepted
 fronts_are_accepted f from given before steps now b m follows g =
     let may = may_alone before steps b m in
     elim follows [
-      | inl h ↦ record { later = []; steps = steps; behind = refl; front = carried_front f from given steps now may h g }
+      | inl h ↦ record { later = []; steps = steps; following = refl; front = carried_front f from given steps now may h g }
       | inr h ↦ record {
         later = h.0;
         steps = h.1;
-        behind = ap (λ (z : List Step). z ++ before) h.2 ∙ append_assoc h.0 h.1 before;
-        front = stopped_front f from given h.1 now (may_first h.0 h.1 (subst MayAll h.2 may)) h.3 g;
+        following = ap (λ (z : List Step). z ++ before) h.2 ∙ append_assoc h.0 h.1 before;
+        front = stopped_front f from given h.1 now (may_first h.0 h.1 (subst AreAllowedSteps h.2 may)) h.3 g;
       }
     ]
 

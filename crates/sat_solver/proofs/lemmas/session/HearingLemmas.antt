@@ -4,7 +4,7 @@ use Rattle.std.proofs.lemmas.Bool.{true≢false}
 use Rattle.anyhow.specs.declared.error.Error.{Error}
 use Rattle.sat_base.specs.steps.Steps.{Step, ChangeHashBits}
 use Rattle.sat_checker.specs.Accepts.{stored_after}
-use Rattle.sat_checker.specs.CheckerView.{CheckerView, HasAccepted, BreaksAt, StarvesAt, AnswersStep, AnswersDelayed, has_failed}
+use Rattle.sat_checker.specs.CheckerView.{CheckerView, HasAccepted, BreaksAt, RunsOutOfMemoryAt, AnswersStep, AnswersDelayed, has_failed}
 use Rattle.sat_checker.specs.KernelView.{KernelIsSettled}
 use Rattle.sat_checker.specs.Stored.{Stored}
 use Rattle.sat_checker.specs.Storing.{settled, settled_by}
@@ -20,14 +20,14 @@ use Rattle.sat_solver.specs.declared.proof.made.CheckFault.{CheckFault}
 use Rattle.sat_solver.specs.declared.proof.made.CheckFault.TheVariants as checks
 use Rattle.sat_solver.specs.proof.Checked.{OkOrCause}
 use Rattle.sat_solver.specs.proof.Listening.{Hears, HeardAll, HeardUpTo, HasHeard, FailedOf}
-use Rattle.sat_solver.specs.session.Session.{MayAll}
+use Rattle.sat_solver.specs.session.Session.{AreAllowedSteps}
 use Rattle.sat_solver.specs.proof.Widths.{IsNarrowedTo, none_yet, width_changes, one_more}
 use Rattle.sat_solver.proofs.lemmas.session.StepLemmas.{sessions_are_accepted}
 
 -- changes of width tell nothing, and leave no unit conflict
 pub record Quiet (written : List Step) : Type 0 where
   pub conflict : (stored_after written).conflict ≡ None
-  pub told : notices_after written ≡ []
+  pub no_notices : notices_after written ≡ []
 
 still : (f : Stored) → f.conflict ≡ None → (settled f).conflict ≡ None
 still f e = ap (λ c. (settled_by c f).conflict) e ∙ e
@@ -38,18 +38,18 @@ shown written f e t = ap (λ ts. ts ++ notices_over f (delayed f) ++ []) t ∙ a
 width_quiet : (bits : ℕ) (written : List Step) → Quiet written → Quiet (ChangeHashBits bits ∷ written)
 width_quiet bits written q = record {
   conflict = still (stored_after written) q.conflict;
-  told = shown written (stored_after written) q.conflict q.told;
+  no_notices = shown written (stored_after written) q.conflict q.no_notices;
 }
 
 pub widths_quiet : {written : List Step} {width : ℕ} (wide : List Step) → wide ≡ [] → IsNarrowedTo wide written width → Quiet written
-widths_quiet wide e none_yet = record { conflict = refl; told = refl }
+widths_quiet wide e none_yet = record { conflict = refl; no_notices = refl }
 widths_quiet wide e (width_changes bits h) = width_quiet bits _ (widths_quiet wide e h)
 widths_quiet wide e (one_more step k h) = cc
 
 -- so all of it was told
 pub none_reported : (written : List Step) → Quiet written → (conflict : Option (ℕ × ℕ)) → notices_by conflict written ≡ []
-none_reported written q (Some c) = q.told
-none_reported written q None = ap (λ ts. ts ++ notices_over (stored_after written) (delayed (stored_after written))) q.told ∙ ap (λ c. notices_over (stored_after written) (delayed_by (stored_after written).next_id c)) q.conflict
+none_reported written q (Some c) = q.no_notices
+none_reported written q None = ap (λ ts. ts ++ notices_over (stored_after written) (delayed (stored_after written))) q.no_notices ∙ ap (λ c. notices_over (stored_after written) (delayed_by (stored_after written).next_id c)) q.conflict
 
 module _ {L : Type 0} (takes : L → Notice → Result Unit Error → L → Type 0) (begun : Processing L Nobody) where
   -- what a checker that goes on has told
@@ -76,14 +76,14 @@ module _ {L : Type 0} (takes : L → Notice → Result Unit Error → L → Type
     starved step (inl h) = inl (inr h)
     starved step (inr h) = inr (inr h)
 
-    starved_at : (step : Step) → StarvesAt (Hears takes) [] begun new step written → Broke step checks.OutOfMemory
+    starved_at : (step : Step) → RunsOutOfMemoryAt (Hears takes) [] begun new step written → Broke step checks.OutOfMemory
     starved_at step (inl s) = inl (inl s.1.heard)
     starved_at step (inr b) = starved step (up_to step faults.OutOfMemory b)
 
     -- an answer to a step that may be written
-    pub answered : (r : Result (Unit {0}) CheckerError) (step : Step) → MayAll (step ∷ written) → AnswersStep (Hears takes) [] begun r old step new written
+    pub answered : (r : Result (Unit {0}) CheckerError) (step : Step) → AreAllowedSteps (step ∷ written) → AnswersStep (Hears takes) [] begun r old step new written
         → OkOrCause r (HasAccepted (Hears takes) [] begun new (step ∷ written) × (has_failed new ≡ false)) (Broke step)
-    answered (Ok x) step may a = (a.1.stands, a.1.goes_on)
+    answered (Ok x) step may a = (a.1.valid, a.1.goes_on)
     answered (Err errors.OutOfMemory) step may a = (tt, starved_at step a.1)
     answered (Err errors.CounterEnd) step may a = (tt, inl (inl (step, a.1), a.2.heard))
     answered (Err (errors.ProofProcessorError cause)) step may a = (tt, up_to step (faults.ProofProcessorError cause) a.1)

@@ -4,7 +4,7 @@ use Rattle.sat_base.specs.values.Literals.{negated}
 use Rattle.sat_base.specs.values.Hashes.{hash_of}
 use Rattle.sat_base.specs.steps.Steps.{Simplified, Step, SolverVarName, UserVarName, DeleteVar, AtClause, UnitClauses, DeleteClause, ChangeHashBits, Model, Assumptions, FailedAssumptions, End}
 use Rattle.sat_checker.specs.Stored.{solver_literal}
-use Rattle.sat_solver.specs.session.Session.{Session, proof_state, session_with, with_fact, last_after, after, session_after, AreLiveByHash, MayDerive, MayFail, by_signs, by_derivation, by_unit, by_clauses, MayProve, May, MayAll}
+use Rattle.sat_solver.specs.session.Session.{Session, proof_state, session_with, with_fact, last_after, after, session_after, AreLiveByHash, MayDerive, MayFail, by_signs, by_derivation, by_unit, by_clauses, MayProve, IsAllowedStep, AreAllowedSteps}
 use Rattle.sat_solver.specs.proof.Widths.{kept_bits, narrowed, KeepsWidth, IsNarrowedTo, none_yet, width_changes, one_more, MayAt, WidthsAreFree}
 use Rattle.sat_solver.proofs.lemmas.session.WidthLemmas.{after_wide, fact_wide, fact_width, step_width}
 
@@ -55,7 +55,7 @@ pub after_at : (w : ℕ) (step : Step) (s : Session) → KeepsWidth step → aft
 after_at w step s k = λ i. session_with (last_at w step s.last i) (after_wide w step w (proof_state s) k i)
 
 -- a step that may be written may be at another width, with cut hashes
-pub may_at : (w : ℕ) (step : Step) (s : Session) → s.width ≡ 64 → May s step → May (at w s) (narrowed w step)
+pub may_at : (w : ℕ) (step : Step) (s : Session) → s.width ≡ 64 → IsAllowedStep s step → IsAllowedStep (at w s) (narrowed w step)
 may_at w (SolverVarName v name) s e m = tt
 may_at w (UserVarName v (Some name)) s e m = record { free = m.free; nameless = m.nameless; not_hidden = m.not_hidden }
 may_at w (DeleteVar v) s e m = record { known = m.known; nameless = m.nameless; hidden = m.hidden; unused = m.unused; not_assumed = m.not_assumed }
@@ -70,7 +70,7 @@ may_at w End s e m = tt
 may_at w step s e m = m
 
 -- what is written for steps may be written, and the steps themselves are at 64 bits
-written_may : {wide written : List Step} {width : ℕ} → IsNarrowedTo wide written width → MayAll wide → MayAt wide written width × (session_after wide).width ≡ 64
+written_may : {wide written : List Step} {width : ℕ} → IsNarrowedTo wide written width → AreAllowedSteps wide → MayAt wide written width × (session_after wide).width ≡ 64
 written_may none_yet h = (record { may = tt; session = refl }, refl)
 written_may (width_changes {wide = wide} {written = written} {width = width} bits w) h =
     let ih = written_may w h in
@@ -79,7 +79,7 @@ written_may (one_more {wide = wide} {written = written} {width = width} step k w
     let ih = written_may w h.0 in
     let s : Session = session_after wide in (
       record {
-        may = (ih.0.may, subst (λ x. May x (narrowed width step)) (sym ih.0.session) (may_at width step s ih.1 h.1));
+        may = (ih.0.may, subst (λ x. IsAllowedStep x (narrowed width step)) (sym ih.0.session) (may_at width step s ih.1 h.1));
         session = ap (after (narrowed width step)) ih.0.session ∙ after_at width step s k;
       },
       step_width step (proof_state s) k ∙ ih.1,

@@ -28,7 +28,7 @@ module _ (binary : Bool) where
       go true = refl
       go false = step_is (ChangeHashBits now)
 
-  -- so what is written behind a width has the lines of the step
+  -- so what is written after a width has the lines of the step
   text_is : (before now : ℕ) (step : Step) → text_in (lines_format binary) (step ∷ width_change before now) ≡ drat_text binary step
   text_is before now step = ap (λ xs. xs ++ step_text (lines_format binary) step) (reported_text before now) ∙ step_is step
 

@@ -8,7 +8,7 @@ use Rattle.sat_solver.proofs.lemmas.session.Changes.{with_facts, with_sorted, wi
 
 -- RECORDED UNSAT STAYS
 
--- behind a unit
+-- after a unit
 fact_unsat : (l : ℕ) (s : Session) → s.unsat ≡ true → (with_fact l s).unsat ≡ true
 fact_unsat l s u = go (s.units l) (s.units (negated l))
   where
@@ -17,18 +17,18 @@ fact_unsat l s u = go (s.units l) (s.units (negated l))
     go false true = refl
     go false false = u
 
--- behind units
+-- after units
 facts_unsat : (ls : List ℕ) (s : Session) → s.unsat ≡ true → (with_facts ls s).unsat ≡ true
 facts_unsat [] s u = u
 facts_unsat (l ∷ ls) s u = facts_unsat ls (with_fact l s) (fact_unsat l s u)
 
--- behind a sorted clause
+-- after a sorted clause
 sorted_unsat : (r : Bool) (set : List ℕ) (s : Session) → s.unsat ≡ true → (with_sorted r set s).unsat ≡ true
 sorted_unsat r [] s u = refl
 sorted_unsat r (l ∷ []) s u = fact_unsat l s u
 sorted_unsat r (l ∷ m ∷ ls) s u = u
 
--- behind a clause
+-- after a clause
 clause_unsat : (r : Bool) (clause : List ℕ) (s : Session) → s.unsat ≡ true → (with_live_clause r clause s).unsat ≡ true
 clause_unsat r clause s u = go (is_tautology clause)
   where
@@ -36,7 +36,7 @@ clause_unsat r clause s u = go (is_tautology clause)
     go true = u
     go false = sorted_unsat r (canonical clause) s u
 
--- behind each step
+-- after each step
 pub unsat_stays : (step : Step) (s : Session) → s.unsat ≡ true → (after step s).unsat ≡ true
 unsat_stays (SolverVarName v None) s u = u
 unsat_stays (UserVarName v (Some name)) s u = u

@@ -15,7 +15,7 @@ use Rattle.sat_checker.specs.declared.processing.ProofProcessor.{Ghosts}
 use Rattle.sat_solver.specs.proof.Counting.{TruncatesHashes, none_made, ask_begun, one_made, written_for, counted}
 use Rattle.sat_solver.specs.proof.ProofTexts.{ClosedIsText, BrokenIsFront, WroteSince, TookSince}
 use Rattle.sat_solver.specs.proof.OutputView.{step_text, text_in, AreSpeltInFormat, SendsSteps}
-use Rattle.sat_solver.specs.proof.ProofView.{IsAtWidth, Target, Closed, Open, Broken as Faulty, is_open, Carried, TargetTakes, TargetFails, Flushed, TakesAll, GivesWriter, target_of, steps_of, has_asked, EmitsExactly, EmitsChecked, FailsToEmit, FailsCheck, Complains, is_checked, is_lost, EmitsAsAnswered, Drains, FlushesAndNotifies, FlushesOrFails, ClosesTarget, ClosesOne, HandsBack}
+use Rattle.sat_solver.specs.proof.ProofView.{IsAtWidth, Target, Closed, Open, Broken as Faulty, is_open, Carried, TargetTakes, TargetFails, Flushed, TakesAll, GivesWriter, target_of, steps_of, has_asked, EmitsExactly, EmitsChecked, FailsToEmit, FailsCheck, Complains, is_checked, is_lost, EmitsAsAnswered, Drains, FlushesAndNotifies, FlushesOrFails, ClosesTarget, ClosesOne, ReturnsTarget}
 use Rattle.sat_solver.specs.proof.Complaints.{IsComplaint}
 use Rattle.sat_solver.specs.proof.MadeView as mades
 use Rattle.sat_solver.specs.session.Making.{ComesByCheckedSteps}
@@ -68,15 +68,15 @@ module _ (f : ProofFormat) where
     sent = subst (AddsToSink s u) (sym (text_append ys xs)) (sent_more s t u (text_in f xs) (text_in f ys) p.sent q.sent);
   }
 
-  -- what waits behind steps, and the text of later ones
+  -- what waits after steps, and the text of later ones
   pub rest_text : (s t : Sink) (fresh : List ℕ) (xs ys : List Step) → s.waiting ++ text_in f xs ≡ fresh ++ t.waiting → fresh ++ (t.waiting ++ text_in f ys) ≡ s.waiting ++ text_in f (ys ++ xs)
   rest_text s t fresh xs ys flows =
       sym (append_assoc fresh t.waiting (text_in f ys)) ∙ ap (λ (z : List ℕ). z ++ text_in f ys) (sym flows) ∙ append_assoc s.waiting (text_in f xs) (text_in f ys)
       ∙ ap (λ (z : List ℕ). s.waiting ++ z) (sym (text_append ys xs))
 
   -- steps were written, and a call failed at later ones
-  pub breaks_behind : (s t : Sink) (w : Writer) (xs ys : List Step) → SendsSteps f xs s t → WriterBreaks t.writer w (t.waiting ++ text_in f ys) → WriterBreaks s.writer w (s.waiting ++ text_in f (ys ++ xs))
-  breaks_behind s t w xs ys p q =
+  pub breaks_after : (s t : Sink) (w : Writer) (xs ys : List Step) → SendsSteps f xs s t → WriterBreaks t.writer w (t.waiting ++ text_in f ys) → WriterBreaks s.writer w (s.waiting ++ text_in f (ys ++ xs))
+  breaks_after s t w xs ys p q =
       subst (WriterBreaks s.writer w) (rest_text s t p.sent.fresh xs ys p.sent.flows) (breaks_later s.writer t.writer w p.sent.fresh (t.waiting ++ text_in f ys) p.sent.takes q)
 
 -- WIDTHS
@@ -123,7 +123,7 @@ stops_later (Open f n s) b c xs ys p q =
         written = k.2.written ++ p.3.written;
         counting = k.2.counting;
         cuts = cuts_more p.3.cuts k.2.cuts;
-        breaks = breaks_behind f s p.1 k.0 p.3.written k.2.written p.3.wrote k.2.breaks;
+        breaks = breaks_after f s p.1 k.0 p.3.written k.2.written p.3.wrote k.2.breaks;
       },
     )
 stops_later (Faulty w) b c xs ys p q = subst (λ (z : Target). TargetFails z ys c) p q
@@ -222,7 +222,7 @@ gains_more seen xs ys a b c p q =
     let both = adds_more seen xs ys a b c (gains_adds seen xs a b p) (gains_adds seen ys b c q) in
     record { history = both.history; listening = both.listening; taking = q.taking ∙ p.taking; asked = q.asked ∙ p.asked; width = width_more xs ys a b c p.width q.width; target = both.target }
 
--- behind steps the checker is at the width of the target's text
+-- after steps the checker is at the width of the target's text
 pub gained_width : {W L : Type 0} {G : Ghosts L} (seen : W → Writer) (a b : Proof W L G) → ComesByCheckedSteps seen a b → (steps_of b ≡ steps_of a → ⊥) → IsAtWidth b
 gained_width seen a b t n = t.1.width (inr (λ e. n (t.1.history ∙ ap (λ xs. xs ++ steps_of a) e)))
 
@@ -238,7 +238,7 @@ fails_later seen xs ys a b c p q = record {
 pub complains_checked : {W L : Type 0} {G : Ghosts L} (fault : CheckFault) (p : Proof W L G) → Complains fault p → is_checked p ≡ true
 complains_checked {G = G} fault p h = go p.made.own h
   where
-    go : (o : Option (Checked _)) → mades.ComplainsIn G.takes fault o p.made.roll.items p.made.history.steps → is_some (mades.listed_in o p.made.roll.items) ≡ true
+    go : (o : Option (Checked _)) → mades.CheckerComplains G.takes fault o p.made.roll.items p.made.history.steps → is_some (mades.listed_in o p.made.roll.items) ≡ true
     go None h = absurd h
     go (Some own) h = refl
 
@@ -251,10 +251,10 @@ drained : {W L : Type 0} {G : Ghosts L} (seen : W → Writer) (a b : Proof W L G
 drained seen a b h = record { history = h.history; listening = h.listening; target = flushed_carries (target_of seen a) (target_of seen b) h.target }
 
 -- it hadn't failed before
-pub complains_now : {W L : Type 0} {G : Ghosts L} (fault : CheckFault) (p : Proof W L G) (lost : Bool) → lost ≡ false → mades.ComplainsOr lost fault p.made → Complains fault p × IsComplaint fault p.made.complaint
+pub complains_now : {W L : Type 0} {G : Ghosts L} (fault : CheckFault) (p : Proof W L G) (lost : Bool) → lost ≡ false → mades.ComplainsOrWasLost lost fault p.made → Complains fault p × IsComplaint fault p.made.complaint
 complains_now fault p lost taking h = elim h [ inl k ↦ k | inr k ↦ absurd (true≢false (sym k.0 ∙ taking)) ]
 
--- nor does what the checker tells behind it
+-- nor does what the checker tells after it
 pub flush_records : {W L : Type 0} {G : Ghosts L} (seen : W → Writer) (r : Result (Unit {0}) ProofError) (a b : Proof W L G) → is_lost a ≡ false → FlushesOrFails seen r a b → EmitsAsAnswered seen r [] a b
 flush_records seen (Ok x) a b taking h = record { history = h.history; listening = h.listening; taking = h.taking; asked = h.asked; width = λ k. elim k [ inl w ↦ h.width w | inr n ↦ absurd (n refl) ]; target = flushed_carries (target_of seen a) (target_of seen b) h.target }
 flush_records seen (Err (Write e)) a b taking h = h
@@ -289,7 +289,7 @@ gives_none (Open a n s) b c xs o p f g =
 gives_none (Faulty w) b c xs o p f g = absurd (true≢false (sym o))
 
 -- the last step was made, the target flushed and handed back
-pub close_gives : {W L : Type 0} {G : Ghosts L} (seen : W → Writer) (o : Option W) (a b c d : Proof W L G) → is_open (target_of seen a) ≡ true → EmitsChecked seen (End ∷ []) a b → FlushesAndNotifies seen b c → HandsBack seen o c d → ClosesTarget seen (Ok o) a d
+pub close_gives : {W L : Type 0} {G : Ghosts L} (seen : W → Writer) (o : Option W) (a b c d : Proof W L G) → is_open (target_of seen a) ≡ true → EmitsChecked seen (End ∷ []) a b → FlushesAndNotifies seen b c → ReturnsTarget seen o c d → ClosesTarget seen (Ok o) a d
 close_gives seen None a b c d open_yet p q h = absurd (gives_none (target_of seen a) (target_of seen b) (target_of seen c) (End ∷ []) open_yet p.target q.target h.gives)
 close_gives seen (Some w) a b c d open_yet p q h = record {
   history = h.history ∙ q.history ∙ p.history;
@@ -307,6 +307,6 @@ close_gives seen (Some w) a b c d open_yet p q h = record {
 pub since_closed : {W L : Type 0} {G : Ghosts L} (seen : W → Writer) (f : ProofFormat) (from : Writer) (before : List Step) (given : W) (p q : Proof W L G) → WroteSince seen f from before p → ClosesOne seen given p q → TookSince f from (seen given) before (steps_of q)
 since_closed seen f from before given p q w c = record {
   steps = End ∷ w.steps;
-  behind = c.history ∙ ap (λ z. End ∷ z) w.behind;
+  following = c.history ∙ ap (λ z. End ∷ z) w.following;
   took = closed_is_text f from (seen given) w.steps End (target_of seen p) w.target c.takes;
 }

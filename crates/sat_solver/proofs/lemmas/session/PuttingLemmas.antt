@@ -21,7 +21,7 @@ use Rattle.sat_solver.specs.proof.Counting.{none_made, ask_begun}
 use Rattle.sat_solver.specs.declared.proof.Proof.{Proof}
 use Rattle.sat_solver.specs.declared.proof.output.OutputError.{OutputError}
 use Rattle.sat_solver.specs.declared.proof.output.OutputError.TheVariants.{Write, OutOfMemory}
-use Rattle.sat_solver.proofs.lemmas.session.ProofLemmas.{wrote_none, breaks_behind, cuts_one, carries_none}
+use Rattle.sat_solver.proofs.lemmas.session.ProofLemmas.{wrote_none, breaks_after, cuts_one, carries_none}
 
 -- one step was written
 pub wrote_one : (f : ProofFormat) (step : Step) (s t : Sink) → AddsToSink s t (step_text f step) → SpellsIn f step → SendsSteps f (step ∷ []) s t
@@ -31,9 +31,9 @@ wrote_one f step s t h k = record { spelt = (k, tt); sent = h }
 pub waits_at : (step : Step) (before now : ℕ) (s t : Sink) → before ≡ now → AddsToSink s t (step_bytes step) → SpellsStep step (step_bytes step) → SendsSteps Varisat (step ∷ width_change before now) s t
 waits_at step before now s t e sent spells = subst (λ xs. SendsSteps Varisat (step ∷ xs) s t) (sym (ap (λ b. cond b [] (ChangeHashBits now ∷ [])) (eq-eqb before now e))) (wrote_one Varisat step s t sent spells)
 
--- a step behind others that were written
-pub puts_behind : (f : ProofFormat) (step : Step) (xs : List Step) (s t u : Sink) → SendsSteps f xs s t → WriterBreaks t.writer u.writer (t.waiting ++ step_text f step) → WriterBreaks s.writer u.writer (s.waiting ++ text_in f (step ∷ xs))
-puts_behind f step xs s t u p q = breaks_behind f s t u.writer xs (step ∷ []) p q
+-- a step after others that were written
+pub puts_after : (f : ProofFormat) (step : Step) (xs : List Step) (s t u : Sink) → SendsSteps f xs s t → WriterBreaks t.writer u.writer (t.waiting ++ step_text f step) → WriterBreaks s.writer u.writer (s.waiting ++ text_in f (step ∷ xs))
+puts_after f step xs s t u p q = breaks_after f s t u.writer xs (step ∷ []) p q
 
 -- a fault at the text of steps is one at the text of these and one more
 pub puts_short : (f : ProofFormat) (e : OutputError) (step : Step) (xs : List Step) (s t : Sink) → PutsSteps f (Err e) xs s t → PutsSteps f (Err e) (step ∷ xs) s t

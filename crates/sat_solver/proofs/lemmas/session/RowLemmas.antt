@@ -6,7 +6,7 @@ use Rattle.sat_base.specs.steps.Steps.{SolverVarName, UserVarName, DeleteVar, Ad
 use Rattle.sat_checker.specs.Stored.{Variable, Sample, Hide, unknown}
 use Rattle.sat_checker.specs.LiteralSets.{is_among, mentions, canonical}
 use Rattle.sat_checker.specs.SortedSets.{NoRepeats}
-use Rattle.sat_solver.specs.session.Session.{Session, IsLive, MayAll, session_after, by_clauses}
+use Rattle.sat_solver.specs.session.Session.{Session, IsLive, AreAllowedSteps, session_after, by_clauses}
 use Rattle.sat_solver.specs.session.SessionRows.{four, CollidingMay, HiddenMay}
 
 -- a sampled variable is not hidden
@@ -43,7 +43,7 @@ free w = go (eqb 0 w) (eqb w 0)
     go false false e = no_name 1 e
 
 -- the names and the four clauses may be written
-four_may : MayAll four
+four_may : AreAllowedSteps four
 four_may = ((
   (
     (

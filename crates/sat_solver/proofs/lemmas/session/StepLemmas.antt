@@ -8,7 +8,7 @@ use Rattle.sat_checker.specs.Contents.{count_in}
 use Rattle.sat_checker.proofs.lemmas.invariants.Counted.{TidyClauses, tidy_effect, tidy_settled}
 use Rattle.sat_checker.proofs.lemmas.meaning.Orderly.{Orderly, orderly_settled}
 use Rattle.sat_checker.proofs.lemmas.meaning.OrderlySteps.{orderly_effect, orderly}
-use Rattle.sat_solver.specs.session.Session.{Session, May, MayAll, after, session_after}
+use Rattle.sat_solver.specs.session.Session.{Session, IsAllowedStep, AreAllowedSteps, after, session_after}
 use Rattle.sat_solver.specs.session.Agrees.{MatchesStored}
 use Rattle.sat_solver.specs.session.Promises.{MayIsAccepted, SessionsAreAccepted}
 use Rattle.sat_solver.proofs.lemmas.session.Views.{view, view_after, view_settled}
@@ -51,10 +51,10 @@ pub fits_settled : (s : Session) (f : Stored) → Fits s f → Fits s (settled f
 fits_settled s f h = record { same = view_settled s.last f ∙ h.same; tidy = tidy_settled f h.tidy; last = last_settled s.last f h.last }
 
 -- a step that may be written is accepted where both fit
-pub accepts_fit : (s : Session) (f : Stored) (step : Step) → Fits s f → May s step → Accepts f step
-accepts_fit s f step h m = accepts_view step s.last f h.tidy h.last (subst (λ x. May x step) (sym h.same) m)
+pub accepts_fit : (s : Session) (f : Stored) (step : Step) → Fits s f → IsAllowedStep s step → Accepts f step
+accepts_fit s f step h m = accepts_view step s.last f h.tidy h.last (subst (λ x. IsAllowedStep x step) (sym h.same) m)
 
--- both fit behind an accepted step
+-- both fit after an accepted step
 pub fits_after : (s : Session) (f : Stored) (step : Step) → Fits s f → Orderly f → Accepts f step → Fits (after step s) (effect step f)
 fits_after s f step h o a = record {
   same = view_after s.last step f h.tidy.once ∙ ap (after step) h.same;
@@ -71,9 +71,9 @@ none_counts : (r : Bool) → count_in r None ≡ 0
 none_counts true = refl
 none_counts false = refl
 
--- steps that may be written are accepted in their turn, and both fit behind them
-pub stands : (steps : List Step) → MayAll steps → AcceptsAll steps × Fits (session_after steps) (stored_after steps)
-stands [] h = (
+-- steps that may be written are accepted in their turn, and both fit after them
+pub valid : (steps : List Step) → AreAllowedSteps steps → AcceptsAll steps × Fits (session_after steps) (stored_after steps)
+valid [] h = (
   tt,
   record {
     same = λ i. record { live = λ r set. none_counts r i; units = λ l. false; unsat = false; variables = nothing_stored.variables; solver_names = nothing_stored.solver_names; width = 64; assumed = []; last = None };
@@ -81,8 +81,8 @@ stands [] h = (
     last = λ set e. absurd (no_last set e);
   },
 )
-stands (step ∷ earlier) h =
-    let ih = stands earlier h.0 in
+valid (step ∷ earlier) h =
+    let ih = valid earlier h.0 in
     let r = fits_settled (session_after earlier) (stored_after earlier) ih.1 in
     let a : Accepts (ready_after earlier) step = accepts_fit (session_after earlier) (ready_after earlier) step r h.1 in
     ((ih.0, a), fits_after (session_after earlier) (ready_after earlier) step r (orderly_settled (stored_after earlier) (orderly earlier ih.0)) a)
@@ -90,4 +90,4 @@ stands (step ∷ earlier) h =
 -- the same, with what both agree on
 pub sessions_are_accepted : SessionsAreAccepted
 sessions_are_accepted steps h =
-    let s = stands steps h in (s.0, agrees (session_after steps) (ready_after steps) (fits_settled (session_after steps) (stored_after steps) s.1))
+    let s = valid steps h in (s.0, agrees (session_after steps) (ready_after steps) (fits_settled (session_after steps) (stored_after steps) s.1))

@@ -13,7 +13,7 @@ use Rattle.sat_parts.specs.prop.Values.{IsTrueLit}
 use Rattle.sat_parts.proofs.lemmas.clause.ListLemmas.{at_place}
 use Rattle.sat_solver.proofs.lemmas.fits.CodeLemmas.{coded_by}
 use Rattle.sat_solver.specs.proof.ProofView.{EmitsChecked, HasAllowedSteps, steps_of, session_of}
-use Rattle.sat_solver.specs.session.Session.{MayAll}
+use Rattle.sat_solver.specs.session.Session.{AreAllowedSteps}
 use Rattle.sat_solver.proofs.lemmas.session.StepLemmas.{sessions_are_accepted}
 use Rattle.sat_solver.specs.session.LiveClauses.{with_var}
 use Rattle.sat_solver.specs.declared.context.Core.{Core}
@@ -38,7 +38,7 @@ use Rattle.sat_solver.proofs.lemmas.variables.Searched.{searches_agree}
 use Rattle.sat_solver.proofs.lemmas.variables.TakenNames.{test_among}
 use Rattle.sat_solver.specs.solver.Joined.{IsJoined, lit_over_names, named_by, user_by}
 use Rattle.sat_solver.specs.solver.Answering.{Shown, WritesFailedCore, model_of, line_of_names}
-use Rattle.sat_solver.proofs.lemmas.solver.BehindLemmas.{stands_behind}
+use Rattle.sat_solver.proofs.lemmas.solver.AfterLemmas.{stands_after}
 use Rattle.sat_solver.proofs.lemmas.solver.ShownLemmas.{coded_back, coded_sign, model_all}
 use Rattle.sat_solver.proofs.lemmas.solver.LineLemmas.{named_has, named_each, mapped_each, literal_among}
 use Rattle.sat_solver.proofs.lemmas.solver.ReportingLemmas.{each_live, shares_moved}
@@ -70,7 +70,7 @@ module _ (n : Variables) (values : List (Option Bool)) (user order : List ℕ) (
 
 -- CORES OVER NAMES
 
-module _ (n : Variables) (steps : List Step) (stands : NamesInvariant n steps) (c : Search) (shares : SharesIndices n c) (user order : List ℕ) (images : Images n user order) where
+module _ (n : Variables) (steps : List Step) (valid : NamesInvariant n steps) (c : Search) (shares : SharesIndices n c) (user order : List ℕ) (images : Images n user order) where
   -- the literal over names that an assumption of the search was taken from
   pub record Taken_from (l : ℕ) : Type 0 where
     pub from : ℕ
@@ -92,16 +92,16 @@ module _ (n : Variables) (steps : List Step) (stands : NamesInvariant n steps) (
       let it : l ≡ coded i.index_is (is_positive m) = sym (at_place order l h) ∙ i.is in
       let var : variable l ≡ i.index_is = ap variable it ∙ coded_variable i.index_is (is_positive m) in
       let sign : is_positive l ≡ is_positive m = ap is_positive it ∙ coded_sign i.index_is (is_positive m) in
-      let at : global_at n (variable l) ≡ Some i.variable_is = ap (global_at n) var ∙ stands.tidy.solvers.back i.variable_is i.index_is i.indexed in
+      let at : global_at n (variable l) ≡ Some i.variable_is = ap (global_at n) var ∙ valid.tidy.solvers.back i.variable_is i.index_is i.indexed in
       let global : global_in c (variable l) ≡ i.variable_is = shares.same (variable l) i.variable_is at in
-      let named : user_of n i.variable_is ≡ Some (variable m) = stands.tidy.users.back (variable m) i.variable_is i.named in
+      let named : user_of n i.variable_is ≡ Some (variable m) = valid.tidy.users.back (variable m) i.variable_is i.named in
       record {
         from = m;
         among = among_at user k lt;
         is = ap (λ o. named_by (user_by n o) l) at ∙ ap (λ o. named_by o l) named ∙ ap (coded (variable m)) sign ∙ coded_back m;
         spells = record {
           variable = i.variable_is;
-          named = stands.read (variable m) ∙ i.named;
+          named = valid.read (variable m) ∙ i.named;
           is = sym (coded_by (global_in c) l) ∙ ap (λ g. coded g (is_positive l)) global ∙ ap (coded i.variable_is) sign;
         };
       }
@@ -136,20 +136,20 @@ module _ (n : Variables) (steps : List Step) (stands : NamesInvariant n steps) (
         only (l ∷ ls) g m = ((user_literal (lit_over_names n l), spells_at l (g 0 (omega arith)), m (user_literal (lit_over_names n l)) (inl refl)), only ls (λ k lt. g (suc k) (omega arith)) (λ x i. m x (inr i)))
 
 -- no valuation that the steps leave makes a core true that was written
-pub core_none : (steps : List Step) (codes hashes : List ℕ) → MayAll (FailedAssumptions codes hashes ∷ steps) → (a : Valuation) → Holds steps a → EachTrue a codes → ⊥
+pub core_none : (steps : List Step) (codes hashes : List ℕ) → AreAllowedSteps (FailedAssumptions codes hashes ∷ steps) → (a : Valuation) → Holds steps a → EachTrue a codes → ⊥
 core_none steps codes hashes may a held t = (let s = sessions_are_accepted (FailedAssumptions codes hashes ∷ steps) may in cores_fail steps codes hashes a s.0.0 s.0.1 held t)
 
 -- STEPS OF ANSWERS
 
 -- the line of a model spells what was written
 pub line_spelt : (n : Variables) (steps : List Step) (values : List (Option Bool)) → NamesInvariant n steps → EachSpelt (variable_of steps) (map user_literal (named_to n values (names_used n))) (model_to n values (variables_used n))
-line_spelt n steps values stands =
+line_spelt n steps values valid =
     mapped_each (λ l. (code : ℕ) × Spells (variable_of steps) l code × Among code (model_to n values (variables_used n))) (named_to n values (names_used n))
     (named_each n values (λ l. (code : ℕ) × Spells (variable_of steps) (user_literal l) code × Among code (model_to n values (variables_used n))) (names_used n) (λ u v lt e.
-    let live = stands.tidy.named v u (stands.tidy.users.back u v e) in
+    let live = valid.tidy.named v u (valid.tidy.users.back u v e) in
     let b = value_in n values v in (
       coded v b,
-      record { variable = v; named = ap (λ w. variable_of steps (w + 1)) (coded_variable u b) ∙ stands.read u ∙ e; is = ap (coded v) (sym (coded_sign u b)) },
+      record { variable = v; named = ap (λ w. variable_of steps (w + 1)) (coded_variable u b) ∙ valid.read u ∙ e; is = ap (coded v) (sym (coded_sign u b)) },
       test_among (model_to n values (variables_used n)) (coded v b) (model_all n values (variables_used n) v (live_within n v live) live),
     )))
 
@@ -159,14 +159,14 @@ named_among_all line (l ∷ asked) h = (literal_among l line h.0, named_among_al
 
 -- names and search stand where a search came to, whatever became of names
 pub joined_by : {W L : Type 0} {G : Ghosts L} (n m : Variables) (a b : Core W L G) → IsJoined n a → b.config ≡ a.config → HasAllowedSteps b.proof → NamesInvariant m (steps_of b.proof) → IsSearch (session_of b.proof) b.search → SharesIndices m b.search → IsJoined m b
-joined_by n m a b joined config keeps stands search shares = record {
+joined_by n m a b joined config keeps valid search shares = record {
   sound = record {
     keeps = keeps;
     search = search;
     locals = subst (λ (c : SolverConfig). 0 < c.reduce_locals_interval) (sym config) joined.sound.locals;
     mids = subst (λ (c : SolverConfig). 0 < c.reduce_mids_interval) (sym config) joined.sound.mids;
   };
-  stands = stands;
+  valid = valid;
   shares = shares;
 }
 
@@ -181,7 +181,7 @@ module _ {W L : Type 0} {G : Ghosts L} (seen : W → Writer) (n : Variables) (a 
       locals = subst (λ (c : SolverConfig). 0 < c.reduce_locals_interval) (sym config) joined.sound.locals;
       mids = subst (λ (c : SolverConfig). 0 < c.reduce_mids_interval) (sym config) joined.sound.mids;
     };
-    stands = subst (NamesInvariant n) (sym adds.history) (stands_behind n (steps_of a.proof) steps joined.stands (subst MayAll adds.history keeps) searched);
+    valid = subst (NamesInvariant n) (sym adds.history) (stands_after n (steps_of a.proof) steps joined.valid (subst AreAllowedSteps adds.history keeps) searched);
     shares = shares_moved n a.search b.search joined.shares moved;
   }
 
@@ -189,15 +189,15 @@ module _ {W L : Type 0} {G : Ghosts L} (seen : W → Writer) (n : Variables) (a 
   pub does_shown : (b : Core W L G) → Shown seen n a b → (asked : List ℕ) → AllByRecursion (λ l. Among l (line_of_names n a)) asked →
       NamesEffect n n (steps_of a.proof) (steps_of b.proof) (λ j. j) (λ j. Shows (names_of (map user_literal (line_of_names n a))) (map user_literal asked) (map user_literal (line_of_names n a)) ∷ [])
   does_shown b shown asked among =
-      let may : MayAll (Model (model_of n a) ∷ steps_of a.proof) = subst MayAll shown.adds.history shown.joined.sound.keeps in
+      let may : AreAllowedSteps (Model (model_of n a) ∷ steps_of a.proof) = subst AreAllowedSteps shown.adds.history shown.joined.sound.keeps in
       record {
-        stands = shown.joined.stands;
+        valid = shown.joined.valid;
         kept = λ j live agree. record {
           live = live;
           agree = subst (λ ss. NamesAgree n ss j live) (sym shown.adds.history)
-              (searches_agree n (steps_of a.proof) (Model (model_of n a)) joined.stands may.1 (each_live n a.search.parts.assignment.current (variables_used n) (model_of n a) (λ l t. t)) j live agree);
+              (searches_agree n (steps_of a.proof) (Model (model_of n a)) joined.valid may.1 (each_live n a.search.parts.assignment.current (variables_used n) (model_of n a) (λ l t. t)) j live agree);
           trace = subst (λ ss. HasTrace checker_rules (steps_of a.proof) ss (Shows (names_of (map user_literal (line_of_names n a))) (map user_literal asked) (map user_literal (line_of_names n a)) ∷ [])) (sym shown.adds.history)
-              (visible (shows refl (line_spelt n (steps_of a.proof) a.search.parts.assignment.current joined.stands) (named_among_all (line_of_names n a) asked among)) no_step);
+              (visible (shows refl (line_spelt n (steps_of a.proof) a.search.parts.assignment.current joined.valid) (named_among_all (line_of_names n a) asked among)) no_step);
         };
       }
 
@@ -207,10 +207,10 @@ module _ {W L : Type 0} {G : Ghosts L} (seen : W → Writer) (n : Variables) (a 
   does_failed b core f asked order images lits =
       subst (λ ss. NamesEffect n n (steps_of a.proof) ss (λ j. j) (λ j. Fails (map user_literal asked) (map user_literal core) ∷ [])) (sym (history_of f))
       (record {
-        stands = stands;
+        valid = valid;
         kept = λ j live agree. record {
           live = live;
-          agree = searches_agree n (steps_of a.proof) step joined.stands may.1 tt j live agree;
+          agree = searches_agree n (steps_of a.proof) step joined.valid may.1 tt j live agree;
           trace = visible (fails (subst (λ xs. SameSet (variable_of (steps_of a.proof)) (map user_literal xs) codes) (sym f.named) spelt)) no_step;
         };
       })
@@ -227,11 +227,11 @@ module _ {W L : Type 0} {G : Ghosts L} (seen : W → Writer) (n : Variables) (a 
       history_of : WritesFailedCore seen n a b core → steps_of b.proof ≡ step ∷ steps_of a.proof
       history_of f = f.adds.history ∙ ap (λ ss. ss ++ steps_of a.proof) f.reported.is
 
-      may : MayAll (step ∷ steps_of a.proof)
-      may = subst MayAll (history_of f) f.joined.sound.keeps
+      may : AreAllowedSteps (step ∷ steps_of a.proof)
+      may = subst AreAllowedSteps (history_of f) f.joined.sound.keeps
 
-      stands : NamesInvariant n (step ∷ steps_of a.proof)
-      stands = subst (NamesInvariant n) (history_of f) f.joined.stands
+      valid : NamesInvariant n (step ∷ steps_of a.proof)
+      valid = subst (NamesInvariant n) (history_of f) f.joined.valid
 
       spelt : SameSet (variable_of (steps_of a.proof)) (map user_literal (map (lit_over_names n) used)) codes
-      spelt = core_spelt n (steps_of a.proof) joined.stands a.search joined.shares asked order images used (λ k lt. subst (λ ls. Contains ls (get_or used k 0)) lits (f.reported.failed.among k lt))
+      spelt = core_spelt n (steps_of a.proof) joined.valid a.search joined.shares asked order images used (λ k lt. subst (λ ls. Contains ls (get_or used k 0)) lits (f.reported.failed.among k lt))

@@ -36,26 +36,26 @@ module _ {W L : Type 0} {G : Ghosts L} (seen : W → Writer) (s : Solver W L G) 
     abbrev pub flushed : Solver W L G
     flushed = record mid { core = record mid.core { proof = q } }
 
-    behind : Settled seen used mid
-    behind = settled_begun seen used p adds taking mid settled
+    following : Settled seen used mid
+    following = settled_begun seen used p adds taking mid settled
 
     -- a flush failed
     pub ask_breaks : (e : ProofError) → FlushesOrFails seen (Err e) mid.core.proof q → AnswersOrBreaks seen (Err (proof_fault e)) used flushed
-    ask_breaks e f = settled_broken seen used mid behind q e f
+    ask_breaks e f = settled_broken seen used mid following q e f
 
     pub ask_broken : (e : ProofError) → FlushesOrFails seen (Err e) mid.core.proof q → Solves seen (Err (proof_fault e)) s (failed_with flushed)
     ask_broken e f = solve_ends seen s flushed going (proof_fault e) (ask_breaks e f)
 
     -- or not
     pub ask_whole : FlushesAndNotifies seen mid.core.proof q → IsSolver flushed
-    ask_whole f _ = (settled_flushed seen used mid behind q f).whole
+    ask_whole f _ = (settled_flushed seen used mid following q f).whole
 
     pub ask_answered : p ≡ asking_proof s.core.proof → (s.state ≡ states.Unknown → SearchedBy seen mid.state s.clock mid.clock s.names mid.names asking.core mid.core mid.reported.failed_core.items) → FlushesAndNotifies seen mid.core.proof q → Answered seen s flushed
     ask_answered same searched f =
-        answered seen s flushed (settled_flushed seen used mid behind q f) going (flushed_by seen mid.core.proof q f) f.reported
+        answered seen s flushed (settled_flushed seen used mid following q f) going (flushed_by seen mid.core.proof q f) f.reported
         (asked_flushed seen settled.took.0 p mid.core.proof q (ap (λ (x : Proof W L G). has_asked x) same) settled.took.1 f)
         (λ u. record {
-          behind = mid.core.proof;
+          following = mid.core.proof;
           searched = subst (λ x. SearchedBy seen mid.state s.clock mid.clock s.names mid.names (record s.core { proof = x }) mid.core mid.reported.failed_core.items) same (searched u);
           flushes = f;
         })

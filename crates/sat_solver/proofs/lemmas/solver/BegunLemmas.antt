@@ -18,7 +18,7 @@ use Rattle.sat_solver.specs.declared.state.State.TheVariants as states
 use Rattle.sat_solver.specs.solver.Calls.{RoundsOn, learned_of, rounds_left, due_for_answer}
 use Rattle.sat_solver.specs.solver.Settling.{Settled}
 use Rattle.sat_solver.specs.solver.Whole.{SolverInvariant, steps_in}
-use Rattle.sat_solver.proofs.lemmas.cdcl.GoingLemmas.{loss_later, went_behind}
+use Rattle.sat_solver.proofs.lemmas.cdcl.GoingLemmas.{loss_later, went_after}
 use Rattle.sat_solver.proofs.lemmas.session.ProofLemmas.{adds_more, fails_later, check_later}
 use Rattle.sat_solver.proofs.lemmas.solver.SettlingLemmas.{whole_over}
 
@@ -32,7 +32,7 @@ module _ {W L : Type 0} {G : Ghosts L} (seen : W → Writer) (old : Solver W L G
   pub rounds_begun : (now : ℕ) → RoundsOn old.names (steps_in begun) old.core.config.max_steps old.clock.rounds now → RoundsOn old.names (steps_in old) old.core.config.max_steps old.clock.rounds now
   rounds_begun now h = subst (λ ss. RoundsOn old.names ss old.core.config.max_steps old.clock.rounds now) adds.history h
 
-  -- what is settled behind it
+  -- what is settled after it
   pub settled_begun : (new : Solver W L G) → Settled seen begun new → Settled seen old new
   settled_begun new s = record {
     whole = s.whole;
@@ -57,4 +57,4 @@ module _ {W L : Type 0} {G : Ghosts L} (seen : W → Writer) (old : Solver W L G
 
   -- or fails
   pub breaks_begun : (e : SolverError) (core : Core W L G) → BreaksOff seen e begun.core core → BreaksOff seen e old.core core
-  breaks_begun e core b = (record { fault = b.0.fault; steps = _; went = went_behind seen (Unit {0}) e [] b.0.steps old.core.proof p core.proof adds b.0.went; loss = loss_later e old.core.proof p core.proof taking b.0.loss }, b.1)
+  breaks_begun e core b = (record { fault = b.0.fault; steps = _; went = went_after seen (Unit {0}) e [] b.0.steps old.core.proof p core.proof adds b.0.went; loss = loss_later e old.core.proof p core.proof taking b.0.loss }, b.1)

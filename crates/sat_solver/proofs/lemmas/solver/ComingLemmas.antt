@@ -32,7 +32,7 @@ use Rattle.sat_solver.specs.solver.Whole.{HasFullStore, SolverInvariant, IsWhole
 use Rattle.sat_solver.specs.solver.Adding.{AddClauseEffect, with_added, due_for_clause, ForgetsAnswer, AreSampled, IsBeforeDrat, AddsClause, ReplacesAssumptions, AssumesOrRefuses, due_for_asked}
 use Rattle.sat_solver.specs.clause.Activity.{AreDecays}
 use Rattle.sat_solver.specs.solver.Asking.{AskedIn}
-use Rattle.sat_solver.specs.variables.VariableRoom.{HasVariablesFor, users_in}
+use Rattle.sat_solver.specs.variables.VariableRoom.{HasVariablesFor, user_vars_in}
 use Rattle.sat_solver.specs.variables.Refusing.{names_in, as_refusal}
 use Rattle.sat_checker.specs.matching.Bridge.{Live}
 use Rattle.sat_checker.specs.matching.Expected.{Unknown}
@@ -91,7 +91,7 @@ module _ {W L : Type 0} {G : Ghosts L} (seen : W → Writer) (s : Solver W L G) 
     pub took_left : TookClause seen s.names n' s.core b user true → AddClauseEffect seen s (added states.Unknown) user
     took_left t = record {
       whole = record {
-        stands = t.does.stands;
+        valid = t.does.valid;
         images = t.images s.assumed.items s.asked.order.items whole.images;
         spelt = global_images_kept s.names n' s.assumed.items s.asked.globals.items t.names whole.spelt;
         globals = whole.globals ∙ sym t.assumed;
@@ -119,7 +119,7 @@ module _ {W L : Type 0} {G : Ghosts L} (seen : W → Writer) (s : Solver W L G) 
     pub took_none : TookClause seen s.names n' s.core b user false → AddClauseEffect seen s (added states.Unsat) user
     took_none t = record {
       whole = record {
-        stands = t.does.stands;
+        valid = t.does.valid;
         images = t.images s.assumed.items s.asked.order.items whole.images;
         spelt = global_images_kept s.names n' s.assumed.items s.asked.globals.items t.names whole.spelt;
         globals = whole.globals ∙ sym t.assumed;
@@ -147,7 +147,7 @@ module _ {W L : Type 0} {G : Ghosts L} (seen : W → Writer) (s : Solver W L G) 
   pub asked_in : (b : Core W L G) (n' : Variables) (user : List ℕ) (asked : Taken) → TookAssumptions seen s.names n' s.core b user asked → AskedIn seen s (record s { core = b; names = n'; asked = asked; state = states.Unknown }) user
   asked_in b n' user asked t = record {
     whole = record {
-      stands = (t.does Unknown).stands;
+      valid = (t.does Unknown).valid;
       images = t.asked.images;
       spelt = t.asked.spelt;
       globals = t.asked.globals;
@@ -183,7 +183,7 @@ module _ {W L : Type 0} {G : Ghosts L} (seen : W → Writer) (s : Solver W L G) 
   pub left_in : LeavesOut s.names n' (steps_in s) (steps_of p) user → AddClauseEffect seen s (record s { core = record s.core { proof = p }; names = n' }) user
   left_in l = record {
     whole = record {
-      stands = l.does.stands;
+      valid = l.does.valid;
       images = images;
       spelt = global_images_kept s.names n' s.assumed.items s.asked.globals.items (λ u v e. (l.extends.stays u v e).0) whole.spelt;
       globals = whole.globals ∙ sym l.unseen.search.assumed;
@@ -218,9 +218,9 @@ module _ {W L : Type 0} {G : Ghosts L} (seen : W → Writer) (s : Solver W L G) 
   pub asked_known : (asked : Taken) → assuming.BringsAssumptions s.names n' (steps_in s) (steps_of p) user asked → AskedIn seen s (record s { core = record s.core { proof = p }; names = n'; asked = asked }) user
   asked_known asked a = record {
     whole = record {
-      stands = (a.does Unknown).stands;
+      valid = (a.does Unknown).valid;
       images = a.images;
-      spelt = global_images_of n' user asked (a.does Unknown).stands.tidy a.images a.globals;
+      spelt = global_images_of n' user asked (a.does Unknown).valid.tidy a.images a.globals;
       globals = sym (ap (λ ss. (session_after ss).assumed) a.written);
       positive = whole.positive;
       scaled = whole.scaled;
@@ -243,7 +243,7 @@ module _ {W L : Type 0} {G : Ghosts L} (seen : W → Writer) (s : Solver W L G) 
 -- FAULTS
 
 -- a call over a clause failed
-pub adding_ends : {W L : Type 0} {G : Ghosts L} (seen : W → Writer) (e : SolverError) (s new : Solver W L G) (user : List ℕ) → s.failed ≡ false → IsBeforeDrat seen s → AreSampled s user → HasVariablesFor s.names (users_in user) → IsFaultOr (HasFullStore new) e → BreaksNamesOr (HasFullStore new) seen e s.core new.core → new.clock ≡ s.clock → new.failed ≡ true → AddsClause seen (Err e) s new user
+pub adding_ends : {W L : Type 0} {G : Ghosts L} (seen : W → Writer) (e : SolverError) (s new : Solver W L G) (user : List ℕ) → s.failed ≡ false → IsBeforeDrat seen s → AreSampled s user → HasVariablesFor s.names (user_vars_in user) → IsFaultOr (HasFullStore new) e → BreaksNamesOr (HasFullStore new) seen e s.core new.core → new.clock ≡ s.clock → new.failed ≡ true → AddsClause seen (Err e) s new user
 adding_ends seen errors.OutOfMemory s new user g d w r x b k f = ((d, w), r, record { going = g; failed = f; fault = x; breaks = b; clock = k })
 adding_ends seen errors.StoreFull s new user g d w r x b k f = ((d, w), r, record { going = g; failed = f; fault = x; breaks = b; clock = k })
 adding_ends seen (errors.ProofIoError cause) s new user g d w r x b k f = ((d, w), r, record { going = g; failed = f; fault = x; breaks = b; clock = k })
@@ -252,7 +252,7 @@ adding_ends seen errors.CounterEnd s new user g d w r x b k f = ((d, w), r, reco
 adding_ends seen e s new user g d w r x b k f = absurd x
 
 -- a call over assumptions failed
-pub asking_ends : {W L : Type 0} {G : Ghosts L} (seen : W → Writer) (e : SolverError) (s new : Solver W L G) (user : List ℕ) → s.failed ≡ false → AreSampled s user → HasVariablesFor s.names (users_in user) → IsFault e → BreaksNames seen e s.core new.core → new.clock ≡ s.clock → new.failed ≡ true → AssumesOrRefuses seen (Err e) s new user
+pub asking_ends : {W L : Type 0} {G : Ghosts L} (seen : W → Writer) (e : SolverError) (s new : Solver W L G) (user : List ℕ) → s.failed ≡ false → AreSampled s user → HasVariablesFor s.names (user_vars_in user) → IsFault e → BreaksNames seen e s.core new.core → new.clock ≡ s.clock → new.failed ≡ true → AssumesOrRefuses seen (Err e) s new user
 asking_ends seen errors.OutOfMemory s new user g w r x b k f = (w, r, record { going = g; failed = f; fault = x; breaks = b; clock = k })
 asking_ends seen (errors.ProofIoError cause) s new user g w r x b k f = (w, r, record { going = g; failed = f; fault = x; breaks = b; clock = k })
 asking_ends seen (errors.ProofProcessorError cause) s new user g w r x b k f = (w, r, record { going = g; failed = f; fault = x; breaks = b; clock = k })
@@ -267,7 +267,7 @@ none_refused s user None judged none = λ j live agree. judged j live agree.judg
 none_refused s user (Some name) judged none = absurd (true≢false none)
 
 -- assumptions were taken, and no memory was left to list them over names
-pub asking_starved : {W L : Type 0} {G : Ghosts L} (seen : W → Writer) (s mid new : Solver W L G) (user : List ℕ) → s.failed ≡ false → AreSampled s user → HasVariablesFor s.names (users_in user) → is_lost s.core.proof ≡ false → AskedIn seen (record s { used = true }) mid user → mid.clock ≡ s.clock → new.core ≡ (failed_with mid).core → new.clock ≡ mid.clock → new.failed ≡ true → AssumesOrRefuses seen (Err errors.OutOfMemory) s new user
+pub asking_starved : {W L : Type 0} {G : Ghosts L} (seen : W → Writer) (s mid new : Solver W L G) (user : List ℕ) → s.failed ≡ false → AreSampled s user → HasVariablesFor s.names (user_vars_in user) → is_lost s.core.proof ≡ false → AskedIn seen (record s { used = true }) mid user → mid.clock ≡ s.clock → new.core ≡ (failed_with mid).core → new.clock ≡ mid.clock → new.failed ≡ true → AssumesOrRefuses seen (Err errors.OutOfMemory) s new user
 asking_starved seen s mid new user going sampled room taking a clock core same failed = (
   sampled,
   room,
@@ -275,7 +275,7 @@ asking_starved seen s mid new user going sampled room taking a clock core same f
 )
 
 -- assumptions were taken, and listed over names
-pub assumed_by : {W L : Type 0} {G : Ghosts L} (seen : W → Writer) (s mid new : Solver W L G) (user : List ℕ) → s.failed ≡ false → AreSampled s user → HasVariablesFor s.names (users_in user) → AskedIn seen (record s { used = true }) mid user → mid.clock ≡ s.clock → new ≡ record mid { assumed = new.assumed } → new.assumed.items ≡ user → ReplacesAssumptions seen s new user
+pub assumed_by : {W L : Type 0} {G : Ghosts L} (seen : W → Writer) (s mid new : Solver W L G) (user : List ℕ) → s.failed ≡ false → AreSampled s user → HasVariablesFor s.names (user_vars_in user) → AskedIn seen (record s { used = true }) mid user → mid.clock ≡ s.clock → new ≡ record mid { assumed = new.assumed } → new.assumed.items ≡ user → ReplacesAssumptions seen s new user
 assumed_by {W} {L} {G} seen s mid new user going sampled room a clock same items = record {
   sampled = sampled;
   room = room;

@@ -74,7 +74,7 @@ module _ {W L : Type 0} {G : Ghosts L} (u : SolverConfigUpdate) (c : Core W L G)
             locals = kept_count u.reduce_locals_interval c.config.reduce_locals_interval (parts_of u range).locals g.joined.sound.locals;
             mids = kept_count u.reduce_mids_interval c.config.reduce_mids_interval (parts_of u range).mids g.joined.sound.mids;
           };
-          stands = g.joined.stands;
+          valid = g.joined.valid;
           shares = shares_moved n c.search b.search g.joined.shares bumped.moved;
         };
         lits = ap (λ ls. ls.items) bumped.moved.lits ∙ g.lits;
@@ -99,10 +99,10 @@ module _ {W L : Type 0} {G : Ghosts L} (u : SolverConfigUpdate) (c : Core W L G)
   core_same states.Unsat b d = (ap (λ x. x.proof) d, ap (λ x. x.config) d)
   core_same e b d = (ap (λ x. x.proof) d.same, ap (λ x. x.config) d.same)
 
-  -- all stands behind it
+  -- all stands after it
   pub whole_configured : (st : State) (b : Core W L G) → PassesToSearch st changed b → IsWholeOf c n asked assumed core scale st → IsWholeOf b n asked assumed core (unwrap_or u.luby_restart_interval_scale scale) st
   whole_configured st b d whole = record {
-    stands = subst (λ p. NamesInvariant n (steps_of p)) (sym (core_same st b d).0) whole.stands;
+    valid = subst (λ p. NamesInvariant n (steps_of p)) (sym (core_same st b d).0) whole.valid;
     images = whole.images;
     spelt = whole.spelt;
     globals = whole.globals ∙ ap (λ p. (session_of p).assumed) (sym (core_same st b d).0);

@@ -8,7 +8,7 @@ use Rattle.sat_checker.specs.declared.processing.ProofProcessor.{Ghosts}
 use Rattle.sat_solver.specs.load.Literals.{user_literal}
 use Rattle.sat_checker.specs.matching.Checking.{variable_of}
 use Rattle.sat_solver.specs.proof.ProofView.{ClosesTarget, ClosesOne, HasAllowedSteps, is_lost, steps_of, session_of}
-use Rattle.sat_solver.specs.session.Session.{MayAll, session_after}
+use Rattle.sat_solver.specs.session.Session.{AreAllowedSteps, session_after}
 use Rattle.sat_solver.specs.declared.proof.Proof.{Proof}
 use Rattle.sat_solver.specs.declared.variables.Variables.{Variables}
 use Rattle.sat_solver.specs.declared.load.literals.Taken.{Taken}
@@ -17,14 +17,14 @@ use Rattle.sat_solver.specs.cdcl.Joint.{IsSearch}
 use Rattle.sat_checker.specs.matching.Traces.{no_step, visible}
 use Rattle.sat_solver.specs.variables.Calls.{NamesInvariant, NamesAgree, NamesEffect}
 use Rattle.sat_checker.specs.matching.Expected.{Finish, SameSet, finish}
-use Rattle.sat_solver.proofs.lemmas.variables.Searched.{searches_stand, searches_agree}
+use Rattle.sat_solver.proofs.lemmas.variables.Searched.{searches_preserve_names, searches_agree}
 use Rattle.sat_solver.specs.declared.solver.Solver.{Solver}
 use Rattle.sat_solver.specs.declared.state.State.{State}
 use Rattle.sat_solver.specs.declared.state.State.TheVariants as states
 use Rattle.sat_solver.specs.solver.Whole.{SolverInvariant, IsWholeOf, StateSays, AskGoesOn, steps_in}
 use Rattle.sat_solver.specs.solver.Proving.{ClosedOne, ClosesProof}
 use Rattle.sat_solver.proofs.lemmas.session.CertificateLemmas.{is_certificate}
-use Rattle.sat_solver.proofs.lemmas.session.DratDerivations.{drat_stands}
+use Rattle.sat_solver.proofs.lemmas.session.DratDerivations.{drat_is_right}
 use Rattle.sat_solver.proofs.lemmas.session.ProofLemmas.{since_closed}
 use Rattle.sat_solver.proofs.lemmas.solver.ReportingLemmas.{search_rests}
 use Rattle.sat_solver.proofs.lemmas.solver.SettlingLemmas.{whole_over}
@@ -32,7 +32,7 @@ use Rattle.sat_solver.proofs.lemmas.solver.SettlingLemmas.{whole_over}
 -- the last step leaves all as it is
 pub whole_ended : {W L : Type 0} {G : Ghosts L} (c : Core W L G) (n : Variables) (asked : Taken) (assumed core : List ℕ) (scale : ℕ) (state : State) (p : Proof W L G) → IsWholeOf c n asked assumed core scale state → steps_of p ≡ End ∷ steps_of c.proof → HasAllowedSteps p → is_lost p ≡ is_lost c.proof → IsWholeOf (record c { proof = p }) n asked assumed core scale state
 whole_ended {W} {L} {G} c n asked assumed core scale state p whole e keeps taking = record {
-  stands = stands;
+  valid = valid;
   images = whole.images;
   spelt = whole.spelt;
   globals = whole.globals ∙ sym (ap (λ ss. (session_after ss).assumed) e);
@@ -40,12 +40,12 @@ whole_ended {W} {L} {G} c n asked assumed core scale state p whole e keeps takin
   scaled = whole.scaled;
   decays = whole.decays;
   taking = taking ∙ whole.taking;
-  judged = (let k = whole.judged in (k.0, k.1, subst (λ ss. NamesAgree n ss k.0 k.1) (sym e) (searches_agree n (steps_of c.proof) End whole.stands (subst MayAll e keeps).1 tt k.0 k.1 k.2)));
+  judged = (let k = whole.judged in (k.0, k.1, subst (λ ss. NamesAgree n ss k.0 k.1) (sym e) (searches_agree n (steps_of c.proof) End whole.valid (subst AreAllowedSteps e keeps).1 tt k.0 k.1 k.2)));
   says = says state whole.says;
 }
   where
-    stands : NamesInvariant n (steps_of p)
-    stands = subst (NamesInvariant n) (sym e) (searches_stand n (steps_of c.proof) End whole.stands (subst MayAll e keeps).1 tt)
+    valid : NamesInvariant n (steps_of p)
+    valid = subst (NamesInvariant n) (sym e) (searches_preserve_names n (steps_of c.proof) End whole.valid (subst AreAllowedSteps e keeps).1 tt)
 
     joined : AskGoesOn c n asked → AskGoesOn (record c { proof = p }) n asked
     joined g = record {
@@ -56,7 +56,7 @@ whole_ended {W} {L} {G} c n asked assumed core scale state p whole e keeps takin
           locals = g.joined.sound.locals;
           mids = g.joined.sound.mids;
         };
-        stands = stands;
+        valid = valid;
         shares = g.joined.shares;
       };
       lits = g.lits;
@@ -84,21 +84,21 @@ module _ {W L : Type 0} {G : Ghosts L} (seen : W → Writer) (s : Solver W L G) 
     going = going;
     whole = ended;
     does = subst (λ ss. NamesEffect s.names s.names (steps_in s) ss (λ j. j) (λ j. Finish ∷ [])) (sym c.history) (record {
-      stands = searches_stand s.names (steps_in s) End whole.stands may.1 tt;
-      kept = λ j live agree. record { live = live; agree = searches_agree s.names (steps_in s) End whole.stands may.1 tt j live agree; trace = visible finish no_step };
+      valid = searches_preserve_names s.names (steps_in s) End whole.valid may.1 tt;
+      kept = λ j live agree. record { live = live; agree = searches_agree s.names (steps_in s) End whole.valid may.1 tt j live agree; trace = visible finish no_step };
     });
     closes = c;
     certificate = λ f from before none since. is_certificate f from (seen given) before (steps_of p) none keeps (since_closed seen f from before given s.core.proof p since c);
-    derives = (drat_stands (steps_of p) keeps).0;
-    refutes = λ e. (drat_stands (steps_of p) keeps).1 (subst (λ st. StateSays st (record s.core { proof = p }) s.names s.asked s.assumed.items s.reported.failed_core.items) e ended.says);
+    derives = (drat_is_right (steps_of p) keeps).0;
+    refutes = λ e. (drat_is_right (steps_of p) keeps).1 (subst (λ st. StateSays st (record s.core { proof = p }) s.names s.asked s.assumed.items s.reported.failed_core.items) e ended.says);
     same = refl;
   }
     where
       ended : IsWholeOf (record s.core { proof = p }) s.names s.asked s.assumed.items s.reported.failed_core.items s.clock.restarts.scale s.state
       ended = whole_ended s.core s.names s.asked s.assumed.items s.reported.failed_core.items s.clock.restarts.scale s.state p whole c.history keeps c.taking
 
-      may : MayAll (End ∷ steps_in s)
-      may = subst MayAll c.history keeps
+      may : AreAllowedSteps (End ∷ steps_in s)
+      may = subst AreAllowedSteps c.history keeps
 
   -- what came of closing it
   pub closed_by : (o : Option W) → ClosesTarget seen (Ok o) s.core.proof p → ClosesProof seen (Ok o) s (record s { core = record s.core { proof = p } })

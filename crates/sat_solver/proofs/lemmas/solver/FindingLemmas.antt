@@ -4,7 +4,7 @@ use Rattle.std.proofs.Common.{ℕ, ◌-◌, Option, None, Some, Result, Ok, Err,
 use Rattle.sat_base.specs.device.Device.{Writer}
 use Rattle.sat_checker.specs.declared.processing.ProofProcessor.{Ghosts}
 use Rattle.sat_solver.proofs.lemmas.session.ProofLemmas.{gains_adds}
-use Rattle.sat_solver.proofs.lemmas.cdcl.GoingLemmas.{loss_later, went_behind}
+use Rattle.sat_solver.proofs.lemmas.cdcl.GoingLemmas.{loss_later, went_after}
 use Rattle.sat_solver.specs.declared.schedule.Outcome.{Outcome}
 use Rattle.sat_solver.specs.declared.schedule.Outcome.TheVariants as outcomes
 use Rattle.sat_solver.specs.declared.error.SolverError.{SolverError}
@@ -24,8 +24,8 @@ module _ {W L : Type 0} {G : Ghosts L} (seen : W → Writer) (n m : Variables) (
   -- names stand where it came to
   pub comes_to : {k : ℕ} → IsJoined n a → (outcome : Outcome) (mid : Core W L G) → Ended seen a n k outcome mid m → OutcomeHolds outcome m mid
   comes_to joined outcomes.Learned mid e = e.says
-  comes_to joined outcomes.Model mid e = (joined_by n m a mid joined e.config e.keeps e.does.stands e.says.0.search e.says.1, e.says.0.complete)
-  comes_to joined outcomes.Failed mid e = (joined_by n m a mid joined e.config e.keeps e.does.stands e.says.0.search e.says.1, e.says.0.failing)
+  comes_to joined outcomes.Model mid e = (joined_by n m a mid joined e.config e.keeps e.does.valid e.says.0.search e.says.1, e.says.0.complete)
+  comes_to joined outcomes.Failed mid e = (joined_by n m a mid joined e.config e.keeps e.does.valid e.says.0.search e.says.1, e.says.0.failing)
   comes_to joined outcomes.Unsat mid e = tt
 
   -- and it was told
@@ -47,7 +47,7 @@ module _ {W L : Type 0} {G : Ghosts L} (seen : W → Writer) (n m : Variables) (
 
   -- or its telling failed
   pub breaks_reported : {k : ℕ} → (outcome : Outcome) (e : SolverError) (mid b : Core W L G) → Ended seen a n k outcome mid m → BreaksOff seen e mid b → BreaksOff seen e a b
-  breaks_reported outcome e mid b ended k = (record { fault = k.0.fault; steps = k.0.steps ++ ended.steps; went = went_behind seen (Unit {0}) e ended.steps k.0.steps a.proof mid.proof b.proof (gains_adds seen ended.steps a.proof mid.proof ended.adds) k.0.went; loss = loss_later e a.proof mid.proof b.proof ended.adds.taking k.0.loss }, k.1)
+  breaks_reported outcome e mid b ended k = (record { fault = k.0.fault; steps = k.0.steps ++ ended.steps; went = went_after seen (Unit {0}) e ended.steps k.0.steps a.proof mid.proof b.proof (gains_adds seen ended.steps a.proof mid.proof ended.adds) k.0.went; loss = loss_later e a.proof mid.proof b.proof ended.adds.taking k.0.loss }, k.1)
 
   -- what came of telling it
   pub finds_by : (outcome : Outcome) (r : Result (Option State) SolverError) (mid b : Core W L G) (core : List ℕ) (rounds : ℕ) → Ended seen a n (rounds - 1) outcome mid m → ReportsOutcome seen r outcome m mid b core → IfOk r (λ o. FindsAnswer seen o rounds n m a b core)

@@ -9,7 +9,7 @@ use Rattle.sat_base.specs.declared.dimacs.error.DimacsError.{DimacsError}
 use Rattle.sat_base.specs.declared.dimacs.error.DimacsError.TheVariants as texts
 use Rattle.sat_base.proofs.lemmas.device.Given.{enough_all, enough_front}
 use Rattle.sat_base.proofs.lemmas.dimacs.Parsed.{HasAccepted as HasFed}
-use Rattle.sat_checker.specs.DimacsView.{AreRead, FailsBehind}
+use Rattle.sat_checker.specs.DimacsView.{AreRead, FailsAfter}
 use Rattle.sat_checker.specs.ProofView.{NoReadFailed}
 use Rattle.sat_checker.proofs.lemmas.checker.Texts.{fed_more, open_read, read_by_piece, read_by_end, clean_by_end, fails_by_piece, fails_by_end}
 use Rattle.sat_checker.specs.declared.processing.ProofProcessor.{Ghosts}
@@ -118,7 +118,7 @@ module _ {W L : Type 0} {G : Ghosts L} (seen : W → Writer) where
       stops = s.stops;
     }
 
-    answers_text : (e : SolverError) (answer : Result Unit DimacsError) (new : Solver W L G) (from to : Reader) → NoReadFailed from to → ((d : DimacsError) → answer ≡ Err d → FailsBehind d from to (clauses_read q)) → (answer ≡ Err texts.HasFailed → ⊥) →
+    answers_text : (e : SolverError) (answer : Result Unit DimacsError) (new : Solver W L G) (from to : Reader) → NoReadFailed from to → ((d : DimacsError) → answer ≡ Err d → FailsAfter d from to (clauses_read q)) → (answer ≡ Err texts.HasFailed → ⊥) →
         GaveEnough from to (λ text. AreRead text (clauses_read q)) → AddsFormulaRead seen (Err e) answer q cur new → AddsText seen (Err e) old new from to
     answers_text e answer new from to quiet fails apart read a = elim a.2 [
       | inl r ↦ text_by e old new from to (λ is. apart (r.answered ∙ ap (λ (d : DimacsError). Err d) (fault_apart r.fault (sym r.is ∙ is))))

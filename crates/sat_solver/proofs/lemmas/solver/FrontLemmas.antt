@@ -12,14 +12,14 @@ use Rattle.sat_solver.specs.cdcl.Going as going
 use Rattle.sat_solver.specs.proof.Fronts.{FrontSince, TargetTakesFront, GoesOnFrom}
 use Rattle.sat_solver.specs.proof.OutputView.{text_in, AreSpeltInFormat}
 use Rattle.sat_solver.specs.session.Making.{ComesBySteps}
-use Rattle.sat_solver.specs.proof.ProofView.{Target, FailsCheck, TargetTakes, GivesWriter, target_of, steps_of, handed_writer}
-use Rattle.sat_solver.specs.session.Session.{MayAll}
+use Rattle.sat_solver.specs.proof.ProofView.{Target, FailsCheck, TargetTakes, GivesWriter, target_of, steps_of, returned_writer}
+use Rattle.sat_solver.specs.session.Session.{AreAllowedSteps}
 use Rattle.sat_solver.specs.solver.Adding.{Added, AddsClause, AssumesOrRefuses}
 use Rattle.sat_solver.specs.solver.Answering.{BreaksCall}
 use Rattle.sat_solver.specs.solver.Calls.{Refuses, Solves, IsFlushed}
 use Rattle.sat_solver.specs.solver.Configuring.{Configures}
 use Rattle.sat_solver.specs.solver.Formulas.{AddsAll, StopsAtClause, AddsFormula, AddsText, TextFails, ClauseFails}
-use Rattle.sat_solver.specs.solver.Fronts.{ReachesBySteps, CallsGoOn, HandsFront, FlushedIsText}
+use Rattle.sat_solver.specs.solver.Fronts.{ReachesBySteps, CallsGoOn, ReturnsAcceptedPrefix, FlushedIsText}
 use Rattle.sat_solver.specs.solver.Naming.{ChangesMode, NamesNew, NamesFail}
 use Rattle.sat_solver.specs.solver.Proving.{AddsProcessor, ClosesProof, Enables}
 use Rattle.sat_solver.specs.solver.Taking.{BreaksNamesOr}
@@ -108,12 +108,12 @@ module _ {W L : Type 0} {G : Ghosts L} (seen : W → Writer) where
   text_added a b (Err errors.HasFailed) from to h = same a b _ h.0
   text_added a b (Err e) from to h = text_stopped a b e from to h
 
-  mode_changed : (a b : Solver W L G) (r : Result (Unit {0}) SolverError) (user : ℕ) (judge : ScriptState → ScriptState) (due : ScriptState → List Expected) (May : List Step → Step → Type 0) → ChangesMode seen r a b user judge due May → ReachesBySteps seen a b
-  mode_changed a b (Ok x) user judge due May h = took a.core.proof b.core.proof h.1.did.took
-  mode_changed a b (Err errors.AssumedVariable) user judge due May h = same a b _ h
-  mode_changed a b (Err errors.VariableLimit) user judge due May h = same a b _ h
-  mode_changed a b (Err errors.HasFailed) user judge due May h = same a b _ h
-  mode_changed a b (Err e) user judge due May h = names_broke _ e a.core b.core h.2.breaks
+  mode_changed : (a b : Solver W L G) (r : Result (Unit {0}) SolverError) (user : ℕ) (judge : ScriptState → ScriptState) (due : ScriptState → List Expected) (IsAllowedStep : List Step → Step → Type 0) → ChangesMode seen r a b user judge due IsAllowedStep → ReachesBySteps seen a b
+  mode_changed a b (Ok x) user judge due IsAllowedStep h = took a.core.proof b.core.proof h.1.did.took
+  mode_changed a b (Err errors.AssumedVariable) user judge due IsAllowedStep h = same a b _ h
+  mode_changed a b (Err errors.VariableLimit) user judge due IsAllowedStep h = same a b _ h
+  mode_changed a b (Err errors.HasFailed) user judge due IsAllowedStep h = same a b _ h
+  mode_changed a b (Err e) user judge due IsAllowedStep h = names_broke _ e a.core b.core h.2.breaks
 
   named : (a b : Solver W L G) (r : Result ℕ SolverError) → NamesNew seen r a b → ReachesBySteps seen a b
   named a b (Ok user) h = took a.core.proof b.core.proof h.1.did.took
@@ -182,12 +182,12 @@ module _ {W L : Type 0} {G : Ghosts L} (seen : W → Writer) where
     closing_fails = unclosed old new;
   }
 
-  pub hands_front : (s : Solver W L G) (handed : Option W) → GivesWriter (target_of seen s.core.proof) (handed_writer seen handed) → HandsFront seen handed s
-  hands_front s handed g opened f from given is open_then begun went =
+  pub returns_accepted_prefix : (s : Solver W L G) (returned : Option W) → GivesWriter (target_of seen s.core.proof) (returned_writer seen returned) → ReturnsAcceptedPrefix seen returned s
+  returns_accepted_prefix s returned g opened f from given is open_then begun went =
       let follows = subst (λ (t : Target). TargetTakesFront t went.steps (target_of seen s.core.proof)) open_then went.target in
-      let gives = subst (λ (o : Option W). GivesWriter (target_of seen s.core.proof) (handed_writer seen o)) is g in
+      let gives = subst (λ (o : Option W). GivesWriter (target_of seen s.core.proof) (returned_writer seen o)) is g in
       ∥∥₁_elim s.core.proof.made.may ∥∥₁_prop (λ may.
-      let front = fronts_are_accepted f from (seen given) (steps_in opened) went.steps (target_of seen s.core.proof) begun (subst MayAll went.history may) follows gives in
+      let front = fronts_are_accepted f from (seen given) (steps_in opened) went.steps (target_of seen s.core.proof) begun (subst AreAllowedSteps went.history may) follows gives in
       ∣ subst (FrontSince f from (seen given) (steps_in opened)) (sym went.history) front ∣₁)
 
 pub flushed_is_text : FlushedIsText

@@ -17,7 +17,7 @@ use Rattle.sat_parts.proofs.lemmas.parts.ValueLemmas.{coded_variable}
 use Rattle.sat_solver.proofs.lemmas.unit_simplify.FreedLemmas.{assumed_mention, contains_at}
 
 pub images_kept : (n m : Variables) (steps : List Step) (c : Search) (s t : Session) → NamesInvariant n steps → SharesIndices n c → (user order : List ℕ) → s.assumed ≡ map (with_var (global_in c)) order → Images n user order → KeepsAsked n m s t → Images m user order
-images_kept n m steps c s t stands shares user order asked images kept = record {
+images_kept n m steps c s t valid shares user order asked images kept = record {
   count = images.count;
   each = λ k lt. (let i = images.each k lt in record {
     variable_is = i.variable_is;
@@ -32,7 +32,7 @@ images_kept n m steps c s t stands shares user order asked images kept = record 
     among k lt i =
         let less : k < length order = (let e = images.count in omega arith) in
         let index : variable (get_or order k 0) ≡ i.index_is = ap variable i.is ∙ coded_variable i.index_is (is_positive (get_or user k 0)) in
-        let var : global_in c (variable (get_or order k 0)) ≡ i.variable_is = ap (global_in c) index ∙ shares.same i.index_is i.variable_is (stands.tidy.solvers.back i.variable_is i.index_is i.indexed) in
+        let var : global_in c (variable (get_or order k 0)) ≡ i.variable_is = ap (global_in c) index ∙ shares.same i.index_is i.variable_is (valid.tidy.solvers.back i.variable_is i.index_is i.indexed) in
         subst (λ ls. mentions ls i.variable_is ≡ true) (sym asked) (subst (λ v. mentions (map (with_var (global_in c)) order) v ≡ true) var (assumed_mention (global_in c) order (variable (get_or order k 0)) (contains_at order k less)))
 
 -- and of the proof

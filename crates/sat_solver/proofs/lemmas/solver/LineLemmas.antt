@@ -12,7 +12,7 @@ use Rattle.sat_base.specs.script.ScriptStateLaws.{Increase}
 use Rattle.sat_base.proofs.lemmas.script.NamesListed.{lists_in_use}
 use Rattle.sat_base.specs.steps.Steps.{Step, Model}
 use Rattle.sat_checker.specs.Fold.{Holds}
-use Rattle.sat_solver.specs.session.Session.{May, session_after}
+use Rattle.sat_solver.specs.session.Session.{IsAllowedStep, session_after}
 use Rattle.sat_solver.specs.session.NamedMeaning.{MeansAcceptedClauses, AgreeOn, IsReadAs, AllReadAmong}
 use Rattle.sat_solver.proofs.lemmas.session.NamedLemmas.{all_at, all_from, among_images, read_value, named_models_are_right}
 use Rattle.sat_solver.specs.load.Literals.{user_literal}
@@ -62,8 +62,8 @@ module _ (n : Variables) (steps : List Step) (j : ScriptState) (live : Live) (ag
 
   -- the proof's literal of a name in use
   pub reads_at : (u v : ℕ) (b : Bool) → NamesInvariant n steps → global_of n u ≡ Some v → IsReadAs j (variable_of steps) (user_literal (coded u b)) (coded v b)
-  reads_at u v b stands e =
-      let name : variable_of steps (variable (coded u b) + 1) ≡ Some v = ap (λ w. variable_of steps (w + 1)) (coded_variable u b) ∙ stands.read u ∙ e in
+  reads_at u v b valid e =
+      let name : variable_of steps (variable (coded u b) + 1) ≡ Some v = ap (λ w. variable_of steps (w + 1)) (coded_variable u b) ∙ valid.read u ∙ e in
       let k = agree.bridge.named (variable (coded u b) + 1) v name in
       record { identity = k.0; in_use = k.1; var = v; named = name; is = ap (coded v) (sym (coded_sign u b)) }
 
@@ -146,7 +146,7 @@ pub literal_among : (l : ℕ) (ls : List ℕ) → Among l ls → Among (user_lit
 literal_among l [] m = absurd m
 literal_among l (x ∷ xs) m = elim m [ inl e ↦ inl (ap user_literal e) | inr k ↦ inr (literal_among l xs k) ]
 
-module _ (n : Variables) (steps : List Step) (values : List (Option Bool)) (stands : NamesInvariant n steps) where
+module _ (n : Variables) (steps : List Step) (values : List (Option Bool)) (valid : NamesInvariant n steps) where
   abbrev pub line : List ℕ
   line = named_to n values (names_used n)
 
@@ -163,7 +163,7 @@ module _ (n : Variables) (steps : List Step) (values : List (Option Bool)) (stan
     lists_only : AllByRecursion (λ name. (i : ℕ) × (identity_of j name ≡ Some i)) (names_of (map user_literal line))
     lists_only = names_each (λ name. (i : ℕ) × (identity_of j name ≡ Some i)) line
         (named_each n values (λ l. (i : ℕ) × (identity_of j (variable l + 1) ≡ Some i)) (names_used n) (λ u v lt e.
-        let r = reads_at n steps j live agree u v (value_in n values v) stands e in (r.identity, r.in_use)))
+        let r = reads_at n steps j live agree u v (value_in n values v) valid e in (r.identity, r.in_use)))
 
     -- the names in use, in order
     lists : names_of (map user_literal line) ≡ map (λ n. n.name) j.in_use
@@ -172,17 +172,17 @@ module _ (n : Variables) (steps : List Step) (values : List (Option Bool)) (stan
     read : AllReadAmong j (variable_of steps) (map user_literal line) (model_to n values (variables_used n))
     read = mapped_each (λ l. (code : ℕ) × IsReadAs j (variable_of steps) l code × Among code (model_to n values (variables_used n))) line
         (named_each n values (λ l. (code : ℕ) × IsReadAs j (variable_of steps) (user_literal l) code × Among code (model_to n values (variables_used n))) (names_used n) (λ u v lt e.
-        let live_ = stands.tidy.named v u (stands.tidy.users.back u v e) in (
+        let live_ = valid.tidy.named v u (valid.tidy.users.back u v e) in (
           coded v (value_in n values v),
-          reads_at n steps j live agree u v (value_in n values v) stands e,
+          reads_at n steps j live agree u v (value_in n values v) valid e,
           test_among (model_to n values (variables_used n)) (coded v (value_in n values v)) (model_all n values (variables_used n) v (live_within n v live_) live_),
         )))
 
     -- the line of a model that may be shown is right
-    pub model_line : (asked : List ℕ) → May (session_after steps) (Model (model_to n values (variables_used n))) → AllByRecursion (λ l. Among l line) asked → IsRightModel j (map user_literal asked) (map user_literal line)
+    pub model_line : (asked : List ℕ) → IsAllowedStep (session_after steps) (Model (model_to n values (variables_used n))) → AllByRecursion (λ l. Among l line) asked → IsRightModel j (map user_literal asked) (map user_literal line)
     model_line asked may among =
         named_models_are_right j (variable_of steps) steps (model_to n values (variables_used n)) (map user_literal asked) (map user_literal line)
-        (means_of n steps j live agree) (stands.may, may) lists read (mapped_each (λ l. Among l (map user_literal line)) asked (each_among asked among))
+        (means_of n steps j live agree) (valid.may, may) lists read (mapped_each (λ l. Among l (map user_literal line)) asked (each_among asked among))
       where
         each_among : (xs : List ℕ) → AllByRecursion (λ l. Among l line) xs → AllByRecursion (λ l. Among (user_literal l) (map user_literal line)) xs
         each_among [] h = tt

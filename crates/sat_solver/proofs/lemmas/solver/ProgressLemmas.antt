@@ -19,9 +19,9 @@ pub parts_hold : {W L : Type 0} {G : Ghosts L} (s : Solver W L G) → GoesOnIn s
 parts_hold s h = go s.state refl (h.solver h.going).says
   where
     go : (st : State) → s.state ≡ st → StateSays st s.core s.names s.asked s.assumed.items s.reported.failed_core.items → PartsInvariant s.core.search.parts
-    go states.Unknown e x = x.joined.sound.search.stands.holds
-    go states.Sat e x = x.0.joined.sound.search.stands.holds
-    go states.UnsatUnderAssumptions e x = x.0.joined.sound.search.stands.holds
+    go states.Unknown e x = x.joined.sound.search.valid.holds
+    go states.Sat e x = x.0.joined.sound.search.valid.holds
+    go states.UnsatUnderAssumptions e x = x.0.joined.sound.search.valid.holds
     go states.Unsat e x = absurd (h.left e)
 
 -- one index more was looked at

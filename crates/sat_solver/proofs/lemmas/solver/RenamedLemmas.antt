@@ -102,14 +102,14 @@ module _ {W L : Type 0} {G : Ghosts L} (s : Solver W L G) (whole : SolverInvaria
   pub marked_asked : (user : ℕ) → IsAssumed s.names user → IsAsked s user
   marked_asked user m =
       let c = whole.spelt.count in
-      let p = mention_place s.asked.globals.items m.variable_is (ap (λ ls. mentions ls m.variable_is) whole.globals ∙ whole.stands.said.marked m.variable_is ∙ m.marked) in
+      let p = mention_place s.asked.globals.items m.variable_is (ap (λ ls. mentions ls m.variable_is) whole.globals ∙ whole.valid.said.marked m.variable_is ∙ m.marked) in
       let lt : p.0 < length s.assumed.items = omega (arith, p.1) in
       let x = whole.spelt.each p.0 lt in
       let l = get_or s.assumed.items p.0 0 in
       let same : x.0 ≡ m.variable_is = sym (coded_variable x.0 (is_positive l)) ∙ sym (ap variable x.2) ∙ p.2 in (
         l,
         among_at s.assumed.items p.0 lt,
-        some_same (variable l) user (sym (whole.stands.tidy.users.back (variable l) x.0 x.1) ∙ ap (user_of s.names) same ∙ whole.stands.tidy.users.back user m.variable_is m.named),
+        some_same (variable l) user (sym (whole.valid.tidy.users.back (variable l) x.0 x.1) ∙ ap (user_of s.names) same ∙ whole.valid.tidy.users.back user m.variable_is m.named),
       )
 
   -- and the other way round
@@ -119,7 +119,7 @@ module _ {W L : Type 0} {G : Ghosts L} (s : Solver W L G) (whole : SolverInvaria
       record {
         variable_is = x.variable_is;
         named = ap (global_of s.names) (sym a.2) ∙ x.named;
-        marked = sym (whole.stands.said.marked x.variable_is) ∙ x.mentioned;
+        marked = sym (whole.valid.said.marked x.variable_is) ∙ x.mentioned;
       }
 
   pub not_marked : (user : ℕ) → (IsAssumed s.names user → ⊥) → IsAsked s user → ⊥
@@ -127,7 +127,7 @@ module _ {W L : Type 0} {G : Ghosts L} (s : Solver W L G) (whole : SolverInvaria
 
   -- NAMES THAT THE ASSUMPTIONS DON'T HAVE
 
-  module _ (n' : Variables) (p : Proof W L G) (stands : NamesInvariant n' (steps_of p)) (kept : (l v : ℕ) → Among l s.assumed.items → global_of s.names (variable l) ≡ Some v → global_of n' (variable l) ≡ Some v) (alike : IsAlike s.names n' (steps_in s) (steps_of p)) where
+  module _ (n' : Variables) (p : Proof W L G) (valid : NamesInvariant n' (steps_of p)) (kept : (l v : ℕ) → Among l s.assumed.items → global_of s.names (variable l) ≡ Some v → global_of n' (variable l) ≡ Some v) (alike : IsAlike s.names n' (steps_in s) (steps_of p)) where
     abbrev new : Core W L G
     new = record s.core { proof = p }
 
@@ -149,8 +149,8 @@ module _ {W L : Type 0} {G : Ghosts L} (s : Solver W L G) (whole : SolverInvaria
     looks : LooksAlike (session_in s) (session_of p)
     looks = record {
       live = λ r set. ap (λ f. f r set) alike.live;
-      units = λ v x b e. alike.units v x b (sym (whole.stands.said.solver_names v) ∙ e);
-      names = λ v. stands.said.solver_names v ∙ ap (λ m. target m.fwd v) alike.solvers ∙ sym (whole.stands.said.solver_names v);
+      units = λ v x b e. alike.units v x b (sym (whole.valid.said.solver_names v) ∙ e);
+      names = λ v. valid.said.solver_names v ∙ ap (λ m. target m.fwd v) alike.solvers ∙ sym (whole.valid.said.solver_names v);
       unsat = alike.unsat;
       width = alike.width;
       assumed = alike.assumed;
@@ -159,8 +159,8 @@ module _ {W L : Type 0} {G : Ghosts L} (s : Solver W L G) (whole : SolverInvaria
     going : AskGoesOn s.core s.names s.asked → AskGoesOn new n' s.asked
     going g = record {
       joined = record {
-        sound = record { keeps = stands.may; search = search_alike (session_in s) (session_of p) s.core.search g.joined.sound.search looks; locals = g.joined.sound.locals; mids = g.joined.sound.mids };
-        stands = stands;
+        sound = record { keeps = valid.may; search = search_alike (session_in s) (session_of p) s.core.search g.joined.sound.search looks; locals = g.joined.sound.locals; mids = g.joined.sound.mids };
+        valid = valid;
         shares = record {
           size = g.joined.shares.size;
           few = (let e = ap (λ m. length m.bwd) alike.solvers in let k = g.joined.shares.few in omega arith);
@@ -173,7 +173,7 @@ module _ {W L : Type 0} {G : Ghosts L} (s : Solver W L G) (whole : SolverInvaria
 
     -- literals of the assumptions are spelt as before
     spells : (l code : ℕ) → Among l s.assumed.items → Spells (variable_of (steps_in s)) (user_literal l) code → Spells (variable_of (steps_of p)) (user_literal l) code
-    spells l code h x = record { variable = x.variable; named = stands.read (variable l) ∙ kept l x.variable h (sym (whole.stands.read (variable l)) ∙ x.named); is = x.is }
+    spells l code h x = record { variable = x.variable; named = valid.read (variable l) ∙ kept l x.variable h (sym (whole.valid.read (variable l)) ∙ x.named); is = x.is }
 
     module _ (core codes : List ℕ) where
       there : (ls : List ℕ) → AllByRecursion (λ l. Among l s.assumed.items) ls → AllByRecursion (λ l. (code : ℕ) × Spells (variable_of (steps_in s)) l code × Among code codes) (map user_literal ls) →
@@ -204,7 +204,7 @@ module _ {W L : Type 0} {G : Ghosts L} (s : Solver W L G) (whole : SolverInvaria
         true_at : (c : ℕ) (x : Literal) → Spells (variable_of (steps_in s)) x c → Named_from x → literal_true a c ≡ true → literal_true b c ≡ true
         true_at c x sp f t =
             let y = asked_as f.from f.among in
-            let at : sp.variable ≡ y.variable_is = some_same sp.variable y.variable_is (sym (subst (λ z. variable_of (steps_in s) z.name ≡ Some sp.variable) f.is sp.named) ∙ whole.stands.read (variable f.from) ∙ y.named) in
+            let at : sp.variable ≡ y.variable_is = some_same sp.variable y.variable_is (sym (subst (λ z. variable_of (steps_in s) z.name ≡ Some sp.variable) f.is sp.named) ∙ whole.valid.read (variable f.from) ∙ y.named) in
             let v : variable c ≡ y.variable_is = ap variable sp.is ∙ coded_variable sp.variable x.positive ∙ at in
             ap (λ q. cond (is_positive c) q (not q)) (same (variable c) (subst (λ w. mentions (session_in s).assumed w ≡ true) (sym v) y.mentioned)) ∙ t
 
@@ -230,10 +230,10 @@ module _ {W L : Type 0} {G : Ghosts L} (s : Solver W L G) (whole : SolverInvaria
     says states.UnsatUnderAssumptions h = (going h.0, core_kept h.1)
     says states.Unsat h = alike.unsat ∙ h
 
-    -- all stands behind it
+    -- all stands after it
     whole_renamed : HasScriptState n' (steps_of p) → is_lost p ≡ is_lost s.core.proof → IsWholeOf new n' s.asked s.assumed.items s.reported.failed_core.items s.clock.restarts.scale s.state
     whole_renamed judged taking = record {
-      stands = stands;
+      valid = valid;
       images = images;
       spelt = spelt;
       globals = whole.globals ∙ sym alike.assumed;
@@ -253,7 +253,7 @@ module _ {W L : Type 0} {G : Ghosts L} (seen : W → Writer) (s : Solver W L G) 
   abbrev values : List (Option Bool)
   values = s.core.search.parts.assignment.current
 
-  module _ (alike : IsAlike s.names n' (steps_in s) (steps_of p)) (stands : NamesInvariant n' (steps_of p)) where
+  module _ (alike : IsAlike s.names n' (steps_in s) (steps_of p)) (valid : NamesInvariant n' (steps_of p)) where
     says_true : (o : Option Bool) → says_unit o true ≡ has_true_value o
     says_true None = refl
     says_true (Some b) = refl
@@ -268,16 +268,16 @@ module _ {W L : Type 0} {G : Ghosts L} (seen : W → Writer) (s : Solver W L G) 
         go : (o : Option ℕ) → solver_of s.names v ≡ o → value_in n' values v ≡ value_in s.names values v
         go (Some x) e = ap (λ o. value_by o values (data_at n' v).unit) (solver_same v ∙ e) ∙ sym (ap (λ o. value_by o values (data_at s.names v).unit) e)
         go None e = ap (λ o. value_by o values (data_at n' v).unit) (solver_same v ∙ e)
-            ∙ sym (says_true (data_at n' v).unit) ∙ sym (stands.said.units v (solver_same v ∙ e) true) ∙ units true ∙ whole.stands.said.units v e true ∙ says_true (data_at s.names v).unit
+            ∙ sym (says_true (data_at n' v).unit) ∙ sym (valid.said.units v (solver_same v ∙ e) true) ∙ units true ∙ whole.valid.said.units v e true ∙ says_true (data_at s.names v).unit
             ∙ sym (ap (λ o. value_by o values (data_at s.names v).unit) e)
 
     -- one that isn't in use is false
     unused_false : (v : ℕ) → (data_at s.names v).deleted ≡ true → value_in s.names values v ≡ false
-    unused_false v gone = ap (λ o. value_by o values (data_at s.names v).unit) (none (solver_of s.names v) refl) ∙ ap (λ k. has_true_value k.unit) (whole.stands.tidy.gone v gone)
+    unused_false v gone = ap (λ o. value_by o values (data_at s.names v).unit) (none (solver_of s.names v) refl) ∙ ap (λ k. has_true_value k.unit) (whole.valid.tidy.gone v gone)
       where
         none : (o : Option ℕ) → solver_of s.names v ≡ o → solver_of s.names v ≡ None
         none None e = e
-        none (Some x) e = absurd (true≢false (sym gone ∙ whole.stands.tidy.indexed v x e))
+        none (Some x) e = absurd (true≢false (sym gone ∙ whole.valid.tidy.indexed v x e))
 
     values_kept : VariablesAreKeptOrNew s.names n' → KeepsUnits n' (steps_in s) (steps_of p) → (user : ℕ) → IsKeptOrFalse (name_value s user) (name_value (record s { core = record s.core { proof = p }; names = n'; used = true }) user)
     values_kept fresh units user = go (global_of s.names user) refl (global_of n' user) refl
@@ -289,27 +289,27 @@ module _ {W L : Type 0} {G : Ghosts L} (seen : W → Writer) (s : Solver W L G) 
         go (Some v) e (Some w) f = value_same w (λ b. units user w b f) ∙ ap (value_in s.names values) (fresh.same user v w e f)
 
   -- a call over names was carried out
-  pub renamed : (judge : ScriptState → ScriptState) (due : ScriptState → List Expected) (May : List Step → Step → Type 0) → OnlyAllowedSteps May (steps_in s) (steps_of p) → NamesEffect s.names n' (steps_in s) (steps_of p) judge due → VariablesAreKeptOrNew s.names n' → KeepsUnits n' (steps_in s) (steps_of p) →
+  pub renamed : (judge : ScriptState → ScriptState) (due : ScriptState → List Expected) (IsAllowedStep : List Step → Step → Type 0) → OnlyAllowedSteps IsAllowedStep (steps_in s) (steps_of p) → NamesEffect s.names n' (steps_in s) (steps_of p) judge due → VariablesAreKeptOrNew s.names n' → KeepsUnits n' (steps_in s) (steps_of p) →
       ((l v : ℕ) → Among l s.assumed.items → global_of s.names (variable l) ≡ Some v → global_of n' (variable l) ≡ Some v) → IsAlike s.names n' (steps_in s) (steps_of p) → ComesByCheckedSteps seen s.core.proof p →
-      Renamed seen s (record s { core = record s.core { proof = p }; names = n'; used = true }) judge due May
-  renamed judge due May comes does fresh units kept alike took = record {
-    did = record { whole = whole_renamed s whole n' p does.stands kept alike (judged_by does whole.judged) took.1.taking; going = going; failed = going; used = refl; config = refl; does = does; took = (took.0, gains_adds seen took.0 s.core.proof p took.1); width = gained_width seen s.core.proof p took };
+      Renamed seen s (record s { core = record s.core { proof = p }; names = n'; used = true }) judge due IsAllowedStep
+  renamed judge due IsAllowedStep comes does fresh units kept alike took = record {
+    did = record { whole = whole_renamed s whole n' p does.valid kept alike (judged_by does whole.judged) took.1.taking; going = going; failed = going; used = refl; config = refl; does = does; took = (took.0, gains_adds seen took.0 s.core.proof p took.1); width = gained_width seen s.core.proof p took };
     comes = comes;
     asked = took.1.asked;
     assumed = refl;
     reported = refl;
     clock = refl;
     state = refl;
-    values = values_kept alike does.stands fresh units;
+    values = values_kept alike does.valid fresh units;
   }
 
 -- a call over modes failed
-pub mode_ends : {W L : Type 0} {G : Ghosts L} (seen : W → Writer) (e : SolverError) (s new : Solver W L G) (user : ℕ) (judge : ScriptState → ScriptState) (due : ScriptState → List Expected) (May : List Step → Step → Type 0) → s.failed ≡ false → (IsAsked s user → ⊥) → HasVariablesFor s.names (user ∷ []) → IsFault e → BreaksNames seen e s.core new.core → new.clock ≡ s.clock → new.failed ≡ true → ChangesMode seen (Err e) s new user judge due May
-mode_ends seen errors.OutOfMemory s new user judge due May g n r x b k f = (n, r, record { going = g; failed = f; fault = x; breaks = b; clock = k })
-mode_ends seen (errors.ProofIoError cause) s new user judge due May g n r x b k f = (n, r, record { going = g; failed = f; fault = x; breaks = b; clock = k })
-mode_ends seen (errors.ProofProcessorError cause) s new user judge due May g n r x b k f = (n, r, record { going = g; failed = f; fault = x; breaks = b; clock = k })
-mode_ends seen errors.CounterEnd s new user judge due May g n r x b k f = (n, r, record { going = g; failed = f; fault = x; breaks = b; clock = k })
-mode_ends seen e s new user judge due May g n r x b k f = absurd x
+pub mode_ends : {W L : Type 0} {G : Ghosts L} (seen : W → Writer) (e : SolverError) (s new : Solver W L G) (user : ℕ) (judge : ScriptState → ScriptState) (due : ScriptState → List Expected) (IsAllowedStep : List Step → Step → Type 0) → s.failed ≡ false → (IsAsked s user → ⊥) → HasVariablesFor s.names (user ∷ []) → IsFault e → BreaksNames seen e s.core new.core → new.clock ≡ s.clock → new.failed ≡ true → ChangesMode seen (Err e) s new user judge due IsAllowedStep
+mode_ends seen errors.OutOfMemory s new user judge due IsAllowedStep g n r x b k f = (n, r, record { going = g; failed = f; fault = x; breaks = b; clock = k })
+mode_ends seen (errors.ProofIoError cause) s new user judge due IsAllowedStep g n r x b k f = (n, r, record { going = g; failed = f; fault = x; breaks = b; clock = k })
+mode_ends seen (errors.ProofProcessorError cause) s new user judge due IsAllowedStep g n r x b k f = (n, r, record { going = g; failed = f; fault = x; breaks = b; clock = k })
+mode_ends seen errors.CounterEnd s new user judge due IsAllowedStep g n r x b k f = (n, r, record { going = g; failed = f; fault = x; breaks = b; clock = k })
+mode_ends seen e s new user judge due IsAllowedStep g n r x b k f = absurd x
 
 -- a call that gives names failed
 pub new_ends : {W L : Type 0} {G : Ghosts L} (seen : W → Writer) (e : SolverError) (s new : Solver W L G) → s.failed ≡ false → IsFault e → BreaksNames seen e s.core new.core → new.clock ≡ s.clock → new.failed ≡ true → NamesFail seen e s new
@@ -350,14 +350,14 @@ same_solver {W} {L} {G} s n' p e f =
 
 -- the next of the names is the judge's lowest one not in use
 pub next_name : {W L : Type 0} {G : Ghosts L} (s : Solver W L G) → SolverInvariant s → (user : ℕ) → IsNextUser s.names user → IsNextName s (user + 1)
-next_name s whole user next j live agree = lowest_unused s.names (steps_in s) j live user whole.stands agree.judged next
+next_name s whole user next j live agree = lowest_unused s.names (steps_in s) j live user whole.valid agree.judged next
 
 -- hidden variables got names
 pub observed_all : {W L : Type 0} {G : Ghosts L} (seen : W → Writer) (s : Solver W L G) → SolverInvariant s → s.failed ≡ false → (n' : Variables) (p : Proof W L G) (users : List ℕ) (used : Bool) → used ≡ (s.used || not (eqb (length users) 0)) → NamesAllHidden s.names n' (steps_in s) (steps_of p) users → ComesByCheckedSteps seen s.core.proof p →
     Observed seen s (record s { core = record s.core { proof = p }; names = n'; used = used }) users
 observed_all seen s whole going n' p users used opened all took = record {
   steps = record {
-    whole = whole_renamed s whole n' p all.stands (λ l v h e. all.names (variable l) v e) (alike_unseen s.names n' (steps_in s) (steps_of p) all.unseen)
+    whole = whole_renamed s whole n' p all.valid (λ l v h e. all.names (variable l) v e) (alike_unseen s.names n' (steps_in s) (steps_of p) all.unseen)
         (let k = whole.judged in let kept = all.kept k.0 k.1 k.2 in (kept.0, k.1, kept.2)) took.1.taking;
     took = (took.0, gains_adds seen took.0 s.core.proof p took.1);
     width = gained_width seen s.core.proof p took;
@@ -368,5 +368,5 @@ observed_all seen s whole going n' p users used opened all took = record {
   same = record { config = refl; asked = took.1.asked; assumed = refl; reported = refl; clock = refl; state = refl };
   observes = all.kept;
   all = all.all;
-  values = λ v. ap (λ (b : Bool). Some b) (value_same seen s whole going n' p (alike_unseen s.names n' (steps_in s) (steps_of p) all.unseen) all.stands v (λ b. ap (λ f. f (coded v b)) all.unseen.search.units));
+  values = λ v. ap (λ (b : Bool). Some b) (value_same seen s whole going n' p (alike_unseen s.names n' (steps_in s) (steps_of p) all.unseen) all.valid v (λ b. ap (λ f. f (coded v b)) all.unseen.search.units));
 }

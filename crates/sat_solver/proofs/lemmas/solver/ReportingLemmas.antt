@@ -1,4 +1,4 @@
--- Names and search behind the step of an answer.
+-- Names and search after the step of an answer.
 use Rattle.std.proofs.Common.{inl, ℕ, ◌<◌, ◌≤◌, ◌≡◌, ◌⊎◌, ◌∙◌, Bool, true, false, Option, Some, Ok, Err, eqb, List, [], ◌∷◌, ◌++◌, length, map, get_or, refl, sym, ap, subst}
 use Rattle.std.proofs.lemmas.Bool.{or_left, or_right, eq-eqb}
 use Rattle.std.specs.List.{AllByRecursion}
@@ -8,7 +8,7 @@ use Rattle.sat_base.specs.steps.Steps.{Step, Model, FailedAssumptions}
 use Rattle.sat_checker.specs.LiteralSets.{is_among}
 use Rattle.sat_checker.specs.declared.processing.ProofProcessor.{Ghosts}
 use Rattle.sat_solver.specs.proof.ProofView.{EmitsChecked, HasAllowedSteps, EmitsAsAnswered, steps_of, session_of}
-use Rattle.sat_solver.specs.session.Session.{Session, MayAll, after, session_after}
+use Rattle.sat_solver.specs.session.Session.{Session, AreAllowedSteps, after, session_after}
 use Rattle.sat_solver.specs.declared.proof.Proof.{Proof}
 use Rattle.sat_solver.specs.declared.proof.ProofError.{ProofError}
 use Rattle.sat_solver.specs.declared.proof.ProofError.TheVariants.{Write, OutOfMemory, Check}
@@ -29,7 +29,7 @@ use Rattle.sat_solver.specs.variables.Shared.{SharesIndices}
 use Rattle.sat_solver.specs.Models.{model_to}
 use Rattle.sat_solver.specs.variables.Calls.{NamesInvariant}
 use Rattle.sat_solver.specs.declared.variables.Variables.{Variables}
-use Rattle.sat_solver.proofs.lemmas.variables.Searched.{searches_stand}
+use Rattle.sat_solver.proofs.lemmas.variables.Searched.{searches_preserve_names}
 use Rattle.sat_solver.specs.solver.Joined.{IsJoined, lit_over_names}
 use Rattle.sat_solver.specs.solver.Answering.{Shown, WritesFailedCore, BreaksOff, model_of}
 use Rattle.sat_solver.proofs.lemmas.solver.ShownLemmas.{model_only}
@@ -37,7 +37,7 @@ use Rattle.sat_solver.proofs.lemmas.solver.ShownLemmas.{model_only}
 -- the search doesn't see a step that leaves clauses, units, names and assumptions as they are
 pub search_rests : (s : Session) (c : Search) (step : Step) → IsSearch s c → ChangesNoClause step → (after step s).assumed ≡ s.assumed → (after step s).solver_names ≡ s.solver_names → IsSearch (after step s) c
 search_rests s c step search quiet assumed names = record {
-  stands = record { holds = search.stands.holds; fits = parts_rests c.parts s (global_in c) search.stands.fits step quiet };
+  valid = record { holds = search.valid.holds; fits = parts_rests c.parts s (global_in c) search.valid.fits step quiet };
   ready = record { free = search.ready.free; placed = search.ready.placed; there = search.ready.there; asked = assumed ∙ search.ready.asked; used = subst (λ (f : ℕ → Option ℕ). (v : ℕ) → v < length c.parts.assignment.current → (f (global_in c v) ≡ Some v) ⊎ IsIdle (assumed_indices c) (state c.parts) c.parts.vsids v) (sym names) search.ready.used };
 }
 
@@ -72,7 +72,7 @@ module _ {W L : Type 0} {G : Ghosts L} (seen : W → Writer) (n : Variables) (a 
     pub model_shown : (ls : List ℕ) → ls ≡ model_of n a → EmitsChecked seen (Model ls ∷ []) a.proof proof → HasAllowedSteps proof → Shown seen n a reported
     model_shown ls e adds keeps =
         let adds_model : EmitsChecked seen (Model (model_of n a) ∷ []) a.proof proof = subst (λ xs. EmitsChecked seen (Model xs ∷ []) a.proof proof) e adds in
-        let may : MayAll (Model (model_of n a) ∷ steps_of a.proof) = subst MayAll adds_model.history keeps in
+        let may : AreAllowedSteps (Model (model_of n a) ∷ steps_of a.proof) = subst AreAllowedSteps adds_model.history keeps in
         record {
           adds = adds_model;
           search = refl;
@@ -84,8 +84,8 @@ module _ {W L : Type 0} {G : Ghosts L} (seen : W → Writer) (n : Variables) (a 
               locals = joined.sound.locals;
               mids = joined.sound.mids;
             };
-            stands = subst (NamesInvariant n) (sym adds_model.history)
-                (searches_stand n (steps_of a.proof) (Model (model_of n a)) joined.stands may.1 (each_live n a.search.parts.assignment.current (variables_used n) (model_of n a) (λ l t. t)));
+            valid = subst (NamesInvariant n) (sym adds_model.history)
+                (searches_preserve_names n (steps_of a.proof) (Model (model_of n a)) joined.valid may.1 (each_live n a.search.parts.assignment.current (variables_used n) (model_of n a) (λ l t. t)));
             shares = joined.shares;
           };
         }
@@ -114,12 +114,12 @@ module _ {W L : Type 0} {G : Ghosts L} (seen : W → Writer) (n : Variables) (a 
       named = e;
       joined = record {
         sound = record { keeps = t.keeps; search = t.ends.search; locals = joined.sound.locals; mids = joined.sound.mids };
-        stands = stands_told (subst (λ ss. steps_of proof ≡ ss ++ steps_of a.proof) t.ends.is t.went.history);
+        valid = core_preserves_names (subst (λ ss. steps_of proof ≡ ss ++ steps_of a.proof) t.ends.is t.went.history);
         shares = shares_moved n a.search c' joined.shares t.ends.moved;
       };
     }
       where
-        stands_told : {ls hs : List ℕ} → steps_of proof ≡ FailedAssumptions ls hs ∷ steps_of a.proof → NamesInvariant n (steps_of proof)
-        stands_told {ls} {hs} e =
-            let may : MayAll (FailedAssumptions ls hs ∷ steps_of a.proof) = subst MayAll e t.keeps in
-            subst (NamesInvariant n) (sym e) (searches_stand n (steps_of a.proof) (FailedAssumptions ls hs) joined.stands may.1 tt)
+        core_preserves_names : {ls hs : List ℕ} → steps_of proof ≡ FailedAssumptions ls hs ∷ steps_of a.proof → NamesInvariant n (steps_of proof)
+        core_preserves_names {ls} {hs} e =
+            let may : AreAllowedSteps (FailedAssumptions ls hs ∷ steps_of a.proof) = subst AreAllowedSteps e t.keeps in
+            subst (NamesInvariant n) (sym e) (searches_preserve_names n (steps_of a.proof) (FailedAssumptions ls hs) joined.valid may.1 tt)

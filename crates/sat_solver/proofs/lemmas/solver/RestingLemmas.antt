@@ -20,8 +20,8 @@ module _ {W L : Type 0} {G : Ghosts L} (s : Solver W L G) (whole : SolverInvaria
     going = going;
     state = state;
     line_is = e;
-    right = subst (IsRightLine s) (sym e) (λ j live agree. model_line s.names (steps_in s) values whole.stands j live agree s.assumed.items
-        (shown_may s.names (session_of s.core.proof) s.core.search whole.stands.tidy whole.stands.said says.0.joined.sound.search says.0.joined.shares says.1)
+    right = subst (IsRightLine s) (sym e) (λ j live agree. model_line s.names (steps_in s) values whole.valid j live agree s.assumed.items
+        (shown_may s.names (session_of s.core.proof) s.core.search whole.valid.tidy whole.valid.said says.0.joined.sound.search says.0.joined.shares says.1)
         (asked_shown s.names values s.assumed.items s.asked.order.items whole.images
         (subst (λ ls. (k : ℕ) → k < length ls → IsTrueLit values (get_or ls k 0)) says.0.lits says.1.assumed)));
   }
@@ -47,7 +47,7 @@ module _ {W L : Type 0} {G : Ghosts L} (s : Solver W L G) (whole : SolverInvaria
     core_is = e ∙ rw state refl;
     right = subst (IsRightCoreOf s) (sym e) (λ j live agree. record {
       among = tt;
-      none = (named_unsat_is_right j (variable_of (steps_in s)) (steps_in s) [] (means_of s.names (steps_in s) j live agree) whole.stands.may says).none;
+      none = (named_unsat_is_right j (variable_of (steps_in s)) (steps_in s) [] (means_of s.names (steps_in s) j live agree) whole.valid.may says).none;
     });
   })
     where

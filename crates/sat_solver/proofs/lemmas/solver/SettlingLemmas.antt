@@ -16,7 +16,7 @@ use Rattle.sat_solver.specs.declared.proof.Proof.{Proof}
 use Rattle.sat_solver.specs.declared.proof.ProofError.{ProofError}
 use Rattle.sat_solver.specs.declared.proof.ProofError.TheVariants.{Write, OutOfMemory, Check}
 use Rattle.sat_solver.specs.cdcl.Going.{check_fault_of, proof_fault}
-use Rattle.sat_solver.specs.session.Session.{Session, MayAll, session_after}
+use Rattle.sat_solver.specs.session.Session.{Session, AreAllowedSteps, session_after}
 use Rattle.sat_solver.specs.session.Coming.{OnlyAllowedSteps, EndsAtUnsat}
 use Rattle.sat_solver.proofs.lemmas.session.ComingLemmas.{comes_none, comes_one, comes_both, comes_open}
 use Rattle.std.proofs.lemmas.Bool.{true≢false}
@@ -33,7 +33,7 @@ use Rattle.sat_solver.specs.assumptions.Core.{causes_hashes}
 use Rattle.sat_solver.specs.cdcl.Joint.{global_in, AreAsked, IsSearch, SameVarsAndAssumptions}
 use Rattle.sat_solver.specs.clause.Activity.{AreDecays}
 use Rattle.sat_solver.specs.cdcl.Turns.{IsComplete}
-use Rattle.sat_solver.specs.schedule.Solving.{AdvancesIn, AdvanceTimes, StandsStill, Ended, values_in}
+use Rattle.sat_solver.specs.schedule.Solving.{AdvancesIn, AdvanceTimes, NeverAdvancesByForm, Ended, values_in}
 use Rattle.sat_solver.specs.load.Literals.{user_literal, Images, GlobalImages}
 use Rattle.sat_checker.specs.matching.Checking.{variable_of}
 use Rattle.sat_checker.specs.matching.Expected.{Shows, SameSet}
@@ -83,8 +83,8 @@ no_rounds states.Unknown n = omega arith
 no_rounds e n = omega arith
 
 -- and then a step that doesn't advance
-then_still : (from mids to steps : List Step) (step : Step) (k : ℕ) → mids ≡ steps ++ from → to ≡ step ∷ mids → AdvanceTimes from steps k → StandsStill (session_after (steps ++ from)) step → AdvancesIn from to k
-then_still from mids to steps step k e f times still = record { steps = step ∷ steps; behind = f ∙ ap (λ ss. step ∷ ss) e; times = inl (times, still) }
+then_still : (from mids to steps : List Step) (step : Step) (k : ℕ) → mids ≡ steps ++ from → to ≡ step ∷ mids → AdvanceTimes from steps k → NeverAdvancesByForm (session_after (steps ++ from)) step → AdvancesIn from to k
+then_still from mids to steps step k e f times still = record { steps = step ∷ steps; following = f ∙ ap (λ ss. step ∷ ss) e; times = inl (times, still) }
 
 module _ {W L : Type 0} {G : Ghosts L} (seen : W → Writer) (s : Solver W L G) (whole : SolverInvariant s) where
   -- where an answer was known
@@ -104,15 +104,15 @@ module _ {W L : Type 0} {G : Ghosts L} (seen : W → Writer) (s : Solver W L G) 
       spent = λ u. absurd (n u);
       answered = λ j live a fits u. n u;
     };
-    times = record { steps = []; behind = refl; times = no_rounds s.state s.clock.rounds };
+    times = record { steps = []; following = refl; times = no_rounds s.state s.clock.rounds };
     known = λ k. (adds_none seen s.core.proof, refl);
   }
     where
       none : (st : State) → (st ≡ states.Unknown → ⊥) → NamesEffect s.names s.names (steps_in s) (steps_in s) (λ j. j) (λ j. due_between_states st st (line_in s) s.assumed.items s.reported.failed_core.items)
       none states.Unknown n = absurd (n refl)
-      none states.Sat n = does_none s.names (steps_in s) whole.stands
-      none states.UnsatUnderAssumptions n = does_none s.names (steps_in s) whole.stands
-      none states.Unsat n = does_none s.names (steps_in s) whole.stands
+      none states.Sat n = does_none s.names (steps_in s) whole.valid
+      none states.UnsatUnderAssumptions n = does_none s.names (steps_in s) whole.valid
+      none states.Unsat n = does_none s.names (steps_in s) whole.valid
 
   module _ (goes : AskGoesOn s.core s.names s.asked) (core : Core W L G) (m : Variables) (reported : LastAnswers) (clock : Clock) (scale : clock.restarts.scale ≡ s.clock.restarts.scale) where
     positive : 0 < clock.restarts.scale
@@ -123,7 +123,7 @@ module _ {W L : Type 0} {G : Ghosts L} (seen : W → Writer) (s : Solver W L G) 
 
     kept_images : {t : Session} → KeepsAsked s.names m (session_in s) t → Images m s.assumed.items s.asked.order.items
     kept_images {t} k =
-        images_kept s.names m (steps_in s) s.core.search (session_in s) t goes.joined.stands goes.joined.shares s.assumed.items s.asked.order.items
+        images_kept s.names m (steps_in s) s.core.search (session_in s) t goes.joined.valid goes.joined.shares s.assumed.items s.asked.order.items
         (goes.joined.sound.search.ready.asked ∙ ap (map (with_var (global_in s.core.search))) goes.lits) whole.images k
 
     kept_spelt : {t : Session} → KeepsAsked s.names m (session_in s) t → GlobalImages m s.assumed.items s.asked.globals.items
@@ -133,7 +133,7 @@ module _ {W L : Type 0} {G : Ghosts L} (seen : W → Writer) (s : Solver W L G) 
     pub settled_none : s.state ≡ states.Unknown → Counts s (record s { core = core; names = m; reported = reported; clock = clock }) → FoundNone seen (clock.rounds - s.clock.rounds) s.names m s.core core → Settled seen s (record s { core = core; names = m; reported = reported; clock = clock })
     settled_none unknown counts found = record {
       whole = record {
-        stands = found.joined.stands;
+        valid = found.joined.valid;
         images = kept_images found.gone.asked;
         spelt = kept_spelt found.gone.asked;
         globals = whole.globals ∙ sym found.gone.asked.assumed;
@@ -145,14 +145,14 @@ module _ {W L : Type 0} {G : Ghosts L} (seen : W → Writer) (s : Solver W L G) 
         says = subst (λ st. StateSays st core m s.asked s.assumed.items reported.failed_core.items) (sym unknown) (record { joined = found.joined; lits = ap (λ ls. ls.items) found.gone.moved.lits ∙ goes.lits });
       };
       does = subst (λ st. NamesEffect s.names m (steps_in s) (steps_of core.proof) (λ j. j) (λ j. due_between_states st st (line_of_names m core) s.assumed.items reported.failed_core.items)) (sym unknown) found.gone.does;
-      comes = comes_open (steps_in s) (steps_of core.proof) found.gone.steps found.gone.adds.history found.joined.sound.search.stands.fits.consistent;
+      comes = comes_open (steps_in s) (steps_of core.proof) found.gone.steps found.gone.adds.history found.joined.sound.search.valid.fits.consistent;
       took = (found.gone.steps, gains_adds seen found.gone.steps s.core.proof core.proof found.gone.adds);
       width = gained_width seen s.core.proof core.proof (found.gone.steps, found.gone.adds);
       same = refl;
       users = found.gone.asked.users;
       config = found.gone.config;
       counts = counts;
-      times = subst (λ st. AdvancesIn (steps_in s) (steps_of core.proof) (learned_of st (clock.rounds - s.clock.rounds))) (sym unknown) (record { steps = found.gone.steps; behind = found.gone.adds.history; times = found.gone.times });
+      times = subst (λ st. AdvancesIn (steps_in s) (steps_of core.proof) (learned_of st (clock.rounds - s.clock.rounds))) (sym unknown) (record { steps = found.gone.steps; following = found.gone.adds.history; times = found.gone.times });
       known = λ k. absurd (k unknown);
     }
 
@@ -160,14 +160,14 @@ module _ {W L : Type 0} {G : Ghosts L} (seen : W → Writer) (s : Solver W L G) 
       abbrev pub new : State → Solver W L G
       new st = record s { core = core; names = m; reported = reported; clock = clock; state = st }
 
-      unknown_told : (st : State) → NamesEffect s.names m (steps_in s) (steps_of core.proof) (λ j. j) (λ j. due_between_states states.Unknown st (line_of_names m core) s.assumed.items reported.failed_core.items) → NamesEffect s.names m (steps_in s) (steps_of core.proof) (λ j. j) (λ j. due_between_states s.state st (line_of_names m core) s.assumed.items reported.failed_core.items)
-      unknown_told st d = subst (λ before. NamesEffect s.names m (steps_in s) (steps_of core.proof) (λ j. j) (λ j. due_between_states before st (line_of_names m core) s.assumed.items reported.failed_core.items)) (sym unknown) d
+      from_unknown : (st : State) → NamesEffect s.names m (steps_in s) (steps_of core.proof) (λ j. j) (λ j. due_between_states states.Unknown st (line_of_names m core) s.assumed.items reported.failed_core.items) → NamesEffect s.names m (steps_in s) (steps_of core.proof) (λ j. j) (λ j. due_between_states s.state st (line_of_names m core) s.assumed.items reported.failed_core.items)
+      from_unknown st d = subst (λ before. NamesEffect s.names m (steps_in s) (steps_of core.proof) (λ j. j) (λ j. due_between_states before st (line_of_names m core) s.assumed.items reported.failed_core.items)) (sym unknown) d
 
       -- where a model was found
       pub settled_model : Counts s (new states.Sat) → FoundModel seen (clock.rounds - s.clock.rounds) s.names m s.core core → Settled seen s (new states.Sat)
       settled_model counts found = record {
         whole = record {
-          stands = found.shown.joined.stands;
+          valid = found.shown.joined.valid;
           images = images;
           spelt = kept_spelt found.ended.asked;
           globals = whole.globals ∙ sym (assumed_moved (session_in s) (session_of core.proof) s.core.search core.search goes.joined.sound.search.ready.asked found.shown.joined.sound.search.ready.asked moved);
@@ -181,9 +181,9 @@ module _ {W L : Type 0} {G : Ghosts L} (seen : W → Writer) (s : Solver W L G) 
             complete,
           );
         };
-        does = unknown_told states.Sat does;
+        does = from_unknown states.Sat does;
         comes = comes_both EndsAtUnsat (steps_in s) (steps_of found.mid.proof) (steps_of core.proof) found.ended.comes
-            (comes_one EndsAtUnsat (steps_of found.mid.proof) (steps_of core.proof) _ found.shown.adds.history (λ u. absurd (true≢false (sym u ∙ found.ended.says.0.search.stands.fits.consistent))));
+            (comes_one EndsAtUnsat (steps_of found.mid.proof) (steps_of core.proof) _ found.shown.adds.history (λ u. absurd (true≢false (sym u ∙ found.ended.says.0.search.valid.fits.consistent))));
         took = (_, gains_adds seen _ s.core.proof core.proof both);
         width = gained_width seen s.core.proof core.proof (_, both);
         same = refl;
@@ -201,7 +201,7 @@ module _ {W L : Type 0} {G : Ghosts L} (seen : W → Writer) (s : Solver W L G) 
           images = kept_images found.ended.asked
 
           mid : IsJoined m found.mid
-          mid = joined_by s.names m s.core found.mid goes.joined found.ended.config found.ended.keeps found.ended.does.stands found.ended.says.0.search found.ended.says.1
+          mid = joined_by s.names m s.core found.mid goes.joined found.ended.config found.ended.keeps found.ended.does.valid found.ended.says.0.search found.ended.says.1
 
           moved : SameVarsAndAssumptions s.core.search core.search
           moved = subst (SameVarsAndAssumptions s.core.search) (sym found.shown.search) found.ended.says.0.moved
@@ -229,7 +229,7 @@ module _ {W L : Type 0} {G : Ghosts L} (seen : W → Writer) (s : Solver W L G) 
       pub settled_core : Counts s (new states.UnsatUnderAssumptions) → FoundCore seen (clock.rounds - s.clock.rounds) s.names m s.core core reported.failed_core.items → Settled seen s (new states.UnsatUnderAssumptions)
       settled_core counts found = record {
         whole = record {
-          stands = found.failed.joined.stands;
+          valid = found.failed.joined.valid;
           images = images;
           spelt = kept_spelt found.ended.asked;
           globals = whole.globals ∙ sym (assumed_moved (session_in s) (session_of core.proof) s.core.search core.search goes.joined.sound.search.ready.asked found.failed.joined.sound.search.ready.asked moved);
@@ -243,9 +243,9 @@ module _ {W L : Type 0} {G : Ghosts L} (seen : W → Writer) (s : Solver W L G) 
             failed_is found.mid mid lits found.failed,
           );
         };
-        does = unknown_told states.UnsatUnderAssumptions does;
+        does = from_unknown states.UnsatUnderAssumptions does;
         comes = comes_both EndsAtUnsat (steps_in s) (steps_of found.mid.proof) (steps_of core.proof) found.ended.comes
-            (comes_one EndsAtUnsat (steps_of found.mid.proof) (steps_of core.proof) _ (found.failed.adds.history ∙ ap (λ ss. ss ++ steps_of found.mid.proof) found.failed.reported.is) (λ u. absurd (true≢false (sym u ∙ found.ended.says.0.search.stands.fits.consistent))));
+            (comes_one EndsAtUnsat (steps_of found.mid.proof) (steps_of core.proof) _ (found.failed.adds.history ∙ ap (λ ss. ss ++ steps_of found.mid.proof) found.failed.reported.is) (λ u. absurd (true≢false (sym u ∙ found.ended.says.0.search.valid.fits.consistent))));
         took = (_, gains_adds seen _ s.core.proof core.proof both);
         width = gained_width seen s.core.proof core.proof (_, both);
         same = refl;
@@ -260,7 +260,7 @@ module _ {W L : Type 0} {G : Ghosts L} (seen : W → Writer) (s : Solver W L G) 
           images = kept_images found.ended.asked
 
           mid : IsJoined m found.mid
-          mid = joined_by s.names m s.core found.mid goes.joined found.ended.config found.ended.keeps found.ended.does.stands found.ended.says.0.search found.ended.says.1
+          mid = joined_by s.names m s.core found.mid goes.joined found.ended.config found.ended.keeps found.ended.does.valid found.ended.says.0.search found.ended.says.1
 
           moved : SameVarsAndAssumptions s.core.search core.search
           moved = record {
@@ -288,17 +288,17 @@ module _ {W L : Type 0} {G : Ghosts L} (seen : W → Writer) (s : Solver W L G) 
               record {
                 some = λ e. some_mapped (lit_over_names m) used f.reported.failed.some (sym f.named ∙ e);
                 codes = codes;
-                none = subst (λ ss. (a : Valuation) → Holds ss a → EachTrue a codes → ⊥) (sym history) (core_none (steps_of mid.proof) codes (causes_hashes mid.search.parts core.search.analysis.used) (subst MayAll history f.joined.sound.keeps));
+                none = subst (λ ss. (a : Valuation) → Holds ss a → EachTrue a codes → ⊥) (sym history) (core_none (steps_of mid.proof) codes (causes_hashes mid.search.parts core.search.analysis.used) (subst AreAllowedSteps history f.joined.sound.keeps));
                 same = subst (λ xs. SameSet (variable_of (steps_of core.proof)) (map user_literal xs) codes) (sym f.named)
-                    (core_spelt m (steps_of core.proof) f.joined.stands mid.search joined.shares s.assumed.items s.asked.order.items images used among);
-                among = subst (AllByRecursion (λ l. Among l s.assumed.items)) (sym f.named) (core_among m (steps_of core.proof) f.joined.stands mid.search joined.shares s.assumed.items s.asked.order.items images used among);
+                    (core_spelt m (steps_of core.proof) f.joined.valid mid.search joined.shares s.assumed.items s.asked.order.items images used among);
+                among = subst (AllByRecursion (λ l. Among l s.assumed.items)) (sym f.named) (core_among m (steps_of core.proof) f.joined.valid mid.search joined.shares s.assumed.items s.asked.order.items images used among);
               }
 
       -- where the clauses alone turned out to be unsatisfiable
       pub settled_unsat : Counts s (new states.Unsat) → Ended seen s.core s.names (clock.rounds - s.clock.rounds - 1) outcomes.Unsat core m → Settled seen s (new states.Unsat)
       settled_unsat counts ended = record {
         whole = record {
-          stands = ended.does.stands;
+          valid = ended.does.valid;
           images = kept_images ended.asked;
           spelt = kept_spelt ended.asked;
           globals = whole.globals ∙ sym ended.asked.assumed;
@@ -309,7 +309,7 @@ module _ {W L : Type 0} {G : Ghosts L} (seen : W → Writer) (s : Solver W L G) 
           judged = judged_by ended.does whole.judged;
           says = ended.says;
         };
-        does = unknown_told states.Unsat ended.does;
+        does = from_unknown states.Unsat ended.does;
         comes = ended.comes;
         took = (ended.steps, gains_adds seen ended.steps s.core.proof core.proof ended.adds);
         width = gained_width seen s.core.proof core.proof (ended.steps, ended.adds);
@@ -317,14 +317,14 @@ module _ {W L : Type 0} {G : Ghosts L} (seen : W → Writer) (s : Solver W L G) 
         users = ended.asked.users;
         config = ended.config;
         counts = counts;
-        times = record { steps = ended.steps; behind = ended.adds.history; times = ended.times };
+        times = record { steps = ended.steps; following = ended.adds.history; times = ended.times };
         known = λ k. absurd (k unknown);
       }
 
 -- the same over a proof with the same steps
 pub whole_over : {W L : Type 0} {G : Ghosts L} (c : Core W L G) (n : Variables) (asked : Taken) (assumed core : List ℕ) (scale : ℕ) (state : State) (p : Proof W L G) → IsWholeOf c n asked assumed core scale state → steps_of p ≡ steps_of c.proof → is_lost p ≡ is_lost c.proof → IsWholeOf (record c { proof = p }) n asked assumed core scale state
 whole_over {W} {L} {G} c n asked assumed core scale state p whole e taking = record {
-  stands = subst (NamesInvariant n) (sym e) whole.stands;
+  valid = subst (NamesInvariant n) (sym e) whole.valid;
   images = whole.images;
   spelt = whole.spelt;
   globals = whole.globals ∙ ap (λ ss. (session_after ss).assumed) (sym e);
@@ -343,12 +343,12 @@ whole_over {W} {L} {G} c n asked assumed core scale state p whole e taking = rec
     joined g = record {
       joined = record {
         sound = record {
-          keeps = subst MayAll (sym e) g.joined.sound.keeps;
+          keeps = subst AreAllowedSteps (sym e) g.joined.sound.keeps;
           search = subst (λ ss. IsSearch (session_after ss) c.search) (sym e) g.joined.sound.search;
           locals = g.joined.sound.locals;
           mids = g.joined.sound.mids;
         };
-        stands = subst (NamesInvariant n) (sym e) g.joined.stands;
+        valid = subst (NamesInvariant n) (sym e) g.joined.valid;
         shares = g.joined.shares;
       };
       lits = g.lits;
@@ -385,7 +385,7 @@ module _ {W L : Type 0} {G : Ghosts L} (seen : W → Writer) (old mid : Solver W
     users = settled.users;
     config = settled.config;
     counts = record { on = settled.counts.on; round = settled.counts.round; spent = settled.counts.spent; answered = settled.counts.answered };
-    times = record { steps = settled.times.steps; behind = f.history ∙ settled.times.behind; times = settled.times.times };
+    times = record { steps = settled.times.steps; following = f.history ∙ settled.times.following; times = settled.times.times };
     known = λ k. let h = settled.known k in (adds_more seen [] [] old.core.proof mid.core.proof p h.0 (flush_adds f), ap (λ (m : Solver W L G). record m { core = record m.core { proof = p } }) h.1);
   }
 
@@ -413,7 +413,7 @@ module _ {W L : Type 0} {G : Ghosts L} (seen : W → Writer) (s : Solver W L G) 
       let shares = goes_on.joined.shares in
       let size = shares.size in
       let few = shares.few in
-      let indices = goes_on.joined.stands.tidy.indices in
+      let indices = goes_on.joined.valid.tidy.indices in
       let identities = agree.judged.identities in
       omega arith
 

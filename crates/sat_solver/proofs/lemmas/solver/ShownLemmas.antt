@@ -9,7 +9,7 @@ use Rattle.sat_checker.specs.LiteralSets.{is_among, mentions}
 use Rattle.sat_checker.specs.Accepts.{VariablesApart}
 use Rattle.sat_checker.proofs.lemmas.sets.Order.{among-append}
 use Rattle.sat_solver.specs.session.LiveClauses.{with_var}
-use Rattle.sat_solver.specs.session.Session.{Session, May, MayShow}
+use Rattle.sat_solver.specs.session.Session.{Session, IsAllowedStep, MayShow}
 use Rattle.sat_solver.specs.declared.context.Search.{Search}
 use Rattle.sat_solver.specs.cdcl.Joint.{global_in, IsSearch}
 use Rattle.sat_solver.specs.cdcl.Showing.{true_lits}
@@ -94,7 +94,7 @@ mentioned (x ∷ ls) v h = elim (or_cases (eqb (variable x) v) (mentions ls v) h
   | inr k ↦ (let m = mentioned ls v k in (m.0, or_right (eqb x m.0) (is_among ls m.0) m.1, m.2))
 ]
 
--- a literal of another variable behind literals
+-- a literal of another variable after literals
 apart_more : (ls : List ℕ) (y : ℕ) → VariablesApart ls → mentions ls (variable y) ≡ false → VariablesApart (ls ++ y ∷ [])
 apart_more [] y h k = (refl, tt)
 apart_more (x ∷ ls) y h k = (
@@ -185,7 +185,7 @@ module _ (n : Variables) (s : Session) (c : Search) (tidy : AreTidy n) (said : N
       let same = searched v x b e in
       let name : s.solver_names (global_in c (variable (coded x b))) ≡ Some (variable (coded x b)) =
       ap (λ w. s.solver_names (global_in c w)) (coded_variable x b) ∙ ap s.solver_names (global_is v x e) ∙ said.solver_names v ∙ e ∙ ap Some (sym (coded_variable x b)) in
-      let y = search.stands.fits.sound (coded x b) name (ap s.units same ∙ u) in
+      let y = search.valid.fits.sound (coded x b) name (ap s.units same ∙ u) in
       ap (λ o. value_by o values (data_at n v).unit) e
       ∙ ap (λ w. has_true_value (get_or values w None)) (sym (coded_variable x b))
       ∙ ap has_true_value y.0
@@ -210,7 +210,7 @@ module _ (n : Variables) (s : Session) (c : Search) (tidy : AreTidy n) (said : N
       let lit : coded v (value_in n values v) ≡ l = ap (coded v) value ∙ coded_by (global_in c) m.0 ∙ m.2 in
       subst (λ k. is_among (model_to n values (variables_used n)) k ≡ true) lit (model_all n values (variables_used n) v (live_within n v live) live)
 
-  pub shown_may : IsComplete c.assumptions.lits.items c.parts → May s (Model (model_to n values (variables_used n)))
+  pub shown_may : IsComplete c.assumptions.lits.items c.parts → IsAllowedStep s (Model (model_to n values (variables_used n)))
   shown_may complete =
       let base : MayShow s (map (with_var (global_in c)) (true_lits 0 values)) = complete_may s c search complete in
       record {

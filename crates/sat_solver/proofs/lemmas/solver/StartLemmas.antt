@@ -9,7 +9,7 @@ use Rattle.sat_store.specs.declared.data.VarData.{VarData}
 use Rattle.sat_store.specs.variables.VarData.{unused_variable}
 use Rattle.sat_checker.specs.declared.processing.ProofProcessor.{Ghosts}
 use Rattle.sat_solver.specs.proof.ProofView.{is_lost, steps_of}
-use Rattle.sat_solver.specs.session.Session.{nothing, MayAll, session_after}
+use Rattle.sat_solver.specs.session.Session.{nothing, AreAllowedSteps, session_after}
 use Rattle.sat_solver.specs.declared.variables.Variables.{Variables}
 use Rattle.sat_solver.specs.declared.load.literals.Taken.{Taken}
 use Rattle.sat_solver.specs.declared.context.Core.{Core}
@@ -81,8 +81,8 @@ module _ (n : Variables) (tidy : AreTidy n) (none : variables_used n ≡ 0) wher
   -- names and a search without steps are joined
   pub joined_first : {W L : Type 0} {G : Ghosts L} (c : Core W L G) → steps_of c.proof ≡ [] → IsSearch nothing c.search → c.search.parts.assignment.current ≡ [] → c.search.globals.items ≡ [] → 0 < c.config.reduce_locals_interval → 0 < c.config.reduce_mids_interval → IsJoined n c
   joined_first c steps search values globals locals mids = record {
-    sound = record { keeps = subst MayAll (sym steps) tt; search = subst (λ ss. IsSearch (session_after ss) c.search) (sym steps) search; locals = locals; mids = mids };
-    stands = subst (NamesInvariant n) (sym steps) stands_first;
+    sound = record { keeps = subst AreAllowedSteps (sym steps) tt; search = subst (λ ss. IsSearch (session_after ss) c.search) (sym steps) search; locals = locals; mids = mids };
+    valid = subst (NamesInvariant n) (sym steps) stands_first;
     shares = record {
       size = ap (λ xs. length xs) values ∙ sym (ap (λ xs. length xs) globals);
       few = (let e : length c.search.globals.items ≡ 0 = ap (λ xs. length xs) globals in omega arith);
@@ -95,7 +95,7 @@ module _ (n : Variables) (tidy : AreTidy n) (none : variables_used n ≡ 0) wher
   pub whole_first : {W L : Type 0} {G : Ghosts L} (c : Core W L G) (asked : Taken) (assumed core : List ℕ) (scale : ℕ) → steps_of c.proof ≡ [] → IsSearch nothing c.search → c.search.parts.assignment.current ≡ [] → c.search.globals.items ≡ [] →
       0 < c.config.reduce_locals_interval → 0 < c.config.reduce_mids_interval → asked.order.items ≡ [] → asked.globals.items ≡ [] → assumed ≡ [] → 0 < scale → scale ≡ c.config.luby_restart_interval_scale → AreDecays c.config → is_lost c.proof ≡ false → IsWholeOf c n asked assumed core scale states.Unknown
   whole_first c asked assumed core scale steps search values globals locals mids order asked_globals none_assumed positive scaled decays taking = record {
-    stands = stands;
+    valid = valid;
     images = record { count = ap (λ xs. length xs) order ∙ sym (ap (λ xs. length xs) none_assumed); each = λ k lt. absurd (let z : k < 0 = subst (λ (xs : List ℕ). k < length xs) none_assumed lt in omega arith) };
     spelt = record { count = ap (λ xs. length xs) asked_globals ∙ sym (ap (λ xs. length xs) none_assumed); each = λ k lt. absurd (let z : k < 0 = subst (λ (xs : List ℕ). k < length xs) none_assumed lt in omega arith) };
     globals = asked_globals ∙ sym (ap (λ ss. (session_after ss).assumed) steps);
@@ -110,5 +110,5 @@ module _ (n : Variables) (tidy : AreTidy n) (none : variables_used n ≡ 0) wher
     };
   }
     where
-      stands : NamesInvariant n (steps_of c.proof)
-      stands = subst (NamesInvariant n) (sym steps) stands_first
+      valid : NamesInvariant n (steps_of c.proof)
+      valid = subst (NamesInvariant n) (sym steps) stands_first

@@ -1,4 +1,4 @@
--- A clause, or assumptions, over names: names, proof and search behind them.
+-- A clause, or assumptions, over names: names, proof and search after them.
 use Rattle.std.proofs.Common.{ℕ, ◌<◌, ◌≡◌, ◌∙◌, Bool, true, false, Result, Ok, Err, IfErr, OnOk, List, [], ◌∷◌, ◌++◌, length, map, get_or, append_assoc, refl, sym, ap, subst, inl, inr}
 use Rattle.std.specs.Prelude.{IsErrAnd}
 use Rattle.std.proofs.lemmas.Result.{err_from_is_err_and}
@@ -12,12 +12,12 @@ use Rattle.sat_checker.proofs.lemmas.sets.Canonical.{canonical_increasing, canon
 use Rattle.sat_checker.specs.declared.processing.ProofProcessor.{Ghosts}
 use Rattle.sat_solver.specs.declared.proof.made.CheckFault.TheVariants as checks
 use Rattle.sat_solver.specs.proof.ProofView.{HasAllowedSteps, is_lost, steps_of, session_of}
-use Rattle.sat_solver.specs.session.Session.{Session, MayAll, session_after}
+use Rattle.sat_solver.specs.session.Session.{Session, AreAllowedSteps, session_after}
 use Rattle.sat_solver.specs.session.Making.{ComesBySteps, ComesByCheckedSteps}
 use Rattle.sat_solver.specs.variables.Taking.{NotTaken}
 use Rattle.sat_solver.specs.declared.proof.Proof.{Proof}
 use Rattle.sat_solver.proofs.lemmas.session.ProofLemmas.{gains_none, gains_adds, gains_more}
-use Rattle.sat_solver.proofs.lemmas.cdcl.GoingLemmas.{check_loss, complaint_kept, loss_later, went_behind, went_checked, went_failing, fault_checked}
+use Rattle.sat_solver.proofs.lemmas.cdcl.GoingLemmas.{check_loss, complaint_kept, loss_later, went_after, went_checked, went_failing, fault_checked}
 use Rattle.sat_solver.specs.declared.error.SolverError.{SolverError}
 use Rattle.sat_solver.specs.declared.error.SolverError.TheVariants as errors
 use Rattle.sat_solver.specs.declared.variables.error.NameError.{NameError}
@@ -60,7 +60,7 @@ use Rattle.sat_solver.specs.variables.Ordering.{AddsInOrder, IsInIndexOrder}
 use Rattle.sat_solver.specs.session.Coming.{OnlyAllowedSteps, DeletesAdded}
 use Rattle.sat_solver.proofs.lemmas.session.ComingLemmas.{comes_both}
 use Rattle.sat_solver.proofs.lemmas.variables.ComingSteps.{comes_added, comes_deleted}
-use Rattle.sat_solver.proofs.lemmas.solver.BehindLemmas.{does_behind}
+use Rattle.sat_solver.proofs.lemmas.solver.AfterLemmas.{does_after}
 use Rattle.sat_solver.proofs.lemmas.solver.ReportingLemmas.{shares_moved}
 
 -- FAULTS
@@ -91,20 +91,20 @@ module _ {W L : Type 0} {G : Ghosts L} (seen : W → Writer) (a b : Core W L G) 
   names_broke (names.Write cause) h = (record { fault = inl tt; steps = h.0.0; went = h.0.1; loss = tt }, h.1)
   names_broke (names.Check fault) h = (record { fault = inl (fault_checked _ fault); steps = h.0; went = went_checked seen (Unit {0}) fault h.0 a.proof b.proof h.1; loss = check_loss fault a.proof b.proof h.1.why }, complaint_kept fault b.proof h.2)
 
-  -- no memory was left behind it
+  -- no memory was left after it
   pub took_starved : {full : Type 0} → ComesBySteps seen a.proof b.proof → is_lost b.proof ≡ is_lost a.proof → BreaksNamesOr full seen errors.OutOfMemory a b
   took_starved h taking = record { fault = inl tt; steps = h.0; went = h.1; loss = inl taking }
 
   pub names_starved : {full : Type 0} → ComesByCheckedSteps seen a.proof b.proof → BreaksNamesOff full seen errors.OutOfMemory a b
   names_starved h = (took_starved (h.0, gains_adds seen h.0 a.proof b.proof h.1) h.1.taking, tt)
 
-  -- a search failed behind it
+  -- a search failed after it
   pub load_broke : {A full : Type 0} (e : SolverError) (p : Proof W L G) (P : A → List Step → Type 0) → ComesByCheckedSteps seen a.proof p → EmitsStepsOr {A = A} full seen (Err e) p b.proof P → BreaksNamesOff full seen e a b
   load_broke {A} {full} e p P h goes = (
     record {
       fault = inl goes.ends;
       steps = _;
-      went = went_behind seen (Unit {0}) e h.0 goes.steps a.proof p b.proof (gains_adds seen h.0 a.proof p h.1) (went_failing seen A (Unit {0}) e goes.steps p b.proof goes.went);
+      went = went_after seen (Unit {0}) e h.0 goes.steps a.proof p b.proof (gains_adds seen h.0 a.proof p h.1) (went_failing seen A (Unit {0}) e goes.steps p b.proof goes.went);
       loss = loss_later e a.proof p b.proof h.1.taking goes.loss;
     },
     goes.kept,
@@ -130,34 +130,34 @@ module _ {W L : Type 0} {G : Ghosts L} (seen : W → Writer) (n n' : Variables) 
   -- solver names before the clause
   names_between : (v : ℕ) → between.solver_names v ≡ solver_of n' v
   names_between v =
-      sym (added_names t.globals.items between v) ∙ ap (λ ss. (session_after ss).solver_names v) (sym adds.written) ∙ adds.does.stands.said.solver_names v
+      sym (added_names t.globals.items between v) ∙ ap (λ ss. (session_after ss).solver_names v) (sym adds.written) ∙ adds.does.valid.said.solver_names v
 
   -- the search may take the indices
   pub clause_vacant : AreVacant a.search.parts (length n'.globals.items) t.given.items
-  clause_vacant = given_vacant n n' (session_of a.proof) between t.given.items joined.stands.tidy adds.does.stands.tidy joined.stands.said names_between adds.gives adds.search a.search joined.shares joined.sound.search
+  clause_vacant = given_vacant n n' (session_of a.proof) between t.given.items joined.valid.tidy adds.does.valid.tidy joined.valid.said names_between adds.gives adds.search a.search joined.shares joined.sound.search
 
   module _ (c1 : Search) (indexed : GivesSearchIndices n'.globals.items t.given.items a.search c1) where
     shares1 : SharesIndices n' c1
-    shares1 = shares_given n n' (session_of a.proof) between t.given.items joined.stands.tidy adds.does.stands.tidy joined.stands.said names_between adds.gives adds.search a.search joined.shares c1 indexed
+    shares1 = shares_given n n' (session_of a.proof) between t.given.items joined.valid.tidy adds.does.valid.tidy joined.valid.said names_between adds.gives adds.search a.search joined.shares c1 indexed
 
     search1 : IsSearch between c1
     search1 = indexed.search (session_of a.proof) between joined.sound.search
-        (gives_names n n' (session_of a.proof) between t.given.items joined.stands.tidy adds.does.stands.tidy joined.stands.said names_between adds.gives adds.search a.search joined.shares)
+        (gives_names n n' (session_of a.proof) between t.given.items joined.valid.tidy adds.does.valid.tidy joined.valid.said names_between adds.gives adds.search a.search joined.shares)
 
     pub clause_added : IsAdded (steps_of p) c1 t.lits.items
-    clause_added = taken_added n' t user adds.between (steps_of p) c1 adds.does.stands.tidy adds.images adds.clause shares1 adds.written adds.does.stands.said.solver_names search1
+    clause_added = taken_added n' t user adds.between (steps_of p) c1 adds.does.valid.tidy adds.images adds.clause shares1 adds.written adds.does.valid.said.solver_names search1
 
     pub clause_may : both ≡ false → MayLoad c1 t.lits.items
-    clause_may e = taken_may n' t user adds.between (steps_of p) c1 adds.does.stands.tidy adds.images adds.clause shares1 indexed.bottom (sym adds.signs ∙ e)
+    clause_may e = taken_may n' t user adds.between (steps_of p) c1 adds.does.valid.tidy adds.images adds.clause shares1 indexed.bottom (sym adds.signs ∙ e)
 
     since_added : clause_added.earlier ≡ adds.since.steps ++ steps_of a.proof
-    since_added = same_rest _ _ clause_added.earlier adds.between (sym clause_added.added ∙ adds.written) ∙ adds.since.behind
+    since_added = same_rest _ _ clause_added.earlier adds.between (sym clause_added.added ∙ adds.written) ∙ adds.since.following
 
     order_added : AddsInOrder (steps_of a.proof) (steps_of p)
     order_added = record {
       front = adds.since.steps;
       clause = map (with_var (global_in c1)) t.lits.items;
-      behind = [];
+      following = [];
       steps = clause_added.added ∙ ap (λ ss. AddClause (map (with_var (global_in c1)) t.lits.items) ∷ ss) since_added;
       order = subst (λ ss. IsInIndexOrder ss (map (with_var (global_in c1)) t.lits.items)) since_added (record {
         variable_at = global_in c1;
@@ -169,7 +169,7 @@ module _ {W L : Type 0} {G : Ghosts L} (seen : W → Writer) (n n' : Variables) 
     }
 
     assumed1 : (session_of p).assumed ≡ (session_of a.proof).assumed
-    assumed1 = ap (λ ss. (session_after ss).assumed) adds.written ∙ asked_added t.globals.items adds.between (adds.search.unsat ∙ joined.sound.search.stands.fits.consistent) ∙ adds.search.assumed
+    assumed1 = ap (λ ss. (session_after ss).assumed) adds.written ∙ asked_added t.globals.items adds.between (adds.search.unsat ∙ joined.sound.search.valid.fits.consistent) ∙ adds.search.assumed
 
     joined1 : (b : Core W L G) → b.proof ≡ p → b.search ≡ c1 → b.config ≡ a.config → IsSearch (session_of p) c1 → IsJoined n' b
     joined1 b e f g search = record {
@@ -179,7 +179,7 @@ module _ {W L : Type 0} {G : Ghosts L} (seen : W → Writer) (n n' : Variables) 
         locals = subst (λ (c : SolverConfig). 0 < c.reduce_locals_interval) (sym g) joined.sound.locals;
         mids = subst (λ (c : SolverConfig). 0 < c.reduce_mids_interval) (sym g) joined.sound.mids;
       };
-      stands = subst (λ q. NamesInvariant n' (steps_of q)) (sym e) adds.does.stands;
+      valid = subst (λ q. NamesInvariant n' (steps_of q)) (sym e) adds.does.valid;
       shares = subst (SharesIndices n') (sym f) shares1;
     }
 
@@ -206,13 +206,13 @@ module _ {W L : Type 0} {G : Ghosts L} (seen : W → Writer) (n n' : Variables) 
 
       does2 : NamesEffect n n' (steps_of a.proof) (steps_of q) (λ j. with_clause (map user_literal user) (bring_all (names_in user) j)) (λ j. bringing (names_in user) j ++ (Adds (map user_literal user) ∷ []))
       does2 = subst (λ ss. NamesEffect n n' (steps_of a.proof) ss (λ j. with_clause (map user_literal user) (bring_all (names_in user) j)) (λ j. bringing (names_in user) j ++ (Adds (map user_literal user) ∷ []))) (sym goes.went.history)
-          (does_behind n n' (steps_of a.proof) (steps_of p) goes.steps (λ j. with_clause (map user_literal user) (bring_all (names_in user) j)) (λ j. bringing (names_in user) j ++ (Adds (map user_literal user) ∷ []))
-          adds.does (subst MayAll goes.went.history goes.keeps) goes.searched)
+          (does_after n n' (steps_of a.proof) (steps_of p) goes.steps (λ j. with_clause (map user_literal user) (bring_all (names_in user) j)) (λ j. bringing (names_in user) j ++ (Adds (map user_literal user) ∷ []))
+          adds.does (subst AreAllowedSteps goes.went.history goes.keeps) goes.searched)
 
       goes_on2 : (l : Bool) → IsLoaded l (session_of q) c1 c2 → GoesOnOr l n' new
       goes_on2 true loaded = record {
         sound = record { keeps = goes.keeps; search = loaded.goes_on; locals = joined.sound.locals; mids = joined.sound.mids };
-        stands = does2.stands;
+        valid = does2.valid;
         shares = shares_moved n' c1 c2 shares1 loaded.moved;
       }
       goes_on2 false loaded = loaded.goes_on
@@ -221,7 +221,7 @@ module _ {W L : Type 0} {G : Ghosts L} (seen : W → Writer) (n n' : Variables) 
       clause_loaded = record {
         does = does2;
         comes = comes_both (MayAdd (names_in user)) (steps_of a.proof) (steps_of p) (steps_of q) (comes_added (names_in user) (steps_of a.proof) (steps_of p) adds.comes) (comes_deleted (names_in user) (steps_of p) (steps_of q) deletes);
-        order = record { front = order_added.front; clause = order_added.clause; behind = goes.steps ++ order_added.behind; steps = goes.went.history ∙ ap (λ ss. goes.steps ++ ss) order_added.steps ∙ sym (append_assoc goes.steps order_added.behind (AddClause order_added.clause ∷ (order_added.front ++ steps_of a.proof))); order = order_added.order };
+        order = record { front = order_added.front; clause = order_added.clause; following = goes.steps ++ order_added.following; steps = goes.went.history ∙ ap (λ ss. goes.steps ++ ss) order_added.steps ∙ sym (append_assoc goes.steps order_added.following (AddClause order_added.clause ∷ (order_added.front ++ steps_of a.proof))); order = order_added.order };
         took = (_, gains_more seen took.0 goes.steps a.proof p q took.1 goes.went);
         goes_on = goes_on2 left goes.ends;
         names = λ u v e. (adds.extends.stays u v e).0;
@@ -232,9 +232,9 @@ module _ {W L : Type 0} {G : Ghosts L} (seen : W → Writer) (n n' : Variables) 
       }
 
     -- or it isn't
-    pub clause_told : (r : Result Bool SolverError) (q : Proof W L G) (c2 : Search) → EmitsStepsOr (IsFull c2.parts) seen r p q (λ l _. IsLoaded l (session_of q) c1 c2) → OnOk r (OnlyAllowedSteps DeletesAdded (steps_of p) (steps_of q)) → TakesClause seen r n n' a (record a { proof = q; search = c2 }) user
-    clause_told (Ok left) q c2 goes deletes = clause_loaded left q c2 goes deletes
-    clause_told (Err e) q c2 goes deletes = load_broke seen a (record a { proof = q; search = c2 }) e p (λ l _. IsLoaded l (session_of q) c1 c2) took goes
+    pub clause_result : (r : Result Bool SolverError) (q : Proof W L G) (c2 : Search) → EmitsStepsOr (IsFull c2.parts) seen r p q (λ l _. IsLoaded l (session_of q) c1 c2) → OnOk r (OnlyAllowedSteps DeletesAdded (steps_of p) (steps_of q)) → TakesClause seen r n n' a (record a { proof = q; search = c2 }) user
+    clause_result (Ok left) q c2 goes deletes = clause_loaded left q c2 goes deletes
+    clause_result (Err e) q c2 goes deletes = load_broke seen a (record a { proof = q; search = c2 }) e p (λ l _. IsLoaded l (session_of q) c1 c2) took goes
 
 -- ASSUMPTIONS
 
@@ -243,21 +243,21 @@ module _ {W L : Type 0} {G : Ghosts L} (seen : W → Writer) (n n' : Variables) 
   asked_between = session_after assumes.between
 
   asked_names : (v : ℕ) → asked_between.solver_names v ≡ solver_of n' v
-  asked_names v = ap (λ ss. (session_after ss).solver_names v) (sym assumes.written) ∙ (assumes.does Unknown).stands.said.solver_names v
+  asked_names v = ap (λ ss. (session_after ss).solver_names v) (sym assumes.written) ∙ (assumes.does Unknown).valid.said.solver_names v
 
   pub asked_vacant : AreVacant a.search.parts (length n'.globals.items) t.given.items
-  asked_vacant = given_vacant n n' (session_of a.proof) asked_between t.given.items joined.stands.tidy (assumes.does Unknown).stands.tidy joined.stands.said asked_names assumes.gives assumes.search a.search joined.shares joined.sound.search
+  asked_vacant = given_vacant n n' (session_of a.proof) asked_between t.given.items joined.valid.tidy (assumes.does Unknown).valid.tidy joined.valid.said asked_names assumes.gives assumes.search a.search joined.shares joined.sound.search
 
   module _ (c1 : Search) (indexed : GivesSearchIndices n'.globals.items t.given.items a.search c1) where
     shares_asked : SharesIndices n' c1
-    shares_asked = shares_given n n' (session_of a.proof) asked_between t.given.items joined.stands.tidy (assumes.does Unknown).stands.tidy joined.stands.said asked_names assumes.gives assumes.search a.search joined.shares c1 indexed
+    shares_asked = shares_given n n' (session_of a.proof) asked_between t.given.items joined.valid.tidy (assumes.does Unknown).valid.tidy joined.valid.said asked_names assumes.gives assumes.search a.search joined.shares c1 indexed
 
     search_asked : IsSearch asked_between c1
     search_asked = indexed.search (session_of a.proof) asked_between joined.sound.search
-        (gives_names n n' (session_of a.proof) asked_between t.given.items joined.stands.tidy (assumes.does Unknown).stands.tidy joined.stands.said asked_names assumes.gives assumes.search a.search joined.shares)
+        (gives_names n n' (session_of a.proof) asked_between t.given.items joined.valid.tidy (assumes.does Unknown).valid.tidy joined.valid.said asked_names assumes.gives assumes.search a.search joined.shares)
 
     over_order : AreOver n' t.order.items
-    over_order = images_over n' user t.order.items (assumes.does Unknown).stands.tidy assumes.images
+    over_order = images_over n' user t.order.items (assumes.does Unknown).valid.tidy assumes.images
 
     pub asked_there : HaveVariablesIn t.order.items c1.parts
     asked_there = over_below n' c1 t.order.items shares_asked over_order
@@ -272,20 +272,20 @@ module _ {W L : Type 0} {G : Ghosts L} (seen : W → Writer) (n n' : Variables) 
         sound = record {
           keeps = keeps;
           search = subst (λ ss. IsSearch (session_after ss) c2) (sym (assumes.written ∙ ap (λ ks. Assumptions ks ∷ assumes.between) same_lits))
-              (assumed.search asked_between search_asked (over_named n' c1 asked_between t.order.items (assumes.does Unknown).stands.tidy asked_names shares_asked over_order));
+              (assumed.search asked_between search_asked (over_named n' c1 asked_between t.order.items (assumes.does Unknown).valid.tidy asked_names shares_asked over_order));
           locals = joined.sound.locals;
           mids = joined.sound.mids;
         };
-        stands = (assumes.does Unknown).stands;
+        valid = (assumes.does Unknown).valid;
         shares = subst (SharesIndices n') (sym assumed.same) (record { size = shares_asked.size; few = shares_asked.few; below = shares_asked.below; same = shares_asked.same });
       };
       asked = record {
         images = assumes.images;
         lits = assumed.lits;
-        spelt = global_images_of n' user t (assumes.does Unknown).stands.tidy assumes.images assumes.globals;
+        spelt = global_images_of n' user t (assumes.does Unknown).valid.tidy assumes.images assumes.globals;
         globals = sym (ap (λ ss. (session_after ss).assumed) assumes.written);
       };
     }
       where
         same_lits : t.globals.items ≡ map (with_var (global_in c1)) t.order.items
-        same_lits = assumes.globals ∙ over_same n' c1 t.order.items (assumes.does Unknown).stands.tidy shares_asked over_order
+        same_lits = assumes.globals ∙ over_same n' c1 t.order.items (assumes.does Unknown).valid.tidy shares_asked over_order

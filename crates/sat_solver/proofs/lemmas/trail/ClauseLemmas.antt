@@ -8,7 +8,7 @@ use Rattle.sat_parts.specs.prop.Binaries.{Binaries, implied_by, with_implied, wi
 use Rattle.sat_solver.specs.session.LiveClauses.{LiveClause, IsIn}
 use Rattle.sat_solver.specs.session.SolverClauses.{pair, binaries_of, binaries_from, binaries, longs, InsertsClause}
 
--- behind the others of a list
+-- after the others of a list
 push_lower : (a m : ℕ) (ms : List ℕ) → ltb a m ≡ true → binaries_of a (ms ++ m ∷ []) ≡ binaries_of a ms ++ pair a m ∷ []
 push_lower a m [] e = ap (λ b. cond b (pair a m ∷ []) []) e
 push_lower a m (k ∷ ks) e = go (ltb a k) (push_lower a m ks e)
@@ -33,7 +33,7 @@ inserted_from (ms ∷ rest) l zero m n e =
     subst (λ k. InsertsClause (binaries_from l (ms ∷ rest)) (binaries_from l ((ms ++ m ∷ []) ∷ rest)) (pair (negated k) m)) (sym z)
     (record {
       before = binaries_of (negated l) ms;
-      behind = binaries_from (l + 1) rest;
+      following = binaries_from (l + 1) rest;
       was = refl;
       is = ap (λ cs. cs ++ binaries_from (l + 1) rest) (push_lower (negated l) m ms (subst (λ k. ltb (negated k) m ≡ true) z e)) ∙ append_assoc (binaries_of (negated l) ms) (pair (negated l) m ∷ []) (binaries_from (l + 1) rest);
     })
@@ -42,9 +42,9 @@ inserted_from (ms ∷ rest) l (suc i) m n e =
     let ih : InsertsClause (binaries_from (l + 1) rest) (binaries_from (l + 1) (slice_set rest i (slice_index_or rest i [] ++ m ∷ []))) (pair (negated (l + 1 + i)) m) = inserted_from rest (l + 1) i m (omega arith) (subst (λ k. ltb (negated k) m ≡ true) (sym z) e) in
     record {
       before = binaries_of (negated l) ms ++ ih.before;
-      behind = ih.behind;
-      was = ap (λ cs. binaries_of (negated l) ms ++ cs) ih.was ∙ sym (append_assoc (binaries_of (negated l) ms) ih.before ih.behind);
-      is = ap (λ cs. binaries_of (negated l) ms ++ cs) ih.is ∙ sym (append_assoc (binaries_of (negated l) ms) ih.before (pair (negated (l + 1 + i)) m ∷ ih.behind)) ∙ ap (λ k. (binaries_of (negated l) ms ++ ih.before) ++ pair (negated k) m ∷ ih.behind) z;
+      following = ih.following;
+      was = ap (λ cs. binaries_of (negated l) ms ++ cs) ih.was ∙ sym (append_assoc (binaries_of (negated l) ms) ih.before ih.following);
+      is = ap (λ cs. binaries_of (negated l) ms ++ cs) ih.is ∙ sym (append_assoc (binaries_of (negated l) ms) ih.before (pair (negated (l + 1 + i)) m ∷ ih.following)) ∙ ap (λ k. (binaries_of (negated l) ms ++ ih.before) ++ pair (negated k) m ∷ ih.following) z;
     }
 
 same_from : (implied : List (List ℕ)) (l i m : ℕ) → i < length implied → ltb (negated (l + i)) m ≡ false → binaries_from l (slice_set implied i (slice_index_or implied i [] ++ m ∷ [])) ≡ binaries_from l implied
@@ -67,7 +67,7 @@ binary_comes x a b n m o =
     let first = implied_lower x.implied a b n o in
     let more : List (List ℕ) = with_implied (negated a) b x.implied in
     let room : negated b < length more = subst (λ k. negated b < k) (sym (length-set x.implied (negated a) (implied_by x.implied (negated a) ++ b ∷ []))) m in
-    record { before = first.before; behind = first.behind; was = first.was; is = implied_higher more b a room o ∙ first.is }
+    record { before = first.before; following = first.following; was = first.was; is = implied_higher more b a room o ∙ first.is }
 
 pub binary_comes_turned : (x : Binaries) (a b : ℕ) → negated a < length x.implied → negated b < length x.implied → b < a → InsertsClause (binaries x.implied) (binaries (with_binary a b x).implied) (pair b a)
 binary_comes_turned x a b n m o =
@@ -75,7 +75,7 @@ binary_comes_turned x a b n m o =
     let room : negated b < length more = subst (λ k. negated b < k) (sym (length-set x.implied (negated a) (implied_by x.implied (negated a) ++ b ∷ []))) m in
     let same : binaries more ≡ binaries x.implied = implied_higher x.implied a b n o in
     let second = implied_lower more b a room o in
-    record { before = second.before; behind = second.behind; was = sym same ∙ second.was; is = second.is }
+    record { before = second.before; following = second.following; was = sym same ∙ second.was; is = second.is }
 
 -- a live long clause is in the list
 pub long_there : (redundant : ℕ → Bool) (words live : List ℕ) (o : ℕ) → Contains live o → IsIn (record { redundant = redundant o; literals = lits_at words o }) (longs redundant words live)
@@ -89,9 +89,9 @@ long_there redundant words (p ∷ ps) o h = go (long_there redundant words ps o)
     go ih zero n e = inl (ap long (sym e))
     go ih (suc k) n e = inr (ih (k, omega arith, e))
 
-pub in_behind : (c : LiveClause) (xs ys : List LiveClause) → IsIn c ys → IsIn c (xs ++ ys)
-in_behind c [] ys h = h
-in_behind c (x ∷ xs) ys h = inr (in_behind c xs ys h)
+pub in_after : (c : LiveClause) (xs ys : List LiveClause) → IsIn c ys → IsIn c (xs ++ ys)
+in_after c [] ys h = h
+in_after c (x ∷ xs) ys h = inr (in_after c xs ys h)
 
 pub in_front : (c : LiveClause) (xs ys : List LiveClause) → IsIn c xs → IsIn c (xs ++ ys)
 in_front c [] ys h = absurd h
@@ -113,7 +113,7 @@ pair_from (ms ∷ rest) l zero k m n j e o =
     in_front (pair (negated (l + zero)) m) (binaries_of (negated l) ms) (binaries_from (l + 1) rest) (subst (λ x. IsIn (pair (negated x) m) (binaries_of (negated l) ms)) (sym z) (pair_of (negated l) m ms k j e (subst (λ x. negated x < m) z o)))
 pair_from (ms ∷ rest) l (suc i) k m n j e o =
     let z : l + 1 + i ≡ l + suc i = omega arith in
-    in_behind (pair (negated (l + suc i)) m) (binaries_of (negated l) ms) (binaries_from (l + 1) rest)
+    in_after (pair (negated (l + suc i)) m) (binaries_of (negated l) ms) (binaries_from (l + 1) rest)
     (subst (λ x. IsIn (pair (negated x) m) (binaries_from (l + 1) rest)) z (pair_from rest (l + 1) i k m (omega arith) j e (subst (λ x. negated x < m) (sym z) o)))
 
 -- A clause of two literals by its implied literal, where that is the higher one. Where it is the lower one, the other list has the clause, as long as the lists are each other's.

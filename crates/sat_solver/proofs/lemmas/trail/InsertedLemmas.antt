@@ -10,31 +10,31 @@ use Rattle.sat_parts.proofs.lemmas.clause.ListLemmas.{in_tail, in_head, there, a
 use Rattle.sat_solver.specs.session.LiveClauses.{LiveClause}
 use Rattle.sat_solver.specs.session.SolverClauses.{longs, InsertsClause}
 
--- behind other clauses, or before them
-pub inserted_behind : (xs old new : List LiveClause) (c : LiveClause) → InsertsClause old new c → InsertsClause (xs ++ old) (xs ++ new) c
-inserted_behind xs old new c i = record {
+-- after other clauses, or before them
+pub inserted_after : (xs old new : List LiveClause) (c : LiveClause) → InsertsClause old new c → InsertsClause (xs ++ old) (xs ++ new) c
+inserted_after xs old new c i = record {
   before = xs ++ i.before;
-  behind = i.behind;
-  was = ap (λ cs. xs ++ cs) i.was ∙ sym (append_assoc xs i.before i.behind);
-  is = ap (λ cs. xs ++ cs) i.is ∙ sym (append_assoc xs i.before (c ∷ i.behind));
+  following = i.following;
+  was = ap (λ cs. xs ++ cs) i.was ∙ sym (append_assoc xs i.before i.following);
+  is = ap (λ cs. xs ++ cs) i.is ∙ sym (append_assoc xs i.before (c ∷ i.following));
 }
 
 pub inserted_before : (ys old new : List LiveClause) (c : LiveClause) → InsertsClause old new c → InsertsClause (old ++ ys) (new ++ ys) c
 inserted_before ys old new c i = record {
   before = i.before;
-  behind = i.behind ++ ys;
-  was = ap (λ cs. cs ++ ys) i.was ∙ append_assoc i.before i.behind ys;
-  is = ap (λ cs. cs ++ ys) i.is ∙ append_assoc i.before (c ∷ i.behind) ys;
+  following = i.following ++ ys;
+  was = ap (λ cs. cs ++ ys) i.was ∙ append_assoc i.before i.following ys;
+  is = ap (λ cs. cs ++ ys) i.is ∙ append_assoc i.before (c ∷ i.following) ys;
 }
 
 pub inserted_first : (old : List LiveClause) (c : LiveClause) → InsertsClause old (c ∷ old) c
-inserted_first old c = record { before = []; behind = old; was = refl; is = refl }
+inserted_first old c = record { before = []; following = old; was = refl; is = refl }
 
 -- a clause comes before another one, which goes
 pub replaces : (xs front back : List LiveClause) (c d : LiveClause) → InsertsClause (xs ++ (front ++ c ∷ back)) (xs ++ (front ++ d ∷ c ∷ back)) d × InsertsClause (xs ++ (front ++ d ∷ back)) (xs ++ (front ++ d ∷ c ∷ back)) c
 replaces xs front back c d = (
-  inserted_behind xs (front ++ c ∷ back) (front ++ d ∷ c ∷ back) d (record { before = front; behind = c ∷ back; was = refl; is = refl }),
-  inserted_behind xs (front ++ d ∷ back) (front ++ d ∷ c ∷ back) c (record { before = front ++ d ∷ []; behind = back; was = sym (append_assoc front (d ∷ []) back); is = sym (append_assoc front (d ∷ []) (c ∷ back)) }),
+  inserted_after xs (front ++ c ∷ back) (front ++ d ∷ c ∷ back) d (record { before = front; following = c ∷ back; was = refl; is = refl }),
+  inserted_after xs (front ++ d ∷ back) (front ++ d ∷ c ∷ back) c (record { before = front ++ d ∷ []; following = back; was = sym (append_assoc front (d ∷ []) back); is = sym (append_assoc front (d ∷ []) (c ∷ back)) }),
 )
 
 -- LONG CLAUSES
@@ -96,11 +96,11 @@ long_goes r words os o d c =
     let x : Splits os o = splits os o d c in
     record {
       before = longs r words x.front;
-      behind = longs r words x.back;
+      following = longs r words x.back;
       was = ap (longs r words) x.left ∙ longs_both r words x.front x.back;
       is = ap (longs r words) x.was ∙ longs_both r words x.front (o ∷ x.back);
     }
 
 -- and one that comes
 pub long_comes : (r : ℕ → Bool) (words os : List ℕ) (o : ℕ) → InsertsClause (longs r words os) (longs r words (os ++ o ∷ [])) (record { redundant = r o; literals = lits_at words o })
-long_comes r words os o = record { before = longs r words os; behind = []; was = sym (append-nil (longs r words os)); is = longs_both r words os (o ∷ []) }
+long_comes r words os o = record { before = longs r words os; following = []; was = sym (append-nil (longs r words os)); is = longs_both r words os (o ∷ []) }

@@ -32,10 +32,10 @@ module _ (s : Session) (global : ℕ → ℕ) (a b : ℕ) (hashes : List ℕ) (r
   put_in : (old new : List LiveClause) (c : LiveClause) → c.redundant ≡ false → AreMapped global s.solver_names c.literals → NoRepeats c.literals → canonical (map (with_var global) (a ∷ b ∷ [])) ≡ canonical (map (with_var global) c.literals)
       → is_tautology (map (with_var global) (a ∷ b ∷ [])) ≡ false → InsertsClause old new c → AreOf s global (old ++ rest) → AreOf (after (AtClause c.redundant (map (with_var global) (a ∷ b ∷ [])) hashes) s) global (new ++ rest)
   put_in old new c r m n e t i h =
-      let from : AreOf s global (i.before ++ (i.behind ++ rest)) = subst (AreOf s global) (ap (λ cs. cs ++ rest) i.was ∙ append_assoc i.before i.behind rest) h in
+      let from : AreOf s global (i.before ++ (i.following ++ rest)) = subst (AreOf s global) (ap (λ cs. cs ++ rest) i.was ∙ append_assoc i.before i.following rest) h in
       let d : List ℕ = map (with_var global) (a ∷ b ∷ []) in
-      subst (AreOf (after (AtClause c.redundant d hashes) s) global) (sym (ap (λ cs. cs ++ rest) i.is ∙ append_assoc i.before (c ∷ i.behind) rest))
-      (derived_comes_as s global i.before (i.behind ++ rest) c d hashes from m n (once_mapped global s.solver_names (a ∷ b ∷ []) named (two_apart a b apart)) (omega arith) t e)
+      subst (AreOf (after (AtClause c.redundant d hashes) s) global) (sym (ap (λ cs. cs ++ rest) i.is ∙ append_assoc i.before (c ∷ i.following) rest))
+      (derived_comes_as s global i.before (i.following ++ rest) c d hashes from m n (once_mapped global s.solver_names (a ∷ b ∷ []) named (two_apart a b apart)) (omega arith) t e)
 
   pub learned : (x : Binaries) → negated a < length x.implied → negated b < length x.implied → is_tautology (map (with_var global) (a ∷ b ∷ [])) ≡ false → AreOf s global (binaries x.implied ++ rest)
       → AreOf (after (AtClause false (map (with_var global) (a ∷ b ∷ [])) hashes) s) global (binaries (with_binary a b x).implied ++ rest)

@@ -24,7 +24,7 @@ from_both l (ms ∷ xs) ys =
     ap (λ cs. binaries_of (negated l) ms ++ cs) (from_both (l + 1) xs ys) ∙ sym (append_assoc (binaries_of (negated l) ms) (binaries_from (l + 1) xs) (binaries_from (l + 1 + length xs) ys))
     ∙ ap (λ k. (binaries_of (negated l) ms ++ binaries_from (l + 1) xs) ++ binaries_from k ys) z
 
--- a list and those behind it
+-- a list and those after it
 from_here : (implied : List (List ℕ)) (l : ℕ) → binaries_from l (drop l implied) ≡ binaries_of (negated l) (implied_by implied l) ++ binaries_from (l + 1) (drop (l + 1) implied)
 from_here implied l = elim (cases_lt l (length implied)) [
   | inl lt ↦ ap (binaries_from l) (drop-cons implied l [] lt) ∙ (let z : suc l ≡ l + 1 = omega arith in ap (λ n. binaries_of (negated l) (implied_by implied l) ++ binaries_from (l + 1) (drop n implied)) z)
@@ -47,17 +47,17 @@ module _ (values : List (Option Bool)) (implied : List (List ℕ)) where
       let ms : List ℕ = implied_by implied l in
       let a : ℕ = negated l in
       let before : List LiveClause = opens (binaries_from 0 (take l implied)) in
-      let behind : List LiveClause = binaries_from (l + 1) (drop (l + 1) implied) in
+      let following : List LiveClause = binaries_from (l + 1) (drop (l + 1) implied) in
       let size : 0 + length (take l implied) ≡ l = (let e : length (take l implied) ≡ l = length-take-le l implied (omega arith) in omega arith) in
       let s : suc l ≡ l + 1 = omega arith in
       let more : binaries_from 0 (take (l + 1) implied) ≡ binaries_from 0 (take l implied) ++ binaries_of (negated l) (implied_by implied l) =
       ap (λ n. binaries_from 0 (take n implied)) (sym s) ∙ ap (binaries_from 0) (take-suc implied l [] lt) ∙ from_both 0 (take l implied) (ms ∷ [])
       ∙ ap (λ k. binaries_from 0 (take l implied) ++ (binaries_of (negated k) ms ++ [])) size ∙ ap (λ cs. binaries_from 0 (take l implied) ++ cs) (append-nil (binaries_of a ms)) in
-      ap (λ xs. before ++ (opens (binaries_of a xs) ++ (binaries_of a (drop (length ms) ms) ++ behind))) (take-length ms)
-      ∙ ap (λ xs. before ++ (opens (binaries_of a ms) ++ (binaries_of a xs ++ behind))) (nothing_left ms (length ms) (omega arith))
-      ∙ sym (append_assoc before (opens (binaries_of a ms)) behind)
-      ∙ ap (λ cs. cs ++ behind) (sym (filter-append (is_open_clause values) (binaries_from 0 (take l implied)) (binaries_of a ms)))
-      ∙ ap (λ cs. opens cs ++ behind) (sym more)
+      ap (λ xs. before ++ (opens (binaries_of a xs) ++ (binaries_of a (drop (length ms) ms) ++ following))) (take-length ms)
+      ∙ ap (λ xs. before ++ (opens (binaries_of a ms) ++ (binaries_of a xs ++ following))) (nothing_left ms (length ms) (omega arith))
+      ∙ sym (append_assoc before (opens (binaries_of a ms)) following)
+      ∙ ap (λ cs. cs ++ following) (sym (filter-append (is_open_clause values) (binaries_from 0 (take l implied)) (binaries_of a ms)))
+      ∙ ap (λ cs. opens cs ++ following) (sym more)
       ∙ ap (λ cs. opens (binaries_from 0 (take (l + 1) implied)) ++ cs) (from_here implied (l + 1))
 
   -- in the end the open ones are left
@@ -87,11 +87,11 @@ module _ (values : List (Option Bool)) (implied : List (List ℕ)) where
     abbrev first : List LiveClause
     first = opens (binaries_of a (take k (implied_by implied l)))
 
-    abbrev behind : List LiveClause
-    behind = binaries_of a (drop (k + 1) (implied_by implied l)) ++ binaries_from (l + 1) (drop (l + 1) implied)
+    abbrev following : List LiveClause
+    following = binaries_of a (drop (k + 1) (implied_by implied l)) ++ binaries_from (l + 1) (drop (l + 1) implied)
 
-    -- before it is looked at, and behind
-    left_with : binaries_left values implied l k ≡ before ++ (first ++ (one ++ behind))
+    -- before it is looked at, and after
+    left_with : binaries_left values implied l k ≡ before ++ (first ++ (one ++ following))
     left_with =
         let ms : List ℕ = implied_by implied l in
         let s : suc k ≡ k + 1 = omega arith in
@@ -99,27 +99,27 @@ module _ (values : List (Option Bool)) (implied : List (List ℕ)) where
         ∙ ap (λ cs. before ++ (first ++ (cs ++ binaries_from (l + 1) (drop (l + 1) implied)))) (pairs_both a (m ∷ []) (drop (k + 1) ms))
         ∙ ap (λ cs. before ++ (first ++ cs)) (append_assoc one (binaries_of a (drop (k + 1) ms)) (binaries_from (l + 1) (drop (l + 1) implied)))
 
-    left_next : binaries_left values implied l (k + 1) ≡ before ++ (first ++ (opens one ++ behind))
+    left_next : binaries_left values implied l (k + 1) ≡ before ++ (first ++ (opens one ++ following))
     left_next =
         let ms : List ℕ = implied_by implied l in
         let s : k + 1 ≡ suc k = omega arith in
-        ap (λ xs. before ++ (opens (binaries_of a xs) ++ behind)) (ap (λ n. take n ms) s ∙ take-suc ms k 0 lt)
-        ∙ ap (λ cs. before ++ (opens cs ++ behind)) (pairs_both a (take k ms) (m ∷ []))
-        ∙ ap (λ cs. before ++ (cs ++ behind)) (filter-append (is_open_clause values) (binaries_of a (take k ms)) one)
-        ∙ ap (λ cs. before ++ cs) (append_assoc first (opens one) behind)
+        ap (λ xs. before ++ (opens (binaries_of a xs) ++ following)) (ap (λ n. take n ms) s ∙ take-suc ms k 0 lt)
+        ∙ ap (λ cs. before ++ (opens cs ++ following)) (pairs_both a (take k ms) (m ∷ []))
+        ∙ ap (λ cs. before ++ (cs ++ following)) (filter-append (is_open_clause values) (binaries_of a (take k ms)) one)
+        ∙ ap (λ cs. before ++ cs) (append_assoc first (opens one) following)
 
     -- the clause stands elsewhere
     pub left_other : ltb a m ≡ false → binaries_left values implied l k ≡ binaries_left values implied l (k + 1)
     left_other e =
         let none : binaries_of a (m ∷ []) ≡ [] = ap (λ b. cond b (pair a m ∷ []) []) e in
-        left_with ∙ ap (λ cs. before ++ (first ++ (cs ++ behind))) none ∙ sym (ap (λ cs. before ++ (first ++ (opens cs ++ behind))) none) ∙ sym left_next
+        left_with ∙ ap (λ cs. before ++ (first ++ (cs ++ following))) none ∙ sym (ap (λ cs. before ++ (first ++ (opens cs ++ following))) none) ∙ sym left_next
 
     -- it stays
     pub left_open : ltb a m ≡ true → is_open_clause values (pair a m) ≡ true → binaries_left values implied l k ≡ binaries_left values implied l (k + 1)
     left_open e u =
         let its : binaries_of a (m ∷ []) ≡ pair a m ∷ [] = ap (λ b. cond b (pair a m ∷ []) []) e in
         let same : opens (pair a m ∷ []) ≡ pair a m ∷ [] = ap (λ b. cond b (pair a m ∷ []) []) u in
-        left_with ∙ ap (λ cs. before ++ (first ++ (cs ++ behind))) (its ∙ sym same ∙ sym (ap opens its)) ∙ sym left_next
+        left_with ∙ ap (λ cs. before ++ (first ++ (cs ++ following))) (its ∙ sym same ∙ sym (ap opens its)) ∙ sym left_next
 
     -- it goes
     pub left_set : ltb a m ≡ true → is_open_clause values (pair a m) ≡ false → InsertsClause (binaries_left values implied l (k + 1)) (binaries_left values implied l k) (pair a m)
@@ -128,7 +128,7 @@ module _ (values : List (Option Bool)) (implied : List (List ℕ)) where
         let same : opens one ≡ [] = ap opens its ∙ ap (λ b. cond b (pair a m ∷ []) []) u in
         record {
           before = before ++ first;
-          behind = behind;
-          was = left_next ∙ ap (λ cs. before ++ (first ++ (cs ++ behind))) same ∙ sym (append_assoc before first behind);
-          is = left_with ∙ ap (λ cs. before ++ (first ++ (cs ++ behind))) its ∙ sym (append_assoc before first (pair a m ∷ behind));
+          following = following;
+          was = left_next ∙ ap (λ cs. before ++ (first ++ (cs ++ following))) same ∙ sym (append_assoc before first following);
+          is = left_with ∙ ap (λ cs. before ++ (first ++ (cs ++ following))) its ∙ sym (append_assoc before first (pair a m ∷ following));
         }

@@ -11,7 +11,7 @@ use Rattle.sat_parts.specs.clause.Stored.{lit_of, size_of}
 use Rattle.sat_parts.specs.prop.Graphs.{is_unit_reason}
 use Rattle.sat_parts.specs.prop.Values.{value_of, IsTrueLit}
 use Rattle.sat_parts.specs.prop.State.{State, node, lit_at, IsBefore, StateIsConsistent}
-use Rattle.sat_parts.specs.prop.Reasons.{IsFalseBefore, Implies, AreInTurn}
+use Rattle.sat_parts.specs.prop.Reasons.{IsFalseBefore, Implies, AreUnitInTurn}
 use Rattle.sat_solver.specs.session.Session.{Session, with_fact, MayProve}
 use Rattle.sat_solver.proofs.lemmas.session.Changes.{session_if}
 use Rattle.sat_solver.specs.session.LiveClauses.{with_var}
@@ -73,8 +73,8 @@ module _ (s : Session) (l : ℕ) where
       go false false = record { live = record { once = h.live.once; counted = h.live.counted }; hash = h.hash }
 
 -- true and false at once
-not_both : (values : List (Option Bool)) (l : ℕ) → IsTrueLit values l → IsTrueLit values (negated l) → ⊥
-not_both values l a b =
+model_excludes_core : (values : List (Option Bool)) (l : ℕ) → IsTrueLit values l → IsTrueLit values (negated l) → ⊥
+model_excludes_core values l a b =
     let half : variable (negated l) ≡ variable l = omega arith in
     let same : Some (is_positive l) ≡ Some (is_positive (negated l)) = sym a ∙ sym (ap (value_of values) half) ∙ b in
     elim (eq-zero-or-pos (l % 2)) [
@@ -85,7 +85,7 @@ not_both values l a b =
     differ : (x y : Bool) → x ≡ true → y ≡ false → Some x ≡ Some y → ⊥
     differ x y p q e = let k : x ≡ y = cc in true≢false (sym p ∙ k ∙ q)
 
-module _ (words live : List ℕ) (implied : List (List ℕ)) (st : State) (global : ℕ → ℕ) (filled : (o : ℕ) → Contains live o → 0 < size_of words o) (agrees : StateIsConsistent st) (turns : AreInTurn words live implied st 0) where
+module _ (words live : List ℕ) (implied : List (List ℕ)) (st : State) (global : ℕ → ℕ) (filled : (o : ℕ) → Contains live o → 0 < size_of words o) (agrees : StateIsConsistent st) (turns : AreUnitInTurn words live implied st 0) where
   -- what is a unit by now
   record Now (s : Session) (i : ℕ) : Type 0 where
     fits : UnitsFit words st s global
@@ -121,7 +121,7 @@ module _ (words live : List ℕ) (implied : List (List ℕ)) (st : State) (globa
       let l : ℕ = lit_at st i in
       let half : variable (negated l) ≡ variable l = omega arith in
       false_from_ne_true (s.units (negated (with_var global l))) (λ u.
-      not_both st.values l (agrees.holds i j) (n.fits.sound (negated l) (ap (λ v. s.solver_names (global v)) half ∙ n.fits.named i j ∙ ap (λ v. Some v) (sym half)) (subst (λ x. s.units x ≡ true) (sym (negated_mapped global l)) u)))
+      model_excludes_core st.values l (agrees.holds i j) (n.fits.sound (negated l) (ap (λ v. s.solver_names (global v)) half ∙ n.fits.named i j ∙ ap (λ v. Some v) (sym half)) (subst (λ x. s.units x ≡ true) (sym (negated_mapped global l)) u)))
 
   with_it : (s : Session) (i : ℕ) → i < length st.trail.lits → Now s i → Now (with_fact (with_var global (lit_at st i)) s) (i + 1)
   with_it s i j n =

@@ -15,13 +15,13 @@ use Rattle.sat_solver.specs.declared.context.Search.{Search}
 use Rattle.sat_solver.proofs.lemmas.cdcl.TurnLemmas.{Propagation, ready_moved, free_moved}
 use Rattle.sat_solver.proofs.lemmas.solver.ReportingLemmas.{shares_moved}
 use Rattle.sat_solver.specs.unit_simplify.Flat.{HasEmptyTrail}
-use Rattle.sat_solver.specs.unit_simplify.Passes.{StandTogether, MaySettle, PassesQuietly, Simplifies}
-use Rattle.sat_solver.proofs.lemmas.unit_simplify.LighterLemmas.{goes_leaves}
+use Rattle.sat_solver.specs.unit_simplify.Passes.{JointInvariant, MaySettle, PassesQuietly, Simplifies}
+use Rattle.sat_solver.proofs.lemmas.unit_simplify.StrengthenSearchLemmas.{goes_leaves}
 use Rattle.sat_solver.proofs.lemmas.unit_simplify.PassesLemmas.{passes_goes, passes_trans, falls_later}
 
 -- all was propagated at level 0
-pub may_settle : {W L : Type 0} {G : Ghosts L} (n : Variables) (p : Proof W L G) (c d : Search) → StandTogether n p c → c.parts.trail.starts ≡ [] → Propagation (session_of p) c d → MaySettle n p d
-may_settle n p c d h bottom went = record { keeps = h.keeps; stands = h.stands; shares = shares_moved n c d h.shares went.moved; propagated = went.whole; bottom = went.starts ∙ bottom }
+pub may_settle : {W L : Type 0} {G : Ghosts L} (n : Variables) (p : Proof W L G) (c d : Search) → JointInvariant n p c → c.parts.trail.starts ≡ [] → Propagation (session_of p) c d → MaySettle n p d
+may_settle n p c d h bottom went = record { keeps = h.keeps; valid = h.valid; shares = shares_moved n c d h.shares went.moved; propagated = went.whole; bottom = went.starts ∙ bottom }
 
 -- units were taken off the trail at level 0
 module _ (s t : Session) (c d : Search) (propagated : IsPropagated s c) (leaves : SameAssumedAndNames s t) (settled : TakesUnitsOff c.parts d.parts t (global_in c)) (globals : d.globals ≡ c.globals) (assumptions : d.assumptions ≡ c.assumptions) (analysis : d.analysis ≡ c.analysis) (flags : d.flags ≡ c.flags) where
@@ -30,7 +30,7 @@ module _ (s t : Session) (c d : Search) (propagated : IsPropagated s c) (leaves 
 
   pub settled_search : IsSearch t d
   settled_search = record {
-    stands = record { holds = settled.stands.holds; fits = rw globals settled.stands.fits };
+    valid = record { holds = settled.valid.holds; fits = rw globals settled.valid.fits };
     ready = ready_moved s t c d propagated.ready leaves settled_moved (settled.word (assumed_indices c)).0 (rw assumptions (settled.placed c.assumptions propagated.ready.placed)) (free_moved c d propagated.ready.free settled_moved analysis flags);
   }
 
@@ -44,7 +44,7 @@ module _ {W L : Type 0} {G : Ghosts L} (seen : W → Writer) (n : Variables) (p 
 
   pub settled_passes : PassesQuietly seen n n p q c d
   settled_passes =
-      passes_goes seen tt n p q c d (λ _ _. TakesUnitsOff c.parts d.parts (session_of q) (global_in c)) may.stands may.shares g
+      passes_goes seen tt n p q c d (λ _ _. TakesUnitsOff c.parts d.parts (session_of q) (global_in c)) may.valid may.shares g
       (settled_search (session_of p) (session_of q) c d may.propagated leaves g.ends globals assumptions analysis flags)
       (settled_moved (session_of p) (session_of q) c d may.propagated leaves g.ends globals assumptions analysis flags) (g.ends.word (assumed_indices c))
 

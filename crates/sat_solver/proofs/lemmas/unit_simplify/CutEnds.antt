@@ -27,9 +27,9 @@ use Rattle.sat_solver.specs.unit_simplify.Cutting.{Replaces, NamesCut}
 use Rattle.sat_solver.specs.unit_simplify.Flat.{HasEmptyTrail, IsStrengthened, StrengthensClause}
 use Rattle.sat_solver.specs.unit_simplify.Looks.{HasFalse}
 use Rattle.sat_solver.proofs.lemmas.unit_simplify.CutLemmas.{cut_goes, fewer_open, part_named}
-use Rattle.sat_solver.proofs.lemmas.unit_simplify.LighterLemmas.{goes_leaves}
-use Rattle.sat_solver.proofs.lemmas.unit_simplify.LightensLemmas.{lightens_cut}
-use Rattle.sat_solver.proofs.lemmas.unit_simplify.TrueLemmas.{lighter_by}
+use Rattle.sat_solver.proofs.lemmas.unit_simplify.StrengthenSearchLemmas.{goes_leaves}
+use Rattle.sat_solver.proofs.lemmas.unit_simplify.StrengthenClauseLemmas.{strengthens_cut}
+use Rattle.sat_solver.proofs.lemmas.unit_simplify.TrueLemmas.{strengthened_by}
 
 -- the clause at o was gathered in m, and what is left of it put in its place in d
 module _ {W L : Type 0} {G : Ghosts L} (seen : W → Writer) (p : Proof W L G) (c m : Search) (o len : ℕ) (h : IsSearch (session_of p) c) (flat : HasEmptyTrail c.parts) (there : Contains (live_refs c.parts.clauses c.parts.db.refs) o) (has : HasFalse c.parts o)
@@ -74,11 +74,11 @@ module _ {W L : Type 0} {G : Ghosts L} (seen : W → Writer) (p : Proof W L G) (
     word : TrailWordExtends c.parts q
     word = extends_trans c.parts m.parts q n.gathers.word r.word
 
-    lighter : SameAssumedAndNames (session_of p) (session_of z) → Wrote → IsStrengthened (session_of z) c d
-    lighter leaves w =
-        lighter_by (session_of p) (session_of z) c d h (ap (λ s. s.globals) same) (ap (λ s. s.assumptions) same) (ap (λ s. s.analysis) same) (ap (λ s. s.flags) same) leaves r.holds (fits w) state word
+    strengthened : SameAssumedAndNames (session_of p) (session_of z) → Wrote → IsStrengthened (session_of z) c d
+    strengthened leaves w =
+        strengthened_by (session_of p) (session_of z) c d h (ap (λ s. s.globals) same) (ap (λ s. s.assumptions) same) (ap (λ s. s.analysis) same) (ap (λ s. s.flags) same) leaves r.holds (fits w) state word
         (r.refs ∙ ap (λ x. x.refs) n.gathers.db)
 
     pub cut_ends : (x : Result (Unit {0}) SolverError) → EmitsSteps seen x p z (λ _ _. Wrote) → EmitsSteps seen x p z (λ _ _. StrengthensClause (session_of z) c d o)
-    cut_ends (Ok v) g = goes_on seen v v p z (λ _ _. Wrote) (λ _ _. StrengthensClause (session_of z) c d o) (λ steps w. lightens_cut (session_of z) c d m.parts o len (lighter (goes_leaves seen v p z (λ _ _. Wrote) g) w) there n.within n.gathers r) g
+    cut_ends (Ok v) g = goes_on seen v v p z (λ _ _. Wrote) (λ _ _. StrengthensClause (session_of z) c d o) (λ steps w. strengthens_cut (session_of z) c d m.parts o len (strengthened (goes_leaves seen v p z (λ _ _. Wrote) g) w) there n.within n.gathers r) g
     cut_ends (Err e) g = goes_failing seen e p z (λ _ _. Wrote) (λ _ _. StrengthensClause (session_of z) c d o) g

@@ -81,10 +81,10 @@ module _ (steps : List Step) (c : Search) (p : Parts) (o len : ℕ) (h : IsSearc
   order = g.moved.kept.lits o there
 
   distinct : AreDistinct old
-  distinct = h.stands.holds.below.asks.clauses.distinct o there
+  distinct = h.valid.holds.below.asks.clauses.distinct o there
 
   fits_p : SessionMatchesParts p s (global_in c)
-  fits_p = fits_propagated c.parts p s (global_in c) g.moved (rw (same_state c.parts p g.same.0) (carries_refl (state c.parts))) g.holds.below.asks.clauses h.stands.fits
+  fits_p = fits_propagated c.parts p s (global_in c) g.moved (rw (same_state c.parts p g.same.0) (carries_refl (state c.parts))) g.holds.below.asks.clauses h.valid.fits
 
   bottom_p : p.trail.starts ≡ []
   bottom_p = ap (λ t. t.starts) g.same.0.2 ∙ flat.bottom

@@ -64,9 +64,9 @@ on_ok_four (Err e) A B C D F f a b c d = tt
 
 -- NAMES
 
-module _ (old mid : Variables) (from mids : List Step) (v x : ℕ) (stands : NamesInvariant old from) (u : Unindexes old mid from mids v x) where
+module _ (old mid : Variables) (from mids : List Step) (v x : ℕ) (valid : NamesInvariant old from) (u : Unindexes old mid from mids v x) where
   names_mid : (w : ℕ) → (session_after mids).solver_names w ≡ cond (eqb w v) None ((session_after from).solver_names w)
-  names_mid w = u.does.stands.said.solver_names w ∙ u.solvers w ∙ ap (λ o. cond (eqb w v) None o) (sym (stands.said.solver_names w))
+  names_mid w = u.does.valid.said.solver_names w ∙ u.solvers w ∙ ap (λ o. cond (eqb w v) None o) (sym (valid.said.solver_names w))
 
   quiet_mid : ComesQuietly from mids
   quiet_mid = quiet_comes from mids (SolverVarName v None ∷ []) u.step (refl, tt)
@@ -100,8 +100,8 @@ module _ (old mid : Variables) (from mids : List Step) (v x : ℕ) (stands : Nam
     used = ap (λ m. length m.bwd) a.solvers ∙ u.used;
     loses = record {
       live = a.live ∙ u.search.live;
-      units = λ w y b n e. a.units w y b (u.solvers w ∙ ap (λ t. cond t None (solver_of old w)) (ne_eqb w v n) ∙ sym (stands.said.solver_names w) ∙ e) ∙ ap (λ f. f (coded w b)) u.search.units;
-      names = λ w. does.stands.said.solver_names w ∙ ap (λ m. get_or m.fwd w None) a.solvers ∙ sym (u.does.stands.said.solver_names w) ∙ names_mid w;
+      units = λ w y b n e. a.units w y b (u.solvers w ∙ ap (λ t. cond t None (solver_of old w)) (ne_eqb w v n) ∙ sym (valid.said.solver_names w) ∙ e) ∙ ap (λ f. f (coded w b)) u.search.units;
+      names = λ w. does.valid.said.solver_names w ∙ ap (λ m. get_or m.fwd w None) a.solvers ∙ sym (u.does.valid.said.solver_names w) ∙ names_mid w;
       unsat = a.unsat ∙ u.search.unsat;
       width = a.width ∙ u.search.width;
       assumed = a.assumed ∙ u.search.assumed;
@@ -162,8 +162,8 @@ module _ (s : Session) (c : Search) (v x : ℕ) (search : IsSearch s c) (flat : 
   session_unused r set n = unused_in_all (map (mapped (global_in c)) all) v (λ d k.
       let y = in_map_back (mapped (global_in c)) all d k in
       ap (λ (z : LiveClause). mentions z.literals v) y.1.1
-      ∙ mapped_unused (global_in c) s.solver_names v x y.0.literals own (search.stands.fits.clauses.named y.0 y.1.0) (unused_in (is_redundant c.parts.clauses) c.parts.clauses (live_refs c.parts.clauses c.parts.db.refs) c.parts.binary.implied x unused y.0 y.1.0))
-      r set (subst (λ k. 0 < k) (search.stands.fits.clauses.counts r set) n)
+      ∙ mapped_unused (global_in c) s.solver_names v x y.0.literals own (search.valid.fits.clauses.named y.0 y.1.0) (unused_in (is_redundant c.parts.clauses) c.parts.clauses (live_refs c.parts.clauses c.parts.db.refs) c.parts.binary.implied x unused y.0 y.1.0))
+      r set (subst (λ k. 0 < k) (search.valid.fits.clauses.counts r set) n)
 
   lit_is : (b : Bool) → with_var (global_in c) (coded x b) ≡ coded v b
   lit_is b = sym (coded_by (global_in c) (coded x b)) ∙ ap (λ w. coded (global_in c w) (is_positive (coded x b))) (coded_variable x b) ∙ ap (λ w. coded w (is_positive (coded x b))) at ∙ ap (λ d. coded v d) (coded_sign x b)
@@ -173,13 +173,13 @@ module _ (s : Session) (c : Search) (v x : ℕ) (search : IsSearch s c) (flat : 
 
   unit_holds : (b : Bool) → s.units (coded v b) ≡ true → value_of c.parts.assignment.current x ≡ Some b
   unit_holds b u =
-      let y = search.stands.fits.sound (coded x b) (own_lit b) (ap s.units (lit_is b) ∙ u) in
+      let y = search.valid.fits.sound (coded x b) (own_lit b) (ap s.units (lit_is b) ∙ u) in
       ap (value_of c.parts.assignment.current) (sym (coded_variable x b)) ∙ y.0 ∙ ap (λ d. Some d) (coded_sign x b)
 
   holds_unit : (b : Bool) → value_of c.parts.assignment.current x ≡ Some b → s.units (coded v b) ≡ true
   holds_unit b e =
       let t : IsTrueLit c.parts.assignment.current (coded x b) = ap (value_of c.parts.assignment.current) (coded_variable x b) ∙ e ∙ ap (λ d. Some d) (sym (coded_sign x b)) in
-      ap s.units (sym (lit_is b)) ∙ search.stands.fits.known (coded x b) (bottom_unit c.parts (coded x b) search.stands.holds flat.bottom t)
+      ap s.units (sym (lit_is b)) ∙ search.valid.fits.known (coded x b) (bottom_unit c.parts (coded x b) search.valid.holds flat.bottom t)
 
   -- its unit is its value
   pub session_unit : (b : Bool) → s.units (coded v b) ≡ says_unit (value_of c.parts.assignment.current x) b
@@ -225,7 +225,7 @@ module _ (s : Session) (c : Search) (v x : ℕ) (search : IsSearch s c) (flat : 
     m = after (SolverVarName v None) s
 
     fits_m : SessionMatchesParts p m (global_in c)
-    fits_m = fits_freed c.parts p s (global_in c) v x search.stands.fits freed unused own at
+    fits_m = fits_freed c.parts p s (global_in c) v x search.valid.fits freed unused own at
 
     names_c : TrueLitsHaveNames c.parts.assignment.current s (global_in c)
     names_c = ready_names s c search.ready
@@ -239,26 +239,26 @@ module _ (s : Session) (c : Search) (v x : ℕ) (search : IsSearch s c) (flat : 
       paired = fits_m.paired;
       known = λ l u.
           let y = freed.units l u in
-          let k : s.units (with_var (global_in c) l) ≡ true = search.stands.fits.known l y.0 in
+          let k : s.units (with_var (global_in c) l) ≡ true = search.valid.fits.known l y.0 in
           let e : s.solver_names (global_in c (variable l)) ≡ Some (variable l) = names_c l (unit_true_in l y.0) in
           unit_same l e (other_name (variable l) e y.1) ∙ k;
       sound = λ l e u.
           let b = before (global_in c (variable l)) (variable l) e in
-          let y = search.stands.fits.sound l b.1 (sym (unit_same l b.1 b.0) ∙ u) in
+          let y = search.valid.fits.sound l b.1 (sym (unit_same l b.1 b.0) ∙ u) in
           freed.bottom l (λ q. b.0 (ap (global_in c) q ∙ at)) y.0 y.1;
-      consistent = loses.unsat ∙ search.stands.fits.consistent;
-      width = loses.width ∙ search.stands.fits.width;
+      consistent = loses.unsat ∙ search.valid.fits.consistent;
+      width = loses.width ∙ search.valid.fits.width;
     }
       where
         unit_true_in : (l : ℕ) → IsUnitLit (state c.parts) l → IsTrueLit c.parts.assignment.current l
-        unit_true_in l u = (unit_true (state c.parts) l search.stands.holds.below.asks.agrees u).0
+        unit_true_in l u = (unit_true (state c.parts) l search.valid.holds.below.asks.agrees u).0
 
     idle_x : IsIdle (assumed_indices c) (state p) p.vsids x
-    idle_x = (none, ap (λ q. may_pick q x) freed.queue ∙ get_or-set_same c.parts.vsids.available x false false (omega (arith, room, search.stands.holds.below.queue)), not_assumed)
+    idle_x = (none, ap (λ q. may_pick q x) freed.queue ∙ get_or-set_same c.parts.vsids.available x false false (omega (arith, room, search.valid.holds.below.queue)), not_assumed)
 
     pub freed_search : IsSearch t c'
     freed_search = record {
-      stands = record { holds = holds; fits = freed_fits };
+      valid = record { holds = holds; fits = freed_fits };
       ready = record {
         free = free_moved c c' search.ready.free freed_moved refl refl;
         placed = placed_some c.assumptions.lits.items c.assumptions.below.items c.assumptions.place (state c.parts) (state p) flat.bottom freed_flat.bottom
@@ -317,23 +317,23 @@ module _ (n : Variables) (steps : List Step) (c : Search) (may : MayFree n steps
   now = session_after steps
 
   indexed : solver_of n v ≡ Some x
-  indexed = may.stands.tidy.solvers.forth v x there
+  indexed = may.valid.tidy.solvers.forth v x there
 
   pub within_free : v < variables_used n
   within_free = elim (cases_lt v (variables_used n)) [
     | inl lt ↦ lt
-    | inr past ↦ absurd (true≢false (sym (ap (λ (d : VarData). d.deleted) (get_or_past n.var_data.items v unused_variable past)) ∙ may.stands.tidy.indexed v x indexed))
+    | inr past ↦ absurd (true≢false (sym (ap (λ (d : VarData). d.deleted) (get_or_past n.var_data.items v unused_variable past)) ∙ may.valid.tidy.indexed v x indexed))
   ]
 
   own : now.solver_names v ≡ Some x
-  own = may.stands.said.solver_names v ∙ indexed
+  own = may.valid.said.solver_names v ∙ indexed
 
   at : global_in c x ≡ v
   at = may.shares.same x v there
 
   module _ (n1 : Variables) (put : PutsUnit n n1 v (value_of c.parts.assignment.current x)) where
     pub noted_stands : NamesInvariant n1 steps
-    noted_stands = unit_stands n n1 steps v x (value_of c.parts.assignment.current x) may.stands indexed put
+    noted_stands = unit_stands n n1 steps v x (value_of c.parts.assignment.current x) may.valid indexed put
 
     module _ (unused : InNoClause c.parts.clauses (live_refs c.parts.clauses c.parts.db.refs) c.parts.binary.implied x) where
       pub noted_unit : IsUnitOf n1 now v
@@ -345,21 +345,21 @@ module _ (n : Variables) (steps : List Step) (c : Search) (may : MayFree n steps
 
       noted_does : DoesNothing n n1 steps steps
       noted_does = record {
-        stands = noted_stands;
-        kept = λ j live a. record { live = live; agree = unit_agrees n n1 steps v x (value_of c.parts.assignment.current x) may.stands indexed put j live a; trace = no_step };
+        valid = noted_stands;
+        kept = λ j live a. record { live = live; agree = unit_agrees n n1 steps v x (value_of c.parts.assignment.current x) may.valid indexed put j live a; trace = no_step };
       }
 
       pub frees_one : (new : Variables) (to : List Step) (p : Parts) → FreesIndex n1 new steps to v → (data_at n v).assumed ≡ false → FreesVar c.parts p x → PartsInvariant p → value_of p.assignment.current x ≡ None → x < length c.parts.assignment.current →
           ((assumed : List ℕ) → (Contains assumed x → ⊥) → TrailWordExtendsFor assumed c.parts p) → FreesSome n new steps to c (record c { parts = p })
       frees_one new to p gone free freed holds none room word =
           let t = session_after to in
-          let unmarked : mentions now.assumed v ≡ false = may.stands.said.marked v ∙ free in
+          let unmarked : mentions now.assumed v ≡ false = may.valid.said.marked v ∙ free in
           let moved = freed_moved now c v x may.search may.flat own at unused t p gone.loses unmarked freed holds none room word in
           record {
             does = does_both n n1 new steps steps to (λ j. j) (λ j. j) (λ j. []) (λ j. []) noted_does gone.does;
             quiet = gone.quiet;
             search = freed_search now c v x may.search may.flat own at unused t p gone.loses unmarked freed holds none room word;
-            shares = shares_freed n new c (record c { parts = p }) v may.stands.tidy gone.does.stands.tidy
+            shares = shares_freed n new c (record c { parts = p }) v may.valid.tidy gone.does.valid.tidy
                 (λ w. gone.solvers w ∙ ap (λ m. cond (eqb w v) None (target m.fwd w)) put.maps.solvers) (gone.used ∙ ap (λ m. length m.bwd) put.maps.solvers) moved may.shares;
             flat = freed_flat now c v x may.search may.flat own at unused t p gone.loses unmarked freed holds none room word;
             moved = moved;
@@ -372,7 +372,7 @@ module _ (n : Variables) (steps : List Step) (c : Search) (may : MayFree n steps
                   let other : w ≢ v = λ q. true≢false (sym m ∙ ap (mentions now.assumed) q ∙ unmarked) in
                   gone.solvers w ∙ ap (λ b. cond b None (solver_of n1 w)) (ne_eqb w v other) ∙ ap (λ m. target m.fwd w) put.maps.solvers ∙ e;
             };
-            fewer = global_before n new v may.stands.tidy gone.does.stands.tidy (λ w. gone.solvers w ∙ ap (λ m. cond (eqb w v) None (target m.fwd w)) put.maps.solvers);
+            fewer = global_before n new v may.valid.tidy gone.does.valid.tidy (λ w. gone.solvers w ∙ ap (λ m. cond (eqb w v) None (target m.fwd w)) put.maps.solvers);
             unset = λ w e. ap (λ a. value_of a.current w) freed.values ∙ set_none c.parts.assignment.current x w room e;
           }
 
@@ -390,7 +390,7 @@ asked_trans a b d s t u x y = record {
 
 pub frees_none : (n : Variables) (steps : List Step) (c : Search) → MayFree n steps c → FreesSome n n steps steps c c
 frees_none n steps c h = record {
-  does = does_none n steps h.stands;
+  does = does_none n steps h.valid;
   quiet = quiet_comes steps steps [] refl tt;
   search = h.search;
   shares = h.shares;
@@ -419,7 +419,7 @@ frees_both a b d from mids to c1 c2 c3 x y = record {
 }
 
 pub may_free_on : (a b : Variables) (from to : List Step) (c c' : Search) → FreesSome a b from to c c' → MayFree b to c'
-may_free_on a b from to c d x = record { stands = x.does.stands; search = x.search; shares = x.shares; flat = x.flat }
+may_free_on a b from to c d x = record { valid = x.does.valid; search = x.search; shares = x.shares; flat = x.flat }
 
 -- WHICH INDICES ARE LEFT
 

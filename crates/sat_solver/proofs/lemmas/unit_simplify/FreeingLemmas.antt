@@ -134,13 +134,13 @@ module _ (used : List Bool) (c : Search) (x : ℕ) where
     pub frees_here : (new : Variables) (to : List Step) → FreesIndex n1 new steps to v → (data_at n v).assumed ≡ false → get_or used x false ≡ false → x < length at_x.parts.assignment.current → FreesSome n new steps to at_x (freed_search used (x + 1) c)
     frees_here new to gone free unmarked room =
         let p : Parts = at_x.parts in
-        let queue : x < length p.vsids.available = omega (arith, room, may.search.stands.holds.below.queue) in
+        let queue : x < length p.vsids.available = omega (arith, room, may.search.valid.holds.below.queue) in
         subst (λ q. FreesSome n new steps to at_x (record c { parts = q })) (sym (freed_here used x c.parts unmarked))
         (frees_one n steps at_x may x v there n1 put unused new to (without_var x p) gone free (freed_frame p x may.flat.empty room)
-        (sound_freed p.clauses p.db p.watchlists p.binary p.assignment p.graph p.trail p.vsids x may.search.stands.holds may.flat.bottom may.flat.empty room unused)
+        (sound_freed p.clauses p.db p.watchlists p.binary p.assignment p.graph p.trail p.vsids x may.search.valid.holds may.flat.bottom may.flat.empty room unused)
         (get_or-set_same p.assignment.current x None None room) room
         (λ am other. word_goes am (state_of p.assignment p.graph p.trail) p.vsids (state_of (assigned x None p.assignment) p.graph p.trail) (with_available x false p.vsids)
-        (gone_freed am p.assignment p.graph p.trail p.vsids x queue may.search.stands.holds.below.queue other) (begins_refl (trail_letters p.trail))))
+        (gone_freed am p.assignment p.graph p.trail p.vsids x queue may.search.valid.holds.below.queue other) (begins_refl (trail_letters p.trail))))
 
 -- a mark is set
 pub marks_one : (used marks : List Bool) (x : ℕ) → marks ≡ set used x true → x < length used → MarksAtMost x used marks
@@ -166,4 +166,4 @@ frees_all a b from to c used k p e q h = subst (λ z. FreesSome a b from to c (r
 
 -- as many may be picked, and no more than there can be
 pub marks_fit : (n : Variables) (steps : List Step) (c : Search) → MayFree n steps c → length c.parts.assignment.current ≤ var_limit
-marks_fit n steps c may = omega (arith, may.shares.size, may.shares.few, may.stands.tidy.indices, may.stands.tidy.within)
+marks_fit n steps c may = omega (arith, may.shares.size, may.shares.few, may.valid.tidy.indices, may.valid.tidy.within)

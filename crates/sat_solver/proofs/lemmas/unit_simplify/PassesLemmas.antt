@@ -12,13 +12,13 @@ use Rattle.sat_checker.specs.LiteralSets.{mentions}
 use Rattle.sat_solver.specs.session.Making.{ComesByCheckedSteps}
 use Rattle.sat_solver.specs.variables.Taking.{NotTaken}
 use Rattle.sat_solver.specs.proof.ProofView.{HasAllowedSteps, steps_of, session_of}
-use Rattle.sat_solver.specs.session.Session.{MayAll}
+use Rattle.sat_solver.specs.session.Session.{AreAllowedSteps}
 use Rattle.sat_solver.specs.declared.proof.Proof.{Proof}
 use Rattle.sat_solver.proofs.lemmas.session.ProofLemmas.{adds_none, gains_none, gains_adds, gains_more}
 use Rattle.sat_solver.proofs.lemmas.session.ComingLemmas.{comes_both}
 use Rattle.sat_solver.specs.session.Quiet.{is_quiet}
 use Rattle.sat_solver.proofs.lemmas.fits.QuietLemmas.{quiet_comes}
-use Rattle.sat_solver.proofs.lemmas.cdcl.GoingLemmas.{check_loss, complaint_kept, loss_later, went_behind, went_checked, fault_checked, fault_or}
+use Rattle.sat_solver.proofs.lemmas.cdcl.GoingLemmas.{check_loss, complaint_kept, loss_later, went_after, went_checked, fault_checked, fault_or}
 use Rattle.sat_solver.specs.declared.error.SolverError.{SolverError}
 use Rattle.sat_solver.specs.declared.error.SolverError.TheVariants as errors
 use Rattle.sat_solver.specs.variables.Calls.{NamesInvariant, DoesNothing}
@@ -36,22 +36,22 @@ use Rattle.sat_solver.specs.declared.context.Search.{Search}
 use Rattle.sat_solver.proofs.lemmas.cdcl.TurnLemmas.{moved_refl, moved_trans}
 use Rattle.sat_solver.specs.variables.Shared.{SharesIndices}
 use Rattle.sat_solver.specs.load.Faults.{reported_as}
-use Rattle.sat_solver.proofs.lemmas.solver.BehindLemmas.{nothing_behind}
+use Rattle.sat_solver.proofs.lemmas.solver.AfterLemmas.{nothing_after}
 use Rattle.sat_solver.proofs.lemmas.solver.ReportingLemmas.{shares_moved}
 use Rattle.sat_solver.specs.unit_simplify.Flat.{HasEmptyTrail, StrengthensAll}
 use Rattle.sat_solver.specs.unit_simplify.Freed.{MayFree, FreesSome, AreLeft}
 use Rattle.sat_solver.specs.unit_simplify.Looks.{IsOpenClause}
-use Rattle.sat_solver.specs.unit_simplify.Passes.{StandTogether, PassesQuietly, PassFails, PassFailsOr, IsSimplifiedPass}
+use Rattle.sat_solver.specs.unit_simplify.Passes.{JointInvariant, PassesQuietly, PassFails, PassFailsOr, IsSimplifiedPass}
 use Rattle.sat_solver.proofs.lemmas.unit_simplify.FreedLemmas.{asked_refl, asked_trans}
-use Rattle.sat_solver.proofs.lemmas.unit_simplify.LighterLemmas.{goes_leaves, flat_on}
+use Rattle.sat_solver.proofs.lemmas.unit_simplify.StrengthenSearchLemmas.{goes_leaves, flat_on}
 
 module _ {W L : Type 0} {G : Ghosts L} (seen : W → Writer) where
-  pub passes_refl : (n : Variables) (p : Proof W L G) (c : Search) → StandTogether n p c → PassesQuietly seen n n p p c c
+  pub passes_refl : (n : Variables) (p : Proof W L G) (c : Search) → JointInvariant n p c → PassesQuietly seen n n p p c c
   passes_refl n p c h = record {
     together = h;
     took = ([], gains_none seen p);
     quiet = quiet_comes (steps_of p) (steps_of p) [] refl tt;
-    does = does_none n (steps_of p) h.stands;
+    does = does_none n (steps_of p) h.valid;
     asked = asked_refl n (session_of p);
     moved = moved_refl c;
     word = extends_refl c.parts (assumed_indices c);
@@ -69,8 +69,8 @@ module _ {W L : Type 0} {G : Ghosts L} (seen : W → Writer) where
   }
 
   -- what changed before without a step
-  pub passes_behind : (a b : Variables) (p q : Proof W L G) (x y z : Search) → SameVarsAndAssumptions x y → TrailWordExtendsFor (assumed_indices x) x.parts y.parts → PassesQuietly seen a b p q y z → PassesQuietly seen a b p q x z
-  passes_behind a b p q x y z moved word h = record {
+  pub passes_after : (a b : Variables) (p q : Proof W L G) (x y z : Search) → SameVarsAndAssumptions x y → TrailWordExtendsFor (assumed_indices x) x.parts y.parts → PassesQuietly seen a b p q y z → PassesQuietly seen a b p q x z
+  passes_after a b p q x y z moved word h = record {
     together = h.together;
     took = h.took;
     quiet = h.quiet;
@@ -82,11 +82,11 @@ module _ {W L : Type 0} {G : Ghosts L} (seen : W → Writer) where
 
   -- steps of a search
   pub passes_goes : {A : Type 0} (v : A) (n : Variables) (p q : Proof W L G) (c d : Search) (P : A → List Step → Type 0) → NamesInvariant n (steps_of p) → SharesIndices n c → EmitsSteps seen (Ok v) p q P → IsSearch (session_of q) d → SameVarsAndAssumptions c d → TrailWordExtendsFor (assumed_indices c) c.parts d.parts → PassesQuietly seen n n p q c d
-  passes_goes v n p q c d P stands shares g search moved word =
-      let may : MayAll (g.steps ++ steps_of p) = subst MayAll g.went.history g.keeps in
-      let does : DoesNothing n n (steps_of p) (steps_of q) = subst (DoesNothing n n (steps_of p)) (sym g.went.history) (nothing_behind n (steps_of p) g.steps stands may g.searched) in
+  passes_goes v n p q c d P valid shares g search moved word =
+      let may : AreAllowedSteps (g.steps ++ steps_of p) = subst AreAllowedSteps g.went.history g.keeps in
+      let does : DoesNothing n n (steps_of p) (steps_of q) = subst (DoesNothing n n (steps_of p)) (sym g.went.history) (nothing_after n (steps_of p) g.steps valid may g.searched) in
       record {
-        together = record { keeps = g.keeps; stands = does.stands; search = search; shares = shares_moved n c d shares moved };
+        together = record { keeps = g.keeps; valid = does.valid; search = search; shares = shares_moved n c d shares moved };
         took = (g.steps, g.went);
         quiet = quiet_comes (steps_of p) (steps_of q) g.steps g.went.history g.quiet;
         does = does;
@@ -98,7 +98,7 @@ module _ {W L : Type 0} {G : Ghosts L} (seen : W → Writer) where
   -- indices that were given up
   pub passes_frees : (a b : Variables) (p q : Proof W L G) (c d : Search) → FreesSome a b (steps_of p) (steps_of q) c d → HasAllowedSteps q → ((w : Proof W L G) → ComesByCheckedSteps seen w p → ComesByCheckedSteps seen w q) → PassesQuietly seen a b p q c d
   passes_frees a b p q c d f keeps came = record {
-    together = record { keeps = keeps; stands = f.does.stands; search = f.search; shares = f.shares };
+    together = record { keeps = keeps; valid = f.does.valid; search = f.search; shares = f.shares };
     took = came p ([], gains_none seen p);
     quiet = f.quiet;
     does = f.does;
@@ -119,9 +119,9 @@ module _ {W L : Type 0} {G : Ghosts L} (seen : W → Writer) where
   pub falls_starved : (p : Proof W L G) → PassFails seen errors.OutOfMemory p p
   falls_starved p = record { fault = tt; steps = []; went = adds_none seen p; kept = tt; loss = inl refl }
 
-  -- behind what went well
+  -- after what went well
   pub falls_later : {full : Type 0} (e : SolverError) (p q r : Proof W L G) → ComesByCheckedSteps seen p q → PassFailsOr full seen e q r → PassFailsOr full seen e p r
-  falls_later e p q r took f = record { fault = f.fault; steps = f.steps ++ took.0; went = went_behind seen (Unit {0}) e took.0 f.steps p q r (gains_adds seen took.0 p q took.1) f.went; kept = f.kept; loss = loss_later e p q r took.1.taking f.loss }
+  falls_later e p q r took f = record { fault = f.fault; steps = f.steps ++ took.0; went = went_after seen (Unit {0}) e took.0 f.steps p q r (gains_adds seen took.0 p q took.1) f.went; kept = f.kept; loss = loss_later e p q r took.1.taking f.loss }
 
   -- a call over names
   pub falls_names : (e : NameError) (p q : Proof W L G) → IsFailure e → ((w : Proof W L G) → ComesByCheckedSteps seen w p → EmitsUpTo (ComesByCheckedSteps seen) (NotTaken seen) w e q) → PassFails seen (reported_as e) p q
@@ -132,15 +132,15 @@ module _ {W L : Type 0} {G : Ghosts L} (seen : W → Writer) where
 
   -- SIMPLIFICATION
 
-  pub may_free : (n : Variables) (p : Proof W L G) (c : Search) → StandTogether n p c → HasEmptyTrail c.parts → MayFree n (steps_of p) c
-  may_free n p c h flat = record { stands = h.stands; search = h.search; shares = h.shares; flat = flat }
+  pub may_free : (n : Variables) (p : Proof W L G) (c : Search) → JointInvariant n p c → HasEmptyTrail c.parts → MayFree n (steps_of p) c
+  may_free n p c h flat = record { valid = h.valid; search = h.search; shares = h.shares; flat = flat }
 
-  module _ (n n' : Variables) (p q r : Proof W L G) (c d e : Search) (h : StandTogether n p c) (flat : HasEmptyTrail c.parts) (g : EmitsSteps {A = Unit {0}} seen (Ok tt) p q (λ _ _. StrengthensAll (session_of q) c d)) where
-    pub lightened : PassesQuietly seen n n p q c d
-    lightened = passes_goes tt n p q c d (λ _ _. StrengthensAll (session_of q) c d) h.stands h.shares g g.ends.lighter.search g.ends.lighter.moved g.ends.lighter.word
+  module _ (n n' : Variables) (p q r : Proof W L G) (c d e : Search) (h : JointInvariant n p c) (flat : HasEmptyTrail c.parts) (g : EmitsSteps {A = Unit {0}} seen (Ok tt) p q (λ _ _. StrengthensAll (session_of q) c d)) where
+    pub passes_strengthened : PassesQuietly seen n n p q c d
+    passes_strengthened = passes_goes tt n p q c d (λ _ _. StrengthensAll (session_of q) c d) h.valid h.shares g g.ends.strengthened.search g.ends.strengthened.moved g.ends.strengthened.word
 
-    pub lightened_may : MayFree n (steps_of q) d
-    lightened_may = may_free n q d lightened.together (flat_on c d (session_of q) g.ends.lighter flat)
+    pub may_strengthened : MayFree n (steps_of q) d
+    may_strengthened = may_free n q d passes_strengthened.together (flat_on c d (session_of q) g.ends.strengthened flat)
 
     open_freed : SameClauses d.parts e.parts → ((v : ℕ) → value_of d.parts.assignment.current v ≡ None → value_of e.parts.assignment.current v ≡ None) →
         (o : ℕ) → Contains (live_refs e.parts.clauses e.parts.db.refs) o → IsOpenClause e.parts o
@@ -154,7 +154,7 @@ module _ {W L : Type 0} {G : Ghosts L} (seen : W → Writer) where
 
     pub simplified : FreesSome n n' (steps_of q) (steps_of r) d e → AreLeft n' (session_of q) d.parts (length d.parts.assignment.current) → HasAllowedSteps r → ((w : Proof W L G) → ComesByCheckedSteps seen w q → ComesByCheckedSteps seen w r) → IsSimplifiedPass seen n n' p r c e
     simplified f left keeps came = record {
-      passes = passes_trans n n n' p q r c d e lightened (passes_frees n n' q r d e f keeps came);
+      passes = passes_trans n n n' p q r c d e passes_strengthened (passes_frees n n' q r d e f keeps came);
       flat = f.flat;
       left = open_freed f.same f.unset;
       indices = indices_freed f left;

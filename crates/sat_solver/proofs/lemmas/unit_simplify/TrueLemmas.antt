@@ -5,7 +5,7 @@ use Rattle.sat_base.specs.steps.Steps.{Satisfied}
 use Rattle.sat_store.specs.clause.Buffer.{lits_at}
 use Rattle.sat_parts.specs.clause.Db.{live_refs}
 use Rattle.sat_parts.specs.clause.Stored.{lit_of}
-use Rattle.sat_solver.specs.session.Session.{Session, after, May}
+use Rattle.sat_solver.specs.session.Session.{Session, after, IsAllowedStep}
 use Rattle.sat_solver.specs.session.LiveClauses.{with_var}
 use Rattle.sat_parts.specs.declared.parts.Parts.{Parts}
 use Rattle.sat_parts.specs.parts.Frame.{DropsLongClause, SameState}
@@ -24,9 +24,9 @@ use Rattle.sat_solver.specs.unit_simplify.Flat.{HasEmptyTrail, IsStrengthened}
 use Rattle.sat_solver.specs.unit_simplify.Looks.{HasTrue}
 
 -- the search goes on, where values stay
-pub lighter_by : (s t : Session) (c c' : Search) → IsSearch s c → c'.globals ≡ c.globals → c'.assumptions ≡ c.assumptions → c'.analysis ≡ c.analysis → c'.flags ≡ c.flags → SameAssumedAndNames s t → PartsInvariant c'.parts → SessionMatchesParts c'.parts t (global_in c) →
+pub strengthened_by : (s t : Session) (c c' : Search) → IsSearch s c → c'.globals ≡ c.globals → c'.assumptions ≡ c.assumptions → c'.analysis ≡ c.analysis → c'.flags ≡ c.flags → SameAssumedAndNames s t → PartsInvariant c'.parts → SessionMatchesParts c'.parts t (global_in c) →
     SameState c.parts c'.parts → TrailWordExtends c.parts c'.parts → c'.parts.db.refs ≡ c.parts.db.refs → IsStrengthened t c c'
-lighter_by s t c c' h globals assumptions analysis flags leaves holds fits same word refs =
+strengthened_by s t c c' h globals assumptions analysis flags leaves holds fits same word refs =
     let size : length c'.parts.assignment.current ≡ length c.parts.assignment.current = ap (λ a. length a.current) same.0 in
     record {
       search = still s t c c' h globals assumptions analysis flags leaves holds fits size word (rw (same_state c.parts c'.parts same) h.ready.placed);
@@ -43,11 +43,11 @@ module _ (s : Session) (c : Search) (p : Parts) (o : ℕ) (h : IsSearch s c) (fl
   mapped = map (with_var (global_in c)) (lits_at c.parts.clauses o)
 
   -- its step may be written, and then the rest fits
-  pub true_goes : (b : Bool) → is_redundant c.parts.clauses o ≡ b → May s (deleted_step b Satisfied mapped) × SessionMatchesParts p (after (deleted_step b Satisfied mapped) s) (global_in c)
-  true_goes true e = fits_dropped_redundant c.parts p s (global_in c) h.stands.fits h.stands.holds o there (lits_at c.parts.clauses o) (shuffled_eq (lits_at c.parts.clauses o) (lits_at c.parts.clauses o) refl) dropped e
+  pub true_goes : (b : Bool) → is_redundant c.parts.clauses o ≡ b → IsAllowedStep s (deleted_step b Satisfied mapped) × SessionMatchesParts p (after (deleted_step b Satisfied mapped) s) (global_in c)
+  true_goes true e = fits_dropped_redundant c.parts p s (global_in c) h.valid.fits h.valid.holds o there (lits_at c.parts.clauses o) (shuffled_eq (lits_at c.parts.clauses o) (lits_at c.parts.clauses o) refl) dropped e
   true_goes false e =
-      fits_dropped_satisfied c.parts p s (global_in c) h.stands.fits h.stands.holds o there (lits_at c.parts.clauses o) (shuffled_eq (lits_at c.parts.clauses o) (lits_at c.parts.clauses o) refl) dropped e
-      (lit_of c.parts.clauses o has.0) (among_at (lits_at c.parts.clauses o) has.0 has.1.0) (bottom_unit c.parts (lit_of c.parts.clauses o has.0) h.stands.holds flat.bottom has.1.1)
+      fits_dropped_satisfied c.parts p s (global_in c) h.valid.fits h.valid.holds o there (lits_at c.parts.clauses o) (shuffled_eq (lits_at c.parts.clauses o) (lits_at c.parts.clauses o) refl) dropped e
+      (lit_of c.parts.clauses o has.0) (among_at (lits_at c.parts.clauses o) has.0 has.1.0) (bottom_unit c.parts (lit_of c.parts.clauses o has.0) h.valid.holds flat.bottom has.1.1)
 
   leaves_deleted : (b : Bool) → SameAssumedAndNames s (after (deleted_step b Satisfied mapped) s)
   leaves_deleted true = record { assumed = refl; names = λ v. refl }
@@ -56,5 +56,5 @@ module _ (s : Session) (c : Search) (p : Parts) (o : ℕ) (h : IsSearch s c) (fl
   -- and the search goes on
   pub true_lighter : (b : Bool) → is_redundant c.parts.clauses o ≡ b → (x : Scratch) → PartsInvariant p → TrailWordExtends c.parts p → IsStrengthened (after (deleted_step b Satisfied mapped) s) c (record c { parts = p; scratch = x })
   true_lighter b e x holds word =
-      lighter_by s (after (deleted_step b Satisfied mapped) s) c (record c { parts = p; scratch = x }) h refl refl refl refl (leaves_deleted b) holds (true_goes b e).1
+      strengthened_by s (after (deleted_step b Satisfied mapped) s) c (record c { parts = p; scratch = x }) h refl refl refl refl (leaves_deleted b) holds (true_goes b e).1
       dropped.same.0 word dropped.deletes.refs

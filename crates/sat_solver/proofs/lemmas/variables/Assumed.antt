@@ -8,7 +8,7 @@ use Rattle.sat_base.specs.script.Script.{Among}
 use Rattle.sat_base.specs.script.ScriptState.{ScriptState, Sampled}
 use Rattle.sat_base.specs.steps.Steps.{Step, Assumptions}
 use Rattle.sat_checker.specs.LiteralSets.{mentions}
-use Rattle.sat_solver.specs.session.Session.{Session, MayAll, session_after, after}
+use Rattle.sat_solver.specs.session.Session.{Session, AreAllowedSteps, session_after, after}
 use Rattle.sat_store.specs.declared.data.VarData.{VarData}
 use Rattle.sat_store.specs.variables.VarData.{unused_variable}
 use Rattle.sat_store.specs.variables.Maps.{AreInverse, target}
@@ -17,7 +17,7 @@ use Rattle.sat_solver.specs.variables.Free.{is_free, IsTree}
 use Rattle.sat_checker.specs.matching.Bridge.{Live}
 use Rattle.sat_solver.specs.variables.Live.{given_of}
 use Rattle.sat_solver.specs.variables.Variables.{data_at, user_of, variables_used, AreTidy, NamesMatchSteps, NamesMatchState, IsModeOf, says_unit, is_witness_kept}
-use Rattle.sat_solver.specs.load.Literals.{user_literal, SameLiterals, StandsFor}
+use Rattle.sat_solver.specs.load.Literals.{user_literal, SameLiterals, IsProofLiteralOf}
 use Rattle.sat_solver.specs.load.Assumed.{marked_if, MarksAssumed, PutsMarks}
 use Rattle.sat_checker.specs.matching.Checking.{variable_of}
 use Rattle.sat_checker.specs.matching.ProofChecking.{checker_rules}
@@ -160,7 +160,7 @@ module _ (old new : Variables) (ls : List ℕ) (tidy : AreTidy old) (live : (v :
   }
 
 -- the variables that literals stand for are in use
-pub spelt_live : (n : Variables) (user ls : List ℕ) → AreTidy n → AllByRecursion (λ code. (l : ℕ) × StandsFor n l code × Among l user) ls → (v : ℕ) → mentions ls v ≡ true → (data_at n v).deleted ≡ false
+pub spelt_live : (n : Variables) (user ls : List ℕ) → AreTidy n → AllByRecursion (λ code. (l : ℕ) × IsProofLiteralOf n l code × Among l user) ls → (v : ℕ) → mentions ls v ≡ true → (data_at n v).deleted ≡ false
 spelt_live n user [] tidy h v e = absurd (true≢false (sym e))
 spelt_live n user (x ∷ xs) tidy h v e = go (spelt_live n user xs tidy h.1 v) (eqb (variable x) v) refl e
   where
@@ -172,22 +172,22 @@ spelt_live n user (x ∷ xs) tidy h v e = go (spelt_live n user xs tidy h.1 v) (
     go rest false t f = rest f
 
 pub assumptions_written : (old new : Variables) (from to : List Step) (user ls : List ℕ) → NamesInvariant old from → SameLiterals old user ls → PutsMarks old new ls → to ≡ Assumptions ls ∷ from → (o : Outcome) → NamesEffect old new from to (λ j. j) (λ j. Opens (map user_literal user) o ∷ [])
-assumptions_written old new from to user ls stands same put e o = record {
-  stands = record {
-    tidy = tidy_marked old new ls stands.tidy live put;
-    said = subst (λ steps. NamesMatchSteps new (session_after steps)) (sym e) (said_marked old new ls stands.tidy live put (session_after from) stands.said (λ v. known_same (session_after from) ls v (all_known old from user ls stands same)));
-    may = subst MayAll (sym e) (stands.may, tt);
-    read = λ u. ap (λ steps. variable_of steps (u + 1)) e ∙ stands.read u ∙ ap (λ m. target m.fwd u) (sym put.users);
+assumptions_written old new from to user ls valid same put e o = record {
+  valid = record {
+    tidy = tidy_marked old new ls valid.tidy live put;
+    said = subst (λ steps. NamesMatchSteps new (session_after steps)) (sym e) (said_marked old new ls valid.tidy live put (session_after from) valid.said (λ v. known_same (session_after from) ls v (all_known old from user ls valid same)));
+    may = subst AreAllowedSteps (sym e) (valid.may, tt);
+    read = λ u. ap (λ steps. variable_of steps (u + 1)) e ∙ valid.read u ∙ ap (λ m. target m.fwd u) (sym put.users);
   };
   kept = λ j list a. subst (λ steps. ReachesScriptState new from steps j (Opens (map user_literal user) o ∷ [])) (sym e) (record {
     live = list;
     agree = record {
-      judged = judged_marked old new ls stands.tidy live put j list a.judged;
+      judged = judged_marked old new ls valid.tidy live put j list a.judged;
       bridge = nothing_new checker_rules the_checking_sound j from list a.bridge (Assumptions ls) tt (λ v x. cc) (λ n. refl) (λ b h. h) (λ b h. h);
     };
-    trace = visible (opens (same_set old from user ls stands same)) no_step;
+    trace = visible (opens (same_set old from user ls valid same)) no_step;
   });
 }
   where
     live : (v : ℕ) → mentions ls v ≡ true → (data_at old v).deleted ≡ false
-    live = spelt_live old user ls stands.tidy same.only
+    live = spelt_live old user ls valid.tidy same.only

@@ -21,7 +21,7 @@ use Rattle.sat_solver.proofs.lemmas.session.ComingLemmas.{comes_none, comes_one}
 
 as_new : (old new : Variables) (from to : List Step) (user : ℕ) (names : List ℕ) → ((j : ScriptState) (live : Live) → NamesMatchState old j live → new_names (user + 1) j ≡ names) → NamesAll old new from to names → BringsIn old new from to user
 as_new old new from to user names is all = record {
-  stands = all.stands;
+  valid = all.valid;
   kept = λ j live a. subst (λ ns. ReachesScriptState new from to (with_names ns j) (map NewName ns)) (sym (is j live a.judged)) (all.kept j live a);
 }
 
@@ -41,21 +41,21 @@ below old user lt j live judged =
     ∙ ap (λ o. cond (is_some o) [] ((user + 1) ∷ [])) (judged.names user)
 
 pub brings_none : (old : Variables) (from : List Step) (user v : ℕ) → NamesInvariant old from → user < names_used old → global_of old user ≡ Some v → BringsIn old old from from user
-brings_none old from user v stands lt e = as_new old old from from user [] is (none_brought old from stands)
+brings_none old from user v valid lt e = as_new old old from from user [] is (none_brought old from valid)
   where
     is : (j : ScriptState) (live : Live) → NamesMatchState old j live → new_names (user + 1) j ≡ []
     is j live judged =
-        let alive : (data_at old v).deleted ≡ false = stands.tidy.named v user (stands.tidy.users.back user v e) in
+        let alive : (data_at old v).deleted ≡ false = valid.tidy.named v user (valid.tidy.users.back user v e) in
         below old user lt j live judged ∙ ap (λ o. cond (is_some (given_of live o)) [] ((user + 1) ∷ [])) e ∙ ap (λ b. cond b [] ((user + 1) ∷ [])) (judged.in_use v ∙ ap not alive)
 
 pub brings_again : (old new : Variables) (from to : List Step) (user v : ℕ) → user < names_used old → global_of old user ≡ None → NamesOne old new from to user v → BringsIn old new from to user
-brings_again old new from to user v lt e one = as_new old new from to user ((user + 1) ∷ []) is (one_then old new new from to to user v [] one (none_brought new to one.stands))
+brings_again old new from to user v lt e one = as_new old new from to user ((user + 1) ∷ []) is (one_then old new new from to to user v [] one (none_brought new to one.valid))
   where
     is : (j : ScriptState) (live : Live) → NamesMatchState old j live → new_names (user + 1) j ≡ (user + 1) ∷ []
     is j live judged = below old user lt j live judged ∙ ap (λ o. cond (is_some (given_of live o)) [] ((user + 1) ∷ [])) e
 
 pub brought_none : (old : Variables) (from : List Step) (user v : ℕ) → NamesInvariant old from → user < names_used old → global_of old user ≡ Some v → BringsInUnseen old old from from user
-brought_none old from user v stands lt e = record { brings = brings_none old from user v stands lt e; extends = extends_same old; unseen = unseen_same old from; comes = comes_none IsDue from; room = λ us. room_none old user v us lt e }
+brought_none old from user v valid lt e = record { brings = brings_none old from user v valid lt e; extends = extends_same old; unseen = unseen_same old from; comes = comes_none IsDue from; room = λ us. room_none old user v us lt e }
 
 pub ok_new : {A E : Type 0} (r : Result A E) (old new : Variables) (from to : List Step) (user : ℕ) → names_used old ≤ user → OnOk r (NamesAll old new from to (names_from (user + 1 - names_used old) (names_used old + 1))) → OnOk r (LeavesRoom old new user) → OnOk r (BringsInUnseen old new from to user)
 ok_new (Ok x) old new from to user le p room = record { brings = brings_new old new from to user le p; extends = p.extends; unseen = p.unseen; comes = p.comes; room = room }
@@ -81,9 +81,9 @@ hidden_name n u tidy e = go (ltb u (names_used n)) refl (global_of n u) refl (sy
 
 -- the next name came in
 pub brought_next : (old new : Variables) (from to : List Step) (user v : ℕ) → NamesInvariant old from → IsNextUser old user → NamesOne old new from to user v → BringsInUnseen old new from to user
-brought_next old new from to user v stands next one = elim (cases_lt user (names_used old)) [
+brought_next old new from to user v valid next one = elim (cases_lt user (names_used old)) [
   | inl lt ↦ record { brings = brings_again old new from to user v lt next.unused one; extends = one.extends; unseen = one.unseen; comes = comes_one IsDue from to (UserVarName v (Some user)) one.step one.next; room = room_one old new user v next.unused next.reach one.named one.used one.live }
   | inr le ↦
       (let same : user ≡ names_used old = (let r = next.reach in omega arith) in
-      record { brings = brings_new old new from to user le (last_came old old new from from to user v (none_yet old from user user stands same le) one); extends = one.extends; unseen = one.unseen; comes = comes_one IsDue from to (UserVarName v (Some user)) one.step one.next; room = room_one old new user v next.unused next.reach one.named one.used one.live })
+      record { brings = brings_new old new from to user le (last_came old old new from from to user v (none_yet old from user user valid same le) one); extends = one.extends; unseen = one.unseen; comes = comes_one IsDue from to (UserVarName v (Some user)) one.step one.next; room = room_one old new user v next.unused next.reach one.named one.used one.live })
 ]

@@ -14,7 +14,7 @@ use Rattle.sat_solver.specs.declared.variables.error.NameError.TheVariants as er
 use Rattle.sat_solver.specs.variables.Failing.{EmitsUpTo, EmitsOrFails}
 use Rattle.sat_solver.proofs.lemmas.session.ProofLemmas.{gains_adds, gains_more, fails_later, check_later}
 
--- a step was taken behind others
+-- a step was taken after others
 pub took_step : {W L : Type 0} {G : Ghosts L} (seen : W → Writer) (w a b : Proof W L G) (step : Step) → ComesByCheckedSteps seen w a → EmitsChecked seen (step ∷ []) a b → ComesByCheckedSteps seen w b
 took_step seen w a b step t adds = (_, gains_more seen t.0 (step ∷ []) w a b t.1 adds)
 
@@ -31,7 +31,7 @@ pub took_none : {W L : Type 0} {G : Ghosts L} (seen : W → Writer) (w a b : Pro
 took_none seen w a b t adds = (_, gains_more seen t.0 [] w a b t.1 adds)
 
 module _ {W : Type 0} (took : W → W → Type 0) (broke : W → NameError → W → Type 0) where
-  -- a call behind another that took its steps
+  -- a call after another that took its steps
   pub came_then : {A : Type 0} (r : Result A NameError) (a b c : W) → ((w : W) → took w a → took w b) → EmitsOrFails took broke r b c → EmitsOrFails took broke r a c
   came_then (Err errors.VariableLimit) a b c first last = λ w t. last w (first w t)
   came_then e a b c first last = λ w t. last w (first w t)

@@ -13,11 +13,11 @@ use Rattle.sat_checker.proofs.lemmas.state.Forgetting.{mentions_set}
 use Rattle.sat_checker.proofs.lemmas.sets.Canonical.{canonical_among}
 use Rattle.sat_checker.specs.Stored.{Sample, Variable, unknown}
 use Rattle.sat_checker.specs.Contents.{more_if, same_side}
-use Rattle.sat_solver.specs.session.Session.{Session, May, MayAll, session_after, after, with_fact}
+use Rattle.sat_solver.specs.session.Session.{Session, IsAllowedStep, AreAllowedSteps, session_after, after, with_fact}
 use Rattle.sat_solver.proofs.lemmas.session.Changes.{knowing_literals, with_sorted, with_live_clause, session_if}
 use Rattle.sat_solver.proofs.lemmas.session.StepLemmas.{sessions_are_accepted}
 use Rattle.sat_solver.specs.variables.Variables.{data_at, user_of, solver_of, NamesMatchSteps, IsInNoNonUnitClause, checker_mode}
-use Rattle.sat_solver.specs.load.Literals.{user_literal, StandsFor, SameLiterals}
+use Rattle.sat_solver.specs.load.Literals.{user_literal, IsProofLiteralOf, SameLiterals}
 use Rattle.sat_checker.specs.matching.Checking.{variable_of}
 use Rattle.sat_checker.specs.matching.ProofChecking.{checker_rules}
 use Rattle.sat_checker.specs.matching.Expected.{Spells, SameSet, EachSpelt, Adds, adds}
@@ -141,7 +141,7 @@ none_some : {x : ℕ} {o : Option ℕ} → o ≡ None → o ≡ Some x → ⊥
 none_some e f = cc
 
 -- a variable without index is in none of them
-unindexed : (n : Variables) (user c : List ℕ) (w m : ℕ) → solver_of n w ≡ None → variable m ≡ w → AllByRecursion (λ code. (l : ℕ) × StandsFor n l code × Among l user) c → is_among c m ≡ false
+unindexed : (n : Variables) (user c : List ℕ) (w m : ℕ) → solver_of n w ≡ None → variable m ≡ w → AllByRecursion (λ code. (l : ℕ) × IsProofLiteralOf n l code × Among l user) c → is_among c m ≡ false
 unindexed n user [] w m e f h = refl
 unindexed n user (x ∷ xs) w m e f h =
     ap (λ b. b || is_among xs m) (ne_eqb x m (λ q. none_some e (ap (solver_of n) (sym f ∙ ap variable (sym q) ∙ ap variable h.0.1.is ∙ coded_half h.0.1.variable_is (is_positive h.0.0)) ∙ h.0.1.indexed))) ∙ unindexed n user xs w m e f h.1
@@ -173,19 +173,19 @@ added_unused s c w e h r set lt = go s.unsat lt
         tautology false y = inner (canonical c) (mentions_set c w ∙ e) set y
 
 -- a variable without index is in none of them
-unmentioned : (n : Variables) (user c : List ℕ) (w : ℕ) → solver_of n w ≡ None → AllByRecursion (λ code. (l : ℕ) × StandsFor n l code × Among l user) c → mentions c w ≡ false
+unmentioned : (n : Variables) (user c : List ℕ) (w : ℕ) → solver_of n w ≡ None → AllByRecursion (λ code. (l : ℕ) × IsProofLiteralOf n l code × Among l user) c → mentions c w ≡ false
 unmentioned n user [] w e h = refl
 unmentioned n user (x ∷ xs) w e h =
     ap (λ b. b || mentions xs w) (ne_eqb (variable x) w (λ q. none_some e (ap (solver_of n) (sym q ∙ ap variable h.0.1.is ∙ coded_half h.0.1.variable_is (is_positive h.0.0)) ∙ h.0.1.indexed))) ∙ unmentioned n user xs w e h.1
 
-module _ (n : Variables) (from : List Step) (user clause : List ℕ) (stands : NamesInvariant n from) (same : SameLiterals n user clause) where
+module _ (n : Variables) (from : List Step) (user clause : List ℕ) (valid : NamesInvariant n from) (same : SameLiterals n user clause) where
   -- what is known of a literal's variable
-  at : (l code : ℕ) → StandsFor n l code → (session_after from).variables (variable code) ≡ record { known = true; mode = Sample; name = Some (variable l) }
+  at : (l code : ℕ) → IsProofLiteralOf n l code → (session_after from).variables (variable code) ≡ record { known = true; mode = Sample; name = Some (variable l) }
   at l code f =
-      let name = stands.tidy.users.back (variable l) f.variable_is f.named in
-      let alive = stands.tidy.named f.variable_is (variable l) name in
+      let name = valid.tidy.users.back (variable l) f.variable_is f.named in
+      let alive = valid.tidy.named f.variable_is (variable l) name in
       let v : variable code ≡ f.variable_is = ap variable f.is ∙ coded_half f.variable_is (is_positive l) in
-      ap (session_after from).variables v ∙ stands.said.variables f.variable_is
+      ap (session_after from).variables v ∙ valid.said.variables f.variable_is
       ∙ ap (λ b. cond b unknown (record { known = true; mode = checker_mode (data_at n f.variable_is).sampling_mode; name = user_of n f.variable_is })) alive
       ∙ made (data_at n f.variable_is).sampling_mode (user_of n f.variable_is) f.sampled name
     where
@@ -193,15 +193,15 @@ module _ (n : Variables) (from : List Step) (user clause : List ℕ) (stands : N
       made m o e f = cc
 
   pub all_known : AllByRecursion (λ code. ((session_after from).variables (variable code)).known ≡ true) clause
-  all_known = all_map (λ code. (l : ℕ) × StandsFor n l code × Among l user) (λ code. ((session_after from).variables (variable code)).known ≡ true) clause (λ code x. ap (λ y. y.known) (at x.0 code x.1)) same.only
+  all_known = all_map (λ code. (l : ℕ) × IsProofLiteralOf n l code × Among l user) (λ code. ((session_after from).variables (variable code)).known ≡ true) clause (λ code x. ap (λ y. y.known) (at x.0 code x.1)) same.only
 
-  pub may_add : May (session_after from) (AddClause clause)
-  may_add = inr (all_map (λ code. (l : ℕ) × StandsFor n l code × Among l user) (λ code. ((session_after from).variables (variable code)).mode ≡ Sample) clause (λ code x. ap (λ y. y.mode) (at x.0 code x.1)) same.only)
+  pub may_add : IsAllowedStep (session_after from) (AddClause clause)
+  may_add = inr (all_map (λ code. (l : ℕ) × IsProofLiteralOf n l code × Among l user) (λ code. ((session_after from).variables (variable code)).mode ≡ Sample) clause (λ code x. ap (λ y. y.mode) (at x.0 code x.1)) same.only)
 
-  spells : (l code : ℕ) → StandsFor n l code → Spells (variable_of from) (user_literal l) code
-  spells l code f = record { variable = f.variable_is; named = stands.read (variable l) ∙ f.named; is = f.is }
+  spells : (l code : ℕ) → IsProofLiteralOf n l code → Spells (variable_of from) (user_literal l) code
+  spells l code f = record { variable = f.variable_is; named = valid.read (variable l) ∙ f.named; is = f.is }
 
-  spelt : (ls : List ℕ) → AllByRecursion (λ l. (code : ℕ) × StandsFor n l code × Among code clause) ls → EachSpelt (variable_of from) (map user_literal ls) clause
+  spelt : (ls : List ℕ) → AllByRecursion (λ l. (code : ℕ) × IsProofLiteralOf n l code × Among code clause) ls → EachSpelt (variable_of from) (map user_literal ls) clause
   spelt [] h = tt
   spelt (l ∷ ls) h = ((h.0.0, spells l h.0.0 h.0.1, h.0.2), spelt ls h.1)
 
@@ -213,23 +213,23 @@ module _ (n : Variables) (from : List Step) (user clause : List ℕ) (stands : N
   pub same_set : SameSet (variable_of from) (map user_literal user) clause
   same_set = (
     spelt user same.there,
-    all_map (λ code. (l : ℕ) × StandsFor n l code × Among l user) (λ code. (l : Literal) × Spells (variable_of from) l code × Among l (map user_literal user)) clause
+    all_map (λ code. (l : ℕ) × IsProofLiteralOf n l code × Among l user) (λ code. (l : Literal) × Spells (variable_of from) l code × Among l (map user_literal user)) clause
         (λ code x. (user_literal x.0, spells x.0 code x.1, among_named x.0 user x.2)) same.only,
   )
 
   pub clause_written : (to : List Step) → to ≡ AddClause clause ∷ from → NamesEffect n n from to (with_clause (map user_literal user)) (λ j. Adds (map user_literal user) ∷ [])
   clause_written to e = record {
-    stands = record {
-      tidy = stands.tidy;
+    valid = record {
+      tidy = valid.tidy;
       said = subst (λ steps. NamesMatchSteps n (session_after steps)) (sym e) (record {
-        variables = λ w. added_variables (session_after from) clause w all_known ∙ stands.said.variables w;
-        solver_names = λ w. ap (λ f. f w) (added_names (session_after from) clause) ∙ stands.said.solver_names w;
-        unused = λ w f r set lt. added_unused (session_after from) clause w (unmentioned n user clause w f same.only) (λ q t m. stands.said.unused w f q t m) r set lt;
-        units = λ w f b. added_units (session_after from) clause (coded w b) (unindexed n user clause w (coded w b) f (coded_half w b) same.only) ∙ stands.said.units w f b;
-        marked = λ w. ap (λ ls. mentions ls w) (added_assumed (session_after from) clause) ∙ stands.said.marked w;
+        variables = λ w. added_variables (session_after from) clause w all_known ∙ valid.said.variables w;
+        solver_names = λ w. ap (λ f. f w) (added_names (session_after from) clause) ∙ valid.said.solver_names w;
+        unused = λ w f r set lt. added_unused (session_after from) clause w (unmentioned n user clause w f same.only) (λ q t m. valid.said.unused w f q t m) r set lt;
+        units = λ w f b. added_units (session_after from) clause (coded w b) (unindexed n user clause w (coded w b) f (coded_half w b) same.only) ∙ valid.said.units w f b;
+        marked = λ w. ap (λ ls. mentions ls w) (added_assumed (session_after from) clause) ∙ valid.said.marked w;
       });
-      may = subst MayAll (sym e) (stands.may, may_add);
-      read = λ u. ap (λ steps. variable_of steps (u + 1)) e ∙ stands.read u;
+      may = subst AreAllowedSteps (sym e) (valid.may, may_add);
+      read = λ u. ap (λ steps. variable_of steps (u + 1)) e ∙ valid.read u;
     };
     kept = λ j live a. subst (λ steps. ReachesScriptState n from steps (with_clause (map user_literal user) j) (Adds (map user_literal user) ∷ [])) (sym e) (record {
       live = live;
@@ -254,4 +254,4 @@ module _ (n : Variables) (from : List Step) (user clause : List ℕ) (stands : N
   }
     where
       accepted : checker_rules.Accepts from (AddClause clause)
-      accepted = (sessions_are_accepted (AddClause clause ∷ from) (stands.may, may_add)).0.1
+      accepted = (sessions_are_accepted (AddClause clause ∷ from) (valid.may, may_add)).0.1

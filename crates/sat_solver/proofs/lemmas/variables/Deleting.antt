@@ -9,7 +9,7 @@ use Rattle.sat_store.specs.variables.VarData.{unused_variable}
 use Rattle.sat_store.specs.variables.Maps.{AreInverse, target}
 use Rattle.sat_checker.specs.LiteralSets.{mentions}
 use Rattle.sat_checker.specs.Stored.{unknown}
-use Rattle.sat_solver.specs.session.Session.{Session, MayAll, MayForget, session_after, after}
+use Rattle.sat_solver.specs.session.Session.{Session, AreAllowedSteps, MayForget, session_after, after}
 use Rattle.sat_solver.proofs.lemmas.session.StepLemmas.{sessions_are_accepted}
 use Rattle.sat_solver.specs.variables.Counting.{IsEven}
 use Rattle.sat_solver.specs.variables.Free.{is_free, IsTree}
@@ -223,24 +223,24 @@ may_delete old v s tidy said alive nameless noindex unmarked = record {
 
 pub var_deleted : (old new : Variables) (from to : List Step) (v : ℕ) → NamesInvariant old from → (data_at old v).deleted ≡ false → user_of old v ≡ None → solver_of old v ≡ None → (data_at old v).assumed ≡ false → PutsDeleted old new v
     → to ≡ DeleteVar v ∷ from → DoesNothing old new from to
-var_deleted old new from to v stands alive nameless noindex unmarked put e = record {
-  stands = record {
-    tidy = tidy_deleted old new v stands.tidy alive nameless noindex put;
-    said = subst (λ steps. NamesMatchSteps new (session_after steps)) (sym e) (said_deleted old new v stands.tidy alive nameless noindex put (session_after from) stands.said (stands.said.marked v ∙ unmarked));
-    may = subst MayAll (sym e) (stands.may, may_delete old v (session_after from) stands.tidy stands.said alive nameless noindex unmarked);
-    read = λ u. ap (λ steps. variable_of steps (u + 1)) e ∙ stands.read u ∙ ap (λ m. target m.fwd u) (sym put.users);
+var_deleted old new from to v valid alive nameless noindex unmarked put e = record {
+  valid = record {
+    tidy = tidy_deleted old new v valid.tidy alive nameless noindex put;
+    said = subst (λ steps. NamesMatchSteps new (session_after steps)) (sym e) (said_deleted old new v valid.tidy alive nameless noindex put (session_after from) valid.said (valid.said.marked v ∙ unmarked));
+    may = subst AreAllowedSteps (sym e) (valid.may, may_delete old v (session_after from) valid.tidy valid.said alive nameless noindex unmarked);
+    read = λ u. ap (λ steps. variable_of steps (u + 1)) e ∙ valid.read u ∙ ap (λ m. target m.fwd u) (sym put.users);
   };
   kept = λ j live a. subst (λ steps. ReachesScriptState new from steps j []) (sym e) (
       let b = deleted checker_rules the_checking_sound j from live a.bridge v accepted in
       record {
         live = without v live;
-        agree = record { judged = judged_deleted old new v stands.tidy alive nameless noindex put j live (DeleteVar v ∷ from) b a.judged; bridge = b };
+        agree = record { judged = judged_deleted old new v valid.tidy alive nameless noindex put j live (DeleteVar v ∷ from) b a.judged; bridge = b };
         trace = silent refl no_step;
       });
 }
   where
     accepted : checker_rules.Accepts from (DeleteVar v)
-    accepted = (sessions_are_accepted (DeleteVar v ∷ from) (stands.may, may_delete old v (session_after from) stands.tidy stands.said alive nameless noindex unmarked)).0.1
+    accepted = (sessions_are_accepted (DeleteVar v ∷ from) (valid.may, may_delete old v (session_after from) valid.tidy valid.said alive nameless noindex unmarked)).0.1
 
 -- the search sees that units are forgotten
 pub var_forgotten : (from to : List Step) (v : ℕ) → to ≡ DeleteVar v ∷ from → ForgetsUnits (session_after from) (session_after to) v

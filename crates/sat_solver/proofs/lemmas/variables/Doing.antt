@@ -11,16 +11,16 @@ use Rattle.sat_solver.specs.variables.Calls.{NamesInvariant, NamesEffect, DoesNo
 use Rattle.sat_solver.specs.declared.variables.Variables.{Variables}
 
 pub does_none : (n : Variables) (log : List Step) → NamesInvariant n log → DoesNothing n n log log
-does_none n log stands = record { stands = stands; kept = λ j live a. record { live = live; agree = a; trace = no_step } }
+does_none n log valid = record { valid = valid; kept = λ j live a. record { live = live; agree = a; trace = no_step } }
 
--- some state of the judge is what names and steps say behind a call, where one was before it
+-- some state of the judge is what names and steps say after a call, where one was before it
 pub judged_by : {old new : Variables} {from to : List Step} {f : ScriptState → ScriptState} {es : ScriptState → List Expected} → NamesEffect old new from to f es → HasScriptState old from → HasScriptState new to
 judged_by {f = f} d h = let k = d.kept h.0 h.1 h.2 in (f h.0, k.live, k.agree)
 
 -- one call, then another
 pub does_both : (old mid new : Variables) (from mids to : List Step) (f g : ScriptState → ScriptState) (es fs : ScriptState → List Expected) → NamesEffect old mid from mids f es → NamesEffect mid new mids to g fs → NamesEffect old new from to (λ j. g (f j)) (λ j. es j ++ fs (f j))
 does_both old mid new from mids to f g es fs one two = record {
-  stands = two.stands;
+  valid = two.valid;
   kept = λ j live a.
       let k = one.kept j live a in
       let l = two.kept (f j) k.live k.agree in
@@ -31,10 +31,10 @@ pub ok_both : {E : Type 0} (r : Result Unit E) (old mid new : Variables) (from m
 ok_both (Ok x) old mid new from mids to f g es fs one two = does_both old mid new from mids to f g es fs one two
 ok_both (Err e) old mid new from mids to f g es fs one two = tt
 
--- a call that the judge doesn't see, behind another
+-- a call that the judge doesn't see, after another
 pub ok_after : {E : Type 0} (r : Result Unit E) (old mid new : Variables) (from mids to : List Step) (f : ScriptState → ScriptState) (es : ScriptState → List Expected) → NamesEffect old mid from mids f es → OnOk r (DoesNothing mid new mids to) → OnOk r (NamesEffect old new from to f es)
 ok_after (Ok x) old mid new from mids to f es one two = let both = does_both old mid new from mids to f (λ j. j) es (λ j. []) one two in record {
-  stands = both.stands;
+  valid = both.valid;
   kept = λ j live a. let k = both.kept j live a in record { live = k.live; agree = k.agree; trace = subst (HasTrace checker_rules from to) (append-nil (es j)) k.trace };
 }
 ok_after (Err x) old mid new from mids to f es one two = tt

@@ -53,7 +53,7 @@ extends_kept old new users items = record {
 pub are_fresh : (old new : Variables) → ExtendsNames old new → VariablesAreKeptOrNew old new
 are_fresh old new x = record { same = λ u v w e f. some_same f (x.stays u v e).0; fresh = x.fresh }
 
--- behind a call by which names at most go
+-- after a call by which names at most go
 pub fresh_only : (old mid new : Variables) → VariablesAreKeptOrNew old mid → ((u v : ℕ) → global_of new u ≡ Some v → global_of mid u ≡ Some v) → VariablesAreKeptOrNew old new
 fresh_only old mid new x only = record { same = λ u v w e f. x.same u v w e (only u w f); fresh = λ u v e f. x.fresh u v e (only u v f) }
 

@@ -161,7 +161,7 @@ pub ok_alike : {A E : Type 0} (r : Result A E) (a b c : Variables) (from mids to
 ok_alike (Ok x) a b c from mids to one two = alike_both a b c from mids to one two
 ok_alike (Err x) a b c from mids to one two = tt
 
--- units behind a call that the search doesn't see, and then one that keeps those of names
+-- units after a call that the search doesn't see, and then one that keeps those of names
 pub ok_units : {A E : Type 0} (r : Result A E) (c : Variables) (from mids to : List Step) → KeepsSearch (session_after from) (session_after mids) → OnOk r (KeepsUnits c mids to) → OnOk r (KeepsUnits c from to)
 ok_units (Ok x) c from mids to one two = λ u v b e. two u v b e ∙ ap (λ f. f (coded v b)) one.units
 ok_units (Err x) c from mids to one two = tt
@@ -176,12 +176,12 @@ units_forgotten a b from to v inverse none users f u w d e =
     and_true true = refl
     and_true false = refl
 
--- names that came in freshly, behind a call that leaves them all
+-- names that came in freshly, after a call that leaves them all
 pub ok_fresh : {A E : Type 0} (r : Result A E) (a b c : Variables) → VariablesAreKeptOrNew a b → OnOk r (c.global_from_user ≡ b.global_from_user) → OnOk r (VariablesAreKeptOrNew a c)
 ok_fresh (Ok x) a b c fresh e = fresh_only a b c fresh (λ u v f. sym (ap (λ m. target m.fwd u) e) ∙ f)
 ok_fresh (Err x) a b c fresh e = tt
 
--- names that kept their variables still do behind a call that leaves them all
+-- names that kept their variables still do after a call that leaves them all
 pub ok_others : {A E : Type 0} (r : Result A E) (a b c : Variables) (user : ℕ) → KeepsOthers a b user → OnOk r (c.global_from_user ≡ b.global_from_user) → OnOk r (KeepsOthers a c user)
 ok_others (Ok x) a b c user keeps e = λ u v n named. ap (λ m. target m.fwd u) e ∙ keeps u v n named
 ok_others (Err x) a b c user keeps e = tt

@@ -10,7 +10,7 @@ use Rattle.sat_store.specs.declared.data.SamplingMode.TheVariants as kept
 use Rattle.sat_store.specs.variables.VarData.{unused_variable}
 use Rattle.sat_store.specs.variables.Maps.{AreInverse, target}
 use Rattle.sat_checker.specs.Stored.{Hide, Variable, unknown}
-use Rattle.sat_solver.specs.session.Session.{Session, MayAll, session_after, after}
+use Rattle.sat_solver.specs.session.Session.{Session, AreAllowedSteps, session_after, after}
 use Rattle.sat_solver.proofs.lemmas.session.StepLemmas.{sessions_are_accepted}
 use Rattle.sat_solver.specs.variables.Counting.{IsEven}
 use Rattle.sat_solver.specs.variables.Free.{is_free, IsTree}
@@ -207,17 +207,17 @@ module _ (old new : Variables) (user v : ℕ) (tidy : AreTidy old) (had : global
 
 pub name_hidden : (old new : Variables) (from to : List Step) (user v : ℕ) → NamesInvariant old from → global_of old user ≡ Some v → PutsHidden old new user v
     → to ≡ UserVarName v None ∷ from → NamesEffect old new from to (without_name (user + 1)) (λ j. NoName (user + 1) ∷ [])
-name_hidden old new from to user v stands had put e = record {
-  stands = record {
-    tidy = tidy_hidden old new user v stands.tidy had put;
-    said = subst (λ steps. NamesMatchSteps new (session_after steps)) (sym e) (said_hidden old new user v stands.tidy had put (session_after from) stands.said);
-    may = subst MayAll (sym e) (stands.may, may_hide old new user v stands.tidy had put (session_after from) stands.said);
-    read = λ u. ap (λ steps. variable_of steps (u + 1)) e ∙ read_hidden old new user v stands.tidy had put (variable_of from) stands.read u;
+name_hidden old new from to user v valid had put e = record {
+  valid = record {
+    tidy = tidy_hidden old new user v valid.tidy had put;
+    said = subst (λ steps. NamesMatchSteps new (session_after steps)) (sym e) (said_hidden old new user v valid.tidy had put (session_after from) valid.said);
+    may = subst AreAllowedSteps (sym e) (valid.may, may_hide old new user v valid.tidy had put (session_after from) valid.said);
+    read = λ u. ap (λ steps. variable_of steps (u + 1)) e ∙ read_hidden old new user v valid.tidy had put (variable_of from) valid.read u;
   };
   kept = λ j live a. subst (λ steps. ReachesScriptState new from steps (without_name (user + 1) j) (NoName (user + 1) ∷ [])) (sym e) (record {
     live = live;
     agree = record {
-      judged = judged_hidden old new user v stands.tidy had put j live a.judged;
+      judged = judged_hidden old new user v valid.tidy had put j live a.judged;
       bridge = unnamed checker_rules the_checking_sound j from live a.bridge (user + 1) v at accepted;
     };
     trace = visible (no_name at) no_step;
@@ -225,10 +225,10 @@ name_hidden old new from to user v stands had put e = record {
 }
   where
     at : variable_of from (user + 1) ≡ Some v
-    at = stands.read user ∙ had
+    at = valid.read user ∙ had
 
     accepted : checker_rules.Accepts from (UserVarName v None)
-    accepted = (sessions_are_accepted (UserVarName v None ∷ from) (stands.may, may_hide old new user v stands.tidy had put (session_after from) stands.said)).0.1
+    accepted = (sessions_are_accepted (UserVarName v None ∷ from) (valid.may, may_hide old new user v valid.tidy had put (session_after from) valid.said)).0.1
 
 pub hidden_unseen : (old new : Variables) (from to : List Step) (user v : ℕ) → PutsHidden old new user v → to ≡ UserVarName v None ∷ from → IsUnseen old new from to
 hidden_unseen old new from to user v put e = record {

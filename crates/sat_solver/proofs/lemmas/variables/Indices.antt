@@ -9,7 +9,7 @@ use Rattle.sat_store.specs.variables.VarData.{unused_variable}
 use Rattle.sat_store.specs.variables.Maps.{AreInverse, target}
 use Rattle.sat_checker.specs.LiteralSets.{mentions}
 use Rattle.sat_checker.specs.Stored.{Variable, unknown}
-use Rattle.sat_solver.specs.session.Session.{Session, MayAll, session_after, after}
+use Rattle.sat_solver.specs.session.Session.{Session, AreAllowedSteps, session_after, after}
 use Rattle.sat_solver.specs.variables.Counting.{IsEven, mapped_count}
 use Rattle.sat_solver.proofs.lemmas.variables.Counts.{mapped_one_more, mapped_one_fewer}
 use Rattle.sat_solver.specs.variables.Free.{is_free, IsTree}
@@ -218,12 +218,12 @@ index_search from to v name e = subst (λ steps. KeepsSearch (session_after from
 
 pub index_put : (old new : Variables) (from to : List Step) (v x : ℕ) (there : Bool) → NamesInvariant old from → (data_at old v).deleted ≡ false → (there ≡ true → x ≤ indices_used old) → (there ≡ false → solver_of old v ≡ Some x) → (there ≡ true → (solver_of old v ≡ None) × (global_at old x ≡ None)) → (there ≡ true → x < variables_used old) → (there ≡ false → IsUnitOf old (session_after from) v) → (there ≡ false → IsInNoNonUnitClause (session_after from) v) → PutsIndex old new v x there
     → to ≡ SolverVarName v (cond there (Some x) None) ∷ from → DoesNothing old new from to
-index_put old new from to v x there stands alive low had fresh room its_unit its_unused put e = record {
-  stands = record {
-    tidy = tidy_index old new v x there stands.tidy alive low had fresh room put;
-    said = subst (λ steps. NamesMatchSteps new (session_after steps)) (sym e) (said_index old new v x there stands.tidy alive low had fresh room put (session_after from) stands.said its_unit its_unused);
-    may = subst MayAll (sym e) (stands.may, tt);
-    read = λ u. ap (λ steps. variable_of steps (u + 1)) e ∙ stands.read u ∙ ap (λ m. target m.fwd u) (sym put.users);
+index_put old new from to v x there valid alive low had fresh room its_unit its_unused put e = record {
+  valid = record {
+    tidy = tidy_index old new v x there valid.tidy alive low had fresh room put;
+    said = subst (λ steps. NamesMatchSteps new (session_after steps)) (sym e) (said_index old new v x there valid.tidy alive low had fresh room put (session_after from) valid.said its_unit its_unused);
+    may = subst AreAllowedSteps (sym e) (valid.may, tt);
+    read = λ u. ap (λ steps. variable_of steps (u + 1)) e ∙ valid.read u ∙ ap (λ m. target m.fwd u) (sym put.users);
   };
   kept = λ j live a. subst (λ steps. ReachesScriptState new from steps j []) (sym e) (record {
     live = live;
@@ -237,21 +237,21 @@ index_put old new from to v x there stands alive low had fresh room its_unit its
 
 pub index_given : (old new : Variables) (from to : List Step) (before after : List Given) (v : ℕ) (g : Given) → NamesInvariant old from → (data_at old v).deleted ≡ false → solver_of old v ≡ None → IsNextIndex old g.solver → g.unit ≡ (data_at old v).unit → PutsIndex old new v g.solver true
     → to ≡ SolverVarName v (Some g.solver) ∷ from → after ≡ before ++ g ∷ [] → Indexes old new from to before after v g.solver
-index_given old new from to before after v g stands alive without next unit put e l = record {
-  does = index_put old new from to v g.solver true stands alive (λ f. next.reach) (λ f. absurd (true≢false f)) (λ f. (without, next.free)) (λ f. index_below old v g.solver stands.tidy alive without next) (λ f. absurd (true≢false f)) (λ f. absurd (true≢false f)) put e;
+index_given old new from to before after v g valid alive without next unit put e l = record {
+  does = index_put old new from to v g.solver true valid alive (λ f. next.reach) (λ f. absurd (true≢false f)) (λ f. (without, next.free)) (λ f. index_below old v g.solver valid.tidy alive without next) (λ f. absurd (true≢false f)) (λ f. absurd (true≢false f)) put e;
   has = put.solvers v ∙ ap (λ b. cond b (Some g.solver) (solver_of old v)) (eq-eqb v v refl);
   users = put.users;
   kept = put.kept;
   search = index_search from to v (Some g.solver) e;
   fresh = g ∷ [];
   listed = l;
-  gives = gives_one old new (session_after from) v g without next.free put (λ b. stands.said.units v without b ∙ ap (λ o. says_unit o b) (sym unit));
+  gives = gives_one old new (session_after from) v g without next.free put (λ b. valid.said.units v without b ∙ ap (λ o. says_unit o b) (sym unit));
   step = inr (e, without, next);
 }
 
 pub index_had : (old : Variables) (from : List Step) (given : List Given) (v x : ℕ) → NamesInvariant old from → solver_of old v ≡ Some x → Indexes old old from from given given v x
-index_had old from given v x stands e = record {
-  does = does_none old from stands;
+index_had old from given v x valid e = record {
+  does = does_none old from valid;
   has = e;
   users = refl;
   kept = refl;
@@ -263,8 +263,8 @@ index_had old from given v x stands e = record {
 }
 
 pub index_taken : (old new : Variables) (from to : List Step) (v x : ℕ) → NamesInvariant old from → solver_of old v ≡ Some x → IsUnitOf old (session_after from) v → IsInNoNonUnitClause (session_after from) v → PutsIndex old new v x false → new.globals ≡ old.globals → to ≡ SolverVarName v None ∷ from → Unindexes old new from to v x
-index_taken old new from to v x stands there unit unused put globals e = record {
-  does = index_put old new from to v x false stands (stands.tidy.indexed v x there) (λ f. absurd (true≢false (sym f))) (λ f. there) (λ f. absurd (true≢false (sym f))) (λ f. absurd (true≢false (sym f))) (λ f. unit) (λ f. unused) put e;
+index_taken old new from to v x valid there unit unused put globals e = record {
+  does = index_put old new from to v x false valid (valid.tidy.indexed v x there) (λ f. absurd (true≢false (sym f))) (λ f. there) (λ f. absurd (true≢false (sym f))) (λ f. absurd (true≢false (sym f))) (λ f. unit) (λ f. unused) put e;
   solvers = put.solvers;
   globals = globals;
   users = put.users;

@@ -32,7 +32,7 @@ use Rattle.sat_solver.proofs.lemmas.session.ComingLemmas.{comes_none, comes_both
 
 -- so many names came in
 pub record Bringing (old now : Variables) (from steps : List Step) (all : List ℕ) (index : ℕ) : Type 0 where
-  pub stands : NamesInvariant now steps
+  pub valid : NamesInvariant now steps
   pub extends : ExtendsNames old now
   pub unseen : IsUnseen old now from steps
   pub comes : OnlyAllowedSteps IsDue from steps
@@ -40,11 +40,11 @@ pub record Bringing (old now : Variables) (from steps : List Step) (all : List �
   pub rest : (new : Variables) (to : List Step) → Brings now new steps to (drop index all) → Brings old new from to all
 
 pub bring_begins : (old : Variables) (from : List Step) (all : List ℕ) → NamesInvariant old from → Bringing old old from from all 0
-bring_begins old from all stands = record { stands = stands; extends = extends_same old; unseen = unseen_same old from; comes = comes_none IsDue from; named = λ k lt. absurd (let z : k < 0 = lt in omega arith); rest = λ new to more. more }
+bring_begins old from all valid = record { valid = valid; extends = extends_same old; unseen = unseen_same old from; comes = comes_none IsDue from; named = λ k lt. absurd (let z : k < 0 = lt in omega arith); rest = λ new to more. more }
 
 pub bring_goes : (old now new : Variables) (from steps to : List Step) (all : List ℕ) (index l v : ℕ) → Bringing old now from steps all index → index < length all → l ≡ get_or all index 0 → BringsInUnseen now new steps to (variable l) → global_of new (variable l) ≡ Some v → Bringing old new from to all (index + 1)
 bring_goes old now new from steps to all index l v b lt at brought named = record {
-  stands = brought.brings.stands;
+  valid = brought.brings.valid;
   extends = extends_both old now new b.extends brought.extends;
   unseen = unseen_both old now new from steps to b.unseen brought.unseen;
   comes = comes_both IsDue from steps to b.comes brought.comes;
@@ -58,19 +58,19 @@ bring_goes old now new from steps to all index l v b lt at brought named = recor
 
 -- a name in use has an identity
 pub in_use : (n : Variables) (steps : List Step) (j : ScriptState) (live : Live) (u v : ℕ) → NamesInvariant n steps → NamesMatchState n j live → global_of n u ≡ Some v → (i : ℕ) × (identity_of j (u + 1) ≡ Some i)
-in_use n steps j live u v stands judged e =
-    let alive = stands.tidy.named v u (stands.tidy.users.back u v e) in
+in_use n steps j live u v valid judged e =
+    let alive = valid.tidy.named v u (valid.tidy.users.back u v e) in
     let i = none_or (given live v) (λ x. true≢false (sym (judged.in_use v ∙ ap not alive) ∙ ap is_some x)) in
     (i.0, judged.names u ∙ ap (given_of live) e ∙ i.1)
 
 all_used : (n : Variables) (steps : List Step) (j : ScriptState) (live : Live) (ls : List ℕ) → NamesInvariant n steps → NamesMatchState n j live → ((k : ℕ) → k < length ls → (v : ℕ) × (global_of n (variable (get_or ls k 0)) ≡ Some v)) → InUse j (map user_literal ls)
-all_used n steps j live [] stands judged h = tt
-all_used n steps j live (l ∷ ls) stands judged h = let p = h 0 (omega arith) in (in_use n steps j live (variable l) p.0 stands judged p.1, all_used n steps j live ls stands judged (λ k lt. h (suc k) (omega arith)))
+all_used n steps j live [] valid judged h = tt
+all_used n steps j live (l ∷ ls) valid judged h = let p = h 0 (omega arith) in (in_use n steps j live (variable l) p.0 valid judged p.1, all_used n steps j live ls valid judged (λ k lt. h (suc k) (omega arith)))
 
 pub brought_out : (old new : Variables) (from to : List Step) (all : List ℕ) (index : ℕ) → length all ≤ index → (session_after from).unsat ≡ true → Bringing old new from to all index → LeavesOut old new from to all
 brought_out old new from to all index le unsat b = record {
   does = record {
-    stands = b.stands;
+    valid = b.valid;
     kept = λ j live a.
         let k = brings.kept j live a in
         record {
@@ -89,7 +89,7 @@ brought_out old new from to all index le unsat b = record {
               increasing = k.agree.judged.increasing;
               modes = k.agree.judged.modes;
             };
-            bridge = left_out checker_rules the_checking_sound (bring_all (names_in all) j) to k.live k.agree.bridge recorded (map user_literal all) (all_used new to (bring_all (names_in all) j) k.live all b.stands k.agree.judged (λ i lt. b.named i (omega arith)));
+            bridge = left_out checker_rules the_checking_sound (bring_all (names_in all) j) to k.live k.agree.bridge recorded (map user_literal all) (all_used new to (bring_all (names_in all) j) k.live all b.valid k.agree.judged (λ i lt. b.named i (omega arith)));
           };
           trace = k.trace;
         };
@@ -100,7 +100,7 @@ brought_out old new from to all index le unsat b = record {
 }
   where
     brings : Brings old new from to all
-    brings = b.rest new to (subst (Brings new new to to) (sym (drop_all index all le)) (does_none new to b.stands))
+    brings = b.rest new to (subst (Brings new new to to) (sym (drop_all index all le)) (does_none new to b.valid))
 
     recorded : checker_rules.unsat to ≡ true
-    recorded = (sessions_are_accepted to b.stands.may).1.unsat ∙ b.unseen.search.unsat ∙ unsat
+    recorded = (sessions_are_accepted to b.valid.may).1.unsat ∙ b.unseen.search.unsat ∙ unsat

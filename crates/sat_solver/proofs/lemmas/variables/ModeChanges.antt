@@ -13,7 +13,7 @@ use Rattle.sat_store.specs.declared.data.SamplingMode.TheVariants as kept
 use Rattle.sat_store.specs.variables.VarData.{unused_variable}
 use Rattle.sat_store.specs.variables.Maps.{AreInverse, target}
 use Rattle.sat_checker.specs.Stored.{Sample, Witness, Hide, Variable, unknown}
-use Rattle.sat_solver.specs.session.Session.{Session, MayAll, session_after, after}
+use Rattle.sat_solver.specs.session.Session.{Session, AreAllowedSteps, session_after, after}
 use Rattle.sat_solver.proofs.lemmas.session.StepLemmas.{sessions_are_accepted}
 use Rattle.sat_solver.specs.variables.Counting.{IsEven}
 use Rattle.sat_solver.specs.variables.Free.{is_free, IsTree}
@@ -247,12 +247,12 @@ pub may_mode : (old : Variables) (user v : ℕ) (s : Session) → AreTidy old �
 may_mode old user v s tidy said had = known_at old v s said (tidy.named v user (tidy.users.back user v had))
 
 pub mode_kept : (old : Variables) (from : List Step) (user v : ℕ) (sample : Bool) → NamesInvariant old from → global_of old user ≡ Some v → (data_at old v).sampling_mode ≡ mode_for sample → NamesEffect old old from from (with_mode (script_mode sample) (user + 1)) (λ j. [])
-mode_kept old from user v sample stands had e = record {
-  stands = stands;
+mode_kept old from user v sample valid had e = record {
+  valid = valid;
   kept = λ j live a. record {
     live = live;
     agree = record {
-      judged = judged_with_mode old old user v sample stands.tidy had (same_mode old v (mode_for sample) stands.tidy e) j live a.judged;
+      judged = judged_with_mode old old user v sample valid.tidy had (same_mode old v (mode_for sample) valid.tidy e) j live a.judged;
       bridge = bridged j from live (script_mode sample) (user + 1) a.bridge;
     };
     trace = no_step;
@@ -261,17 +261,17 @@ mode_kept old from user v sample stands had e = record {
 
 pub mode_set : (old new : Variables) (from to : List Step) (user v : ℕ) (sample : Bool) → NamesInvariant old from → global_of old user ≡ Some v → PutsMode old new v (mode_for sample)
     → to ≡ ChangeSamplingMode v sample ∷ from → NamesEffect old new from to (with_mode (script_mode sample) (user + 1)) (λ j. [])
-mode_set old new from to user v sample stands had put e = record {
-  stands = record {
-    tidy = tidy_mode old new user v sample stands.tidy had put;
-    said = subst (λ steps. NamesMatchSteps new (session_after steps)) (sym e) (said_mode old new user v sample stands.tidy had put (session_after from) stands.said);
-    may = subst MayAll (sym e) (stands.may, may_mode old user v (session_after from) stands.tidy stands.said had);
-    read = λ u. ap (λ steps. variable_of steps (u + 1)) e ∙ stands.read u ∙ ap (λ m. target m.fwd u) (sym put.users);
+mode_set old new from to user v sample valid had put e = record {
+  valid = record {
+    tidy = tidy_mode old new user v sample valid.tidy had put;
+    said = subst (λ steps. NamesMatchSteps new (session_after steps)) (sym e) (said_mode old new user v sample valid.tidy had put (session_after from) valid.said);
+    may = subst AreAllowedSteps (sym e) (valid.may, may_mode old user v (session_after from) valid.tidy valid.said had);
+    read = λ u. ap (λ steps. variable_of steps (u + 1)) e ∙ valid.read u ∙ ap (λ m. target m.fwd u) (sym put.users);
   };
   kept = λ j live a. subst (λ steps. ReachesScriptState new from steps (with_mode (script_mode sample) (user + 1) j) []) (sym e) (record {
     live = live;
     agree = record {
-      judged = judged_with_mode old new user v sample stands.tidy had put j live a.judged;
+      judged = judged_with_mode old new user v sample valid.tidy had put j live a.judged;
       bridge = bridged j (ChangeSamplingMode v sample ∷ from) live (script_mode sample) (user + 1)
           (nothing_new checker_rules the_checking_sound j from live a.bridge (ChangeSamplingMode v sample) accepted (λ w y. cc) (λ n. refl) (λ b h. h) (λ b h. h));
     };
@@ -280,7 +280,7 @@ mode_set old new from to user v sample stands had put e = record {
 }
   where
     accepted : checker_rules.Accepts from (ChangeSamplingMode v sample)
-    accepted = (sessions_are_accepted (ChangeSamplingMode v sample ∷ from) (stands.may, may_mode old user v (session_after from) stands.tidy stands.said had)).0.1
+    accepted = (sessions_are_accepted (ChangeSamplingMode v sample ∷ from) (valid.may, may_mode old user v (session_after from) valid.tidy valid.said had)).0.1
 
 pub mode_unseen : (old new : Variables) (from to : List Step) (v : ℕ) (mode : SamplingMode) (sample : Bool) → PutsMode old new v mode → to ≡ ChangeSamplingMode v sample ∷ from → IsUnseen old new from to
 mode_unseen old new from to v mode sample put e = record {
@@ -302,7 +302,7 @@ mode_back kept.Hide false e = absurd (let d : Hide ≡ Witness = e in cc)
 
 -- the step changes what the session has
 pub turns_mode : (n : Variables) (from : List Step) (user v : ℕ) (sample : Bool) → NamesInvariant n from → global_of n user ≡ Some v → ((data_at n v).sampling_mode ≡ mode_for sample → ⊥) → TurnsMode (session_after from) v sample
-turns_mode n from user v sample stands had differs e = differs (mode_back (data_at n v).sampling_mode sample (sym (ap (λ (x : Variable). x.mode) (stands.said.variables v) ∙ ap (λ b. (cond b unknown live).mode) (stands.tidy.named v user (stands.tidy.users.back user v had))) ∙ e))
+turns_mode n from user v sample valid had differs e = differs (mode_back (data_at n v).sampling_mode sample (sym (ap (λ (x : Variable). x.mode) (valid.said.variables v) ∙ ap (λ b. (cond b unknown live).mode) (valid.tidy.named v user (valid.tidy.users.back user v had))) ∙ e))
   where
     live : Variable
     live = record { known = true; mode = checker_mode (data_at n v).sampling_mode; name = user_of n v }

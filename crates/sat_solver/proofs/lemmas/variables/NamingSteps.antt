@@ -7,7 +7,7 @@ use Rattle.sat_base.specs.script.ScriptState.{with_name, names_from}
 use Rattle.sat_base.specs.steps.Steps.{Step, UserVarName}
 use Rattle.sat_checker.specs.Fold.{Holds}
 use Rattle.sat_checker.specs.Stored.{Variable, unknown}
-use Rattle.sat_solver.specs.session.Session.{May, MayAll, session_after}
+use Rattle.sat_solver.specs.session.Session.{IsAllowedStep, AreAllowedSteps, session_after}
 use Rattle.sat_solver.proofs.lemmas.session.StepLemmas.{sessions_are_accepted}
 use Rattle.sat_solver.specs.variables.Variables.{data_at, global_of, user_of, names_used, NamesMatchSteps, checker_variable_at, checker_mode}
 use Rattle.sat_solver.specs.variables.Naming.{IsRoom, PutsName}
@@ -31,32 +31,32 @@ use Rattle.sat_solver.proofs.lemmas.variables.RoomLemmas.{live_named, room_one, 
 use Rattle.sat_solver.proofs.lemmas.session.ComingLemmas.{comes_none, comes_one, comes_both}
 
 -- what the steps say a variable is, where the checker knows it
-pub known_as : (steps : List Step) (n : Variables) (v : ℕ) → MayAll steps → NamesMatchSteps n (session_after steps) → checker_rules.knows steps v ≡ (checker_variable_at n v).known
+pub known_as : (steps : List Step) (n : Variables) (v : ℕ) → AreAllowedSteps steps → NamesMatchSteps n (session_after steps) → checker_rules.knows steps v ≡ (checker_variable_at n v).known
 known_as steps n v may said = ap (λ f. (f v).known) (sessions_are_accepted steps may).1.variables ∙ ap (λ x. x.known) (said.variables v)
 
-pub step_may : (old : Variables) (from : List Step) (user v : ℕ) → NamesInvariant old from → global_of old user ≡ None → IsRoom old user v → user ≤ names_used old → v < var_limit → (new : Variables) → PutsName old new user v → May (session_after from) (UserVarName v (Some user))
-step_may old from user v stands free room within small new put = may_name old new user v stands.tidy room free within small put (session_after from) stands.said
+pub step_may : (old : Variables) (from : List Step) (user v : ℕ) → NamesInvariant old from → global_of old user ≡ None → IsRoom old user v → user ≤ names_used old → v < var_limit → (new : Variables) → PutsName old new user v → IsAllowedStep (session_after from) (UserVarName v (Some user))
+step_may old from user v valid free room within small new put = may_name old new user v valid.tidy room free within small put (session_after from) valid.said
 
 pub name_given : (old new : Variables) (from to : List Step) (user v : ℕ) → NamesInvariant old from → global_of old user ≡ None → user ≤ names_used old → IsRoom old user v → v < var_limit → PutsName old new user v
     → to ≡ UserVarName v (Some user) ∷ from → NamesOne old new from to user v
-name_given old new from to user v stands free within room small put e = record {
-  stands = record {
-    tidy = tidy_named old new user v stands.tidy room free within small put;
-    said = subst (λ steps. NamesMatchSteps new (session_after steps)) (sym e) (said_named old new user v stands.tidy room free within small put (session_after from) stands.said);
-    may = subst MayAll (sym e) (stands.may, step_may old from user v stands free room within small new put);
-    read = λ u. ap (λ steps. variable_of steps (u + 1)) e ∙ ap (λ b. cond b (Some v) (variable_of from (u + 1))) (next_same user u) ∙ ap (cond (eqb u user) (Some v)) (stands.read u) ∙ sym (put.users.fwd u);
+name_given old new from to user v valid free within room small put e = record {
+  valid = record {
+    tidy = tidy_named old new user v valid.tidy room free within small put;
+    said = subst (λ steps. NamesMatchSteps new (session_after steps)) (sym e) (said_named old new user v valid.tidy room free within small put (session_after from) valid.said);
+    may = subst AreAllowedSteps (sym e) (valid.may, step_may old from user v valid free room within small new put);
+    read = λ u. ap (λ steps. variable_of steps (u + 1)) e ∙ ap (λ b. cond b (Some v) (variable_of from (u + 1))) (next_same user u) ∙ ap (cond (eqb u user) (Some v)) (valid.read u) ∙ sym (put.users.fwd u);
   };
   named = put.users.fwd;
   used = put.users.fwd_watermark;
   step = e;
   kept = λ j live a. subst (λ steps. NamesAgree new steps (with_name (user + 1) j) ((v, j.identity_count) ∷ live)) (sym e) (record {
-    judged = judged_named old new user v stands.tidy room free within small put j live a.judged;
+    judged = judged_named old new user v valid.tidy room free within small put j live a.judged;
     bridge = named_new checker_rules the_checking_sound j from live a.bridge (user + 1) v user refl not_known accepted;
   });
   unknown = not_known;
   live = live_named old new user v room put;
-  next = next_variable old (session_after from) user v stands.said room;
-  extends = extends_named old new user v stands.tidy room free put;
+  next = next_variable old (session_after from) user v valid.said room;
+  extends = extends_named old new user v valid.tidy room free put;
   unseen = record {
     solvers = put.solvers;
     globals = put.globals;
@@ -66,17 +66,17 @@ name_given old new from to user v stands free within room small put e = record {
 }
   where
     not_known : checker_rules.knows from v ≡ false
-    not_known = known_as from old v stands.may stands.said ∙ ap (λ b. (let x : Variable = cond b unknown (record { known = true; mode = checker_mode (data_at old v).sampling_mode; name = user_of old v }) in x).known) room.unused
+    not_known = known_as from old v valid.may valid.said ∙ ap (λ b. (let x : Variable = cond b unknown (record { known = true; mode = checker_mode (data_at old v).sampling_mode; name = user_of old v }) in x).known) room.unused
 
     accepted : checker_rules.Accepts from (UserVarName v (Some user))
-    accepted = (sessions_are_accepted (UserVarName v (Some user) ∷ from) (stands.may, step_may old from user v stands free room within small new put)).0.1
+    accepted = (sessions_are_accepted (UserVarName v (Some user) ∷ from) (valid.may, step_may old from user v valid free room within small new put)).0.1
 
 pub none_brought : (n : Variables) (log : List Step) → NamesInvariant n log → NamesAll n n log log []
-none_brought n log stands = record { stands = stands; extends = extends_same n; unseen = unseen_same n log; comes = comes_none IsDue log; kept = λ j live a. record { live = live; agree = a; trace = no_step } }
+none_brought n log valid = record { valid = valid; extends = extends_same n; unseen = unseen_same n log; comes = comes_none IsDue log; kept = λ j live a. record { live = live; agree = a; trace = no_step } }
 
 pub one_then : (old mid new : Variables) (from mids to : List Step) (user v : ℕ) (names : List ℕ) → NamesOne old mid from mids user v → NamesAll mid new mids to names → NamesAll old new from to ((user + 1) ∷ names)
 one_then old mid new from mids to user v names one rest = record {
-  stands = rest.stands;
+  valid = rest.valid;
   extends = extends_both old mid new one.extends rest.extends;
   unseen = unseen_both old mid new from mids to one.unseen rest.unseen;
   comes = comes_both IsDue from mids to (comes_one IsDue from mids (UserVarName v (Some user)) one.step one.next) rest.comes;
@@ -104,21 +104,21 @@ comes old mid from mids user v w le one used new to rest =
 
 -- Names up to this index have come in; those that are left come in by what is said of them.
 pub record Coming (old now : Variables) (from log : List Step) (user index : ℕ) : Type 0 where
-  pub stands : NamesInvariant now log
+  pub valid : NamesInvariant now log
   pub used : names_used now ≡ index
   pub low : index ≤ user
   pub room : (us : List ℕ) → HasVariablesFor old (user ∷ us) → HasVariablesFor now (user ∷ us)
   pub rest : (new : Variables) (to : List Step) → NamesAll now new log to (names_from (user + 1 - index) (index + 1)) → NamesAll old new from to (names_from (user + 1 - names_used old) (names_used old + 1))
 
 pub none_yet : (old : Variables) (from : List Step) (user index : ℕ) → NamesInvariant old from → index ≡ names_used old → names_used old ≤ user → Coming old old from from user index
-none_yet old from user index stands e le = record { stands = stands; used = sym e; low = subst (λ k. k ≤ user) (sym e) le; room = λ us h. h; rest = λ new to all. subst (λ w. NamesAll old new from to (names_from (user + 1 - w) (w + 1))) e all }
+none_yet old from user index valid e le = record { valid = valid; used = sym e; low = subst (λ k. k ≤ user) (sym e) le; room = λ us h. h; rest = λ new to all. subst (λ w. NamesAll old new from to (names_from (user + 1 - w) (w + 1))) e all }
 
 pub unused : (n : Variables) (w : ℕ) → names_used n ≡ w → global_of n w ≡ None
 unused n w e = get_or_past n.global_from_user.fwd w None (omega arith)
 
 pub one_came : (old mid new : Variables) (from mids to : List Step) (user v index : ℕ) → Coming old mid from mids user index → index < user → NamesOne mid new mids to index v → Coming old new from to user (index + 1)
 one_came old mid new from mids to user v index c lt one = record {
-  stands = one.stands;
+  valid = one.valid;
   low = omega arith;
   used = let a = one.used in let b = c.used in omega arith;
   room = λ us h. room_one mid new index v (unused mid index c.used) (let b = c.used in omega arith) one.named one.used one.live (user ∷ us) (room_below mid index user us (let b = c.used in omega arith) c.low (c.room us h));
@@ -127,7 +127,7 @@ one_came old mid new from mids to user v index c lt one = record {
 
 pub last_came : (old mid new : Variables) (from mids to : List Step) (user v : ℕ) → Coming old mid from mids user user → NamesOne mid new mids to user v → NamesAll old new from to (names_from (user + 1 - names_used old) (names_used old + 1))
 last_came old mid new from mids to user v c one =
-    c.rest new to (comes mid new mids to user v user (omega arith) one c.used new to (subst (NamesAll new new to to) (sym (none_of user (user + 1) (omega arith))) (none_brought new to one.stands)))
+    c.rest new to (comes mid new mids to user v user (omega arith) one c.used new to (subst (NamesAll new new to to) (sym (none_of user (user + 1) (omega arith))) (none_brought new to one.valid)))
 
 pub last_room : (old mid new : Variables) (from mids to : List Step) (user v : ℕ) → Coming old mid from mids user user → NamesOne mid new mids to user v → LeavesRoom old new user
 last_room old mid new from mids to user v c one us h = room_one mid new user v (unused mid user c.used) (let b = c.used in omega arith) one.named one.used one.live us (c.room us h)

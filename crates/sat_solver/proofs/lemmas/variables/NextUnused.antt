@@ -14,7 +14,7 @@ none_some : {o : Option ℕ} (x : ℕ) → o ≡ Some x → o ≡ None → ⊥
 none_some x e f = cc
 
 pub lowest_unused : (n : Variables) (steps : List Step) (j : ScriptState) (live : Live) (user : ℕ) → NamesInvariant n steps → NamesMatchState n j live → IsNextUser n user → IsLowestUnused j (user + 1)
-lowest_unused n steps j live user stands judged next = record {
+lowest_unused n steps j live user valid judged next = record {
   named = omega arith;
   unused = judged.names user ∙ ap (given_of live) next.unused;
   lowest = lowest;
@@ -22,7 +22,7 @@ lowest_unused n steps j live user stands judged next = record {
   where
     at : (m : ℕ) (o : Option ℕ) → global_of n m ≡ o → m < user → identity_of j (m + 1) ≡ None → ⊥
     at m None e lt none = next.lowest m lt e
-    at m (Some v) e lt none = let x = in_use n steps j live m v stands judged e in none_some x.0 x.1 none
+    at m (Some v) e lt none = let x = in_use n steps j live m v valid judged e in none_some x.0 x.1 none
 
     lowest : (m : ℕ) → 0 < m → m < user + 1 → identity_of j m ≡ None → ⊥
     lowest zero pos lt none = absurd (omega arith)

@@ -13,7 +13,7 @@ use Rattle.sat_store.specs.declared.data.VarData.{VarData}
 use Rattle.sat_store.specs.declared.data.SamplingMode.TheVariants as kept
 use Rattle.sat_store.specs.variables.VarData.{unused_variable}
 use Rattle.sat_store.specs.variables.Maps.{AreInverse, target}
-use Rattle.sat_solver.specs.session.Session.{Session, MayAll, May, MayName, session_after, after}
+use Rattle.sat_solver.specs.session.Session.{Session, AreAllowedSteps, IsAllowedStep, MayName, session_after, after}
 use Rattle.sat_solver.proofs.lemmas.session.StepLemmas.{sessions_are_accepted}
 use Rattle.sat_checker.specs.matching.Bridge.{IsBridge, Live}
 use Rattle.sat_solver.specs.variables.Counting.{IsEven, count_to, mapped_count}
@@ -211,7 +211,7 @@ module _ (old new : Variables) (user v : ℕ) (tidy : AreTidy old) (here : IsHid
     at_mode = ap (λ b. cond b (record (s.variables v) { mode = Witness }) (s.variables v)) (eq-eqb v v refl) ∙ ap {A = Variable} (λ z. record z { mode = Witness }) at
 
     -- the mode may be written
-    pub may_witness : May s (ChangeSamplingMode v false)
+    pub may_witness : IsAllowedStep s (ChangeSamplingMode v false)
     may_witness = ap (λ x. x.known) at
 
     -- and then the name
@@ -312,32 +312,32 @@ module _ (old new : Variables) (user v : ℕ) (tidy : AreTidy old) (here : IsHid
 
 -- no name has a hidden variable
 pub nameless_in : (n : Variables) (from : List Step) (v : ℕ) (j : ScriptState) (live : Live) → NamesInvariant n from → NamesAgree n from j live → IsHidden n v → (name : ℕ) → variable_of from name ≡ Some v → ⊥
-nameless_in n from v j live stands agree here zero e = (let p = agree.bridge.named 0 v e in none_some agree.judged.no_zero p.1)
-nameless_in n from v j live stands agree here (suc m) e =
-    none_some here.nameless (stands.tidy.users.back m v (sym (stands.read m) ∙ ap (variable_of from) (let q : m + 1 ≡ suc m = omega arith in q) ∙ e))
+nameless_in n from v j live valid agree here zero e = (let p = agree.bridge.named 0 v e in none_some agree.judged.no_zero p.1)
+nameless_in n from v j live valid agree here (suc m) e =
+    none_some here.nameless (valid.tidy.users.back m v (sym (valid.read m) ∙ ap (variable_of from) (let q : m + 1 ≡ suc m = omega arith in q) ∙ e))
 
-module _ (old new : Variables) (from to : List Step) (user v : ℕ) (stands : NamesInvariant old from) (here : IsHidden old v) (next : IsNextUser old user) (put : PutsObserved old new user v) (written : to ≡ UserVarName v (Some user) ∷ ChangeSamplingMode v false ∷ from) where
-  may_both : MayAll (UserVarName v (Some user) ∷ ChangeSamplingMode v false ∷ from)
-  may_both = ((stands.may, may_witness old new user v stands.tidy here next put (session_after from) stands.said), may_observe old new user v stands.tidy here next put (session_after from) stands.said)
+module _ (old new : Variables) (from to : List Step) (user v : ℕ) (valid : NamesInvariant old from) (here : IsHidden old v) (next : IsNextUser old user) (put : PutsObserved old new user v) (written : to ≡ UserVarName v (Some user) ∷ ChangeSamplingMode v false ∷ from) where
+  may_both : AreAllowedSteps (UserVarName v (Some user) ∷ ChangeSamplingMode v false ∷ from)
+  may_both = ((valid.may, may_witness old new user v valid.tidy here next put (session_after from) valid.said), may_observe old new user v valid.tidy here next put (session_after from) valid.said)
 
   pub name_hidden_var : NamesHidden old new from to v user
   name_hidden_var = record {
-    stands = record {
-      tidy = tidy_observed old new user v stands.tidy here next put;
-      said = subst (λ ss. NamesMatchSteps new (session_after ss)) (sym written) (said_observed old new user v stands.tidy here next put (session_after from) stands.said);
-      may = subst MayAll (sym written) may_both;
-      read = λ u. ap (λ ss. variable_of ss (u + 1)) written ∙ ap (λ b. cond b (Some v) (variable_of from (u + 1))) (next_same user u) ∙ ap (cond (eqb u user) (Some v)) (stands.read u) ∙ sym (put.users.fwd u);
+    valid = record {
+      tidy = tidy_observed old new user v valid.tidy here next put;
+      said = subst (λ ss. NamesMatchSteps new (session_after ss)) (sym written) (said_observed old new user v valid.tidy here next put (session_after from) valid.said);
+      may = subst AreAllowedSteps (sym written) may_both;
+      read = λ u. ap (λ ss. variable_of ss (u + 1)) written ∙ ap (λ b. cond b (Some v) (variable_of from (u + 1))) (next_same user u) ∙ ap (cond (eqb u user) (Some v)) (valid.read u) ∙ sym (put.users.fwd u);
     };
     next = next;
     step = written;
     users = put.users.bwd;
-    deleted = deleted_at old new user v stands.tidy here next put;
+    deleted = deleted_at old new user v valid.tidy here next put;
     count = put.count;
     names = λ u w e. go u w e (eqb u user) refl (put.users.fwd u);
     kept = λ j live i agree its. subst (λ ss. NamesAgree new ss (observed (user + 1) i j) live) (sym written) (record {
-      judged = judged_observed old new user v stands.tidy here next put j live i agree.judged its;
+      judged = judged_observed old new user v valid.tidy here next put j live i agree.judged its;
       bridge = named_again checker_rules the_checking_sound j (ChangeSamplingMode v false ∷ from) live (bridge_mode j live agree.bridge) (user + 1) v user i refl (given_among live v i its)
-          (λ m e. nameless_in old from v j live stands agree here m e) accepted;
+          (λ m e. nameless_in old from v j live valid agree here m e) accepted;
     });
     unseen = record {
       solvers = put.solvers;
@@ -364,7 +364,7 @@ module _ (old new : Variables) (from to : List Step) (user v : ℕ) (stands : Na
 
 -- those below this index got names
 pub record Observing (old now : Variables) (from steps : List Step) (users : List ℕ) (index : ℕ) : Type 0 where
-  pub stands : NamesInvariant now steps
+  pub valid : NamesInvariant now steps
   pub none : (v : ℕ) → v < index → IsHidden now v → ⊥
   pub names : KeepsNames old now
   pub unseen : IsUnseen old now from steps
@@ -372,8 +372,8 @@ pub record Observing (old now : Variables) (from steps : List Step) (users : Lis
   pub kept : (j : ScriptState) (live : Live) → NamesAgree old from j live → (m : ScriptState) × NamesAgree now steps m live × ((to : List Step) (k : ScriptState) (more : List ℕ) → Observes index steps m live to k more → Observes 0 from j live to k (users ++ more))
 
 pub observing_begins : (old : Variables) (from : List Step) → NamesInvariant old from → Observing old old from from [] 0
-observing_begins old from stands = record {
-  stands = stands;
+observing_begins old from valid = record {
+  valid = valid;
   none = λ v lt h. absurd (omega arith);
   names = λ u v e. e;
   unseen = unseen_same old from;
@@ -384,7 +384,7 @@ observing_begins old from stands = record {
 -- a variable that isn't hidden
 pub observing_passes : (old now : Variables) (from steps : List Step) (users : List ℕ) (index : ℕ) → Observing old now from steps users index → (IsHidden now index → ⊥) → Observing old now from steps users (index + 1)
 observing_passes old now from steps users index o shown = record {
-  stands = o.stands;
+  valid = o.valid;
   none = λ v lt h. elim (cases_lt v index) [ inl less ↦ o.none v less h | inr le ↦ shown (subst (IsHidden now) (let e : v ≡ index = omega arith in e) h) ];
   names = o.names;
   unseen = o.unseen;
@@ -399,7 +399,7 @@ observing_passes old now from steps users index o shown = record {
 -- one that is
 pub observing_goes : (old now new : Variables) (from steps to : List Step) (users : List ℕ) (index user : ℕ) → Observing old now from steps users index → IsHidden now index → NamesHidden now new steps to index user → Observing old new from to (users ++ user ∷ []) (index + 1)
 observing_goes old now new from steps to users index user o here n = record {
-  stands = n.stands;
+  valid = n.valid;
   none = none;
   names = λ u v e. n.names u v (o.names u v e);
   unseen = unseen_both old now new from steps to o.unseen n.unseen;
@@ -410,7 +410,7 @@ observing_goes old now new from steps to users index user o here n = record {
         observed (user + 1) its.0 x.0,
         n.kept x.0 live its.0 x.1 its.1,
         λ last k more t. subst (λ us. Observes 0 from j live last k us) (sym (append_assoc users (user ∷ []) more))
-            (x.2 last k (user ∷ more) (one_more index its.0 user (omega arith) its.1 (nameless_in now steps index x.0 live o.stands x.1 here) (lowest_unused now steps x.0 live user o.stands x.1.judged n.next)
+            (x.2 last k (user ∷ more) (one_more index its.0 user (omega arith) its.1 (nameless_in now steps index x.0 live o.valid x.1 here) (lowest_unused now steps x.0 live user o.valid x.1.judged n.next)
             (subst (λ ss. Observes (index + 1) ss (observed (user + 1) its.0 x.0) live last k more) n.step t))),
       );
 }
@@ -424,7 +424,7 @@ observing_goes old now new from steps to users index user o here n = record {
 
 pub observing_ends : (old new : Variables) (from to : List Step) (users : List ℕ) (index : ℕ) → Observing old new from to users index → variables_used old ≤ index → NamesAllHidden old new from to users
 observing_ends old new from to users index o past = record {
-  stands = o.stands;
+  valid = o.valid;
   all = λ v h. o.none v (let lt = live_within new v h.live in let c = o.count in omega arith) h;
   names = o.names;
   kept = λ j live a. let x = o.kept j live a in (x.0, subst (λ us. Observes 0 from j live to x.0 us) (append-nil users) (x.2 to x.0 [] all_named), x.1);

@@ -15,7 +15,7 @@ use Rattle.sat_solver.specs.variables.Counting.{count_to}
 use Rattle.sat_solver.specs.variables.Failing.{IsFailure, Limits}
 use Rattle.sat_solver.specs.variables.Free.{is_free}
 use Rattle.sat_solver.specs.variables.Naming.{IsRoom, NoneLeft, PutsName}
-use Rattle.sat_solver.specs.variables.VariableRoom.{live_count, is_listed, reach, coming, is_hidden_name, hidden_count, HasVariablesFor, SaysRoom, users_in}
+use Rattle.sat_solver.specs.variables.VariableRoom.{live_count, is_listed, reach, coming, is_hidden_name, hidden_count, HasVariablesFor, SaysRoom, user_vars_in}
 use Rattle.sat_solver.specs.variables.Variables.{AreTidy, data_at, global_of, names_used, variables_used}
 use Rattle.sat_solver.proofs.lemmas.variables.Counts.{count_zero, count_changed, count_suc, count_same, count_reach, count_more, count_le, count_full, count_some, count_not}
 
@@ -142,9 +142,9 @@ room_same old new us users kept h =
     ap (λ m. reach (length m.fwd) us - length m.fwd + count_to (length m.fwd) (λ u. not (is_some (target m.fwd u)) && is_listed us u)) users in
     omega arith
 
--- for the next of these literals and those behind it
-pub room_at : (n : Variables) (all : List ℕ) (index user : ℕ) → index < length all → user ≡ variable (get_or all index 0) → HasVariablesFor n (users_in (drop index all)) → HasVariablesFor n (user ∷ users_in (drop (index + 1) all))
-room_at n all index user lt at h = subst (HasVariablesFor n) (ap users_in (drop_more all index 0 lt) ∙ ap (λ u. u ∷ users_in (drop (index + 1) all)) (sym at)) h
+-- for the next of these literals and those after it
+pub room_at : (n : Variables) (all : List ℕ) (index user : ℕ) → index < length all → user ≡ variable (get_or all index 0) → HasVariablesFor n (user_vars_in (drop index all)) → HasVariablesFor n (user ∷ user_vars_in (drop (index + 1) all))
+room_at n all index user lt at h = subst (HasVariablesFor n) (ap user_vars_in (drop_more all index 0 lt) ∙ ap (λ u. u ∷ user_vars_in (drop (index + 1) all)) (sym at)) h
 
 -- FAULTS
 
@@ -175,7 +175,7 @@ none_listed false = refl
 pub hidden_none : (n : Variables) → hidden_count n [] ≡ 0
 hidden_none n = count_none (names_used n) (is_hidden_name n []) (λ u lt. none_listed (not (is_some (global_of n u))))
 
--- a name that isn't hidden, or stands behind again, adds nothing
+-- a name that isn't hidden, or stands after again, adds nothing
 hidden_same : (n : Variables) (user : ℕ) (us : List ℕ) → ((u : ℕ) → u < names_used n → u ≡ user → is_hidden_name n (user ∷ us) u ≡ is_hidden_name n us u) → hidden_count n (user ∷ us) ≡ hidden_count n us
 hidden_same n user us here = count_same (names_used n) (is_hidden_name n (user ∷ us)) (is_hidden_name n us) each
   where
@@ -205,20 +205,20 @@ hidden_more n user us lt new free =
     here = ap (λ b. not b && is_listed (user ∷ us) user) free ∙ ap (λ b. b || is_listed us user) (eq-eqb user user refl)
 
 -- a literal is over the name, or none is
-pub mentions_listed : (ls : List ℕ) (v : ℕ) → mentions ls v ≡ is_listed (users_in ls) v
+pub mentions_listed : (ls : List ℕ) (v : ℕ) → mentions ls v ≡ is_listed (user_vars_in ls) v
 mentions_listed [] v = refl
 mentions_listed (l ∷ ls) v = ap (λ b. eqb (variable l) v || b) (mentions_listed ls v)
 
--- among the literals behind a place
-pub mentions_behind : (ls : List ℕ) (k v : ℕ) → mentions (take (length ls - k) (drop k ls)) v ≡ is_listed (users_in (drop k ls)) v
-mentions_behind ls k v = ap (λ zs. mentions zs v) (take_all (length ls - k) (drop k ls) (omega (arith, length-drop k ls))) ∙ mentions_listed (drop k ls) v
+-- among the literals after a place
+pub mentions_after : (ls : List ℕ) (k v : ℕ) → mentions (take (length ls - k) (drop k ls)) v ≡ is_listed (user_vars_in (drop k ls)) v
+mentions_after ls k v = ap (λ zs. mentions zs v) (take_all (length ls - k) (drop k ls) (omega (arith, length-drop k ls))) ∙ mentions_listed (drop k ls) v
 
 -- the literals from a place on
-pub users_at : (ls : List ℕ) (at l : ℕ) → at < length ls → l ≡ get_or ls at l → users_in (drop at ls) ≡ variable l ∷ users_in (drop (at + 1) ls)
-users_at ls at l lt e = ap users_in (drop_more ls at l lt) ∙ ap (λ m. variable m ∷ users_in (drop (at + 1) ls)) (sym e)
+pub users_at : (ls : List ℕ) (at l : ℕ) → at < length ls → l ≡ get_or ls at l → user_vars_in (drop at ls) ≡ variable l ∷ user_vars_in (drop (at + 1) ls)
+users_at ls at l lt e = ap user_vars_in (drop_more ls at l lt) ∙ ap (λ m. variable m ∷ user_vars_in (drop (at + 1) ls)) (sym e)
 
-pub hidden_at : (n : Variables) (ls : List ℕ) (at l user : ℕ) → at < length ls → l ≡ get_or ls at l → user ≡ variable l → hidden_count n (users_in (drop at ls)) ≡ hidden_count n (user ∷ users_in (drop (at + 1) ls))
-hidden_at n ls at l user lt e u = ap (hidden_count n) (users_at ls at l lt e ∙ ap (λ v. v ∷ users_in (drop (at + 1) ls)) (sym u))
+pub hidden_at : (n : Variables) (ls : List ℕ) (at l user : ℕ) → at < length ls → l ≡ get_or ls at l → user ≡ variable l → hidden_count n (user_vars_in (drop at ls)) ≡ hidden_count n (user ∷ user_vars_in (drop (at + 1) ls))
+hidden_at n ls at l user lt e u = ap (hidden_count n) (users_at ls at l lt e ∙ ap (λ v. v ∷ user_vars_in (drop (at + 1) ls)) (sym u))
 
 -- so many at most, as there are literals
 pub hidden_most : (n : Variables) (us : List ℕ) → count_to (names_used n) (is_hidden_name n us) ≤ length us
@@ -286,8 +286,8 @@ pub fits_used : (n : Variables) (user : ℕ) → AreTidy n → user < names_used
 fits_used n user tidy lt some = let o = one_used n user lt some in let m = live_most n tidy in omega arith
 
 -- as there is room for all of them at once
-pub fits_all : (n : Variables) (lits : List ℕ) (top left : ℕ) → top ≡ reach (names_used n) (users_in lits) → left + live_count n ≡ var_limit → top - names_used n ≤ left → length lits ≤ left - (top - names_used n) → HasVariablesFor n (users_in lits)
-fits_all n lits top left is all low le = let m = hidden_most n (users_in lits) in let l = length-map lits variable in omega arith
+pub fits_all : (n : Variables) (lits : List ℕ) (top left : ℕ) → top ≡ reach (names_used n) (user_vars_in lits) → left + live_count n ≡ var_limit → top - names_used n ≤ left → length lits ≤ left - (top - names_used n) → HasVariablesFor n (user_vars_in lits)
+fits_all n lits top left is all low le = let m = hidden_most n (user_vars_in lits) in let l = length-map lits variable in omega arith
 
 pub counts_small : (n : Variables) (us : List ℕ) → AreTidy n → hidden_count n us ≤ var_limit
 counts_small n us tidy = let m = count_le (names_used n) (is_hidden_name n us) in let r = tidy.reach in let w = tidy.within in omega arith

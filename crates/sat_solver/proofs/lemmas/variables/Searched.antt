@@ -15,7 +15,7 @@ use Rattle.sat_solver.specs.variables.Variables.{data_at, solver_of, AreTidy, Na
 use Rattle.sat_checker.specs.matching.Bridge.{IsBridge}
 use Rattle.sat_checker.specs.matching.Checking.{variable_of}
 use Rattle.sat_checker.specs.matching.ProofChecking.{checker_rules}
-use Rattle.sat_solver.specs.variables.Searching.{AreIndexed, IsOfSearch, SearchesStand, SearchesAgree}
+use Rattle.sat_solver.specs.variables.Searching.{AreIndexed, IsOfSearch, SearchesPreserveNames, SearchesAgree}
 use Rattle.sat_solver.specs.declared.variables.Variables.{Variables}
 use Rattle.sat_checker.proofs.lemmas.matching.Bridge.{nothing_new}
 use Rattle.sat_checker.proofs.lemmas.matching.CheckerIsSound.{the_checking_sound}
@@ -157,19 +157,19 @@ read_same n (FailedAssumptions core hashes) steps h name = refl
 read_same n End steps h name = refl
 read_same n _ steps h name = absurd h
 
-pub searches_stand : SearchesStand
-searches_stand n steps step stands may h = record {
-  tidy = stands.tidy;
-  said = said_kept n (session_after steps) (session_after (step ∷ steps)) (step_leaves n step (session_after steps) stands.tidy stands.said h) stands.said;
-  may = (stands.may, may);
-  read = λ u. read_same n step steps h (u + 1) ∙ stands.read u;
+pub searches_preserve_names : SearchesPreserveNames
+searches_preserve_names n steps step valid may h = record {
+  tidy = valid.tidy;
+  said = said_kept n (session_after steps) (session_after (step ∷ steps)) (step_leaves n step (session_after steps) valid.tidy valid.said h) valid.said;
+  may = (valid.may, may);
+  read = λ u. read_same n step steps h (u + 1) ∙ valid.read u;
 }
 
 pub searches_agree : SearchesAgree
-searches_agree n steps step stands may h j live a = record { judged = a.judged; bridge = go step h accepted }
+searches_agree n steps step valid may h j live a = record { judged = a.judged; bridge = go step h accepted }
   where
     accepted : checker_rules.Accepts steps step
-    accepted = (sessions_are_accepted (step ∷ steps) (stands.may, may)).0.1
+    accepted = (sessions_are_accepted (step ∷ steps) (valid.may, may)).0.1
 
     go : (step : Step) → IsOfSearch n step → checker_rules.Accepts steps step → IsBridge checker_rules j (step ∷ steps) live
     go (AtClause r c hs) h acc = nothing_new checker_rules the_checking_sound j steps live a.bridge (AtClause r c hs) acc (λ v e. cc) (λ m. refl) (λ b k. k) (λ b k. k)

@@ -19,7 +19,7 @@ use Rattle.sat_solver.specs.declared.variables.solver_vars.Given.{Given}
 use Rattle.sat_solver.specs.declared.load.literals.Taken.{Taken}
 use Rattle.sat_solver.specs.variables.Naming.{ExtendsNames}
 use Rattle.sat_solver.specs.variables.Refusing.{names_in}
-use Rattle.sat_solver.specs.load.Literals.{StandsFor, SameLiterals, Image, Images, NoWitness, global_with_index, BringsLiterals}
+use Rattle.sat_solver.specs.load.Literals.{IsProofLiteralOf, SameLiterals, Image, Images, NoWitness, global_with_index, BringsLiterals}
 use Rattle.sat_checker.specs.matching.Expected.{NewName, bringing}
 use Rattle.sat_solver.specs.variables.Calls.{NamesInvariant, NamesEffect, BringsInUnseen}
 use Rattle.sat_solver.specs.declared.variables.Variables.{Variables}
@@ -42,7 +42,7 @@ Brings old new from to lits = NamesEffect old new from to (bring_all (names_in l
 -- so many literals were taken, and those that are left come in by what is said of them
 pub record Taking (old now : Variables) (from steps : List Step) (all : List ℕ) (index : ℕ) (items : List ℕ) (given : List Given) : Type 0 where
   pub first : AreInverse old.solver_from_global
-  pub stands : NamesInvariant now steps
+  pub valid : NamesInvariant now steps
   pub extends : ExtendsNames old now
   pub count : length items ≡ index
   pub each : (k : ℕ) → k < index → Image now (get_or all k 0) (get_or items k 0)
@@ -59,23 +59,23 @@ pub one_taken : (old now mid new : Variables) (from log mids to : List Step) (al
     → BringsInUnseen now mid log mids (variable l) → global_of mid (variable l) ≡ Some v → Indexes mid new mids to before after v x → code ≡ coded x (is_positive l) → next ≡ items ++ code ∷ [] → Taking old new from to all (index + 1) next after
 one_taken old now mid new from log mids to all items next before after index l v x code t lt at brought named indexes is e = record {
   first = t.first;
-  stands = indexes.does.stands;
+  valid = indexes.does.valid;
   extends = extends_both old now new t.extends both;
   count = ap length e ∙ length-append items (code ∷ []) ∙ ap (λ k. k + 1) t.count;
   each = each;
   gives = subst (GivesIndices old new (session_after from)) (sym indexes.listed)
-      (gives_both old mid new (session_after from) (session_after mids) before indexes.fresh t.first brought.brings.stands.tidy.solvers indexes.does.stands.tidy.solvers (brought.unseen.search.units ∙ t.search.units)
+      (gives_both old mid new (session_after from) (session_after mids) before indexes.fresh t.first brought.brings.valid.tidy.solvers indexes.does.valid.tidy.solvers (brought.unseen.search.units ∙ t.search.units)
       (gives_unseen old now mid (session_after from) before t.gives brought.unseen.solvers) indexes.gives);
   search = keeps_both (session_after from) (session_after log) (session_after to) t.search (keeps_both (session_after log) (session_after mids) (session_after to) brought.unseen.search indexes.search);
   comes = comes_both (MayTake (names_in all)) from log to t.comes (comes_both (MayTake (names_in all)) log mids to (comes_due (names_in all) log mids brought.comes)
-      (comes_index (names_in all) mids to (variable l + 1) v x (subst (λ k. Among (variable k + 1) (names_in all)) (sym at) (name_among all index lt)) (brought.brings.stands.read (variable l) ∙ named) lowest));
+      (comes_index (names_in all) mids to (variable l + 1) v x (subst (λ k. Among (variable k + 1) (names_in all)) (sym at) (name_among all index lt)) (brought.brings.valid.read (variable l) ∙ named) lowest));
   rest = λ last end more. t.rest last end (subst (Brings now last log end) (sym (drop_more all index 0 lt ∙ ap (λ y. y ∷ drop (index + 1) all) (sym at))) (
       does_both now mid last log mids end (bring_in (variable l + 1)) (bring_all (names_in (drop (index + 1) all))) (λ j. map NewName (new_names (variable l + 1) j)) (bringing (names_in (drop (index + 1) all))) brought.brings
       (does_both mid new last mids to end (λ j. j) (bring_all (names_in (drop (index + 1) all))) (λ j. []) (bringing (names_in (drop (index + 1) all))) indexes.does more)));
 }
   where
     lowest : (to ≡ mids) ⊎ ((to ≡ SolverVarName v (Some x) ∷ mids) × ((session_after mids).solver_names v ≡ None) × IsNextSolver (session_after mids) (Some x))
-    lowest = elim indexes.step [ inl e ↦ inl e | inr e ↦ inr (e.0, brought.brings.stands.said.solver_names v ∙ e.1, next_solver mid (session_after mids) x brought.brings.stands.tidy brought.brings.stands.said e.2) ]
+    lowest = elim indexes.step [ inl e ↦ inl e | inr e ↦ inr (e.0, brought.brings.valid.said.solver_names v ∙ e.1, next_solver mid (session_after mids) x brought.brings.valid.tidy brought.brings.valid.said e.2) ]
 
     both : ExtendsNames now new
     both = extends_both now mid new brought.extends (extends_kept mid new indexes.users indexes.kept)
@@ -96,9 +96,9 @@ one_taken old now mid new from log mids to all items next before after index l v
     ]
 
 pub none_taken : (old : Variables) (from : List Step) (all items : List ℕ) (given : List Given) → NamesInvariant old from → items ≡ [] → given ≡ [] → Taking old old from from all 0 items given
-none_taken old from all items given stands e f = record {
-  first = stands.tidy.solvers;
-  stands = stands;
+none_taken old from all items given valid e f = record {
+  first = valid.tidy.solvers;
+  valid = valid;
   extends = extends_same old;
   count = ap length e;
   each = λ k lt. absurd (let z : k < 0 = lt in omega arith);
@@ -110,7 +110,7 @@ none_taken old from all items given stands e f = record {
 
 pub all_taken : (old new : Variables) (from to : List Step) (all : List ℕ) (t : Taken) (index : ℕ) → length all ≤ index → index ≤ length all → Taking old new from to all index t.order.items t.given.items → BringsLiterals old new from to all t
 all_taken old new from to all t index le ge taking = record {
-  does = taking.rest new to (subst (Brings new new to to) (sym (drop_all index all le)) (does_none new to taking.stands));
+  does = taking.rest new to (subst (Brings new new to to) (sym (drop_all index all le)) (does_none new to taking.valid));
   extends = taking.extends;
   images = record { count = let c = taking.count in omega arith; each = λ k lt. taking.each k (omega arith) };
   gives = taking.gives;
@@ -160,13 +160,13 @@ map_among f y (x ∷ xs) (inr m) = let p = map_among f y xs m in (p.0, inr p.1, 
 -- literals that have the same members as those in order, over the proof's variables
 pub same_literals : (old new : Variables) (user order set clause : List ℕ) → AreTidy new → ExtendsNames old new → NoWitness old user → Images new user order → ((x : ℕ) → Among x order → Among x set) → ((x : ℕ) → Among x set → Among x order) → clause ≡ map (with_var (global_with_index new)) set → SameLiterals new user clause
 same_literals old new user order set clause tidy extends none images more less e = record {
-  there = all_from (λ l. (code : ℕ) × StandsFor new l code × Among code clause) user (λ l m.
+  there = all_from (λ l. (code : ℕ) × IsProofLiteralOf new l code × Among code clause) user (λ l m.
       let p = at_place user l m in
       let lt = p.1 in
       let c = images.count in
       let image = subst (λ x. Image new x (get_or order p.0 0)) p.2 (images.each p.0 p.1) in
       (with_var (global_with_index new) (get_or order p.0 0), stands_for l (get_or order p.0 0) m image, subst (Among (with_var (global_with_index new) (get_or order p.0 0))) (sym e) (among_map (with_var (global_with_index new)) (get_or order p.0 0) set (more (get_or order p.0 0) (among_place order p.0 (omega arith))))));
-  only = all_from (λ code. (l : ℕ) × StandsFor new l code × Among l user) clause (λ code m.
+  only = all_from (λ code. (l : ℕ) × IsProofLiteralOf new l code × Among l user) clause (λ code m.
       let q = map_among (with_var (global_with_index new)) code set (subst (Among code) e m) in
       let p = at_place order q.0 (less q.0 q.1) in
       let lt = p.1 in
@@ -174,10 +174,10 @@ same_literals old new user order set clause tidy extends none images more less e
       let within : p.0 < length user = omega arith in
       let there = among_place user p.0 within in
       let image = subst (Image new (get_or user p.0 0)) p.2 (images.each p.0 within) in
-      (get_or user p.0 0, subst (StandsFor new (get_or user p.0 0)) (sym q.2) (stands_for (get_or user p.0 0) q.0 there image), there));
+      (get_or user p.0 0, subst (IsProofLiteralOf new (get_or user p.0 0)) (sym q.2) (stands_for (get_or user p.0 0) q.0 there image), there));
 }
   where
-    stands_for : (l code : ℕ) → Among l user → Image new l code → StandsFor new l (with_var (global_with_index new) code)
+    stands_for : (l code : ℕ) → Among l user → Image new l code → IsProofLiteralOf new l (with_var (global_with_index new) code)
     stands_for l code m i = record { variable_is = i.variable_is; index_is = i.index_is; named = i.named; indexed = i.indexed; sampled = go (global_of old (variable l)) refl; is = mapped_is new l code i tidy }
       where
         go : (o : Option ℕ) → global_of old (variable l) ≡ o → (data_at new i.variable_is).sampling_mode ≡ kept.Sample

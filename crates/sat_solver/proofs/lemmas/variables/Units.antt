@@ -65,7 +65,7 @@ module _ (old new : Variables) (tidy : AreTidy old) (maps : SameMaps old new) (d
 none_some : {x : ℕ} {o : Option ℕ} → o ≡ None → o ≡ Some x → ⊥
 none_some e f = cc
 
-module _ (old new : Variables) (steps : List Step) (v x : ℕ) (value : Option Bool) (stands : NamesInvariant old steps) (has : solver_of old v ≡ Some x) (put : PutsUnit old new v value) where
+module _ (old new : Variables) (steps : List Step) (v x : ℕ) (value : Option Bool) (valid : NamesInvariant old steps) (has : solver_of old v ≡ Some x) (put : PutsUnit old new v value) where
   same : {A : Type 0} (w : ℕ) (f : VarData → A) → f (record (data_at old v) { unit = value }) ≡ f (data_at old v) → f (data_at new w) ≡ f (data_at old w)
   same w f e = go (eqb w v) refl (put.kept w)
     where
@@ -81,7 +81,7 @@ module _ (old new : Variables) (steps : List Step) (v x : ℕ) (value : Option B
       go false t y = y
 
   alive : (data_at old v).deleted ≡ false
-  alive = stands.tidy.indexed v x has
+  alive = valid.tidy.indexed v x has
 
   deleted_same : (w : ℕ) → (data_at new w).deleted ≡ (data_at old w).deleted
   deleted_same w = same w (λ d. d.deleted) refl
@@ -90,24 +90,24 @@ module _ (old new : Variables) (steps : List Step) (v x : ℕ) (value : Option B
   mode_same w = same w (λ d. d.sampling_mode) refl
 
   gone_same : (w : ℕ) → (data_at old w).deleted ≡ true → data_at new w ≡ unused_variable
-  gone_same w d = other w (λ e. true≢false (sym d ∙ ap (λ k. (data_at old k).deleted) e ∙ alive)) ∙ stands.tidy.gone w d
+  gone_same w d = other w (λ e. true≢false (sym d ∙ ap (λ k. (data_at old k).deleted) e ∙ alive)) ∙ valid.tidy.gone w d
 
   pub unit_stands : NamesInvariant new steps
   unit_stands = record {
-    tidy = tidy_data old new stands.tidy put.maps deleted_same mode_same gone_same;
+    tidy = tidy_data old new valid.tidy put.maps deleted_same mode_same gone_same;
     said = record {
-      variables = λ w. stands.said.variables w ∙ sym (seen w);
-      solver_names = λ w. stands.said.solver_names w ∙ ap (λ m. target m.fwd w) (sym put.maps.solvers);
-      units = λ w e b. let f : solver_of old w ≡ None = sym (ap (λ m. target m.fwd w) put.maps.solvers) ∙ e in stands.said.units w f b ∙ ap (λ d. says_unit d.unit b) (sym (other w (λ q. none_some (ap (solver_of old) (sym q) ∙ f) has)));
-      unused = λ w e. stands.said.unused w (sym (ap (λ m. target m.fwd w) put.maps.solvers) ∙ e);
-      marked = λ w. stands.said.marked w ∙ sym (same w (λ d. d.assumed) refl);
+      variables = λ w. valid.said.variables w ∙ sym (seen w);
+      solver_names = λ w. valid.said.solver_names w ∙ ap (λ m. target m.fwd w) (sym put.maps.solvers);
+      units = λ w e b. let f : solver_of old w ≡ None = sym (ap (λ m. target m.fwd w) put.maps.solvers) ∙ e in valid.said.units w f b ∙ ap (λ d. says_unit d.unit b) (sym (other w (λ q. none_some (ap (solver_of old) (sym q) ∙ f) has)));
+      unused = λ w e. valid.said.unused w (sym (ap (λ m. target m.fwd w) put.maps.solvers) ∙ e);
+      marked = λ w. valid.said.marked w ∙ sym (same w (λ d. d.assumed) refl);
     };
-    may = stands.may;
-    read = λ u. stands.read u ∙ ap (λ m. target m.fwd u) (sym put.maps.users);
+    may = valid.may;
+    read = λ u. valid.read u ∙ ap (λ m. target m.fwd u) (sym put.maps.users);
   }
     where
       seen : (w : ℕ) → shape (data_at new w) (user_of new w) ≡ shape (data_at old w) (user_of old w)
       seen w = ap (shape (data_at new w)) (ap (λ m. target m.bwd w) put.maps.users) ∙ same w (λ d. shape d (user_of old w)) refl
 
   pub unit_agrees : (j : ScriptState) (live : Live) → NamesAgree old steps j live → NamesAgree new steps j live
-  unit_agrees j live a = record { judged = judged_data old new stands.tidy put.maps deleted_same mode_same gone_same j live a.judged; bridge = a.bridge }
+  unit_agrees j live a = record { judged = judged_data old new valid.tidy put.maps deleted_same mode_same gone_same j live a.judged; bridge = a.bridge }

@@ -6,12 +6,12 @@ use Rattle.sat_solver.proofs.lemmas.cdcl.GoingLemmas.{goes_none, goes_map, goes_
 use Rattle.sat_solver.specs.load.Loaded.{IsLoaded}
 use Rattle.sat_solver.specs.session.Coming.{DeletesAdded}
 use Rattle.sat_solver.proofs.lemmas.session.ComingLemmas.{comes_none}
-use Rattle.sat_solver.proofs.lemmas.load.LoadingLemmas.{few_lits, goes_unstored, loaded_stored, loaded_unit, loaded_false, loaded_true, loaded_names, loaded_may, loaded_behind, loaded_last}
+use Rattle.sat_solver.proofs.lemmas.load.LoadingLemmas.{few_lits, goes_unstored, loaded_stored, loaded_unit, loaded_false, loaded_true, loaded_names, loaded_may, loaded_after, loaded_last}
 use Rattle.sat_solver.proofs.lemmas.load.DeletedLemmas.{comes_true}
 use Rattle.sat_solver.proofs.load.load_clause.Goals as goal
 
 pub load-requires-clause-fits : goal.load-requires-clause-fits
-load-requires-clause-fits g c = few_lits c.args.search.now c.args.lits.now c.requires.added.search.stands.holds c.requires.may
+load-requires-clause-fits g c = few_lits c.args.search.now c.args.lits.now c.requires.added.search.valid.holds c.requires.may
 
 pub returns-in_err-loaded-clause-goes : goal.returns-in_err-loaded-clause-goes
 returns-in_err-loaded-clause-goes g c =
@@ -62,7 +62,7 @@ returns-else-len-lt2-clause-goes g c =
     let same : c.deref.result.now ≡ false_last c.make_ready.new.parts.assignment.current c.args.lits.now = c.deref.ensures.value ∙ c.in_ok-loaded.ensures.order in
     goes_or g.W.CountedWrite.seen c.delete_true.result c.args.proof.now c.delete_true.new.proof (λ left _. IsLoaded left (session_of c.delete_true.new.proof) c.args.search.now c.delete_true.new.search)
     (goes_map g.W.CountedWrite.seen c.delete_true.result c.args.proof.now c.delete_true.new.proof _ (λ left _. IsLoaded left (session_of c.delete_true.new.proof) c.args.search.now c.delete_true.new.search)
-    (λ left steps h. loaded_behind c.args.search.now c.args.lits.now (steps_of c.args.proof.now) c.requires.added c.requires.may c.make_ready.new.parts c.make_ready.ensures.holds c.make_ready.ensures.same c.make_ready.ensures.others c.load.new.parts c.in_ok-loaded.ensures.holds c.in_ok-loaded.ensures.kept
+    (λ left steps h. loaded_after c.args.search.now c.args.lits.now (steps_of c.args.proof.now) c.requires.added c.requires.may c.make_ready.new.parts c.make_ready.ensures.holds c.make_ready.ensures.same c.make_ready.ensures.others c.load.new.parts c.in_ok-loaded.ensures.holds c.in_ok-loaded.ensures.kept
     (rw c.in-Satisfied.is at c.in_ok-loaded.ensures.says) (omega (arith, size, c.if-len-lt2.false)) c.deref.result.now same (steps_of c.delete_true.new.proof) h.1 left h.0 c.delete_true.new.search c.delete_true.ensures.same)
     c.delete_true.ensures.deletes)
 

@@ -40,7 +40,7 @@ module _ (c : After-var) where
   accepted = record {
     minimal = c.loop-at.invariant.minimal;
     some = c.loop-at.invariant.some;
-    behind = c.loop-at.invariant.behind;
+    following = c.loop-at.invariant.following;
     within = omega (arith, c.loop-at-test.true, ap (λ (xs : List ℕ). length xs) c.clause-at-end.ensures, c.loop-at.invariant.size);
     head = c.loop-at.invariant.first;
   }
@@ -55,7 +55,7 @@ loop-at-init c = record {
   front = front_refl c.args.analysis.now;
   minimal = rw (ap (λ (xs : List ℕ). length xs) c.used-low.ensures, take-append-drop 1 c.args.analysis.now.clause) (minimal_start _ _ _ c.args.analysis.now c.requires.resolved);
   some = omega arith;
-  behind = omega arith;
+  following = omega arith;
   size = refl;
   first = refl;
 }
@@ -72,7 +72,7 @@ is_implied-requires-clause-may c =
     let r_is : c.reason-reason.result ≡ (node (s x) (lit x)).reason = c.reason-reason.ensures ∙ ap (λ v. (node_of c.args.graph.now v).reason) (c.var.ensures ∙ ap (λ l. variable l) (lit_is x)) in
     let caused : is_unit_reason (node (s x) (lit x)).reason ≡ false = ap (λ (r : Reason). is_unit_reason r) (sym r_is) ∙ sym c.is_unit.ensures ∙ c.if-is_unit.false in
     subst (λ l. MayStart (s x) c.loop-at.analysis l) (sym (lit_is x))
-    (may_start _ _ _ _ _ _ _ _ c.requires.can.agrees (split _ _ _ _ _ _ _ _ _ h) (in_rest _ _ _ h.behind h.within) (not_first _ _ _ _ _ _ _ _ _ h) caused)
+    (may_start _ _ _ _ _ _ _ _ c.requires.can.agrees (split _ _ _ _ _ _ _ _ _ h) (in_rest _ _ _ h.following h.within) (not_first _ _ _ _ _ _ _ _ _ h) caused)
 
 pub loop-at-preserved : goal.loop-at-preserved
 loop-at-preserved c =
@@ -98,7 +98,7 @@ loop-at-preserved c =
       front = g.front;
       minimal = g.minimal;
       some = g.some;
-      behind = g.behind;
+      following = g.following;
       size = g.length_is ∙ c.loop-at.invariant.size;
       first = g.head;
     }

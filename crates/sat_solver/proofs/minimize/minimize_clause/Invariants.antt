@@ -10,7 +10,7 @@ invariant-loop-at l = record {
   front : KeepsFront l.fn.analysis l.analysis;
   minimal : Minimal l.clauses (state_of l.assignment l.graph l.trail) (falsified l.clauses l.conflict) (get_or l.fn.analysis.clause 0 0) l.low (take l.kept l.analysis.clause ++ drop l.at l.analysis.clause) l.analysis;
   some : 1 ≤ l.kept;
-  behind : l.kept ≤ l.at;
+  following : l.kept ≤ l.at;
   size : length l.analysis.clause ≡ length l.fn.analysis.clause;
   first : get_or l.analysis.clause 0 0 ≡ get_or l.fn.analysis.clause 0 0;
 }

@@ -20,7 +20,7 @@ pub returns-then-round-restarts-clause-due : goal.returns-then-round-restarts-cl
 returns-then-round-restarts-clause-due g c = inl (omega (arith, c.if-round-restarts.true), refl, refl)
 
 pub restart-requires : goal.restart-requires
-restart-requires g c = record { holds = c.requires.core.search.stands.holds; placed = c.requires.core.search.ready.placed }
+restart-requires g c = record { holds = c.requires.core.search.valid.holds; placed = c.requires.core.search.ready.placed }
 
 pub returns-clause-joined : goal.returns-clause-joined
 returns-clause-joined g c =

@@ -20,8 +20,8 @@ one_more A m n le h = subst A (let e : m - n + 1 ≡ m + 1 - n = omega arith in 
 one_less : (A : ℕ → Type 0) (m n : ℕ) → n ≤ m → A (m - n) → A (m + 1 - n - 1)
 one_less A m n le h = subst A (let e : m - n ≡ m + 1 - n - 1 = omega arith in e) h
 
-pub loop-steps-init : goal.loop-steps-init
-loop-steps-init g c =
+pub loop-rounds-init : goal.loop-rounds-init
+loop-rounds-init g c =
     let core = c.args.core.now in
     record {
       joined = c.requires.joined;
@@ -30,181 +30,181 @@ loop-steps-init g c =
       most = refl;
       before = omega arith;
       within = omega (arith, c.saturating_add-end.ensures);
-      come = λ few. come_begins words_in core (values_in core) c.args.steps.now c.args.restarts.now.next c.args.restarts.now.sequence (trail_letters core.search.parts.trail) (core_word core) few;
-      goes = from_start (λ k. ComesByRounds g.W.CountedWrite.seen core c.args.names.now k core c.args.names.now) c.args.steps.now (gone_none g.W.CountedWrite.seen core c.args.names.now c.requires.joined.stands);
+      come = λ few. come_begins words_in core (values_in core) c.args.rounds.now c.args.restarts.now.next c.args.restarts.now.sequence (trail_letters core.search.parts.trail) (core_word core) few;
+      goes = from_start (λ k. ComesByRounds g.W.CountedWrite.seen core c.args.names.now k core c.args.names.now) c.args.rounds.now (gone_none g.W.CountedWrite.seen core c.args.names.now c.requires.joined.valid);
       rounds = no_round;
     }
 
 pub restart_where_due-requires : goal.restart_where_due-requires
 restart_where_due-requires g c = record {
-  core = c.loop-steps.invariant.joined.sound;
-  scale = c.loop-steps.invariant.scale;
-  counts = omega (arith, c.loop-steps-test.true, c.saturating_add-end.ensures);
+  core = c.loop-rounds.invariant.joined.sound;
+  scale = c.loop-rounds.invariant.scale;
+  counts = omega (arith, c.loop-rounds-test.true, c.saturating_add-end.ensures);
 }
 
 pub reduce-requires : goal.reduce-requires
 reduce-requires g c =
-    let b = c.restart_where_due.ensures.joined c.loop-steps.names c.loop-steps.invariant.joined in
+    let b = c.restart_where_due.ensures.joined c.loop-rounds.names c.loop-rounds.invariant.joined in
     record { keeps = b.sound.keeps; search = b.sound.search; locals = b.sound.locals; mids = b.sound.mids }
 
 pub conflict_step-requires : goal.conflict_step-requires
 conflict_step-requires g c =
     let b = c.restart_where_due.new.core in
     let r : Core g.row.W.Denot g.row.P.Denot g.P.ProofProcessor = record b { proof = c.reduce.new.proof; search = c.reduce.new.search } in
-    let restarted = c.restart_where_due.ensures.joined c.loop-steps.names c.loop-steps.invariant.joined in
-    let reduced = reduced_sound g.W.CountedWrite.seen b r c.loop-steps.names c.loop-steps.steps refl restarted tt c.in_ok-reduce.ensures in
-    record { together = record { keeps = reduced.sound.keeps; stands = reduced.stands; search = reduced.sound.search; shares = reduced.shares } }
+    let restarted = c.restart_where_due.ensures.joined c.loop-rounds.names c.loop-rounds.invariant.joined in
+    let reduced = reduced_sound g.W.CountedWrite.seen b r c.loop-rounds.names c.loop-rounds.rounds refl restarted tt c.in_ok-reduce.ensures in
+    record { together = record { keeps = reduced.sound.keeps; valid = reduced.valid; search = reduced.sound.search; shares = reduced.shares } }
 
-pub loop-steps-preserved : goal.loop-steps-preserved
-loop-steps-preserved g c =
+pub loop-rounds-preserved : goal.loop-rounds-preserved
+loop-rounds-preserved g c =
     let seen = g.W.CountedWrite.seen in
-    let i = c.loop-steps.invariant in
+    let i = c.loop-rounds.invariant in
     let n : ℕ = values_in c.args.core.now in
     let b = c.restart_where_due.new.core in
     let r : Core g.row.W.Denot g.row.P.Denot g.P.ProofProcessor = record b { proof = c.reduce.new.proof; search = c.reduce.new.search } in
     let d : Core g.row.W.Denot g.row.P.Denot g.P.ProofProcessor = record b { proof = c.conflict_step.new.proof; search = c.conflict_step.new.search } in
     let learned = c.if-not-is_learned.ensures.0 refl in
-    let restarted = c.restart_where_due.ensures.joined c.loop-steps.names i.joined in
-    let sound = reduced_sound seen b r c.loop-steps.names c.loop-steps.steps refl restarted tt c.in_ok-reduce.ensures in
+    let restarted = c.restart_where_due.ensures.joined c.loop-rounds.names i.joined in
+    let sound = reduced_sound seen b r c.loop-rounds.names c.loop-rounds.rounds refl restarted tt c.in_ok-reduce.ensures in
     let most : values_in r ≡ n = c.in_ok-reduce.ensures.ends.0.moved.size ∙ c.restart_where_due.ensures.most ∙ i.most in
     let rounded = c.in_ok-outcome.ensures in
     let out = c.in_ok-outcome.outcome in
     let names = c.conflict_step.new.names in
     record {
-      joined = round_sound seen r d c.loop-steps.names names refl sound out rounded learned;
+      joined = round_sound seen r d c.loop-rounds.names names refl sound out rounded learned;
       scale = omega (arith, c.restart_where_due.ensures.scale, i.scale);
       same = c.restart_where_due.ensures.scale ∙ i.same;
-      most = round_most seen r d c.loop-steps.names names refl sound out rounded learned ∙ most;
+      most = round_most seen r d c.loop-rounds.names names refl sound out rounded learned ∙ most;
       before = omega (arith, i.before);
-      within = omega (arith, c.loop-steps-test.true);
+      within = omega (arith, c.loop-rounds-test.true);
       come = λ few.
-          come_climbs words_in r d n c.args.steps.now c.loop-steps.steps c.restart_where_due.new.restarts.next c.restart_where_due.new.restarts.sequence
-          (subst (λ m. Climbs words_in m r d) most (round_words seen r d c.loop-steps.names names refl sound out rounded learned))
-          (come_keeps words_in b r n c.args.steps.now c.loop-steps.steps c.restart_where_due.new.restarts.next c.restart_where_due.new.restarts.sequence
-          (reduced_words seen b r c.loop-steps.names c.loop-steps.steps refl restarted tt c.in_ok-reduce.ensures)
-          (c.restart_where_due.ensures.come n c.args.steps.now (i.come few)));
+          come_climbs words_in r d n c.args.rounds.now c.loop-rounds.rounds c.restart_where_due.new.restarts.next c.restart_where_due.new.restarts.sequence
+          (subst (λ m. Climbs words_in m r d) most (round_words seen r d c.loop-rounds.names names refl sound out rounded learned))
+          (come_keeps words_in b r n c.args.rounds.now c.loop-rounds.rounds c.restart_where_due.new.restarts.next c.restart_where_due.new.restarts.sequence
+          (reduced_words seen b r c.loop-rounds.names c.loop-rounds.rounds refl restarted tt c.in_ok-reduce.ensures)
+          (c.restart_where_due.ensures.come n c.args.rounds.now (i.come few)));
       goes =
-          one_more (λ k. ComesByRounds seen c.args.core.now c.args.names.now k d names) c.loop-steps.steps c.args.steps.now i.before
-          (round_goes seen r d c.loop-steps.names names refl sound out rounded learned c.args.core.now c.args.names.now (c.loop-steps.steps - c.args.steps.now)
-          (reduced_goes seen b r c.loop-steps.names c.loop-steps.steps refl restarted tt c.in_ok-reduce.ensures c.args.core.now c.args.names.now (c.loop-steps.steps - c.args.steps.now)
-          (c.restart_where_due.ensures.goes c.args.core.now c.args.names.now c.loop-steps.names (c.loop-steps.steps - c.args.steps.now) i.goes)));
+          one_more (λ k. ComesByRounds seen c.args.core.now c.args.names.now k d names) c.loop-rounds.rounds c.args.rounds.now i.before
+          (round_goes seen r d c.loop-rounds.names names refl sound out rounded learned c.args.core.now c.args.names.now (c.loop-rounds.rounds - c.args.rounds.now)
+          (reduced_goes seen b r c.loop-rounds.names c.loop-rounds.rounds refl restarted tt c.in_ok-reduce.ensures c.args.core.now c.args.names.now (c.loop-rounds.rounds - c.args.rounds.now)
+          (c.restart_where_due.ensures.goes c.args.core.now c.args.names.now c.loop-rounds.names (c.loop-rounds.rounds - c.args.rounds.now) i.goes)));
       rounds = one_more_round i.rounds (record {
-        behind_restart = b;
+        after_restart = b;
         due = c.restart_where_due.ensures.due;
-        behind_reduction = r;
-        reduction = reduced_at seen b r c.loop-steps.steps refl tt c.in_ok-reduce.ensures;
-        ends = subst (λ o. RoundOf seen r c.loop-steps.names o d names) learned (record { ends = rounded; config = refl });
+        after_reduction = r;
+        reduction = reduced_at seen b r c.loop-rounds.rounds refl tt c.in_ok-reduce.ensures;
+        ends = subst (λ o. RoundOf seen r c.loop-rounds.names o d names) learned (record { ends = rounded; config = refl });
       });
     }
 
 pub returns-then-not-is_learned-clause-counts : goal.returns-then-not-is_learned-clause-counts
 returns-then-not-is_learned-clause-counts g c = record {
-  more = omega (arith, c.loop-steps.invariant.before);
-  within = omega (arith, c.loop-steps-test.true, c.saturating_add-end.ensures);
-  few = few_rounds words_in c.loop-steps.core (values_in c.args.core.now) c.args.steps.now c.loop-steps.steps c.loop-steps.restarts.next c.loop-steps.restarts.sequence
-      (omega (arith, c.loop-steps-test.true, c.saturating_add-end.ensures)) c.loop-steps.invariant.come;
+  more = omega (arith, c.loop-rounds.invariant.before);
+  within = omega (arith, c.loop-rounds-test.true, c.saturating_add-end.ensures);
+  few = few_rounds words_in c.loop-rounds.core (values_in c.args.core.now) c.args.rounds.now c.loop-rounds.rounds c.loop-rounds.restarts.next c.loop-rounds.restarts.sequence
+      (omega (arith, c.loop-rounds-test.true, c.saturating_add-end.ensures)) c.loop-rounds.invariant.come;
 }
 
 pub returns-then-not-is_learned-clause-round : goal.returns-then-not-is_learned-clause-round
-returns-then-not-is_learned-clause-round g c = λ k. omega (arith, c.loop-steps.invariant.before)
+returns-then-not-is_learned-clause-round g c = λ k. omega (arith, c.loop-rounds.invariant.before)
 
 pub returns-then-not-is_learned-clause-ends : goal.returns-then-not-is_learned-clause-ends
 returns-then-not-is_learned-clause-ends g c =
     let seen = g.W.CountedWrite.seen in
-    let i = c.loop-steps.invariant in
-    let k : ℕ = c.loop-steps.steps - c.args.steps.now in
+    let i = c.loop-rounds.invariant in
+    let k : ℕ = c.loop-rounds.rounds - c.args.rounds.now in
     let b = c.restart_where_due.new.core in
     let r : Core g.row.W.Denot g.row.P.Denot g.P.ProofProcessor = record b { proof = c.reduce.new.proof; search = c.reduce.new.search } in
     let d : Core g.row.W.Denot g.row.P.Denot g.P.ProofProcessor = record b { proof = c.conflict_step.new.proof; search = c.conflict_step.new.search } in
-    let restarted = c.restart_where_due.ensures.joined c.loop-steps.names i.joined in
-    let sound = reduced_sound seen b r c.loop-steps.names c.loop-steps.steps refl restarted tt c.in_ok-reduce.ensures in
-    one_less (λ k. Ended seen c.args.core.now c.args.names.now k c.in_ok-outcome.outcome d c.conflict_step.new.names) c.loop-steps.steps c.args.steps.now i.before
-    (round_ends seen r d c.loop-steps.names c.conflict_step.new.names refl sound c.in_ok-outcome.outcome c.in_ok-outcome.ensures (λ e. true≢false (sym (c.if-not-is_learned.ensures.1 e))) c.args.core.now c.args.names.now k
-    (reduced_goes seen b r c.loop-steps.names c.loop-steps.steps refl restarted tt c.in_ok-reduce.ensures c.args.core.now c.args.names.now k
-    (c.restart_where_due.ensures.goes c.args.core.now c.args.names.now c.loop-steps.names k i.goes)))
+    let restarted = c.restart_where_due.ensures.joined c.loop-rounds.names i.joined in
+    let sound = reduced_sound seen b r c.loop-rounds.names c.loop-rounds.rounds refl restarted tt c.in_ok-reduce.ensures in
+    one_less (λ k. Ended seen c.args.core.now c.args.names.now k c.in_ok-outcome.outcome d c.conflict_step.new.names) c.loop-rounds.rounds c.args.rounds.now i.before
+    (round_ends seen r d c.loop-rounds.names c.conflict_step.new.names refl sound c.in_ok-outcome.outcome c.in_ok-outcome.ensures (λ e. true≢false (sym (c.if-not-is_learned.ensures.1 e))) c.args.core.now c.args.names.now k
+    (reduced_goes seen b r c.loop-rounds.names c.loop-rounds.rounds refl restarted tt c.in_ok-reduce.ensures c.args.core.now c.args.names.now k
+    (c.restart_where_due.ensures.goes c.args.core.now c.args.names.now c.loop-rounds.names k i.goes)))
 
 pub returns-then-not-is_learned-clause-rounds : goal.returns-then-not-is_learned-clause-rounds
 returns-then-not-is_learned-clause-rounds g c =
     let b = c.restart_where_due.new.core in
     let r : Core g.row.W.Denot g.row.P.Denot g.P.ProofProcessor = record b { proof = c.reduce.new.proof; search = c.reduce.new.search } in (
-      c.loop-steps.core,
-      c.loop-steps.names,
-      c.loop-steps.restarts,
-      c.loop-steps.steps,
+      c.loop-rounds.core,
+      c.loop-rounds.names,
+      c.loop-rounds.restarts,
+      c.loop-rounds.rounds,
       refl,
-      c.loop-steps.invariant.rounds,
+      c.loop-rounds.invariant.rounds,
       record {
-        behind_restart = b;
+        after_restart = b;
         due = c.restart_where_due.ensures.due;
-        behind_reduction = r;
-        reduction = reduced_at g.W.CountedWrite.seen b r c.loop-steps.steps refl tt c.in_ok-reduce.ensures;
+        after_reduction = r;
+        reduction = reduced_at g.W.CountedWrite.seen b r c.loop-rounds.rounds refl tt c.in_ok-reduce.ensures;
         ends = record { ends = c.in_ok-outcome.ensures; config = refl };
       },
     )
 
 pub returns : goal.returns
 returns g c =
-    let few = few_rounds words_in c.loop-steps.core (values_in c.args.core.now) c.args.steps.now c.loop-steps.steps c.loop-steps.restarts.next c.loop-steps.restarts.sequence
-    (omega (arith, c.loop-steps.invariant.within, c.saturating_add-end.ensures)) c.loop-steps.invariant.come in
+    let few = few_rounds words_in c.loop-rounds.core (values_in c.args.core.now) c.args.rounds.now c.loop-rounds.rounds c.loop-rounds.restarts.next c.loop-rounds.restarts.sequence
+    (omega (arith, c.loop-rounds.invariant.within, c.saturating_add-end.ensures)) c.loop-rounds.invariant.come in
     record {
-      scale = c.loop-steps.invariant.same;
+      scale = c.loop-rounds.invariant.same;
       counts = record {
-        more = c.loop-steps.invariant.before;
-        within = omega (arith, c.loop-steps.invariant.within, c.saturating_add-end.ensures);
+        more = c.loop-rounds.invariant.before;
+        within = omega (arith, c.loop-rounds.invariant.within, c.saturating_add-end.ensures);
         few = omega (arith, few);
       };
       round = λ k. absurd (k refl);
-      interrupted = λ e. omega (arith, c.loop-steps-test.false, c.saturating_add-end.ensures, c.loop-steps.invariant.within);
-      answered = λ n le left e. none_left n (values_in c.args.core.now) c.args.steps.now c.loop-steps.steps c.args.max_steps le (omega (arith, few)) c.loop-steps.invariant.before left
-          (omega (arith, c.loop-steps-test.false, c.saturating_add-end.ensures));
-      goes = λ e. record { joined = c.loop-steps.invariant.joined; gone = c.loop-steps.invariant.goes };
+      interrupted = λ e. omega (arith, c.loop-rounds-test.false, c.saturating_add-end.ensures, c.loop-rounds.invariant.within);
+      answered = λ n le left e. none_left n (values_in c.args.core.now) c.args.rounds.now c.loop-rounds.rounds c.args.max_steps le (omega (arith, few)) c.loop-rounds.invariant.before left
+          (omega (arith, c.loop-rounds-test.false, c.saturating_add-end.ensures));
+      goes = λ e. record { joined = c.loop-rounds.invariant.joined; gone = c.loop-rounds.invariant.goes };
       ends = tt;
-      rounds = c.loop-steps.invariant.rounds;
+      rounds = c.loop-rounds.invariant.rounds;
       fails = tt;
     }
 
 pub returns-in_err-reduce-clause-counts : goal.returns-in_err-reduce-clause-counts
 returns-in_err-reduce-clause-counts g c =
-    let few = few_rounds words_in c.loop-steps.core (values_in c.args.core.now) c.args.steps.now c.loop-steps.steps c.loop-steps.restarts.next c.loop-steps.restarts.sequence
-    (omega (arith, c.loop-steps-test.true, c.saturating_add-end.ensures)) c.loop-steps.invariant.come in
+    let few = few_rounds words_in c.loop-rounds.core (values_in c.args.core.now) c.args.rounds.now c.loop-rounds.rounds c.loop-rounds.restarts.next c.loop-rounds.restarts.sequence
+    (omega (arith, c.loop-rounds-test.true, c.saturating_add-end.ensures)) c.loop-rounds.invariant.come in
     record {
-      more = c.loop-steps.invariant.before;
-      within = omega (arith, c.loop-steps-test.true, c.saturating_add-end.ensures);
+      more = c.loop-rounds.invariant.before;
+      within = omega (arith, c.loop-rounds-test.true, c.saturating_add-end.ensures);
       few = omega (arith, few);
     }
 
 pub returns-in_err-reduce-clause-fails : goal.returns-in_err-reduce-clause-fails
 returns-in_err-reduce-clause-fails g c =
     let seen = g.W.CountedWrite.seen in
-    let i = c.loop-steps.invariant in
-    let k : ℕ = c.loop-steps.steps - c.args.steps.now in
+    let i = c.loop-rounds.invariant in
+    let k : ℕ = c.loop-rounds.rounds - c.args.rounds.now in
     let b = c.restart_where_due.new.core in
     let r : Core g.row.W.Denot g.row.P.Denot g.P.ProofProcessor = record b { proof = c.reduce.new.proof; search = c.reduce.new.search } in
     let p = err_from_is_err_and c.from_residual.result c.from_residual.ensures.1 in
-    rw (p.1, p.2) (reduced_fails seen b r c.loop-steps.names c.loop-steps.steps refl (c.restart_where_due.ensures.joined c.loop-steps.names i.joined) _ c.in_err-reduce.ensures c.args.core.now c.args.names.now k
-    (c.restart_where_due.ensures.goes c.args.core.now c.args.names.now c.loop-steps.names k i.goes))
+    rw (p.1, p.2) (reduced_fails seen b r c.loop-rounds.names c.loop-rounds.rounds refl (c.restart_where_due.ensures.joined c.loop-rounds.names i.joined) _ c.in_err-reduce.ensures c.args.core.now c.args.names.now k
+    (c.restart_where_due.ensures.goes c.args.core.now c.args.names.now c.loop-rounds.names k i.goes))
 
 pub returns-in_err-outcome-clause-counts : goal.returns-in_err-outcome-clause-counts
 returns-in_err-outcome-clause-counts g c =
-    let few = few_rounds words_in c.loop-steps.core (values_in c.args.core.now) c.args.steps.now c.loop-steps.steps c.loop-steps.restarts.next c.loop-steps.restarts.sequence
-    (omega (arith, c.loop-steps-test.true, c.saturating_add-end.ensures)) c.loop-steps.invariant.come in
+    let few = few_rounds words_in c.loop-rounds.core (values_in c.args.core.now) c.args.rounds.now c.loop-rounds.rounds c.loop-rounds.restarts.next c.loop-rounds.restarts.sequence
+    (omega (arith, c.loop-rounds-test.true, c.saturating_add-end.ensures)) c.loop-rounds.invariant.come in
     record {
-      more = c.loop-steps.invariant.before;
-      within = omega (arith, c.loop-steps-test.true, c.saturating_add-end.ensures);
+      more = c.loop-rounds.invariant.before;
+      within = omega (arith, c.loop-rounds-test.true, c.saturating_add-end.ensures);
       few = omega (arith, few);
     }
 
 pub returns-in_err-outcome-clause-fails : goal.returns-in_err-outcome-clause-fails
 returns-in_err-outcome-clause-fails g c =
     let seen = g.W.CountedWrite.seen in
-    let i = c.loop-steps.invariant in
-    let k : ℕ = c.loop-steps.steps - c.args.steps.now in
+    let i = c.loop-rounds.invariant in
+    let k : ℕ = c.loop-rounds.rounds - c.args.rounds.now in
     let b = c.restart_where_due.new.core in
     let r : Core g.row.W.Denot g.row.P.Denot g.P.ProofProcessor = record b { proof = c.reduce.new.proof; search = c.reduce.new.search } in
     let d : Core g.row.W.Denot g.row.P.Denot g.P.ProofProcessor = record b { proof = c.conflict_step.new.proof; search = c.conflict_step.new.search } in
-    let restarted = c.restart_where_due.ensures.joined c.loop-steps.names i.joined in
-    let sound = reduced_sound seen b r c.loop-steps.names c.loop-steps.steps refl restarted tt c.in_ok-reduce.ensures in
+    let restarted = c.restart_where_due.ensures.joined c.loop-rounds.names i.joined in
+    let sound = reduced_sound seen b r c.loop-rounds.names c.loop-rounds.rounds refl restarted tt c.in_ok-reduce.ensures in
     let p = err_from_is_err_and c.from_residual-in_err-outcome.result c.from_residual-in_err-outcome.ensures.1 in
-    rw (p.1, p.2) (round_fails seen r d c.loop-steps.names c.conflict_step.new.names refl sound _ c.in_err-outcome.ensures c.args.core.now c.args.names.now k
-    (reduced_goes seen b r c.loop-steps.names c.loop-steps.steps refl restarted tt c.in_ok-reduce.ensures c.args.core.now c.args.names.now k
-    (c.restart_where_due.ensures.goes c.args.core.now c.args.names.now c.loop-steps.names k i.goes)))
+    rw (p.1, p.2) (round_fails seen r d c.loop-rounds.names c.conflict_step.new.names refl sound _ c.in_err-outcome.ensures c.args.core.now c.args.names.now k
+    (reduced_goes seen b r c.loop-rounds.names c.loop-rounds.rounds refl restarted tt c.in_ok-reduce.ensures c.args.core.now c.args.names.now k
+    (c.restart_where_due.ensures.goes c.args.core.now c.args.names.now c.loop-rounds.names k i.goes)))

@@ -5,18 +5,18 @@ use Rattle.sat_solver.specs.schedule.Solving.{words_in, values_in, ComesByRounds
 use Rattle.sat_solver.specs.solver.Joined.{IsJoined}
 use Rattle.sat_solver.proofs.schedule.search.Given as goal
 
-abbrev pub invariant-loop-steps : goal.invariant-loop-steps
-invariant-loop-steps g l = record {
+abbrev pub invariant-loop-rounds : goal.invariant-loop-rounds
+invariant-loop-rounds g l = record {
   joined : IsJoined l.names l.core;
   scale : 0 < l.restarts.scale;
   same : l.restarts.scale ≡ l.fn.restarts.scale;
   most : values_in l.core ≡ values_in l.fn.core;
-  before : l.fn.steps ≤ l.steps;
-  within : l.steps ≤ l.end;
-  come : values_in l.fn.core < 63 → AskReachesRound words_in l.core (values_in l.fn.core) l.fn.steps l.steps l.restarts.next l.restarts.sequence;
-  goes : ComesByRounds g.W.CountedWrite.seen l.fn.core l.fn.names (l.steps - l.fn.steps) l.core l.names;
-  rounds : AreRounds Restarted (ReducedAt g.W.CountedWrite.seen) (RoundOf g.W.CountedWrite.seen) l.fn.core l.fn.names l.fn.restarts l.fn.steps l.core l.names l.restarts l.steps;
+  before : l.fn.rounds ≤ l.rounds;
+  within : l.rounds ≤ l.end;
+  come : values_in l.fn.core < 63 → AskReachesRound words_in l.core (values_in l.fn.core) l.fn.rounds l.rounds l.restarts.next l.restarts.sequence;
+  goes : ComesByRounds g.W.CountedWrite.seen l.fn.core l.fn.names (l.rounds - l.fn.rounds) l.core l.names;
+  rounds : AreRounds Restarted (ReducedAt g.W.CountedWrite.seen) (RoundOf g.W.CountedWrite.seen) l.fn.core l.fn.names l.fn.restarts l.fn.rounds l.core l.names l.restarts l.rounds;
 }
 
-abbrev pub decreases-loop-steps : goal.decreases-loop-steps
-decreases-loop-steps g l = l.end - l.steps
+abbrev pub decreases-loop-rounds : goal.decreases-loop-rounds
+decreases-loop-rounds g l = l.end - l.rounds

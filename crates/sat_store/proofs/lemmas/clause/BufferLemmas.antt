@@ -55,13 +55,13 @@ same_len v w p keeps = sym (header_len w p) ∙ ap (λ (h : Header). h.len) keep
 
 still_apart : (v w : List ℕ) (p q : ℕ) → HaveNoCommonWord v p q → get_or w (p + 2) 0 ≤ get_or v (p + 2) 0 → get_or w (q + 2) 0 ≤ get_or v (q + 2) 0 → HaveNoCommonWord w p q
 unfolding HaveNoCommonWord
-still_apart v w p q apart a b = elim apart [ inl before ↦ inl (omega arith) | inr behind ↦ inr (omega arith) ]
+still_apart v w p q apart a b = elim apart [ inl before ↦ inl (omega arith) | inr following ↦ inr (omega arith) ]
 
 pub others_kept : (v w : List ℕ) (o : ℕ) → length w ≡ length v → ((i : ℕ) → i < o → get_or w i 0 ≡ get_or v i 0) → ((i : ℕ) → o + 3 + get_or v (o + 2) 0 ≤ i → get_or w i 0 ≡ get_or v i 0) → (p : ℕ) → IsClause v p → HaveNoCommonWord v o p → SameClauseAt v w p
 unfolding HaveNoCommonWord
 others_kept v w o size below above p c apart = elim apart [
   | inl before ↦ kept v w p c (omega arith) (λ i h k. above i (omega arith))
-  | inr behind ↦ kept v w p c (omega arith) (λ i h k. below i (omega arith))
+  | inr following ↦ kept v w p c (omega arith) (λ i h k. below i (omega arith))
 ]
 
 -- a write within the words of the clause at o, which is at most as long as before
@@ -289,7 +289,7 @@ header_read v w p o a f l e g c read_a read_f read_l h is =
     let third : l ≡ get_or v (p + 2) 0 = get_or_read v (p + 2) l (omega (arith, c.whole)) read_l 0 in
     is ∙ rw (first, second, third, e, g) refl
 
--- a clause behind all others
+-- a clause after all others
 
 single : (c x : ℕ) → Contains (c ∷ []) x → x ≡ c
 single c x (zero, h, e) = sym e
@@ -302,7 +302,7 @@ pub record WroteClause (v w : List ℕ) (a f : ℕ) (ls : List ℕ) : Type 0 whe
   pub size : length w ≡ length v + 3 + length ls
   pub front : take (length v) w ≡ v
   pub before : (i : ℕ) → i < length v → get_or w i 0 ≡ get_or v i 0
-  pub behind : (k : ℕ) → get_or w (length v + 3 + k) 0 ≡ get_or ls k 0
+  pub following : (k : ℕ) → get_or w (length v + 3 + k) 0 ≡ get_or ls k 0
 
 wrote_clause : (v : List ℕ) (a f : ℕ) (ls : List ℕ) → WroteClause v (v ++ (a ∷ f ∷ length ls ∷ ls)) a f ls
 wrote_clause v a f ls =
@@ -315,12 +315,12 @@ wrote_clause v a f ls =
       size = omega (arith, length-append v new);
       front = take-append_seam v new;
       before = λ i h. get_or_append_left v new 0 i h;
-      behind = λ k. let e : length v + 3 + k ≡ length v + suc (suc (suc k)) = omega arith in ap (λ (i : ℕ). get_or (v ++ new) i 0) e ∙ get_or-append-add v new (suc (suc (suc k))) 0;
+      following = λ k. let e : length v + 3 + k ≡ length v + suc (suc (suc k)) = omega arith in ap (λ (i : ℕ). get_or (v ++ new) i 0) e ∙ get_or-append-add v new (suc (suc (suc k))) 0;
     }
 
-apart_behind : (v w : List ℕ) (p : ℕ) → IsClause v p → SameClauseAt v w p → HaveNoCommonWord w p (length v) × HaveNoCommonWord w (length v) p
+apart_after : (v w : List ℕ) (p : ℕ) → IsClause v p → SameClauseAt v w p → HaveNoCommonWord w p (length v) × HaveNoCommonWord w (length v) p
 unfolding HaveNoCommonWord
-apart_behind v w p c keeps =
+apart_after v w p c keeps =
     let n : get_or w (p + 2) 0 ≡ get_or v (p + 2) 0 = same_len v w p keeps in
     (inl (omega (arith, c.whole)), inr (omega (arith, c.whole)))
 
@@ -332,7 +332,7 @@ added_clause v w a f ls h wrote small fit is =
     let clause : IsClause w (length v) = record {
       flags = omega (arith, wrote.second);
       whole = omega arith;
-      lits = λ k p. let e : get_or w (length v + 3 + k) 0 ≡ get_or ls k 0 = wrote.behind k in omega (arith, fit k 0 (omega arith));
+      lits = λ k p. let e : get_or w (length v + 3 + k) 0 ≡ get_or ls k 0 = wrote.following k in omega (arith, fit k 0 (omega arith));
     } in
     let others : (p : ℕ) → IsClause v p → SameClauseAt v w p = λ p c. kept v w p c (omega arith) (λ i x y. wrote.before i (omega (arith, c.whole))) in
     let count : length (lits_at w (length v)) ≡ length ls = lits_count w (length v) clause ∙ third in
@@ -340,7 +340,7 @@ added_clause v w a f ls h wrote small fit is =
       place = refl;
       clause = clause;
       header_there = rw (wrote.first, wrote.second, wrote.third) (ap (λ (g : Header). record g { len = length ls }) is);
-      lits_there = ext_get_or 0 (lits_at w (length v)) ls count (λ k p. lit_there w (length v) k (omega arith) ∙ wrote.behind k);
+      lits_there = ext_get_or 0 (lits_at w (length v)) ls count (λ k p. lit_there w (length v) k (omega arith) ∙ wrote.following k);
       size = size;
       front = wrote.front;
       others = others;
@@ -356,10 +356,10 @@ added_clause v w a f ls h wrote small fit is =
                 let keeps_o : SameClauseAt v w o = others o (laid.clauses o old_o) in
                 let keeps_p : SameClauseAt v w p = others p (laid.clauses p old_p) in
                 still_apart v w o p (laid.apart o p old_o old_p differ) (omega (arith, same_len v w o keeps_o)) (omega (arith, same_len v w p keeps_p))
-            | inr new_p ↦ subst (HaveNoCommonWord w o) (sym (single (length v) p new_p)) (apart_behind v w o (laid.clauses o old_o) (others o (laid.clauses o old_o))).0
+            | inr new_p ↦ subst (HaveNoCommonWord w o) (sym (single (length v) p new_p)) (apart_after v w o (laid.clauses o old_o) (others o (laid.clauses o old_o))).0
           ]
           | inr new_o ↦ elim (Contains-append_cases live (length v ∷ []) p has_p) [
-            | inl old_p ↦ subst (λ (x : ℕ). HaveNoCommonWord w x p) (sym (single (length v) o new_o)) (apart_behind v w p (laid.clauses p old_p) (others p (laid.clauses p old_p))).1
+            | inl old_p ↦ subst (λ (x : ℕ). HaveNoCommonWord w x p) (sym (single (length v) o new_o)) (apart_after v w p (laid.clauses p old_p) (others p (laid.clauses p old_p))).1
             | inr new_p ↦ absurd (differ (single (length v) o new_o ∙ sym (single (length v) p new_p)))
           ]
         ];
@@ -429,7 +429,7 @@ alone_lits w c =
     let n : 3 + get_or w 2 0 - 3 ≡ get_or w 2 0 = omega arith in
     (omega (arith, c.whole), ap (λ (k : ℕ). take k (drop 3 w)) n)
 
--- a clause copied behind all others
+-- a clause copied after all others
 
 copied_words : (v u : List ℕ) (o m : ℕ) → IsClause u o → m ≡ 3 + get_or u (o + 2) 0 → WroteClause v (v ++ take m (drop o u)) (get_or u o 0) (get_or u (o + 1) 0) (lits_at u o)
 copied_words v u o m c is =
@@ -445,7 +445,7 @@ copied_words v u o m c is =
       size = omega (arith, length-append v part);
       front = take-append_seam v part;
       before = λ i h. get_or_append_left v part 0 i h;
-      behind = λ k.
+      following = λ k.
           let e : length v + 3 + k ≡ length v + (3 + k) = omega arith in
           let there : get_or (v ++ part) (length v + 3 + k) 0 ≡ get_or part (3 + k) 0 = ap (λ (i : ℕ). get_or (v ++ part) i 0) e ∙ get_or-append-add v part (3 + k) 0 in
           elim (cases_lt k (get_or u (o + 2) 0)) [

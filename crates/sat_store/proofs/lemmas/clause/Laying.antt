@@ -50,4 +50,4 @@ pub ends_before : (words live : List ℕ) (o p : ℕ) → HoldsClauses words liv
 unfolding HaveNoCommonWord
 ends_before words live o p laid has_o has_p lt =
     let n : length (lits_at words o) ≡ get_or words (o + 2) 0 = lits_count words o (laid.clauses o has_o) in
-    elim (laid.apart o p has_o has_p (λ e. omega arith)) [ inl before ↦ omega arith | inr behind ↦ omega arith ]
+    elim (laid.apart o p has_o has_p (λ e. omega arith)) [ inl before ↦ omega arith | inr following ↦ omega arith ]

@@ -26,7 +26,7 @@ at_end xs x d n e = get_or_at xs x [] d n e
 one_longer : {A : Type 0} (xs : List A) (x : A) → length (xs ++ x ∷ []) ≡ length xs + 1
 one_longer xs x = omega (arith, length-append xs (x ∷ []))
 
--- a variable behind all others, of activity 0
+-- a variable after all others, of activity 0
 abbrev pub newcomer : ℕ → Entry
 newcomer v = record { key = 0; var = v }
 
@@ -185,17 +185,17 @@ keyed_keys h p v at x placed within is =
           ap (λ (e : Entry). e.key) (keyed_same h at x (get_or p u 0) apart) ∙ sym (key_of h p u there) ∙ sym (get_or-set_other (keys h p) v u x 0 differ)
     ])
 
--- behind the first m
-pub keyed_behind : (h : List Entry) (m at x : ℕ) → m ≤ at → Ordered (rank_at h) m 0 → Ordered (rank_at (keyed h at x)) m 0
-keyed_behind h m at x behind ordered = same_order (rank_at h) (rank_at (keyed h at x)) m (λ k small. ap rank (keyed_same h at x k (omega arith))) ordered
+-- after the first m
+pub keyed_after : (h : List Entry) (m at x : ℕ) → m ≤ at → Ordered (rank_at h) m 0 → Ordered (rank_at (keyed h at x)) m 0
+keyed_after h m at x following ordered = same_order (rank_at h) (rank_at (keyed h at x)) m (λ k small. ap rank (keyed_same h at x k (omega arith))) ordered
 
 pub keyed_heap : (h : List Entry) (p : List ℕ) (m v at x : ℕ) → IsHeap h p m → v < length h → get_or p v 0 ≡ at → m ≤ at → x < 2 ^ 60 → IsHeap (keyed h at x) p m
-keyed_heap h p m v at x heap within is behind fits = record {
+keyed_heap h p m v at x heap within is following fits = record {
   placed = keyed_placed h p at x heap.placed (omega (arith, heap.placed.placed v within));
   within = omega (arith, heap.within, keyed_count h at x);
   few = omega (arith, heap.few, keyed_count h at x);
   small = λ u. rw (keyed_keys h p v at x heap.placed within is) (below_limit (keys h p) v x u (2 ^ 60) heap.small fits);
-  ordered = keyed_behind h m at x behind heap.ordered;
+  ordered = keyed_after h m at x following heap.ordered;
 }
 
 -- the same of an entry that was read before
@@ -209,8 +209,8 @@ place_read p i v at within same is = sym (get_or_read p i at within is 0 ∙ ap 
 pub key_there : (h : List Entry) (p : List ℕ) (m v at : ℕ) → IsHeap h p m → v < length h → get_or p v 0 ≡ at → key_at h at ≡ get_or (keys h p) v 0
 key_there h p m v at heap within is = sym (key_of h p v (omega (arith, heap.placed.count)) ∙ ap (key_at h) is)
 
-pub behind_those : (p : List ℕ) (m v : ℕ) → v < length p → get_or (flags m p) v false ≡ false → m ≤ get_or p v 0
-behind_those p m v within flag = elim (cases_lt (get_or p v 0) m) [
+pub after_those : (p : List ℕ) (m v : ℕ) → v < length p → get_or (flags m p) v false ≡ false → m ≤ get_or p v 0
+after_those p m v within flag = elim (cases_lt (get_or p v 0) m) [
   | inl less ↦ absurd (false≢true (sym flag ∙ flag_at m p v within ∙ below_test (get_or p v 0) m less))
   | inr more ↦ more
 ]
@@ -346,7 +346,7 @@ taken_down r s last i within ex fits ordered = record {
       omega (arith, ex.others k (omega arith) (omega arith), ex.others (parent i) (omega arith) (omega arith), ordered k pos (omega arith) (omega arith), ordered i some (omega arith) (omega arith));
 }
 
--- where the variable that comes or goes was exchanged with the one behind the first
+-- where the variable that comes or goes was exchanged with the one after the first
 
 pub heap_of : (h h' h'' : List Entry) (p p' p'' : List ℕ) (m n i j : ℕ) → IsHeap h p m → Exchanged h p h' p' i j → Rearranged n h' p' h'' p'' → n ≤ length h → Ordered (rank_at h'') n 0 → IsHeap h'' p'' n
 heap_of h h' h'' p p' p'' m n i j heap ex same within ordered = record {
@@ -414,10 +414,10 @@ taken_flags h p p' (suc n) i placed within few t =
     ap (λ (x : ℕ). flags x p') e ∙ flags_taken n i (var_at h i) p p' within listed (placed.position i (omega arith)) (placed_once h p placed) moved
 
 pub given_flags : (h : List Entry) (p p' : List ℕ) (m i : ℕ) → Placed h p → m ≤ i → i < length h → Transposes p p' i m → flags (m + 1) p' ≡ set (flags m p) (var_at h i) true
-given_flags h p p' m i placed behind within t =
+given_flags h p p' m i placed following within t =
     let e : m + 1 ≡ suc m = omega arith in
     let listed : var_at h i < length p = omega (arith, placed.listed i within, placed.count) in
-    ap (λ (x : ℕ). flags x p') e ∙ flags_given m i (var_at h i) p p' behind listed (placed.position i within) (placed_once h p placed) t
+    ap (λ (x : ℕ). flags x p') e ∙ flags_given m i (var_at h i) p p' following listed (placed.position i within) (placed_once h p placed) t
 
 pub one_fewer : (r : ℕ → ℕ) (m : ℕ) → 0 < m → Ordered r m 0 → Ordered r (m - 1 + 1) 0
 one_fewer r m some ordered = let e : m - 1 + 1 ≡ m = omega arith in subst (λ (x : ℕ). Ordered r x 0) (sym e) ordered

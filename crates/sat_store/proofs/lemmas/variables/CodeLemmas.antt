@@ -22,8 +22,8 @@ decoded_more n = grind (arith, nat_tests)
 
 -- one number is written over, where the others were kept
 pub code_put : (xs ys : List ℕ) (from code : ℕ) (into : Option ℕ) → decoded code ≡ into → ((v : ℕ) → get_or ys v 0 ≡ get_or xs v 0) → from < length ys → PutsTarget (targets_of xs) (targets_of (set ys from code)) from into
-code_put xs ys from code into stands kept within v = target_decoded (set ys from code) v ∙ elim (cases_eq v from) [
-  | inl same ↦ rw (same_test v from same) (ap (λ (u : ℕ). decoded (get_or (set ys from code) u 0)) same ∙ ap decoded (get_or-set_same ys from code 0 within) ∙ stands)
+code_put xs ys from code into valid kept within v = target_decoded (set ys from code) v ∙ elim (cases_eq v from) [
+  | inl same ↦ rw (same_test v from same) (ap (λ (u : ℕ). decoded (get_or (set ys from code) u 0)) same ∙ ap decoded (get_or-set_same ys from code 0 within) ∙ valid)
   | inr differ ↦
       rw (other_test v from differ)
       (ap decoded (get_or-set_other ys from v code 0 differ ∙ kept v) ∙ sym (target_decoded xs v))

@@ -18,26 +18,26 @@ without : (k : AnswerKind) (head bytes : List ℕ) (r : Option (Bor (List ℕ)))
 without k head bytes None fault h some found e = let f : fault ≡ Text = cc in subst (NoLine k bytes) (sym f) (no_head k head bytes h some found)
 without k head bytes (Some x) fault h some found e = absurd cc
 
-within : (head bytes : List ℕ) (r : Option (Bor (List ℕ))) (behind : Bor (List ℕ))
-    → MatchOption r ((tail : List ℕ) → bytes ≡ head ++ tail → ⊥) (λ x. bytes ≡ head ++ x.now) → ◌≡◌ {A = Result (Bor (List ℕ)) AnswerFault} (Ok behind) (ok_or r Text) → bytes ≡ head ++ behind.now
-within head bytes None behind found e = absurd cc
-within head bytes (Some x) behind found e = let f : x ≡ behind = cc in found ∙ ap (λ b. head ++ b.now) f
+within : (head bytes : List ℕ) (r : Option (Bor (List ℕ))) (following : Bor (List ℕ))
+    → MatchOption r ((tail : List ℕ) → bytes ≡ head ++ tail → ⊥) (λ x. bytes ≡ head ++ x.now) → ◌≡◌ {A = Result (Bor (List ℕ)) AnswerFault} (Ok following) (ok_or r Text) → bytes ≡ head ++ following.now
+within head bytes None following found e = absurd cc
+within head bytes (Some x) following found e = let f : x ≡ following = cc in found ∙ ap (λ b. head ++ b.now) f
 
--- what was read behind it
-listed : (k : AnswerKind) (head bytes behind : List ℕ) (ls : List Literal) (r : Result (Bor (List ℕ)) AnswerFault) → IsHead k head → bytes ≢ [] → bytes ≡ head ++ behind
-    → MatchResult r (λ rest. IsInForm (outcome_of k ls) × (behind ≡ literals_text ls ++ rest.now)) (NoLiterals k behind)
+-- what was read after it
+listed : (k : AnswerKind) (head bytes following : List ℕ) (ls : List Literal) (r : Result (Bor (List ℕ)) AnswerFault) → IsHead k head → bytes ≢ [] → bytes ≡ head ++ following
+    → MatchResult r (λ rest. IsInForm (outcome_of k ls) × (following ≡ literals_text ls ++ rest.now)) (NoLiterals k following)
     → MatchResult r (λ rest. IsInForm (outcome_of k ls) × (bytes ≡ second_line (outcome_of k ls) ++ rest.now)) (NoLine k bytes)
-listed k head bytes behind ls (Ok rest) h some e r = (r.0, line_read k head bytes behind ls rest.now h e r.1)
-listed k head bytes behind ls (Err fault) h some e r = no_list k head bytes behind fault h some e r
+listed k head bytes following ls (Ok rest) h some e r = (r.0, line_read k head bytes following ls rest.now h e r.1)
+listed k head bytes following ls (Err fault) h some e r = no_list k head bytes following fault h some e r
 
-pub returns-in_err-behind : goal.returns-in_err-behind
-returns-in_err-behind c =
+pub returns-in_err-following : goal.returns-in_err-following
+returns-in_err-following c =
     let some : c.args.bytes.now ≢ [] = λ e. absurd (grind (arith, common_steps, c.is_empty.ensures, c.if-is_empty.false, ap length e)) in
     let p = err_from_is_err_and c.from_residual.result c.from_residual.ensures.1 in
-    rw (p.1, p.2) (without c.args.kind c.args.head.now c.args.bytes.now c.take_text.result c.in_err-behind.field-0.0 c.requires some c.take_text.ensures c.in_err-behind.ensures.value)
+    rw (p.1, p.2) (without c.args.kind c.args.head.now c.args.bytes.now c.take_text.result c.in_err-following.field-0.0 c.requires some c.take_text.ensures c.in_err-following.ensures.value)
 
 pub returns : goal.returns
 returns c =
     let some : c.args.bytes.now ≢ [] = λ e. absurd (grind (arith, common_steps, c.is_empty.ensures, c.if-is_empty.false, ap length e)) in
-    let e = within c.args.head.now c.args.bytes.now c.take_text.result c.in_ok-behind.behind c.take_text.ensures c.in_ok-behind.ensures.value in
-    listed c.args.kind c.args.head.now c.args.bytes.now c.in_ok-behind.behind.now (named_literals c.read_literals.new.line.items) c.read_literals.result c.requires some e c.read_literals.ensures
+    let e = within c.args.head.now c.args.bytes.now c.take_text.result c.in_ok-following.following c.take_text.ensures c.in_ok-following.ensures.value in
+    listed c.args.kind c.args.head.now c.args.bytes.now c.in_ok-following.following.now (named_literals c.read_literals.new.line.items) c.read_literals.result c.requires some e c.read_literals.ensures

@@ -10,4 +10,4 @@ returns-in_err-kind c =
 pub returns-in_err-rest : goal.returns-in_err-rest
 returns-in_err-rest c =
     let p = err_from_is_err_and c.from_residual-in_err-rest.result c.from_residual-in_err-rest.ensures.1 in
-    rw (p.1, p.2) (no_line c.in_ok-kind.kind c.args.bytes.now c.in_ok-kind.behind.now c.in_err-rest.field-0.0 c.in_ok-kind.ensures c.in_err-rest.ensures)
+    rw (p.1, p.2) (no_line c.in_ok-kind.kind c.args.bytes.now c.in_ok-kind.following.now c.in_err-rest.field-0.0 c.in_ok-kind.ensures c.in_err-rest.ensures)

@@ -47,4 +47,4 @@ returns-else-not-branch c =
     let both = subst (λ (b : Bool). AnswersWhether b (ListsUsed names line × AllAmong ask line)) c.if-not-branch.false c.in_ok-is_line-in-Model.ensures in
     subst (λ (d : Expected). IfOk c.compare_line.result (Compares (due_of d) c.args.known (step_of c.args.step.now))) (sym c.in-Model.is)
     (if_ok c.compare_line.result (ComparesLine c.args.known line (step_of c.args.step.now)) (Compares (due_of (code.Model c.in-Model.names c.in-Model.ask c.in-Model.line)) c.args.known (step_of c.args.step.now))
-    (λ r told. model_reported c.args.known (step_of c.args.step.now) names ask line r both.0 both.1 told) c.compare_line.ensures)
+    (λ r compared. model_reported c.args.known (step_of c.args.step.now) names ask line r both.0 both.1 compared) c.compare_line.ensures)

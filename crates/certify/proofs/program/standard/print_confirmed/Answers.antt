@@ -6,7 +6,7 @@ use Rattle.sat_base.specs.script.Language.{reading}
 use Rattle.certify.specs.run.FinishedRun.{CertificateGuarantee}
 use Rattle.certify.specs.run.RoundsLeft.{most_rounds}
 use Rattle.certify.specs.declared.verdict.Verdict.TheVariants.{Yes}
-use Rattle.certify.proofs.lemmas.laws.FinishedTexts.{backed_yes}
+use Rattle.certify.proofs.lemmas.laws.FinishedTexts.{guaranteed_yes}
 use Rattle.certify.proofs.lemmas.program.PrintedVerdicts.{malformed_is, prefix_cut, prefix_line, prefix_reported, prefix_whole}
 use Rattle.certify.proofs.lemmas.run.Stopping.{bytes_taken}
 use Rattle.certify.proofs.program.standard.print_confirmed.Given.{Over}
@@ -32,7 +32,7 @@ module _ (g : Over) (c : In_ok-verdict g) where
       let text = c.args.script.now in
       let guarantee = subst (λ (s : List ℕ). CertificateGuarantee text most_rounds w.summary s c.deref-3.result.now) (sym c.deref-2.ensures.value)
       (subst (λ (s : List ℕ). CertificateGuarantee text most_rounds w.summary w.answers.items s) (sym c.deref-3.ensures.value) c.requires) in
-      backed_yes most_rounds w.summary text c.deref-2.result.now c.deref-3.result.now c.in_ok-verdict.verdict guarantee c.in_ok-verdict.ensures.says
+      guaranteed_yes most_rounds w.summary text c.deref-2.result.now c.deref-3.result.now c.in_ok-verdict.verdict guarantee c.in_ok-verdict.ensures.says
 
   line_is : c.confirm_texts.new.line.items ≡ verdict_text Yes
   line_is = c.in_ok-verdict.ensures.line ∙ ap (λ (xs : List ℕ). xs ++ verdict_text c.in_ok-verdict.verdict) c.new-line.ensures.items ∙ ap verdict_text is_yes

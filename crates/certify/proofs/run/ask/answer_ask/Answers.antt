@@ -4,7 +4,7 @@ use Rattle.sat_base.specs.device.Device.{WriterBreaks, WriterTakes}
 use Rattle.sat_base.specs.script.Script.{Ask}
 use Rattle.certify.specs.answers.AnswerForms.{named_literals}
 use Rattle.sat_checker.specs.matching.Expected.{Unknown}
-use Rattle.certify.proofs.lemmas.run.RunStateCalls.{answers_say, ask_cut, ask_reported, asked_of, memory_says, nothing_stops, solver_says, sought_writes, takes_none, took_both}
+use Rattle.certify.proofs.lemmas.run.RunStateCalls.{answers_say, ask_cut, ask_reported, asked_of, memory_says, nothing_stops, solver_says, ask_writes, takes_none, took_both}
 use Rattle.sat_solver.specs.solver.View.{proof_in}
 use Rattle.sat_solver.specs.solver.Whole.{HasFullStore}
 use Rattle.certify.specs.run.SolverCalls.{LacksFor, RefusedForRoom}
@@ -18,33 +18,33 @@ returns-in_err-write_answer-clause-written g c =
     let p = err_from_is_err_and c.from_residual-in_err-write_answer.result c.from_residual-in_err-write_answer.ensures.1 in
     let s = c.args.session.now in
     rw (p.1, p.2) (answers_say g.C.CountedWrite.seen c.in_err-write_answer.field-0.0 (g.A.CountedWrite.seen c.args.answers.now) (g.A.CountedWrite.seen c.write_answer.new.answers) s.solver c.ask.new.solver c.in_err-write_answer.ensures.fails.0 c.in_err-write_answer.ensures.fails.1
-    (sought_writes g.C.CountedWrite.seen s.solver c.ask.new.solver c.args.literals.now c.ask.new.page.text.items s.budget c.in_ok-report.report c.in_ok-report.ensures.sought))
+    (ask_writes g.C.CountedWrite.seen s.solver c.ask.new.solver c.args.literals.now c.ask.new.page.text.items s.budget c.in_ok-report.report c.in_ok-report.ensures.effect))
 
 pub returns-in_err-assume-clause-written : goal.returns-in_err-assume-clause-written
 returns-in_err-assume-clause-written g c =
     let p = err_from_is_err_and c.from_residual-in_err-assume.result c.from_residual-in_err-assume.ensures.1 in
     let s = c.args.session.now in
     rw (p.1, p.2) (solver_says g.C.CountedWrite.seen c.in_err-assume.field-0.0 (g.A.CountedWrite.seen c.args.answers.now) (g.A.CountedWrite.seen c.write_answer.new.answers) s.solver c.ask.new.solver c.assume.new.solver (takes_none (g.A.CountedWrite.seen c.args.answers.now) (g.A.CountedWrite.seen c.write_answer.new.answers) _ c.in_ok-write_answer.ensures.takes)
-    (sought_writes g.C.CountedWrite.seen s.solver c.ask.new.solver c.args.literals.now c.ask.new.page.text.items s.budget c.in_ok-report.report c.in_ok-report.ensures.sought) c.in_err-assume.ensures.fails)
+    (ask_writes g.C.CountedWrite.seen s.solver c.ask.new.solver c.args.literals.now c.ask.new.page.text.items s.budget c.in_ok-report.report c.in_ok-report.ensures.effect) c.in_err-assume.ensures.fails)
 
 pub returns-in_err-push-clause-written : goal.returns-in_err-push-clause-written
 returns-in_err-push-clause-written g c =
     let p = err_from_is_err_and c.from_residual-in_err-push.result c.from_residual-in_err-push.ensures.1 in
     let s = c.args.session.now in
     rw p.1 (memory_says g.C.CountedWrite.seen _ (g.A.CountedWrite.seen c.args.answers.now) (g.A.CountedWrite.seen c.write_answer.new.answers) s.solver c.assume.new.solver p.2 (takes_none (g.A.CountedWrite.seen c.args.answers.now) (g.A.CountedWrite.seen c.write_answer.new.answers) _ c.in_ok-write_answer.ensures.takes)
-    (took_both g.C.CountedWrite.seen (proof_in s.solver) (proof_in c.ask.new.solver) (proof_in c.assume.new.solver) (sought_writes g.C.CountedWrite.seen s.solver c.ask.new.solver c.args.literals.now c.ask.new.page.text.items s.budget c.in_ok-report.report c.in_ok-report.ensures.sought) (c.in_ok-assume.ensures.assumed.did Unknown).took))
+    (took_both g.C.CountedWrite.seen (proof_in s.solver) (proof_in c.ask.new.solver) (proof_in c.assume.new.solver) (ask_writes g.C.CountedWrite.seen s.solver c.ask.new.solver c.args.literals.now c.ask.new.page.text.items s.budget c.in_ok-report.report c.in_ok-report.ensures.effect) (c.in_ok-assume.ensures.assumed.did Unknown).took))
 
 pub returns-clause-carried : goal.returns-clause-carried
 returns-clause-carried g c =
     let s = c.args.session.now in
-    let told = subst (λ (text : List ℕ). WriterTakes (g.A.CountedWrite.seen c.args.answers.now) (g.A.CountedWrite.seen c.write_answer.new.answers) text) c.deref.ensures.value c.in_ok-write_answer.ensures.takes in
-    asked_of g.C.CountedWrite.seen s _ c.ask.new.solver c.args.literals.now c.ask.new.page.text.items c.in_ok-report.report _ _ c.in_ok-report.ensures.sought told c.in_ok-assume.ensures.assumed refl refl refl c.in_ok-push.ensures.items
+    let written = subst (λ (text : List ℕ). WriterTakes (g.A.CountedWrite.seen c.args.answers.now) (g.A.CountedWrite.seen c.write_answer.new.answers) text) c.deref.ensures.value c.in_ok-write_answer.ensures.takes in
+    asked_of g.C.CountedWrite.seen s _ c.ask.new.solver c.args.literals.now c.ask.new.page.text.items c.in_ok-report.report _ _ c.in_ok-report.ensures.effect written c.in_ok-assume.ensures.assumed refl refl refl c.in_ok-push.ensures.items
 
 pub returns-clause-written : goal.returns-clause-written
 returns-clause-written g c =
     let s = c.args.session.now in (
       takes_none (g.A.CountedWrite.seen c.args.answers.now) (g.A.CountedWrite.seen c.write_answer.new.answers) _ c.in_ok-write_answer.ensures.takes,
-      took_both g.C.CountedWrite.seen (proof_in s.solver) (proof_in c.ask.new.solver) (proof_in c.assume.new.solver) (sought_writes g.C.CountedWrite.seen s.solver c.ask.new.solver c.args.literals.now c.ask.new.page.text.items s.budget c.in_ok-report.report c.in_ok-report.ensures.sought) (c.in_ok-assume.ensures.assumed.did Unknown).took,
+      took_both g.C.CountedWrite.seen (proof_in s.solver) (proof_in c.ask.new.solver) (proof_in c.assume.new.solver) (ask_writes g.C.CountedWrite.seen s.solver c.ask.new.solver c.args.literals.now c.ask.new.page.text.items s.budget c.in_ok-report.report c.in_ok-report.ensures.effect) (c.in_ok-assume.ensures.assumed.did Unknown).took,
     )
 
 pub returns-in_err-report-clause-stops : goal.returns-in_err-report-clause-stops
@@ -56,23 +56,23 @@ returns-in_err-write_answer-clause-stops g c left =
     let u = g.A.CountedWrite.seen c.args.answers.now in
     let v = g.A.CountedWrite.seen c.write_answer.new.answers in
     let cut = subst (λ (text : List ℕ). WriterBreaks u v text) c.deref.ensures.value c.in_err-write_answer.ensures.breaks in
-    rw p.1 (λ j live means free. ask_cut g.C.CountedWrite.seen c.args.session.now c.ask.new.solver c.args.literals.now c.ask.new.page.text.items c.in_ok-report.report u v c.in_ok-report.ensures.sought left j live means free cut)
+    rw p.1 (λ j live means free. ask_cut g.C.CountedWrite.seen c.args.session.now c.ask.new.solver c.args.literals.now c.ask.new.page.text.items c.in_ok-report.report u v c.in_ok-report.ensures.effect left j live means free cut)
 
 pub returns-in_err-assume-clause-stops : goal.returns-in_err-assume-clause-stops
 returns-in_err-assume-clause-stops g c left =
     let p = err_from_is_err_and c.from_residual-in_err-assume.result c.from_residual-in_err-assume.ensures.1 in
     let u = g.A.CountedWrite.seen c.args.answers.now in
     let v = g.A.CountedWrite.seen c.write_answer.new.answers in
-    let told = subst (λ (text : List ℕ). WriterTakes u v text) c.deref.ensures.value c.in_ok-write_answer.ensures.takes in
-    rw p.1 (λ j live means free. ask_reported g.C.CountedWrite.seen c.args.session.now c.ask.new.solver c.args.literals.now c.ask.new.page.text.items c.in_ok-report.report u v c.in_ok-report.ensures.sought left j live means free told)
+    let written = subst (λ (text : List ℕ). WriterTakes u v text) c.deref.ensures.value c.in_ok-write_answer.ensures.takes in
+    rw p.1 (λ j live means free. ask_reported g.C.CountedWrite.seen c.args.session.now c.ask.new.solver c.args.literals.now c.ask.new.page.text.items c.in_ok-report.report u v c.in_ok-report.ensures.effect left j live means free written)
 
 pub returns-in_err-push-clause-stops : goal.returns-in_err-push-clause-stops
 returns-in_err-push-clause-stops g c left =
     let p = err_from_is_err_and c.from_residual-in_err-push.result c.from_residual-in_err-push.ensures.1 in
     let u = g.A.CountedWrite.seen c.args.answers.now in
     let v = g.A.CountedWrite.seen c.write_answer.new.answers in
-    let told = subst (λ (text : List ℕ). WriterTakes u v text) c.deref.ensures.value c.in_ok-write_answer.ensures.takes in
-    rw p.1 (λ j live means free. ask_reported g.C.CountedWrite.seen c.args.session.now c.ask.new.solver c.args.literals.now c.ask.new.page.text.items c.in_ok-report.report u v c.in_ok-report.ensures.sought left j live means free told)
+    let written = subst (λ (text : List ℕ). WriterTakes u v text) c.deref.ensures.value c.in_ok-write_answer.ensures.takes in
+    rw p.1 (λ j live means free. ask_reported g.C.CountedWrite.seen c.args.session.now c.ask.new.solver c.args.literals.now c.ask.new.page.text.items c.in_ok-report.report u v c.in_ok-report.ensures.effect left j live means free written)
 
 pub returns-in_err-write_answer-clause-cause : goal.returns-in_err-write_answer-clause-cause
 returns-in_err-write_answer-clause-cause g c =
@@ -85,9 +85,9 @@ returns-in_err-assume-clause-cause g c =
     let s = c.args.session.now in
     let t = c.ask.new.solver in
     let user = c.args.literals.now in
-    let sought = c.in_ok-report.ensures.sought in
+    let effect = c.in_ok-report.ensures.effect in
     rw (p.1, p.2) (caused_map c.in_err-assume.field-0.0 ⊥ (RefusedForRoom t c.assume.new.solver []) (HasFullStore c.assume.new.solver) (LacksFor s.solver c.assume.new.solver (Ask (named_literals user))) (λ x. absurd x)
-    (none_needs g.C.CountedWrite.seen s.solver sought.mid t c.assume.new.solver user s.budget c.in_ok-report.report sought.opened sought.searched) c.in_err-assume.ensures.cause)
+    (none_needs g.C.CountedWrite.seen s.solver effect.mid t c.assume.new.solver user s.budget c.in_ok-report.report effect.opened effect.searched) c.in_err-assume.ensures.cause)
 
 pub returns-in_err-push-clause-cause : goal.returns-in_err-push-clause-cause
 returns-in_err-push-clause-cause g c =

@@ -1,8 +1,8 @@
 use Rattle.std.proofs.lemmas.Result.{err_from_is_err_and}
 use Rattle.sat_checker.specs.matching.Expected.{Unknown}
-use Rattle.certify.proofs.lemmas.run.RunStateCalls.{did_ready, fails_then, memory_fails, searched_ready, sought_took, allowed_still}
+use Rattle.certify.proofs.lemmas.run.RunStateCalls.{did_ready, fails_then, memory_fails, searched_ready, ask_took, allowed_still}
 use Rattle.sat_base.specs.script.Script.{Ask}
-use Rattle.sat_solver.specs.variables.VariableRoom.{users_in}
+use Rattle.sat_solver.specs.variables.VariableRoom.{user_vars_in}
 use Rattle.sat_solver.specs.solver.Whole.{HasFullStore}
 use Rattle.certify.specs.answers.AnswerForms.{named_literals}
 use Rattle.certify.specs.run.SolverCalls.{LacksFor, RefusedForRoom}
@@ -20,7 +20,7 @@ pub returns-in_err-push_answer-clause-fails : goal.returns-in_err-push_answer-cl
 returns-in_err-push_answer-clause-fails g c =
     let p = err_from_is_err_and c.from_residual-in_err-push_answer.result c.from_residual-in_err-push_answer.ensures.1 in
     rw (p.1, p.2) (memory_fails g.C.CountedWrite.seen c.in_err-push_answer.field-0.0 c.args.solver.now c.search.new.solver c.in_err-push_answer.ensures.memory
-    (sought_took g.C.CountedWrite.seen c.args.solver.now c.assume.new.solver c.search.new.solver c.args.literals.now c.args.budget c.in_ok-report.report c.in_ok-assume.ensures.assumed c.in_ok-report.ensures.searched))
+    (ask_took g.C.CountedWrite.seen c.args.solver.now c.assume.new.solver c.search.new.solver c.args.literals.now c.args.budget c.in_ok-report.report c.in_ok-assume.ensures.assumed c.in_ok-report.ensures.searched))
 
 pub returns-clause-allowed : goal.returns-clause-allowed
 returns-clause-allowed g c =
@@ -40,7 +40,7 @@ returns-in_err-assume-clause-cause g c =
     let p = err_from_is_err_and c.from_residual.result c.from_residual.ensures.1 in
     let s = c.args.solver.now in
     let user = c.args.literals.now in
-    rw (p.1, p.2) (caused_map c.in_err-assume.field-0.0 ⊥ (RefusedForRoom s c.assume.new.solver (users_in user)) (HasFullStore c.assume.new.solver) (LacksFor s c.assume.new.solver (Ask (named_literals user))) (λ x. absurd x) (ask_needs s c.assume.new.solver user) c.in_err-assume.ensures.cause)
+    rw (p.1, p.2) (caused_map c.in_err-assume.field-0.0 ⊥ (RefusedForRoom s c.assume.new.solver (user_vars_in user)) (HasFullStore c.assume.new.solver) (LacksFor s c.assume.new.solver (Ask (named_literals user))) (λ x. absurd x) (ask_needs s c.assume.new.solver user) c.in_err-assume.ensures.cause)
 
 pub returns-in_err-report-clause-cause : goal.returns-in_err-report-clause-cause
 returns-in_err-report-clause-cause g c =

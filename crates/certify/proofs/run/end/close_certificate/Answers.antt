@@ -1,7 +1,7 @@
 use Rattle.std.proofs.Common.{Option, Ok, subst}
 use Rattle.sat_solver.specs.solver.Proving.{ClosesProof}
 use Rattle.certify.proofs.lemmas.run.Ended.{closing_caused, closing_fails}
-use Rattle.certify.proofs.lemmas.run.ProofFronts.{front_behind, front_closed}
+use Rattle.certify.proofs.lemmas.run.ProofFronts.{front_after, front_closed}
 use Rattle.certify.proofs.run.end.close_certificate.Goals as goal
 
 pub returns-in-Ok-Some-clause-front : goal.returns-in-Ok-Some-clause-front
@@ -17,4 +17,4 @@ returns-in-Err-clause-closes g c =
 
 pub returns-in-Err-clause-front : goal.returns-in-Err-clause-front
 returns-in-Err-clause-front g c =
-    front_behind g.C.CountedWrite.seen c.args.solver c.close_proof.new.self c.give_back.result c.in-Err.error c.in-Err.ensures.closes c.give_back.ensures.front
+    front_after g.C.CountedWrite.seen c.args.solver c.close_proof.new.self c.give_back.result c.in-Err.error c.in-Err.ensures.closes c.give_back.ensures.front

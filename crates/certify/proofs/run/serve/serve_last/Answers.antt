@@ -1,7 +1,7 @@
 use Rattle.std.proofs.lemmas.Result.{err_from_is_err_and}
 use Rattle.certify.specs.script.Commands.{end_reading}
-use Rattle.certify.proofs.lemmas.run.ServedThrough.{both_then, served_last_if, stops_behind}
-use Rattle.certify.proofs.lemmas.run.Caused.{caused_behind}
+use Rattle.certify.proofs.lemmas.run.ServedThrough.{both_then, served_last_if, stops_following}
+use Rattle.certify.proofs.lemmas.run.Caused.{caused_after}
 use Rattle.certify.proofs.run.serve.serve_last.Goals as goal
 
 pub serve_end-requires : goal.serve_end-requires
@@ -20,7 +20,7 @@ returns-in_err-serve_next-clause-stops g c x is =
 pub returns-clause-stops : goal.returns-clause-stops
 returns-clause-stops g c x is =
     let A = g.A.CountedWrite.seen in
-    stops_behind g.C.CountedWrite.seen c.serve_end.result x (end_reading c.args.end) c.args.session.now c.serve_next.new.session (A c.args.answers.now) (A c.serve_next.new.answers) (A c.serve_end.new.answers) (c.in_ok-serve_next.ensures.served x is) c.serve_end.ensures.stops
+    stops_following g.C.CountedWrite.seen c.serve_end.result x (end_reading c.args.end) c.args.session.now c.serve_next.new.session (A c.args.answers.now) (A c.serve_next.new.answers) (A c.serve_end.new.answers) (c.in_ok-serve_next.ensures.served x is) c.serve_end.ensures.stops
 
 pub returns-clause-written : goal.returns-clause-written
 returns-clause-written g c =
@@ -35,4 +35,4 @@ returns-in_err-serve_next-clause-cause g c x is =
 pub returns-clause-cause : goal.returns-clause-cause
 returns-clause-cause g c x is =
     let A = g.A.CountedWrite.seen in
-    caused_behind g.C.CountedWrite.seen c.serve_end.result x (end_reading c.args.end) c.args.session.now c.serve_next.new.session c.serve_end.new.session (A c.args.answers.now) (A c.serve_next.new.answers) (c.in_ok-serve_next.ensures.served x is) c.serve_end.ensures.cause
+    caused_after g.C.CountedWrite.seen c.serve_end.result x (end_reading c.args.end) c.args.session.now c.serve_next.new.session c.serve_end.new.session (A c.args.answers.now) (A c.serve_next.new.answers) (c.in_ok-serve_next.ensures.served x is) c.serve_end.ensures.cause

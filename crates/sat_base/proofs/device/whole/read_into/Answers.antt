@@ -17,7 +17,7 @@ pub returns-in-Ok-eq0-clause-front : goal.returns-in-Ok-eq0-clause-front
 returns-in-Ok-eq0-clause-front g c =
     let gave = returns-in-Ok-eq0-clause-gave g c in
     let all = gave.1 in
-    (gave.0, record { gave = all.gave; told = all.told; loans = all.loans }, all.few)
+    (gave.0, record { gave = all.gave; known_bytes = all.known_bytes; loans = all.loans }, all.few)
 
 pub returns-in-Ok-eq0-clause-kept : goal.returns-in-Ok-eq0-clause-kept
 returns-in-Ok-eq0-clause-kept g c = c.in-Ok-eq0.ensures.once.failures.0 ∙ c.loop.invariant.failures

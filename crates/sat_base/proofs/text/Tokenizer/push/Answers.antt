@@ -1,8 +1,8 @@
 use Rattle.std.proofs.Common.{◌≡◌, false, inl, arith}
 use Rattle.std.specs.Prelude.{nat_eq}
 use Rattle.std.proofs.lemmas.Bool.Decides.{nat_tests}
-use Rattle.sat_base.proofs.lemmas.text.TextRuns.{takes_byte, takes_blank, quiet_behind}
-use Rattle.sat_base.proofs.lemmas.text.RightWords.{right_behind}
+use Rattle.sat_base.proofs.lemmas.text.TextRuns.{takes_byte, takes_blank, quiet_after}
+use Rattle.sat_base.proofs.lemmas.text.RightWords.{right_after}
 use Rattle.sat_base.proofs.text.Tokenizer.push.Goals as goal
 
 pub returns-then-is_digit-clause-takes : goal.returns-then-is_digit-clause-takes
@@ -16,7 +16,7 @@ pub returns-then-byte-eq10-clause-takes : goal.returns-then-byte-eq10-clause-tak
 returns-then-byte-eq10-clause-takes c = rw c.if-byte-eq10.true c.end_line.ensures.takes
 
 pub returns-then-byte-eq10-clause-quiet : goal.returns-then-byte-eq10-clause-quiet
-returns-then-byte-eq10-clause-quiet c blank after stands = inl (c.end_line.ensures.ended after stands)
+returns-then-byte-eq10-clause-quiet c blank after valid = inl (c.end_line.ensures.ended after valid)
 
 pub returns-then-byte-eq10-clause-ended : goal.returns-then-byte-eq10-clause-ended
 returns-then-byte-eq10-clause-ended c e = c.end_line.ensures.ended
@@ -27,10 +27,10 @@ returns-clause-takes c =
     takes_blank c.args.self.now c.args.byte c.token_at_blank-token.result c.after_blank-self.result c.token_at_blank-token.ensures c.after_blank-self.ensures.leads f (cc)
 
 pub returns-clause-quiet : goal.returns-clause-quiet
-returns-clause-quiet c blank = quiet_behind _ c.after_blank-self.ensures.quiet
+returns-clause-quiet c blank = quiet_after _ c.after_blank-self.ensures.quiet
 
 pub returns-then-byte-eq10-clause-right : goal.returns-then-byte-eq10-clause-right
 returns-then-byte-eq10-clause-right c blank = c.end_line.ensures.right
 
 pub returns-clause-right : goal.returns-clause-right
-returns-clause-right c blank = right_behind _ c.after_blank-self.ensures.quiet
+returns-clause-right c blank = right_after _ c.after_blank-self.ensures.quiet

@@ -1,6 +1,6 @@
 use Rattle.std.proofs.Common.{true, ◌≡◌, ◌<◌, arith}
 use Rattle.sat_base.proofs.lemmas.text.WholeNumbers.{whole_at_space, whole_at_LF}
-use Rattle.sat_base.proofs.lemmas.text.RightWords.{right_ahead, right_behind}
+use Rattle.sat_base.proofs.lemmas.text.RightWords.{right_ahead, right_after}
 use Rattle.sat_base.proofs.text.Tokenizer.push_whole.Goals as goal
 
 pub returns-then-ended-eq32-clause-takes : goal.returns-then-ended-eq32-clause-takes
@@ -10,7 +10,7 @@ returns-then-ended-eq32-clause-takes c =
     whole_at_space c.args.self.now c.args.bytes.now r.count r.negative r.value (grind arith) (grind arith) z (r.ensures.moves c.args.self.now.place (c.begins_word.ensures (cc)))
 
 pub returns-then-ended-eq32-clause-right : goal.returns-then-ended-eq32-clause-right
-returns-then-ended-eq32-clause-right c some = right_behind _ tt
+returns-then-ended-eq32-clause-right c some = right_after _ tt
 
 pub returns-then-ended-eq10-clause-takes : goal.returns-then-ended-eq10-clause-takes
 returns-then-ended-eq10-clause-takes c =

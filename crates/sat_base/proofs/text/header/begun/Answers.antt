@@ -1,6 +1,6 @@
 use Rattle.std.proofs.Common.{arith, sym, ◌∙◌}
 use Rattle.std.proofs.lemmas.Bool.Decides.{nat_tests}
-use Rattle.sat_base.proofs.lemmas.text.HeaderPlaces.{begun_c, begun_no_c, begun_vars, begun_no_vars, begun_clauses, begun_no_clauses, begun_behind_both}
+use Rattle.sat_base.proofs.lemmas.text.HeaderPlaces.{begun_c, begun_no_c, begun_vars, begun_no_vars, begun_clauses, begun_no_clauses, begun_after_both}
 use Rattle.sat_base.proofs.text.header.begun.Goals as goal
 
 pub returns-then-byte-eq99 : goal.returns-then-byte-eq99
@@ -22,4 +22,4 @@ pub returns-else-is_digit-2 : goal.returns-else-is_digit-2
 returns-else-is_digit-2 c = rw c.in-Vars.is (begun_no_clauses c.in-Vars.vars c.args.byte (sym c.is_digit-in-Vars.ensures ∙ c.if-is_digit-2.false))
 
 pub returns-in-Both : goal.returns-in-Both
-returns-in-Both c = rw c.in-Both.is (begun_behind_both c.in-Both.vars c.in-Both.clauses c.args.byte)
+returns-in-Both c = rw c.in-Both.is (begun_after_both c.in-Both.vars c.in-Both.clauses c.args.byte)

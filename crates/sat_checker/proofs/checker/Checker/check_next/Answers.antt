@@ -10,27 +10,27 @@ use Rattle.sat_checker.proofs.lemmas.checker.Proofs.{unread_answer, step_stops, 
 use Rattle.sat_checker.proofs.checker.Checker.check_next.Goals as goal
 
 pub returns-in-Err-clause-steps_on : goal.returns-in-Err-clause-steps_on
-returns-in-Err-clause-steps_on g c = λ before begun earlier stands.
+returns-in-Err-clause-steps_on g c = λ before begun earlier valid.
     let S = g.R.CountedRead.seen in
     rw (c.unread_error.ensures, c.is_final-self.ensures)
-    (unread_answer (HearsFirst g.O.ProofProcessor.takes (HearsEach g.P.ProofProcessor.takes g.T.ProofTranscriptProcessor.reads)) before begun S (seen_with c.args.own.now c.args.self.now) c.args.steps.now c.advance.new.self c.in-Err.error (step_in c.advance.new.self) earlier c.requires.well c.requires.open_yet c.in-Err.ensures stands)
+    (unread_answer (HearsFirst g.O.ProofProcessor.takes (HearsEach g.P.ProofProcessor.takes g.T.ProofTranscriptProcessor.reads)) before begun S (seen_with c.args.own.now c.args.self.now) c.args.steps.now c.advance.new.self c.in-Err.error (step_in c.advance.new.self) earlier c.requires.well c.requires.open_yet c.in-Err.ensures valid)
 
 pub returns-in-Err-check_step-clause-steps_on : goal.returns-in-Err-check_step-clause-steps_on
-returns-in-Err-check_step-clause-steps_on g c = λ before begun earlier stands.
+returns-in-Err-check_step-clause-steps_on g c = λ before begun earlier valid.
     let S = g.R.CountedRead.seen in
     let n = c.in_default.ensures.answer in
     step_stops (HearsFirst g.O.ProofProcessor.takes (HearsEach g.P.ProofProcessor.takes g.T.ProofTranscriptProcessor.reads)) before begun (at_source (seen_with c.args.own.now c.args.self.now) (reader_source S c.args.steps.now)) (at_source _ (reader_source S c.advance.new.self)) c.in-Err-check_step.error earlier (step_of c.step-step.result) c.requires.well
-    (record { text = n.0; passes = n.1; spelt = subst (λ z. SpellsStep z n.0) (sym c.step-step.ensures) n.2; looks = c.in-Err-check_step.ensures.looks earlier stands.kernel })
-    (c.in-Err-check_step.ensures.notifies before begun earlier stands)
+    (record { text = n.0; passes = n.1; spelt = subst (λ z. SpellsStep z n.0) (sym c.step-step.ensures) n.2; looks = c.in-Err-check_step.ensures.looks earlier valid.kernel })
+    (c.in-Err-check_step.ensures.notifies before begun earlier valid)
 
 pub returns-in-Ok-clause-steps_on : goal.returns-in-Ok-clause-steps_on
-returns-in-Ok-clause-steps_on g c = λ before begun earlier stands.
+returns-in-Ok-clause-steps_on g c = λ before begun earlier valid.
     let n = c.in_default.ensures.answer in
-    let a = c.in-Ok.ensures.notifies before begun earlier stands in (
+    let a = c.in-Ok.ensures.notifies before begun earlier valid in (
       step_of c.step-step.result,
-      record { text = n.0; passes = n.1; spelt = subst (λ z. SpellsStep z n.0) (sym c.step-step.ensures) n.2; looks = c.in-Ok.ensures.looks earlier stands.kernel },
+      record { text = n.0; passes = n.1; spelt = subst (λ z. SpellsStep z n.0) (sym c.step-step.ensures) n.2; looks = c.in-Ok.ensures.looks earlier valid.kernel },
       c.is_end.ensures,
-      (a.1.stands, a.1.goes_on),
+      (a.1.valid, a.1.goes_on),
     )
 
 pub returns-in-Err-clause-same : goal.returns-in-Err-clause-same

@@ -21,14 +21,14 @@ loop-init g c =
       calls = fresh_counts (reader_source S c.args.steps.now);
       unended = fresh_unended (reader_source S c.args.steps.now) c.requires.fresh;
       rise = omega arith;
-      passed = λ before begun earlier stands. ([], passed_none (HearsFirst g.O.ProofProcessor.takes (HearsEach g.P.ProofProcessor.takes g.T.ProofTranscriptProcessor.reads)) before begun (at_source (seen_with c.args.own.now c.args.self.now) (reader_source S c.args.steps.now)) earlier c.requires.well stands);
+      passed = λ before begun earlier valid. ([], passed_none (HearsFirst g.O.ProofProcessor.takes (HearsEach g.P.ProofProcessor.takes g.T.ProofTranscriptProcessor.reads)) before begun (at_source (seen_with c.args.own.now c.args.self.now) (reader_source S c.args.steps.now)) earlier c.requires.well valid);
     }
 
 pub returns-in_err-check_next-clause-proof : goal.returns-in_err-check_next-clause-proof
-returns-in_err-check_next-clause-proof g c = λ before begun earlier stands.
+returns-in_err-check_next-clause-proof g c = λ before begun earlier valid.
     let S = g.R.CountedRead.seen in
     let p = err_from_is_err_and c.from_residual.result c.from_residual.ensures.1 in
-    let passed = c.loop.invariant.passed before begun earlier stands in
+    let passed = c.loop.invariant.passed before begun earlier valid in
     rw (p.1, p.2) (stops (HearsFirst g.O.ProofProcessor.takes (HearsEach g.P.ProofProcessor.takes g.T.ProofTranscriptProcessor.reads)) before begun (at_source (seen_with c.args.own.now c.args.self.now) (reader_source S c.args.steps.now)) (at_source (seen_with c.loop.own c.loop.self) (reader_source S c.loop.steps)) (at_source (seen_with c.check_next.new.own c.check_next.new.self) (reader_source S c.check_next.new.steps))
     c.in_err-check_next.field-0.0 earlier passed.0 c.requires.fresh c.requires.well c.check_next.ensures.bound passed.1
     (c.in_err-check_next.ensures.steps_on before begun (taken_after passed.0 earlier) passed.1.goes_on.0))
@@ -48,9 +48,9 @@ pub returns-then-branch-clause-rise : goal.returns-then-branch-clause-rise
 returns-then-branch-clause-rise g c = omega (arith, c.loop.invariant.rise, c.check_next.ensures.rise)
 
 pub returns-then-branch-clause-proof : goal.returns-then-branch-clause-proof
-returns-then-branch-clause-proof g c = λ before begun earlier stands.
+returns-then-branch-clause-proof g c = λ before begun earlier valid.
     let S = g.R.CountedRead.seen in
-    let passed = c.loop.invariant.passed before begun earlier stands in
+    let passed = c.loop.invariant.passed before begun earlier valid in
     let on = c.in_ok-check_next.ensures.steps_on before begun (taken_after passed.0 earlier) passed.1.goes_on.0 in
     finishes (HearsFirst g.O.ProofProcessor.takes (HearsEach g.P.ProofProcessor.takes g.T.ProofTranscriptProcessor.reads)) before begun (at_source (seen_with c.args.own.now c.args.self.now) (reader_source S c.args.steps.now)) (at_source (seen_with c.loop.own c.loop.self) (reader_source S c.loop.steps)) (at_source (seen_with c.check_next.new.own c.check_next.new.self) (reader_source S c.check_next.new.steps))
     earlier passed.0 on.0 c.requires.fresh c.requires.well c.check_next.ensures.bound passed.1 on.1 (ended _ _ c.if-branch.true on.2) on.3
@@ -67,8 +67,8 @@ loop-preserved g c =
       calls = counts_more (reader_source S c.args.steps.now) (reader_source S c.loop.steps) (reader_source S c.check_next.new.steps) c.loop.invariant.calls c.check_next.ensures.calls;
       unended = λ h. c.loop.invariant.unended (c.in_ok-check_next.ensures.unended h);
       rise = omega (arith, c.loop.invariant.rise, c.check_next.ensures.rise);
-      passed = λ before begun earlier stands.
-          let passed = c.loop.invariant.passed before begun earlier stands in
+      passed = λ before begun earlier valid.
+          let passed = c.loop.invariant.passed before begun earlier valid in
           let on = c.in_ok-check_next.ensures.steps_on before begun (taken_after passed.0 earlier) passed.1.goes_on.0 in (
             passed.0 ++ on.0 ∷ [],
             passed_one (HearsFirst g.O.ProofProcessor.takes (HearsEach g.P.ProofProcessor.takes g.T.ProofTranscriptProcessor.reads)) before begun (at_source (seen_with c.args.own.now c.args.self.now) (reader_source S c.args.steps.now)) (at_source (seen_with c.loop.own c.loop.self) (reader_source S c.loop.steps)) (at_source (seen_with c.check_next.new.own c.check_next.new.self) (reader_source S c.check_next.new.steps))

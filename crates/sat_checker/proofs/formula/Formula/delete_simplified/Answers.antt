@@ -3,7 +3,7 @@ use Rattle.std.specs.Bool.{MatchBool}
 use Rattle.sat_checker.specs.Storing.{clause_with, without_clause, last_literals}
 use Rattle.sat_checker.specs.inner.Marks.{IsIncreasing}
 use Rattle.sat_checker.specs.inner.StoreView.{store_count_in}
-use Rattle.sat_checker.specs.inner.FormulaView.{KeepsFormula}
+use Rattle.sat_checker.specs.inner.FormulaView.{RepresentsFormula}
 use Rattle.sat_checker.proofs.lemmas.sets.Canonical.{canonical_increasing}
 use Rattle.sat_checker.proofs.lemmas.state.Keeping.{strict_on, strict_back}
 use Rattle.sat_checker.proofs.lemmas.state.Units.{match_on}
@@ -23,5 +23,5 @@ returns-clause-decides c = λ f k.
     (λ p. ((p.0, strict_back (last_literals f.last f) c.args.clause.now c.args.literals.now c.requires (match_true _ _ _ (c.has_last_within.ensures.part f k) c.if-not-has_last_within.false)), p.1)) (λ n q. n q.0)
     (subst
     (λ ls.
-    MatchBool c.take_count.result ((0 < store_count_in false (clause_with ls f.clauses)) × KeepsFormula c.take_count.new.self (record f { clauses = without_clause false ls f.clauses })) (0 < store_count_in false (clause_with ls f.clauses) → ⊥)) c.requires
+    MatchBool c.take_count.result ((0 < store_count_in false (clause_with ls f.clauses)) × RepresentsFormula c.take_count.new.self (record f { clauses = without_clause false ls f.clauses })) (0 < store_count_in false (clause_with ls f.clauses) → ⊥)) c.requires
     (c.take_count.ensures.decides f k))

@@ -2,9 +2,9 @@ use Rattle.std.proofs.Common.{◌+◌, ◌-◌, ◌≡◌, [], ◌∷◌, arith,
 use Rattle.sat_checker.specs.Looks.{literal_count}
 use Rattle.sat_checker.specs.Accepts.{PassesByHashes, PassInTurn}
 use Rattle.sat_checker.specs.Storing.{with_unit}
-use Rattle.sat_checker.specs.inner.InTurn.{PassBehind}
+use Rattle.sat_checker.specs.inner.InTurn.{PassAfter}
 use Rattle.sat_checker.proofs.lemmas.variables.Keeping.{match_true, match_false}
-use Rattle.sat_checker.proofs.lemmas.state.Units.{passed, stopped, spent_then, finished, failed, accepted_behind, back_behind}
+use Rattle.sat_checker.proofs.lemmas.state.Units.{passed, stopped, spent_then, finished, failed, accepted_after, back_after}
 use Rattle.sat_checker.proofs.lemmas.state.Checks.{checks_as}
 use Rattle.sat_checker.proofs.lemmas.listeners.NotedUnits.{noted_more, noted_all, none_noted, twice_then, twice_end, twice_rest}
 use Rattle.std.proofs.lemmas.Grind.{common_steps}
@@ -18,10 +18,10 @@ returns-in-Err-clause-decides c = λ f k.
     let place = c.loop-place.place in
     let unit = c.index-units-place.result in
     let kept = c.in-Err.ensures.kept left.now (checks_as self left.now left.kept) in
-    failed c.fail_unless_refused.result c.in-Err.fault (PassesByHashes left.now (unit.0 ∷ []) (unit.1 ∷ [])) (PassInTurn f units) (PassBehind left.now c.split_at.result.1.now) _ _ (with_unit unit.0 left.now) _
+    failed c.fail_unless_refused.result c.in-Err.fault (PassesByHashes left.now (unit.0 ∷ []) (unit.1 ∷ [])) (PassInTurn f units) (PassAfter left.now c.split_at.result.1.now) _ _ (with_unit unit.0 left.now) _
     (c.in-Err.ensures.decides left.now left.kept) (spent_then self f units place unit c.loop-place-test.true c.index-units-place.is left)
-    (λ p q. accepted_behind self f units place unit c.loop-place-test.true c.index-units-place.is left p (subst (PassBehind left.now) c.split_at.ensures.back q))
-    (λ q. subst (PassBehind left.now) (sym c.split_at.ensures.back) (back_behind self f units place unit c.loop-place-test.true c.index-units-place.is left q))
+    (λ p q. accepted_after self f units place unit c.loop-place-test.true c.index-units-place.is left p (subst (PassAfter left.now) c.split_at.ensures.back q))
+    (λ q. subst (PassAfter left.now) (sym c.split_at.ensures.back) (back_after self f units place unit c.loop-place-test.true c.index-units-place.is left q))
     (c.fail_unless_refused.ensures.exact left.now kept)
 
 pub returns-in-Err-clause-looks : goal.returns-in-Err-clause-looks

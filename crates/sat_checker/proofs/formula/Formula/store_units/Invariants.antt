@@ -1,7 +1,7 @@
 use Rattle.std.proofs.Common.{◌≤◌, ◌+◌, ◌*◌, drop}
 use Rattle.sat_checker.specs.Looks.{literal_count}
 use Rattle.sat_checker.specs.Stored.{Stored}
-use Rattle.sat_checker.specs.inner.FormulaView.{KeepsFormula}
+use Rattle.sat_checker.specs.inner.FormulaView.{RepresentsFormula}
 use Rattle.sat_checker.specs.listeners.AnnouncingView.{AreLong}
 use Rattle.sat_checker.proofs.lemmas.state.Units.{Left}
 use Rattle.sat_checker.proofs.lemmas.listeners.NotedUnits.{Noted}
@@ -10,8 +10,8 @@ use Rattle.sat_checker.proofs.formula.Formula.store_units.Given as goal
 -- the units that are left are judged by what is kept now
 abbrev pub invariant-loop-place : goal.invariant-loop-place
 invariant-loop-place l = record {
-  left : (f : Stored) → KeepsFormula l.fn.self f → Left l.self f l.units (drop l.place l.units);
-  noted : (f : Stored) → KeepsFormula l.fn.self f → AreLong f → Noted l.self f l.units (drop l.place l.units) l.fn.notes l.notes;
-  looks : (f : Stored) → KeepsFormula l.fn.self f → l.looks ≤ l.fn.looks + l.place * (2 * literal_count f);
+  left : (f : Stored) → RepresentsFormula l.fn.self f → Left l.self f l.units (drop l.place l.units);
+  noted : (f : Stored) → RepresentsFormula l.fn.self f → AreLong f → Noted l.self f l.units (drop l.place l.units) l.fn.notes l.notes;
+  looks : (f : Stored) → RepresentsFormula l.fn.self f → l.looks ≤ l.fn.looks + l.place * (2 * literal_count f);
   rise : l.fn.looks ≤ l.looks;
 }

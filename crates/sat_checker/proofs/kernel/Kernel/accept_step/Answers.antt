@@ -10,7 +10,7 @@ as_much : (a : ℕ) → a ≤ a
 as_much a = omega arith
 
 pub returns-then-self-clause-judges : goal.returns-then-self-clause-judges
-returns-then-self-clause-judges c = λ steps s. (c.if-self.true, record { stands = s; failed = c.if-self.true })
+returns-then-self-clause-judges c = λ steps s. (c.if-self.true, record { valid = s; failed = c.if-self.true })
 
 pub returns-then-self-clause-looks : goal.returns-then-self-clause-looks
 returns-then-self-clause-looks c = λ steps s. omega arith

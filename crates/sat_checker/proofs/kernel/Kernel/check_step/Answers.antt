@@ -21,7 +21,7 @@ returns-in-Ok-clause-notifies g c = λ before begun steps s.
     c.if-self.false a.3 (c.step.ensures.notifies before begun steps a.2)
 
 pub returns-then-self-clause-judges : goal.returns-then-self-clause-judges
-returns-then-self-clause-judges g c = λ steps s. (c.if-self.true, record { stands = s; failed = c.if-self.true })
+returns-then-self-clause-judges g c = λ steps s. (c.if-self.true, record { valid = s; failed = c.if-self.true })
 
 pub returns-then-self-clause-notifies : goal.returns-then-self-clause-notifies
 returns-then-self-clause-notifies g c = λ before begun steps s. (c.if-self.true, refl)

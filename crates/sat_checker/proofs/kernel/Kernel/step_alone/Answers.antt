@@ -9,7 +9,7 @@ pub returns-in-Ok-true-clause-judges : goal.returns-in-Ok-true-clause-judges
 returns-in-Ok-true-clause-judges c = λ steps s.
     let k = ready_kept c.args.self.now steps s c.requires.well c.requires.settled in
     let turned = match_true c.in-Ok-true.field-0 _ _ (c.in-Ok-true.ensures.decides (ready_after steps) k) (search rules) in
-    (c.requires.well, record { accepts = turned.0; stands = step_stands c.args.self.now steps s c.requires.well c.requires.settled (step_of c.args.step.now) _ turned.0 turned.1 (search rules); goes_on = c.requires.well })
+    (c.requires.well, record { accepts = turned.0; valid = step_stands c.args.self.now steps s c.requires.well c.requires.settled (step_of c.args.step.now) _ turned.0 turned.1 (search rules); goes_on = c.requires.well })
 
 pub returns-in-Ok-false-clause-judges : goal.returns-in-Ok-false-clause-judges
 returns-in-Ok-false-clause-judges c = λ steps s.

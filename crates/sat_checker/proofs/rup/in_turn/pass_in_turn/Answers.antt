@@ -3,7 +3,7 @@ use Rattle.std.proofs.lemmas.Bool.{true≢false, both_ways}
 use Rattle.sat_checker.specs.Looks.{literal_count}
 use Rattle.sat_checker.specs.inner.AssumedRoom.{LiteralsAndRoom, HasStoredRoom}
 use Rattle.sat_checker.proofs.lemmas.propagation.Walking.{Extends-itself, Extends-further}
-use Rattle.sat_checker.proofs.lemmas.state.InTurn.{supposed_more, passing_none, behind_judged, behind_passing, behind_refused, passing_all, looks_then, looks_end}
+use Rattle.sat_checker.proofs.lemmas.state.InTurn.{assumed_more, passing_none, after_judged, after_passing, following_refused, passing_all, looks_then, looks_end}
 use Rattle.sat_checker.proofs.lemmas.store.Entries.{on_err}
 use Rattle.sat_checker.proofs.rup.in_turn.pass_in_turn.Goals as goal
 
@@ -11,7 +11,7 @@ pub loop-place-init : goal.loop-place-init
 loop-place-init c = record {
   some = omega arith;
   within = omega arith;
-  passing = λ f k is h. passing_none c.args.store.now c.args.assigned.now f c.args.units.now c.stand_in_room.ensures.stand k is h;
+  passing = λ f k is h. passing_none c.args.store.now c.args.assigned.now f c.args.units.now c.are_in_room.ensures.stand k is h;
   same = λ f k h. refl;
   extends = Extends-itself c.args.assigned.now;
   looks = λ f k. omega arith;
@@ -20,11 +20,11 @@ loop-place-init c = record {
 
 pub returns-in_err-passes-clause-short : goal.returns-in_err-passes-clause-short
 returns-in_err-passes-clause-short c = on_err c.from_residual.result _ (λ f k h.
-    let room = ap (λ (t : LiteralsAndRoom). t.room) c.suppose.ensures ∙ c.loop-place.invariant.same f k h in
+    let room = ap (λ (t : LiteralsAndRoom). t.room) c.assume.ensures ∙ c.loop-place.invariant.same f k h in
     c.in_err-passes.ensures.short f k (subst (λ r. HasStoredRoom r f.clauses) (sym room) h))
 
 pub returns-in_err-passes-clause-extends : goal.returns-in_err-passes-clause-extends
-returns-in_err-passes-clause-extends c = Extends-further c.args.assigned.now c.suppose.new.assigned c.passes.new.assigned (supposed_more c.args.assigned.now c.loop-place.assigned c.suppose.new.assigned _ c.loop-place.invariant.extends c.suppose.ensures) c.passes.ensures.extends
+returns-in_err-passes-clause-extends c = Extends-further c.args.assigned.now c.assume.new.assigned c.passes.new.assigned (assumed_more c.args.assigned.now c.loop-place.assigned c.assume.new.assigned _ c.loop-place.invariant.extends c.assume.ensures) c.passes.ensures.extends
 
 pub returns-in_err-passes-clause-looks : goal.returns-in_err-passes-clause-looks
 returns-in_err-passes-clause-looks c = record {
@@ -41,14 +41,14 @@ returns-then-not-branch-clause-exact c = λ f k is h.
     let unit = get_or units (place - 1) c.index-units-place.result in
     let some : place - 1 + 1 ≡ place = omega (arith, c.loop-place.invariant.some) in
     let is' = ap (get_or units (place - 1)) c.index-units-place.is in
-    let exact = behind_judged c.args.store.now c.args.assigned.now.room f units (place - 1) place c.loop-place.assigned unit c.index-units-place-in-loop-place.result some c.loop-place-test.true is' c.index-units-place-in-loop-place.is passing
-    c.suppose.new.assigned (c.loop-place.invariant.same f k h) c.stand_in_room.ensures.paired c.suppose.ensures c.split_at.result.0.now c.split_at.ensures.front c.in_ok-passes.field-0 c.in_ok-passes.ensures.exact in (
+    let exact = after_judged c.args.store.now c.args.assigned.now.room f units (place - 1) place c.loop-place.assigned unit c.index-units-place-in-loop-place.result some c.loop-place-test.true is' c.index-units-place-in-loop-place.is passing
+    c.assume.new.assigned (c.loop-place.invariant.same f k h) c.are_in_room.ensures.paired c.assume.ensures c.split_at.result.0.now c.split_at.ensures.front c.in_ok-passes.field-0 c.in_ok-passes.ensures.exact in (
       (λ e. absurd (true≢false (sym e))),
-      (λ q. absurd (behind_refused c.args.store.now c.args.assigned.now.room f units (place - 1) place c.loop-place.assigned unit c.index-units-place-in-loop-place.result some c.loop-place-test.true is' c.index-units-place-in-loop-place.is passing (λ r. both_ways c.in_ok-passes.field-0 c.if-not-branch.true (exact.1 r)) q)),
+      (λ q. absurd (following_refused c.args.store.now c.args.assigned.now.room f units (place - 1) place c.loop-place.assigned unit c.index-units-place-in-loop-place.result some c.loop-place-test.true is' c.index-units-place-in-loop-place.is passing (λ r. both_ways c.in_ok-passes.field-0 c.if-not-branch.true (exact.1 r)) q)),
     )
 
 pub returns-then-not-branch-clause-extends : goal.returns-then-not-branch-clause-extends
-returns-then-not-branch-clause-extends c = Extends-further c.args.assigned.now c.suppose.new.assigned c.passes.new.assigned (supposed_more c.args.assigned.now c.loop-place.assigned c.suppose.new.assigned _ c.loop-place.invariant.extends c.suppose.ensures) c.passes.ensures.extends
+returns-then-not-branch-clause-extends c = Extends-further c.args.assigned.now c.assume.new.assigned c.passes.new.assigned (assumed_more c.args.assigned.now c.loop-place.assigned c.assume.new.assigned _ c.loop-place.invariant.extends c.assume.ensures) c.passes.ensures.extends
 
 pub returns-then-not-branch-clause-looks : goal.returns-then-not-branch-clause-looks
 returns-then-not-branch-clause-looks c = record {
@@ -68,15 +68,15 @@ loop-place-preserved c = record {
       let unit = get_or units (place - 1) c.index-units-place.result in
       let some : place - 1 + 1 ≡ place = omega (arith, c.loop-place.invariant.some) in
       let is' = ap (get_or units (place - 1)) c.index-units-place.is in
-      let exact = behind_judged c.args.store.now c.args.assigned.now.room f units (place - 1) place c.loop-place.assigned unit c.index-units-place-in-loop-place.result some c.loop-place-test.true is' c.index-units-place-in-loop-place.is passing
-      c.suppose.new.assigned (c.loop-place.invariant.same f k h) c.stand_in_room.ensures.paired c.suppose.ensures c.split_at.result.0.now c.split_at.ensures.front c.in_ok-passes.field-0 c.in_ok-passes.ensures.exact in
-      behind_passing c.args.store.now c.args.assigned.now.room f units (place - 1) place c.loop-place.assigned unit c.index-units-place-in-loop-place.result some c.loop-place-test.true is' c.index-units-place-in-loop-place.is passing
-      c.suppose.new.assigned (c.loop-place.invariant.same f k h) c.stand_in_room.ensures.paired c.suppose.ensures (place + 1 - 1) (omega arith) c.passes.new.assigned
-      (c.passes.ensures.same f k (subst (λ r. HasStoredRoom r f.clauses) (sym (ap (λ (t : LiteralsAndRoom). t.room) c.suppose.ensures ∙ c.loop-place.invariant.same f k h)) h)) (exact.0 c.if-not-branch.false);
+      let exact = after_judged c.args.store.now c.args.assigned.now.room f units (place - 1) place c.loop-place.assigned unit c.index-units-place-in-loop-place.result some c.loop-place-test.true is' c.index-units-place-in-loop-place.is passing
+      c.assume.new.assigned (c.loop-place.invariant.same f k h) c.are_in_room.ensures.paired c.assume.ensures c.split_at.result.0.now c.split_at.ensures.front c.in_ok-passes.field-0 c.in_ok-passes.ensures.exact in
+      after_passing c.args.store.now c.args.assigned.now.room f units (place - 1) place c.loop-place.assigned unit c.index-units-place-in-loop-place.result some c.loop-place-test.true is' c.index-units-place-in-loop-place.is passing
+      c.assume.new.assigned (c.loop-place.invariant.same f k h) c.are_in_room.ensures.paired c.assume.ensures (place + 1 - 1) (omega arith) c.passes.new.assigned
+      (c.passes.ensures.same f k (subst (λ r. HasStoredRoom r f.clauses) (sym (ap (λ (t : LiteralsAndRoom). t.room) c.assume.ensures ∙ c.loop-place.invariant.same f k h)) h)) (exact.0 c.if-not-branch.false);
   same = λ f k h.
-      let room = ap (λ (t : LiteralsAndRoom). t.room) c.suppose.ensures ∙ c.loop-place.invariant.same f k h in
+      let room = ap (λ (t : LiteralsAndRoom). t.room) c.assume.ensures ∙ c.loop-place.invariant.same f k h in
       ap (λ (t : LiteralsAndRoom). t.room) (c.passes.ensures.same f k (subst (λ r. HasStoredRoom r f.clauses) (sym room) h)) ∙ room;
-  extends = Extends-further c.args.assigned.now c.suppose.new.assigned c.passes.new.assigned (supposed_more c.args.assigned.now c.loop-place.assigned c.suppose.new.assigned _ c.loop-place.invariant.extends c.suppose.ensures) c.passes.ensures.extends;
+  extends = Extends-further c.args.assigned.now c.assume.new.assigned c.passes.new.assigned (assumed_more c.args.assigned.now c.loop-place.assigned c.assume.new.assigned _ c.loop-place.invariant.extends c.assume.ensures) c.passes.ensures.extends;
   looks = λ f k. looks_then c.args.looks.now c.loop-place.looks c.passes.new.looks c.loop-place.place (literal_count f) c.loop-place.invariant.some (c.loop-place.invariant.looks f k) (c.passes.ensures.looks.most f k);
   rise = omega (arith, c.loop-place.invariant.rise, c.passes.ensures.looks.rise);
 }

@@ -4,7 +4,7 @@ use Rattle.sat_checker.specs.Looks.{literal_count}
 use Rattle.sat_checker.specs.Stored.{Stored, is_unit}
 use Rattle.sat_checker.specs.inner.Look.{AssumesMore}
 use Rattle.sat_checker.specs.inner.AssumedRoom.{HasStoredRoom}
-use Rattle.sat_checker.specs.inner.StoreView.{KeepsClauses}
+use Rattle.sat_checker.specs.inner.StoreView.{RepresentsClauses}
 use Rattle.sat_checker.proofs.lemmas.state.InTurn.{Passing}
 use Rattle.sat_checker.proofs.rup.in_turn.pass_in_turn.Given as goal
 
@@ -13,10 +13,10 @@ abbrev pub invariant-loop-place : goal.invariant-loop-place
 invariant-loop-place l = record {
   some : 1 ≤ l.place;
   within : l.place - 1 ≤ length l.units - 1;
-  passing : (f : Stored) → KeepsClauses l.store f → ((k : ℕ) → is_among l.fn.assigned.literals k ≡ is_unit f k) → HasStoredRoom l.fn.assigned.room f.clauses
+  passing : (f : Stored) → RepresentsClauses l.store f → ((k : ℕ) → is_among l.fn.assigned.literals k ≡ is_unit f k) → HasStoredRoom l.fn.assigned.room f.clauses
       → Passing l.store l.fn.assigned.room f l.units (l.place - 1) l.assigned;
-  same : (f : Stored) → KeepsClauses l.store f → HasStoredRoom l.fn.assigned.room f.clauses → l.assigned.room ≡ l.fn.assigned.room;
+  same : (f : Stored) → RepresentsClauses l.store f → HasStoredRoom l.fn.assigned.room f.clauses → l.assigned.room ≡ l.fn.assigned.room;
   extends : AssumesMore l.fn.assigned l.assigned;
-  looks : (f : Stored) → KeepsClauses l.store f → l.looks ≤ l.fn.looks + (l.place - 1) * literal_count f;
+  looks : (f : Stored) → RepresentsClauses l.store f → l.looks ≤ l.fn.looks + (l.place - 1) * literal_count f;
   rise : l.fn.looks ≤ l.looks;
 }

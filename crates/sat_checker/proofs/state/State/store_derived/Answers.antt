@@ -4,7 +4,7 @@ use Rattle.sat_checker.specs.Storing.{with_literals_known}
 use Rattle.sat_checker.specs.inner.Marks.{IsIncreasing}
 use Rattle.sat_checker.proofs.lemmas.sets.Canonical.{canonical_increasing}
 use Rattle.sat_checker.proofs.lemmas.state.Keeping.{derived, turns_then}
-use Rattle.sat_checker.proofs.lemmas.listeners.Noting.{noted_behind, on_ok}
+use Rattle.sat_checker.proofs.lemmas.listeners.Noting.{noted_after, on_ok}
 use Rattle.std.proofs.lemmas.Grind.{common_steps}
 use Rattle.sat_checker.proofs.state.State.store_derived.Goals as goal
 
@@ -42,7 +42,7 @@ returns-in_err-learn-clause-stored c = let p = err_from_is_err_and c.from_residu
 pub returns-clause-noted : goal.returns-clause-noted
 returns-clause-noted c = on_ok c.store_derived.result _ _
     (λ noted f hashes k long e.
-    noted_behind c.args.notes.now c.note_propagations.new.notes c.store_derived.new.notes _ c.note_propagations.ensures.hears c.note_propagations.ensures.news
+    noted_after c.args.notes.now c.note_propagations.new.notes c.store_derived.new.notes _ c.note_propagations.ensures.hears c.note_propagations.ensures.news
     (noted f c.args.clause.now hashes k.formula long c.in_ok-literals.ensures.set (λ h. c.in_ok-note_propagations.ensures.listed f hashes k.formula e (subst IsTrue c.note_propagations.ensures.hears h))))
     c.store_derived.ensures.noted
 

@@ -1,7 +1,7 @@
 use Rattle.std.proofs.Common.{◌<◌, refl, sym, subst, arith}
 use Rattle.std.proofs.lemmas.List.{length-set}
 use Rattle.sat_checker.specs.inner.LinkView.{link_at}
-use Rattle.sat_checker.proofs.lemmas.pairs.Before.{below_there, put_at_top, put_behind_lower}
+use Rattle.sat_checker.proofs.lemmas.pairs.Before.{below_there, put_at_top, put_after_lower}
 use Rattle.sat_checker.proofs.store.links.link_before.Goals as goal
 
 pub returns-in_default-clause-lists : goal.returns-in_default-clause-lists
@@ -31,4 +31,4 @@ bounds-links-before-3 c =
 
 pub returns-clause-lists : goal.returns-clause-lists
 returns-clause-lists c =
-    put_behind_lower c.args.heads.now c.args.links.now c.args.shift c.requires.linked c.top-top.result c.top-top.ensures.within c.args.pair (sym c.top-top.ensures.is) c.requires.inside c.requires.above c.requires.room _ c.in-Some.before c.in-Some.ensures refl
+    put_after_lower c.args.heads.now c.args.links.now c.args.shift c.requires.linked c.top-top.result c.top-top.ensures.within c.args.pair (sym c.top-top.ensures.is) c.requires.inside c.requires.above c.requires.room _ c.in-Some.before c.in-Some.ensures refl

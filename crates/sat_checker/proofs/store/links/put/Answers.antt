@@ -2,7 +2,7 @@ use Rattle.std.proofs.Common.{◌≡◌, ◌∷◌, ◌++◌, [], sym, ap, ◌�
 use Rattle.std.proofs.lemmas.List.{get_or_read}
 use Rattle.sat_checker.specs.inner.LinkView.{link_at}
 use Rattle.sat_checker.specs.declared.store.links.Link.{Link}
-use Rattle.sat_checker.proofs.lemmas.pairs.Changing.{put_first, put_behind, last_there}
+use Rattle.sat_checker.proofs.lemmas.pairs.Changing.{put_first, write_out_and_put, last_there}
 use Rattle.sat_checker.proofs.store.links.put.Goals as goal
 
 pub returns-in_default-clause-ok : goal.returns-in_default-clause-ok
@@ -26,7 +26,7 @@ returns-clause-ok c =
     let place : c.len-place.result ≡ length c.args.links.now.items = omega (arith, c.args.links.now.ok.0, c.len-place.ensures) in
     let b = last_there c.args.heads.now c.args.links.now.items c.args.shift c.requires.linked c.top-top.result c.top-top.ensures.within c.args.hash c.in-Some.before (rw c.deref.ensures.value at c.in-Some.ensures) in
     let read : c.index.result.now ≡ link_at c.args.links.now.items c.in-Some.before = get_or_read c.args.links.now.items c.in-Some.before c.index.result.now b.0 c.index.ensures (record { hash = 0; next = 0 }) in
-    put_behind c.args.heads.now c.args.links.now.items c.args.shift c.requires.linked c.top-top.result c.top-top.ensures.within c.args.hash (sym c.top-top.ensures.is) c.requires.few _ c.in-Some.before
+    write_out_and_put c.args.heads.now c.args.links.now.items c.args.shift c.requires.linked c.top-top.result c.top-top.ensures.within c.args.hash (sym c.top-top.ensures.is) c.requires.few _ c.in-Some.before
     (rw c.deref.ensures.value at c.in-Some.ensures)
     (ap (λ n. slice_set c.push-2.new.self.items c.in-Some.before (record { hash = c.index.result.now.hash; next = n })) place
     ∙ ap (λ (l : Link). slice_set c.push-2.new.self.items c.in-Some.before (record { hash = l.hash; next = length c.args.links.now.items })) read

@@ -1,5 +1,5 @@
 use Rattle.std.proofs.Common.{refl, sym, arith}
-use Rattle.sat_checker.proofs.lemmas.pairs.Changing.{take_first, take_behind, take_none, before_there}
+use Rattle.sat_checker.proofs.lemmas.pairs.Changing.{take_first, take_after, take_none, before_there}
 use Rattle.sat_checker.proofs.store.links.take.Goals as goal
 
 pub returns-then-first-place : goal.returns-then-first-place
@@ -24,7 +24,7 @@ bounds-links-before-in-Some c = (before_there c.args.heads.now c.args.links.now 
 
 pub returns-in-Some : goal.returns-in-Some
 returns-in-Some c =
-    take_behind c.args.heads.now c.args.links.now c.args.shift c.requires.linked c.top-top.result c.top-top.ensures.within c.args.place c.requires.inside (sym c.top-top.ensures.is) _ c.in-Some.before c.in-Some.ensures refl
+    take_after c.args.heads.now c.args.links.now c.args.shift c.requires.linked c.top-top.result c.top-top.ensures.within c.args.place c.requires.inside (sym c.top-top.ensures.is) _ c.in-Some.before c.in-Some.ensures refl
 
 pub returns-in_default : goal.returns-in_default
 returns-in_default c =

@@ -21,7 +21,7 @@ loop-lit-preserved c =
     record {
       room = λ room stays h.
           c.loop-lit.invariant.room room (stays_further old.room new.room room more stays)
-          (subst (HasClauseRoom room) (sym (drop_more c.args.clause.now i x c.loop-lit-test.true ∙ ap (λ y. y ∷ drop (i + 1) c.args.clause.now) (sym c.lit-item.is))) ((stays x there, stays (negated x) (sym (c.stand_in_room.ensures.paired x) ∙ there)), h));
+          (subst (HasClauseRoom room) (sym (drop_more c.args.clause.now i x c.loop-lit-test.true ∙ ap (λ y. y ∷ drop (i + 1) c.args.clause.now) (sym c.lit-item.is))) ((stays x there, stays (negated x) (sym (c.are_in_room.ensures.paired x) ∙ there)), h));
       literals = ap (λ (t : LiteralsAndRoom). t.literals) c.in_ok-make_room.ensures.ok ∙ c.loop-lit.invariant.literals;
       stays = stays_further c.args.assigned.now.room old.room new.room c.loop-lit.invariant.stays more;
     }

@@ -3,7 +3,7 @@ use Rattle.std.proofs.lemmas.Result.{err_from_is_err_and}
 use Rattle.sat_base.specs.steps.Steps.{FailedAssumptions}
 use Rattle.sat_solver.specs.session.LiveClauses.{with_var}
 use Rattle.sat_solver.specs.proof.ProofView.{session_of}
-use Rattle.sat_solver.specs.session.Session.{May}
+use Rattle.sat_solver.specs.session.Session.{IsAllowedStep}
 use Rattle.sat_solver.proofs.lemmas.fits.FailedParts.{fails_may}
 use Rattle.sat_solver.specs.declared.context.Search.{Search}
 use Rattle.sat_solver.specs.assumptions.Core.{causes_hashes}
@@ -22,11 +22,11 @@ step-requires-clause-may g c =
     let x = c.in_ok-find_core.ensures in
     let core : c.deref.result.now ≡ map (with_var (global_in c.args.search.now)) c.find_core.new.search.analysis.core = c.deref.ensures.value ∙ x.clause in
     let hashes : c.deref-2.result.now ≡ causes_hashes c.args.search.now.parts c.find_core.new.search.analysis.used = c.deref-2.ensures.value ∙ x.hashes in
-    let may : May (session_of c.args.proof.now) (FailedAssumptions (map (with_var (global_in c.args.search.now)) c.find_core.new.search.analysis.core) (causes_hashes c.args.search.now.parts c.find_core.new.search.analysis.used)) =
-    fails_may s.parts (session_of c.args.proof.now) (global_in s) c.requires.search.stands.fits c.requires.search.stands.holds s.failed s.assumptions.lits.items c.requires.search.ready.asked c.requires.failing.among c.requires.failing.decided
+    let may : IsAllowedStep (session_of c.args.proof.now) (FailedAssumptions (map (with_var (global_in c.args.search.now)) c.find_core.new.search.analysis.core) (causes_hashes c.args.search.now.parts c.find_core.new.search.analysis.used)) =
+    fails_may s.parts (session_of c.args.proof.now) (global_in s) c.requires.search.valid.fits c.requires.search.valid.holds s.failed s.assumptions.lits.items c.requires.search.ready.asked c.requires.failing.among c.requires.failing.decided
     c.requires.failing.fails c.find_core.new.search.analysis.core c.find_core.new.search.analysis.used x.fails in
-    subst (λ (ls : List ℕ). May (session_of c.args.proof.now) (FailedAssumptions ls c.deref-2.result.now)) (sym core)
-    (subst (λ (hs : List ℕ). May (session_of c.args.proof.now) (FailedAssumptions (map (with_var (global_in c.args.search.now)) c.find_core.new.search.analysis.core) hs)) (sym hashes) may)
+    subst (λ (ls : List ℕ). IsAllowedStep (session_of c.args.proof.now) (FailedAssumptions ls c.deref-2.result.now)) (sym core)
+    (subst (λ (hs : List ℕ). IsAllowedStep (session_of c.args.proof.now) (FailedAssumptions (map (with_var (global_in c.args.search.now)) c.find_core.new.search.analysis.core) hs)) (sym hashes) may)
 
 pub returns : goal.returns
 returns g c =

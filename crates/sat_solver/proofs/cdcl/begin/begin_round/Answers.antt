@@ -12,7 +12,7 @@ use Rattle.sat_solver.specs.unit_simplify.Passes.{MaySettle, IsSimplifiedPass}
 use Rattle.sat_solver.specs.declared.context.Search.{Search}
 use Rattle.sat_solver.proofs.lemmas.cdcl.TurnLemmas.{Propagation, propagation, propagated_moved, falsified_whole, ready_names}
 use Rattle.sat_solver.proofs.lemmas.unit_simplify.BeginLemmas.{may_settle, settled_passes, settled_flat, settled_simplified}
-use Rattle.sat_solver.proofs.lemmas.unit_simplify.PassesLemmas.{passes_behind, passes_refl, falls_goes, falls_starved}
+use Rattle.sat_solver.proofs.lemmas.unit_simplify.PassesLemmas.{passes_after, passes_refl, falls_goes, falls_starved}
 use Rattle.sat_solver.proofs.cdcl.begin.begin_round.Given.{Over}
 use Rattle.sat_solver.proofs.cdcl.begin.begin_round.Goals as goal
 use Rattle.sat_solver.proofs.cdcl.begin.begin_round.Goals.{After-deref, In_ok-settle}
@@ -21,7 +21,7 @@ none_open : (xs : List ℕ) → length xs ≤ 0 → xs ≡ []
 none_open [] le = refl
 none_open (x ∷ xs) le = let none : ⊥ = omega arith in absurd none
 
--- behind a propagation that met no conflict
+-- after a propagation that met no conflict
 module _ (g : Over) (c : After-deref g) where
   abbrev d : Search
   d = record c.args.search.now { parts = c.propagate_all.new.parts }
@@ -32,7 +32,7 @@ module _ (g : Over) (c : After-deref g) where
       let holds : HoldsBelow (length d.parts.trail.starts + 1) d.parts = rw c.in-Ok.is at x.holds in
       propagation (session_of c.args.proof.now) c.args.search.now d c.requires.together.search refl refl refl refl x.starts x.moved x.carries x.word x.keeps holds (rw c.in-Ok.is at x.done) x.units x.base
 
--- behind the settling
+-- after the settling
 module _ (g : Over) (c : In_ok-settle g) where
   abbrev x : After-deref g
   x = (goal.at.In_ok-settle g c).After-deref
@@ -108,4 +108,4 @@ returns g c =
     let simplified : IsSimplifiedPass g.W.CountedWrite.seen c.args.names.now c.unit_simplify.new.names c.args.proof.now c.unit_simplify.new.proof (d g (x g y)) c.unit_simplify.new.search =
     settled_simplified g.W.CountedWrite.seen c.args.names.now c.args.proof.now c.settle.new.proof (d g (x g y)) (e g y) (may g y) (settles g y) refl refl refl refl
     (Ok tt) c.unit_simplify.new.names c.unit_simplify.new.proof c.unit_simplify.new.search c.in_ok-unit_simplify.ensures in
-    passes_behind g.W.CountedWrite.seen c.args.names.now c.unit_simplify.new.names c.args.proof.now c.unit_simplify.new.proof c.args.search.now (d g (x g y)) c.unit_simplify.new.search (went g (x g y)).moved (went g (x g y)).word simplified.passes
+    passes_after g.W.CountedWrite.seen c.args.names.now c.unit_simplify.new.names c.args.proof.now c.unit_simplify.new.proof c.args.search.now (d g (x g y)) c.unit_simplify.new.search (went g (x g y)).moved (went g (x g y)).word simplified.passes

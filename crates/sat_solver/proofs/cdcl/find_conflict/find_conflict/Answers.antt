@@ -18,7 +18,7 @@ use Rattle.sat_solver.proofs.cdcl.find_conflict.find_conflict.Given.{Over}
 use Rattle.sat_solver.proofs.cdcl.find_conflict.find_conflict.Goals as goal
 use Rattle.sat_solver.proofs.cdcl.find_conflict.find_conflict.Goals.{After-deref, In_ok-found}
 
--- behind a propagation that met no conflict
+-- after a propagation that met no conflict
 module _ (g : Over) (c : After-deref g) where
   abbrev d : Search
   d = record c.turns.search { parts = c.propagate_all.new.parts }
@@ -29,7 +29,7 @@ module _ (g : Over) (c : After-deref g) where
       let holds : HoldsBelow (length d.parts.trail.starts + 1) d.parts = rw c.in-Ok.is at x.holds in
       propagation (session_of c.turns.proof) c.turns.search d c.turns.invariant.search refl refl refl refl x.starts x.moved x.carries x.word x.keeps holds (rw c.in-Ok.is at x.done) x.units x.base
 
--- behind the next decision
+-- after the next decision
 module _ (g : Over) (c : In_ok-found g) where
   abbrev e : Search
   e = record c.turns.search { parts = c.assume_or_decide.new.parts; assumptions = c.assume_or_decide.new.assumptions; scratch = record c.turns.search.scratch { units = c.settle.new.units } }
@@ -65,7 +65,7 @@ assume_or_decide-requires g c =
     let ready = (went g (goal.at.assume_or_decide-requires g c).After-deref).whole.ready in
     let settled = c.in_ok-settle.ensures.ends in
     record {
-      holds = settled.stands.holds;
+      holds = settled.valid.holds;
       done = settled.done;
       there = rw settled.size ready.there;
       placed = settled.placed c.turns.search.assumptions ready.placed;
@@ -117,7 +117,7 @@ pub turns-smaller : goal.turns-smaller
 turns-smaller g c =
     let x = (goal.at.turns-smaller g c).In_ok-found in
     let t = rw c.in-None.is at (turn g x) in
-    omega (arith, t.says.1, t.moved.size, starts_few (e g x).parts t.says.0.stands.holds)
+    omega (arith, t.says.1, t.moved.size, starts_few (e g x).parts t.says.0.valid.holds)
 
 pub returns-in-Some : goal.returns-in-Some
 returns-in-Some g c =

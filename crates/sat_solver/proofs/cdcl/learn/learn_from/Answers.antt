@@ -13,4 +13,4 @@ returns-clause-learned g c =
 pub returns-clause-raised : goal.returns-clause-raised
 returns-clause-raised g c =
     let e = c.bump_met.ensures in
-    record { behind = c.learn_clause.new.search; rated = c.in_ok-learn_clause.ensures.rated; rest = e.rest; clauses = e.clauses; queue = e.queue }
+    record { following = c.learn_clause.new.search; rated = c.in_ok-learn_clause.ensures.rated; rest = e.rest; clauses = e.clauses; queue = e.queue }

@@ -13,8 +13,8 @@ returns g c =
       reduced_trans s s c.args.search.now c.reduce_locals.new.search c.collect_deleted.new.search x.0
           (reduced_trans s s c.reduce_locals.new.search c.reduce_mids.new.search c.collect_deleted.new.search y z),
       record {
-        behind_locals = c.reduce_locals.new.search.parts;
-        behind_mids = c.reduce_mids.new.search.parts;
+        after_locals = c.reduce_locals.new.search.parts;
+        after_mids = c.reduce_mids.new.search.parts;
         locals = x.1;
         mids = c.reduce_mids.ensures.mids;
         collection = c.in_ok-collect_deleted.ensures.collects;

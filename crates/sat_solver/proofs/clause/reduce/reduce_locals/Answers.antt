@@ -23,7 +23,7 @@ pub loop-at-init : goal.loop-at-init
 loop-at-init g c = record {
   came = goes_none g.W.CountedWrite.seen tt c.args.proof.now _ c.requires.keeps (reduced_refl (session_of c.args.proof.now) c.args.search.now c.requires.search);
   halving = halving_none c.args.search.now.parts c.list_locals.new.list.items _ (omega (arith, c.len-left.ensures))
-      (λ o k. record { clause = clause_stands c.args.search.now.parts o c.requires.search.stands.holds k; header = refl; lits = refl });
+      (λ o k. record { clause = clause_stands c.args.search.now.parts o c.requires.search.valid.holds k; header = refl; lits = refl });
   once = c.in_ok-list_locals.ensures.once;
   learnt = λ k from lt. locals_learned c.args.search.now.parts c.list_locals.new.list.items c.in_ok-list_locals.ensures.locals c.in_ok-list_locals.ensures.live k lt;
 }

@@ -6,10 +6,10 @@ use Rattle.sat_solver.proofs.lemmas.variables.Added.{assumed_literals, assumptio
 use Rattle.sat_solver.proofs.load.assume.assume.Goals as goal
 
 pub change_marks-requires-clause-tidy : goal.change_marks-requires-clause-tidy
-change_marks-requires-clause-tidy g c = c.in_ok-take_names.ensures.takes.does.stands.tidy
+change_marks-requires-clause-tidy g c = c.in_ok-take_names.ensures.takes.does.valid.tidy
 
 pub change_marks-requires-clause-marked : goal.change_marks-requires-clause-marked
-change_marks-requires-clause-marked g c = λ v. ap (λ ls. mentions ls v) (ap (λ w. w.items) c.in_ok-take_names.ensures.globals ∙ c.requires.asked ∙ sym c.in_ok-take_names.ensures.takes.search.assumed) ∙ c.in_ok-take_names.ensures.takes.does.stands.said.marked v
+change_marks-requires-clause-marked g c = λ v. ap (λ ls. mentions ls v) (ap (λ w. w.items) c.in_ok-take_names.ensures.globals ∙ c.requires.asked ∙ sym c.in_ok-take_names.ensures.takes.search.assumed) ∙ c.in_ok-take_names.ensures.takes.does.valid.said.marked v
 
 pub change_marks-requires-clause-images : goal.change_marks-requires-clause-images
 change_marks-requires-clause-images g c = c.in_ok-take_names.ensures.takes.images
@@ -24,8 +24,8 @@ returns-clause-assumes g c =
     c.in_ok-step.ensures.steps ∙ ap (λ (ls : List ℕ). Assumptions ls ∷ g.W.StepLog.steps c.take_names.new.writer) c.deref.ensures.value in
     assumptions_added c.args.variables.now c.take_names.new.variables c.change_marks.new.variables (g.W.StepLog.steps c.args.writer.now) (g.W.StepLog.steps c.take_names.new.writer) (g.W.StepLog.steps c.step.new.self) c.args.lits.now c.take_names.new.taken c.change_marks.new.asked
     takes c.in_ok-change_marks.ensures.puts c.in_ok-change_marks.ensures.globals c.in_ok-change_marks.ensures.order c.in_ok-change_marks.ensures.given
-    (assumptions_written c.take_names.new.variables c.change_marks.new.variables (g.W.StepLog.steps c.take_names.new.writer) (g.W.StepLog.steps c.step.new.self) c.args.lits.now c.change_marks.new.asked.globals.items takes.does.stands
-    (assumed_literals c.args.variables.now c.take_names.new.variables c.args.lits.now c.take_names.new.taken c.change_marks.new.asked takes.does.stands.tidy takes.extends
+    (assumptions_written c.take_names.new.variables c.change_marks.new.variables (g.W.StepLog.steps c.take_names.new.writer) (g.W.StepLog.steps c.step.new.self) c.args.lits.now c.change_marks.new.asked.globals.items takes.does.valid
+    (assumed_literals c.args.variables.now c.take_names.new.variables c.args.lits.now c.take_names.new.taken c.change_marks.new.asked takes.does.valid.tidy takes.extends
     c.requires.sampled takes.images c.in_ok-change_marks.ensures.globals)
     c.in_ok-change_marks.ensures.puts written)
     written

@@ -7,17 +7,17 @@ use Rattle.sat_solver.proofs.lemmas.variables.CameLemmas.{came_on}
 use Rattle.sat_solver.proofs.load.clause.add_clause.Goals as goal
 
 pub map_clause-requires-clause-tidy : goal.map_clause-requires-clause-tidy
-map_clause-requires-clause-tidy g c = c.in_ok-take_names.ensures.takes.does.stands.tidy
+map_clause-requires-clause-tidy g c = c.in_ok-take_names.ensures.takes.does.valid.tidy
 
 pub map_clause-requires-clause-images : goal.map_clause-requires-clause-images
 map_clause-requires-clause-images g c = c.in_ok-take_names.ensures.takes.images
 
-pub write_clause-requires-clause-stands : goal.write_clause-requires-clause-stands
-write_clause-requires-clause-stands g c = c.in_ok-take_names.ensures.takes.does.stands
+pub write_clause-requires-clause-valid : goal.write_clause-requires-clause-valid
+write_clause-requires-clause-valid g c = c.in_ok-take_names.ensures.takes.does.valid
 
 pub write_clause-requires-clause-literals : goal.write_clause-requires-clause-literals
 write_clause-requires-clause-literals g c = subst (SameLiterals c.take_names.new.variables c.args.lits.now) (sym c.deref.ensures.value)
-    (clause_literals c.args.variables.now c.take_names.new.variables c.args.lits.now c.take_names.new.taken c.map_clause.new.taken c.in_ok-take_names.ensures.takes.does.stands.tidy c.in_ok-take_names.ensures.takes.extends
+    (clause_literals c.args.variables.now c.take_names.new.variables c.args.lits.now c.take_names.new.taken c.map_clause.new.taken c.in_ok-take_names.ensures.takes.does.valid.tidy c.in_ok-take_names.ensures.takes.extends
     c.requires.sampled
     c.in_ok-take_names.ensures.takes.images c.in_ok-both_signs.ensures.maps c.in_ok-both_signs.ensures.order)
 

@@ -5,15 +5,15 @@ use Rattle.sat_solver.specs.variables.Variables.{global_of}
 use Rattle.sat_solver.proofs.lemmas.variables.TakenNames.{any_default}
 use Rattle.sat_solver.proofs.lemmas.variables.LeftOut.{bring_begins, bring_goes, brought_out}
 use Rattle.sat_solver.proofs.lemmas.variables.CameLemmas.{came_on}
-use Rattle.sat_solver.specs.variables.VariableRoom.{users_in}
+use Rattle.sat_solver.specs.variables.VariableRoom.{user_vars_in}
 use Rattle.sat_solver.proofs.lemmas.variables.RoomLemmas.{room_at, fails_on}
 use Rattle.sat_solver.proofs.load.clause.leave_out_clause.Goals as goal
 
 pub loop-lit-init : goal.loop-lit-init
-loop-lit-init g c = record { keeps = c.requires.keeps; room = λ h. h; came = λ w t. t; bringing = bring_begins c.args.variables.now (g.W.StepLog.steps c.args.writer.now) c.args.lits.now c.requires.stands }
+loop-lit-init g c = record { keeps = c.requires.keeps; room = λ h. h; came = λ w t. t; bringing = bring_begins c.args.variables.now (g.W.StepLog.steps c.args.writer.now) c.args.lits.now c.requires.valid }
 
-pub global_from_user-requires-clause-stands : goal.global_from_user-requires-clause-stands
-global_from_user-requires-clause-stands g c = c.loop-lit.invariant.bringing.stands
+pub global_from_user-requires-clause-valid : goal.global_from_user-requires-clause-valid
+global_from_user-requires-clause-valid g c = c.loop-lit.invariant.bringing.valid
 
 pub global_from_user-requires-clause-keeps : goal.global_from_user-requires-clause-keeps
 global_from_user-requires-clause-keeps g c = c.loop-lit.invariant.keeps
@@ -23,7 +23,7 @@ loop-lit-preserved g c =
     let user : c.var.result ≡ variable (get_or c.args.lits.now c.loop-lit.lit-index 0) = c.var.ensures ∙ ap variable (c.lit-item.is ∙ any_default c.args.lits.now c.loop-lit.lit-index c.lit-item.result 0 c.loop-lit-test.true) in
     record {
       keeps = c.in_ok-global_from_user.ensures.keeps;
-      room = λ h. c.in_ok-global_from_user.ensures.brought.room (users_in (drop (c.loop-lit.lit-index + 1) c.args.lits.now)) (room_at c.loop-lit.variables c.args.lits.now c.loop-lit.lit-index c.var.result c.loop-lit-test.true user (c.loop-lit.invariant.room h));
+      room = λ h. c.in_ok-global_from_user.ensures.brought.room (user_vars_in (drop (c.loop-lit.lit-index + 1) c.args.lits.now)) (room_at c.loop-lit.variables c.args.lits.now c.loop-lit.lit-index c.var.result c.loop-lit-test.true user (c.loop-lit.invariant.room h));
       came = λ w t. c.in_ok-global_from_user.ensures.came w (c.loop-lit.invariant.came w t);
       bringing = bring_goes c.args.variables.now c.loop-lit.variables c.global_from_user.new.variables (g.W.StepLog.steps c.args.writer.now) (g.W.StepLog.steps c.loop-lit.writer) (g.W.StepLog.steps c.global_from_user.new.writer) c.args.lits.now c.loop-lit.lit-index (get_or c.args.lits.now c.loop-lit.lit-index 0) c.in_ok-global_from_user.field-0
           c.loop-lit.invariant.bringing c.loop-lit-test.true refl
@@ -48,4 +48,4 @@ pub returns-in_err-global_from_user-clause-room : goal.returns-in_err-global_fro
 returns-in_err-global_from_user-clause-room g c =
     let user : c.var.result ≡ variable (get_or c.args.lits.now c.loop-lit.lit-index 0) = c.var.ensures ∙ ap variable (c.lit-item.is ∙ any_default c.args.lits.now c.loop-lit.lit-index c.lit-item.result 0 c.loop-lit-test.true) in
     λ h. fails_on c.from_residual.result c.in_err-global_from_user.field-0.0 c.from_residual.ensures.1
-    (c.in_err-global_from_user.ensures.room (users_in (drop (c.loop-lit.lit-index + 1) c.args.lits.now)) (room_at c.loop-lit.variables c.args.lits.now c.loop-lit.lit-index c.var.result c.loop-lit-test.true user (c.loop-lit.invariant.room h)))
+    (c.in_err-global_from_user.ensures.room (user_vars_in (drop (c.loop-lit.lit-index + 1) c.args.lits.now)) (room_at c.loop-lit.variables c.args.lits.now c.loop-lit.lit-index c.var.result c.loop-lit-test.true user (c.loop-lit.invariant.room h)))

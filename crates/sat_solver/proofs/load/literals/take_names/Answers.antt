@@ -5,7 +5,7 @@ use Rattle.sat_solver.specs.variables.Variables.{global_of}
 use Rattle.sat_solver.proofs.lemmas.variables.TakenNames.{none_taken, one_taken, all_taken, any_default}
 use Rattle.sat_solver.proofs.lemmas.variables.CameLemmas.{came_on, came_starved}
 use Rattle.sat_solver.specs.declared.variables.error.NameError.TheVariants as errors
-use Rattle.sat_solver.specs.variables.VariableRoom.{users_in}
+use Rattle.sat_solver.specs.variables.VariableRoom.{user_vars_in}
 use Rattle.sat_solver.proofs.lemmas.variables.RoomLemmas.{room_same, room_at, fails_on}
 use Rattle.sat_solver.proofs.load.literals.take_names.Goals as goal
 
@@ -15,19 +15,19 @@ loop-lit-init g c = record {
   keeps = c.requires.keeps;
   room = λ h. h;
   came = λ w t. t;
-  taking = none_taken c.args.variables.now (g.W.StepLog.steps c.args.writer.now) c.args.lits.now c.clear.new.self.items c.clear-2.new.self.items c.requires.stands c.clear.ensures.items c.clear-2.ensures.items;
+  taking = none_taken c.args.variables.now (g.W.StepLog.steps c.args.writer.now) c.args.lits.now c.clear.new.self.items c.clear-2.new.self.items c.requires.valid c.clear.ensures.items c.clear-2.ensures.items;
 }
 
-pub global_from_user-requires-clause-stands : goal.global_from_user-requires-clause-stands
-global_from_user-requires-clause-stands g c = c.loop-lit.invariant.taking.stands
+pub global_from_user-requires-clause-valid : goal.global_from_user-requires-clause-valid
+global_from_user-requires-clause-valid g c = c.loop-lit.invariant.taking.valid
 
 pub global_from_user-requires-clause-keeps : goal.global_from_user-requires-clause-keeps
 global_from_user-requires-clause-keeps g c = c.loop-lit.invariant.keeps
 
 pub solver_from_global-requires-clause-live : goal.solver_from_global-requires-clause-live
 solver_from_global-requires-clause-live g c =
-    let stands = c.in_ok-global.ensures.brought.brings.stands in
-    stands.tidy.named c.in_ok-global.global c.var.result (stands.tidy.users.back c.var.result c.in_ok-global.global c.in_ok-global.ensures.variable)
+    let valid = c.in_ok-global.ensures.brought.brings.valid in
+    valid.tidy.named c.in_ok-global.global c.var.result (valid.tidy.users.back c.var.result c.in_ok-global.global c.in_ok-global.ensures.variable)
 
 pub loop-lit-preserved : goal.loop-lit-preserved
 loop-lit-preserved g c =
@@ -36,8 +36,8 @@ loop-lit-preserved g c =
     record {
       globals = c.loop-lit.invariant.globals;
       keeps = c.in_ok-solver.ensures.keeps;
-      room = λ h. room_same c.global_from_user.new.variables c.solver_from_global.new.variables (users_in (drop (c.loop-lit.lit-index + 1) c.args.lits.now)) c.in_ok-solver.ensures.indexes.users c.in_ok-solver.ensures.indexes.kept
-          (c.in_ok-global.ensures.brought.room (users_in (drop (c.loop-lit.lit-index + 1) c.args.lits.now)) (room_at c.loop-lit.variables c.args.lits.now c.loop-lit.lit-index c.var.result c.loop-lit-test.true user (c.loop-lit.invariant.room h)));
+      room = λ h. room_same c.global_from_user.new.variables c.solver_from_global.new.variables (user_vars_in (drop (c.loop-lit.lit-index + 1) c.args.lits.now)) c.in_ok-solver.ensures.indexes.users c.in_ok-solver.ensures.indexes.kept
+          (c.in_ok-global.ensures.brought.room (user_vars_in (drop (c.loop-lit.lit-index + 1) c.args.lits.now)) (room_at c.loop-lit.variables c.args.lits.now c.loop-lit.lit-index c.var.result c.loop-lit-test.true user (c.loop-lit.invariant.room h)));
       came = λ w t. c.in_ok-solver.ensures.came w (c.in_ok-global.ensures.came w (c.loop-lit.invariant.came w t));
       taking = one_taken c.args.variables.now c.loop-lit.variables c.global_from_user.new.variables c.solver_from_global.new.variables
           (g.W.StepLog.steps c.args.writer.now) (g.W.StepLog.steps c.loop-lit.writer) (g.W.StepLog.steps c.global_from_user.new.writer) (g.W.StepLog.steps c.solver_from_global.new.writer)
@@ -77,7 +77,7 @@ pub returns-in_err-global-clause-room : goal.returns-in_err-global-clause-room
 returns-in_err-global-clause-room g c =
     let user : c.var.result ≡ variable (get_or c.args.lits.now c.loop-lit.lit-index 0) = c.var.ensures ∙ ap variable (c.lit-item.is ∙ any_default c.args.lits.now c.loop-lit.lit-index c.lit-item.result 0 c.loop-lit-test.true) in
     λ h. fails_on c.from_residual.result c.in_err-global.field-0.0 c.from_residual.ensures.1
-    (c.in_err-global.ensures.room (users_in (drop (c.loop-lit.lit-index + 1) c.args.lits.now)) (room_at c.loop-lit.variables c.args.lits.now c.loop-lit.lit-index c.var.result c.loop-lit-test.true user (c.loop-lit.invariant.room h)))
+    (c.in_err-global.ensures.room (user_vars_in (drop (c.loop-lit.lit-index + 1) c.args.lits.now)) (room_at c.loop-lit.variables c.args.lits.now c.loop-lit.lit-index c.var.result c.loop-lit-test.true user (c.loop-lit.invariant.room h)))
 
 pub returns-in_err-solver-clause-room : goal.returns-in_err-solver-clause-room
 returns-in_err-solver-clause-room g c = λ h. fails_on c.from_residual-in_err-solver.result c.in_err-solver.field-0.0 c.from_residual-in_err-solver.ensures.1 c.in_err-solver.ensures.fails

@@ -5,7 +5,7 @@ use Rattle.sat_base.specs.steps.StepWriting.{steps_sink}
 use Rattle.sat_solver.specs.proof.Counting.{width_change}
 use Rattle.sat_solver.specs.declared.proof.format.ProofFormat.TheVariants.{Varisat}
 use Rattle.sat_solver.proofs.lemmas.session.ProofLemmas.{wrote_more}
-use Rattle.sat_solver.proofs.lemmas.session.PuttingLemmas.{wrote_one, puts_behind, puts_short}
+use Rattle.sat_solver.proofs.lemmas.session.PuttingLemmas.{wrote_one, puts_after, puts_short}
 use Rattle.sat_solver.proofs.proof.native.write_at.Goals as goal
 
 pub returns-in_err-write_width : goal.returns-in_err-write_width
@@ -26,4 +26,4 @@ pub returns-in_err-write : goal.returns-in_err-write
 returns-in_err-write g c =
     let p = err_from_is_err_and c.from_residual-in_err-write.result c.from_residual-in_err-write.ensures.1 in
     let seen = g.W.CountedWrite.seen in
-    rw (p.1, p.2) (puts_behind Varisat (step_of c.args.step.now) (width_change c.args.widths.0 c.args.widths.1) (steps_sink seen c.args.writer.now) (steps_sink seen c.write_width.new.writer) (steps_sink seen c.write.new.self) c.in_ok-write_width.ensures c.in_err-write.ensures.sends.breaks)
+    rw (p.1, p.2) (puts_after Varisat (step_of c.args.step.now) (width_change c.args.widths.0 c.args.widths.1) (steps_sink seen c.args.writer.now) (steps_sink seen c.write_width.new.writer) (steps_sink seen c.write.new.self) c.in_ok-write_width.ensures c.in_err-write.ensures.sends.breaks)

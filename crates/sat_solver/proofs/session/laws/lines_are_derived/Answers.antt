@@ -1,5 +1,5 @@
-use Rattle.sat_solver.proofs.lemmas.session.DratDerivations.{drat_stands}
+use Rattle.sat_solver.proofs.lemmas.session.DratDerivations.{drat_is_right}
 use Rattle.sat_solver.proofs.session.laws.lines_are_derived.Goals as goal
 
 pub returns : goal.returns
-returns c = drat_stands
+returns c = drat_is_right

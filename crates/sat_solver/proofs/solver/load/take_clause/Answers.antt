@@ -1,6 +1,6 @@
 use Rattle.std.proofs.lemmas.Result.{err_from_is_err_and}
 use Rattle.sat_solver.proofs.lemmas.load.GivenLemmas.{vacant_restarted, restarted_indexed}
-use Rattle.sat_solver.proofs.lemmas.solver.TakingLemmas.{reported_fails, fault_on, fault_ends, clause_vacant, clause_added, clause_may, clause_both, clause_told, none_took, names_broke, names_starved}
+use Rattle.sat_solver.proofs.lemmas.solver.TakingLemmas.{reported_fails, fault_on, fault_ends, clause_vacant, clause_added, clause_may, clause_both, clause_result, none_took, names_broke, names_starved}
 use Rattle.sat_solver.specs.declared.error.SolverError.TheVariants as errors
 use Rattle.sat_solver.specs.load.Faults.{reported_as}
 use Rattle.sat_solver.proofs.lemmas.cdcl.GoingLemmas.{fault_or}
@@ -34,7 +34,7 @@ load_clause-requires-clause-may g c = rw c.deref-3.ensures.value (clause_may g.W
     c.if-both_signs.false)
 
 pub returns-clause-takes : goal.returns-clause-takes
-returns-clause-takes g c = clause_told g.W.CountedWrite.seen c.args.names.now c.add_clause.new.variables c.args.core.now c.requires.joined c.args.lits.now c.add_clause.new.taken c.in_ok-both_signs.both_signs c.add_clause.new.writer c.in_ok-both_signs.ensures.adds (c.in_ok-both_signs.ensures.came c.args.core.now.proof (none_took g.W.CountedWrite.seen c.args.core.now.proof)) c.in_ok-both_signs.ensures.keeps c.new_indices.new.search
+returns-clause-takes g c = clause_result g.W.CountedWrite.seen c.args.names.now c.add_clause.new.variables c.args.core.now c.requires.joined c.args.lits.now c.add_clause.new.taken c.in_ok-both_signs.both_signs c.add_clause.new.writer c.in_ok-both_signs.ensures.adds (c.in_ok-both_signs.ensures.came c.args.core.now.proof (none_took g.W.CountedWrite.seen c.args.core.now.proof)) c.in_ok-both_signs.ensures.keeps c.new_indices.new.search
     (restarted_indexed _ _ _ _ c.args.core.now.search c.full_restart.new.search c.new_indices.new.search c.deref.ensures.value c.deref-2.ensures.value c.full_restart.ensures c.in_ok-new_indices.ensures)
     c.load_clause.result c.load_clause.new.proof c.load_clause.new.search c.load_clause.ensures.goes c.load_clause.ensures.comes
 

@@ -4,11 +4,11 @@ use Rattle.std.proofs.lemmas.Grind.{get_or_default_zero}
 use Rattle.sat_base.specs.steps.Steps.{DeleteClause, Satisfied}
 use Rattle.sat_solver.specs.session.LiveClauses.{with_var}
 use Rattle.sat_solver.specs.proof.ProofView.{session_of, steps_of}
-use Rattle.sat_solver.specs.session.Session.{session_after, May}
+use Rattle.sat_solver.specs.session.Session.{session_after, IsAllowedStep}
 use Rattle.sat_solver.specs.session.Naming.{global_of_index}
 use Rattle.sat_solver.specs.unit_simplify.Flat.{LeavesPairs}
 use Rattle.sat_solver.proofs.lemmas.cdcl.GoingLemmas.{goes_none, goes_map}
-use Rattle.sat_solver.proofs.lemmas.unit_simplify.LighterLemmas.{pair_passes, pair_deletes, pair_there, second_there, PairAt}
+use Rattle.sat_solver.proofs.lemmas.unit_simplify.StrengthenSearchLemmas.{pair_passes, pair_deletes, pair_there, second_there, PairAt}
 use Rattle.sat_solver.proofs.unit_simplify.binary.delete_pair.Given.{Over}
 use Rattle.sat_solver.proofs.unit_simplify.binary.delete_pair.Goals as goal
 use Rattle.sat_solver.proofs.unit_simplify.binary.delete_pair.Goals.{After-index-implied-at}
@@ -40,7 +40,7 @@ delete_satisfied-requires-clause-names g c =
 
 pub delete_satisfied-requires-clause-may : goal.delete_satisfied-requires-clause-may
 delete_satisfied-requires-clause-may g c =
-    subst (λ (gs : List ℕ). May (session_of c.args.proof.now) (DeleteClause (map (with_var (global_of_index gs)) (c.not-first.result ∷ c.index-implied-at.result ∷ [])) Satisfied)) (sym c.deref.ensures.value)
+    subst (λ (gs : List ℕ). IsAllowedStep (session_of c.args.proof.now) (DeleteClause (map (with_var (global_of_index gs)) (c.not-first.result ∷ c.index-implied-at.result ∷ [])) Satisfied)) (sym c.deref.ensures.value)
     (pair_deletes (session_of c.args.proof.now) _ c.requires.may _ _ c.requires.within c.requires.left _ _ (pair g (goal.at.delete_satisfied-requires-clause-may g c).After-index-implied-at) (omega (arith, c.if-code.false, c.code-2.ensures.value, c.code.ensures.value)) (sym c.are_open.ensures ∙ c.if-are_open.false)).0
 
 pub returns-clause-left : goal.returns-clause-left

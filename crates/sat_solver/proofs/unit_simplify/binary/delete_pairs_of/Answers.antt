@@ -5,7 +5,7 @@ use Rattle.sat_solver.specs.proof.ProofView.{session_of}
 use Rattle.sat_solver.specs.declared.context.Search.{Search}
 use Rattle.sat_solver.specs.unit_simplify.Flat.{MayRemove, LeavesPairs}
 use Rattle.sat_solver.proofs.lemmas.cdcl.GoingLemmas.{goes_none, goes_then, goes_then_fails, goes_on}
-use Rattle.sat_solver.proofs.lemmas.unit_simplify.LighterLemmas.{pairs_go_on, may_scratch}
+use Rattle.sat_solver.proofs.lemmas.unit_simplify.StrengthenSearchLemmas.{pairs_go_on, may_scratch}
 use Rattle.sat_solver.proofs.unit_simplify.binary.delete_pairs_of.Goals as goal
 
 pub loop-at-init : goal.loop-at-init

@@ -8,7 +8,7 @@ use Rattle.sat_parts.specs.parts.Words.{TrailWordExtends}
 use Rattle.sat_solver.specs.cdcl.Joint.{SameAssumedAndNames}
 use Rattle.sat_solver.specs.unit_simplify.Flat.{MayRemove, LeavesPairs, IsStrengthened}
 use Rattle.sat_solver.proofs.lemmas.cdcl.GoingLemmas.{goes_none, goes_then, goes_then_fails, goes_on}
-use Rattle.sat_solver.proofs.lemmas.unit_simplify.LighterLemmas.{pairs_begin, pairs_removed, may_remove, may_scratch, goes_leaves}
+use Rattle.sat_solver.proofs.lemmas.unit_simplify.StrengthenSearchLemmas.{pairs_begin, pairs_removed, may_remove, may_scratch, goes_leaves}
 use Rattle.sat_solver.proofs.unit_simplify.binary.simplify_binary.Goals as goal
 
 pub loop-code-init : goal.loop-code-init
@@ -32,7 +32,7 @@ delete_pairs_of-requires-clause-left g c =
 
 pub delete_pairs_of-requires-clause-there : goal.delete_pairs_of-requires-clause-there
 delete_pairs_of-requires-clause-there g c =
-    let room = c.requires.search.stands.holds.below.asks.ranges.room in
+    let room = c.requires.search.valid.holds.below.asks.ranges.room in
     rw c.from_code.ensures
     (subst (λ (s : Search). c.loop-code.code < length s.parts.binary.implied) (sym c.loop-code.invariant.same)
     (omega (arith, room, c.loop-code-test.true, ap (λ xs. length xs) c.assignment.ensures.values)))
@@ -52,7 +52,7 @@ loop-code-preserved g c = record {
 }
 
 pub remove_binary-requires-clause-holds : goal.remove_binary-requires-clause-holds
-remove_binary-requires-clause-holds g c = subst (λ (s : Search). PartsInvariant s.parts) (sym c.loop-code.invariant.same) c.requires.search.stands.holds
+remove_binary-requires-clause-holds g c = subst (λ (s : Search). PartsInvariant s.parts) (sym c.loop-code.invariant.same) c.requires.search.valid.holds
 
 pub remove_binary-requires-clause-empty : goal.remove_binary-requires-clause-empty
 remove_binary-requires-clause-empty g c = ap (λ (s : Search). s.parts.trail.lits) c.loop-code.invariant.same ∙ c.requires.flat.empty
@@ -62,7 +62,7 @@ returns g c =
     let i = c.loop-code.invariant in
     let x = c.args.search.now in
     let y : Search = record c.loop-code.search { parts = c.remove_binary.new.parts } in
-    let room = c.requires.search.stands.holds.below.asks.ranges.room in
+    let room = c.requires.search.valid.holds.below.asks.ranges.room in
     let end : c.loop-code.code ≡ length c.args.search.now.parts.binary.implied = omega (arith, room, c.loop-code-test.false, c.loop-code.auto.code-end, ap (λ xs. length xs) c.assignment.ensures.values) in
     let leaves : SameAssumedAndNames (session_of c.args.proof.now) (session_of c.loop-code.proof) = goes_leaves g.W.CountedWrite.seen tt c.args.proof.now c.loop-code.proof _ i.went in
     let removed : RemovesBinaries c.args.search.now.parts c.remove_binary.new.parts = subst (λ (s : Search). RemovesBinaries s.parts c.remove_binary.new.parts) i.same c.remove_binary.ensures.removed in

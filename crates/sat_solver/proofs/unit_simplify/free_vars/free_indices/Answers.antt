@@ -81,7 +81,7 @@ pub free_unmarked-requires-clause-size : goal.free_unmarked-requires-clause-size
 free_unmarked-requires-clause-size g c = omega (arith, c.loop-index.invariant.size)
 
 pub free_unmarked-requires-clause-queue : goal.free_unmarked-requires-clause-queue
-free_unmarked-requires-clause-queue g c = omega (arith, c.loop-index.invariant.size, c.requires.may.search.stands.holds.below.queue)
+free_unmarked-requires-clause-queue g c = omega (arith, c.loop-index.invariant.size, c.requires.may.search.valid.holds.below.queue)
 
 pub free_unmarked-requires-clause-few : goal.free_unmarked-requires-clause-few
 free_unmarked-requires-clause-few g c = omega (arith, c.loop-index.invariant.size, marks_fit c.args.variables.now (g.S.StepLog.steps c.args.writer.now) c.args.search.now c.requires.may)

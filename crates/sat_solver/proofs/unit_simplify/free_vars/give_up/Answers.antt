@@ -15,8 +15,8 @@ returns-clause-gone g c =
     let mids = g.S.StepLog.steps c.remove_solver_var.new.writer in
     let to = g.S.StepLog.steps c.forget_idle.new.writer in
     on_ok_four c.forget_idle.result (DoesNothing mid new mids to) (IsAlike mid new mids to) (ForgetsIdle mid mids to c.args.global) (new.global_from_user ≡ mid.global_from_user) (FreesIndex old new from to c.args.global)
-    (gives_up_both old mid from mids c.args.global c.args.index c.requires.stands c.in_ok-remove_solver_var.ensures.gone new to) c.forget_idle.ensures.does c.forget_idle.ensures.alike c.forget_idle.ensures.goes c.forget_idle.ensures.users
+    (gives_up_both old mid from mids c.args.global c.args.index c.requires.valid c.in_ok-remove_solver_var.ensures.gone new to) c.forget_idle.ensures.does c.forget_idle.ensures.alike c.forget_idle.ensures.goes c.forget_idle.ensures.users
 
 pub returns-then-is_some-clause-gone : goal.returns-then-is_some-clause-gone
 returns-then-is_some-clause-gone g c =
-    gives_up_named c.args.variables.now c.remove_solver_var.new.variables (g.S.StepLog.steps c.args.writer.now) (g.S.StepLog.steps c.remove_solver_var.new.writer) c.args.global c.args.index c.requires.stands c.in_ok-remove_solver_var.ensures.gone
+    gives_up_named c.args.variables.now c.remove_solver_var.new.variables (g.S.StepLog.steps c.args.writer.now) (g.S.StepLog.steps c.remove_solver_var.new.writer) c.args.global c.args.index c.requires.valid c.in_ok-remove_solver_var.ensures.gone

@@ -27,8 +27,8 @@ returns-then-is_marked-clause-marks g c = marks_one c.args.used.now.items c.mark
 pub set_unit-requires : goal.set_unit-requires
 set_unit-requires g c = record { within = within_free c.args.variables.now (g.S.StepLog.steps c.args.writer.now) (freed_search c.args.used.now.items c.args.index c.args.search.now) c.requires.may c.args.index c.in-Some.global (ap (λ m. target m c.args.index) (sym c.bwd.ensures.map) ∙ sym c.get.ensures ∙ c.in-Some.is) }
 
-pub give_up-requires-clause-stands : goal.give_up-requires-clause-stands
-give_up-requires-clause-stands g c =
+pub give_up-requires-clause-valid : goal.give_up-requires-clause-valid
+give_up-requires-clause-valid g c =
     let k = freed_search c.args.used.now.items c.args.index c.args.search.now in
     let there : global_at c.args.variables.now c.args.index ≡ Some c.in-Some.global = ap (λ m. target m c.args.index) (sym c.bwd.ensures.map) ∙ sym c.get.ensures ∙ c.in-Some.is in
     noted_stands c.args.variables.now (g.S.StepLog.steps c.args.writer.now) k c.requires.may c.args.index c.in-Some.global there c.set_unit.new.self
@@ -68,11 +68,11 @@ returns-in_default-clause-left g c = λ v e. absurd (c.in_default.not-Some v (c.
 pub returns-then-is_marked-clause-left : goal.returns-then-is_marked-clause-left
 returns-then-is_marked-clause-left g c = λ v e.
     (let there : global_at c.args.variables.now c.args.index ≡ Some c.in-Some.global = ap (λ m. target m c.args.index) (sym c.bwd.ensures.map) ∙ sym c.get.ensures ∙ c.in-Some.is in
-    subst (λ w. mentions (session_after (g.S.StepLog.steps c.args.writer.now)).assumed w ≡ true) (some_same c.in-Some.global v (sym there ∙ e)) (c.requires.may.stands.said.marked c.in-Some.global ∙ sym c.is_marked.ensures ∙ c.if-is_marked.true))
+    subst (λ w. mentions (session_after (g.S.StepLog.steps c.args.writer.now)).assumed w ≡ true) (some_same c.in-Some.global v (sym there ∙ e)) (c.requires.may.valid.said.marked c.in-Some.global ∙ sym c.is_marked.ensures ∙ c.if-is_marked.true))
 
 pub returns-clause-left : goal.returns-clause-left
 returns-clause-left g c = λ v e.
     (let there : global_at c.args.variables.now c.args.index ≡ Some c.in-Some.global = ap (λ m. target m c.args.index) (sym c.bwd.ensures.map) ∙ sym c.get.ensures ∙ c.in-Some.is in
     let put : PutsUnit c.args.variables.now c.set_unit.new.self c.in-Some.global _ = c.set_unit.ensures in
-    absurd (global_gone c.args.variables.now c.give_up.new.variables c.in-Some.global c.args.index v c.requires.may.stands.tidy c.in_ok-give_up.ensures.gone.does.stands.tidy
+    absurd (global_gone c.args.variables.now c.give_up.new.variables c.in-Some.global c.args.index v c.requires.may.valid.tidy c.in_ok-give_up.ensures.gone.does.valid.tidy
     (λ w. c.in_ok-give_up.ensures.gone.solvers w ∙ ap (λ m. cond (eqb w c.in-Some.global) None (target m.fwd w)) put.maps.solvers) there e))

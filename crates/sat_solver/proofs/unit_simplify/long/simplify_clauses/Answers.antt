@@ -8,13 +8,13 @@ use Rattle.sat_solver.specs.proof.ProofView.{session_of}
 use Rattle.sat_parts.proofs.lemmas.parts.ReduceLemmas.{in_filter}
 use Rattle.sat_solver.proofs.lemmas.cdcl.GoingLemmas.{goes_none, goes_then, goes_then_fails, goes_on}
 use Rattle.sat_solver.specs.unit_simplify.Flat.{IsStrengthened, StrengthensClause, StrengthensAll, AreOpenTo}
-use Rattle.sat_solver.proofs.lemmas.unit_simplify.LighterLemmas.{lighter_refl, lighter_trans, flat_on}
+use Rattle.sat_solver.proofs.lemmas.unit_simplify.StrengthenSearchLemmas.{strengthened_refl, strengthened_trans, flat_on}
 use Rattle.sat_solver.proofs.lemmas.unit_simplify.WalkLemmas.{to_none, to_more, to_skip, to_all}
 use Rattle.sat_solver.proofs.unit_simplify.long.simplify_clauses.Goals as goal
 
 pub loop-at-init : goal.loop-at-init
 loop-at-init g c = record {
-  went = goes_none g.W.CountedWrite.seen tt c.args.proof.now _ c.requires.keeps (lighter_refl (session_of c.args.proof.now) c.args.search.now c.requires.search);
+  went = goes_none g.W.CountedWrite.seen tt c.args.proof.now _ c.requires.keeps (strengthened_refl (session_of c.args.proof.now) c.args.search.now c.requires.search);
   left = to_none c.args.search.now c.args.search.now;
 }
 
@@ -26,7 +26,7 @@ header-requires g c =
     let p = c.loop-at.search.parts in
     let e = ap (λ (xs : List ℕ). length xs) c.loop-at.invariant.went.ends.refs in
     let lt : c.loop-at.at < length c.loop-at.search.parts.db.refs = omega (arith, e, c.loop-at-test.true, c.len-at-end.ensures) in
-    c.loop-at.invariant.went.ends.search.stands.holds.below.held.laid.clauses c.cref-cref.result (subst (λ z. Contains p.db.refs z) (sym c.cref-cref.ensures) (place_in p.db.refs c.loop-at.at lt))
+    c.loop-at.invariant.went.ends.search.valid.holds.below.held.laid.clauses c.cref-cref.result (subst (λ z. Contains p.db.refs z) (sym c.cref-cref.ensures) (place_in p.db.refs c.loop-at.at lt))
 
 pub loop-at-preserved-then-deleted : goal.loop-at-preserved-then-deleted
 loop-at-preserved-then-deleted g c =
@@ -66,8 +66,8 @@ loop-at-preserved g c =
     let lt : c.loop-at.at < length c.args.search.now.parts.db.refs = omega (arith, c.loop-at-test.true, c.len-at-end.ensures) in
     record {
       went = goes_then g.W.CountedWrite.seen tt (Ok tt) c.args.proof.now c.loop-at.proof c.simplify_clause.new.proof _ (λ _ _. StrengthensClause (session_of c.simplify_clause.new.proof) c.loop-at.search c.simplify_clause.new.search c.cref-cref.result) _ c.loop-at.invariant.went c.in_ok-simplify_clause.ensures
-          (λ xs ys y a b. lighter_trans (session_of c.loop-at.proof) (session_of c.simplify_clause.new.proof) c.args.search.now c.loop-at.search c.simplify_clause.new.search a b.lighter);
-      left = to_more c.args.search.now c.loop-at.search c.loop-at.at c.loop-at.invariant.left (session_of c.simplify_clause.new.proof) c.simplify_clause.new.search c.cref-cref.result lt c.requires.search.stands.holds.below.held.rising
+          (λ xs ys y a b. strengthened_trans (session_of c.loop-at.proof) (session_of c.simplify_clause.new.proof) c.args.search.now c.loop-at.search c.simplify_clause.new.search a b.strengthened);
+      left = to_more c.args.search.now c.loop-at.search c.loop-at.at c.loop-at.invariant.left (session_of c.simplify_clause.new.proof) c.simplify_clause.new.search c.cref-cref.result lt c.requires.search.valid.holds.below.held.rising
           (c.cref-cref.ensures ∙ ap (λ (xs : List ℕ). get_or xs c.loop-at.at 0) c.loop-at.invariant.went.ends.refs) c.in_ok-simplify_clause.ensures.ends;
     }
 
@@ -75,5 +75,5 @@ pub returns : goal.returns
 returns g c =
     let end : c.loop-at.at ≡ length c.args.search.now.parts.db.refs = omega (arith, c.loop-at-test.false, c.loop-at.auto.at-end, c.len-at-end.ensures) in
     goes_on g.W.CountedWrite.seen tt tt c.args.proof.now c.loop-at.proof (λ _ _. IsStrengthened (session_of c.loop-at.proof) c.args.search.now c.loop-at.search) (λ _ _. StrengthensAll (session_of c.loop-at.proof) c.args.search.now c.loop-at.search)
-    (λ steps x. record { lighter = x; left = to_all c.args.search.now c.loop-at.search x.refs (subst (λ k. AreOpenTo c.args.search.now c.loop-at.search k) end c.loop-at.invariant.left) })
+    (λ steps x. record { strengthened = x; left = to_all c.args.search.now c.loop-at.search x.refs (subst (λ k. AreOpenTo c.args.search.now c.loop-at.search k) end c.loop-at.invariant.left) })
     c.loop-at.invariant.went

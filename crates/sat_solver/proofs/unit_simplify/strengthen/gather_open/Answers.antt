@@ -35,8 +35,8 @@ loop-at-preserved c =
     let unfalse : IsFalseLit c.args.parts.now.assignment.current (lit_of c.loop-at.parts.clauses c.args.cref c.loop-at.at) → ⊥ =
     λ f. true≢false (sym (c.lit_is_false.ensures.1 (subst (λ l. IsFalseLit q.assignment.current l) (sym c.lit.ensures.value) (subst (λ v. IsFalseLit v.current (lit_of q.clauses c.args.cref c.loop-at.at)) (sym i.gathers.same.0.0) f))) ∙ c.if-lit_is_false.false) in
     record {
-      gathers = gathers_swap p q c.args.cref c.loop-at.kept c.loop-at.at i.gathers i.within c.swap_behind.new.parts c.requires.live lt
-          (open_from p.assignment.current (lit_of q.clauses c.args.cref c.loop-at.at) untrue unfalse) c.swap_behind.ensures.swapped c.swap_behind.ensures.holds c.swap_behind.ensures.db c.swap_behind.ensures.word;
+      gathers = gathers_swap p q c.args.cref c.loop-at.kept c.loop-at.at i.gathers i.within c.swap_unwatched.new.parts c.requires.live lt
+          (open_from p.assignment.current (lit_of q.clauses c.args.cref c.loop-at.at) untrue unfalse) c.swap_unwatched.ensures.swapped c.swap_unwatched.ensures.holds c.swap_unwatched.ensures.db c.swap_unwatched.ensures.word;
       some = omega (arith, i.some);
       within = omega (arith, i.within);
     }

@@ -1,6 +1,6 @@
 use Rattle.std.proofs.Common.{◌+◌, ◌≡◌, ◌∷◌, ◌∙◌, [], List, drop, length, sym, subst, arith}
 use Rattle.sat_solver.specs.declared.variables.solver_vars.Given.{Given}
-use Rattle.sat_solver.specs.variables.Initialized.{AreVacant, IsVacant, TakesIndices}
+use Rattle.sat_solver.specs.variables.Initialized.{AreVacant, IsVacant, ActivatesIndices}
 use Rattle.std.specs.List.{AllByRecursion}
 use Rattle.sat_solver.proofs.lemmas.load.IndexLemmas.{takes_none, takes_cons, vacant_on, drop_next, drop_end}
 use Rattle.sat_solver.proofs.variables.initialize.take_indices.Goals as goal
@@ -23,11 +23,11 @@ loop-at-preserved c =
         each = subst (λ n. AllByRecursion (IsVacant c.take_index.new.parts n) (drop (c.loop-at.at + 1) c.args.given.now)) (sym x.size) (vacant_on g rest p q (length c.loop-at.parts.assignment.current) left.apart.0 x left.each.1);
         apart = left.apart.1;
       };
-      goes = λ r h. i.goes r (subst (λ gs. TakesIndices gs c.loop-at.parts r) (sym e) (takes_cons g rest p q r left.apart.0 x h));
+      goes = λ r h. i.goes r (subst (λ gs. ActivatesIndices gs c.loop-at.parts r) (sym e) (takes_cons g rest p q r left.apart.0 x h));
     }
 
 pub returns : goal.returns
 returns c =
     let i = c.loop-at.invariant in
     let none : drop c.loop-at.at c.args.given.now ≡ [] = drop_end c.args.given.now c.loop-at.at (omega arith) in
-    i.goes c.loop-at.parts (subst (λ gs. TakesIndices gs c.loop-at.parts c.loop-at.parts) (sym none) (takes_none c.loop-at.parts i.holds i.bottom))
+    i.goes c.loop-at.parts (subst (λ gs. ActivatesIndices gs c.loop-at.parts c.loop-at.parts) (sym none) (takes_none c.loop-at.parts i.holds i.bottom))

@@ -6,10 +6,10 @@ pub put_deleted-requires-clause-within : goal.put_deleted-requires-clause-within
 put_deleted-requires-clause-within g c = live_within c.args.variables.now c.args.global c.requires.live
 
 pub step-requires-clause-may : goal.step-requires-clause-may
-step-requires-clause-may g c = may_delete c.args.variables.now c.args.global _ c.requires.stands.tidy c.requires.stands.said c.requires.live c.requires.nameless c.requires.without c.requires.unmarked
+step-requires-clause-may g c = may_delete c.args.variables.now c.args.global _ c.requires.valid.tidy c.requires.valid.said c.requires.live c.requires.nameless c.requires.without c.requires.unmarked
 
 pub returns-clause-does : goal.returns-clause-does
-returns-clause-does g c = var_deleted c.args.variables.now c.put_deleted.new.self (g.W.StepLog.steps c.args.writer.now) (g.W.StepLog.steps c.step.new.self) c.args.global c.requires.stands c.requires.live c.requires.nameless c.requires.without c.requires.unmarked
+returns-clause-does g c = var_deleted c.args.variables.now c.put_deleted.new.self (g.W.StepLog.steps c.args.writer.now) (g.W.StepLog.steps c.step.new.self) c.args.global c.requires.valid c.requires.live c.requires.nameless c.requires.without c.requires.unmarked
     c.put_deleted.ensures c.in_ok-step.ensures.steps
 
 pub returns-clause-forgets : goal.returns-clause-forgets

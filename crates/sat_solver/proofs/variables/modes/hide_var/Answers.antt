@@ -10,8 +10,8 @@ use Rattle.sat_solver.proofs.lemmas.variables.RoomLemmas.{fails_on}
 use Rattle.sat_solver.proofs.lemmas.variables.ComingSteps.{comes_hidden, hidden_unmarked, leaves_none}
 use Rattle.sat_solver.proofs.variables.modes.hide_var.Goals as goal
 
-pub forget_idle-requires-clause-stands : goal.forget_idle-requires-clause-stands
-forget_idle-requires-clause-stands g c = c.in_ok-hide_global.ensures.does.stands
+pub forget_idle-requires-clause-valid : goal.forget_idle-requires-clause-valid
+forget_idle-requires-clause-valid g c = c.in_ok-hide_global.ensures.does.valid
 
 pub returns-clause-does : goal.returns-clause-does
 returns-clause-does g c =
@@ -53,7 +53,7 @@ returns-in_err-global-clause-room g c = λ h. fails_on c.from_residual.result c.
 
 pub returns-clause-comes : goal.returns-clause-comes
 returns-clause-comes g c = comes_hidden c.forget_idle.result c.hide_global.new.variables (g.W.StepLog.steps c.args.writer.now) (g.W.StepLog.steps c.global_from_user.new.writer) (g.W.StepLog.steps c.hide_global.new.writer) (g.W.StepLog.steps c.forget_idle.new.writer) c.in_ok-global.global
-    c.in_ok-hide_global.ensures.does.stands.said c.in_ok-global.ensures.brought.comes c.in_ok-hide_global.ensures.step c.forget_idle.ensures.goes
+    c.in_ok-hide_global.ensures.does.valid.said c.in_ok-global.ensures.brought.comes c.in_ok-hide_global.ensures.step c.forget_idle.ensures.goes
 
 pub returns-clause-gone : goal.returns-clause-gone
 returns-clause-gone g c =
@@ -63,8 +63,8 @@ returns-clause-gone g c =
     let from = g.W.StepLog.steps c.args.writer.now in
     let mids = g.W.StepLog.steps c.global_from_user.new.writer in
     let hides = g.W.StepLog.steps c.hide_global.new.writer in
-    let said = c.in_ok-hide_global.ensures.does.stands.said in
+    let said = c.in_ok-hide_global.ensures.does.valid.said in
     let hidden = c.in_ok-hide_global.ensures.step in
     leaves_none c.forget_idle.result h mids hides (g.W.StepLog.steps c.forget_idle.new.writer) c.in_ok-global.global said hidden
-    (hidden_unmarked n m h from mids hides c.args.user c.in_ok-global.global c.requires.stands.tidy c.requires.stands.said c.in_ok-global.ensures.brought.extends c.in_ok-global.ensures.brought.unseen c.requires.free c.in_ok-global.ensures.variable said hidden)
+    (hidden_unmarked n m h from mids hides c.args.user c.in_ok-global.global c.requires.valid.tidy c.requires.valid.said c.in_ok-global.ensures.brought.extends c.in_ok-global.ensures.brought.unseen c.requires.free c.in_ok-global.ensures.variable said hidden)
     c.forget_idle.ensures.goes

@@ -34,4 +34,4 @@ returns-in_err-global-clause-room g c = λ h. fails_on c.from_residual.result c.
 
 pub returns-clause-comes : goal.returns-clause-comes
 returns-clause-comes g c = comes_set c.set_global_mode.result (g.W.StepLog.steps c.args.writer.now) (g.W.StepLog.steps c.global_from_user.new.writer) (g.W.StepLog.steps c.set_global_mode.new.writer) (c.args.user + 1) c.in_ok-global.global c.args.sample
-    c.in_ok-global.ensures.brought.comes (c.in_ok-global.ensures.brought.brings.stands.read c.args.user ∙ c.in_ok-global.ensures.variable) c.set_global_mode.ensures.sets
+    c.in_ok-global.ensures.brought.comes (c.in_ok-global.ensures.brought.brings.valid.read c.args.user ∙ c.in_ok-global.ensures.variable) c.set_global_mode.ensures.sets

@@ -6,7 +6,7 @@ use Rattle.sat_solver.proofs.variables.observe.observe_internal_vars.Goals as go
 pub loop-index-init : goal.loop-index-init
 loop-index-init g c = (
   subst (λ us. Observing c.args.variables.now c.args.variables.now (g.W.StepLog.steps c.args.writer.now) (g.W.StepLog.steps c.args.writer.now) us 0) (sym c.clear.ensures.items)
-      (observing_begins c.args.variables.now (g.W.StepLog.steps c.args.writer.now) c.requires.stands),
+      (observing_begins c.args.variables.now (g.W.StepLog.steps c.args.writer.now) c.requires.valid),
   c.requires.keeps,
   λ w t. t,
 )

@@ -52,9 +52,9 @@ pub returns-in_err-new_name-clause-room : goal.returns-in_err-new_name-clause-ro
 returns-in_err-new_name-clause-room g c = λ us h.
     let lt = room_left c.args.variables.now c.loop-index.variables (g.W.StepLog.steps c.args.writer.now) (g.W.StepLog.steps c.loop-index.writer) c.args.user c.loop-index.index us c.loop-index.invariant.0 h in
     fails_on c.from_residual.result c.in_err-new_name.field-0.0 c.from_residual.ensures.1
-    (limit_fails c.in_err-new_name.field-0.0 c.loop-index.variables c.new_name.new.variables c.loop-index.writer c.new_name.new.writer c.loop-index.invariant.0.stands.tidy lt c.in_err-new_name.ensures.limit)
+    (limit_fails c.in_err-new_name.field-0.0 c.loop-index.variables c.new_name.new.variables c.loop-index.writer c.new_name.new.writer c.loop-index.invariant.0.valid.tidy lt c.in_err-new_name.ensures.limit)
 
 pub returns-clause-room : goal.returns-clause-room
 returns-clause-room g c = λ us h.
     let lt = room_left c.args.variables.now c.loop-index.variables (g.W.StepLog.steps c.args.writer.now) (g.W.StepLog.steps c.loop-index.writer) c.args.user c.loop-index.index us c.loop-index.invariant.0 h in
-    if_limit_fails c.new_name-2.result c.loop-index.variables c.new_name-2.new.variables c.loop-index.writer c.new_name-2.new.writer c.loop-index.invariant.0.stands.tidy lt c.new_name-2.ensures.limit
+    if_limit_fails c.new_name-2.result c.loop-index.variables c.new_name-2.new.variables c.loop-index.writer c.new_name-2.new.writer c.loop-index.invariant.0.valid.tidy lt c.new_name-2.ensures.limit

@@ -4,7 +4,7 @@ use Rattle.sat_store.specs.declared.vsids.heap.Entry.{Entry}
 use Rattle.sat_store.specs.heap.Heap.{IsHeap, flags}
 use Rattle.sat_store.specs.heap.Vsids.{Queue, may_pick}
 use Rattle.sat_store.proofs.lemmas.heap.FlagLemmas.{flags_count}
-use Rattle.sat_store.proofs.lemmas.heap.QueueLemmas.{keyed, keyed_heap, keyed_keys, behind_those, written_key, place_read}
+use Rattle.sat_store.proofs.lemmas.heap.QueueLemmas.{keyed, keyed_heap, keyed_keys, after_those, written_key, place_read}
 use Rattle.sat_store.proofs.vsids.Vsids.reset.Goals as goal
 
 pub invariant_of-self : goal.invariant_of-self
@@ -21,8 +21,8 @@ invariant_of-self c =
     let there : at < length h = omega (arith, is, heap.placed.placed v within) in
     let written : set h at (record { key = 0; var = c.index_mut.result.now.var }) ≡ keyed h at 0 = written_key h at 0 c.index_mut.result.now there c.index_mut.ensures.value in
     let flag : get_or (flags m p) v false ≡ false = ap (λ (q : Queue). may_pick q v) c.self.view_is ∙ c.requires.unavailable in
-    let behind : m ≤ get_or p v 0 = behind_those p m v (omega (arith, within, heap.placed.count)) flag in (
-      subst (λ (x : List Entry). IsHeap x p m) (sym written) (keyed_heap h p m v at 0 heap within is (omega (arith, is, behind)) (omega arith)),
+    let following : m ≤ get_or p v 0 = after_those p m v (omega (arith, within, heap.placed.count)) flag in (
+      subst (λ (x : List Entry). IsHeap x p m) (sym written) (keyed_heap h p m v at 0 heap within is (omega (arith, is, following)) (omega arith)),
       c.self.invariant.1,
       c.self.invariant.2,
       c.self.invariant.3,

@@ -16,7 +16,7 @@ loop-child-init c =
     let is : e ≡ _ = get_or_read h at e within c.index-entry.ensures no_entry in
     record {
       within = c.requires.at;
-      behind = omega arith;
+      following = omega arith;
       count = refl;
       counts = sym c.requires.placed.count;
       var = subst (λ (x : Entry). x.var < length h) (sym is) (c.requires.placed.listed at within);
@@ -45,11 +45,11 @@ loop-child-preserved c =
     let b_var : b.var < length h = subst (λ (x : Entry). x.var < length h) (sym is) (before.listed child in_child) in
     rw (c.put.ensures.heap, c.put.ensures.positions) record {
       within = f.within;
-      behind = omega (arith, before.behind, f.some);
+      following = omega (arith, before.following, f.some);
       count = length-set h hole b ∙ before.count;
       counts = length-set p b.var hole ∙ before.counts;
       var = omega (arith, length-set h hole b, before.var);
       listed = λ k there. omega (arith, length-set h hole b, written_listed h hole (length h) b before.listed b_var within k there);
       same = one_more_exchanged m hole child c.args.heap.now.items (set h hole e) (set (set h hole b) child e) c.args.positions.now.items (set p e.var hole) (set (set p b.var hole) e.var child) before.within f.within ex before.same;
-      down = λ low below down. down_step (rank_at (set h hole e)) (rank_at (set (set h hole b) child e)) m low hole child f.under f.some f.within ex.ranks (child_is_above h m hole child e within f) (child_is_first h m hole child e f) (omega (arith, before.behind)) (before.down low below down);
+      down = λ low below down. down_step (rank_at (set h hole e)) (rank_at (set (set h hole b) child e)) m low hole child f.under f.some f.within ex.ranks (child_is_above h m hole child e within f) (child_is_first h m hole child e f) (omega (arith, before.following)) (before.down low below down);
     }

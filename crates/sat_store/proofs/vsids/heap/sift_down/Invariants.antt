@@ -5,7 +5,7 @@ use Rattle.sat_store.proofs.vsids.heap.sift_down.Given as goal
 abbrev pub invariant-loop-child : goal.invariant-loop-child
 invariant-loop-child l = record {
   within : l.hole < l.available;
-  behind : l.at ≤ l.hole;
+  following : l.at ≤ l.hole;
   count : length l.heap.items ≡ length l.fn.heap.items;
   counts : length l.positions.items ≡ length l.fn.heap.items;
   var : l.entry.var < length l.heap.items;

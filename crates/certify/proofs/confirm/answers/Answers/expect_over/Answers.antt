@@ -12,7 +12,7 @@ returns-in_err-next_line g c =
     let a = answers_source g.A.CountedRead.seen c.args.answers.now c.args.self.now in
     let b = answers_source g.A.CountedRead.seen c.next_line.new.answers c.next_line.new.self in
     let p = err_from_is_err_and c.from_residual.result c.from_residual.ensures.1 in
-    rw (p.1, p.2) (line_stops (IsWantedLine wanted.Nothing c.args.self.now.due.items) false c.in_err-next_line.field-0.0 a b c.next_line.new.self.lines.line.items (λ before behind. SaysSo (before ≡ [])) c.in_err-next_line.ensures.line)
+    rw (p.1, p.2) (line_stops (IsWantedLine wanted.Nothing c.args.self.now.due.items) false c.in_err-next_line.field-0.0 a b c.next_line.new.self.lines.line.items (λ before following. SaysSo (before ≡ [])) c.in_err-next_line.ensures.line)
 
 pub returns-then-is_none : goal.returns-then-is_none
 returns-then-is_none g c =

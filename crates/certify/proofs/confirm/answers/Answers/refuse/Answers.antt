@@ -12,5 +12,5 @@ take_due-requires-clause-line g c = subst IsOneLine (sym (c.in_ok-push_refused.e
 pub returns : goal.returns
 returns g c =
     let A = g.A.CountedRead.seen in
-    subst (λ (t : List ℕ). Replies true c.take_due.result (answers_source A c.args.answers.now c.args.self.now) (answers_source A c.take_due.new.answers c.take_due.new.self) (λ before behind. TakesDueLine before behind t))
+    subst (λ (t : List ℕ). Replies true c.take_due.result (answers_source A c.args.answers.now c.args.self.now) (answers_source A c.take_due.new.answers c.take_due.new.self) (λ before following. TakesDueLine before following t))
     (c.in_ok-push_refused.ensures.text ∙ ap (λ (xs : List ℕ). xs ++ refused_line c.args.number (refusal_in c.args.refusal)) c.clear.ensures.items) c.take_due.ensures

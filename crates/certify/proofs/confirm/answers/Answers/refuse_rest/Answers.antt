@@ -12,5 +12,5 @@ take_due-requires-clause-line g c = subst IsOneLine (sym (c.in_ok-push_malformed
 pub returns : goal.returns
 returns g c =
     let A = g.A.CountedRead.seen in
-    subst (λ (t : List ℕ). Replies true c.take_due.result (answers_source A c.args.answers.now c.args.self.now) (answers_source A c.take_due.new.answers c.take_due.new.self) (λ before behind. TakesDueLine before behind t))
+    subst (λ (t : List ℕ). Replies true c.take_due.result (answers_source A c.args.answers.now c.args.self.now) (answers_source A c.take_due.new.answers c.take_due.new.self) (λ before following. TakesDueLine before following t))
     (c.in_ok-push_malformed.ensures ∙ ap (λ (xs : List ℕ). xs ++ malformed_line c.args.number) c.clear.ensures.items) c.take_due.ensures

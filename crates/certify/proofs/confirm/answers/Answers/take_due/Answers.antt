@@ -13,7 +13,7 @@ returns-in_err-next_line g c =
     let a = answers_source g.A.CountedRead.seen c.args.answers.now c.args.self.now in
     let b = answers_source g.A.CountedRead.seen c.next_line.new.answers c.next_line.new.self in
     let p = err_from_is_err_and c.from_residual.result c.from_residual.ensures.1 in
-    rw (p.1, p.2) (line_stops (IsWantedLine wanted.Due due) true c.in_err-next_line.field-0.0 a b c.next_line.new.self.lines.line.items (λ before behind. TakesDueLine before behind due) c.in_err-next_line.ensures.line)
+    rw (p.1, p.2) (line_stops (IsWantedLine wanted.Due due) true c.in_err-next_line.field-0.0 a b c.next_line.new.self.lines.line.items (λ before following. TakesDueLine before following due) c.in_err-next_line.ensures.line)
 
 pub returns-then-is_same : goal.returns-then-is_same
 returns-then-is_same g c =

@@ -42,7 +42,7 @@ returns-in-Some-clause-confirms g c =
     let names = c.args.self.now.names in
     let step = rw c.in-Step.is at (c.in_ok-await_ordered.ensures.confirms names) in
     let unfit = rw c.in-Some.is at c.in_ok-why.ensures in
-    expects_unfit (due_of c.args.expected.now) names names (old g x) (new g x) c.requires.open_yet (step_of c.step-step.result) c.step-step.ensures step _ (λ earlier s. record { stands = s.taken.stands; goes_on = s.taken.goes_on; named = s.stand.named }) c.in-Some.why unfit
+    expects_unfit (due_of c.args.expected.now) names names (old g x) (new g x) c.requires.open_yet (step_of c.step-step.result) c.step-step.ensures step _ (λ earlier s. record { valid = s.taken.valid; goes_on = s.taken.goes_on; named = s.stand.named }) c.in-Some.why unfit
 
 pub returns-in_err-feed-clause-confirms : goal.returns-in_err-feed-clause-confirms
 returns-in_err-feed-clause-confirms g c =
@@ -66,5 +66,5 @@ returns-clause-confirms g c =
     let names = c.args.self.now.names in
     let step = rw c.in-Step.is at (c.in_ok-await_ordered.ensures.confirms names) in
     let fit = rw c.in_default.is at c.in_ok-why.ensures in
-    expects_fed (due_of c.args.expected.now) names c.follow.new.variables (old g x) (new g x) c.requires.open_yet (step_of c.step-step.result) c.step-step.ensures step _ (λ earlier s. record { stands = s.taken.stands; goes_on = s.taken.goes_on; named = s.stand.named })
+    expects_fed (due_of c.args.expected.now) names c.follow.new.variables (old g x) (new g x) c.requires.open_yet (step_of c.step-step.result) c.step-step.ensures step _ (λ earlier s. record { valid = s.taken.valid; goes_on = s.taken.goes_on; named = s.stand.named })
     (kernel_of c.feed.new.checker) c.in_ok-feed.ensures.feeds c.in_ok-feed.ensures.looks fit c.in_ok-follow.ensures

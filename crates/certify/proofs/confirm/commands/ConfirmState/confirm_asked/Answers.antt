@@ -16,7 +16,7 @@ returns-in_err-confirm_command g c = record {
   confirms =
       let old = c.args.self.now in
       let new = c.confirm_command.new.self in
-      let k = c.in_err-confirm_command.ensures.confirms (Ask []) ([], record { within = tt; behind = []; whole = refl; limit = refl }, refl) in
+      let k = c.in_err-confirm_command.ensures.confirms (Ask []) ([], record { within = tt; following = []; whole = refl; limit = refl }, refl) in
       let a = answers_in g.A.CountedRead.seen c.args.answers.now old in
       let b = answers_in g.A.CountedRead.seen c.confirm_command.new.answers new in
       let s = stream_in g.C.CountedRead.seen c.args.steps.now old.matching in
@@ -26,17 +26,17 @@ returns-in_err-confirm_command g c = record {
         same = k.same;
         bound = k.bound;
         goes_on = tt;
-        joins = joins_many (2 ^ 64 < old.number + 1 + numbers (end_reading Asked)) false (Err c.in_err-confirm_command.field-0.0) a b s u (λ before behind x y. ConfirmsLast (old.number + 1) (end_reading Asked) (table_of old.matching) before x)
+        joins = joins_many (2 ^ 64 < old.number + 1 + numbers (end_reading Asked)) false (Err c.in_err-confirm_command.field-0.0) a b s u (λ before following x y. ConfirmsLast (old.number + 1) (end_reading Asked) (table_of old.matching) before x)
             (command_stops (old.number + 1) (old.number + 1 + 1) (table_of old.matching) (table_of new.matching) a b b s u u c.requires.open_yet c.requires.goes_on.open_yet ⊥ (Ask []) ([], Clean) c.in_err-confirm_command.field-0.0 k.joins);
       });
 }
 
 pub confirm_over-requires-clause-goes_on : goal.confirm_over-requires-clause-goes_on
-confirm_over-requires-clause-goes_on g c = (c.in_ok-confirm_command.ensures.confirms (Ask []) ([], record { within = tt; behind = []; whole = refl; limit = refl }, refl)).goes_on
+confirm_over-requires-clause-goes_on g c = (c.in_ok-confirm_command.ensures.confirms (Ask []) ([], record { within = tt; following = []; whole = refl; limit = refl }, refl)).goes_on
 
 pub confirm_over-requires-clause-open_yet : goal.confirm_over-requires-clause-open_yet
 confirm_over-requires-clause-open_yet g c =
-    let k = c.in_ok-confirm_command.ensures.confirms (Ask []) ([], record { within = tt; behind = []; whole = refl; limit = refl }, refl) in
+    let k = c.in_ok-confirm_command.ensures.confirms (Ask []) ([], record { within = tt; following = []; whole = refl; limit = refl }, refl) in
     took_open (answers_in g.A.CountedRead.seen c.args.answers.now c.args.self.now) (answers_in g.A.CountedRead.seen c.confirm_command.new.answers c.confirm_command.new.self) c.requires.open_yet k.joins.0
 
 pub returns : goal.returns
@@ -45,7 +45,7 @@ returns g c = record {
       let old = c.args.self.now in
       let mid = c.confirm_command.new.self in
       let new = c.confirm_over.new.self in
-      let k = c.in_ok-confirm_command.ensures.confirms (Ask []) ([], record { within = tt; behind = []; whole = refl; limit = refl }, refl) in
+      let k = c.in_ok-confirm_command.ensures.confirms (Ask []) ([], record { within = tt; following = []; whole = refl; limit = refl }, refl) in
       let over = c.confirm_over.ensures.confirms (old.number + 1 + 1) in
       let a = answers_in g.A.CountedRead.seen c.args.answers.now old in
       let d = answers_in g.A.CountedRead.seen c.confirm_over.new.answers new in
@@ -55,7 +55,7 @@ returns g c = record {
         same = over.same ∙ k.same;
         bound = over.bound;
         goes_on = over.goes_on;
-        joins = joins_many (2 ^ 64 < old.number + 1 + numbers (end_reading Asked)) false c.confirm_over.result a d s v (λ before behind x y. ConfirmsLast (old.number + 1) (end_reading Asked) (table_of old.matching) before x)
+        joins = joins_many (2 ^ 64 < old.number + 1 + numbers (end_reading Asked)) false c.confirm_over.result a d s v (λ before following x y. ConfirmsLast (old.number + 1) (end_reading Asked) (table_of old.matching) before x)
             (command_end (old.number + 1) (old.number + 1 + 1) (table_of old.matching) (table_of mid.matching) a (answers_in g.A.CountedRead.seen c.confirm_command.new.answers mid) d
             s (stream_in g.C.CountedRead.seen c.confirm_command.new.steps mid.matching) v c.requires.open_yet c.requires.goes_on.open_yet ⊥ (Ask []) ([], Clean) c.confirm_over.result refl k.joins over.joins);
       };
@@ -70,6 +70,6 @@ returns-then-self g c = record {
         same = refl;
         bound = c.requires.goes_on.bound;
         goes_on = tt;
-        joins = too_many (2 ^ 64 < old.number + 1 + numbers (end_reading Asked)) false (answers_in g.A.CountedRead.seen c.args.answers.now old) (stream_in g.C.CountedRead.seen c.args.steps.now old.matching) (λ before behind x y. ConfirmsLast (old.number + 1) (end_reading Asked) (table_of old.matching) before x) c.requires.goes_on.open_yet many;
+        joins = too_many (2 ^ 64 < old.number + 1 + numbers (end_reading Asked)) false (answers_in g.A.CountedRead.seen c.args.answers.now old) (stream_in g.C.CountedRead.seen c.args.steps.now old.matching) (λ before following x y. ConfirmsLast (old.number + 1) (end_reading Asked) (table_of old.matching) before x) c.requires.goes_on.open_yet many;
       };
 }

@@ -68,6 +68,6 @@ returns-clause-confirms g c w is =
       goes_on = over.goes_on;
       joins = command_end (old.number + 1) (mid.number + 1) (table_of old.matching) (table_of mid.matching) a b d s u v c.requires.open_yet c.requires.goes_on.open_yet M w (end_reading c.args.end) c.confirm_end.result (ap (λ (n : ℕ). n + 1) next)
           (joins_as (2 ^ 64 ≤ old.number + 1) M true (Ok tt) a b s u (ConfirmsNext (old.number + 1) w (table_of old.matching) (table_of mid.matching)) (λ m. omega (arith, m, more)) k.joins)
-          (joins_as (2 ^ 64 < mid.number + 1 + numbers (end_reading c.args.end)) M false c.confirm_end.result b d u v (λ before behind x y. ConfirmsLast (mid.number + 1) (end_reading c.args.end) (table_of mid.matching) before x)
+          (joins_as (2 ^ 64 < mid.number + 1 + numbers (end_reading c.args.end)) M false c.confirm_end.result b d u v (λ before following x y. ConfirmsLast (mid.number + 1) (end_reading c.args.end) (table_of mid.matching) before x)
           (λ m. omega (arith, m, more, next)) over.joins);
     }

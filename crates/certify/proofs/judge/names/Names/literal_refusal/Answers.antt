@@ -22,13 +22,13 @@ returns-then-is_witness-clause-judges c j ls h f =
     let low : variable code < var_limit = subst (λ (v : ℕ). v < var_limit) c.var-var.ensures c.is_witness.ensures.bound in
     let one : is_witnessed (state_in (states_of names) (variable code + 1)) ≡ true = ap (λ (v : ℕ). is_witnessed (state_in (states_of names) (v + 1))) (sym c.var-var.ensures) ∙ sym c.is_witness.ensures.witness ∙ c.if-is_witness.true in
     sym (ap (λ (ks : List Literal). refused_literal j (names_of ks)) f.whole
-    ∙ c.loop-lit.invariant j f.behind h
-    ∙ refused_at names j c.args.literals.now f.behind c.loop-lit.lit-index code true h (omega arith) c.lit-item.is low one
+    ∙ c.loop-lit.invariant j f.following h
+    ∙ refused_at names j c.args.literals.now f.following c.loop-lit.lit-index code true h (omega arith) c.lit-item.is low one
     ∙ ap (λ (v : ℕ). Some (WitnessName (v + 1))) (sym c.var-var.ensures))
 
 pub returns-clause-judges : goal.returns-clause-judges
 returns-clause-judges c j ls h f =
     sym (ap (λ (ks : List Literal). refused_literal j (names_of ks)) f.whole
-    ∙ c.loop-lit.invariant j f.behind h
+    ∙ c.loop-lit.invariant j f.following h
     ∙ refused_end j c.args.literals.now c.args.past_limit ls c.loop-lit.lit-index f (omega arith)
     ∙ ap refusal_said (sym c.limit_refusal.ensures))

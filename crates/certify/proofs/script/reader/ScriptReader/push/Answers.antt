@@ -15,7 +15,7 @@ module _ (c : After-take_token-count) where
   within : c.loop-at.at + c.take_token-count.result.0 ≤ length c.args.bytes.now
   within = no_more c.args.bytes.now c.loop-at.at c.take_token-count.result.0 c.loop-at.invariant.within c.take_token-count.ensures.within
 
-  -- behind those before
+  -- after those before
   taken : (r : Reached) (new : ScriptReader) → TakesBytes r c.loop-at.self front new → TakesBytes r c.args.self.now (take (c.loop-at.at + c.take_token-count.result.0) c.args.bytes.now) new
   taken r new t = followed_front r c.args.self.now c.loop-at.self new c.args.bytes.now c.loop-at.at c.take_token-count.result.0 c.loop-at.invariant.within c.take_token-count.ensures.within c.loop-at.invariant.taken t
 

@@ -9,8 +9,8 @@ pub overflow_add-number : goal.overflow_add-number
 overflow_add-number c = omega (arith, group_small c.loop-at.value c.loop-at.place c.byte_at-byte.result c.loop-at.invariant.small c.if-byte-lt128.true)
 
 pub returns-then-byte-lt128 : goal.returns-then-byte-lt128
-returns-then-byte-lt128 c = λ number behind e.
-    stands_between (c.args.largest + 1) (c.loop-at.value + c.loop-at.place * c.byte_at-byte.result) number c.args.from (c.loop-at.at + 1) behind c.args.self.now e
+returns-then-byte-lt128 c = λ number following e.
+    stands_between (c.args.largest + 1) (c.loop-at.value + c.loop-at.place * c.byte_at-byte.result) number c.args.from (c.loop-at.at + 1) following c.args.self.now e
     (looked_at_last (c.args.largest + 1) c.loop-at.value c.loop-at.place c.byte_at-byte.result _ _ _ c.loop-at.invariant c.byte_at-byte.ensures c.if-byte-lt128.true (elim c.if-place-gt1.either [ inl h ↦ inr h.1 | inr h ↦ inl (positive_from c.byte_at-byte.result h) ]) (omega (arith, c.if-number-largest.false)))
 
 pub overflow_add-value : goal.overflow_add-value

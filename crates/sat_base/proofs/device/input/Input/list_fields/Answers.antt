@@ -4,16 +4,16 @@ use Rattle.std.proofs.lemmas.Result.{err_from_is_err_and}
 use Rattle.sat_base.specs.declared.steps.error.StepError.{StepError}
 use Rattle.sat_base.specs.steps.Steps.{Step}
 use Rattle.sat_base.specs.steps.StepText.{AreLiterals}
-use Rattle.sat_base.specs.device.Reading.{Source, ReadsValue, Behind, source_of, valued}
-use Rattle.sat_base.proofs.lemmas.steps.TagForms.{stops_behind, clause_form, at_form, units_form, deletion_form, model_form, assumptions_form, failed_form}
+use Rattle.sat_base.specs.device.Reading.{Source, ReadsValue, FieldsAfter, source_of, valued}
+use Rattle.sat_base.proofs.lemmas.steps.TagForms.{stops_following, clause_form, at_form, units_form, deletion_form, model_form, assumptions_form, failed_form}
 use Rattle.sat_base.proofs.device.input.Input.list_fields.Goals as goal
 
--- behind a tag with literals alone
+-- after a tag with literals alone
 literals_stop : {X : Type 0} (tag : ℕ) (five ten : Bool) → nat_eq tag 5 ≡ five → nat_eq tag 10 ≡ ten → (nat_eq tag 5 ≡ false → nat_eq tag 10 ≡ false → 11 ≡ tag)
-    → (g : X → Step) (r : Result X StepError) (d e : StepError) (old new : Source) → r ≡ Err d → d ≡ e → ReadsValue AreLiterals (Err e) old new → ReadsValue (Behind tag) (valued g r) old new
-literals_stop tag true ten f t other g r d e old new p q h = stops_behind 5 tag _ _ clause_form g r d e old new p q (grind (arith, nat_tests)) h
-literals_stop tag false true f t other g r d e old new p q h = stops_behind 10 tag _ _ model_form g r d e old new p q (grind (arith, nat_tests)) h
-literals_stop tag false false f t other g r d e old new p q h = stops_behind 11 tag _ _ assumptions_form g r d e old new p q (sym (other f t)) h
+    → (g : X → Step) (r : Result X StepError) (d e : StepError) (old new : Source) → r ≡ Err d → d ≡ e → ReadsValue AreLiterals (Err e) old new → ReadsValue (FieldsAfter tag) (valued g r) old new
+literals_stop tag true ten f t other g r d e old new p q h = stops_following 5 tag _ _ clause_form g r d e old new p q (grind (arith, nat_tests)) h
+literals_stop tag false true f t other g r d e old new p q h = stops_following 10 tag _ _ model_form g r d e old new p q (grind (arith, nat_tests)) h
+literals_stop tag false false f t other g r d e old new p q h = stops_following 11 tag _ _ assumptions_form g r d e old new p q (sym (other f t)) h
 
 pub returns-in_err-literals : goal.returns-in_err-literals
 returns-in_err-literals g c =
@@ -26,25 +26,25 @@ pub returns-in_err-redundant : goal.returns-in_err-redundant
 returns-in_err-redundant g c =
     let S = source_of g.R.CountedRead.seen in
     let p = err_from_is_err_and c.from_residual.result c.from_residual.ensures.1 in
-    stops_behind 6 c.args.tag _ _ at_form _ c.from_residual.result _ c.in_err-redundant.field-0.0 (S c.args.self.now) (S c.flag_and_lists.new.self) p.1 p.2 c.if-tag-eq6.true c.in_err-redundant.ensures
+    stops_following 6 c.args.tag _ _ at_form _ c.from_residual.result _ c.in_err-redundant.field-0.0 (S c.args.self.now) (S c.flag_and_lists.new.self) p.1 p.2 c.if-tag-eq6.true c.in_err-redundant.ensures
 
 pub returns-in_err-units : goal.returns-in_err-units
 returns-in_err-units g c =
     let S = source_of g.R.CountedRead.seen in
     let p = err_from_is_err_and c.from_residual-in_err-units.result c.from_residual-in_err-units.ensures.1 in
-    stops_behind 7 c.args.tag _ _ units_form _ c.from_residual-in_err-units.result _ c.in_err-units.field-0.0 (S c.args.self.now) (S c.units.new.self) p.1 p.2 c.if-tag-eq7.true c.in_err-units.ensures
+    stops_following 7 c.args.tag _ _ units_form _ c.from_residual-in_err-units.result _ c.in_err-units.field-0.0 (S c.args.self.now) (S c.units.new.self) p.1 p.2 c.if-tag-eq7.true c.in_err-units.ensures
 
 pub returns-in_err-proof : goal.returns-in_err-proof
 returns-in_err-proof g c =
     let S = source_of g.R.CountedRead.seen in
     let p = err_from_is_err_and c.from_residual-in_err-proof.result c.from_residual-in_err-proof.ensures.1 in
-    stops_behind 8 c.args.tag _ _ deletion_form _ c.from_residual-in_err-proof.result _ c.in_err-proof.field-0.0 (S c.args.self.now) (S c.clause_and_deletion.new.self) p.1 p.2 c.if-tag-eq8.true c.in_err-proof.ensures
+    stops_following 8 c.args.tag _ _ deletion_form _ c.from_residual-in_err-proof.result _ c.in_err-proof.field-0.0 (S c.args.self.now) (S c.clause_and_deletion.new.self) p.1 p.2 c.if-tag-eq8.true c.in_err-proof.ensures
 
 pub returns-in_err-both_lists : goal.returns-in_err-both_lists
 returns-in_err-both_lists g c =
     let S = source_of g.R.CountedRead.seen in
     let p = err_from_is_err_and c.from_residual-in_err-both_lists.result c.from_residual-in_err-both_lists.ensures.1 in
-    stops_behind 12 c.args.tag _ _ failed_form _ c.from_residual-in_err-both_lists.result _ c.in_err-both_lists.field-0.0 (S c.args.self.now) (S c.both_lists.new.self) p.1 p.2 c.if-tag-eq12.true c.in_err-both_lists.ensures
+    stops_following 12 c.args.tag _ _ failed_form _ c.from_residual-in_err-both_lists.result _ c.in_err-both_lists.field-0.0 (S c.args.self.now) (S c.both_lists.new.self) p.1 p.2 c.if-tag-eq12.true c.in_err-both_lists.ensures
 
 -- WHERE ALL WAS READ
 

@@ -6,28 +6,28 @@ use Rattle.sat_base.specs.values.Literals.{var_limit}
 use Rattle.sat_base.specs.steps.Formats.{Both}
 use Rattle.sat_base.specs.steps.Steps.{Step}
 use Rattle.sat_base.specs.steps.StepText.{IsVariable, IsOptionalVariable, IsFlag}
-use Rattle.sat_base.specs.device.Reading.{Source, ReadsValue, Behind, source_of, valued}
+use Rattle.sat_base.specs.device.Reading.{Source, ReadsValue, FieldsAfter, source_of, valued}
 use Rattle.sat_base.proofs.lemmas.steps.FormatReads.{first_fails, second_gives}
 use Rattle.sat_base.proofs.lemmas.steps.Numbers.{one_below}
 use Rattle.sat_base.proofs.lemmas.steps.StepReads.{some_flag, some_optional}
-use Rattle.sat_base.proofs.lemmas.steps.TagForms.{stops_behind, solver_form, user_form, variable_form, mode_form, width_form, end_read}
+use Rattle.sat_base.proofs.lemmas.steps.TagForms.{stops_following, solver_form, user_form, variable_form, mode_form, width_form, end_read}
 use Rattle.sat_base.proofs.device.input.Input.plain_fields.Goals as goal
 
--- behind a tag with a variable and one that may be none
+-- after a tag with a variable and one that may be none
 names_stop : {X : Type 0} (tag : ℕ) (one : Bool) → nat_eq tag 1 ≡ one → (nat_eq tag 1 ≡ false → 2 ≡ tag)
     → (g : X → Step) (r : Result X StepError) (d e : StepError) (old new : Source) → r ≡ Err d → d ≡ e → ReadsValue (Both IsVariable IsOptionalVariable) (Err e) old new
-    → ReadsValue (Behind tag) (valued g r) old new
-names_stop tag true t other g r d e old new p q h = stops_behind 1 tag _ _ solver_form g r d e old new p q (grind (arith, nat_tests)) h
-names_stop tag false t other g r d e old new p q h = stops_behind 2 tag _ _ user_form g r d e old new p q (sym (other t)) h
+    → ReadsValue (FieldsAfter tag) (valued g r) old new
+names_stop tag true t other g r d e old new p q h = stops_following 1 tag _ _ solver_form g r d e old new p q (grind (arith, nat_tests)) h
+names_stop tag false t other g r d e old new p q h = stops_following 2 tag _ _ user_form g r d e old new p q (sym (other t)) h
 
--- behind a tag with a variable
+-- after a tag with a variable
 variable_stops : {X : Type 0} (tag : ℕ) (three four : Bool) → nat_eq tag 3 ≡ three → nat_eq tag 4 ≡ four
     → (nat_eq tag 3 ≡ false → nat_eq tag 4 ≡ false → nat_eq tag 1 ≡ false → 2 ≡ tag)
     → (g : X → Step) (r : Result X StepError) (d e : StepError) (old new : Source) → r ≡ Err d → d ≡ e → ReadsValue IsVariable (Err e) old new
-    → ReadsValue (Behind tag) (valued g r) old new
-variable_stops tag true four t f other g r d e old new p q h = stops_behind 3 tag _ _ variable_form g r d e old new p q (grind (arith, nat_tests)) h
+    → ReadsValue (FieldsAfter tag) (valued g r) old new
+variable_stops tag true four t f other g r d e old new p q h = stops_following 3 tag _ _ variable_form g r d e old new p q (grind (arith, nat_tests)) h
 variable_stops tag false true t f other g r d e old new p q h =
-    stops_behind 4 tag _ _ mode_form g r d e old new p q (grind (arith, nat_tests)) (first_fails IsVariable (λ _. IsFlag) (one_below var_limit) (λ _. some_flag) e old new h)
+    stops_following 4 tag _ _ mode_form g r d e old new p q (grind (arith, nat_tests)) (first_fails IsVariable (λ _. IsFlag) (one_below var_limit) (λ _. some_flag) e old new h)
 variable_stops tag false false t f other g r d e old new p q h =
     names_stop tag _ refl (other t f) g r d e old new p q (first_fails IsVariable (λ _. IsOptionalVariable) (one_below var_limit) (λ _. some_optional) e old new h)
 
@@ -45,7 +45,7 @@ returns-in_err-sample g c =
     let e = c.in_err-sample.field-0.0 in
     let p = err_from_is_err_and c.from_residual-in_err-sample.result c.from_residual-in_err-sample.ensures.1 in
     let h = second_gives IsVariable (λ _. IsFlag) (one_below var_limit) c.in_ok-var.var k.0 (S c.args.self.now) (S c.variable.new.self) (S c.flag.new.self) k.2 k.1 (Err e) c.in_err-sample.ensures in
-    λ literals hashes units. stops_behind 4 c.args.tag _ _ mode_form _ c.from_residual-in_err-sample.result _ e (S c.args.self.now) (S c.flag.new.self) p.1 p.2 c.if-tag-eq4.true h
+    λ literals hashes units. stops_following 4 c.args.tag _ _ mode_form _ c.from_residual-in_err-sample.result _ e (S c.args.self.now) (S c.flag.new.self) p.1 p.2 c.if-tag-eq4.true h
 
 pub returns-in_err-named : goal.returns-in_err-named
 returns-in_err-named g c =
@@ -61,7 +61,7 @@ pub returns-in_err-bits : goal.returns-in_err-bits
 returns-in_err-bits g c =
     let S = source_of g.R.CountedRead.seen in
     let p = err_from_is_err_and c.from_residual-in_err-bits.result c.from_residual-in_err-bits.ensures.1 in
-    λ literals hashes units. stops_behind 9 c.args.tag _ _ width_form _ c.from_residual-in_err-bits.result _ c.in_err-bits.field-0.0 (S c.args.self.now) (S c.width.new.self) p.1 p.2 c.if-tag-eq9.true c.in_err-bits.ensures
+    λ literals hashes units. stops_following 9 c.args.tag _ _ width_form _ c.from_residual-in_err-bits.result _ c.in_err-bits.field-0.0 (S c.args.self.now) (S c.width.new.self) p.1 p.2 c.if-tag-eq9.true c.in_err-bits.ensures
 
 -- WHERE ALL WAS READ
 

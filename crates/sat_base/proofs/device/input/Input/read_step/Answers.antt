@@ -2,7 +2,7 @@ use Rattle.std.proofs.Common.{rules}
 use Rattle.std.proofs.lemmas.Result.{err_from_is_err_and}
 use Rattle.sat_base.specs.device.Reading.{source_of, valued}
 use Rattle.sat_base.specs.steps.Kinds.{step_with}
-use Rattle.sat_base.proofs.lemmas.steps.StepReads.{some_byte, unknown_tag, answers_behind, answers_at_once}
+use Rattle.sat_base.proofs.lemmas.steps.StepReads.{some_byte, unknown_tag, answers_after, answers_at_once}
 use Rattle.sat_base.proofs.device.input.Input.read_step.Goals as goal
 
 pub returns-in_err-next_byte : goal.returns-in_err-next_byte
@@ -24,4 +24,4 @@ returns-else-not-is_tag g c =
     let t = c.in-Some.tag in
     let p = some_byte t c.in_ok-next_byte.field-0 (S c.args.self.now) (S c.next_byte.new.self) c.in-Some.is c.in_ok-next_byte.ensures in
     let lists = c.fields.new.lists in
-    answers_behind t (S c.args.self.now) (S c.next_byte.new.self) (S c.fields.new.self) (valued (λ k. step_with k lists.literals.items lists.hashes.items lists.units.items) c.fields.result) p c.fields.ensures
+    answers_after t (S c.args.self.now) (S c.next_byte.new.self) (S c.fields.new.self) (valued (λ k. step_with k lists.literals.items lists.hashes.items lists.units.items) c.fields.result) p c.fields.ensures

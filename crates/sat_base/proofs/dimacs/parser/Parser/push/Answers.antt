@@ -57,7 +57,7 @@ returns-in-Err-OutOfMemory-clause-answer c =
       record {
         front = [];
         byte = c.args.byte;
-        behind = [];
+        following = [];
         whole = refl;
         progress = ap cut_short (fed_none (progress_of old));
         well = subst (λ (text : List ℕ). GoesWell text c.args.byte) (sym (append-nil old.history.fed))

@@ -4,7 +4,7 @@ use Rattle.sat_checker.specs.LiteralSets.{is_among}
 use Rattle.sat_checker.specs.inner.Marks.{AreMarks, HoldsRoom, mark_at}
 use Rattle.sat_checker.specs.declared.units.assigned.Mark.TheVariants as mark
 use Rattle.sat_checker.proofs.lemmas.sets.Rooms.{has_place}
-use Rattle.sat_checker.proofs.lemmas.sets.Unmarking.{among_behind, marks_left, undone}
+use Rattle.sat_checker.proofs.lemmas.sets.Unmarking.{among_after, marks_left, undone}
 use Rattle.sat_checker.proofs.units.assigned.Assigned.undo_to.Goals as goal
 
 pub unmark_all-requires : goal.unmark_all-requires
@@ -12,7 +12,7 @@ unmark_all-requires c = λ l h.
     let t = c.self.inside.trail.items in
     let are = c.self.invariant.0 in
     let there = ap (λ xs. is_among xs l) (sym (take_rest c.deref.result.now c.args.left ∙ ap (drop c.args.left) c.deref.ensures.value)) ∙ h in
-    has_place c.self.inside.marks (reverse t) c.self.inside.room.literals l are (are.within l (among_behind t c.args.left l there))
+    has_place c.self.inside.marks (reverse t) c.self.inside.room.literals l are (are.within l (among_after t c.args.left l there))
 
 pub invariant_of-self : goal.invariant_of-self
 invariant_of-self c =

@@ -11,4 +11,4 @@ pub returns : goal.returns
 returns g c =
     anew g.P.ProofProcessor.takes c.args.self.now _ c.of-roll.result.items c.into_processors-former.result.processors.items (c.of-roll.ensures ∙ c.deref.ensures.value)
     (c.into_processors-former.ensures.processors ∙ ap (λ (k : Checker _ Nobody). (listeners_of (seen_of k).listeners).processors) c.replace.ensures.value) (ap (λ (k : Counting). k.bits) c.new.ensures)
-    c.with_listeners.ensures.stands c.with_listeners.ensures.goes_on c.with_listeners.ensures.settled (c.with_listeners.ensures.listeners ∙ ap (λ xs. record { processors = c.into_processors-former.result.processors.items; transcripts = xs }) c.new-2.ensures.items)
+    c.with_listeners.ensures.valid c.with_listeners.ensures.goes_on c.with_listeners.ensures.settled (c.with_listeners.ensures.listeners ∙ ap (λ xs. record { processors = c.into_processors-former.result.processors.items; transcripts = xs }) c.new-2.ensures.items)

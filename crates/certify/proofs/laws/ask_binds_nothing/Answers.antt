@@ -1,6 +1,0 @@
-use Rattle.certify.proofs.lemmas.laws.DefinitionLaws.{ask_names}
-use Rattle.certify.proofs.lemmas.laws.DistinctTexts.{ask_leaves}
-use Rattle.certify.proofs.laws.ask_binds_nothing.Goals as goal
-
-pub returns : goal.returns
-returns c = record { clauses = ask_leaves; names = ask_names }

@@ -1,0 +1,130 @@
+-- The state of a run between commands, and the effect of a command.
+use Rattle.std.specs.Prelude.{ℕ, ◌+◌, ◌≤◌, ◌≡◌, None, List, [], ◌∷◌, ◌++◌, IfErr, OnErr, Result, MatchResult}
+use Rattle.sat_base.specs.device.Device.{Writer, WriterTakes}
+use Rattle.sat_base.specs.script.Script.{Command}
+use Rattle.sat_base.specs.script.ScriptState.{ScriptState, Refusal, accepted, after_command, refusal_of}
+use Rattle.sat_solver.specs.variables.Calls.{NamesAgree}
+use Rattle.sat_checker.specs.matching.Bridge.{Live}
+use Rattle.sat_solver.specs.session.Making.{ComesBySteps, BreaksEmitting}
+use Rattle.sat_solver.specs.solver.Whole.{HasFullStore, steps_in}
+use Rattle.certify.specs.Devices.{NoneFailed, OneFailed}
+use Rattle.certify.specs.answers.AnswerForms.{named_literals}
+use Rattle.certify.specs.answers.Answers.{refused_line}
+use Rattle.certify.specs.declared.fault.RunFault.{RunFault}
+use Rattle.certify.specs.declared.judge.names.Names.{Names}
+use Rattle.certify.specs.declared.script.Command.{Command as Lent}
+use Rattle.certify.specs.declared.run.session.RunState.{RunState}
+use Rattle.certify.specs.declared.summary.AskReport.{AskReport}
+use Rattle.certify.specs.judge.Names.{NamesHaveState}
+use Rattle.sat_base.specs.script.ScriptStateLaws.{ScriptStateInvariant}
+use Rattle.certify.specs.script.Commands.{kind_of}
+use Rattle.sat_base.specs.script.Language.{Reading, command_of, onto_commands}
+use Rattle.certify.specs.run.Unfinished.{Exceeds, TookAnswersFront}
+use Rattle.sat_solver.specs.solver.View.{proof_in}
+use Rattle.certify.specs.run.SolverCalls.{FaultSays, IsCaused, IsReadySolver, LacksFor}
+use Rattle.certify.specs.run.Serving.{RunPlace, Serves}
+use Rattle.certify.specs.run.Quiet.{Solver}
+
+-- that the script state of the solver is `j`, which satisfies the invariant
+pub record AgreesWithState {C : Type 0} (s : Solver C) (j : ScriptState) (live : Live) : Type 0 where
+  pub agree : NamesAgree s.names (steps_in s) j live
+  pub kept : ScriptStateInvariant j
+
+-- that a run is between commands, in this script state
+pub record HasStateBetweenCommands {C : Type 0} (s : RunState C) (j : ScriptState) : Type 0 where
+  pub live : Live
+  pub means : AgreesWithState s.solver j live
+  pub names : NamesHaveState s.names j
+
+-- that a run is between commands, without assumptions
+pub record RunGoesOn {C : Type 0} (s : RunState C) : Type 0 where
+  pub ready : IsReadySolver s.solver
+  pub free : s.solver.assumed.items ≡ []
+  pub counted : s.refused ≤ s.commands
+  pub judge : ScriptState
+  pub at : HasStateBetweenCommands s judge
+
+-- the place of a run in this script state
+abbrev pub place_in : {C : Type 0} → RunState C → ScriptState → RunPlace
+place_in s j = record { judge = j; number = s.commands + 1; steps = steps_in s.solver; rounds = s.solver.clock.rounds }
+
+-- the place of a run before the latest command, which was counted but not processed yet
+abbrev pub last_place : {C : Type 0} → RunState C → ScriptState → RunPlace
+last_place s j = record { judge = j; number = s.commands; steps = steps_in s.solver; rounds = s.solver.clock.rounds }
+
+-- the command that is passed, if no name is past the limit
+abbrev pub spelled_by : Lent → Command
+spelled_by lent = command_of (kind_of lent.kind) (named_literals lent.literals.now)
+
+-- that the command is not refused in any script state that has these names
+abbrev pub NamesAllow : Names → Command → Type 0
+NamesAllow names c = (j : ScriptState) → NamesHaveState names j → refusal_of j c ≡ None
+
+-- that solver and answers carried out the latest command; its effect on the names is stated separately
+pub record CarriedOut {C : Type 0} (seen : C → Writer) (old new : RunState C) (c : Command) (before after : Writer) : Type 0 where
+  pub ready : IsReadySolver new.solver
+  pub free : new.solver.assumed.items ≡ []
+  pub took : ComesBySteps seen (proof_in old.solver) (proof_in new.solver)
+  pub commands : new.commands ≡ old.commands
+  pub refused : new.refused ≡ old.refused
+  pub budget : new.budget ≡ old.budget
+  pub text : List ℕ
+  pub written : WriterTakes before after text
+  pub reports : List AskReport
+  pub asks : new.asks.items ≡ old.asks.items ++ reports
+  pub serves : (j : ScriptState) (live : Live) → AgreesWithState old.solver j live → refusal_of j c ≡ None
+      → (then : Live) × NamesAgree new.solver.names (steps_in new.solver) (accepted c j) then
+      × Serves old.budget (last_place old j) (place_in new (accepted c j)) (c ∷ []) text reports 0
+
+-- that the latest command was refused
+pub record Refused {C : Type 0} (old new : RunState C) (why : Refusal) (before after : Writer) : Type 0 where
+  pub written : WriterTakes before after (refused_line old.commands why)
+  pub solver : new.solver ≡ old.solver
+  pub names : new.names ≡ old.names
+  pub commands : new.commands ≡ old.commands
+  pub refused : new.refused ≡ old.refused + 1
+  pub budget : new.budget ≡ old.budget
+  pub asks : new.asks ≡ old.asks
+
+-- that the next command was served: it was refused or carried out
+pub record ServedNext {C : Type 0} (seen : C → Writer) (old new : RunState C) (c : Command) (before after : Writer) : Type 0 where
+  pub goes_on : RunGoesOn new
+  pub took : ComesBySteps seen (proof_in old.solver) (proof_in new.solver)
+  pub commands : new.commands ≡ old.commands + 1
+  pub budget : new.budget ≡ old.budget
+  pub text : List ℕ
+  pub written : WriterTakes before after text
+  pub reports : List AskReport
+  pub asks : new.asks.items ≡ old.asks.items ++ reports
+  pub refused : ℕ
+  pub refusals : new.refused ≡ old.refused + refused
+  pub serves : (j : ScriptState) → HasStateBetweenCommands old j
+      → HasStateBetweenCommands new (after_command c j) × Serves old.budget (place_in old j) (place_in new (after_command c j)) (c ∷ []) text reports refused
+
+-- That if the latest command, which is not refused, was not carried out, a prefix of correct answers to it and to the rest was written.
+abbrev pub StopsCarrying : {T C : Type 0} → Result T RunFault → RunState C → Command → Reading → Writer → Writer → Type 0
+StopsCarrying r old c left before after =
+    OnErr r ((j : ScriptState) (live : Live) → AgreesWithState old.solver j live → refusal_of j c ≡ None
+    → TookAnswersFront old.budget old.solver.clock.rounds old.commands j (onto_commands (c ∷ []) left) before after)
+
+-- that if a script was not served from here on, a prefix of correct answers to it was written
+abbrev pub StopsOver : {T C : Type 0} → Result T RunFault → RunState C → Reading → Writer → Writer → Type 0
+StopsOver r old script before after =
+    OnErr r ((j : ScriptState) → HasStateBetweenCommands old j → TookAnswersFront old.budget old.solver.clock.rounds (old.commands + 1) j script before after)
+
+-- why the latest command, which is not refused, was not carried out, except for device and allocation failures
+abbrev pub CausedBy : {T C : Type 0} → Result T RunFault → RunState C → RunState C → Command → Type 0
+CausedBy r old new c = IfErr r (λ e. IsCaused e (HasFullStore new.solver) (LacksFor old.solver new.solver c))
+
+-- why a script was not served from here on, except for device and allocation failures
+abbrev pub CausedOver : {T C : Type 0} → Result T RunFault → RunState C → RunState C → Reading → Type 0
+CausedOver r old new script =
+    IfErr r (λ e. IsCaused e (HasFullStore new.solver) ((j : ScriptState) → HasStateBetweenCommands old j → Exceeds old.commands j script (steps_in new.solver)))
+
+-- the effect of a part of a run on the answers' writer and on the certificate: one call of one of these writers may have failed
+abbrev pub WritesBoth : {T C : Type 0} → Result T RunFault → (C → Writer) → Writer → Writer → Solver C → Solver C → Type 0
+WritesBoth r seen before after old new = MatchResult r
+    (λ _. NoneFailed before after × ComesBySteps seen (proof_in old) (proof_in new))
+    (λ e. FaultSays e (OneFailed before after × ComesBySteps seen (proof_in old) (proof_in new))
+    (NoneFailed before after × BreaksEmitting seen (proof_in old) (proof_in new))
+    (NoneFailed before after × ComesBySteps seen (proof_in old) (proof_in new)))

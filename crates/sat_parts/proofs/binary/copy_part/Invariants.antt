@@ -1,9 +1,0 @@
-use Rattle.std.proofs.Common.{◌+◌, ◌≤◌, length, vec_capacity}
-use Rattle.sat_parts.specs.prop.Places.{CopiesPart}
-use Rattle.sat_parts.proofs.binary.copy_part.Given as goal
-
-abbrev pub invariant-loop-free : goal.invariant-loop-free
-invariant-loop-free l = record {
-  copied : CopiesPart l.start l.len l._free l.fn.lits.items l.lits.items;
-  capacity : length l.fn.lits.items + l.room ≤ vec_capacity l.lits;
-}

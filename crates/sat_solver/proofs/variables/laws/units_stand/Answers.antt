@@ -1,5 +1,0 @@
-use Rattle.sat_solver.proofs.lemmas.variables.Units.{unit_stands, unit_agrees}
-use Rattle.sat_solver.proofs.variables.laws.units_stand.Goals as goal
-
-pub returns : goal.returns
-returns c = λ old new steps v x value stands has put. (unit_stands old new steps v x value stands has put, unit_agrees old new steps v x value stands has put)
