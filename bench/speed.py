@@ -130,7 +130,7 @@ def machine(program, beside):
     if output(["git", "-C", TOP, "status", "--porcelain", "--", "crates"]):
         commit += " with changes"
     where = f"{len(os.sched_getaffinity(0))} of {os.cpu_count()} processors ({model[1].strip() if model else 'unknown'})"
-    return f"Measured: {what} of commit {commit}, on {where}, load average {os.getloadavg()[2]:.1f}{f', {beside}' if beside else ''}.\n"
+    return f"Measured: {what} at commit {commit}, on {where}, load average {os.getloadavg()[2]:.1f}{f', {beside}' if beside else ''}.\n"
 
 
 def replace(part, lines):

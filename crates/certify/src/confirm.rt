@@ -71,9 +71,9 @@ fn compare<S: CountedRead, A: CountedRead, C: CountedRead>(
     (ended, asks)
 }
 
-/// Compares a script, answers and a certificate, and returns `Yes` exactly if they match. The texts are read in chunks
-/// of at most 4,096 bytes, no further than the next decision needs, and no text is held in memory as a whole. The looks
-/// of the checker that receives the certificate's steps are added to `looks`, whatever is returned.
+/// Compares a script, answers and a certificate, and returns `Yes` exactly when they match. The texts are read in
+/// chunks of at most 4,096 bytes, no further than the next decision needs, and no text is held in memory as a whole.
+/// The looks of the checker that receives the certificate's steps are added to `looks`, whatever is returned.
 pub fn confirm<S: CountedRead, A: CountedRead, C: CountedRead>(
     alloc: Global,
     script: &mut S,
@@ -81,7 +81,7 @@ pub fn confirm<S: CountedRead, A: CountedRead, C: CountedRead>(
     certificate: &mut C,
     looks: &mut Looks,
 ) -> Result<Verdict, ConfirmFault>
-    // `Yes` means that the bytes that the three readers gave match, whatever bytes would follow; and if they match, the
+    // `Yes` means that the bytes given by the three readers match, whatever bytes might follow; and if they match, the
     // verdict is `Yes`.
     ensures exact { IsExact result S.seen A.seen C.seen (script.old, answers.old, certificate.old)
         (script.new, answers.new, certificate.new) }
@@ -89,7 +89,7 @@ pub fn confirm<S: CountedRead, A: CountedRead, C: CountedRead>(
     ensures sound { IfOk result (IsSoundVerdict (gave S.seen script.old script.new)
         (gave A.seen answers.old answers.new)) }
 
-    // The fault of a reader is returned only for its cause: exactly one of its reads failed, or none of 2^48 reads did.
+    // A reader's fault is returned only if exactly one of its reads failed, or none of 2^48 reads did.
     ensures script_read { IsErrOf result ConfirmFault.ScriptRead → ReadFails (S.seen script.old) (S.seen script.new) }
     ensures answers_read { IsErrOf result ConfirmFault.AnswersRead
         → ReadFails (A.seen answers.old) (A.seen answers.new) }
@@ -106,7 +106,7 @@ pub fn confirm<S: CountedRead, A: CountedRead, C: CountedRead>(
     ensures kept_answers { IsErrOf result ConfirmFault.AnswersRead ⊎ ReadsKept A.seen answers.old answers.new }
     ensures kept_certificate { IsErrOf result ConfirmFault.CertificateRead
         ⊎ ReadsKept C.seen certificate.old certificate.new }
-    // Every text is read at most 2^48 times.
+    // At most 2^48 reads are made of each text.
     ensures script_reads { (S.seen script.new).calls ≤ (S.seen script.old).calls + most_reads }
     ensures answers_reads { (A.seen answers.new).calls ≤ (A.seen answers.old).calls + most_reads }
     ensures certificate_reads { (C.seen certificate.new).calls ≤ (C.seen certificate.old).calls + most_reads }

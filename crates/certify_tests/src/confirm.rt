@@ -298,7 +298,7 @@ const FOUR_AT_0: &[u8] = &[
     0, 6, 0, 0, 1, 0,
 ];
 
-/// Tests whether each prefix of the certificate `whole` is confirmed exactly if it has at least `from` bytes.
+/// Tests whether each prefix of the certificate `whole` is confirmed exactly when it has at least `from` bytes.
 fn counts_from(alloc: Global, whole: &[u8], from: usize) -> bool {
     let ends = Verdict::No {
         ask: 1,
@@ -313,7 +313,7 @@ fn counts_from(alloc: Global, whole: &[u8], from: usize) -> bool {
     is_yes(alloc, (SIXTH, NONE_LEFT, whole))
 }
 
-/// Tests whether `certificate`, with an ask and the end appended, is confirmed exactly if all of `certificate`
+/// Tests whether `certificate`, with an ask and the end appended, is confirmed exactly when all of `certificate`
 /// is there.
 fn is_confirmed_from_its_end(alloc: Global, certificate: &[u8]) -> bool {
     let mut whole = Vec::new(alloc);

@@ -72,7 +72,7 @@ impl<W: CountedWrite, P: Room> Output<W, P> {
         self.put(b'\n')
     }
 
-    /// Writes the text of a formula, until no bytes are pending.
+    /// Writes the text of a formula, and leaves no bytes pending.
     fn write_formula(&mut self, formula: &CnfFormula) -> Result<(), WriteFailed>
         ensures sends { SendsText (dimacs_text formula.now) result (sink_of W.seen P.waiting self.old)
             (sink_of W.seen P.waiting self.new) }

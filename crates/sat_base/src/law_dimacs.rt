@@ -4,7 +4,7 @@ ghost use Rattle.sat_base.specs.dimacs.DimacsSpelling.{OneFormula, CleanIfSpelle
 ghost use Rattle.sat_base.specs.dimacs.WrittenDimacs.{WrittenIsRead};
 
 /// States that every text is read as exactly one list of clauses and one end. A text is read as some clauses without a
-/// fault exactly if its words outside comments and before a `%` line spell them: an optional header, and then one
+/// fault exactly when its words outside comments and before a `%` line spell them: an optional header, and then one
 /// clause after another. The call does nothing.
 pub fn dimacs_laws()
     ensures one { OneFormula }

@@ -80,7 +80,7 @@ abbrev pub TakingCounts : Type 0
 TakingCounts = (redundant side : Bool) (set other : List ℕ) (cs : List StoredClause) → EachOnce cs →
     count_of side other (without_clause redundant set cs) ≡ less_if (same_side redundant side && same_literals set other) (count_of side other cs)
 
--- that a set is stored exactly if it has a count
+-- that a set is stored exactly when it has a count
 abbrev pub CountedIsStored : Type 0
 CountedIsStored = (set : List ℕ) (cs : List StoredClause) → EachCounted cs → (clause_with set cs ≡ None) ↔ (count_of false set cs + count_of true set cs ≡ 0)
 

@@ -10,7 +10,7 @@ use Rattle.sat_checker.specs.Stored.{Empty, Stored, unknown, unit_literals, is_k
 use Rattle.sat_checker.specs.Accepts.{Accepts, AcceptsAll, effect, ready_after}
 use Rattle.sat_checker.specs.Fold.{Holds}
 
--- that a valuation satisfies the stored formula exactly if the accepted steps allow it
+-- that a valuation satisfies the stored formula exactly when the accepted steps allow it
 abbrev pub FormulaIsFold : Type 0
 FormulaIsFold = (steps : List Step) (a : Valuation) → AcceptsAll steps → Satisfies (ready_after steps) a ↔ Holds steps a
 
@@ -70,7 +70,7 @@ EmptyIsGiven = (steps : List Step) (id : ℕ) → AcceptsAll steps → (ready_af
 abbrev pub CanonicalIsSortedSet : Type 0
 CanonicalIsSortedSet = (ls : List ℕ) → IsIncreasing (canonical ls) × ((l : ℕ) → is_among (canonical ls) l ≡ is_among ls l)
 
--- that a clause is a tautology exactly if it contains a literal and its negation
+-- that a clause is a tautology exactly when it contains a literal and its negation
 abbrev pub TautologyHasBothSigns : Type 0
 TautologyHasBothSigns = (ls : List ℕ) → (is_tautology ls ≡ true) ↔ ((l : ℕ) × (is_among ls l ≡ true) × (is_among ls (negated l) ≡ true))
 

@@ -66,7 +66,7 @@ module _ {L : Type 0} (Hears : L → Notice → Result Unit ProcessingError → 
   abbrev pub HasAcceptedUnfailed : CheckerView L → List Step → Type 0
   HasAcceptedUnfailed new steps = HasAccepted Hears before begun new steps × (has_failed new ≡ false)
 
-  -- What the result for a proof means after these accepted steps. It is `Ok` exactly if what was read are accepted steps up to the first end; nothing after that is looked at.
+  -- What the result for a proof means after these accepted steps. It is `Ok` exactly when what was read are accepted steps up to the first end; nothing after that is looked at.
   abbrev pub AnswersProof : Result Unit CheckerError → CheckerView L → CheckerView L → Reader → Reader → List Step → Type 0
   AnswersProof (Ok x) old new from to earlier =
       (passed : List Step) × (rest : List ℕ) × ReadsProofPart old new from to earlier passed (End ∷ []) rest × NoReadFailed from to × HasAcceptedUnfailed new (End ∷ taken_after passed earlier) × IsSettled new

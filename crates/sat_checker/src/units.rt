@@ -115,7 +115,7 @@ impl Units {
         false
     }
 
-    /// Stores a unit after all others. The literal `lit` must not be a unit yet.
+    /// Stores a unit after all others. The literal `lit` must not already be a unit.
     pub fn push(&mut self, id: u64, lit: Lit) -> Result<(), AllocError>
         requires new { is_among (map (λ u. u.literal) self.old.units) lit ≡ false }
         requires id { id + 1 < 2 ^ 64 }

@@ -95,7 +95,7 @@ impl Checking {
         Ok(why)
     }
 
-    /// Holds further bytes of a line, among which there must be no LF. Returns a fault if no line can continue
+    /// Holds further bytes of a line. These bytes must not contain an LF. Returns a fault if no line can continue
     /// with them.
     fn hold(&mut self, bytes: &[u8]) -> Result<Option<HintWhy>, AllocError>
         requires ready { IsReadyJudge self.old.judge }

@@ -11,7 +11,7 @@ abbrev pub CanMeet : List Step → List Expected → List ℕ → Type 0
 CanMeet earlier es certificate = CertificateMeets checker_rules earlier es certificate
 
 -- That exactly the steps in `pending` are met between two places. Whatever is expected after them, everything is met from the first place
--- exactly if the rest is met from the second.
+-- exactly when the rest is met from the second.
 pub record MeetsExactly (earlier : List Step) (certificate : List ℕ) (pending : List Expected) (later : List Step) (rest : List ℕ) : Type 0 where
   pub on : (es : List Expected) → CanMeet earlier (pending ++ es) certificate → CanMeet later es rest
   pub back : (es : List Expected) → CanMeet later es rest → CanMeet earlier (pending ++ es) certificate
@@ -29,7 +29,7 @@ pub record SkipsUnordered (earlier : List Step) (certificate : List ℕ) (later 
 pub record MeetsNothing (earlier : List Step) (certificate : List ℕ) : Type 0 where
   pub none : (e : Expected) (es : List Expected) → CanMeet earlier (e ∷ es) certificate → ⊥
 
--- That `step` is the next ordered step. The expected steps are met exactly if `step` fits the first of them and is accepted, and the rest is
+-- That `step` is the next ordered step. The expected steps are met exactly when `step` fits the first of them and is accepted, and the rest is
 -- met after it.
 pub record NextIsOrdered (earlier : List Step) (certificate : List ℕ) (later : List Step) (step : Step) (rest : List ℕ) : Type 0 where
   pub on : (e : Expected) (es : List Expected) → CanMeet earlier (e ∷ es) certificate

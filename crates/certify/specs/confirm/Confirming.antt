@@ -36,7 +36,7 @@ pub record HoldsAt (t : Table) (u : CertificateState) (j : ScriptState) (earlier
 abbrev pub ToConfirm : ScriptState → ℕ → List Step → List Command → ScriptEnding → List ℕ → List ℕ → Type 0
 ToConfirm j n earlier commands ending answers certificate = Left checker_rules j n earlier [] commands ending answers certificate
 
--- That command `n` is confirmed: the script from `n` on is confirmed exactly if the commands after `n` are.
+-- That command `n` is confirmed: the script from `n` on is confirmed exactly when the commands after `n` are.
 pub record Confirmed (before following : List ℕ) (old new : CertificateState) (j : ScriptState) (earlier : List Step) (n : ℕ)
     (command : Command) (t : Table) : Type 0 where
   pub later : List Step
@@ -97,7 +97,7 @@ ConfirmsLast n script t before old (Ok x) =
 ConfirmsLast n script t before old (Err why) =
     (j : ScriptState) (earlier : List Step) → HoldsAt t old j earlier → ToConfirm j n earlier script.0 script.1 before old.rest → ⊥
 
--- That the script was confirmed from command `n` up to command `m`: it is confirmed completely exactly if the rest is.
+-- That the script was confirmed from command `n` up to command `m`: it is confirmed completely exactly when the rest is.
 pub record IsThrough (old new : CertificateState) (j : ScriptState) (earlier : List Step) (n : ℕ) (script : Reading) (before : List ℕ)
     (m : ℕ) (left : Reading) (next : Table) (following : List ℕ) : Type 0 where
   pub judge : ScriptState

@@ -20,7 +20,7 @@ use Rattle.certify.specs.declared.verdict.Verdict.TheVariants.{Yes}
 abbrev pub GaveTextWith : Reader × Reader → (List ℕ → Type 0) → Type 0
 GaveTextWith r IsSo = GaveEnough r.0 r.1 IsSo
 
--- that the verdict is `Yes` exactly if the texts that the readers gave match
+-- that the verdict is `Yes` exactly when the texts that the readers gave match
 abbrev pub Exact : Reader × Reader → Reader × Reader → Reader × Reader → Verdict → Type 0
 Exact script answers certificate v =
     GaveTextWith script (λ s. GaveTextWith answers (λ a. GaveTextWith certificate (λ c. (v ≡ Yes) ↔ TextsMatch s a c)))

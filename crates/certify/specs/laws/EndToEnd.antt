@@ -26,7 +26,7 @@ FinishedIsConfirmed =
 
 -- OVER TEXTS IN MEMORY
 
--- the guarantee for a verdict on three texts: it is `Yes` exactly if they match, and then the answers are correct
+-- the guarantee for a verdict on three texts: it is `Yes` exactly when they match, and then the answers are correct
 pub record VerdictSays (script answers certificate : List ℕ) (v : Verdict) : Type 0 where
   pub exact : (v ≡ Yes) ↔ TextsMatch script answers certificate
   pub sound : v ≡ Yes → AreRightAnswers script answers

@@ -28,18 +28,18 @@ abbrev pub SameAnswers : Type 0
 SameAnswers = (commands : List Command) (ending : ScriptEnding) (outcomes : List Outcome)
     → lines_from 1 start commands ending outcomes ≡ answers_text commands ending outcomes
 
--- that outcomes are correct for the accepted asks exactly if they are correct for the accepted commands
+-- that outcomes are correct for the accepted asks exactly when they are correct for the accepted commands
 abbrev pub RightByAsks : Type 0
 RightByAsks = (commands : List Command) (outcomes : List Outcome)
     → AnswersAreRight commands outcomes ↔ EachIsRight (asks_of start commands) outcomes
 
--- that answers are correct exactly if they are the text of correct outcomes
+-- that answers are correct exactly when they are the text of correct outcomes
 abbrev pub RightByOutcomes : Type 0
 RightByOutcomes = (script answers : List ℕ)
     → AreRightAnswers script answers
     ↔ ((outcomes : List Outcome) × (answers ≡ answers_text (reading script).0 (reading script).1 outcomes) × AnswersAreRight (reading script).0 outcomes)
 
--- that three texts match by the short definitions exactly if they match by the definitions that code is proved against
+-- that three texts match by the short definitions exactly when they match by the definitions that code is proved against
 abbrev pub SameMatches : Type 0
 SameMatches = (script answers certificate : List ℕ) → TextsMatch script answers certificate ↔ Matches checker_rules reading script answers certificate
 

@@ -44,7 +44,7 @@ abbrev pub is_proved : HintVerdict → Bool
 is_proved (Proved empty cores lines) = true
 is_proved (Bad line cause) = false
 
--- That the verdict on the text that a reader gave was printed, whatever bytes could follow. The status is 0 exactly if the verdict is that the
+-- That the verdict on the text that a reader gave was printed, whatever bytes could follow. The status is 0 exactly when the verdict is that the
 -- text is a proof.
 pub record PrintsHintVerdict (status : ℕ) (input : Reader × Reader) (output : Writer × Writer) : Type 0 where
   pub verdict : HintVerdict

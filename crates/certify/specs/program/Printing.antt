@@ -92,7 +92,7 @@ IsAnswered text answers = (summary : Summary) × AnswersRightly text most_rounds
 abbrev pub IsWritten : List ℕ → Written → Type 0
 IsWritten text w = CertificateGuarantee text most_rounds w.summary w.answers.items w.certificate.items
 
--- That correct answers to a text were printed, and then `c confirmed`. The status is 0 exactly if the text is not malformed.
+-- That correct answers to a text were printed, and then `c confirmed`. The status is 0 exactly when the text is not malformed.
 pub record Prints (status : ℕ) (text : List ℕ) (old new : Writer) : Type 0 where
   pub answers : List ℕ
   pub answered : IsAnswered text answers
@@ -117,7 +117,7 @@ pub record PrintsPrefix (text : List ℕ) (old new : Writer) : Type 0 where
 abbrev pub PrintsAtMost : Reader × Reader → Writer × Writer → Type 0
 PrintsAtMost input output = TookBytes output.0 output.1 [] ⊎ GaveEnough input.0 input.1 (λ text. PrintsPrefix text output.0 output.1)
 
--- That a line was printed. The status is 0 exactly if `IsSo` holds.
+-- That a line was printed. The status is 0 exactly when `IsSo` holds.
 pub record PrintsLine (status : ℕ) (line : List ℕ) (IsSo : Type 0) (old new : Writer) : Type 0 where
   pub printed : WriterTakes old new line
   pub flushed : new.flushed ≡ true
@@ -129,7 +129,7 @@ pub record PrintsYesOrNo (status : ℕ) (script answers certificate : Reader × 
   pub exact : Exact script answers certificate verdict
   pub printed : PrintsLine status (yes_or_no_text verdict) (verdict ≡ Yes) output.0 output.1
 
--- That the answers to the text that a reader gave were written, and their certificate. The status is 0 exactly if the text is not malformed.
+-- That the answers to the text that a reader gave were written, and their certificate. The status is 0 exactly when the text is not malformed.
 pub record Ran (status budget : ℕ) (script : Reader × Reader) (answers certificate : Writer × Writer) : Type 0 where
   pub summary : Summary
   pub guaranteed : TookCertificate budget summary script answers certificate

@@ -108,7 +108,7 @@ pub(super) fn confirm_files<R: AllocGlobal + Files, O: CountedWrite>(
     )
 }
 
-/// Writes the hint text of the certificate in a file to the file `hints`. Returns the status.
+/// Writes the hint text of the certificate in the file `certificate` to the file `hints`. Returns the status.
 pub(super) fn hint_files<R: AllocGlobal + Files, E: CountedWrite>(
     rt: &R,
     certificate: &str,

@@ -1,4 +1,4 @@
-//! Does the call without arguments: answers a script from standard input, with the certificate kept in memory.
+//! Handles the call without arguments: answers a script from standard input, with the certificate kept in memory.
 ghost use Rattle.std.specs.Prelude.{IfOk};
 ghost use Rattle.certify.specs.Devices.{gave, took};
 ghost use Rattle.certify.specs.program.Calls.{HasStatus};

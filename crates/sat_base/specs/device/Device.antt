@@ -33,7 +33,7 @@ lent_writer name w = record w { loans = name ∷ w.loans }
 
 -- ONE CALL
 
--- that the number of failed calls rises by 1 exactly if the result is an `Err`; `failed` says whether it is
+-- that the number of failed calls rises by 1 exactly when the result is an `Err`; `failed` says whether it is
 abbrev pub CountsErr : {T E : Type 0} → Result T E → ℕ → ℕ → Bool → Type 0
 CountsErr r old new failed = MatchResult r (λ _. (new ≡ old) × (failed ≡ false)) (λ _. (new ≡ old + 1) × (failed ≡ true))
 
@@ -51,7 +51,7 @@ CountsWrite r piece old new failed = MatchResult r
 abbrev pub AppendsFront : {E : Type 0} → Result ℕ E → List ℕ → List ℕ → List ℕ → Type 0
 AppendsFront r piece old new = MatchResult r (λ n. new ≡ old ++ take n piece) (λ _. new ≡ old)
 
--- that `ended` is true exactly if the call succeeds and gives nothing although there was room
+-- that `ended` is true exactly when the call succeeds and gives nothing although there was room
 abbrev pub EndsIfNone : {E : Type 0} → Result ℕ E → List ℕ → Bool → Type 0
 EndsIfNone r piece ended = MatchResult r (λ n. ended ≡ (nat_eq n 0 && nat_lt 0 (length piece))) (λ _. ended ≡ false)
 

@@ -66,7 +66,7 @@ CollectsToken (Err refusal.Malformed) old t new = SameClausesAndHeader old new �
 CollectsToken (Err refusal.Limit) old t new = SameClausesAndHeader old new × ((n : ℕ) → turn (hand_in old) n t ≡ Fails (Limit n))
 CollectsToken (Err refusal.OutOfMemory) old t new = SameClausesAndHeader old new × NeedsRoom t
 
--- that the flag is true exactly if a clause is unfinished
+-- that the flag is true exactly when a clause is unfinished
 abbrev pub IsInside : Bool → Hand → Type 0
 IsInside false hand = hand ≡ None
 IsInside true hand = (ls : List ℕ) × (hand ≡ Some ls)

@@ -36,6 +36,6 @@ pub record OneFormula : Type 0 where
   pub one : (text : List ℕ) (cs ds : List (List ℕ)) (d e : Ending)
       → IsDimacs text cs d → IsDimacs text ds e → (cs ≡ ds) × (d ≡ e)
 
--- that a text has these clauses and ends cleanly exactly if its tokens spell a formula of these clauses
+-- that a text has these clauses and ends cleanly exactly when its tokens spell a formula of these clauses
 abbrev pub CleanIfSpelled : Type 0
 CleanIfSpelled = (text : List ℕ) (cs : List (List ℕ)) → IsDimacs text cs Clean ↔ SpellsFormula cs (spoken (tokens text))

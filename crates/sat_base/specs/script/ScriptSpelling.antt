@@ -72,6 +72,6 @@ pub record OneReading : Type 0 where
   pub one : (text : List ℕ) (cs ds : List Command) (d e : ScriptEnding)
       → IsScript text cs d → IsScript text ds e → (cs ≡ ds) × (d ≡ e)
 
--- that a text means these commands and this ending exactly if its tokens spell them
+-- that a text means these commands and this ending exactly when its tokens spell them
 abbrev pub ReadIfSpelled : Type 0
 ReadIfSpelled = (text : List ℕ) (cs : List Command) (end : ScriptEnding) → IsScript text cs end ↔ SpellsScript cs end (spoken (tokens text))

@@ -63,7 +63,7 @@ AnswersUnlessFailed (Err errors.Read) old new = AnswersStepRead (Err errors.Read
 AnswersUnlessFailed (Err errors.OutOfMemory) old new = AnswersStepRead (Err errors.OutOfMemory) old new
 AnswersUnlessFailed (Err errors.HasFailed) old new = new ≡ old
 
--- A call of `advance`. It returns `HasFailed` exactly if an earlier error stopped the reader.
+-- A call of `advance`. It returns `HasFailed` exactly when an earlier error stopped the reader.
 pub record Next {R : Type 0} (seen : R → Reader) (old new : StepReader R Buffers) (result : Result Step StepError) : Type 0 where
   pub same : reader_name new ≡ reader_name old
   pub answer : AnswersUnlessFailed result (reader_source seen old) (reader_source seen new)

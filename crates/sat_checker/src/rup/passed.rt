@@ -85,7 +85,7 @@ impl Passed {
         }
     }
 
-    /// Notes that the clause at a place was falsified.
+    /// Notes that the clause at `place` was falsified.
     pub fn end_at(&mut self, place: usize)
         ensures { self.new ≡ record self.old { conflict = Some place } }
     {

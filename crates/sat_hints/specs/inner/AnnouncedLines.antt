@@ -17,7 +17,7 @@ text_if (Some line) = line_text line
 abbrev pub announced_text : Notice → List ℕ
 announced_text t = text_if (announced_line t.announcement)
 
--- a fault is returned exactly if a write has failed
+-- a fault is returned exactly when a write has failed
 abbrev pub AnswersIf : Bool → Result (Unit {0}) Error → Type 0
 AnswersIf false result = result ≡ Ok tt
 AnswersIf true (Ok x) = ⊥

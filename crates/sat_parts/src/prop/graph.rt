@@ -113,7 +113,7 @@ impl ImplGraph {
         self.nodes[var.index()].depth as usize
     }
 
-    /// Replaces the reason of a variable's value.
+    /// Replaces the reason for a variable's value.
     pub fn update_reason(&mut self, var: Var, reason: Reason)
         requires { var < length self.old }
         ensures { self.new ≡ with_node var (record (node_of self.old var) { reason = reason }) self.old }

@@ -80,7 +80,7 @@ Samples seen r old new user = ChangesMode seen r old new user (accepted (Sample 
 abbrev pub IsNextName : {W L : Type 0} {G : Ghosts L} → Solver W L G → ℕ → Type 0
 IsNextName s name = (j : ScriptState) (live : Live) → IsInState s j live → IsLowestUnused j name
 
--- why a call for a new name failed: `VariableLimit` exactly if every variable of the proof is in use
+-- why a call for a new name failed: `VariableLimit` exactly when every variable of the proof is in use
 abbrev pub NewFails : {W L : Type 0} {G : Ghosts L} → (W → Writer) → SolverError → Solver W L G → Solver W L G → Type 0
 NewFails seen errors.HasFailed old new = Refuses old new (has_failed old ≡ true)
 NewFails seen errors.VariableLimit old new = Refuses old new ((has_failed old ≡ false) × NoneLeft (known_names old))

@@ -53,7 +53,7 @@ pub struct Made<P: ProofProcessor = Nobody> {
     own: Option<Checked<P>>,
     /// The listeners that were added to the checker.
     roll: Roll<P>,
-    /// Whether a step was made that is not the end of a proof.
+    /// Whether a step other than the end of a proof was made.
     begun: bool,
     /// Whether a step was made that the checker has not received.
     lost: bool,
@@ -92,7 +92,7 @@ impl<P: ProofProcessor> Made<P> {
         self.own.is_some()
     }
 
-    /// Whether a step was made that is not the end of a proof.
+    /// Whether a step other than the end of a proof was made.
     pub fn has_begun(&self) -> bool
         ensures { result ≡ has_begun self.now.history.steps }
     {

@@ -118,8 +118,8 @@ impl<W: CountedWrite + Drop, P: ProofProcessor> Solver<W, P> {
 
     /// Introduces a name and returns it: the lowest hidden name, or the lowest name never used if no name is hidden.
     ///
-    /// The answer is unchanged; the new name is false in a model. Returns `VariableLimit`, and changes nothing, only if
-    /// every proof variable is in use.
+    /// The answer is unchanged; if it is a model, the new name is false in it. Returns `VariableLimit` only if every
+    /// proof variable is in use, and then changes nothing.
     pub fn new_var(&mut self) -> Result<Var, SolverError>
         requires { IsSolver self.old }
         ensures solver { IsSolver self.new }

@@ -23,7 +23,7 @@ impl Tier {
         4
     }
 
-    /// Returns the tier with this number, or `None` if there is none. Tiers are counted from 0.
+    /// Returns the tier with this number, or `None` if there is none. Tiers are numbered from 0.
     pub fn from_index(index: usize) -> Option<Tier>
         ensures { MatchOption result (4 ≤ index) (λ tier. index_of tier ≡ index) }
     {
@@ -36,7 +36,7 @@ impl Tier {
         }
     }
 
-    /// Returns the number of the tier. Tiers are counted from 0.
+    /// Returns the number of the tier. Tiers are numbered from 0.
     pub fn index(self) -> usize
         ensures { result ≡ index_of self }
     {

@@ -84,7 +84,7 @@ pub(super) fn sift_up(heap: &mut Vec<Entry>, positions: &mut Vec<u32>, available
 }
 
 /// Returns the child of a position that comes before the other children. The position must have a child.
-#[inline(always)] // each step down asks this
+#[inline(always)] // called at each step down
 fn first_child(heap: &[Entry], available: usize, at: usize) -> usize
     requires listed { HoldsVariables heap.now }
     requires few { length heap.now ≤ var_limit }
@@ -110,7 +110,7 @@ fn first_child(heap: &[Entry], available: usize, at: usize) -> usize
 }
 
 /// Returns the child of a position that comes before the other children, if it also comes before `entry`.
-#[inline(always)] // each step down asks this
+#[inline(always)] // called at each step down
 fn child_above(heap: &[Entry], available: usize, entry: Entry, at: usize) -> Option<usize>
     requires listed { HoldsVariables heap.now }
     requires few { length heap.now ≤ var_limit }
