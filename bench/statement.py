@@ -202,7 +202,7 @@ class Repository:
                 comment = [x for x in file.text[start:at] if x.startswith('///')]
                 lines = file.text[at:end + 1]
                 if kinds == 'trait':
-                    lines = self.told(lines)
+                    lines = self.described(lines)
                 item = Item(file.module, file.path, name, 'rust', comment, lines)
                 item.place = at
                 self.rust[key] = item
@@ -210,7 +210,7 @@ class Repository:
         return None
 
     @staticmethod
-    def told(lines):
+    def described(lines):
         """Returns a trait's ghost members and required calls, without provided bodies."""
         kept, block, depth = [lines[0]], [], 0
         for line in lines[1:-1]:

@@ -186,7 +186,7 @@ def cited_in_code(path, crate, modules):
         yield origin(".".join(source[:-1]), source[-1], modules)
 
 
-def told_callers(crate):
+def listed_callers(crate):
     """Returns the words in the code of the crate's CALLING.md."""
     path = os.path.join(TOP, "crates", crate, "CALLING.md")
     if not os.path.exists(path):
@@ -203,11 +203,11 @@ def dead_definitions(crates, modules):
             waiting += filter(None, cited_in_code(path, crate, modules))
     for path in files_below(os.path.join(TOP, "bench"), ".rt.txt"):
         waiting += filter(None, cited_in_code(path, "", modules))
-    told = {crate: told_callers(crate) for crate in crates}
+    listed = {crate: listed_callers(crate) for crate in crates}
     for module in modules.values():
         waiting += [(module.name, name) for name in (module.items if module.path.endswith("/Proof.antt") else module.kept)]
-        if module.name.split(".")[-1] in told[module.crate]:
-            waiting += [(module.name, name) for name in module.items if name in told[module.crate]]
+        if module.name.split(".")[-1] in listed[module.crate]:
+            waiting += [(module.name, name) for name in module.items if name in listed[module.crate]]
     alive = set()
     while waiting:
         found = waiting.pop()

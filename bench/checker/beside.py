@@ -41,10 +41,10 @@ def called(command, stdin):
     """Returns what a call writes to standard error."""
     with open(stdin or os.devnull, "rb") as text:
         answer = subprocess.run(command, stdin=text, stdout=subprocess.DEVNULL, stderr=subprocess.PIPE, check=False)
-    told = answer.stderr.decode(errors="replace")
+    printed = answer.stderr.decode(errors="replace")
     if answer.returncode != 0:
-        sys.exit(f"{' '.join(command)}: status {answer.returncode}, {told}")
-    return told
+        sys.exit(f"{' '.join(command)}: status {answer.returncode}, {printed}")
+    return printed
 
 
 def seconds(command, stdin):
@@ -57,14 +57,14 @@ def seconds(command, stdin):
 
 def instructions(command, stdin):
     """Returns the millions of instructions of one run."""
-    told = called(["valgrind", "--tool=callgrind", "--callgrind-out-file=/dev/null", *command], stdin)
-    return int(re.search(r"Collected : (\d+)", told)[1]) / 1e6
+    printed = called(["valgrind", "--tool=callgrind", "--callgrind-out-file=/dev/null", *command], stdin)
+    return int(re.search(r"Collected : (\d+)", printed)[1]) / 1e6
 
 
 def megabytes(command, stdin):
     """Returns the peak memory."""
-    told = called([shutil.which("time"), "-f", "%M", *command], stdin)
-    return int(told.split()[-1]) / 1024
+    printed = called([shutil.which("time"), "-f", "%M", *command], stdin)
+    return int(printed.split()[-1]) / 1024
 
 
 def calls(tools, folder, name, out):
@@ -100,8 +100,8 @@ def main():
                 for kind, call in these.items():
                     costs[name][kind] = min(costs[name][kind], (instructions if counts else seconds)(*call))
             peaks[name] = {kind: megabytes(*call) for kind, call in these.items()}
-            told = "; ".join(f"{kind} {costs[name][kind]:.3f} {'M' if counts else 's'} {peaks[name][kind]:.1f} MB" for kind in these)
-            print(f"{name}: {told}", flush=True)
+            printed = "; ".join(f"{kind} {costs[name][kind]:.3f} {'M' if counts else 's'} {peaks[name][kind]:.1f} MB" for kind in these)
+            print(f"{name}: {printed}", flush=True)
     for kind, other in BESIDE:
         for what, of in (("instructions" if counts else "seconds", costs), ("memory", peaks)):
             ratios = [of[name][kind] / of[name][other] for name in names]

@@ -110,7 +110,7 @@ directly() { # CRATE FOLDER N
 beside='
     function bad(why) { print FILENAME ", line " FNR ", " why ": " $0 > "/dev/stderr"; failed = 1; exit 1 }
     { at = index($0, ":"); name = substr($0, 1, at - 1); value = substr($0, at + 1) }
-    FNR == NR { all[FNR] = $0; told[name] = value; count = FNR; next }
+    FNR == NR { all[FNR] = $0; known[name] = value; count = FNR; next }
     !/^refused / { if ($0 != all[++line]) bad("another line"); now[name] = value; if (call) done = 1; next }
     { sub(/^refused /, "", name) }
     done { bad("a second refusal") }
@@ -118,7 +118,7 @@ beside='
     name == "iter" { if (value != now[name]) bad("a formula that changed"); next }
     name ~ /, then (feed|finish|advance)$/ { if (value != " Err(HasFailed)") bad("no failure"); next }
     name ~ /, then (take_formula|kept|read)$/ {
-        if (length(value) >= length(told[name]) || substr(told[name], 1, length(value)) != value) bad("no beginning")
+        if (length(value) >= length(known[name]) || substr(known[name], 1, length(value)) != value) bad("no beginning")
         next
     }
     { bad("an unknown line") }
