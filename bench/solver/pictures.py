@@ -72,20 +72,20 @@ def averages(rows):
     run, minisat = lambda r: r.run, lambda r: r.minisat
     print(f"All averages are geometric means over the same {len(rows)} formulas: those that every program finished, and on which `run` or MiniSat took at least {SHORT} s.\n")
     all_mean, all_most = ratios(rows, run, minisat)
-    print(f"- `run` takes **{all_mean}** times MiniSat's time, at most {all_most}. In total, `run` takes {sum(map(run, rows)):.0f} s and MiniSat {sum(map(minisat, rows)):.0f} s.")
+    print(f"- On average, `run` takes **{all_mean}** times MiniSat's time; at worst, {all_most}. In total, `run` takes {sum(map(run, rows)):.0f} s and MiniSat {sum(map(minisat, rows)):.0f} s.")
     for answer, word in (("UNSATISFIABLE", "unsatisfiable"), ("SATISFIABLE", "satisfiable")):
         part = [r for r in rows if r.answer == answer]
         part_mean, part_most = ratios(part, run, minisat)
-        luck = "; there, luck decides how soon a model is found" if word == "satisfiable" else ""
-        print(f"- Over the {len(part)} {word} formulas, the ratio is {part_mean}, at most {part_most}{luck}.")
+        luck = "; luck decides how soon a model is found" if word == "satisfiable" else ""
+        print(f"- Over the {len(part)} {word} formulas, the ratio averages {part_mean}, and is {part_most} at worst{luck}.")
     fewer = [r for r in rows if r.run_conflicts < r.minisat_conflicts]
     both = [r for r in rows if min(r.run_conflicts, r.minisat_conflicts) >= 1000]
     a_conflict, _ = ratios(both, lambda r: r.run / r.run_conflicts, lambda r: r.minisat / r.minisat_conflicts)
     print(f"- `run` has fewer conflicts than MiniSat on {len(fewer)} of the {len(rows)} formulas. Over the {len(both)} on which both have at least 1,000 conflicts, it takes {a_conflict} times MiniSat's time per conflict.")
     memory, most = ratios(rows, lambda r: r.run_memory, lambda r: r.minisat_memory)
-    print(f"- `run` uses {memory} times MiniSat's memory, at most {most}.")
+    print(f"- On average, `run` uses {memory} times MiniSat's memory; at worst, {most}.")
     confirm, most = ratios(rows, lambda r: r.confirm, run)
-    print(f"- `confirm` takes {confirm} times the time of `run`, at most {most}.")
+    print(f"- On average, `confirm` takes {confirm} times as long as `run`; at worst, {most}.")
 
 
 # The pictures.
