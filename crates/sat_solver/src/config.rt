@@ -17,8 +17,8 @@ pub struct SolverConfig {
     pub reduce_mids_interval: u64,
     /// Rounds between restarts for each unit of the Luby sequence: at least 1, 128 by default.
     pub luby_restart_interval_scale: u64,
-    /// The maximum number of rounds of one `solve`: 2^64-1 by default. If it is 0, `solve` returns only answers that
-    /// are already known.
+    /// The maximum number of rounds per `solve`: 2^64-1 by default. If it is 0, `solve` returns only answers that are
+    /// already known.
     pub max_steps: u64,
 }
 
@@ -37,7 +37,7 @@ impl Default for SolverConfig {
     }
 }
 
-/// An update of the parameters whose fields are `Some`.
+/// An update of the parameters. A field that is `None` leaves its parameter unchanged.
 #[derive(Clone, Copy, Debug, Drop, PartialEq, Eq, Default)]
 pub struct SolverConfigUpdate {
     pub vsids_decay: Option<u32>,

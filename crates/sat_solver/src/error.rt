@@ -12,7 +12,7 @@ use thiserror::Error;
 /// exception is an `OutOfMemory` that `model` returned, after which the solver can still be used.
 #[derive(Debug, Drop, Error)]
 pub enum SolverError {
-    /// The rounds that the parameters allow for one `solve` are exhausted, or the number of all rounds has
+    /// The rounds that the parameters allow for one `solve` are exhausted, or the total number of rounds has
     /// reached 2^64-1.
     #[error("The solver was interrupted")]
     Interrupted,
@@ -38,14 +38,14 @@ pub enum SolverError {
     /// A DRAT proof cannot contain assumptions, or clauses that were added after the first `solve`.
     #[error("the proof format has no assumptions and no later clauses")]
     NotInDrat,
-    /// The clause buffer has more than 2^32-1 words, so that no clause can be added to it.
+    /// The clause buffer has more than 2^32-1 words, so no more clauses can be added to it.
     #[error("the store of clauses is full")]
     StoreFull,
     /// There are too few variables for the names that would be introduced (at most 2^28 can be in use), or a number in
     /// a formula's text is above that limit.
     #[error("a variable is past the limit")]
     VariableLimit,
-    /// The solver's own checker has used its last id, or its count of a clause has reached the maximum.
+    /// The solver's own checker has no id left, or the count of one of its clauses has reached the maximum.
     #[error("a counter is at its end")]
     CounterEnd,
     /// An earlier call returned an error that is not recoverable.

@@ -43,7 +43,8 @@ fn follow_one(
     Ok(true)
 }
 
-/// Calls `follow_one` for every literal in `lits` until a call returns false. Returns whether all calls returned true.
+/// Calls `follow_one` for each literal in `lits` in turn, until a call returns false. Returns whether all calls
+/// returned true.
 fn follow_own(
     analysis: &mut Analysis,
     graph: &ImplGraph,
@@ -64,7 +65,7 @@ fn follow_own(
     Ok(true)
 }
 
-/// Calls `follow_one` for every literal of a long clause until a call returns false. Returns whether all calls
+/// Calls `follow_one` for each literal of a long clause in turn, until a call returns false. Returns whether all calls
 /// returned true.
 fn follow_long(
     analysis: &mut Analysis,
@@ -85,7 +86,7 @@ fn follow_long(
     Ok(true)
 }
 
-/// Calls `follow_one` for every literal of a reason until a call returns false. Returns whether all calls
+/// Calls `follow_one` for each literal of a reason in turn, until a call returns false. Returns whether all calls
 /// returned true.
 fn follow(
     analysis: &mut Analysis,
@@ -107,7 +108,7 @@ fn follow(
 }
 
 /// Checks whether reasons show that `lit` must be false whenever the other literals of the learned clause are false. If
-/// so, the literals with these reasons are among the used literals afterwards.
+/// so, the literals that have these reasons are among the used literals afterwards.
 fn is_implied(
     analysis: &mut Analysis,
     clauses: &ClauseAlloc,
@@ -152,8 +153,8 @@ fn levels_of(graph: &ImplGraph, lits: &[Lit]) -> LevelAbstraction
     levels
 }
 
-/// Removes the literals of the learned clause that, as reasons show, must be false whenever its other literals are
-/// false. Never removes the first literal.
+/// Removes from the learned clause the literals that reasons show to be false whenever its other literals are false.
+/// Never removes the first literal.
 pub(crate) fn minimize_clause(
     analysis: &mut Analysis,
     clauses: &ClauseAlloc,

@@ -40,7 +40,7 @@ pub fn value_of(variables: &Variables, values: &[Option<bool>], global: Var) -> 
     }
 }
 
-/// Appends to `lits` the literal of a proof variable that is true in the model, if the variable is in use.
+/// If a proof variable is in use, appends to `lits` the variable's literal that is true in the model.
 fn push_value(
     variables: &Variables,
     values: &[Option<bool>],
@@ -75,7 +75,7 @@ pub fn model_lits(
     Ok(())
 }
 
-/// Appends to `lits` the literal of a name that is true in the model, if the name is in use.
+/// If a name is in use, appends to `lits` the name's literal that is true in the model.
 fn push_named(
     variables: &Variables,
     values: &[Option<bool>],

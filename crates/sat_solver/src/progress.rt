@@ -1,9 +1,9 @@
 //! The progress of a solver.
 
-/// Counts of a solver. They saturate at 2^64-1.
+/// A solver's counts of rounds, restarts, variables and clauses. They saturate at 2^64-1.
 #[derive(Clone, Copy, Debug, Drop, PartialEq, Eq)]
 pub struct Progress {
-    /// Rounds of search so far, over all calls of `solve`. A round ends in a conflict or an answer.
+    /// Rounds of search so far, over all calls to `solve`. A round ends in a conflict or an answer.
     pub conflicts: u64,
     /// Restarts so far.
     pub restarts: u64,
@@ -17,6 +17,6 @@ pub struct Progress {
     pub core: u64,
     /// Learned clauses that no reduction deletes as long as they are used.
     pub mid: u64,
-    /// Learned clauses of which each reduction deletes up to half.
+    /// Learned clauses, up to half of which are deleted by each reduction.
     pub local: u64,
 }

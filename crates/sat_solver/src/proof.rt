@@ -59,7 +59,7 @@ impl From<CheckFault> for ProofError {
     }
 }
 
-/// All steps that a solver has made, the solver's own checker, if any, and the open target of the steps' text, if any.
+/// All steps that a solver has made, the solver's own checker, if any, and the open target for the steps' text, if any.
 /// After the target fails, it is not used again, and steps are made as if no target were open.
 #[derive(Drop)]
 pub struct Proof<W, P: ProofProcessor = Nobody> {
@@ -73,7 +73,7 @@ pub struct Proof<W, P: ProofProcessor = Nobody> {
     text: Vec<u8>,
     output: Option<Output<W>>,
     broken: bool,
-    /// The error of the last failed call to a target, if any.
+    /// The error from the last failed call to a target, if any.
     cause: Option<io::Error>,
 }
 
@@ -108,7 +108,7 @@ impl<W: CountedWrite + Drop, P: ProofProcessor> Proof<W, P> {
         }
     }
 
-    /// Whether a target is open to which DRAT lines are written.
+    /// Whether a target that receives DRAT lines is open.
     pub fn is_drat(&self) -> bool
         ensures { result ≡ is_drat (target_of W.seen self.now) }
     {
@@ -125,7 +125,7 @@ impl<W: CountedWrite + Drop, P: ProofProcessor> Proof<W, P> {
         self.counting.solving
     }
 
-    /// Whether a step was made that is not the end of a proof.
+    /// Whether a step other than the end of a proof has been made.
     pub fn has_begun(&self) -> bool
         ensures { result ≡ has_begun (steps_of self.now) }
     {
@@ -157,8 +157,8 @@ impl<W: CountedWrite + Drop, P: ProofProcessor> Proof<W, P> {
         Ok(())
     }
 
-    /// Opens a target, to which steps are written from now on, at first with complete hashes. Drops an earlier target
-    /// that failed. No other target may be open. Never allocates.
+    /// Opens a target, to which steps are written from now on, at first with hashes of full width. Drops an earlier
+    /// target that failed. No other target may be open. Never allocates.
     pub fn open(&mut self, format: ProofFormat, target: W)
         requires { is_open (target_of W.seen self.old) ≡ false }
         ensures steps { steps_of self.new ≡ steps_of self.old }
@@ -182,7 +182,7 @@ impl<W: CountedWrite + Drop, P: ProofProcessor> Proof<W, P> {
         self.counting.solving = true;
     }
 
-    /// Stops using the target, and stores `cause`, the error of its last call.
+    /// Stops using the target, and stores `cause`, the error from its last call.
     fn break_off(&mut self, cause: io::Error) -> ProofError
         ensures fault { result ≡ ProofError.Write cause }
         ensures breaks { self.new ≡ record self.old { broken = true; cause = Some cause } }
@@ -250,7 +250,7 @@ impl<W: CountedWrite + Drop, P: ProofProcessor> Proof<W, P> {
     }
 
     /// Writes `cut` to the open target, if any, however long its text is. This is a separate function because an error
-    /// of a target is large.
+    /// from a target is large.
     #[inline(never)]
     fn put_long(
         &mut self,
@@ -307,7 +307,7 @@ impl<W: CountedWrite + Drop, P: ProofProcessor> Proof<W, P> {
     }
 
     /// Writes `cut` to the open target, if any, records `step`, and passes `cut` to the checker, if any. The checker
-    /// does not receive a step if the target fails while the step's text is written.
+    /// does not receive a step if the target fails while the step's text is being written.
     ///
     /// `cut` must be `step` with its hashes shortened to the width in `counting`, which must be the counts after
     /// the step.
@@ -504,14 +504,14 @@ impl<W: CountedWrite + Drop, P: ProofProcessor> Proof<W, P> {
         }
     }
 
-    /// Returns the error of the last failed call to a target, or `None` if no call failed.
+    /// Returns the error from the last failed call to a target, or `None` if no call failed.
     pub fn cause(&self) -> Option<io::Error>
         ensures { result ≡ self.now.cause }
     {
         self.cause
     }
 
-    /// Returns the error of a listener, if any, and removes it from the proof.
+    /// Returns the error from a listener, if any, and removes it from the proof.
     pub fn take_complaint(&mut self) -> Option<anyhow::Error>
         ensures gives { result ≡ self.old.made.complaint }
         ensures same { self.new ≡ without_complaint self.old }

@@ -75,7 +75,8 @@ fn restart_where_due<W: CountedWrite + Drop, P: ProofProcessor>(
 /// Runs rounds until there is an answer, but at most `max_steps` rounds. Returns the answer, or `None` if there
 /// is none.
 ///
-/// Counts the rounds in `rounds`, the number of rounds over all calls. No round is run once it has reached 2^64-1.
+/// Counts the rounds in `rounds`, the number of rounds over all calls. No round is run once this number has
+/// reached 2^64-1.
 pub fn search<W: CountedWrite + Drop, P: ProofProcessor>(
     core: &mut Core<W, P>,
     names: &mut Variables,

@@ -1,7 +1,7 @@
 //! An incremental solver that writes a proof.
 //!
-//! Contracts describe a solver by the definitions of `specs/solver/View` and by the judge's state. `IsSolver` is the
-//! invariant between calls: `new` establishes it, and every call preserves it.
+//! Contracts describe a solver in terms of the definitions in `specs/solver/View` and the judge's state. `IsSolver` is
+//! the invariant between calls: `new` establishes it, and every call preserves it.
 ghost use Rattle.std.specs.Prelude.{◌≡◌};
 ghost use Rattle.sat_solver.specs.solver.View.{IsEmpty, rounds_in};
 
@@ -104,8 +104,8 @@ impl<W: CountedWrite + Drop, P: ProofProcessor> Solver<W, P> {
         }
     }
 
-    /// Returns the number of rounds (not of proof steps) so far, over all calls of `solve`, even after a failed call.
-    /// A round ends in a conflict or an answer. The number saturates at 2^64-1.
+    /// Returns the number of rounds (not proof steps) so far, over all calls to `solve`, even after a failed call. A
+    /// round ends in a conflict or an answer. The number saturates at 2^64-1.
     pub fn steps(&self) -> u64
         ensures { result ≡ rounds_in self.now }
     {

@@ -1,4 +1,4 @@
-//! Simplifies by the units of level 0: removes clauses, literals of clauses, and indices of variables that are in
+//! Simplifies using the units at level 0: removes clauses, literals of clauses, and indices of variables that are in
 //! no clause.
 ghost use Rattle.sat_solver.specs.proof.ProofView.{HasAllowedSteps, session_of};
 ghost use Rattle.sat_solver.specs.cdcl.Going.{EmitsSteps};

@@ -51,7 +51,7 @@ pub struct Variables {
     /// False only if no variable has the mode witness.
     pub witnessed: bool,
 
-    /// True only if every name that was ever used is in use and has the variable with the same index.
+    /// True only if every name that has ever been used is in use and has the variable with the same index.
     pub own_names: bool,
 }
 
@@ -83,8 +83,8 @@ impl Variables {
         }
     }
 
-    /// Returns the variable for the name `user`, which is not in use: the variable with the same index if it is not in
-    /// use, or else the lowest variable that is not in use. Returns `None` if all variables are in use.
+    /// Returns the variable to use for `user`, a name that is not in use: the variable with the same index if that is
+    /// free, or else the lowest free variable. Returns `None` if all variables are in use.
     #[tactic(auto, using(crate::proofs::lemmas::variables::NextVariables::finding_room))]
     pub(crate) fn room_for(&self, user: Var) -> Option<Var>
         requires tidy { AreTidy self.now }
@@ -212,7 +212,7 @@ impl Variables {
         self.witnessed = true;
     }
 
-    /// Deletes a variable, which is no longer in use from now on. Never allocates.
+    /// Deletes a variable, so that it is no longer in use. Never allocates.
     pub(crate) fn put_deleted(&mut self, global: Var)
         requires tidy { AreTidy self.old }
         requires within { global < variables_used self.old }
@@ -230,14 +230,14 @@ impl Variables {
         self.var_data[global.index()].sampling_mode
     }
 
-    /// Returns the number of names that were ever used.
+    /// Returns the number of names that have ever been used.
     pub fn name_count(&self) -> usize
         ensures { result ≡ names_used self.now }
     {
         self.global_from_user.fwd().watermark()
     }
 
-    /// Returns the number of variables that were ever used.
+    /// Returns the number of variables that have ever been used.
     pub fn used_count(&self) -> usize
         ensures { result ≡ variables_used self.now }
     {

@@ -52,7 +52,7 @@ impl Default for VarData {
 impl VarData {
     ghost use Rattle.sat_store.specs.variables.VarData.{user_variable};
 
-    /// Returns the data of a new variable of the user.
+    /// Returns the data of a new user variable.
     pub fn user_default() -> VarData
         ensures { result ≡ user_variable }
     {

@@ -46,7 +46,7 @@ impl LubySequence {
     }
 }
 
-/// Returns the term with this number. Terms are counted from 1.
+/// Returns the term with this number. Terms are numbered from 1.
 fn luby_term(number: u64) -> u64
     requires { 0 < number }
     ensures { result ≡ luby number }

@@ -85,7 +85,7 @@ impl VarMap {
         self.remove(from);
     }
 
-    /// Returns one more than the largest index that was ever mapped, or 0 if none was.
+    /// Returns one more than the largest index that has ever been mapped, or 0 if none has.
     pub fn watermark(&self) -> usize
         ensures { result ≡ length self.now }
     {
@@ -239,7 +239,7 @@ impl VarBiMap {
     }
 }
 
-/// A mutable view of one of the two maps of a `VarBiMap`. Changes to this map also change the other map.
+/// A mutable view of one of the two maps in a `VarBiMap`. Changes to this map also change the other map.
 #[derive(Drop)]
 pub struct VarBiMapMut<'a> {
     /// The pair of maps.

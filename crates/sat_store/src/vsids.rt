@@ -1,7 +1,8 @@
 //! VSIDS: a queue of variables, ordered by activity.
 //!
-//! A decision picks the variable with the highest activity. Conflicts raise activities. Activities decay in that later
-//! conflicts raise activities by more. If the numbers grow too large, all of them are rescaled.
+//! A decision picks the variable with the highest activity. Conflicts raise activities. Activities decay relative to
+//! later bumps: each conflict raises activities by more than earlier ones did. If the numbers grow too large, all of
+//! them are rescaled.
 ghost use Rattle.std.specs.Prelude.{◌≡◌, ◌<◌, ◌≤◌, ◌+◌, ◌*◌, ◌-◌, ◌/◌, ◌^◌, OnOk, OnErr, true, false, length, map, max};
 ghost use Rattle.std.specs.Prelude.{slice_set};
 ghost use Rattle.sat_base.specs.values.Literals.{var_limit};

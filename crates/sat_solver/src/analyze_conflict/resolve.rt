@@ -68,7 +68,7 @@ pub(crate) fn add_all(
     Ok(())
 }
 
-/// Resolves with the reason of the last flagged literal before position `before` of the trail. Returns the position of
+/// Resolves with the reason for the last flagged literal before position `before` of the trail. Returns the position of
 /// this literal.
 fn resolve_next(
     analysis: &mut Analysis,
@@ -103,7 +103,7 @@ fn resolve_next(
     Ok(place)
 }
 
-/// Resolves until exactly one literal of the current level is left. Returns a position of the trail that comes after
+/// Resolves until exactly one literal of the current level is left. Returns a position on the trail that comes after
 /// this literal.
 pub(crate) fn resolve_conflict(
     analysis: &mut Analysis,

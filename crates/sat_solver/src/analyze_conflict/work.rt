@@ -97,8 +97,8 @@ impl Analysis {
         &self.met
     }
 
-    /// Returns the long clauses that were used: the falsified clause if it is long, and then reasons of literals, going
-    /// backwards from the end of the trail.
+    /// Returns the long clauses that were used: the falsified clause if it is long, and then the reasons for literals,
+    /// going backwards from the end of the trail.
     pub fn involved(&self) -> &[ClauseRef]
         ensures { result.now ≡ self.now.involved }
     {
@@ -221,8 +221,8 @@ impl Analysis {
         Ok(())
     }
 
-    /// Uses `reason`, the reason of the true literal `lit`: clears the literal's flag, adds the literal to the used
-    /// literals, and adds the clause to the involved clauses if it is a long clause.
+    /// Uses `reason`, the reason for the true literal `lit`. Clears the literal's flag, and adds the literal to the
+    /// used literals. If the reason is a long clause, adds it to the involved clauses.
     pub(crate) fn take_up(&mut self, reason: &Reason, lit: Lit) -> Result<(), AllocError>
         requires flag { variable lit < length self.old.flags }
         ensures { OnOk result (self.new ≡ taken_up reason.now lit self.old) }
@@ -300,8 +300,7 @@ impl Analysis {
         Ok(())
     }
 
-    /// Removes the used literals from position `top` on. Clears the flags of those that are removed, except for
-    /// the first.
+    /// Removes the used literals from position `top` on. Clears the flags of all removed literals except the first.
     pub(crate) fn undo(&mut self, top: usize)
         requires top { top < length self.old.used }
         requires flags { VariablesBelow self.old.used (length self.old.flags) }

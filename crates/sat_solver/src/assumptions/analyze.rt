@@ -95,7 +95,7 @@ fn trace(
 
 /// Finds assumptions that contradict the false assumption `failed`, and the clauses that show the contradiction.
 ///
-/// Afterwards, the core of `analysis` contains the assumptions, and the reasons of its used literals are the clauses.
+/// Afterwards, the core of `analysis` contains the assumptions, and the reasons for its used literals are the clauses.
 pub fn analyze_assumption(
     analysis: &mut Analysis,
     clauses: &ClauseAlloc,

@@ -1,4 +1,4 @@
-//! Writes the step of a failed core.
+//! Writes the step for a failed core.
 ghost use Rattle.std.specs.Prelude.{◌≡◌, ◌≤◌, map, length, OnOk};
 ghost use Rattle.sat_solver.specs.session.LiveClauses.{with_var};
 ghost use Rattle.sat_solver.specs.proof.ProofView.{HasAllowedSteps, session_of};
@@ -17,8 +17,8 @@ use sat_base::{CountedWrite, ProofStep};
 use sat_checker::ProofProcessor;
 use std::alloc::AllocError;
 
-/// Fills `search.scratch` for the step of a core: the core's literals over proof variables, and the hashes of the
-/// clauses that show that the core contradicts the clauses.
+/// Fills `search.scratch` for the step that states a core: the core's literals over proof variables, and the hashes of
+/// the clauses that show that the core contradicts the clauses.
 fn name_core(search: &mut Search) -> Result<(), AllocError>
     requires holds { PartsInvariant search.old.parts }
     requires names { length search.old.parts.assignment.current ≤ length search.old.globals.items }
@@ -43,7 +43,8 @@ fn name_core(search: &mut Search) -> Result<(), AllocError>
     )
 }
 
-/// Finds assumptions that contradict the failed assumption, and fills `search.scratch` for the step of this core.
+/// Finds assumptions that contradict the failed assumption, and fills `search.scratch` for the step that states
+/// this core.
 fn find_core(search: &mut Search) -> Result<(), AllocError>
     requires holds { PartsInvariant search.old.parts }
     requires free { IsFree search.old }
@@ -69,7 +70,7 @@ fn find_core(search: &mut Search) -> Result<(), AllocError>
     name_core(search)
 }
 
-/// Finds a failed core, and writes its step. Afterwards, `search.analysis` contains the core.
+/// Finds a failed core, and writes the step that states it. Afterwards, `search.analysis` contains the core.
 pub fn write_core<W: CountedWrite + Drop, P: ProofProcessor>(
     proof: &mut Proof<W, P>,
     search: &mut Search,

@@ -1,4 +1,4 @@
-//! The beginning of a round: new literals of level 0 are propagated and used to simplify.
+//! The beginning of a round: new literals at level 0 are propagated and used to simplify.
 ghost use Rattle.sat_solver.specs.unit_simplify.Passes.{JointInvariant, BeginsRound};
 
 use crate::cdcl::fault::Fault;
@@ -15,7 +15,7 @@ use sat_parts::parts::steps::propagate_all;
 /// Simplifies at level 0 if there are literals that have not yet been used to simplify.
 ///
 /// Before that, propagates, writes the units of the trail, and removes them from the trail. Returns the clause that
-/// propagation falsified, or `None`. Does nothing above level 0, or without new literals at level 0.
+/// propagation falsified, or `None`. Does nothing above level 0, or if there are no new literals at level 0.
 pub fn begin_round<W: CountedWrite + Drop, P: ProofProcessor>(
     proof: &mut Proof<W, P>,
     search: &mut Search,

@@ -29,8 +29,8 @@ pub enum FoundConflict {
     Failed(Lit),
 }
 
-/// Begins a level with the next assumption, or with the variable of highest activity if no assumption is left. Returns
-/// `None` if a level was begun; otherwise returns why the search stopped.
+/// Begins a level with the next assumption, or with the variable that has the highest activity if no assumption is
+/// left. Returns `None` if a level was begun; otherwise returns why the search stopped.
 fn assume_or_decide(
     parts: &mut Parts,
     assumptions: &mut Assumptions,
@@ -55,7 +55,7 @@ fn assume_or_decide(
 /// Propagates, assumes and decides until the search stops.
 ///
 /// The search stops if a clause is falsified, if an assumption is false, or if every variable that is in a clause has a
-/// value. New literals of level 0 are written, and removed from the trail.
+/// value. New literals at level 0 are written, and removed from the trail.
 pub fn find_conflict<W: CountedWrite + Drop, P: ProofProcessor>(
     proof: &mut Proof<W, P>,
     search: &mut Search,

@@ -31,8 +31,8 @@ use sat_parts::parts::steps::{learn, undo};
 use sat_store::{ClauseHeader, StoreError};
 use std::alloc::AllocError;
 
-/// Fills `search.scratch` for the step of a learned clause: the clause's literals over proof variables, and the hashes
-/// of the clauses from which it follows.
+/// Fills `search.scratch` for the step that derives a learned clause: the clause's literals over proof variables, and
+/// the hashes of the clauses from which it follows.
 fn name_learned(search: &mut Search, _level: usize, conflict: &Conflict) -> Result<(), AllocError>
     requires refuted { IsRefuted search.old.parts conflict.now }
     requires names { length search.old.parts.assignment.current ≤ length search.old.globals.items }
@@ -87,7 +87,7 @@ fn take_in(search: &mut Search, header: ClauseHeader, level: usize) -> Result<()
     learn(&mut search.parts, header, search.analysis.clause())
 }
 
-/// Whether the step of the clause `lits` says that the clause is redundant: only if `header` does, and there are at
+/// Whether the step that derives the clause `lits` marks it as redundant. It does if `header` does and there are at
 /// least three literals.
 fn says_redundant(header: &ClauseHeader, lits: &[Lit]) -> bool
     ensures { FlagFits result header.now lits.now }
@@ -98,8 +98,8 @@ fn says_redundant(header: &ClauseHeader, lits: &[Lit]) -> bool
     header.redundant()
 }
 
-/// Analyzes a conflict above level 0, and fills `search.scratch` for the step of the learned clause. Returns the level
-/// to backtrack to, and the header of the learned clause.
+/// Analyzes a conflict above level 0, and fills `search.scratch` for the step that derives the learned clause. Returns
+/// the level to backtrack to, and the header of the learned clause.
 fn analyze(search: &mut Search, conflict: &Conflict) -> Result<(usize, ClauseHeader), AllocError>
     requires refuted { IsRefuted search.old.parts conflict.now }
     requires above { 0 < length search.old.parts.trail.starts }
@@ -140,7 +140,7 @@ fn analyze(search: &mut Search, conflict: &Conflict) -> Result<(usize, ClauseHea
     Ok((level, header))
 }
 
-/// Learns a clause from a conflict above level 0, and writes the step of the clause. Backtracks, and stores the clause.
+/// Learns a clause from a conflict above level 0, writes the clause's step, backtracks, and stores the clause.
 fn learn_clause<W: CountedWrite + Drop, P: ProofProcessor>(
     proof: &mut Proof<W, P>,
     search: &mut Search,
@@ -165,7 +165,7 @@ fn learn_clause<W: CountedWrite + Drop, P: ProofProcessor>(
     Ok(())
 }
 
-/// Learns a clause from a conflict above level 0, and writes the step of the clause. Backtracks, and stores the clause.
+/// Learns a clause from a conflict above level 0, writes the clause's step, backtracks, and stores the clause.
 ///
 /// Bumps the activities of the clauses and variables that are involved in the conflict.
 pub fn learn_from<W: CountedWrite + Drop, P: ProofProcessor>(

@@ -19,7 +19,7 @@ use sat_parts::parts::clauses::{bump_clause, bump_variable, decay_clauses, decay
 use sat_parts::{ClauseActivity, Parts, compute_clause_glue_below};
 use sat_store::{ClauseRef, TmpFlags};
 
-/// Bumps the activities of the variables `vars`, and increases the amount of later bumps.
+/// Bumps the activities of the variables `vars`, and increases the amount that later bumps add.
 fn bump_variables(parts: &mut Parts, vars: &[Var])
     requires holds { PartsInvariant parts.old }
     requires there { AreBelow vars.now (length parts.old.assignment.current) }
@@ -34,7 +34,7 @@ fn bump_variables(parts: &mut Parts, vars: &[Var])
     decay_variables(parts);
 }
 
-/// Bumps the activities of the variables that the last analysis visited, and increases the amount of later bumps.
+/// Bumps the activities of the variables that the last analysis visited, and increases the amount that later bumps add.
 pub fn bump_met(search: &mut Search)
     requires holds { PartsInvariant search.old.parts }
     requires there { AreBelow search.old.analysis.met (length search.old.parts.assignment.current) }
@@ -62,8 +62,8 @@ pub fn set_decays(search: &mut Search, config: &SolverConfig)
 
 /// Returns the number of distinct levels of a learned clause's literals, or the clause's glue if that is lower.
 ///
-/// The result is used by `improve`, which sets the glue only to a lower number. Returns 0 for an irredundant clause,
-/// whose glue is never set.
+/// The result is used by `improve`, which only ever lowers the glue. Returns 0 for an irredundant clause, whose glue is
+/// never set.
 fn count_levels(parts: &Parts, flags: &mut TmpFlags, cref: ClauseRef) -> usize
     requires holds { PartsInvariant parts.now }
     requires live { HasClause parts.now cref }
@@ -98,8 +98,8 @@ fn bump_one(parts: &mut Parts, activity: &mut ClauseActivity, flags: &mut TmpFla
     improve(parts, cref, levels);
 }
 
-/// Bumps the activities of the clauses `crefs`, which an analysis used, and updates their headers by `improve`. Then
-/// the activities of clauses decay.
+/// Bumps the activities of the clauses `crefs`, which an analysis used, and updates their headers with `improve`.
+/// Afterwards, all clause activities decay.
 pub fn bump_clauses(
     parts: &mut Parts,
     activity: &mut ClauseActivity,

@@ -46,7 +46,7 @@ pub fn map_clause(
     Ok(())
 }
 
-/// Deletes a learned clause and writes the step of the deletion, unless the clause is a reason. Returns whether the
+/// Deletes a learned clause and writes the step for the deletion, unless the clause is a reason. Returns whether the
 /// clause was deleted.
 fn delete_learned<W: CountedWrite + Drop, P: ProofProcessor>(
     proof: &mut Proof<W, P>,
@@ -76,7 +76,7 @@ fn delete_learned<W: CountedWrite + Drop, P: ProofProcessor>(
     Ok(true)
 }
 
-/// Returns how many of `left` clauses are still to be deleted: one fewer if `deleted` is true.
+/// Returns how many clauses are still to be deleted: `left`, or one fewer if `deleted` is true.
 fn left_after(left: usize, deleted: bool) -> usize
     requires { 0 < left }
     ensures { result ≡ (if deleted then left - 1 else left) }
@@ -111,7 +111,8 @@ fn reduce_locals<W: CountedWrite + Drop, P: ProofProcessor>(
     Ok(())
 }
 
-/// If `is_due` is true, moves the clauses of tier Mid that were not used since the last such reduction to tier Local.
+/// If `is_due` is true, moves to tier Local the clauses of tier Mid that have not been used since the last
+/// such reduction.
 fn reduce_mids(search: &mut Search, is_due: bool)
     requires holds { PartsInvariant search.old.parts }
     ensures holds { PartsInvariant search.new.parts }

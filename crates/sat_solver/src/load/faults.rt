@@ -1,4 +1,4 @@
-//! Converts faults of calls over names to the faults that the solver reports.
+//! Converts errors from operations on names to the faults that the solver reports.
 
 use crate::cdcl::fault::{Fault, Kind};
 use crate::variables::error::NameError;

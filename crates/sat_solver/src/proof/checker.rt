@@ -48,7 +48,7 @@ fn feed<P: ProofProcessor>(
     checker.self_check_step(step)
 }
 
-/// A checker, and the width to which it was set last.
+/// A checker, and the width that it was last set to.
 #[derive(Drop)]
 pub struct Checked<P: ProofProcessor> {
     bits: HashBits,
@@ -104,7 +104,7 @@ impl<P: ProofProcessor> Checked<P> {
         feed(&mut self.checker, cut)
     }
 
-    /// Gives the empty clause of a pending unit conflict its id, if a unit conflict is pending.
+    /// If a unit conflict is pending, gives its empty clause an id.
     pub fn take_delayed(&mut self) -> Result<(), CheckerError>
         ensures takes { TakesDelayed P.takes result self.old self.new }
         ensures bits { self.new.bits ≡ self.old.bits }
@@ -112,15 +112,15 @@ impl<P: ProofProcessor> Checked<P> {
         self.checker.self_check_delayed_steps()
     }
     /// Adds a listener, which is notified of all announcements from now on. If memory runs out, the listener is
-    /// dropped, and the checker has failed.
+    /// dropped, and the checker fails.
     pub fn add_processor(&mut self, processor: P) -> Result<(), CheckerError>
         ensures { AddsOwnListener P.takes result self.old processor self.new }
     {
         self.checker.add_processor(processor)
     }
 
-    /// Restarts the checker, as if it had received no steps, with the listeners that it has. Returns the roll of the
-    /// listeners. Never allocates.
+    /// Restarts the checker as if it had received no steps, but keeps its listeners. Returns the roll of the listeners.
+    /// Never allocates.
     pub fn begin_anew(&mut self, alloc: Global) -> Roll<P>
         ensures { CheckerRestarts P.takes self.old self.new result.items }
     {

@@ -8,7 +8,7 @@ ghost use Rattle.sat_solver.specs.proof.DratText.{drat_text};
 use sat_base::{ClauseHash, Lit, ProofStep, push_decimal, push_leb128};
 use std::alloc::AllocError;
 
-/// Appends `number` in decimal, after a minus sign unless `positive` is true.
+/// Appends `number` in decimal, preceded by a minus sign unless `positive` is true.
 fn put_sign(text: &mut Vec<u8>, number: u64, positive: bool) -> Result<(), AllocError>
     ensures { OnOk result (text.new.items
         ≡ text.old.items ++ ((if positive then [] else codes "-") ++ decimal number)) }
@@ -20,7 +20,7 @@ fn put_sign(text: &mut Vec<u8>, number: u64, positive: bool) -> Result<(), Alloc
     push_decimal(text, number)
 }
 
-/// Appends a clause in decimal: the number of every literal, followed by a space, and then `0` and LF.
+/// Appends a clause in decimal: the number of each literal, followed by a space, and finally `0` and LF.
 fn put_words(text: &mut Vec<u8>, lits: &[Lit]) -> Result<(), AllocError>
     ensures { OnOk result (text.new.items ≡ text.old.items ++ clause_line lits.now) }
 {
@@ -31,7 +31,7 @@ fn put_words(text: &mut Vec<u8>, lits: &[Lit]) -> Result<(), AllocError>
     text.extend_from_slice(b"0\n")
 }
 
-/// Appends a clause in binary: the code of every literal plus two, in LEB128, and then a zero byte.
+/// Appends a clause in binary: the code of each literal plus two, in LEB128, and finally a zero byte.
 fn put_bytes(text: &mut Vec<u8>, lits: &[Lit]) -> Result<(), AllocError>
     ensures { OnOk result (text.new.items ≡ text.old.items ++ bytes_line lits.now) }
 {
@@ -42,7 +42,7 @@ fn put_bytes(text: &mut Vec<u8>, lits: &[Lit]) -> Result<(), AllocError>
     Ok(())
 }
 
-/// Appends the mark with which the line of a deleted or a derived clause begins, if it has one.
+/// Appends the mark at the start of the line for a deleted or derived clause, if the line has one.
 fn put_mark(text: &mut Vec<u8>, binary: bool, deleted: bool) -> Result<(), AllocError>
     ensures { OnOk result (text.new.items ≡ text.old.items ++ mark binary deleted) }
 {

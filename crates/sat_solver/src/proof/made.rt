@@ -53,11 +53,11 @@ pub struct Made<P: ProofProcessor = Nobody> {
     own: Option<Checked<P>>,
     /// The listeners that were added to the checker.
     roll: Roll<P>,
-    /// Whether a step other than the end of a proof was made.
+    /// Whether a step other than the end of a proof has been made.
     begun: bool,
-    /// Whether a step was made that the checker has not received.
+    /// Whether the checker has missed a step.
     lost: bool,
-    /// The error of a listener, until it is returned to the caller.
+    /// The error from a listener, until it is returned to the caller.
     complaint: Option<anyhow::Error>,
     ghost counted: { begun ≡ has_begun history.steps },
     ghost may: { ∥ AreAllowedSteps history.steps ∥₁ },
@@ -92,7 +92,7 @@ impl<P: ProofProcessor> Made<P> {
         self.own.is_some()
     }
 
-    /// Whether a step other than the end of a proof was made.
+    /// Whether a step other than the end of a proof has been made.
     pub fn has_begun(&self) -> bool
         ensures { result ≡ has_begun self.now.history.steps }
     {
@@ -176,7 +176,7 @@ impl<P: ProofProcessor> Made<P> {
         self.take_checked(bits, step, cut)
     }
 
-    /// Does the same as `take`, if there is a checker. This is a separate function because an error of the checker
+    /// Does the same as `take`, if there is a checker. This is a separate function because an error from the checker
     /// is large.
     #[inline(never)]
     fn take_checked(
@@ -210,8 +210,8 @@ impl<P: ProofProcessor> Made<P> {
         }
     }
 
-    /// Makes the checker, if any, announce what is pending without waiting for the next step. Fails if a step was made
-    /// that the checker has not received.
+    /// Makes the checker, if any, announce what is pending without waiting for the next step. Fails if the checker has
+    /// missed a step.
     pub fn take_delayed(&mut self) -> Result<(), CheckFault>
         ensures steps { self.new.history.steps ≡ self.old.history.steps }
         ensures listening { made_audience self.new ≡ made_audience self.old }
@@ -237,7 +237,7 @@ impl<P: ProofProcessor> Made<P> {
         }
     }
 
-    /// Returns the error of a listener, if any, and removes it.
+    /// Returns the error from a listener, if any, and removes it.
     pub fn take_complaint(&mut self) -> Option<anyhow::Error>
         ensures gives { result ≡ self.old.complaint }
         ensures same { self.new ≡ cleared_complaint self.old }

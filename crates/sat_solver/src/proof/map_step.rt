@@ -136,8 +136,8 @@ fn unit_of(parts: &Parts, globals: &[Var], lit: Lit) -> (Lit, ClauseHash)
     (map_lit(globals, lit), hash)
 }
 
-/// Replaces the content of `units` with the literals of the trail whose reason is a clause, over proof variables. Each
-/// unit has the hash of the clause that implies it.
+/// Replaces the content of `units` with the literals on the trail whose reasons are clauses, over proof variables. Each
+/// unit comes with the hash of the clause that implies it.
 pub fn collect_units(
     parts: &Parts,
     globals: &[Var],

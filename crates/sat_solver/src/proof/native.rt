@@ -28,7 +28,7 @@ fn write_width<W: CountedWrite>(
 /// Buffers a step if it has the same width as the previous step and is certain to fit. Returns whether the step
 /// was buffered.
 ///
-/// `widths` has the width of the previous step and that of this step.
+/// `widths` contains the width of the previous step and that of this step.
 #[inline(always)]
 pub fn try_write_at<W: CountedWrite>(
     writer: &mut StepWriter<W>,
@@ -46,8 +46,8 @@ pub fn try_write_at<W: CountedWrite>(
     writer.try_write(step)
 }
 
-/// Writes a step, preceded by its width if the width has changed. `widths` has the width of the previous step and that
-/// of this step.
+/// Writes a step, preceded by its width if the width has changed. `widths` contains the width of the previous step and
+/// that of this step.
 pub fn write_at<W: CountedWrite>(
     writer: &mut StepWriter<W>,
     widths: (HashBits, HashBits),

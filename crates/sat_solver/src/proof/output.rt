@@ -100,8 +100,8 @@ impl<W: CountedWrite> Output<W> {
         }
     }
 
-    /// Writes a step. `widths` has the width of the previous step and that of this step, to which its hashes are
-    /// shortened. DRAT lines are assembled in `text`.
+    /// Writes a step, whose hashes are shortened to its width. `widths` contains the width of the previous step and
+    /// that of this step. DRAT lines are assembled in `text`.
     #[inline(never)]
     pub fn write(
         &mut self,
@@ -120,7 +120,7 @@ impl<W: CountedWrite> Output<W> {
     }
 
     /// Buffers the bytes of a step if it has the same width as the previous step and they are certain to fit. Returns
-    /// whether the bytes were buffered, which DRAT lines never are. Never calls the writer.
+    /// whether the bytes were buffered; DRAT lines never are. Never calls the writer.
     #[inline(always)]
     pub fn try_write(&mut self, widths: (HashBits, HashBits), step: &ProofStep<'_>) -> bool
         ensures format { output_format self.new ≡ output_format self.old }

@@ -2,7 +2,7 @@
 ghost use Rattle.sat_solver.specs.session.Advancing.{LearnedAdvancesIn};
 ghost use Rattle.sat_solver.specs.session.FitLaws.{LearnedMay, ModelMay, LearnedIsNew, NothingFits};
 
-/// States that the step of a learned clause may be written.
+/// States that the step that derives a learned clause may be written.
 pub fn learned_may()
     ensures { LearnedMay }
 {}
@@ -12,7 +12,7 @@ pub fn model_may()
     ensures { ModelMay }
 {}
 
-/// States that a learned clause is new: if all its literals but the first are assumed to be false, unit propagation
+/// States that a learned clause is new. If all its literals but the first are assumed to be false, unit propagation
 /// with the units and the stored clauses neither assigns its first literal nor falsifies a clause.
 pub fn learned_is_new()
     ensures { LearnedIsNew }
@@ -23,7 +23,7 @@ pub fn nothing_fits()
     ensures { NothingFits }
 {}
 
-/// States that a learned clause is also new in the session: if all its literals but the first are assumed to be false,
+/// States that a learned clause is also new in the session. If all its literals but the first are assumed to be false,
 /// unit propagation with the session's units and clauses neither assigns its first literal nor falsifies a clause.
 pub fn learned_advances_in()
     ensures { LearnedAdvancesIn }

@@ -27,14 +27,15 @@ pub fn answers_are_right()
     ensures models { ModelsAreRight }
 {}
 
-/// States that steps that may be written with complete hashes may also be written with hashes shortened to any widths.
+/// States that steps that may be written with hashes of full width may also be written with hashes shortened to
+/// any widths.
 pub fn widths_are_free()
     ensures may { WidthsAreFree }
     ensures order { WidthsKeepOrder }
     ensures cuts { CutsAreFree }
 {}
 
-/// States that a solver's own checker without listeners never fails because of a listener.
+/// States that a solver's own checker, if it has no listeners, never fails because of one.
 pub fn never_fails_without_listeners<P: ProofProcessor>()
     ensures { NeverFailsWithoutListeners P.takes }
 {
@@ -54,7 +55,7 @@ pub fn named_answers_are_right()
     ensures unsat { NamedUnsatIsRight }
 {}
 
-/// States that the steps mean what the accepted clauses mean if no name was ever hidden.
+/// States that the steps mean what the accepted clauses mean if no name has ever been hidden.
 pub fn plain_steps_mean_clauses()
     ensures { NoneHiddenMeans }
 {}
@@ -74,7 +75,7 @@ pub fn lines_are_derived()
     ensures { DratIsRight }
 {}
 
-/// Worked examples: widths for numbers of clauses, a step that is counted, and DRAT lines.
+/// Worked examples: widths for certain numbers of clauses, the counting of a step, and DRAT lines.
 pub fn rows_of_proofs()
     ensures widths { WidthRows }
     ensures count { CountRow }

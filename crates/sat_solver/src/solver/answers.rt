@@ -28,9 +28,9 @@ impl<W: CountedWrite + Drop, P: ProofProcessor> Solver<W, P> {
 
     /// Returns a model, or `None` if there is none. A model has one literal for every name in use, in increasing order.
     ///
-    /// There is a model only after a `solve` that returned true, until a clause or assumptions are accepted. Names that
-    /// were introduced after this `solve` are false, except those that `observe_internal_vars` introduced, which have
-    /// the values of their variables. The solver can still be used after `OutOfMemory`.
+    /// There is a model only after a `solve` that returned true, and only until a clause or assumptions are accepted.
+    /// Names that were introduced after this `solve` are false, except those that `observe_internal_vars` introduced,
+    /// which have the values of their variables. The solver can still be used after `OutOfMemory`.
     pub fn model(&self, alloc: Global) -> Result<Option<Vec<Lit>>, SolverError>
         requires { IsSolver self.now }
         ensures model { IfOk result (λ o. MatchOption o (HasNone self.now) (λ lits. IsModel self.now lits.items)) }

@@ -1,4 +1,4 @@
-//! Sets the assumptions of later asks.
+//! Sets the assumptions for later asks.
 ghost use Rattle.std.specs.Prelude.{◌≡◌, true, false, OnOk, IfErr, IsErrOf};
 ghost use Rattle.sat_solver.specs.variables.VariableRoom.{HasVariablesFor, user_vars_in};
 ghost use Rattle.sat_solver.specs.cdcl.Going.{IsFault};
@@ -23,8 +23,8 @@ use sat_base::{CountedWrite, Lit};
 use sat_checker::ProofProcessor;
 
 impl<W: CountedWrite + Drop, P: ProofProcessor> Solver<W, P> {
-    /// Accepts the assumptions `lits` when the clauses are known to be unsatisfiable. The search does not receive the
-    /// assumptions. None of their names may have the mode witness.
+    /// Accepts the assumptions `lits` without passing them to the search. The clauses must be known to be
+    /// unsatisfiable, and none of the names in `lits` may have the mode witness.
     fn ask_known(&mut self, lits: &[Lit]) -> Result<(), Fault>
         requires whole { SolverInvariant self.old }
         requires unsat { self.old.state ≡ Unsat }
@@ -58,7 +58,7 @@ impl<W: CountedWrite + Drop, P: ProofProcessor> Solver<W, P> {
 
     /// Replaces the assumptions with `lits`, and introduces the names in `lits` from left to right.
     ///
-    /// The assumptions hold for every later `solve`, until the next `assume`. The answer is discarded even if the
+    /// The assumptions apply to every later `solve` until the next `assume`. The answer is discarded even if the
     /// assumptions are unchanged, unless the clauses alone are known to be unsatisfiable. Errors: `NotInDrat` if DRAT
     /// lines are written; `WitnessVariable` if a name in `lits` has the mode witness; `VariableLimit` if there is no
     /// variable for a name that would be introduced.

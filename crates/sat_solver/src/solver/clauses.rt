@@ -67,8 +67,8 @@ impl<W: CountedWrite + Drop, P: ProofProcessor> Solver<W, P> {
     /// Adds a clause, and introduces its names from left to right.
     ///
     /// A hidden name gets a new variable. A name that was never used is introduced together with all lower names that
-    /// were never used. Clauses can also be added after asks; a new clause discards the answer. Once the clauses alone
-    /// are known to be unsatisfiable, only the names of the clause are introduced. Errors: `NotInDrat` after the first
+    /// were never used. Clauses can also be added after asks, which discards the answer. Once the clauses alone are
+    /// known to be unsatisfiable, only the names of the clause are introduced. Errors: `NotInDrat` after the first
     /// `solve` if DRAT lines are written; `WitnessVariable` if a name in `lits` has the mode witness; `VariableLimit`
     /// if there is no variable for a name that would be introduced.
     pub fn add_clause(&mut self, lits: &[Lit]) -> Result<(), SolverError>

@@ -14,7 +14,7 @@ use crate::{SolverConfigUpdate, SolverError};
 use sat_base::CountedWrite;
 use sat_checker::ProofProcessor;
 
-/// Sets the decays of the search to those of the parameters, unless the clauses are known to be unsatisfiable.
+/// Sets the decays of the search to those in the parameters, unless the clauses are known to be unsatisfiable.
 fn hand_on<W: CountedWrite + Drop, P: ProofProcessor>(core: &mut Core<W, P>, state: State)
     requires holds { (state ≡ Unsat → ⊥) → PartsInvariant core.old.search.parts }
     requires decays { AreDecays core.old.config }
@@ -29,11 +29,11 @@ fn hand_on<W: CountedWrite + Drop, P: ProofProcessor>(core: &mut Core<W, P>, sta
 }
 
 impl<W: CountedWrite + Drop, P: ProofProcessor> Solver<W, P> {
-    /// Changes the parameters as `update` says. If one of its fields is out of range, returns `OutOfRange` and
+    /// Applies `update` to the parameters. If one of its fields is out of range, returns `OutOfRange` and
     /// changes nothing.
     ///
-    /// The new parameters apply to all later rounds; the answer is unchanged. A new `luby_restart_interval_scale` does
-    /// not change when the next restart is due, but only the gaps after that restart.
+    /// The new parameters apply to all later rounds; the answer is unchanged. A new `luby_restart_interval_scale`
+    /// changes only the gaps after the next restart, not when that restart is due.
     pub fn config(&mut self, update: &SolverConfigUpdate) -> Result<(), SolverError>
         requires { IsSolver self.old }
         ensures solver { IsSolver self.new }

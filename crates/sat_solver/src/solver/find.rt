@@ -1,4 +1,4 @@
-//! Runs rounds up to an answer, and writes the step of the answer.
+//! Runs rounds until there is an answer, and writes the step for the answer.
 ghost use Rattle.std.specs.Prelude.{◌≡◌, ◌<◌, IfOk, IfErr};
 ghost use Rattle.sat_solver.specs.schedule.Counting.{AnswersWithin, CountsOn, SpendsRounds, TakesRound, round_allowance};
 ghost use Rattle.sat_solver.specs.schedule.Solving.{values_in};
@@ -55,8 +55,8 @@ fn report<W: CountedWrite + Drop, P: ProofProcessor>(
     }
 }
 
-/// Runs rounds up to an answer, but at most as many as the parameters allow, and writes the answer's step. Returns the
-/// state that follows from the answer, or `None` if there is no answer.
+/// Runs rounds until there is an answer, but at most as many as the parameters allow, and writes the step for the
+/// answer. Returns the state that follows from the answer, or `None` if there is no answer.
 pub fn find_answer<W: CountedWrite + Drop, P: ProofProcessor>(
     core: &mut Core<W, P>,
     names: &mut Variables,

@@ -29,7 +29,7 @@ fn text_fault(error: DimacsError) -> SolverError
     }
 }
 
-/// Whether the solver has failed after `error`, which is the case only for `OutOfMemory`.
+/// Whether `error` makes the solver fail, which only `OutOfMemory` does.
 fn is_want(error: DimacsError) -> bool
     ensures { result ≡ is_solver_out_of_memory error }
 {
@@ -43,8 +43,8 @@ fn is_want(error: DimacsError) -> bool
 }
 
 impl<W: CountedWrite + Drop, P: ProofProcessor> Solver<W, P> {
-    /// Adds the clauses of a formula in order, up to the first that is refused, as if by one `add_clause` for each
-    /// clause. The clauses before a refused clause remain. The formula's variable count introduces no name.
+    /// Adds the clauses of a formula in order, as if by calling `add_clause` for each, and stops at the first that is
+    /// refused. The clauses before it remain. The formula's variable count introduces no name.
     pub fn add_formula(&mut self, formula: &CnfFormula) -> Result<(), SolverError>
         requires { IsSolver self.old }
         ensures solver { IsSolver self.new }
@@ -80,7 +80,7 @@ impl<W: CountedWrite + Drop, P: ProofProcessor> Solver<W, P> {
         Ok(())
     }
 
-    /// Adds the clauses of the text that `reader` provides. `parser` must not have received any text yet.
+    /// Adds the clauses of the text that `reader` provides. `parser` must not have received any text.
     fn add_text<R: CountedRead>(
         &mut self,
         parser: &mut DimacsParser,

@@ -20,7 +20,7 @@ pub fn solvers_are_judged<W: CountedWrite + Drop, P: ProofProcessor>(_solver: &S
     ensures { SolverMatchesSomeState _solver.now }
 {}
 
-/// States that a flushed target whose calls all succeeded has received the text of all steps since it was opened.
+/// States that a flushed target has received the text of all steps since it was opened, if all calls to it succeeded.
 pub fn flushed_targets_took_texts()
     ensures { FlushedIsText }
 {}

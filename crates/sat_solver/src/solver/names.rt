@@ -39,12 +39,11 @@ fn is_used(used: bool, users: &[Var]) -> bool
 impl<W: CountedWrite + Drop, P: ProofProcessor> Solver<W, P> {
     /// Hides a name, which is introduced first if it is not in use.
     ///
-    /// The variable of the name remains in the clauses, and the name can be introduced again, for a new variable.
-    /// A variable that no clause or assumption has used is deleted immediately, and so is one that, as a simplification
-    /// has found, no clause uses any more. Any other variable remains in use, at least until a later simplification
-    /// finds that no clause uses it. The answer is unchanged.
-    /// Errors: `AssumedVariable` if the name is assumed; `VariableLimit` if there is no variable for a name that
-    /// would be introduced.
+    /// The variable of the name remains in the clauses, and the name can be introduced again, for a new variable. A
+    /// variable that no clause or assumption has used is deleted immediately, and so is one that a simplification has
+    /// found to be no longer used by any clause. Any other variable remains in use, at least until a later
+    /// simplification finds that no clause uses it. The answer is unchanged. Errors: `AssumedVariable` if the name is
+    /// assumed; `VariableLimit` if there is no variable for a name that would be introduced.
     pub fn hide_var(&mut self, user: Var) -> Result<(), SolverError>
         requires { IsSolver self.old }
         ensures solver { IsSolver self.new }
@@ -92,9 +91,9 @@ impl<W: CountedWrite + Drop, P: ProofProcessor> Solver<W, P> {
 
     /// Sets the mode of a name to witness. If the name is not in use, it is introduced first.
     ///
-    /// From then on, clauses and assumptions that contain the name are refused. The answer is unchanged. Errors:
-    /// `AssumedVariable` if the name is assumed; `VariableLimit` if there is no variable for a name that would be
-    /// introduced.
+    /// From now on, clauses and assumptions that contain the name are refused. The answer is unchanged. Errors:
+    /// `AssumedVariable` if the name is assumed; `VariableLimit` if there is no variable for a name that would
+    /// be introduced.
     pub fn witness_var(&mut self, user: Var) -> Result<(), SolverError>
         requires { IsSolver self.old }
         ensures solver { IsSolver self.new }
@@ -143,11 +142,11 @@ impl<W: CountedWrite + Drop, P: ProofProcessor> Solver<W, P> {
         }
     }
 
-    /// Gives every hidden variable that is still in use a name with the mode witness. Returns the names.
+    /// Gives a name with the mode witness to every hidden variable that is still in use. Returns the names.
     ///
     /// Visits the variables in increasing order, and gives each the name that `new_var` would return. The answer is
     /// unchanged. If there is no hidden variable, this call does not prevent a proof from being opened. If memory runs
-    /// out, the solver has failed.
+    /// out, the solver fails permanently.
     pub fn observe_internal_vars(&mut self) -> Result<Vec<Var>, SolverError>
         requires { IsSolver self.old }
         ensures solver { IsSolver self.new }

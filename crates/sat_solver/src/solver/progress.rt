@@ -40,7 +40,7 @@ fn open_count(names: &Variables, values: &[Option<bool>]) -> u64
 }
 
 impl<W: CountedWrite + Drop, P: ProofProcessor> Solver<W, P> {
-    /// Returns the current number of rounds, of restarts, of variables without a value, and of clauses by kind.
+    /// Returns the current numbers of rounds, restarts, variables without a value, and clauses of each kind.
     /// Never allocates.
     ///
     /// After a failed call, only the numbers of rounds and restarts are exact. Once the clauses are known to be

@@ -22,13 +22,13 @@ pub struct ReturnedParts<W, P> {
 impl<W: CountedWrite + Drop, P: ProofProcessor> Solver<W, P> {
     /// Opens a proof: all further steps are written to `target` in the format `format`.
     ///
-    /// Returns `TooLate` if the solver has received a clause, a name, assumptions or an ask, or if a proof is open.
-    /// After an error, the target has been dropped. While DRAT lines are written, `assume` returns `NotInDrat`, and so
+    /// Returns `TooLate` if the solver has received a clause, a name, assumptions or an ask, or if a proof is open. If
+    /// an error is returned, the target is dropped. While DRAT lines are written, `assume` returns `NotInDrat`, and so
     /// does `add_clause` after the first `solve`.
     ///
-    /// DRAT lines list derived and deleted clauses, but not the added ones. Their literals are proof variables,
-    /// numbered from 1. Until a name is hidden, the variable of name n has the number n; afterwards the numbers may
-    /// differ.
+    /// DRAT lines list derived and deleted clauses, but not added ones. Their literals refer to proof variables, which
+    /// are numbered from 1. Until a name is hidden, the variable of name n has the number n; afterwards the numbers
+    /// may differ.
     pub fn write_proof(&mut self, target: W, format: ProofFormat) -> Result<(), SolverError>
         requires { IsSolver self.old }
         ensures solver { IsSolver self.new }
@@ -67,8 +67,8 @@ impl<W: CountedWrite + Drop, P: ProofProcessor> Solver<W, P> {
 
     /// Adds a listener to the solver's own checker, which is started if there is none.
     ///
-    /// Returns `TooLate` when `enable_self_checking` does. If memory runs out, the solver has failed. After an error,
-    /// the listener has been dropped.
+    /// Returns `TooLate` when `enable_self_checking` does. If memory runs out, the solver fails permanently. If an
+    /// error is returned, the listener is dropped.
     pub fn add_proof_processor(&mut self, processor: P) -> Result<(), SolverError>
         requires { IsSolver self.old }
         ensures solver { IsSolver self.new }
@@ -120,8 +120,8 @@ impl<W: CountedWrite + Drop, P: ProofProcessor> Solver<W, P> {
     /// Returns the listeners in the order in which they were added, and the target, even after a failure.
     ///
     /// After two contradictory units, the empty clause that follows from them is announced with the next step or the
-    /// next `solve`. If there was neither, the listeners have not been notified of the empty clause. The target is the
-    /// one that `into_target` would return.
+    /// next `solve`. If neither has followed, the listeners have not been notified of the empty clause. The target is
+    /// the one that `into_target` would return.
     pub fn into_processors(self) -> ReturnedParts<W, P>
         ensures target { GivesWriter (target_in W.seen self) (returned_writer W.seen result.target) }
         ensures front { ReturnsAcceptedPrefix W.seen result.target self }

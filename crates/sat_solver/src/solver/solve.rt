@@ -47,7 +47,7 @@ impl<W: CountedWrite + Drop, P: ProofProcessor> Solver<W, P> {
     /// Returns `Interrupted` if the rounds that the parameters allow for this call are exhausted, or if the number of
     /// rounds over all calls has reached 2^64-1. If neither a clause nor assumptions have been accepted since the last
     /// answer, returns that answer again, without running a round or making a step. By the time this call returns an
-    /// answer or `Interrupted`, it has flushed the open target, if any, and the solver's own checker, if any, has
+    /// answer or `Interrupted`, it has flushed the open target, if any. The solver's own checker, if any, has by then
     /// received all steps and announced everything that was pending.
     pub fn solve(&mut self) -> Result<bool, SolverError>
         requires { IsSolver self.old }

@@ -29,7 +29,7 @@ fn are_open(parts: &Parts, first: Lit, second: Lit) -> bool
 
 /// Writes the deletion of a binary clause if one of its variables has a value.
 ///
-/// The clause consists of `!lit` and the literal at position `at` of the list of `lit`. Every binary clause is in two
+/// The clause consists of `!lit` and the literal at position `at` in the list of `lit`. Every binary clause is in two
 /// lists, so the clause is skipped unless `!lit` is its lower literal.
 fn delete_pair<W: CountedWrite + Drop, P: ProofProcessor>(
     proof: &mut Proof<W, P>,
@@ -58,7 +58,7 @@ fn delete_pair<W: CountedWrite + Drop, P: ProofProcessor>(
     delete_satisfied(proof, &search.globals, &pair, &mut search.scratch.clause)
 }
 
-/// Calls `delete_pair` for every position of the list of `lit`.
+/// Calls `delete_pair` for every position in the list of `lit`.
 fn delete_pairs_of<W: CountedWrite + Drop, P: ProofProcessor>(
     proof: &mut Proof<W, P>,
     search: &mut Search,

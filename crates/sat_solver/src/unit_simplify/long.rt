@@ -18,7 +18,7 @@ use sat_checker::ProofProcessor;
 use sat_parts::parts::clauses::delete_long;
 use sat_store::ClauseRef;
 
-/// Deletes a long clause that has a true literal, and writes the step of the deletion.
+/// Deletes a long clause that has a true literal, and writes the step for the deletion.
 fn delete_true<W: CountedWrite + Drop, P: ProofProcessor>(
     proof: &mut Proof<W, P>,
     search: &mut Search,
@@ -67,7 +67,7 @@ fn simplify_clause<W: CountedWrite + Drop, P: ProofProcessor>(
     }
 }
 
-/// Simplifies every live long clause in the order of the list of clauses, including redundant ones. Afterwards, no
+/// Simplifies every live long clause, including redundant ones, in the order of the list of clauses. Afterwards, no
 /// literal of a live long clause has a value.
 pub fn simplify_clauses<W: CountedWrite + Drop, P: ProofProcessor>(
     proof: &mut Proof<W, P>,

@@ -1,4 +1,4 @@
-//! Writes units of level 0, and removes them from the trail.
+//! Writes units at level 0, and removes them from the trail.
 ghost use Rattle.std.specs.Prelude.{◌≡◌, ◌+◌, ◌<◌, ◌≤◌, length};
 ghost use Rattle.sat_solver.specs.proof.ProofView.{HasAllowedSteps, session_of};
 ghost use Rattle.sat_parts.specs.parts.Round.{UnitsHaveNoReason, IsBased};
@@ -17,7 +17,7 @@ use sat_checker::ProofProcessor;
 use sat_parts::Parts;
 use sat_parts::parts::units::clear_units;
 
-/// Writes the literals of the trail whose reason is a clause, as units. The search must be at level 0.
+/// Writes, as units, the literals on the trail whose reasons are clauses. The search must be at level 0.
 pub fn write_units<W: CountedWrite + Drop, P: ProofProcessor>(
     proof: &mut Proof<W, P>,
     parts: &Parts,

@@ -1,4 +1,4 @@
-//! The steps of clauses that are deleted or strengthened.
+//! The steps that delete or strengthen clauses.
 ghost use Rattle.std.specs.Prelude.{◌≡◌, ◌&&◌, true, nat_lt};
 ghost use Rattle.sat_base.specs.steps.StepViews.{deletion_of};
 ghost use Rattle.sat_base.specs.steps.Steps.{Simplified};
@@ -23,7 +23,7 @@ pub fn deletion_for(redundant: bool, other: DeleteClauseProof) -> DeleteClausePr
     other
 }
 
-/// Returns whether the step that strengthens a clause to `len` literals says that the result is redundant: only if the
+/// Whether the step that strengthens a clause to `len` literals marks the result as redundant. It does exactly when the
 /// clause was redundant and `len` is at least three.
 fn left_redundant(redundant: bool, len: usize) -> bool
     ensures { result ≡ (redundant && nat_lt 2 len) }

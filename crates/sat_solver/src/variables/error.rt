@@ -1,11 +1,11 @@
-//! Why a call over names failed.
+//! Why an operation on names failed.
 
 use crate::proof::kept::Kept;
 use crate::proof::made::CheckFault;
 use std::alloc::{AllocError, AllocFailed};
 use std::io;
 
-/// Why a call over names failed.
+/// Why an operation on names failed.
 #[derive(Drop)]
 pub enum NameError {
     /// No variable is left.

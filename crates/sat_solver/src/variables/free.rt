@@ -11,8 +11,8 @@ use std::alloc::{AllocError, Global};
 /// A set of indices below a bound, as a binary tree of flags in one list.
 ///
 /// Node 1 is the root, and the children of node k are nodes 2 k and 2 k + 1. The leaves, one for every index, are the
-/// second half of the list. The flag of a leaf says whether its index is in the set, and the flag of any other node
-/// says whether the flag of one of its children is set.
+/// second half of the list. The flag of a leaf says whether its index is in the set. The flag of any other node says
+/// whether the flag of at least one of its children is set.
 #[derive(Drop)]
 pub struct FreeIndices {
     nodes: Vec<bool>,
@@ -83,7 +83,8 @@ pub(crate) fn widen(nodes: &mut Vec<bool>, count: usize) -> Result<(), AllocErro
     Ok(())
 }
 
-/// Copies the leaves of a tree of `room` leaves to where the first `room` leaves of a tree of twice that size are.
+/// Copies the leaves of a tree with `room` leaves to the positions of the first `room` leaves of a tree twice
+/// that size.
 fn copy_leaves(nodes: &mut Vec<bool>, room: usize)
     requires size { length nodes.old.items ≡ 4 * room }
     ensures { CopiesLeaves nodes.old.items nodes.new.items room }

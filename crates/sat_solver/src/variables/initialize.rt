@@ -1,4 +1,4 @@
-//! Adding the search's data for new indices.
+//! Adds the search's data for new indices.
 ghost use Rattle.std.specs.Prelude.{ℕ, ◌≡◌, ◌<◌, ◌≤◌, None, [], ◌∷◌, OnOk, length};
 ghost use Rattle.std.specs.List.{AllByRecursion};
 ghost use Rattle.sat_base.specs.values.Literals.{var_limit};
@@ -15,8 +15,8 @@ use sat_parts::parts::grow;
 use sat_parts::parts::variables::{reset_activity, use_variable, use_with_unit};
 use std::alloc::AllocError;
 
-/// Adds an index at level 0. If its variable has a unit, the unit becomes its value; otherwise it may be picked, with
-/// activity 0. Its saved phase is the last value of the index.
+/// Adds an index at level 0. If its variable has a unit, the index takes the value of the unit; otherwise it may be
+/// picked, with activity 0. Its saved phase is the last value of the index.
 fn take_index(parts: &mut Parts, given: &Given)
     requires holds { PartsInvariant parts.old }
     requires bottom { parts.old.trail.starts ≡ [] }
@@ -70,8 +70,8 @@ fn count_with(count: usize, given: &[Given]) -> usize
     all
 }
 
-/// Adds the indices that proof variables were given, at level 0: new ones, or released ones. `globals` has the proof
-/// variable that each index has, or had last.
+/// Adds, at level 0, the indices that proof variables were given, whether these are new or were released before.
+/// `globals` contains the proof variable that each index belongs to, or belonged to last.
 pub fn new_indices(search: &mut Search, globals: &[Var], given: &[Given]) -> Result<(), AllocError>
     requires holds { PartsInvariant search.old.parts }
     requires bottom { search.old.parts.trail.starts ≡ [] }

@@ -14,7 +14,7 @@ use sat_checker::ProofProcessor;
 
 /// A receiver of proof steps. It receives the steps one after another.
 pub trait StepLog: Drop {
-    /// The steps so far, the newest first.
+    /// The steps so far, newest first.
     ghost steps: { Self → List Step };
 
     /// The invariant between steps.

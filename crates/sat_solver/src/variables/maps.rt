@@ -8,7 +8,7 @@ use sat_base::Var;
 use sat_store::{SamplingMode, VarBiMap, VarData};
 use std::alloc::AllocError;
 
-/// Maps `from` to `into`, and `into` back to `from`. Neither variable may be mapped yet.
+/// Maps `from` to `into`, and `into` back to `from`. Neither variable may already be mapped.
 pub(crate) fn link(map: &mut VarBiMap, from: Var, into: Var) -> Result<(), AllocError>
     requires from_unmapped { target map.old.fwd from ≡ None }
     requires into_unmapped { target map.old.bwd into ≡ None }

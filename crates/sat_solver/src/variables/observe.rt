@@ -52,8 +52,8 @@ fn observe_var<W: StepLog>(
     Ok(user)
 }
 
-/// Gives a name and the mode witness to every hidden variable in use, by increasing variable. Replaces the content of
-/// `users` with these names.
+/// Gives a name and the mode witness to every hidden variable in use, in increasing order of the variables. Replaces
+/// the content of `users` with these names.
 pub fn observe_internal_vars<W: StepLog>(
     variables: &mut Variables,
     writer: &mut W,

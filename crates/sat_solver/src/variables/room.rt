@@ -17,8 +17,8 @@ fn left_count(variables: &Variables) -> usize
     Var::max_count() - live
 }
 
-/// Returns the lowest name that is above all names that were ever used, of which there are `used`, and above all names
-/// in `lits`.
+/// Returns the lowest name above all names in `lits` and all names that have ever been used. `used` is the number of
+/// the latter.
 fn name_reach(used: usize, lits: &[Lit]) -> usize
     requires { used ≤ var_limit }
     ensures is { result ≡ reach used (user_vars_in lits.now) }
@@ -44,7 +44,7 @@ fn has_name(lits: &[Lit], user: Var) -> bool
     false
 }
 
-/// Returns `count`, plus one if the name of the literal at position `at` was used and is not in use.
+/// Returns `count`, plus one if the name of the literal at position `at` is hidden.
 ///
 /// The name is not counted if a later literal has the same name.
 fn count_hidden_name(variables: &Variables, lits: &[Lit], at: usize, count: usize) -> usize
@@ -65,7 +65,7 @@ fn count_hidden_name(variables: &Variables, lits: &[Lit], at: usize, count: usiz
     count + 1
 }
 
-/// Returns how many names in `lits` were used and are not in use. Each name is counted once.
+/// Returns the number of hidden names in `lits`. Each name is counted once.
 fn count_hidden(variables: &Variables, lits: &[Lit]) -> usize
     requires { AreTidy variables.now }
     ensures { result ≡ hidden_count variables.now (user_vars_in lits.now) }

@@ -1,4 +1,4 @@
-//! Gives indices of the search to variables and removes them, and writes the steps.
+//! Gives variables indices of the search, removes such indices, and writes the steps.
 ghost use Rattle.std.specs.Prelude.{◌≡◌, false, Some, None, IfOk, IfErr, OnOk};
 ghost use Rattle.sat_solver.specs.session.Session.{session_after};
 ghost use Rattle.sat_solver.specs.variables.Variables.{data_at, solver_of, IsUnitOf, IsInNoNonUnitClause};

@@ -15,7 +15,7 @@ use std::error::Error;
 use std::fmt;
 use std::marker::Model;
 
-/// The number of words of a clause before its literals.
+/// The number of words that precede a clause's literals.
 const HEADER_LEN: usize = 3;
 
 /// A reference to a clause in a `ClauseAlloc`. Clauses that were added later have greater references.
@@ -48,7 +48,7 @@ impl ClauseRef {
 /// Why a clause was not stored.
 #[derive(Clone, Copy, Debug, PartialEq, Eq)]
 pub enum StoreError {
-    /// The buffer has more than 2^32 - 1 words, so that references can't represent the next offset.
+    /// The buffer has more than 2^32 - 1 words, so a reference can't represent the next offset.
     StoreFull,
     /// An allocation failed.
     OutOfMemory,

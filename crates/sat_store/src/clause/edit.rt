@@ -78,7 +78,7 @@ impl<'a> ClauseMut<'a> {
         self.header().mark()
     }
 
-    /// Whether the clause was used since this flag was last cleared.
+    /// Whether the clause has been used since this flag was last cleared.
     pub fn active(&self) -> bool
         requires { IsViewOfClause self.now }
         ensures { result ≡ (header_there self.now).active }

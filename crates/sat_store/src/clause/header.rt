@@ -134,7 +134,7 @@ impl ClauseHeader {
         self.flags % 4 != 0
     }
 
-    /// Whether the clause is marked. Passes over all clauses use this mark.
+    /// Whether the clause is marked. The mark is for use in passes over all clauses.
     pub fn mark(&self) -> bool
         ensures { result ≡ self.now.mark }
     {
@@ -148,7 +148,7 @@ impl ClauseHeader {
         self.flags = self.flags / 16 * 16 + u32::from(mark) * 8 + self.flags % 8;
     }
 
-    /// Whether the clause was used since this flag was last cleared.
+    /// Whether the clause has been used since this flag was last cleared.
     pub fn active(&self) -> bool
         ensures { result ≡ self.now.active }
     {
@@ -178,7 +178,7 @@ impl ClauseHeader {
         self.flags = self.flags / 1024 * 1024 + kept * 16 + self.flags % 16;
     }
 
-    /// Returns the activity, which measures how much the clause was used, on the scale of the current bump.
+    /// Returns the activity, which measures how much the clause has been used, on the scale of the current bump.
     pub fn activity(&self) -> u32
         ensures { result ≡ self.now.activity }
     {

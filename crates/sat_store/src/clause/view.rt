@@ -1,4 +1,4 @@
-//! Views of a clause, for reading. They borrow from the buffer.
+//! Read-only views of a clause, which borrow from the buffer.
 ghost use Rattle.std.specs.Prelude.{◌≡◌, ◌<◌, ◌*◌, List, ℕ, [], length, slice_index, drop, IsTrue, ◌↔◌};
 ghost use Rattle.std.specs.List.{All};
 ghost use Rattle.std.specs.Iterator.{at_most};
@@ -11,10 +11,10 @@ use sat_base::Lit;
 use std::iter::FusedIterator;
 use std::marker::Model;
 
-/// The number of words of a clause before its literals.
+/// The number of words that precede a clause's literals.
 const HEADER_LEN: usize = 3;
 
-/// A view of a clause, for reading. Contracts see the header and the literals of the clause.
+/// A read-only view of a clause. Contracts see the header and the literals of the clause.
 #[derive(Drop)]
 pub struct Clause<'a> {
     words: &'a [u32],
@@ -58,7 +58,7 @@ impl<'a> Clause<'a> {
     }
 }
 
-/// A view of the literals of a clause, for reading. Contracts see the list of the literals.
+/// A read-only view of a clause's literals. Contracts see the list of literals.
 #[derive(Drop)]
 pub struct Lits<'a> {
     words: &'a [u32],
@@ -84,7 +84,7 @@ impl<'a> Lits<'a> {
         Lits { words: &[] }
     }
 
-    /// Returns the literals after the first one. There must be a first one.
+    /// Returns the literals after the first one. There must be at least one.
     pub fn without_first(&self) -> Lits<'a>
         requires { 0 < length self.now }
         ensures { result ≡ drop 1 self.now }

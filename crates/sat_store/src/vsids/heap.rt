@@ -42,7 +42,7 @@ pub(super) fn exchange(heap: &mut Vec<Entry>, positions: &mut Vec<u32>, i: usize
 
 /// Whether `a` comes before `b`: the activity of `a` is higher, or the activities are equal and the index of `a`
 /// is lower.
-#[inline(always)] // each step through the heap asks this once or more
+#[inline(always)] // called at least once for each step through the heap
 fn is_above(a: Entry, b: Entry) -> bool
     requires first { a.var < var_limit }
     requires second { b.var < var_limit }
@@ -52,7 +52,7 @@ fn is_above(a: Entry, b: Entry) -> bool
 }
 
 /// Whether an entry comes before the parent of a position.
-#[inline(always)] // each step up asks this
+#[inline(always)] // called at each step up
 fn goes_up(heap: &[Entry], entry: Entry, at: usize) -> bool
     requires listed { HoldsVariables heap.now }
     requires var { entry.var < var_limit }
@@ -83,7 +83,7 @@ pub(super) fn sift_up(heap: &mut Vec<Entry>, positions: &mut Vec<u32>, available
     put(heap, positions, hole, entry);
 }
 
-/// Returns the child of a position that comes before the other children. The position must have a child.
+/// Returns the position of that child of `at` that comes before the others in the heap's order. There must be a child.
 #[inline(always)] // called at each step down
 fn first_child(heap: &[Entry], available: usize, at: usize) -> usize
     requires listed { HoldsVariables heap.now }
@@ -109,7 +109,8 @@ fn first_child(heap: &[Entry], available: usize, at: usize) -> usize
     child
 }
 
-/// Returns the child of a position that comes before the other children, if it also comes before `entry`.
+/// Returns the position that `first_child` returns, if its entry comes before `entry`; otherwise, or if `at` has no
+/// child, returns `None`.
 #[inline(always)] // called at each step down
 fn child_above(heap: &[Entry], available: usize, entry: Entry, at: usize) -> Option<usize>
     requires listed { HoldsVariables heap.now }
@@ -169,7 +170,7 @@ pub(super) fn heapify(heap: &mut Vec<Entry>, positions: &mut Vec<u32>, available
     }
 }
 
-/// Removes the variable at a position from the heap, so that there is one less available variable.
+/// Removes the variable at a position from the heap, so that there is one fewer available variable.
 pub(super) fn take_out(heap: &mut Vec<Entry>, positions: &mut Vec<u32>, available: usize, at: usize)
     requires heap { IsHeap heap.old.items positions.old.items available }
     requires at { at < available }
@@ -190,8 +191,8 @@ pub(super) fn take_out(heap: &mut Vec<Entry>, positions: &mut Vec<u32>, availabl
     sift_down(heap, positions, last, at);
 }
 
-/// Inserts the variable at position `at`, which must be after the heap, into the heap, so that there is one more
-/// available variable.
+/// Inserts the variable at position `at` into the heap, so that there is one more available variable. The position must
+/// be after the heap.
 pub(super) fn put_in(heap: &mut Vec<Entry>, positions: &mut Vec<u32>, available: usize, at: usize)
     requires heap { IsHeap heap.old.items positions.old.items available }
     requires following { available ≤ at }
