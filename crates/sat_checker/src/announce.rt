@@ -1,5 +1,5 @@
-//! The announcements of accepted steps, which are noted while a step is checked, and their transcripts, which use the
-//! user's variable names.
+//! The announcements of accepted steps, which are noted while each step is being checked, and their transcripts, which
+//! use the user's variable names.
 
 pub mod announcement;
 pub(crate) mod announcing;

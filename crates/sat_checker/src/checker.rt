@@ -25,7 +25,7 @@ use sat_base::{Lit, ProofStep, Var};
 use std::alloc::Global;
 
 /// A checker. It receives the clauses of a formula and the steps of a proof one after another, and notifies its
-/// processors and transcripts of the announcements. The checker has failed once it refuses a step, runs out of memory,
+/// processors and transcripts of the announcements. A checker fails when it refuses a step, runs out of memory,
 /// exhausts a counter, or gets an error from a listener. From then on, every call that would add or check something
 /// returns `HasFailed`.
 #[derive(Drop)]
@@ -35,7 +35,7 @@ pub struct Checker<P: ProofProcessor = Nobody, T: ProofTranscriptProcessor = Nob
 }
 
 impl Checker<Nobody, Nobody> {
-    /// Creates a checker without listeners, which has accepted no step yet. Does not allocate.
+    /// Creates a checker that has no listeners and has accepted no steps yet. Does not allocate.
     pub fn new(alloc: Global) -> Checker<Nobody, Nobody>
         ensures valid { HasAccepted (kernel_of result) [] }
         ensures goes_on { kernel_has_failed (kernel_of result) ≡ false }
@@ -47,7 +47,7 @@ impl Checker<Nobody, Nobody> {
     }
 
     /// Checks the next step, and accepts it if it passes. Gives the same verdict as `self_check_step`, but notifies no
-    /// listener and returns a small error.
+    /// listeners and returns a smaller error.
     pub fn accept_step(&mut self, step: &ProofStep<'_>) -> Result<(), StepRefusal>
         ensures judges { kernels.ChecksStep (kernels.answer_of result)
             (kernel_of self.old) (step_of step.now) (kernel_of self.new) }
@@ -61,7 +61,7 @@ impl Checker<Nobody, Nobody> {
 
 impl<P: ProofProcessor, T: ProofTranscriptProcessor> Checker<P, T> {
     /// Creates a checker, as `new` does, for processors of type `P` and transcripts of type `T`. The checker has no
-    /// listener yet.
+    /// listeners yet.
     pub fn notifying(alloc: Global) -> Checker<P, T>
         ensures valid { HasAccepted (kernel_of result) [] }
         ensures goes_on { kernel_has_failed (kernel_of result) ≡ false }
@@ -92,7 +92,7 @@ impl<P: ProofProcessor, T: ProofTranscriptProcessor> Checker<P, T> {
     }
 
     /// Adds a processor, which is notified of all announcements from now on. If memory runs out, the processor is
-    /// dropped, and the checker has failed.
+    /// dropped, and the checker fails.
     pub fn add_processor(&mut self, processor: P) -> Result<(), CheckerError>
         ensures { AddsListener result (kernel_of self.old) (kernel_of self.new)
             (listeners_of self.old.processing) (listeners_of self.new.processing)
@@ -111,7 +111,7 @@ impl<P: ProofProcessor, T: ProofTranscriptProcessor> Checker<P, T> {
     }
 
     /// Adds a transcript, which is notified of all transcript steps from now on. If memory runs out, the transcript is
-    /// dropped, and the checker has failed.
+    /// dropped, and the checker fails.
     pub fn add_transcript(&mut self, transcript: T) -> Result<(), CheckerError>
         ensures { AddsListener result (kernel_of self.old) (kernel_of self.new)
             (listeners_of self.old.processing) (listeners_of self.new.processing)
@@ -141,7 +141,7 @@ impl<P: ProofProcessor, T: ProofTranscriptProcessor> Checker<P, T> {
     }
 
     /// Adds a clause of the formula. Unless unsat is recorded, refuses a clause that contains a hidden variable or a
-    /// witness. A refused clause changes nothing.
+    /// witness variable. A refused clause changes nothing.
     pub fn add_clause(&mut self, clause: &[Lit]) -> Result<(), CheckerError>
         ensures checks { ChecksClause (HearsEach P.takes T.reads)
             result (seen_of self.old) clause.now (seen_of self.new) }
@@ -190,14 +190,14 @@ impl<P: ProofProcessor, T: ProofTranscriptProcessor> Checker<P, T> {
         self.kernel.state.formula.status.conflict.is_none()
     }
 
-    /// Whether `End` was accepted.
+    /// Whether `End` has been accepted.
     pub fn ended(&self) -> bool
         ensures { (steps : List Step) → HasAccepted (kernel_of self.now) steps → result ≡ (ready_after steps).ended }
     {
         self.kernel.records.ended
     }
 
-    /// Whether a `DeleteVar` was accepted.
+    /// Whether a `DeleteVar` has been accepted.
     pub fn var_deleted(&self) -> bool
         ensures { (steps : List Step) → HasAccepted (kernel_of self.now) steps → result ≡ (ready_after steps).var_deleted }
     {

@@ -1,4 +1,4 @@
-//! Errors of a checker.
+//! The errors that a checker returns.
 
 use crate::store::StoreError;
 use sat_base::DimacsError;
@@ -13,7 +13,7 @@ pub enum CheckerError {
     /// A read failed, or 2^48 reads were not enough.
     #[error("the proof can't be read")]
     IoError,
-    /// The proof's text contains a byte with which no step can continue.
+    /// The proof's text contains a byte that can't begin or continue a step.
     #[error("the proof's text is no list of steps")]
     ParseError,
     /// A step or a clause was refused.
@@ -25,10 +25,10 @@ pub enum CheckerError {
     /// Memory ran out.
     #[error("out of memory")]
     OutOfMemory,
-    /// The last id, 2^64-2, was already assigned, or a clause was already stored 2^64-1 times.
+    /// The last id, 2^64-2, has already been assigned, or a clause is already stored 2^64-1 times.
     #[error("a counter is at its end")]
     CounterEnd,
-    /// The checker has failed in an earlier call.
+    /// The checker failed in an earlier call.
     #[error("the checker has failed before")]
     HasFailed,
 }
@@ -47,10 +47,10 @@ impl From<StoreError> for CheckerError {
     }
 }
 
-/// Why not all of a formula's text was added.
+/// Why the text of a formula was not added in full.
 #[derive(Debug, Drop, Error)]
 pub enum CheckerDimacsError {
-    /// The text is malformed, exceeds a limit or can't be read, or memory ran out while it was read.
+    /// The text is malformed, exceeds a limit or can't be read, or memory ran out while it was being read.
     #[error("{0}")]
     Dimacs(DimacsError),
     /// The checker did not accept a clause.

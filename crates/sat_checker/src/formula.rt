@@ -49,7 +49,7 @@ pub(crate) struct Formula {
     pub(crate) status: Status,
     /// Marks on the literals of a model or of a clause.
     pub(crate) marks: Assigned,
-    /// The notes of the last propagation check.
+    /// The notes on the last propagation check.
     pub(crate) passed: Passed,
 }
 
@@ -76,9 +76,9 @@ impl Formula {
         self.store.file(looks);
     }
 
-    /// Checks the clause of `literals`, or of their negations if `negate` is true, by propagation over the clauses with
-    /// the hashes `hashes`. The result does not depend on the ids of clauses and units. If `hears` is true, the notes
-    /// on the check are kept for a listener.
+    /// Checks the clause that consists of `literals`, or of their negations if `negate` is true, by propagation over
+    /// the clauses with the hashes in `hashes`. The result does not depend on the ids of clauses and units. If `hears`
+    /// is true, the notes on the check are kept for a listener.
     pub fn check(
         &mut self,
         literals: &[Lit],
@@ -89,7 +89,7 @@ impl Formula {
     ) -> Result<bool, AllocError>
         ensures exact { IfOk result (λ passes. (f : Stored) → ChecksAs self.old f
             → IsTrue passes ↔ PassesByHashes f (signed negate literals.now) hashes.now) }
-        // Memory does not run out, since there is room for the literals of all stored clauses.
+        // Memory does not run out, because there is room for the literals of all stored clauses.
         ensures short { OnErr result ((f : Stored) → ChecksAs self.old f → ⊥) }
         ensures rest { ChecksBeside self.old self.new }
         ensures looks { LooksOver (ChecksAs self.old) (λ f. length hashes.now * literal_count f) looks.old looks.new }
@@ -186,7 +186,7 @@ impl Formula {
         make_room_for(&mut self.marks, literals)
     }
 
-    /// Stores a clause of two literals or more. Returns what this changes.
+    /// Stores a clause of two or more literals. Returns what this changes.
     fn store_long(
         &mut self,
         redundant: bool,
@@ -210,7 +210,8 @@ impl Formula {
         }
     }
 
-    /// Stores the clause with the sorted literals `literals`, without repeats. Returns what this changes.
+    /// Stores the clause with the literals `literals`, which must be sorted and must not repeat. Returns what
+    /// this changes.
     pub fn store_canonical(
         &mut self,
         redundant: bool,
@@ -291,7 +292,7 @@ impl Formula {
     }
 
     /// Checks the unit `lit` by propagation over the clauses with the hash `hash`, and stores the unit if it passes.
-    /// Returns whether the unit passes. Returns an error only if the unit would pass.
+    /// Returns whether the unit passes. Returns an error only if the unit would otherwise pass.
     fn store_checked(
         &mut self,
         lit: Lit,
@@ -332,7 +333,7 @@ impl Formula {
             .pass_in_turn(&self.store, units, &mut self.passed, looks)
     }
 
-    /// Returns the error `fault`, which occurred at the first of the units, unless a later unit is refused.
+    /// Returns the error `fault`, which occurred at the first of the units, or false if a later unit is refused.
     fn fail_unless_refused(
         &mut self,
         fault: StoreError,
@@ -381,8 +382,9 @@ impl Formula {
         Ok(true)
     }
 
-    /// Removes one count of the clause with the sorted literals `literals`: a redundant count if `redundant` is true,
-    /// and an irredundant count otherwise. Returns whether the clause had such a count.
+    /// Subtracts one from a count of the clause with the sorted literals `literals`: from the redundant count if
+    /// `redundant` is true, and from the irredundant count otherwise. Returns false if the clause is not stored or this
+    /// count is zero.
     fn take_count(&mut self, redundant: bool, literals: &[Lit], looks: &mut Looks) -> bool
         ensures decides { (f : Stored) → RepresentsFormula self.old f
             → TakesCount result redundant literals.now f (RepresentsFormula self.new (with_less redundant literals.now f)) }

@@ -15,7 +15,7 @@ pub struct ClauseHasher {
 }
 
 impl ClauseHasher {
-    /// Creates a hasher that keeps `bits` bits of every hash, without solver names.
+    /// Creates a hasher that has no solver names, and keeps `bits` bits of every hash.
     pub fn new(alloc: Global, bits: HashBits) -> ClauseHasher
         ensures width { width_of result ≡ bits }
         ensures names { (v : ℕ) → solver_name_of result v ≡ None }

@@ -9,17 +9,17 @@ use sat_base::ProofStep;
 
 /// Checks the steps of a proof one at a time, as a solver emits them.
 pub trait SelfChecker {
-    /// Relates the state before a call of `self_check_step`, the step, the result, and the state after the call.
+    /// Relates the state before a call to `self_check_step`, the step, the result, and the state after the call.
     ghost checks: { Self → Step → Result (Unit {0}) ErrorOfChecker → Self → Type 0 };
 
-    /// Relates the state before a call of `self_check_delayed_steps`, the result, and the state after the call.
+    /// Relates the state before a call to `self_check_delayed_steps`, the result, and the state after the call.
     ghost settles: { Self → Result (Unit {0}) ErrorOfChecker → Self → Type 0 };
 
     /// Checks the next step, and accepts it if it passes.
     fn self_check_step(&mut self, step: &ProofStep<'_>) -> Result<(), CheckerError>
         ensures { checks self.old (step_of step.now) result self.new };
 
-    /// If a unit conflict is pending, gives its empty clause an id, as the check of the next step would do first.
+    /// If a unit conflict is pending, gives its empty clause an id, as `self_check_step` would do first.
     fn self_check_delayed_steps(&mut self) -> Result<(), CheckerError>
         ensures { settles self.old result self.new };
 }

@@ -26,7 +26,7 @@ use crate::variables::Variables;
 use sat_base::ProofStep;
 use std::alloc::Global;
 
-/// Returns the checker's error for an error that occurred while listeners were notified.
+/// Returns the checker's error for an error that occurred while listeners were being notified.
 fn fault(error: ProcessingError) -> CheckerError
     ensures { result ≡ fault_of error }
 {
@@ -38,8 +38,8 @@ fn fault(error: ProcessingError) -> CheckerError
     }
 }
 
-/// Returns the variable whose name or mode the step may change, with its current data. Without a listener,
-/// returns `None`.
+/// Returns the variable whose name or mode the step may change, with its current data. Returns `None` if there is no
+/// such variable, or no listener.
 fn changed(variables: &Variables, step: &ProofStep<'_>, hears: bool) -> Option<Was>
     ensures { IsTrue hears → was_of result ≡ changed_by (variable_at variables.now) (step_of step.now) }
 {
@@ -102,17 +102,17 @@ fn notify_news<O: ProofProcessor, P: ProofProcessor, T: ProofTranscriptProcessor
 /// Why a step is not accepted when it is checked without notifying listeners.
 #[derive(Clone, Copy, Drop)]
 pub enum StepRefusal {
-    /// The checker has failed in an earlier call.
+    /// The checker failed in an earlier call.
     HasFailed,
     /// The step was refused.
     CheckFailed,
     /// Memory ran out.
     OutOfMemory,
-    /// The last id, 2^64-2, was already assigned, or a clause was already stored 2^64-1 times.
+    /// The last id, 2^64-2, has already been assigned, or a clause is already stored 2^64-1 times.
     CounterEnd,
 }
 
-/// Returns the refusal for an error of the store.
+/// Returns the refusal for an error from the store.
 fn refusal(error: StoreError) -> StepRefusal
     ensures { step_error result ≡ failure_of error }
 {
@@ -135,7 +135,7 @@ pub(crate) struct Kernel {
 }
 
 impl Kernel {
-    /// Creates a kernel that has accepted no step yet. Does not allocate.
+    /// Creates a kernel that has accepted no steps yet. Does not allocate.
     pub fn new(alloc: Global) -> Kernel
         ensures valid { HasAccepted result [] }
         ensures goes_on { kernel_has_failed result ≡ false }
@@ -361,7 +361,7 @@ impl Kernel {
         if !hears {
             return Ok(());
         }
-        // Without an announcement, `notify` is not called.
+        // If there is nothing to announce, `notify` is not called.
         if self.notes.news.is_empty() {
             return Ok(());
         }

@@ -1,4 +1,4 @@
-//! Laws about announcements. Every law is the contract of a function that does nothing.
+//! Laws about announcements. Each law is the contract of a function that does nothing.
 ghost use Rattle.sat_checker.specs.announcements.Promises.{ConflictIsAnnounced, ConflictIsFollowedBackwards};
 ghost use Rattle.sat_checker.specs.announcements.Promises.{DeletionsRest, IdsAreAnnounced, PropagationsInTurn};
 ghost use Rattle.sat_checker.specs.announcements.Promises.{SimplifiedIsAnnounced, TautologiesRestOnNothing};
@@ -29,8 +29,8 @@ pub fn propagations_run_to_conflict()
     ensures deleted { DeletionsRest }
 {}
 
-/// States that the ids of stored clauses were announced, and so were the ids to which the announcements of the empty
-/// clause of a conflict and of a simplified deletion refer.
+/// States that the ids of stored clauses were announced, as were the ids that are referred to by the announcements of a
+/// conflict's empty clause and of a simplified deletion.
 pub fn ids_are_announced()
     ensures stored { IdsAreAnnounced }
     ensures delayed { ConflictIsAnnounced }

@@ -1,5 +1,5 @@
-//! Laws about when a clause passes, how every step changes what is stored, and what always holds for it. Every law is
-//! the contract of a function that does nothing.
+//! Laws about when a clause passes, how each step changes what is stored, and what always holds for it. Each law is the
+//! contract of a function that does nothing.
 ghost use Rattle.sat_checker.specs.FewBytes.{IdsWithinBytes, NoneIsSpent};
 ghost use Rattle.sat_checker.specs.Invariants.{AllClausesHold, AlwaysOrderly, AlwaysTidy, ContentsAreSettled};
 ghost use Rattle.sat_checker.specs.Invariants.{ContentsFollow, ContentsOfSteps, CountedIsStored, DerivedIsLast};
@@ -17,7 +17,8 @@ pub fn named_clauses_pass()
     ensures order { HashOfAnyOrder }
 {}
 
-/// States how every step changes the contents of the checker: counts of clauses, units, names and settings.
+/// States how each step changes the contents of the checker: the counts of clauses, the units, the names and
+/// the settings.
 pub fn contents_follow_steps()
     ensures step { ContentsFollow }
     ensures settled { ContentsAreSettled }
@@ -43,8 +44,8 @@ pub fn last_was_derived()
     ensures settled { LastIsSettled }
 {}
 
-/// States that steps assign no more ids than they have bytes. So no steps that a reader can provide to a new checker
-/// exhaust the ids or counts.
+/// States that steps assign no more ids than they have bytes. Hence, the steps that a reader can provide to a new
+/// checker never exhaust the ids or counts.
 pub fn bytes_bound_ids()
     ensures ids { IdsWithinBytes }
     ensures spent { NoneIsSpent }

@@ -1,4 +1,4 @@
-//! Laws about the definitions. Every law is the contract of a function that does nothing.
+//! Laws about the definitions. Each law is the contract of a function that does nothing.
 ghost use Rattle.sat_checker.specs.DimacsView.{EndedStayFirst, ReadAreFirst};
 ghost use Rattle.sat_checker.specs.Laws.{CanonicalIsSortedSet, CoresAssumed, CoresFail, DeletedIsNameless};
 ghost use Rattle.sat_checker.specs.Laws.{DeletionIsSeen, EmptyIsGiven, FormulaIsFold, KnownStays, ModelsExtend};
@@ -50,7 +50,7 @@ pub fn variables_are_kept()
     ensures deletion { DeletionIsSeen }
 {}
 
-/// States that if the last irredundant clause stored is empty, its id was assigned.
+/// States that if the last irredundant clause stored is empty, its id has already been assigned.
 pub fn last_id_was_given()
     ensures { EmptyIsGiven }
 {}

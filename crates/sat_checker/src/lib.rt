@@ -1,5 +1,5 @@
-//! A checker of proof steps. It accepts exactly the steps that the rules allow, and notifies listeners of
-//! their announcements.
+//! A checker of proof steps. It accepts exactly the steps that the rules allow, and notifies listeners of what these
+//! steps announce.
 #![tactic(auto)]
 
 pub mod announce;

@@ -20,7 +20,7 @@ use thiserror::Error;
 
 /// Receives what a checker announces.
 pub trait ProofProcessor: Drop {
-    /// Relates the processor before a call of `process_step`, the announcement, the result, and the processor after
+    /// Relates the processor before a call to `process_step`, the announcement, the result, and the processor after
     /// the call.
     ghost takes: { Self → Notice → Result (Unit {0}) Cause → Self → Type 0 };
 
@@ -191,7 +191,7 @@ impl<P: ProofProcessor, T: ProofTranscriptProcessor> Processing<P, T> {
         Ok(())
     }
 
-    /// Whether there is no listener.
+    /// Whether there are no listeners.
     pub fn is_quiet(&self) -> bool
         ensures { result ≡ true → listeners_of self.now ≡ record { processors = []; transcripts = [] } }
     {

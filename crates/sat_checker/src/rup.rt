@@ -74,7 +74,7 @@ pub(crate) enum Walked {
     Open,
 }
 
-/// Walks over the clauses with the hash `hash`, in order, up to a falsified clause.
+/// Walks over the clauses with the hash `hash`, in order, up to the first falsified clause.
 #[tactic(auto, using(crate::proofs::lemmas::announcements::Noting::noting))]
 fn walk_bucket(
     clauses: &Clauses,
@@ -108,7 +108,8 @@ fn walk_bucket(
     Ok(Walked::Open)
 }
 
-/// Walks over the buckets of the hashes, in order. Returns whether a clause is falsified before a bucket is empty.
+/// Walks over the buckets of the hashes, in order. Returns whether a clause is falsified before an empty bucket
+/// is reached.
 #[tactic(auto, using(crate::proofs::lemmas::store::Buckets::over_hashes))]
 fn walk_hashes(
     clauses: &Clauses,
@@ -138,8 +139,8 @@ fn walk_hashes(
     Ok(false)
 }
 
-/// Assumes that the clause of `literals`, or of their negations if `negate` is true, is false. Stops at a literal of
-/// the clause that is already true, and returns whether there is one.
+/// Assumes that the clause that consists of `literals`, or of their negations if `negate` is true, is false. Stops at
+/// the first literal of the clause that is already true, and returns whether there is one.
 #[tactic(auto, using(crate::proofs::lemmas::propagation::Denied::denying))]
 fn deny(assigned: &mut Assigned, literals: &[Lit], negate: bool) -> Result<bool, AllocError>
     ensures denied { IfOk result (λ met. denied_in_turn assigned.old.literals (signed negate literals.now)
@@ -202,8 +203,8 @@ fn deny_in_room(assigned: &mut Assigned, literals: &[Lit], negate: bool) -> bool
     false
 }
 
-/// Does what `check_clause_with_hashes` does after memory ran out: assumes only literals for which there is room. Other
-/// literals are in no stored clause. The notes are unusable afterwards.
+/// Does what `check_clause_with_hashes` does once memory has run out: assumes only literals for which there is room.
+/// Other literals are in no stored clause. The notes are unusable afterwards.
 #[inline(never)]
 pub(crate) fn check_in_room(
     clauses: &Clauses,
@@ -235,10 +236,10 @@ pub(crate) fn check_in_room(
     found
 }
 
-/// Checks the clause of `literals`, or of their negations if `negate` is true, by propagation from the assumed literals
-/// over the clauses with the hashes `hashes`. What the check assumes stays assumed. If the clause passes because of a
-/// conflict, the notes explain the conflict, unless they are incomplete. Runs out of memory only if there is no room
-/// for a literal of a stored clause.
+/// Checks the clause that consists of `literals`, or of their negations if `negate` is true, by propagation from the
+/// assumed literals over the clauses with the hashes in `hashes`. What the check assumes stays assumed. If the clause
+/// passes because of a conflict, the notes explain the conflict, unless they are incomplete. Runs out of memory only if
+/// there is no room for a literal of a stored clause.
 pub(crate) fn check_clause_with_hashes(
     clauses: &Clauses,
     literals: &[Lit],

@@ -1,4 +1,4 @@
-//! The checker's state, and how every step changes it.
+//! The checker's state, and how each step changes it.
 ghost use Rattle.std.specs.Prelude.{ℕ, List, ◌≡◌, ◌+◌, ◌*◌, false, None, Some, MatchBool, OnOk};
 ghost use Rattle.sat_checker.specs.Stored.{Stored, nothing_stored};
 ghost use Rattle.sat_checker.specs.Looks.{literal_count};
@@ -228,7 +228,7 @@ impl State {
     }
 
     /// Checks a `DeleteClause` step, and applies it if it is accepted. If there is no memory for the clause's sorted
-    /// literals, returns `OutOfMemory` only if the step would be accepted.
+    /// literals, returns `OutOfMemory` only if the step would otherwise be accepted.
     fn delete_clause(
         &mut self,
         clause: &[Lit],
@@ -299,7 +299,7 @@ impl State {
         Ok(true)
     }
 
-    /// Checks a `DeleteVar` step, and applies it if it is accepted. Takes no looks.
+    /// Checks a `DeleteVar` step, and applies it if it is accepted. Counts no looks.
     fn delete_var(&mut self, var: Var, notes: &mut Notes) -> Result<bool, StoreError>
         ensures decides { DecidesStep result self.old (DeleteVar var) self.new }
         ensures noted { Announces result self.old (DeleteVar var) notes.old notes.new }
@@ -314,7 +314,7 @@ impl State {
     }
 
     /// Whether the variable can be deleted: it is known, has no name, isn't assumed, and is in no stored clause of two
-    /// literals or more.
+    /// or more literals.
     fn may_delete(&self, var: Var) -> bool
         ensures { (f : Stored) → RepresentsStored self.now f
             → MatchBool result (MayBeDeleted f var) (MayBeDeleted f var → ⊥) }

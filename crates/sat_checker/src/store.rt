@@ -1,4 +1,4 @@
-//! The stored clauses of two literals or more, with the hashes by which steps name them.
+//! The stored clauses of two or more literals, with the hashes by which steps name them.
 ghost use Rattle.std.specs.Prelude.{ℕ, List, true, false, length, ◌≡◌, [], ◌+◌, ◌*◌, ◌≤◌, ◌^◌, Some, IfOk, OnOk, Err};
 ghost use Rattle.std.specs.Prelude.{MatchBool};
 ghost use Rattle.sat_checker.specs.inner.Looking.{LooksOver, LooksUpTo};
@@ -35,7 +35,7 @@ use std::alloc::{AllocError, Global};
 pub enum StoreError {
     /// Memory ran out.
     OutOfMemory,
-    /// The last id was already assigned, or a count is already 2^64-1.
+    /// The last id has already been assigned, or a count is already 2^64-1.
     CounterEnd,
 }
 
@@ -66,7 +66,7 @@ pub struct Found {
     pub redundant: u64,
 }
 
-/// The stored clauses, and the current hasher. A checker gives no access to its store.
+/// The stored clauses, and the current hasher. A checker doesn't expose its store.
 #[derive(Drop)]
 pub struct Store {
     pub clauses: Clauses,
@@ -112,8 +112,8 @@ impl Store {
         self.stale = false;
     }
 
-    /// Stores the clause with the sorted literals `literals`, without repeats: under the id `id` if it is new, and
-    /// otherwise by adding one to a count. Returns how the clause is stored.
+    /// Stores the clause with the literals `literals`, which must be sorted and must not repeat: under the id `id` if
+    /// the clause is new, and otherwise by adding one to a count. Returns how the clause is stored.
     pub fn store_clause(
         &mut self,
         id: u64,
@@ -171,8 +171,9 @@ impl Store {
         })
     }
 
-    /// Removes one count of the clause with the sorted literals `literals`, without repeats: a redundant count if
-    /// `redundant` is true, and an irredundant count otherwise. Returns whether the clause had such a count.
+    /// Subtracts one from a count of the clause with the sorted literals `literals`: from the redundant count if
+    /// `redundant` is true, and from the irredundant count otherwise. Returns false if the clause is not stored or this
+    /// count is zero.
     pub fn delete_clause(&mut self, redundant: bool, literals: &[Lit], looks: &mut Looks) -> bool
         ensures deleted { (f : Stored) → RepresentsClauses self.old f
             → TakesCount result redundant literals.now f (RepresentsClauses self.new (with_less redundant literals.now f)) }
@@ -200,7 +201,7 @@ impl Store {
         self.clauses.compact()
     }
 
-    /// Sets how many bits of every hash are kept from now on. Takes no looks: `file` later files the clauses under
+    /// Sets how many bits of every hash are kept from now on. Counts no looks: `file` later files the clauses under
     /// their new hashes.
     pub fn set_bits(&mut self, bits: HashBits)
         ensures set { (f : Stored) → RepresentsClauses (refiled self.old) f
@@ -214,7 +215,7 @@ impl Store {
         self.stale = true;
     }
 
-    /// Sets the solver name of a variable, or removes it if `name` is `None`. Takes no looks: `file` later files the
+    /// Sets the solver name of a variable, or removes it if `name` is `None`. Counts no looks: `file` later files the
     /// clauses under their new hashes.
     pub fn set_solver_name(&mut self, var: Var, name: Option<Var>) -> Result<(), AllocError>
         ensures set { OnOk result ((f : Stored) → RepresentsClauses (refiled self.old) f
@@ -266,8 +267,8 @@ impl Store {
         is_strictly_assumed(assigned, self.clauses.literals(place, looks))
     }
 
-    /// Returns how many times the clause that consists of exactly the assumed literals is stored: as redundant if
-    /// `redundant` is true, as irredundant otherwise. The clause is found without its hash.
+    /// Finds the clause that consists of exactly the assumed literals, without using its hash. Returns how many times
+    /// it is stored: as redundant if `redundant` is true, and as irredundant otherwise.
     pub fn assumed_count(&self, redundant: bool, assigned: &Assigned, looks: &mut Looks) -> u64
         ensures found { (f : Stored) → RepresentsClauses self.now f
             → result ≡ store_count_in redundant (clause_with (canonical assigned.now.literals) f.clauses) }
@@ -276,7 +277,7 @@ impl Store {
         self.clauses.assumed_count(redundant, assigned, looks)
     }
 
-    /// Whether any stored clause contains the variable. Takes no looks.
+    /// Whether any stored clause contains the variable. Counts no looks.
     pub fn mention(&self, var: Var) -> bool
         ensures { (f : Stored) → RepresentsClauses (refiled self.now) f
             → result ≡ list_any (λ c. mentions c.literals var) f.clauses }

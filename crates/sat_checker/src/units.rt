@@ -35,8 +35,8 @@ use sat_base::{ClauseHash, Lit, Var};
 use std::alloc::{AllocError, Global};
 use std::marker::Model;
 
-/// The stored units, which are assumed while a clause is checked. In contracts, they are listed in the order in which
-/// they were stored.
+/// The stored units, which are assumed while a clause is being checked. In contracts, they are listed in the order in
+/// which they were stored.
 #[derive(Drop)]
 pub(crate) struct Units {
     ids: LitNumbers,
@@ -87,7 +87,7 @@ impl Units {
         }
     }
 
-    /// States that no literal is a unit twice. Does nothing at run time.
+    /// States that no literal is listed as a unit twice. Does nothing at run time.
     pub fn stand_once(&self)
         ensures { NoRepeats (map (λ u. u.literal) self.now.units) }
     {
@@ -115,7 +115,7 @@ impl Units {
         false
     }
 
-    /// Stores a unit after all others. The literal `lit` must not already be a unit.
+    /// Appends the unit `lit` with the id `id`. The literal `lit` must not already be a unit.
     pub fn push(&mut self, id: u64, lit: Lit) -> Result<(), AllocError>
         requires new { is_among (map (λ u. u.literal) self.old.units) lit ≡ false }
         requires id { id + 1 < 2 ^ 64 }
@@ -205,9 +205,9 @@ impl Units {
         false
     }
 
-    /// Checks the clause of `literals`, or of their negations if `negate` is true, by propagation from the units over
-    /// the clauses with the hashes `hashes`. The units are unchanged. The notes in `passed` say which clauses
-    /// were used.
+    /// Checks the clause that consists of `literals`, or of their negations if `negate` is true, by propagation from
+    /// the units over the clauses with the hashes in `hashes`. The units are unchanged. The notes in `passed` say which
+    /// clauses were used.
     #[tactic(auto, using(crate::proofs::lemmas::store::Keeping::checking))]
     pub fn check(
         &mut self,

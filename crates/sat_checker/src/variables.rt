@@ -73,7 +73,7 @@ impl VarData {
     }
 }
 
-/// The data of every variable, by index, and the variable that has each of the user's names.
+/// The data of each variable, by index, and, for each of the user's names, the variable that has it.
 #[derive(Drop)]
 pub struct Variables {
     data: Table<VarData>,
@@ -141,7 +141,7 @@ impl Variables {
         self.ensure_far(var)
     }
 
-    /// Does what `ensure_var` does, also for variables with large indices.
+    /// Does what `ensure_var` does, even for variables with large indices.
     #[inline(never)]
     fn ensure_far(&mut self, var: Var) -> Result<(), AllocError>
         ensures variables { OnOk result
@@ -202,8 +202,8 @@ impl Variables {
         self.ensure_var(var)
     }
 
-    /// Gives `var` the name `name`, and makes it known. Returns whether this is allowed: the name is free, and the
-    /// variable has no name and isn't hidden.
+    /// Gives `var` the name `name`, and makes the variable known. Returns whether this is allowed, that is, whether the
+    /// name is free and the variable has no name and isn't hidden.
     pub fn add_user_mapping(&mut self, var: Var, name: Var) -> Result<bool, AllocError>
         ensures answers { IfOk result (VariablesAnswer self.old (UserVarName var (Some name)) self.new) }
         ensures judged { OnErr result (VariablesAllow self.old (UserVarName var (Some name))) }

@@ -1,12 +1,12 @@
-//! Answers to a hint text.
+//! Verdicts on hint texts, and errors from checking them.
 
 use std::alloc::{AllocError, AllocFailed};
 use thiserror::Error;
 
-/// Why a line is at fault. If several reasons apply, the first one in this order is reported.
+/// Why a line is at fault. If several reasons apply, the one listed first is reported.
 #[derive(Clone, Copy, Debug, Drop, PartialEq, Eq)]
 pub enum HintWhy {
-    /// The line is malformed, or the text ends before the LF of the line.
+    /// The line is malformed, or the text ends before the line's LF.
     Syntax,
     /// The line gives a clause an ID that is not above the IDs of all earlier clauses.
     IdOrder,
@@ -16,7 +16,7 @@ pub enum HintWhy {
     NotUnit,
     /// The last clause that the line names is not falsified, or the line names no clause.
     NotFalsified,
-    /// The variable that the line makes new is in a present clause of two literals or more.
+    /// The variable that the line makes new is in a present clause of two or more literals.
     VarInUse,
 }
 

@@ -79,8 +79,8 @@ impl Checking {
         }
     }
 
-    /// Judges the line that consists of the held bytes and of `bytes`, which must end with the line's LF. Returns why
-    /// the line is at fault, if it is.
+    /// Judges the line that consists of the held bytes and `bytes`, which must end with the line's LF. Returns why the
+    /// line is at fault, if it is.
     fn end_line(&mut self, bytes: &[u8]) -> Result<Option<HintWhy>, AllocError>
         requires ready { IsReadyJudge self.old.judge }
         requires ends { IsWholeLine bytes.now }
@@ -126,7 +126,7 @@ impl Checking {
         }
     }
 
-    /// Does what `feed` does, while no bytes are held. Lines are read in place, without copying them.
+    /// Does what `feed` does if no bytes are held. Lines are read in place, without being copied.
     fn feed_in_place(&mut self, piece: &[u8]) -> Result<Option<HintWhy>, AllocError>
         requires ready { IsReadyJudge self.old.judge }
         requires empty { self.old.held.items ≡ [] }
@@ -180,7 +180,7 @@ impl Checking {
         }
     }
 
-    /// Returns the verdict on the text, which must end after the bytes that were read so far.
+    /// Returns the verdict on the text, which must end after the bytes that have been read so far.
     fn finish(&self) -> HintVerdict
         ensures { (text : List ℕ) → HasRead self.now text → Judges result text }
     {
@@ -223,7 +223,7 @@ pub fn check<R: CountedRead>(alloc: Global, text: &mut R) -> Result<HintVerdict,
     // If a read fails, the error `Read` is returned, and the read is not repeated.
     ensures kept { IsErrOf result HintFault.Read ⊎ ((R.seen text.new).failures ≡ (R.seen text.old).failures) }
     ensures read { IsErrOf result HintFault.Read → ReadFails (R.seen text.old) (R.seen text.new) }
-    // Memory runs out only after bytes were read.
+    // Memory runs out only after bytes have been read.
     ensures some { IsErrOf result HintFault.OutOfMemory
         → length (R.seen text.old).given < length (R.seen text.new).given }
     ensures reads { (R.seen text.new).calls ≤ (R.seen text.old).calls + most_reads }

@@ -96,7 +96,7 @@ impl<W: CountedWrite + Drop> ProofProcessor for LineWriter<W> {
     }
 }
 
-/// Returns the error for an error of a checker whose only listener is the writer of lines.
+/// Returns the `HintError` for an error from a checker whose only listener is the line writer.
 fn hint_error(error: CheckerError) -> HintError
     ensures { result ≡ hint_of error }
 {
@@ -170,7 +170,7 @@ fn write_text<R: CountedRead, W: CountedWrite + Drop>(
 }
 
 /// Writes the hint text of a certificate, and checks the certificate. Writes in chunks of at most 4,096 bytes. Needs
-/// the memory of a checker, but no memory for lines.
+/// memory for a checker, but none for lines.
 pub fn convert<R: CountedRead, W: CountedWrite>(
     alloc: Global,
     certificate: &mut R,

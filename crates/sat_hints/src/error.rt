@@ -1,9 +1,9 @@
-//! Errors of `convert`.
+//! The error type of `convert`.
 
 use sat_checker::CheckerError;
 use thiserror::Error;
 
-/// Why a certificate was not converted. The text that was written so far is incomplete.
+/// Why a certificate was not converted. The text that has been written so far is incomplete.
 #[derive(Debug, Drop, Error)]
 pub enum HintError {
     /// The checker refused the certificate, for the given reason.

@@ -7,7 +7,7 @@ ghost use Rattle.sat_hints.specs.declared.fronts.Place.TheVariants.{Digits, Item
 use crate::numbers::with_digit;
 use sat_base::Var;
 
-/// What is still expected of a line.
+/// The part of a line that is still expected.
 #[derive(Clone, Copy)]
 pub(crate) enum Part {
     /// `ID LITS 0`
@@ -37,14 +37,14 @@ pub(crate) enum Place {
     Space(Part),
     /// The given part is expected.
     Item(Part),
-    /// The given part has begun with a number. The second field is the value of its digits so far, or 0 if there
-    /// are none.
+    /// A number at the start of the given part has begun. The second field is the value of its digits so far, or 0 if
+    /// there are none.
     Digits(Part, u64),
     /// The LF is expected.
     Over,
 }
 
-/// Returns the largest number with which a part may begin.
+/// Returns the largest number that a part may begin with.
 fn limit(part: Part) -> u64
     ensures is { result ≡ limit_of part }
     ensures least { 9 ≤ result }
@@ -55,7 +55,7 @@ fn limit(part: Part) -> u64
     }
 }
 
-/// Returns the part that is expected after the number with which `part` begins.
+/// Returns the part that is expected after a number at the start of `part`.
 fn next(part: Part) -> Part
     ensures { result ≡ next_of part }
 {
@@ -67,7 +67,7 @@ fn next(part: Part) -> Part
     }
 }
 
-/// Returns the place after the letter of a line, or `None` if no line begins with `byte`.
+/// Returns the place after `byte`, the letter of a line, or `None` if no line begins with `byte`.
 fn following_letter(byte: u8) -> Option<Place>
     ensures { result ≡ letter_place byte }
 {

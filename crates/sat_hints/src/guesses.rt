@@ -6,10 +6,10 @@ ghost use Rattle.std.specs.Ordering.{nat_cmp};
 
 use std::alloc::{AllocError, Global};
 
-/// How many ids are added to the table's limit for every clause that was noted.
+/// How many ids are added to the table's limit for each clause that is noted.
 const SPREAD: u64 = 4;
 
-/// The table's limit before any clause was noted.
+/// The table's limit before any clause has been noted.
 const FIRST: u64 = 4096;
 
 /// Likely places of clauses, indexed by id. A likely place may be incorrect, and is tested before it is used. Ids that

@@ -5,10 +5,10 @@ ghost use Rattle.sat_hints.specs.inner.LineWriting.{sign_text};
 
 use sat_base::{Lit, write_decimal};
 
-/// The largest number of bytes of an item: a sign, 20 digits and a space.
+/// The largest number of bytes in an item: a sign, 20 digits and a space.
 pub(crate) const MOST_BYTES: usize = 22;
 
-/// Writes the ID of the largest id, which is 2^64, and a space, after the first `at` bytes. Returns the end of what
+/// Writes 2^64, the ID for the largest id, and a space, after the first `at` bytes. Returns the end of what
 /// was written.
 #[inline(never)]
 fn write_largest(bytes: &mut [u8], at: usize) -> usize
@@ -23,7 +23,7 @@ fn write_largest(bytes: &mut [u8], at: usize) -> usize
     end + 2
 }
 
-/// Writes the ID of an id, which is the id plus one, and a space, after the first `at` bytes. Returns the end of what
+/// Writes the ID for `id`, which is `id` plus one, and a space, after the first `at` bytes. Returns the end of what
 /// was written.
 #[inline(always)]
 fn write_id(bytes: &mut [u8], at: usize, id: u64) -> usize
@@ -40,7 +40,8 @@ fn write_id(bytes: &mut [u8], at: usize, id: u64) -> usize
     end + 1
 }
 
-/// Writes the IDs of ids, each followed by a space, after the first `len` bytes. Returns the end of what was written.
+/// Writes the IDs for `ids`, each followed by a space, after the first `len` bytes. Returns the end of what
+/// was written.
 pub(crate) fn write_ids(bytes: &mut [u8], len: usize, ids: &[u64]) -> usize
     requires { len + 22 * length ids.now ≤ length bytes.old }
     ensures within { result ≤ length bytes.old }
@@ -54,8 +55,7 @@ pub(crate) fn write_ids(bytes: &mut [u8], len: usize, ids: &[u64]) -> usize
     at
 }
 
-/// Writes the sign of a literal, if the literal is negative, after the first `at` bytes. Returns the end of what
-/// was written.
+/// Writes `-` after the first `at` bytes if the literal is negative. Returns the end of what was written.
 #[inline(always)]
 fn write_sign(bytes: &mut [u8], at: usize, literal: Lit) -> usize
     requires { at < length bytes.old }

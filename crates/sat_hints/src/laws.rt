@@ -1,4 +1,4 @@
-//! Laws about the definitions. Every law is the contract of a function that does nothing.
+//! Laws about the definitions. Each law is the contract of a function that does nothing.
 ghost use Rattle.sat_hints.specs.Laws.{AcceptedConverts, AnnouncedAreProved, AnnouncedDerive, HintCoresFail};
 ghost use Rattle.sat_hints.specs.Laws.{DerivedFollow, EmptyMeansNone, FormulaIsLeft, FormulaLeaves, OneVerdict};
 ghost use Rattle.sat_hints.specs.Laws.{PresentHold, ProofIsProved, ProvedIsNotBad, ReadStepsFit};
@@ -16,7 +16,7 @@ pub fn derivations_are_sound()
     ensures left { FormulaIsLeft }
 {}
 
-/// States that a text that is proved is at fault on no line, and that a text has at most one verdict.
+/// States that no line of a proved text is at fault, and that a text has at most one verdict.
 pub fn verdicts_exclude()
     ensures exclude { ProvedIsNotBad }
     ensures one { OneVerdict }
@@ -35,7 +35,7 @@ pub fn accepted_converts()
     ensures { AcceptedConverts }
 {}
 
-/// States that for a text that is proved, `check` returns this verdict with the correct fields, unless a read or an
+/// States that for a proved text, `check` returns the verdict `Proved` with the correct fields, unless a read or an
 /// allocation fails. The bytes that the reader of the text provides must be known.
 pub fn proof_is_proved()
     ensures { ProofIsProved }

@@ -2,7 +2,7 @@
 
 use sat_base::{Lit, Var};
 
-/// A line. Its ids are below 2^64-1. The text contains IDs instead: the ID of an id is the id plus one.
+/// A line. Its ids are below 2^64-1. In the text, each id is written as an ID, which is the id plus one.
 #[derive(Clone, Copy)]
 pub(crate) enum HintLine<'a> {
     /// `i ID LITS 0`: a clause of the formula.

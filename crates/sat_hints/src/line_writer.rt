@@ -160,7 +160,7 @@ impl<W: CountedWrite> LineWriter<W> {
         self.put(b' ');
     }
 
-    /// Appends the ID of an id, which is the id plus one, and a space.
+    /// Appends the ID for `id`, which is `id` plus one, and a space.
     #[inline(always)]
     fn put_id(&mut self, id: u64)
         ensures { PutsText (id_words (id ∷ [])) (outlet W.seen self.old) (outlet W.seen self.new) }
@@ -171,7 +171,7 @@ impl<W: CountedWrite> LineWriter<W> {
         }
     }
 
-    /// Appends the IDs of ids, each followed by a space.
+    /// Appends the IDs for `ids`, each followed by a space.
     fn put_ids(&mut self, ids: &[u64])
         ensures { PutsText (id_words ids.now) (outlet W.seen self.old) (outlet W.seen self.new) }
     {
@@ -194,7 +194,7 @@ impl<W: CountedWrite> LineWriter<W> {
         }
     }
 
-    /// Appends the sign of a literal, if the literal is negative.
+    /// Appends `-` if the literal is negative.
     #[inline(always)]
     fn put_sign(&mut self, literal: Lit)
         ensures { PutsText (sign_text literal) (outlet W.seen self.old) (outlet W.seen self.new) }
@@ -236,7 +236,7 @@ impl<W: CountedWrite> LineWriter<W> {
         }
     }
 
-    /// Appends `LITS 0 IDS 0` and LF.
+    /// Appends `LITS 0 IDS 0` and an LF.
     fn put_both(&mut self, literals: &[Lit], ids: &[u64])
         ensures { PutsText (both_words literals.now ids.now) (outlet W.seen self.old) (outlet W.seen self.new) }
     {

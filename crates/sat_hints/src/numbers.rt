@@ -1,4 +1,4 @@
-//! Reading numbers and literals, which are decimal, without leading zeros, and followed by a single space.
+//! Reading numbers and literals, which are decimal, have no leading zeros, and are followed by a single space.
 ghost use Rattle.std.specs.Prelude.{◌≡◌, ◌++◌, ◌∷◌, [], ◌<◌, ◌≤◌, ◌^◌, decimal, List, ℕ, MatchBool, MatchOption};
 ghost use Rattle.sat_base.specs.dimacs.DimacsText.{number_text};
 ghost use Rattle.sat_hints.specs.Lines.{id_text};
@@ -7,7 +7,7 @@ ghost use Rattle.sat_hints.specs.inner.LineReading.{EndsNone, NoDigit, NoWord, n
 
 use sat_base::{Lit, Var};
 
-/// Any digit can follow a number up to this bound without an overflow.
+/// Any digit can be appended to a number up to this bound without overflow.
 const LONG: u64 = 1_000_000_000_000_000_000;
 
 /// Returns the bytes after `text`, if `bytes` begins with `text`.
@@ -83,7 +83,7 @@ pub(crate) fn read_number(bytes: &[u8], limit: u64) -> Option<(u64, &[u8])>
     None
 }
 
-/// Does what `read_number` does, but compares with the limit at every digit.
+/// Does what `read_number` does, but compares the number with the limit at every digit.
 #[inline(never)]
 fn read_long(bytes: &[u8], limit: u64) -> Option<(u64, &[u8])>
     requires { 9 ≤ limit }
@@ -101,7 +101,7 @@ fn read_long(bytes: &[u8], limit: u64) -> Option<(u64, &[u8])>
     None
 }
 
-/// Reads the ID of an id, which is the id plus one, and the space after it. Returns the id and the remaining bytes.
+/// Reads an ID, which is an id plus one, and the space after it. Returns the id and the remaining bytes.
 #[inline(always)]
 pub(crate) fn read_id(bytes: &[u8]) -> Option<(u64, &[u8])>
     ensures { MatchOption result (NoWord id_text IsId bytes.now)

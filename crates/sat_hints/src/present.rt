@@ -1,4 +1,4 @@
-//! The clauses that are present, by their ids.
+//! The clauses that are present, by id.
 ghost use Rattle.std.specs.Prelude.{◌≡◌, ◌<◌, ℕ, [], None, length, slice_index, slice_index_or, OnOk, MatchOption};
 ghost use Rattle.std.specs.Prelude.{false};
 ghost use Rattle.sat_checker.specs.SortedSets.{IsIncreasing};
@@ -58,7 +58,7 @@ impl Present {
         Some(place)
     }
 
-    /// Returns the literals of the clause at a place as a slice.
+    /// Returns the literals of the clause at `place` as a slice.
     #[inline(always)]
     pub(crate) fn clause(&self, place: usize) -> &[Lit]
         requires { place < length self.now.clauses }
@@ -74,13 +74,13 @@ impl Present {
         self.ids.len()
     }
 
-    /// Returns how many entries a table of marks of the clauses' literals may have in its list, rather than in
+    /// Returns how many entries a table of marks for the clauses' literals may keep in its list, rather than in
     /// its tree.
     pub(crate) fn near_limit(&self) -> usize {
         self.total.saturating_mul(4)
     }
 
-    /// Whether the clause at a place is removed.
+    /// Whether the clause at `place` is removed.
     pub(crate) fn is_gone(&self, place: usize) -> bool
         requires { place < length self.now.gone.items }
         ensures { result ≡ slice_index_or self.now.gone.items place false }
@@ -103,7 +103,7 @@ impl Present {
         Ok(())
     }
 
-    /// Removes the clause at a place, and drops the removed clauses from memory if there are many.
+    /// Removes the clause at `place`, and drops the removed clauses from memory if there are many.
     pub(crate) fn remove(&mut self, place: usize) -> Result<(), AllocError>
         requires store { IsStore self.old }
         requires within { place < length self.old.clauses }
@@ -113,7 +113,7 @@ impl Present {
         self.compact_if_sparse()
     }
 
-    /// Marks the clause at a place as removed.
+    /// Marks the clause at `place` as removed.
     fn take_out(&mut self, place: usize)
         requires store { IsStore self.old }
         requires within { place < length self.old.clauses }

@@ -14,7 +14,7 @@ use sat_checker::rup::has;
 use sat_checker::{Assigned, Look, assume_if_roomy, look_at};
 
 /// Assumes those of the literals, or of their negations if `negate` is true, for which there is room. Returns whether
-/// the literals include both signs of a variable. To find out, searches for the negation of every literal among the
+/// the literals include both signs of a variable. To find out, searches for the negation of each literal among the
 /// earlier literals.
 #[inline(never)]
 fn assume_roomy(assumed: &mut Assigned, literals: &[Lit], negate: bool) -> bool
@@ -35,9 +35,9 @@ fn assume_roomy(assumed: &mut Assigned, literals: &[Lit], negate: bool) -> bool
     false
 }
 
-/// Assumes the literals, or their negations if `negate` is true. If memory runs out for a literal, which is then in no
-/// clause, only those for which there is room are assumed. Returns whether the literals include both signs of
-/// a variable.
+/// Assumes the literals, or their negations if `negate` is true. If memory runs out for a literal, that literal is in
+/// no clause, and only the literals for which there is room are assumed. Returns whether the literals include both
+/// signs of a variable.
 fn assume_all(assumed: &mut Assigned, literals: &[Lit], negate: bool) -> bool
     requires { assumed.old.literals ≡ [] }
     ensures assumes { MatchBool result (is_tautology (signed negate literals.now) ≡ true)
@@ -64,7 +64,7 @@ fn assume_all(assumed: &mut Assigned, literals: &[Lit], negate: bool) -> bool
     false
 }
 
-/// Returns the fault of a line that names a clause that is not unit in turn. `following` are the ids that the line
+/// Returns the fault of a line that names a clause that is not unit in turn. `following` must be the ids that the line
 /// names after that clause. If no clause is present under one of these ids, the fault is `UnknownId`.
 fn not_unit(standing: &Standing, following: &[u64]) -> HintWhy
     requires { StandingInvariant standing.now }

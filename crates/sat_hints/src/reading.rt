@@ -92,7 +92,7 @@ impl Lists {
         }
     }
 
-    /// Reads `LITS 0` and LF. Returns the remaining bytes, or `None` if the bytes begin differently.
+    /// Reads `LITS 0` and an LF. Returns the remaining bytes, or `None` if the bytes begin differently.
     fn read_one<'a>(&mut self, bytes: &'a [u8]) -> Result<Option<&'a [u8]>, AllocError>
         ensures { IfOk result (λ found. MatchOption found
             ((ls : List ℕ) (tail : List ℕ) → BeginsWithOne bytes.now ls tail → ⊥)
@@ -102,7 +102,7 @@ impl Lists {
         Ok(take_text(rest, b"0\n"))
     }
 
-    /// Reads `LITS 0 IDS 0` and LF. Returns the remaining bytes, or `None` if the bytes begin differently.
+    /// Reads `LITS 0 IDS 0` and an LF. Returns the remaining bytes, or `None` if the bytes begin differently.
     fn read_both<'a>(&mut self, bytes: &'a [u8]) -> Result<Option<&'a [u8]>, AllocError>
         ensures { IfOk result (λ found. MatchOption found
             ((ls : List ℕ) (ids : List ℕ) (tail : List ℕ) → BeginsWithBoth bytes.now ls ids tail → ⊥)
@@ -157,7 +157,7 @@ impl Lists {
         }
     }
 
-    /// Reads the line with which the bytes begin, including its LF, and stores its lists. Returns the line's head and
+    /// Reads the line at the start of the bytes, including its LF, and stores its lists. Returns the line's head and
     /// the remaining bytes, or `None` if the bytes do not begin with a line.
     pub(crate) fn read_line<'a>(
         &mut self,

@@ -10,12 +10,12 @@ use crate::uses::Uses;
 use sat_base::{Lit, Table, Var};
 use std::alloc::{AllocError, Global};
 
-/// Clauses by their ids. A unit is removed when its variable becomes new.
+/// Clauses by id. A unit is removed when its variable becomes new.
 #[derive(Drop)]
 pub(crate) struct Standing {
     pub(crate) present: Present,
     uses: Uses,
-    /// For every variable, a bound on ids: units of the variable with ids below the bound were added before it last
+    /// For each variable, a bound on ids: units of the variable with ids below the bound were added before it last
     /// became new.
     since: Table<u64>,
 }
@@ -35,7 +35,7 @@ impl Standing {
         }
     }
 
-    /// Whether `clause`, which has the id `id`, is a unit that was added before its variable became new.
+    /// Whether `clause`, which has the id `id`, is a unit that was added before its variable last became new.
     #[inline(always)]
     fn is_stale(&self, id: u64, clause: &[Lit]) -> bool
         ensures { result ≡ is_stale self.now.since id clause.now }
@@ -101,7 +101,7 @@ impl Standing {
         Ok(true)
     }
 
-    /// Whether the variable is in a present clause of two literals or more. Searches all clauses until a variable first
+    /// Whether the variable is in a present clause of two or more literals. Searches all clauses until a variable first
     /// becomes new, and uses counts from then on.
     pub(crate) fn is_used(&self, var: Var) -> bool
         requires { StandingInvariant self.now }

@@ -1,4 +1,4 @@
-//! Which variables are in clauses of two literals or more.
+//! Which variables are in clauses of two or more literals.
 ghost use Rattle.std.specs.Prelude.{◌≡◌, ◌+◌, ◌*◌, ◌≤◌, ◌<◌, ◌^◌, ℕ, OnOk, MatchBool, true, false};
 ghost use Rattle.sat_checker.specs.LiteralSets.{mentions};
 ghost use Rattle.sat_checker.specs.SortedSets.{IsIncreasing};
@@ -11,7 +11,7 @@ use sat_base::{Lit, Var};
 use sat_checker::store::occurrences::Occurrences;
 use std::alloc::{AllocError, Global};
 
-/// How many times every literal is in the present clauses of two literals or more. Counting starts when a variable
+/// How many times each literal occurs in the present clauses of two or more literals. Counting starts when a variable
 /// first becomes new, so a text in which no variable becomes new incurs no cost.
 #[derive(Drop)]
 pub(crate) struct Uses {
@@ -31,7 +31,7 @@ fn mentions(clause: &[Lit], var: Var) -> bool
     false
 }
 
-/// Whether the clause has two literals or more, and contains the variable.
+/// Whether the clause has two or more literals, and contains the variable.
 fn is_long_with(clause: &[Lit], var: Var) -> bool
     ensures { MatchBool result (0 < times_long (2 * var) clause.now + times_long (2 * var + 1) clause.now)
         (times_long (2 * var) clause.now + times_long (2 * var + 1) clause.now ≡ 0) }
@@ -42,7 +42,7 @@ fn is_long_with(clause: &[Lit], var: Var) -> bool
     mentions(clause, var)
 }
 
-/// Whether a present clause of two literals or more contains the variable.
+/// Whether a present clause of two or more literals contains the variable.
 fn is_in_long(present: &Present, var: Var) -> bool
     requires { IsStore present.now }
     ensures { MatchBool result (0 < occurrences_of present.now (2 * var) + occurrences_of present.now (2 * var + 1))
@@ -59,7 +59,7 @@ fn is_in_long(present: &Present, var: Var) -> bool
     false
 }
 
-/// Counts the literals of a clause, if it has two literals or more.
+/// Counts the literals of a clause, if it has two or more literals.
 fn count(counts: &mut Occurrences, clause: &[Lit]) -> Result<(), AllocError>
     requires increasing { IsIncreasing clause.now }
     requires few { (l : ℕ) → count_at counts.old l + times_long l clause.now < 2 ^ 64 }
@@ -73,7 +73,7 @@ fn count(counts: &mut Occurrences, clause: &[Lit]) -> Result<(), AllocError>
     Ok(())
 }
 
-/// Counts the literals of all present clauses of two literals or more.
+/// Counts the literals of all present clauses of two or more literals.
 fn count_all(counts: &mut Occurrences, present: &Present) -> Result<(), AllocError>
     requires store { IsStore present.now }
     requires none { (l : ℕ) → count_at counts.old l ≡ 0 }
@@ -100,7 +100,8 @@ impl Uses {
         }
     }
 
-    /// If counting has started, counts the literals of a clause that is added. The clause is given as a sorted set.
+    /// If counting has started, counts the literals of a clause that is being added. The clause is given as a
+    /// sorted set.
     pub(crate) fn add(&mut self, clause: &[Lit]) -> Result<(), AllocError>
         requires increasing { IsIncreasing clause.now }
         requires few { (l : ℕ) → uses_at self.old l + times_long l clause.now < 2 ^ 64 }
@@ -114,7 +115,7 @@ impl Uses {
         count(&mut self.counts, clause)
     }
 
-    /// If counting has started, subtracts the literals of a clause that is removed.
+    /// If counting has started, subtracts the literals of a clause that is being removed.
     pub(crate) fn take(&mut self, clause: &[Lit])
         requires { (l : ℕ) → if_counting self.old.counting (times_long l clause.now) ≤ uses_at self.old l }
         ensures counting { self.new.counting ≡ self.old.counting }
@@ -127,7 +128,7 @@ impl Uses {
         self.counts.take(clause);
     }
 
-    /// Starts to count, unless counting has started: counts the literals of all present clauses.
+    /// Starts counting, unless counting has already started: counts the literals of all present clauses.
     pub(crate) fn begin(&mut self, present: &Present) -> Result<(), AllocError>
         requires store { IsStore present.now }
         requires counted { (l : ℕ) → uses_at self.old l ≡ if_counting self.old.counting (occurrences_of present.now l) }
@@ -142,7 +143,7 @@ impl Uses {
         Ok(())
     }
 
-    /// Whether a present clause of two literals or more contains the variable. If counting has not started, searches
+    /// Whether a present clause of two or more literals contains the variable. If counting has not started, searches
     /// all clauses.
     pub(crate) fn has(&self, present: &Present, var: Var) -> bool
         requires store { IsStore present.now }

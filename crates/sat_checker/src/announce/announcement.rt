@@ -30,8 +30,8 @@ pub struct CheckedUserVar {
 #[derive(Clone, Copy)]
 pub struct ResolutionPropagations {}
 
-/// An announcement, which borrows its lists. Clauses and cores are sorted, without repeats. `propagations` are the ids
-/// of the clauses from which the announced clause or core follows by propagation.
+/// An announcement, which borrows its lists. Clauses and cores are sorted and contain no repeats. `propagations` are
+/// the ids of the clauses from which the announced clause or core follows by propagation.
 #[derive(Clone, Copy)]
 pub enum CheckedProofStep<'a> {
     /// A variable gets a name or another mode, or, if `user_var` is `None`, loses its name.
@@ -93,11 +93,11 @@ pub enum CheckedProofStep<'a> {
         pivot: Lit,
         propagations: ResolutionPropagations,
     },
-    /// A valuation that satisfies the formula. Its literals are in the order of the step.
+    /// A valuation that satisfies the formula. Its literals are in the same order as in the step.
     Model {
         assignment: &'a [Lit],
     },
-    /// The literals that are assumed from now on, in the order of the step.
+    /// The literals that are assumed from now on, in the same order as in the step.
     Assumptions {
         assumptions: &'a [Lit],
     },

@@ -32,8 +32,8 @@ pub(crate) enum Change {
     Neither,
 }
 
-/// What the announcement of a deletion depends on: whether a redundant or an irredundant count is removed, how the
-/// clause is stored, and, for an irredundant count, the id of the clause from which the deleted clause follows.
+/// What the announcement of a deletion depends on: whether the redundant or the irredundant count drops by one, how the
+/// clause is stored, and, for the irredundant count, the id of the clause from which the deleted clause follows.
 #[derive(Clone, Copy)]
 pub(crate) struct Deletion {
     pub(crate) redundant: bool,
@@ -61,7 +61,7 @@ impl Formula {
     }
 }
 
-/// Returns what storing a derived clause of two literals or more changed. `placed` is the result of storing it.
+/// Returns what storing a derived clause of two or more literals changed. `placed` is the result of storing it.
 pub(crate) fn change_of(redundant: bool, placed: Placed) -> Change
     ensures { result ≡ change_in redundant placed }
 {
@@ -163,8 +163,8 @@ impl News {
         }
     }
 
-    /// Adds the announcement of a clause that loses one redundant count, if this removes the clause. `stored` is the
-    /// clause before the removal.
+    /// Adds the announcement of a clause whose redundant count drops by one, if this removes the clause. `stored` is
+    /// the clause before the count drops.
     pub fn redundant_deleted(
         &mut self,
         literals: &[Lit],
@@ -182,8 +182,8 @@ impl News {
         Ok(())
     }
 
-    /// Adds the announcement of a clause that loses one irredundant count, if it has no other. `stored` is the clause
-    /// before the removal, and `from` is the id of the clause from which it follows, if any.
+    /// Adds the announcement of a clause whose irredundant count drops by one, if this makes the count zero. `stored`
+    /// is the clause before the count drops, and `from` is the id of the clause from which it follows, if any.
     pub fn irredundant_deleted(
         &mut self,
         literals: &[Lit],
@@ -207,7 +207,7 @@ impl News {
         }
     }
 
-    /// Adds the announcement of the deletion `deletion` of the clause with the literals `literals`, if there is one.
+    /// Adds the announcement, if any, of the deletion `deletion` of the clause with the literals `literals`.
     pub fn deleted(&mut self, literals: &[Lit], deletion: Deletion) -> Result<(), AllocError>
         ensures ok { OnOk result (self.new ≡ self.old ++ deletion_announced literals.now deletion) }
         ensures err { OnErr result (self.new ≡ self.old) }
@@ -248,8 +248,8 @@ impl News {
         }
     }
 
-    /// Adds the announcement that the mode of `var`, whose data was `before`, changes. There is none if the variable
-    /// has no name or already has the mode.
+    /// Adds the announcement that the mode of `var`, whose data was `before`, changes. There is no announcement if the
+    /// variable has no name or already has the new mode.
     pub fn mode_change(
         &mut self,
         var: Var,

@@ -11,7 +11,7 @@ use sat_base::{FlatLists, Lit, Var};
 use std::alloc::{AllocError, Global};
 use std::marker::Model;
 
-/// An announcement without its list of literals and its list of propagations.
+/// An announcement without its lists of literals and propagations.
 #[derive(Clone, Copy)]
 enum Kind {
     UserVar(Var, Option<CheckedUserVar>),
@@ -141,7 +141,7 @@ impl News {
         self.items.len()
     }
 
-    /// Whether there is no announcement.
+    /// Whether there are no announcements.
     pub fn is_empty(&self) -> bool
         ensures { result ≡ true → self.now ≡ [] }
     {

@@ -1,4 +1,5 @@
-//! Notes on what a step announces, which are made if there is a listener. The notes on a refused step are meaningless.
+//! Notes on what a step announces, which are made only if there is a listener. The notes on a refused step
+//! are meaningless.
 ghost use Rattle.std.specs.Prelude.{ℕ, Bool, false, ◌≡◌, ◌∷◌, [], List, OnOk, IsTrue, map};
 ghost use Rattle.sat_base.specs.steps.Steps.{DeleteClause, FailedAssumptions};
 ghost use Rattle.sat_base.specs.steps.StepViews.{deletion_of};
@@ -31,7 +32,7 @@ use std::alloc::{AllocError, Global};
 /// Notes on what a step announces.
 #[derive(Drop)]
 pub(crate) struct Notes {
-    /// Whether there is a listener. Otherwise nothing is noted.
+    /// Whether there is a listener. If there is none, nothing is noted.
     hears: bool,
     pub(crate) news: News,
     rests_on: Propagations,
@@ -87,7 +88,7 @@ impl Notes {
         self.news.renaming(var, user, before)
     }
 
-    /// Notes that the mode of `var`, whose data was `before`, changes, if this is announced.
+    /// If this is announced, notes that the mode of `var`, whose data was `before`, changes.
     pub fn mode_change(
         &mut self,
         var: Var,
@@ -134,7 +135,7 @@ impl Notes {
             .derived(change, id, redundant, literals, self.rests_on.ids())
     }
 
-    /// Notes the announcement of the deletion `deletion` of the clause with the literals `literals`, if there is one.
+    /// Notes the announcement, if any, of the deletion `deletion` of the clause with the literals `literals`.
     pub fn deleted(&mut self, literals: &[Lit], deletion: Deletion) -> Result<(), AllocError>
         ensures { OnOk result (AppendsNews self.old (deletion_announced literals.now deletion) self.new) }
     {
@@ -323,8 +324,8 @@ impl Formula {
             .derived(change, id, false, &[lit], notes.rests_on.ids())
     }
 
-    /// Notes the announcement of a failed core. `denied` must be the clause of the negations of the core's literals,
-    /// and must have passed the last propagation check.
+    /// Notes the announcement of a failed core. `denied` must be the clause that consists of the negations of the
+    /// core's literals, and must have passed the last propagation check.
     pub fn note_core(
         &self,
         core: &[Lit],

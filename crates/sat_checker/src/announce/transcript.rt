@@ -14,7 +14,7 @@ use crate::announce::announcement::{
 use sat_base::{Lit, Var};
 use std::alloc::{AllocError, Global};
 
-/// A step of a transcript, which borrows its lists. Variables are given by the user's names.
+/// A step of a transcript, which borrows its lists. Variables are identified by the user's names for them.
 #[derive(Clone, Copy)]
 pub enum ProofTranscriptStep<'a> {
     /// The variable is a witness from now on.
@@ -36,7 +36,7 @@ pub enum ProofTranscriptStep<'a> {
 
 /// Receives the steps of a transcript.
 pub trait ProofTranscriptProcessor: Drop {
-    /// Relates the transcript before a call of `process_step`, the step, the result, and the transcript after the call.
+    /// Relates the transcript before a call to `process_step`, the step, the result, and the transcript after the call.
     ghost reads: { Self → Transcribed → Result (Unit {0}) Error → Self → Type 0 };
 
     /// Receives a step.
@@ -120,7 +120,7 @@ impl Transcript {
     }
 }
 
-/// Returns the transcript step for a change of a variable's name or mode, if there is one.
+/// Returns the transcript step for a change in a variable's name or mode, if there is one.
 fn name_change<'s>(
     names: CheckerData<'_>,
     var: Var,
@@ -143,7 +143,7 @@ fn name_change<'s>(
     Some(ProofTranscriptStep::ObserveInternalVar { var: user.user_var })
 }
 
-/// Returns the transcript step for a change of a variable's mode.
+/// Returns the transcript step for a change in a variable's mode.
 fn mode_change<'s>(user: CheckedUserVar) -> ProofTranscriptStep<'s>
     ensures { transcribed_of result
         ≡ (if (announced_user user).sampling then SampleVar user.user_var else WitnessVar user.user_var) }

@@ -22,7 +22,7 @@ const PIECE: usize = 4096;
 /// The largest number of reads.
 const MAX_READS: u64 = 1 << 48;
 
-/// Whether the error is `OutOfMemory`, after which the checker has failed.
+/// Whether the error is `OutOfMemory`, which makes the checker fail.
 fn is_want(error: DimacsError) -> bool
     ensures { result ≡ is_out_of_memory error }
 {
@@ -57,7 +57,7 @@ impl<P: ProofProcessor, T: ProofTranscriptProcessor> Checker<P, T> {
         self.add_text(&mut parser, reader)
     }
 
-    /// Adds the clauses of the text that `reader` provides. The parser must not have received any text yet.
+    /// Adds the clauses of the text that `reader` provides. The parser must not already have received any text.
     fn add_text<R: CountedRead>(
         &mut self,
         parser: &mut DimacsParser,
@@ -87,8 +87,8 @@ impl<P: ProofProcessor, T: ProofTranscriptProcessor> Checker<P, T> {
         Err(CheckerDimacsError::Dimacs(DimacsError::Read))
     }
 
-    /// Adds the clauses that the parser has completed so far. If this succeeds, returns the error in `answer`, the
-    /// parser's last result, if there is one.
+    /// Adds the clauses that the parser has completed so far. If this succeeds, returns the error, if any, in `answer`,
+    /// the parser's last result.
     fn add_read(
         &mut self,
         parser: &mut DimacsParser,

@@ -20,7 +20,7 @@ use crate::error::CheckerError;
 use crate::processing::{Nobody, ProofProcessor};
 use sat_base::{CountedRead, ProofStep, StepError, StepReader};
 
-/// Returns the checker's error for an error of the step reader.
+/// Returns the checker's error for an error from the step reader.
 fn unread_error(error: StepError) -> CheckerError
     ensures { result ≡ read_error error }
 {
@@ -34,7 +34,7 @@ fn unread_error(error: StepError) -> CheckerError
     }
 }
 
-/// Whether the error is `OutOfMemory`, after which the checker has failed.
+/// Whether the error is `OutOfMemory`, which makes the checker fail.
 fn is_final(error: StepError) -> bool
     ensures { result ≡ is_final error }
 {
@@ -57,8 +57,8 @@ fn is_end(step: &ProofStep<'_>) -> bool
 
 impl<P: ProofProcessor, T: ProofTranscriptProcessor> Checker<P, T> {
     /// Reads and checks the steps of a proof up to its `End`, and ignores what follows. Holds one step in memory at a
-    /// time. The steps that were accepted before an error remain. If the proof is malformed, ends early or can't be
-    /// read, the checker can still be used.
+    /// time. Steps that were accepted before an error remain in effect. If the proof is malformed, ends early or can't
+    /// be read, the checker can still be used.
     pub fn check_proof<R: CountedRead>(&mut self, reader: &mut R) -> Result<(), CheckerError>
         ensures proof { ChecksProof (HearsEach P.takes T.reads)
             result (seen_of self.old) (seen_of self.new) (R.seen reader.old) (R.seen reader.new) }
@@ -71,7 +71,8 @@ impl<P: ProofProcessor, T: ProofTranscriptProcessor> Checker<P, T> {
         self.check_proof_by(reader, &mut nobody, false)
     }
 
-    /// Checks a proof, as `check_proof` does, and notifies `own` of every announcement before the checker's listeners.
+    /// Checks a proof, as `check_proof` does, and notifies `own` of every announcement before notifying the
+    /// checker's listeners.
     pub fn check_proof_with<R: CountedRead, O: ProofProcessor>(
         &mut self,
         reader: &mut R,
@@ -86,8 +87,8 @@ impl<P: ProofProcessor, T: ProofTranscriptProcessor> Checker<P, T> {
         self.check_proof_by(reader, own, true)
     }
 
-    /// Checks a proof, and notifies `own` of every announcement before the checker's listeners. If `has_own` is false,
-    /// the caller has no processor, and `own` must accept everything and never change.
+    /// Checks a proof, and notifies `own` of every announcement before notifying the checker's listeners. If `has_own`
+    /// is false, the caller has no processor, and `own` must accept everything and never change.
     fn check_proof_by<R: CountedRead, O: ProofProcessor>(
         &mut self,
         reader: &mut R,
@@ -108,7 +109,7 @@ impl<P: ProofProcessor, T: ProofTranscriptProcessor> Checker<P, T> {
         self.check_steps(&mut steps, own, has_own)
     }
 
-    /// Checks the steps of a proof up to its `End`. The reader `steps` must not have read anything yet.
+    /// Checks the steps of a proof up to its `End`. The reader `steps` must not already have read anything.
     fn check_steps<R: CountedRead, O: ProofProcessor>(
         &mut self,
         steps: &mut StepReader<'_, R>,

@@ -1,5 +1,5 @@
-//! Decides, by marking literals, whether they are a model of the stored formula, and whether a clause may be deleted. A
-//! literal for whose mark there is no memory is in no stored clause.
+//! Decides, by marking literals, whether they are a model of the stored formula, and whether a clause may be deleted.
+//! If there is no memory for a literal's mark, the literal is in no stored clause.
 ghost use Rattle.std.specs.Prelude.{ℕ, ◌≡◌, ◌*◌, ◌<◌, ◌&&◌, ◌↔◌, not, IfOk, OnErr, IsErrOf, IsTrue};
 ghost use Rattle.std.specs.Prelude.{false, MatchBool};
 ghost use Rattle.std.specs.List.{list_any};
@@ -48,8 +48,8 @@ impl Formula {
         }
     }
 
-    /// Does what `fits` does after memory ran out: returns false if the literals are not a model of the stored formula,
-    /// and an error if they are.
+    /// Does what `fits` does once memory has run out: returns false if the literals are not a model of the stored
+    /// formula, and an error if they are.
     fn fail_if_met(&mut self, literals: &[Lit], looks: &mut Looks) -> Result<bool, AllocError>
         requires { self.old.status.unsat ≡ false }
         ensures exact { IfOk result (λ fits. (f : Stored) → RepresentsFormula (refiled_in self.old) f
@@ -68,7 +68,7 @@ impl Formula {
         Ok(false)
     }
 
-    /// Marks those of the literals for which there is room, and no others.
+    /// Marks exactly those literals in `literals` for which there is room.
     fn mark_in_room(&mut self, literals: &[Lit])
         ensures marked { (l : ℕ) → is_among self.new.marks.literals l
             ≡ (is_among self.old.marks.room l && is_among literals.now l) }
@@ -79,8 +79,8 @@ impl Formula {
         assume_roomy(&mut self.marks, literals);
     }
 
-    /// Whether the literals contain the negation of no unit, and satisfy every irredundant clause. Those of the
-    /// literals for which there is room must be marked.
+    /// Whether the literals include no negation of a unit, and satisfy every irredundant clause. The literals for which
+    /// there is room must be marked.
     fn are_met(&self, literals: &[Lit], looks: &mut Looks) -> bool
         requires { AgreesOn self.now.marks.room self.now.marks.literals literals.now }
         ensures met { (f : Stored) → RepresentsFormula (refiled_in self.now) f
@@ -91,7 +91,7 @@ impl Formula {
         !self.units.are_contradicted(literals) && self.store.are_satisfied(&self.marks, looks)
     }
 
-    /// Decides on a deletion after memory ran out: returns false if the clause may not be deleted for the reason
+    /// Decides on a deletion once memory has run out: returns false if the clause may not be deleted for the reason
     /// `proof`, and `OutOfMemory` if it may.
     pub fn fail_if_deletable(
         &mut self,
@@ -151,8 +151,8 @@ impl Formula {
         }
     }
 
-    /// Whether a clause is stored: as redundant if `redundant` is true, as irredundant otherwise. Exactly the literals
-    /// of `clause` must be marked.
+    /// Whether a clause is stored as redundant, if `redundant` is true, or as irredundant otherwise. Exactly the
+    /// literals of `clause` must be marked.
     fn marked_has_count(&self, redundant: bool, clause: &[Lit], looks: &mut Looks) -> bool
         requires { (l : ℕ) → is_among self.now.marks.literals l ≡ is_among clause.now l }
         ensures found { (f : Stored) → RepresentsFormula self.now f

@@ -1,5 +1,5 @@
-//! Boxed processors and transcripts, which the caller creates. A checker of boxes can have listeners of
-//! different types.
+//! Boxed processors and transcripts, which the caller creates. A checker whose listeners are boxed can have listeners
+//! of different types.
 ghost use Rattle.std.specs.Prelude.{◌≡◌};
 
 use crate::announce::announcement::{CheckedProofStep, CheckerData};

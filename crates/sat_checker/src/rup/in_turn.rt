@@ -1,5 +1,5 @@
-//! Checks units one after another, after memory ran out for a unit. Earlier units are assumed if there is room for
-//! them; otherwise, they are searched for in the list of units.
+//! Checks units one after another once memory has run out for one of them. Earlier units are assumed if there is room
+//! for them; otherwise, they are searched for in the list of units.
 ghost use Rattle.std.specs.Prelude.{ℕ, ◌≡◌, ◌-◌, ◌*◌, [], ◌∷◌, length, map, not, ◌&&◌, IfOk, OnErr, IsTrue, ◌↔◌};
 ghost use Rattle.sat_checker.specs.Accepts.{PassesByHashes};
 ghost use Rattle.sat_checker.specs.LiteralSets.{is_among};
@@ -28,7 +28,7 @@ fn assume(assigned: &mut Assigned, lit: Lit)
     }
 }
 
-/// Whether the first of the units with the variable of `lit` is `lit` itself.
+/// Whether the first unit with the same variable as `lit` is `lit` itself.
 fn stands_first(units: &[(Lit, ClauseHash)], lit: Lit) -> bool
     ensures { result ≡ stands_first (map (λ u. u.0) units.now) lit }
 {
@@ -43,7 +43,7 @@ fn stands_first(units: &[(Lit, ClauseHash)], lit: Lit) -> bool
     false
 }
 
-/// Whether there is no room for `lit`, and the first unit in `before` with its variable is `lit` itself.
+/// Whether there is no room for `lit`, and the first unit in `before` with the same variable is `lit` itself.
 fn came_in(assigned: &Assigned, before: &[(Lit, ClauseHash)], lit: Lit) -> bool
     ensures { result ≡ (not (is_among assigned.now.room lit) && stands_first (map (λ u. u.0) before.now) lit) }
 {

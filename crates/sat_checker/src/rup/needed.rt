@@ -1,4 +1,4 @@
-//! Finds the clauses and units from which a conflict follows, by going backwards through the notes of a walk.
+//! Finds the clauses and units from which a conflict follows, by going backwards through the notes on a walk.
 ghost use Rattle.std.specs.Prelude.{ℕ, ◌≡◌, ◌+◌, ◌<◌, ◌==◌, ◌||◌, ◌++◌, [], map, length, reverse, OnOk, Some, true, false};
 ghost use Rattle.sat_base.specs.values.Literals.{negated};
 ghost use Rattle.sat_checker.specs.LiteralSets.{is_among};
@@ -47,7 +47,7 @@ pub(crate) fn mark_all(marked: &mut Assigned, clause: &[Lit]) -> Result<(), Allo
     Ok(())
 }
 
-/// Marks the negations of a clause's literals, except for the literal `made`.
+/// Marks the negations of a clause's literals other than `made`.
 #[tactic(auto, using(crate::proofs::lemmas::announcements::Marking::marking))]
 fn mark_others(marked: &mut Assigned, clause: &[Lit], made: Lit) -> Result<(), AllocError>
     ensures marked { OnOk result ((m : ℕ) → is_among marked.new.literals m
@@ -89,7 +89,7 @@ fn list_units(
 }
 
 impl Needed {
-    /// Creates a value without marks and ids.
+    /// Creates a value without marks or ids.
     pub fn new(alloc: Global) -> Needed
         ensures marked { result.marked.literals ≡ [] }
         ensures none { result.ids.items ≡ [] }
@@ -147,7 +147,7 @@ impl Needed {
         Ok(())
     }
 
-    /// Follows the notes of a walk from its conflict back to its start.
+    /// Follows the notes on a walk from its conflict back to its start.
     pub fn follow_all(
         &mut self,
         clauses: &Clauses,

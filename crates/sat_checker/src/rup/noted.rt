@@ -1,5 +1,5 @@
-//! The notes of a walk, which only contracts see, complete even if memory ran out for a note. They are zero-sized, and
-//! their functions do nothing at run time.
+//! The notes on a walk, which are complete even if memory ran out for a note. Only contracts see them: they are
+//! zero-sized, and their functions do nothing at run time.
 ghost use Rattle.std.specs.Prelude.{◌≡◌, ◌++◌, ◌∷◌, [], List};
 ghost use Rattle.std.specs.Borrow.{ftrue};
 ghost use Rattle.sat_checker.specs.declared.rup.passed.Reason.{Reason};
@@ -17,7 +17,7 @@ impl Model for Noted {
 }
 
 impl Noted {
-    /// Creates notes without reasons.
+    /// Creates notes that contain no reasons.
     pub(crate) fn new() -> Noted
         ensures { result.reasons ≡ [] }
     {

@@ -1,4 +1,4 @@
-//! The notes of a walk over stored clauses: the clauses that the walk used.
+//! The notes on a walk over stored clauses: the clauses that the walk used.
 ghost use Rattle.std.specs.Prelude.{◌≡◌, ◌++◌, ◌∷◌, [], None, Some, true, false};
 
 use crate::rup::noted::Noted;
@@ -19,7 +19,7 @@ pub(crate) struct Reason {
 pub(crate) struct Passed {
     reasons: Vec<Reason>,
     conflict: Option<usize>,
-    /// Whether the notes are unusable, because no listener needs them, or because memory ran out for a note or for the
+    /// Whether the notes are unusable because no listener needs them, or because memory ran out for a note or for the
     /// literals from which the walk started.
     lost: bool,
     /// Whether no listener needs the notes.
@@ -70,7 +70,7 @@ impl Passed {
         self.noted = Noted::new();
     }
 
-    /// Notes that the clause at a place implied a literal.
+    /// Notes that the clause at `place` implied `lit`.
     pub fn note(&mut self, place: usize, lit: Lit)
         ensures reasons { self.new.reasons ≡ self.old.reasons ++ (record { place = place; lit = lit }) ∷ [] }
         ensures conflict { self.new.conflict ≡ self.old.conflict }

@@ -1,5 +1,5 @@
-//! The ids of the clauses from which a clause that passed the propagation check follows. They are listed only if a
-//! listener needs them.
+//! For a clause that passed the propagation check, the ids of the clauses from which it follows. They are listed only
+//! if a listener needs them.
 ghost use Rattle.std.specs.Prelude.{ℕ, List, ◌≡◌, ◌+◌, ◌++◌, [], map, OnOk, false};
 ghost use Rattle.sat_base.specs.values.Literals.{negated};
 ghost use Rattle.sat_checker.specs.LiteralSets.{canonical};
@@ -48,8 +48,8 @@ impl Propagations {
         &self.ids
     }
 
-    /// Lists the propagations of a clause that passed the check, using the check's notes. Returns an error if the notes
-    /// are unusable. `literals` must be the sorted literals of `clause`.
+    /// Lists the propagations of a clause that passed the check, using the notes on the check. Returns an error if the
+    /// notes are unusable. `literals` must be the sorted literals of `clause`.
     #[inline(never)]
     pub fn list(
         &mut self,

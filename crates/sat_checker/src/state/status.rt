@@ -8,8 +8,8 @@ ghost use Rattle.sat_checker.specs.declared.store.StoreError.TheVariants.{Counte
 use crate::store::StoreError;
 use sat_base::Lit;
 
-/// The irredundant clause that was stored last, with its id: none yet, an empty clause, a unit, or a longer clause. A
-/// unit also has its literal, so that it can be found without a search.
+/// The irredundant clause that was stored last, with its id: none yet, an empty clause, a unit, or a longer clause. For
+/// a unit, the literal is recorded too, so that the unit can be found without a search.
 #[derive(Clone, Copy)]
 pub(crate) enum LastClause {
     NoneYet,
@@ -66,7 +66,7 @@ impl Status {
         }
     }
 
-    /// Returns the next id, and advances the counter of ids. The last id is 2^64-2.
+    /// Returns the next id, and advances the id counter. The last id is 2^64-2.
     pub fn take_id(&mut self) -> Result<u64, StoreError>
         ensures taken { MatchResult result
             (λ id. (id ≡ self.old.next_id) × (self.new ≡ record self.old { next_id = self.old.next_id + 1 }))
@@ -82,7 +82,7 @@ impl Status {
         Ok(id)
     }
 
-    /// Advances the counter of ids if `needed` is true.
+    /// Advances the id counter if `needed` is true.
     pub fn take_id_if(&mut self, needed: bool) -> Result<(), StoreError>
         ensures { MatchResult result
             (λ _. self.new ≡ record self.old { next_id = (if needed then self.old.next_id + 1 else self.old.next_id) })

@@ -1,4 +1,4 @@
-//! The stored clauses of two literals or more.
+//! The stored clauses of two or more literals.
 ghost use Rattle.std.specs.Prelude.{◌≡◌, ◌+◌, ◌*◌, ◌<◌, ◌≤◌, ◌^◌, [], ◌∷◌, ◌++◌, length, true, false, None, OnOk};
 ghost use Rattle.std.specs.Prelude.{OnErr, IfSome};
 ghost use Rattle.std.specs.List.{AllByRecursion, list_any};
@@ -86,7 +86,7 @@ impl Clauses {
         self.slots.len()
     }
 
-    /// Returns the literals of the clause at `place` as a slice. Counts one look for every literal.
+    /// Returns the literals of the clause at `place` as a slice. Counts one look for each literal.
     #[inline(always)]
     pub fn literals(&self, place: usize, looks: &mut Looks) -> &[Lit]
         requires { place < length self.now }
@@ -96,7 +96,7 @@ impl Clauses {
         self.slots.literals(place, looks)
     }
 
-    /// Returns the id of the clause at a place.
+    /// Returns the id of the clause at `place`.
     pub fn id(&self, place: usize) -> u64
         requires { place < length self.now }
         ensures { result ≡ (slot_at self.now place).clause.id }
@@ -104,7 +104,7 @@ impl Clauses {
         self.slots.id(place)
     }
 
-    /// Returns how many times the clause at `place` is stored: as redundant if `redundant` is true, as
+    /// Returns how many times the clause at `place` is stored: as redundant if `redundant` is true, and as
     /// irredundant otherwise.
     pub fn count(&self, place: usize, redundant: bool) -> u64
         requires { place < length self.now }
@@ -167,13 +167,13 @@ impl Clauses {
         Some(place)
     }
 
-    /// Returns how many entries a table of the literals of these clauses may have in its list. The list is faster than
-    /// the tree that contains the other entries.
+    /// Returns how many entries a table indexed by these clauses' literals may keep in its list. The list is faster
+    /// than the tree that contains the other entries.
     pub fn near_count(&self) -> usize {
         self.occurrences.near_count()
     }
 
-    /// Whether any clause that is not removed contains the variable. Takes no looks.
+    /// Whether any clause that is not removed contains the variable. Counts no looks.
     pub fn mention(&self, var: Var) -> bool
         ensures { result ≡ list_any (λ c. mentions c.literals var) (live self.now) }
     {
@@ -198,8 +198,8 @@ impl Clauses {
         true
     }
 
-    /// Returns how many times the clause that consists of exactly the assumed literals is stored: as redundant if
-    /// `redundant` is true, as irredundant otherwise. The clause is found without its hash.
+    /// Finds the clause that consists of exactly the assumed literals, without using its hash. Returns how many times
+    /// it is stored: as redundant if `redundant` is true, and as irredundant otherwise.
     pub fn assumed_count(&self, redundant: bool, assigned: &Assigned, looks: &mut Looks) -> u64
         ensures found { result ≡ store_count_in redundant (clause_with (canonical assigned.now.literals) (live self.now)) }
         ensures looks { LooksUpTo (live_length self.now) looks.old looks.new }
@@ -215,8 +215,8 @@ impl Clauses {
         0
     }
 
-    /// Appends a clause with one count: a redundant count if `redundant` is true, and an irredundant count otherwise.
-    /// If memory runs out, the list is empty afterwards.
+    /// Appends a clause that is stored once: as redundant if `redundant` is true, and as irredundant otherwise. If
+    /// memory runs out, the list is empty afterwards.
     pub fn push(
         &mut self,
         id: u64,
@@ -252,8 +252,8 @@ impl Clauses {
         file_all(&mut self.slots, hasher, &mut self.index, looks);
     }
 
-    /// Adds one count to the clause at `place`, which must not be removed: a redundant count if `redundant` is true,
-    /// and an irredundant count otherwise.
+    /// Adds one to a count of the clause at `place`, which must not be removed: to the redundant count if `redundant`
+    /// is true, and to the irredundant count otherwise.
     pub fn add_count(&mut self, place: usize, redundant: bool)
         requires inside { place < length self.old }
         requires there { is_gone (slot_at self.old place) ≡ false }
@@ -263,8 +263,9 @@ impl Clauses {
         self.slots.add_count(place, redundant);
     }
 
-    /// Removes one count of the clause at `place`, whose literals must be `literals`. If this was the last count, the
-    /// clause is removed.
+    /// Subtracts one from a count of the clause at `place`, whose literals must be `literals`: from the redundant
+    /// count if `redundant` is true, and from the irredundant count otherwise. If both counts are now zero, the clause
+    /// is removed.
     pub fn take_count(&mut self, place: usize, redundant: bool, literals: &[Lit])
         requires inside { place < length self.old }
         requires literals { literals.now ≡ literals_at self.old place }
@@ -297,14 +298,14 @@ impl Clauses {
     }
 }
 
-/// Returns the width of a complete hash, 64 bits.
+/// Returns the full width of a hash, 64 bits.
 pub(crate) fn all_bits() -> HashBits
     ensures { result ≡ 64 }
 {
     HashBits::new(64).unwrap()
 }
 
-/// Appends a clause with one count: a redundant count if `redundant` is true, and an irredundant count otherwise.
+/// Appends a clause that is stored once: as redundant if `redundant` is true, and as irredundant otherwise.
 fn add(
     slots: &mut Slots,
     index: &mut SortedPairs,

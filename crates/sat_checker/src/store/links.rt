@@ -1,4 +1,4 @@
-//! Pairs of a hash and a place, in linked lists. For every value of the top bits of a hash, a head gives the place at
+//! Pairs of a hash and a place, in linked lists. For each value of the top bits of a hash, a head gives the place at
 //! which a search starts.
 ghost use Rattle.std.specs.Prelude.{All, ℕ, ◌≡◌, ◌+◌, ◌<◌, ◌≤◌, ◌++◌, length, OnOk, OnErr, None};
 ghost use Rattle.std.specs.List.{AllByRecursion};
@@ -145,7 +145,7 @@ pub(crate) fn put(
     Ok(())
 }
 
-/// Removes the pair at a place.
+/// Removes the pair at `place`.
 pub(crate) fn take(heads: &mut [u32], links: &mut [Link], shift: u32, place: usize)
     requires linked { AreLinked heads.old links.old shift }
     requires some { 0 < length heads.old }
@@ -201,7 +201,7 @@ pub(crate) fn list_all(
     Ok(())
 }
 
-/// Links the pairs in `pairs`, from the last to the first. No pair may be linked yet.
+/// Links the pairs in `pairs`, from the last to the first. No pairs may already be linked.
 pub(crate) fn link_all(heads: &mut [u32], links: &mut [Link], shift: u32, pairs: &[Pair])
     requires few { length links.old ≤ nowhere }
     requires none { All (λ h. h ≡ nowhere) heads.old }

@@ -1,4 +1,4 @@
-//! How many times every literal occurs in the stored clauses.
+//! How many times each literal occurs in the stored clauses.
 ghost use Rattle.std.specs.Prelude.{ℕ, ◌≡◌, ◌+◌, ◌*◌, ◌^◌, ◌<◌, ◌≤◌, ◌==◌, if◌then◌else◌, All, OnOk, MatchBool};
 ghost use Rattle.sat_base.specs.values.Tables.{near_count, HasPlaceFor};
 ghost use Rattle.sat_checker.specs.inner.OccurrenceView.{count_at, times_in};
@@ -6,7 +6,7 @@ ghost use Rattle.sat_checker.specs.inner.OccurrenceView.{count_at, times_in};
 use sat_base::{Lit, Table, Var};
 use std::alloc::{AllocError, Global};
 
-/// A count for every literal, indexed by its code.
+/// A count for each literal, indexed by literal code.
 #[derive(Drop)]
 pub struct Occurrences {
     counts: Table<usize>,
@@ -73,7 +73,7 @@ impl Occurrences {
         self.counts.put(lit.code(), had - 1);
     }
 
-    /// Adds one to the count of a literal for every occurrence in `literals`.
+    /// Adds one to a literal's count for each of its occurrences in `literals`.
     pub fn add(&mut self, literals: &[Lit])
         requires room { All (HasPlaceFor self.old.counts) literals.now }
         requires few { (l : ℕ) → count_at self.old l + times_in l literals.now < 2 ^ 64 }
@@ -84,7 +84,7 @@ impl Occurrences {
         }
     }
 
-    /// Subtracts one from the count of a literal for every occurrence in `literals`. These must have been
+    /// Subtracts one from a literal's count for each of its occurrences in `literals`. These occurrences must have been
     /// counted before.
     pub fn take(&mut self, literals: &[Lit])
         requires { (l : ℕ) → times_in l literals.now ≤ count_at self.old l }

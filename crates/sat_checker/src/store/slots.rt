@@ -122,8 +122,8 @@ impl Slots {
         self.entries.len()
     }
 
-    /// Returns the literals of the clause at `place` as a slice. Counts one look for every literal. Other modules have
-    /// no other access to the literals.
+    /// Returns the literals of the clause at `place` as a slice. Counts one look for each literal. Other modules can
+    /// access the literals only through this function.
     #[inline(always)]
     pub fn literals(&self, place: usize, looks: &mut Looks) -> &[Lit]
         requires { place < length self.now }
@@ -135,7 +135,7 @@ impl Slots {
         literals
     }
 
-    /// Returns the id of the clause at a place.
+    /// Returns the id of the clause at `place`.
     pub fn id(&self, place: usize) -> u64
         requires { place < length self.now }
         ensures { result ≡ (slot_at self.now place).clause.id }
@@ -158,7 +158,7 @@ impl Slots {
         self.buffer.len()
     }
 
-    /// Returns how many times the clause at `place` is stored: as redundant if `redundant` is true, as
+    /// Returns how many times the clause at `place` is stored: as redundant if `redundant` is true, and as
     /// irredundant otherwise.
     pub fn count(&self, place: usize, redundant: bool) -> u64
         requires { place < length self.now }
@@ -205,7 +205,7 @@ impl Slots {
         Ok(())
     }
 
-    /// Appends the clauses of `others` that are not removed. Takes no looks.
+    /// Appends the clauses of `others` that are not removed. Counts no looks.
     pub fn push_standing(&mut self, others: &Slots) -> Result<(), AllocError>
         ensures { OnOk result (self.new ≡ self.old ++ slots_present others.now) }
     {
@@ -225,8 +225,8 @@ impl Slots {
         Ok(())
     }
 
-    /// Adds one count to the clause at `place`: a redundant count if `redundant` is true, and an irredundant
-    /// count otherwise.
+    /// Adds one to a count of the clause at `place`: to the redundant count if `redundant` is true, and to the
+    /// irredundant count otherwise.
     pub fn add_count(&mut self, place: usize, redundant: bool)
         requires inside { place < length self.old }
         requires room { slot_count redundant (slot_at self.old place) + 1 < 2 ^ 64 }
@@ -240,8 +240,8 @@ impl Slots {
         }
     }
 
-    /// Removes one count of the clause at `place`: a redundant count if `redundant` is true, and an irredundant
-    /// count otherwise.
+    /// Subtracts one from a count of the clause at `place`: from the redundant count if `redundant` is true, and from
+    /// the irredundant count otherwise. The count must not be zero.
     pub fn take_count(&mut self, place: usize, redundant: bool)
         requires inside { place < length self.old }
         requires some { 0 < slot_count redundant (slot_at self.old place) }

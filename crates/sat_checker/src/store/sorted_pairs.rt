@@ -42,7 +42,7 @@ fn no_heads(alloc: Global, shift: u32) -> Result<Vec<u32>, AllocError>
     Ok(heads)
 }
 
-/// Makes the lists of all heads empty.
+/// Empties the lists of all heads.
 fn clear_heads(heads: &mut [u32])
     ensures none { All (λ h. h ≡ nowhere) heads.new }
     ensures count { length heads.new ≡ length heads.old }
@@ -74,8 +74,8 @@ fn grow(
     Ok(less)
 }
 
-/// Creates new heads if there are none, or if there are at most twice as many heads as places and fewer than the limit.
-/// Returns the number of hash bits that do not select the head afterwards.
+/// Creates new heads if there are none, or if there are at most twice as many heads as places and fewer heads than the
+/// limit. Returns the resulting number of hash bits that do not select the head.
 fn make_heads(
     alloc: Global,
     heads: &mut Vec<u32>,
@@ -99,7 +99,8 @@ fn make_heads(
     Ok(shift)
 }
 
-/// Pairs ordered by hash, then by place. In contracts, the value is the list of pairs and the number of places.
+/// Pairs ordered by hash and then by place. In contracts, the value consists of the list of pairs and the number
+/// of places.
 #[derive(Drop)]
 pub struct SortedPairs {
     alloc: Global,
@@ -133,7 +134,7 @@ impl SortedPairs {
         }
     }
 
-    /// Returns the number of places that were assigned.
+    /// Returns the number of places that have been assigned.
     pub fn places(&self) -> usize
         ensures count { result ≡ self.now.places }
         ensures few { self.now.places ≤ nowhere }
@@ -194,7 +195,7 @@ impl SortedPairs {
         Ok(())
     }
 
-    /// Removes the pair at a place. The place is not reused.
+    /// Removes the pair at `place`. The place is not reused.
     pub fn remove(&mut self, place: usize)
         requires { place < self.old.places }
         ensures { self.new ≡ record self.old { pairs = without_pair place self.old.pairs } }
@@ -229,7 +230,7 @@ impl SortedPairs {
     }
 }
 
-/// Returns an index with `places` places and without pairs.
+/// Returns an index with `places` places and no pairs.
 pub(crate) fn with_places(alloc: Global, places: usize) -> Result<SortedPairs, AllocError>
     ensures { IfOk result (λ s. s ≡ record { pairs = []; places = places }) }
 {

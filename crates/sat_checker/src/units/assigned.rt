@@ -1,4 +1,4 @@
-//! The assumed literals, and the literals for which there is room, with a mark for every literal code.
+//! The assumed literals, and the literals for which there is room, with a mark for each literal code.
 ghost use Rattle.std.specs.Prelude.{◌≡◌, ◌+◌, ◌-◌, ◌<◌, ◌≤◌, List, [], ◌∷◌, drop, length, OnOk, OnErr, IfSome};
 ghost use Rattle.std.specs.Prelude.{true, false, reverse, ℕ, ◌==◌, get_or, if◌then◌else◌, ◌&&◌, not};
 ghost use Rattle.sat_checker.specs.inner.Marks.{is_assumed, mark_at, AreNear, NoRepeats, LosesAt};
@@ -23,7 +23,7 @@ pub(crate) enum Mark {
 }
 
 /// The assumed literals, without repeats, and the literals for which there is room. In contracts, the newest assumed
-/// literal is the first.
+/// literal comes first.
 #[derive(Drop)]
 pub struct Assigned {
     marks: Table<Mark>,
@@ -47,7 +47,7 @@ impl Model for Assigned {
 }
 
 impl Assigned {
-    /// Creates a value with no assumed literals, and without room for any.
+    /// Creates a value with no assumed literals and no room for any.
     pub fn new(alloc: Global) -> Assigned
         ensures { result ≡ record { literals = []; room = [] } }
     {
@@ -66,7 +66,7 @@ impl Assigned {
         self.trail.len()
     }
 
-    /// Returns the assumed literals as a slice, the oldest first.
+    /// Returns the assumed literals as a slice, oldest first.
     pub fn literals(&self) -> &[Lit]
         ensures lent { result.now ≡ reverse self.now.literals }
         ensures once { NoRepeats result.now }
@@ -133,7 +133,7 @@ impl Assigned {
         self.make_new_room(lit)
     }
 
-    /// Makes room for a literal and for its negation. There must be no room for the literal yet.
+    /// Makes room for a literal and for its negation. There must not already be room for the literal.
     #[inline(never)]
     fn make_new_room(&mut self, lit: Lit) -> Result<(), AllocError>
         requires { is_among self.old.room lit ≡ false }
@@ -152,7 +152,7 @@ impl Assigned {
         Ok(())
     }
 
-    /// Assumes a literal, which must not be assumed yet. Allocates only if there is no room for the literal.
+    /// Assumes a literal, which must not already be assumed. Allocates only if there is no room for the literal.
     #[inline(always)]
     pub fn assume(&mut self, lit: Lit) -> Result<(), AllocError>
         requires { is_among self.old.literals lit ≡ false }
@@ -189,7 +189,7 @@ impl Assigned {
         }
     }
 
-    /// Assumes a literal, for which there must be room, and which must not be assumed yet.
+    /// Assumes a literal. There must be room for the literal, and it must not already be assumed.
     #[inline(always)]
     pub fn assume_in_room(&mut self, lit: Lit)
         requires new { is_among self.old.literals lit ≡ false }
@@ -200,7 +200,7 @@ impl Assigned {
         self.marks.put(lit.code(), Mark::Assumed);
     }
 
-    /// Removes the assumed literal at the position `place`, counted from the oldest literal at 0. The newest literal
+    /// Removes the assumed literal at position `place`, where the oldest literal is at position 0. The newest literal
     /// moves to this position.
     pub fn forget_at(&mut self, place: usize)
         requires { place < length self.old.literals }
@@ -238,7 +238,7 @@ pub fn make_room_for(assigned: &mut Assigned, clause: &[Lit]) -> Result<(), Allo
     Ok(())
 }
 
-/// Assumes a literal, if there is room for it and it isn't assumed yet. Does not allocate.
+/// Assumes a literal if there is room for it and it isn't already assumed. Does not allocate.
 pub fn assume_if_roomy(assigned: &mut Assigned, lit: Lit)
     ensures literals { assigned.new.literals
         ≡ (if is_among assigned.old.room lit && not (is_among assigned.old.literals lit)
@@ -335,7 +335,7 @@ fn is_assumed(mark: Mark) -> bool
     }
 }
 
-/// Does what `look_at` does, also for literals with large codes.
+/// Does what `look_at` does, even for literals with large codes.
 #[inline(never)]
 fn look_far(assigned: &Assigned, clause: &[Lit]) -> Look
     ensures { verdict_of result ≡ verdict assigned.now.literals clause.now }

@@ -6,7 +6,7 @@ ghost use Rattle.sat_checker.specs.inner.LitNumbers.{number_at};
 use sat_base::{Lit, Table};
 use std::alloc::{AllocError, Global};
 
-/// A number for some literals, indexed by literal code. For other literals, 2^64-1 is stored, which is not a
+/// Numbers for some of the literals, indexed by literal code. For the others, 2^64-1 is stored, which is not a
 /// valid number.
 #[derive(Drop)]
 pub(crate) struct LitNumbers {
@@ -42,7 +42,7 @@ impl LitNumbers {
         self.numbers.make_room(lit.code(), u64::MAX)
     }
 
-    /// Sets the number of a literal, for which there must be room. The number must be below 2^64-1.
+    /// Sets the number of a literal. There must be room for the number, and it must be below 2^64-1.
     pub fn put(&mut self, lit: Lit, number: u64)
         requires room { HasPlaceFor self.old.numbers lit }
         requires number { number + 1 < 2 ^ 64 }

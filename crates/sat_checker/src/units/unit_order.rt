@@ -6,7 +6,7 @@ ghost use Rattle.sat_checker.specs.Stored.{StoredUnit};
 
 use std::marker::Model;
 
-/// The stored units, the oldest first.
+/// The stored units, oldest first.
 #[derive(Drop)]
 pub(crate) struct UnitOrder {
     pub ghost units: { List StoredUnit },

@@ -1,5 +1,4 @@
-//! Comparisons of literals with the assumed literals, by which a model is checked and a clause is found without
-//! its hash.
+//! Comparisons of literals with the assumed literals, used to check a model and to find a clause without its hash.
 ghost use Rattle.std.specs.Prelude.{ℕ, ◌≡◌, [], ◌&&◌, not, IfOk, MatchBool};
 ghost use Rattle.std.specs.List.{list_any};
 ghost use Rattle.sat_checker.specs.LiteralSets.{is_among, is_part, mentions, canonical, same_literals};
@@ -33,7 +32,7 @@ pub(crate) fn assume_apart(assigned: &mut Assigned, literals: &[Lit]) -> Result<
     Ok(true)
 }
 
-/// Assumes those of the literals for which there is room. Does not allocate.
+/// Assumes only the literals for which there is room. Does not allocate.
 pub(crate) fn assume_roomy(assigned: &mut Assigned, literals: &[Lit])
     requires { assigned.old.literals ≡ [] }
     ensures marked { (l : ℕ) → is_among assigned.new.literals l
