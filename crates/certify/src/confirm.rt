@@ -98,7 +98,7 @@ pub fn confirm<S: CountedRead, A: CountedRead, C: CountedRead>(
     // No count ever exceeds 64 bits, since each reader gives at most 2^60 bytes.
     ensures counter_end { IsErrOf result ConfirmFault.CounterEnd → ⊥ }
     // If the certificate's reader gave n bytes, `looks` rises by at most 16 (n + 1)^2: by at most the sum of the bounds
-    // of the accepted steps, and of at most one step that is not accepted.
+    // for the accepted steps and for at most one step that is not accepted.
     ensures looks { TakesLooks (C.seen certificate.old) (C.seen certificate.new) looks.old looks.new }
 
     // A read has failed only if the fault of its reader is returned: no verdict follows a failed read.

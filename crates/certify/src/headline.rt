@@ -1,4 +1,4 @@
-//! The headline for texts in memory: runs a script, confirms what that wrote, and confirms any other answers to
+//! The headline for texts in memory: runs a script, confirms what the run wrote, and confirms any other answers to
 //! the script.
 ghost use Rattle.std.specs.Prelude.{◌≤◌, ◌+◌, IfOk, OnOk};
 ghost use Rattle.certify.specs.laws.EndToEnd.{Certified, VerdictSays, most_looks_over};
@@ -101,7 +101,7 @@ fn verdicts_over(
     }
 }
 
-/// Answers a script, confirms what that wrote, and confirms the answers `claimed` with the certificate `shown`.
+/// Answers a script, confirms what was written, and confirms the answers `claimed` with the certificate `shown`.
 pub fn certify_over(
     alloc: Global,
     script: &[u8],
@@ -126,7 +126,7 @@ pub fn certify_over(
     }
 }
 
-/// Runs `script` with at most `budget` rounds for each ask, and confirms what that wrote. Then confirms the answers
+/// Runs `script` with at most `budget` rounds for each ask, and confirms what the run wrote. Then confirms the answers
 /// `claimed` with the certificate `shown`, whoever made them. Returns what was written, and both verdicts.
 pub fn headline_over(
     alloc: Global,

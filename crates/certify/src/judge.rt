@@ -1,14 +1,14 @@
 //! Decides which commands of a script are refused. This depends only on the names in use and their modes.
 //!
-//! A command is refused if it has a name past the limit, or if it is a clause or an ask that has a name in use whose
-//! mode is witness. The leftmost such name is the reason.
+//! A command is refused if it has a name past the limit, or if it is a clause or an ask that contains a name in use
+//! whose mode is witness. The leftmost such name is the reason.
 
 mod names;
 
 pub use names::{Names, NewNames};
 use sat_base::Var;
 
-/// The state of a name that was used before.
+/// The state of a name that has been used before.
 #[derive(Clone, Copy, Drop, PartialEq, Eq)]
 pub(crate) enum NameState {
     /// Not in use.

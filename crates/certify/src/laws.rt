@@ -22,8 +22,8 @@ ghost use Rattle.certify.specs.laws.Rows.{WitnessRefusesAsk};
 pub mod commands;
 pub mod names;
 
-/// States that the answers are correct if script, answers and certificate match: for steps and outcomes, and for the
-/// three texts.
+/// States that the answers are correct if script, answers and certificate match, both as steps and outcomes and
+/// as texts.
 pub fn matching_is_right()
     ensures steps { MatchingIsRight }
     ensures texts { TextsThatMatchAreRight }
@@ -128,7 +128,7 @@ pub fn rows_that_fail()
     ensures extra { AnswersTwice }
 {}
 
-/// Gives examples of certificates: steps that a run can write, and steps that it can't, since some step is missing or
+/// Gives examples of certificates: steps that a run can write, and steps that it can't, since a step is missing or
 /// follows `End`.
 pub fn rows_of_certificates()
     ensures model { ClauseAndAskCertified }

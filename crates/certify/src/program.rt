@@ -33,22 +33,27 @@ use std::io;
 ///   and writes the answers and `c confirmed` to `output`.
 /// - `run S A C [STEPS]`: answers the script in the file S, and writes the answers to A and the certificate to C. Each
 ///   ask may take at most STEPS rounds of search. STEPS is at most 2^64-1, which is the default.
-/// - `confirm S A C`: checks whether the answers in A to the script in S are confirmed with the certificate in C, and
+/// - `confirm S A C`: checks whether the answers in A to the script in S are confirmed by the certificate in C, and
 ///   writes `yes` or `no ASK WHY` to `output`.
 /// - `hints C H`: writes the hint text of the certificate in C to the file H.
 /// - `check H`: checks the hint text in H, and writes `proved empty=E cores=K lines=L`, where E is 0 or 1, or `bad LINE
 ///   WHY` to `output`.
 ///
-/// An output must not be the input or the other output: the two arguments must not be equal, and must not lead to the
-/// same regular file. Otherwise the call is refused like invalid arguments, before any file is opened for writing,
-/// unless only the creation of the first output shows that both outputs are the same file. The two outputs may be the
-/// same file if it is not regular. Files are opened in the order of the arguments. After a finished run, one line with
-/// the solver's counts is written to `errors`.
+/// An output must not be the input or the other output: the two arguments must not be equal, and must not refer to the
+/// same regular file. Otherwise the call is refused like invalid arguments. This happens before any file is opened for
+/// writing, unless only the creation of the first output shows that both outputs are the same file. The two outputs may
+/// be the same file if it is not regular. Files are opened in the order of the arguments. After a finished run, one
+/// line with the solver's counts is written to `errors`.
 ///
-/// Returns the status: 0 if everything is done, confirmed or proved; 1 if the script is malformed, the answers are not
-/// confirmed or the hint text is bad, or if a certificate has no hint text, with the reason on `errors`; 2 for any
-/// other arguments, or arguments that are not text, with the usage on `errors`; 3 after a fault, with its name on
-/// `errors`. After a fault nothing more is written to `output`. Faults of `errors` are ignored.
+/// Returns the status:
+///
+/// - 0 if everything is done, confirmed or proved.
+/// - 1 if the script is malformed, the answers are not confirmed or the hint text is bad; or if a certificate has no
+///   hint text, with the reason on `errors`.
+/// - 2 for any other arguments, or arguments that are not text, with the usage on `errors`.
+/// - 3 after a fault, with its name on `errors`. Nothing more is written to `output` after the fault.
+///
+/// If writing to `errors` fails, the error is ignored.
 pub fn program<R: AllocGlobal + Files, I: CountedRead, O: CountedWrite, E: CountedWrite>(
     rt: &R,
     arguments: io::Result<Vec<String>>,
@@ -115,7 +120,7 @@ fn obey<R: AllocGlobal + Files, I: CountedRead, O: CountedWrite, E: CountedWrite
     }
 }
 
-/// Does a call that names files. Returns the status.
+/// Carries out a call that names files. Returns the status.
 fn serve<R: AllocGlobal + Files, O: CountedWrite, E: CountedWrite>(
     rt: &R,
     call: &Call<'_>,

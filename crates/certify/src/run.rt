@@ -84,33 +84,34 @@ pub fn run<S: CountedRead, A: CountedWrite, C: CountedWrite>(
     certificate: &mut C,
     budget: u64,
 ) -> Result<Summary, RunFault>
-    // The answers' writer received correct answers to the bytes that were read, whatever bytes would follow them.
+    // The answers' writer received correct answers to the bytes that were read, whatever bytes might follow them.
     ensures answered { IfOk result
         (λ s. WritesAnswers budget s (gave S.seen script.old script.new) (took A.seen answers.old answers.new)) }
     // The certificate's writer received the steps of the accepted commands and of these answers, and a checker accepts
     // each step in order. Once the steps record that the clauses are unsatisfiable, every ask is answered `Unsat`
     // without a round of search. In any other ask, every round derived a clause that advances, except the round that
-    // found the answer, and no other clause of the ask advances. If no command hides a name, no variable is deleted.
+    // found the answer, and no other clause of the ask advances. A clause advances if it is new to unit propagation. If
+    // no command hides a name, no variable is deleted.
     ensures guaranteed { CertificateIsGuaranteed result budget S.seen A.seen C.seen (script.old, answers.old, certificate.old)
         (script.new, answers.new, certificate.new) }
     ensures flushed { OnOk result (((A.seen answers.new).flushed ≡ true) × ((C.seen certificate.new).flushed ≡ true)) }
     // If the run is not finished, the answers' writer received a prefix of correct answers to the bytes that were read,
-    // whatever bytes would follow them. Every unknown answer among them has exhausted its rounds.
+    // whatever bytes might follow them. Every unknown answer among them has exhausted its rounds.
     ensures unfinished { OnErr result
         (Unfinished budget (gave S.seen script.old script.new) (took A.seen answers.old answers.new)) }
     // Whatever is returned, the certificate's writer received a prefix of the text of steps that a checker accepts, and
     // nothing else.
     ensures steps { TookSteps (took C.seen certificate.old certificate.new) }
 
-    // The fault of a device is returned only for its cause: exactly one call to the device failed, or none of 2^48
-    // reads did.
+    // A device's fault is returned only if exactly one call to the device failed, or none of 2^48 reads did.
     ensures script_read { IsErrOf result RunFault.ScriptRead → ReadFails (S.seen script.old) (S.seen script.new) }
     ensures answers_write { IsErrOf result RunFault.AnswersWrite
         → WriteFails (A.seen answers.old) (A.seen answers.new) }
     ensures certificate_write { IsErrOf result RunFault.CertificateWrite
         → WriteFails (C.seen certificate.old) (C.seen certificate.new) }
-    // `CounterEnd` is returned only if the bytes that were read contain 2^64-1 commands, or a command for whose names
-    // there are not enough variables, after steps of whose text the certificate's writer received a prefix.
+    // `CounterEnd` is returned only if the bytes that were read contain 2^64-1 commands, or a command whose names
+    // need more variables than are left after some steps. The certificate's writer received a prefix of the text of
+    // these steps.
     ensures counter_end { IsErrOf result RunFault.CounterEnd → CounterEnds (gave S.seen script.old script.new)
         (took C.seen certificate.old certificate.new) }
     // A call to a device has failed only if the fault of that device is returned.
@@ -119,7 +120,7 @@ pub fn run<S: CountedRead, A: CountedWrite, C: CountedWrite>(
     ensures kept_answers { IsErrOf result RunFault.AnswersWrite ⊎ WritesKept A.seen answers.old answers.new }
     ensures kept_certificate { IsErrOf result RunFault.CertificateWrite
         ⊎ WritesKept C.seen certificate.old certificate.new }
-    // The script is read at most 2^48 times.
+    // At most 2^48 reads are made of the script.
     ensures reads { (S.seen script.new).calls ≤ (S.seen script.old).calls + most_reads }
 {
     answer_into(alloc, script, answers, certificate, budget)

@@ -12,7 +12,7 @@ use sat_base::Lit;
 /// The kind of a command.
 #[derive(Clone, Copy, Debug, Drop, PartialEq, Eq)]
 pub enum CommandKind {
-    /// A clause of the literals. A clause without literals is false.
+    /// A clause with the literals. A clause without literals is false.
     Clause,
     /// An ask about the clauses so far, with the literals as assumptions.
     Ask,
@@ -31,11 +31,11 @@ pub struct Command<'a> {
     /// The literals before the first one whose name is past 2^28. In a command that lists names, a name is a
     /// positive literal.
     pub literals: &'a [Lit],
-    /// Whether a name of the command is past 2^28. Then `literals` ends before that name.
+    /// Whether a name of the command is past 2^28. If so, `literals` ends before that name.
     pub past_limit: bool,
 }
 
-/// How far a reader of scripts came.
+/// How far a script reader got.
 #[derive(Clone, Copy, Debug, Drop, PartialEq, Eq)]
 pub enum Reached {
     /// The end of the bytes.

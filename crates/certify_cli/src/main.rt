@@ -45,8 +45,8 @@ fn is_open<S: AsFd>(stream: &S) -> bool {
     }
 }
 
-/// Opens `/dev/null` as the descriptor of a stream if that is not open. Otherwise the next file to be opened would get
-/// the descriptor, and receive what is written to the stream. All lower descriptors must be open.
+/// Opens `/dev/null` as the descriptor of a stream if that descriptor is not open. Otherwise the next file to be opened
+/// would get the descriptor, and receive what is written to the stream. All lower descriptors must be open.
 fn hold<S: AsFd>(rt: &HostRuntime, stream: &S) -> io::Result<Option<File>> {
     if is_open(stream) {
         return Ok(None);
@@ -71,8 +71,8 @@ fn call(rt: &HostRuntime) -> io::Result<u8> {
     Ok(program(rt, arguments, &mut input, &mut output, &mut errors))
 }
 
-/// Runs the program, and returns its status. If a closed standard stream can't be opened, returns the status of a fault
-/// without doing anything.
+/// Runs the program, and returns its status. If a closed standard stream can't be opened, returns the status for a
+/// fault without doing anything.
 fn main(rt: HostRuntime) -> ExitCode {
     ExitCode::from(call(&rt).unwrap_or(FAILED))
 }

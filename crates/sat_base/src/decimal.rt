@@ -45,7 +45,7 @@ fn write_short(bytes: &mut [u8], len: usize, number: u64) -> usize
     len + 4
 }
 
-/// Does what `write_decimal` does, by a recursion over pairs of digits.
+/// Does what `write_decimal` does, recursing over pairs of digits.
 fn write_long(bytes: &mut [u8], len: usize, number: u64) -> usize
     requires { len + length (decimal number) ≤ length bytes.old }
     ensures end { result ≡ len + length (decimal number) }

@@ -38,7 +38,7 @@ pub trait CountedRead: Read {
 pub trait CountedWrite: Write {
     ghost seen: { Self → Writer };
 
-    /// Writes once. The call counts as failed if it returns `Err`, or if it accepts no byte although `piece` is
+    /// Writes once. The call counts as failed if it returns `Err`, or if it accepts no bytes although `piece` is
     /// not empty.
     fn write_counted(&mut self, piece: &[u8]) -> io::Result<usize>
         ensures bound { WritesAtMost result piece.now }

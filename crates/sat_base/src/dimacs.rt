@@ -1,4 +1,4 @@
-//! Parses formulas in DIMACS CNF, in any chunking.
+//! Parses formulas in DIMACS CNF, in chunks of any size.
 ghost use Rattle.std.specs.Prelude.{◌≡◌, ◌≤◌, ◌<◌, ◌+◌, ◌++◌, ◌⊎◌, false, length, Ok, Err, IfOk, IfErr, OnOk, IsErrOf};
 ghost use Rattle.std.specs.Io.{ReadsAtMost};
 ghost use Rattle.sat_base.specs.device.Device.{most_reads, ReadFails, GaveEnough};
@@ -27,12 +27,12 @@ use std::alloc::Global;
 use std::io;
 use std::marker::Model;
 
-/// A parser of DIMACS CNF, which receives the text of a formula in chunks. Of the text it stores only the clauses that
+/// A parser of DIMACS CNF, which receives the text of a formula in chunks. Of the text, it stores only the clauses that
 /// have not been taken yet, the unfinished clause, and the header.
 ///
 /// Contracts see the bytes that were fed, the clauses that were taken, and whether the parser has stopped. The parser
-/// stops at a fault of the text, if memory runs out, and when the text is finished. Even then, the clauses read so far
-/// can be taken.
+/// stops at a fault in the text, when memory runs out, and when the text is finished. Even then, the clauses read so
+/// far can be taken.
 #[derive(Drop)]
 pub struct DimacsParser {
     parser: Parser,
@@ -50,7 +50,7 @@ impl Model for DimacsParser {
     ghost invariant = { λ d. IsParser d.parser };
 }
 
-/// Returns the error of the closure, if there is one, and the result of the parser otherwise.
+/// Returns the closure's error, if there is one, and the parser's result otherwise.
 fn refusal_or<E: Drop>(
     seen: Result<(), E>,
     answer: Result<(), DimacsError>,
@@ -78,7 +78,7 @@ impl DimacsParser {
         }
     }
 
-    /// Feeds the next bytes of the text to the parser. After an `Err` the parser has stopped, either at a fault or
+    /// Feeds the next bytes of the text to the parser. After an `Err`, the parser has stopped, either at a fault or
     /// because memory ran out. A fault is on the line of the malformed word, or of the number above 2^28. A malformed
     /// word is reported at the first byte after which it can no longer become valid.
     pub fn feed(&mut self, piece: &[u8]) -> Result<(), DimacsError>
@@ -89,15 +89,15 @@ impl DimacsParser {
         self.parser.feed(piece)
     }
 
-    /// Finishes the text. A text that ends inside a clause is malformed on its last line. This is reported even if no
-    /// memory is left, since only a last clause that is complete needs memory.
+    /// Handles the end of the text. A text that ends inside a clause is malformed on its last line. This is reported
+    /// even if no memory is left, since memory is needed only if the last clause is complete.
     pub fn finish(&mut self) -> Result<(), DimacsError>
         ensures { Finishes result self.old self.new }
     {
         self.parser.finish()
     }
 
-    /// Returns a formula with the clauses that were read since the last call, and with `var_count` variables. Does
+    /// Returns a formula with the clauses that have been read since the last call, and with `var_count` variables. Does
     /// not allocate.
     pub fn take_formula(&mut self) -> CnfFormula
         ensures progress { self.new ≡ all_taken self.old }
@@ -141,7 +141,7 @@ impl DimacsParser {
     /// Reads a formula up to the end of its text, which is the end of the reader or a line that begins with `%`.
     /// Returns `OutOfMemory` only if the bytes that were read have no fault.
     pub fn parse<R: CountedRead>(alloc: Global, reader: &mut R) -> Result<CnfFormula, DimacsError>
-        // The formula or the fault is that of the bytes that were read, whatever bytes would follow them.
+        // The formula or the fault is that for the bytes that were read, whatever bytes might follow them.
         ensures given { GaveEnough (R.seen reader.old) (R.seen reader.new) (Parses result) }
         // A read has failed only if `Read` is returned, and no read is repeated.
         ensures kept { IsErrOf result DimacsError.Read ⊎ ((R.seen reader.new).failures ≡ (R.seen reader.old).failures) }
@@ -171,7 +171,7 @@ impl DimacsParser {
         reader.read_counted(room)
     }
 
-    /// Feeds the next bytes to the parser. If memory runs out, returns the first fault of these bytes instead, if there
+    /// Feeds the next bytes to the parser. If memory runs out, returns the first fault in these bytes instead, if there
     /// is one.
     fn feed_or_find_fault(&mut self, piece: &[u8]) -> Result<(), DimacsError>
         ensures fed { OnOk result (FeedsPiece (Ok tt) piece.now self.old self.new) }
@@ -217,9 +217,9 @@ impl DimacsParser {
         closure: F,
     ) -> Result<DimacsParser, IncrementalError<E>>
         requires { F.IsAlwaysCallable closure }
-        // If no call of the closure does more than take clauses, the result is that of the bytes that were read,
-        // whatever bytes would follow them. By the contract of `take_formula`, the clauses that were taken and those
-        // that remain are together the clauses of the text.
+        // If no call to the closure does more than take clauses, the result is that for the bytes that were read,
+        // whatever bytes might follow them. By the contract of `take_formula`, the clauses that were taken and those
+        // that remain together make up the clauses of the text.
         ensures given { KeepsText (λ f p r q g. F.step f p r q g) closure
             → ParsesInParts (R.seen reader.old) (R.seen reader.new) result }
         // Whatever the closure does, it was called with the parser after every chunk that the reader gave.

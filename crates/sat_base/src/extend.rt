@@ -1,10 +1,10 @@
-//! A trait for everything to which clauses and variables can be added.
+//! A trait for types that clauses and variables can be added to.
 ghost use Rattle.std.specs.Prelude.{◌≡◌, ℕ, List, true, MatchResult};
 ghost use Rattle.sat_base.specs.values.Literals.{coded};
 
 use crate::{Lit, Var};
 
-/// A formula to which clauses and variables can be added, or an owner of such a formula, for example a solver. Every
+/// A formula to which clauses and variables can be added, or an owner of such a formula, such as a solver. Every
 /// implementation defines relations that specify the effects of its methods. In these relations, a clause is a list of
 /// literal codes, and a variable is an index.
 pub trait ExtendFormula {

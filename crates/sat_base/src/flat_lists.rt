@@ -1,4 +1,4 @@
-//! Lists of lists, stored as a buffer with the items of all lists, and the position where every list ends.
+//! Lists of lists, stored as a buffer with the items of all lists, and the position where each list ends.
 #![tactic(auto, using(crate::proofs::lemmas::values::FlatLemmas::flat))]
 
 ghost use Rattle.std.specs.Prelude.{◌≡◌, ◌≤◌, ◌<◌, ◌↔◌, ◌++◌, ◌∷◌, [], List, IsTrue, length, slice_index};

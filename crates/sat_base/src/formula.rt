@@ -49,7 +49,7 @@ impl CnfFormula {
         }
     }
 
-    /// Returns the number of variables. The indices of the variables are the numbers below this.
+    /// Returns the number of variables. The indices of the variables are the numbers below it.
     pub fn var_count(&self) -> usize
         ensures count { result ≡ self.now.var_count }
         ensures covers { vars_of self.now.clauses ≤ self.now.var_count }

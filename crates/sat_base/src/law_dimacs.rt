@@ -1,23 +1,23 @@
-//! Laws about the texts of formulas, which only proofs use.
+//! Laws about the texts of formulas, for use only in proofs.
 ghost use Rattle.sat_base.specs.dimacs.DimacsRows.{CleanRows, FaultRows, HeaderRows, PartRows};
 ghost use Rattle.sat_base.specs.dimacs.DimacsSpelling.{OneFormula, CleanIfSpelled};
 ghost use Rattle.sat_base.specs.dimacs.WrittenDimacs.{WrittenIsRead};
 
-/// States that every text is read as exactly one list of clauses and one end. A text is read as some clauses without a
-/// fault exactly when its words outside comments and before a `%` line spell them: an optional header, and then one
-/// clause after another. The call does nothing.
+/// States that every text is read as exactly one list of clauses and one end. A text is read as a given list of
+/// clauses, without a fault, exactly when its words outside comments and before a `%` line spell that list: an optional
+/// header, and then one clause after another. The call does nothing.
 pub fn dimacs_laws()
     ensures one { OneFormula }
     ensures spelled { CleanIfSpelled }
 {}
 
-/// States that the text that is written for a formula is read as that formula: its clauses in order, without a fault,
-/// and a header with the numbers of variables and clauses. The call does nothing.
+/// States that the text written for a formula is read as that formula: its clauses in order, without a fault, and a
+/// header with the numbers of variables and clauses. The call does nothing.
 pub fn written_dimacs_is_read()
     ensures { WrittenIsRead }
 {}
 
-/// States the meaning of example texts. The call does nothing.
+/// Gives example texts and their meaning. The call does nothing.
 pub fn dimacs_rows()
     ensures clean { CleanRows }
     ensures faults { FaultRows }

@@ -21,7 +21,7 @@ pub fn steps_have_one_spelling()
     ensures { (step : Step) (a b : List ℕ) → SpellsStep step a → SpellsStep step b → a ≡ b }
 {}
 
-/// States that the bytes that are written for a step are its only encoding.
+/// States that the bytes written for a step are its only encoding.
 pub fn written_steps_are_spellings()
     ensures { (step : Step) (text : List ℕ) → SpellsStep step text → text ≡ step_bytes step }
 {}

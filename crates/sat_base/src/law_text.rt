@@ -1,10 +1,10 @@
-//! Laws about the meaning of texts, which only proofs use.
+//! Laws about the meaning of texts, for use only in proofs.
 ghost use Rattle.sat_base.specs.script.ScriptSpelling.{OneReading, ReadIfSpelled};
 ghost use Rattle.sat_base.specs.script.ScriptRows.{ReadRows, MalformedRows};
 
-/// States that every script is read as exactly one list of commands and one end. A script is read as some commands and
-/// an end exactly when its words spell them: one command after another, and then the end, or words with which no
-/// command begins. The call does nothing.
+/// States that every script is read as exactly one list of commands and one end. A script is read as a given list of
+/// commands and a given end exactly when its words spell them: one command after another, and then the end, or words
+/// that begin no command. The call does nothing.
 pub fn script_laws()
     ensures one { OneReading }
     ensures spelled { ReadIfSpelled }

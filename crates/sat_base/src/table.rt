@@ -140,7 +140,7 @@ impl<T: Copy> Table<T> {
         Ok(())
     }
 
-    /// Makes the first place that is not near, `next`, near.
+    /// Makes `next`, the first place that is not near, near.
     fn draw_next(&mut self, next: usize, missing: T) -> Result<(), AllocError>
         requires { length self.old.near.items ≡ next }
         ensures longer { OnOk result (length self.new.near.items ≡ next + 1) }

@@ -15,7 +15,7 @@ use header::{HeaderPlace, Stage, ended_in, next_in_header};
 /// A token: a word, or a header line.
 #[derive(Clone, Copy, Debug, Drop, PartialEq, Eq)]
 pub enum Token {
-    /// A number: an optional `-`, and digits. Values above 2^64-1 are capped to 2^64-1. A number with the value 0 is
+    /// A number: an optional `-`, and digits. Values above 2^64-1 are capped at 2^64-1. A number with the value 0 is
     /// not negative.
     Number { negative: bool, value: u64 },
     /// A word of one ASCII letter.
@@ -27,8 +27,8 @@ pub enum Token {
     Wrong,
 }
 
-/// A place in a text, as far as it matters for what follows. A flag says whether a header may still come. In a place
-/// without a flag, no further header may come.
+/// A place in a text, reduced to what matters for the bytes that follow. A flag says whether a header may still come.
+/// If a place has no flag, no further header may come.
 #[derive(Clone, Copy, Drop)]
 enum Place {
     /// At the start of a line.
@@ -276,7 +276,7 @@ fn header_token(place: HeaderPlace) -> Token
     }
 }
 
-/// Returns the token that is completed if the line ends at `place`, if there is one.
+/// Returns the token that is completed if the line ends at `place`, or `None`.
 #[inline(always)]
 fn token_in(place: Place) -> Option<Token>
     ensures { SaysInHand result place }
@@ -397,7 +397,7 @@ impl Tokenizer {
         ensures takes { TakesByte self.old byte result self.new }
         // Only a blank ends a word.
         ensures inside { is_blank byte ≡ false → result ≡ None }
-        // After a blank no word is unfinished, and after LF no header line is unfinished.
+        // After a blank, no word is unfinished. After an LF, no header line is unfinished.
         ensures quiet { is_blank byte ≡ true → (after : List ℕ → Scan) → IsPositionedBefore self.new after
             → HoldsNoWord (after []) }
         ensures ended { byte ≡ 10 → (after : List ℕ → Scan) → IsPositionedBefore self.new after → (after []).tokens ≡ [] }
@@ -442,7 +442,7 @@ impl Tokenizer {
 
     /// Receives the number at the start of `bytes` and the space or LF after it, if a word begins here. Returns how
     /// many bytes were received, whether the number is negative, and its absolute value, capped at 2^64-1. Otherwise
-    /// receives nothing and returns `None`; then `push_some` must be called.
+    /// receives nothing and returns `None`; in that case, `push_some` must be called instead.
     #[inline(always)]
     pub fn push_whole(&mut self, bytes: &[u8]) -> Option<(usize, bool, u64)>
         ensures none { result ≡ None → self.new ≡ self.old }
@@ -510,8 +510,8 @@ impl Tokenizer {
         }
     }
 
-    /// Whether a line that begins with `%` has ended the text. Exactly then, all bytes that follow are ignored and need
-    /// not be read. In this case no token is unfinished.
+    /// Whether a line that begins with `%` has ended the text. This is true exactly when all bytes that follow are
+    /// ignored, so that they need not be read. In that case, no token is unfinished.
     #[inline(always)]
     pub fn is_over(&self) -> bool
         ensures over { result ≡ true → (before : List ℕ → Scan) → IsPositionedBefore self.now before → IgnoresRest before }
@@ -530,7 +530,7 @@ impl Tokenizer {
         token_in(self.place)
     }
 
-    /// Returns the line number of the last byte, or 0 before the first byte. Lines are counted from 1, and the number
+    /// Returns the line number of the last byte, or 0 before the first byte. Lines are numbered from 1, and the number
     /// is capped at 2^64-1. After the `%` that ends the text, it is the line of the `%`. The token that the last byte
     /// ended is on this line, and so is the token that `finish` returns.
     pub fn line(&self) -> u64

@@ -39,7 +39,7 @@ impl Var {
         }
     }
 
-    /// Returns the index, which is counted from 0.
+    /// Returns the index. The lowest index is 0.
     pub fn index(self) -> usize
         ensures value { result ≡ self }
         ensures bound { result < var_limit }
@@ -47,7 +47,7 @@ impl Var {
         self.index as usize
     }
 
-    /// Returns the variable with this number in DIMACS, where variables are counted from 1. Returns `None` if the
+    /// Returns the variable with this number in DIMACS, where variables are numbered from 1. Returns `None` if the
     /// number is below 1 or above 2^28.
     pub fn from_dimacs(number: i64) -> Option<Var>
         ensures { MatchOption result (IsNoVariable number) (λ v. number ≡ pos (v + 1)) }
@@ -60,7 +60,7 @@ impl Var {
         })
     }
 
-    /// Returns the number of the variable in DIMACS, where variables are counted from 1.
+    /// Returns the number of the variable in DIMACS, where variables are numbered from 1.
     pub fn to_dimacs(self) -> i64
         ensures value { result ≡ pos (self + 1) }
         ensures bound { self < var_limit }

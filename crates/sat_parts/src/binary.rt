@@ -80,7 +80,7 @@ fn push_part(lits: &mut Vec<Lit>, start: usize, len: usize)
 
 /// Moves a literal's list to the end of the common list, and doubles its capacity.
 ///
-/// Positions have 32 bits. If the common list would become longer than that, returns an error.
+/// Positions have 32 bits. If the common list would become too long for them, returns an error.
 fn move_list(places: &mut Vec<Place>, lits: &mut Vec<Lit>, code: usize) -> Result<(), AllocError>
     requires places { ArePlaces places.old.items (length lits.old.items) }
     requires below { code < length places.old.items }
@@ -304,7 +304,7 @@ impl BinaryClauses {
         pop(&mut self.by_lit, &self.lits, lit.code());
     }
 
-    /// Adds the clause of two literals. If memory runs out, nothing changes.
+    /// Adds the binary clause with these literals. If memory runs out, nothing changes.
     pub fn add_binary_clause(&mut self, lits: [Lit; 2]) -> Result<(), AllocError>
         requires first { negated (slice_index_or lits 0 0) < length self.old.implied }
         requires second { negated (slice_index_or lits 1 0) < length self.old.implied }

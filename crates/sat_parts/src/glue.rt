@@ -94,7 +94,7 @@ pub fn compute_clause_glue_below(
     glue
 }
 
-/// Sets the flags of the levels of a clause, for at most `limit` levels. Returns the number of these levels, and the
+/// Sets the flags of at most `limit` levels among the literals of a clause. Returns the number of these levels, and the
 /// number of literals that were read.
 fn mark_clause_levels(
     flags: &mut TmpFlags,
@@ -128,7 +128,7 @@ fn mark_clause_levels(
     (glue, end)
 }
 
-/// Clears the flags of the levels of the first `seen` literals of a clause.
+/// Clears the flags of the levels among the first `seen` literals of a clause.
 fn clear_clause_levels(
     flags: &mut TmpFlags,
     graph: &ImplGraph,

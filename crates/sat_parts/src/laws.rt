@@ -14,7 +14,7 @@ pub fn levels_stay()
     ensures { LevelsStay }
 {}
 
-/// States facts about the word of a trail: how it ends, and that it is greater than the word before levels were undone.
+/// States how the word of a trail ends, and that it is greater than the word was before levels were undone.
 pub fn words_rise()
     ensures { WordsRise }
 {}

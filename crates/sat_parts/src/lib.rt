@@ -1,4 +1,4 @@
-//! Unit propagation, the data on which it works (values, trail, reasons, clauses), and a struct that holds all of this.
+//! Unit propagation, the data that it works on (values, trail, reasons, clauses), and a struct that holds all of this.
 #![tactic(auto)]
 
 pub mod binary;

@@ -1,4 +1,4 @@
-//! Unit propagation, and the data on which it works.
+//! Unit propagation, and the data that it works on.
 ghost use Rattle.std.specs.Prelude.{◌≡◌, true, IfOk, OnOk};
 ghost use Rattle.sat_parts.specs.clause.Db.{DbMatchesBuffer};
 ghost use Rattle.sat_parts.specs.prop.Ready.{state_of};

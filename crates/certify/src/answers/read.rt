@@ -1,5 +1,5 @@
-//! Reads answers line by line, from the beginning of their bytes. Bytes that don't have exactly this form are refused:
-//! single spaces, no leading zeros, LF at the end of every line, and names from 1 to 2^28 in order.
+//! Reads answers line by line, each from the start of a byte slice. Bytes are refused unless they have exactly this
+//! form: single spaces, no leading zeros, LF at the end of every line, and names from 1 to 2^28 in order.
 ghost use Rattle.std.specs.Prelude.{◌≡◌, ◌++◌, ◌∷◌, [], false, ◌*◌, ◌<◌, ◌≤◌, decimal, MatchOption, MatchResult, List};
 ghost use Rattle.std.specs.Prelude.{ℕ};
 ghost use Rattle.certify.specs.answers.AnswerForms.{IsName};
@@ -66,8 +66,8 @@ pub fn is_front(bytes: &[u8], text: &[u8]) -> bool
     }
 }
 
-/// Returns the name that follows from `name` by appending the digit `byte`. A `name` of 0 has no digits yet. Returns
-/// `None` if `byte` is not a digit, for a leading zero, and if the result is past the limit.
+/// Returns the name obtained by appending the digit `byte` to `name`. A `name` of 0 has no digits yet. Returns `None`
+/// if `byte` is not a digit or is a leading zero, or if the result is past the limit.
 fn with_digit(name: usize, byte: u8) -> Option<usize>
     requires { name ≤ var_limit }
     ensures { MatchOption result (NoNameDigit name byte)
@@ -83,7 +83,7 @@ fn with_digit(name: usize, byte: u8) -> Option<usize>
     Some(more)
 }
 
-/// Returns the name at the start of `bytes`, which a space must follow, and the bytes after that space.
+/// Returns the name at the start of `bytes`, and the bytes after the space that must follow it.
 fn read_name(bytes: &[u8]) -> Option<(usize, &[u8])>
     ensures { MatchOption result (NoName bytes.now) (λ x. IsName x.0 × (bytes.now ≡ decimal x.0 ++ (32 ∷ x.1.now))) }
 {
@@ -116,7 +116,7 @@ fn begins_name(bytes: &[u8]) -> bool
     true
 }
 
-/// Returns the literal at the start of `bytes`, which a space must follow, and the bytes after that space.
+/// Returns the literal at the start of `bytes`, and the bytes after the space that must follow it.
 fn read_literal(bytes: &[u8]) -> Option<(Lit, &[u8])>
     ensures { MatchOption result (NoLiteral bytes.now) (λ x. BeginsWithLiteral bytes.now x.0 x.1.now) }
 {
@@ -142,7 +142,7 @@ fn begins_literal(bytes: &[u8]) -> bool
     }
 }
 
-/// Returns a number by which the literals are ordered in the second line of an answer of this kind.
+/// Returns the sort key of `lit` in the second line of an answer of this kind.
 fn literal_place(kind: AnswerKind, lit: Lit) -> usize
     ensures value { result ≡ literal_place kind lit }
     ensures bound { result < 2 * var_limit }

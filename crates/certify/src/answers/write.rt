@@ -9,7 +9,7 @@ ghost use Rattle.sat_base.specs.script.ScriptState.{PastLimit};
 use sat_base::{Lit, MOST_DIGITS, push_decimal, write_decimal};
 use std::alloc::AllocError;
 
-/// Appends a literal in the form of DIMACS.
+/// Appends a literal in DIMACS notation.
 pub fn push_literal(out: &mut Vec<u8>, lit: Lit) -> Result<(), AllocError>
     ensures { OnOk result (out.new.items ≡ out.old.items ++ word_of (named_literal lit)) }
 {
@@ -32,7 +32,7 @@ fn push_literals(out: &mut Vec<u8>, lits: &[Lit]) -> Result<(), AllocError>
     out.extend_from_slice(b"0\n")
 }
 
-/// Appends the line `s SATISFIABLE` and the line of a model.
+/// Appends the line `s SATISFIABLE` and the `v` line with a model.
 pub fn push_sat(out: &mut Vec<u8>, line: &[Lit]) -> Result<(), AllocError>
     ensures { OnOk result (out.new.items ≡ out.old.items ++ outcome_text (Sat (named_literals line.now))) }
 {
@@ -40,7 +40,7 @@ pub fn push_sat(out: &mut Vec<u8>, line: &[Lit]) -> Result<(), AllocError>
     push_literals(out, line)
 }
 
-/// Appends the line `s UNSATISFIABLE` and the line of a core.
+/// Appends the line `s UNSATISFIABLE` and the `f` line with a core.
 pub fn push_unsat(out: &mut Vec<u8>, core: &[Lit]) -> Result<(), AllocError>
     ensures { OnOk result (out.new.items ≡ out.old.items ++ outcome_text (Unsat (named_literals core.now))) }
 {
@@ -55,7 +55,7 @@ pub fn push_unknown(out: &mut Vec<u8>) -> Result<(), AllocError>
     out.extend_from_slice(b"s UNKNOWN\n")
 }
 
-/// Appends the line that says that command number `command` is refused for a name past the limit.
+/// Appends the line that says that command number `command` is refused because of a name past the limit.
 pub fn push_refused_limit(out: &mut Vec<u8>, command: u64) -> Result<(), AllocError>
     ensures { OnOk result (out.new.items ≡ out.old.items ++ refused_line command PastLimit) }
 {
@@ -64,7 +64,7 @@ pub fn push_refused_limit(out: &mut Vec<u8>, command: u64) -> Result<(), AllocEr
     out.extend_from_slice(b" limit\n")
 }
 
-/// Appends the last line of the answers to a script that is malformed at command number `command`.
+/// Appends the last line of the answers for a script that is malformed at command number `command`.
 pub fn push_malformed(out: &mut Vec<u8>, command: u64) -> Result<(), AllocError>
     ensures { OnOk result (out.new.items ≡ out.old.items ++ malformed_line command) }
 {

@@ -44,7 +44,7 @@ fn is_same(line: &[u8], due: &[u8]) -> bool
     line == due
 }
 
-/// Whether the line that was read is empty, because the answers have ended.
+/// Whether the line that was read is empty, which means that the answers have ended.
 fn is_none(line: &[u8]) -> bool
     ensures { MatchBool result (line.now ≡ []) (line.now ≡ [] → ⊥) }
 {
@@ -104,7 +104,7 @@ impl Answers {
         }
     }
 
-    /// Reads the next line of the answers. Stops early once the bytes can't begin an allowed line.
+    /// Reads the next line of the answers. Stops early once the bytes can no longer begin an allowed line.
     fn next_line<A: CountedRead>(&mut self, answers: &mut A, wanted: Wanted) -> Result<(), Stop>
         ensures line { NextLine (IsWantedLine wanted self.old.due.items) result
             (answers_source A.seen answers.old self.old) (answers_source A.seen answers.new self.new)

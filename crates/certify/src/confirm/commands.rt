@@ -133,8 +133,8 @@ impl ConfirmState {
         }
     }
 
-    /// Reads the answer to an ask, after the step with the assumptions. Expects the step that shows the answer, and the
-    /// end of the ask.
+    /// Reads the answer to an ask, after the step with the assumptions. Expects the step that shows that the answer is
+    /// correct, and the end of the ask.
     fn confirm_answer<A: CountedRead, C: CountedRead>(
         &mut self,
         answers: &mut A,

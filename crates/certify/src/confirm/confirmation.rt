@@ -50,7 +50,7 @@ impl Confirmation {
             .confirm_command(answers, steps, self.script.command())
     }
 
-    /// Confirms the command that was read last, which the end of the script follows, and then the end.
+    /// Confirms the command that was read last, and then the end of the script, which follows it.
     fn confirm_last<A: CountedRead, C: CountedRead>(
         &mut self,
         answers: &mut A,

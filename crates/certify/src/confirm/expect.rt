@@ -59,8 +59,8 @@ fn unless(holds: bool, why: Why) -> Option<Why>
     Some(why)
 }
 
-/// Checks that the step gives `name` a variable that the checker does not know yet. Returns the reason if not, or
-/// `None`.
+/// Checks whether the step gives `name` a variable that the checker does not know yet. Returns `None` if so, and
+/// otherwise the reason.
 fn compare_new_name(known: Known<'_>, step: &ProofStep<'_>, name: Var) -> Option<Why>
     ensures { Compares (λ o ask. NewName (name + 1)) known.entry (step_of step.now) result }
 {
@@ -80,7 +80,7 @@ fn compare_new_name(known: Known<'_>, step: &ProofStep<'_>, name: Var) -> Option
     None
 }
 
-/// Checks that the step removes `name` from its variable. Returns the reason if not, or `None`.
+/// Checks whether the step removes `name` from its variable. Returns `None` if so, and otherwise the reason.
 fn compare_no_name(known: Known<'_>, step: &ProofStep<'_>, name: Var) -> Option<Why>
     ensures { Compares (λ o ask. NoName (name + 1)) known.entry (step_of step.now) result }
 {
@@ -99,8 +99,8 @@ fn compare_no_name(known: Known<'_>, step: &ProofStep<'_>, name: Var) -> Option<
     None
 }
 
-/// Checks that the step adds a clause with the literals of the script's clause, in any order and with any repeats.
-/// Returns the reason if not, or `None`.
+/// Checks whether the step adds a clause with the literals of the script's clause, in any order and with any repeats.
+/// Returns `None` if so, and otherwise the reason.
 fn compare_clause(
     known: Known<'_>,
     step: &ProofStep<'_>,
@@ -116,8 +116,8 @@ fn compare_clause(
     Ok(unless(same, Why::ClauseDiffers))
 }
 
-/// Checks that the step assumes the literals of the ask, in any order and with any repeats. Returns the reason if not,
-/// or `None`.
+/// Checks whether the step assumes the literals of the ask, in any order and with any repeats. Returns `None` if so,
+/// and otherwise the reason.
 fn compare_ask(
     known: Known<'_>,
     step: &ProofStep<'_>,
@@ -133,8 +133,8 @@ fn compare_ask(
     Ok(unless(same, Why::AskDiffers))
 }
 
-/// Checks that the step has the core of the answer. Returns the reason if not, or `None`. The checker will check the
-/// step's hashes.
+/// Checks whether the step has the core of the answer. Returns `None` if so, and otherwise the reason. The checker will
+/// check the step's hashes.
 fn compare_core(
     known: Known<'_>,
     step: &ProofStep<'_>,
@@ -169,7 +169,7 @@ fn is_line(
     Ok(false)
 }
 
-/// Checks that the step is a model with the values of `line`. Returns the reason if not, or `None`.
+/// Checks whether the step is a model with the values of `line`. Returns `None` if so, and otherwise the reason.
 fn compare_line(
     known: Known<'_>,
     step: &ProofStep<'_>,
@@ -185,7 +185,7 @@ fn compare_line(
     Ok(unless(shown, Why::AnswerDiffers))
 }
 
-/// Checks that the step assumes no literals, which ends an ask. Returns the reason if not, or `None`.
+/// Checks whether the step assumes no literals, which ends an ask. Returns `None` if so, and otherwise the reason.
 fn compare_close(known: Known<'_>, step: &ProofStep<'_>) -> Option<Why>
     ensures { Compares (λ o ask. Closes) known.entry (step_of step.now) result }
 {
@@ -198,8 +198,8 @@ fn compare_close(known: Known<'_>, step: &ProofStep<'_>) -> Option<Why>
     Some(Why::AskDiffers)
 }
 
-/// Checks that the step is the end of the certificate. Returns the reason if not, or `None`. Bytes after that step
-/// don't matter.
+/// Checks whether the step is the end of the certificate. Returns `None` if so, and otherwise the reason. Bytes after
+/// that step don't matter.
 fn compare_end(known: Known<'_>, step: &ProofStep<'_>) -> Option<Why>
     ensures { Compares (λ o ask. Finish) known.entry (step_of step.now) result }
 {
@@ -239,7 +239,7 @@ pub(crate) fn fits(
 }
 
 /// Returns `None` if the expected step may be missing once `unsat` is recorded, and otherwise why the certificate is
-/// rejected. Only a model, or a core that is not empty, must not be missing.
+/// rejected. Only a model, or a core that is not empty, must be present.
 pub(crate) fn excuse(expected: &Expected<'_>) -> Option<Why>
     ensures { ExcusesDue (due_of expected.now) result }
 {

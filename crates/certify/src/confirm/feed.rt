@@ -55,8 +55,7 @@ pub(crate) fn feed(checker: &mut Checker, step: &ProofStep<'_>) -> Result<(), St
 pub(crate) fn settle(checker: &mut Checker) -> Result<(), Stop>
     ensures { SettlesConflict result (kernel_of checker.old) (kernel_of checker.new) }
 {
-    // Usually no conflict is pending. Then there is no need to clear memory for the result of the call below, which
-    // is large.
+    // Usually no conflict is pending. Returning here avoids clearing memory for the large result of the call below.
     if checker.is_settled() {
         return Ok(());
     }

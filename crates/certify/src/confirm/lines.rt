@@ -99,7 +99,7 @@ impl Lines {
         Ok(whole)
     }
 
-    /// Reads the next line, or the rest of the text if it has no LF. Bytes that are found to begin no allowed line
+    /// Reads the next line, or the rest of the text if it has no LF. Bytes that turn out not to begin an allowed line
     /// count as a line, so a malformed line is not held in memory as a whole.
     pub fn next<A: CountedRead>(
         &mut self,

@@ -50,7 +50,7 @@ fn are_among(literals: &[Lit], others: &[Lit], sets: &mut Sets) -> Result<bool, 
     Ok(is_subset(&sets.first, &sets.second, false))
 }
 
-/// Whether both lists have the same literals.
+/// Whether both lists contain the same literals.
 fn are_same(xs: &[Lit], ys: &[Lit], sets: &mut Sets) -> Result<bool, AllocError>
     ensures { IfOk result (λ yes. AnswersWhether yes (AllAmong xs.now ys.now × AllAmong ys.now xs.now)) }
 {

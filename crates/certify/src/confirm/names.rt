@@ -18,7 +18,7 @@ use crate::judge::{Names, NewNames};
 use crate::script::CommandKind;
 use sat_base::{CountedRead, Lit, StepReader, Var};
 
-/// A certificate, and the names in use in the script with which it is matched.
+/// A certificate, and the names in use in the script that it is matched with.
 #[derive(Drop)]
 pub(crate) struct Matching {
     pub certificate: Certificate,
@@ -47,7 +47,7 @@ fn expect_new<R: CountedRead>(
     Ok(())
 }
 
-/// Expects the step that hides `name`, if the command is of the kind that hides its names.
+/// Expects the step that hides `name`, if commands of this kind hide names.
 fn expect_hidden<R: CountedRead>(
     certificate: &mut Certificate,
     steps: &mut StepReader<'_, R>,

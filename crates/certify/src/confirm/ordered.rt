@@ -16,7 +16,7 @@ use sat_checker::Checker;
 /// The result of looking for an ordered step.
 #[derive(Clone, Copy)]
 pub(crate) enum Awaited {
-    /// The step that was read last is ordered. It is not fed to the checker yet.
+    /// The step that was read last is ordered. It has not been fed to the checker yet.
     Step,
     /// The checker has recorded `unsat`, so nothing more is read.
     Cut,

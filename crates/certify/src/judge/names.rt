@@ -15,7 +15,7 @@ use crate::script::{Command, CommandKind};
 use sat_base::{Lit, Table, Var};
 use std::alloc::{AllocError, Global};
 
-/// The names that have ever been used, and their states. Names that no command has hidden or given a mode need
+/// All names that have ever been used, and their states. Names that no command has hidden or given a mode need
 /// no memory.
 #[derive(Drop)]
 pub struct Names {
@@ -67,7 +67,7 @@ impl Names {
         }
     }
 
-    /// Returns the state of a name. A name that was never used counts as hidden.
+    /// Returns the state of a name. A name that has never been used counts as hidden.
     fn state(&self, var: Var) -> NameState
         ensures { result ≡ state_in (states_of self.now) (var + 1) }
     {
@@ -144,9 +144,9 @@ impl Names {
         }
     }
 
-    /// Returns the names that get new variables when the name `var` is introduced, in order. If `var` was never used,
-    /// these are all names from the first one never used up to `var`. Otherwise it is only `var` if that is hidden, and
-    /// none if it is in use.
+    /// Returns the names that get new variables when the name `var` is introduced, in order. If `var` has never been
+    /// used, these are all names up to `var`, beginning with the first one that has never been used. Otherwise, `var`
+    /// is the only one if it is hidden, and there are none if it is in use.
     pub fn new_names(&self, var: Var) -> NewNames
         ensures names { (j : ScriptState) → NamesHaveState self.now j
             → new_names (var + 1) j ≡ names_from result.count (result.first + 1) }
@@ -175,7 +175,7 @@ impl Names {
         }
     }
 
-    /// Whether `line` has exactly one literal of each name in use, in increasing order of names.
+    /// Whether `line` contains exactly one literal for each name in use, in increasing order of names.
     pub fn are_listed(&self, line: &[Lit]) -> bool
         ensures { MatchBool result (ListsUsed self.now line.now) (ListsUsed self.now line.now → ⊥) }
     {
@@ -195,7 +195,7 @@ impl Names {
         at == line.len()
     }
 
-    /// Introduces all names from the first one that was never used up to the one with this index.
+    /// Introduces all names up to the one with this index, beginning with the first one that has never been used.
     fn grow(&mut self, index: usize)
         requires fresh { self.old.used ≤ index }
         requires within { index < var_limit }
@@ -205,7 +205,8 @@ impl Names {
         self.used = index + 1;
     }
 
-    /// Introduces a name. If the name was never used, also introduces all names below it that were never used.
+    /// Introduces a name. If the name has never been used, also introduces all names below it that have never
+    /// been used.
     pub fn bring_in(&mut self, var: Var)
         ensures changes { Changes self.old self.new (bring_in (var + 1)) }
         ensures in_use { ComesInUse self.old self.new (var + 1) }
@@ -220,7 +221,7 @@ impl Names {
         }
     }
 
-    /// Sets the state of a name. Does nothing if the name was never used.
+    /// Sets the state of a name. Does nothing if the name has never been used.
     fn set_state(&mut self, var: Var, state: NameState) -> Result<(), AllocError>
         ensures { OnOk result (IsInUse self.old (var + 1) → Changes self.old self.new (changed_to state (var + 1))) }
     {

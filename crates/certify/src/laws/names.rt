@@ -1,4 +1,4 @@
-//! Laws about names in a certificate, which only proofs use.
+//! Laws about names in a certificate, for use only in proofs.
 ghost use Rattle.certify.specs.confirm.Following.{OthersPass};
 ghost use Rattle.certify.specs.confirm.Naming.{NamesAreExpected};
 

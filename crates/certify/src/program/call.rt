@@ -46,7 +46,7 @@ fn rounds_of(word: &str) -> Option<u64>
     word.parse::<u64>().ok()
 }
 
-/// Returns a run, or `None` if it would write over its script.
+/// Returns a run, or `None` if it would overwrite its script.
 fn run_of(files: RunFiles<'_>, budget: u64) -> Option<Call<'_>>
     ensures { AllowsRequest result (running files.entry budget) }
 {
@@ -66,7 +66,7 @@ fn check_of<'a>(name: &str, hints: &'a str) -> Option<Call<'a>>
     Some(Call::Check { hints })
 }
 
-/// Reads `hints C H`. Returns `None` if this would write over the certificate.
+/// Reads `hints C H`. Returns `None` if this would overwrite the certificate.
 fn hints_of<'a>(name: &str, certificate: &'a str, hints: &'a str) -> Option<Call<'a>>
     ensures { IsParsedAs (name.now ∷ certificate.now ∷ hints.now ∷ []) result }
 {

@@ -11,7 +11,7 @@ use sat_base::CountedWrite;
 pub(super) const DONE: u8 = 0;
 /// The script is malformed, the answers are not confirmed, the hint text is bad, or the certificate has none.
 pub(super) const REFUSED: u8 = 1;
-/// The arguments are not those of the usage, or an output is the input or the other output.
+/// The arguments don't match the usage, or an output is the input or the other output.
 const MISUSED: u8 = 2;
 /// A fault occurred. Its name is written to standard error.
 const FAILED: u8 = 3;
@@ -55,7 +55,7 @@ pub(super) fn write_out<O: CountedWrite>(output: &mut O, bytes: &[u8]) -> Result
     }
 }
 
-/// Flushes standard output, so that no error in writing is missed.
+/// Flushes standard output, so that no write error is missed.
 pub(super) fn flush_out<O: CountedWrite>(output: &mut O) -> Result<(), Fault>
     ensures took { OnOk result (WriterTakes (O.seen output.old) (O.seen output.new) []) }
     ensures flushed { OnOk result ((O.seen output.new).flushed ≡ true) }

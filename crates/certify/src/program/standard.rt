@@ -13,7 +13,7 @@ use crate::program::verdict_line::{confirm_texts, status};
 use sat_base::{CountedRead, CountedWrite, read_whole};
 use std::alloc::Global;
 
-/// Writes the answers to a script to `output`, and then the line of the verdict on them, which is `Yes`. Returns
+/// Writes the answers to a script to `output`, and then the line for the verdict on them, which is `Yes`. Returns
 /// the status.
 fn print_confirmed<O: CountedWrite>(
     alloc: Global,

@@ -1,4 +1,4 @@
-//! Does the calls that name files, with any readers and writers instead of the files. All calls return the status.
+//! Carries out calls that name files, with any readers and writers in place of the files. All calls return the status.
 ghost use Rattle.std.specs.Prelude.{◌≡◌, ◌≤◌, ◌↔◌, None, [], IfOk, OnOk, true};
 ghost use Rattle.sat_base.specs.device.Device.{WriterTakes};
 ghost use Rattle.certify.specs.Devices.{gave, took};
@@ -48,7 +48,7 @@ pub(super) fn run_text<S: CountedRead, A: CountedWrite, C: CountedWrite>(
     Ok((run_status(&summary), summary.progress))
 }
 
-/// Writes the line of a verdict to `output`. Returns the status.
+/// Writes the line for a verdict to `output`. Returns the status.
 fn print_yes_or_no<O: CountedWrite>(
     alloc: Global,
     verdict: Verdict,
@@ -124,7 +124,7 @@ fn finish_hints<H: CountedWrite>(hints: &mut H) -> Result<u8, Fault>
     }
 }
 
-/// Writes the line of the verdict on a hint text to `output`. Returns the status.
+/// Writes the line for the verdict on a hint text to `output`. Returns the status.
 fn print_hint_verdict<O: CountedWrite>(
     alloc: Global,
     verdict: HintVerdict,

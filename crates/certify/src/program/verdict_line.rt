@@ -11,7 +11,7 @@ use sat_base::push_decimal;
 use sat_checker::Looks;
 use std::alloc::{AllocError, Global};
 
-/// Appends the ask and the reason of a `No`, followed by LF.
+/// Appends the ask and the reason from a `No`, followed by LF.
 fn push_no(out: &mut Vec<u8>, ask: u64, why: Why) -> Result<(), AllocError>
     ensures { OnOk result (out.new.items ≡ out.old.items ++ no_text ask why) }
 {

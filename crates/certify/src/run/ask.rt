@@ -29,7 +29,7 @@ fn ask<C: CountedWrite + Drop>(
     ensures effect { IfOk result (λ report. AskEffect C.seen budget report literals.now page.new.text.items solver.old
         solver.new) }
     ensures ready { OnOk result (IsReadySolver solver.new) }
-    // Without literals, no name is refused.
+    // Afterwards, an ask without literals is allowed, since it contains no name to refuse.
     ensures allowed { OnOk result (IsAllowed solver.new []) }
     ensures fails { FailsIf result C.seen solver.old solver.new }
     ensures cause { IfErr result (λ e. IsCaused e (HasFullStore solver.new)

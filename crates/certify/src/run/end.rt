@@ -46,7 +46,7 @@ fn close_certificate<C: CountedWrite + Drop>(solver: Solver<C>) -> (C, Result<()
     }
 }
 
-/// Flushes the writer of the answers, so that no fault of that writer is missed.
+/// Flushes the answers' writer, so that no write error is missed.
 fn flush_answers<A: CountedWrite>(answers: &mut A) -> Result<(), RunFault>
     ensures took { OnOk result (WriterTakes (A.seen answers.old) (A.seen answers.new) []) }
     ensures flushed { OnOk result ((A.seen answers.new).flushed ≡ true) }
@@ -60,7 +60,7 @@ fn flush_answers<A: CountedWrite>(answers: &mut A) -> Result<(), RunFault>
     }
 }
 
-/// Ends the certificate, and then flushes the writer of the answers.
+/// Ends the certificate, and then flushes the answers' writer.
 fn finish<A: CountedWrite, C: CountedWrite + Drop>(
     solver: Solver<C>,
     answers: &mut A,

@@ -1,4 +1,4 @@
-//! Translates errors of a run's solver.
+//! Translates errors from a run's solver.
 ghost use Rattle.std.specs.Prelude.{◌≡◌};
 ghost use Rattle.certify.specs.run.SolverCalls.{IsSolverFault, fault_for, is_interrupted};
 
@@ -14,7 +14,7 @@ pub fn fault_of(error: SolverError) -> RunFault
         SolverError::ProofIoError { .. } => RunFault::CertificateWrite,
         SolverError::OutOfMemory => RunFault::OutOfMemory,
         SolverError::StoreFull => RunFault::StoreFull,
-        // All indices of variables are in use.
+        // All variable indices are in use.
         _ => RunFault::CounterEnd,
     }
 }

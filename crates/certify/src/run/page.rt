@@ -1,4 +1,4 @@
-//! Writes the text of an answer that a run's solver found to a buffer.
+//! Writes the answers of a run's solver to a buffer, as text.
 ghost use Rattle.std.specs.Prelude.{◌≡◌, ◌++◌, IfErr, OnOk, []};
 ghost use Rattle.certify.specs.answers.Answers.{outcome_text};
 ghost use Rattle.certify.specs.run.SolverCalls.{AnswerIs, IsReadySolver};
@@ -74,7 +74,7 @@ impl Page {
         }
     }
 
-    /// Replaces the text by that of the solver's last answer, which must be `answer`.
+    /// Replaces the text with that of the solver's last answer, which must be `answer`.
     pub fn push_answer<C: CountedWrite + Drop>(
         &mut self,
         solver: &Solver<C>,

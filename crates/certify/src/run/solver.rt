@@ -30,7 +30,7 @@ pub fn add_clause<C: CountedWrite + Drop>(
     }
 }
 
-/// Replaces the solver's assumptions by `literals`, none of whose names may be refused.
+/// Replaces the solver's assumptions with `literals`, none of whose names may be refused.
 pub fn assume<C: CountedWrite + Drop>(
     solver: &mut Solver<C>,
     literals: &[Lit],

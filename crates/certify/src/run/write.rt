@@ -6,7 +6,7 @@ ghost use Rattle.certify.specs.Devices.{OneFailed};
 use crate::fault::RunFault;
 use sat_base::CountedWrite;
 
-/// Writes `text`, a part of the answers.
+/// Writes `text`, which is part of the answers.
 pub fn write_answer<A: CountedWrite>(answers: &mut A, text: &[u8]) -> Result<(), RunFault>
     ensures takes { OnOk result (WriterTakes (A.seen answers.old) (A.seen answers.new) text.now) }
     ensures fails { IfErr result (λ e. (e ≡ RunFault.AnswersWrite)

@@ -13,9 +13,9 @@ use super::{Command, Reached, ScriptEnd};
 use sat_base::{Token, Tokenizer};
 use std::alloc::{AllocError, Global};
 
-/// A reader of scripts. It receives the bytes of a script in any chunking, and returns a reference to every command as
-/// soon as the command is complete. It stores no bytes, and only one command. After malformed text it must not be
-/// called again.
+/// A reader of scripts. It receives the bytes of a script in chunks of any size, and returns a reference to every
+/// command as soon as the command is complete. It stores no bytes, and only one command. After malformed text, it must
+/// not be called again.
 #[derive(Drop)]
 pub struct ScriptReader {
     tokenizer: Tokenizer,
@@ -92,7 +92,7 @@ impl ScriptReader {
         Ok((at, Reached::More))
     }
 
-    /// If a line has begun with `%`, returns how the script ends: whatever follows is ignored. Otherwise
+    /// If a line has begun with `%`, returns how the script ends, since whatever follows is ignored. Otherwise
     /// returns `None`.
     pub fn end_if_over(&self) -> Option<ScriptEnd>
         ensures { MatchOption result (LooksOn self.now) (EndsWhateverFollows self.now) }
@@ -103,7 +103,7 @@ impl ScriptReader {
         None
     }
 
-    /// Ends the text. Returns whether the end completes a command, and how the script ends.
+    /// Handles the end of the text. Returns whether the end completes a command, and how the script ends.
     pub fn finish(&mut self) -> (bool, ScriptEnd)
         ensures { (asks : Bool) (before : List ℕ → Reading) → MeansIf asks self.old before
             → EndsLast asks result.0 result.1 self.new (before []) }

@@ -51,7 +51,7 @@ impl CommandStream {
         self.reader.command()
     }
 
-    /// Consumes bytes that have already been read, up to the end of a command. Returns how far that came.
+    /// Consumes bytes that have already been read, up to the end of a command. Returns how far the reader got.
     fn take(&mut self) -> Result<Reached, AllocError>
         ensures { TakesWaiting result self.old self.new }
     {
@@ -60,7 +60,7 @@ impl CommandStream {
         Ok(reached)
     }
 
-    /// Ends the text. Returns the end, with the command that the end completes, if there is one.
+    /// Handles the end of the text. Returns that end, with the command that it completes, if any.
     fn finish(&mut self) -> Next
         ensures finishes { FinishesText result self.old.reader self.new.reader }
         ensures ahead { self.new.ahead ≡ self.old.ahead }
@@ -72,8 +72,8 @@ impl CommandStream {
         Next::End(end)
     }
 
-    /// Reads more bytes. Returns `None` if there are any, and ends the text otherwise. All bytes read so far must have
-    /// been consumed, and no line may have begun with `%`.
+    /// Reads more bytes. Returns `None` if there are any, and otherwise handles the end of the text. All bytes read so
+    /// far must have been consumed, and no line may have begun with `%`.
     fn refill<S: CountedRead>(&mut self, script: &mut S) -> Result<Option<Next>, ReadError>
         requires waiting { waiting_bytes self.old.ahead ≡ [] }
         requires looks_on { LooksOn self.old.reader }
@@ -103,7 +103,7 @@ impl CommandStream {
     }
 
     /// Consumes bytes, or reads more if all have been consumed. Returns `None` if this neither completes a command nor
-    /// ends the text.
+    /// reaches the end of the text.
     fn advance<S: CountedRead>(&mut self, script: &mut S) -> Result<Option<Next>, ReadError>
         requires { IsNotAtEnd (source_in S.seen script.old self.old.ahead) }
         ensures brings { Brings result (source_in S.seen script.old self.old.ahead)

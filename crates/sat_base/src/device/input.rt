@@ -5,7 +5,7 @@ ghost use Rattle.sat_base.specs.device.Reading.{source_of, NextByte, ByteWithin}
 use crate::device::ahead::Ahead;
 use crate::{CountedRead, StepError};
 
-/// A reader, from which at most 4,096 bytes are read at a time, and the last chunk that it gave. Both are borrowed.
+/// A reader, from which at most 4,096 bytes are read at a time, and the last chunk that it returned. Both are borrowed.
 pub(crate) struct Input<'r, R> {
     pub(crate) reader: &'r mut R,
     pub(crate) ahead: &'r mut Ahead,
@@ -27,7 +27,7 @@ impl<R> Drop for Input<'_, R> {
 // Many bytes are read by `next_byte` or `byte_within`, and functions that return a `Result` are inlined only with
 // the attribute.
 impl<'r, R: CountedRead> Input<'r, R> {
-    /// Returns an input that borrows a reader, and the bytes that were read ahead from the reader.
+    /// Returns an input that borrows both a reader and the bytes that were read ahead from it.
     pub(crate) fn new(reader: &'r mut R, ahead: &'r mut Ahead) -> Input<'r, R>
         ensures reader { result.reader.ghost_name ≡ reader.entry.ghost_name }
         ensures ahead { result.ahead.ghost_name ≡ ahead.entry.ghost_name }

@@ -8,7 +8,7 @@ use std::io;
 #[derive(Clone, Copy)]
 pub(crate) struct WriteFailed;
 
-/// Stores the error of a call in `kept`, and replaces the error with `WriteFailed`.
+/// Stores the error from a call in `kept`, and replaces the error with `WriteFailed`.
 pub(crate) fn keep_error(
     kept: &mut Option<io::Error>,
     answer: io::Result<()>,

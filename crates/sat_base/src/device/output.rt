@@ -13,7 +13,7 @@ use std::io;
 pub(crate) struct Output<W, P> {
     pub(crate) writer: W,
     pub(crate) pending: P,
-    /// The error of a failed call, until `give_error` returns it.
+    /// The error from a failed call, until `give_error` returns it.
     pub(crate) error: Option<io::Error>,
 }
 
@@ -111,7 +111,7 @@ impl<W: CountedWrite, P: Room> Output<W, P> {
         keep_error(&mut self.error, result)
     }
 
-    /// Replaces the marker `WriteFailed` in a result by the stored error. If no error was stored, which the contracts
+    /// Replaces the marker `WriteFailed` in a result with the stored error. If no error was stored, which the contracts
     /// don't rule out, the error is `ErrorKind::Other`.
     #[inline(never)] // callers reserve no space for the error on the path without one
     pub(crate) fn give_error(&mut self, answer: Result<(), WriteFailed>) -> io::Result<()>

@@ -15,13 +15,13 @@ pub(crate) trait Room: Drop {
         ensures room { result + length (waiting self.now) ≡ size self.now }
         ensures some { 0 < size self.now };
 
-    /// Adds a byte, for which there must be room.
+    /// Adds a byte. There must be room for it.
     fn push(&mut self, byte: u8)
         requires { length (waiting self.old) < size self.old }
         ensures waiting { waiting self.new ≡ waiting self.old ++ (byte ∷ []) }
         ensures size { size self.new ≡ size self.old };
 
-    /// Adds bytes, for which there must be room.
+    /// Adds bytes. There must be room for them.
     fn push_all(&mut self, piece: &[u8])
         requires { length (waiting self.old) + length piece.now ≤ size self.old }
         ensures waiting { waiting self.new ≡ waiting self.old ++ piece.now }
@@ -32,7 +32,7 @@ pub(crate) trait Room: Drop {
         ensures waiting { waiting self.new ≡ [] }
         ensures size { size self.new ≡ size self.old };
 
-    /// Returns the pending bytes, with the oldest first, as a slice.
+    /// Returns the pending bytes, oldest first, as a slice.
     fn as_slice(&self) -> &[u8]
         ensures { result.now ≡ waiting self.now };
 }

@@ -1,4 +1,4 @@
-//! Reads bytes ahead, and consumes them. This is not in the module of `Ahead`, since the contracts are about readers.
+//! Reads bytes ahead, and consumes them. This is kept apart from `Ahead` itself, since the contracts are about readers.
 ghost use Rattle.std.specs.Prelude.{◌≡◌, ◌+◌, ◌<◌, ◌≤◌, ◌∷◌, take, drop, OnOk};
 ghost use Rattle.sat_base.specs.device.Reading.{RefillsAlone};
 ghost use Rattle.sat_base.specs.device.Waiting.{waiting};
@@ -8,7 +8,7 @@ use crate::device::whole::MAX_READS;
 use crate::{CountedRead, StepError};
 
 impl Ahead {
-    /// Returns an empty buffer, before the first read.
+    /// Returns an empty buffer. No reads have been counted yet.
     pub(crate) fn new() -> Ahead
         ensures end { result.end ≡ 0 }
         ensures reads { result.reads ≡ 0 }
@@ -33,7 +33,7 @@ impl Ahead {
         byte
     }
 
-    /// Returns the byte at position `at` of the buffer, without consuming it.
+    /// Returns the byte at position `at` in the buffer, without consuming it.
     #[inline(always)]
     pub(crate) fn byte_at(&self, at: usize) -> u8
         requires { at < self.now.end }

@@ -14,7 +14,7 @@ pub(crate) struct Tally {
     pub ghost failures: { ℕ },
     pub ghost given: { List ℕ },
     pub ghost taken: { List ℕ },
-    /// Whether the last call was a read that gave nothing although the buffer was not empty.
+    /// Whether the last call was a read that returned no bytes although the buffer was not empty.
     pub ghost ended: { Bool },
     /// Whether the last call was a flush that did not fail.
     pub ghost flushed: { Bool },

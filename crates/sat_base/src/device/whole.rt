@@ -1,4 +1,4 @@
-//! Reads everything that a reader gives.
+//! Reads a reader to its end.
 ghost use Rattle.std.specs.Prelude.{◌≡◌, ◌+◌, ◌<◌, ◌≤◌, ◌++◌, ℕ, List, [], length, IfOk, IfErr, OnOk, IsErrOf};
 ghost use Rattle.std.specs.Io.{ReadsAtMost};
 ghost use Rattle.sat_base.specs.device.Device.{most_reads, ReadFails, ReadsOnce, GaveAll, GaveMore};
@@ -44,7 +44,7 @@ fn read_piece<R: CountedRead>(reader: &mut R, room: &mut [u8]) -> Result<usize, 
     }
 }
 
-/// A receiver of the bytes of a text, in chunks.
+/// A receiver of the bytes of a text, which arrive in chunks.
 pub trait Feed {
     /// Whether a receiver was fed exactly this text.
     ghost was_fed: { Self → List ℕ → Type 0 };
@@ -76,7 +76,7 @@ pub fn read_into<R: CountedRead, F: Feed>(reader: &mut R, taker: &mut F) -> Resu
     ensures failed { IsErrOf result ReadError.Failed → ReadFails (R.seen reader.old) (R.seen reader.new) }
     ensures memory { IsErrOf result ReadError.OutOfMemory
         → (R.seen reader.new).failures ≡ (R.seen reader.old).failures }
-    // Memory runs out only after a byte was read.
+    // Memory runs out only after a byte has been read.
     ensures some { IsErrOf result ReadError.OutOfMemory
         → length (R.seen reader.old).given < length (R.seen reader.new).given }
     ensures reads { (R.seen reader.new).calls ≤ (R.seen reader.old).calls + most_reads }
@@ -102,7 +102,7 @@ pub fn read_whole<R: CountedRead>(alloc: Global, reader: &mut R) -> Result<Vec<u
     ensures failed { IsErrOf result ReadError.Failed → ReadFails (R.seen reader.old) (R.seen reader.new) }
     ensures memory { IsErrOf result ReadError.OutOfMemory
         → (R.seen reader.new).failures ≡ (R.seen reader.old).failures }
-    // Memory runs out only after a byte was read.
+    // Memory runs out only after a byte has been read.
     ensures some { IsErrOf result ReadError.OutOfMemory
         → length (R.seen reader.old).given < length (R.seen reader.new).given }
     ensures reads { (R.seen reader.new).calls ≤ (R.seen reader.old).calls + most_reads }

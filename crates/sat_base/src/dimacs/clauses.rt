@@ -57,7 +57,7 @@ pub(crate) struct Clauses {
     pub(crate) header: Option<(u64, u64)>,
 }
 
-/// Whether a token is a literal: a number from 1 to 2^28, with any sign.
+/// Whether a token is a literal: a number from 1 to 2^28, with either sign.
 pub(crate) fn is_literal(token: Token) -> bool
     ensures { result ≡ is_literal (token_of token) }
 {

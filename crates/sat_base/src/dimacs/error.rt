@@ -4,7 +4,7 @@ use std::alloc::AllocError;
 use std::fmt::Display;
 use thiserror::Error;
 
-/// Why no formula was read. Lines are counted from 1, and their numbers are capped at 2^64-1.
+/// Why no formula was read. Lines are numbered from 1, and the numbers are capped at 2^64-1.
 #[derive(Clone, Copy, Debug, Drop, PartialEq, Eq, Error)]
 pub enum DimacsError {
     /// A word on this line is malformed, or the text ends inside a clause and this is its last line.

@@ -52,8 +52,8 @@ fn take_bytes(tokenizer: &mut Tokenizer, bytes: &[u8]) -> Result<(), DimacsError
     Ok(())
 }
 
-/// Returns the error to report for a parser that has stopped with `error` within `bytes`. If `error` is `OutOfMemory`
-/// and `bytes` has a fault, that is the first fault; otherwise it is `error`.
+/// Returns the error to report for a parser that has stopped with `error` within `bytes`: the first fault in `bytes` if
+/// `error` is `OutOfMemory` and there is a fault, and otherwise `error`.
 pub(crate) fn error_within(tokenizer: Tokenizer, bytes: &[u8], error: DimacsError) -> DimacsError
     ensures same { (error ≡ DimacsError.OutOfMemory → ⊥) → result ≡ error }
     ensures found { error ≡ DimacsError.OutOfMemory → (text : List ℕ) → HasTakenSoundly text tokenizer

@@ -106,8 +106,8 @@ impl Parser {
         Ok(())
     }
 
-    /// Receives the next bytes. If memory runs out, returns the first fault of these bytes instead, if there is one,
-    /// even if it is later in the text.
+    /// Receives the next bytes. If memory runs out, returns the first fault in these bytes instead, if there is one,
+    /// even if the fault is later in the text.
     pub(crate) fn feed_or_find_fault(&mut self, piece: &[u8]) -> Result<(), DimacsError>
         requires { IsParser self.old }
         ensures parser { IsParser self.new }
@@ -133,7 +133,7 @@ impl Parser {
         self.tokenizer.is_over()
     }
 
-    /// Ends the text. No word may be unfinished.
+    /// Handles the end of the text. No word may be unfinished.
     fn end(&mut self) -> Result<(), DimacsError>
         ensures parser { self.new ≡ record self.old { stopped = true; ended = true } }
         ensures answer { EndsClean result self.old }
@@ -146,7 +146,7 @@ impl Parser {
         Ok(())
     }
 
-    /// Finishes the text.
+    /// Handles the end of the text, including an unfinished word.
     pub(crate) fn finish(&mut self) -> Result<(), DimacsError>
         requires { IsParser self.old }
         ensures parser { IsParser self.new }

@@ -53,7 +53,7 @@ fn has_lists(tag: u8) -> bool
 }
 
 impl<R: CountedRead> Input<'_, R> {
-    /// Reads the fields of a step with this tag, which must be one without lists.
+    /// Reads the fields of a step with this tag. Steps with this tag must have no lists.
     fn plain_fields(&mut self, tag: u8) -> Result<Kind, StepError>
         requires known { IsTrue (is_tag tag) }
         requires plain { has_lists tag ≡ false }
@@ -90,7 +90,7 @@ impl<R: CountedRead> Input<'_, R> {
         }
     }
 
-    /// Reads the fields of a step with this tag, which must be one with lists, into `lists`.
+    /// Reads the fields of a step with this tag, and its lists into `lists`. Steps with this tag must have lists.
     fn list_fields(&mut self, lists: &mut Lists, tag: u8) -> Result<Kind, StepError>
         requires { IsTrue (has_lists tag) }
         ensures { ReadsFromInput (FieldsAfter tag) (valued (step_held lists.new) result) R.seen self.old self.new }
@@ -119,7 +119,7 @@ impl<R: CountedRead> Input<'_, R> {
         }
     }
 
-    /// Reads the fields of a step with this tag, with the lists into `lists`.
+    /// Reads the fields of a step with this tag, and its lists, if any, into `lists`.
     fn fields(&mut self, lists: &mut Lists, tag: u8) -> Result<Kind, StepError>
         requires { IsTrue (is_tag tag) }
         ensures { ReadsFromInput (FieldsAfter tag) (valued (step_held lists.new) result) R.seen self.old self.new }
@@ -131,7 +131,7 @@ impl<R: CountedRead> Input<'_, R> {
         }
     }
 
-    /// Reads the next step, with the lists into `lists`.
+    /// Reads the next step, and its lists, if any, into `lists`.
     pub(super) fn read_step(&mut self, lists: &mut Lists) -> Result<Kind, StepError>
         ensures { AnswersStepRead (valued (step_held lists.new) result) (source_of R.seen self.old)
             (source_of R.seen self.new) }

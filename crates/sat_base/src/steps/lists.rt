@@ -143,7 +143,7 @@ impl<R: CountedRead> Input<'_, R> {
         Ok(())
     }
 
-    /// Reads a list of literals, and replaces the contents of `lits` by it.
+    /// Reads a list of literals, and replaces the contents of `lits` with it.
     pub(super) fn literals(&mut self, lits: &mut Vec<Lit>) -> Result<(), StepError>
         ensures { ReadsFromInput AreLiterals (giving lits.new.items result) R.seen self.old self.new }
     {
@@ -152,7 +152,7 @@ impl<R: CountedRead> Input<'_, R> {
         self.literal_items(count, lits)
     }
 
-    /// Reads a list of hashes, and replaces the contents of `hashes` by it.
+    /// Reads a list of hashes, and replaces the contents of `hashes` with it.
     pub(super) fn hashes(&mut self, hashes: &mut Vec<ClauseHash>) -> Result<(), StepError>
         ensures { ReadsFromInput AreHashes (giving hashes.new.items result) R.seen self.old self.new }
     {
@@ -161,7 +161,7 @@ impl<R: CountedRead> Input<'_, R> {
         self.hash_items(count, hashes)
     }
 
-    /// Reads a list of units, and replaces the contents of `units` by it.
+    /// Reads a list of units, and replaces the contents of `units` with it.
     pub(super) fn units(&mut self, units: &mut Vec<(Lit, ClauseHash)>) -> Result<(), StepError>
         ensures { ReadsFromInput AreHashedLiterals (giving units.new.items result) R.seen self.old self.new }
     {

@@ -163,7 +163,7 @@ impl<R: CountedRead> Input<'_, R> {
         self.number_by_bytes(largest)
     }
 
-    /// Reads a number byte by byte. The number may be cut by the end of a chunk or of the text, or be invalid.
+    /// Reads a number byte by byte. The number may be cut off by the end of a chunk or of the text, or be invalid.
     #[inline(never)] // so that numbers that are buffered completely pay nothing for it
     fn number_by_bytes(&mut self, largest: u64) -> Result<u64, StepError>
         requires { 0 < largest }
@@ -212,8 +212,8 @@ pub(super) fn push_number<P: Room>(pending: &mut P, number: u64)
     pending.push(rest as u8);
 }
 
-/// Appends a number in unsigned LEB128: in groups of seven bits, the lowest group first, each in a byte whose top bit
-/// is set except in the last.
+/// Appends a number in unsigned LEB128: in groups of seven bits, the lowest group first, each in its own byte. The top
+/// bit is set in every byte but the last.
 pub fn push_leb128(out: &mut Vec<u8>, number: u64) -> Result<(), AllocError>
     ensures { OnOk result (out.new.items ≡ out.old.items ++ number_bytes number) }
 {
@@ -227,8 +227,8 @@ pub fn push_leb128(out: &mut Vec<u8>, number: u64) -> Result<(), AllocError>
 }
 
 impl<W: CountedWrite, P: Room> Output<W, P> {
-    /// Writes the bytes of a number to the buffer. If there is room for the longest number, room isn't checked for
-    /// every byte.
+    /// Writes the bytes of a number to the buffer. If there is room for the longest number, the room isn't checked
+    /// again for every byte.
     #[inline(always)] // each literal and each hash goes through it
     pub(super) fn put_number(&mut self, number: u64) -> Result<(), WriteFailed>
         ensures { SendsText (number_bytes number) result (sink_of W.seen P.waiting self.old)

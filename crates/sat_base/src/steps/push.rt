@@ -13,7 +13,7 @@ use crate::steps::numbers::{LONGEST, push_number};
 use crate::{ClauseHash, CountedWrite, DeleteClauseProof, HashBits, Lit, ProofStep, Var};
 
 /// Returns the lengths of a step's list of literals and of its list of hashes. A list of units counts as both.
-#[inline(always)] // most steps have one arm, which their caller knows
+#[inline(always)] // most callers know the step, so only one arm is left
 fn list_lengths(step: &ProofStep<'_>) -> (usize, usize)
     ensures { result.0 + result.1 ≡ items_in (step_of step.now) }
 {
@@ -254,7 +254,7 @@ impl<W: CountedWrite, P: Room> Output<W, P> {
         4 <= spare && first <= spare - 4 && second <= spare - 4 - first
     }
 
-    /// Appends the bytes of a step, for which there must be room, to the pending bytes.
+    /// Appends the bytes of a step to the pending bytes. There must be room for them.
     #[inline(always)]
     fn push_step(&mut self, step: &ProofStep<'_>)
         requires { HasByteRoom (10 * (items_in (step_of step.now) + 4)) P.waiting P.size self.old.pending }

@@ -9,7 +9,7 @@ use std::marker::Model;
 pub enum DeleteClauseProof {
     /// The clause is redundant.
     Redundant,
-    /// A stronger clause replaces the clause.
+    /// A stronger clause replaces it.
     Simplified,
     /// A unit satisfies the clause.
     Satisfied,
@@ -64,7 +64,7 @@ impl HashBits {
 /// A step of a proof, with borrowed lists.
 #[derive(Clone, Copy, Debug)]
 pub enum ProofStep<'a> {
-    /// Sets the solver name of a variable, which is an index of the search, or removes it if `solver` is `None`.
+    /// Sets the solver name of a variable, which is an index in the search, or removes it if `solver` is `None`.
     SolverVarName {
         global: Var,
         solver: Option<Var>,
@@ -114,7 +114,7 @@ pub enum ProofStep<'a> {
     Assumptions {
         assumptions: &'a [Lit],
     },
-    /// States assumptions that cannot all be true, by propagation from the clauses with these hashes.
+    /// States assumptions that cannot all be true, as propagation from the clauses with these hashes shows.
     FailedAssumptions {
         failed_core: &'a [Lit],
         propagation_hashes: &'a [ClauseHash],

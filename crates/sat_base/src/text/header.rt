@@ -73,8 +73,8 @@ fn begun(ended: Stage, byte: u8) -> Option<HeaderPlace>
     }
 }
 
-/// Returns the place that follows `place` after the nonblank byte `byte`, or `None` if the unfinished word is
-/// malformed then.
+/// Returns the place that follows `place` after the nonblank byte `byte`, or `None` if this makes the unfinished
+/// word malformed.
 pub(crate) fn next_in_header(place: HeaderPlace, byte: u8) -> Option<HeaderPlace>
     requires { is_blank byte ≡ false }
     ensures { MovesHeader place byte result }
@@ -117,8 +117,8 @@ pub(crate) fn next_in_header(place: HeaderPlace, byte: u8) -> Option<HeaderPlace
     }
 }
 
-/// Returns the words that are finished if the current word ends at `place`, or `None` if that word would then be
-/// malformed.
+/// Returns the words that are finished if the current word ends at `place`, or `None` if this would make that
+/// word malformed.
 pub(crate) fn ended_in(place: HeaderPlace) -> Option<Stage>
     ensures { (spot : Position) → IsAtHeader place spot → IsStageIf result (ended_stage spot) }
 {

@@ -22,7 +22,7 @@ use std::marker::Model;
 /// The number of words of a clause before its literals.
 const HEADER_LEN: usize = 3;
 
-/// The long clauses, in the order in which they were added, and the number of clauses of every tier.
+/// The long clauses, in the order in which they were added, and the number of clauses in each tier.
 ///
 /// A deleted clause stays in the list until garbage is collected. Contracts see a `Db`. `DbMatchesBuffer` states that
 /// the `Db` lists the clauses of a buffer.
@@ -54,28 +54,28 @@ impl ClauseDb {
         }
     }
 
-    /// Returns the number of clauses of a tier.
+    /// Returns the number of clauses in a tier.
     pub fn count_by_tier(&self, tier: Tier) -> usize
         ensures { result ≡ slice_index self.now.counts (index_of tier) }
     {
         self.count_by_tier[tier.index()]
     }
 
-    /// Returns all clauses of the list, including deleted ones, in the order in which they were added, as a slice.
+    /// Returns all clauses in the list, including deleted ones, in the order in which they were added, as a slice.
     pub fn refs(&self) -> &[ClauseRef]
         ensures { result.now ≡ self.now.refs }
     {
         &self.clauses
     }
 
-    /// Returns the number of clauses of the list, including deleted ones.
+    /// Returns the number of clauses in the list, including deleted ones.
     pub fn len(&self) -> usize
         ensures { result ≡ length self.now.refs }
     {
         self.clauses.len()
     }
 
-    /// Returns the clause at position `at` of the list. The clause may be deleted.
+    /// Returns the clause at position `at` in the list. The clause may be deleted.
     pub fn cref(&self, at: usize) -> ClauseRef
         requires { at < length self.now.refs }
         ensures { result ≡ slice_index self.now.refs at }
@@ -90,7 +90,7 @@ impl ClauseDb {
         self.garbage_size
     }
 
-    /// Adds one to the number of clauses of a tier.
+    /// Adds one to the number of clauses in a tier.
     fn count_more(&mut self, tier: Tier)
         requires { slice_index_or self.old.counts (index_of tier) 0 + 1 < 2 ^ 64 }
         ensures { self.new ≡ record self.old { counts = tier_count_more tier self.old.counts } }
@@ -98,7 +98,7 @@ impl ClauseDb {
         self.count_by_tier[tier.index()] += 1;
     }
 
-    /// Subtracts one from the number of clauses of a tier.
+    /// Subtracts one from the number of clauses in a tier.
     fn count_less(&mut self, tier: Tier)
         requires { 0 < slice_index_or self.old.counts (index_of tier) 0 }
         ensures { self.new ≡ record self.old { counts = tier_count_less tier self.old.counts } }
@@ -222,7 +222,7 @@ pub fn delete_clause(
     put_header(clauses, cref, header);
 }
 
-/// Whether the first literal of the clause is true and the clause is the reason of that literal.
+/// Whether the first literal of the clause is true and the clause is the reason for that literal.
 fn is_asserting(
     clauses: &ClauseAlloc,
     graph: &ImplGraph,
@@ -247,8 +247,8 @@ fn is_asserting(
     }
 }
 
-/// Deletes a live clause unless its first literal is true and the clause is the reason of that literal. Returns whether
-/// the clause was deleted.
+/// Deletes a live clause unless its first literal is true and the clause is the reason for that literal. Returns
+/// whether the clause was deleted.
 pub fn try_delete_clause(
     clauses: &mut ClauseAlloc,
     db: &mut ClauseDb,

@@ -59,7 +59,7 @@ fn copy_live(
     Ok(())
 }
 
-/// Replaces the reason of a literal by the clause `to` if the reason is the clause `from`.
+/// Replaces the reason for a literal with the clause `to` if the reason is the clause `from`.
 fn move_reason(graph: &mut ImplGraph, lit: Lit, from: ClauseRef, to: ClauseRef)
     ensures moved { HasReason graph.old (variable lit) from →
         graph.new ≡ with_reason (variable lit) (Reason.Long to) graph.old }
@@ -76,7 +76,7 @@ fn move_reason(graph: &mut ImplGraph, lit: Lit, from: ClauseRef, to: ClauseRef)
     }
 }
 
-/// For every live clause that is the reason of its first literal, replaces the reason by the copy of the clause
+/// For every live clause that is the reason for its first literal, replaces the reason with the copy of the clause
 /// in `refs`.
 ///
 /// The trail is not read. The contract uses it to say which reasons matter.
@@ -131,7 +131,7 @@ fn copy_all(alloc: Global, clauses: &ClauseAlloc, db: &ClauseDb) -> Result<Copie
     }
 }
 
-/// Replaces the buffer and the list by those of the copied clauses.
+/// Replaces the buffer and the list with those of the copied clauses.
 fn put_copied(copied: Copied, clauses: &mut ClauseAlloc, db: &mut ClauseDb)
     ensures words { clauses.new ≡ copied.clauses }
     ensures list { db.new ≡ after_collection copied.refs.items db.old }
@@ -144,8 +144,8 @@ fn put_copied(copied: Copied, clauses: &mut ClauseAlloc, db: &mut ClauseDb)
 
 /// Collects garbage if deleted clauses take up more than half of the buffer.
 ///
-/// Moves the live clauses to a new buffer, in order, updates the reasons of the literals on the trail, and disables the
-/// watch lists. If memory runs out, nothing changes.
+/// Moves the live clauses to a new buffer, in order, updates the reasons for the literals on the trail, and disables
+/// the watch lists. If memory runs out, nothing changes.
 pub fn collect_garbage(
     alloc: Global,
     clauses: &mut ClauseAlloc,

@@ -10,7 +10,7 @@ use sat_store::{ClauseAlloc, ClauseRef};
 use std::iter::FusedIterator;
 use std::marker::Model;
 
-/// An iterator over the live clauses of a list, in order. Contracts see the clauses that are still to come.
+/// An iterator over the live clauses in a list, in order. Contracts see the clauses that are still to come.
 #[derive(Drop)]
 pub struct ClausesIter<'a> {
     clauses: &'a ClauseAlloc,

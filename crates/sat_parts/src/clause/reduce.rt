@@ -1,4 +1,4 @@
-//! Passes over the clauses of one tier.
+//! Passes over the clauses in one tier.
 ghost use Rattle.std.specs.Prelude.{◌≡◌, IfOk, OnOk, OnErr};
 ghost use Rattle.std.specs.List.{Contains, filter};
 ghost use Rattle.sat_store.specs.clause.Buffer.{IsClause, header_at};
@@ -35,8 +35,8 @@ fn reduce_one(clauses: &mut ClauseAlloc, db: &mut ClauseDb, cref: ClauseRef)
     set_clause_tier(clauses, db, cref, Tier::Local);
 }
 
-/// Moves to tier Local the clauses of tier Mid that have not been used since the last call. Clears the active flag of
-/// the other clauses of tier Mid.
+/// Moves to tier Local the clauses in tier Mid that have not been used since the last call. Clears the active flag of
+/// the other clauses in tier Mid.
 pub fn reduce_mids(clauses: &mut ClauseAlloc, db: &mut ClauseDb)
     requires { DbMatchesBuffer clauses.old db.old }
     ensures headers { PutsHeaders clauses.old clauses.new db.old.refs (λ p. reduced (header_at clauses.old p)) }
@@ -62,7 +62,7 @@ fn is_of_tier(clauses: &ClauseAlloc, cref: ClauseRef, tier: Tier) -> bool
     header.tier().index() == tier.index()
 }
 
-/// Returns the live clauses of a tier, in the order in which they were added.
+/// Returns the live clauses in a tier, in the order in which they were added.
 fn clauses_of_tier(
     alloc: Global,
     clauses: &ClauseAlloc,
@@ -101,7 +101,7 @@ fn mark_one(clauses: &mut ClauseAlloc, _db: &ClauseDb, cref: ClauseRef, tier: Ti
     put_header(clauses, cref, header);
 }
 
-/// Marks every live clause of a tier.
+/// Marks every live clause in a tier.
 fn mark_tier(clauses: &mut ClauseAlloc, db: &ClauseDb, tier: Tier)
     requires { DbMatchesBuffer clauses.old db.now }
     ensures headers { PutsHeaders clauses.old clauses.new db.now.refs (λ p. with_mark tier (header_at clauses.old p)) }
@@ -114,7 +114,7 @@ fn mark_tier(clauses: &mut ClauseAlloc, db: &ClauseDb, tier: Tier)
     }
 }
 
-/// Marks the live clauses of a tier. Returns them, each once, in the order in which they were added.
+/// Marks the live clauses in a tier. Returns them, each once, in the order in which they were added.
 ///
 /// If memory runs out, nothing changes.
 pub fn dedup_and_mark_by_tier(

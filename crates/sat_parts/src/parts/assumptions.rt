@@ -16,7 +16,7 @@ use std::alloc::{AllocError, Global};
 
 /// The literals that an ask assumes.
 ///
-/// Before any decision the assumptions are made true in order, each at a level of its own. An assumption that is
+/// Before any decision, the assumptions are made true in order, each at a level of its own. An assumption that is
 /// already true gets no level.
 #[derive(Drop)]
 pub struct Assumptions {
@@ -60,7 +60,7 @@ impl Assumptions {
         self.below.len()
     }
 
-    /// Starts again with the first assumption. To be called for a new list, and after all levels were undone.
+    /// Starts again with the first assumption. Must be called for a new list, and after all levels have been undone.
     pub fn begin(&mut self)
         ensures lits { self.new.lits ≡ self.old.lits }
         ensures placed { (s : State) → s.trail.starts ≡ [] → ArePlaced self.new s }
@@ -69,8 +69,8 @@ impl Assumptions {
         self.place = 0;
     }
 
-    /// Goes back to the first assumption that was not considered at `level`. To be called when the levels above `level`
-    /// are undone.
+    /// Goes back to the first assumption that has not been considered at `level`. Must be called when the levels above
+    /// `level` are undone.
     pub fn cut(&mut self, level: usize)
         ensures lits { self.new.lits ≡ self.old.lits }
         ensures placed { AreCutTo level self.old self.new }

@@ -24,8 +24,8 @@ use sat_base::Var;
 use sat_store::{ClauseHeader, ClauseRef, StoreError, Tier};
 use std::alloc::Global;
 
-/// Deletes a live clause unless its first literal is true and the clause is the reason of that literal. Returns whether
-/// the clause was deleted.
+/// Deletes a live clause unless its first literal is true and the clause is the reason for that literal. Returns
+/// whether the clause was deleted.
 pub fn drop_clause(parts: &mut Parts, cref: ClauseRef) -> bool
     requires holds { PartsInvariant parts.old }
     requires live { HasClause parts.old cref }
@@ -65,7 +65,7 @@ pub fn delete_long(parts: &mut Parts, cref: ClauseRef)
     );
 }
 
-/// Moves to tier Local the clauses of tier Mid that have not been used since the last call.
+/// Moves to tier Local the clauses in tier Mid that have not been used since the last call.
 pub fn reduce_middle(parts: &mut Parts)
     requires holds { PartsInvariant parts.old }
     ensures holds { PartsInvariant parts.new }
@@ -97,7 +97,7 @@ pub fn collect(alloc: Global, parts: &mut Parts) -> Result<(), StoreError>
     )
 }
 
-/// Replaces the header of a live clause. The new header must have the deleted flag, the tier and the length of the
+/// Replaces the header of a live clause. The new header must have the same deleted flag, tier and length as the
 /// old one.
 pub fn put_header(parts: &mut Parts, cref: ClauseRef, header: ClauseHeader)
     requires holds { PartsInvariant parts.old }

@@ -24,7 +24,7 @@ fn is_local(clauses: &ClauseAlloc, cref: ClauseRef) -> bool
     header.tier().index() == 3
 }
 
-/// Replaces the contents of `list` by the live clauses of tier Local, in the order in which they were added.
+/// Replaces the contents of `list` with the live clauses in tier Local, in the order in which they were added.
 fn find_locals(parts: &Parts, list: &mut Vec<ClauseRef>) -> Result<(), AllocError>
     requires holds { PartsInvariant parts.now }
     ensures { OnOk result (list.new.items ≡ filter (is_live_of parts.now.clauses Tier.Local) parts.now.db.refs) }
@@ -47,7 +47,7 @@ fn rank_of(clauses: &ClauseAlloc, cref: ClauseRef) -> u128
     u128::from(clauses.header(cref).activity()) * 18446744073709551616 + cref.offset() as u128
 }
 
-/// Replaces the contents of `ranks` by the clauses of `list`, each with its rank.
+/// Replaces the contents of `ranks` with the clauses in `list`, each with its rank.
 fn rank_all(
     clauses: &ClauseAlloc,
     list: &[ClauseRef],
@@ -63,7 +63,7 @@ fn rank_all(
     Ok(())
 }
 
-/// Replaces the contents of `list` by the clauses in `ranks`, in the same order.
+/// Replaces the contents of `list` with the clauses in `ranks`, in the same order.
 fn take_clauses(ranks: &[(u128, ClauseRef)], list: &mut Vec<ClauseRef>) -> Result<(), AllocError>
     ensures { OnOk result (list.new.items ≡ map (λ x. x.1) ranks.now) }
 {
@@ -74,7 +74,7 @@ fn take_clauses(ranks: &[(u128, ClauseRef)], list: &mut Vec<ClauseRef>) -> Resul
     Ok(())
 }
 
-/// Replaces the contents of `list` by the live clauses of tier Local, lowest activity first. Among clauses of equal
+/// Replaces the contents of `list` with the live clauses in tier Local, lowest activity first. Among clauses of equal
 /// activity, the older clause comes first.
 pub fn list_locals(
     alloc: Global,

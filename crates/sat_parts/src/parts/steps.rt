@@ -25,8 +25,8 @@ use sat_base::{Lit, Var};
 use sat_store::{ClauseHeader, StoreError, Vsids};
 use std::alloc::{AllocError, Global};
 
-/// Propagates all literals in the queue. After a conflict, the invariant holds again only once the current level
-/// is undone.
+/// Propagates all literals in the queue. After a conflict, the invariant holds again only once the current level has
+/// been undone.
 pub fn propagate_all(alloc: Global, parts: &mut Parts) -> Result<Result<(), Conflict>, AllocError>
     requires holds { HoldsBelow (length parts.old.trail.starts + 1) parts.old }
     ensures holds { IfOk result (λ r. MatchResult r (λ _. HoldsBelow (length parts.new.trail.starts + 1) parts.new)
@@ -56,7 +56,7 @@ pub fn propagate_all(alloc: Global, parts: &mut Parts) -> Result<Result<(), Conf
 }
 
 /// Removes variables from the queue, highest activity first, up to the first unassigned one. Returns that variable, or
-/// `None` if the queue has none.
+/// `None` if the queue contains none.
 pub fn pick(vsids: &mut Vsids, assignment: &Assignment) -> Option<Var>
     requires size { length vsids.old.available ≡ length assignment.now.current }
     ensures size { length vsids.new.available ≡ length vsids.old.available }

@@ -1,4 +1,4 @@
-//! Removes units of level 0 from the trail, and moves them back to it.
+//! Removes units at level 0 from the trail, and moves them back to it.
 ghost use Rattle.std.specs.Prelude.{ℕ, ◌≡◌, ◌+◌, [], length};
 ghost use Rattle.sat_parts.specs.prop.Values.{IsTrueLit, value_of};
 ghost use Rattle.sat_parts.specs.prop.State.{HasLeftQueue};
@@ -22,7 +22,8 @@ fn mark_removed(graph: &mut ImplGraph, trail: &Trail)
     }
 }
 
-/// Removes the literals of level 0 from the trail. There must be no other level, and all literals must be propagated.
+/// Removes the literals at level 0 from the trail. There must be no other level, and all literals must have
+/// been propagated.
 pub fn clear_units(parts: &mut Parts)
     requires holds { HoldsBelow (length parts.old.trail.starts + 1) parts.old }
     requires bottom { parts.old.trail.starts ≡ [] }

@@ -58,7 +58,7 @@ fn mark_long(used: &mut Vec<bool>, parts: &Parts)
     }
 }
 
-/// Marks the variables of the clauses of two literals.
+/// Marks the variables of the binary clauses.
 fn mark_binary(used: &mut Vec<bool>, parts: &Parts)
     requires holds { PartsInvariant parts.now }
     requires size { length used.old.items ≡ length parts.now.assignment.current }
@@ -76,7 +76,7 @@ fn mark_binary(used: &mut Vec<bool>, parts: &Parts)
     }
 }
 
-/// Replaces the contents of `used` by a flag for every variable, which says whether the variable occurs in a clause.
+/// Replaces the contents of `used` with a flag for every variable, which says whether the variable occurs in a clause.
 pub fn mark_used(used: &mut Vec<bool>, parts: &Parts) -> Result<(), AllocError>
     requires holds { PartsInvariant parts.now }
     ensures size { OnOk result (length used.new.items ≡ length parts.now.assignment.current) }

@@ -1,4 +1,4 @@
-//! Prepares variables that were freed for being used again.
+//! Prepares freed variables for reuse.
 ghost use Rattle.std.specs.Prelude.{◌≡◌, ◌<◌, length, [], true, false, slice_set};
 ghost use Rattle.sat_base.specs.values.Literals.{variable};
 ghost use Rattle.sat_store.specs.heap.Vsids.{may_pick, with_available};

@@ -17,7 +17,7 @@ use std::marker::Model;
 pub struct Assignment {
     values: Vec<Option<bool>>,
     last_values: Vec<bool>,
-    /// The values of `values`, indexed by literal code, so that an inner loop needs only one load and one branch.
+    /// The values in `values`, indexed by literal code, so that an inner loop needs only one load and one branch.
     lit_values: LitValues,
 }
 

@@ -89,7 +89,7 @@ impl ImplGraph {
         self.nodes.resize(count, node)
     }
 
-    /// Returns the reason of a variable's value.
+    /// Returns the reason for a variable's value.
     pub fn reason(&self, var: Var) -> Reason
         requires { var < length self.now }
         ensures { result ≡ (node_of self.now var).reason }

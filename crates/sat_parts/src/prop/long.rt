@@ -19,7 +19,7 @@ use std::alloc::{AllocError, Global};
 /// The result of visiting a clause after a literal became false. Some variants carry the first literal of the clause.
 #[derive(Clone, Copy)]
 enum Visit {
-    /// The clause does not watch the literal any more.
+    /// The clause no longer watches the literal.
     Stale,
     /// The clause watches another literal instead.
     Moved,
@@ -175,7 +175,7 @@ fn propagate_list(
     Ok(None)
 }
 
-/// Propagates a literal that has left the queue over the long clauses.
+/// Propagates a literal over the long clauses. The literal must have left the queue.
 ///
 /// All literals before `lit` on the trail must have been propagated. Returns `Ok(Err(conflict))` if a live clause is
 /// falsified. If memory runs out, the state may be inconsistent and must not be used again.

@@ -99,7 +99,7 @@ impl WatchList {
         let _ = self.watches.pop();
     }
 
-    /// Removes the watches from position `kept` up to `at`, exclusive.
+    /// Removes the watches from position `kept` up to, but not including, position `at`.
     pub fn cut(&mut self, kept: usize, at: usize)
         requires order { kept ≤ at }
         requires within { at ≤ length self.old }

@@ -5,11 +5,11 @@ ghost use Rattle.certify.specs.script.LastPiece.{RefillsAhead, source_in, waitin
 use super::{LastPiece, PIECE};
 use sat_base::{CountedRead, ReadError};
 
-/// The largest number of reads of one reader.
+/// The largest number of reads from one reader.
 const MAX_READS: u64 = 1 << 48;
 
 impl LastPiece {
-    /// Returns a buffer before the first read.
+    /// Returns an empty buffer. No reads have been counted yet.
     pub fn new() -> LastPiece
         ensures waiting { waiting_bytes result ≡ [] }
         ensures reads { result.reads ≡ 0 }
@@ -29,7 +29,7 @@ impl LastPiece {
         &self.piece[self.at..self.end]
     }
 
-    /// Consumes the first `count` bytes that have not been consumed yet. There must be as many.
+    /// Consumes the first `count` bytes that have not been consumed yet. There must be at least that many.
     pub fn take(&mut self, count: usize)
         requires { count ≤ length (waiting_bytes self.old) }
         ensures waiting { waiting_bytes self.new ≡ drop count (waiting_bytes self.old) }
@@ -39,7 +39,7 @@ impl LastPiece {
     }
 
     /// Reads the next chunk. The last chunk must have been consumed completely. Returns the length of the new chunk,
-    /// which is 0 only at the end of the reader.
+    /// which is 0 only if the reader is at its end.
     pub fn refill<R: CountedRead>(&mut self, reader: &mut R) -> Result<usize, ReadError>
         requires { waiting_bytes self.old ≡ [] }
         ensures bytes { RefillsAhead result (source_in R.seen reader.old self.old) (source_in R.seen reader.new self.new) }
