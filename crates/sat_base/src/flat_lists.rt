@@ -61,7 +61,7 @@ impl<T: Copy> FlatLists<T> {
         self.len() == 0
     }
 
-    /// Returns the list with the index `place`, as a slice.
+    /// Returns the list at index `place`, as a slice.
     pub fn get(&self, place: usize) -> &[T]
         requires { place < length self.now }
         ensures { result.now ≡ slice_index_or self.now place [] }

@@ -173,7 +173,7 @@ impl Units {
         self.forget_lit(var.lit(false));
     }
 
-    /// Removes the unit of `lit`, if `lit` is a unit.
+    /// Removes `lit` from the units, if it is one.
     fn forget_lit(&mut self, lit: Lit)
         ensures { self.new ≡ record self.old { units = filter (λ u. not (u.literal == lit)) self.old.units } }
     {

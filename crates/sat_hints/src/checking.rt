@@ -47,7 +47,7 @@ fn line_end(bytes: &[u8]) -> Option<usize>
     None
 }
 
-/// Reads and judges a line, given as bytes. Returns why the line is at fault, if it is.
+/// Reads and judges a line, given as bytes. Returns why the line is faulty, if it is.
 fn take_line(
     lists: &mut Lists,
     judge: &mut Judge,

@@ -210,7 +210,7 @@ impl Analysis {
         self.pending = self.pending.saturating_sub(1);
     }
 
-    /// Adds the clause of `reason` to the involved clauses, if it is a long clause.
+    /// Adds the clause of `reason` to the clauses involved, if it is a long clause.
     fn involve(&mut self, reason: &Reason) -> Result<(), AllocError>
         ensures { OnOk result (self.new ≡ record self.old { involved = self.old.involved ++ long_of reason.now }) }
     {
@@ -222,7 +222,7 @@ impl Analysis {
     }
 
     /// Uses `reason`, the reason for the true literal `lit`. Clears the literal's flag, and adds the literal to the
-    /// used literals. If the reason is a long clause, adds it to the involved clauses.
+    /// used literals. If the reason is a long clause, adds it to the clauses involved.
     pub(crate) fn take_up(&mut self, reason: &Reason, lit: Lit) -> Result<(), AllocError>
         requires flag { variable lit < length self.old.flags }
         ensures { OnOk result (self.new ≡ taken_up reason.now lit self.old) }

@@ -114,7 +114,7 @@ fn widen(clauses: u64, from: u32) -> u32
     bits
 }
 
-/// Removes two bits from the width `from` as long as it is longer than `clauses` clauses need, and returns the result.
+/// Returns the width `from`, reduced by two bits at a time while it is greater than `clauses` clauses need.
 fn shorten(clauses: u64, from: u32) -> u32
     requires { from ≤ 64 }
     ensures value { result ≡ shortened 32 clauses from }

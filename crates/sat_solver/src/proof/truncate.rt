@@ -15,7 +15,7 @@ fn top_bits(hash: ClauseHash, bits: HashBits) -> ClauseHash
 }
 
 #[tactic(auto, using(crate::proofs::lemmas::session::CuttingLemmas::narrow_next))]
-/// Replaces the content of `narrowed` with the top `bits` bits of every hash in `hashes`.
+/// Replaces the contents of `narrowed` with the top `bits` bits of every hash in `hashes`.
 pub fn narrow(
     narrowed: &mut Vec<ClauseHash>,
     hashes: &[ClauseHash],
@@ -30,7 +30,7 @@ pub fn narrow(
     Ok(())
 }
 
-/// Replaces the content of `narrowed` with `units`, keeping only the top `bits` bits of every hash.
+/// Replaces the contents of `narrowed` with `units`, keeping only the top `bits` bits of every hash.
 pub fn narrow_units(
     narrowed: &mut Vec<(Lit, ClauseHash)>,
     units: &[(Lit, ClauseHash)],

@@ -59,7 +59,7 @@ impl<W: CountedWrite + Drop, P: ProofProcessor> Solver<W, P> {
         Ok(())
     }
 
-    /// Adds the clauses that the parser has completed so far, after it reported `answer`.
+    /// Adds the clauses that the parser has completed so far. `answer` is what the parser has just reported.
     fn add_read(
         &mut self,
         parser: &mut DimacsParser,

@@ -65,7 +65,7 @@ impl<W: CountedWrite + Drop, P: ProofProcessor> Solver<W, P> {
         Ok(())
     }
 
-    /// Adds a listener to the solver's own checker, which is started if there is none.
+    /// Adds a listener to the solver's own checker, starting one if there is none.
     ///
     /// Returns `TooLate` when `enable_self_checking` does. If memory runs out, the solver fails permanently. If an
     /// error is returned, the listener is dropped.
