@@ -1,4 +1,5 @@
-use Rattle.std.proofs.Common.{ℕ, ◌≡◌, ◌<◌, ◌≤◌, ◌^◌, ◌⊎◌, inl, inr, ◌++◌, ◌∷◌, [], length, drop, get_or, suc, refl, sym, ◌∙◌, ap, arith, rules}
+use Rattle.std.proofs.lemmas.Grind.{common_steps}
+use Rattle.std.proofs.Common.{ℕ, ◌≡◌, ◌<◌, ◌≤◌, ◌^◌, ◌⊎◌, inl, inr, ◌++◌, ◌∷◌, [], length, drop, get_or, suc, ◌∙◌, ap, arith}
 use Rattle.std.proofs.Math.Seq.{drop-cons}
 use Rattle.std.proofs.lemmas.List.{drop_all}
 use Rattle.sat_hints.specs.inner.LineReading.{number_digits_so_far}
@@ -11,9 +12,7 @@ outside b (inl h) p = omega arith
 outside b (inr h) p = omega arith
 
 pub returns-then-bytes-eq48 : goal.returns-then-bytes-eq48
-returns-then-bytes-eq48 c =
-    let some : 0 < length c.args.bytes.now = search rules in
-    no_number_zero c.args.limit c.ranges.limit.fits c.args.bytes.now some c.if-bytes-eq48.true
+returns-then-bytes-eq48 c = grind (arith, common_steps, no_number_zero)
 
 pub returns-then-byte-lt48 : goal.returns-then-byte-lt48
 returns-then-byte-lt48 c =
@@ -25,14 +24,7 @@ returns-then-byte-lt48 c =
     no_number_stop c.args.limit c.ranges.limit.fits c.loop-i.number (get_or bytes i 0) bytes (drop (suc i) bytes) small (outside (get_or bytes i 0) c.then-byte-lt48.either) (rw c.if-ends_number.false at c.ends_number.ensures) e
 
 pub loop-i-preserved : goal.loop-i-preserved
-loop-i-preserved c =
-    let bytes = c.args.bytes.now in
-    let i = c.loop-i.i in
-    let b = get_or bytes i 0 in
-    let inside : i < length bytes = omega arith in
-    let first : i ≡ 0 → b ≡ 48 → ⊥ = λ z e. c.if-bytes-eq48.false (ap (λ n. get_or bytes n 0) (sym z) ∙ e) in
-    let more = grows i c.loop-i.number b c.loop-i.invariant.more first c.if-byte-lt48.false in
-    record { more = more; digits = one_digit_more bytes i c.loop-i.number b inside refl c.if-byte-lt48.false c.if-byte-gt57.false (omega arith) more c.loop-i.invariant.digits }
+loop-i-preserved c = grind (arith, common_steps, grows, one_digit_more)
 
 pub returns : goal.returns
 returns c =

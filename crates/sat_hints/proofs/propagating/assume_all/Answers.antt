@@ -1,13 +1,11 @@
+use Rattle.std.proofs.lemmas.Grind.{common_steps}
 use Rattle.std.proofs.Common.{◌<◌, ◌∷◌, length, sym, ap, subst, ◌∙◌, arith}
 use Rattle.sat_base.specs.values.Literals.{negated}
 use Rattle.sat_checker.specs.LiteralSets.{is_among}
 use Rattle.sat_checker.specs.inner.AssumedRoom.{LiteralsAndRoom, RoomStays, signed}
 use Rattle.sat_checker.proofs.lemmas.sets.Rooms.{room_stays, stays_further}
-use Rattle.sat_hints.proofs.lemmas.Signs.{lit_at, length-signed, both_met, assumes_none, assumes_same, assumes_more, assumes_all}
+use Rattle.sat_hints.proofs.lemmas.Signs.{lit_at, length-signed, both_met, assumes_same, assumes_more, assumes_all}
 use Rattle.sat_hints.proofs.propagating.assume_all.Goals as goal
-
-pub loop-literal-init : goal.loop-literal-init
-loop-literal-init c = record { first = assumes_none (signed c.args.negate c.args.literals.now) c.args.assumed.now.literals c.requires; stays = λ l h. h }
 
 pub returns-then-is_true-clause-assumes : goal.returns-then-is_true-clause-assumes
 returns-then-is_true-clause-assumes c =
@@ -30,9 +28,6 @@ loop-literal-preserved-then-is_true-2 c =
       stays = c.loop-literal.invariant.stays;
     }
 
-pub assume-requires : goal.assume-requires
-assume-requires c = sym c.is_true-in-loop-literal.ensures ∙ c.if-is_true-2.false
-
 pub loop-literal-preserved : goal.loop-literal-preserved
 loop-literal-preserved c =
     let ls = signed c.args.negate c.args.literals.now in
@@ -49,6 +44,4 @@ loop-literal-preserved c =
     }
 
 pub returns-clause-assumes : goal.returns-clause-assumes
-returns-clause-assumes c =
-    let all = assumes_all (signed c.args.negate c.args.literals.now) c.loop-literal.assumed.literals c.loop-literal.literal-index (omega (arith, length-signed c.args.negate c.args.literals.now)) c.loop-literal.invariant.first in
-    (all.consistent, λ l r. all.are l)
+returns-clause-assumes c = grind (arith, common_steps, length-signed, assumes_all)

@@ -1,15 +1,11 @@
-use Rattle.std.proofs.Common.{◌∷◌, refl, sym, subst, ◌∙◌, arith}
-use Rattle.sat_checker.specs.inner.AssumedRoom.{AgreesOn, signed}
-use Rattle.sat_hints.proofs.lemmas.Signs.{length-signed, agrees_none, before_met, agrees_more, agrees_all}
+use Rattle.std.proofs.lemmas.Grind.{common_steps}
+use Rattle.std.proofs.Common.{◌∷◌, sym, subst, ◌∙◌, arith}
+use Rattle.sat_checker.specs.inner.AssumedRoom.{AgreesOn}
+use Rattle.sat_hints.proofs.lemmas.Signs.{length-signed, before_met, agrees_more, agrees_all}
 use Rattle.sat_hints.proofs.propagating.assume_roomy.Goals as goal
 
-pub loop-place-init : goal.loop-place-init
-loop-place-init c = record { agrees = agrees_none c.args.assumed.now.room (signed c.args.negate c.args.literals.now) c.args.assumed.now.literals c.requires; room = refl }
-
 pub returns-then-has-clause-assumes : goal.returns-then-has-clause-assumes
-returns-then-has-clause-assumes c =
-    before_met c.args.negate c.args.literals.now c.split_at.result.0.now c.loop-place.place c.index-literals-place.result c.loop-place-test.true c.split_at.ensures.front c.index-literals-place.is c.not.result c.not.ensures
-    (sym c.has.ensures ∙ c.if-has.true)
+returns-then-has-clause-assumes c = grind (arith, common_steps, before_met)
 
 pub loop-place-preserved : goal.loop-place-preserved
 loop-place-preserved c = record {
@@ -21,6 +17,4 @@ loop-place-preserved c = record {
 }
 
 pub returns-clause-assumes : goal.returns-clause-assumes
-returns-clause-assumes c =
-    let all = agrees_all c.args.assumed.now.room (signed c.args.negate c.args.literals.now) c.loop-place.assumed.literals c.loop-place.place (omega (arith, length-signed c.args.negate c.args.literals.now)) c.loop-place.invariant.agrees in
-    (all.consistent, all.agrees)
+returns-clause-assumes c = grind (arith, common_steps, length-signed, agrees_all)

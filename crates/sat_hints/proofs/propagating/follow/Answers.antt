@@ -1,16 +1,14 @@
-use Rattle.std.proofs.Common.{◌<◌, ◌+◌, ◌≡◌, Some, drop, length, sym, ap, subst, ◌∙◌, arith, inl, inr}
+use Rattle.std.proofs.lemmas.Grind.{common_steps}
+use Rattle.std.proofs.Common.{◌<◌, ◌+◌, ◌≡◌, Some, drop, length, sym, ap, ◌∙◌, arith, inl, inr}
 use Rattle.sat_base.proofs.lemmas.device.Known.{rest_is}
 use Rattle.sat_hints.specs.inner.Judging.{refutation_failure_of}
-use Rattle.sat_hints.specs.inner.Standing.{standing_clauses, HasRoomForPresent}
+use Rattle.sat_hints.specs.inner.Standing.{standing_clauses}
 use Rattle.sat_hints.proofs.lemmas.Finding.{opens_in_room, lost, missed, no_turn}
 use Rattle.sat_hints.proofs.lemmas.Signs.{same_default}
 use Rattle.sat_hints.proofs.propagating.follow.Goals as goal
 
 pub assume_in_room-requires-clause-room : goal.assume_in_room-requires-clause-room
-assume_in_room-requires-clause-room c =
-    let s = c.args.standing.now in
-    let h = subst (λ room. HasRoomForPresent room s) (sym c.loop-turn.invariant.room) c.requires.room in
-    (opens_in_room s c.loop-turn.assumed.room c.loop-turn.assumed.literals c.in-Some.clause.now _ c.in-Opens.lit h c.in-Some.ensures (sym c.in-Opens.ensures)).0
+assume_in_room-requires-clause-room c = grind (arith, common_steps, opens_in_room)
 
 pub returns-in-Falsified : goal.returns-in-Falsified
 returns-in-Falsified c =

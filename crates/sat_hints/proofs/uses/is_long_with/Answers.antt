@@ -1,12 +1,10 @@
-use Rattle.std.proofs.Common.{◌+◌, ◌*◌, arith}
+use Rattle.std.proofs.lemmas.Grind.{common_steps}
+use Rattle.std.proofs.Common.{arith}
 use Rattle.sat_hints.proofs.lemmas.Counting.{not_long, counted_where}
 use Rattle.sat_hints.proofs.uses.is_long_with.Goals as goal
 
 pub returns-then-clause-lt2 : goal.returns-then-clause-lt2
-returns-then-clause-lt2 c =
-    let a = not_long (2 * c.args.var) c.args.clause.now c.if-clause-lt2.true in
-    let b = not_long (2 * c.args.var + 1) c.args.clause.now c.if-clause-lt2.true in
-    omega (arith, a, b)
+returns-then-clause-lt2 c = grind (arith, common_steps, not_long)
 
 pub returns : goal.returns
 returns c = counted_where c.args.var c.args.clause.now c.mentions.result c.if-clause-lt2.false c.mentions.ensures

@@ -1,10 +1,7 @@
-use Rattle.std.proofs.Common.{[], ◌++◌, refl, ◌∙◌, take, length-append, rules, arith}
-use Rattle.sat_base.proofs.lemmas.device.Given.{gave_none, gave_more, gave_still, not_ended, enough_front}
+use Rattle.std.proofs.Common.{◌++◌, ◌∙◌, take, length-append, rules, arith}
+use Rattle.sat_base.proofs.lemmas.device.Given.{gave_more, gave_still, not_ended, enough_front}
 use Rattle.sat_base.proofs.lemmas.dimacs.Parsed.{piece_given}
 use Rattle.sat_hints.proofs.checking.Checking.check_text.Goals as goal
-
-pub loop-init : goal.loop-init
-loop-init g c = record { ready = c.requires.ready; bytes = ([], c.requires.fresh, gave_none _, omega arith); open_yet = λ h. absurd (omega arith); failures = refl; calls = omega arith }
 
 pub loop-preserved : goal.loop-preserved
 loop-preserved g c =

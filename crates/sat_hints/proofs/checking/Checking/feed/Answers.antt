@@ -1,11 +1,8 @@
-use Rattle.std.proofs.Common.{[], None, Some, refl, sym, subst}
-use Rattle.sat_hints.specs.inner.Holding.{IsWholeLine, ReadsFurther}
+use Rattle.std.proofs.Common.{[], None, Some, refl}
+use Rattle.sat_hints.specs.inner.Holding.{ReadsFurther}
 use Rattle.sat_hints.proofs.lemmas.Holding.{reads_none, split_off}
 use Rattle.sat_hints.proofs.lemmas.InPlace.{reads_fault, reads_then}
 use Rattle.sat_hints.proofs.checking.Checking.feed.Goals as goal
-
-pub end_line-requires-clause-ends : goal.end_line-requires-clause-ends
-end_line-requires-clause-ends c = subst IsWholeLine (sym c.split_at.ensures.front) c.in-Some.ensures.2
 
 pub returns-in-Some-2-clause-reads : goal.returns-in-Some-2-clause-reads
 returns-in-Some-2-clause-reads c =

@@ -1,14 +1,11 @@
-use Rattle.std.proofs.Common.{◌++◌, [], None, Some, refl, sym, subst}
+use Rattle.std.proofs.Common.{◌++◌, None, Some, refl, sym, subst}
 use Rattle.sat_hints.specs.Lines.{line_text}
 use Rattle.sat_hints.specs.declared.checking.Checking.{Checking}
 use Rattle.sat_hints.specs.inner.Judging.{TakesNext}
 use Rattle.sat_hints.specs.inner.LineReading.{line_of_view, BeginsWithHintLine}
-use Rattle.sat_hints.proofs.lemmas.Holding.{reads_none, reads_more}
+use Rattle.sat_hints.proofs.lemmas.Holding.{reads_more}
 use Rattle.sat_hints.proofs.lemmas.InPlace.{line_off, reads_line, reads_fault, reads_then, reads_still}
 use Rattle.sat_hints.proofs.checking.Checking.feed_in_place.Goals as goal
-
-pub loop-head-init : goal.loop-head-init
-loop-head-init c = record { ready = c.requires.ready; empty = c.requires.empty; done = ([], refl, reads_none c.args.self.now) }
 
 pub returns-in-Some-clause-reads : goal.returns-in-Some-clause-reads
 returns-in-Some-clause-reads c =

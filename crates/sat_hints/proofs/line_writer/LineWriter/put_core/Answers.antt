@@ -1,9 +1,7 @@
-use Rattle.std.proofs.Common.{◌∷◌, []}
-use Rattle.sat_hints.specs.inner.LineWriting.{outlet}
+use Rattle.std.proofs.Common.{arith}
+use Rattle.std.proofs.lemmas.Grind.{common_steps}
 use Rattle.sat_hints.proofs.lemmas.Putting.{put_more}
 use Rattle.sat_hints.proofs.line_writer.LineWriter.put_core.Goals as goal
 
 pub returns : goal.returns
-returns g c =
-    let S = g.W.CountedWrite.seen in
-    put_more (102 ∷ 32 ∷ []) _ (outlet S c.args.self.now) (outlet S c.put_all.new.self) (outlet S c.put_both.new.self) c.put_all.ensures c.put_both.ensures
+returns g c = grind (arith, common_steps, put_more)

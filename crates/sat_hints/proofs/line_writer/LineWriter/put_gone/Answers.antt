@@ -1,10 +1,7 @@
-use Rattle.std.proofs.Common.{◌∷◌, []}
-use Rattle.sat_hints.specs.Lines.{id_words}
-use Rattle.sat_hints.specs.inner.LineWriting.{outlet}
+use Rattle.std.proofs.Common.{arith}
+use Rattle.std.proofs.lemmas.Grind.{common_steps}
 use Rattle.sat_hints.proofs.lemmas.Putting.{put_three}
 use Rattle.sat_hints.proofs.line_writer.LineWriter.put_gone.Goals as goal
 
 pub returns : goal.returns
-returns g c =
-    let S = g.W.CountedWrite.seen in
-    put_three (120 ∷ 32 ∷ []) (id_words (c.args.id ∷ [])) (48 ∷ 10 ∷ []) (outlet S c.args.self.now) (outlet S c.put_all.new.self) (outlet S c.put_id.new.self) (outlet S c.put_all-2.new.self) c.put_all.ensures c.put_id.ensures c.put_all-2.ensures
+returns g c = grind (arith, common_steps, put_three)

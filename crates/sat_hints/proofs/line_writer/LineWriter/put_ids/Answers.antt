@@ -1,10 +1,7 @@
-use Rattle.std.proofs.Common.{refl}
-use Rattle.sat_hints.specs.Lines.{id_words}
-use Rattle.sat_hints.specs.inner.LineWriting.{outlet}
+use Rattle.std.proofs.Common.{arith}
+use Rattle.std.proofs.lemmas.Grind.{common_steps}
 use Rattle.sat_hints.proofs.lemmas.Decimals.{text_waits}
 use Rattle.sat_hints.proofs.line_writer.LineWriter.put_ids.Goals as goal
 
 pub returns : goal.returns
-returns g c =
-    let S = g.W.CountedWrite.seen in
-    text_waits (S c.args.self.now.writer) c.args.self.now.bytes c.write_ids-self.new.bytes c.args.self.now.len c.write_ids-self.result (id_words c.args.ids.now) (outlet S c.args.self.now) _ c.if-self.false refl c.if-self.false refl c.write_ids-self.ensures.text
+returns g c = grind (arith, common_steps, text_waits)

@@ -1,10 +1,7 @@
 use Rattle.std.proofs.Common.{rules, ◌≡◌, ◌<◌, length, get_or, sym, subst, ◌∙◌}
 use Rattle.sat_hints.specs.inner.Clauses.{AllBelow}
-use Rattle.sat_hints.proofs.lemmas.Listed.{keeps_none, keeps_one, keeps_not, keeps_all, next_below, next_set, same_default}
+use Rattle.sat_hints.proofs.lemmas.Listed.{keeps_one, keeps_not, keeps_all, next_below, same_default}
 use Rattle.sat_hints.proofs.present.Present.keep_in.Goals as goal
-
-pub loop-place-init : goal.loop-place-init
-loop-place-init c = keeps_none c.args.self.now c.args.kept.now c.requires.empty c.requires.none c.requires.clauses c.requires.times
 
 pub loop-place-preserved-then-index : goal.loop-place-preserved-then-index
 loop-place-preserved-then-index c = keeps_not c.args.self.now c.requires.store c.loop-place.place (search rules) c.loop-place.kept c.index.result.now c.loop-place.invariant c.index.ensures c.if-index.true
@@ -14,11 +11,6 @@ push-requires-clause-above c =
     let inside : c.loop-place.place < length c.args.self.now.ids.items = search rules in
     let e : c.index-in-loop-place.result.now ≡ get_or c.args.self.now.ids.items c.loop-place.place 0 = c.index-in-loop-place.ensures ∙ same_default c.args.self.now.ids.items c.loop-place.place c.index-in-loop-place.result.now 0 inside in
     subst (AllBelow c.loop-place.kept.ids.items) (sym e) (next_below c.args.self.now c.requires.store c.loop-place.place inside c.loop-place.kept c.loop-place.invariant)
-
-pub push-requires-clause-increasing : goal.push-requires-clause-increasing
-push-requires-clause-increasing c =
-    let inside : c.loop-place.place < length c.args.self.now.ids.items = search rules in
-    next_set c.args.self.now c.requires.store c.loop-place.place inside c.get.result.now c.get.ensures
 
 pub loop-place-preserved : goal.loop-place-preserved
 loop-place-preserved c =
