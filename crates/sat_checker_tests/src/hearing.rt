@@ -240,7 +240,7 @@ fn are_same(found: Found<'_>, awaited: Awaited) -> bool {
         && are_ids(ids, wanted_ids)
 }
 
-/// Whether the announcement `step` is the expected one, `told`.
+/// Whether the announcement `step` is the expected one, `notice`.
 fn is_reported(step: &CheckedProofStep<'_>, notice: Notice) -> bool {
     match *step {
         CheckedProofStep::UserVar { var, user_var } => is_user_var(notice, var, user_var),
@@ -412,8 +412,8 @@ pub(crate) fn are_done(given_back: Processors<Listener, Reader>, count: usize) -
         && transcripts_are_done(&given_back.transcripts)
 }
 
-/// Whether calls of a new checker have the given results, a processor is notified of exactly `told`, and a transcript
-/// of exactly `said`.
+/// Whether calls of a new checker have the given results, a processor is notified of exactly `notices`, and a
+/// transcript of exactly `said`.
 pub(crate) fn are_heard(
     alloc: Global,
     notices: &'static [Notice],

@@ -1,4 +1,4 @@
-//! Carries out calls that name files, with any readers and writers in place of the files. All calls return the status.
+//! Carries out calls that name files, with any readers and writers instead of the files. All calls return the status.
 ghost use Rattle.std.specs.Prelude.{◌≡◌, ◌≤◌, ◌↔◌, None, [], IfOk, OnOk, true};
 ghost use Rattle.sat_base.specs.device.Device.{WriterTakes};
 ghost use Rattle.certify.specs.Devices.{gave, took};
