@@ -9,14 +9,14 @@ use Rattle.sat_parts.specs.clause.Db.{PutsHeader}
 -- every clause of the list now has the header that f gives, and its literals are unchanged
 pub record PutsHeaders (words words' refs : List ℕ) (f : ℕ → Header) : Type 0 where
   pub size : length words' ≡ length words
-  pub laid : HoldsClauses words' refs
+  pub holds_clauses : HoldsClauses words' refs
   pub headers : (p : ℕ) → Contains refs p → header_at words' p ≡ f p
   pub lits : (p : ℕ) → Contains refs p → lits_at words' p ≡ lits_at words p
 
 -- the first n clauses of the list now have the headers that f gives, and the others are unchanged
 pub record PutsFirst (words words' refs : List ℕ) (f : ℕ → Header) (n : ℕ) : Type 0 where
   pub size : length words' ≡ length words
-  pub laid : HoldsClauses words' refs
+  pub holds_clauses : HoldsClauses words' refs
   pub first : (k : ℕ) → k < n → k < length refs → header_at words' (get_or refs k 0) ≡ f (get_or refs k 0)
   pub rest : (k : ℕ) → n ≤ k → k < length refs → header_at words' (get_or refs k 0) ≡ header_at words (get_or refs k 0)
   pub lits : (k : ℕ) → k < length refs → lits_at words' (get_or refs k 0) ≡ lits_at words (get_or refs k 0)

@@ -24,7 +24,7 @@ words_of words refs = sum_by (λ o. length (lits_at words o) + 3) refs
 -- the live clauses among the first i were copied, none of them to a larger offset
 pub record CopyInvariant (words refs words' refs' : List ℕ) (i : ℕ) : Type 0 where
   pub copies : Copies words (live_refs words (take i refs)) words' refs'
-  pub laid : HoldsClauses words' refs'
+  pub holds_clauses : HoldsClauses words' refs'
   pub rising : AreRising refs'
   pub low : (k : ℕ) → k < length refs' → get_or refs' k 0 ≤ get_or (live_refs words (take i refs)) k 0
   pub room : (p : ℕ) → Contains (drop i refs) p → length words' ≤ p

@@ -47,7 +47,7 @@ AreRising xs = (j k : ℕ) → j < k → k < length xs → get_or xs j 0 < get_o
 -- the list has the clauses of the buffer: every one has three or more literals, no two share words, and offsets increase; the numbers
 -- count the live clauses by tier, and the garbage the words of deleted ones (it saturates at 2^64 - 1)
 pub record DbMatchesBuffer (words : List ℕ) (db : Db) : Type 0 where
-  pub laid : HoldsClauses words db.refs
+  pub holds_clauses : HoldsClauses words db.refs
   pub rising : AreRising db.refs
   pub tiers : length db.counts ≡ 4
   pub counts : (tier : Tier) → get_or db.counts (index_of tier) 0 ≡ count_by (is_live_of words tier) db.refs
@@ -77,7 +77,7 @@ pub record AddsLongClause (words : List ℕ) (db : Db) (words' : List ℕ) (db' 
 -- the clause at o now has this header, of the same length, and no other clause of the list changed
 pub record PutsHeader (words words' refs : List ℕ) (o : ℕ) (header : Header) : Type 0 where
   pub size : length words' ≡ length words
-  pub laid : HoldsClauses words' refs
+  pub holds_clauses : HoldsClauses words' refs
   pub header_there : header_at words' o ≡ header
   pub lits_there : lits_at words' o ≡ lits_at words o
   pub others : (p : ℕ) → Contains refs p → p ≢ o → SameClauseAt words words' p

@@ -22,12 +22,12 @@ pub record PermutesClause (old new : List ℕ) (o : ℕ) : Type 0 where
   pub clause : IsClause new o
   pub header : header_at new o ≡ header_at old o
   pub lits : IsReordering (lits_at old o) (lits_at new o)
-  pub laid : (refs : List ℕ) → Contains refs o → HoldsClauses old refs → HoldsClauses new refs
+  pub holds_clauses : (refs : List ℕ) → Contains refs o → HoldsClauses old refs → HoldsClauses new refs
   pub others : (refs : List ℕ) (p : ℕ) → Contains refs o → HoldsClauses old refs → Contains refs p → o ≢ p → SameClauseAt old new p
 
 -- the clauses at these offsets have the same headers and the same literals, possibly in another order
 pub record SameUpToOrder (old new refs : List ℕ) : Type 0 where
-  pub laid : HoldsClauses new refs
+  pub holds_clauses : HoldsClauses new refs
   pub headers : (o : ℕ) → Contains refs o → header_at new o ≡ header_at old o
   pub lits : (o : ℕ) → Contains refs o → IsReordering (lits_at old o) (lits_at new o)
 

@@ -14,7 +14,7 @@ size_of words o = length (lits_at words o)
 
 -- no two live clauses share words, and each has three or more different literals, of variables below `count`
 pub record AreClauses (words live : List ℕ) (count : ℕ) : Type 0 where
-  pub laid : HoldsClauses words live
+  pub holds_clauses : HoldsClauses words live
   pub long : (o : ℕ) → Contains live o → 3 ≤ size_of words o
   pub below : (o k : ℕ) → Contains live o → k < size_of words o → lit_of words o k < 2 * count
   pub distinct : (o : ℕ) → Contains live o → AreDistinct (lits_at words o)

@@ -20,7 +20,7 @@ use Rattle.sat_parts.specs.prop.Ready.{AreWatched, AreSettled, AreImplied, AreLi
 -- first; and a clause with a watched literal that is false by a literal that has left the queue, at a level below `top`, has a true literal
 -- at the same level or lower
 pub record PropagationInvariant (words refs : List ℕ) (w : Watching) (implied : List (List ℕ)) (s : State) (top : ℕ) : Type 0 where
-  pub laid : HoldsClauses words refs
+  pub holds_clauses : HoldsClauses words refs
   pub clauses : AreClauses words (live_refs words refs) (length s.values)
   pub room : length w.lists ≡ 2 * length s.values
   pub watches : w.enabled ≡ true → AreWatched words (live_refs words refs) w.lists (length s.values)
@@ -46,7 +46,7 @@ IsOwnBinary (Long o) lit l m = ⊥
 -- the same before an unassigned literal becomes true by its reason: the clause of the reason may have been just added, and not yet
 -- propagated, if its false watched literals are at the current level
 pub record EnqueuePrecondition (lit : ℕ) (reason : Reason) (words refs : List ℕ) (w : Watching) (implied : List (List ℕ)) (s : State) (top : ℕ) : Type 0 where
-  pub laid : HoldsClauses words refs
+  pub holds_clauses : HoldsClauses words refs
   pub clauses : AreClauses words (live_refs words refs) (length s.values)
   pub room : length w.lists ≡ 2 * length s.values
   pub watches : w.enabled ≡ true → AreWatched words (live_refs words refs) w.lists (length s.values)

@@ -350,7 +350,7 @@ pub fn enable_watchlists(
     db: &ClauseDb,
 ) -> Result<(), AllocError>
     ghost count: { ℕ }
-    requires laid { HoldsClauses clauses.now db.now.refs }
+    requires holds_clauses { HoldsClauses clauses.now db.now.refs }
     requires clauses { AreClauses clauses.now (live_refs clauses.now db.now.refs) count }
     requires room { length watchlists.old.lists ≡ 2 * count }
     ensures kept { IsTrue watchlists.old.enabled → OnOk result (watchlists.new ≡ watchlists.old) }

@@ -1,3 +1,3 @@
 pub mod HeaderLemmas
 pub mod BufferLemmas
-pub mod Laying
+pub mod HeldClauses

@@ -47,7 +47,7 @@ pub record ChangesAt (old new : List ℕ) (o : ℕ) : Type 0 where
   pub clause : IsClause new o
   pub size : length new ≡ length old
   pub others : (p : ℕ) → IsClause old p → HaveNoCommonWord old o p → SameClauseAt old new p
-  pub laid : (live : List ℕ) → Contains live o → HoldsClauses old live → HoldsClauses new live
+  pub holds_clauses : (live : List ℕ) → Contains live o → HoldsClauses old live → HoldsClauses new live
 
 -- a clause with these literals and this header, except for its length, was appended at c
 pub record AppendsClause (old new : List ℕ) (c : ℕ) (header : Header) (lits : List ℕ) : Type 0 where
@@ -59,4 +59,4 @@ pub record AppendsClause (old new : List ℕ) (c : ℕ) (header : Header) (lits 
   pub front : take (length old) new ≡ old
   pub others : (p : ℕ) → IsClause old p → SameClauseAt old new p
   pub fresh : (live : List ℕ) → HoldsClauses old live → Contains live c → ⊥
-  pub laid : (live : List ℕ) → HoldsClauses old live → HoldsClauses new (live ++ c ∷ [])
+  pub holds_clauses : (live : List ℕ) → HoldsClauses old live → HoldsClauses new (live ++ c ∷ [])

@@ -9,7 +9,7 @@ use Rattle.sat_store.specs.clause.Buffer.{IsClause, HoldsClauses, SameClauseAt, 
 use Rattle.sat_store.specs.clause.Header.{Header, index_of}
 use Rattle.sat_store.specs.declared.clause.tier.Tier.{Tier}
 use Rattle.sat_store.specs.declared.clause.tier.Tier.TheVariants.{Irred}
-use Rattle.sat_store.proofs.lemmas.clause.Laying.{same_count, clause_within, kept_below}
+use Rattle.sat_store.proofs.lemmas.clause.HeldClauses.{same_count, clause_within, kept_below}
 use Rattle.sat_parts.specs.clause.Db.{Db, is_live, live_refs, is_live_of, garbage_of, AreRising, DbMatchesBuffer, tier_count_more, tier_count_less, AddsLongClause, PutsHeader, DeletesClause, MovesClause, ShortensClause}
 use Rattle.sat_parts.proofs.lemmas.prop.BuildLemmas.{live_in, live_same}
 use Rattle.sat_parts.proofs.lemmas.clause.ListLemmas.{rising_push, sum_same, sum_changed, count_less, counted_some, filter_without, filter_same}
@@ -29,12 +29,12 @@ live_is words refs o h = All-contains (λ x. is_live words x ≡ true) (live_ref
 -- a header of the same length, as `set_header` writes it
 pub puts_header : (words words' refs : List ℕ) (o : ℕ) (h : Header) → HoldsClauses words refs → Contains refs o → h.len ≡ (header_at words o).len →
     header_at words' o ≡ h → lits_at words' o ≡ take h.len (lits_at words o) → ChangesAt words words' o → PutsHeader words words' refs o h
-puts_header words words' refs o h laid has len header lits change = record {
+puts_header words words' refs o h holds_clauses has len header lits change = record {
   size = change.size;
-  laid = change.laid refs has laid;
+  holds_clauses = change.holds_clauses refs has holds_clauses;
   header_there = header;
-  lits_there = lits ∙ take_all h.len (lits_at words o) (omega (arith, same_count words o (laid.clauses o has)));
-  others = λ p c n. change.others p (laid.clauses p c) (laid.apart o p has c (λ e. n (sym e)));
+  lits_there = lits ∙ take_all h.len (lits_at words o) (omega (arith, same_count words o (holds_clauses.clauses o has)));
+  others = λ p c n. change.others p (holds_clauses.clauses p c) (holds_clauses.apart o p has c (λ e. n (sym e)));
 }
 
 -- whether a clause is counted as one of a tier, where its header is known
@@ -116,7 +116,7 @@ deletes words db words' o h c put =
     record {
       put = put;
       holds = record {
-        laid = put.laid;
+        holds_clauses = put.holds_clauses;
         rising = h.rising;
         tiers = length-set db.counts (index_of tier) (get_or db.counts (index_of tier) 0 - 1) ∙ h.tiers;
         counts = λ t.
@@ -183,7 +183,7 @@ moves words db words' o tier h c differ put =
     record {
       put = put;
       holds = record {
-        laid = put.laid;
+        holds_clauses = put.holds_clauses;
         rising = h.rising;
         tiers = length-set less (index_of tier) (get_or less (index_of tier) 0 + 1) ∙ size;
         counts = λ t.
@@ -228,7 +228,7 @@ after_add o tier db = record db { refs = db.refs ++ o ∷ []; counts = tier_coun
 
 -- the clauses of the list are kept by an addition
 added_keeps : (words words' : List ℕ) (db : Db) (o : ℕ) (header : Header) (lits : List ℕ) → DbMatchesBuffer words db → AppendsClause words words' o header lits → (p : ℕ) → Contains db.refs p → SameClauseAt words words' p
-added_keeps words words' db o header lits h added p c = kept_below words words' db.refs o p header lits h.laid c added
+added_keeps words words' db o header lits h added p c = kept_below words words' db.refs o p header lits h.holds_clauses c added
 
 pub adds : (words : List ℕ) (db : Db) (words' : List ℕ) (o : ℕ) (header : Header) (lits : List ℕ) → DbMatchesBuffer words db → header.deleted ≡ false → 3 ≤ length lits → length (db.refs ++ o ∷ []) < 2 ^ 64 →
     AppendsClause words words' o header lits → AddsLongClause words db words' (after_add o header.tier db) o header lits
@@ -239,8 +239,8 @@ adds words db words' o header lits h new three few added =
     record {
       added = added;
       holds = record {
-        laid = added.laid db.refs h.laid;
-        rising = rising_push db.refs o h.rising (λ p c. omega (arith, clause_within words p (h.laid.clauses p c), added.place));
+        holds_clauses = added.holds_clauses db.refs h.holds_clauses;
+        rising = rising_push db.refs o h.rising (λ p c. omega (arith, clause_within words p (h.holds_clauses.clauses p c), added.place));
         tiers = length-set db.counts (index_of tier) (get_or db.counts (index_of tier) 0 + 1) ∙ h.tiers;
         counts = λ t.
             let q : count_by (is_live_of words' t) (db.refs ++ o ∷ []) ≡ count_by (is_live_of words' t) db.refs + one (is_live_of words' t o) = sum_by_push (λ p. one (is_live_of words' t p)) db.refs o in
@@ -275,7 +275,7 @@ adds words db words' o header lits h new three few added =
 
 -- the clause at a live place, and what its tier is counted with
 pub live_clause : (words : List ℕ) (db : Db) (o : ℕ) → DbMatchesBuffer words db → Contains (live_refs words db.refs) o → IsClause words o
-live_clause words db o h c = h.laid.clauses o (live_in words db.refs o c)
+live_clause words db o h c = h.holds_clauses.clauses o (live_in words db.refs o c)
 
 -- a tier that a live clause isn't of has room for one more
 pub room_in_tier : (words : List ℕ) (db : Db) (o : ℕ) (tier : Tier) → DbMatchesBuffer words db → Contains (live_refs words db.refs) o → index_of (header_at words o).tier ≢ index_of tier →
@@ -315,7 +315,7 @@ shortens words db words' o len h c long fits header lits change =
     let has : Contains db.refs o = live_in words db.refs o c in
     let live : is_live words o ≡ true = live_is words db.refs o c in
     let live' : is_live words' o ≡ true = ap (λ (x : Header). not x.deleted) header ∙ live in
-    let others : (p : ℕ) → Contains db.refs p → p ≢ o → SameClauseAt words words' p = λ p d n. change.others p (h.laid.clauses p d) (h.laid.apart o p has d (λ e. n (sym e))) in
+    let others : (p : ℕ) → Contains db.refs p → p ≢ o → SameClauseAt words words' p = λ p d n. change.others p (h.holds_clauses.clauses p d) (h.holds_clauses.apart o p has d (λ e. n (sym e))) in
     let flags : (p : ℕ) → Contains db.refs p → (is_live words' p ≡ is_live words p) × ((header_at words' p).tier ≡ (header_at words p).tier) = λ p d. elim (cases_eq p o) [
       | inl e ↦ (
         ap (λ z. is_live words' z) e ∙ ap (λ (x : Header). not x.deleted) header ∙ ap (λ z. is_live words z) (sym e),
@@ -330,7 +330,7 @@ shortens words db words' o len h c long fits header lits change =
       others = others;
       live = filter_same (is_live words) (is_live words') db.refs (λ x d. (flags x d).0);
       holds = record {
-        laid = change.laid db.refs has h.laid;
+        holds_clauses = change.holds_clauses db.refs has h.holds_clauses;
         rising = h.rising;
         tiers = h.tiers;
         counts = λ t.

@@ -13,7 +13,7 @@ use Rattle.sat_parts.proofs.lemmas.clause.DbLemmas.{live_is}
 use Rattle.sat_parts.proofs.lemmas.prop.BuildLemmas.{live_in, live_place, live_next, live_skip}
 
 keeps_itself : (words refs : List ℕ) (p : ℕ) → HoldsClauses words refs → Contains refs p → SameClauseAt words words p
-keeps_itself words refs p laid c = record { clause = laid.clauses p c; header = refl; lits = refl }
+keeps_itself words refs p holds_clauses c = record { clause = holds_clauses.clauses p c; header = refl; lits = refl }
 
 keeps_on : (a b c : List ℕ) (p : ℕ) → SameClauseAt a b p → SameClauseAt b c p → SameClauseAt a c p
 keeps_on a b c p x y = record { clause = y.clause; header = y.header ∙ x.header; lits = y.lits ∙ x.lits }
@@ -22,13 +22,13 @@ live_kept : (old new : List ℕ) (p : ℕ) → SameClauseAt old new p → is_liv
 live_kept old new p k = ap (λ (h : Header). not h.deleted) (sym k.header)
 
 pub filtering_none : {F : Type 0} (R : F → ℕ → Bool → F → Type 0) (f : F) (words refs : List ℕ) → HoldsClauses words refs → FilterInvariant R f words words refs 0 f
-filtering_none R f words refs laid = record {
+filtering_none R f words refs holds_clauses = record {
   answers = [];
   size = refl;
   asked = refl;
   live = refl;
   front = λ k a b e. absurd (omega arith);
-  rest = λ k a b. keeps_itself words refs (get_or refs k 0) laid (place_in refs k b);
+  rest = λ k a b. keeps_itself words refs (get_or refs k 0) holds_clauses (place_in refs k b);
 }
 
 -- a deleted clause isn't asked for

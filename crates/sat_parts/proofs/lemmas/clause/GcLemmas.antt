@@ -8,7 +8,7 @@ use Rattle.std.specs.List.{Contains, filter, sum_by, count_by}
 use Rattle.sat_base.specs.values.Literals.{variable}
 use Rattle.sat_store.specs.clause.Buffer.{IsClause, HoldsClauses, SameClauseAt, AppendsClause, header_at, lits_at}
 use Rattle.sat_store.specs.clause.Header.{Header, index_of}
-use Rattle.sat_store.proofs.lemmas.clause.Laying.{same_count, clause_within, ends_before}
+use Rattle.sat_store.proofs.lemmas.clause.HeldClauses.{same_count, clause_within, ends_before}
 use Rattle.sat_parts.specs.declared.prop.graph.ImplNode.{ImplNode}
 use Rattle.sat_parts.specs.declared.prop.graph.Reason.{Reason}
 use Rattle.sat_parts.specs.declared.prop.graph.Reason.TheVariants.{Unit as NoCause, Binary, Long}
@@ -57,10 +57,10 @@ sums_along f g (x ∷ xs) (y ∷ ys) n h =
 
 -- an addition keeps the words of the clauses before it, and its own words come to them
 packed_more : (w r w2 : List ℕ) (c : ℕ) (h : Header) (ls : List ℕ) → HoldsClauses w r → length w ≡ words_of w r → AppendsClause w w2 c h ls → length w2 ≡ words_of w2 (r ++ c ∷ [])
-packed_more w r w2 c h ls laid packed added =
+packed_more w r w2 c h ls holds_clauses packed added =
     let kept : words_of w2 r ≡ words_of w r =
     sums_along (λ o. length (lits_at w o) + 3) (λ o. length (lits_at w2 o) + 3) r r refl
-    (λ k lt. ap (λ (xs : List ℕ). length xs + 3) (added.others (get_or r k 0) (laid.clauses (get_or r k 0) (place_in r k lt))).lits) in
+    (λ k lt. ap (λ (xs : List ℕ). length xs + 3) (added.others (get_or r k 0) (holds_clauses.clauses (get_or r k 0) (place_in r k lt))).lits) in
     let own : length (lits_at w2 c) ≡ length ls = ap (λ (xs : List ℕ). length xs) added.lits_there in
     omega (arith, sum_by_push (λ o. length (lits_at w2 o) + 3) r c, kept, own, packed, added.size)
 
@@ -69,7 +69,7 @@ copying_skip words refs w r i h lt dead =
     let e : live_refs words (take i refs) ≡ live_refs words (take (i + 1) refs) = sym (live_skip words refs i lt dead) in
     record {
       copies = subst (λ (xs : List ℕ). Copies words xs w r) e h.copies;
-      laid = h.laid;
+      holds_clauses = h.holds_clauses;
       rising = h.rising;
       low = subst (λ (xs : List ℕ). (k : ℕ) → k < length r → get_or r k 0 ≤ get_or xs k 0) e h.low;
       room = λ p c. h.room p (drop_in refs i p lt c);
@@ -77,11 +77,11 @@ copying_skip words refs w r i h lt dead =
     }
 
 copies_more : (words live w r w2 : List ℕ) (c o : ℕ) → Copies words live w r → HoldsClauses w r → IsClause words o → AppendsClause w w2 c (header_at words o) (lits_at words o) → Copies words (live ++ o ∷ []) w2 (r ++ c ∷ [])
-copies_more words live w r w2 c o h laid clause added =
+copies_more words live w r w2 c o h holds_clauses clause added =
     let n : length (live ++ o ∷ []) ≡ length live + 1 = length_push live o in
     let m : length (r ++ c ∷ []) ≡ length r + 1 = length_push r c in
     let size : length r ≡ length live = h.size in
-    let keeps : (k : ℕ) → k < length live → SameClauseAt w w2 (get_or r k 0) = λ k lt. added.others (get_or r k 0) (laid.clauses (get_or r k 0) (place_in r k (omega arith))) in
+    let keeps : (k : ℕ) → k < length live → SameClauseAt w w2 (get_or r k 0) = λ k lt. added.others (get_or r k 0) (holds_clauses.clauses (get_or r k 0) (place_in r k (omega arith))) in
     record {
       size = omega arith;
       headers = λ k lt. elim (cases_eq k (length live)) [
@@ -100,7 +100,7 @@ copies_more words live w r w2 c o h laid clause added =
 
 pub copying_more : (words refs w r w2 : List ℕ) (i c o : ℕ) → HoldsClauses words refs → AreRising refs → CopyInvariant words refs w r i → i < length refs → o ≡ get_or refs i 0 → is_live words o ≡ true →
     AppendsClause w w2 c (header_at words o) (lits_at words o) → CopyInvariant words refs w2 (r ++ c ∷ []) (i + 1)
-copying_more words refs w r w2 i c o laid rising h lt o_is live added =
+copying_more words refs w r w2 i c o holds_clauses rising h lt o_is live added =
     let live_i : List ℕ = live_refs words (take i refs) in
     let has : Contains refs o = subst (λ z. Contains refs z) (sym o_is) (place_in refs i lt) in
     let live' : is_live words (get_or refs i 0) ≡ true = subst (λ z. is_live words z ≡ true) o_is live in
@@ -113,15 +113,15 @@ copying_more words refs w r w2 i c o laid rising h lt o_is live added =
       | inr d ↦ omega (arith, more_front r c k (omega arith), more_front live_i o k (omega arith), h.low k (omega arith))
     ] in
     record {
-      copies = subst (λ (xs : List ℕ). Copies words xs w2 (r ++ c ∷ [])) e (copies_more words live_i w r w2 c o h.copies h.laid (laid.clauses o has) added);
-      laid = added.laid r h.laid;
-      rising = rising_push r c h.rising (λ p q. omega (arith, clause_within w p (h.laid.clauses p q), added.place));
+      copies = subst (λ (xs : List ℕ). Copies words xs w2 (r ++ c ∷ [])) e (copies_more words live_i w r w2 c o h.copies h.holds_clauses (holds_clauses.clauses o has) added);
+      holds_clauses = added.holds_clauses r h.holds_clauses;
+      rising = rising_push r c h.rising (λ p q. omega (arith, clause_within w p (h.holds_clauses.clauses p q), added.place));
       low = subst (λ (xs : List ℕ). (k : ℕ) → k < length (r ++ c ∷ []) → get_or (r ++ c ∷ []) k 0 ≤ get_or xs k 0) e low;
       room = λ p q.
           let in_refs : Contains refs p = in_dropped refs (i + 1) p q in
           let above : o < p = omega (arith, o_is, rising_dropped refs i p rising lt q) in
-          omega (arith, ends_before words refs o p laid has in_refs above, added.size);
-      packed = packed_more w r w2 c (header_at words o) (lits_at words o) h.laid h.packed added;
+          omega (arith, ends_before words refs o p holds_clauses has in_refs above, added.size);
+      packed = packed_more w r w2 c (header_at words o) (lits_at words o) h.holds_clauses h.packed added;
     }
 
 pub copying_all : (words refs w r : List ℕ) (i : ℕ) → CopyInvariant words refs w r i → i ≡ length refs → Copies words (live_refs words refs) w r × ((k : ℕ) → k < length r → get_or r k 0 ≤ get_or (live_refs words refs) k 0)
@@ -306,7 +306,7 @@ holds_copies words w r db i h x e =
     let c : Copies words (live_refs words db.refs) w r = (copying_all words db.refs w r i x e).0 in
     let live : (p : ℕ) → Contains r p → is_live w p ≡ true = copy_live_is words (live_refs words db.refs) w r c (λ p d. live_is words db.refs p d) in
     record {
-      laid = x.laid;
+      holds_clauses = x.holds_clauses;
       rising = x.rising;
       tiers = h.tiers;
       counts = λ t.

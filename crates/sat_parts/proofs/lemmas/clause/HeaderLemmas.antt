@@ -13,7 +13,7 @@ use Rattle.sat_parts.proofs.lemmas.clause.ListLemmas.{at_place, sum_same, filter
 pub first_all : (words one refs : List ℕ) (f : ℕ → Header) (n : ℕ) → PutsFirst words one refs f n → n ≡ length refs → PutsHeaders words one refs f
 first_all words one refs f n x e = record {
   size = x.size;
-  laid = x.laid;
+  holds_clauses = x.holds_clauses;
   headers = λ p c.
       let q : get_or refs c.0 0 ≡ p = at_place refs p c in
       ap (λ z. header_at one z) (sym q) ∙ x.first c.0 (omega (arith, c.1)) c.1 ∙ ap (λ z. f z) q;
@@ -29,7 +29,7 @@ holds_headers words one db f h x dead tier =
     let live : (p : ℕ) → Contains db.refs p → is_live one p ≡ is_live words p = λ p c. ap (λ (y : Header). not y.deleted) (x.headers p c) ∙ ap (λ b. not b) (dead p c) in
     let same : (p : ℕ) → Contains db.refs p → (header_at one p).tier ≡ (header_at words p).tier = λ p c. ap (λ (y : Header). y.tier) (x.headers p c) ∙ tier p c in
     record {
-      laid = x.laid;
+      holds_clauses = x.holds_clauses;
       rising = h.rising;
       tiers = h.tiers;
       counts = λ t. h.counts t
@@ -50,7 +50,7 @@ live_headers words one db f x dead = filter_same (is_live words) (is_live one) d
 pub put_one : (words one refs : List ℕ) (o : ℕ) (h : Header) → PutsHeader words one refs o h → PutsHeaders words one refs (λ p. cond (p == o) h (header_at words p))
 put_one words one refs o h put = record {
   size = put.size;
-  laid = put.laid;
+  holds_clauses = put.holds_clauses;
   headers = λ p c. elim (cases_eq p o) [
     | inl e ↦ ap (λ z. header_at one z) e ∙ put.header_there ∙ sym (cond-true (p == o) h (header_at words p) (eq-eqb p o e))
     | inr n ↦ (put.others p c n).header ∙ sym (cond-false (p == o) h (header_at words p) (ne_eqb p o n))

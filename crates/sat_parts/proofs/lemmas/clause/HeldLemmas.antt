@@ -9,7 +9,7 @@ use Rattle.sat_parts.proofs.lemmas.prop.BuildLemmas.{live_in}
 
 pub held_kept : (old new : List ℕ) (db : Db) → DbMatchesBuffer old db → SameUpToOrder old new db.refs → DbMatchesBuffer new db
 held_kept old new db h k = record {
-  laid = k.laid;
+  holds_clauses = k.holds_clauses;
   rising = h.rising;
   tiers = h.tiers;
   counts = λ t. h.counts t ∙ sym (sum_same (λ p. cond (is_live_of old t p) 1 0) (λ p. cond (is_live_of new t p) 1 0) db.refs
@@ -21,4 +21,4 @@ held_kept old new db h k = record {
 }
 
 pub held_reordered : (old new : List ℕ) (db : Db) → DbMatchesBuffer old db → PermutesClauses old new (live_refs old db.refs) → DbMatchesBuffer new db
-held_reordered old new db h r = held_kept old new db h (r.all db.refs (λ o g. live_in old db.refs o g) h.laid)
+held_reordered old new db h r = held_kept old new db h (r.all db.refs (λ o g. live_in old db.refs o g) h.holds_clauses)

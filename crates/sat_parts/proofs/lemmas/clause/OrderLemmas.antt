@@ -104,7 +104,7 @@ shuffles_refl words o c = record {
   clause = c;
   header = refl;
   lits = shuffled_refl (lits_at words o);
-  laid = λ refs h l. l;
+  holds_clauses = λ refs h l. l;
   others = λ refs p h l g n. record { clause = l.clauses p g; header = refl; lits = refl };
 }
 
@@ -114,10 +114,10 @@ shuffles_trans a b c o x y = record {
   clause = y.clause;
   header = y.header ∙ x.header;
   lits = shuffled_trans (lits_at a o) (lits_at b o) (lits_at c o) x.lits y.lits;
-  laid = λ refs h l. y.laid refs h (x.laid refs h l);
+  holds_clauses = λ refs h l. y.holds_clauses refs h (x.holds_clauses refs h l);
   others = λ refs p h l g n.
       let f : SameClauseAt a b p = x.others refs p h l g n in
-      let s : SameClauseAt b c p = y.others refs p h (x.laid refs h l) g n in
+      let s : SameClauseAt b c p = y.others refs p h (x.holds_clauses refs h l) g n in
       record { clause = s.clause; header = s.header ∙ f.header; lits = s.lits ∙ f.lits };
 }
 
@@ -129,14 +129,14 @@ shuffles_swap a b o i j p q e f c = record {
   clause = c.clause;
   header = e;
   lits = subst (λ (x : List ℕ). IsReordering (lits_at a o) x) (sym f) (shuffled_swapped (lits_at a o) i j p q);
-  laid = λ refs h l. c.laid refs h l;
+  holds_clauses = λ refs h l. c.holds_clauses refs h l;
   others = λ refs p h l g n. c.others p (l.clauses p g) (l.apart o p h g n);
 }
 
 pub reorders_refl : (words live : List ℕ) → PermutesClauses words words live
 reorders_refl words live = record {
   size = refl;
-  all = λ refs h l. record { laid = l; headers = λ o g. refl; lits = λ o g. shuffled_refl (lits_at words o) };
+  all = λ refs h l. record { holds_clauses = l; headers = λ o g. refl; lits = λ o g. shuffled_refl (lits_at words o) };
 }
 
 pub reorders_trans : (a b c live : List ℕ) → PermutesClauses a b live → PermutesClauses b c live → PermutesClauses a c live
@@ -144,9 +144,9 @@ reorders_trans a b c live x y = record {
   size = y.size ∙ x.size;
   all = λ refs h l.
       let f : SameUpToOrder a b refs = x.all refs h l in
-      let s : SameUpToOrder b c refs = y.all refs h f.laid in
+      let s : SameUpToOrder b c refs = y.all refs h f.holds_clauses in
       record {
-        laid = s.laid;
+        holds_clauses = s.holds_clauses;
         headers = λ o g. s.headers o g ∙ f.headers o g;
         lits = λ o g. shuffled_trans (lits_at a o) (lits_at b o) (lits_at c o) (f.lits o g) (s.lits o g);
       };
@@ -156,7 +156,7 @@ pub reorders_one : (a b live : List ℕ) (o : ℕ) → Contains live o → Permu
 reorders_one a b live o g s = record {
   size = s.size;
   all = λ refs h l. record {
-    laid = s.laid refs (h o g) l;
+    holds_clauses = s.holds_clauses refs (h o g) l;
     headers = λ p k. elim (cases_eq o p) [
       | inl e ↦ subst (λ (x : ℕ). header_at b x ≡ header_at a x) e s.header
       | inr n ↦ (s.others refs p (h o g) l k n).header
@@ -170,9 +170,9 @@ reorders_one a b live o g s = record {
 
 pub kept_clauses : (a b live : List ℕ) (count : ℕ) → AreClauses a live count → PermutesClauses a b live → AreClauses b live count
 kept_clauses a b live count h r =
-    let k : SameUpToOrder a b live = r.all live (λ o g. g) h.laid in
+    let k : SameUpToOrder a b live = r.all live (λ o g. g) h.holds_clauses in
     record {
-      laid = k.laid;
+      holds_clauses = k.holds_clauses;
       long = λ o g. let s : size_of b o ≡ size_of a o = (k.lits o g).size in omega (arith, h.long o g);
       below = λ o i g q.
           let s : size_of b o ≡ size_of a o = (k.lits o g).size in

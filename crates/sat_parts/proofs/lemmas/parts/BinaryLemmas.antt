@@ -98,7 +98,7 @@ asks_binary_added words refs w x s top lit a b r h small_a small_b one two =
     let first : negated a < length x.implied = omega (arith, h.ranges.room) in
     let second : negated b < length x.implied = omega (arith, h.ranges.room) in
     record {
-      laid = h.laid;
+      holds_clauses = h.holds_clauses;
       clauses = h.clauses;
       room = h.room;
       watches = h.watches;

@@ -56,7 +56,7 @@ sound_fewer words words' db db' w w' b a g t q h held same reasons size watched 
     record {
       below = record {
         held = held;
-        asks = asks_fewer words db.refs words' db'.refs w w' b.implied s (length t.starts + 1) x.asks held.laid same size watched reasons;
+        asks = asks_fewer words db.refs words' db'.refs w w' b.implied s (length t.starts + 1) x.asks held.holds_clauses same size watched reasons;
         turns = turns_by words words' (live_refs words db.refs) (live_refs words' db'.refs) b.implied b.implied s
             (λ i o lt e c. (reasons i o lt e, (same o (reasons i o lt e)).1)) (λ i ls lt e c. c) x.turns;
         levelled = x.levelled;

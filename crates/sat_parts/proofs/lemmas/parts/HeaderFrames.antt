@@ -163,5 +163,5 @@ copied_collect p words' db' w' g' (Err e) due not_due same = copied_none p words
 pub moved_shuffled : (p : Parts) (words' : List ℕ) (o : ℕ) → PartsInvariant p → Contains (live_refs p.clauses p.db.refs) o → PermutesClause p.clauses words' o → ReordersLits p (record p { clauses = words' })
 moved_shuffled p words' o h c x =
     let r : PermutesClauses p.clauses words' (live_refs p.clauses p.db.refs) = reorders_one p.clauses words' (live_refs p.clauses p.db.refs) o c x in
-    let k : SameUpToOrder p.clauses words' p.db.refs = r.all p.db.refs (λ q d. live_in p.clauses p.db.refs q d) h.below.asks.laid in
-    record { live = live_same p.clauses words' p.db.refs k.headers; kept = r.all (live_refs p.clauses p.db.refs) (λ q d. d) h.below.asks.clauses.laid; binary = refl }
+    let k : SameUpToOrder p.clauses words' p.db.refs = r.all p.db.refs (λ q d. live_in p.clauses p.db.refs q d) h.below.asks.holds_clauses in
+    record { live = live_same p.clauses words' p.db.refs k.headers; kept = r.all (live_refs p.clauses p.db.refs) (λ q d. d) h.below.asks.clauses.holds_clauses; binary = refl }

@@ -61,7 +61,7 @@ turns_added words words' db db' o header lits implied s held x h =
     turns_by words words' (live_refs words db.refs) (live_refs words' db'.refs) implied implied s
     (λ i p b e c. (
       subst (λ (xs : List ℕ). Contains xs p) (sym x.live) (Contains-append_left (live_refs words db.refs) (o ∷ []) p c),
-      (x.added.others p (held.laid.clauses p (live_in words db.refs p c))).lits,
+      (x.added.others p (held.holds_clauses.clauses p (live_in words db.refs p c))).lits,
     ))
     (λ i ls b e c. c) h
 
@@ -71,7 +71,7 @@ pub unused_added : (words words' : List ℕ) (db db' : Db) (o : ℕ) (header : H
 unused_added words words' db db' o header lits implied v held x apart u = record {
   long = λ p k c b e. elim (Contains-push_cases (live_refs words db.refs) o p (subst (λ (xs : List ℕ). Contains xs p) x.live c)) [
     | inl old ↦
-        let same : lits_at words' p ≡ lits_at words p = (x.added.others p (held.laid.clauses p (live_in words db.refs p old))).lits in
+        let same : lits_at words' p ≡ lits_at words p = (x.added.others p (held.holds_clauses.clauses p (live_in words db.refs p old))).lits in
         u.long p k old (subst (λ (ls : List ℕ). k < length ls) same b) (ap (λ (ls : List ℕ). variable (get_or ls k 0)) (sym same) ∙ e)
     | inr new ↦
         let there : lits_at words' p ≡ lits = ap (λ z. lits_at words' z) (sym new) ∙ x.added.lits_there in

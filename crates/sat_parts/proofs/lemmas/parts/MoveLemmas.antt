@@ -57,7 +57,7 @@ sound_moved words words' db w w' b a a' g g' t t' q top top' h held m e asks =
       turns = subst (λ (xs : List ℕ). AreUnitInTurn words' xs b.implied s' 0) (sym e) (m.turns 0 (omega arith) h.turns);
       levelled = levels_stay.moves words (live_refs words db.refs) words' b.implied s s' h.asks.agrees m h.levelled;
       queue = h.queue ∙ sym m.grows.size;
-      ready = ready_moved words words' db.refs b.implied s s' q m (m.reorders.all db.refs (λ o c. live_in words db.refs o c) h.asks.laid) e h.ready;
+      ready = ready_moved words words' db.refs b.implied s s' q m (m.reorders.all db.refs (λ o c. live_in words db.refs o c) h.asks.holds_clauses) e h.ready;
     }
 
 -- after Ok what holds between rounds and nothing in the queue, and after a conflict the same below the current level

@@ -6,7 +6,7 @@ use Rattle.std.specs.List.{Contains}
 use Rattle.sat_base.specs.values.Literals.{variable, negated}
 use Rattle.sat_store.specs.clause.Buffer.{lits_at}
 use Rattle.sat_store.specs.heap.Vsids.{Queue}
-use Rattle.sat_store.proofs.lemmas.clause.Laying.{laid_among}
+use Rattle.sat_store.proofs.lemmas.clause.HeldClauses.{holds_among}
 use Rattle.sat_parts.specs.declared.prop.graph.ImplNode.{ImplNode}
 use Rattle.sat_parts.specs.declared.prop.graph.Reason.{Reason}
 use Rattle.sat_parts.specs.declared.prop.graph.Reason.TheVariants.{Unit as NoCause, Binary, Long}
@@ -37,11 +37,11 @@ pub asks_shuffled : (words words' refs : List ℕ) (w : Watching) (implied : Lis
 asks_shuffled words words' refs w implied s top o h c x first second =
     let live : List ℕ = live_refs words refs in
     let r : PermutesClauses words words' (live_refs words refs) = reorders_one words words' (live_refs words refs) o c x in
-    let k : SameUpToOrder words words' refs = r.all refs (λ p d. live_in words refs p d) h.laid in
+    let k : SameUpToOrder words words' refs = r.all refs (λ p d. live_in words refs p d) h.holds_clauses in
     let e : live_refs words' refs ≡ live_refs words refs = live_same words words' refs k.headers in
     let two : (p i : ℕ) → Contains (live_refs words refs) p → i < 2 → lit_of words' p i ≡ lit_of words p i = λ p i d b. elim (cases_eq o p) [
       | inl q ↦ subst (λ z. lit_of words' z i ≡ lit_of words z i) q (at_two (λ j. lit_of words' o j ≡ lit_of words o j) first second i b)
-      | inr n ↦ ap (λ (ls : List ℕ). get_or ls i 0) (x.others (live_refs words refs) p c h.clauses.laid d n).lits
+      | inr n ↦ ap (λ (ls : List ℕ). get_or ls i 0) (x.others (live_refs words refs) p c h.clauses.holds_clauses d n).lits
     ] in
     let forth : (p : ℕ) → Contains (live_refs words refs) p → IsReordering (lits_at words p) (lits_at words' p) = λ p d. k.lits p (live_in words refs p d) in
     let satisfied : (p bound : ℕ) → Contains (live_refs words refs) p → IsSatisfied s (lits_at words p) bound → IsSatisfied s (lits_at words' p) bound = λ p bound d z.
@@ -54,7 +54,7 @@ asks_shuffled words words' refs w implied s top o h c x first second =
     } in
     let old_in : (p : ℕ) → Contains (live_refs words' refs) p → Contains (live_refs words refs) p = λ p d. subst (λ (xs : List ℕ). Contains xs p) e d in
     record {
-      laid = k.laid;
+      holds_clauses = k.holds_clauses;
       clauses = subst (λ (xs : List ℕ). AreClauses words' xs (length s.values)) (sym e) (kept_clauses words words' live (length s.values) h.clauses r);
       room = h.room;
       watches = λ on.
@@ -87,7 +87,7 @@ sound_shuffled words words' db w b a g t q o h c x first second =
     let s : State = state_of a g t in
     let y : IsSoundBelow words db w b a g t q (length t.starts + 1) = h.below in
     let m : PropagatesOn (live_refs words db.refs) b.implied words s words' s = moves_shuffled (live_refs words db.refs) b.implied words s words' o (length a.current) y.asks.agrees y.asks.clauses c x (λ _. first) in
-    let k : SameUpToOrder words words' db.refs = m.reorders.all db.refs (λ p d. live_in words db.refs p d) y.asks.laid in
+    let k : SameUpToOrder words words' db.refs = m.reorders.all db.refs (λ p d. live_in words db.refs p d) y.asks.holds_clauses in
     record {
       below = sound_moved words words' db w w b a a g g t t q (length t.starts + 1) (length t.starts + 1) y (held_reordered words words' db y.held m.reorders) m
           (live_same words words' db.refs k.headers) (asks_shuffled words words' db.refs w b.implied s (length t.starts + 1) o y.asks c x first second);
@@ -136,9 +136,9 @@ sound_shortened words words' db w w' b a g t q o len h c three le x to_w fresh =
       below = record {
         held = x.holds;
         asks = record {
-          laid = x.holds.laid;
+          holds_clauses = x.holds.holds_clauses;
           clauses = record {
-            laid = laid_among words' db.refs (live_refs words' db.refs) (λ p d. live_in words' db.refs p d) x.holds.laid;
+            holds_clauses = holds_among words' db.refs (live_refs words' db.refs) (λ p d. live_in words' db.refs p d) x.holds.holds_clauses;
             long = from (λ p ls. 3 ≤ length ls) (λ p d. y.asks.clauses.long p d) (omega arith);
             below = λ p k d. from (λ z ls. k < length ls → get_or ls k 0 < 2 * length a.current) (λ z f. y.asks.clauses.below z k f)
                 (λ lt. subst (λ m. m < 2 * length a.current) (sym (at k (omega arith))) (y.asks.clauses.below o k c (omega arith))) p d;

@@ -291,7 +291,7 @@ gone_moved am words words' db w w' b a a' g g' t t' q top top' h h' m e = record
               let place : variable (lit_at (state_of a' g' t') y.place) ≡ v = ap (λ z. variable z) y.there ∙ at in
               implied_used words' (live_refs words' db.refs) b.implied (state_of a' g' t') y.place _ (m.caused y.place ge y.within).1 h'.asks.clauses.long (h'.turns y.place (omega arith) y.within)
               (subst (λ z. IsUnused words' (live_refs words' db.refs) b.implied z) (sym place)
-              (unused_moved words words' db.refs b.implied v (m.reorders.all db.refs (λ o c. live_in words db.refs o c) h.asks.laid) e u))
+              (unused_moved words words' db.refs b.implied v (m.reorders.all db.refs (λ o c. live_in words db.refs o c) h.asks.holds_clauses) e u))
         ]
       ]
       | inr r ↦ not_true a.current v l none at (m.grows.removed l r).holds

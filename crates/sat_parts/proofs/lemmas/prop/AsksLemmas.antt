@@ -24,8 +24,8 @@ ready_from words refs w w' implied s top h x = record {
 
 asks_from : (words refs : List ℕ) (w : Watching) (implied : List (List ℕ)) (s : State) (top : ℕ) (live : List ℕ) → HoldsClauses words refs → live_refs words refs ≡ live →
     ReadyBelow words live w.lists implied s top → PropagationInvariant words refs w implied s top
-asks_from words refs w implied s top live laid e h = record {
-  laid = laid;
+asks_from words refs w implied s top live holds_clauses e h = record {
+  holds_clauses = holds_clauses;
   clauses = subst (λ (z : List ℕ). AreClauses words z (length s.values)) (sym e) h.long.clauses;
   room = h.long.watches.room;
   watches = λ on. subst (λ (z : List ℕ). AreWatched words z w.lists (length s.values)) (sym e) h.long.watches;
@@ -39,26 +39,26 @@ asks_from words refs w implied s top live laid e h = record {
 
 pub gives_from : (refs : List ℕ) (implied : List (List ℕ)) (words : List ℕ) (s : State) (words' : List ℕ) (s' : State) (w : Watching) (r : Result (Unit {0}) Conflict) →
     HoldsClauses words refs → Propagated (live_refs words refs) implied words s words' s' w.lists r → PropagationResult refs implied words s words' s' w r
-gives_from refs implied words s words' s' w (Ok x) laid h =
-    let k : SameUpToOrder words words' refs = h.moves.reorders.all refs (λ o g. live_in words refs o g) laid in
+gives_from refs implied words s words' s' w (Ok x) holds_clauses h =
+    let k : SameUpToOrder words words' refs = h.moves.reorders.all refs (λ o g. live_in words refs o g) holds_clauses in
     let e : live_refs words' refs ≡ live_refs words refs = live_same words words' refs k.headers in
     record {
       moves = h.moves;
       live = e;
       outcome = (
-        asks_from words' refs w implied s' (current_level s' + 1) (live_refs words refs) k.laid e h.outcome.0,
+        asks_from words' refs w implied s' (current_level s' + 1) (live_refs words refs) k.holds_clauses e h.outcome.0,
         h.outcome.1,
         subst (λ (z : List ℕ). IsUnitFixpoint words' z implied s'.values) (sym e) h.outcome.2,
       );
     }
-gives_from refs implied words s words' s' w (Err x) laid h =
-    let k : SameUpToOrder words words' refs = h.moves.reorders.all refs (λ o g. live_in words refs o g) laid in
+gives_from refs implied words s words' s' w (Err x) holds_clauses h =
+    let k : SameUpToOrder words words' refs = h.moves.reorders.all refs (λ o g. live_in words refs o g) holds_clauses in
     let e : live_refs words' refs ≡ live_refs words refs = live_same words words' refs k.headers in
     record {
       moves = h.moves;
       live = e;
       outcome = (
-        asks_from words' refs w implied s' (current_level s') (live_refs words refs) k.laid e h.outcome.0,
+        asks_from words' refs w implied s' (current_level s') (live_refs words refs) k.holds_clauses e h.outcome.0,
         subst (λ (z : List ℕ). IsConflict words' z implied s'.values x) (sym e) h.outcome.1,
       );
     }

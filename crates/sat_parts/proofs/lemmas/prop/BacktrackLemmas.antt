@@ -313,7 +313,7 @@ asks_after words refs w implied v a nodes t top h lt below =
     let n : length (take (cut_at v t) t.lits) ≡ cut_at v t = cut_length v a nodes t h.agrees lt in
     let size : length (undone_to v t a).current ≡ length a.current = undone_length (drop (cut_at v t) t.lits) a in
     record {
-      laid = h.laid;
+      holds_clauses = h.holds_clauses;
       clauses = subst (λ (z : ℕ). AreClauses words (live_refs words refs) z) (sym size) h.clauses;
       room = h.room ∙ ap (λ z. 2 * z) (sym size);
       watches = λ on. subst (λ (z : ℕ). AreWatched words (live_refs words refs) w.lists z) (sym size) (h.watches on);

@@ -6,7 +6,7 @@ use Rattle.std.specs.List.{Contains, filter}
 use Rattle.std.specs.List.Retain.{IsFiltered}
 use Rattle.sat_base.specs.values.Literals.{negated, variable}
 use Rattle.sat_store.specs.clause.Buffer.{HoldsClauses, lits_at}
-use Rattle.sat_store.proofs.lemmas.clause.Laying.{laid_among}
+use Rattle.sat_store.proofs.lemmas.clause.HeldClauses.{holds_among}
 use Rattle.sat_parts.specs.declared.prop.graph.Reason.{Reason}
 use Rattle.sat_parts.specs.declared.prop.graph.Reason.TheVariants.{Unit as NoCause, Long}
 use Rattle.sat_parts.specs.clause.Orders.{AreDistinct}
@@ -32,10 +32,10 @@ pub asks_fewer : (words refs words' refs' : List ℕ) (w w' : Watching) (implied
     length w'.lists ≡ length w.lists → (w'.enabled ≡ true → AreWatched words' (live_refs words' refs') w'.lists (length s.values)) →
     ((i o : ℕ) → i < length s.trail.lits → (node s (lit_at s i)).reason ≡ Long o → Contains (live_refs words' refs') o) →
     PropagationInvariant words' refs' w' implied s top
-asks_fewer words refs words' refs' w w' implied s top h laid same room watched reasons = record {
-  laid = laid;
+asks_fewer words refs words' refs' w w' implied s top h holds_clauses same room watched reasons = record {
+  holds_clauses = holds_clauses;
   clauses = record {
-    laid = laid_among words' refs' (live_refs words' refs') (λ o c. live_in words' refs' o c) laid;
+    holds_clauses = holds_among words' refs' (live_refs words' refs') (λ o c. live_in words' refs' o c) holds_clauses;
     long = λ o c. subst (λ (ls : List ℕ). 3 ≤ length ls) (sym (same o c).1) (h.clauses.long o (same o c).0);
     below = λ o k c. subst (λ (ls : List ℕ). k < length ls → get_or ls k 0 < 2 * length s.values) (sym (same o c).1) (h.clauses.below o k (same o c).0);
     distinct = λ o c. subst (λ (ls : List ℕ). AreDistinct ls) (sym (same o c).1) (h.clauses.distinct o (same o c).0);
@@ -57,7 +57,7 @@ asks_fewer words refs words' refs' w w' implied s top h laid same room watched r
 -- what is asked for a reason of no clause is what is asked
 pub asks_of_unit : (words refs : List ℕ) (w : Watching) (implied : List (List ℕ)) (s : State) (top lit : ℕ) → EnqueuePrecondition lit NoCause words refs w implied s top → PropagationInvariant words refs w implied s top
 asks_of_unit words refs w implied s top lit h = record {
-  laid = h.laid;
+  holds_clauses = h.holds_clauses;
   clauses = h.clauses;
   room = h.room;
   watches = h.watches;
@@ -87,7 +87,7 @@ lists_added o a b w = elim (cases_Bool w.enabled) [
 watched_added : (words words' : List ℕ) (db db' : Db) (o count : ℕ) (header : Header) (lits : List ℕ) (w : Watching) → AddsLongClause words db words' db' o header lits →
     HoldsClauses words db.refs → 3 ≤ length lits → ((k : ℕ) → k < length lits → get_or lits k 0 < 2 * count) → w.enabled ≡ true → AreWatched words (live_refs words db.refs) w.lists count →
     AreWatched words' (live_refs words' db'.refs) (with_clause_watches o (get_or lits 0 0) (get_or lits 1 0) w).lists count
-watched_added words words' db db' o count header lits w x laid three below on h =
+watched_added words words' db db' o count header lits w x holds_clauses three below on h =
     let a : ℕ = get_or lits 0 0 in
     let b : ℕ = get_or lits 1 0 in
     let live : List ℕ = live_refs words db.refs in
@@ -105,7 +105,7 @@ watched_added words words' db db' o count header lits w x laid three below on h 
     let in_two : negated (get_or lits 1 0) < length one = omega arith in
     let new_in : Contains (live_refs words' db'.refs) o = subst (λ (xs : List ℕ). Contains xs o) (sym x.live) (Contains-push live o) in
     let old_in : (p : ℕ) → Contains live p → Contains (live_refs words' db'.refs) p = λ p c. subst (λ (xs : List ℕ). Contains xs p) (sym x.live) (Contains-append_left live (o ∷ []) p c) in
-    let same : (p : ℕ) → Contains live p → lits_at words' p ≡ lits_at words p = λ p c. (x.added.others p (laid.clauses p (live_in words db.refs p c))).lits in
+    let same : (p : ℕ) → Contains live p → lits_at words' p ≡ lits_at words p = λ p c. (x.added.others p (holds_clauses.clauses p (live_in words db.refs p c))).lits in
     let there : lits_at words' o ≡ lits = x.added.lits_there in
     let good_first : IsSoundWatch words' (live_refs words' db'.refs) first =
     (new_in, (1, subst (λ (ls : List ℕ). (1 < length ls) × (get_or ls 1 0 ≡ b)) (sym there) (omega arith, refl))) in
@@ -139,7 +139,7 @@ pub asks_added : (words words' : List ℕ) (db db' : Db) (o : ℕ) (header : Hea
     EnqueuePrecondition lit r words' db'.refs (with_clause_watches o (get_or lits 0 0) (get_or lits 1 0) w) implied s top
 asks_added words words' db db' o header lits w implied s top lit r h x apart three below own =
     let live : List ℕ = live_refs words db.refs in
-    let keeps : (p : ℕ) → Contains (live_refs words db.refs) p → lits_at words' p ≡ lits_at words p = λ p c. (x.added.others p (h.laid.clauses p (live_in words db.refs p c))).lits in
+    let keeps : (p : ℕ) → Contains (live_refs words db.refs) p → lits_at words' p ≡ lits_at words p = λ p c. (x.added.others p (h.holds_clauses.clauses p (live_in words db.refs p c))).lits in
     let there : lits_at words' o ≡ lits = x.added.lits_there in
     let old_in : (p : ℕ) → Contains (live_refs words db.refs) p → Contains (live_refs words' db'.refs) p = λ p c. subst (λ (xs : List ℕ). Contains xs p) (sym x.live) (Contains-append_left live (o ∷ []) p c) in
     let from : (P : ℕ → List ℕ → Type 0) → ((p : ℕ) → Contains (live_refs words db.refs) p → P p (lits_at words p)) → P o lits → (p : ℕ) → Contains (live_refs words' db'.refs) p → P p (lits_at words' p) =
@@ -148,9 +148,9 @@ asks_added words words' db db' o header lits w implied s top lit r h x apart thr
       | inr e ↦ subst (λ (q : ℕ). P q (lits_at words' q)) e (subst (λ (ls : List ℕ). P o ls) (sym there) new)
     ] in
     record {
-      laid = x.holds.laid;
+      holds_clauses = x.holds.holds_clauses;
       clauses = record {
-        laid = laid_among words' db'.refs (live_refs words' db'.refs) (λ p c. live_in words' db'.refs p c) x.holds.laid;
+        holds_clauses = holds_among words' db'.refs (live_refs words' db'.refs) (λ p c. live_in words' db'.refs p c) x.holds.holds_clauses;
         long = from (λ p ls. 3 ≤ length ls) (λ p c. h.clauses.long p c) three;
         below = λ p k c. from (λ q ls. k < length ls → get_or ls k 0 < 2 * length s.values) (λ q d. h.clauses.below q k d) (below k) p c;
         distinct = from (λ p ls. AreDistinct ls) (λ p c. h.clauses.distinct p c) apart;
@@ -158,7 +158,7 @@ asks_added words words' db db' o header lits w implied s top lit r h x apart thr
       room = (lists_added o (get_or lits 0 0) (get_or lits 1 0) w).0 ∙ h.room;
       watches = λ on.
           let was : w.enabled ≡ true = sym (lists_added o (get_or lits 0 0) (get_or lits 1 0) w).1 ∙ on in
-          watched_added words words' db db' o (length s.values) header lits w x h.laid three below was (h.watches was);
+          watched_added words words' db db' o (length s.values) header lits w x h.holds_clauses three below was (h.watches was);
       agrees = h.agrees;
       queue = h.queue;
       firsts = λ i p lt e.
@@ -195,7 +195,7 @@ asks_removed words refs w old new s top h x =
     let at : (l k : ℕ) (b : k < length (implied_by new.implied l)) → get_or (implied_by old.implied l) (was l k b).0 0 ≡ get_or (implied_by new.implied l) k 0 = λ l k b.
     at_place (implied_by old.implied l) (get_or (implied_by new.implied l) k 0) (was l k b) in
     record {
-      laid = h.laid;
+      holds_clauses = h.holds_clauses;
       clauses = h.clauses;
       room = h.room;
       watches = h.watches;
@@ -216,7 +216,7 @@ pub asks_filtered : {F : Type 0} (R : F → ℕ → Bool → F → Type 0) (f : 
     PropagationInvariant words refs w implied s top → IsFiltered R f (live_refs words refs) (live_refs words' refs) → SameClausesAt words words' (live_refs words' refs) → HoldsClauses words' refs →
     ((i o : ℕ) → i < length s.trail.lits → (node s (lit_at s i)).reason ≡ Long o → Contains (live_refs words' refs) o) →
     PropagationInvariant words' refs (record w { enabled = false }) implied s top
-asks_filtered R f words refs words' w implied s top h x kept laid reasons =
+asks_filtered R f words refs words' w implied s top h x kept holds_clauses reasons =
     let v : Watching = record w { enabled = false } in
-    asks_fewer words refs words' refs w v implied s top h laid
+    asks_fewer words refs words' refs w v implied s top h holds_clauses
     (λ o c. (filtered_in R f (live_refs words refs) (live_refs words' refs) o x c, (kept o c).lits)) refl (λ off. absurd (let e : false ≡ true = off in cc)) reasons

@@ -4,7 +4,7 @@ use Rattle.std.proofs.lemmas.Bool.{true≢false}
 use Rattle.std.specs.List.{Contains}
 use Rattle.sat_base.specs.values.Literals.{negated, variable}
 use Rattle.sat_store.specs.clause.Buffer.{lits_at}
-use Rattle.sat_store.proofs.lemmas.clause.Laying.{laid_among}
+use Rattle.sat_store.proofs.lemmas.clause.HeldClauses.{holds_among}
 use Rattle.sat_parts.specs.declared.prop.graph.ImplNode.{ImplNode}
 use Rattle.sat_parts.specs.declared.prop.graph.Reason.{Reason}
 use Rattle.sat_parts.specs.declared.prop.graph.Reason.TheVariants.{Unit as NoCause, Binary, Long}
@@ -77,9 +77,9 @@ asks_collected words db s words' db' nodes' w w' implied top x off size h =
     let same : lits_at words' p ≡ lits_at words (get_or (live_refs words db.refs) d.0 0) = ap (λ z. lits_at words' z) (sym (at_place db'.refs p d)) ∙ x.copies.lits d.0 lt in
     subst (λ (ls : List ℕ). P ls) (sym same) (old (get_or (live_refs words db.refs) d.0 0) (place_in (live_refs words db.refs) d.0 lt)) in
     record {
-      laid = x.holds.laid;
+      holds_clauses = x.holds.holds_clauses;
       clauses = record {
-        laid = laid_among words' db'.refs (live_refs words' db'.refs) (λ p c. live_in words' db'.refs p c) x.holds.laid;
+        holds_clauses = holds_among words' db'.refs (live_refs words' db'.refs) (λ p c. live_in words' db'.refs p c) x.holds.holds_clauses;
         long = from (λ ls. 3 ≤ length ls) (λ p c. h.clauses.long p c);
         below = λ p k c. from (λ ls. k < length ls → get_or ls k 0 < 2 * length s.values) (λ q d. h.clauses.below q k d) p c;
         distinct = from (λ ls. AreDistinct ls) (λ p c. h.clauses.distinct p c);

@@ -118,7 +118,7 @@ implies_shuffled words words' live implied s p i (Long o) count c g e first hold
       ))
       h
   | inr n ↦
-      let k : lits_at words' o ≡ lits_at words o = (e.others live o g c.laid h.0 n).lits in (
+      let k : lits_at words' o ≡ lits_at words o = (e.others live o g c.holds_clauses h.0 n).lits in (
         h.0,
         ap (λ (ls : List ℕ). get_or ls 0 0) k ∙ h.1,
         λ j x y.
@@ -135,7 +135,7 @@ moves_shuffled live implied words s words' p count a c g e first = record {
   reorders = reorders_one words words' live p g e;
   firsts = λ o h t. elim (cases_eq p o) [
     | inl q ↦ subst (λ (x : ℕ). IsTrueLit s.values (lit_of words x 0) → lit_of words' x 0 ≡ lit_of words x 0) q first t
-    | inr n ↦ ap (λ (ls : List ℕ). get_or ls 0 0) (e.others live o g c.laid h n).lits
+    | inr n ↦ ap (λ (ls : List ℕ). get_or ls 0 0) (e.others live o g c.holds_clauses h n).lits
   ];
   caused = λ i x y. absurd (omega arith);
   turns = λ from x h i y z. implies_shuffled words words' live implied s p i (node s (lit_at s i)).reason count c g e first (a.holds i z) (h i y z);

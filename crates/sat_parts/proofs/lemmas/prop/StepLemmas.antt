@@ -51,7 +51,7 @@ own_binary (Long o) lit l m h = absurd h
 -- where all clauses are settled, those but the reason's are
 pub asks_for_reason : (words refs : List ℕ) (w : Watching) (implied : List (List ℕ)) (s : State) (top l : ℕ) (r : Reason) → PropagationInvariant words refs w implied s top → EnqueuePrecondition l r words refs w implied s top
 asks_for_reason words refs w implied s top l r h = record {
-  laid = h.laid;
+  holds_clauses = h.holds_clauses;
   clauses = h.clauses;
   room = h.room;
   watches = h.watches;
@@ -72,7 +72,7 @@ asks_enqueued words refs w implied s top l r n below cause h =
     let g : TrailGrows s t = grows_enqueued s l r h.agrees n below room in
     let level_new : level t l ≡ length s.trail.starts = ap (λ (z : ImplNode). z.level) (node_new s l r (omega (arith, h.agrees.nodes))) in
     record {
-      laid = h.laid;
+      holds_clauses = h.holds_clauses;
       clauses = subst (λ (n : ℕ). AreClauses words (live_refs words refs) n) (sym g.size) h.clauses;
       room = h.room ∙ ap (λ n. 2 * n) (sym g.size);
       watches = λ on. subst (λ (n : ℕ). AreWatched words (live_refs words refs) w.lists n) (sym g.size) (h.watches on);
@@ -172,7 +172,7 @@ left_raised s l h = elim h [
 pub asks_raised : (words refs : List ℕ) (w : Watching) (implied : List (List ℕ)) (s : State) → length s.trail.starts + 1 < 2 ^ 32 → s.trail.head ≡ length s.trail.lits →
     PropagationPrecondition words refs w implied s → PropagationPrecondition words refs w implied (raised s)
 asks_raised words refs w implied s few empty h = record {
-  laid = h.laid;
+  holds_clauses = h.holds_clauses;
   clauses = h.clauses;
   room = h.room;
   watches = h.watches;

@@ -16,7 +16,7 @@ use Rattle.sat_parts.proofs.lemmas.prop.StateLemmas.{negated_twice}
 
 -- after a visit of the clause at p, any other live clause has the literals that it had
 pub same_lits : (w v live : List ℕ) (count p o : ℕ) → AreClauses w live count → Contains live p → PermutesClause w v p → Contains live o → p ≢ o → lits_at v o ≡ lits_at w o
-same_lits w v live count p o c hp e ho n = (e.others live o hp c.laid ho n).lits
+same_lits w v live count p o c hp e ho n = (e.others live o hp c.holds_clauses ho n).lits
 
 pub shuffled_all : (w v live : List ℕ) (count p o : ℕ) → AreClauses w live count → Contains live p → PermutesClause w v p → Contains live o → IsReordering (lits_at w o) (lits_at v o)
 shuffled_all w v live count p o c hp e ho = elim (cases_eq p o) [

@@ -56,7 +56,7 @@ step_blocked live w0 s0 w s lists list lit kept at p b h lt at_p at_b t =
     let hp : Contains live p = place_live w live s lists list lit kept at p half lt at_p in
     let g : HasLit w p b = subst (λ (z : ℕ). HasLit w z b) (sym at_p) (subst (λ (z : ℕ). HasLit w (get_or list at no_watch).cref z) (sym at_b) (half.walked.mine at lt).1) in
     record {
-      half = half_kept w w live s lists list lit kept at p b half lt at_p (shuffles_refl w p (half.clauses.laid.clauses p hp)) (λ i hi. (i, (hi, refl))) g
+      half = half_kept w w live s lists list lit kept at p b half lt at_p (shuffles_refl w p (half.clauses.holds_clauses.clauses p hp)) (λ i hi. (i, (hi, refl))) g
           (satisfied_by s (lits_at w p) lit g.0 half.agrees half.top g.1.0 (subst (λ (z : ℕ). IsTrueLit s.values z) (sym g.1.1) t));
       moves = h.moves;
       head = h.head;

@@ -20,7 +20,7 @@ pub returns-clause-given : goal.returns-clause-given
 returns-clause-given c =
     IfOk-weaker _ _ _
     (λ r h. gives_from c.args.db.now.refs c.args.binary.now.implied c.args.clauses.now (state_of c.args.assignment.now c.args.graph.now c.args.trail.now)
-    c.propagate_queue.new.clauses (state_of c.propagate_queue.new.assignment c.propagate_queue.new.graph c.propagate_queue.new.trail) c.propagate_queue.new.watchlists r c.requires.laid h)
+    c.propagate_queue.new.clauses (state_of c.propagate_queue.new.assignment c.propagate_queue.new.graph c.propagate_queue.new.trail) c.propagate_queue.new.watchlists r c.requires.holds_clauses h)
     c.propagate_queue.ensures.propagated
 
 pub returns-clause-held : goal.returns-clause-held

@@ -76,7 +76,7 @@ stands_by words live implied s p o NoCause count c h e = (let x : NoCause ≡ Lo
 stands_by words live implied s p o (Binary ls) count c h e = (let x : Binary ls ≡ Long o = e in cc)
 stands_by words live implied s p o (Long q) count c h e =
     let same : q ≡ o = cc in
-    subst (λ z. IsClause words z × (0 < length (lits_at words z))) same (c.laid.clauses q h.0, omega (arith, c.long q h.0))
+    subst (λ z. IsClause words z × (0 < length (lits_at words z))) same (c.holds_clauses.clauses q h.0, omega (arith, c.long q h.0))
 
 -- what analysis asks holds where the parts agree, reasons are unit in turn above level 0, and levels begin with decisions
 pub can_analyze : (words live : List ℕ) (implied : List (List ℕ)) (s : State) (count : ℕ) → StateIsConsistent s → IsLevelled s → 0 < current_level s → AreClauses words live count →

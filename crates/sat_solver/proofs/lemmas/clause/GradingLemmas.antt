@@ -20,7 +20,7 @@ use Rattle.sat_solver.specs.clause.Assessed.{with_glue, improved, levels_in, Bum
 pub puts_twice : (a b c refs : List ℕ) (o : ℕ) (h k : Header) → PutsHeader a b refs o h → PutsHeader b c refs o k → PutsHeader a c refs o k
 puts_twice a b c refs o h k x y = record {
   size = y.size ∙ x.size;
-  laid = y.laid;
+  holds_clauses = y.holds_clauses;
   header_there = y.header_there;
   lits_there = y.lits_there ∙ x.lits_there;
   others = λ p there ne. (let u = x.others p there ne in let v = y.others p there ne in record { clause = v.clause; header = v.header ∙ u.header; lits = v.lits ∙ u.lits });

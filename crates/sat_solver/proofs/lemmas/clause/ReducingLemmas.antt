@@ -36,7 +36,7 @@ same_state p p' x = rw (x.0, x.1, x.2) refl
 -- LISTS
 
 pub clause_stands : (p : Parts) (o : ℕ) → PartsInvariant p → Contains (live_refs p.clauses p.db.refs) o → IsClause p.clauses o
-clause_stands p o h live = h.below.asks.clauses.laid.clauses o live
+clause_stands p o h live = h.below.asks.clauses.holds_clauses.clauses o live
 
 local_learned : (tier : Tier) → index_of tier ≡ 3 → is_learned tier ≡ true
 local_learned Irred e = absurd (omega (arith, e))

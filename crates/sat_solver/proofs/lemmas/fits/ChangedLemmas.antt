@@ -49,7 +49,7 @@ module _ (words words' : List ℕ) (db db' : Db) (implied : List (List ℕ)) whe
   added_there o header ls r held adds side =
       let its : longs (is_redundant words') words' live ≡ longs (is_redundant words) words live =
       longs_same (is_redundant words) (is_redundant words') words words' live (λ p k.
-      let kept = adds.added.others p (held.laid.clauses p (live_in words db.refs p k)) in (ap (λ (h : Header). is_learned h.tier) kept.header, kept.lits)) in
+      let kept = adds.added.others p (held.holds_clauses.clauses p (live_in words db.refs p k)) in (ap (λ (h : Header). is_learned h.tier) kept.header, kept.lits)) in
       let c : LiveClause = record { redundant = is_redundant words' o; literals = lits_at words' o } in
       let new : LiveClause = record { redundant = r; literals = ls } in
       let same : c ≡ new = ap (λ b. record { redundant = b; literals = lits_at words' o }) (ap (λ (h : Header). is_learned h.tier) adds.added.header_there ∙ side) ∙ ap (λ ms. record { redundant = r; literals = ms }) adds.added.lits_there in

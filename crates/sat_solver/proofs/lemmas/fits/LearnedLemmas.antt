@@ -127,7 +127,7 @@ module _ (s : Session) (global : ℕ → ℕ) (header : Header) (ls hashes : Lis
         let side : is_redundant words' o ≡ flag = ap (λ (h : Header). is_learned h.tier) adds.added.header_there ∙ sym (flags.long three) in
         let its : longs (is_redundant words') words' (live_refs words db.refs) ≡ longs (is_redundant words) words (live_refs words db.refs) =
         longs_same (is_redundant words) (is_redundant words') words words' (live_refs words db.refs) (λ p k.
-        let kept = adds.added.others p (held.laid.clauses p (live_in words db.refs p k)) in (ap (λ (h : Header). is_learned h.tier) kept.header, kept.lits)) in
+        let kept = adds.added.others p (held.holds_clauses.clauses p (live_in words db.refs p k)) in (ap (λ (h : Header). is_learned h.tier) kept.header, kept.lits)) in
         let new : longs (is_redundant words') words' (live_refs words' db'.refs) ≡ longs (is_redundant words) words (live_refs words db.refs) ++ c ∷ [] =
         ap (λ os. longs (is_redundant words') words' os) adds.live ∙ longs_push (is_redundant words') words' (live_refs words db.refs) o
         ∙ ap (λ ds. ds ++ (record { redundant = is_redundant words' o; literals = lits_at words' o }) ∷ []) its

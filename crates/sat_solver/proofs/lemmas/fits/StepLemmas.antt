@@ -45,7 +45,7 @@ module _ (p : Parts) (e : Conflict) (w : Work) (back : ℕ) (refuted : IsRefuted
 pub conflict_clause : (p : Parts) (e : Conflict) → IsRefuted p e → (o : ℕ) → e ≡ conflicts.Long o → IsClause p.clauses o
 conflict_clause p e refuted o is =
     let c : IsConflict p.clauses (live_refs p.clauses p.db.refs) p.binary.implied p.assignment.current (conflicts.Long o) = subst (λ x. IsConflict p.clauses (live_refs p.clauses p.db.refs) p.binary.implied p.assignment.current x) is refuted.1 in
-    refuted.0.asks.clauses.laid.clauses o c.0
+    refuted.0.asks.clauses.holds_clauses.clauses o c.0
 
 pub clause_below : (p : Parts) (e : Conflict) (w : Work) (back count : ℕ) → length p.assignment.current ≤ count → Learns p.clauses (state p) (falsified p.clauses e) w back → (k : ℕ) → k < length w.clause → variable (get_or w.clause k 0) < count
 clause_below p e w back count le learns k lt =

@@ -44,7 +44,7 @@ open_not_false values l e f = some_none (not (is_positive l)) (sym f ∙ e)
 pub reordered_refl : (p : Parts) → PartsInvariant p → ReordersLits p p
 reordered_refl p h = record {
   live = refl;
-  kept = record { laid = h.below.asks.clauses.laid; headers = λ o c. refl; lits = λ o c. shuffled_refl (lits_at p.clauses o) };
+  kept = record { holds_clauses = h.below.asks.clauses.holds_clauses; headers = λ o c. refl; lits = λ o c. shuffled_refl (lits_at p.clauses o) };
   binary = refl;
 }
 
@@ -54,7 +54,7 @@ reordered_trans p q r x y =
     record {
       live = y.live ∙ x.live;
       kept = record {
-        laid = rw x.live at y.kept.laid;
+        holds_clauses = rw x.live at y.kept.holds_clauses;
         headers = λ o c. y.kept.headers o (back o c) ∙ x.kept.headers o c;
         lits = λ o c. shuffled_trans (lits_at p.clauses o) (lits_at q.clauses o) (lits_at r.clauses o) (x.kept.lits o c) (y.kept.lits o (back o c));
       };

@@ -68,17 +68,17 @@ others_kept v w o size below above p c apart = elim apart [
 pub changes_at : (v w : List ℕ) (o : ℕ) → IsClause v o → IsClause w o → length w ≡ length v → get_or w (o + 2) 0 ≤ get_or v (o + 2) 0 → ((i : ℕ) → i < o → get_or w i 0 ≡ get_or v i 0) → ((i : ℕ) → o + 3 + get_or v (o + 2) 0 ≤ i → get_or w i 0 ≡ get_or v i 0) → ChangesAt v w o
 changes_at v w o was now size shorter below above =
     let others : (p : ℕ) → IsClause v p → HaveNoCommonWord v o p → SameClauseAt v w p = others_kept v w o size below above in
-    let no_longer : (live : List ℕ) → Contains live o → HoldsClauses v live → (p : ℕ) → Contains live p → get_or w (p + 2) 0 ≤ get_or v (p + 2) 0 = λ live has laid p c. elim (cases_eq p o) [
+    let no_longer : (live : List ℕ) → Contains live o → HoldsClauses v live → (p : ℕ) → Contains live p → get_or w (p + 2) 0 ≤ get_or v (p + 2) 0 = λ live has holds_clauses p c. elim (cases_eq p o) [
       | inl same ↦ subst (λ (x : ℕ). get_or w (x + 2) 0 ≤ get_or v (x + 2) 0) (sym same) shorter
-      | inr other ↦ omega (arith, same_len v w p (others p (laid.clauses p c) (laid.apart o p has c (λ e. other (sym e)))))
+      | inr other ↦ omega (arith, same_len v w p (others p (holds_clauses.clauses p c) (holds_clauses.apart o p has c (λ e. other (sym e)))))
     ] in
     record {
       clause = now;
       size = size;
       others = others;
-      laid = λ live has laid. record {
-        clauses = λ p c. elim (cases_eq p o) [ inl same ↦ subst (IsClause w) (sym same) now | inr other ↦ (others p (laid.clauses p c) (laid.apart o p has c (λ e. other (sym e)))).clause ];
-        apart = λ p q hp hq differ. still_apart v w p q (laid.apart p q hp hq differ) (no_longer live has laid p hp) (no_longer live has laid q hq);
+      holds_clauses = λ live has holds_clauses. record {
+        clauses = λ p c. elim (cases_eq p o) [ inl same ↦ subst (IsClause w) (sym same) now | inr other ↦ (others p (holds_clauses.clauses p c) (holds_clauses.apart o p has c (λ e. other (sym e)))).clause ];
+        apart = λ p q hp hq differ. still_apart v w p q (holds_clauses.apart p q hp hq differ) (no_longer live has holds_clauses p hp) (no_longer live has holds_clauses q hq);
       };
     }
 
@@ -135,7 +135,7 @@ changes_twice u v w o shorter a b = record {
   others = λ p c apart.
       let first : SameClauseAt u v p = a.others p c apart in
       keeps_twice u v w p first (b.others p first.clause (still_apart u v o p apart shorter (omega (arith, same_len u v p first))));
-  laid = λ live has laid. b.laid live has (a.laid live has laid);
+  holds_clauses = λ live has holds_clauses. b.holds_clauses live has (a.holds_clauses live has holds_clauses);
 }
 
 pub lits_swapped : (w : List ℕ) (o i j : ℕ) → i < get_or w (o + 2) 0 → j < get_or w (o + 2) 0 → lits_at (set (set w (o + 3 + i) (get_or w (o + 3 + j) 0)) (o + 3 + j) (get_or w (o + 3 + i) 0)) o ≡ set (set (lits_at w o) i (get_or (lits_at w o) j 0)) j (get_or (lits_at w o) i 0)
@@ -344,22 +344,22 @@ added_clause v w a f ls h wrote small fit is =
       size = size;
       front = wrote.front;
       others = others;
-      fresh = λ live laid has. omega (arith, (laid.clauses (length v) has).whole);
-      laid = λ live laid. record {
+      fresh = λ live holds_clauses has. omega (arith, (holds_clauses.clauses (length v) has).whole);
+      holds_clauses = λ live holds_clauses. record {
         clauses = λ o has. elim (Contains-append_cases live (length v ∷ []) o has) [
-          | inl old ↦ (others o (laid.clauses o old)).clause
+          | inl old ↦ (others o (holds_clauses.clauses o old)).clause
           | inr new ↦ subst (IsClause w) (sym (single (length v) o new)) clause
         ];
         apart = λ o p has_o has_p differ. elim (Contains-append_cases live (length v ∷ []) o has_o) [
           | inl old_o ↦ elim (Contains-append_cases live (length v ∷ []) p has_p) [
             | inl old_p ↦
-                let keeps_o : SameClauseAt v w o = others o (laid.clauses o old_o) in
-                let keeps_p : SameClauseAt v w p = others p (laid.clauses p old_p) in
-                still_apart v w o p (laid.apart o p old_o old_p differ) (omega (arith, same_len v w o keeps_o)) (omega (arith, same_len v w p keeps_p))
-            | inr new_p ↦ subst (HaveNoCommonWord w o) (sym (single (length v) p new_p)) (apart_after v w o (laid.clauses o old_o) (others o (laid.clauses o old_o))).0
+                let keeps_o : SameClauseAt v w o = others o (holds_clauses.clauses o old_o) in
+                let keeps_p : SameClauseAt v w p = others p (holds_clauses.clauses p old_p) in
+                still_apart v w o p (holds_clauses.apart o p old_o old_p differ) (omega (arith, same_len v w o keeps_o)) (omega (arith, same_len v w p keeps_p))
+            | inr new_p ↦ subst (HaveNoCommonWord w o) (sym (single (length v) p new_p)) (apart_after v w o (holds_clauses.clauses o old_o) (others o (holds_clauses.clauses o old_o))).0
           ]
           | inr new_o ↦ elim (Contains-append_cases live (length v ∷ []) p has_p) [
-            | inl old_p ↦ subst (λ (x : ℕ). HaveNoCommonWord w x p) (sym (single (length v) o new_o)) (apart_after v w p (laid.clauses p old_p) (others p (laid.clauses p old_p))).1
+            | inl old_p ↦ subst (λ (x : ℕ). HaveNoCommonWord w x p) (sym (single (length v) o new_o)) (apart_after v w p (holds_clauses.clauses p old_p) (others p (holds_clauses.clauses p old_p))).1
             | inr new_p ↦ absurd (differ (single (length v) o new_o ∙ sym (single (length v) p new_p)))
           ]
         ];

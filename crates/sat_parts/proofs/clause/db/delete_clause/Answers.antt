@@ -22,6 +22,6 @@ returns-clause-deleted c =
     let put : PutsHeader c.args.clauses.now c.put_header.new.clauses c.args.db.now.refs c.args.cref (record (header_at c.args.clauses.now c.args.cref) { deleted = true }) =
     subst (λ (h : Header). PutsHeader c.args.clauses.now c.put_header.new.clauses c.args.db.now.refs c.args.cref h)
     (c.set_deleted.ensures ∙ ap (λ (h : Header). record h { deleted = true }) c.header-header.ensures.value)
-    (c.put_header.ensures c.args.db.now.refs c.requires.db.laid (live_in c.args.clauses.now c.args.db.now.refs c.args.cref c.requires.live)) in
+    (c.put_header.ensures c.args.db.now.refs c.requires.db.holds_clauses (live_in c.args.clauses.now c.args.db.now.refs c.args.cref c.requires.live)) in
     rw (c.waste.ensures, c.count_less.ensures, c.tier.ensures, c.len.ensures.value, c.header-header.ensures.value)
     (deleted_by c.args.clauses.now c.args.db.now c.put_header.new.clauses c.args.cref c.requires.db c.requires.live put)

@@ -29,6 +29,6 @@ returns c =
     let put : PutsHeader c.args.clauses.now c.put_header.new.clauses c.args.db.now.refs c.args.cref (record (header_at c.args.clauses.now c.args.cref) { tier = c.args.tier }) =
     subst (λ (h : Header). PutsHeader c.args.clauses.now c.put_header.new.clauses c.args.db.now.refs c.args.cref h)
     (c.set_tier.ensures ∙ ap (λ (h : Header). record h { tier = c.args.tier }) c.header-header.ensures.value)
-    (c.put_header.ensures c.args.db.now.refs c.requires.db.laid (live_in c.args.clauses.now c.args.db.now.refs c.args.cref c.requires.live)) in
+    (c.put_header.ensures c.args.db.now.refs c.requires.db.holds_clauses (live_in c.args.clauses.now c.args.db.now.refs c.args.cref c.requires.live)) in
     rw (c.count_more.ensures, c.count_less.ensures, e)
     (moves c.args.clauses.now c.args.db.now c.put_header.new.clauses c.args.cref c.args.tier c.requires.db c.requires.live differ put)

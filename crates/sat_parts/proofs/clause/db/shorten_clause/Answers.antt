@@ -2,7 +2,7 @@ use Rattle.std.proofs.lemmas.Grind.{common_steps}
 use Rattle.std.proofs.Common.{◌≡◌, take, ap, ◌∙◌, arith}
 use Rattle.sat_store.specs.clause.Buffer.{header_at, lits_at}
 use Rattle.sat_store.specs.clause.Header.{Header}
-use Rattle.sat_store.proofs.lemmas.clause.Laying.{same_count}
+use Rattle.sat_store.proofs.lemmas.clause.HeldClauses.{same_count}
 use Rattle.sat_parts.proofs.lemmas.clause.DbLemmas.{live_clause, shortens}
 use Rattle.sat_parts.proofs.clause.db.shorten_clause.Goals as goal
 

@@ -18,7 +18,7 @@ loop-at-preserved c =
           let live : is_live c.args.clauses.now c.cref-cref.result ≡ true = ap (λ b. not b) (ap (λ (h : Header). h.deleted) (sym c.header.ensures.value) ∙ sym c.deleted.ensures ∙ w.if-not-deleted.true) in
           let x = w.in-Ok.ensures.copied in
           rw (w.to-is, w.refs-is, x.1.1)
-          (copying_more c.args.clauses.now c.args.db.now.refs c.loop-at.to c.loop-at.refs.items w.copy_one.new.to c.loop-at.at x.0 c.cref-cref.result c.requires.db.laid c.requires.db.rising c.loop-at.invariant lt c.cref-cref.ensures live x.1.0)
+          (copying_more c.args.clauses.now c.args.db.now.refs c.loop-at.to c.loop-at.refs.items w.copy_one.new.to c.loop-at.at x.0 c.cref-cref.result c.requires.db.holds_clauses c.requires.db.rising c.loop-at.invariant lt c.cref-cref.ensures live x.1.0)
       | else-not-deleted w ↦
           let dead : is_live c.args.clauses.now c.cref-cref.result ≡ false = ap (λ b. not b) (ap (λ (h : Header). h.deleted) (sym c.header.ensures.value) ∙ sym c.deleted.ensures ∙ w.if-not-deleted.false) in
           rw (w.to-is, w.refs-is)

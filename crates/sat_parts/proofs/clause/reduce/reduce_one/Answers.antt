@@ -11,14 +11,14 @@ pub returns-then-active-clause-db : goal.returns-then-active-clause-db
 returns-then-active-clause-db c =
     let put = subst (λ (h : Header). PutsHeader c.args.clauses.now c.put_header.new.clauses c.args.db.now.refs c.args.cref h)
     (c.set_active.ensures ∙ ap (λ (h : Header). record h { active = false }) c.header-header.ensures.value)
-    (c.put_header.ensures c.args.db.now.refs c.requires.db.laid c.requires.there) in
+    (c.put_header.ensures c.args.db.now.refs c.requires.db.holds_clauses c.requires.there) in
     (holds_put c.args.clauses.now c.put_header.new.clauses c.args.db.now c.args.cref (record (header_at c.args.clauses.now c.args.cref) { active = false }) c.requires.db put refl refl).0
 
 pub returns-then-active-clause-live : goal.returns-then-active-clause-live
 returns-then-active-clause-live c =
     let put = subst (λ (h : Header). PutsHeader c.args.clauses.now c.put_header.new.clauses c.args.db.now.refs c.args.cref h)
     (c.set_active.ensures ∙ ap (λ (h : Header). record h { active = false }) c.header-header.ensures.value)
-    (c.put_header.ensures c.args.db.now.refs c.requires.db.laid c.requires.there) in
+    (c.put_header.ensures c.args.db.now.refs c.requires.db.holds_clauses c.requires.there) in
     (holds_put c.args.clauses.now c.put_header.new.clauses c.args.db.now c.args.cref (record (header_at c.args.clauses.now c.args.cref) { active = false }) c.requires.db put refl refl).1
 
 pub set_clause_tier-requires-clause-live : goal.set_clause_tier-requires-clause-live

@@ -2,7 +2,7 @@ use Rattle.std.proofs.lemmas.Grind.{common_steps}
 use Rattle.std.proofs.Common.{refl, arith, ap}
 use Rattle.sat_store.specs.declared.clause.tier.Tier.{Tier}
 use Rattle.sat_store.specs.clause.Header.{is_learned}
-use Rattle.sat_store.proofs.lemmas.clause.Laying.{same_count}
+use Rattle.sat_store.proofs.lemmas.clause.HeldClauses.{same_count}
 use Rattle.sat_parts.specs.clause.Db.{PutsHeader}
 use Rattle.sat_parts.proofs.lemmas.clause.DbLemmas.{live_clause, puts_header}
 use Rattle.sat_parts.proofs.lemmas.clause.HeaderLemmas.{holds_put}
@@ -22,7 +22,7 @@ returns c =
     let held = c.requires.holds.below.held in
     let h = c.args.header in
     let put : PutsHeader p.clauses n p.db.refs c.args.cref h =
-    puts_header p.clauses n p.db.refs c.args.cref h held.laid (live_in p.clauses p.db.refs c.args.cref c.requires.live) c.requires.len c.set_header.ensures.header c.set_header.ensures.lits c.set_header.ensures.others in
+    puts_header p.clauses n p.db.refs c.args.cref h held.holds_clauses (live_in p.clauses p.db.refs c.args.cref c.requires.live) c.requires.len c.set_header.ensures.header c.set_header.ensures.lits c.set_header.ensures.others in
     let kept = holds_put p.clauses n p.db c.args.cref h held put c.requires.deleted c.requires.tier in
     record {
       holds = sound_put_one p.clauses n p.db p.watchlists p.binary p.assignment p.graph p.trail p.vsids c.args.cref h c.requires.holds put kept.0 kept.1;

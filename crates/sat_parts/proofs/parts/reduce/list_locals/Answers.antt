@@ -13,7 +13,7 @@ use Rattle.sat_parts.proofs.parts.reduce.list_locals.Goals as goal
 pub rank_all-requires : goal.rank_all-requires
 rank_all-requires c =
     let locals = filter (is_live_of c.args.parts.now.clauses Local) c.args.parts.now.db.refs in
-    rw (c.deref.ensures.value, c.in_ok-find_locals.ensures) (λ k b. c.requires.holds.below.held.laid.clauses (get_or locals k 0) (filter_in (is_live_of c.args.parts.now.clauses Local) c.args.parts.now.db.refs (get_or locals k 0) (place_in locals k b)).0)
+    rw (c.deref.ensures.value, c.in_ok-find_locals.ensures) (λ k b. c.requires.holds.below.held.holds_clauses.clauses (get_or locals k 0) (filter_in (is_live_of c.args.parts.now.clauses Local) c.args.parts.now.db.refs (get_or locals k 0) (place_in locals k b)).0)
 
 pub returns-clause-locals : goal.returns-clause-locals
 returns-clause-locals c =

@@ -26,7 +26,7 @@ lit_is_true-requires g c = blocking_below _ _ _ _ _ _ _ _ _ c.loop-at.invariant.
 
 pub visit_clause-requires-clause-clause : goal.visit_clause-requires-clause-clause
 visit_clause-requires-clause-clause g c =
-    c.loop-at.invariant.walking.half.clauses.laid.clauses c.cref-cref.result (place_live _ _ _ _ _ _ _ _ _ c.loop-at.invariant.walking.half (omega arith) c.cref-cref.ensures)
+    c.loop-at.invariant.walking.half.clauses.holds_clauses.clauses c.cref-cref.result (place_live _ _ _ _ _ _ _ _ _ c.loop-at.invariant.walking.half (omega arith) c.cref-cref.ensures)
 
 pub visit_clause-requires-clause-long : goal.visit_clause-requires-clause-long
 visit_clause-requires-clause-long g c =

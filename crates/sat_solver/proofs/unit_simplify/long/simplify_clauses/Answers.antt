@@ -26,7 +26,7 @@ header-requires g c =
     let p = c.loop-at.search.parts in
     let e = ap (λ (xs : List ℕ). length xs) c.loop-at.invariant.went.ends.refs in
     let lt : c.loop-at.at < length c.loop-at.search.parts.db.refs = omega (arith, e, c.loop-at-test.true, c.len-at-end.ensures) in
-    c.loop-at.invariant.went.ends.search.valid.holds.below.held.laid.clauses c.cref-cref.result (subst (λ z. Contains p.db.refs z) (sym c.cref-cref.ensures) (place_in p.db.refs c.loop-at.at lt))
+    c.loop-at.invariant.went.ends.search.valid.holds.below.held.holds_clauses.clauses c.cref-cref.result (subst (λ z. Contains p.db.refs z) (sym c.cref-cref.ensures) (place_in p.db.refs c.loop-at.at lt))
 
 pub loop-at-preserved-then-deleted : goal.loop-at-preserved-then-deleted
 loop-at-preserved-then-deleted g c =

@@ -1,6 +1,6 @@
 use Rattle.std.proofs.Common.{◌≡◌, ◌∙◌, arith, length}
 use Rattle.sat_store.proofs.lemmas.clause.BufferLemmas.{copied_by}
-use Rattle.sat_store.proofs.lemmas.clause.Laying.{lits_fit}
+use Rattle.sat_store.proofs.lemmas.clause.HeldClauses.{lits_fit}
 use Rattle.sat_store.proofs.clause.alloc.ClauseAlloc.copy_clause.Goals as goal
 
 pub returns-clause-added : goal.returns-clause-added

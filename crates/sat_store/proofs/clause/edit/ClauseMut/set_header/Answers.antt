@@ -1,7 +1,7 @@
 use Rattle.std.proofs.lemmas.Grind.{common_steps}
 use Rattle.std.proofs.Common.{arith}
 use Rattle.std.proofs.lemmas.List.{take_all}
-use Rattle.sat_store.proofs.lemmas.clause.Laying.{same_count}
+use Rattle.sat_store.proofs.lemmas.clause.HeldClauses.{same_count}
 use Rattle.sat_store.proofs.clause.edit.ClauseMut.set_header.Goals as goal
 
 pub set_header-requires-clause-no_longer : goal.set_header-requires-clause-no_longer

@@ -3,7 +3,7 @@ use Rattle.std.specs.List.{All}
 use Rattle.sat_base.specs.values.Literals.{var_limit}
 use Rattle.sat_store.specs.clause.Buffer.{HeadedClause}
 use Rattle.sat_store.proofs.lemmas.clause.BufferLemmas.{alone_lits}
-use Rattle.sat_store.proofs.lemmas.clause.Laying.{lits_fit}
+use Rattle.sat_store.proofs.lemmas.clause.HeldClauses.{lits_fit}
 use Rattle.sat_store.proofs.clause.view.Clause.lits.Goals as goal
 
 pub invariant_of-result : goal.invariant_of-result

@@ -8,26 +8,26 @@ use Rattle.sat_store.specs.clause.Buffer.{header_at, lits_at, IsClause, HaveNoCo
 use Rattle.sat_store.proofs.lemmas.clause.BufferLemmas.{lits_count, lit_there, header_len}
 
 -- nothing is live in an empty buffer
-pub laid_none : (words : List ℕ) → HoldsClauses words []
-laid_none words = record {
+pub holds_none : (words : List ℕ) → HoldsClauses words []
+holds_none words = record {
   clauses = λ o (k, h, e). absurd (omega arith);
   apart = λ o p (k, h, e) has differ. absurd (omega arith);
 }
 
--- a list of some of the live clauses, in any order, is laid as well
-pub laid_among : (words live some : List ℕ) → ((o : ℕ) → Contains some o → Contains live o) → HoldsClauses words live → HoldsClauses words some
-laid_among words live some among laid = record {
-  clauses = λ o has. laid.clauses o (among o has);
-  apart = λ o p has_o has_p differ. laid.apart o p (among o has_o) (among p has_p) differ;
+-- a list of some of the live clauses, in any order, is held as well
+pub holds_among : (words live some : List ℕ) → ((o : ℕ) → Contains some o → Contains live o) → HoldsClauses words live → HoldsClauses words some
+holds_among words live some among holds_clauses = record {
+  clauses = λ o has. holds_clauses.clauses o (among o has);
+  apart = λ o p has_o has_p differ. holds_clauses.apart o p (among o has_o) (among p has_p) differ;
 }
 
 -- a change of one live clause keeps each other one
 pub kept_beside : (old new live : List ℕ) (o p : ℕ) → HoldsClauses old live → Contains live o → Contains live p → p ≢ o → ChangesAt old new o → SameClauseAt old new p
-kept_beside old new live o p laid has_o has_p differ change = change.others p (laid.clauses p has_p) (laid.apart o p has_o has_p (λ e. differ (sym e)))
+kept_beside old new live o p holds_clauses has_o has_p differ change = change.others p (holds_clauses.clauses p has_p) (holds_clauses.apart o p has_o has_p (λ e. differ (sym e)))
 
 -- a clause added keeps each live one, and isn't one of them
 pub kept_below : (old new live : List ℕ) (c p : ℕ) (header : Header) (lits : List ℕ) → HoldsClauses old live → Contains live p → AppendsClause old new c header lits → SameClauseAt old new p
-kept_below old new live c p header lits laid has added = added.others p (laid.clauses p has)
+kept_below old new live c p header lits holds_clauses has added = added.others p (holds_clauses.clauses p has)
 
 -- the length in the header is that of the literals
 pub same_count : (words : List ℕ) (o : ℕ) → IsClause words o → length (lits_at words o) ≡ (header_at words o).len
@@ -48,6 +48,6 @@ clause_within words o clause = omega (arith, lits_count words o clause, clause.w
 -- of two live clauses the words of the first end before those of the second begin
 pub ends_before : (words live : List ℕ) (o p : ℕ) → HoldsClauses words live → Contains live o → Contains live p → o < p → o + 3 + length (lits_at words o) ≤ p
 unfolding HaveNoCommonWord
-ends_before words live o p laid has_o has_p lt =
-    let n : length (lits_at words o) ≡ get_or words (o + 2) 0 = lits_count words o (laid.clauses o has_o) in
-    elim (laid.apart o p has_o has_p (λ e. omega arith)) [ inl before ↦ omega arith | inr following ↦ omega arith ]
+ends_before words live o p holds_clauses has_o has_p lt =
+    let n : length (lits_at words o) ≡ get_or words (o + 2) 0 = lits_count words o (holds_clauses.clauses o has_o) in
+    elim (holds_clauses.apart o p has_o has_p (λ e. omega arith)) [ inl before ↦ omega arith | inr following ↦ omega arith ]
