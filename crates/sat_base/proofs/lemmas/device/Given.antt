@@ -1,4 +1,4 @@
--- What a reader gave, read by read.
+-- What a reader gives, read by read.
 use Rattle.std.proofs.Common.{◌≡◌, ℕ, ◌+◌, ◌<◌, ◌≤◌, Bool, true, false, List, [], ◌++◌, length, length-append, take, nat_eq, nat_lt, ◌&&◌, Option, Some, None, Ok, Err, append_assoc, refl, sym, ap, subst, ◌∙◌, arith}
 use Rattle.std.proofs.lemmas.List.{append-nil}
 use Rattle.std.proofs.lemmas.Grind.{common_steps}
@@ -10,14 +10,14 @@ use Rattle.sat_base.proofs.lemmas.device.Known.{consumes_none, consumes_more}
 pub gave_none : (r : Reader) → GaveFront r r []
 gave_none r = record { gave = sym (append-nil r.given); known_bytes = consumes_none r.to_come; loans = refl }
 
--- one read more than the bytes given, at most
+-- at most one more read than bytes given
 pub few_reads : (a c : Reader) (xs : List ℕ) → c.given ≡ a.given ++ xs → c.calls ≤ a.calls + length xs + 1 → FewReads a c
 few_reads a c xs e h = let k : length c.given ≡ length a.given + length xs = ap length e ∙ length-append a.given xs in omega arith
 
 pub few_front : (a c : Reader) (xs : List ℕ) → GaveFront a c xs → c.calls ≤ a.calls + length xs + 1 → FewReads a c
 few_front a c xs g h = few_reads a c xs g.gave h
 
--- a read more
+-- one more read extends what the reader gave
 pub gave_more : {E : Type 0} (a b c : Reader) (xs : List ℕ) (n : ℕ) (room : List ℕ) → GaveFront a b xs → ReadsOnce {E = E} (Ok n) room b c → GaveFront a c (xs ++ take n room)
 gave_more a b c xs n room p r = record {
   gave = r.given ∙ ap (λ (z : List ℕ). z ++ take n room) p.gave ∙ append_assoc a.given xs (take n room);
@@ -31,7 +31,7 @@ consumed_still (Some s) None c xs h k = absurd h
 consumed_still (Some s) (Some t) None xs h k = absurd k
 consumed_still (Some s) (Some t) (Some u) xs h k = h ∙ ap (λ (z : List ℕ). xs ++ z) (sym k)
 
--- a failed one
+-- a failed read gives nothing
 pub gave_still : {E : Type 0} (e : E) (a b c : Reader) (xs room : List ℕ) → GaveFront a b xs → ReadsOnce {E = E} (Err e) room b c → GaveFront a c xs
 gave_still e a b c xs room p r = record {
   gave = r.given ∙ p.gave;
@@ -50,7 +50,7 @@ at_end n room e h = grind (arith, common_steps)
 not_at_end : (n : ℕ) (room : List ℕ) → 0 < n → (nat_eq n 0 && nat_lt 0 (length room)) ≡ false
 not_at_end n room h = grind (arith, common_steps)
 
--- one that found the end
+-- a read that found the end: the reader gave everything
 pub gave_to_end : {E : Type 0} (a b c : Reader) (xs : List ℕ) (n : ℕ) (room : List ℕ) → GaveFront a b xs → ReadsOnce {E = E} (Ok n) room b c → n ≡ 0 → 0 < length room
     → a.calls ≤ b.calls → b.calls ≤ a.calls + length xs → GaveAll a c xs
 gave_to_end a b c xs n room p r e h some few =
@@ -65,7 +65,7 @@ gave_to_end a b c xs n room p r e h some few =
       loans = g.loans;
     }
 
--- where so many reads had each given some
+-- the same if every earlier read gave at least one byte
 pub end_after : {E : Type 0} (a b c : Reader) (xs : List ℕ) (n k : ℕ) (room : List ℕ) → GaveFront a b xs → ReadsOnce {E = E} (Ok n) room b c → n ≡ 0 → 0 < length room
     → b.calls ≡ a.calls + k → k ≤ length xs → GaveAll a c xs
 end_after a b c xs n k room p r e h calls some = gave_to_end a b c xs n room p r e h (omega arith) (omega arith)
@@ -76,11 +76,11 @@ few_after a b c xs k g once calls some = few_front a c xs g (omega arith)
 pub few_before : (a b : Reader) (xs : List ℕ) (k : ℕ) → GaveFront a b xs → b.calls ≡ a.calls + k → k ≤ length xs → FewReads a b
 few_before a b xs k g calls some = few_front a b xs g (omega arith)
 
--- some was given
+-- the reader gave at least one byte
 pub some_given : (a c : Reader) (xs ys : List ℕ) → GaveFront a c (xs ++ ys) → 0 < length ys → length a.given < length c.given
 some_given a c xs ys g h = let e = ap length g.gave in let f = length-append a.given (xs ++ ys) in let k = length-append xs ys in omega arith
 
--- a call more
+-- the number of calls after one more call
 pub calls_after : (a b c k : ℕ) → c ≡ b + 1 → b ≡ a + k → c ≡ a + (k + 1)
 calls_after a b c k e f = omega arith
 
@@ -96,7 +96,7 @@ calls_few a b c k xs e f h = omega arith
 pub calls_few_yet : (a b k : ℕ) (xs : List ℕ) → b ≡ a + k → k ≤ length xs → b ≤ a + length xs + 1
 calls_few_yet a b k xs f h = omega arith
 
--- for so many pieces
+-- bounds on the number of reads: one for every piece, and one more
 pub least_calls : (a b c k n : ℕ) → c ≡ b + 1 → b ≡ a + k → n ≡ k → a + n ≤ c
 least_calls a b c k n e f h = omega arith
 
@@ -109,7 +109,7 @@ no_less xs ys k h = let n = length-append xs ys in omega arith
 pub not_ended : {E : Type 0} (b c : Reader) (n : ℕ) (room : List ℕ) → ReadsOnce {E = E} (Ok n) room b c → 0 < n → c.ended ≡ false
 not_ended b c n room r h = r.ended ∙ not_at_end n room h
 
--- WHAT WAS GIVEN DECIDES
+-- WHEN THE BYTES GIVEN ARE ENOUGH
 
 pub is_over : (a c : Reader) (xs : List ℕ) → GaveAll a c xs → c.ended ≡ true → IsAtEnd c.to_come
 is_over a c xs g e = g.over
@@ -145,10 +145,10 @@ reported_of None t xs P h k = tt
 reported_of (Some all) None xs P h k = absurd h
 reported_of (Some all) (Some rest) xs P h k = subst P (sym h) (k rest refl)
 
--- where the reader tells its bytes, it is so of all that there were
+-- if the bytes to come are known, P holds of them
 pub enough_reported : (a c : Reader) (P : List ℕ → Type 0) → GaveEnough a c P → IfSome a.to_come P
 enough_reported a c P g = reported_of a.to_come c.to_come g.text P g.front.known_bytes (λ rest h. g.holds rest (λ called e. rest_ends c.to_come rest h (g.over called e)))
 
--- what follows from it is so, too
+-- enough for P is enough for whatever follows from P
 pub enough_as : (a c : Reader) (P Q : List ℕ → Type 0) → ((text : List ℕ) → P text → Q text) → GaveEnough a c P → GaveEnough a c Q
 enough_as a c P Q f g = record { text = g.text; front = g.front; over = g.over; few = g.few; holds = λ rest h. f (g.text ++ rest) (g.holds rest h) }

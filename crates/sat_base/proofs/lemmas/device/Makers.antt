@@ -1,4 +1,4 @@
--- What walks of functions that make a value without bytes share: the value owns nothing.
+-- For proofs of functions that return a value without bytes: such a value owns nothing.
 use Rattle.std.proofs.Common.{List, [], ◌∷◌, refl}
 use seplogic.Ra.Ura.{Ura}
 use mir.Val.{Val, vstruct, vnil}

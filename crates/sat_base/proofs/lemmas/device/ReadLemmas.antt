@@ -13,7 +13,7 @@ use Rattle.sat_base.specs.device.Reading.{Source, to_come, ConsumesWithReads, Co
 use Rattle.sat_base.proofs.lemmas.device.Known.{consumes_none, consumes_more}
 use Rattle.sat_base.proofs.lemmas.steps.Numbers.{Front, front_none, front_more, live, last_read, shut_zero, shut_large, shut_on}
 
--- TAKEN BYTES
+-- CONSUMED BYTES
 pub passes_none : (s : Source) → ConsumesBytes s s []
 passes_none s = record {
   fresh = [];
@@ -29,7 +29,7 @@ passes_none s = record {
   going = λ e h. h;
 }
 
--- what was given and what was taken, over two turns
+-- bytes given and bytes consumed, over two calls in a row
 flows_more : (a b c fs gs xs ys : List ℕ) → a ++ fs ≡ xs ++ b → b ++ gs ≡ ys ++ c → a ++ (fs ++ gs) ≡ (xs ++ ys) ++ c
 flows_more a b c fs gs xs ys h k = sym (append_assoc a fs gs) ∙ ap (λ (z : List ℕ). z ++ gs) h ∙ append_assoc xs b gs ∙ ap (λ (z : List ℕ). xs ++ z) k ∙ sym (append_assoc xs ys c)
 
@@ -69,7 +69,7 @@ faults_later old mid new xs ys p f = record {
   names = f.names ∙ p.names;
 }
 
--- nothing more was taken before the failure
+-- consuming bytes, and then a failure or the end with no more bytes consumed
 pub faults_there : (old mid new : Source) (xs : List ℕ) → ConsumesBytes old mid xs → ConsumesAndFails mid new [] → ConsumesAndFails old new xs
 faults_there old mid new xs p f = subst (ConsumesAndFails old new) (append-nil xs) (faults_later old mid new xs [] p f)
 
@@ -98,7 +98,7 @@ faults_now e a b ws vs room names n r d f = record {
   names = refl;
 }
 
--- or isn't made, after so many
+-- after `most_reads` reads no further read is made, which is also a failure
 pub faults_spent : (s : Source) → s.waiting ≡ [] → most_reads ≤ s.reads → ConsumesAndFails s s []
 faults_spent s d h = record {
   fresh = [];
@@ -114,7 +114,7 @@ faults_spent s d h = record {
   names = refl;
 }
 
--- A READ THAT FAILS NOT
+-- A READ THAT SUCCEEDS
 
 fills_known : (a b : Option (List ℕ)) (ws xs : List ℕ) → ws ≡ [] → Consumes a b xs → Consumes (prepend_known ws a) (prepend_known xs b) []
 fills_known None b ws xs e h = tt
@@ -162,7 +162,7 @@ refilled count a b ws room names n r within size e =
 pub none_waits : (at end : ℕ) (piece : List ℕ) → end ≤ at → drop at (take end piece) ≡ []
 none_waits at end piece h = drop_all at (take end piece) (let e = length-take end piece in omega arith)
 
--- THE GROUPS OF A NUMBER, from the low end
+-- THE GROUPS OF A NUMBER, lowest first: those consumed so far have this value, and the next one has weight `place`
 pub record Groups (limit value place : ℕ) (old new : Source) : Type 0 where
   pub text : List ℕ
   pub passes : ConsumesBytes old new text
@@ -187,7 +187,7 @@ groups_stop limit value place old mid new e g h = absurd h
 pub groups_bad : (limit value place b : ℕ) (old mid new : Source) → (g : Groups limit value place old mid) → ConsumesBytes mid new (b ∷ []) → (BeginsText (IsBelow limit) (g.text ++ b ∷ []) → ⊥) → ReadsValue (IsBelow limit) (Err errors.BadByte) old new
 groups_bad limit value place b old mid new g h k = (g.text, b, passes_more old mid new g.text (b ∷ []) g.passes h, live limit g.text value place g.front g.small, k)
 
--- a last group of 0 is the whole number
+-- a first group of 0 is the complete number
 pub groups_zero : (limit value place b : ℕ) (old mid new : Source) → Groups limit value place old mid → ConsumesBytes mid new (b ∷ []) → b ≡ 0 → place ≡ 1 → 1 < limit → ReadsValue (IsBelow limit) (Ok 0) old new
 groups_zero limit value place b old mid new g h e f l = elim g.begun [
   | inl k ↦ (b ∷ [], subst (λ (z : List ℕ). ConsumesBytes old new (z ++ b ∷ [])) k.0 (passes_more old mid new g.text (b ∷ []) g.passes h), ((omega arith, sym e), omega arith))
@@ -209,7 +209,7 @@ groups_large limit value place b old mid new g h l m = groups_bad limit value pl
 pub groups_on : (limit value place b : ℕ) (old mid new : Source) → Groups limit value place old mid → ConsumesBytes mid new (b ∷ []) → 128 ≤ b → limit ≤ (value + place * (b - 128)) + place * 128 → ReadsValue (IsBelow limit) (Err errors.BadByte) old new
 groups_on limit value place b old mid new g h l m = groups_bad limit value place b old mid new g h (shut_on limit g.text value place b g.front l m)
 
--- THE ROOM THAT IS LEFT for the groups to come: so many times the place fit into what the number may still grow by
+-- ROOM for further groups: the largest number for which `value + place * room` is at most `largest`
 
 pub room_start : (largest : ℕ) → (0 + 1 * largest ≤ largest) × (largest < 0 + 1 * (largest + 1))
 room_start largest = (omega arith, omega arith)
@@ -236,7 +236,7 @@ by_kind : (largest value place b : ℕ) (old mid new : Source) → Groups (large
 by_kind largest value place b old mid new g h k true e = groups_large (largest + 1) value place b old mid new g h (small_group b e) k
 by_kind largest value place b old mid new g h k false e = groups_on (largest + 1) value place b old mid new g h (large_group b e) (let s = split_group place b (large_group b e) in omega arith)
 
--- a group that has no room
+-- a group that exceeds the room is a bad byte
 pub groups_past : (largest value place room b : ℕ) (old mid new : Source) → Groups (largest + 1) value place old mid → ConsumesBytes mid new (b ∷ []) → largest < value + place * (room + 1) → room < b → ReadsValue (IsBelow (largest + 1)) (Err errors.BadByte) old new
 groups_past largest value place room b old mid new g h k l = by_kind largest value place b old mid new g h (past_room largest value place room b k l) (nat_lt b 128) refl
 
@@ -246,7 +246,7 @@ low_of largest value place room g q h k = let m = mul-le-mul_left place k in let
 high_of : (largest value place room g q : ℕ) → largest < value + place * (room + 1) → room + 1 ≤ g + 128 * (q + 1) → largest < (value + place * g) + (place * 128) * (q + 1)
 high_of largest value place room g q h k = let m = mul-le-mul_left place k in let e : place * (g + 128 * (q + 1)) ≡ place * g + (place * 128) * (q + 1) = omega arith in omega arith
 
--- one that has, and goes on
+-- the room after a group that is within it and is not the last
 pub room_low : (largest value place room b : ℕ) → value + place * room ≤ largest → 128 ≤ b → b ≤ room → (value + place * (b - 128)) + (place * 128) * ((room - (b - 128)) / 128) ≤ largest
 room_low largest value place room b h k l = low_of largest value place room (b - 128) ((room - (b - 128)) / 128) h (omega arith)
 

@@ -1,4 +1,4 @@
--- Which answer it is, of a reader that is read to its end.
+-- Results of reading a reader to its end, which exclude each other.
 use Rattle.std.proofs.Common.{◌≡◌, ◌+◌, ◌<◌, ◌≤◌, ℕ, List, ◌++◌, length, length-append, Result, Ok, Err, ap, sym, subst, arith}
 use Rattle.std.specs.Prelude.{IfOk}
 use Rattle.sat_base.specs.declared.device.whole.ReadError.{ReadError}
@@ -19,6 +19,6 @@ failure_is_no_want h = absurd cc
 pub failed_is_no_want : {T X : Type 0} (e : ReadError) → e ≡ whole.Failed → ◌≡◌ {A = Result T ReadError} (Err e) (Err whole.OutOfMemory) → X
 failed_is_no_want e h k = absurd cc
 
--- a piece more has a byte more, at least
+-- a nonempty piece adds at least one byte
 pub one_more : (xs piece ys : List ℕ) (n : ℕ) → ys ≡ xs ++ piece → n ≤ length xs → 0 < length piece → n + 1 ≤ length ys
 one_more xs piece ys n e h k = let l = ap length e in let a = length-append xs piece in omega arith

@@ -1,4 +1,4 @@
--- What a writer takes, piece by piece.
+-- What a writer accepts, piece by piece.
 use Rattle.std.proofs.Common.{◌≡◌, ℕ, ◌+◌, ◌-◌, ◌<◌, ◌≤◌, Bool, true, false, List, [], ◌∷◌, ◌++◌, length, length-append, length-drop, take, drop, if◌then◌else◌, Option, Some, None, Result, Ok, Err, append_assoc, refl, sym, ap, subst, ◌∙◌, arith}
 use Rattle.std.proofs.lemmas.List.{append-nil, take-append-drop, length-take-le}
 use Rattle.std.proofs.lemmas.Grind.{common_steps}
@@ -20,7 +20,7 @@ took_more a b c xs ys p q = record {
   loans = q.loans ∙ p.loans;
 }
 
--- a failure after what was taken
+-- a failure after some bytes were accepted
 pub breaks_later : (a b c : Writer) (xs ys : List ℕ) → WriterTakes a b xs → WriterBreaks b c ys → WriterBreaks a c (xs ++ ys)
 breaks_later a b c xs ys p q = record {
   front = xs ++ q.front;
@@ -35,7 +35,7 @@ breaks_later a b c xs ys p q = record {
   loans = q.loans ∙ p.loans;
 }
 
--- a failure within a longer text
+-- a failure while a prefix of the text is written
 pub breaks_within : (a b : Writer) (xs ys : List ℕ) → WriterBreaks a b xs → WriterBreaks a b (xs ++ ys)
 breaks_within a b xs ys q = record {
   front = q.front;
@@ -183,7 +183,7 @@ lent_breaks a b given back text p = record {
   loans = let k = p.loans in cc;
 }
 
--- a writer that was lent and given back holds what it held at the end of the loan
+-- a text written through a lent writer was written to the lender's writer
 pub lent_puts : {E W : Type 0} (seen : W → Writer) (a z v : W) (given back : ℕ) (text : List ℕ) (r : Result (Unit {0}) E) → (given ≡ back → z ≡ v) → WritesText text r (lent_writer given (seen a)) (lent_writer back (seen v)) → WritesText text r (seen a) (seen z)
 lent_puts {E} {W} seen a z v given back text (Ok u) h p =
     subst (λ (x : W). WriterTakes (seen a) (seen x) text) (sym (loans_end W z v given back (seen a).loans (seen v).loans h p.loans)) (lent_takes (seen a) (seen v) given back text p)

@@ -1,4 +1,4 @@
--- What tokens make of a formula's clauses, one after another.
+-- How tokens, one after another, complete the clauses of a formula.
 use Rattle.std.proofs.Common.{◌≡◌, ℕ, ◌-◌, List, [], ◌∷◌, ◌++◌, Bool, true, false, Some, None, refl, sym, ap, subst, inl, inr, ◌∙◌, append_assoc, arith}
 use Rattle.std.proofs.lemmas.List.{append-nil}
 use Rattle.std.proofs.lemmas.Bool.Decides.{nat_tests}
@@ -69,7 +69,7 @@ number_at true past h line a b s e = refl
 number_at false true h line a b s e = refl
 number_at false false h line a b s e = ap (λ (k : ℕ). GoesOn (Some (literals_in h ++ coded (k - 1) s ∷ []))) (e refl)
 
--- a value that was held says the same
+-- capping the values of a token does not change its effect
 pub turn-held : (h : Hand) (line : ℕ) (t : Token) → turn h line (token_of (held_token t)) ≡ turn h line t
 turn-held h line (Number negative value) =
     let zero : nat_eq (held value) 0 ≡ nat_eq value 0 = grind (arith, nat_tests) in
@@ -83,7 +83,7 @@ onto-onto a b d = ap (λ (cs : List (List ℕ)). record { clauses = cs; ending =
 pub turned_first : HaveTakenTokens [] [] None
 turned_first = record { says = λ last ts. refl; sound = λ ts h. h }
 
--- one token more
+-- the clauses after one more token
 module _ (before : List (ℕ × Token)) (all : List (List ℕ)) (hand : Hand) (n : ℕ) (t : Token) (m : HaveTakenTokens before all hand) where
   pub says_next : (k : Turn) → turn hand n t ≡ k → (last : ℕ) (ts : List (ℕ × Token))
       → clauses_of None last ((before ++ (n, t) ∷ []) ++ ts) ≡ onto_clauses all (after_turn k (λ h. clauses_of h last ts))
@@ -131,7 +131,7 @@ header_clauses hand last line (Letter b) h = absurd h
 header_clauses hand last line (Header v c) h = ap (λ (d : Dimacs). d.clauses) (clauses_of_cons hand last (line, Header v c) [] ∙ clauses_of_nil hand last)
 header_clauses hand last line Wrong h = ap (λ (d : Dimacs). d.clauses) (clauses_of_cons hand last (line, Wrong) [])
 
--- where no more than an unread header is to come, so are no clauses
+-- if at most a header or a wrong word is still to come, it completes no clause
 pub quiet_clauses : (hand : Hand) (s : Scan) → HoldsNoWord s → (dimacs_of hand s).clauses ≡ []
 quiet_clauses hand s (inl e) = ap (λ (ts : List (ℕ × Token)). (clauses_of hand s.last ts).clauses) e ∙ ap (λ (d : Dimacs). d.clauses) (clauses_of_nil hand s.last)
 quiet_clauses hand s (inr q) = ap (λ (ts : List (ℕ × Token)). (clauses_of hand s.last ts).clauses) q.3 ∙ header_clauses hand s.last q.0 q.1 q.2

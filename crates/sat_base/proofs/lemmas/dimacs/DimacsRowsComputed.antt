@@ -1,4 +1,4 @@
--- The worked rows of formulas' texts, computed.
+-- The example texts of formulas have the stated meaning, by computation.
 use Rattle.std.proofs.Common.{refl}
 use Rattle.sat_base.specs.text.Text.{lines, words, begins_with, tokens_of, last_line, digits, token, scan}
 use Rattle.sat_base.specs.dimacs.Dimacs.{clauses_of, dimacs}

@@ -1,4 +1,4 @@
--- A formula's text reads cleanly exactly if its tokens spell the clauses.
+-- A formula's text ends cleanly exactly when its tokens spell the clauses.
 use Rattle.std.proofs.Common.{◌≡◌, ℕ, ◌+◌, ◌*◌, ◌-◌, ◌%◌, ◌<◌, ◌≤◌, List, [], ◌∷◌, ◌++◌, Bool, true, false, Some, None, map, refl, sym, ap, ap₂, ◌∙◌, append_assoc, subst, arith, inl, inr}
 use Rattle.std.specs.Prelude.{nat_eq, nat_lt, not, ◌↔◌, ◌⊎◌}
 use Rattle.std.proofs.lemmas.List.{append-nil}
@@ -12,11 +12,11 @@ use Rattle.sat_base.specs.dimacs.DimacsSpelling.{signed_number, AreWithinLimit, 
 use Rattle.sat_base.proofs.lemmas.dimacs.WrittenIsRead.{clauses_nil, clauses_cons, coded_back}
 use Rattle.sat_base.proofs.lemmas.text.HeaderFirst.{IsWord, AreWords, AreScript, text_is}
 
--- clauses, and a clean end
+-- these clauses and a clean ending
 abbrev clean : List (List ℕ) → Dimacs
 clean cs = record { clauses = cs; ending = Clean }
 
--- what is still to come, after what is in hand
+-- that the tokens finish the clause with the literals `done`, and then spell the remaining clauses
 pub record SpellsRest (done : List ℕ) (cs : List (List ℕ)) (ts : List Token) : Type 0 where
   pub literals : List ℕ
   pub last : Token
@@ -32,7 +32,7 @@ abbrev SpellsFrom : Hand → List (List ℕ) → List Token → Type 0
 SpellsFrom None cs ts = SpellsClauses cs ts
 SpellsFrom (Some done) cs ts = SpellsRest done cs ts
 
--- what the next token is, and what is to come after it
+-- that the next token is a zero, which ends the unfinished clause, and the rest spells the other clauses
 pub record ByZero (h : Hand) (cs : List (List ℕ)) (t : Token) (ts : List Token) : Type 0 where
   pub more : List (List ℕ)
   pub is_zero : IsZero t
@@ -56,7 +56,7 @@ abbrev rest_of : List Token → List Token
 rest_of [] = []
 rest_of (t ∷ ts) = ts
 
--- TAKEN APART
+-- FROM A SPELLING TO ITS NEXT TOKEN
 rest_next : (h : Hand) (literals : List ℕ) (last : Token) (later : List Token) (clauses cs : List (List ℕ)) (t : Token) (ts : List Token)
     → IsZero last → AreWithinLimit literals → cs ≡ (literals_in h ++ literals) ∷ clauses → t ∷ ts ≡ (map signed_number literals ++ last ∷ []) ++ later → SpellsClauses clauses later → Next h cs t ts
 rest_next h [] last later clauses cs t ts z w f e s =
@@ -86,7 +86,7 @@ next_of None [] t ts s = absurd (cc)
 next_of None (c ∷ cs) t ts s = rest_next None c s.2.0 s.1 cs (c ∷ cs) t ts s.2.1 s.2.2 refl (s.4 ∙ ap (λ (us : List Token). us ++ s.1) s.2.3) s.3
 next_of (Some done) cs t ts s = rest_next (Some done) s.literals s.last s.later s.clauses cs t ts s.is_last s.within s.first s.whole s.rest
 
--- PUT TOGETHER
+-- FROM THE NEXT TOKEN TO A SPELLING
 by_zero : (h : Hand) (cs : List (List ℕ)) (t : Token) (ts : List Token) → ByZero h cs t ts → SpellsFrom h cs (t ∷ ts)
 by_zero None cs t ts z = subst (λ (ds : List (List ℕ)). SpellsClauses ds (t ∷ ts)) (sym z.first) (t ∷ [], ts, (t, z.is_zero, tt, refl), z.rest, refl)
 by_zero (Some done) cs t ts z = record {
@@ -118,7 +118,7 @@ by_literal (Some done) cs t ts n = let s = n.rest in record {
   rest = s.rest;
 }
 
--- TURNS
+-- EFFECTS OF TOKENS
 variable_coded : (v : ℕ) (b : Bool) → variable (coded v b) ≡ v
 variable_coded v true = omega arith
 variable_coded v false = omega arith
@@ -131,7 +131,7 @@ twice_not : (b : Bool) → not (not b) ≡ b
 twice_not true = refl
 twice_not false = refl
 
--- the literal that a number is
+-- a number other than 0 is the token of a literal
 number_is : (negative : Bool) (value : ℕ) → 0 < value → Number negative value ≡ signed_number (coded (value - 1) (not negative))
 number_is negative value some =
     let v : variable (coded (value - 1) (not negative)) ≡ value - 1 = variable_coded (value - 1) (not negative) in
@@ -151,7 +151,7 @@ turn_literal h line l w =
     let spelled : turn h line (Number (not (is_positive l)) v) ≡ GoesOn (Some (literals_in h ++ coded (v - 1) (not (not (is_positive l))) ∷ [])) = rw (some, within) refl in
     spelled ∙ ap (λ (x : ℕ). GoesOn (Some (literals_in h ++ x ∷ []))) (coded_back l)
 
--- SPELLED, AND SO READ
+-- SPELLED CLAUSES ARE READ
 abbrev AllRead : ℕ → List (ℕ × Token) → Type 0
 AllRead last ts = (h : Hand) (cs : List (List ℕ)) → SpellsFrom h cs (spoken ts) → clauses_of h last ts ≡ clean cs
 
@@ -179,7 +179,7 @@ all_read : (last : ℕ) (ts : List (ℕ × Token)) → AllRead last ts
 all_read last [] h cs s = clauses_nil h last ∙ none_read h last cs s
 all_read last (t ∷ ts) h cs s = clauses_cons h last t ts ∙ next_read h last cs t ts (all_read last ts) (next_of h cs t.1 (spoken ts) s)
 
--- READ, AND SO SPELLED
+-- CLAUSES THAT ARE READ ARE SPELLED
 abbrev AllSpelled : ℕ → List (ℕ × Token) → Type 0
 AllSpelled last ts = (h : Hand) (cs : List (List ℕ)) → clauses_of h last ts ≡ clean cs → SpellsFrom h cs (spoken ts)
 
@@ -240,7 +240,7 @@ all_spelled last (t ∷ ts) w h cs e =
     put_together h cs t.1 (spoken ts) (token_spelled h last t.0 cs t.1 ts w.0 (all_spelled last ts w.1) (sym (clauses_cons h last t ts) ∙ e))
 
 -- WITH A HEADER
--- clauses are spelled without one
+-- the tokens that spell clauses contain no header
 number_no_header : {A : Type 0} (v c l : ℕ) → Header v c ≡ signed_number l → A
 number_no_header v c l e = absurd (cc)
 

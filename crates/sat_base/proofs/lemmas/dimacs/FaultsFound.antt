@@ -52,14 +52,14 @@ module _ (text : List ℕ) (b : ℕ) (old new : Tokenizer) (h : HasTakenSoundly 
     right = r;
   }
 
-  -- a byte that ends no token
+  -- a byte that ends no token: there is still no fault
   pub next_none : Pushed old new b None → ((after : List ℕ → Scan) → IsPositionedBefore new after → HasValidContinuation after) → HasTakenSoundly (text ++ b ∷ []) new
   next_none p r =
       let q = p.takes h.left_of h.valid in
       let m : HaveTakenTokens (h.before ++ []) h.all h.hand = rw (append-nil h.before) h.turned in
       next_with [] q.0 h.all h.hand q.1 q.2 (λ k. p.ended k q.0 q.1) m (r q.0 q.1)
 
-  -- or makes a word wrong
+  -- a byte that makes the unfinished word wrong
   pub next_wrong : (line : ℕ) → Pushed old new b None → ((after : List ℕ → Scan) → IsPositionedBefore new after → HasNoValidContinuation after) → ((after : List ℕ → Scan) → IsPositionedBefore new after → line ≡ held (after []).last)
       → FindsFault (Err (errors.Malformed line)) (text ++ b ∷ []) new
   next_wrong line p w l =
@@ -86,7 +86,7 @@ module _ (text : List ℕ) (b : ℕ) (old new : Tokenizer) (h : HasTakenSoundly 
     turn_same : (given : Token) → t ≡ held_token given → (n : ℕ) → turn h.hand n (token_of t) ≡ turn h.hand n given
     turn_same given e n = ap (λ (k : CodeToken). turn h.hand n (token_of k)) e ∙ turn-held h.hand n given
 
-    -- a byte that ends a token, which is no fault
+    -- a byte that ends a token without a fault
     next_some : ((hand : Hand) (n : ℕ) → unless_fault (turn hand n (token_of t)) (λ g. Unit {0})) → HasTakenSoundly (text ++ b ∷ []) new
     next_some judged =
         let q = p.takes h.left_of h.valid in
@@ -96,7 +96,7 @@ module _ (text : List ℕ) (b : ℕ) (old new : Tokenizer) (h : HasTakenSoundly 
         let blank : is_blank b ≡ true = not_false (is_blank b) (λ k. let z = p.inside k in cc) in
         next_with ((n, given) ∷ []) q.0 m.0 m.1 q.1 q.2.2 (λ k. p.ended k q.0 q.1) m.2 (p.right blank q.0 q.1)
 
-    -- or is one
+    -- a byte that ends a token with a fault
     next_fails : (ending : ℕ → Ending) (line : ℕ) → ((hand : Hand) (n : ℕ) → turn hand n (token_of t) ≡ Fails (ending n)) → ((after : List ℕ → Scan) → IsPositionedBefore new after → line ≡ held (after []).last)
         → (n : ℕ) × (line ≡ held n) × ((rest : List ℕ) → (dimacs ((text ++ b ∷ []) ++ rest)).ending ≡ ending n)
     next_fails ending line judged l =
@@ -135,7 +135,7 @@ taken_more text xs i m h s =
     let e : (text ++ take i xs) ++ get_or xs i 0 ∷ [] ≡ text ++ take (i + 1) xs = append_assoc text (take i xs) (get_or xs i 0 ∷ []) ∙ ap (λ (z : List ℕ). text ++ z) (sym (take_more xs i 0 h)) in
     subst (λ (z : List ℕ). HasTakenSoundly z m) e s
 
--- so a piece is refused
+-- if a parser stops at a fault, the text has this fault, however it continues
 fault_on : (line : ℕ) (ending : ℕ → Ending) (piece : List ℕ) (p q : Progress) (n : ℕ) → line ≡ held n → EndsAtFault (ending n) piece p q → HasFaultOn line ending (p.fed ++ piece)
 fault_on line ending piece p q n e f = (n, e, fault_ends (ending n) p.fed piece p q refl f)
 
@@ -156,7 +156,7 @@ pub refused_by : (e r : DimacsError) (piece : List ℕ) (p q : Progress) → Fee
 refused_by errors.OutOfMemory r piece p q f same found = short_or_fault r piece p q f (found refl)
 refused_by e r piece p q f same found = rw (same (λ z. absurd cc)) (stopped_by e piece p q f (λ z. absurd cc))
 
--- memory runs out only in a parser that goes on
+-- memory runs out only in a parser that has not stopped
 pub open_before : (e : DimacsError) (piece : List ℕ) (p q : Progress) → FeedsPiece (Err e) piece p q → e ≡ errors.OutOfMemory → p.stopped ≡ false
 open_before errors.OutOfMemory piece p q f e = f.0
 open_before e piece p q f k = absurd cc

@@ -1,4 +1,4 @@
--- What a parser of formulas' texts makes of bytes.
+-- The effect of bytes on a parser of formulas' texts.
 use Rattle.std.proofs.Common.{◌≡◌, ℕ, ◌+◌, ◌<◌, max, length, List, [], ◌∷◌, ◌++◌, Bool, true, false, Option, Some, None, Result, Ok, Err, refl, sym, ap, subst, inl, inr, ◌∙◌, append_assoc, length-append, take, drop, get_or, arith}
 use Rattle.std.proofs.lemmas.Grind.{common_steps}
 use Rattle.std.proofs.lemmas.List.{append-nil, append_cancel_left, length_push, get_or_push}
@@ -47,7 +47,7 @@ turned_by before taken old new n t (Ends c) e m s =
     (subst (λ (g : Hand). HaveTakenTokens (before ++ (n, t) ∷ []) ((taken ++ old.formula.clauses) ++ c ∷ []) g) (sym s.2) (turned_ends before (taken ++ old.formula.clauses) (hand_in old) n t m c e))
 turned_by before taken old new n t (Fails ending) e m s = absurd s
 
--- the counts are those of all clauses
+-- that the counts are those of all clauses, taken or not
 abbrev pub Counted : List (List ℕ) → Clauses → Type 0
 Counted taken c = (c.count ≡ held (length (taken ++ c.formula.clauses))) × (c.formula.var_count ≡ vars_of (taken ++ c.formula.clauses))
 
@@ -156,7 +156,7 @@ step_parser old new g b xs after s i e st r inside m c h =
       goes = λ _. now;
     }
 
--- what a tokenizer promises of a byte
+-- what a tokenizer guarantees for a byte
 pub record Pushed (old new : Tokenizer) (b : ℕ) (given : Option CodeToken) : Type 0 where
   pub takes : TakesByte old b given new
   pub inside : is_blank b ≡ false → given ≡ None
@@ -169,7 +169,7 @@ pub pushed : (old new : Tokenizer) (b : ℕ) (given : Option CodeToken) → Take
     → (is_blank b ≡ true → (after : List ℕ → Scan) → IsPositionedBefore new after → HasValidContinuation after) → Pushed old new b given
 pushed old new b given t i q e r = record { takes = t; inside = i; quiet = q; ended = e; right = r }
 
--- the bytes taken and the clauses handed over grow by a byte
+-- that the parser accepted one more byte, and no clauses were taken
 pub record ByteTaken (old new : Parser) (b : ℕ) : Type 0 where
   pub fed : new.history.fed ≡ old.history.fed ++ b ∷ []
   pub taken : new.history.taken ≡ old.history.taken
@@ -201,12 +201,12 @@ push_none old new b i o p t c e r =
     let counts : Counted new.history.taken new.clauses = rw (t.taken, c) (i.count, i.vars) in
     step_parser old new g b [] q.0 s i (e ∙ g.ended) q.1 (r q.0 q.1) (λ _. same) m counts (ap (λ (x : Clauses). x.header) c ∙ header_before old i g ∙ ap (λ (ts : List (ℕ × Token)). held_numbers (header_first ts)) (sym none))
 
--- where a token that is no header stands after others, or first
+-- a later token that is not a header does not change the header
 header_aside : (before : List (ℕ × Token)) (x : ℕ × Token) → header_from x.1 ≡ None → header_first (before ++ x ∷ []) ≡ header_first before
 header_aside [] x e = e
 header_aside (y ∷ ys) x e = refl
 
--- a header stands first
+-- that the token is not a header, or is the first token
 abbrev pub First : List (ℕ × Token) → Token → Type 0
 First before t = (header_from t ≡ None) ⊎ (before ≡ [])
 
@@ -236,7 +236,7 @@ pub not_false : (b : Bool) → (b ≡ false → ⊥) → b ≡ true
 not_false true h = refl
 not_false false h = absurd (h refl)
 
--- A token was given, after this byte: what the token is, and what is then still to be read.
+-- the token that a byte ended, and what is still to be read after it
 pub record Gave (old new : Parser) (g : IsGoingParser old) (b : ℕ) (t : CodeToken) : Type 0 where
   pub given : Token
   pub held : t ≡ held_token given
@@ -281,7 +281,7 @@ header_given old new g b t v i h =
     h ∙ ap (λ (k : CodeToken). header_after (token_of k) old.clauses.header) v.held
     ∙ header_next g.before (v.after []).last v.given old.clauses.header v.first (header_before old i g)
 
--- a byte that ends a token, which is taken
+-- a byte that ends a token without a fault
 pub push_some : (old new : Parser) (b : ℕ) (t : CodeToken) → IsParser old → old.stopped ≡ false → Pushed old.tokenizer new.tokenizer b (Some t) → ByteTaken old new b → new.ended ≡ old.ended
     → ((n : ℕ) → TakesTokenTurn (turn (hand_in old.clauses) n (token_of t)) old.clauses new.clauses) → new.clauses.header ≡ header_after (token_of t) old.clauses.header
     → IsParser new
@@ -314,7 +314,7 @@ progress_is p fed taken stopped ended a b c d = rw (a, b, c, d) refl
 not_open : (p : Parser) (A : Type 0) → p.stopped ≡ true → p.stopped ≡ false → A
 not_open p A a b = absurd (let e : ◌≡◌ {A = Bool} true false = sym a ∙ b in cc)
 
--- a parser whose text is over
+-- a parser whose text has ended
 pub over_parser : (p : Parser) (ending : Ending) (h : Option (ℕ × ℕ)) → p.stopped ≡ true → p.ended ≡ true → dimacs p.history.fed ≡ record { clauses = all_in p; ending = ending } → Counted p.history.taken p.clauses
     → p.clauses.header ≡ held_numbers h → dimacs_header p.history.fed ≡ h → IsParser p
 over_parser p ending h s e d c k l = record {
@@ -325,7 +325,7 @@ over_parser p ending h s e d c k l = record {
   goes = not_open p (IsGoingParser p) s;
 }
 
--- a byte that ends a token, at which the text has a fault
+-- that the text has a fault at this byte, and the parser has stopped there
 pub record FaultAt (ending : ℕ → Ending) (line b : ℕ) (old new : Parser) : Type 0 where
   pub n : ℕ
   pub shown : line ≡ held n
@@ -365,7 +365,7 @@ push_fails old new b t ending line i o p y st en stay f l =
       };
     }
 
--- a byte after which a wrong word is in hand, whatever follows
+-- a byte after which the unfinished word is wrong, whatever follows
 pub push_wrong : (old new : Parser) (b line : ℕ) → IsParser old → old.stopped ≡ false → Pushed old.tokenizer new.tokenizer b None → ByteTaken old new b
     → new.stopped ≡ true → new.ended ≡ true → new.clauses ≡ old.clauses → ((before : List ℕ → Scan) → IsPositionedBefore new.tokenizer before → HasNoValidContinuation before)
     → ((before : List ℕ → Scan) → IsPositionedBefore new.tokenizer before → line ≡ held (before []).last) → FaultAt Malformed line b old new
@@ -403,7 +403,7 @@ push_wrong old new b line i o p y st en c w l =
       };
     }
 
--- WHAT WENT WELL
+-- TEXTS WITHOUT A FAULT
 right_first : (h : Hand) (n : ℕ) (t : Token) (more : Hand → Type 0) → unless_fault (turn h n t) more → t ≡ Wrong → ⊥
 right_first h n t more u e = let v : unless_fault (turn h n Wrong) more = subst (λ (k : Token). unless_fault (turn h n k) more) e u in v
 
@@ -412,7 +412,7 @@ sound_next (GoesOn h) ts u = (h, u)
 sound_next (Ends c) ts u = (None, u)
 sound_next (Fails ending) ts u = absurd u
 
--- what is no fault is no wrong word
+-- tokens without a fault contain no wrong word
 sound_right : (h : Hand) (ts : List (ℕ × Token)) → NoFault h ts → HaveNoWrongWord ts
 sound_right h [] s = tt
 sound_right h (t ∷ ts) s =
@@ -455,7 +455,7 @@ onto_cancel before s t e =
     let same : (a b : List (ℕ × Token)) (m n : ℕ) → a ≡ b → m ≡ n → ◌≡◌ {A = Scan} (record { tokens = a; last = m }) (record { tokens = b; last = n }) = λ a b m n f g. rw (f, g) refl in
     same s.tokens t.tokens s.last t.last tokens last
 
--- whatever follows is ignored exactly if the tokenizer ignores it
+-- the text has ended exactly if the tokenizer ignores whatever follows
 pub ends_here : (p : Parser) (g : IsGoingParser p) → IgnoresRest g.left_of → HasEnded p.history.fed
 ends_here p g i rest = g.scans rest ∙ ap (onto g.before) (i rest) ∙ sym (g.scans []) ∙ ap scan (append-nil p.history.fed)
 
@@ -517,7 +517,7 @@ split_at xs i h = grind (arith, common_steps)
 abbrev pub at_end_of : Parser → Parser
 at_end_of p = record p { stopped = true; ended = true }
 
--- so much is read as the text ends: the tokens that are left, and what they make of the clauses
+-- that `p` is the parser after the tokens that were left when the text ended
 pub record Read (old p : Parser) (g : IsGoingParser old) : Type 0 where
   pub history : p.history ≡ old.history
   pub tokenizer : p.tokenizer ≡ old.tokenizer
@@ -564,7 +564,7 @@ finish_answer (Err (errors.Malformed line)) old p g o r e =
     (o, ended_progress old p r.history, (g.left_of []).last, e.1 g.left_of st, ap (λ (d : Dimacs). d.ending) (whole_dimacs old p g r) ∙ cut_of (hand_in p.clauses) (g.left_of []).last e.0.0 e.0.1)
 finish_answer (Err x) old p g o r e = absurd e
 
--- no word is in hand
+-- no token is unfinished
 pub read_none : (old : Parser) (i : IsParser old) (g : IsGoingParser old) → GivesLast None (g.left_of []) → Read old old g
 read_none old i g l =
     let none : g.before ++ [] ≡ g.before = append-nil g.before in
@@ -582,7 +582,7 @@ last_first : (old : Parser) (g : IsGoingParser old) (t : Token) (n : ℕ) → (g
 last_first old g t n e =
     first_stands old.history.fed g.before [] n t (ap (λ (k : Scan). k.tokens) (scan_whole old g) ∙ ap (λ (ts : List (ℕ × Token)). g.before ++ ts) e)
 
--- a word is, and is taken
+-- an unfinished token without a fault
 pub read_some : (old p : Parser) (i : IsParser old) (g : IsGoingParser old) (t : CodeToken) → p.history ≡ old.history → p.tokenizer ≡ old.tokenizer → GivesLast (Some t) (g.left_of [])
     → ((n : ℕ) → TakesTokenTurn (turn (hand_in old.clauses) n (token_of t)) old.clauses p.clauses) → p.clauses.header ≡ header_after (token_of t) old.clauses.header → Read old p g
 read_some old p i g t h k l c e =
@@ -602,7 +602,7 @@ read_some old p i g t h k l c e =
           ∙ header_next g.before n given old.clauses.header (last_first old g given n l.2) (header_before old i g);
     }
 
--- a word is, and is at fault
+-- that the text ended with a fault on this line
 pub record FaultAtEnd (ending : ℕ → Ending) (line : ℕ) (old new : Parser) : Type 0 where
   pub parser : IsParser new
   pub answer : (old.stopped ≡ false) × (progress_of new ≡ at_its_end (progress_of old)) × (n : ℕ) × (line ≡ held n) × ((dimacs old.history.fed).ending ≡ ending n)
@@ -639,12 +639,12 @@ literal_turn negative value false false p q h hand n = (literals_in hand ++ code
 literal_turn negative value true z p q h hand n = absurd (let g : ◌≡◌ {A = Bool} false true = h in cc)
 literal_turn negative value false true p q h hand n = absurd (let g : ◌≡◌ {A = Bool} false true = h in cc)
 
--- a literal goes on with a clause, or begins one, and is no header
+-- a literal continues or begins a clause, and does not change the header
 pub literal_goes : (t : CodeToken) → is_literal (token_of t) ≡ true → ((hand : Hand) (n : ℕ) → (ls : List ℕ) × (turn hand n (token_of t) ≡ GoesOn (Some ls))) × ((h : Option (ℕ × ℕ)) → h ≡ header_after (token_of t) h)
 literal_goes (code.Number negative value) e = (literal_turn negative value (nat_eq value 0) (nat_lt var_limit value) refl refl e, (λ h. refl))
 literal_goes x e = absurd (let g : ◌≡◌ {A = Bool} false true = e in cc)
 
--- the text is over after a literal
+-- a text that ends after a literal is malformed
 pub finish_inside : (old : Parser) (i : IsParser old) (o : old.stopped ≡ false) (t : CodeToken) (line : ℕ) → ((left_of : List ℕ → Scan) → IsPositionedBefore old.tokenizer left_of → GivesLast (Some t) (left_of [])) → is_literal (token_of t) ≡ true
     → ((before : List ℕ → Scan) → IsPositionedBefore old.tokenizer before → line ≡ held (before []).last) → FaultAtEnd Malformed line old (at_end_of old)
 finish_inside old i o t line gives lit l =
@@ -673,7 +673,7 @@ finish_inside old i o t line gives lit l =
       answer = (o, ended_progress old old refl, n, l g.left_of g.valid, ap (λ (d : Dimacs). d.ending) says);
     }
 
--- memory is taken for numbers alone
+-- only numbers need memory
 number_of : (given : Token) → NeedsRoom (token_of (held_token given)) → (negative : Bool) × (value : ℕ) × (given ≡ Number negative value)
 number_of (Number negative value) r = (negative, value, refl)
 number_of (Letter b) (inr ends) = absurd (let e : ◌≡◌ {A = Turn} (Fails (Malformed 0)) (Ends []) = ends None 0 in cc)
@@ -685,7 +685,7 @@ true_not : (b : Bool) → (b ≡ true → ⊥) → b ≡ false
 true_not true h = absurd (h refl)
 true_not false h = refl
 
--- there was no memory for the clause that the text's end ends
+-- memory ran out for the clause that the end of the text completes
 pub finish_short : (old : Parser) (i : IsParser old) (o : old.stopped ≡ false) (t : CodeToken) → ((left_of : List ℕ → Scan) → IsPositionedBefore old.tokenizer left_of → GivesLast (Some t) (left_of [])) → is_literal (token_of t) ≡ false → NeedsRoom (token_of t)
     → EndsWell old.history.fed
 finish_short old i o t gives lit (inl is) = absurd (let g : ◌≡◌ {A = Bool} true false = sym is ∙ lit in cc)
@@ -721,7 +721,7 @@ finish_short old i o t gives lit (inr ends) =
       goes_on = λ h. given_goes_on old.tokenizer g.left_of g.valid (λ e. let z : ◌≡◌ {A = List (ℕ × Token)} [] (x ∷ []) = sym e ∙ q.2 in cc) (goes_here old g h);
     }
 
--- there was no memory for the word that a byte ends
+-- memory ran out for the token that a byte ends
 no_fault_of : (hand : Hand) (n : ℕ) (t : Token) → ((ls : List ℕ) × (turn hand n t ≡ GoesOn (Some ls))) ⊎ (turn hand n t ≡ Ends (literals_in hand)) → NoFault hand ((n, t) ∷ [])
 no_fault_of hand n t (inl (ls, e)) = rw e tt
 no_fault_of hand n t (inr e) = rw e tt

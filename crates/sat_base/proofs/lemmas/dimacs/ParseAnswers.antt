@@ -1,4 +1,4 @@
--- Which error a formula's text is answered by, where a parser has not stopped.
+-- Errors that parsing does not return: `Read`, and `HasFailed` if the parser had not stopped.
 use Rattle.std.proofs.Common.{◌≡◌, ℕ, List, Bool, true, false, Result, Err, sym, subst, ◌∙◌}
 use Rattle.sat_base.specs.declared.dimacs.error.DimacsError.{DimacsError}
 use Rattle.sat_base.specs.declared.dimacs.error.DimacsError.TheVariants as errors

@@ -1,4 +1,4 @@
--- What a parser answers of a reader's text.
+-- The result of parsing what a reader gave.
 use Rattle.std.proofs.Common.{◌≡◌, ℕ, List, [], ◌∷◌, ◌++◌, Bool, true, false, Result, Err, refl, sym, ap, subst, inl, inr, ◌∙◌, append_assoc, take, length, length-append, ◌+◌, ◌<◌, ◌≤◌, arith, Ok}
 use Rattle.std.specs.List.{FoldsTo, concat}
 use Rattle.std.proofs.lemmas.List.{append-nil, length-take-le}
@@ -13,7 +13,7 @@ use Rattle.sat_base.specs.dimacs.Parsing.{Calls, EndsWell, FallsShort, EndsAtFau
 use Rattle.sat_base.specs.device.Device.{Reader, GaveAll, GaveFront}
 use Rattle.sat_base.specs.text.Text.{dimacs_header, scan, tokens_of, lines}
 
--- the text has the ending of its fault
+-- a text with a fault ends with this fault, however it continues
 pub fault_ends : (ending : Ending) (fed piece : List ℕ) (p q : Progress) → p.fed ≡ fed → EndsAtFault ending piece p q → (rest : List ℕ) → (dimacs ((fed ++ piece) ++ rest)).ending ≡ ending
 fault_ends ending fed piece p q e f rest =
     let is : q.fed ≡ fed ++ f.front = ap (λ (k : Progress). k.fed) f.progress ∙ ap (λ (k : List ℕ). k ++ f.front) e in
@@ -22,7 +22,7 @@ fault_ends ending fed piece p q e f rest =
     ∙ ap (λ (xs : List ℕ). xs ++ (f.following ++ rest)) (sym is) in
     ap (λ (k : List ℕ). (dimacs k).ending) text ∙ ap (λ (d : Dimacs). d.ending) (f.ends (f.following ++ rest))
 
--- there was no memory within it
+-- if memory ran out within a piece, it ran out within the text
 pub short_on : (fed piece : List ℕ) (p q : Progress) → p.fed ≡ fed → FallsShort piece p q → (rest : List ℕ)
     → (front : List ℕ) × (byte : ℕ) × (following : List ℕ) × ((fed ++ piece) ++ rest ≡ front ++ byte ∷ following) × GoesWell front byte
 short_on fed piece p q e f rest = (
@@ -41,7 +41,7 @@ stops_on errors.Read fed piece p q e s f rest = tt
 stops_on errors.OutOfMemory fed piece p q e s f rest = inl (short_on fed piece p q e f.1 rest)
 stops_on errors.HasFailed fed piece p q e s f rest = absurd (let g : ◌≡◌ {A = Bool} true false = sym f.0 ∙ s in cc)
 
--- what a parser is where its clauses may have been handed over
+-- that the parser accepted these bytes, and clauses may have been taken from it
 abbrev pub HasAccepted : List ℕ → Progress → Type 0
 HasAccepted fed p = p ≡ record (with_fed fed no_progress) { taken = p.taken }
 
@@ -61,33 +61,33 @@ parts_clean fed p q r is kept f =
     let fed_is : p.fed ≡ fed = ap (λ (z : Progress). z.fed) is in
     (ap (λ (z : Progress). z.fed) e ∙ fed_is, ap (λ (z : Progress). z.stopped) e, ap (λ (z : Progress). z.ended) e, ap (λ (z : List ℕ). (dimacs z).ending) (sym fed_is) ∙ f.1)
 
--- a closure each of whose calls leaves all but the clauses taken
+-- a closure keeps the text if every call changes only which clauses were taken
 pub keeps_always : {F E : Type 0} (calls : Calls F E) → ((f g : F) (p q : MutBor Progress) (answer : Result (Unit {0}) E) → calls f p answer q g → q.now ≡ record p.now { taken = q.now.taken }) → (f : F) → KeepsText calls f
 keeps_always calls k f [] = tt
 keeps_always calls k f (p ∷ ps) = λ answer q g h. (k f g p q answer h, keeps_always calls k g ps)
 
--- what a call leaves of a closure that keeps the text, and of the parser
+-- after a call, a closure that keeps the text still does, and the parser has the same text
 pub keeps_next : {F E : Type 0} (calls : Calls F E) (f g : F) (p q : MutBor Progress) (answer : Result (Unit {0}) E) → KeepsText calls f → calls f p answer q g → KeepsText calls g × (q.now ≡ record p.now { taken = q.now.taken })
 keeps_next calls f g p q answer k h = ((λ ps. (k (p ∷ ps) answer q g h).1), (k (p ∷ []) answer q g h).0)
 
 joined_more : (pieces : List (List ℕ)) (piece : List ℕ) → concat pieces ++ piece ≡ concat (pieces ++ (piece ∷ []))
 joined_more pieces piece = ap (λ (z : List ℕ). concat pieces ++ z) (sym (append-nil piece)) ∙ sym (concat-append pieces (piece ∷ []))
 
--- a piece is taken, and then a call keeps the text
+-- a piece is accepted, and then a call keeps the text
 pub fed_and_kept : (pieces : List (List ℕ)) (piece : List ℕ) (p q r : Progress) → HasAccepted (concat pieces) p → q ≡ with_fed piece p → r ≡ record q { taken = r.taken } → HasAccepted (concat (pieces ++ (piece ∷ []))) r
 fed_and_kept pieces piece p q r is f kept =
     kept ∙ ap (λ (z : Progress). record z { taken = r.taken }) f ∙ ap (λ (z : Progress). record (with_fed piece z) { taken = r.taken }) is
     ∙ ap (λ (z : List ℕ). record (with_fed z no_progress) { taken = r.taken }) (joined_more pieces piece)
 
--- the pieces that were given, with one more
+-- the pieces that were given, and one more
 pub front_joined : (old new : Reader) (pieces : List (List ℕ)) (piece : List ℕ) → GaveFront old new (concat pieces ++ piece) → GaveFront old new (concat (pieces ++ (piece ∷ [])))
 front_joined old new pieces piece f = subst (GaveFront old new) (joined_more pieces piece) f
 
--- or none
+-- the pieces that were given, and no more
 pub front_alone : (old new : Reader) (pieces : List (List ℕ)) → GaveFront old new (concat pieces) → GaveFront old new (concat pieces ++ [])
 front_alone old new pieces f = subst (GaveFront old new) (sym (append-nil (concat pieces))) f
 
--- a text is whole where its reader is at its end
+-- a text is complete if its reader is at its end
 pub whole_at_end : (a c : Reader) (text : List ℕ) → a.calls < c.calls → c.ended ≡ true → IsWholeText a c text
 whole_at_end a c text called e rest f =
     let k : text ++ rest ≡ text = ap (λ (z : List ℕ). text ++ z) (f called e) ∙ append-nil text in
@@ -96,21 +96,21 @@ whole_at_end a c text called e rest f =
 pub piece_given : (n : ℕ) (buf : List ℕ) → n ≤ length buf → 0 < n → 0 < length (take n buf)
 piece_given n buf h k = let e = length-take-le n buf h in omega arith
 
--- no text has no fault
+-- the empty text has no fault
 pub sound_none : IsSoundText []
 unfolding scan tokens_of lines
 sound_none = record { lines = tt; words = ([], tt) }
 
--- a piece more has a byte more, at least
+-- a nonempty piece adds at least one byte
 pub piece_more : (pieces : List (List ℕ)) (piece : List ℕ) (n : ℕ) → n ≤ length (concat pieces) → 0 < length piece → n + 1 ≤ length (concat (pieces ++ (piece ∷ [])))
 piece_more pieces piece n h k = let e = ap length (sym (joined_more pieces piece)) ∙ length-append (concat pieces) piece in omega arith
 
--- one step more
+-- a fold with one more item
 pub folds_more : {P A : Type 0} (R : P → A → P → Type 0) (p q r : P) (xs : List A) (x : A) → FoldsTo R p xs q → R q x r → FoldsTo R p (xs ++ (x ∷ [])) r
 folds_more R p q r [] x h k = (r, subst (λ z. R z x r) (sym h) k, refl)
 folds_more R p q r (y ∷ ys) x h k = (h.0, h.1, folds_more R h.0 q r ys x h.2 k)
 
--- WHERE THE ANSWER IS NO FAILED READ
+-- RESULTS OTHER THAN A FAILED READ
 
 pub no_read : {T E X : Type 0} (r : Result T (IncrementalError E)) (x : T) → r ≡ Ok x → r ≡ Err (parts.Dimacs errors.Read) → X
 no_read r x k h = absurd cc

@@ -1,4 +1,4 @@
--- A text that is read in parts, and seen after each: what is answered by.
+-- The result of parsing a text in parts, with a call of a closure after every part.
 use Rattle.std.proofs.Common.{◌≡◌, ℕ, List, [], ◌++◌, false, Result, Ok, Err, inl, inr, refl, ap, subst, length, ◌+◌, ◌<◌, ◌≤◌}
 use Rattle.std.specs.Result.{IfOk, IfErr, OnOk}
 use Rattle.sat_base.specs.declared.dimacs.error.DimacsError.{DimacsError}
@@ -12,7 +12,7 @@ use Rattle.sat_base.proofs.lemmas.device.Given.{enough_front}
 use Rattle.sat_base.proofs.lemmas.dimacs.Parsed.{HasAccepted, ends_by, stops_on, parts_clean, no_read, no_read_called, no_read_ended, no_read_fed}
 use Rattle.sat_base.proofs.lemmas.dimacs.ReadToEnd.{ReadToEnd, enough_read, read_front, read_whole}
 
--- the closure's refusal, or else the parser's answer
+-- the closure's error, or else the parser's result
 abbrev pub refusal_or : {E : Type 0} → Result (Unit {0}) E → Result (Unit {0}) DimacsError → Result (Unit {0}) (IncrementalError E)
 refusal_or (Err e) answer = Err (parts.Caller e)
 refusal_or (Ok u) (Err e) = Err (parts.Dimacs e)
@@ -70,7 +70,7 @@ no_read_at_piece (Err e) answer r piece p q s is feeds h = no_read_called (with_
 no_read_at_piece (Ok u) (Err e) r piece p q s is feeds h = no_read_fed (with_parser s r) e piece p q feeds (ap (with_parser s) is) h
 no_read_at_piece (Ok u) (Ok v) r piece p q s is feeds h = no_read (with_parser s r) s (ap (with_parser s) is) h
 
--- where it goes on, the piece was taken and seen
+-- if parsing continues, the piece was accepted and the closure returned `Ok`
 pub seen_piece : {F E : Type 0} (calls : Calls F E) (seen : Result (Unit {0}) E) (answer : Result (Unit {0}) DimacsError) (r : Result (Unit {0}) (IncrementalError E)) (x : Unit {0}) (piece : List ℕ) (f h : F) (p q s : Progress)
     → r ≡ refusal_or seen answer → r ≡ Ok x → FeedsPiece answer piece p q → OnOk answer (IsSoundSoFar q) → Visits calls (f, q) seen (h, s) → FeedsPiece (Ok tt) piece p q × IsSoundSoFar q × Visits calls (f, q) (Ok tt) (h, s)
 seen_piece calls (Err d) answer r x piece f h p q s is ok feeds sound seen = absurd cc

@@ -18,7 +18,7 @@ use Rattle.sat_base.proofs.lemmas.device.Given.{end_after, enough_all, enough_fr
 use Rattle.sat_base.proofs.lemmas.dimacs.Parsed.{front_alone, whole_at_end, short_on}
 use Rattle.sat_base.specs.declared.text.Place.TheVariants as at
 
--- no more was read, since the text has ended
+-- that reading stopped early, because a line has ended the text
 pub record StopsEarly (a c : Reader) (gave text : List ℕ) : Type 0 where
   pub front : GaveFront a c gave
   pub going : c.ended ≡ false
@@ -63,7 +63,7 @@ read_to_end a b c gave text n k room g (inr s) z some calls few going =
       ended = s.2;
     })
 
--- no text has ended before its first byte
+-- the empty text has not ended
 pub none_has_ended : HasEnded [] → ⊥
 none_has_ended h = open_looks (standing (at.Fresh true) 0) (λ e. absurd cc) scan stands_first h
 
@@ -99,7 +99,7 @@ pub enough_read : (r : Result Formula DimacsError) (a c : Reader) (text : List �
 enough_read r a c text (inl all) p = enough_all a c (Parses r) text all p
 enough_read r a c text (inr s) p = enough_front a c (Parses r) text s.front s.going s.few (λ rest. parses_on r text rest s.ended p)
 
--- some piece was taken where the text has ended
+-- if a text read in pieces has ended, at least one piece was accepted
 pub parts_going : {F E : Type 0} (calls : Calls F E) (f h : F) (p : Progress) (pieces : List (List ℕ)) (k : ℕ) (T : Type 0) → FoldsTo (FeedsAndVisits calls) (f, no_progress) pieces (h, p) → length pieces ≡ k → (0 < k → T) → HasEnded p.fed → T
 parts_going {F} calls f h p [] k T folds e then ended = absurd (none_has_ended (subst HasEnded (sym (ap (λ (z : F × Progress). z.1.fed) folds)) ended))
 parts_going calls f h p (x ∷ xs) k T folds e then ended = then (omega arith)
@@ -112,7 +112,7 @@ refused_on errors.OutOfMemory fed piece p e o f rest = inl (short_on fed piece p
 refused_on errors.HasFailed fed piece p e o f rest = absurd (let g : ◌≡◌ {A = Bool} true false = sym f ∙ o in cc)
 refused_on errors.Read fed piece p e o f rest = absurd f
 
--- WHAT HAD NO FAULT
+-- TEXTS WITHOUT A FAULT
 pub sound_end : {T : Type 0} (r : Result T DimacsError) (e : DimacsError) (a c : Reader) (text : List ℕ) (p q : Progress) → r ≡ Err e → p.fed ≡ text → Finishes (Err e) p q → GaveFront a c text → IsSoundText text → r ≡ Err errors.OutOfMemory → GaveSound a c
 sound_end {T} r errors.OutOfMemory a c text p q k e f g s h = (text, g, s, λ called ends. ap (λ (z : List ℕ). (dimacs z).ending) (sym e) ∙ f.2.clean)
 sound_end {T} r e a c text p q k i f g s h = absurd (let z : ◌≡◌ {A = Result T DimacsError} (Err e) (Err errors.OutOfMemory) = sym k ∙ h in cc)
@@ -153,11 +153,11 @@ stops_after text piece going h front rest e ended = go (nat_lt (length rest) pie
         let m = prefix_of front rest text piece e (omega arith) in
         absurd (going (subst HasEnded (sym m.1) (ended_longer front m.0 ended)))
 
--- that was no longer than it
+-- a piece is at most as long as the buffer
 pub short_piece : (n : ℕ) (buf : List ℕ) → n ≤ length buf → length buf ≡ piece_size → length (take n buf) ≤ piece_size
 short_piece n buf h e = let l = length-take-le n buf h in omega arith
 
--- a parser that goes on has a text that has not ended
+-- the text of a parser that continues has not ended
 pub going_on : (p : Progress) (text : List ℕ) → p ≡ with_fed text no_progress → SaysEnded false p → HasEnded text → ⊥
 going_on p text e (inl stopped) h = absurd (let g : ◌≡◌ {A = Bool} true false = sym stopped ∙ ap (λ (k : Progress). k.stopped) e in cc)
 going_on p text e (inr going) h = going (subst HasEnded (sym (ap (λ (k : Progress). k.fed) e)) h)

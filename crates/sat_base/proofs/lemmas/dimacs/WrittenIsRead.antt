@@ -1,4 +1,4 @@
--- What is written as DIMACS CNF is read again.
+-- A formula that is written as DIMACS CNF is read back.
 use Rattle.std.proofs.Common.{◌≡◌, ℕ, ◌+◌, ◌*◌, ◌-◌, ◌/◌, ◌%◌, ◌^◌, ◌<◌, ◌≤◌, List, [], ◌∷◌, ◌++◌, length, Bool, true, false, cond, Some, None, decimal, codes, refl, sym, ap, ap₂, ◌∙◌, append_assoc, arith}
 use Rattle.std.specs.Prelude.{nat_eq, nat_lt, not, ◌&&◌}
 use Rattle.std.specs.List.{AllByRecursion}
@@ -40,7 +40,7 @@ some_then : (ds : List ℕ) (d : ℕ) → ds ++ d ∷ [] ≡ [] → ⊥
 some_then [] d e = cc
 some_then (x ∷ ds) d e = cc
 
--- digits that say a number
+-- that these bytes are the digits of a number
 record Says (n : ℕ) (ds : List ℕ) : Type 0 where
   pub all : AreDigits ds
   pub value : digits 0 ds ≡ Some n
@@ -125,7 +125,7 @@ lines_nil : lines [] ≡ []
 unfolding lines
 lines_nil = refl
 
--- what stands on the first line goes onto it
+-- bytes without LF are added to the start of the first line
 lines_front : (w bs line : List ℕ) (more : List (List ℕ)) → OnLine w → lines bs ≡ line ∷ more → lines (w ++ bs) ≡ (w ++ line) ∷ more
 lines_front [] bs line more o e = e
 lines_front (b ∷ w) bs line more o e = lines_other b (w ++ bs) o.0 ∙ ap (onto_first b) (lines_front w bs line more o.1 e)
@@ -227,7 +227,7 @@ pub clauses_cons : (hand : Hand) (last : ℕ) (t : ℕ × Token) (ts : List (ℕ
 unfolding clauses_of
 clauses_cons hand last t ts = refl
 
--- a clause before what more says
+-- the clauses and the ending of `more`, with one clause before them
 abbrev ended : List ℕ → Dimacs → Dimacs
 ended clause more = record { clauses = clause ∷ more.clauses; ending = more.ending }
 

@@ -1,4 +1,4 @@
--- Names that are introduced are in use, and so are those of right models and cores.
+-- Names that are introduced are in use, and so are those of correct models and cores.
 use Rattle.std.proofs.Common.{ℕ, zero, suc, ◌+◌, ◌-◌, ◌≤◌, ◌<◌, ◌≡◌, ◌∙◌, Bool, true, false, cond, eqb, ltb, Option, Some, None, is_some, unwrap_or, List, [], ◌∷◌, map, refl, sym, ap, subst, arith}
 use Rattle.std.proofs.lemmas.Bool.{eqb-false, eq-eqb, ltb-false}
 use Rattle.std.specs.List.{AllByRecursion}

@@ -1,4 +1,4 @@
--- A line that lists the names in use, each once and increasing.
+-- An increasing list of exactly the names in use is the list that the state has.
 use Rattle.std.proofs.Common.{ℕ, ◌≡◌, ◌∙◌, ◌<◌, ◌⊎◌, Bool, true, false, cond, eqb, Some, List, [], ◌∷◌, map, refl, sym, ap, arith, inl, inr}
 use Rattle.std.proofs.lemmas.Bool.{eqb-true, eqb-false}
 use Rattle.std.specs.List.{AllByRecursion}

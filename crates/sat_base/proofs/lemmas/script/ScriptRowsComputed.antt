@@ -1,4 +1,4 @@
--- The worked rows, computed.
+-- The example texts have the stated meaning, by computation.
 use Rattle.std.proofs.Common.{refl}
 use Rattle.sat_base.specs.text.Text.{lines, words, begins_with, tokens_of, digits, token, scan}
 use Rattle.sat_base.specs.script.Language.{commands_of, written, reading}

@@ -1,4 +1,4 @@
--- A text reads as commands and an end exactly if its tokens spell them.
+-- A text means these commands and this ending exactly when its tokens spell them.
 use Rattle.std.proofs.Common.{◌≡◌, ℕ, ◌<◌, List, [], ◌∷◌, ◌++◌, Bool, true, false, map, refl, sym, ap, ◌∙◌, append_assoc, subst, arith, inl, inr}
 use Rattle.std.specs.Prelude.{nat_eq, not, ◌↔◌, Option, Some, None, is_some, drop}
 use Rattle.std.proofs.lemmas.List.{append-nil}
@@ -17,7 +17,7 @@ pub commands_of_cons : (h : CommandHand) (t : Token) (ts : List Token) → comma
 unfolding commands_of
 commands_of_cons h t ts = refl
 
--- a command of these literals so far
+-- the unfinished command of this kind with these literals so far
 abbrev hand_of : Kind → List Literal → CommandHand
 hand_of OfClause [] = Nothing
 hand_of OfClause (l ∷ ls) = Within OfClause (l ∷ ls)
@@ -44,7 +44,7 @@ turn_zero : (h : CommandHand) (t : Token) → IsZero t → command_turn h t ≡ 
 turn_zero h (Number negative value) z = rw z refl
 turn_zero h e z = absurd z
 
--- SPELLED, AND SO READ
+-- SPELLED COMMANDS ARE READ
 reads_zero : (h : CommandHand) (t : Token) (ts : List Token) → IsZero t → commands_of h (t ∷ ts) ≡ onto_commands (command_in h ∷ []) (commands_of Nothing ts)
 reads_zero h t ts z = commands_of_cons h t ts ∙ ap (λ (k : CommandTurn). after_command_turn k (λ k. commands_of k ts)) (turn_zero h t z)
 
@@ -81,8 +81,8 @@ reads_spelled (c ∷ cs) front ts s =
     ∙ reads_command c s.0 (s.1 ++ ts) s.2
     ∙ ap (onto_commands (c ∷ [])) (reads_spelled cs s.1 ts s.3)
 
--- READ, AND SO SPELLED
--- the first command, after what is in hand
+-- COMMANDS THAT ARE READ ARE SPELLED
+-- that the tokens finish the unfinished command, and the rest is read as the other commands
 pub record Firstly (k : Kind) (done : List Literal) (c : Command) (cs : List Command) (end : ScriptEnding) (ts : List Token) : Type 0 where
   pub literals : List Literal
   pub last : Token
@@ -116,7 +116,7 @@ same_head b c bs cs e = cc
 same_tail : (b c : Command) (bs cs : List Command) → ◌≡◌ {A = List Command} (b ∷ bs) (c ∷ cs) → bs ≡ cs
 same_tail b c bs cs e = cc
 
--- after a zero
+-- the next token is a zero
 zero_first : (h : CommandHand) (t : Token) (ts : List Token) (cs : List Command) (end : ScriptEnding) → IsZero t → commands_of Nothing ts ≡ (cs, end) → From h (command_in h) cs end (t ∷ ts)
 zero_first Nothing t ts cs end z e = record {
   front = t ∷ [];
@@ -143,7 +143,7 @@ same_number : (negative : Bool) (value : ℕ) → Number negative value ≡ numb
 same_number true value = refl
 same_number false value = refl
 
--- after a literal
+-- the next token is a literal
 clause_first : (t : Token) (l : Literal) (ts : List Token) (c : Command) (cs : List Command) (end : ScriptEnding) → t ≡ number_of l → 0 < l.name → Firstly OfClause (l ∷ []) c cs end ts → First c cs end (t ∷ ts)
 clause_first t l ts c cs end e n s = record {
   front = map number_of (l ∷ s.literals) ++ s.last ∷ [];
@@ -185,7 +185,7 @@ number_left h negative value ts c cs end false z ih f =
     let some : 0 < value = grind (arith, nat_tests) in
     literal_left h (Number negative value) (record { name = value; positive = not negative }) ts c cs end (same_number negative value) some ih (rw z at f)
 
--- after a letter
+-- the next token is a letter
 begun : (k : Kind) (b : ℕ) (ts : List Token) (c : Command) (cs : List Command) (end : ScriptEnding) → Letter b ∷ [] ≡ letter_of k → Firstly k [] c cs end ts → First c cs end (Letter b ∷ ts)
 begun k b ts c cs end e s = record {
   front = letter_of k ++ (map number_of s.literals ++ s.last ∷ []);
@@ -220,12 +220,12 @@ all_first : (ts : List Token) → AreWords ts → AllFirst ts
 all_first [] w h c cs end e = none_read (command_at_end h) end c cs (sym (commands_of_nil h) ∙ e)
 all_first (t ∷ ts) w h c cs end e = token_left h t ts c cs end w.0 (all_first ts w.1) (sym (commands_of_cons h t ts) ∙ e)
 
--- words after words are words
+-- the end of a list of words is a list of words
 words_after : (front rest : List Token) → AreWords (front ++ rest) → AreWords rest
 words_after [] rest w = w
 words_after (t ∷ front) rest w = words_after front rest w.1
 
--- all commands that are read
+-- that a prefix of the tokens spells the commands, and no command is read from the rest
 pub record Spelled (cs : List Command) (end : ScriptEnding) (ts : List Token) : Type 0 where
   pub front : List Token
   pub rest : List Token
@@ -249,11 +249,11 @@ all_spelled (c ∷ cs) end ts w e =
       words = s.words;
     }
 
--- WHERE NONE IS LEFT
+-- NO COMMAND IS LEFT
 clean_or_malformed : {A : Type 0} (cs ds : List Command) → ◌≡◌ {A = Reading} (cs, Clean) (ds, Malformed) → A
 clean_or_malformed cs ds e = let f : Clean ≡ Malformed = ap (λ (r : Reading). r.1) e in absurd (cc)
 
--- a first token leaves something to read, or a wrong end
+-- that only the empty list of tokens, without an unfinished command, is read as no command and a clean ending
 abbrev NoneClean : CommandHand → List Token → Type 0
 NoneClean h ts = commands_of h ts ≡ ([], Clean) → (h ≡ Nothing) × (ts ≡ [])
 
@@ -302,7 +302,7 @@ none_left : (ts : List Token) → AreWords ts → (h : CommandHand) → NoneClea
 none_left [] w h e = none_nil h (sym (commands_of_nil h) ∙ e)
 none_left (t ∷ ts) w h e = absurd (none_token h t ts w.0 (none_left ts w.1) (sym (commands_of_cons h t ts) ∙ e))
 
--- BOTH ENDS
+-- CLEAN AND MALFORMED ENDINGS
 onto_is : (c : Command) (r : Reading) (end : ScriptEnding) {A : Type 0} → ◌≡◌ {A = Reading} ([], end) (onto_commands (c ∷ []) r) → A
 onto_is c r end e = onto_some c r end (sym e)
 

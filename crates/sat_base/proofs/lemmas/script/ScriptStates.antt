@@ -1,4 +1,4 @@
--- What every script keeps of the judge's state.
+-- Every script preserves the invariant of the judge's state.
 use Rattle.std.proofs.Common.{ℕ, zero, suc, ◌+◌, ◌-◌, ◌≤◌, ◌<◌, ◌≡◌, ◌↔◌, Bool, true, false, not, ◌||◌, cond, eqb, ltb, lt-ltb, max, List, [], ◌∷◌, map, filter, Option, Some, None, is_some, refl, sym, ◌∙◌, ap, subst, arith, length-append, unwrap_or}
 use Rattle.std.proofs.Math.ListN.{length-set}
 use Rattle.std.proofs.lemmas.Bool.{ltb-true, ltb-false, eqb-false, ne_eqb}
@@ -104,7 +104,7 @@ set_all_kept : (mode : NameMode) (names : List ℕ) (j : ScriptState) → Within
 set_all_kept mode [] j w h = h
 set_all_kept mode (n ∷ ns) j w h = set_all_kept mode ns (with_mode mode n (bring_in n j)) w.1 (mode_kept mode n (bring_in n j) (bring_kept n j w.0 h))
 
--- what isn't refused is within the limit
+-- names that are not refused are within the limit
 within_literals : (names : List ℕ) (j : ScriptState) → refused_literal j names ≡ None → Within names
 within_literals [] j e = tt
 within_literals (n ∷ ns) j e = go (ltb var_limit n) refl (has_witness j (identity_of j n)) e (within_literals ns j)
@@ -122,7 +122,7 @@ within_names (n ∷ ns) j e = go (ltb var_limit n) refl e (within_names ns j)
     go true x f ih = absurd (cc)
     go false x f ih = (ltb-false var_limit n x, ih f)
 
--- a name in use has an identity that was given out
+-- if all identities are below a bound, so is that of a name in use
 pub given_at : (ns : List Named) (name i bound : ℕ) → AllByRecursion (λ n. n.identity < bound) ns → identity_in ns name ≡ Some i → i < bound
 given_at [] name i bound h e = absurd (cc)
 given_at (n ∷ ns) name i bound h e = go (eqb n.name name) e (given_at ns name i bound h.1)
@@ -131,7 +131,7 @@ given_at (n ∷ ns) name i bound h e = go (eqb n.name name) e (given_at ns name 
     go true f ih = let x : n.identity ≡ i = cc in subst (λ y. y < bound) x h.0
     go false f ih = ih f
 
--- identities are given out, never taken back
+-- introducing names never lowers the number of identities
 grows : (names : List ℕ) (j : ScriptState) → j.identity_count ≤ (with_names names j).identity_count
 grows [] j = omega arith
 grows (n ∷ ns) j = let r = grows ns (with_name n j) in omega arith
@@ -140,7 +140,7 @@ grows_all : (names : List ℕ) (j : ScriptState) → j.identity_count ≤ (bring
 grows_all [] j = omega arith
 grows_all (n ∷ ns) j = let r = grows_all ns (bring_in n j) in let q = grows (new_names n j) j in omega arith
 
--- a name that came in has one
+-- after a name is introduced, there is at least one identity
 some_given : (name : ℕ) (j : ScriptState) → ScriptStateInvariant j → 0 < (bring_in name j).identity_count
 some_given name j h = go (ltb name j.first_unused) refl (identity_of j name) refl
   where
@@ -198,7 +198,7 @@ start_kept = record { limit = omega arith; order = tt; used = tt; given = tt; mo
 pub judge_kept : ScriptStateInvariantHolds
 judge_kept commands = script_kept commands start start_kept
 
--- a valuation that is false from some variable on says the same below it
+-- making a valuation false from variable n on does not change literals below n
 same_below : (n : ℕ) (a : Valuation) (l : ℕ) → variable l < n → literal_true (only_below n a) l ≡ literal_true a l
 same_below n a l h = let e : ltb (variable l) n ≡ true = lt-ltb (variable l) n h in rw e refl
 

@@ -1,4 +1,4 @@
--- Readers of formats that are made of others.
+-- Readers of formats that are composed of others.
 use Rattle.std.proofs.Common.{◌≡◌, ℕ, suc, List, [], ◌∷◌, ◌++◌, length, Result, Ok, Err, append_assoc, refl, sym, ap, subst}
 use Rattle.std.proofs.lemmas.List.{append-nil}
 use Rattle.sat_base.specs.declared.steps.error.StepError.{StepError}
@@ -33,7 +33,7 @@ second_gives F G one x a old mid new f p (Err errors.OutOfMemory) r = (a ++ r.0,
 second_gives F G one x a old mid new f p (Err errors.Ends) r = absurd r
 second_gives F G one x a old mid new f p (Err errors.HasFailed) r = absurd r
 
--- a reader of a format is one of another whose texts are the same, under values that are made of the first's
+-- reading in one format is reading in another, if both have the same texts and `f` maps the values
 pub reads_as : {A B : Type 0} (H : Format A) (K : Format B) (f : A → B) → ((x : A) (t : List ℕ) → H x t → K (f x) t) → ((y : B) (t : List ℕ) → K y t → (x : A) × H x t) → (r : Result A StepError) (old new : Source) → ReadsValue H r old new → ReadsValue K (valued f r) old new
 reads_as H K f to back (Ok x) old new r = (r.0, r.1, to x r.0 r.2)
 reads_as H K f to back (Err errors.Cut) old new r = (r.0, r.1, (f r.2.0, r.2.1, r.2.2, to r.2.0 (r.0 ++ r.2.1 ∷ r.2.2) r.2.3))
@@ -61,7 +61,7 @@ item_read {A} F one n x old mid new i r h =
     subst (λ (z : Result (List A) StepError). ReadsValue (Times F (suc n)) z old new) (consed x r)
     (reads_as (Then F (λ _. Times F n)) (Times F (suc n)) (λ y. y.0 ∷ y.1) (to_items F n) (from_items F n) (valued (λ y. (x, y)) r) old new (second_gives F (λ _. Times F n) one x i.0 old mid new i.2 i.1 r h))
 
--- A LOOP OVER A COUNT: whatever is read of the rest, after what is read already, is read of all
+-- A LOOP OVER A COUNT: reading the remaining items, after those read so far, reads all of them
 pub record Counted {A : Type 0} (F : Format A) (count left : ℕ) (xs : List A) (old mid : Source) : Type 0 where
   pub rests : (r : Result (List A) StepError) (new : Source) → ReadsValue (Times F left) r mid new → ReadsValue (Times F count) (with_front xs r) old new
 
@@ -86,7 +86,7 @@ counted_more {A} F one count left more xs x old mid later e i c = record {
 pub counted_fails : {A : Type 0} (F : Format A) → IsUniquelyDecodable F → HasText F → (count left more : ℕ) (xs : List A) (old mid new : Source) (e : StepError) → left ≡ suc more → ReadsValue F (Err e) mid new → Counted F count left xs old mid → ReadsValue (Times F count) (Err e) old new
 counted_fails F one some count left more xs old mid new e is i c = c.rests (Err e) new (subst (λ (n : ℕ). ReadsValue (Times F n) (Err e) mid new) (sym is) (item_fails F one some more e mid new i))
 
--- an item that was read, and then no room for it: some text has it there, and so many more after it
+-- an item was read, and memory ran out before it was stored
 pub counted_no_room : {A : Type 0} (F : Format A) → IsUniquelyDecodable F → HasText F → (count left more : ℕ) (xs : List A) (x : A) (old mid new : Source) → left ≡ suc more → ReadsValue F (Ok x) mid new → Counted F count left xs old mid → ReadsValue (Times F count) (Err errors.OutOfMemory) old new
 counted_no_room F one some count left more xs x old mid new is i c = (counted_more F one count left more xs x old mid new is i c).rests (Err errors.OutOfMemory) new ([], passes_none new, Times_text F some more)
 
@@ -94,7 +94,7 @@ pub counted_all : {A : Type 0} (F : Format A) (count left : ℕ) (xs : List A) (
 counted_all {A} F count left xs old mid e c =
     subst (λ (zs : List A). ReadsValue (Times F count) (Ok zs) old mid) (append-nil xs) (c.rests (Ok []) mid (subst (λ (n : ℕ). ReadsValue (Times F n) (Ok []) mid mid) (sym e) ([], passes_none mid, (refl, refl))))
 
--- A LIST: a count, and then so many items
+-- A LIST: a count, and then this number of items
 to_list : {A : Type 0} (C : Format ℕ) (F : Format A) (x : ℕ × List A) (t : List ℕ) → Then C (Times F) x t → ListOf C F x.1 t
 to_list C F x t h = (h.0, h.1, subst (λ (n : ℕ). C n h.0) (sym h.3.0) h.2, h.3.1, h.4)
 
@@ -117,7 +117,7 @@ list_gives {A} C F one n old mid new c r h =
     subst (λ (z : Result (List A) StepError). ReadsValue (ListOf C F) z old new) (twice n r)
     (reads_as (Then C (Times F)) (ListOf C F) second (to_list C F) (from_list C F) (valued (λ y. (n, y)) r) old new (second_gives C (Times F) one n c.0 old mid new c.2 c.1 r h))
 
--- a second value that was put elsewhere
+-- a pair whose second value is stored elsewhere
 pub pair_giving : {A B : Type 0} (x : A) (y : B) (r : Result (Unit {0}) StepError) → valued {A = B} {B = A × B} (λ z. (x, z)) (giving y r) ≡ giving {A = A × B} (x, y) r
 pair_giving x y (Ok u) = refl
 pair_giving x y (Err e) = refl
@@ -126,7 +126,7 @@ pub pair_valued : {A B C : Type 0} (x : A) (f : B → C) (r : Result B StepError
 pair_valued x f (Ok z) = refl
 pair_valued x f (Err e) = refl
 
--- an error of a part, at a tag that a test has told
+-- an error in the fields after a tag that was compared with `t`
 pub stops_at : {X B : Type 0} (F : ℕ → Format B) (t tag : ℕ) (f : X → B) (r : Result X StepError) (d e : StepError) (old new : Source) → r ≡ Err d → d ≡ e → tag ≡ t → ReadsValue (F t) (Err e) old new → ReadsValue (F tag) (valued f r) old new
 stops_at {X} {B} F t tag f r d e old new p q k h =
     subst (λ (z : Result X StepError). ReadsValue (F tag) (valued f z) old new) (sym p)

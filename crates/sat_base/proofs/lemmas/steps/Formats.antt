@@ -1,4 +1,4 @@
--- Formats that are made of others: which bytes begin a text, and after which none can follow.
+-- Formats that are composed of others: which bytes begin a text, and with which byte no text continues.
 use Rattle.std.proofs.Common.{◌≡◌, ℕ, zero, suc, List, [], ◌∷◌, ◌++◌, length, length-append, ◌⊎◌, inl, inr, append_assoc, refl, sym, ap, subst, ◌∙◌, arith}
 use Rattle.std.proofs.lemmas.List.{append-nil}
 use Rattle.sat_base.specs.steps.Formats.{Format, BeginsText, IsProperFront, Then, Times, IsUniquelyDecodable}
@@ -11,7 +11,7 @@ pub cancel : (a : List ℕ) (s t : List ℕ) → a ++ s ≡ a ++ t → s ≡ t
 cancel [] s t e = e
 cancel (x ∷ a) s t e = cancel a s t (cc)
 
--- one of two fronts of one text goes on as the other
+-- of two prefixes of one text, one is a prefix of the other
 meet : (a s c t : List ℕ) → a ++ s ≡ c ++ t → ((d : List ℕ) × (c ≡ a ++ d)) ⊎ ((b : ℕ) × (d : List ℕ) × (a ≡ c ++ b ∷ d))
 meet [] s c t e = inl (c, refl)
 meet (x ∷ a) s [] t e = inr (x, a, refl)
@@ -22,7 +22,7 @@ meet (x ∷ a) s (y ∷ c) t e =
       | inr k ↦ inr (k.0, k.1, ap (λ (z : List ℕ). x ∷ z) k.2 ∙ ap (λ (z : ℕ). z ∷ c ++ k.0 ∷ k.1) h)
     ]
 
--- a text can't end within a live front
+-- a proper prefix of a text does not begin with a complete text
 short : {A : Type 0} (F : Format A) → IsUniquelyDecodable F → (front : List ℕ) (b : ℕ) (x : A) (a : List ℕ) → IsProperFront F front → F x a → (c : ℕ) (d : List ℕ) → front ++ b ∷ [] ≡ a ++ c ∷ d → ⊥
 short F one front b x a l f c d e =
     let size = sym (length-append front (b ∷ [])) ∙ ap length e ∙ length-append a (c ∷ d) in
@@ -36,7 +36,7 @@ short F one front b x a l f c d e =
           omega arith
     ]
 
--- a text that agrees with a live front and the next byte begins with both
+-- a text that agrees with a proper prefix and the next byte begins with both
 past : {A : Type 0} (F : Format A) → IsUniquelyDecodable F → (front : List ℕ) (b : ℕ) (x : A) (a s more : List ℕ) → IsProperFront F front → F x a → (front ++ b ∷ []) ++ more ≡ a ++ s → BeginsText F (front ++ b ∷ [])
 past F one front b x a s more l f e =
     elim (meet (front ++ b ∷ []) more a s e) [

@@ -1,10 +1,10 @@
--- Bytes that no text begins: they end within one, or have a byte after which none can follow.
+-- Bytes that begin with no complete text: they end too early, or have a byte with which no text continues.
 use Rattle.std.proofs.Common.{◌≡◌, ℕ, List, [], ◌∷◌, ◌++◌, length, length-append, append_assoc, sym, ap, ◌∙◌, arith}
 use Rattle.std.proofs.lemmas.List.{append-nil}
 use Rattle.sat_base.specs.steps.Formats.{Format, BeginsText, IsProperFront, IsUniquelyDecodable}
 use Rattle.sat_base.proofs.lemmas.steps.Formats.{shut_first}
 
--- no value's text begins the bytes
+-- that the bytes begin with no complete text
 abbrev BeginsNo : {A : Type 0} → Format A → List ℕ → Type 0
 BeginsNo {A} F bytes = (x : A) (text rest : List ℕ) → bytes ≡ text ++ rest → F x text → ⊥
 

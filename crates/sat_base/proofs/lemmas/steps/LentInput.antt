@@ -41,7 +41,7 @@ name_first a b c d e = cc
 name_second : (a b c d : ℕ) → ◌≡◌ {A = List ℕ} (a ∷ b ∷ []) (c ∷ d ∷ []) → d ≡ b
 name_second a b c d e = cc
 
--- what a loan of both was answered, told of what they are before and after it
+-- the result of a read through the loans, stated for the reader and the buffered bytes themselves
 pub lent_answers : {R : Type 0} (seen : R → Reader) (r s : R) (a b : Ahead) (first last : Input R) (r_name a_name : ℕ) (answer : Result Step StepError)
     → first.reader.ghost_name ≡ r_name → first.ahead.ghost_name ≡ a_name → first.reader.now ≡ r → first.ahead.now ≡ a
     → (r_name ≡ last.reader.ghost_name → s ≡ last.reader.now) → (a_name ≡ last.ahead.ghost_name → b ≡ last.ahead.now)

@@ -29,7 +29,7 @@ next_pair ps i x d h e =
 pub last_pair : (ps : List (ℕ × ℕ)) (i : ℕ) → length ps ≤ i → pairs_bytes (drop i ps) ≡ []
 last_pair ps i h = ap pairs_bytes (drop_all i ps h)
 
--- WHAT THEY SPELL
+-- WHAT THE BYTES SPELL
 
 items_of : (limit : ℕ) (ns : List ℕ) → limit ≤ 2 ^ 64 → ((k : ℕ) → k < length ns → get_or ns k 0 < limit) → Items (IsBelow limit) ns (numbers_bytes ns)
 items_of limit [] h f = refl
@@ -53,7 +53,7 @@ pub step_writes : {E : Type 0} (step : Step) (tag : ℕ) (a b c : Sink) (r : Res
 step_writes step tag a b c (Ok u) e p w = (subst (λ (n : ℕ). AddsToSink a c (n ∷ fields_bytes step)) e (sent_more a b c (tag ∷ []) (fields_bytes step) p w.0), (fields_bytes step, refl, w.1))
 step_writes step tag a b c (Err x) e p w = subst (λ (n : ℕ). SinkFails a c (n ∷ fields_bytes step)) e (sends_breaks a b c (tag ∷ []) (fields_bytes step) p w)
 
--- VALUES OF FEW KINDS
+-- FLAGS, DELETION PROOFS, OPTIONAL VARIABLES AND UNITS
 pub flag_writes : {E : Type 0} (flag : Bool) (a b : Sink) (r : Result (Unit {0}) E) → flag ≡ true → SendsText (number_bytes 1) r a b → Writes IsFlag flag (flag_bytes flag) r a b
 flag_writes flag a b r e w = subst (λ (z : Bool). Writes IsFlag z (flag_bytes z) r a b) (sym e) (writes_as (IsBelow 2) IsFlag 1 true (number_bytes 1) a b r (λ h. h) (number_writes 2 1 1 a b r refl (omega arith) (omega arith) w))
 

@@ -17,18 +17,18 @@ small n h = grind (arith, common_steps)
 large : (n : ℕ) → 128 ≤ n → nat_lt n 128 ≡ false
 large n h = grind (arith, common_steps)
 
--- a last group
+-- a number below 128 has one group
 pub groups_last : (k n : ℕ) → n < 128 → groups k n ≡ n ∷ []
 unfolding groups
 groups_last zero n h = refl
 groups_last (suc k) n h = ap (λ (t : Bool). if t then n ∷ [] else (n % 128 + 128) ∷ groups k (n / 128)) (small n h)
 
--- one that goes on
+-- a larger number begins with a group of its low seven bits
 pub groups_on : (k n : ℕ) → 128 ≤ n → groups (suc k) n ≡ (n % 128 + 128) ∷ groups k (n / 128)
 unfolding groups
 groups_on k n h = ap (λ (t : Bool). if t then n ∷ [] else (n % 128 + 128) ∷ groups k (n / 128)) (large n h)
 
--- the groups of a number that are put, and the rest of it
+-- that the low groups of a number were sent, and `rest` is the number of the other groups
 pub record GroupsPut (number rest : ℕ) (old new : Sink) : Type 0 where
   pub done : List ℕ
   pub left : ℕ
@@ -60,7 +60,7 @@ groups_more number rest byte old mid new h e g w =
       fits = k.2;
     }
 
--- a failure at one that goes on
+-- a failure at a group that is not the last
 pub groups_break : (number rest byte : ℕ) (old mid new : Sink) → 128 ≤ rest → byte ≡ rest % 128 + 128 → GroupsPut number rest old mid → SinkFails mid new (byte ∷ []) → SinkFails old new (groups 9 number)
 groups_break number rest byte old mid new h e g w =
     let k = one_less g.left rest h g.fits in
@@ -68,14 +68,14 @@ groups_break number rest byte old mid new h e g w =
     let whole : g.done ++ (byte ∷ more) ≡ groups 9 number = ap (λ (b : ℕ). g.done ++ b ∷ more) e ∙ ap (λ (z : List ℕ). g.done ++ z) (sym (groups_on k.0 rest h)) ∙ ap (λ (j : ℕ). g.done ++ groups j rest) (sym k.1) ∙ g.whole in
     subst (λ (z : List ℕ). SinkFails old new z) whole (sends_breaks old mid new g.done (byte ∷ more) g.sent (sends_stops mid new (byte ∷ []) more w))
 
--- the last one
+-- the last group
 pub groups_end : {E : Type 0} (number rest : ℕ) (old mid new : Sink) (r : Result (Unit {0}) E) → rest < 128 → GroupsPut number rest old mid → SendsText (rest ∷ []) r mid new → SendsText (groups 9 number) r old new
 groups_end number rest old mid new r h g w =
     sends_same old new (g.done ++ rest ∷ []) (groups 9 number) r (ap (λ (z : List ℕ). g.done ++ z) (sym (groups_last g.left rest h)) ∙ g.whole) (sends_more old mid new g.done (rest ∷ []) r g.sent w)
 
--- THEY WAIT
+-- PENDING GROUPS
 
--- the groups of a number that wait after what waited before, and room for the rest of it
+-- that the low groups of a number are pending after `before`, and there is room for the groups of `rest`
 pub record GroupsWait (number rest : ℕ) (before now : List ℕ) (size : ℕ) : Type 0 where
   pub left : ℕ
   pub whole : now ++ groups left rest ≡ before ++ groups 9 number
@@ -103,7 +103,7 @@ wait_more number rest byte before now new size h e g w =
 pub wait_end : (number rest : ℕ) (before now new : List ℕ) (size : ℕ) → rest < 128 → GroupsWait number rest before now size → new ≡ now ++ rest ∷ [] → new ≡ before ++ groups 9 number
 wait_end number rest before now new size h g w = w ∙ ap (λ (z : List ℕ). now ++ z) (sym (groups_last g.left rest h)) ∙ g.whole
 
--- WHAT THEY SPELL
+-- WHAT THE GROUPS SPELL
 
 is_small : (n : ℕ) → nat_lt n 128 ≡ true → n < 128
 is_small n h = grind (arith, common_steps)
@@ -127,22 +127,22 @@ spells_groups (suc k) n h = by_size k n (nat_lt n 128) refl (λ g. spells_groups
 pub spells_number : (limit n : ℕ) → n < limit → limit ≤ 2 ^ 64 → IsBelow limit n (groups 9 n)
 spells_number limit n h k = (spells_groups 9 n (omega arith), h)
 
--- a number in its range, under another name
+-- writing a number below the limit
 pub number_writes : {E : Type 0} (limit m n : ℕ) (a b : Sink) (r : Result (Unit {0}) E) → m ≡ n → n < limit → limit ≤ 2 ^ 64 → SendsText (groups 9 m) r a b → Writes (IsBelow limit) n (groups 9 n) r a b
 number_writes limit m n a b (Ok u) e h k w = (subst (λ (j : ℕ). AddsToSink a b (groups 9 j)) e w, spells_number limit n h k)
 number_writes limit m n a b (Err x) e h k w = subst (λ (j : ℕ). SinkFails a b (groups 9 j)) e w
 
--- the same under another format
+-- a text in one format is a text in another, if it spells a value there
 pub writes_as : {A B E : Type 0} (F : Format A) (G : Format B) (x : A) (y : B) (text : List ℕ) (a b : Sink) (r : Result (Unit {0}) E) → (F x text → G y text) → Writes F x text r a b → Writes G y text r a b
 writes_as F G x y text a b (Ok u) f w = (w.0, f w.1)
 writes_as F G x y text a b (Err e) f w = w
 
--- one and then another
+-- writing one value and then another
 pub both_written : {A B E : Type 0} (F : Format A) (G : Format B) (x : A) (y : B) (s t : List ℕ) (a b c : Sink) (r : Result (Unit {0}) E) → AddsToSink a b s → F x s → Writes G y t r b c → Writes (Both F G) (x, y) (s ++ t) r a c
 both_written F G x y s t a b c (Ok u) p f w = (sent_more a b c s t p w.0, (s, t, f, w.1, refl))
 both_written F G x y s t a b c (Err e) p f w = sends_breaks a b c s t p w
 
--- what waits is written out after a value
+-- writing the pending bytes after a value
 pub writes_last : {A E : Type 0} (F : Format A) (x : A) (text : List ℕ) (a b c : Sink) (r : Result (Unit {0}) E) → AddsToSink a b text → F x text → SendsText [] r b c → Writes F x text r a c
 writes_last F x text a b c (Ok u) p f w = (sends_last {E = Unit {0}} a b c text (Ok u) p w, f)
 writes_last F x text a b c (Err e) p f w = sends_last a b c text (Err e) p w

@@ -1,11 +1,11 @@
--- Numbers, read from their low end.
+-- Numbers, read from the lowest group.
 use Rattle.std.proofs.Common.{◌≡◌, ℕ, ◌+◌, ◌*◌, ◌-◌, ◌<◌, ◌≤◌, List, [], ◌∷◌, ◌++◌, ◌⊎◌, inl, inr, append_assoc, refl, sym, ap, subst, ◌∙◌, arith}
 use Rattle.std.proofs.Math.Nat.{mul-le-mul_left}
 use Rattle.sat_base.specs.steps.Formats.{IsProperFront, BeginsText, IsUniquelyDecodable}
 use Rattle.sat_base.proofs.lemmas.steps.Formats.{HasText}
 use Rattle.sat_base.specs.steps.Numbers.{IsNumber, IsBelow}
 
--- Groups that go on: the front of a number stands for value, and what stands after it counts place times.
+-- Groups before the last: those in `front` have this value, and the number in the bytes after them has weight `place`.
 pub record Front (front : List ℕ) (value place : ℕ) : Type 0 where
   pub completes : (m : ℕ) (tail : List ℕ) → IsNumber m tail → (front ≡ []) ⊎ (0 < m) → IsNumber (value + place * m) (front ++ tail)
   pub only : (n : ℕ) (tail : List ℕ) → IsNumber n (front ++ tail) → (m : ℕ) × IsNumber m tail × (n ≡ value + place * m) × ((front ≡ []) ⊎ (0 < m))
@@ -25,7 +25,7 @@ zero_case : (front : List ℕ) (b m : ℕ) → (front ≡ [] → ⊥) → b ≡ 
 zero_case front b m n z e (inl h) = n h
 zero_case front b m n z e (inr h) = omega arith
 
--- a group that goes on
+-- a group that is not the last
 pub group : (b m : ℕ) (tail : List ℕ) → 128 ≤ b → b < 256 → 0 < m → IsNumber m tail → IsNumber (b - 128 + 128 * m) (b ∷ tail)
 group b m [] p q z h = absurd h
 group b m (c ∷ tail) p q z h = (p, q, m, z, omega arith, h)
@@ -49,16 +49,16 @@ front_more front value place b p q f = record {
       (j.0, j.1, k.2 ∙ ap (λ (x : ℕ). value + place * x) j.2 ∙ spread value place (b - 128) j.0, inr j.3);
 }
 
--- THE READER'S EXITS, after a front
+-- WHERE THE READER STOPS, after the groups in `front`
 pub live : (limit : ℕ) (front : List ℕ) (value place : ℕ) → Front front value place → value + place < limit → IsProperFront (IsBelow limit) front
 live limit front value place f h =
     (value + place * 1, 1, [], (f.completes 1 (1 ∷ []) (omega arith, refl) (inr (omega arith)), omega arith))
 
--- a last byte
+-- a last byte below the limit
 pub last_read : (limit : ℕ) (front : List ℕ) (value place b : ℕ) → Front front value place → b < 128 → (front ≡ []) ⊎ (0 < b) → value + place * b < limit → IsBelow limit (value + place * b) (front ++ b ∷ [])
 last_read limit front value place b f p z h = (f.completes b (b ∷ []) (p, refl) z, h)
 
--- a byte below 128 has nothing after it
+-- a byte below 128 is the last
 alone : (b m : ℕ) (tail : List ℕ) → b < 128 → IsNumber m (b ∷ tail) → m ≡ b
 alone b m [] p h = h.1
 alone b m (c ∷ tail) p h = absurd (omega (arith, h.0))
@@ -68,15 +68,15 @@ shut_by limit front value place b f g o =
     let k = f.only o.0 (b ∷ o.1) (subst (IsNumber o.0) (append_assoc front (b ∷ []) o.1) o.2.0) in
     g k.0 o.1 k.1 k.3 (subst (λ (n : ℕ). n < limit) k.2 o.2.1)
 
--- a last group of 0 after another
+-- no number ends with a group of 0 after another group
 pub shut_zero : (limit : ℕ) (front : List ℕ) (value place b : ℕ) → Front front value place → (front ≡ [] → ⊥) → b ≡ 0 → BeginsText (IsBelow limit) (front ++ b ∷ []) → ⊥
 shut_zero limit front value place b f n z = shut_by limit front value place b f (λ m tail h k l. zero_case front b m n z (alone b m tail (omega arith) h) k)
 
--- a last group that makes the number too large
+-- no text continues with a last group that makes the number too large
 pub shut_large : (limit : ℕ) (front : List ℕ) (value place b : ℕ) → Front front value place → b < 128 → limit ≤ value + place * b → BeginsText (IsBelow limit) (front ++ b ∷ []) → ⊥
 shut_large limit front value place b f p h = shut_by limit front value place b f (λ m tail g k l. let e = alone b m tail p g in let d : value + place * m ≡ value + place * b = ap (λ (x : ℕ). value + place * x) e in omega arith)
 
--- a group that goes on, after which each number is too large
+-- no text continues with a group after which every number is too large
 pub shut_on : (limit : ℕ) (front : List ℕ) (value place b : ℕ) → Front front value place → 128 ≤ b → limit ≤ (value + place * (b - 128)) + place * 128 → BeginsText (IsBelow limit) (front ++ b ∷ []) → ⊥
 shut_on limit front value place b f p h =
     shut_by limit front value place b f (λ m tail g k l. let j = ungroup b m tail p g in
@@ -84,7 +84,7 @@ shut_on limit front value place b f p h =
     let d : (place * 128) * 1 ≤ (place * 128) * j.0 = mul-le-mul_left (place * 128) j.3 in
     omega arith)
 
--- each number has one form, and none begins another
+-- every number has one form, and no form is a prefix of another
 pub one_number : IsUniquelyDecodable IsNumber
 one_number m n [] b s t h k e = absurd h
 one_number m n (x ∷ a) [] s t h k e = absurd k

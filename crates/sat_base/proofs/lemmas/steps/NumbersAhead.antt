@@ -1,4 +1,4 @@
--- Numbers that stand whole among the bytes that wait.
+-- Numbers whose bytes are all buffered.
 use Rattle.std.proofs.Common.{◌≡◌, ℕ, zero, suc, ◌+◌, ◌*◌, ◌-◌, ◌<◌, ◌≤◌, List, [], ◌∷◌, ◌++◌, ◌⊎◌, inl, inr, Option, Some, None, append_assoc, refl, sym, ap, subst, ◌∙◌, arith}
 use Rattle.std.proofs.Math.Nat.{mul-le-mul_left}
 use Rattle.sat_base.specs.declared.device.ahead.Ahead.{Ahead}
@@ -6,7 +6,7 @@ use Rattle.sat_base.specs.device.TakenAhead.{IsEncodedBetween, from}
 use Rattle.sat_base.specs.steps.Numbers.{IsBelow}
 use Rattle.sat_base.proofs.lemmas.steps.Numbers.{Front, front_none, front_more, last_read}
 
--- Groups that go on were looked at: they stand for value, and what stands after them counts place times.
+-- that the groups between `whole` and `rest` have this value, and the number in `rest` has weight `place`
 pub record LookedAt (value place : ℕ) (whole rest : List ℕ) : Type 0 where
   pub front : List ℕ
   pub is : Front front value place
@@ -17,7 +17,7 @@ pub record LookedAt (value place : ℕ) (whole rest : List ℕ) : Type 0 where
 pub looked_at_none : (whole : List ℕ) → LookedAt 0 1 whole whole
 looked_at_none whole = record { front = []; is = front_none; split = refl; small = omega arith; begun = inl refl }
 
--- what a group adds stays below what the next one counts
+-- the value stays below the weight of the next group
 pub group_small : (value place b : ℕ) → value < place → b < 128 → value + place * b < place * 128
 group_small value place b s p = let m : place * b ≤ place * 127 = mul-le-mul_left place (omega arith) in omega (arith, m, s)
 
@@ -42,13 +42,13 @@ last_begins front place b (inl e) h = inl e
 last_begins front place b (inr p) (inl h) = inr h
 last_begins front place b (inr p) (inr h) = absurd (omega (arith, p, h))
 
--- a last group, which is 0 only where it is the only one
+-- a last group, which is 0 only if it is the only one
 pub looked_at_last : (limit value place b : ℕ) (whole rest more : List ℕ) → LookedAt value place whole rest → rest ≡ b ∷ more → b < 128 → (0 < b) ⊎ (place ≤ 1) → value + place * b < limit
     → (text : List ℕ) × IsBelow limit (value + place * b) text × (whole ≡ text ++ more)
 looked_at_last limit value place b whole rest more l e p z h =
     (l.front ++ b ∷ [], last_read limit l.front value place b l.is p (last_begins l.front place b l.begun z) h, split_more whole l.front rest more b l.split e)
 
--- the number that was read, and the place after it
+-- the number that was read and the index after it, or two zeros
 abbrev or_zeros : Option (ℕ × ℕ) → ℕ × ℕ
 or_zeros (Some p) = p
 or_zeros None = (0, 0)
@@ -59,13 +59,13 @@ stands_between limit m n at after following a e s =
     let g : after ≡ following = ap (λ (p : Option (ℕ × ℕ)). (or_zeros p).1) e in
     subst (λ (k : ℕ). IsEncodedBetween limit k at following a) f (subst (λ (k : ℕ). IsEncodedBetween limit m at k a) g s)
 
--- a last group after those that were looked at
+-- a last group completes the number between two indices
 pub stands_last : (limit value place b n at next following : ℕ) (a : Ahead) (rest : List ℕ) → LookedAt value place (from at a) rest → rest ≡ b ∷ from next a → b < 128 → (0 < b) ⊎ (place ≤ 1) → value + place * b ≡ n → n < limit → next ≡ following
     → IsEncodedBetween limit n at following a
 stands_last limit value place b n at next following a rest l e p z v h w =
     subst (λ (k : ℕ). IsEncodedBetween limit k at following a) v (subst (λ (k : ℕ). IsEncodedBetween limit (value + place * b) at k a) w (looked_at_last limit value place b (from at a) rest (from next a) l e p z (omega (arith, v, h))))
 
--- a group that goes on, and what stands after it
+-- a group that is not the last
 pub looked_on : (value place b at next after : ℕ) (a : Ahead) (rest : List ℕ) → LookedAt value place (from at a) rest → rest ≡ b ∷ from next a → 128 ≤ b → b < 256 → next ≡ after
     → LookedAt (value + place * (b - 128)) (place * 128) (from at a) (from after a)
 looked_on value place b at next after a rest l e p q w =

@@ -15,7 +15,7 @@ less p n f = omega arith
 fits_less : (k n : ℕ) → n < 128 ^ (suc k + 1) → n / 128 < 128 ^ (k + 1)
 fits_less k n f = let e : suc k + 1 ≡ suc (k + 1) = omega arith in let g : n < 128 * 128 ^ (k + 1) = subst (λ (z : ℕ). n < z) (ap (λ (j : ℕ). 128 ^ j) e ∙ pow-succ' 128 (k + 1)) f in less (128 ^ (k + 1)) n g
 
--- a number's groups, of which at most so many go on
+-- a number with at most k groups before the last has one spelling
 number_is : (k n : ℕ) (text : List ℕ) → n < 128 ^ (k + 1) → IsNumber n text → text ≡ groups k n
 number_is k n [] f h = absurd h
 number_is k n (b ∷ []) f h = ap (λ (x : ℕ). x ∷ []) (sym h.1) ∙ sym (groups_last k n (omega (arith, h.0, h.1)))

@@ -4,7 +4,7 @@ use Rattle.std.specs.Prelude.{length}
 use Rattle.std.proofs.lemmas.List.{length-append}
 use Rattle.sat_base.specs.steps.StepBytes.{groups}
 
--- what a call would return that can't fail
+-- the result of a call that can't fail
 abbrev pub pushed : Result (Unit {0}) (Unit {0})
 pushed = Ok tt
 

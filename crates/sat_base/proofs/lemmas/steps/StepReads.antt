@@ -15,7 +15,7 @@ use Rattle.sat_base.proofs.lemmas.device.ReadLemmas.{passes_more, faults_later}
 use Rattle.sat_base.proofs.lemmas.steps.FormatReads.{reads_as}
 use Rattle.sat_base.proofs.lemmas.steps.TagForms.{form_one, solver_form, user_form, variable_form, mode_form, clause_form, at_form, units_form, deletion_form, width_form, model_form, assumptions_form, failed_form}
 
--- ONE FORM
+-- UNIQUE DECODING
 pub one_items : {A : Type 0} (F : Format A) → IsUniquelyDecodable F → (xs ys : List A) (a b s t : List ℕ) → Items F xs a → Items F ys b → length xs ≡ length ys → a ++ s ≡ b ++ t → (a ≡ b) × (xs ≡ ys)
 one_items F one [] [] a b s t h k n e = (h ∙ sym k, refl)
 one_items F one [] (y ∷ ys) a b s t h k n e = absurd (omega arith)
@@ -62,7 +62,7 @@ one_flag false true a b s t h k e = let p = one_below 2 0 1 a b s t h k e in abs
 one_flag true false a b s t h k e = let p = one_below 2 1 0 a b s t h k e in absurd (omega (arith, p.1))
 one_flag true true a b s t h k e = ((one_below 2 1 1 a b s t h k e).0, refl)
 
--- the number of a deletion proof
+-- the number that encodes a deletion proof
 abbrev pub deletion_code : Deletion → ℕ
 deletion_code Redundant = 0
 deletion_code Simplified = 1
@@ -86,7 +86,7 @@ deletion_is Satisfied = refl
 pub one_deletion : IsUniquelyDecodable IsDeletion
 one_deletion x y a b s t h k e = let p = one_below 3 (deletion_code x) (deletion_code y) a b s t (deletion_below x a h) (deletion_below y b k) e in (p.0, sym (deletion_is x) ∙ ap deletion_at p.1 ∙ deletion_is y)
 
--- SOME TEXT
+-- FORMATS HAVE TEXTS
 pub some_list : {A : Type 0} (F : Format A) → HasText (ListOf (IsBelow (2 ^ 64)) F)
 some_list F = ([], 0 ∷ [], (0 ∷ [], [], ((omega arith, refl), omega arith), refl, refl))
 
@@ -187,7 +187,7 @@ answers_after tag old mid new (Err errors.OutOfMemory) p r = (tag, r.0, passes_m
 answers_after tag old mid new (Err errors.Ends) p r = absurd r
 answers_after tag old mid new (Err errors.HasFailed) p r = absurd r
 
--- the byte that was taken
+-- the byte that was consumed
 pub some_byte : (byte : ℕ) (o : Option ℕ) (old new : Source) → o ≡ Some byte → NextByte (Ok o) old new → ConsumesBytes old new (byte ∷ [])
 some_byte byte o old new e h = subst (λ (z : Option ℕ). NextByte (Ok z) old new) e h
 
@@ -202,7 +202,7 @@ no_step step tag b n h = let e : is_tag tag ≡ true = ap is_tag (sym h.0) ∙ k
 pub unknown_tag : (tag : ℕ) (old new : Source) → is_tag tag ≡ false → ConsumesBytes old new (tag ∷ []) → AnswersStepRead (Err errors.BadByte) old new
 unknown_tag tag old new n p = ([], tag, p, (End, 13, [], ([], refl, refl)), λ o. no_step o.0 tag o.1 n (following tag o.0 o.1 o.2))
 
--- no step's text begins another's, and no text has two steps
+-- no step's text is a prefix of another's, and every text has one step
 one_variables : IsUniquelyDecodable (Both IsVariable IsOptionalVariable)
 one_variables = one_both IsVariable IsOptionalVariable (one_below var_limit) one_optional
 
@@ -239,7 +239,7 @@ one_step x y a b s t h k e =
     let p = fields_one x y h.0 k.0 s t g h.2 k.2 (let q : h.0 ++ s ≡ k.0 ++ t = cc in q) in
     (h.1 ∙ ap (λ (z : List ℕ). tag_of x ∷ z) p.0 ∙ ap (λ (n : ℕ). n ∷ k.0) g ∙ sym k.1, p.1)
 
--- a text of steps is one list of steps
+-- a text spells at most one list of steps
 pub one_reading : (xs ys : List Step) (text : List ℕ) → SpellsSteps xs text → SpellsSteps ys text → xs ≡ ys
 one_reading [] [] text h k = refl
 one_reading [] (y ∷ ys) text h k = let e : [] ≡ tag_of y ∷ (k.2.0 ++ k.1) = sym h ∙ k.4 ∙ ap (λ (z : List ℕ). z ++ k.1) k.2.1 in cc
@@ -251,7 +251,7 @@ one_reading (x ∷ xs) (y ∷ ys) text h k =
     let q = one_reading xs ys h.1 h.3 (subst (SpellsSteps ys) (sym v) k.3) in
     ap (λ (z : Step). z ∷ xs) p.1 ∙ ap (λ (z : List Step). y ∷ z) q
 
--- no first byte
+-- an error before the first byte
 pub answers_at_once : (e : StepError) (old new : Source) → NextByte (Err e) old new → AnswersStepRead (Err e) old new
 answers_at_once errors.Read old new f = ([], f, (End, 13, [], ([], refl, refl)))
 answers_at_once e old new f = absurd f

@@ -1,4 +1,5 @@
--- What stands after each tag. A further tag wants its `.._back` and `.._form`, and a line in `after_one` and in `known` of `StepReads`.
+-- The fields after each tag. A new tag needs its `.._back` and `.._form`, and a line in `after_one`
+-- and in `known` of `StepReads`.
 use Rattle.std.proofs.Common.{◌≡◌, ℕ, Bool, Option, List, [], Result, Ok, Err, refl, sym, ap, ◌∙◌, arith}
 use Rattle.sat_base.specs.declared.steps.error.StepError.{StepError}
 use Rattle.sat_base.specs.steps.Formats.{Format, Both, IsUniquelyDecodable}
@@ -8,7 +9,7 @@ use Rattle.sat_base.specs.device.Reading.{Source, ReadsValue, FieldsAfter, value
 use Rattle.sat_base.proofs.lemmas.device.ReadLemmas.{passes_none}
 use Rattle.sat_base.proofs.lemmas.steps.FormatReads.{reads_as, stops_at}
 
--- the steps after a tag are those of a format's values
+-- that the fields after a tag have the texts of format H, whose values `f` maps to steps
 pub record TagForm {A : Type 0} (tag : ℕ) (H : Format A) (f : A → Step) : Type 0 where
   pub to : (x : A) (t : List ℕ) → H x t → FieldsAfter tag (f x) t
   pub back : (s : Step) (t : List ℕ) → FieldsAfter tag s t → (x : A) × H x t × (f x ≡ s)
@@ -23,7 +24,7 @@ form_one tag H f k one x y a b s t h i e =
     let r = one p.0 q.0 a b s t p.1 q.1 e in
     (r.0, sym p.2 ∙ ap f r.1 ∙ q.2)
 
--- an error of the fields, at a tag that a test has told
+-- an error in the fields after a tag that was compared with `t`
 pub stops_following : {A X : Type 0} (t tag : ℕ) (H : Format A) (f : A → Step) → TagForm t H f → (g : X → Step) (r : Result X StepError) (d e : StepError) (old new : Source) → r ≡ Err d → d ≡ e → tag ≡ t → ReadsValue H (Err e) old new → ReadsValue (FieldsAfter tag) (valued g r) old new
 stops_following t tag H f k g r d e old new p q i h = stops_at FieldsAfter t tag g r d e old new p q i (form_read t H f k (Err e) old new h)
 

@@ -1,4 +1,4 @@
--- Items that are taken of the bytes that wait, one after another.
+-- Items consumed from the buffered bytes, one after another.
 use Rattle.std.proofs.Common.{◌≡◌, ℕ, ◌+◌, ◌-◌, suc, List, [], ◌∷◌, ◌++◌, length, length-append, Result, Ok, Err, append_assoc, refl, sym, ap, subst, ◌∙◌, arith}
 use Rattle.std.proofs.lemmas.List.{append-nil}
 use Rattle.sat_base.specs.declared.device.ahead.Ahead.{Ahead}
@@ -13,7 +13,7 @@ use Rattle.sat_base.proofs.lemmas.device.ReadLemmas.{passes_none, took_text}
 use Rattle.sat_base.proofs.lemmas.steps.Formats.{HasText, Times_text}
 use Rattle.sat_base.proofs.lemmas.steps.FormatReads.{Counted, item_read, with_front, front_none}
 
--- the texts of so many items stand in front of the rest, and the items after those of before
+-- that the texts of n items are before `rest`, and these items were appended to `before`
 pub record Taken (F : Format ℕ) (n : ℕ) (before now whole rest : List ℕ) : Type 0 where
   pub items : List ℕ
   pub text : List ℕ
@@ -36,7 +36,7 @@ taken_more F n x before now whole rest text more t f e = record {
   split = t.split ∙ ap (λ (z : List ℕ). t.text ++ z) e ∙ sym (append_assoc t.text text more);
 }
 
--- THEY ARE READ: by a source whose bytes wait
+-- ITEMS READ by a source with buffered bytes
 
 abbrev with_waiting : Reader → List ℕ → ℕ → List ℕ → Source
 with_waiting r ws n names = record { reader = r; waiting = ws; reads = n; names = names }
@@ -48,7 +48,7 @@ front_two : {A : Type 0} (xs ys : List A) (r : Result (List A) StepError) → wi
 front_two xs ys (Ok zs) = ap (λ ws. Ok ws) (sym (append_assoc xs ys zs))
 front_two xs ys (Err e) = refl
 
--- whatever is read of the rest, after items that waited
+-- buffered items, and then whatever is read of the rest
 items_then : (F : Format ℕ) → IsUniquelyDecodable F → (more : ℕ) (xs text ws : List ℕ) (s : Reader) (n : ℕ) (names : List ℕ) (r : Result (List ℕ) StepError) (new : Source) → Items F xs text → ReadsValue (Times F more) r (with_waiting s ws n names) new
     → ReadsValue (Times F (length xs + more)) (with_front xs r) (with_waiting s (text ++ ws) n names) new
 items_then F one more [] text ws s n names r new i h =
@@ -63,7 +63,7 @@ items_then F one more (x ∷ xs) text ws s n names r new i h =
     (subst (λ (z : Result (List ℕ) StepError). ReadsValue (Times F (suc (length xs + more))) z (with_waiting s (i.0 ++ (i.1 ++ ws)) n names) new) (front_two (x ∷ []) xs r)
     (item_read F one (length xs + more) x (with_waiting s (i.0 ++ (i.1 ++ ws)) n names) (with_waiting s (i.1 ++ ws) n names) new (i.0, takes s i.0 (i.1 ++ ws) n names, i.2) (with_front xs r) (items_then F one more xs i.1 ws s n names r new i.3 h))))
 
--- a loop over a count, where several were taken at once
+-- a loop over a count that consumes several buffered items at once
 pub counted_taken : (F : Format ℕ) → IsUniquelyDecodable F → (count left n : ℕ) (before now : List ℕ) (old : Source) (s : Reader) (names : List ℕ) (a b : Ahead) → TakesItems F left (Ok n) before now a b
     → Counted F count left before old (with_waiting s (waiting a) a.reads names) → Counted F count (left - n) now old (with_waiting s (waiting b) b.reads names)
 counted_taken F one count left n before now old s names a b t c = record {
@@ -74,6 +74,6 @@ counted_taken F one count left n before now old s names a b t c = record {
       subst (λ (z : Result (List ℕ) StepError). ReadsValue (Times F count) z old new) (front_two before t.1 r ∙ ap (λ (z : List ℕ). with_front z r) (sym t.4)) (c.rests (with_front t.1 r) new j);
 }
 
--- no room for one
+-- memory ran out for an item
 pub counted_full : (F : Format ℕ) → HasText F → (count left : ℕ) (xs : List ℕ) (old mid : Source) → Counted F count left xs old mid → ReadsValue (Times F count) (Err errors.OutOfMemory) old mid
 counted_full F some count left xs old mid c = c.rests (Err errors.OutOfMemory) mid ([], passes_none mid, Times_text F some left)

@@ -1,10 +1,10 @@
--- Of a text's tokens only the first may be a header.
+-- Only the first token of a text can be a header.
 use Rattle.std.proofs.Common.{◌≡◌, ℕ, ◌+◌, List, [], ◌∷◌, ◌++◌, Bool, true, false, cond, Option, Some, None, refl, sym, subst, ◌⊎◌, inl, inr}
 use Rattle.std.specs.Prelude.{nat_eq, ◌&&◌}
 use Rattle.sat_base.specs.text.Text.{words, begins_with, is_letter, digits, plain, minus, after_minus, alone, token, header_if, is_none, on_line, Token, Number, Header, Wrong, tokens_of, lines, scan, tokens}
 use Rattle.sat_base.specs.script.Language.{spoken}
 
--- no header
+-- any token but a header
 abbrev pub IsWord : Token → Type 0
 IsWord (Header v c) = ⊥
 IsWord e = Unit {0}
@@ -65,7 +65,7 @@ chosen P false true heads none later headed worded a b c d = b
 chosen P false false true none later headed worded a b c d = c
 chosen P false false false none later headed worded a b c d = d
 
--- where none may come
+-- lines where no header is allowed
 late : (n : ℕ) (ls : List (List ℕ)) → AreWords (spoken (tokens_of false n ls))
 late n [] = rw (of_none false n) tt
 late n (line ∷ ls) =
@@ -81,7 +81,7 @@ after_words : (n : ℕ) (ws : List (List ℕ)) (ls : List (List ℕ)) → AreScr
 after_words n [] ls h = h
 after_words n (w ∷ ws) ls h = inl (line_words n (w ∷ ws) _ (late n ls))
 
--- where one may
+-- lines where a header is allowed
 early : (n : ℕ) (ls : List (List ℕ)) → AreScript (spoken (tokens_of true n ls))
 early n [] = rw (of_none true n) (inl tt)
 early n (line ∷ ls) =

@@ -1,4 +1,4 @@
--- What a tokenizer's places in header lines stand for, step by step.
+-- A tokenizer's places in header lines, byte by byte.
 use Rattle.std.proofs.Common.{◌≡◌, ℕ, ◌+◌, ◌-◌, ◌<◌, List, [], ◌∷◌, ◌++◌, true, false, Option, Some, None, refl, ap, ◌∙◌}
 use Rattle.std.specs.Prelude.{nat_eq}
 use Rattle.sat_base.specs.declared.text.Place.TheVariants as at
@@ -15,7 +15,7 @@ use Rattle.sat_base.proofs.lemmas.text.Positions.{Solid-more, header_between_wor
 use Rattle.sat_base.proofs.lemmas.text.Words.{SpellsHeld_one, SpellsHeld_more, digits_stop, digits_wrong_in}
 use Rattle.sat_base.proofs.lemmas.text.Places.{no_LF, after_word_in_header}
 
--- a byte that is no digit leaves no number
+-- a word that begins with a byte other than a digit is not a number
 spoilt_number : (d : ℕ) (w : List ℕ) → is_digit d ≡ false → (s : ℕ → Stage) → (more : List ℕ) → with_value s (digits 0 ((d ∷ w) ++ more)) ≡ None
 spoilt_number d w e s more = ap (with_value s) (digits_stop 0 d (w ++ more) e)
 
@@ -104,7 +104,7 @@ ended_clauses vars value spot (v, x, w, k, s, (m, h, j), e) = rw e (Both v m, (v
 abbrev pub EndsAs : HeaderPlace → Option CodeStage → Type 0
 EndsAs place o = (spot : Position) → IsAtHeader place spot → IsStageIf o (ended_stage spot)
 
--- where the line ends
+-- the end of the line
 in_hand_is : (p : HeaderPlace) (spot : Position) (n : ℕ) → IsAtHeader p spot → in_hand spot n ≡ (n + 1, after_word (ended_stage spot) stage_end) ∷ []
 in_hand_is (header.Between ended) spot n (s, h, e) = rw e refl
 in_hand_is (header.Vars value) spot n (x, w, s, h, e) = rw e refl

@@ -36,7 +36,7 @@ format_fails w ws h = stage_cons Format w ws ∙ value_fails (digits 0 w) Vars (
 vars_fails : (v : ℕ) (w : List ℕ) (ws : List (List ℕ)) → ((c : ℕ) → Fails (Both v c) ws) → Fails (Vars v) (w ∷ ws)
 vars_fails v w ws h = stage_cons (Vars v) w ws ∙ value_fails (digits 0 w) (Both v) (λ s. stage_token s ws) h
 
--- LINES OF FOUR
+-- LINES OF FOUR WORDS
 if_goes : (b : Bool) (s : Stage) (more : Stage → Token) → after_word (cond b (Some s) None) more ≡ cond b (more s) Wrong
 if_goes true s more = refl
 if_goes false s more = refl
@@ -63,7 +63,7 @@ four_words p cnf v c =
     stage_cons Begun p (cnf ∷ v ∷ c ∷ []) ∙ if_goes is_p Named (λ s. stage_token s (cnf ∷ v ∷ c ∷ [])) ∙ ap (λ (t : Token). cond is_p t Wrong) named
     ∙ both_names is_p is_cnf (with_numbers (digits 0 v) (digits 0 c))
 
--- a header line's words say what they say one by one
+-- a header line means the same as its words, read one by one
 pub header_in_is : (ws : List (List ℕ)) → stage_token Begun ws ≡ header_in ws
 header_in_is [] = stage_nil Begun
 header_in_is (p ∷ []) = begun_fails p [] (stage_nil Named)

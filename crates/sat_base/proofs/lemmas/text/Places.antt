@@ -1,4 +1,4 @@
--- What a tokenizer's places stand for, step by step.
+-- A tokenizer's places, byte by byte.
 use Rattle.std.proofs.Common.{◌≡◌, ℕ, ◌+◌, ◌-◌, ◌^◌, ◌<◌, List, [], ◌∷◌, ◌++◌, Bool, true, false, min, Option, Some, None, refl, ap, ◌∙◌, arith}
 use Rattle.std.proofs.lemmas.Bool.Decides.{nat_tests}
 use Rattle.std.specs.Prelude.{nat_eq}
@@ -80,7 +80,7 @@ moves_letter l b f spot ((s, k), e) = rw e (Within l (b ∷ []), (l, b ∷ [], (
 pub moves_bad : (b : ℕ) → is_blank b ≡ false → MovesPlace at.Bad b at.Bad
 moves_bad b f spot (x, w, s, h, e) = rw e (Within x (w ++ b ∷ []), (x, w ++ b ∷ [], Solid-more (x ∷ w) b s f, BeginsWrong_more (x ∷ w) b h, refl), goes_on_within x w b f)
 
--- PLACES AND SPOTS
+-- PLACES AND POSITIONS
 IsSpot_header : (p : HeaderPlace) (spot : Position) → IsAtHeader p spot → IsPosition spot
 IsSpot_header (header.Between ended) spot (s, h, e) = rw e tt
 IsSpot_header header.P spot e = rw e (refl, tt)
@@ -99,7 +99,7 @@ IsSpot_of at.Bad spot (x, w, s, h, e) = rw e s
 IsSpot_of (at.Header place) spot h = IsSpot_header place spot h
 IsSpot_of z spot e = rw e tt
 
--- only a word or a header line in hand gives a token, and its line has not ended
+-- if a token is unfinished, so is its line
 pub line-in_hand : (spot : Position) (n : ℕ) (t : ℕ × Token) → in_hand spot n ≡ t ∷ [] → line_at spot n ≡ n + 1
 line-in_hand (Fresh may) n t e = absurd (cc)
 line-in_hand x n t e = refl
@@ -152,11 +152,11 @@ below (at.Header (header.Clauses vars value)) h spot (v, x, w, k, s, i, e) = rw 
 below at.Over h spot e = absurd (h refl)
 below z h spot e = rw e refl
 
--- THE WORD IN HAND
+-- THE UNFINISHED WORD
 abbrev one : Token → ℕ → List (ℕ × Token)
 one t n = (n + 1, t) ∷ []
 
--- a word in hand is given
+-- the token of an unfinished word when the line ends
 given_word : (x : ℕ) (w : List ℕ) (t : Token) (given : CodeToken) (spot : Position) → token (x ∷ w) ≡ t → given ≡ held_token t → spot ≡ Within x w → IsHeldToken (Some given) (in_hand spot)
 given_word x w t given spot e h s = rw s (t, h, λ n. ap (λ (u : Token). one u n) e)
 

@@ -1,4 +1,4 @@
--- Only where a line ends is a header read.
+-- Only the end of a line completes a header.
 use Rattle.std.proofs.Common.{◌≡◌, ℕ, ◌+◌, List, [], ◌∷◌, ◌++◌, Bool, true, false, Option, Some, None, refl, sym, ap, subst, inl, inr, ◌∙◌, arith}
 use Rattle.std.proofs.lemmas.Bool.Decides.{nat_tests}
 use Rattle.std.specs.Prelude.{nat_eq}
@@ -25,7 +25,7 @@ first_token l m t u ts us e = ap (λ (vs : List (ℕ × Token)). token_first vs 
 cons_not_nil : (x : ℕ × Token) (xs : List (ℕ × Token)) (A : Type 0) → ◌≡◌ {A = List (ℕ × Token)} [] (x ∷ xs) → A
 cons_not_nil x xs A e = absurd (let f = e in cc)
 
--- `x` may stand in no header line
+-- no word of a header line begins with `x`
 x_spoils : (s : Stage) → BeginsSpoilt s (120 ∷ [])
 unfolding digits
 x_spoils Begun more = refl
@@ -35,7 +35,7 @@ spoilt_next : (s : Stage) (n : ℕ) → (left (HeaderBetween s) n (120 ∷ [])).
 spoilt_next s n =
     ap (λ (k : Scan). k.tokens) (header_between_word s n 120 [] refl ∙ header_spoilt s 120 [] n [] (refl, tt) (x_spoils s) ∙ end_left Spoilt n tt)
 
--- what a blank gives, whatever comes
+-- that a blank ends this token, whatever follows
 abbrev GivesThen : Position → ℕ → ℕ → Token → (List ℕ → Scan) → Type 0
 GivesThen spot n l t after = (rest : List ℕ) → ended_by_blank spot n ++ (left (following_blank spot) n rest).tokens ≡ (l, t) ∷ (after rest).tokens
 
@@ -68,12 +68,12 @@ unfolding IsPositionedBefore
 plain_given machine b l t left_of after s e f h =
     blank_gives s.0 s.1 l t after (λ rest. ap (λ (k : Scan). k.tokens) (sym (blank_left s.0 s.1 b rest (IsSpot_of machine.place s.0 s.2) e f) ∙ sym (s.4 (b ∷ rest)) ∙ h rest))
 
--- A blank that ends a word leaves none.
+-- A blank that ends a token leaves none unfinished.
 abbrev tail_of : List (ℕ × Token) → List (ℕ × Token)
 tail_of [] = []
 tail_of (x ∷ xs) = xs
 
--- what is left at a spot where the text ends
+-- the tokens that are left where the text ends
 left_at : (spot : Position) (n : ℕ) → IsPosition spot → (left spot n []).tokens ≡ in_hand spot n
 left_at spot n i = ap (λ (k : Scan). k.tokens) (end_left spot n i)
 
@@ -98,7 +98,7 @@ unfolding IsPositionedBefore
 alone_given machine b l t left_of after s e f h =
     blank_then s.0 s.1 l t (after []).tokens (ap (λ (k : Scan). k.tokens) (sym (blank_left s.0 s.1 b [] (IsSpot_of machine.place s.0 s.2) e f) ∙ sym (s.4 (b ∷ [])) ∙ h []))
 
--- Where no word is in hand, a blank ends none.
+-- If no word is unfinished, a blank ends no word.
 first_of : (l m : ℕ) (t u : Token) (ts us : List (ℕ × Token)) → IsOfHeader t → ◌≡◌ {A = List (ℕ × Token)} ((l, t) ∷ ts) ((m, u) ∷ us) → IsOfHeader u
 first_of l m t u ts us h e = subst IsOfHeader (first_token l m t u ts us e) h
 

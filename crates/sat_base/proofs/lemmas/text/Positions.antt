@@ -1,4 +1,4 @@
--- Places in a text, and what is still to be read from each.
+-- Positions in a text, and what is still to be read from each.
 use Rattle.std.proofs.Common.{◌≡◌, ℕ, ◌+◌, List, [], ◌∷◌, ◌++◌, Bool, true, false, Option, Some, None, refl, sym, ap, ◌∙◌, append_assoc}
 use Rattle.std.specs.Prelude.{nat_eq, not, ◌&&◌}
 use Rattle.std.proofs.lemmas.List.{append-nil}
@@ -15,7 +15,7 @@ onto_first_is : (b : ℕ) (ls : List (List ℕ)) → onto_first b ls ≡ (b ∷ 
 onto_first_is b [] = refl
 onto_first_is b (l ∷ ls) = refl
 
--- a byte that is no LF goes onto the first line
+-- a byte other than LF is added to the first line
 lines_more : (b : ℕ) (bs : List ℕ) → nat_eq b 10 ≡ false → lines (b ∷ bs) ≡ (b ∷ first_line (lines bs)) ∷ later_lines (lines bs)
 unfolding lines
 lines_more b bs e = rw e (onto_first_is b (lines bs))
@@ -73,7 +73,7 @@ word_cut : (x : ℕ) (w : List ℕ) (b : ℕ) (bs : List ℕ) → HasNoBlank (x 
 word_cut x [] b bs s e = words_one x (b ∷ bs) s.0 (ap not e) ∙ ap (λ (ws : List (List ℕ)). (x ∷ []) ∷ ws) (words_blank b bs e)
 word_cut x (y ∷ w) b bs s e = words_more x ((y ∷ w) ++ b ∷ bs) s.0 (ap not s.1.0) ∙ ap (onto_first x) (word_cut y w b bs s.1 e)
 
--- the first word of bytes that begin so
+-- that the first word of the bytes `(x ∷ w) ++ bs` begins with `x ∷ w`
 abbrev pub BeginsWord : ℕ → List ℕ → List ℕ → Type 0
 BeginsWord x w bs = (more : List ℕ) × (ws : List (List ℕ)) × (words ((x ∷ w) ++ bs) ≡ ((x ∷ w) ++ more) ∷ ws)
 
@@ -89,7 +89,7 @@ pub first_word : (x : ℕ) (w bs : List ℕ) → HasNoBlank (x ∷ w) → Begins
 first_word x [] bs s = first_word_if x bs (goes_on bs) s.0 refl
 first_word x (y ∷ w) bs s = let h = first_word y w bs s.1 in (h.0, h.1, words_more x ((y ∷ w) ++ bs) s.0 (ap not s.1.0) ∙ ap (onto_first x) h.2)
 
--- there is one
+-- bytes that begin with a nonblank byte have a word
 some_words : (x : ℕ) (bs : List ℕ) → is_blank x ≡ false → is_none (words (x ∷ bs)) ≡ false
 some_words x bs e = let h = first_word x [] bs (e, tt) in ap is_none h.2
 
@@ -102,7 +102,7 @@ and_true : (may : Bool) → (may && true) ≡ may
 and_true true = refl
 and_true false = refl
 
--- what a line begins with that is no blank
+-- whether the first nonblank byte of a line is `%`, `c` or `p`
 pub record Begins (l : List ℕ) (percent comment header : Bool) : Type 0 where
   pub ends : begins_with 37 l ≡ percent
   pub comments : begins_with 99 l ≡ comment
@@ -156,7 +156,7 @@ last_line_nil : (n : ℕ) → last_line n [] ≡ n
 unfolding last_line
 last_line_nil n = refl
 
--- what is read of a line goes past a blank at its front
+-- a blank at the start of a line does not change its tokens
 skips : (may : Bool) (n b : ℕ) (l : List ℕ) (ls : List (List ℕ)) → is_blank b ≡ true → tokens_of may n ((b ∷ l) ∷ ls) ≡ tokens_of may n (l ∷ ls)
 unfolding tokens_of
 skips may n b l ls e = rw (begins_blank 37 b l e, begins_blank 99 b l e, begins_blank 112 b l e, words_blank b l e) refl
@@ -170,7 +170,7 @@ pub start : (text : List ℕ) → scan text ≡ left (Fresh true) 0 text
 unfolding left scan
 start text = refl
 
--- a word of a header line, where the line ends
+-- the last word of a header line
 last_word : (o : Option Stage) → after_word o (λ s. stage_token s []) ≡ after_word o stage_end
 last_word None = refl
 last_word (Some s) = stage_nil s
@@ -178,7 +178,7 @@ last_word (Some s) = stage_nil s
 stage_one : (stage : Stage) (w : List ℕ) → stage_token stage (w ∷ []) ≡ after_word (stage_after stage w) stage_end
 stage_one stage w = stage_cons stage w [] ∙ last_word (stage_after stage w)
 
--- LF: what is in hand ends, and so does the line
+-- LF ends the line and completes the unfinished token
 pub LF_left : (spot : Position) (n : ℕ) (bs : List ℕ) → IsPosition spot → left spot n (10 ∷ bs) ≡ onto (in_hand spot n) (left (after_LF spot) (lines_after spot n) bs)
 unfolding left
 LF_left (Fresh may) n bs s = rw (lines_LF bs, of_blanks may n (10 ∷ []) (lines bs) LF_begins (words_blank_one 10 refl), last_line_cons n (10 ∷ []) (lines bs) (LF_begins.ends)) refl
@@ -191,7 +191,7 @@ LF_left (HeaderWithin stage x w) n bs s = rw (lines_LF bs, word_cut x w 10 [] s 
 LF_left Spoilt n bs s = rw (lines_LF bs) refl
 LF_left Over n bs s = refl
 
--- any other byte at a line's start is as after blanks
+-- any other byte at the start of a line has the same effect as after blanks
 pub fresh_leads : (may : Bool) (n b : ℕ) (bs : List ℕ) → nat_eq b 10 ≡ false → left (Fresh may) n (b ∷ bs) ≡ left (Leading may) n (b ∷ bs)
 unfolding left
 fresh_leads may n b bs e = rw (lines_more b bs e) refl
@@ -209,7 +209,7 @@ unfolding left
 header_blank None n bs = refl
 header_blank (Some stage) n bs = refl
 
--- a blank that ends no line: the word in hand ends
+-- a blank other than LF ends the unfinished word
 pub blank_left : (spot : Position) (n b : ℕ) (bs : List ℕ) → IsPosition spot → nat_eq b 10 ≡ false → is_blank b ≡ true → left spot n (b ∷ bs) ≡ onto (ended_by_blank spot n) (left (following_blank spot) n bs)
 unfolding left
 blank_left (Fresh may) n b bs s e f = fresh_leads may n b bs e ∙ leading_blank may n b bs e f
@@ -223,8 +223,8 @@ blank_left (HeaderWithin stage x w) n b bs s e f =
 blank_left Spoilt n b bs s e f = rw (lines_more b bs e) refl
 blank_left Over n b bs s e f = refl
 
--- A BYTE THAT IS NO BLANK
--- at the front of a line
+-- A NONBLANK BYTE
+-- at the start of a line
 abbrev line_with : ℕ → List ℕ → List ℕ
 line_with b bs = b ∷ first_line (lines bs)
 
@@ -252,7 +252,7 @@ leading_late_header n bs =
     let b = byte_begins 112 (first_line (lines bs)) refl in
     rw (lines_more 112 bs refl, of_header false n (line_with 112 bs) (later_lines (lines bs)) b, last_line_cons n (line_with 112 bs) (later_lines (lines bs)) b.ends) refl
 
--- a line's first word, where it is no header
+-- a line that begins with a word
 of_word : (may : Bool) (n b : ℕ) (l : List ℕ) (ls : List (List ℕ)) → Begins (b ∷ l) false false false → is_blank b ≡ false
     → tokens_of may n ((b ∷ l) ∷ ls) ≡ on_line (n + 1) (words (b ∷ l)) ++ tokens_of false (n + 1) ls
 of_word may n b l ls e f =
@@ -308,7 +308,7 @@ unfolding left
 over_more n b bs = refl
 
 -- THE END
--- what is in hand ends, on the line of the last byte
+-- the end of the text completes the unfinished token, on the line of the last byte
 pub end_left : (spot : Position) (n : ℕ) → IsPosition spot → left spot n [] ≡ record { tokens = in_hand spot n; last = line_at spot n }
 unfolding left
 end_left (Fresh may) n s = rw (lines_nil, of_none may n, last_line_nil n) refl
@@ -321,6 +321,6 @@ end_left (HeaderWithin stage x w) n s = rw (lines_nil, append-nil (x ∷ w), wor
 end_left Spoilt n s = rw (lines_nil, of_none false (n + 1), last_line_nil (n + 1)) refl
 end_left Over n s = refl
 
--- the line of the last byte is the last one if the text ends there
+-- if the text ends here, its last line is that of the last byte
 pub last_left_end : (spot : Position) (n : ℕ) → IsPosition spot → (left spot n []).last ≡ line_at spot n
 last_left_end spot n s = ap (λ (r : Scan). r.last) (end_left spot n s)

@@ -1,4 +1,4 @@
--- From which places a text can go on without a wrong word.
+-- Places from which a text can continue without a wrong word.
 use Rattle.std.proofs.Common.{◌≡◌, ℕ, ◌+◌, ◌<◌, List, [], ◌∷◌, ◌++◌, Bool, true, false, Option, Some, None, refl, sym, ap, subst, ◌∙◌, arith}
 use Rattle.sat_base.specs.declared.text.Place.{Place}
 use Rattle.sat_base.specs.declared.text.Place.TheVariants as at
@@ -17,11 +17,11 @@ use Rattle.sat_base.proofs.lemmas.text.Positions.{first_word, blank_left, end_le
 use Rattle.sat_base.proofs.lemmas.text.Places.{IsSpot_of, moves_minus_digit, moves_digit, says_letter, says_number}
 use Rattle.sat_base.proofs.lemmas.text.HeaderPlaces.{EndsAs, begun_c, begun_vars, begun_clauses, between_moves, c_n, cn_f, ended_vars, ended_clauses, says_header, after_ended}
 
--- some bytes may follow at this place so that nothing more is wrong
+-- that a text can continue from this place without a wrong word
 abbrev MayBeRight : Place → Type 0
 MayBeRight p = (spot : Position) → IsAt p spot → (n : ℕ) → HasValidContinuation (left spot n)
 
--- none is in hand, or one that isn't wrong
+-- that the token is not wrong, or there is none
 abbrev IsRight : Option CodeToken → Type 0
 IsRight None = Unit {0}
 IsRight (Some t) = t ≡ code.Wrong → ⊥
@@ -70,7 +70,7 @@ ended_in_header (header.Vars value) spot n (x, w, s, h, e) = rw e refl
 ended_in_header (header.Clauses vars value) spot n (v, x, w, k, s, h, e) = rw e refl
 ended_in_header z spot n e = rw e refl
 
--- a space may end a word that may stand there
+-- a space may end a word that is allowed there
 right_before_space : (p : HeaderPlace) (ended : CodeStage) → EndsAs p (Some ended) → MayBeRight (at.Header (header.Between ended)) → MayBeRight (at.Header p)
 right_before_space p ended ends = right_before_blank (at.Header p) (at.Header (header.Between ended)) (after_ended p ended ends)
     (λ spot i n. let h = ends spot i in ended_in_header p spot n i ∙ ap (λ (o : Option Stage). spoils o n) h.2)
@@ -87,7 +87,7 @@ both_right vars clauses = header_right (header.Between (stage.Both vars clauses)
 clauses_right : (vars value : ℕ) → MayBeRight (at.Header (header.Clauses vars value))
 clauses_right vars value = header_right (header.Clauses vars value) vars value (ended_clauses vars value)
 
--- a byte may follow that begins a word
+-- a byte that begins a word may follow
 begun_right : (ended : CodeStage) (b : ℕ) (p : HeaderPlace) → is_blank b ≡ false → BeganHeader ended b (Some p) → MayBeRight (at.Header p) → MayBeRight (at.Header (header.Between ended))
 begun_right ended b p f began = right_before (at.Header (header.Between ended)) (at.Header p) b (between_moves ended b (Some p) f began)
 
@@ -131,7 +131,7 @@ in_header_right (header.Vars value) = vars_right value
 in_header_right (header.Clauses vars value) = clauses_right vars value
 
 -- ALL PLACES
--- in a word that is wrong, or after one of a header line
+-- in a wrong word, or in a header line after a wrong word
 abbrev IsWrongPlace : Place → Type 0
 IsWrongPlace at.Bad = Unit {0}
 IsWrongPlace at.Spoilt = Unit {0}
@@ -160,12 +160,12 @@ right_ahead machine b s before (spot, n, i, l, e) =
     apart at.Spoilt b s w = s refl
     apart p b s w = w
 
--- after a blank
+-- no word is unfinished
 pub right_after : (machine : Tokenizer) → IsQuiet machine.place → (before : List ℕ → Scan) → IsPositionedBefore machine before → HasValidContinuation before
 right_after machine q = right_ahead machine (λ e. subst IsQuiet e q) (λ e. subst IsQuiet e q)
 
 -- WRONG WORDS
--- what is left after a line's word in hand
+-- if the unfinished word is wrong however it continues, the next token is wrong
 word_wrong : (x : ℕ) (w : List ℕ) (n : ℕ) (rest : List ℕ) → HasNoBlank (x ∷ w) → BeginsWrong (x ∷ w) → (more : List (ℕ × Token)) × ((left (Within x w) n rest).tokens ≡ (n + 1, Wrong) ∷ more)
 unfolding left
 word_wrong x w n rest s h =

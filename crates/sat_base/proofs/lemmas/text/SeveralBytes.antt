@@ -1,4 +1,4 @@
--- What a tokenizer makes of several bytes.
+-- The effect of several bytes on a tokenizer.
 use Rattle.std.proofs.Common.{◌≡◌, ℕ, ◌+◌, ◌-◌, ◌<◌, List, [], ◌∷◌, ◌++◌, Bool, true, false, Option, Some, None, length, take, drop, get_or, refl, ap, subst, sym, ◌∙◌, append_assoc, arith}
 use Rattle.std.specs.Prelude.{nat_eq}
 use Rattle.std.proofs.lemmas.Bool.Decides.{nat_tests}
@@ -15,14 +15,14 @@ use Rattle.sat_base.specs.text.Tokenizing.{MovesPlace, MovesBy, BeginsWord, Bega
 use Rattle.sat_base.proofs.lemmas.text.Words.{SpellsHeld_one, no_minus_digit, no_letter_digit}
 use Rattle.sat_base.proofs.lemmas.text.Places.{moves_word, moves_fresh, moves_between, moves_minus_digit, moves_digit}
 
--- one byte more
+-- one more byte at the end
 pub moves_more : (a b c : Place) (xs : List ℕ) (y : ℕ) → MovesBy a xs b → MovesPlace b y c → MovesBy a (xs ++ y ∷ []) c
 moves_more a b c xs y f g spot i =
     let h = f spot i in
     let k = g h.0 h.1 in
     (k.0, k.1, λ n rest. ap (λ (bs : List ℕ). left spot n bs) (append_assoc xs (y ∷ []) rest) ∙ h.2 n (y ∷ rest) ∙ k.2 n rest)
 
--- one byte before
+-- one more byte at the start
 pub moves_first : (a b c : Place) (x : ℕ) (ys : List ℕ) → MovesPlace a x b → MovesBy b ys c → MovesBy a (x ∷ ys) c
 moves_first a b c x ys f g spot i =
     let h = f spot i in
@@ -49,7 +49,7 @@ moves_first_digit old b w d =
 pub moves_digit_after_minus : (b : ℕ) → is_digit b ≡ true → MovesPlace at.Minus b (at.Digits true (b - 48))
 moves_digit_after_minus b d = moves_minus_digit b (grind (arith, nat_tests)) d (grind (arith, nat_tests))
 
--- a digit more
+-- one more digit
 pub moves_further_digit : (a : Place) (negative : Bool) (v : ℕ) (xs : List ℕ) (i : ℕ) → i < length xs → is_digit (get_or xs i 0) ≡ true → MovesBy a (take i xs) (at.Digits negative v) → MovesBy a (take (i + 1) xs) (at.Digits negative (grown v (get_or xs i 0)))
 moves_further_digit a negative v xs i small d m =
     let b = get_or xs i 0 in
@@ -62,20 +62,20 @@ first_of_some xs k h = grind (arith, common_steps)
 all_after_first : (xs : List ℕ) → take (length xs - 1) (drop 1 xs) ≡ drop 1 xs
 all_after_first xs = grind (arith, common_steps)
 
--- a byte before those at the front of the others
+-- the first byte, and then a prefix of the other bytes
 pub moves_from_first : (a b c : Place) (xs : List ℕ) (k : ℕ) → 0 < length xs → MovesPlace a (get_or xs 0 0) b → MovesBy b (take k (take (length xs - 1) (drop 1 xs))) c → MovesBy a (take (k + 1) xs) c
 moves_from_first a b c xs k h f g =
     let following : MovesBy b (take k (drop 1 xs)) c = subst (λ (ys : List ℕ). MovesBy b (take k ys) c) (all_after_first xs) g in
     subst (λ (bs : List ℕ). MovesBy a bs c) (sym (first_of_some xs k h)) (moves_first a b c (get_or xs 0 0) (take k (drop 1 xs)) f following)
 
--- the machine
+-- bytes that lead from place to place lead the tokenizer there
 pub follows_by : (old : Tokenizer) (bytes : List ℕ) (place : Place) → MovesBy old.place bytes place → Follows IsPositionedBefore old bytes (record { place = place; lines = old.lines })
 unfolding IsPositionedBefore
 follows_by old bytes place m before (spot, n, i, l, e) =
     let k = m spot i in
     (left k.0 n, (k.0, n, k.1, l, λ rest. refl), λ rest. e (bytes ++ rest) ∙ k.2 n rest)
 
--- after some bytes that end no token a further one
+-- one more byte after bytes that end no token
 pub takes_front : (a b c : Tokenizer) (xs : List ℕ) (i : ℕ) (given : Option CodeToken) → i < length xs → Follows IsPositionedBefore a (take i xs) b → TakesByte b (get_or xs i 0) given c → TakesFront a (take (i + 1) xs) given c
 takes_front a b c xs i given small f t = subst (λ (bs : List ℕ). TakesFront a bs given c) (sym (take_more xs i 0 small)) (following given t)
   where

@@ -1,4 +1,4 @@
--- What a tokenizer makes of bytes.
+-- The effect of bytes on a tokenizer.
 use Rattle.std.proofs.Common.{◌≡◌, ℕ, ◌+◌, ◌-◌, ◌^◌, ◌⊎◌, inl, inr, List, [], ◌∷◌, Bool, true, false, min, Option, Some, None, refl, sym, ap, ◌∙◌, ◌≤◌, arith}
 use Rattle.std.specs.Prelude.{nat_eq}
 use Rattle.sat_base.specs.declared.text.Place.{Place}
@@ -20,7 +20,7 @@ pub stands_first : IsPositionedBefore (standing (at.Fresh true) 0) scan
 unfolding IsPositionedBefore
 stands_first = (Fresh true, 0, refl, refl, start)
 
--- what is given goes before what is left
+-- a completed token precedes what is left
 gives : (given : Option CodeToken) (tokens : ℕ → List (ℕ × Token)) (n b : ℕ) (before after : List ℕ → Scan) → IsHeldToken given tokens → (after []).last ≡ n + 1
     → ((rest : List ℕ) → before (b ∷ rest) ≡ onto (tokens n) (after rest)) → GivesToken given b before after
 gives None tokens n b before after s l h = λ rest. h rest ∙ ap (λ (ts : List (ℕ × Token)). onto ts (after rest)) (s n)
@@ -55,7 +55,7 @@ takes_LF old given k h says e before (spot, n, i, l, f) =
           (λ rest. f (10 ∷ rest) ∙ LF_left spot n rest (IsSpot_of old.place spot i) ∙ ap (λ (s : Position). onto (in_hand spot n) (left s (lines_after spot n) rest)) fresh ∙ ap (λ (m : ℕ). onto (in_hand spot n) (left (Fresh may) m rest)) more),
     )
 
--- nothing goes on after `%`
+-- after `%`, LF has no effect
 pub over_LF : (old : Tokenizer) → old.place ≡ at.Over → TakesByte old 10 None old
 unfolding IsPositionedBefore
 over_LF old e before (spot, n, i, l, f) =
@@ -74,8 +74,8 @@ takes_blank old b given place says leads e f before (spot, n, i, l, h) =
       gives given (ended_by_blank spot) n b before (left next n) (says spot i) last (λ rest. h (b ∷ rest) ∙ blank_left spot n b rest good e f),
     )
 
--- NO WORD IS IN HAND
--- what is left where the text ends
+-- NO UNFINISHED WORD
+-- if the text ends here, only the unfinished token is left
 left_in_hand : (machine : Tokenizer) (spot : Position) (n : ℕ) (before : List ℕ → Scan) → IsAt machine.place spot → ((rest : List ℕ) → before rest ≡ left spot n rest)
     → (before []).tokens ≡ in_hand spot n
 left_in_hand machine spot n before i e = ap (λ (s : Scan). s.tokens) (e [] ∙ end_left spot n (IsSpot_of machine.place spot i))
@@ -143,7 +143,7 @@ over_ignores machine e before (spot, n, i, l, f) rest =
     let j : spot ≡ Over = rw e at i in
     f rest ∙ ap (λ (s : Position). left s n rest) j ∙ over_left n rest ∙ ap (λ (s : Position). left s n []) (sym j) ∙ sym (f [])
 
--- elsewhere two more lines are looked at
+-- at any other place, the bytes that follow are not ignored: two LFs change the number of the last line
 line_most : (spot : Position) (n : ℕ) → line_at spot n ≤ n + 1
 line_most (Fresh may) n = omega arith
 line_most x n = omega arith
@@ -171,6 +171,6 @@ open_looks machine o before (spot, n, i, l, f) same =
     let most : line_at spot n ≤ n + 1 = line_most spot n in
     below_line n (line_at spot n) e most
 
--- so where a token is in hand
+-- if a token is unfinished, the bytes that follow are not ignored
 pub given_goes_on : (machine : Tokenizer) (before : List ℕ → Scan) → IsPositionedBefore machine before → ((before []).tokens ≡ [] → ⊥) → IgnoresRest before → ⊥
 given_goes_on machine before s some = open_looks machine (λ e. some (none_over machine e before s)) before s

@@ -1,4 +1,4 @@
--- What a tokenizer makes of a number and the blank that ends it.
+-- The effect of a number, and of the blank that ends it, on a tokenizer.
 use Rattle.std.proofs.Common.{◌≡◌, ℕ, ◌+◌, ◌-◌, ◌^◌, ◌<◌, List, Bool, true, false, min, Some, length, take, get_or, refl, sym, subst}
 use Rattle.sat_base.specs.declared.text.Place.TheVariants as at
 use Rattle.sat_base.specs.declared.text.Token.TheVariants as code
@@ -9,7 +9,7 @@ use Rattle.sat_base.proofs.lemmas.text.Places.{says_number, after_number}
 use Rattle.sat_base.proofs.lemmas.text.SeveralBytes.{follows_by, takes_front}
 use Rattle.sat_base.proofs.lemmas.text.TextRuns.{takes_LF, takes_blank}
 
--- a blank inside a line ends it as LF does
+-- a blank within a line ends a number as LF does
 says_at_blank : (negative : Bool) (v : ℕ) → (negative ≡ true → 0 < v) → SaysAtBlank (Some (code.Number negative v)) (at.Digits negative v)
 says_at_blank true v z spot (w, s, some_w, h, e) = let k = says_number true v z spot (w, s, some_w, h, e) in rw e (subst (λ (t : Position). IsHeldToken (Some (code.Number true v)) (in_hand t)) e k)
 says_at_blank false v z spot (x, w, s, h, n, l, e) = let k = says_number false v z spot (x, w, s, h, n, l, e) in rw e (subst (λ (t : Position). IsHeldToken (Some (code.Number false v)) (in_hand t)) e k)

@@ -1,4 +1,4 @@
--- What the bytes of a word in hand say.
+-- The meaning of the bytes of an unfinished word.
 use Rattle.std.proofs.Common.{◌≡◌, ℕ, ◌+◌, ◌*◌, ◌-◌, ◌<◌, List, [], ◌∷◌, ◌++◌, Bool, true, false, cond, eqb, Option, Some, None, refl, sym, ap, subst, ◌∙◌, append_assoc, arith}
 use Rattle.std.proofs.lemmas.List.{append-nil}
 use Rattle.std.proofs.lemmas.Bool.Decides.{nat_tests}
@@ -25,7 +25,7 @@ front_digit : (n m x : ℕ) (ds : List ℕ) → digits n (x ∷ ds) ≡ Some m �
 unfolding digits
 front_digit n m x ds h = guarded (is_digit x) (digits (10 * n + (x - 48)) ds) m h
 
--- a digit more
+-- one more digit
 digits_more : (n m d : ℕ) (ds : List ℕ) → digits n ds ≡ Some m → is_digit d ≡ true → digits n (ds ++ d ∷ []) ≡ Some (10 * m + (d - 48))
 digits_more n m d [] h e =
     let same : n ≡ m = let k : Some n ≡ Some m = sym (digits_nil n) ∙ h in cc in
@@ -34,7 +34,7 @@ digits_more n m d (x ∷ ds) h e =
     let f = front_digit n m x ds h in
     digits_cons n x (ds ++ d ∷ []) f ∙ digits_more (10 * n + (x - 48)) m d ds (sym (digits_cons n x ds f) ∙ h) e
 
--- a byte that is no digit
+-- a byte other than a digit
 digits_wrong : (n m d : ℕ) (ds more : List ℕ) → digits n ds ≡ Some m → is_digit d ≡ false → digits n (ds ++ d ∷ more) ≡ None
 digits_wrong n m d [] more h e = digits_stop n d more e
 digits_wrong n m d (x ∷ ds) more h e =
@@ -44,7 +44,7 @@ digits_wrong n m d (x ∷ ds) more h e =
 pub digits_wrong_in : (m d : ℕ) (ds more : List ℕ) → digits 0 ds ≡ Some m → is_digit d ≡ false → digits 0 ((ds ++ d ∷ []) ++ more) ≡ None
 digits_wrong_in m d ds more h e = ap (digits 0) (append_assoc ds (d ∷ []) more) ∙ digits_wrong 0 m d ds more h e
 
--- a digit alone
+-- a single digit
 pub SpellsHeld_one : (d : ℕ) → is_digit d ≡ true → d < 256 → SpellsHeld (d ∷ []) (d - 48)
 SpellsHeld_one d e b = (d - 48, digits_cons 0 d [] e ∙ digits_nil (10 * 0 + (d - 48)) ∙ ap (λ (k : ℕ). Some k) (omega arith), omega arith)
 
@@ -78,20 +78,20 @@ no_letter_digit d e = grind (arith, nat_tests)
 pub BeginsWrong_more : (w : List ℕ) (b : ℕ) → BeginsWrong w → BeginsWrong (w ++ b ∷ [])
 BeginsWrong_more w b h more = ap token (append_assoc w (b ∷ []) more) ∙ h (b ∷ more)
 
--- a word that begins with no digit, no letter and no `-`
+-- a first byte other than a digit, a letter or `-`
 pub BeginsWrong_first : (b : ℕ) → is_digit b ≡ false → is_letter b ≡ false → (b ≡ 45 → ⊥) → BeginsWrong (b ∷ [])
 BeginsWrong_first b e l n more = token_plain b more n l ∙ ap plain (digits_stop 0 b more e)
 
--- a letter that isn't alone
+-- a letter before another byte
 pub BeginsWrong_letter : (b c : ℕ) → is_letter b ≡ true → BeginsWrong (b ∷ c ∷ [])
 BeginsWrong_letter b c l more = token_letter b (c ∷ more) (no_minus_letter b l) l
 
--- after digits comes no digit
+-- after digits, a byte other than a digit
 pub BeginsWrong_plain : (x : ℕ) (w : List ℕ) (v b : ℕ) → SpellsHeld (x ∷ w) v → (x ≡ 45 → ⊥) → is_letter x ≡ false → is_digit b ≡ false → BeginsWrong ((x ∷ w) ++ b ∷ [])
 BeginsWrong_plain x w v b s n l e more =
     ap token (append_assoc (x ∷ w) (b ∷ []) more) ∙ token_plain x (w ++ b ∷ more) n l ∙ ap plain (digits_wrong 0 s.0 b (x ∷ w) more s.1 e)
 
--- after `-` comes no digit
+-- after `-`, a byte other than a digit
 pub BeginsWrong_minus : (b : ℕ) → is_digit b ≡ false → BeginsWrong (45 ∷ b ∷ [])
 BeginsWrong_minus b e more = token_minus (b ∷ more) ∙ ap minus (digits_stop 0 b more e)
 
@@ -107,7 +107,7 @@ pub BeginsWrong_negative : (w : List ℕ) (v b : ℕ) → SpellsHeld w v → is_
 BeginsWrong_negative w v b s e more =
     ap token (append_assoc (45 ∷ w) (b ∷ []) more) ∙ token_minus (w ++ b ∷ more) ∙ after_minus_is (w ++ b ∷ more) (some_more w b more) ∙ ap minus (digits_wrong 0 s.0 b w more s.1 e)
 
--- what a word in hand says, where it ends
+-- the token of an unfinished word that ends
 pub word_plain : (x : ℕ) (w : List ℕ) (m : ℕ) → digits 0 (x ∷ w) ≡ Some m → (x ≡ 45 → ⊥) → is_letter x ≡ false → token (x ∷ w) ≡ Number false m
 word_plain x w m e n l = token_plain x w n l ∙ ap plain e
 

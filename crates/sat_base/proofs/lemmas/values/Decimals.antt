@@ -24,13 +24,13 @@ more_length n h l = ap length (more_digits n h l) ∙ length-append (decimal (n 
 pub one_put : (bytes : List ℕ) (len x : ℕ) → len < length bytes → take (len + 1) (set bytes len x) ≡ take len bytes ++ x ∷ []
 one_put bytes len x h = let e : len + 1 ≡ suc len = omega arith in ap (λ n. take n (set bytes len x)) e ∙ take-suc-set bytes len x h
 
--- two digits after those before
+-- two more digits
 pub after_pair : (old before now : List ℕ) (len at n : ℕ) → 100 ≤ n → n < 2 ^ 64 → take at before ≡ take len old ++ decimal (n / 100) → take (at + 2) now ≡ take at before ++ (48 + n % 100 / 10) ∷ (48 + n % 100 % 10) ∷ [] → take (at + 2) now ≡ take len old ++ decimal n
 after_pair old before now len at n h l e f =
     let pair : List ℕ = (48 + n % 100 / 10) ∷ (48 + n % 100 % 10) ∷ [] in
     f ∙ ap (λ t. t ++ pair) e ∙ append_assoc (take len old) (decimal (n / 100)) pair ∙ ap (λ t. take len old ++ t) (sym (more_digits n h l))
 
--- how many there are
+-- the number of digits
 pub three_length : (n : ℕ) → 100 ≤ n → n < 1000 → length (decimal n) ≡ 3
 three_length n h l = more_length n h (omega arith) ∙ ap (λ ds. length ds + 2) (decimal_digit (n / 100) (omega arith))
 

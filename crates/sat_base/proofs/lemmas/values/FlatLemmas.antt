@@ -1,4 +1,4 @@
--- Lists in one piece of memory: one more at the end, and the one at a place.
+-- Lists in one buffer: appending a list, and the list at an index.
 use Rattle.std.proofs.Common.{ℕ, zero, suc, max, ◌≡◌, ◌+◌, ◌-◌, ◌<◌, ◌≤◌, List, [], ◌∷◌, ◌++◌, length, get_or, take, drop, refl, sym, ◌∙◌, ap, arith}
 use Rattle.std.specs.List.{between, slice_index}
 use Rattle.std.proofs.lemmas.Grind.{common_steps}
@@ -34,7 +34,7 @@ piece_at from [] xs i inside = absurd (omega arith)
 piece_at from (e ∷ es) xs zero inside = refl
 piece_at from (e ∷ es) xs (suc i) inside = piece_at e es xs i (omega arith)
 
--- a list's place is one of an end
+-- the index of a list is the index of its end
 pub place_inside : {A : Type 0} (ends ds : List ℕ) (xs : List A) (lists : List (List A)) (i : ℕ) → ds ≡ ends → pieces 0 ends xs ≡ lists → i < length lists → (i < length ends) × (i ≤ length ds)
 place_inside ends ds xs lists i e v h = let k = ap length e in let l = ap length v in let n = length-pieces 0 ends xs in (omega arith, omega arith)
 
@@ -58,15 +58,15 @@ AreEnds-push from (e ∷ es) xs c h = (h.0, AreEnds-push e es xs c h.1)
 
 pub ruleset flat = (length-pieces, start_below, end_below, piece_at, pieces-push, AreEnds-push)
 
--- the next literal's variable moves from what is left into what was taken
+-- counting the variable of the next literal
 pub vars_next : (ls : List ℕ) (i count : ℕ) → i < length ls → max count (vars_in (drop i ls)) ≡ max (max count (variable (get_or ls i 0) + 1)) (vars_in (drop (i + 1) ls))
 vars_next ls i count h = let e : i + 1 ≡ suc i = omega arith in rw (e, drop-cons ls i 0) (omega arith)
 
--- one clause more
+-- one more clause
 pub vars_of_more : (cs : List (List ℕ)) (c : List ℕ) → vars_of (cs ++ c ∷ []) ≡ max (vars_of cs) (vars_in c)
 vars_of_more [] c = omega arith
 vars_of_more (d ∷ ds) c = let h = vars_of_more ds c in omega arith
 
--- what a loop sees of the lists that an iterator lends
+-- a loop sees the lists in order
 pub lists_in_order : {X : Type 0} → ShowsInOrder (deref {X = X})
 lists_in_order = from_front (TakesFirst deref) deref (λ s. s) (λ s t h. ap length h.0) (λ s x t h. h)

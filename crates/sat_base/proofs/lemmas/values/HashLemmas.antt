@@ -10,15 +10,15 @@ use Rattle.std.specs.Int.Bits.{bit_xor, xor_assoc, xor_self, xor_zero_r}
 use Rattle.std.specs.List.Sorted.{IsPermutation}
 use Rattle.sat_base.specs.values.Hashes.{literal_hash, hash_of}
 
--- the next literal's hash moves from what is left into what was taken
+-- adding the hash of the next literal
 pub hash_next : (ls : List ℕ) (i hash : ℕ) → i < length ls → bit_xor hash (hash_of (drop i ls)) ≡ bit_xor (bit_xor hash (literal_hash (get_or ls i 0))) (hash_of (drop (i + 1) ls))
 hash_next ls i hash h = let e : i + 1 ≡ suc i = omega arith in rw (e, drop-cons ls i 0) (sym (xor_assoc hash (literal_hash (get_or ls i 0)) (hash_of (drop (suc i) ls))))
 
--- taken away again
+-- a second exclusive or with the same number undoes the first
 xor_back : (a b : ℕ) → bit_xor (bit_xor a b) b ≡ a
 xor_back a b = xor_assoc a b b ∙ ap (λ (z : ℕ). bit_xor a z) (xor_self b) ∙ xor_zero_r a
 
--- one literal in place of another
+-- replacing one literal by another
 first_set : (x v h : ℕ) → bit_xor v h ≡ bit_xor (bit_xor (bit_xor x h) x) v
 first_set x v h = xor_comm v h ∙ ap (λ (z : ℕ). bit_xor z v) (sym (xor_back h x)) ∙ ap (λ (z : ℕ). bit_xor (bit_xor z x) v) (xor_comm h x)
 
@@ -30,7 +30,7 @@ hash_set [] i v h = absurd (omega arith)
 hash_set (x ∷ xs) zero v h = first_set (literal_hash x) (literal_hash v) (hash_of xs)
 hash_set (x ∷ xs) (suc i) v h = ap (λ (z : ℕ). bit_xor (literal_hash x) z) (hash_set xs i v (omega arith)) ∙ later_set (literal_hash x) (hash_of xs) (literal_hash (get_or xs i 0)) (literal_hash v)
 
--- there and back
+-- swapping two literals
 xor_twice : (h a b : ℕ) → bit_xor (bit_xor (bit_xor (bit_xor h a) b) b) a ≡ h
 xor_twice h a b = ap (λ (z : ℕ). bit_xor z a) (xor_back (bit_xor h a) b) ∙ xor_back h a
 
@@ -49,7 +49,7 @@ swapped ls i j h k =
     hash_set (set ls i (get_or ls j 0)) j (get_or ls i 0) (omega arith) ∙ ap (λ (z : ℕ). bit_xor (bit_xor (hash_of (set ls i (get_or ls j 0))) (literal_hash z)) a) (other_there ls i j h)
     ∙ ap (λ (z : ℕ). bit_xor (bit_xor z b) a) (hash_set ls i (get_or ls j 0) h) ∙ xor_twice (hash_of ls) a b
 
--- whatever their order
+-- the hash does not depend on the order of the literals
 pub hash_permuted : (ls ms : List ℕ) → IsPermutation ls ms → hash_of ls ≡ hash_of ms
 hash_permuted ls ms p =
     sym (IsPermutation-keeps ls (λ (xs : List ℕ). hash_of xs ≡ hash_of ls) refl (λ xs i j h k e. ap hash_of (sym (swap_is xs i j 0 h k)) ∙ swapped xs i j h k ∙ e) ms p)

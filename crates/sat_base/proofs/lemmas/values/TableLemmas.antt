@@ -1,4 +1,4 @@
--- Values of tables under a function, and what has a value has room.
+-- Values of tables under a function; a place with a value other than the default has room.
 use Rattle.std.proofs.Common.{ℕ, ◌≡◌, ◌≢◌, ◌≤◌, ◌∙◌, Bool, true, false, cond, eqb, Option, Some, None, ltb, refl, sym, ap, subst, inl, inr}
 use Rattle.std.specs.Option.{IsSome}
 use Rattle.std.specs.Ordering.{nat_cmp}
@@ -21,11 +21,11 @@ has_room {T} missing t v h = near (ltb v (near_count t)) refl h
     near true e h = inl (ltb-true v (near_count t) e)
     near false e h = inr (there (get nat_cmp t.far v) h)
 
--- a value that is read, by equal names
+-- a value that is read, with equal arguments
 pub value_read : {T X : Type 0} (f : T → X) (t : Table T) (m n r : T) (p q : ℕ) → r ≡ value_at m t p → m ≡ n → p ≡ q → f r ≡ f (value_at n t q)
 value_read f t m n r p q e d h = ap f e ∙ ap (λ k. f (value_at k t p)) d ∙ ap (λ v. f (value_at n t v)) h
 
--- a value that is set, by equal names
+-- a value that is set, with equal arguments
 pub value_set : {T X : Type 0} (f : T → X) (old new : Table T) (m n x : T) (p q : ℕ) → m ≡ n → p ≡ q → ((v : ℕ) → value_at m new v ≡ cond (eqb v p) x (value_at m old v))
     → (v : ℕ) → f (value_at n new v) ≡ cond (eqb v q) (f x) (f (value_at n old v))
 value_set f old new m n x p q d h e v =

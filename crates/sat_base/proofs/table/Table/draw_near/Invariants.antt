@@ -2,7 +2,7 @@ use Rattle.std.proofs.Common.{◌≡◌, length}
 use Rattle.sat_base.specs.values.Tables.{KeepsRoom, KeepsValues}
 use Rattle.sat_base.proofs.table.Table.draw_near.Given as goal
 
--- the places so far are near, and each has its value
+-- the places so far are in the near list, and no value changed
 abbrev pub invariant-loop-next : goal.invariant-loop-next
 invariant-loop-next g l = record {
   near : length l.self.near.items ≡ l.next;

@@ -1,4 +1,4 @@
--- `and_end` makes the tally after one call more, which found the end.
+-- `and_end` returns the tally with one more call: a read that found the end.
 use Rattle.std.proofs.Common.{[], ◌∷◌, ◌+◌, true, false, refl}
 use Rattle.std.proofs.raw_atomic.Walks.{proved}
 use mir.Syntax.{named}

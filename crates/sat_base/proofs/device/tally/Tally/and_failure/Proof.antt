@@ -1,4 +1,4 @@
--- `and_failure` makes the tally after one call more, which failed.
+-- `and_failure` returns the tally with one more call, which failed.
 use Rattle.std.proofs.Common.{[], ◌∷◌, ◌+◌, true, false, refl}
 use Rattle.std.proofs.raw_atomic.Walks.{proved}
 use mir.Syntax.{named}

@@ -1,4 +1,4 @@
--- `and_flush` makes the tally after one call more, a flush.
+-- `and_flush` returns the tally with one more call: a flush.
 use Rattle.std.proofs.Common.{[], ◌∷◌, ◌+◌, true, false, refl}
 use Rattle.std.proofs.raw_atomic.Walks.{proved}
 use mir.Syntax.{named}

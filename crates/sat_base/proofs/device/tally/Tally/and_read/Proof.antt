@@ -1,4 +1,4 @@
--- `and_read` makes the tally after one call more, which gave these bytes.
+-- `and_read` returns the tally with one more call: a read that gave these bytes.
 use Rattle.std.proofs.Common.{[], ◌∷◌, ◌++◌, ◌+◌, false, refl}
 use Rattle.std.proofs.raw_atomic.Walks.{proved}
 use mir.Syntax.{named}

@@ -1,4 +1,4 @@
--- `and_write` makes the tally after one call more, which took these bytes.
+-- `and_write` returns the tally with one more call: a write that accepted these bytes.
 use Rattle.std.proofs.Common.{[], ◌∷◌, ◌++◌, ◌+◌, false, refl}
 use Rattle.std.proofs.raw_atomic.Walks.{proved}
 use mir.Syntax.{named}

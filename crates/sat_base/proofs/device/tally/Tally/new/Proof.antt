@@ -1,4 +1,4 @@
--- `new` makes a tally without calls.
+-- `new` returns a tally without calls.
 use Rattle.std.proofs.Common.{[], ◌∷◌, false, refl}
 use Rattle.std.proofs.raw_atomic.Walks.{proved}
 use types.Kit.{‵, raw, ◌$◌, ◌∵◌, !, qed, done, drop, fjoin, suffices}

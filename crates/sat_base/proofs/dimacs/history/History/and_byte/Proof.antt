@@ -1,4 +1,4 @@
--- `and_byte` makes the history with one byte more.
+-- `and_byte` returns the history with one more byte.
 use Rattle.std.proofs.Common.{[], ◌∷◌, ◌++◌, refl, w8}
 use Rattle.std.proofs.raw_atomic.Walks.{proved}
 use mir.Syntax.{named}

@@ -1,4 +1,4 @@
--- `and_clauses` makes the history with the clauses of a formula handed over.
+-- `and_clauses` returns the history with the clauses of a formula added to those taken.
 use Rattle.std.proofs.Common.{[], ◌∷◌, ◌++◌, refl}
 use Rattle.std.proofs.raw_atomic.Walks.{proved}
 use mir.Syntax.{named}
