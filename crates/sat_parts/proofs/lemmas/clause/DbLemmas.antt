@@ -1,4 +1,4 @@
--- What adding, deleting and moving clauses leaves of the list of clauses.
+-- Adding, deleting and moving clauses preserves the invariant of the list of clauses.
 use Rattle.std.proofs.Common.{ℕ, ◌≡◌, ◌≢◌, ◌+◌, ◌-◌, ◌^◌, ◌<◌, ◌≤◌, inl, inr, min, List, [], ◌∷◌, ◌++◌, length, get_or, set, take, refl, sym, ap, ◌∙◌, subst, arith, length-set, get_or-set_same, get_or-set_other, Bool, true, false, not, ◌&&◌, ◌==◌, cond}
 use Rattle.std.proofs.lemmas.Bool.{cases_eq, ne_eqb, eq-eqb, cond-true, cond-false}
 use Rattle.std.proofs.lemmas.List.{take_all, length-take-le}
@@ -22,11 +22,11 @@ and_true : (a : Bool) → (a && true) ≡ a
 and_true true = refl
 and_true false = refl
 
--- what passes is live
+-- what is in the list of live clauses is live
 pub live_is : (words refs : List ℕ) (o : ℕ) → Contains (live_refs words refs) o → is_live words o ≡ true
 live_is words refs o h = All-contains (λ x. is_live words x ≡ true) (live_refs words refs) o (filter_passes (is_live words) refs) h
 
--- a header of the same length, as `set_header` writes it
+-- replacing a header by one of the same length, as `set_header` does
 pub puts_header : (words words' refs : List ℕ) (o : ℕ) (h : Header) → HoldsClauses words refs → Contains refs o → h.len ≡ (header_at words o).len →
     header_at words' o ≡ h → lits_at words' o ≡ take h.len (lits_at words o) → ChangesAt words words' o → PutsHeader words words' refs o h
 puts_header words words' refs o h holds_clauses has len header lits change = record {
@@ -37,7 +37,7 @@ puts_header words words' refs o h holds_clauses has len header lits change = rec
   others = λ p c n. change.others p (holds_clauses.clauses p c) (holds_clauses.apart o p has c (λ e. n (sym e)));
 }
 
--- whether a clause is counted as one of a tier, where its header is known
+-- whether a clause counts for a tier, given its header
 counted_live : (words : List ℕ) (t : Tier) (o : ℕ) (tier : Tier) → is_live words o ≡ true → (header_at words o).tier ≡ tier → is_live_of words t o ≡ (index_of tier == index_of t)
 counted_live words t o tier live is = ap (λ b. b && (index_of (header_at words o).tier == index_of t)) live ∙ ap (λ x. index_of x == index_of t) is
 
@@ -47,7 +47,7 @@ counted_dead words t o dead = ap (λ b. b && (index_of (header_at words o).tier 
 abbrev one : Bool → ℕ
 one b = cond b 1 0
 
--- the clauses of the list that are kept are counted as before
+-- unchanged clauses count as before
 kept_counted : (words words' : List ℕ) (t : Tier) (p : ℕ) → header_at words' p ≡ header_at words p → is_live_of words' t p ≡ is_live_of words t p
 kept_counted words words' t p e = ap (λ (h : Header). not h.deleted && (index_of h.tier == index_of t)) e
 
@@ -55,7 +55,7 @@ kept_garbage : (words words' : List ℕ) (p : ℕ) → SameClauseAt words words'
 kept_garbage words words' p k =
     ap (λ (h : Header). cond (not h.deleted) 0 (length (lits_at words' p) + 3)) k.header ∙ ap (λ (ls : List ℕ). cond (is_live words p) 0 (length ls + 3)) k.lits
 
--- the numbers by tier where one clause of the list changes
+-- the counts by tier when the header of one clause changes
 counts_changed : (words words' refs : List ℕ) (o : ℕ) (h : Header) (t : Tier) → AreRising refs → Contains refs o → PutsHeader words words' refs o h →
     count_by (is_live_of words' t) refs + one (is_live_of words t o) ≡ count_by (is_live_of words t) refs + one (is_live_of words' t o)
 counts_changed words words' refs o h t rising has put =
@@ -67,7 +67,7 @@ garbage_changed : (words words' refs : List ℕ) (o : ℕ) (h : Header) → AreR
 garbage_changed words words' refs o h rising has put =
     sum_changed (garbage_of words) (garbage_of words') refs o rising has (λ p c n. kept_garbage words words' p (put.others p c n))
 
--- a number by tier that one is taken from isn't 0
+-- the count of a live clause's tier is not 0
 pub counted_one : (words : List ℕ) (db : Db) (o : ℕ) → DbMatchesBuffer words db → Contains (live_refs words db.refs) o → 0 < get_or db.counts (index_of (header_at words o).tier) 0
 counted_one words db o h c = elim (cases_eq (get_or db.counts (index_of (header_at words o).tier) 0) 0) [
   | inl e ↦
@@ -82,7 +82,7 @@ index_small : (t : Tier) → index_of t < 4
 index_small Irred = omega arith
 index_small e = omega arith
 
--- the numbers with one of them set, where it is read and elsewhere
+-- reading the counts after one of them was set
 set_there : (counts : List ℕ) (a b : Tier) (x : ℕ) → length counts ≡ 4 → index_of a ≡ index_of b → get_or (set counts (index_of a) x) (index_of b) 0 ≡ x
 set_there counts a b x n e = ap (λ k. get_or (set counts (index_of a) x) k 0) (sym e) ∙ get_or-set_same counts (index_of a) x 0 (omega (arith, index_small a))
 
@@ -99,7 +99,7 @@ long_put words words' refs o h put long p c = elim (cases_eq p o) [
   | inr n ↦ subst (λ (ls : List ℕ). 3 ≤ length ls) (sym (put.others p c n).lits) (long p c)
 ]
 
--- the numbers once the clause at o isn't live any more
+-- the list after the clause at o was deleted
 abbrev pub after_delete : List ℕ → ℕ → Db → Db
 after_delete words o db = record db {
   counts = tier_count_less (header_at words o).tier db.counts;
@@ -152,11 +152,11 @@ deletes words db words' o h c put =
       ]);
     }
 
--- the numbers once the clause at o is of another tier
+-- the list after the clause at o moved to another tier
 abbrev pub after_move : List ℕ → ℕ → Tier → Db → Db
 after_move words o tier db = record db { counts = tier_count_more tier (tier_count_less (header_at words o).tier db.counts) }
 
--- a header that is as deleted as before leaves the live clauses as they are
+-- a header with the same deletion mark leaves the live clauses unchanged
 pub live_put : (words words' refs : List ℕ) (o : ℕ) (h : Header) → h.deleted ≡ (header_at words o).deleted → PutsHeader words words' refs o h → live_refs words' refs ≡ live_refs words refs
 live_put words words' refs o h e put = filter_same (is_live words) (is_live words') refs (λ x d. elim (cases_eq x o) [
   | inl q ↦ ap (λ z. is_live words' z) q ∙ ap (λ (y : Header). not y.deleted) put.header_there ∙ ap (λ b. not b) e ∙ ap (λ z. is_live words z) (sym q)
@@ -222,11 +222,11 @@ moves words db words' o tier h c differ put =
       live = live_put words words' db.refs o (record (header_at words o) { tier = tier }) refl put;
     }
 
--- the list and the numbers once a clause was added
+-- the list after a clause was added
 abbrev pub after_add : ℕ → Tier → Db → Db
 after_add o tier db = record db { refs = db.refs ++ o ∷ []; counts = tier_count_more tier db.counts }
 
--- the clauses of the list are kept by an addition
+-- adding a clause leaves the other clauses unchanged
 added_keeps : (words words' : List ℕ) (db : Db) (o : ℕ) (header : Header) (lits : List ℕ) → DbMatchesBuffer words db → AppendsClause words words' o header lits → (p : ℕ) → Contains db.refs p → SameClauseAt words words' p
 added_keeps words words' db o header lits h added p c = kept_below words words' db.refs o p header lits h.holds_clauses c added
 
@@ -273,11 +273,11 @@ adds words db words' o header lits h new three few added =
           ∙ ap (λ (xs : List ℕ). live_refs words db.refs ++ xs) (cond-true (is_live words' o) (o ∷ []) [] live);
     }
 
--- the clause at a live place, and what its tier is counted with
+-- a live reference refers to a clause
 pub live_clause : (words : List ℕ) (db : Db) (o : ℕ) → DbMatchesBuffer words db → Contains (live_refs words db.refs) o → IsClause words o
 live_clause words db o h c = h.holds_clauses.clauses o (live_in words db.refs o c)
 
--- a tier that a live clause isn't of has room for one more
+-- the count of a tier that the clause is not in can grow by one
 pub room_in_tier : (words : List ℕ) (db : Db) (o : ℕ) (tier : Tier) → DbMatchesBuffer words db → Contains (live_refs words db.refs) o → index_of (header_at words o).tier ≢ index_of tier →
     get_or (tier_count_less (header_at words o).tier db.counts) (index_of tier) 0 + 1 < 2 ^ 64
 room_in_tier words db o tier h c differ =
@@ -286,7 +286,7 @@ room_in_tier words db o tier h c differ =
     let less : count_by (is_live_of words tier) db.refs < length db.refs = count_less (is_live_of words tier) db.refs o (live_in words db.refs o c) no in
     omega (arith, set_elsewhere db.counts old tier (get_or db.counts (index_of old) 0 - 1) differ, h.counts tier, less, h.few)
 
--- the same with the length that the header says
+-- deletion, with the length from the header
 pub deleted_by : (words : List ℕ) (db : Db) (words' : List ℕ) (o : ℕ) → DbMatchesBuffer words db → Contains (live_refs words db.refs) o →
     PutsHeader words words' db.refs o (record (header_at words o) { deleted = true }) →
     DeletesClause words db words'
@@ -295,7 +295,7 @@ deleted_by words db words' o h c put =
     subst (λ (n : ℕ). DeletesClause words db words' (record db { counts = tier_count_less (header_at words o).tier db.counts; garbage = min (db.garbage + (n + 3)) (2 ^ 64 - 1) }) o)
     (same_count words o (live_clause words db o h c)) (deletes words db words' o h c put)
 
--- the same for an addition, in the words of the call
+-- addition, in the variables of the call
 pub added_by : (words : List ℕ) (db db' inside : Db) (words' items : List ℕ) (tier : Tier) (o : ℕ) (header : Header) (lits : List ℕ) → inside ≡ db →
     db' ≡ record inside { refs = items; counts = tier_count_more tier inside.counts } → items ≡ inside.refs ++ o ∷ [] → tier ≡ header.tier →
     DbMatchesBuffer words db → header.deleted ≡ false → 3 ≤ length lits → length items < 2 ^ 64 → AppendsClause words words' o header lits → AddsLongClause words db words' db' o header lits
@@ -308,7 +308,7 @@ added_by words db db' inside words' items tier o header lits same is items_is ti
     subst (λ (d : Db). AddsLongClause words db words' d o header lits) (sym whole)
     (adds words db words' o header lits h new three (subst (λ (xs : List ℕ). length xs < 2 ^ 64) refs_is few) added)
 
--- the clause at o came to be shorter, as `set_header` says it
+-- shortening the clause at o, as `set_header` does it
 pub shortens : (words : List ℕ) (db : Db) (words' : List ℕ) (o len : ℕ) → DbMatchesBuffer words db → Contains (live_refs words db.refs) o → 3 ≤ len → len ≤ length (lits_at words o) →
     header_at words' o ≡ record (header_at words o) { len = len } → lits_at words' o ≡ take len (lits_at words o) → ChangesAt words words' o → ShortensClause words db words' o len
 shortens words db words' o len h c long fits header lits change =

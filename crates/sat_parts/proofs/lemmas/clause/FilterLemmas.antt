@@ -31,7 +31,7 @@ filtering_none R f words refs holds_clauses = record {
   rest = λ k a b. keeps_itself words refs (get_or refs k 0) holds_clauses (place_in refs k b);
 }
 
--- a deleted clause isn't asked for
+-- a deleted clause is skipped
 pub filtering_skip : {F : Type 0} (R : F → ℕ → Bool → F → Type 0) (f f' : F) (old new refs : List ℕ) (at : ℕ) → FilterInvariant R f old new refs at f' → at < length refs →
     is_live new (get_or refs at 0) ≡ false → FilterInvariant R f old new refs (at + 1) f'
 filtering_skip R f f' old new refs at h lt dead =
@@ -49,7 +49,7 @@ filtering_skip R f f' old new refs at h lt dead =
       rest = λ k a b. h.rest k (omega arith) b;
     }
 
--- where the headers of the first clauses of a list stay, the same of them are live
+-- if the headers of the first clauses are unchanged, the same of them are live
 front_same : (new new' refs : List ℕ) (at : ℕ) → ((k : ℕ) → k < at → k < length refs → header_at new' (get_or refs k 0) ≡ header_at new (get_or refs k 0)) →
     live_refs new' (take at refs) ≡ live_refs new (take at refs)
 front_same new new' refs at h = filter_same (is_live new) (is_live new') (take at refs) (λ o c.
@@ -57,7 +57,7 @@ front_same new new' refs at h = filter_same (is_live new) (is_live new') (take a
     let q : get_or refs c.0 0 ≡ o = sym (get_or-take at refs c.0 0 (omega arith)) ∙ at_place (take at refs) o c in
     ap (λ (x : Header). not x.deleted) (ap (λ p. header_at new' p) (sym q) ∙ h c.0 (omega arith) (omega arith) ∙ ap (λ p. header_at new p) q))
 
--- the answers and what they leave, with one more
+-- one more result of the test
 asked_push : {F : Type 0} (R : F → ℕ → Bool → F → Type 0) (f f' f'' : F) (answers : List Bool) (live : List ℕ) (o : ℕ) (b : Bool) → length answers ≡ length live →
     ReturnsInTurn R f answers live f' → R f' o b f'' → ReturnsInTurn R f (answers ++ b ∷ []) (live ++ o ∷ []) f''
 asked_push R f f' f'' [] [] o b e h r = (f'', subst (λ j. R j o b f'') (sym h) r, refl)
@@ -79,7 +79,7 @@ picked_false (a ∷ bs) [] o e = absurd (omega arith)
 picked_false (true ∷ bs) (x ∷ xs) o e = ap (λ (zs : List ℕ). x ∷ zs) (picked_false bs xs o (omega arith))
 picked_false (false ∷ bs) (x ∷ xs) o e = picked_false bs xs o (omega arith)
 
--- a live clause that is next was live before, and is as it was
+-- the next clause is unchanged; if it is live, it was live before
 pub filtering_kept : {F : Type 0} (R : F → ℕ → Bool → F → Type 0) (f f' : F) (old new refs : List ℕ) (at o : ℕ) → FilterInvariant R f old new refs at f' → at < length refs →
     o ≡ get_or refs at 0 → SameClauseAt old new o
 filtering_kept R f f' old new refs at o h lt e = subst (λ p. SameClauseAt old new p) (sym e) (h.rest at (omega arith) lt)
@@ -88,7 +88,7 @@ pub filtering_alive : {F : Type 0} (R : F → ℕ → Bool → F → Type 0) (f 
     o ≡ get_or refs at 0 → is_live new o ≡ true → Contains (live_refs old refs) o
 filtering_alive R f f' old new refs at o h lt e alive = live_place old refs at o lt e (live_kept old new o (filtering_kept R f f' old new refs at o h lt e) ∙ alive)
 
--- the test answers true
+-- the test returns true, and the clause stays
 pub filtering_keep : {F : Type 0} (R : F → ℕ → Bool → F → Type 0) (f f' f'' : F) (old new refs : List ℕ) (at p : ℕ) → FilterInvariant R f old new refs at f' → at < length refs →
     p ≡ get_or refs at 0 → is_live new p ≡ true → R f' p true f'' → FilterInvariant R f old new refs (at + 1) f''
 filtering_keep R f f' f'' old new refs at p h lt is live asked =
@@ -110,7 +110,7 @@ filtering_keep R f f' f'' old new refs at p h lt is live asked =
       rest = λ k a b. h.rest k (omega arith) b;
     }
 
--- the test answers false, and the clause is deleted
+-- the test returns false, and the clause is deleted
 pub filtering_drop : {F : Type 0} (R : F → ℕ → Bool → F → Type 0) (f f' f'' : F) (old new new' refs : List ℕ) (at p : ℕ) → AreRising refs → FilterInvariant R f old new refs at f' → at < length refs →
     p ≡ get_or refs at 0 → is_live new p ≡ true → R f' p false f'' → PutsHeader new new' refs p (record (header_at new p) { deleted = true }) →
     FilterInvariant R f old new' refs (at + 1) f''
@@ -152,7 +152,7 @@ filtering_all R f f' old new refs at h e =
           subst (λ p. SameClauseAt old new p) q (h.front d.0 (omega (arith, d.1)) d.1 (ap (λ p. is_live new p) q ∙ live_is new refs o c)),
     )
 
--- what is picked from a list is among it
+-- items picked from a list are in the list
 picked_in : (answers : List Bool) (xs : List ℕ) (o : ℕ) → Contains (items_where_true answers xs) o → Contains xs o
 picked_in [] [] o c = absurd (omega (arith, c.1))
 picked_in [] (x ∷ xs) o c = absurd (omega (arith, c.1))
@@ -163,6 +163,6 @@ picked_in (true ∷ bs) (x ∷ xs) o c = elim (cases_eq x o) [
 ]
 picked_in (false ∷ bs) (x ∷ xs) o c = in_tail x xs o (picked_in bs xs o c)
 
--- the clauses that a pass keeps are live ones of those before it
+-- the clauses that a pass keeps were in the list
 pub filtered_in : {F : Type 0} (R : F → ℕ → Bool → F → Type 0) (f : F) (xs ys : List ℕ) (o : ℕ) → IsFiltered R f xs ys → Contains ys o → Contains xs o
 filtered_in R f xs ys o h c = picked_in h.0 xs o (subst (λ (zs : List ℕ). Contains zs o) h.4 c)

@@ -20,7 +20,7 @@ use Rattle.sat_parts.proofs.lemmas.prop.BuildLemmas.{live_in, live_next, live_sk
 use Rattle.sat_parts.proofs.lemmas.clause.ListLemmas.{in_head, in_tail, at_place, place_in, rising_push, rising_tail, rising_above}
 use Rattle.sat_parts.proofs.lemmas.clause.DbLemmas.{live_is}
 
--- places of one more
+-- reading a list with one more item at its end
 
 more_last : (xs : List ℕ) (x k : ℕ) → k ≡ length xs → get_or (xs ++ x ∷ []) k 0 ≡ x
 more_last xs x k e = get_or_push xs x 0 k (sym e)
@@ -55,7 +55,7 @@ sums_along f g (x ∷ xs) (y ∷ ys) n h =
     let b : sum_by g ys ≡ sum_by f xs = sums_along f g xs ys (omega arith) (λ k lt. h (suc k) (omega arith)) in
     omega (arith, sum_by-cons g y ys, sum_by-cons f x xs)
 
--- an addition keeps the words of the clauses before it, and its own words come to them
+-- appending a clause keeps the buffer packed: it has only the words of its clauses
 packed_more : (w r w2 : List ℕ) (c : ℕ) (h : Header) (ls : List ℕ) → HoldsClauses w r → length w ≡ words_of w r → AppendsClause w w2 c h ls → length w2 ≡ words_of w2 (r ++ c ∷ [])
 packed_more w r w2 c h ls holds_clauses packed added =
     let kept : words_of w2 r ≡ words_of w r =
@@ -129,7 +129,7 @@ copying_all words refs w r i h e =
     let all : live_refs words (take i refs) ≡ live_refs words refs = ap (λ (xs : List ℕ). live_refs words xs) (take_all i refs (omega arith)) in
     (subst (λ (xs : List ℕ). Copies words xs w r) all h.copies, subst (λ (xs : List ℕ). (k : ℕ) → k < length r → get_or r k 0 ≤ get_or xs k 0) all h.low)
 
--- reasons that follow one clause more
+-- REASONS, after one more clause was replaced by its copy
 
 pub long_same : (p o : ℕ) → Long p ≡ Long o → p ≡ o
 long_same p o e = cc
@@ -148,7 +148,7 @@ no_long o e = cc
 no_long' : (ls : List ℕ) (o : ℕ) → Binary ls ≡ Long o → ⊥
 no_long' ls o e = cc
 
--- the reason is the clause's own, and becomes its copy
+-- the reason names this clause, and then its copy
 follows_moved : (live refs' : List ℕ) (n : ℕ) (r0 r1 r2 : Reason) → r1 ≡ Long (get_or live n 0) → r2 ≡ Long (get_or refs' n 0) →
     ((k : ℕ) → k < n → get_or refs' k 0 < get_or live n 0) → FollowsFirst live refs' n r0 r1 → FollowsFirst live refs' (n + 1) r0 r2
 follows_moved live refs' n NoCause r1 r2 e f low h = absurd (no_long (get_or live n 0) (sym h ∙ e))
@@ -160,7 +160,7 @@ follows_moved live refs' n (Long o) r1 r2 e f low h = elim h [
   | inr x ↦ inl (n, (omega arith, long_same (get_or live n 0) o (sym e ∙ x.0), f))
 ]
 
--- the reason isn't the clause's
+-- the reason does not name this clause
 follows_kept : (live refs' : List ℕ) (n : ℕ) (r0 r1 r2 : Reason) → r2 ≡ r1 → ((o : ℕ) → r0 ≡ Long o → r1 ≡ Long o → get_or live n 0 ≢ o) →
     FollowsFirst live refs' n r0 r1 → FollowsFirst live refs' (n + 1) r0 r2
 follows_kept live refs' n NoCause r1 r2 e other h = e ∙ h
@@ -247,7 +247,7 @@ followed_more words live refs' lits n first nodes one two h firsts first_is low 
           }
     ]
 
--- the place of a live clause among the live ones
+-- the index of a live clause among the live ones
 pub live_nth : (words refs : List ℕ) (i : ℕ) → i < length refs → is_live words (get_or refs i 0) ≡ true →
     (get_or (live_refs words refs) (length (live_refs words (take i refs))) 0 ≡ get_or refs i 0) × (length (live_refs words (take i refs)) < length (live_refs words refs))
 live_nth words refs i lt live =
@@ -290,12 +290,12 @@ one_counted q r x xs false e h =
     let c : count_by (λ x. q x && r x) (filter q xs) ≡ count_by (λ x. q x && r x) (x ∷ xs) = omega (arith, none, sum_by-cons (λ z. cond {A = ℕ} (q z && r z) 1 0) x xs) in
     ap (λ (zs : List ℕ). count_by (λ x. q x && r x) zs) gone ∙ c
 
--- what isn't live isn't counted
+-- clauses that are not live are not counted
 count_filtered : (q r : ℕ → Bool) (xs : List ℕ) → count_by (λ x. q x && r x) (filter q xs) ≡ count_by (λ x. q x && r x) xs
 count_filtered q r [] = refl
 count_filtered q r (x ∷ xs) = one_counted q r x xs (q x) refl (count_filtered q r xs)
 
--- each copy is live
+-- every copy is live
 copy_live_is : (words live w r : List ℕ) → Copies words live w r → ((x : ℕ) → Contains live x → is_live words x ≡ true) → (x : ℕ) → Contains r x → is_live w x ≡ true
 copy_live_is words live w r h all x c =
     let lt : c.0 < length live = omega (arith, c.1, h.size) in
@@ -359,12 +359,12 @@ rising_kept p x xs true e h r =
     subst (λ (zs : List ℕ). AreRising zs) (sym (ap (λ b. cond b (x ∷ filter p xs) (filter p xs)) e)) (rising_cons x (filter p xs) r (λ q c. rising_above x xs q h (in_filter p xs q c)))
 rising_kept p x xs false e h r = subst (λ (zs : List ℕ). AreRising zs) (sym (ap (λ b. cond b (x ∷ filter p xs) (filter p xs)) e)) r
 
--- a rising list keeps rising without some of it
+-- filtering keeps a rising list rising
 rising_filter : (p : ℕ → Bool) (xs : List ℕ) → AreRising xs → AreRising (filter p xs)
 rising_filter p [] h = h
 rising_filter p (x ∷ xs) h = rising_kept p x xs (p x) refl h (rising_filter p xs (rising_tail x xs h))
 
--- one turn of the walk, in the words of the call
+-- one iteration of the loop, in the variables of the code
 pub followed_by : (words : List ℕ) (db : Db) (refs' lits : List ℕ) (n first from to : ℕ) (nodes one two : List ImplNode) → DbMatchesBuffer words db → length refs' ≡ length (live_refs words db.refs) →
     ((k : ℕ) → k < length refs' → get_or refs' k 0 ≤ get_or (live_refs words db.refs) k 0) → AreFollowed (live_refs words db.refs) refs' lits n nodes one →
     AreFirsts words (live_refs words db.refs) lits nodes → n < length refs' → from ≡ get_or (live_refs words db.refs) n 0 → first ≡ lit_of words from 0 → to ≡ get_or refs' n 0 →

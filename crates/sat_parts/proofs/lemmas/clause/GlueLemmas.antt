@@ -16,7 +16,7 @@ use Rattle.sat_parts.specs.clause.Glue.{different, levels_of}
 abbrev pub among : ℕ → List ℕ → Bool
 among q xs = list_any (λ x. eqb q x) xs
 
--- the flags of the first i numbers are set, and their different ones are counted
+-- that the flags of the first i levels are set, and `glue` counts the different ones
 pub record AreMarked (flags : List Bool) (levels : List ℕ) (i glue : ℕ) : Type 0 where
   pub keys : List ℕ
   pub distinct : IsDistinct eqb keys
@@ -85,7 +85,7 @@ marked_all flags levels i glue h e =
       λ q b. h.marks q b ∙ ap (λ xs. among q xs) all,
     )
 
--- the different ones of the first i numbers
+-- that the first i levels have n different ones
 record HasKeys (levels : List ℕ) (i n : ℕ) : Type 0 where
   keys : List ℕ
   distinct : IsDistinct eqb keys
@@ -127,12 +127,12 @@ keys_least levels (suc k) i n h e =
     let rest : more.0 ≤ different levels = keys_least levels k (i + 1) more.0 more.1.1 (omega arith) in
     omega (arith, more.1.0, rest)
 
--- the first numbers have no more different ones than all
+-- the first levels have at most as many different ones as all levels
 pub marked_least : (flags : List Bool) (levels : List ℕ) (i glue : ℕ) → AreMarked flags levels i glue → i < length levels → glue ≤ different levels
 marked_least flags levels i glue h lt =
     keys_least levels (length levels - i) i glue (record { keys = h.keys; distinct = h.distinct; counted = h.counted; same = h.same }) (omega arith)
 
--- what is still set once the first i were cleared is among the others
+-- that every flag still set belongs to a level from index i on
 abbrev pub AreLeft : List Bool → List ℕ → ℕ → Type 0
 AreLeft flags levels i = (q : ℕ) → q < length flags → get_or flags q false ≡ true → among q (drop i levels) ≡ true
 
@@ -151,7 +151,7 @@ left_more flags levels i x h lt x_is b q c t =
 pub same_flags : (old new : List Bool) → length new ≡ length old → ((k : ℕ) → get_or old k false ≡ false) → ((k : ℕ) → k < length new → get_or new k false ≡ false) → new ≡ old
 same_flags old new n h g = ext_get_or false new old n (λ k b. g k b ∙ sym (h k))
 
--- the level of the literal at a place, in the code's words
+-- the level of the literal at an index, in the variables of the code
 pub level_at : (nodes : List ImplNode) (ls : List ℕ) (i l v x : ℕ) → i < length ls → l ≡ get_or ls i 0 → v ≡ variable l → x ≡ (node_of nodes v).level → x ≡ get_or (levels_of nodes ls) i 0
 level_at nodes ls i l v x lt l_is v_is x_is =
     x_is ∙ ap (λ z. (node_of nodes z).level) (v_is ∙ ap (λ z. variable z) l_is) ∙ sym (get_or-map (λ z. (node_of nodes (variable z)).level) ls i 0 0 lt)

@@ -1,4 +1,4 @@
--- Headers of a list of clauses that are written one by one.
+-- Headers of a list of clauses, written one by one.
 use Rattle.std.proofs.Common.{ℕ, ◌≡◌, ◌+◌, ◌^◌, ◌<◌, ◌≤◌, ◌==◌, ◌-◌, min, inl, inr, List, [], ◌∷◌, ◌++◌, take, true, false, length, get_or, sym, ap, ◌∙◌, subst, arith, Bool, not, ◌&&◌, cond}
 use Rattle.std.proofs.lemmas.Bool.{cases_eq, ne_eqb, eq-eqb, cond-true, cond-false}
 use Rattle.std.proofs.lemmas.List.{append-nil}
@@ -22,7 +22,7 @@ first_all words one refs f n x e = record {
       ap (λ z. lits_at one z) (sym q) ∙ x.lits c.0 c.1 ∙ ap (λ z. lits_at words z) q;
 }
 
--- headers with the tiers and marks of deletion that there were leave the list as it is
+-- new headers with the same tiers and deletion marks preserve the invariant of the list
 pub holds_headers : (words one : List ℕ) (db : Db) (f : ℕ → Header) → DbMatchesBuffer words db → PutsHeaders words one db.refs f →
     ((p : ℕ) → Contains db.refs p → (f p).deleted ≡ (header_at words p).deleted) → ((p : ℕ) → Contains db.refs p → (f p).tier ≡ (header_at words p).tier) → DbMatchesBuffer one db
 holds_headers words one db f h x dead tier =
@@ -46,7 +46,7 @@ pub live_headers : (words one : List ℕ) (db : Db) (f : ℕ → Header) → Put
     live_refs one db.refs ≡ live_refs words db.refs
 live_headers words one db f x dead = filter_same (is_live words) (is_live one) db.refs (λ p c. ap (λ (y : Header). not y.deleted) (x.headers p c) ∙ ap (λ b. not b) (dead p c))
 
--- one header, as the headers of all
+-- one new header, as new headers for all clauses
 pub put_one : (words one refs : List ℕ) (o : ℕ) (h : Header) → PutsHeader words one refs o h → PutsHeaders words one refs (λ p. cond (p == o) h (header_at words p))
 put_one words one refs o h put = record {
   size = put.size;
@@ -75,7 +75,7 @@ holds_put words one db o h x put dead tier =
     let tier' : (p : ℕ) → Contains db.refs p → (cond (p == o) h (header_at words p)).tier ≡ (header_at words p).tier = λ p c. one_of words o p h (λ (z : Header). z.tier) tier in
     (holds_headers words one db (λ p. cond (p == o) h (header_at words p)) x all dead' tier', live_headers words one db (λ p. cond (p == o) h (header_at words p)) all dead')
 
--- one place more of a filtered list
+-- one more item of a filtered list
 pub passed_more : (p : ℕ → Bool) (refs xs : List ℕ) (at x : ℕ) → xs ≡ filter p (take at refs) → at < length refs → x ≡ get_or refs at 0 → p x ≡ true → xs ++ x ∷ [] ≡ filter p (take (at + 1) refs)
 passed_more p refs xs at x e lt is passes =
     let y : p (get_or refs at 0) ≡ true = subst (λ z. p z ≡ true) is passes in

@@ -1,4 +1,4 @@
--- The list of clauses where at most the order of literals changed.
+-- The invariant of the list of clauses holds if at most the order of literals changed.
 use Rattle.std.proofs.Common.{ℕ, ◌+◌, ◌-◌, ◌^◌, ◌≤◌, min, List, length, sym, ap, ◌∙◌, subst, not, ◌&&◌, ◌==◌, cond}
 use Rattle.sat_store.specs.clause.Buffer.{lits_at}
 use Rattle.sat_store.specs.clause.Header.{Header, index_of}

@@ -5,7 +5,7 @@ use Rattle.std.proofs.lemmas.List.{drop_more, take_all, take-append-drop}
 use Rattle.std.proofs.lemmas.List.Elements.{filter-append}
 use Rattle.sat_parts.specs.clause.Db.{is_live, live_refs}
 
--- where none of the clauses before a place is live, the live one at it is the first of all, and those after it follow
+-- the first live clause, given that no clause before it is live, and the clauses after it
 pub live_rest : (words refs : List ℕ) (at x : ℕ) → live_refs words (take at refs) ≡ [] → at < length refs → is_live words (get_or refs at 0) ≡ true → x ≡ get_or refs at 0 →
     live_refs words refs ≡ x ∷ live_refs words (take (length refs - (at + 1)) (drop (at + 1) refs))
 live_rest words refs at x none lt live is =

@@ -1,4 +1,4 @@
--- Lists of places, and sums and filters over them where one place changes.
+-- Lists of references: sums, counts and filters when one item changes.
 use Rattle.std.proofs.Common.{ℕ, ◌≡◌, ◌≢◌, ◌+◌, ◌<◌, ◌≤◌, inl, inr, List, [], ◌∷◌, ◌++◌, suc, zero, length, get_or, refl, sym, ap, ◌∙◌, subst, arith, Bool, true, false, not, ◌&&◌, cond, eqb}
 use Rattle.std.proofs.lemmas.Bool.{cases_eq, cases_lt, ne_eqb, eq-eqb}
 use Rattle.std.proofs.lemmas.List.{get_or_default, length_push, get_or_append_left, get_or_push}
@@ -12,7 +12,7 @@ in_tail x xs p h = (suc h.0, omega (arith, h.1), h.2)
 pub in_head : (x : ℕ) (xs : List ℕ) → Contains (x ∷ xs) x
 in_head x xs = (0, omega arith, refl)
 
--- what stands at a place of the list
+-- the item at an index of the list
 pub at_place : (xs : List ℕ) (p : ℕ) (h : Contains xs p) → get_or xs h.0 0 ≡ p
 at_place xs p h = get_or_default xs h.0 0 p h.1 ∙ h.2
 
@@ -27,7 +27,7 @@ rising_above x xs p h c =
     let lt : x < get_or xs c.0 0 = h 0 (suc c.0) (omega arith) (omega (arith, c.1)) in
     omega (arith, at_place xs p c)
 
--- a number above all others after them
+-- appending a greater number to a rising list
 pub rising_push : (xs : List ℕ) (x : ℕ) → AreRising xs → ((p : ℕ) → Contains xs p → p < x) → AreRising (xs ++ x ∷ [])
 rising_push xs x h above j k a b =
     let n : length (xs ++ x ∷ []) ≡ length xs + 1 = length_push xs x in
@@ -41,7 +41,7 @@ rising_push xs x h above j k a b =
           omega (arith, h j k a (omega arith))
     ]
 
--- no place twice
+-- a rising list has no item twice
 pub rising_distinct : (xs : List ℕ) (j k : ℕ) → AreRising xs → j < length xs → k < length xs → get_or xs j 0 ≡ get_or xs k 0 → j ≡ k
 rising_distinct xs j k h a b e = elim (cases_eq j k) [
   | inl q ↦ q
@@ -66,7 +66,7 @@ sum_same f g (x ∷ xs) h =
     let b : sum_by g xs ≡ sum_by f xs = sum_same f g xs (λ p c. h p (in_tail x xs p c)) in
     omega (arith, sum_by-cons g x xs, sum_by-cons f x xs)
 
--- a sum where the number of one place changes
+-- a sum when the value of one item changes
 pub sum_changed : (f g : ℕ → ℕ) (xs : List ℕ) (o : ℕ) → AreRising xs → Contains xs o → ((p : ℕ) → Contains xs p → p ≢ o → g p ≡ f p) → sum_by g xs + f o ≡ sum_by f xs + g o
 sum_changed f g [] o rising c h = absurd (omega (arith, c.1))
 sum_changed f g (x ∷ xs) o rising c h = elim (cases_eq x o) [
@@ -80,7 +80,7 @@ sum_changed f g (x ∷ xs) o rising c h = elim (cases_eq x o) [
       omega (arith, sum_by-cons g x xs, sum_by-cons f x xs)
 ]
 
--- where one of the list doesn't pass, not all do
+-- if one item fails the test, the count is less than the length
 pub count_less : (p : ℕ → Bool) (xs : List ℕ) (o : ℕ) → Contains xs o → p o ≡ false → count_by p xs < length xs
 count_less p [] o c e = absurd (omega (arith, c.1))
 count_less p (x ∷ xs) o c e = elim (cases_eq x o) [
@@ -92,7 +92,7 @@ count_less p (x ∷ xs) o c e = elim (cases_eq x o) [
       omega (arith, sum_by-cons (λ z. cond (p z) 1 0) x xs, one_at_most (p x))
 ]
 
--- where one of the list passes, the number isn't 0
+-- if one item passes the test, the count is not 0
 pub counted_some : (p : ℕ → Bool) (xs : List ℕ) (o : ℕ) → Contains xs o → p o ≡ true → 0 < count_by p xs
 counted_some p [] o c e = absurd (omega (arith, c.1))
 counted_some p (x ∷ xs) o c e = elim (cases_eq x o) [
@@ -108,21 +108,21 @@ pub one_dropped : (b : Bool) (o x : ℕ) (xs : List ℕ) → cond (b && not (eqb
 one_dropped true o x xs = refl
 one_dropped false o x xs = refl
 
--- a filter that drops one place more
+-- a filter that drops one more item
 pub filter_without : (p q : ℕ → Bool) (o : ℕ) (xs : List ℕ) → ((x : ℕ) → Contains xs x → q x ≡ (p x && not (eqb x o))) → filter q xs ≡ without o (filter p xs)
 filter_without p q o [] h = refl
 filter_without p q o (x ∷ xs) h =
     let rest : filter q xs ≡ without o (filter p xs) = filter_without p q o xs (λ z c. h z (in_tail x xs z c)) in
     ap (λ b. cond b (x ∷ filter q xs) (filter q xs)) (h x (in_head x xs)) ∙ ap (λ (zs : List ℕ). cond (p x && not (eqb x o)) (x ∷ zs) zs) rest ∙ one_dropped (p x) o x (filter p xs)
 
--- a filter by tests that agree on the list
+-- filters whose tests agree on the list
 pub filter_same : (p q : ℕ → Bool) (xs : List ℕ) → ((x : ℕ) → Contains xs x → q x ≡ p x) → filter q xs ≡ filter p xs
 filter_same p q [] h = refl
 filter_same p q (x ∷ xs) h =
     let rest : filter q xs ≡ filter p xs = filter_same p q xs (λ z c. h z (in_tail x xs z c)) in
     ap (λ b. cond b (x ∷ filter q xs) (filter q xs)) (h x (in_head x xs)) ∙ ap (λ (zs : List ℕ). cond (p x) (x ∷ zs) zs) rest
 
--- what is left without a place is another one of the list
+-- what is in the list without o is in the list, and is not o
 pub in_without : (o p : ℕ) (xs : List ℕ) → Contains (without o xs) p → Contains xs p × (p ≢ o)
 in_without o p [] c = absurd (omega (arith, c.1))
 in_without o p (x ∷ xs) c = elim (cases_eq x o) [

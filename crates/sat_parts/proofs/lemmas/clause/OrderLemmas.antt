@@ -1,4 +1,4 @@
--- Exchanges of literals keep what is said of clauses.
+-- Swapping literals preserves the properties of clauses.
 use Rattle.std.proofs.Common.{ℕ, ◌≡◌, ◌≢◌, ◌<◌, ◌==◌, inl, inr, List, length, get_or, set, refl, sym, ap, ◌∙◌, subst, arith, length-set, get_or-set_same, get_or-set_other, if◌then◌else◌}
 use Rattle.std.proofs.lemmas.Bool.{cases_eq}
 use Rattle.std.proofs.lemmas.Bool.Decides.{nat_tests}
@@ -9,7 +9,7 @@ use Rattle.sat_store.specs.clause.Buffer.{IsClause, SameClauseAt, ChangesAt, hea
 use Rattle.sat_parts.specs.clause.Orders.{IsReordering, PermutesClause, SameUpToOrder, PermutesClauses}
 use Rattle.sat_parts.specs.clause.Stored.{AreClauses, lit_of, size_of}
 
--- where the literal at k stood before places i and j were exchanged
+-- the index, before i and j were swapped, of the literal now at k
 abbrev pub other : ℕ → ℕ → ℕ → ℕ
 other i j k = if k == j then i else (if k == i then j else k)
 
@@ -121,7 +121,7 @@ shuffles_trans a b c o x y = record {
       record { clause = s.clause; header = s.header ∙ f.header; lits = s.lits ∙ f.lits };
 }
 
--- what `swap_lits` says
+-- `swap_lits` permutes the literals of one clause
 pub shuffles_swap : (a b : List ℕ) (o i j : ℕ) → i < size_of a o → j < size_of a o →
     header_at b o ≡ header_at a o → lits_at b o ≡ swapped (lits_at a o) i j → ChangesAt a b o → PermutesClause a b o
 shuffles_swap a b o i j p q e f c = record {

@@ -1,4 +1,4 @@
--- What holds when a search ends.
+-- A fully propagated assignment of all variables in clauses is a model.
 use Rattle.std.proofs.Common.{inl, inr, refl, sym, ap, ◌∙◌, arith}
 use Rattle.sat_base.specs.values.Literals.{variable}
 use Rattle.sat_parts.specs.clause.Stored.{lit_of}

@@ -1,4 +1,4 @@
--- Assumptions and how far they were looked at, as steps are made.
+-- Which assumptions were considered, as the search proceeds.
 use Rattle.std.proofs.Common.{ℕ, ◌≡◌, ◌≢◌, ◌+◌, ◌<◌, ◌≤◌, ◌⊎◌, inl, inr, List, [], ◌∷◌, ◌++◌, length, get_or, map, take, suc, zero, refl, sym, ap, ◌∙◌, subst, arith}
 use Rattle.std.proofs.lemmas.Bool.{cases_lt, cases_eq, true≢false}
 use Rattle.std.proofs.lemmas.List.{length_push, get_or_push, get_or_append_left, get_or-take, length-take-le, get_or-map, length-map}
@@ -16,7 +16,7 @@ use Rattle.sat_parts.proofs.lemmas.clause.ListLemmas.{place_in}
 use Rattle.sat_parts.specs.parts.Frame.{KeepsTo}
 use Rattle.sat_parts.specs.parts.Assumed.{variables_of_lits, IsPlaced, AreDecided}
 
--- assumptions that are true are passed
+-- true assumptions are passed
 pub placed_passed : (ls below : List ℕ) (place next : ℕ) (s : State) → StateIsConsistent s → IsPlaced ls below place s → place ≤ next → next ≤ length ls →
     ((k : ℕ) → place ≤ k → k < next → IsTrueLit s.values (get_or ls k 0)) → IsPlaced ls below next s
 placed_passed ls below place next s h x le within holds = elim (cases_lt (length below) (length s.trail.starts)) [
@@ -35,7 +35,7 @@ placed_passed ls below place next s h x le within holds = elim (cases_lt (length
   }
 ]
 
--- what levels are kept stands, and what was looked at on them
+-- the places stay right if the levels that assumptions began are kept
 pub placed_kept : (ls below : List ℕ) (place top : ℕ) (s s' : State) → IsPlaced ls below place s → KeepsTo top s s' → length below ≤ top → length below ≤ length s'.trail.starts →
     (length below < length s'.trail.starts → place ≡ length ls) → IsPlaced ls below place s'
 placed_kept ls below place top s s' x k high deep more = record {
@@ -48,7 +48,7 @@ placed_kept ls below place top s s' x k high deep more = record {
   all = more;
 }
 
--- levels are undone, down to one that an assumption began or past it
+-- at least one level that an assumption began is undone
 pub placed_cut : (ls below : List ℕ) (place top : ℕ) (s s' : State) → IsPlaced ls below place s → KeepsTo top s s' → top < length below → length s'.trail.starts ≡ top →
     IsPlaced ls (take top below) (get_or below top 0) s'
 placed_cut ls below place top s s' x k lt at =
@@ -64,7 +64,7 @@ placed_cut ls below place top s s' x k lt at =
       all = λ more. absurd (omega arith);
     }
 
--- a level begins with the assumption that is looked at
+-- a level begins with the next assumption
 pub placed_next : (ls below : List ℕ) (place l : ℕ) (s : State) → IsPlaced ls below place s → place < length ls → get_or ls place 0 ≡ l → StateIsConsistent s → IsOpenLit s.values l → variable l < length s.values →
     KeepsTo (length s.trail.starts) s (decided_on l s) → IsPlaced ls (below ++ place ∷ []) (place + 1) (decided_on l s)
 placed_next ls below place l s x lt is h free there k =
@@ -107,7 +107,7 @@ placed_next ls below place l s x lt is h free there k =
       all = λ more. absurd (omega arith);
     }
 
--- a level begins at a place of a list or none does
+-- whether a level begins at this position
 begins_after : (x : ℕ) (xs : List ℕ) (i : ℕ) → x ≢ i → BeginsNoLevel xs i → BeginsNoLevel (x ∷ xs) i
 begins_after x xs i n none zero b e = n e
 begins_after x xs i n none (suc k) b e = none k (omega arith) e
@@ -126,7 +126,7 @@ begins_or_not (x ∷ xs) i = elim (cases_eq x i) [
 pub levels_assumed : (ls below : List ℕ) (place : ℕ) (s : State) → IsPlaced ls below place s → place < length ls → length below ≡ length s.trail.starts
 levels_assumed ls below place s x lt = elim (cases_lt (length below) (length s.trail.starts)) [ inl less ↦ absurd (omega (arith, x.all less)) | inr ge ↦ omega (arith, x.levels) ]
 
--- where all levels are those of assumptions, what no clause makes true above level 0 is an assumption
+-- while an assumption is left, every literal above level 0 without a clause as its reason is an assumption
 pub decided_assumed : (ls below : List ℕ) (place : ℕ) (s : State) → StateIsConsistent s → IsLevelled s → IsPlaced ls below place s → place < length ls → AreDecided ls s
 decided_assumed ls below place s h levelled x lt i b high unit = elim (begins_or_not s.trail.starts i) [
   | inl y ↦ subst (λ j. Contains ls (lit_at s j)) y.1.1 (x.begun y.0 (elim (cases_lt (length below) (length s.trail.starts)) [ inl less ↦ absurd (omega (arith, x.all less)) | inr ge ↦ omega (arith, y.1.0) ]))
@@ -135,7 +135,7 @@ decided_assumed ls below place s h levelled x lt i b high unit = elim (begins_or
       absurd (true≢false (sym unit ∙ levelled.caused i 0 (omega (arith, at.within)) (at.begun 0 high) b none))
 ]
 
--- the variable of an assumption is among theirs
+-- the variable of an assumption is among the assumed variables
 pub among_variables : (ls : List ℕ) (place l : ℕ) → place < length ls → get_or ls place 0 ≡ l → Contains (variables_of_lits ls) (variable l)
 among_variables ls place l lt is =
     let size : length (map (λ m. variable m) ls) ≡ length ls = length-map ls (λ m. variable m) in

@@ -1,4 +1,4 @@
--- A clause of two literals that is added.
+-- Adding a binary clause.
 use Rattle.std.proofs.Common.{ℕ, ◌≡◌, ◌≢◌, ◌+◌, ◌*◌, ◌<◌, ◌≤◌, ◌⊎◌, inl, inr, List, [], ◌∷◌, ◌++◌, length, get_or, length-set, get_or-set_same, get_or-set_other, refl, sym, ap, ◌∙◌, subst, arith, Some, None}
 use Rattle.std.proofs.lemmas.Bool.{cases_eq, cases_lt}
 use Rattle.std.proofs.lemmas.List.{get_or_append_left, get_or_push, length_push}
@@ -39,7 +39,7 @@ pushed_all ys m Q old new k lt =
       | inr h ↦ subst Q (sym (get_or_push ys m 0 k (omega arith))) new
     ]
 
--- what holds of all implications, and of one more
+-- a property of all implications, after one more was added
 implied_all : (x : List (List ℕ)) (p m : ℕ) (Q : ℕ → ℕ → Type 0) → p < length x → ((l k : ℕ) → k < length (implied_by x l) → Q l (get_or (implied_by x l) k 0)) → Q p m →
     (l k : ℕ) → k < length (implied_by (with_implied p m x) l) → Q l (get_or (implied_by (with_implied p m x) l) k 0)
 implied_all x p m Q within old new l k lt = elim (cases_eq l p) [
@@ -66,7 +66,7 @@ pub implied_new : (x : List (List ℕ)) (p m : ℕ) → p < length x → Contain
 implied_new x p m within =
     subst (λ (ys : List ℕ). Contains ys m) (sym (get_or-set_same x p (implied_by x p ++ m ∷ []) [] within)) (Contains-push (implied_by x p) m)
 
--- what holds of all implications, and of those of a new clause
+-- the same after the two implications of a new clause were added
 pub binary_all : (x : Binaries) (a b : ℕ) (Q : ℕ → ℕ → Type 0) → negated a < length x.implied → negated b < length x.implied →
     ((l k : ℕ) → k < length (implied_by x.implied l) → Q l (get_or (implied_by x.implied l) k 0)) → Q (negated a) b → Q (negated b) a →
     (l k : ℕ) → k < length (implied_by (with_binary a b x).implied l) → Q l (get_or (implied_by (with_binary a b x).implied l) k 0)
@@ -89,7 +89,7 @@ binary_length x a b =
     let one : List (List ℕ) = with_implied (negated a) b x.implied in
     length-set one (negated b) (implied_by one (negated b) ++ a ∷ []) ∙ length-set x.implied (negated a) (implied_by x.implied (negated a) ++ b ∷ [])
 
--- after an addition of a clause of two literals, which may be the next literal's reason
+-- a binary clause was added, which may be the reason of the next literal
 pub asks_binary_added : (words refs : List ℕ) (w : Watching) (x : Binaries) (s : State) (top lit a b : ℕ) (r : Reason) → PropagationInvariant words refs w x.implied s top → a < 2 * length s.values → b < 2 * length s.values →
     (HasLeftQueue s (negated a) → level s (negated a) < top → (IsTrueLit s.values b × (level s b ≤ level s (negated a))) ⊎ (IsOwnBinary r lit (negated a) b × (current_level s ≤ level s (negated a)))) →
     (HasLeftQueue s (negated b) → level s (negated b) < top → (IsTrueLit s.values a × (level s a ≤ level s (negated b))) ⊎ (IsOwnBinary r lit (negated b) a × (current_level s ≤ level s (negated b)))) →
@@ -132,7 +132,7 @@ unused_binary words live x a b v first second not_a not_b u = record {
 no_binary : (ls : List ℕ) (o : ℕ) → Binary ls ≡ Long o → ⊥
 no_binary ls o e = cc
 
--- a learned clause of two literals
+-- a learned binary clause
 pub sound_binary : (words : List ℕ) (db : Db) (w : Watching) (x : Binaries) (a : Values) (g : List ImplNode) (t : Trailed) (q : Queue) (ls : List ℕ) →
     RoundInvariant words db w x a g t q → IsPending (state_of a g t) q ls → length ls ≡ 2 →
     RoundInvariant words db w (with_binary (get_or ls 0 0) (get_or ls 1 0) x) (made_true (get_or ls 0 0) a)

@@ -1,4 +1,4 @@
--- Units of level 0 that are taken off the trail, and put back into the queue.
+-- Units of level 0 that are taken off the trail and put back into the queue.
 use Rattle.std.proofs.Common.{ℕ, ◌≡◌, ◌≢◌, ◌+◌, ◌*◌, ◌<◌, ◌≤◌, ◌⊎◌, inl, inr, suc, zero, List, [], ◌∷◌, ◌++◌, length, get_or, set, length-set, get_or-set_same, get_or-set_other, refl, sym, ap, ◌∙◌, subst, arith, Bool, Some, None}
 use Rattle.std.proofs.lemmas.Bool.{cases_eq, cases_lt}
 use Rattle.std.proofs.lemmas.List.{length_push}
@@ -32,7 +32,7 @@ pub removed_length : (ls : List ℕ) (g : List ImplNode) → length (removed ls 
 removed_length [] g = refl
 removed_length (l ∷ ls) g = removed_length ls (with_node (variable l) removed_node g) ∙ length-set g (variable l) removed_node
 
--- the node of a variable stays where it is removed already
+-- a node that is marked as removed stays so
 removed_stays : (ls : List ℕ) (g : List ImplNode) (v : ℕ) → v < length g → node_of g v ≡ removed_node → node_of (removed ls g) v ≡ removed_node
 removed_stays [] g v lt e = e
 removed_stays (l ∷ ls) g v lt e =
@@ -52,7 +52,7 @@ set_past [] i x le = refl
 set_past (y ∷ g) zero x le = absurd (omega arith)
 set_past (y ∷ g) (suc i) x le = ap (λ (h : List ImplNode). y ∷ h) (set_past g i x (omega arith))
 
--- each node is as it was or that of a unit taken off
+-- every node is unchanged or marked as removed
 removed_or : (ls : List ℕ) (g : List ImplNode) (v : ℕ) → (node_of (removed ls g) v ≡ removed_node) ⊎ (node_of (removed ls g) v ≡ node_of g v)
 removed_or [] g v = inr refl
 removed_or (l ∷ ls) g v = elim (removed_or ls (with_node (variable l) removed_node g) v) [
@@ -66,7 +66,7 @@ removed_or (l ∷ ls) g v = elim (removed_or ls (with_node (variable l) removed_
   ]
 ]
 
--- what is true at level 0 is removed once the trail is cleared
+-- once the trail is cleared, every true literal is a unit taken off it
 pub all_removed : (a : Values) (g : List ImplNode) (t : Trailed) (l : ℕ) → StateIsConsistent (state_of a g t) → IsTrueLit a.current l → IsRemoved (state_of a (removed t.lits g) (with_cleared t)) l
 all_removed a g t l h holds =
     let s : State = state_of a g t in
@@ -106,7 +106,7 @@ agrees_cleared a g t h e =
       known = λ l holds. inr (all_removed a g t l h holds);
     }
 
--- (e) units are taken off the trail once all is propagated
+-- if the queue is empty, taking units off the trail gives the invariant between rounds
 pub sound_cleared : (words : List ℕ) (db : Db) (w : Watching) (b : Binaries) (a : Values) (g : List ImplNode) (t : Trailed) (q : Queue) →
     IsSoundBelow words db w b a g t q (length t.starts + 1) → t.starts ≡ [] → t.head ≡ length t.lits → RoundInvariant words db w b a (removed t.lits g) (with_cleared t) q
 sound_cleared words db w b a g t q h e done =
@@ -149,12 +149,12 @@ sound_cleared words db w b a g t q h e done =
       base = record { above = λ some. absurd (omega arith); bottom = λ z. refl };
     }
 
--- at level 0 the reasons between rounds are those of units
+-- at level 0 no reason is a clause, so reasons are unit in the order of the trail
 pub turns_of_units : (words live : List ℕ) (implied : List (List ℕ)) (s : State) → StateIsConsistent s → length s.trail.starts ≡ 0 → UnitsHaveNoReason s → AreUnitInTurn words live implied s 0
 turns_of_units words live implied s h n x i le b =
     subst (λ (r : Reason). Implies words live implied s i r) (sym (x i b (omega (arith, (h.levels i b).within)))) tt
 
--- a true literal whose node says so is a unit taken off the trail
+-- a true literal is a unit taken off the trail if its depth says so
 pub removed_by : (s : State) (l : ℕ) → StateIsConsistent s → IsTrueLit s.values l → (node s l).depth ≡ 4294967295 → IsRemoved s l
 removed_by s l h holds d = elim (h.known l holds) [
   | inl x ↦
@@ -163,14 +163,14 @@ removed_by s l h holds d = elim (h.known l holds) [
   | inr x ↦ x
 ]
 
--- the state where a unit taken off the trail has no value
+-- the state in which a unit taken off the trail has no value
 abbrev pub dropped : ℕ → State → State
 dropped l s = record s { values = set s.values (variable l) None }
 
 some_same : (x y : Bool) → Some x ≡ Some y → x ≡ y
 some_same x y e = cc
 
--- another literal that is true is of another variable
+-- different true literals have different variables
 other_variable : (s : State) (l m : ℕ) → IsTrueLit s.values l → IsTrueLit s.values m → m ≢ l → variable m ≢ variable l
 other_variable s l m f g n e = n (lit_from_parts m l e (some_same (is_positive m) (is_positive l) (sym g ∙ ap (λ v. value_of s.values v) e ∙ f)))
 
@@ -180,7 +180,7 @@ dropped_true s l m below h = elim (cases_eq (variable m) (variable l)) [
   | inr n ↦ (n, sym (get_or-set_other s.values (variable l) (variable m) None None n) ∙ h)
 ]
 
--- a literal of the trail isn't of a removed unit's variable
+-- no literal on the trail has the variable of a unit taken off it
 pub apart_removed : (s : State) (l i : ℕ) → StateIsConsistent s → IsRemoved s l → i < length s.trail.lits → variable (lit_at s i) ≢ variable l
 apart_removed s l i h x b e =
     let d : i + 1 ≡ 4294967295 = sym (h.depths i b) ∙ ap (λ v. (node_of s.nodes v).depth) e ∙ x.depth in
@@ -203,7 +203,7 @@ agrees_dropped s l h x =
       ];
     }
 
--- a unit that is put back: values and levels are as before, and it is in the queue
+-- a unit is put back: true literals stay true, and it is in the queue
 pub again_true : (s : State) (l m : ℕ) → StateIsConsistent s → IsRemoved s l → IsTrueLit s.values m → IsTrueLit (enqueued l NoCause (dropped l s)).values m
 again_true s l m h x holds =
     let below : variable l < length s.values = below_from_value s.values (variable l) _ x.holds in
@@ -242,7 +242,7 @@ again_level s l m h x n = elim (cases_eq (variable m) (variable l)) [
   | inr d ↦ ap (λ (z : ImplNode). z.level) (get_or-set_other s.nodes (variable l) (variable m) (node_at s.trail NoCause) new_node d)
 ]
 
--- what has left the queue had left it before, and isn't the unit
+-- then every literal that has left the queue had left it before, and is not the unit
 pub again_left : (s : State) (l m : ℕ) → StateIsConsistent s → IsRemoved s l → HasLeftQueue (enqueued l NoCause (dropped l s)) m → HasLeftQueue s m × (m ≢ l)
 again_left s l m h x left =
     let t : State = enqueued l NoCause (dropped l s) in
@@ -265,7 +265,7 @@ again_left s l m h x left =
           ]
     ]
 
--- (e) a unit taken off the trail is put back into the queue
+-- putting a unit back into the queue preserves the invariant between rounds
 pub sound_again : (words : List ℕ) (db : Db) (w : Watching) (b : Binaries) (a : Values) (g : List ImplNode) (t : Trailed) (q : Queue) (l : ℕ) →
     RoundInvariant words db w b a g t q → t.starts ≡ [] → IsRemoved (state_of a g t) l →
     RoundInvariant words db w b (again l a) (with_node (variable l) (node_at t NoCause) g) (with_lit l t) q

@@ -1,4 +1,4 @@
--- A decision keeps what holds between rounds.
+-- A decision preserves the invariant between rounds.
 use Rattle.std.proofs.Common.{ℕ, ◌≡◌, ◌≢◌, ◌+◌, ◌^◌, ◌<◌, ◌≤◌, inl, inr, suc, zero, ◌-◌, List, [], ◌∷◌, ◌++◌, length, get_or, set, length-set, get_or-set_same, get_or-set_other, refl, sym, ap, ◌∙◌, arith, Bool, Option, Some, None}
 use Rattle.std.proofs.lemmas.Bool.{cases_eq}
 use Rattle.std.proofs.lemmas.List.{length_push, get_or_push, get_or_append_left}
@@ -38,12 +38,12 @@ ready_enqueued words live implied values q q' l below keeps h u b none =
 pub no_long : (o : ℕ) → NoCause ≡ Long o → ⊥
 no_long o e = cc
 
--- level k doesn't begin before place k
+-- level k + 1 begins at position k or later
 ladder : (s : State) → IsLevelled s → (k : ℕ) → k < length s.trail.starts → k ≤ get_or s.trail.starts k 0
 ladder s x zero b = omega arith
 ladder s x (suc k) b = omega (arith, ladder s x k (omega arith), x.strict k (suc k) (omega arith) b)
 
--- levels are no more than the literals of the trail, and with an open variable there are few enough
+-- while a variable is unassigned, there are few enough levels for one more
 pub few_levels : (s : State) (l : ℕ) → StateIsConsistent s → IsLevelled s → IsOpenLit s.values l → variable l < length s.values → length s.trail.starts + 1 < 2 ^ 32
 few_levels s l h x n below =
     let reach : (k : ℕ) → k < length s.trail.starts → k ≤ get_or s.trail.starts k 0 = ladder s x in
@@ -68,7 +68,7 @@ based_raised t l h done =
       bottom = λ e. absurd (omega arith);
     }
 
--- an open literal is decided
+-- an unassigned literal is decided
 pub sound_decided : (words : List ℕ) (db : Db) (w : Watching) (b : Binaries) (a : Values) (g : List ImplNode) (t : Trailed) (q q' : Queue) (l : ℕ) →
     RoundInvariant words db w b a g t q → t.head ≡ length t.lits → IsOpenLit a.current l → variable l < length a.current → KeepsPicks a.current q q' (variable l) → length q'.available ≡ length q.available →
     RoundInvariant words db w b (made_true l a) (with_node (variable l) (node_at (with_level t) NoCause) g) (with_lit l (with_level t)) q'

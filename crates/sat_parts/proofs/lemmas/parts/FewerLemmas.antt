@@ -1,4 +1,4 @@
--- Clauses that are deleted, moved between tiers, or collected, between rounds.
+-- Deleting, moving and collecting clauses preserves the invariant between rounds.
 use Rattle.std.proofs.Common.{ℕ, ◌≡◌, ◌≢◌, ◌+◌, ◌<◌, ◌≤◌, inl, inr, List, [], ◌∷◌, length, get_or, refl, sym, ap, ◌∙◌, subst, arith, Bool, true, false, Option, not, cond, ◌/◌, ◌^◌, Result, Ok, Err}
 use Rattle.std.specs.Prelude.{OnOk, OnErr}
 use Rattle.sat_store.specs.declared.clause.alloc.StoreError.{StoreError}
@@ -33,11 +33,11 @@ use Rattle.sat_parts.proofs.lemmas.prop.CollectedLemmas.{with_graph, asks_collec
 use Rattle.sat_parts.specs.parts.Round.{IsUnused, IsSoundBelow, RoundInvariant}
 use Rattle.sat_parts.proofs.lemmas.parts.TurnLemmas.{turns_by}
 
--- fewer clauses are live, each with its literals as before
+-- that every live clause was live before, with the same literals
 abbrev pub LeavesClauses : (words refs words' refs' : List ℕ) → Type 0
 LeavesClauses words refs words' refs' = (o : ℕ) → Contains (live_refs words' refs') o → Contains (live_refs words refs) o × (lits_at words' o ≡ lits_at words o)
 
--- the reasons of the trail are among them
+-- that the reasons on the trail are live
 abbrev pub KeepsReasons : (words' refs' : List ℕ) (s : State) → Type 0
 KeepsReasons words' refs' s = (i o : ℕ) → i < length s.trail.lits → (node s (lit_at s i)).reason ≡ Long o → Contains (live_refs words' refs') o
 
@@ -67,7 +67,7 @@ sound_fewer words words' db db' w w' b a g t q h held same reasons size watched 
       base = h.base;
     }
 
--- what is in a list and isn't another number is in the list without that
+-- an item other than o is in the list without o
 pub without_there : (o p : ℕ) (xs : List ℕ) → p ≢ o → Contains xs p → Contains (without o xs) p
 without_there o p [] n c = absurd (omega (arith, c.1))
 without_there o p (x ∷ xs) n c = elim (cases_eq x o) [
@@ -82,7 +82,7 @@ without_there o p (x ∷ xs) n c = elim (cases_eq x o) [
       ])
 ]
 
--- a clause is deleted that is no reason of the trail
+-- deleting a clause that is not a reason on the trail
 pub sound_without : (words words' : List ℕ) (db db' : Db) (w w' : Watching) (b : Binaries) (a : Values) (g : List ImplNode) (t : Trailed) (q : Queue) (o : ℕ) →
     RoundInvariant words db w b a g t q → DeletesClause words db words' db' o → w' ≡ record w { enabled = false } → ((i p : ℕ) → i < length t.lits → (node (state_of a g t) (lit_at (state_of a g t) i)).reason ≡ Long p → p ≢ o) →
     RoundInvariant words' db' w' b a g t q
@@ -100,7 +100,7 @@ sound_without words words' db db' w w' b a g t q o h x to_w free =
     (λ i p lt e. subst (λ (xs : List ℕ). Contains xs p) (sym x.live) (without_there o p (live_refs words db.refs) (free i p lt e) (y.asks.firsts i p lt e).0))
     (ap (λ (z : Watching). length z.lists) to_w) (λ on. absurd (true≢false (sym on ∙ ap (λ (z : Watching). z.enabled) to_w)))
 
--- a clause that isn't the reason of its first literal is deleted
+-- deleting a clause that is not the reason of its first literal
 pub sound_deleted : (words words' : List ℕ) (db db' : Db) (w w' : Watching) (b : Binaries) (a : Values) (g : List ImplNode) (t : Trailed) (q : Queue) (o : ℕ) →
     RoundInvariant words db w b a g t q → DeletesClause words db words' db' o → w' ≡ record w { enabled = false } → (IsLockedClause words a.current g o → ⊥) → RoundInvariant words' db' w' b a g t q
 sound_deleted words words' db db' w w' b a g t q o h x to_w free =
@@ -112,7 +112,7 @@ sound_deleted words words' db db' w w' b a g t q o h x to_w free =
     free (subst (λ l. IsTrueLit a.current l) (sym first) (y.asks.agrees.holds i lt), ap (λ l. (node s l).reason) first ∙ e ∙ ap (λ z. Long z) q) in
     sound_without words words' db db' w w' b a g t q o h x to_w asserted
 
--- reasons after a collection
+-- reasons after a garbage collection
 false_collected : (words : List ℕ) (db : Db) (s : State) (words' : List ℕ) (db' : Db) (nodes' : List ImplNode) (i m : ℕ) → Collects words db s.nodes s.trail.lits words' db' nodes' →
     IsFalseBefore s i m → IsFalseBefore (with_graph s nodes') i m
 false_collected words db s words' db' nodes' i m x h = elim h [
@@ -178,7 +178,7 @@ sound_collected words words' db db' w w' b a g g' t q h x to_w =
       base = h.base;
     }
 
--- the watches of clauses whose literals are the same
+-- clauses with the same literals are still watched
 watched_same : (words words' live : List ℕ) (w : Watching) (count : ℕ) → ((p : ℕ) → Contains live p → lits_at words' p ≡ lits_at words p) → AreWatched words live w.lists count → AreWatched words' live w.lists count
 watched_same words words' live w count same h = record {
   room = h.room;
@@ -188,7 +188,7 @@ watched_same words words' live w count same h = record {
   both = λ o i c b. subst (λ (ls : List ℕ). HasWatch (watches_of w.lists (negated (get_or ls i 0))) o) (sym (same o c)) (h.both o i c b);
 }
 
--- only headers changed, and the same clauses are live
+-- replacing headers, with the same clauses live
 pub sound_put : (words words' : List ℕ) (db db' : Db) (w : Watching) (b : Binaries) (a : Values) (g : List ImplNode) (t : Trailed) (q : Queue) (f : ℕ → Header) →
     RoundInvariant words db w b a g t q → DbMatchesBuffer words' db' → PutsHeaders words words' db.refs f → db'.refs ≡ db.refs → live_refs words' db'.refs ≡ live_refs words db.refs → RoundInvariant words' db' w b a g t q
 sound_put words words' db db' w b a g t q f h held x refs live =
@@ -200,7 +200,7 @@ sound_put words words' db db' w b a g t q f h held x refs live =
     (λ i p lt e. subst (λ (xs : List ℕ). Contains xs p) (sym live) (y.asks.firsts i p lt e).0) refl
     (λ on. subst (λ (xs : List ℕ). AreWatched words' xs w.lists (length a.current)) (sym live) (watched_same words words' (live_refs words db.refs) w (length a.current) (λ p c. x.lits p (live_in words db.refs p c)) (y.asks.watches on)))
 
--- a collection that is due, and one that isn't or fails
+-- a garbage collection that succeeds, is not due, or fails
 pub sound_collect : (words words' : List ℕ) (db db' : Db) (w w' : Watching) (b : Binaries) (a : Values) (g g' : List ImplNode) (t : Trailed) (q : Queue) (r : Result (Unit {0}) StoreError) →
     RoundInvariant words db w b a g t q → (length words / 2 < db.garbage → OnOk r (Collects words db g t.lits words' db' g')) → (length words / 2 < db.garbage → OnOk r (w' ≡ record w { enabled = false })) →
     (db.garbage ≤ length words / 2 → CollectsNothing words db g w words' db' g' w') → OnErr r (CollectsNothing words db g w words' db' g' w') → RoundInvariant words' db' w' b a g' t q
@@ -210,14 +210,14 @@ sound_collect words words' db db' w w' b a g g' t q (Ok x) h due off not_due sam
 ]
 sound_collect words words' db db' w w' b a g g' t q (Err x) h due off not_due same = rw (same.0, same.1, same.2, same.3) h
 
--- a clause is deleted unless it is a reason
+-- deleting a clause unless it is a reason
 pub sound_tried : (words words' : List ℕ) (db db' : Db) (w w' : Watching) (b : Binaries) (a : Values) (g : List ImplNode) (t : Trailed) (q : Queue) (o : ℕ) (r : Bool) →
     RoundInvariant words db w b a g t q → (r ≡ true → IsLockedClause words a.current g o → ⊥) → (r ≡ true → DeletesClause words db words' db' o) → (r ≡ true → w' ≡ record w { enabled = false }) →
     (r ≡ false → (words' ≡ words) × (db' ≡ db) × (w' ≡ w)) → RoundInvariant words' db' w' b a g t q
 sound_tried words words' db db' w w' b a g t q o true h free deleted off same = sound_deleted words words' db db' w w' b a g t q o h (deleted refl) (off refl) (free refl)
 sound_tried words words' db db' w w' b a g t q o false h free deleted off same = (let y = same refl in rw (y.0, y.1, y.2) h)
 
--- the header of one clause changed, but for what the list counts
+-- replacing one header, without effect on what the list counts
 pub sound_put_one : (words words' : List ℕ) (db : Db) (w : Watching) (b : Binaries) (a : Values) (g : List ImplNode) (t : Trailed) (q : Queue) (o : ℕ) (header : Header) →
     RoundInvariant words db w b a g t q → PutsHeader words words' db.refs o header → DbMatchesBuffer words' db → live_refs words' db.refs ≡ live_refs words db.refs → RoundInvariant words' db w b a g t q
 sound_put_one words words' db w b a g t q o header h x held live =
@@ -233,7 +233,7 @@ sound_put_one words words' db w b a g t q o header h x held live =
     (λ i p lt e. subst (λ (xs : List ℕ). Contains xs p) (sym live) (y.asks.firsts i p lt e).0) refl
     (λ on. subst (λ (xs : List ℕ). AreWatched words' xs w.lists (length a.current)) (sym live) (watched_same words words' (live_refs words db.refs) w (length a.current) (λ p c. lits p (live_in words db.refs p c)) (y.asks.watches on)))
 
--- a clause is moved to a tier
+-- moving a clause to another tier
 pub sound_tier : (words words' : List ℕ) (db db' : Db) (w : Watching) (b : Binaries) (a : Values) (g : List ImplNode) (t : Trailed) (q : Queue) (o : ℕ) (tier : Tier) →
     RoundInvariant words db w b a g t q → MovesClause words db words' db' o tier → RoundInvariant words' db' w b a g t q
 sound_tier words words' db db' w b a g t q o tier h x =
@@ -249,7 +249,7 @@ sound_tier words words' db db' w b a g t q o tier h x =
     (λ i p lt e. subst (λ (xs : List ℕ). Contains xs p) (sym x.live) (y.asks.firsts i p lt e).0) refl
     (λ on. subst (λ (xs : List ℕ). AreWatched words' xs w.lists (length a.current)) (sym x.live) (watched_same words words' (live_refs words db.refs) w (length a.current) (λ p c. lits p (live_in words db.refs p c)) (y.asks.watches on)))
 
--- later bumps raise more
+-- decaying the activities of clauses
 pub sound_clause_decayed : (words words' : List ℕ) (db : Db) (w : Watching) (b : Binaries) (a : Values) (g : List ImplNode) (t : Trailed) (q : Queue) (c c' : Scale) →
     RoundInvariant words db w b a g t q → (later_bump c < 2 ^ 30 → words' ≡ words) → (2 ^ 30 ≤ later_bump c → DecaysAll words words' db.refs c c') →
     DbMatchesBuffer words' db → live_refs words' db.refs ≡ live_refs words db.refs → RoundInvariant words' db w b a g t q
@@ -258,7 +258,7 @@ sound_clause_decayed words words' db w b a g t q c c' h later all held live = el
   | inr le ↦ sound_put words words' db db w b a g t q (shifted words) h held (all le).1 refl live
 ]
 
--- what is kept of the literals that one implies is among them
+-- the literals that `open_among` keeps are in the list
 open_in : (values : List (Option Bool)) (v m : ℕ) (ls : List ℕ) → Contains (open_among values v ls) m → Contains ls m
 open_in values v m ls c =
     elim (cases_Bool (is_unset values v)) [
@@ -271,7 +271,7 @@ open_in values v m ls c =
           absurd (omega (arith, (subst (λ (xs : List ℕ). Contains xs m) e c).1))
     ]
 
--- (e) the clauses of two literals of which a variable has a value are gone, while nothing is on the trail
+-- removing the binary clauses with an assigned variable, while the trail is empty
 pub sound_removed : (words : List ℕ) (db : Db) (w : Watching) (b b' : Binaries) (a : Values) (g : List ImplNode) (t : Trailed) (q : Queue) →
     RoundInvariant words db w b a g t q → t.lits ≡ [] → RemovesAssigned a.current b b' → RoundInvariant words db w b' a g t q
 sound_removed words db w b b' a g t q h empty x =
@@ -303,13 +303,13 @@ sound_removed words db w b b' a g t q h empty x =
       base = h.base;
     }
 
--- the other clauses stay live where one is deleted, or isn't
+-- whether a clause was deleted or not, the other clauses are still live
 pub others_tried : (words words' : List ℕ) (db db' : Db) (o : ℕ) (r : Bool) → (r ≡ true → DeletesClause words db words' db' o) → (r ≡ false → (words' ≡ words) × (db' ≡ db)) →
     (p : ℕ) → p ≢ o → Contains (live_refs words db.refs) p → Contains (live_refs words' db'.refs) p
 others_tried words words' db db' o true deleted same p n c = subst (λ (xs : List ℕ). Contains xs p) (sym (deleted refl).live) (without_there o p (live_refs words db.refs) n c)
 others_tried words words' db db' o false deleted same p n c = (let y = same refl in rw (y.0, y.1) c)
 
--- a clause's activity is raised
+-- raising the activity of a clause
 pub sound_clause_bumped : (words words' : List ℕ) (db : Db) (w : Watching) (b : Binaries) (a : Values) (g : List ImplNode) (t : Trailed) (q : Queue) (o : ℕ) (c c' : Scale) →
     RoundInvariant words db w b a g t q → (StaysBelow words o c → BumpsOne words words' db.refs o c c') → (ReachesRescale words o c → BumpsAll words words' db.refs o c c') →
     DbMatchesBuffer words' db → live_refs words' db.refs ≡ live_refs words db.refs → RoundInvariant words' db w b a g t q
@@ -318,7 +318,7 @@ sound_clause_bumped words words' db w b a g t q o c c' h one all held live = eli
   | inr le ↦ sound_put words words' db db w b a g t q (bumped_shifted words o c.bump) h held (all le).1 refl live
 ]
 
--- only the flags of variables count
+-- changing the queue of variables, but not which variables are available
 pub sound_flags : (words : List ℕ) (db : Db) (w : Watching) (b : Binaries) (a : Values) (g : List ImplNode) (t : Trailed) (q q' : Queue) → RoundInvariant words db w b a g t q → q'.available ≡ q.available → RoundInvariant words db w b a g t q'
 sound_flags words db w b a g t q q' h e =
     let y : IsSoundBelow words db w b a g t q (length t.starts + 1) = h.below in

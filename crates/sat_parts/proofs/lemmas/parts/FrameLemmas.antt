@@ -1,4 +1,4 @@
--- What steps leave of the units.
+-- Calls that add no unit.
 use Rattle.std.proofs.Common.{ℕ, ◌≡◌, ◌+◌, ◌<◌, ◌≤◌, ◌⊎◌, inl, inr, true, false, List, [], ◌∷◌, ◌++◌, length, refl, sym, ap, ◌∙◌, subst, arith}
 use Rattle.std.proofs.lemmas.Bool.{cases_lt, cases_eq, true≢false}
 use Rattle.std.proofs.lemmas.List.{length_push}
@@ -23,7 +23,7 @@ use Rattle.sat_parts.specs.prop.Graphs.{new_node}
 use Rattle.sat_parts.specs.parts.Units.{removed}
 use Rattle.sat_parts.specs.parts.Frame.{AddsNoUnit, TakesOffUnits}
 
--- where new literals are of higher levels, or true by clauses
+-- all new literals are above level 0, or have clauses as their reasons
 pub carries_grown : (s s' : State) → StateIsConsistent s → TrailGrows s s' →
     ((i : ℕ) → length s.trail.lits ≤ i → i < length s'.trail.lits → level s' (lit_at s' i) ≡ 0 → is_unit_reason (node s' (lit_at s' i)).reason ≡ true → ⊥) → AddsNoUnit s s'
 carries_grown s s' a g new = record {
@@ -48,7 +48,7 @@ carries_grown s s' a g new = record {
   bottom = λ l t z. (g.kept l t, ap (λ (n : ImplNode). n.level) (g.nodes l t) ∙ z);
 }
 
--- an free literal that becomes true by a clause, or above level 0
+-- an unassigned literal becomes true by a clause, or above level 0
 pub carries_enqueued : (s : State) (l : ℕ) (r : Reason) → StateIsConsistent s → IsOpenLit s.values l → variable l < length s.values → (is_unit_reason r ≡ false) ⊎ (0 < length s.trail.starts) → AddsNoUnit s (enqueued l r s)
 carries_enqueued s l r a free below why =
     let size : length (s.trail.lits ++ l ∷ []) ≡ length s.trail.lits + 1 = length_push s.trail.lits l in
@@ -61,7 +61,7 @@ carries_enqueued s l r a free below why =
       | inr some ↦ (let e : length s.trail.starts ≡ 0 = sym (ap (λ (x : ImplNode). x.level) its) ∙ z in omega arith)
     ])
 
--- a level that begins
+-- a level begins
 carries_level : (s : State) → AddsNoUnit s (record s { trail = with_level s.trail })
 carries_level s = record {
   size = refl;
@@ -82,14 +82,14 @@ carries_trans a b c x y = record {
 pub carries_refl : (s : State) → AddsNoUnit s s
 carries_refl s = record { size = refl; units = λ l u. u; bottom = λ l t z. (t, z) }
 
--- a literal that is decided, on a level of its own
+-- a literal is decided, on a new level
 pub carries_decided : (s : State) (l : ℕ) → StateIsConsistent (record s { trail = with_level s.trail }) → IsOpenLit s.values l → variable l < length s.values → AddsNoUnit s (enqueued l NoCause (record s { trail = with_level s.trail }))
 carries_decided s l a free below =
     let r : State = record s { trail = with_level s.trail } in
     let size : length (s.trail.starts ++ length s.trail.lits ∷ []) ≡ length s.trail.starts + 1 = length_push s.trail.starts (length s.trail.lits) in
     carries_trans s r (enqueued l NoCause r) (carries_level s) (carries_enqueued r l NoCause a free below (inr (omega arith)))
 
--- a variable of level 0 stays of level 0 as units are marked
+-- marking units keeps a variable of level 0 at level 0
 marked_level : (g : List ImplNode) (u v : ℕ) → (node_of g v).level ≡ 0 → (node_of (with_node u removed_node g) v).level ≡ 0
 marked_level g u v z = elim (cases_eq v u) [
   | inr n ↦ ap (λ (x : ImplNode). x.level) (get_or-set_other g u v removed_node new_node n) ∙ z
@@ -103,7 +103,7 @@ removed_level : (ls : List ℕ) (g : List ImplNode) (v : ℕ) → (node_of g v).
 removed_level [] g v z = z
 removed_level (l ∷ ls) g v z = removed_level ls (with_node (variable l) removed_node g) v (marked_level g (variable l) v z)
 
--- units that are taken off the trail
+-- units are taken off the trail
 pub clears_cleared : (a : Values) (g : List ImplNode) (t : Trailed) → StateIsConsistent (state_of a g t) → t.starts ≡ [] → TakesOffUnits (state_of a g t) (state_of a (removed t.lits g) (with_cleared t))
 clears_cleared a g t h bottom =
     let s : State = state_of a g t in

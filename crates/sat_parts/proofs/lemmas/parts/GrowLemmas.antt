@@ -1,4 +1,4 @@
--- More variables.
+-- Adding variables.
 use Rattle.std.proofs.Common.{ℕ, ◌≡◌, ◌≢◌, ◌+◌, ◌-◌, ◌*◌, ◌<◌, ◌≤◌, inl, inr, suc, zero, List, [], ◌∷◌, ◌++◌, take, replicate, length, get_or, max, refl, sym, ap, ◌∙◌, subst, arith, false, None}
 use Rattle.std.proofs.lemmas.Bool.{cases_lt}
 use Rattle.std.proofs.lemmas.List.{get_or-replicate, length-replicate, get_or_past, take_all, length-append}
@@ -36,7 +36,7 @@ appended_reads [] m x i = same_everywhere m i x
 appended_reads (y ∷ ys) m x zero = refl
 appended_reads (y ∷ ys) m x (suc i) = appended_reads ys m x i
 
--- a list that grew by a default reads as before
+-- a list that was extended by default values reads as before
 grown_reads : {X : Type 0} → (xs : List X) (x : X) (n i : ℕ) → length xs ≤ n → get_or (take n xs ++ replicate (n - length xs) x) i x ≡ get_or xs i x
 grown_reads xs x n i le = ap (λ ys. get_or (ys ++ replicate (n - length xs) x) i x) (take_all n xs le) ∙ appended_reads xs (n - length xs) x i
 
@@ -52,7 +52,7 @@ listed implied l k lt = elim (cases_lt l (length implied)) [
   | inr past ↦ absurd (let e : length (implied_by implied l) ≡ 0 = ap (λ (xs : List ℕ). length xs) (get_or_past implied l [] past) in omega arith)
 ]
 
--- the state with so many variables
+-- the state with n variables
 abbrev pub grown : ℕ → Values → List ImplNode → Trailed → State
 grown n a g t = state_of (with_var_count n a) (with_nodes n g) (record t { room = max t.room n })
 
@@ -98,7 +98,7 @@ agrees_grown n a g t h le top =
       ];
     }
 
--- all parts get more variables
+-- all parts get n variables
 pub sound_grown : (words : List ℕ) (db : Db) (w : Watching) (b : Binaries) (a : Values) (g : List ImplNode) (t : Trailed) (q : Queue) (n : ℕ) →
     RoundInvariant words db w b a g t q → length a.current ≤ n → n ≤ var_limit →
     RoundInvariant words db (with_lists (2 * n) w) (with_binary_lists (2 * n) b) (with_var_count n a) (with_nodes n g) (record t { room = max t.room n }) (with_variables n q)
@@ -234,7 +234,7 @@ grown_frame p n w h le =
       keeps = λ top. grown_keeps top n p.assignment p.graph p.trail le small;
     }
 
--- a list of nothing but the default
+-- a list of default values
 pub nothing_reads : {X : Type 0} → (xs : List X) (n m v : ℕ) (x : X) → xs ≡ [] → get_or (take n xs ++ replicate m x) v x ≡ x
 nothing_reads xs n m v x e =
     let size : length xs ≡ 0 = ap (λ (ys : List _). length ys) e in

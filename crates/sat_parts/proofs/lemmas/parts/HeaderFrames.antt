@@ -1,4 +1,4 @@
--- What steps that touch long clauses alone leave of them.
+-- What calls that change only long clauses leave unchanged.
 use Rattle.std.proofs.Common.{ℕ, ◌≡◌, ◌==◌, ◌^◌, ◌/◌, ◌<◌, ◌≤◌, ◌&&◌, inl, inr, Bool, true, false, not, List, length, refl, sym, ap, ◌∙◌, subst, Result, Ok, Err, if◌then◌else◌}
 use Rattle.std.specs.Prelude.{OnOk, OnErr}
 use Rattle.std.proofs.lemmas.Bool.{cases_lt, cases_eq, true≢false}
@@ -30,7 +30,7 @@ use Rattle.sat_parts.specs.declared.parts.Parts.{Parts}
 use Rattle.sat_parts.specs.parts.Whole.{state, PartsInvariant}
 use Rattle.sat_parts.specs.parts.Frame.{AddsNoUnit, KeepsTo, SameSearch, ReordersLits, ChangesHeaders, MovesLongClauses}
 
--- what stays of clauses whose headers changed
+-- that literals are unchanged, and no clause became or ceased to be a learned one
 pub record SidesStay (words words' refs : List ℕ) : Type 0 where
   pub lits : (o : ℕ) → Contains refs o → lits_at words' o ≡ lits_at words o
   pub sides : (o : ℕ) → Contains refs o → is_learned (header_at words' o).tier ≡ is_learned (header_at words o).tier
@@ -53,7 +53,7 @@ sides_all words words' refs f x side = record { lits = x.lits; sides = λ o c. a
 pub sides_refl : (words refs : List ℕ) → SidesStay words words refs
 sides_refl words refs = record { lits = λ o c. refl; sides = λ o c. refl }
 
--- a reduction moves learned clauses alone
+-- a reduction moves only learned clauses
 learned_middle : (t : Tier) → (index_of t == 2) ≡ true → is_learned t ≡ true
 learned_middle Irred e = absurd (true≢false (sym e))
 learned_middle x e = refl
@@ -90,7 +90,7 @@ headed_by p p' live x same = record {
   same = same;
 }
 
--- COLLECTION
+-- GARBAGE COLLECTION
 
 unit_followed : (live refs' : List ℕ) (r r' : Reason) → FollowsClause live refs' r r' → is_unit_reason r' ≡ is_unit_reason r
 unit_followed live refs' NoCause r' f = ap (λ (z : Reason). is_unit_reason z) f
@@ -124,7 +124,7 @@ carries_stayed s = record { size = refl; units = λ l u. u; bottom = λ l h z. (
 keeps_stayed : (top : ℕ) (s : State) → KeepsTo top s s
 keeps_stayed top s = record { low = λ l h b. (h, refl); begun = λ j b lt. (lt, refl) }
 
--- a collection that is due
+-- a garbage collection that succeeds
 copied_due : (p : Parts) (words' : List ℕ) (db' : Db) (w' : Watching) (g' : List ImplNode) → Collects p.clauses p.db p.graph p.trail.lits words' db' g' → MovesLongClauses p (record p { clauses = words'; db = db'; watchlists = w'; graph = g' })
 copied_due p words' db' w' g' x = record {
   copies = subst (λ (xs : List ℕ). Copies p.clauses (live_refs p.clauses p.db.refs) words' xs) (sym x.live) x.copies;
@@ -136,7 +136,7 @@ copied_due p words' db' w' g' x = record {
   keeps = λ top. keeps_collected top p.clauses p.db p.assignment p.graph g' p.trail words' db' x;
 }
 
--- one that isn't, or fails
+-- a garbage collection that is not due, or fails
 copied_none : (p : Parts) (words' : List ℕ) (db' : Db) (w' : Watching) (g' : List ImplNode) → CollectsNothing p.clauses p.db p.graph p.watchlists words' db' g' w' → MovesLongClauses p (record p { clauses = words'; db = db'; watchlists = w'; graph = g' })
 copied_none p words' db' w' g' x = rw (x.0, x.1, x.2) record {
   copies = copies_refl p.clauses (live_refs p.clauses p.db.refs);
@@ -158,7 +158,7 @@ copied_collect p words' db' w' g' (Ok x) due not_due same = elim (cases_lt (leng
 ]
 copied_collect p words' db' w' g' (Err e) due not_due same = copied_none p words' db' w' g' same
 
--- ORDER
+-- ORDER OF LITERALS
 
 pub moved_shuffled : (p : Parts) (words' : List ℕ) (o : ℕ) → PartsInvariant p → Contains (live_refs p.clauses p.db.refs) o → PermutesClause p.clauses words' o → ReordersLits p (record p { clauses = words' })
 moved_shuffled p words' o h c x =

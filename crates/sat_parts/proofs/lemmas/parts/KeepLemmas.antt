@@ -1,4 +1,4 @@
--- What stays of the levels up to one, as steps are made.
+-- The levels up to `top` stay as the search proceeds.
 use Rattle.std.proofs.Common.{ℕ, ◌≡◌, ◌+◌, ◌<◌, List, [], ◌∷◌, ◌++◌, length, get_or, take, refl, sym, ap, ◌∙◌, subst, arith}
 use Rattle.std.proofs.lemmas.List.{length_push, get_or_append_left, get_or-take, length-take-le}
 use Rattle.sat_base.specs.values.Literals.{variable}
@@ -23,7 +23,7 @@ keeps_trans top a b c x y = record {
   begun = λ j lt b. (let p = x.begun j lt b in let q = y.begun j lt p.0 in (q.0, q.1 ∙ p.1));
 }
 
--- open literals become true after the others
+-- literals are appended to the trail
 pub keeps_grown : (top : ℕ) (a b : State) → TrailGrows a b → IsLevelled a → KeepsTo top a b
 keeps_grown top a b g x = record {
   low = λ l t le. (g.kept l t, ap (λ (n : ImplNode). n.level) (g.nodes l t));
@@ -33,7 +33,7 @@ keeps_grown top a b g x = record {
 pub keeps_enqueued : (top : ℕ) (s : State) (l : ℕ) (r : Reason) → StateIsConsistent s → IsLevelled s → IsOpenLit s.values l → variable l < length s.values → KeepsTo top s (enqueued l r s)
 keeps_enqueued top s l r a x free below = keeps_grown top s (enqueued l r s) (grows_enqueued s l r a free below (room_for s l r a free below)) x
 
--- a level begins with an open literal
+-- a level begins with a decision
 pub keeps_decided : (top : ℕ) (s : State) (l : ℕ) → StateIsConsistent (record s { trail = with_level s.trail }) → IsLevelled s → IsOpenLit s.values l → variable l < length s.values → KeepsTo top s (decided_on l s)
 keeps_decided top s l a x free below =
     let r : State = record s { trail = with_level s.trail } in
@@ -47,7 +47,7 @@ keeps_decided top s l a x free below =
       );
     }
 
--- levels above it are undone
+-- higher levels are undone
 pub keeps_undone : (v : ℕ) (a : Values) (g : List ImplNode) (t : Trailed) → StateIsConsistent (state_of a g t) → IsLevelled (state_of a g t) → v < length t.starts → KeepsTo v (state_of a g t) (state_of (undone_to v t a) g (cut_to v t))
 keeps_undone v a g t h x lt =
     let k : KeepsLow v (state_of a g t) (state_of (undone_to v t a) g (cut_to v t)) = keeps_low v a g t h lt in

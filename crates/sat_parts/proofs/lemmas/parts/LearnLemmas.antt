@@ -1,4 +1,4 @@
--- A learned clause, once added and made the reason of its first literal, keeps what holds between rounds.
+-- Adding a learned clause and enqueueing its first literal preserves the invariant between rounds.
 use Rattle.std.proofs.Common.{ℕ, ◌≡◌, ◌≢◌, ◌+◌, ◌*◌, ◌<◌, ◌≤◌, ◌⊎◌, inl, inr, List, [], ◌∷◌, length, get_or, length-set, refl, sym, ap, ◌∙◌, subst, arith, Some, None}
 use Rattle.std.proofs.lemmas.Bool.{cases_eq}
 use Rattle.std.proofs.lemmas.List.Elements.{Contains-append_left, Contains-push, Contains-push_cases}
@@ -44,7 +44,7 @@ false_at_end s m h f = h.known (negated m) (true_from_false s.values m f)
 pub level_same : (s : State) (m : ℕ) → level s (negated m) ≡ level s m
 level_same s m = ap (λ u. (node_of s.nodes u).level) (negated_variable m)
 
--- an open literal's negation hasn't left the queue
+-- the negation of an unassigned literal has not left the queue
 pub open_not_left : (s : State) (m : ℕ) → StateIsConsistent s → IsOpenLit s.values m → HasLeftQueue s (negated m) → ⊥
 open_not_left s m h n x = some_none (left_true s (negated m) h x) (ap (λ u. value_of s.values u) (negated_variable m) ∙ n)
 
@@ -54,7 +54,7 @@ pending_below s q ls x k b = elim (cases_eq k 0) [
   | inr n ↦ (let v : variable (get_or ls k 0) < length s.values = below_from_value s.values (variable (get_or ls k 0)) _ (x.rest k (omega arith) b) in omega arith)
 ]
 
--- the reasons of the trail stay so where a long clause is added
+-- adding a long clause keeps reasons unit in the order of the trail
 pub turns_added : (words words' : List ℕ) (db db' : Db) (o : ℕ) (header : Header) (lits : List ℕ) (implied : List (List ℕ)) (s : State) → DbMatchesBuffer words db → AddsLongClause words db words' db' o header lits →
     AreUnitInTurn words (live_refs words db.refs) implied s 0 → AreUnitInTurn words' (live_refs words' db'.refs) implied s 0
 turns_added words words' db db' o header lits implied s held x h =
@@ -65,7 +65,7 @@ turns_added words words' db db' o header lits implied s held x h =
     ))
     (λ i ls b e c. c) h
 
--- a variable that no clause has isn't in a new one either, where it has no value there and the literals of that have one
+-- a variable in no clause stays unused if the new clause does not have it
 pub unused_added : (words words' : List ℕ) (db db' : Db) (o : ℕ) (header : Header) (lits : List ℕ) (implied : List (List ℕ)) (v : ℕ) → DbMatchesBuffer words db → AddsLongClause words db words' db' o header lits →
     ((k : ℕ) → k < length lits → variable (get_or lits k 0) ≢ v) → IsUnused words (live_refs words db.refs) implied v → IsUnused words' (live_refs words' db'.refs) implied v
 unused_added words words' db db' o header lits implied v held x apart u = record {
@@ -80,7 +80,7 @@ unused_added words words' db db' o header lits implied v held x apart u = record
   binary = u.binary;
 }
 
--- an open variable is in no literal of a pending clause but the first
+-- a pending clause has no unassigned variable besides that of its first literal
 pending_apart : (s : State) (q : Queue) (ls : List ℕ) (u : ℕ) → IsPending s q ls → u ≢ variable (get_or ls 0 0) → value_of s.values u ≡ None → (k : ℕ) → k < length ls → variable (get_or ls k 0) ≢ u
 pending_apart s q ls u x n none k b e = elim (cases_eq k 0) [
   | inl z ↦ n (sym e ∙ ap (λ i. variable (get_or ls i 0)) z)
@@ -102,7 +102,7 @@ long_reason words words' db db' o header ls implied s q h x added =
           (false_before_forth s t (length s.trail.lits) (get_or ls k 0) g (false_at_end s (get_or ls k 0) h (x.rest k some (subst (λ (ms : List ℕ). k < length ms) there b)))),
     )
 
--- a long clause
+-- a learned long clause
 pub sound_long : (words words' : List ℕ) (db db' : Db) (w : Watching) (b : Binaries) (a : Values) (g : List ImplNode) (t : Trailed) (q : Queue) (ls : List ℕ) (o : ℕ) (header : Header) →
     RoundInvariant words db w b a g t q → IsPending (state_of a g t) q ls → 3 ≤ length ls → AddsLongClause words db words' db' o header ls →
     RoundInvariant words' db' (with_firsts o ls w) b (made_true (get_or ls 0 0) a) (with_node (variable (get_or ls 0 0)) (node_at t (Long o)) g) (with_lit (get_or ls 0 0) t) q
@@ -139,7 +139,7 @@ sound_long words words' db db' w b a g t q ls o header h x three added =
       base = record { above = h.base.above; bottom = h.base.bottom };
     }
 
--- a unit, at level 0
+-- a learned unit, at level 0
 pub sound_unit : (words : List ℕ) (db : Db) (w : Watching) (b : Binaries) (a : Values) (g : List ImplNode) (t : Trailed) (q : Queue) (l : ℕ) →
     RoundInvariant words db w b a g t q → t.starts ≡ [] → IsOpenLit a.current l → variable l < length a.current →
     RoundInvariant words db w b (made_true l a) (with_node (variable l) (node_at t NoCause) g) (with_lit l t) q

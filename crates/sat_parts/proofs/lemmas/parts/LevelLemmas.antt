@@ -1,4 +1,4 @@
--- Propagation was complete at each level, and what follows: models, and conflicts at level 0.
+-- Complete propagation at a level, and models.
 use Rattle.std.proofs.Common.{ℕ, ◌≡◌, ◌≢◌, ◌+◌, ◌<◌, ◌≤◌, ◌⊎◌, inl, inr, suc, zero, List, length, get_or, refl, sym, ap, ◌∙◌, subst, arith, Bool, true, false, not, Option, Some}
 use Rattle.std.proofs.lemmas.Bool.{cases_eq}
 use Rattle.std.specs.List.{Contains}
@@ -13,7 +13,7 @@ use Rattle.sat_parts.specs.prop.Asks.{PropagationInvariant, PropagationPrecondit
 use Rattle.sat_parts.proofs.lemmas.prop.StateLemmas.{level_low, true_from_false}
 use Rattle.sat_parts.specs.parts.Levels.{IsTrueAt, IsCompleteAt}
 
--- with nothing in the queue all that is true has left it
+-- if the queue is empty, every true literal has left it
 pub left_all : (s : State) (l : ℕ) → StateIsConsistent s → s.trail.head ≡ length s.trail.lits → IsTrueLit s.values l → HasLeftQueue s l
 left_all s l h done x = elim (h.known l x) [
   | inl y ↦ inl (record { place = y.place; before = omega (arith, y.within); within = y.within; there = y.there })
@@ -37,7 +37,7 @@ complete_where words refs w implied s top j h below left = record {
       (x.0, omega (arith, x.1, f.1));
 }
 
--- at the current level, with nothing in the queue
+-- if the queue is empty, propagation is complete at the current level
 pub complete_now : (words refs : List ℕ) (w : Watching) (implied : List (List ℕ)) (s : State) → PropagationPrecondition words refs w implied s → s.trail.head ≡ length s.trail.lits →
     IsCompleteAt words (live_refs words refs) implied s (current_level s)
 complete_now words refs w implied s h done = complete_where words refs w implied s (current_level s + 1) (current_level s) h (omega arith) (λ l x. left_all s l h.agrees done x.0)
@@ -51,7 +51,7 @@ same_or_not false false = inl refl
 true_or_false : (values : List (Option Bool)) (l : ℕ) (b : Bool) → value_of values (variable l) ≡ Some b → IsTrueLit values l ⊎ IsFalseLit values l
 true_or_false values l b e = elim (same_or_not b (is_positive l)) [ inl x ↦ inl (e ∙ ap (λ (z : Bool). Some z) x) | inr x ↦ inr (e ∙ ap (λ (z : Bool). Some z) x) ]
 
--- among the first n literals one is true, or all are false
+-- one of the first n literals is true, or all of them are false
 some_true : (values : List (Option Bool)) (ls : List ℕ) (n : ℕ) → ((k : ℕ) → k < n → (b : Bool) × (value_of values (variable (get_or ls k 0)) ≡ Some b)) →
     ((k : ℕ) × ((k < n) × IsTrueLit values (get_or ls k 0))) ⊎ ((k : ℕ) → k < n → IsFalseLit values (get_or ls k 0))
 some_true values ls zero all = inr (λ k b. absurd (omega arith))
@@ -65,7 +65,7 @@ some_true values ls (suc n) all =
       ]
     ]
 
--- (d) with nothing in the queue, a live clause of which each variable has a value has a true literal
+-- if the queue is empty, a live clause with all its variables assigned has a true literal
 pub model_found : (words refs : List ℕ) (w : Watching) (implied : List (List ℕ)) (s : State) (o : ℕ) → PropagationPrecondition words refs w implied s → s.trail.head ≡ length s.trail.lits → Contains (live_refs words refs) o →
     ((k : ℕ) → k < size_of words o → (b : Bool) × (value_of s.values (variable (lit_of words o k)) ≡ Some b)) → (k : ℕ) × ((k < size_of words o) × IsTrueLit s.values (lit_of words o k))
 model_found words refs w implied s o h done c all =

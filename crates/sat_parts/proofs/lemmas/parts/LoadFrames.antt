@@ -1,4 +1,4 @@
--- What steps at level 0 leave of units and clauses.
+-- The effect of calls at level 0 on units and clauses.
 use Rattle.std.proofs.Common.{ℕ, ◌≡◌, ◌≢◌, ◌+◌, ◌<◌, ◌⊎◌, inl, inr, false, None, List, [], ◌∷◌, ◌++◌, length, get_or, get_or-set_same, get_or-set_other, refl, sym, ap, ◌∙◌, subst, arith}
 use Rattle.std.proofs.lemmas.Bool.{cases_lt, cases_eq}
 use Rattle.std.proofs.lemmas.List.{length_push}
@@ -70,11 +70,11 @@ carries_again s l a gone bottom =
       bottom = λ m t z. (again_true s l m a gone t, again_level s l m a gone bottom ∙ z);
     }
 
--- values, reasons and trail are the same
+-- values, reasons and trail are unchanged
 pub carries_same : (p p' : Parts) → SameState p p' → AddsNoUnit (state p) (state p')
 carries_same p p' e = rw (e.0, e.1, e.2) (carries_refl (state p))
 
--- the same clauses, and then a clause more
+-- a clause is stored after a call that changed no clauses and added no unit
 pub stores_after : (p m p' : Parts) (ls : List ℕ) → SameClauses p m → AddsNoUnit (state p) (state m) → AddsOriginalClause m p' ls → AddsOriginalClause p p' ls
 stores_after p m p' ls same carries (stores_binary size words db binary more) =
     stores_binary size (words ∙ same.0) (db ∙ same.1) (subst (λ (x : Binaries). p'.binary ≡ with_binary (get_or ls 0 0) (get_or ls 1 0) x) same.2 binary) (carries_trans (state p) (state m) (state p') carries more)
@@ -85,7 +85,7 @@ stores_after p m p' ls same carries (stores_long size o added binary more) =
 same_trans : (p m p' : Parts) → SameClauses p m → SameClauses m p' → SameClauses p p'
 same_trans p m p' a b = (b.0 ∙ a.0, b.1 ∙ a.1, b.2 ∙ a.2)
 
--- what becomes of a clause once units were put back
+-- a clause is loaded after units were put back
 pub says_after : (r : Loaded) (p m p' : Parts) (ls : List ℕ) → SameClauses p m → AddsNoUnit (state p) (state m) → ((v : ℕ) → value_of m.assignment.current v ≡ value_of p.assignment.current v) → LoadEffect r m p' ls → LoadEffect r p p' ls
 says_after Stored p m p' ls same carries values x = stores_after p m p' ls same carries x
 says_after One p m p' ls same carries values x =
@@ -95,7 +95,7 @@ says_after Satisfied p m p' ls same carries values x =
 says_after Falsified p m p' ls same carries values x =
     (x.0, λ k b. sym (values (variable (get_or ls k 0))) ∙ x.1 k b, same_trans p m p' same x.2, carries_trans (state p) (state m) (state p') carries x.3)
 
--- what becomes of a clause leaves as many variables
+-- loading a clause keeps the number of variables
 stored_size : (p p' : Parts) (ls : List ℕ) → AddsOriginalClause p p' ls → length p'.assignment.current ≡ length p.assignment.current
 stored_size p p' ls (stores_binary two a b c carries) = carries.size
 stored_size p p' ls (stores_long three o adds b carries) = carries.size
@@ -106,7 +106,7 @@ says_size One p p' ls says = says.3.size
 says_size Satisfied p p' ls says = says.1.size
 says_size Falsified p p' ls says = says.3.size
 
--- no unit is new, but for the clause's first literal
+-- loading a clause adds no unit, except possibly its first literal
 stored_units : (p p' : Parts) (ls : List ℕ) → AddsOriginalClause p p' ls → (l : ℕ) → IsUnitLit (state p') l → IsUnitLit (state p) l
 stored_units p p' ls (stores_binary two a b c carries) l u = carries.units l u
 stored_units p p' ls (stores_long three o adds b carries) l u = carries.units l u
@@ -128,7 +128,7 @@ says_bottom One p p' ls says l t z = says.3.bottom l t z
 says_bottom Satisfied p p' ls says l t z = says.1.bottom l t z
 says_bottom Falsified p p' ls says l t z = says.3.bottom l t z
 
--- a variable that no clause has loses its value
+-- a variable in no clause is freed
 pub freed_frame : (p : Parts) (v : ℕ) → p.trail.lits ≡ [] → v < length p.assignment.current → FreesVar p (record p { assignment = assigned v None p.assignment; vsids = with_available v false p.vsids }) v
 freed_frame p v empty below =
     let none : length p.trail.lits ≡ 0 = ap (λ (xs : List ℕ). length xs) empty in

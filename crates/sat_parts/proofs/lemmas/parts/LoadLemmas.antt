@@ -1,4 +1,4 @@
--- Clauses that are loaded at level 0, and variables that are given up.
+-- Clauses that are loaded at level 0, and variables that are freed.
 use Rattle.std.proofs.Common.{ℕ, ◌≡◌, ◌≢◌, ◌+◌, ◌*◌, ◌<◌, ◌≤◌, inl, inr, List, [], length, get_or, set, length-set, get_or-set_same, get_or-set_other, sym, ap, ◌∙◌, subst, arith, false, None}
 use Rattle.std.proofs.lemmas.Bool.{cases_Bool, cases_eq, true≢false}
 use Rattle.sat_base.specs.values.Literals.{variable, negated}
@@ -23,7 +23,7 @@ use Rattle.sat_parts.proofs.lemmas.parts.ValueLemmas.{some_none}
 use Rattle.sat_parts.proofs.lemmas.parts.LearnLemmas.{turns_added, unused_added}
 use Rattle.sat_parts.proofs.lemmas.parts.BinaryLemmas.{asks_binary_added, turns_binary, unused_binary}
 
--- an open variable of a loadable clause may be picked
+-- an unassigned variable that may not be picked is not in a loadable clause
 not_in : (s : State) (q : Queue) (ls : List ℕ) (u : ℕ) → IsLoadable s q ls → value_of s.values u ≡ None → may_pick q u ≡ false → (k : ℕ) → k < length ls → variable (get_or ls k 0) ≢ u
 not_in s q ls u x none not k b e =
     true≢false (sym (x.ready k b (ap (λ v. value_of s.values v) e ∙ none)) ∙ ap (λ v. may_pick q v) e ∙ not)
@@ -84,7 +84,7 @@ sound_loaded_binary words db w x a g t q ls h p two =
       base = h.base;
     }
 
--- the state where a variable has no value
+-- the state in which a variable has no value
 abbrev lost_value : ℕ → State → State
 lost_value v s = record s { values = set s.values v None }
 
@@ -94,7 +94,7 @@ lost_true s v m below h = elim (cases_eq (variable m) v) [
   | inr n ↦ (n, sym (get_or-set_other s.values v (variable m) None None n) ∙ h)
 ]
 
--- (e) a variable that no clause has, with nothing on the trail, is given up
+-- a variable in no clause is freed while the trail is empty
 pub sound_freed : (words : List ℕ) (db : Db) (w : Watching) (b : Binaries) (a : Values) (g : List ImplNode) (t : Trailed) (q : Queue) (v : ℕ) →
     RoundInvariant words db w b a g t q → t.starts ≡ [] → t.lits ≡ [] → v < length a.current → IsUnused words (live_refs words db.refs) b.implied v →
     RoundInvariant words db w b (assigned v None a) g t (with_available v false q)

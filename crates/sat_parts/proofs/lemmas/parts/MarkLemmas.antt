@@ -1,4 +1,4 @@
--- Variables are marked.
+-- Marking the variables that occur in clauses.
 use Rattle.std.proofs.Common.{ℕ, ◌≡◌, ◌+◌, ◌<◌, ◌⊎◌, inl, inr, Bool, true, false, List, [], length, get_or, sym, ap, ◌∙◌, subst, arith}
 use Rattle.std.proofs.lemmas.Bool.{cases_lt, cases_Bool, true≢false}
 use Rattle.std.proofs.lemmas.List.{get_or_past}
@@ -21,7 +21,7 @@ marks_more a b c P Q R x y p q r = record {
 pub marks_same : (a b : List Bool) (P R : ℕ → Type 0) → MarksJustWhere a b P → ((v : ℕ) → P v → R v) → ((v : ℕ) → R v → P v) → MarksJustWhere a b R
 marks_same a b P R x p r = record { size = x.size; kept = x.kept; all = λ v z. x.all v (r v z); only = λ v t. elim (x.only v t) [ inl u ↦ inl u | inr u ↦ inr (p v u) ] }
 
--- one clause more, which is live or isn't
+-- one more clause, live or deleted
 pub long_more : (a b c : List Bool) (words refs : List ℕ) (n o : ℕ) → MarksJustWhere a b (InLong words refs n) → get_or refs n 0 ≡ o → is_live words o ≡ true → MarksJustWhere b c (HasVar words o (size_of words o)) → MarksJustWhere a c (InLong words refs (n + 1))
 long_more a b c words refs n o x e live y = marks_more a b c (InLong words refs n) (HasVar words o (size_of words o)) (InLong words refs (n + 1)) x y
     (λ v z. (z.0, (omega (arith, z.1.0), z.1.1, z.1.2)))
@@ -39,7 +39,7 @@ long_skip a b words refs n o x e dead = marks_same a b (InLong words refs n) (In
       | inr ge ↦ absurd (true≢false (sym z.1.1 ∙ ap (λ k. is_live words (get_or refs k 0)) (let q : z.0 ≡ n = omega (arith, z.1.0) in q) ∙ ap (λ p. is_live words p) e ∙ dead))
     ])
 
--- what isn't marked is in no clause, and the other way round
+-- a variable is unmarked exactly if it is in no clause
 pub unmarked : (a b c : List Bool) (words refs : List ℕ) (implied : List (List ℕ)) (v : ℕ) → MarksJustWhere a b (InLong words refs (length refs)) → MarksJustWhere b c (InBinary implied (length implied)) → get_or c v false ≡ false → IsUnused words (live_refs words refs) implied v
 unmarked a b c words refs implied v x y off = record {
   long = λ o k live lt e.

@@ -1,4 +1,4 @@
--- Propagation keeps what holds between rounds.
+-- Propagation preserves the invariant of the parts.
 use Rattle.std.proofs.Common.{ℕ, ◌≡◌, ◌+◌, ◌<◌, inl, inr, List, length, get_or, sym, ap, ◌∙◌, subst, arith, None, Result, Ok, Err}
 use Rattle.std.specs.Prelude.{MatchResult}
 use Rattle.std.proofs.lemmas.Bool.{cases_lt}
@@ -23,7 +23,7 @@ use Rattle.sat_parts.proofs.lemmas.clause.HeldLemmas.{held_reordered}
 use Rattle.sat_parts.specs.parts.Round.{AreReady, UnitsHaveNoReason, IsBased, IsSoundBelow}
 use Rattle.sat_parts.proofs.lemmas.parts.ValueLemmas.{open_or_true, not_true}
 
--- what is open after a piece of propagation was open before
+-- a variable that is unassigned after propagation was unassigned before
 pub open_back : (s s' : State) (v : ℕ) → TrailGrows s s' → value_of s'.values v ≡ None → value_of s.values v ≡ None
 open_back s s' v g none = elim (open_or_true s.values v) [
   | inl e ↦ e
@@ -60,7 +60,7 @@ sound_moved words words' db w w' b a a' g g' t t' q top top' h held m e asks =
       ready = ready_moved words words' db.refs b.implied s s' q m (m.reorders.all db.refs (λ o c. live_in words db.refs o c) h.asks.holds_clauses) e h.ready;
     }
 
--- after Ok what holds between rounds and nothing in the queue, and after a conflict the same below the current level
+-- the result of propagation: the invariant, or after a conflict the invariant below the current level
 pub sound_propagated : (words words' : List ℕ) (db : Db) (w w' : Watching) (b : Binaries) (a a' : Values) (g g' : List ImplNode) (t t' : Trailed) (q : Queue) (r : Result (Unit {0}) Conflict) →
     IsSoundBelow words db w b a g t q (length t.starts + 1) → PropagationResult db.refs b.implied words (state_of a g t) words' (state_of a' g' t') w' r →
     MatchResult r (λ _. IsSoundBelow words' db w' b a' g' t' q (length t'.starts + 1))
@@ -76,7 +76,7 @@ pub agrees_given : (words words' refs : List ℕ) (implied : List (List ℕ)) (s
 agrees_given words words' refs implied s s' w' (Ok x) given = given.outcome.0.agrees
 agrees_given words words' refs implied s s' w' (Err x) given = given.outcome.0.agrees
 
--- what the literals of level 0 are stays so above level 0
+-- above level 0, the trail still has no literals of level 0
 pub base_given : (words words' refs : List ℕ) (implied : List (List ℕ)) (a a' : Values) (g g' : List ImplNode) (t t' : Trailed) (w' : Watching) (r : Result (Unit {0}) Conflict) →
     PropagationResult refs implied words (state_of a g t) words' (state_of a' g' t') w' r → 0 < length t.starts → IsBased t → IsBased t'
 base_given words words' refs implied a a' g g' t t' w' r given some h =
@@ -86,7 +86,7 @@ base_given words words' refs implied a a' g g' t t' w' r given some h =
       bottom = λ e. absurd (omega arith);
     }
 
--- above level 0 propagation leaves the literals of level 0 as they are
+-- above level 0, literals of level 0 still have no clause as their reason
 pub units_moved : (live : List ℕ) (implied : List (List ℕ)) (words words' : List ℕ) (s s' : State) → StateIsConsistent s → StateIsConsistent s' → PropagatesOn live implied words s words' s' → 0 < length s.trail.starts → UnitsHaveNoReason s → UnitsHaveNoReason s'
 units_moved live implied words words' s s' h h' m some x i b e = elim (cases_lt i (length s.trail.lits)) [
   | inl lt ↦

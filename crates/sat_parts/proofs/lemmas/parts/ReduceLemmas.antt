@@ -1,4 +1,4 @@
--- The clauses that a reduction looks at.
+-- The clauses that a reduction considers.
 use Rattle.std.proofs.Common.{ℕ, ◌≡◌, ◌==◌, ◌<◌, ◌&&◌, inl, inr, Bool, true, false, List, [], ◌∷◌, map, length, get_or, suc, zero, refl, sym, ap, ◌∙◌, subst, arith}
 use Rattle.std.proofs.lemmas.Bool.{cases_Bool, cases_eq, true≢false, cond-true, cond-false}
 use Rattle.std.proofs.lemmas.List.{get_or-map, length-map, get_or_read, get_or_default}
@@ -14,7 +14,7 @@ use Rattle.sat_parts.proofs.lemmas.clause.ListLemmas.{there, in_head, in_tail, p
 use Rattle.sat_parts.specs.parts.Reducing.{clause_rank, ranked}
 use Rattle.sat_parts.proofs.lemmas.parts.SortLemmas.{shuffled_by}
 
--- what passes a test, and is among all
+-- what is in a filtered list is in the list and passes the test
 pub filter_in : (p : ℕ → Bool) (xs : List ℕ) (o : ℕ) → Contains (filter p xs) o → Contains xs o × (p o ≡ true)
 filter_in p [] o c = absurd (omega (arith, c.1))
 filter_in p (x ∷ xs) o c = elim (cases_Bool (p x)) [
@@ -47,7 +47,7 @@ first_true : (a b : Bool) → (a && b) ≡ true → a ≡ true
 first_true true b e = refl
 first_true false b e = e
 
--- a live clause of a tier is live
+-- a live clause of one tier is a live clause
 pub live_of : (words refs : List ℕ) (tier : Tier) (o : ℕ) → Contains (filter (is_live_of words tier) refs) o → Contains (live_refs words refs) o
 live_of words refs tier o c =
     let x = filter_in (is_live_of words tier) refs o c in
@@ -62,7 +62,7 @@ distinct_more x xs n d (suc j) (suc k) a b e = ap (λ i. suc i) (d j k (omega ar
 distinct_less : (x : ℕ) (xs : List ℕ) → AreDistinct (x ∷ xs) → AreDistinct xs
 distinct_less x xs d j k a b e = (let q : suc j ≡ suc k = d (suc j) (suc k) (omega arith) (omega arith) e in omega arith)
 
--- the first isn't among the others
+-- the first item of a list without repeats is not in the rest
 first_once : (x : ℕ) (xs : List ℕ) → AreDistinct (x ∷ xs) → Contains xs x → ⊥
 first_once x xs d c = (let q : 0 ≡ suc c.0 = d 0 (suc c.0) (omega arith) (omega (arith, c.1)) (get_or_read xs c.0 x c.1 (sym c.2) 0) in omega arith)
 
@@ -77,7 +77,7 @@ distinct_filter p (x ∷ xs) d = elim (cases_Bool (p x)) [
       subst (λ (ys : List ℕ). AreDistinct ys) (sym e) (distinct_filter p xs (distinct_less x xs d))
 ]
 
--- clauses that are listed in whatever order are live, each once
+-- a permutation of the live clauses of one tier has no repeats
 pub listed_once : (words refs list : List ℕ) (tier : Tier) → AreRising refs → IsPermutation (filter (is_live_of words tier) refs) list → AreDistinct list
 listed_once words refs list tier rising p =
     let x : IsReordering (filter (is_live_of words tier) refs) list = shuffled_by (filter (is_live_of words tier) refs) list p in

@@ -23,14 +23,14 @@ use Rattle.sat_parts.specs.parts.Round.{IsUnused, IsSoundBelow, RoundInvariant}
 use Rattle.sat_parts.proofs.lemmas.parts.TurnLemmas.{implies_by}
 use Rattle.sat_parts.proofs.lemmas.parts.DecideLemmas.{still_open}
 
--- the state where an open literal is true as a unit taken off the trail
+-- the state in which an unassigned literal became true as a unit taken off the trail
 abbrev pub restored : ℕ → State → State
 restored l s = record s { values = set s.values (variable l) (Some (is_positive l)); nodes = with_node (variable l) removed_node s.nodes }
 
 other_node : (s : State) (l m : ℕ) → variable m ≢ variable l → node (restored l s) m ≡ node s m
 other_node s l m n = get_or-set_other s.nodes (variable l) (variable m) removed_node new_node n
 
--- literals that were true have the nodes that they had
+-- literals that were true keep their nodes
 old_node : (s : State) (l m : ℕ) → IsOpenLit s.values l → IsTrueLit s.values m → node (restored l s) m ≡ node s m
 old_node s l m free h = other_node s l m (open_other s.values l m free h)
 
@@ -81,7 +81,7 @@ agrees_restored s l h free below =
       ];
     }
 
--- a unit of a variable that was given up is true again
+-- the unit of a freed variable is true again
 pub sound_restored : (words : List ℕ) (db : Db) (w : Watching) (b : Binaries) (a : Values) (g : List ImplNode) (t : Trailed) (q : Queue) (l : ℕ) →
     RoundInvariant words db w b a g t q → t.starts ≡ [] → variable l < length a.current → IsOpenLit a.current l → may_pick q (variable l) ≡ false →
     RoundInvariant words db w b (made_true l a) (with_node (variable l) removed_node g) t q

@@ -1,4 +1,4 @@
--- Clauses whose literals after the first two change places, and clauses that are shortened.
+-- Permuting the literals of a clause after the first two, and shortening clauses.
 use Rattle.std.proofs.Common.{ℕ, ◌≡◌, ◌≢◌, ◌+◌, ◌*◌, ◌<◌, ◌≤◌, inl, inr, List, take, length, get_or, refl, sym, ap, ◌∙◌, subst, arith, false}
 use Rattle.std.proofs.lemmas.Bool.{cases_eq, true≢false}
 use Rattle.std.proofs.lemmas.List.{get_or-take, length-take-le}
@@ -31,7 +31,7 @@ use Rattle.sat_parts.proofs.lemmas.prop.StateLemmas.{left_true, level_low}
 use Rattle.sat_parts.specs.parts.Round.{IsSoundBelow, RoundInvariant}
 use Rattle.sat_parts.proofs.lemmas.parts.MoveLemmas.{sound_moved}
 
--- the other literals of one clause change places
+-- the literals of one clause after the first two are permuted
 pub asks_shuffled : (words words' refs : List ℕ) (w : Watching) (implied : List (List ℕ)) (s : State) (top o : ℕ) → PropagationInvariant words refs w implied s top → Contains (live_refs words refs) o → PermutesClause words words' o →
     lit_of words' o 0 ≡ lit_of words o 0 → lit_of words' o 1 ≡ lit_of words o 1 → PropagationInvariant words' refs w implied s top
 asks_shuffled words words' refs w implied s top o h c x first second =
@@ -113,7 +113,7 @@ shorter_turn words words' live live' implied s i o len (Long p) e same first h =
       λ k some lt. subst (λ m. IsFalseBefore s i m) (sym (same p d k lt).0) (h.2 k some (same p d k lt).1),
     )
 
--- (e) a clause whose first two literals aren't false by a literal that has left the queue is shortened
+-- shortening a clause whose first two literals are not false by a literal that has left the queue
 pub sound_shortened : (words words' : List ℕ) (db : Db) (w w' : Watching) (b : Binaries) (a : Values) (g : List ImplNode) (t : Trailed) (q : Queue) (o len : ℕ) →
     RoundInvariant words db w b a g t q → Contains (live_refs words db.refs) o → 3 ≤ len → len ≤ size_of words o → ShortensClause words db words' o len → w' ≡ record w { enabled = false } →
     ((i : ℕ) → i < 2 → HasLeftQueue (state_of a g t) (negated (lit_of words o i)) → ⊥) → RoundInvariant words' db w' b a g t q
@@ -123,7 +123,7 @@ sound_shortened words words' db w w' b a g t q o len h c three le x to_w fresh =
     let size : length (take len (lits_at words o)) ≡ len = length-take-le len (lits_at words o) le in
     let off : w'.enabled ≡ false = ap (λ (z : Watching). z.enabled) to_w in
     let old_in : (p : ℕ) → Contains (live_refs words' db.refs) p → Contains (live_refs words db.refs) p = λ p d. subst (λ (xs : List ℕ). Contains xs p) x.live d in
-    -- what holds of all old clauses, and of the shortened one
+    -- a property of all old clauses and of the shortened one
     let from : (P : ℕ → List ℕ → Type 0) → ((p : ℕ) → Contains (live_refs words db.refs) p → P p (lits_at words p)) → P o (take len (lits_at words o)) → (p : ℕ) → Contains (live_refs words' db.refs) p → P p (lits_at words' p) =
     λ P old new p d. elim (cases_eq p o) [
       | inl e ↦ subst (λ z. P z (lits_at words' z)) (sym e) (subst (λ (ls : List ℕ). P o ls) (sym x.lits_there) new)
@@ -177,7 +177,7 @@ sound_shortened words words' db w w' b a g t q o len h c three le x to_w fresh =
       base = h.base;
     }
 
--- a live clause without a true literal isn't false in its first two by literals that have left the queue
+-- a live clause without a true literal: its first two are not false by literals that have left the queue
 pub fresh_unsatisfied : (words : List ℕ) (db : Db) (w : Watching) (b : Binaries) (a : Values) (g : List ImplNode) (t : Trailed) (q : Queue) (o : ℕ) → RoundInvariant words db w b a g t q → Contains (live_refs words db.refs) o →
     ((k : ℕ) → k < size_of words o → IsTrueLit a.current (lit_of words o k) → ⊥) → (i : ℕ) → i < 2 → HasLeftQueue (state_of a g t) (negated (lit_of words o i)) → ⊥
 fresh_unsatisfied words db w b a g t q o h c none i lt left =

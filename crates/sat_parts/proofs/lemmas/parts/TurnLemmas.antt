@@ -1,4 +1,4 @@
--- Reasons that stay unit in turn.
+-- Reasons that stay unit in the order of the trail.
 use Rattle.std.proofs.Common.{ℕ, ◌≡◌, ◌+◌, ◌<◌, inl, inr, List, [], ◌∷◌, length, ◌++◌, get_or, refl, sym, ap, ◌∙◌, subst, arith}
 use Rattle.std.proofs.lemmas.Bool.{cases_eq}
 use Rattle.std.proofs.lemmas.List.{length_push}
@@ -19,7 +19,7 @@ use Rattle.sat_parts.proofs.lemmas.prop.RoomLemmas.{room_for}
 use Rattle.sat_parts.proofs.lemmas.prop.StepLemmas.{raised}
 use Rattle.sat_parts.specs.parts.Round.{UnitsHaveNoReason}
 
--- a reason that is unit in turn stays so where its clause and what was false before stay
+-- a reason stays unit if its clause stays and the literals false before it stay false
 pub implies_by : (words words' live live' : List ℕ) (implied implied' : List (List ℕ)) (s s' : State) (i : ℕ) (r : Reason) → lit_at s' i ≡ lit_at s i →
     ((m : ℕ) → IsFalseBefore s i m → IsFalseBefore s' i m) →
     ((o : ℕ) → r ≡ Long o → Contains live o → Contains live' o × (lits_at words' o ≡ lits_at words o)) →
@@ -36,7 +36,7 @@ implies_by words words' live live' implied implied' s s' i (Long o) e f long bin
           subst (λ (l : ℕ). IsFalseBefore s' i l) (sym (ap (λ (ls : List ℕ). get_or ls j 0) k.1)) (f (lit_of words o j) (h.2 j x (subst (λ (ls : List ℕ). j < length ls) k.1 y))),
     )
 
--- the same for all reasons of the trail, where the clauses change and the state doesn't
+-- the same for all reasons on the trail, if only clauses change
 pub turns_by : (words words' live live' : List ℕ) (implied implied' : List (List ℕ)) (s : State) →
     ((i o : ℕ) → i < length s.trail.lits → (node s (lit_at s i)).reason ≡ Long o → Contains live o → Contains live' o × (lits_at words' o ≡ lits_at words o)) →
     ((i : ℕ) (ls : List ℕ) → i < length s.trail.lits → (node s (lit_at s i)).reason ≡ Binary ls →
@@ -45,7 +45,7 @@ pub turns_by : (words words' live live' : List ℕ) (implied implied' : List (Li
 turns_by words words' live live' implied implied' s long binary h i p b =
     implies_by words words' live live' implied implied' s s i (node s (lit_at s i)).reason refl (λ m x. x) (λ o e. long i o b e) (λ ls e. binary i ls b e) (h i p b)
 
--- an open literal becomes true by a reason that is unit in turn
+-- an unassigned literal becomes true by a unit clause
 pub turns_enqueued : (words live : List ℕ) (implied : List (List ℕ)) (s : State) (l : ℕ) (r : Reason) → StateIsConsistent s → IsOpenLit s.values l → variable l < length s.values →
     Implies words live implied (enqueued l r s) (length s.trail.lits) r → AreUnitInTurn words live implied s 0 → AreUnitInTurn words live implied (enqueued l r s) 0
 turns_enqueued words live implied s l r h n below cause x i p y =

@@ -1,4 +1,4 @@
--- Levels that are undone keep what holds between rounds.
+-- Undoing levels preserves the invariant between rounds.
 use Rattle.std.proofs.Common.{ℕ, ◌≡◌, ◌+◌, ◌-◌, ◌<◌, ◌≤◌, inl, inr, List, take, drop, length, length-drop, get_or, sym, ap, ◌∙◌, subst, arith, true}
 use Rattle.std.proofs.lemmas.Bool.{cases_lt}
 use Rattle.std.proofs.lemmas.List.{get_or-drop, get_or-take, length-take-le}
@@ -23,7 +23,7 @@ use Rattle.sat_parts.specs.parts.Round.{UnitsHaveNoReason, IsBased, IsSoundBelow
 use Rattle.sat_parts.specs.parts.Learned.{IsAnalyzedClause, IsPending}
 use Rattle.sat_parts.proofs.lemmas.parts.ValueLemmas.{open_or_true, not_true, available_kept, available_length, available_there}
 
--- a literal of a level above is undone, and its variable may be picked
+-- the variable of an undone literal may be picked
 pub undone_available : (v : ℕ) (a : Values) (g : List ImplNode) (t : Trailed) (q : Queue) (l : ℕ) → StateIsConsistent (state_of a g t) → v < length t.starts → length q.available ≡ length a.current →
     IsTrueLit a.current l → v < level (state_of a g t) l → may_pick (all_available (undone_lits v t) q) (variable l) ≡ true
 undone_available v a g t q l h lt size holds high =
@@ -82,7 +82,7 @@ based_undone t v lt h =
 level_negated : (s : State) (m : ℕ) → level s (negated m) ≡ level s m
 level_negated s m = ap (λ u. (node_of s.nodes u).level) (negated_variable m)
 
--- a learned clause once the levels above the one to go back to are undone
+-- a learned clause after backtracking
 pub pending_undone : (a : Values) (g : List ImplNode) (t : Trailed) (q : Queue) (ls : List ℕ) (v : ℕ) → StateIsConsistent (state_of a g t) → length q.available ≡ length a.current → IsAnalyzedClause (state_of a g t) ls v →
     IsPending (state_of (undone_to v t a) g (cut_to v t)) (all_available (undone_lits v t) q) ls
 pending_undone a g t q ls v h size x =

@@ -1,4 +1,4 @@
--- Words of trails since an ask began, from step to step.
+-- Words of trails since an ask began, as the search proceeds.
 use Rattle.std.proofs.Common.{ℕ, ◌≡◌, ◌≢◌, ◌+◌, ◌-◌, ◌<◌, ◌≤◌, ◌⊎◌, inl, inr, List, [], ◌∷◌, ◌++◌, map, suc, zero, length, get_or, take, drop, refl, sym, ap, ◌∙◌, subst, arith, append_assoc, true, false, Some, None, Result, Ok, Err, ◌/◌, eqb, set, get_or-set_other, get_or-set_same, length-set}
 use Rattle.std.specs.Prelude.{replicate, OnOk, OnErr}
 use Rattle.sat_parts.specs.declared.prop.graph.Conflict.{Conflict}
@@ -54,7 +54,7 @@ begins_refl u = ([], sym (append_none u))
 pub begins_trans : (u v w : List Letter) → Begins u v → Begins v w → Begins u w
 begins_trans u v w x y = (x.0 ++ y.0, y.1 ∙ ap (λ (z : List Letter). z ++ y.0) x.1 ∙ append_assoc u x.0 y.0)
 
--- what begins a word is below what that is below of
+-- a prefix of a lower word is lower
 pub below_front : (u w z : List Letter) → IsLowerWord (u ++ w) z → IsLowerWord u z
 below_front [] [] [] h = h
 below_front [] [] (y ∷ z) h = tt
@@ -66,7 +66,7 @@ below_front (D ∷ u) w (P ∷ z) h = tt
 below_front (P ∷ u) w (D ∷ z) h = h
 below_front (P ∷ u) w (P ∷ z) h = below_front u w z h
 
--- the same letters before both
+-- prepending the same letters to both words
 below_after : (k : ℕ) (u v : List Letter) → IsLowerWord u v → IsLowerWord (replicate k P ++ u) (replicate k P ++ v)
 below_after zero u v h = h
 below_after (suc k) u v h = below_after k u v h
@@ -74,7 +74,7 @@ below_after (suc k) u v h = below_after k u v h
 begins_after : (k : ℕ) (u v : List Letter) → Begins u v → Begins (replicate k P ++ u) (replicate k P ++ v)
 begins_after k u v x = (x.0, ap (λ (z : List Letter). replicate k P ++ z) x.1 ∙ sym (append_assoc (replicate k P) u x.0))
 
--- letters go by places alone
+-- letters depend only on positions
 letters_length : (starts xs ys : List ℕ) (at : ℕ) → length xs ≡ length ys → letters starts xs at ≡ letters starts ys at
 letters_length starts [] [] at e = refl
 letters_length starts [] (y ∷ ys) at e = absurd (omega arith)
@@ -90,7 +90,7 @@ letters_count : (starts xs : List ℕ) (at : ℕ) → length (letters starts xs 
 letters_count starts [] at = refl
 letters_count starts (x ∷ xs) at = ap (λ n. suc n) (letters_count starts xs (at + 1))
 
--- more literals of the same levels
+-- appending literals extends the word
 pub standing_grown : (s s' : State) → TrailGrows s s' → Begins (trail_letters s.trail) (trail_letters s'.trail)
 standing_grown s s' g =
     let n : ℕ = length s.trail.lits in
@@ -102,7 +102,7 @@ standing_grown s s' g =
           ∙ letters_append starts (take n s'.trail.lits) (drop n s'.trail.lits) 0 ∙ ap (λ (w : List Letter). w ++ rest) (letters_length starts (take n s'.trail.lits) s.trail.lits 0 size),
     )
 
--- the state with nothing counted as cleared, whose word is that of its literals
+-- the state with no literal counted as cleared, whose word has only the letters of its trail
 abbrev from_now : State → State
 from_now s = record s { trail = record s.trail { cleared = 0 } }
 
@@ -115,14 +115,14 @@ standing_decided s l x = (D ∷ [], words_rise.decided (from_now s) l (levelled_
 pub standing_learned : (s : State) (l v : ℕ) → IsLevelled s → v < length s.trail.starts → IsLowerWord (trail_letters s.trail) (trail_letters (with_lit l (cut_to v s.trail)))
 standing_learned s l v x lt = words_rise.rises (from_now s) l v (levelled_now s x) lt
 
--- what is gone has no literal on the trail
+-- no literal on the trail has a variable that is gone
 gone_off : (am : List ℕ) → (s : State) (q : Queue) (v i : ℕ) → StateIsConsistent s → IsGone am s q v → i < length s.trail.lits → variable (lit_at s i) ≢ v
 gone_off am s q v i h x b e = elim x.1 [
   | inl r ↦ apart_removed s r.0 i h r.1.1 b (e ∙ sym r.1.0)
   | inr n ↦ not_true s.values v (lit_at s i) n.0 e (h.holds i b)
 ]
 
--- the variables of the trail, and those that are gone
+-- the variables on the trail, and those that are gone
 abbrev taken : State → List ℕ → List ℕ
 taken s gone = map (λ l. variable l) s.trail.lits ++ gone
 
@@ -143,7 +143,7 @@ default_free [] i d e b = absurd (omega arith)
 default_free (x ∷ xs) zero d e b = refl
 default_free (x ∷ xs) (suc i) d e b = default_free xs i d e (omega arith)
 
--- each of them once
+-- all of them are different
 taken_distinct : (am : List ℕ) → (s : State) (q : Queue) (gone : List ℕ) → StateIsConsistent s → AreDistinct gone → ((k : ℕ) → k < length gone → IsGone am s q (get_or gone k 0)) → AreDistinct (taken s gone)
 taken_distinct am s q gone h distinct each i j p r e =
     let n : length (taken s gone) ≡ length s.trail.lits + length gone = taken_length s gone in
@@ -168,7 +168,7 @@ taken_there am s q gone i h each b =
       | inr a ↦ subst (λ (z : ℕ). z < length s.values) (sym (taken_back s gone i 0 a)) (each (i - length s.trail.lits) (omega arith)).0
     ]
 
--- different numbers below a bound are no more than the bound
+-- a bound is at least the number of different numbers below it
 pub fits_below : (xs : List ℕ) (n : ℕ) → AreDistinct xs → ((i : ℕ) → i < length xs → get_or xs i 0 < n) → length xs ≤ n
 fits_below xs n distinct below =
     length-le_from_distinct_below xs n
@@ -179,7 +179,7 @@ fits_below xs n distinct below =
     let c : Contains xs q = Contains-from_any {eq = eqb} (λ x y e. eqb-true x y e) q xs any in
     subst (λ (z : ℕ). z < n) (default_free xs c.0 0 q c.1 ∙ c.2) (below c.0 c.1))
 
--- a word has at most a letter for each variable
+-- a word has at most one letter for every variable
 pub word_fits : (am : List ℕ) → (s : State) (q : Queue) (w : List Letter) → StateIsConsistent s → IsWord am s q w → length w ≤ length s.values
 word_fits am s q w h x =
     let n : length (taken s x.gone) ≡ length s.trail.lits + length x.gone = taken_length s x.gone in
@@ -190,7 +190,7 @@ word_fits am s q w h x =
     count_of zero = refl
     count_of (suc k) = ap (λ n. suc n) (count_of k)
 
--- what is gone goes on where a literal of another variable becomes true, which may be picked
+-- variables that are gone stay so when a literal becomes true whose variable may be picked or is assumed
 module _ (am : List ℕ) (s : State) (q : Queue) (l : ℕ) (r : Reason) (unset : IsOpenLit s.values l) (picks : (may_pick q (variable l) ≡ true) ⊎ Contains am (variable l)) where
   idle_enqueued : (v : ℕ) → IsIdle am s q v → IsIdle am (enqueued l r s) q v
   idle_enqueued v y =
@@ -223,7 +223,7 @@ module _ (am : List ℕ) (s : State) (q : Queue) (l : ℕ) (r : Reason) (unset :
     idle = idle_enqueued;
   }
 
--- the same where the variable was picked
+-- the same for a decision
 pub gone_decided : (am : List ℕ) → (s : State) (q q' : Queue) (l : ℕ) → IsOpenLit s.values l → (may_pick q (variable l) ≡ true) ⊎ Contains am (variable l) → ((u : ℕ) → may_pick q u ≡ false → may_pick q' u ≡ false) → GoneAndIdleStay am s q (decided_on l s) q'
 gone_decided am s q q' l unset picks less =
     let f : GoneAndIdleStay am (record s { trail = with_level s.trail }) q (decided_on l s) q = gone_enqueued am (record s { trail = with_level s.trail }) q l NoCause unset picks in
@@ -241,7 +241,7 @@ gone_decided am s q q' l unset picks less =
       idle = λ v x. (let z : IsIdle am (decided_on l s) q v = f.idle v x in (z.0, less v z.1, z.2));
     }
 
--- a variable that no clause has isn't made true by a clause
+-- a clause does not make a variable true that is in no clause
 implied_used : (words live : List ℕ) (implied : List (List ℕ)) (s : State) (i : ℕ) (r : Reason) → is_unit_reason r ≡ false → ((o : ℕ) → Contains live o → 3 ≤ size_of words o) → Implies words live implied s i r →
     IsUnused words live implied (variable (lit_at s i)) → ⊥
 implied_used words live implied s i NoCause clause sizes h u = true≢false clause
@@ -259,7 +259,7 @@ unused_moved words words' refs implied v kept e u = record {
   binary = u.binary;
 }
 
--- what is gone goes on through propagation
+-- variables that are gone stay so in propagation
 pub gone_moved : (am : List ℕ) → (words words' : List ℕ) (db : Db) (w w' : Watching) (b : Binaries) (a a' : Values) (g g' : List ImplNode) (t t' : Trailed) (q : Queue) (top top' : ℕ) →
     IsSoundBelow words db w b a g t q top → IsSoundBelow words' db w' b a' g' t' q top' → PropagatesOn (live_refs words db.refs) b.implied words (state_of a g t) words' (state_of a' g' t') →
     live_refs words' db.refs ≡ live_refs words db.refs → GoneAndIdleStay am (state_of a g t) q (state_of a' g' t') q
@@ -314,7 +314,7 @@ available_other [] q v h = refl
 available_other (l ∷ ls) q v h =
     available_other ls (with_available (variable l) true q) v (λ k b. h (suc k) (omega arith)) ∙ get_or-set_other q.available (variable l) v true false (λ e. h 0 (omega arith) (sym e))
 
--- where levels are undone
+-- the same when levels are undone
 pub gone_undone : (am : List ℕ) → (top : ℕ) (a : Values) (g : List ImplNode) (t : Trailed) (q : Queue) → StateIsConsistent (state_of a g t) → top < length t.starts →
     GoneAndIdleStay am (state_of a g t) q (state_of (undone_to top t a) g (cut_to top t)) (all_available (undone_lits top t) q)
 gone_undone am top a g t q h lt = record {
@@ -346,7 +346,7 @@ gone_undone am top a g t q h lt = record {
       y.2,
     )
 
--- where units are taken off the trail
+-- the same when units are taken off the trail
 gone_cleared : (am : List ℕ) → (a : Values) (g : List ImplNode) (t : Trailed) (q : Queue) → StateIsConsistent (state_of a g t) → GoneAndIdleStay am (state_of a g t) q (state_of a (removed t.lits g) (with_cleared t)) q
 gone_cleared am a g t q h = record {
   size = refl;
@@ -392,7 +392,7 @@ replicate_sum : (m n : ℕ) → replicate (m + n) P ≡ replicate m P ++ replica
 replicate_sum zero n = ap (λ k. replicate k P) (omega arith)
 replicate_sum (suc m) n = ap (λ k. replicate k P) (let e : suc m + n ≡ suc (m + n) = omega arith in e) ∙ ap (λ (w : List Letter). P ∷ w) (replicate_sum m n)
 
--- units that are taken off the trail leave the word as it is
+-- taking units off the trail keeps the word
 pub word_cleared : (am : List ℕ) → (a : Values) (g : List ImplNode) (t : Trailed) (q : Queue) → StateIsConsistent (state_of a g t) → t.starts ≡ [] →
     WordExtends am (state_of a g t) q (state_of a (removed t.lits g) (with_cleared t)) q
 word_cleared am a g t q h e = (
@@ -423,7 +423,7 @@ word_cleared am a g t q h e = (
       ),
 )
 
--- as an ask begins, nothing is taken off yet
+-- when an ask begins, the word is that of the trail
 pub word_begins : (am : List ℕ) (p : Parts) → Words am p (trail_letters p.trail)
 word_begins am p = record { gone = []; distinct = λ i j a b e. absurd (omega arith); each = λ k b. absurd (omega arith); is = refl }
 
@@ -448,7 +448,7 @@ extends_after am p q r x y = (
 pub extends_trans : (p q r : Parts) → TrailWordExtends p q → TrailWordExtends q r → TrailWordExtends p r
 extends_trans p q r x y am = extends_after am p q r (x am) (y am)
 
--- parts whose word is extended before it rises
+-- a word that is extended and then rises has risen
 pub rises_after : (am : List ℕ) (p q r : Parts) → TrailWordExtendsFor am p q → TrailWordRisesFor am q r → TrailWordRisesFor am p r
 rises_after am p q r x y = (
   goes_trans am (state p) p.vsids (state q) q.vsids (state r) r.vsids x.0 y.0,
@@ -482,7 +482,7 @@ extends_propagated am words words' db w w' b a a' g g' t t' q (Err x) h given =
     word_goes am (state_of a g t) q (state_of a' g' t') q (gone_moved am words words' db w w' b a a' g g' t t' q (length t.starts + 1) (length t'.starts) h h'.0 given.moves given.live)
     (standing_grown (state_of a g t) (state_of a' g' t') given.moves.grows)
 
--- a collection
+-- a garbage collection keeps the word
 pub extends_collect : (am : List ℕ) → (words words' : List ℕ) (db db' : Db) (w w' : Watching) (a : Values) (g g' : List ImplNode) (t : Trailed) (q : Queue) (r : Result (Unit {0}) StoreError) →
     (length words / 2 < db.garbage → OnOk r (Collects words db g t.lits words' db' g')) → (db.garbage ≤ length words / 2 → CollectsNothing words db g w words' db' g' w') → OnErr r (CollectsNothing words db g w words' db' g' w') →
     WordExtends am (state_of a g t) q (state_of a g' t) q
@@ -504,18 +504,18 @@ extends_collect am words words' db db' w w' a g g' t q (Ok x) due not_due same =
 ]
 extends_collect am words words' db db' w w' a g g' t q (Err x) due not_due same = rw same.2 (extends_fewer am (state_of a g t) q q (λ u e. e))
 
--- learned: levels are undone, and a literal becomes true
+-- undoing levels and enqueueing a literal raises the word
 pub rises_learned : (am : List ℕ) → (s : State) (q : Queue) (s' : State) (q' : Queue) (l top : ℕ) → GoneAndIdleStay am s q s' q' → IsLevelled s → top < length s.trail.starts → s'.trail ≡ with_lit l (cut_to top s.trail) → WordRises am s q s' q'
 rises_learned am s q s' q' l top stay levels lt e =
     word_rises am s q s' q' stay (subst (λ (t : Trailed). IsLowerWord (trail_letters s.trail) (trail_letters t)) (sym e) (standing_learned s l top levels lt))
 
--- levels are undone, and a learned literal comes in their place
+-- the same if the levels are undone first, and the learned literal is enqueued later
 pub rises_taken : (p u n : Parts) (l top : ℕ) → TrailWordStays p u → TrailWordStays u n → u.trail ≡ cut_to top p.trail → n.trail ≡ with_lit l u.trail → IsLevelled (state p) → top < length p.trail.starts → TrailWordRises p n
 rises_taken p u n l top undone stay cut last levelled lt am =
     rises_learned am (state p) p.vsids (state n) n.vsids l top (goes_trans am (state p) p.vsids (state u) u.vsids (state n) n.vsids (undone am) (stay am)) levelled lt
     (last ∙ ap (λ (t : Trailed). with_lit l t) cut)
 
--- a variable that isn't assumed is given up
+-- a variable that is not assumed is freed
 pub gone_freed : (am : List ℕ) (a : Values) (g : List ImplNode) (t : Trailed) (q : Queue) (u : ℕ) → u < length q.available → length q.available ≡ length a.current → (Contains am u → ⊥) →
     GoneAndIdleStay am (state_of a g t) q (state_of (assigned u None a) g t) (with_available u false q)
 gone_freed am a g t q u there same free = record {

@@ -1,4 +1,4 @@
--- From what propagation asks of all parts to what it asks of the queue's walk, and back.
+-- From `PropagationInvariant`, for all parts, to `ReadyBelow`, for the loop over the queue, and back.
 use Rattle.std.proofs.Common.{ℕ, ◌≡◌, inl, inr, ◌+◌, ◌/◌, ◌<◌, List, length, sym, subst, arith, true, false, Result, Ok, Err}
 use Rattle.std.proofs.lemmas.Bool.{cases_Bool}
 use Rattle.sat_store.specs.clause.Buffer.{HoldsClauses}
@@ -63,7 +63,7 @@ gives_from refs implied words s words' s' w (Err x) holds_clauses h =
       );
     }
 
--- the lists are watched once they are kept up
+-- the watch lists are right once they are enabled
 pub watched_now : (words refs : List ℕ) (w w' : Watching) (implied : List (List ℕ)) (s : State) (top : ℕ) → PropagationInvariant words refs w implied s top →
     (w.enabled ≡ true → w' ≡ w) → (w.enabled ≡ false → AreWatched words (live_refs words refs) w'.lists (length w.lists / 2)) →
     AreWatched words (live_refs words refs) w'.lists (length s.values)

@@ -1,4 +1,4 @@
--- What is left once levels are undone.
+-- What remains after levels are undone.
 use Rattle.std.proofs.Common.{ℕ, ◌≡◌, ◌≢◌, ◌+◌, ◌-◌, ◌*◌, ◌<◌, ◌≤◌, ◌⊎◌, inl, inr, List, [], ◌∷◌, suc, zero, length, get_or, set, take, drop, refl, sym, ap, ◌∙◌, subst, arith, length-set, get_or-set_same, get_or-set_other, length-drop, Bool, Some, None}
 use Rattle.std.proofs.lemmas.Bool.{cases_eq, cases_lt}
 use Rattle.std.proofs.lemmas.List.{get_or-take, get_or-drop, length-take-le, get_or_past}
@@ -40,7 +40,7 @@ none_stays (l ∷ ls) a v e = none_stays ls (lost l a) v (elim (cases_eq v (vari
   | inr n ↦ get_or-set_other a.current (variable l) v None None n ∙ e
 ])
 
--- a variable of the list has no value
+-- an undone variable is unassigned
 pub undone_none : (ls : List ℕ) (a : Values) (k : ℕ) → k < length ls → value_of (undone ls a).current (variable (get_or ls k 0)) ≡ None
 undone_none [] a k lt = absurd (omega arith)
 undone_none (l ∷ ls) a zero lt = none_stays ls (lost l a) (variable l) (elim (cases_lt (variable l) (length a.current)) [
@@ -58,7 +58,7 @@ undone_other (l ∷ ls) a v h =
     undone_other ls (lost l a) v (λ k lt. h (suc k) (omega arith))
     ∙ get_or-set_other a.current (variable l) v None None (λ e. h 0 (omega arith) (sym e))
 
--- a variable that has a value had it before
+-- a variable that is assigned had its value before
 pub undone_back : (ls : List ℕ) (a : Values) (v : ℕ) (b : Bool) → value_of (undone ls a).current v ≡ Some b → value_of a.current v ≡ Some b
 undone_back [] a v b e = e
 undone_back (l ∷ ls) a v b e =
@@ -75,14 +75,14 @@ undone_back (l ∷ ls) a v b e =
       | inr n ↦ sym (get_or-set_other a.current (variable l) v None None n) ∙ f
     ]
 
--- the state before, and the state once the levels above this one are undone
+-- the state before, and the state after the levels above this one are undone
 abbrev pub before : Values → List ImplNode → Trailed → State
 before a nodes t = record { values = a.current; nodes = nodes; trail = t }
 
 abbrev pub after : ℕ → Values → List ImplNode → Trailed → State
 after level a nodes t = record { values = (undone_to level t a).current; nodes = nodes; trail = cut_to level t }
 
--- where the levels above this one begin
+-- the position where the levels above this one begin
 abbrev pub cut_at : ℕ → Trailed → ℕ
 cut_at level t = get_or t.starts level 0
 
@@ -95,11 +95,11 @@ cut_length v a nodes t h lt = length-take-le (cut_at v t) t.lits (cut_within v a
 cut_lit : (v : ℕ) (a : Values) (nodes : List ImplNode) (t : Trailed) (i : ℕ) → i < cut_at v t → lit_at (after v a nodes t) i ≡ lit_at (before a nodes t) i
 cut_lit v a nodes t i lt = get_or-take (cut_at v t) t.lits i 0 lt
 
--- an undone literal stood at a place after the cut
+-- an undone literal was on the trail at or after this position
 undone_lit : (v : ℕ) (a : Values) (nodes : List ImplNode) (t : Trailed) (k : ℕ) → get_or (drop (cut_at v t) t.lits) k 0 ≡ lit_at (before a nodes t) (cut_at v t + k)
 undone_lit v a nodes t k = get_or-drop (cut_at v t) t.lits k 0
 
--- where a literal is that isn't undone
+-- that a literal stays: it is before this position, or was taken off the trail
 abbrev pub IsKept : ℕ → Values → List ImplNode → Trailed → ℕ → Type 0
 IsKept v a nodes t m = IsBefore (before a nodes t) (cut_at v t) m ⊎ IsRemoved (before a nodes t) m
 
@@ -157,7 +157,7 @@ pub removed_cut : (v : ℕ) (a : Values) (nodes : List ImplNode) (t : Trailed) (
     IsRemoved (before a nodes t) m → IsRemoved (after v a nodes t) m
 removed_cut v a nodes t m h lt x = record { holds = kept_true v a nodes t m h lt (inr x) x.holds; depth = x.depth; bottom = x.bottom }
 
--- the level of a literal before the cut
+-- a literal before this position is at level v or lower
 pub cut_level : (v : ℕ) (a : Values) (nodes : List ImplNode) (t : Trailed) (i : ℕ) → StateIsConsistent (before a nodes t) → v < length t.starts → i < cut_at v t →
     level (before a nodes t) (lit_at (before a nodes t) i) ≤ v
 cut_level v a nodes t i h lt b =
@@ -176,7 +176,7 @@ kept_level v a nodes t m h lt kept = elim kept [
   | inr x ↦ omega (arith, x.bottom)
 ]
 
--- a true literal of no higher level isn't undone
+-- a true literal at level v or lower stays
 pub low_kept : (v : ℕ) (a : Values) (nodes : List ImplNode) (t : Trailed) (m : ℕ) → StateIsConsistent (before a nodes t) → v < length t.starts → IsTrueLit a.current m →
     level (before a nodes t) m ≤ v → IsKept v a nodes t m
 low_kept v a nodes t m h lt holds low = elim (h.known m holds) [
@@ -236,7 +236,7 @@ agrees_after v a nodes t h lt =
           ];
     }
 
--- an undone literal is open
+-- an undone literal is unassigned
 undone_open : (v : ℕ) (a : Values) (nodes : List ImplNode) (t : Trailed) (m : ℕ) → StateIsConsistent (before a nodes t) → v < length t.starts → IsTrueLit a.current m →
     v < level (before a nodes t) m → IsOpenLit (after v a nodes t).values m
 undone_open v a nodes t m h lt holds high = elim (h.known m holds) [
@@ -254,7 +254,7 @@ undone_open v a nodes t m h lt holds high = elim (h.known m holds) [
   | inr x ↦ absurd (omega (arith, x.bottom))
 ]
 
--- what stays where the levels above this one are undone
+-- what remains when the levels above this one are undone
 pub keeps_low : (v : ℕ) (a : Values) (nodes : List ImplNode) (t : Trailed) → StateIsConsistent (before a nodes t) → v < length t.starts → KeepsLow v (before a nodes t) (after v a nodes t)
 keeps_low v a nodes t h lt =
     let s : State = before a nodes t in
@@ -274,7 +274,7 @@ keeps_low v a nodes t h lt =
           omega (arith, l.not_begun v low lt);
     }
 
--- all that was undone was in the queue or after its head
+-- the head of the queue is not before this position
 head_after : (v : ℕ) (a : Values) (nodes : List ImplNode) (t : Trailed) → StateIsConsistent (before a nodes t) → IsQueueCurrent (before a nodes t) → v < length t.starts → cut_at v t ≤ t.head
 head_after v a nodes t h q lt = elim (cases_lt t.head (length t.lits)) [
   | inl b ↦
@@ -305,7 +305,7 @@ satisfied_after v a nodes t ls bound h lt le x = record {
   low = x.low;
 }
 
--- what propagation asks holds once the levels above this one are undone, where it held for those that are left
+-- undoing levels gives what propagation requires, if its invariant held below a higher level
 pub asks_after : (words refs : List ℕ) (w : Watching) (implied : List (List ℕ)) (v : ℕ) (a : Values) (nodes : List ImplNode) (t : Trailed) (top : ℕ) →
     PropagationInvariant words refs w implied (before a nodes t) top → v < length t.starts → v < top → PropagationPrecondition words refs w implied (after v a nodes t)
 asks_after words refs w implied v a nodes t top h lt below =
@@ -355,7 +355,7 @@ implies_after words live implied v a nodes t i (Binary ls) h lt b x = (
 implies_after words live implied v a nodes t i (Long o) h lt b x =
     (x.0, x.1 ∙ sym (cut_lit v a nodes t i b), λ k y z. false_after v a nodes t i (lit_of words o k) h lt b (x.2 k y z))
 
--- reasons that are unit in turn stay so
+-- reasons stay unit in the order of the trail
 pub turns_after : (words live : List ℕ) (implied : List (List ℕ)) (v : ℕ) (a : Values) (nodes : List ImplNode) (t : Trailed) (from : ℕ) → StateIsConsistent (before a nodes t) → v < length t.starts →
     AreUnitInTurn words live implied (before a nodes t) from → AreUnitInTurn words live implied (after v a nodes t) from
 turns_after words live implied v a nodes t from h lt x i le b =

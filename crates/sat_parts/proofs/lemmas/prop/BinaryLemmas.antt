@@ -1,4 +1,4 @@
--- One step through the literals that a literal implies.
+-- One iteration of the loop over the literals that a literal implies.
 use Rattle.std.proofs.Common.{ℕ, ◌≡◌, ◌+◌, ◌<◌, ◌≤◌, ◌⊎◌, inl, inr, List, [], ◌∷◌, length, get_or, refl, sym, ap, ◌∙◌, subst, arith, Bool, true, false, not, Option, Some, None}
 use Rattle.std.proofs.lemmas.Bool.{cases_eq}
 use Rattle.std.proofs.lemmas.List.Elements.{Contains-get_or}
@@ -27,7 +27,7 @@ binary_open implied lit s a q left top = record {
   done = λ k h b. absurd (omega arith);
 }
 
--- the literal at place at is true already
+-- the literal at index `at` is already true
 pub binary_true : (implied : List (List ℕ)) (lit : ℕ) (s t : State) (at : ℕ) → BinaryWalkInvariant implied lit s t at →
     IsTrueLit t.values (get_or (implied_by implied lit) at 0) → BinaryWalkInvariant implied lit s t (at + 1)
 binary_true implied lit s t at h holds = record {
@@ -45,14 +45,14 @@ binary_true implied lit s t at h holds = record {
   ];
 }
 
--- what has left the queue is on the trail or was taken off
+-- a literal that has left the queue is on the trail, or was taken off it
 so_far : (s : State) (l : ℕ) → HasLeftQueue s l → IsBefore s (length s.trail.lits) l ⊎ IsRemoved s l
 so_far s l h = elim h [
   | inl b ↦ inl (record { place = b.place; before = b.within; within = b.within; there = b.there })
   | inr r ↦ inr r
 ]
 
--- the literal at place at is open, and becomes true
+-- the literal at index `at` is unassigned, and becomes true
 pub binary_enqueued : (implied : List (List ℕ)) (lit : ℕ) (s t : State) (at x f : ℕ) → BinaryWalkInvariant implied lit s t at →
     at < length (implied_by implied lit) → x ≡ get_or (implied_by implied lit) at 0 → f ≡ negated lit → IsOpenLit t.values x → variable x < length t.values →
     BinaryWalkInvariant implied lit s (enqueued x (Binary (f ∷ [])) t) (at + 1)
@@ -92,7 +92,7 @@ binary_enqueued implied lit s t at x f h lt x_is f_is open_x small =
       ];
     }
 
--- the walk ends where a literal is false
+-- the loop stops at a false literal
 pub binary_stopped : (implied : List (List ℕ)) (lit : ℕ) (s t : State) (at : ℕ) → BinaryWalkInvariant implied lit s t at → BinaryWalkInvariant implied lit s t 0
 binary_stopped implied lit s t at h = record {
   agrees = h.agrees;
@@ -123,10 +123,10 @@ open_cases (Some true) false t f = absurd (f refl)
 open_cases (Some false) true t f = absurd (f refl)
 open_cases (Some false) false t f = absurd (t refl)
 
--- a literal that is neither true nor false is open
+-- a literal that is neither true nor false is unassigned
 pub open_from_not : (values : List (Option Bool)) (l : ℕ) → (IsTrueLit values l → ⊥) → (IsFalseLit values l → ⊥) → IsOpenLit values l
 open_from_not values l t f = open_cases (value_of values (variable l)) (is_positive l) t f
 
--- a list of implied literals is in range
+-- implied literals are in range
 pub implied_below : (implied : List (List ℕ)) (lit at x count : ℕ) → AreLists implied count → at < length (implied_by implied lit) → x ≡ get_or (implied_by implied lit) at 0 → variable x < count
 implied_below implied lit at x count h lt x_is = omega (arith, h.below lit at lt)

@@ -15,11 +15,11 @@ use Rattle.sat_parts.specs.prop.Ready.{IsSoundWatch, HasWatch, AreWatched}
 use Rattle.sat_parts.specs.prop.Building.{AreBuilt}
 use Rattle.sat_parts.proofs.lemmas.prop.WalkLemmas.{more_watch, new_watch, good_lists, at_two}
 
--- a live clause is one of the list
+-- a live clause is in the list
 pub live_in : (words refs : List ℕ) (o : ℕ) → Contains (live_refs words refs) o → Contains refs o
 live_in words refs o h = All-contains (Contains refs) (live_refs words refs) o (All-filter (is_live words) (Contains refs) refs (All-contains_itself refs)) h
 
--- the live ones among the first are live ones
+-- a live clause among the first k is a live clause
 pub live_front : (words refs : List ℕ) (k o : ℕ) → Contains (live_refs words (take k refs)) o → Contains (live_refs words refs) o
 live_front words refs k o h =
     let e : live_refs words (take k refs) ++ live_refs words (drop k refs) ≡ live_refs words refs =
@@ -36,13 +36,13 @@ live_skip words refs k lt e =
     ∙ ap (λ (xs : List ℕ). live_refs words (take k refs) ++ xs) (cond-false (is_live words (get_or refs k 0)) (get_or refs k 0 ∷ []) [] e)
     ∙ append-nil (live_refs words (take k refs))
 
--- a live clause at a place of the list
+-- the live clause at an index of the list
 pub live_at : (words refs : List ℕ) (k : ℕ) → k < length refs → is_live words (get_or refs k 0) ≡ true → Contains (live_refs words refs) (get_or refs k 0)
 live_at words refs k lt e =
     live_front words refs (k + 1) (get_or refs k 0)
     (subst (λ (xs : List ℕ). Contains xs (get_or refs k 0)) (sym (live_next words refs k lt e)) (Contains-push (live_refs words (take k refs)) (get_or refs k 0)))
 
--- a deleted clause is passed over
+-- a deleted clause is skipped
 pub built_skip : (words refs : List ℕ) (lists : List (List Watch)) (count k : ℕ) → AreBuilt words refs lists count k → k < length refs →
     is_live words (get_or refs k 0) ≡ false → AreBuilt words refs lists count (k + 1)
 built_skip words refs lists count k h lt e = record {
@@ -98,7 +98,7 @@ built_all words refs lists count k h e = record {
   both = λ o i x hi. h.both o i (subst (λ (xs : List ℕ). Contains (live_refs words xs) o) (sym (take_all k refs (omega arith))) x) hi;
 }
 
--- where each header of the list stays, the same clauses are live
+-- if the headers in the list are unchanged, the same clauses are live
 pub live_same : (old new refs : List ℕ) → ((o : ℕ) → Contains refs o → header_at new o ≡ header_at old o) → live_refs new refs ≡ live_refs old refs
 live_same old new [] h = refl
 live_same old new (r ∷ rs) h =
@@ -106,7 +106,7 @@ live_same old new (r ∷ rs) h =
     let t : live_refs new rs ≡ live_refs old rs = live_same old new rs (λ o x. h o (suc x.0, omega (arith, x.1), x.2)) in
     ap (λ (b : Bool). cond b (r ∷ live_refs new rs) (live_refs new rs)) e ∙ ap (λ (xs : List ℕ). cond (is_live old r) (r ∷ xs) xs) t
 
--- the same in the code's words
+-- the same, in the variables of the code
 pub built_by : (words refs : List ℕ) (w w' : Watching) (count k o a b : ℕ) → AreClauses words (live_refs words refs) count → AreBuilt words refs w.lists count k → k < length refs →
     o ≡ get_or refs k 0 → is_live words o ≡ true → a ≡ lit_of words o 0 → b ≡ lit_of words o 1 → w.enabled ≡ true → w' ≡ with_clause_watches o a b w →
     AreBuilt words refs w'.lists count (k + 1) × (w'.enabled ≡ true)
@@ -124,6 +124,6 @@ built_by words refs w w' count k o a b c h lt o_is live a_is b_is on e =
       ap (λ (x : Watching). x.enabled) g ∙ on,
     )
 
--- a place of the list with a live clause, in the code's words
+-- the live clause at an index, in the variables of the code
 pub live_place : (words refs : List ℕ) (k o : ℕ) → k < length refs → o ≡ get_or refs k 0 → is_live words o ≡ true → Contains (live_refs words refs) o
 live_place words refs k o lt o_is live = subst (λ z. Contains (live_refs words refs) z) (sym o_is) (live_at words refs k lt (subst (λ z. is_live words z ≡ true) o_is live))

@@ -1,4 +1,4 @@
--- For crates above: what propagation asks holds on where clauses are added, deleted, removed or moved between tiers.
+-- For callers in other crates: adding, deleting and removing clauses preserves the invariant of propagation.
 use Rattle.std.proofs.Common.{ℕ, ◌≡◌, ◌*◌, ◌<◌, ◌≤◌, ◌⊎◌, inl, inr, List, [], ◌∷◌, ◌++◌, length, get_or, refl, sym, ap, ◌∙◌, subst, arith, Bool, true, false, Option, length-set}
 use Rattle.std.proofs.lemmas.Bool.{cases_Bool, cond-true, cond-false}
 use Rattle.std.proofs.lemmas.List.Elements.{Contains-append_left, Contains-push, Contains-push_cases, All-contains, All-filter, All-contains_itself}
@@ -26,7 +26,7 @@ use Rattle.sat_parts.proofs.lemmas.clause.FilterLemmas.{filtered_in}
 use Rattle.sat_parts.proofs.lemmas.prop.BuildLemmas.{live_in}
 use Rattle.sat_parts.proofs.lemmas.prop.WalkLemmas.{more_watch, new_watch, good_lists, at_two}
 
--- fewer clauses are live, each with its literals as before, and each reason of the trail is one of them
+-- fewer clauses are live, with the same literals, and every reason on the trail is one of them
 pub asks_fewer : (words refs words' refs' : List ℕ) (w w' : Watching) (implied : List (List ℕ)) (s : State) (top : ℕ) → PropagationInvariant words refs w implied s top → HoldsClauses words' refs' →
     ((o : ℕ) → Contains (live_refs words' refs') o → Contains (live_refs words refs) o × (lits_at words' o ≡ lits_at words o)) →
     length w'.lists ≡ length w.lists → (w'.enabled ≡ true → AreWatched words' (live_refs words' refs') w'.lists (length s.values)) →
@@ -54,7 +54,7 @@ asks_fewer words refs words' refs' w w' implied s top h holds_clauses same room 
   binary = h.binary;
 }
 
--- what is asked for a reason of no clause is what is asked
+-- if the reason is not a clause, the precondition of enqueueing is the invariant
 pub asks_of_unit : (words refs : List ℕ) (w : Watching) (implied : List (List ℕ)) (s : State) (top lit : ℕ) → EnqueuePrecondition lit NoCause words refs w implied s top → PropagationInvariant words refs w implied s top
 asks_of_unit words refs w implied s top lit h = record {
   holds_clauses = h.holds_clauses;
@@ -83,7 +83,7 @@ lists_added o a b w = elim (cases_Bool w.enabled) [
       (ap (λ (x : Watching). length x.lists) e, ap (λ (x : Watching). x.enabled) e)
 ]
 
--- watch lists that are kept up have the new clause too
+-- enabled watch lists watch the new clause
 watched_added : (words words' : List ℕ) (db db' : Db) (o count : ℕ) (header : Header) (lits : List ℕ) (w : Watching) → AddsLongClause words db words' db' o header lits →
     HoldsClauses words db.refs → 3 ≤ length lits → ((k : ℕ) → k < length lits → get_or lits k 0 < 2 * count) → w.enabled ≡ true → AreWatched words (live_refs words db.refs) w.lists count →
     AreWatched words' (live_refs words' db'.refs) (with_clause_watches o (get_or lits 0 0) (get_or lits 1 0) w).lists count
@@ -130,8 +130,8 @@ watched_added words words' db db' o count header lits w x holds_clauses three be
       ];
     })
 
--- after an addition of a clause of different literals of known variables, which may be the next literal's reason: its false
--- literals that are watched and have left the queue are settled, or of the current level
+-- a long clause was added, which may be the reason of the next literal. If a watched literal is false and has
+-- left the queue, the clause is satisfied, or it is that reason and the literal is at the current level
 pub asks_added : (words words' : List ℕ) (db db' : Db) (o : ℕ) (header : Header) (lits : List ℕ) (w : Watching) (implied : List (List ℕ)) (s : State) (top lit : ℕ) (r : Reason) →
     PropagationInvariant words db.refs w implied s top → AddsLongClause words db words' db' o header lits → AreDistinct lits → 3 ≤ length lits → ((k : ℕ) → k < length lits → get_or lits k 0 < 2 * length s.values) →
     ((i : ℕ) → i < 2 → HasLeftQueue s (negated (get_or lits i 0)) → level s (negated (get_or lits i 0)) < top →
@@ -172,7 +172,7 @@ asks_added words words' db db' o header lits w implied s top lit r h x apart thr
       binary = λ l k f g b. inl (h.binary l k f g b);
     }
 
--- what is kept of the literals that one implies is among them
+-- the literals that `open_among` keeps are in the list
 open_in : (values : List (Option Bool)) (v m : ℕ) (ls : List ℕ) → Contains (open_among values v ls) m → Contains ls m
 open_in values v m ls c =
     elim (cases_Bool (is_unset values v)) [
@@ -185,7 +185,7 @@ open_in values v m ls c =
           absurd (omega (arith, (subst (λ (xs : List ℕ). Contains xs m) e c).1))
     ]
 
--- the clauses of two literals of which a variable has a value are gone
+-- the binary clauses with an assigned variable were removed
 pub asks_removed : (words refs : List ℕ) (w : Watching) (old new : Binaries) (s : State) (top : ℕ) → PropagationInvariant words refs w old.implied s top → RemovesAssigned s.values old new →
     PropagationInvariant words refs w new.implied s top
 asks_removed words refs w old new s top h x =
@@ -211,7 +211,7 @@ asks_removed words refs w old new s top h x =
           subst (λ m. IsTrueLit s.values m × (level s m ≤ level s l)) (at l k b) (h.binary l (was l k b).0 f d (was l k b).1);
     }
 
--- after a pass over the clauses that kept the reasons of the trail
+-- a pass over the clauses kept the reasons on the trail
 pub asks_filtered : {F : Type 0} (R : F → ℕ → Bool → F → Type 0) (f : F) (words refs words' : List ℕ) (w : Watching) (implied : List (List ℕ)) (s : State) (top : ℕ) →
     PropagationInvariant words refs w implied s top → IsFiltered R f (live_refs words refs) (live_refs words' refs) → SameClausesAt words words' (live_refs words' refs) → HoldsClauses words' refs →
     ((i o : ℕ) → i < length s.trail.lits → (node s (lit_at s i)).reason ≡ Long o → Contains (live_refs words' refs) o) →

@@ -1,4 +1,4 @@
--- For crates above: what propagation asks holds on after a collection.
+-- For callers in other crates: a garbage collection preserves the invariant of propagation.
 use Rattle.std.proofs.Common.{ℕ, ◌≡◌, ◌*◌, ◌<◌, ◌≤◌, inl, inr, List, [], length, get_or, refl, sym, ap, ◌∙◌, subst, arith, false}
 use Rattle.std.proofs.lemmas.Bool.{true≢false}
 use Rattle.std.specs.List.{Contains}
@@ -54,7 +54,7 @@ agrees_collected words db s words' db' nodes' x h = record {
   ];
 }
 
--- a long reason that follows its clause
+-- the copy of a reason's clause has the same literal first
 followed_first : (words live words' refs' : List ℕ) (lit o : ℕ) (r r' : Reason) → length refs' ≡ length live → ((k : ℕ) → k < length live → lits_at words' (get_or refs' k 0) ≡ lits_at words (get_or live k 0)) →
     ((p : ℕ) → r ≡ Long p → lit_of words p 0 ≡ lit) → FollowsClause live refs' r r' → r' ≡ Long o → Contains refs' o × (lit_of words' o 0 ≡ lit)
 followed_first words live words' refs' lit o NoCause r' n same first h e = absurd (let z : NoCause ≡ Long o = sym h ∙ e in cc)

@@ -1,4 +1,4 @@
--- One step of the walk through the watches of a literal, for each thing that a look at a clause may come to.
+-- One iteration of the loop over the watches of a literal, for every result of a visit.
 use Rattle.std.proofs.Common.{ℕ, ◌≡◌, ◌≢◌, ◌+◌, ◌<◌, ◌≤◌, ◌⊎◌, inl, inr, List, length, get_or, set, sym, ap, ◌∙◌, subst, arith, length-set, get_or-set_other}
 use Rattle.std.proofs.lemmas.Bool.{cases_eq}
 use Rattle.std.specs.List.{Contains}
@@ -26,12 +26,12 @@ satisfied_order s ls ms bound e h =
       low = subst (λ (l : ℕ). level s l ≤ bound) (sym m.1.1) h.low;
     }
 
--- what a watch's place says of its clause
+-- a watch is on a live clause
 pub place_live : (w live : List ℕ) (s : State) (lists : List (List Watch)) (list : List Watch) (lit kept at p : ℕ) →
     WalkInvariant w live s lists list lit kept at → at < length list → p ≡ (get_or list at no_watch).cref → Contains live p
 place_live w live s lists list lit kept at p h lt at_p = subst (λ (z : ℕ). Contains live z) (sym at_p) (h.walked.mine at lt).0
 
--- the watch at place at is written to place kept, its clause being satisfied
+-- the clause is satisfied, and its watch at index `at` moves to index `kept`
 pub half_kept : (w v live : List ℕ) (s : State) (lists : List (List Watch)) (list : List Watch) (lit kept at p l : ℕ) →
     WalkInvariant w live s lists list lit kept at → at < length list → p ≡ (get_or list at no_watch).cref →
     PermutesClause w v p → KeepsFirstTwo w v p → HasLit v p l → IsSatisfied s (lits_at v p) (level s lit) →
@@ -64,7 +64,7 @@ half_kept w v live s lists list lit kept at p l h lt at_p e two has sat =
           ];
     }
 
--- the watch at place at goes, its clause not being watched by lit
+-- the watch at index `at` is dropped, because lit does not watch its clause
 pub half_stale : (w live : List ℕ) (s : State) (lists : List (List Watch)) (list : List Watch) (lit kept at p : ℕ) →
     WalkInvariant w live s lists list lit kept at → at < length list → p ≡ (get_or list at no_watch).cref →
     lit_of w p 0 ≢ negated lit → lit_of w p 1 ≢ negated lit →
@@ -87,7 +87,7 @@ half_stale w live s lists list lit kept at p h lt at_p n0 n1 = record {
   ];
 }
 
--- the watch at place at goes, and its clause is watched by its new second literal instead, which isn't false
+-- the watch at index `at` is dropped; the new second literal, which is not false, watches the clause
 pub half_moved : (w v live : List ℕ) (s : State) (lists : List (List Watch)) (list : List Watch) (lit kept at p : ℕ) →
     WalkInvariant w live s lists list lit kept at → at < length list → p ≡ (get_or list at no_watch).cref →
     PermutesClause w v p → IsOther w v p (negated lit) → (IsFalseLit s.values (lit_of v p 1) → ⊥) →
@@ -130,7 +130,7 @@ half_moved w v live s lists list lit kept at p h lt at_p e other opened =
       ];
     }
 
--- open literals become true
+-- unassigned literals become true
 pub half_grows : (w live : List ℕ) (s t : State) (lists : List (List Watch)) (list : List Watch) (lit kept at : ℕ) →
     WalkInvariant w live s lists list lit kept at → TrailGrows s t → t.trail.head ≡ s.trail.head → StateIsConsistent t → IsQueueCurrent t → WalkInvariant w live t lists list lit kept at
 half_grows w live s t lists list lit kept at h g e a q =

@@ -1,4 +1,4 @@
--- What is assigned follows from clauses, units and decisions.
+-- Assigned literals follow from clauses, units and decisions.
 use Rattle.std.proofs.Common.{ℕ, ◌≡◌, ◌<◌, inl, inr, suc, zero, List, length, get_or, refl, sym, ap, ◌∙◌, subst, arith, Bool, true}
 use Rattle.std.proofs.lemmas.Bool.{cases_eq}
 use Rattle.std.proofs.lemmas.Bool.Decides.{nat_tests}
@@ -13,11 +13,11 @@ use Rattle.sat_parts.specs.prop.Reasons.{IsFalseBefore, Implies, AreUnitInTurn}
 use Rattle.sat_parts.specs.prop.Implied.{IsModelOf, AssignedIsImplied}
 use Rattle.sat_parts.proofs.lemmas.clause.ListLemmas.{at_place}
 
--- a literal and its negation aren't both true
+-- a literal and its negation are not both true
 both_signs : (v : ℕ → Bool) (l : ℕ) → literal_true v l ≡ true → literal_true v (negated l) ≡ true → ⊥
 both_signs v l a b = grind (arith, nat_tests)
 
--- what holds for the places before this one
+-- that the valuation satisfies the literals before this position
 abbrev HoldsBefore : (s : State) (v : ℕ → Bool) (n : ℕ) → Type 0
 HoldsBefore s v n = (i : ℕ) → i < n → i < length s.trail.lits → literal_true v (lit_at s i) ≡ true
 

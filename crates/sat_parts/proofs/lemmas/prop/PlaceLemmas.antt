@@ -20,7 +20,7 @@ part_len lits p within =
 pub part_at : (lits : List ℕ) (p : Place) (k : ℕ) → k < p.len → get_or (part_of lits p) k 0 ≡ get_or lits (p.start + k) 0
 part_at lits p k lt = get_or-take p.len (drop p.start lits) k 0 lt ∙ get_or-drop p.start lits k 0
 
--- a part of one list and a part of another that have the same literals
+-- two parts with the same literals are equal
 pub part_same : (lits more : List ℕ) (p q : Place) → q.start + q.len ≤ length lits → p.start + p.len ≤ length more → p.len ≡ q.len →
     ((k : ℕ) → k < q.len → get_or more (p.start + k) 0 ≡ get_or lits (q.start + k) 0) → part_of more p ≡ part_of lits q
 part_same lits more p q within within' len same =
@@ -29,11 +29,11 @@ part_same lits more p q within within' len same =
     ext_get_or 0 (part_of more p) (part_of lits q) (m ∙ len ∙ sym n)
     (λ k lt. part_at more p k (omega (arith, m)) ∙ same k (omega (arith, m)) ∙ sym (part_at lits q k (omega (arith, m))))
 
--- a list is within the list of all
+-- every list lies within the shared list
 pub list_within : (places : List Place) (size l : ℕ) → ArePlaces places size → (place_at places l).start + (place_at places l).len ≤ size
 list_within places size l h = omega (arith, h.few l, h.within l)
 
--- each place is one of the places before or has no room
+-- places stay valid if every new one is an old one or has no room
 pub places_kept : (old new : List Place) (size : ℕ) → ArePlaces old size → ((l : ℕ) → (place_at new l ≡ place_at old l) ⊎ (place_at new l ≡ no_place)) → ArePlaces new size
 places_kept old new size h each = record {
   few = λ l. elim (each l) [
@@ -53,7 +53,7 @@ places_kept old new size h each = record {
   ];
 }
 
--- one list changes, and the others don't
+-- one list changes, and the others stay
 pub lists_set : (places : List Place) (lits more : List ℕ) (code : ℕ) (p : Place) (xs : List ℕ) → code < length places → part_of more p ≡ xs →
     ((m : ℕ) → m ≢ code → part_of more (place_at places m) ≡ part_of lits (place_at places m)) → lists_of (set places code p) more ≡ set (lists_of places lits) code xs
 lists_set places lits more code p xs lt is others =
@@ -77,7 +77,7 @@ lists_set places lits more code p xs lt is others =
           ∙ sym (get_or-set_other (lists_of places lits) code l xs [] d)
     ])
 
--- a list that isn't written to: its room is apart from that of the one which is
+-- writing within the room of one list leaves the others unchanged
 pub part_kept : (places : List Place) (lits more : List ℕ) (code m : ℕ) → ArePlaces places (length lits) → length lits ≤ length more → m ≢ code →
     ((k : ℕ) → k < length lits → (k < (place_at places code).start) ⊎ ((place_at places code).start + (place_at places code).room ≤ k) → get_or more k 0 ≡ get_or lits k 0) →
     part_of more (place_at places m) ≡ part_of lits (place_at places m)
@@ -155,7 +155,7 @@ map_replicate : {A B : Type 0} (f : A → B) (n : ℕ) (x : A) → map f (replic
 map_replicate f zero x = refl
 map_replicate f (suc n) x = ap (λ (ys : List _). f x ∷ ys) (map_replicate f n x)
 
--- the last literal of a list is taken out
+-- removing the last literal of a list
 pub list_popped : (places : List Place) (lits : List ℕ) (code : ℕ) → ArePlaces places (length lits) →
     take ((place_at places code).len - 1) (drop (place_at places code).start lits) ≡ take (length (get_or (lists_of places lits) code []) - 1) (get_or (lists_of places lits) code [])
 list_popped places lits code h =
@@ -190,7 +190,7 @@ places_resized places size count h = places_kept places (take count places ++ re
       | inr le ↦ get_or_past (replicate n no_place) i no_place (omega (arith, length-replicate {A = Place} n no_place))
     ]
 
--- one list more is counted
+-- counting the literals of one more list
 pub implied_more : (places : List Place) (lits : List ℕ) (code : ℕ) → ArePlaces places (length lits) → code < length places →
     sum_by (λ (ls : List ℕ). length ls) (take (code + 1) (lists_of places lits)) ≡ sum_by (λ (ls : List ℕ). length ls) (take code (lists_of places lits)) + (place_at places code).len
 implied_more places lits code h lt =
@@ -198,7 +198,7 @@ implied_more places lits code h lt =
     ∙ ap (λ (n : ℕ). sum_by (λ (ls : List ℕ). length ls) (take code (lists_of places lits)) + n)
     (ap (λ (xs : List ℕ). length xs) (lists_at places lits code) ∙ part_len lits (place_at places code) (list_within places (length lits) code h))
 
--- the same in the code's words, where p is the place
+-- removing the last literal, in the variables of the code
 pub popped_by : (places : List Place) (lits : List ℕ) (code left : ℕ) (p : Place) → p ≡ place_at places code → left ≡ p.len - 1 → ArePlaces places (length lits) → code < length places →
     lists_of (set places code (record { start = p.start; len = left; room = p.room })) lits ≡ set (lists_of places lits) code (take (length (get_or (lists_of places lits) code []) - 1) (get_or (lists_of places lits) code []))
 popped_by places lits code left p e s h lt = rw (s, e) (lists_left places lits lits code ((place_at places code).len - 1) (take (length (get_or (lists_of places lits) code []) - 1) (get_or (lists_of places lits) code [])) h refl lt (list_popped places lits code h) (λ k away. refl))
@@ -220,14 +220,14 @@ left_by places lits more code left f p e h size lt is same =
     (subst (λ (q : Place). take left (drop q.start more) ≡ f (part_of lits q)) e is ∙ ap f (sym (lists_at places lits code)))
     (subst (λ (q : Place). (k : ℕ) → (k < q.start) ⊎ (q.start + q.len ≤ k) → get_or more k 0 ≡ get_or lits k 0) e same))
 
--- how long the list at a place that was written is
+-- the length of a list whose place was written
 pub left_len : (places : List Place) (more : List ℕ) (code left start room : ℕ) → code < length places → start + left ≤ length more →
     left ≡ length (get_or (lists_of (set places code (record { start = start; len = left; room = room })) more) code [])
 left_len places more code left start room lt within =
     let q : Place = record { start = start; len = left; room = room } in
     sym (ap (λ (xs : List ℕ). length xs) (lists_at (set places code q) more code ∙ ap (λ (r : Place). part_of more r) (get_or-set_same places code q no_place lt)) ∙ part_len more q within)
 
--- outside a part nothing is changed, where what is before and after it is the same
+-- nothing outside a part changed if what is before and after it did not
 pub rest_by : (old cur : List ℕ) (start len : ℕ) → take start cur ≡ take start old → drop len (drop start cur) ≡ drop len (drop start old) → (k : ℕ) → (k < start) ⊎ (start + len ≤ k) → get_or cur k 0 ≡ get_or old k 0
 rest_by old cur start len front following k away = elim away [
   | inl lt ↦ sym (get_or-take start cur k 0 lt) ∙ ap (λ (xs : List ℕ). get_or xs k 0) front ∙ get_or-take start old k 0 lt
@@ -238,7 +238,7 @@ rest_by old cur start len front following k away = elim away [
       sym (at cur) ∙ ap (λ (xs : List ℕ). get_or xs (k - (start + len)) 0) following ∙ at old
 ]
 
--- one list more is counted, in the code's words
+-- counting the literals of one more list, in the variables of the code
 pub counted_more : (places : List Place) (lits : List ℕ) (implied : List (List ℕ)) (code all next : ℕ) (p : Place) → implied ≡ lists_of places lits → p ≡ place_at places code → ArePlaces places (length lits) → code < length places →
     all ≡ min (sum_by (λ (ls : List ℕ). length ls) (take code implied)) (2 ^ 64 - 1) → next ≡ min (all + p.len) (2 ^ 64 - 1) →
     next ≡ min (sum_by (λ (ls : List ℕ). length ls) (take (code + 1) implied)) (2 ^ 64 - 1)

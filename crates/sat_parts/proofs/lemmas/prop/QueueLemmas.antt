@@ -19,7 +19,7 @@ use Rattle.sat_parts.proofs.lemmas.clause.OrderLemmas.{reorders_refl}
 use Rattle.sat_parts.proofs.lemmas.prop.StateLemmas.{true_from_false, model_excludes_core, open_other, level_low, left_true, left_back, level_kept, satisfied_forth, before_forth, removed_forth}
 use Rattle.sat_parts.proofs.lemmas.prop.ReasonLemmas.{moves_trans, implies_forth, firsts_moved}
 
--- the state once the next literal was taken off the queue
+-- the state after the next literal left the queue
 abbrev pub popped : State → State
 popped s = record s { trail = record s.trail { head = s.trail.head + 1 } }
 
@@ -62,7 +62,7 @@ moves_popped live implied words s = record {
   turns = λ from p h i x y. implies_forth words live implied s (popped s) i (node s (lit_at s i)).reason (grows_popped s) y (h i x y);
 }
 
--- the literal that is taken off
+-- the next literal of the queue
 pub next_there : (s : State) (l : ℕ) → slice_get s.trail.lits s.trail.head ≡ Some l → (s.trail.head < length s.trail.lits) × (lit_at s s.trail.head ≡ l)
 next_there s l e =
     let lt : s.trail.head < length s.trail.lits = slice_get_within s.trail.lits s.trail.head l e in
@@ -71,7 +71,7 @@ next_there s l e =
 pub popped_left : (s : State) (l : ℕ) → s.trail.head < length s.trail.lits → lit_at s s.trail.head ≡ l → HasLeftQueue (popped s) l
 popped_left s l lt e = inl (record { place = s.trail.head; before = omega arith; within = lt; there = e })
 
--- what has left the queue then is that literal, or had left it before
+-- every other literal that has left the queue had left it before
 pub popped_back : (s : State) (l m : ℕ) → lit_at s s.trail.head ≡ l → HasLeftQueue (popped s) m → m ≢ l → HasLeftQueue s m
 popped_back s l m e h n = elim h [
   | inl b ↦ elim (cases_eq b.place s.trail.head) [
@@ -84,7 +84,7 @@ popped_back s l m e h n = elim h [
 pub queue_popped : (s : State) → IsQueueCurrent s → IsQueueCurrent (popped s)
 queue_popped s q i x y = q i (omega arith) y
 
--- each literal that has left the queue is due below one more than the current level
+-- every literal that has left the queue is at the current level or lower
 all_due : (s : State) (l : ℕ) → StateIsConsistent s → HasLeftQueue s l → level s l < current_level s + 1
 all_due s l a h = omega (arith, level_low s l a (left_true s l a h))
 
@@ -106,7 +106,7 @@ implied_popped implied s l a h e m k f n b =
     let x : HasLeftQueue s m = popped_back s l m e f n in
     h m k x (all_due s m a x) b
 
--- open literals become true: what was settled stays so
+-- unassigned literals become true, and propagated clauses stay so
 pub long_grows : (w live : List ℕ) (lists : List (List Watch)) (s t : State) (due : ℕ → Type 0) → LongReady w live lists s due →
     TrailGrows s t → t.trail.head ≡ s.trail.head → StateIsConsistent t → IsQueueCurrent t → LongReady w live lists t due
 long_grows w live lists s t due h g e a q = record {
@@ -141,7 +141,7 @@ long_due w live lists s due due' h fewer = record {
   settled = λ o i ho hi f d. h.settled o i ho hi f (fewer (negated (lit_of w o i)) f d);
 }
 
--- after the implied literals of l, those of all literals that have left the queue
+-- the literals that l implies are true: implications hold for all literals that have left the queue
 pub binary_settled : (implied : List (List ℕ)) (s t : State) (l : ℕ) → StateIsConsistent s → AreImplied implied s (λ m. m ≢ l) →
     BinaryWalkInvariant implied l s t (length (implied_by implied l)) → AreImplied implied t (λ m. level t m < current_level t + 1)
 binary_settled implied s t l a h w m k f d b =
@@ -154,7 +154,7 @@ binary_settled implied s t l a h w m k f d b =
       | inr n ↦ implied_grows implied s t (λ z. z ≢ l) a h g w.head m k f n b
     ]
 
--- a walk over the clauses of two literals that stopped leaves what is below its level
+-- the loop over binary clauses stopped: implications hold below the current level
 pub binary_below : (implied : List (List ℕ)) (s t : State) (l : ℕ) → StateIsConsistent s → AreImplied implied s (λ m. m ≢ l) →
     BinaryWalkInvariant implied l s t 0 → AreImplied implied t (λ m. level t m < current_level t)
 binary_below implied s t l a h w m k f d b =
@@ -169,7 +169,7 @@ pub binary_names : (words live : List ℕ) (implied : List (List ℕ)) (values :
 binary_names words live implied values (Binary ls) h = h
 binary_names words live implied values (Long o) h = absurd (omega (arith, h.0.1))
 
--- the state after one piece of propagation that found a falsified clause of two literals
+-- the state after a falsified binary clause was found
 pub stopped_binary : (w live : List ℕ) (lists : List (List Watch)) (implied : List (List ℕ)) (s t : State) (l : ℕ) →
     LongReady w live lists s (λ m. m ≢ l) → AreLists implied (length s.values) → AreImplied implied s (λ m. m ≢ l) → HaveFirsts w live s →
     BinaryWalkInvariant implied l s t 0 → ReadyBelow w live lists implied t (current_level t)
@@ -181,7 +181,7 @@ stopped_binary w live lists implied s t l h ranges i firsts b = record {
   firsts = firsts_moved live implied w s w t h.agrees (b.moves w live) firsts;
 }
 
--- the state after one piece of propagation, from one after the clauses of two literals
+-- the state after the long clauses were visited without a conflict
 pub ready_again : (w v live : List ℕ) (lists : List (List Watch)) (implied : List (List ℕ)) (s t : State) →
     StateIsConsistent s → AreLists implied (length s.values) → AreImplied implied s (λ m. level s m < current_level s + 1) → HaveFirsts w live s →
     WatchWalkEffect live w s v t lists None → IsReadyToPropagate v live lists implied t
@@ -206,21 +206,21 @@ stopped_long w v live lists implied s t o a ranges i firsts x =
       firsts = firsts_moved live implied w s v t a (x.moves implied) firsts;
     }
 
--- with nothing in the queue, each true literal has left it
+-- if the queue is empty, every true literal has left it
 all_left : (s : State) (l : ℕ) → StateIsConsistent s → s.trail.head ≡ length s.trail.lits → IsTrueLit s.values l → HasLeftQueue s l
 all_left s l a e t = elim (a.known l t) [
   | inl b ↦ inl (subst (λ (n : ℕ). IsBefore s n l) (sym e) b)
   | inr r ↦ inr r
 ]
 
--- a false one of the first two literals settles its clause
+-- if the queue is empty, a clause with a false literal among its first two is satisfied
 settled_by : (w live : List ℕ) (lists : List (List Watch)) (s : State) (o i : ℕ) → LongReady w live lists s (λ m. level s m < current_level s + 1) → s.trail.head ≡ length s.trail.lits →
     Contains live o → i < 2 → IsFalseLit s.values (lit_of w o i) → IsSatisfied s (lits_at w o) (level s (negated (lit_of w o i)))
 settled_by w live lists s o i h e ho hi f =
     let x : HasLeftQueue s (negated (lit_of w o i)) = all_left s (negated (lit_of w o i)) h.agrees e (true_from_false s.values (lit_of w o i) f) in
     h.settled o i ho hi x (all_due s (negated (lit_of w o i)) h.agrees x)
 
--- where nothing is in the queue, no clause is falsified or unit with its literal open
+-- if the queue is empty, no clause is falsified or unit
 pub complete : (w live : List ℕ) (lists : List (List Watch)) (implied : List (List ℕ)) (s : State) → IsReadyToPropagate w live lists implied s → s.trail.head ≡ length s.trail.lits →
     IsUnitFixpoint w live implied s.values
 complete w live lists implied s h e = record {
@@ -245,11 +245,11 @@ complete w live lists implied s h e = record {
       (h.binary l k x (all_due s l h.long.agrees x) b).0;
 }
 
--- the next literal of the queue, as `pop_queue` says
+-- the next literal of the queue, as `pop_queue` returns it
 abbrev pub IsNext : State → ℕ → Type 0
 IsNext s l = slice_get s.trail.lits s.trail.head ≡ Some l
 
--- what propagation over the clauses of two literals asks
+-- what propagation over binary clauses requires
 pub next_agrees : (s : State) (l : ℕ) → StateIsConsistent s → IsNext s l → StateIsConsistent (popped s)
 next_agrees s l a e = agrees_popped s a (next_there s l e).0
 
@@ -259,7 +259,7 @@ next_left s l e = popped_left s l (next_there s l e).0 (next_there s l e).1
 pub next_top : (s : State) (l : ℕ) → IsQueueCurrent s → IsNext s l → level (popped s) l ≡ current_level (popped s)
 next_top s l q e = ap (λ m. level s m) (sym (next_there s l e).1) ∙ q s.trail.head (omega arith) (next_there s l e).0
 
--- what propagation over the long clauses asks
+-- what propagation over long clauses requires
 pub next_long : (w live : List ℕ) (lists : List (List Watch)) (implied : List (List ℕ)) (s t : State) (l : ℕ) →
     IsReadyToPropagate w live lists implied s → IsNext s l → BinaryWalkInvariant implied l (popped s) t (length (implied_by implied l)) →
     LongReady w live lists t (λ m. m ≢ l)
@@ -272,7 +272,7 @@ next_stops_binary w live lists implied s t l h e b =
     stopped_binary w live lists implied (popped s) t l (long_popped w live lists s l h.long (next_there s l e).0 (next_there s l e).1) h.ranges
     (implied_popped implied s l h.long.agrees h.binary (next_there s l e).1) h.firsts b
 
--- after the clauses of two literals
+-- after propagation over binary clauses
 middle_binary : (implied : List (List ℕ)) (s t : State) (l : ℕ) → StateIsConsistent s → AreImplied implied s (λ m. level s m < current_level s + 1) → IsNext s l →
     BinaryWalkInvariant implied l (popped s) t (length (implied_by implied l)) → AreImplied implied t (λ m. level t m < current_level t + 1)
 middle_binary implied s t l a i e b =
@@ -296,7 +296,7 @@ next_stops_long w v live lists lists' implied s t u l o h e b x =
     (middle_binary implied s t l h.long.agrees h.binary e b)
     (firsts_moved live implied w (popped s) w t (next_agrees s l h.long.agrees e) (b.moves w live) h.firsts) x
 
--- the pieces of one turn
+-- one iteration is a stretch of propagation
 pub next_moves_binary : (live : List ℕ) (implied : List (List ℕ)) (w0 : List ℕ) (s0 : State) (w : List ℕ) (s t : State) (l at : ℕ) →
     PropagatesOn live implied w0 s0 w s → BinaryWalkInvariant implied l (popped s) t at → PropagatesOn live implied w0 s0 w t
 next_moves_binary live implied w0 s0 w s t l at m b =
@@ -307,7 +307,7 @@ pub next_moves : (live : List ℕ) (implied : List (List ℕ)) (w0 : List ℕ) (
 next_moves live implied w0 s0 w v s t u lists found l at m b x =
     moves_trans live implied w0 s0 w t v u (next_moves_binary live implied w0 s0 w s t l at m b) (x.moves implied)
 
--- the queue's head goes on by one
+-- one iteration advances the head of the queue
 pub next_smaller : (live w : List ℕ) (implied : List (List ℕ)) (s t u : State) (v : List ℕ) (lists : List (List Watch)) (l at : ℕ) →
     StateIsConsistent s → IsNext s l → BinaryWalkInvariant implied l (popped s) t at → WatchWalkEffect live w t v u lists None →
     u.trail.room - u.trail.head < s.trail.room - s.trail.head

@@ -1,4 +1,4 @@
--- Reasons stay reasons while the trail grows and literals of clauses change places.
+-- Reasons stay valid while the trail grows and the literals of clauses are permuted.
 use Rattle.std.proofs.Common.{ℕ, ◌≡◌, false, ◌+◌, ◌<◌, ◌≤◌, inl, inr, List, [], ◌∷◌, ◌++◌, length, get_or, refl, sym, ap, ◌∙◌, subst, arith}
 use Rattle.std.proofs.lemmas.Bool.{cases_eq, cases_lt}
 use Rattle.std.proofs.lemmas.List.{length_push}
@@ -30,7 +30,7 @@ implies_forth words live implied a b i (Binary ls) g p h =
 implies_forth words live implied a b i (Long o) g p h =
     (h.0, h.1 ∙ sym (g.front i p), λ k x y. false_before_forth a b i (lit_of words o k) g (h.2 k x y))
 
--- the cause of a literal stays while the trail grows
+-- a literal on the trail keeps its reason while the trail grows
 pub caused_forth : (a b : State) (i : ℕ) → TrailGrows a b → i < length a.trail.lits → HasClauseReason a i → HasClauseReason b i
 caused_forth a b i g p h =
     let e : lit_at b i ≡ lit_at a i = g.front i p in (
@@ -61,7 +61,7 @@ moves_trans live implied u a v b w c x y = record {
   turns = λ from p h. y.turns from (omega (arith, x.grows.longer)) (x.turns from p h);
 }
 
--- an open literal becomes true by a reason that is unit in turn
+-- an unassigned literal becomes true by a unit clause
 pub moves_enqueued : (live : List ℕ) (implied : List (List ℕ)) (words : List ℕ) (s : State) (l : ℕ) (r : Reason) →
     StateIsConsistent s → IsOpenLit s.values l → variable l < length s.values → length s.trail.lits < s.trail.room →
     is_unit_reason r ≡ false → Implies words live implied (enqueued l r s) (length s.trail.lits) r →
@@ -91,7 +91,7 @@ moves_enqueued live implied words s l r h n below room clause cause =
       ];
     }
 
--- literals change places in one clause, whose first literal stays where it is true
+-- the literals of one clause are permuted, and a true first literal stays first
 pub implies_shuffled : (words words' live : List ℕ) (implied : List (List ℕ)) (s : State) (p i : ℕ) (r : Reason) (count : ℕ) →
     AreClauses words live count → Contains live p → PermutesClause words words' p →
     (IsTrueLit s.values (lit_of words p 0) → lit_of words' p 0 ≡ lit_of words p 0) → IsTrueLit s.values (lit_at s i) →
@@ -146,7 +146,7 @@ from_long words live implied s i o r e h =
     let f : Implies words live implied s i (Long o) = subst (λ (x : Reason). Implies words live implied s i x) e h in
     (f.0, f.1)
 
--- long reasons have their literals first after a piece of propagation where they had before
+-- propagation keeps the literals of long reasons first
 pub firsts_moved : (live : List ℕ) (implied : List (List ℕ)) (words : List ℕ) (s : State) (words' : List ℕ) (s' : State) →
     StateIsConsistent s → PropagatesOn live implied words s words' s' → HaveFirsts words live s → HaveFirsts words' live s'
 firsts_moved live implied words s words' s' a m h i o p e = elim (cases_lt i (length s.trail.lits)) [

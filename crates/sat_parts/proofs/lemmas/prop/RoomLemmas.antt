@@ -1,4 +1,4 @@
--- Each variable stands at most once on the trail, so that there is room for an open literal.
+-- Every variable is on the trail at most once, so there is room for an unassigned literal.
 use Rattle.std.proofs.Common.{ℕ, ◌≡◌, ◌+◌, ◌<◌, ◌≤◌, inl, inr, List, [], ◌∷◌, ◌++◌, map, length, get_or, sym, ap, ◌∙◌, subst, arith, eqb, Bool, true, false, Option, Some, None}
 use Rattle.std.proofs.lemmas.Bool.{cases_eq, cases_lt, ne_eqb, eqb-true}
 use Rattle.std.proofs.lemmas.List.{get_or-map, length-map, length_push, get_or_past}
@@ -13,14 +13,14 @@ use Rattle.sat_parts.specs.prop.Graphs.{node_of}
 use Rattle.sat_parts.specs.prop.State.{State, lit_at, StateIsConsistent, enqueued}
 use Rattle.sat_parts.proofs.lemmas.prop.StateLemmas.{open_other, lit_front, lit_last}
 
--- an assigned variable is there
+-- an assigned variable exists
 pub below_from_value : (values : List (Option Bool)) (v : ℕ) (b : Bool) → value_of values v ≡ Some b → v < length values
 below_from_value values v b e = elim (cases_lt v (length values)) [
   | inl h ↦ h
   | inr h ↦ (let x : Some b ≡ None = sym e ∙ get_or_past values v None h in cc)
 ]
 
--- the trail's variables, and that of one literal more
+-- the variables on the trail, and that of one more literal
 abbrev variables : State → ℕ → List ℕ
 variables s l = map (λ m. variable m) (s.trail.lits ++ l ∷ [])
 
@@ -37,7 +37,7 @@ variables_last s l r k d e =
     let n : length (s.trail.lits ++ l ∷ []) ≡ length s.trail.lits + 1 = length_push s.trail.lits l in
     get_or-map (λ m. variable m) (s.trail.lits ++ l ∷ []) k 0 d (omega arith) ∙ ap (λ m. variable m) (ap (λ x. lit_at (enqueued l r s) x) e ∙ lit_last s l r)
 
--- literals at two places of the trail are of two variables
+-- literals at different positions of the trail have different variables
 pub places_apart : (s : State) (i j : ℕ) → StateIsConsistent s → i < length s.trail.lits → j < length s.trail.lits → variable (lit_at s i) ≡ variable (lit_at s j) → i ≡ j
 places_apart s i j h p q e =
     let d : i + 1 ≡ j + 1 = sym (h.depths i p) ∙ ap (λ v. (node_of s.nodes v).depth) e ∙ h.depths j q in
@@ -69,7 +69,7 @@ below s l r q h small any =
           (below_from_value s.values (variable (lit_at s c.0)) (is_positive (lit_at s c.0)) (h.holds c.0 k))
     ]
 
--- an open literal has room on the trail
+-- the trail has room for an unassigned literal
 pub room_for : (s : State) (l : ℕ) (r : Reason) → StateIsConsistent s → IsOpenLit s.values l → variable l < length s.values → length s.trail.lits < s.trail.room
 room_for s l r h n small =
     let size : length (variables s l) ≡ length s.trail.lits + 1 = variables_length s l in

@@ -1,4 +1,4 @@
--- What a literal that becomes true changes, and what it leaves.
+-- The effect of an unassigned literal that becomes true.
 use Rattle.std.proofs.Common.{ℕ, ◌≡◌, ◌≢◌, ◌+◌, ◌<◌, ◌≤◌, ◌⊎◌, inl, inr, List, [], ◌∷◌, ◌++◌, length, get_or, set, refl, sym, ap, ◌∙◌, subst, arith, length-set, get_or-set_same, get_or-set_other, Bool, not, Option, Some, None}
 use Rattle.std.proofs.lemmas.Bool.{cases_eq}
 use Rattle.std.proofs.lemmas.Bool.Decides.{nat_tests}
@@ -23,7 +23,7 @@ negated_sign l = grind (arith, nat_tests)
 negated_sign' : (l : ℕ) → is_positive (negated l) ≡ not (is_positive l)
 negated_sign' l = grind (arith, nat_tests)
 
--- a true literal's negation is false, and the other way round
+-- the negation of a true literal is false, and vice versa
 pub false_from_true : (values : List (Option Bool)) (l : ℕ) → IsTrueLit values l → IsFalseLit values (negated l)
 false_from_true values l h = ap (λ v. value_of values v) (negated_variable l) ∙ h ∙ ap (λ (b : Bool). Some b) (sym (negated_sign l))
 
@@ -42,14 +42,14 @@ model_excludes_core values l t f = same_sign (is_positive l) (some_back (is_posi
 some_none : {b : Bool} {o : Option Bool} → o ≡ Some b → o ≡ None → ⊥
 some_none p q = (let e : Some _ ≡ None = sym p ∙ q in cc)
 
--- an assigned literal isn't of an open one's variable
+-- an assigned literal and an unassigned one have different variables
 pub open_other : (values : List (Option Bool)) (l m : ℕ) → IsOpenLit values l → IsTrueLit values m → variable m ≢ variable l
 open_other values l m n t e = some_none t (ap (λ v. value_of values v) e ∙ n)
 
 pub lit_from_parts : (m l : ℕ) → variable m ≡ variable l → is_positive m ≡ is_positive l → m ≡ l
 lit_from_parts m l v p = grind (arith, nat_tests)
 
--- the literals of the trail stay, one after them is new
+-- the literals on the trail stay, and l is appended
 pub lit_front : (s : State) (l : ℕ) (r : Reason) (i : ℕ) → i < length s.trail.lits → lit_at (enqueued l r s) i ≡ lit_at s i
 lit_front s l r i h = get_or_append_left s.trail.lits (l ∷ []) 0 i h
 
@@ -68,7 +68,7 @@ true_new s l r h = get_or-set_same s.values (variable l) (Some (is_positive l)) 
 pub node_new : (s : State) (l : ℕ) (r : Reason) → variable l < length s.nodes → node (enqueued l r s) l ≡ node_at s.trail r
 node_new s l r h = get_or-set_same s.nodes (variable l) (node_at s.trail r) new_node h
 
--- a literal that is true after l became true was true before, or is l
+-- a literal that is true after l became true is l, or was true before
 pub true_back : (s : State) (l m : ℕ) (r : Reason) → variable l < length s.values → IsTrueLit (enqueued l r s).values m → (m ≡ l) ⊎ ((variable m ≢ variable l) × IsTrueLit s.values m)
 true_back s l m r h t = elim (cases_eq (variable m) (variable l)) [
   | inl e ↦
@@ -225,14 +225,14 @@ satisfied_forth a b ls bound g h = record {
   low = omega (arith, h.low, level_kept a b (get_or ls h.place 0) g h.holds);
 }
 
--- what has left the queue is true
+-- a literal that has left the queue is true
 pub left_true : (s : State) (l : ℕ) → StateIsConsistent s → HasLeftQueue s l → IsTrueLit s.values l
 left_true s l h x = elim x [
   | inl b ↦ subst (λ (m : ℕ). IsTrueLit s.values m) b.there (h.holds b.place b.within)
   | inr r ↦ r.holds
 ]
 
--- no true literal is of a level above the current one
+-- no true literal is above the current level
 pub level_low : (s : State) (l : ℕ) → StateIsConsistent s → IsTrueLit s.values l → level s l ≤ current_level s
 level_low s l h t = elim (h.known l t) [
   | inl b ↦

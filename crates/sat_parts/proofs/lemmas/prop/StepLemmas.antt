@@ -1,4 +1,4 @@
--- What propagation asks stays so where literals become true and where levels begin.
+-- Enqueueing a literal and beginning a level preserve the invariant of propagation.
 use Rattle.std.proofs.Common.{ℕ, ◌≡◌, ◌+◌, ◌*◌, ◌^◌, ◌<◌, ◌≤◌, inl, inr, List, [], ◌∷◌, ◌++◌, length, get_or, refl, sym, ap, ◌∙◌, subst, arith}
 use Rattle.std.proofs.lemmas.Bool.{cases_eq}
 use Rattle.std.proofs.lemmas.List.{length_push, get_or_append_left, get_or_push}
@@ -48,7 +48,7 @@ own_binary NoCause lit l m h = absurd h
 own_binary (Binary ls) lit l m h = h.0
 own_binary (Long o) lit l m h = absurd h
 
--- where all clauses are settled, those but the reason's are
+-- the invariant gives the precondition of enqueueing
 pub asks_for_reason : (words refs : List ℕ) (w : Watching) (implied : List (List ℕ)) (s : State) (top l : ℕ) (r : Reason) → PropagationInvariant words refs w implied s top → EnqueuePrecondition l r words refs w implied s top
 asks_for_reason words refs w implied s top l r h = record {
   holds_clauses = h.holds_clauses;
@@ -63,7 +63,7 @@ asks_for_reason words refs w implied s top l r h = record {
   binary = λ m k x d b. inl (h.binary m k x d b);
 }
 
--- an open literal becomes true
+-- an unassigned literal becomes true
 pub asks_enqueued : (words refs : List ℕ) (w : Watching) (implied : List (List ℕ)) (s : State) (top l : ℕ) (r : Reason) → IsOpenLit s.values l → variable l < length s.values →
     ((o : ℕ) → r ≡ Long o → Contains (live_refs words refs) o × (lit_of words o 0 ≡ l)) → EnqueuePrecondition l r words refs w implied s top → PropagationInvariant words refs w implied (enqueued l r s) top
 asks_enqueued words refs w implied s top l r n below cause h =
@@ -110,7 +110,7 @@ asks_enqueued words refs w implied s top l r n below cause h =
 pub agrees_by : (s : State) (l : ℕ) (r : Reason) → IsOpenLit s.values l → variable l < length s.values → StateIsConsistent s → StateIsConsistent (enqueued l r s)
 agrees_by s l r n below a = agrees_enqueued s l r a n below (room_for s l r a n below)
 
--- the state with a level more
+-- the state with one more level
 abbrev pub raised : State → State
 raised s = record s { trail = with_level s.trail }
 
@@ -168,7 +168,7 @@ left_raised s l h = elim h [
   | inr x ↦ inr (grows_raised s l x)
 ]
 
--- a level begins while nothing is in the queue
+-- a level begins while the queue is empty
 pub asks_raised : (words refs : List ℕ) (w : Watching) (implied : List (List ℕ)) (s : State) → length s.trail.starts + 1 < 2 ^ 32 → s.trail.head ≡ length s.trail.lits →
     PropagationPrecondition words refs w implied s → PropagationPrecondition words refs w implied (raised s)
 asks_raised words refs w implied s few empty h = record {

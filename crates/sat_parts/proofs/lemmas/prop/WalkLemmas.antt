@@ -1,4 +1,4 @@
--- The watches of one literal, one by one: where each stays, goes, or moves to another literal.
+-- The watches of one literal, one by one: each stays, is dropped, or moves to another literal.
 use Rattle.std.proofs.Common.{ℕ, ◌≡◌, ◌≢◌, ◌+◌, ◌-◌, ◌*◌, ◌<◌, ◌≤◌, ◌⊎◌, inl, inr, List, [], ◌∷◌, ◌++◌, length, get_or, set, take, drop, refl, sym, ap, ◌∙◌, subst, arith, length-set, length-drop, length-append, get_or-set_same, get_or-set_other}
 use Rattle.std.proofs.lemmas.Bool.{cases_eq, cases_lt}
 use Rattle.std.proofs.lemmas.List.{get_or_append_left, get_or_at, get_or-take, get_or-drop, get_or-append-add, length-take-le}
@@ -14,7 +14,7 @@ use Rattle.sat_parts.specs.prop.Walk.{HasWatchOutside, AreWalked, IsOther}
 use Rattle.sat_parts.proofs.lemmas.clause.OrderLemmas.{shuffled_eq}
 use Rattle.sat_parts.proofs.lemmas.prop.StateLemmas.{negated_twice}
 
--- after a visit of the clause at p, any other live clause has the literals that it had
+-- visiting the clause at p leaves the literals of other live clauses unchanged
 pub same_lits : (w v live : List ℕ) (count p o : ℕ) → AreClauses w live count → Contains live p → PermutesClause w v p → Contains live o → p ≢ o → lits_at v o ≡ lits_at w o
 same_lits w v live count p o c hp e ho n = (e.others live o hp c.holds_clauses ho n).lits
 
@@ -30,7 +30,7 @@ good_shuffled w v live count p x c hp e g =
     let m : (j : ℕ) × ((j < size_of w x.cref) × (lit_of v x.cref j ≡ lit_of w x.cref g.1.0)) = s.forth g.1.0 g.1.1.0 in
     (g.0, (m.0, (subst (λ (n : ℕ). m.0 < n) (sym s.size) m.1.0, m.1.1 ∙ g.1.1.1)))
 
--- the first two literals of the clause at p after a visit are its first two before
+-- that the first two literals of the clause at p were its first two before
 abbrev pub KeepsFirstTwo : List ℕ → List ℕ → ℕ → Type 0
 KeepsFirstTwo w v p = (i : ℕ) → i < 2 → (j : ℕ) × ((j < 2) × (lit_of v p i ≡ lit_of w p j))
 
@@ -40,7 +40,7 @@ first_two w v live count p o c hp e ho f = elim (cases_eq p o) [
   | inr n ↦ λ i hi. (i, (hi, ap (λ (ls : List ℕ). get_or ls i 0) (same_lits w v live count p o c hp e ho n)))
 ]
 
--- by cases on a place that is one of the first two
+-- a property of the first two positions
 pub at_two : (P : ℕ → Type 0) → P 0 → P 1 → (i : ℕ) → i < 2 → P i
 at_two P zero one i hi = elim (cases_eq i 0) [
   | inl q ↦ subst (λ (x : ℕ). P x) (sym q) zero
@@ -54,7 +54,7 @@ oriented_two w v p fl other second =
     let f1 : F 1 = elim other [ inl s ↦ (1, (omega arith, second ∙ sym s.0)) | inr s ↦ (0, (omega arith, second ∙ sym s.0)) ] in
     at_two F f0 f1
 
--- where the watch at place at is written to place kept, no clause loses its watch
+-- a watch that moves from index `at` to index `kept` is not lost
 kept_watch : (list : List Watch) (kept at o : ℕ) (x : Watch) → kept ≤ at → at < length list →
     x.cref ≡ (get_or list at no_watch).cref → HasWatchOutside list kept at o → HasWatchOutside (set list kept x) (kept + 1) (at + 1) o
 kept_watch list kept at o x gap lt same h =
@@ -100,7 +100,7 @@ not_watched w p lit n0 n1 = at_two (λ i. negated (lit_of w p i) ≢ lit)
     (λ e. n0 (sym (negated_twice (lit_of w p 0)) ∙ ap (λ z. negated z) e))
     (λ e. n1 (sym (negated_twice (lit_of w p 1)) ∙ ap (λ z. negated z) e))
 
--- the watch at place at goes, its clause not being watched by lit
+-- the watch at index `at` is dropped, because lit does not watch its clause
 pub walked_stale : (w live : List ℕ) (lists : List (List Watch)) (list : List Watch) (lit kept at count p : ℕ) →
     AreWalked w live lists list lit kept at count → at < length list → p ≡ (get_or list at no_watch).cref →
     lit_of w p 0 ≢ negated lit → lit_of w p 1 ≢ negated lit →
@@ -124,7 +124,7 @@ walked_stale w live lists list lit kept at count p h lt at_p n0 n1 =
       ];
     }
 
--- a list of watches with one more keeps the others
+-- adding a watch keeps the other watches
 pub more_watch : (lists : List (List Watch)) (m l o : ℕ) (x : Watch) → m < length lists → HasWatch (watches_of lists l) o → HasWatch (watches_of (more_at m x lists) l) o
 more_watch lists m l o x lt h = elim (cases_eq l m) [
   | inl r ↦
@@ -140,7 +140,7 @@ new_watch lists m x lt =
     subst (λ (xs : List Watch). HasWatch xs x.cref) (sym (get_or-set_same lists m (watches_of lists m ++ x ∷ []) [] lt))
     (length (watches_of lists m), (omega (arith, length-append (watches_of lists m) (x ∷ [])), ap (λ (z : Watch). z.cref) (get_or_at (watches_of lists m) x [] no_watch (length (watches_of lists m)) refl)))
 
--- each watch of the list is good
+-- that every watch of the list is sound
 abbrev pub AllGood : List ℕ → List ℕ → List Watch → Type 0
 AllGood w live xs = (p : ℕ) → p < length xs → IsSoundWatch w live (get_or xs p no_watch)
 
@@ -166,7 +166,7 @@ first_second ls d long e = zero_one 0 1 refl refl (d 0 1 (omega arith) (omega ar
     zero_one : (a b : ℕ) → a ≡ 0 → b ≡ 1 → a ≡ b → ⊥
     zero_one a b p q r = omega arith
 
--- the first literal after a visit isn't watched by lit, since the clause's literals are different
+-- after a visit, lit does not watch the first literal, because the clause has no literal twice
 pub first_other : (w v : List ℕ) (p lit : ℕ) → AreDistinct (lits_at w p) → 2 ≤ size_of w p → IsOther w v p (negated lit) → negated (lit_of v p 0) ≢ lit
 first_other w v p lit d long other r =
     let fl : lit_of v p 0 ≡ negated lit = sym (negated_twice (lit_of v p 0)) ∙ ap (λ z. negated z) r in
@@ -175,7 +175,7 @@ first_other w v p lit d long other r =
       | inr s ↦ first_second (lits_at w p) d long (s.0 ∙ sym fl ∙ s.1)
     ]
 
--- the watch at place at goes, and its clause is watched by its new second literal instead
+-- the watch at index `at` is dropped, and the new second literal watches the clause
 pub walked_moved : (w v live : List ℕ) (lists : List (List Watch)) (list : List Watch) (lit kept at count p : ℕ) →
     AreClauses w live count → AreClauses v live count → AreWalked w live lists list lit kept at count → at < length list → p ≡ (get_or list at no_watch).cref →
     PermutesClause w v p → IsOther w v p (negated lit) → negated (lit_of v p 1) ≢ lit →
@@ -225,7 +225,7 @@ walked_moved w v live lists list lit kept at count p c c' h lt at_p e other new 
       ];
     }
 
--- the kept watches and those from at on
+-- the watches that stay, and those from index `at` on
 abbrev pub cut : ℕ → ℕ → List Watch → List Watch
 cut kept at list = take kept list ++ drop at list
 
@@ -268,7 +268,7 @@ cut_good w live kept at list gap within g p b =
           (g (at + (p - kept)) (omega arith))
     ]
 
--- the walked list is put back, without the watches that went
+-- the walked list is put back without the dropped watches
 pub walked_close : (w live : List ℕ) (lists : List (List Watch)) (list : List Watch) (lit kept at count : ℕ) →
     AreWalked w live lists list lit kept at count → lit < 2 * count →
     AreWatched w live (set lists lit (cut kept at list)) count

@@ -1,4 +1,4 @@
--- The walk through the watches of a literal as a whole: what holds before each look, step by step, and at both ends.
+-- The complete walk through the watches of a literal: its invariant, its iterations, and both ends.
 use Rattle.std.proofs.Common.{ℕ, ◌≡◌, ◌≢◌, ◌+◌, ◌*◌, ◌<◌, ◌≤◌, inl, inr, List, [], length, get_or, set, refl, sym, ap, ◌∙◌, subst, arith, Some, None}
 use Rattle.std.proofs.lemmas.Bool.{cases_eq}
 use Rattle.std.specs.List.{Contains}
@@ -22,13 +22,13 @@ use Rattle.sat_parts.proofs.lemmas.prop.ReasonLemmas.{moves_refl, moves_shuffled
 use Rattle.sat_parts.proofs.lemmas.prop.WalkLemmas.{shuffled_all, first_two, oriented_two, walked_kept, walked_close, walked_open, cut}
 use Rattle.sat_parts.proofs.lemmas.prop.HalfLemmas.{satisfied_order, place_live, half_kept, half_stale, half_moved, half_grows}
 
--- the parts in the middle of a walk that began with the words w0 and the state s0
+-- the invariant of a walk that began with the words w0 and the state s0
 pub record Walking (live w0 : List ℕ) (s0 : State) (w : List ℕ) (s : State) (lists : List (List Watch)) (list : List Watch) (lit kept at : ℕ) : Type 0 where
   pub half : WalkInvariant w live s lists list lit kept at
   pub moves : (implied : List (List ℕ)) → PropagatesOn live implied w0 s0 w s
   pub head : s.trail.head ≡ s0.trail.head
 
--- the false literal of a visit
+-- the negation of the propagated literal is false
 false_lit : (w live : List ℕ) (s : State) (lists : List (List Watch)) (list : List Watch) (lit kept at : ℕ) → WalkInvariant w live s lists list lit kept at → IsFalseLit s.values (negated lit)
 false_lit w live s lists list lit kept at h = false_from_true s.values lit (left_true s lit h.agrees h.left)
 
@@ -42,7 +42,7 @@ first_stays w v s p fl f other t = elim other [
   | inr x ↦ absurd (model_excludes_core s.values fl (subst (λ (z : ℕ). IsTrueLit s.values z) x.0 t) f)
 ]
 
--- a true literal of the clause settles it
+-- a true literal satisfies the clause at the level of lit or lower
 satisfied_by : (s : State) (ls : List ℕ) (lit k : ℕ) → StateIsConsistent s → level s lit ≡ current_level s → k < length ls → IsTrueLit s.values (get_or ls k 0) → IsSatisfied s ls (level s lit)
 satisfied_by s ls lit k a top lt t = record { place = k; within = lt; holds = t; low = omega (arith, level_low s (get_or ls k 0) a t) }
 
@@ -72,7 +72,7 @@ step_stale live w0 s0 w s lists list lit kept at p h lt at_p n0 n1 = record {
   head = h.head;
 }
 
--- words change by a visit
+-- a visit is a stretch of propagation
 visit_moves : (live w0 : List ℕ) (s0 : State) (w v : List ℕ) (s : State) (lists : List (List Watch)) (list : List Watch) (lit kept at p : ℕ) →
     Walking live w0 s0 w s lists list lit kept at → at < length list → p ≡ (get_or list at no_watch).cref →
     PermutesClause w v p → IsOther w v p (negated lit) →
@@ -115,14 +115,14 @@ step_kept live w0 s0 w v s lists list lit kept at p n h lt at_p e o n_is t =
       head = h.head;
     }
 
--- a literal of the clause is in range
+-- the literals of a visited clause are in range
 pub lit_below : (w v live : List ℕ) (s : State) (lists : List (List Watch)) (list : List Watch) (lit kept at p k : ℕ) →
     WalkInvariant w live s lists list lit kept at → Contains live p → PermutesClause w v p → k < size_of v p → variable (lit_of v p k) < length s.values
 lit_below w v live s lists list lit kept at p k h hp e b =
     let c : AreClauses v live (length s.values) = kept_clauses w v live (length s.values) h.clauses (reorders_one w v live p hp e) in
     omega (arith, c.below p k hp b)
 
--- a false literal was false before the next place of the trail
+-- a false literal was false before the next position of the trail
 false_so_far : (s : State) (l n : ℕ) (r : Reason) → StateIsConsistent s → TrailGrows s (enqueued n r s) → IsFalseLit s.values l → IsFalseBefore (enqueued n r s) (length s.trail.lits) l
 false_so_far s l n r a g f = elim (a.known (negated l) (true_from_false s.values l f)) [
   | inl x ↦ inl (before_forth s (enqueued n r s) (length s.trail.lits) (negated l) g x)
@@ -156,7 +156,7 @@ step_propagates live w0 s0 w v s lists list lit kept at p n h lt at_p e o n_is o
       head = h.head;
     }
 
--- the clause is falsified: the walk ends, and what isn't settled is of the current level
+-- the clause is falsified: the walk ends, and clauses stay propagated below the current level
 pub walk_falsified : (live w0 : List ℕ) (s0 : State) (w v : List ℕ) (s : State) (lists : List (List Watch)) (list : List Watch) (lit kept at p n : ℕ) →
     Walking live w0 s0 w s lists list lit kept at → at < length list → p ≡ (get_or list at no_watch).cref →
     PermutesClause w v p → WalkInvariantAtClause w v p (negated lit) → n ≡ lit_of v p 0 →
@@ -190,7 +190,7 @@ walk_falsified live w0 s0 w v s lists list lit kept at p n h lt at_p e o n_is al
       conflict = (hp, all);
     }
 
--- nothing is left to look at
+-- no watch is left to visit
 pub walk_done : (live w0 : List ℕ) (s0 : State) (w : List ℕ) (s : State) (lists : List (List Watch)) (list : List Watch) (lit kept at : ℕ) →
     Walking live w0 s0 w s lists list lit kept at → at ≡ length list → lit < 2 * length s.values →
     WatchWalkEffect live w0 s0 w s (set lists lit (cut kept at list)) None
@@ -212,7 +212,7 @@ walk_done live w0 s0 w s lists list lit kept at h end small =
       conflict = tt;
     }
 
--- the watches of a literal are taken out, those clauses alone not being settled that it has made false
+-- the watches of lit are taken out, while only the clauses that lit made false are not propagated
 pub walk_open : (live w : List ℕ) (s : State) (lists : List (List Watch)) (lit : ℕ) →
     LongReady w live lists s (λ l. l ≢ lit) → HasLeftQueue s lit → level s lit ≡ current_level s → lit < 2 * length s.values →
     Walking live w s w s (set lists lit []) (watches_of lists lit) lit 0 0

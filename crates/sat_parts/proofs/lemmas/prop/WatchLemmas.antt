@@ -1,10 +1,10 @@
--- Lists of watches that are gone through.
+-- Lists of watches that a walk compacts.
 use Rattle.std.proofs.Common.{ℕ, ◌≡◌, ◌+◌, ◌-◌, ◌<◌, ◌≤◌, List, [], ◌∷◌, ◌++◌, length, get_or, set, take, drop, sym, ap, ◌∙◌, arith, length-drop, append_assoc, get_or-set_same}
 use Rattle.std.proofs.lemmas.List.{take_more_set, take_more, get_or-drop, get_or_read, set-set, set-get_or, take_at, length_push}
 use Rattle.sat_parts.specs.declared.prop.watch.Watch.{Watch}
 use Rattle.sat_parts.specs.prop.WatchLists.{no_watch}
 
--- one watch more moves down
+-- one more watch moves down
 pub cut_more : (items old : List Watch) (w : Watch) (kept at to from : ℕ) →
     to + at ≡ kept + from → at ≤ from → kept ≤ at → from < length items → length items ≡ length old →
     w ≡ get_or items from w → get_or items from no_watch ≡ get_or old from no_watch →
@@ -24,7 +24,7 @@ cut_more items old w kept at to from place following order lt size read rest mov
     ∙ sym (take_more (drop at old) (from - at) no_watch (omega arith))
     ∙ ap (λ k. take k (drop at old)) (sym n))
 
--- what was put after a list is taken out again
+-- removing the item that was just appended restores the lists
 pub pushed_back : {A : Type 0} (lists : List (List A)) (l : ℕ) (x : A) → l < length lists →
     set (set lists l (get_or lists l [] ++ x ∷ [])) l (take (length (get_or (set lists l (get_or lists l [] ++ x ∷ [])) l []) - 1) (get_or (set lists l (get_or lists l [] ++ x ∷ [])) l [])) ≡ lists
 pushed_back {A} lists l x lt =

@@ -1,4 +1,4 @@
--- The word of a trail, and what keeps levels beginning with decisions.
+-- The word of a trail, and what preserves `IsLevelled`.
 use Rattle.std.proofs.Common.{ℕ, ◌≡◌, ◌≢◌, ◌+◌, ◌<◌, ◌≤◌, inl, inr, List, [], ◌∷◌, ◌++◌, suc, zero, length, get_or, take, drop, ◌-◌, length-drop, refl, sym, ap, ◌∙◌, subst, arith, Bool, true, false, ◌||◌, ◌==◌, cond, append_assoc}
 use Rattle.std.specs.Prelude.{replicate}
 use Rattle.std.proofs.lemmas.Bool.{cases_eq, cases_lt, ne_eqb, eq-eqb}
@@ -27,7 +27,7 @@ levels_none s e =
       caused = λ i k b c d f. absurd (omega arith);
     }
 
--- the reason of a literal that stood on the trail before another became true
+-- a literal that was on the trail keeps its reason when another becomes true
 reason_kept : (s : State) (l i : ℕ) (r : Reason) → StateIsConsistent s → IsOpenLit s.values l → i < length s.trail.lits →
     (node (enqueued l r s) (lit_at (enqueued l r s) i)).reason ≡ (node s (lit_at s i)).reason
 reason_kept s l i r h n lt =
@@ -176,7 +176,7 @@ begins_there [] k b = absurd (omega arith)
 begins_there (x ∷ xs) zero b = ap (λ c. c || begins xs x) (eq-eqb x x refl)
 begins_there (x ∷ xs) (suc k) b = ap (λ c. (x == get_or xs k 0) || c) (begins_there xs k (omega arith)) ∙ or_true (x == get_or xs k 0)
 
--- letters depend on the beginnings at their places alone
+-- letters depend only on which levels begin at their positions
 letters_same : (xs ys lits : List ℕ) (at : ℕ) → ((i : ℕ) → at ≤ i → i < at + length lits → begins xs i ≡ begins ys i) → letters xs lits at ≡ letters ys lits at
 letters_same xs ys [] at h = refl
 letters_same xs ys (l ∷ ls) at h =
@@ -217,7 +217,7 @@ below_there [] u v = tt
 below_there (D ∷ w) u v = below_there w u v
 below_there (P ∷ w) u v = below_there w u v
 
--- a list from a place on
+-- the items from an index on
 from_place : (xs : List ℕ) (k : ℕ) → k < length xs → drop k xs ≡ get_or xs k 0 ∷ drop (suc k) xs
 from_place [] k b = absurd (omega arith)
 from_place (x ∷ xs) zero b = refl
