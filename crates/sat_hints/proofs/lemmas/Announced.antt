@@ -1,4 +1,4 @@
--- The lines of what accepted steps announce are a derivation.
+-- The lines that accepted steps announce are a derivation.
 use Rattle.std.proofs.Common.{ℕ, ◌+◌, ◌-◌, ◌<◌, ◌≤◌, ◌≡◌, ◌⊎◌, inl, inr, Bool, true, false, not, ◌&&◌, ◌||◌, cond, eqb, nat_lt, List, [], ◌∷◌, ◌++◌, map, filter, max, length, Option, None, Some, refl, sym, ◌∙◌, ap, subst, arith}
 use Rattle.std.proofs.lemmas.Bool.{eqb-true, eqb-false, eq-eqb, ne_eqb, lt-ltb, le-ltb, or_parts, true≢false}
 use Rattle.std.specs.List.{AllByRecursion, list_any}
@@ -24,7 +24,7 @@ use Rattle.sat_hints.specs.Conversion.{gone_unless, with_line, announced_lines, 
 use Rattle.sat_hints.proofs.lemmas.Sound.{still}
 use Rattle.sat_hints.proofs.lemmas.Mirrored.{lines_by, reported_lines, lines-append, by-append, each_more, one_each, IsUnder, HasAccepted, Mirrors, aside, NewLine, new_input, empty_new, set_same, set_new}
 
--- WHAT A CLAUSE RESTS ON IS PRESENT
+-- CLAUSES THAT A STEP RELIES ON ARE PRESENT
 module _ (f : Stored) (lines : List Line) (m : Mirrors f lines) where
   under_clauses : (cs : List StoredClause) → AllByRecursion (λ c. IsOneOf c f.clauses) cs → clauses_under (map (λ c. c.id) cs) lines ≡ Some (map (λ c. c.literals) cs)
   under_clauses [] h = refl
@@ -73,8 +73,8 @@ new_derived f lines clause ids m r = record {
   least = refl;
 }
 
--- CLAUSES THAT COME
--- a clause that is stored by now has no line
+-- CLAUSES THAT ARE ADDED
+-- a clause that is already stored has no line
 abbrev line_unless : Option ℕ → Line → List Line → List Line
 line_unless None line lines = line ∷ lines
 line_unless (Some id) line lines = lines
@@ -142,7 +142,7 @@ derived_mirrors r c hs f vs lines rests m =
     subst (Mirrors (with_stored r c (with_known vs f))) (sym (derived_lines r c hs f lines))
     (stored_mirrors r c f vs lines m (Derived f.next_id (canonical c) (propagations f c hs)) (is_tautology c) refl (λ n t. new_derived f lines c (propagations f c hs) m (rests t)))
 
--- units in turn
+-- units of a list, one after another
 known_unit : (vs : List ℕ) (l : ℕ) (f : Stored) → with_unit l (with_known vs f) ≡ with_known vs (with_unit l f)
 known_unit vs l f = go (is_unit f l) (is_unit f (negated l))
   where
@@ -207,11 +207,11 @@ settled_mirrors f lines (Some ids) e m =
     let n = empty_new line [] f lines new m refl (record f { next_id = f.next_id + 1 }) refl refl refl refl in
     record { derivation = n.derivation; clauses = n.clauses; units = n.units; long = n.long; least = n.least; conflict = λ i s. absurd cc }
 
--- CLAUSES THAT GO
+-- CLAUSES THAT ARE REMOVED
 abbrev gone_then : Bool → StoredClause → Bool
 gone_then r s = eqb (without_count r s).irredundant 0 && eqb (without_count r s).redundant 0
 
--- one without a count has its line
+-- a clause without a count gets a `Gone` line
 abbrev line_taken : Bool → Option StoredClause → List Line → List Line
 line_taken r None lines = lines
 line_taken r (Some s) lines = cond (gone_then r s) (Gone s.id ∷ lines) lines
@@ -236,7 +236,7 @@ is_first ls s (c ∷ cs) e = go (is_first ls s cs) (same_literals c.literals ls)
     go ih true t k = let f : c ≡ s = cc in record { stored = inl (sym f); literals_are = ap (λ (x : StoredClause). x.literals) (sym f) ∙ same c.literals ls t }
     go ih false t k = let x = ih k in record { stored = inr x.stored; literals_are = x.literals_are }
 
--- where it stays, with a count less
+-- a clause that stays has one fewer count
 module _ (P : ℕ → List ℕ → Type 0) where
   abbrev Each : List StoredClause → Type 0
   Each = AllByRecursion (λ c. P c.id c.literals)
@@ -278,7 +278,7 @@ stands_left r ls id d s (c ∷ cs) e g t h i w = go (λ k l. stands_left r ls id
     go ih false k (inl l) = record { clause = c; stored = inl refl; id_is = ap (λ (x : StoredClause). x.id) (sym l) ∙ i; literals_are = ap (λ (x : StoredClause). x.literals) (sym l) ∙ w }
     go ih false k (inr l) = stands_later id d c (without_clause r ls cs) (ih k l)
 
--- where it is gone, the others stay
+-- if a clause is removed, the others stay
 stands_other : (r : Bool) (ls : List ℕ) (id : ℕ) (d : List ℕ) (s : StoredClause) (cs : List StoredClause) → clause_with ls cs ≡ Some s → (id ≡ s.id → ⊥) → (t : StoredClause) → IsOneOf t cs → t.id ≡ id → t.literals ≡ d → HasAccepted id d (without_clause r ls cs)
 stands_other r ls id d s [] e g t h i w = absurd h
 stands_other r ls id d s (c ∷ cs) e g t h i w = go (λ k l. stands_other r ls id d s cs k g t l i w) (same_literals c.literals ls) e h
@@ -293,7 +293,7 @@ stands_other r ls id d s (c ∷ cs) e g t h i w = go (λ k l. stands_other r ls 
     go ih false k (inl l) = record { clause = c; stored = inl refl; id_is = ap (λ (x : StoredClause). x.id) (sym l) ∙ i; literals_are = ap (λ (x : StoredClause). x.literals) (sym l) ∙ w }
     go ih false k (inr l) = stands_later id d c (without_clause r ls cs) (ih k l)
 
--- and none of them has its literals
+-- no other stored clause has its literals
 others_apart : (ls : List ℕ) (cs : List StoredClause) → clause_with ls cs ≡ None → AllByRecursion (λ c. c.literals ≡ ls → ⊥) cs
 others_apart ls [] e = tt
 others_apart ls (c ∷ cs) e = go (others_apart ls cs) (same_literals c.literals ls) refl e
@@ -408,7 +408,7 @@ irredundant_lines ids (Some s) lines h = go (eqb s.irredundant 1) (one_less s.ir
     go true e false k t = ap (λ x. with_line (gone_unless x s.id) lines) t ∙ ap (λ b. cond (b && false) (Gone s.id ∷ lines) lines) e
     go false e z k t = ap (λ b. cond (b && z) (Gone s.id ∷ lines) lines) e
 
--- A VARIABLE THAT IS DELETED
+-- DELETED VARIABLES
 not_in_one : (v : ℕ) (s : StoredClause) (cs : List StoredClause) → list_any (λ c. mentions c.literals v) cs ≡ false → IsOneOf s cs → mentions s.literals v ≡ false
 not_in_one v s [] e h = absurd h
 not_in_one v s (c ∷ cs) e h =
@@ -452,7 +452,7 @@ deleted_mirrors v f lines proper none may m = record {
   conflict = λ ids k. absurd (let x : ◌≡◌ {A = Option (ℕ × ℕ)} None (Some ids) = sym none ∙ k in cc);
 }
 
--- A CORE
+-- CORES
 denied_core : (core : List ℕ) → is_tautology (map negated core) ≡ true → is_tautology (canonical core) ≡ true
 denied_core core t =
     let s = both_signs (map negated core) t in
@@ -483,7 +483,7 @@ core_mirrors f lines core hs nothing rests m = record {
           unused = λ u. u;
         }
 
--- EACH STEP
+-- EVERY STEP
 all_long : (cs : List StoredClause) → AllByRecursion IsProper (map (λ c. c.literals) cs) → AllByRecursion (λ c. is_long c.literals ≡ true) cs
 all_long [] h = tt
 all_long (c ∷ cs) h = (proper_long c.literals h.0.two, all_long cs h.1)
@@ -491,7 +491,7 @@ all_long (c ∷ cs) h = (proper_long c.literals h.0.two, all_long cs h.1)
 one_from_all : (f : Stored) → AllByRecursion IsProper (map (λ c. c.literals) f.clauses) → AllByRecursion (λ c. is_long c.literals ≡ true) f.clauses
 one_from_all f h = all_long f.clauses h
 
--- what is told up to a step, and by it
+-- the lines announced up to a step, and by it
 lines_next : (step : Step) (earlier : List Step) → announced_lines (notices_after (step ∷ earlier)) [] ≡ lines_by (announced (ready_after earlier) step) (lines_of earlier)
 lines_next step earlier =
     lines-append (all_notices_after earlier) (notices_over (ready_after earlier) (announced (ready_after earlier) step)) [] ∙ reported_lines (ready_after earlier) (announced (ready_after earlier) step) (lines_of earlier)

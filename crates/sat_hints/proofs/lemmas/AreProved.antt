@@ -1,4 +1,4 @@
--- The text of what accepted steps announce is proved.
+-- The text of the lines that accepted steps announce is proved.
 use Rattle.std.proofs.Common.{ℕ, ◌<◌, ◌^◌, List, [], ◌∷◌, ◌++◌, refl}
 use Rattle.std.specs.List.{AllByRecursion}
 use Rattle.sat_base.specs.steps.Steps.{Step, End}

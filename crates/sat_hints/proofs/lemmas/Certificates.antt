@@ -1,4 +1,4 @@
--- A certificate of accepted steps, and what is read of it.
+-- The certificate of accepted steps, and what is read from it.
 use Rattle.std.proofs.Common.{ℕ, ◌≡◌, List, [], ◌∷◌, ◌++◌, refl, sym, ◌∙◌, ap, subst, append_assoc}
 use Rattle.std.specs.Prelude.{◌≢◌}
 use Rattle.std.specs.List.{AllByRecursion}
@@ -8,7 +8,7 @@ use Rattle.sat_base.proofs.lemmas.steps.StepReads.{one_step}
 use Rattle.sat_checker.specs.Accepts.{Accepts, AcceptsAll, ready_after}
 use Rattle.sat_checker.specs.ProofView.{taken_after}
 
--- TAKEN STEPS
+-- STEPS THAT WERE ACCEPTED
 accepted_before : (steps earlier : List Step) → AcceptsAll (taken_after steps earlier) → AcceptsAll earlier
 accepted_before [] earlier ok = ok
 accepted_before (s ∷ ss) earlier ok = (accepted_before ss (s ∷ earlier) ok).0
@@ -21,8 +21,8 @@ pub taken_append : (xs ys earlier : List Step) → taken_after (xs ++ ys) earlie
 taken_append [] ys earlier = refl
 taken_append (x ∷ xs) ys earlier = taken_append xs ys (x ∷ earlier)
 
--- READ STEPS
--- after the steps read so far stand the others
+-- STEPS THAT WERE READ
+-- that `bytes` spell the steps of the certificate after those read so far
 pub record Left (steps read : List Step) (bytes more : List ℕ) : Type 0 where
   pub tail : List Step
   pub all : steps ≡ read ++ tail
@@ -46,7 +46,7 @@ left_of (p ∷ ps) (q ∷ qs) a t bytes more r s u e =
     let k = left_of ps qs r.1 s.1 bytes more r.3 s.3 u.1 following in
     record { tail = k.tail; all = ap (λ x. x ∷ qs) (sym same.1) ∙ ap (λ xs. p ∷ xs) k.all; text = k.text; spelt = k.spelt; is = k.is }
 
--- the next step is one of the certificate's
+-- that the next step is the next one of the certificate
 pub record Next (tail : List Step) (text : List ℕ) : Type 0 where
   pub step : Step
   pub following : List Step
@@ -60,7 +60,7 @@ pub next_of : (tail : List Step) (text : List ℕ) → SpellsSteps (tail ++ End 
 next_of [] text s = record { step = End; following = []; all = refl; bytes = s.0; others = s.1; spelt = s.2; is = s.4 }
 next_of (t ∷ ts) text s = record { step = t; following = ts ++ End ∷ []; all = refl; bytes = s.0; others = s.1; spelt = s.2; is = s.4 }
 
--- where the next step is the end, no other was left
+-- if the next step is the end, no other step is left
 pub none_left : (steps read tail following : List Step) → steps ≡ read ++ tail → AllByRecursion (λ step. step ≢ End) steps → tail ++ End ∷ [] ≡ End ∷ following → tail ≡ []
 none_left steps read [] following a u e = refl
 none_left steps read (t ∷ ts) following a u e = let f : t ≡ End = cc in absurd (last_of read t ts (subst (AllByRecursion (λ step. step ≢ End)) a u) f)
@@ -69,7 +69,7 @@ none_left steps read (t ∷ ts) following a u e = let f : t ≡ End = cc in absu
     last_of [] t ts h = h.0
     last_of (x ∷ xs) t ts h = last_of xs t ts h.1
 
--- a list of steps and one after it, in their bytes
+-- that the text spells a list of steps, and then those of a second list
 pub record Cut (front last : List Step) (text : List ℕ) : Type 0 where
   pub first : List ℕ
   pub second : List ℕ

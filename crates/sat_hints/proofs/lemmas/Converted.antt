@@ -1,4 +1,4 @@
--- What is answered to a certificate of accepted steps.
+-- The result of converting a certificate of accepted steps.
 use Rattle.std.proofs.Common.{ℕ, ◌≡◌, List, [], ◌∷◌, ◌++◌, Option, Some, Ok, Err, refl, sym, ◌∙◌, ap, subst, append_assoc, append-nil}
 use Rattle.std.specs.Io.KnownBytes.{IsAtEnd}
 use Rattle.sat_base.specs.device.Device.{Reader, WriterTakes}
@@ -20,7 +20,7 @@ at_end : (now : Option (List ℕ)) (ys : List ℕ) → now ≡ Some ys → IsAtE
 at_end now ys e h = subst (λ o. IsAtEnd o) e h
 
 module _ (steps : List Step) (text more : List ℕ) (from to : Reader) (cert : IsCertificate steps text) (text_is : from.to_come ≡ Some (text ++ more)) where
-  -- what was read are steps of the certificate, and so are the bytes after them
+  -- that the steps read are those of the certificate, and the rest of the certificate follows
   record Readings (passed last : List Step) (rest : List ℕ) : Type 0 where
     to_come : List ℕ
     left_is : to.to_come ≡ Some to_come
@@ -58,13 +58,13 @@ module _ (steps : List Step) (text more : List ℕ) (from to : Reader) (cert : I
     not_refused : (step : Step) → last ≡ step ∷ [] → Accepts (ready_after (taken_after passed [])) step
     not_refused step is = subst (Accepts (ready_after (taken_after passed []))) (sym (read_next step is)) next_accepted
 
-    -- after the end none is left
+    -- after the end, no step is left
     all_passed : last ≡ End ∷ [] → steps ≡ passed
     all_passed is =
         let none : r.left.tail ≡ [] = none_left steps passed r.left.tail n.following r.left.all cert.unended (n.all ∙ ap (λ x. x ∷ n.following) (sym (read_next End is))) in
         r.left.all ∙ ap (λ x. passed ++ x) none ∙ append-nil passed
 
-    -- where no step was read after them, the next one stands there
+    -- if no further step was read, the rest begins with the bytes of the next one
     rest_is : last ≡ [] → rest ++ r.to_come ≡ n.bytes ++ (n.others ++ more)
     rest_is is = ap (λ x. x ++ (rest ++ r.to_come)) (sym (subst (λ x. SpellsSteps x r.second) is r.of_last)) ∙ next_bytes
 

@@ -1,4 +1,4 @@
--- How often literals stand in clauses of two or more, as these come and go.
+-- How often literals occur in clauses of two or more literals, as such clauses are added and removed.
 use Rattle.std.proofs.Common.{ℕ, zero, suc, ◌+◌, ◌*◌, ◌<◌, ◌≤◌, ◌^◌, ◌≡◌, Bool, true, false, cond, List, [], ◌∷◌, ◌++◌, length, take, get_or, set, refl, sym, ◌∙◌, ap, subst, arith, MatchBool}
 use Rattle.std.proofs.lemmas.List.{length-take-le, take_more, take_all}
 use Rattle.std.specs.List.{AllByRecursion}
@@ -10,7 +10,7 @@ use Rattle.sat_checker.proofs.lemmas.store.Mentions.{times_some, times_none}
 use Rattle.sat_hints.specs.Hints.{is_long}
 use Rattle.sat_hints.specs.inner.Clauses.{times_long, times_kept}
 
--- once at most in a sorted set
+-- a literal occurs at most once in a sorted set
 pub times_one : (l : ℕ) (c : List ℕ) → IsIncreasing c → times_long l c ≤ 1
 times_one l [] h = omega arith
 times_one l (x ∷ []) h = omega arith
@@ -44,18 +44,18 @@ module _ (l : ℕ) where
       go true ih k = omega (arith, ih)
       go false ih k = omega (arith, ih, k)
 
-  -- a clause that isn't gone is counted
+  -- a clause that is not removed is counted
   pub times-there : (cs : List (List ℕ)) (gs : List Bool) (place : ℕ) → length gs ≡ length cs → place < length cs → get_or gs place false ≡ false → times_long l (get_or cs place []) ≤ times_kept l cs gs
   times-there cs gs place e h g = let k : times_kept l cs (set gs place true) + times_long l (get_or cs place []) ≡ times_kept l cs gs = times-gone cs gs place e h g in omega (arith, k)
 
--- a place of a clause that isn't gone
+-- that P holds for a clause that is not removed
 pub record IsThere (P : List ℕ → Type 0) (cs : List (List ℕ)) (gs : List Bool) : Type 0 where
   pub place : ℕ
   pub within : place < length cs
   pub there : get_or gs place false ≡ false
   pub holds : P (get_or cs place [])
 
--- what is counted stands somewhere
+-- a literal with a count above 0 occurs in some clause
 later : (l : ℕ) (c : List ℕ) (cs : List (List ℕ)) (b : Bool) (gs : List Bool) → IsThere (λ d. 0 < times_long l d) cs gs → IsThere (λ d. 0 < times_long l d) (c ∷ cs) (b ∷ gs)
 later l c cs b gs t = record { place = suc t.place; within = (let w = t.within in omega (arith, w)); there = t.there; holds = t.holds }
 
@@ -73,7 +73,7 @@ times-some l (c ∷ cs) (g ∷ gs) h = go g (times-some l cs gs) (times_kept l c
     go false ih n e k = here n e ih (omega (arith, e, k))
 
 -- A VARIABLE
--- its literals are counted in a long clause exactly where that has it
+-- its literals are counted in a clause of two or more literals exactly if that has it
 pub counted_long : (v l : ℕ) (c : List ℕ) → 0 < times_long l c → is_long c ≡ true
 counted_long v l [] h = absurd (omega arith)
 counted_long v l (x ∷ []) h = absurd (omega arith)
@@ -102,7 +102,7 @@ mentions_counted v c e m =
     let n : 0 < times_in (2 * v) c + times_in (2 * v + 1) c = times_some v c m in
     omega (arith, a, b, n)
 
--- whether its literals are counted, by whether it is mentioned
+-- whether the literals of a variable are counted, from whether the clause mentions it
 pub not_long : (l : ℕ) (c : List ℕ) → length c < 2 → times_long l c ≡ 0
 not_long l [] h = refl
 not_long l (x ∷ []) h = refl
@@ -139,7 +139,7 @@ times_whole l cs gs i e h =
     let b = take_all i gs (subst (λ n. n ≤ i) (sym e) h) in
     rw (a, b) refl
 
--- a set among others
+-- a clause of the list is a sorted set
 pub set_at : (cs : List (List ℕ)) (i : ℕ) → AllByRecursion IsIncreasing cs → i < length cs → IsIncreasing (get_or cs i [])
 set_at [] i h l = absurd (omega arith)
 set_at (c ∷ cs) zero h l = h.0
@@ -154,7 +154,7 @@ sets_first cs zero h = tt
 sets_first [] (suc i) h = tt
 sets_first (c ∷ cs) (suc i) h = (h.0, sets_first cs i h.1)
 
--- one more is gone, or counted
+-- one more clause, removed or counted
 pub kept_gone : (l : ℕ) (cs : List (List ℕ)) (gs : List Bool) (i n : ℕ) → length gs ≡ n → length cs ≡ n → i < n → get_or gs i false ≡ true → times_kept l (take i cs) (take i gs) ≡ times_kept l (take (i + 1) cs) (take (i + 1) gs)
 kept_gone l cs gs i n g c h e =
     let m = times-more l cs gs i (g ∙ sym c) (subst (λ k. i < k) (sym c) h) in
@@ -190,7 +190,7 @@ kept_some v cs gs i n clause g c h e is z =
     let b = one (2 * v + 1) in
     omega (arith, a, b, z)
 
--- there is room for it
+-- one more clause can be counted without overflow
 pub kept_few : (l : ℕ) (cs : List (List ℕ)) (gs : List Bool) (i n before : ℕ) (clause : List ℕ) → AllByRecursion IsIncreasing cs → length cs ≡ n → i < n → n < 2 ^ 64 → clause ≡ get_or cs i [] → before ≡ times_kept l (take i cs) (take i gs) → before + times_long l clause < 2 ^ 64
 kept_few l cs gs i n before clause sets c h f is b =
     let few = times-few l (take i cs) (take i gs) (sets_first cs i sets) in

@@ -1,4 +1,4 @@
--- What the course of clauses under assumed literals says.
+-- Whether clauses, in turn, lead to a conflict under assumed literals.
 use Rattle.std.proofs.Common.{ℕ, ◌≡◌, Bool, true, false, not, ◌||◌, cond, eqb, List, [], ◌∷◌, Option, None, Some, refl, sym, ◌∙◌, ap, subst, ◌⊎◌, inl, inr}
 use Rattle.std.proofs.lemmas.Bool.{or_cases, or_left, or_right, both_ways, eqb-true, eq-eqb, true≢false, or_parts}
 use Rattle.std.specs.List.{AllByRecursion}
@@ -16,7 +16,7 @@ use Rattle.sat_hints.specs.inner.Course.{falsified_failure, unit_failure, refuta
 abbrev IsFalse : List ℕ → ℕ → Type 0
 IsFalse assumed l = is_among assumed (negated l) ≡ true
 
--- no literal is left open
+-- if no literal of a clause is open, the clause is falsified
 none_open : (assumed clause : List ℕ) → not_false assumed clause ≡ [] → IsFalsified assumed clause
 none_open assumed [] e = tt
 none_open assumed (l ∷ ls) e = go (none_open assumed ls) (is_among assumed (negated l)) refl e
@@ -33,7 +33,7 @@ others_from : (assumed clause : List ℕ) (o : ℕ) → IsFalsified assumed clau
 others_from assumed [] o h = tt
 others_from assumed (l ∷ ls) o h = (inr h.0, others_from assumed ls o h.1)
 
--- one literal is left open
+-- that o is the only open literal of the clause
 record OneOpen (assumed clause : List ℕ) (o : ℕ) : Type 0 where
   within : is_among clause o ≡ true
   not_false : is_among assumed (negated o) ≡ false
@@ -54,7 +54,7 @@ one_open assumed (l ∷ ls) o e = go (one_open assumed ls o) (is_among assumed (
           others = (inl same, others_from assumed ls o (none_open assumed ls rest));
         }
 
--- where o isn't in the clause, each literal is false
+-- if o is not in the clause, all literals are false
 away : (assumed : List ℕ) (o : ℕ) (ms : List ℕ) → is_among ms o ≡ false → AllByRecursion (λ m. (m ≡ o) ⊎ IsFalse assumed m) ms → IsFalsified assumed ms
 away assumed o [] k a = tt
 away assumed o (m ∷ ms) k a = (
@@ -62,7 +62,7 @@ away assumed o (m ∷ ms) k a = (
   away assumed o ms (or_parts (eqb m o) (is_among ms o) k).1 a.1,
 )
 
--- with none twice, that one alone can be left
+-- in a clause without repeats, at most o is open
 only_open : (assumed clause : List ℕ) (o : ℕ) → NoRepeats clause → AllByRecursion (λ l. (l ≡ o) ⊎ IsFalse assumed l) clause → (not_false assumed clause ≡ []) ⊎ (not_false assumed clause ≡ o ∷ [])
 only_open assumed [] o n h = inl refl
 only_open assumed (l ∷ ls) o n h = go (only_open assumed ls o n.1 h.1) (is_among assumed (negated l)) refl
@@ -83,7 +83,7 @@ member_false assumed (l ∷ ls) o h m = elim (or_cases (eqb l o) (is_among ls o)
   | inr k ↦ member_false assumed ls o h.1 k
 ]
 
--- WHAT A VERDICT SAYS
+-- THE MEANING OF A VERDICT
 falsified_from : (assumed ls : List ℕ) → verdict_of_open assumed ls ≡ falsified → ls ≡ []
 falsified_from assumed [] e = refl
 falsified_from assumed (l ∷ []) e = go (is_among assumed l) e
@@ -124,7 +124,7 @@ unit_opens assumed clause l n u = elim (only_open assumed clause l n u.others) [
   | inr e ↦ ap (verdict_of_open assumed) e ∙ ap (λ b. cond b rests (opens l)) u.not_true
 ]
 
--- WHAT A COURSE SAYS
+-- THE RESULT FOR SEVERAL CLAUSES
 abbrev pub Says : Option HintWhy → List ℕ → List (List ℕ) → Type 0
 Says None assumed cs = UnitInTurn assumed cs
 Says (Some NotUnit) assumed cs = SomeIsNotUnit assumed cs
@@ -152,7 +152,7 @@ course_says (c ∷ d ∷ ds) assumed n = go (λ l. course_says (d ∷ ds) (l ∷
     go ih (opens l) e = says_further (refutation_failure (l ∷ assumed) (d ∷ ds)) assumed c d ds l (is_unit assumed c l e) (ih l)
     go ih rests e = inl (λ l u. let g = unit_opens assumed c l n.0 u in absurd cc)
 
--- IT DEPENDS ON WHICH LITERALS OF THE CLAUSES ARE ASSUMED
+-- ONLY ASSUMED LITERALS THAT OCCUR IN THE CLAUSES MATTER
 pub room_in : (room c : List ℕ) (l : ℕ) → HasClauseRoom room c → is_among c l ≡ true → (is_among room l ≡ true) × (is_among room (negated l) ≡ true)
 room_in room [] l h m = absurd cc
 room_in room (x ∷ xs) l h m = elim (or_cases (eqb x l) (is_among xs l) m) [

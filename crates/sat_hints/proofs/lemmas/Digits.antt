@@ -1,4 +1,4 @@
--- Numbers, digit by digit, in front of a space.
+-- Numbers before a space, digit by digit.
 use Rattle.std.proofs.Common.{ℕ, zero, suc, ◌+◌, ◌-◌, ◌*◌, ◌/◌, ◌%◌, ◌^◌, ◌<◌, ◌≤◌, ◌≡◌, ◌∷◌, ◌++◌, [], List, length, take, get_or, drop, decimal, append-nil, refl, sym, ◌∙◌, ap, subst, arith, append_assoc}
 use Rattle.std.proofs.lemmas.Fmt.{decimal_digit, decimal_step, decimal_is_IsNumeral, first_decimal, decimal_nonempty}
 use Rattle.std.proofs.lemmas.Str.Parse.{digit_from_value, digits_value-take-le}
@@ -33,7 +33,7 @@ so_far zero h = absurd (omega arith)
 so_far (suc m) h = refl
 
 module _ (limit : ℕ) (fits : limit < 2 ^ 64) where
-  -- a byte that is no digit
+  -- a byte other than a digit
   pub no_digit : (number b : ℕ) → ((48 ≤ b) × (b ≤ 57) → ⊥) → NoDigit limit number b
   no_digit number b wrong n more h e = let k : n < 2 ^ 64 = omega arith in wrong (digit_after (number_digits_so_far number) b more (subst (AllDigits 10) e (are_digits n k)))
 
@@ -46,7 +46,7 @@ module _ (limit : ℕ) (fits : limit < 2 ^ 64) where
       omega arith
   no_zero (suc number) b low z n more h e = absurd (omega arith)
 
-  -- a digit after those of a number
+  -- a further digit
   pub next_digit : (number b : ℕ) → 48 ≤ b → b ≤ 57 → 10 * number + (b - 48) < 2 ^ 64 → 0 < 10 * number + (b - 48) → decimal (10 * number + (b - 48)) ≡ number_digits_so_far number ++ (b ∷ [])
   next_digit zero b low high small more =
       let e : 10 * 0 + (b - 48) ≡ b - 48 = omega arith in
@@ -59,7 +59,7 @@ module _ (limit : ℕ) (fits : limit < 2 ^ 64) where
       let g = decimal_step (10 * suc number + (b - 48)) (omega arith) small in
       g ∙ ap (λ n. decimal n ++ ((48 + (10 * suc number + (b - 48)) % 10) ∷ [])) e ∙ ap (λ d. decimal (suc number) ++ (d ∷ [])) f
 
-  -- a number whose first digits are those of another is no less, and with one digit more no less than ten times that
+  -- a number whose decimal begins with another number's is not less; with one more digit, it is at least ten times that
   value_of : (n : ℕ) → n < 2 ^ 64 → digits_value 10 (decimal n) ≡ n
   value_of n h = (decimal_is_IsNumeral n h).1
 
@@ -91,14 +91,14 @@ pub plain_so_far : (number : ℕ) → number < 2 ^ 64 → Plain (number_digits_s
 plain_so_far zero h = tt
 plain_so_far (suc number) h = plain_number (suc number) h
 
--- a word before a space, and another text without a space
+-- bytes without a space do not begin with a word and a space
 no_space : (ds es y : List ℕ) → Plain ds → ds ≡ es ++ (32 ∷ y) → ⊥
 no_space [] [] y p e = cc
 no_space [] (c ∷ es) y p e = cc
 no_space (d ∷ ds) [] y p e = p.0 (let r : d ≡ 32 = cc in r)
 no_space (d ∷ ds) (c ∷ es) y p e = no_space ds es y p.1 (let r : ds ≡ es ++ (32 ∷ y) = cc in r)
 
--- a word that goes on after another's bytes
+-- a word that goes on after the bytes of another
 goes_on : (ds es : List ℕ) (b : ℕ) (x y : List ℕ) → Plain ds → (b ≡ 32 → ⊥) → ds ++ (b ∷ x) ≡ es ++ (32 ∷ y) → (more : List ℕ) × (es ≡ ds ++ (b ∷ more))
 goes_on [] [] b x y p other e = absurd (other (let r : b ≡ 32 = cc in r))
 goes_on [] (c ∷ es) b x y p other e = (es, let r : c ≡ b = cc in ap (λ c. c ∷ es) r)
@@ -123,13 +123,13 @@ module _ (limit : ℕ) (fits : limit < 2 ^ 64) where
   number_goes_on zero b x n tail small space k e = first_byte (decimal n) b x tail (decimal_nonempty n (omega arith)) e
   number_goes_on (suc number) b x n tail small space k e = goes_on (decimal (suc number)) (decimal n) b x tail (plain_so_far (suc number) small) (λ s. let z : suc number ≡ 0 = space s in omega arith) e
 
-  -- where no digit of a number comes next
+  -- no digit that can continue a number comes next
   pub no_number_so : (number b : ℕ) (bytes x : List ℕ) → number ≤ limit → (b ≡ 32 → number ≡ 0) → NoDigit limit number b → bytes ≡ number_digits_so_far number ++ (b ∷ x) → NoWord decimal (IsNumberUpTo limit) bytes
   no_number_so number b bytes x h space none e n tail k f =
       let r = number_goes_on number b x n tail (omega arith) space k (sym e ∙ f) in
       none n r.0 k r.1
 
-  -- where the bytes are over
+  -- the bytes have ended
   pub no_number_past : (number : ℕ) (bytes : List ℕ) → number < 2 ^ 64 → bytes ≡ number_digits_so_far number ++ [] → NoWord decimal (IsNumberUpTo limit) bytes
   no_number_past number bytes small e n tail k f = no_space (number_digits_so_far number) (decimal n) tail (plain_so_far number small) (sym (append-nil (number_digits_so_far number)) ∙ sym e ∙ f)
 
@@ -146,7 +146,7 @@ grows i zero b h other low = go (b - 48) refl
     go (suc d) e = omega arith
 grows i (suc number) b h other low = omega arith
 
--- one more was read
+-- one more digit was read
 pub one_digit_more : (bytes : List ℕ) (i number b : ℕ) → i < length bytes → b ≡ get_or bytes i 0 → 48 ≤ b → b ≤ 57 → 10 * number + (b - 48) < 2 ^ 64 → i + 1 ≤ 10 * number + (b - 48) → bytes ≡ number_digits_so_far number ++ drop i bytes
     → bytes ≡ number_digits_so_far (10 * number + (b - 48)) ++ drop (i + 1) bytes
 one_digit_more bytes i number b inside is low high small more e =

@@ -1,4 +1,4 @@
--- Looking up the clauses under ids, and following them.
+-- Looking up the clauses under ids, and propagating through them in turn.
 use Rattle.std.proofs.Common.{ℕ, ◌+◌, ◌<◌, ◌≡◌, ◌≢◌, true, false, List, [], ◌∷◌, length, drop, get_or, Option, None, Some, refl, sym, ◌∙◌, ap, subst, ◌⊎◌, inl, inr}
 use Rattle.std.proofs.lemmas.List.{drop_more}
 use Rattle.sat_checker.specs.LiteralSets.{is_among, is_tautology}
@@ -15,17 +15,17 @@ use Rattle.sat_hints.specs.inner.Judging.{refutation_failure_of, WhyNotRefuted}
 use Rattle.sat_hints.specs.inner.Standing.{standing_clause, standing_clauses, HasRoomForPresent}
 use Rattle.sat_hints.proofs.lemmas.Courses.{same_course, is_unit, room_in}
 
--- all are present exactly where those that are left are
+-- that the clauses under all ids are present exactly if those under the rest are
 abbrev pub PresentAlike : Standing → List ℕ → List ℕ → Type 0
 PresentAlike s ids rest = (standing_clauses s ids ≡ None → standing_clauses s rest ≡ None) × (standing_clauses s rest ≡ None → standing_clauses s ids ≡ None)
 
--- the clause isn't unit in its turn, and others come after it
+-- a clause is not unit in turn, and further clauses follow it
 misses_turn : (assumed c : List ℕ) (o : Option (List ℕ)) (p : Option (List (List ℕ))) → ((f : ℕ → Option HintWhy) → unit_failure (verdict assumed c) f ≡ Some NotUnit) → and_clauses o p ≢ None → refutation_failure_of assumed (and_clauses (Some c) (and_clauses o p)) ≡ Some NotUnit
 misses_turn assumed c None p h n = absurd (n refl)
 misses_turn assumed c (Some d) None h n = absurd (n refl)
 misses_turn assumed c (Some d) (Some ds) h n = h (λ m. refutation_failure (m ∷ assumed) (d ∷ ds))
 
--- what isn't unit in its turn
+-- a clause that is not unit in turn
 pub no_turn : (r : Look) (assumed c : List ℕ) → verdict_of r ≡ verdict assumed c → (r ≡ look.Falsified) ⊎ (r ≡ look.Rests) → (f : ℕ → Option HintWhy) → unit_failure (verdict assumed c) f ≡ Some NotUnit
 no_turn r assumed c e (inl h) f = ap (λ v. unit_failure v f) (sym e ∙ ap verdict_of h)
 no_turn r assumed c e (inr h) f = ap (λ v. unit_failure v f) (sym e ∙ ap verdict_of h)
@@ -50,7 +50,7 @@ module _ (s : Standing) (ids : List ℕ) (i id : ℕ) (inside : i < length ids) 
     lost n = ap (refutation_failure_of assumed) (found c here ∙ ap (and_clauses (Some c)) n)
 
 -- ROOM
--- what a clause opens has room
+-- there is room for the literal that a unit clause makes true
 pub opens_in_room : (s : Standing) (room assumed c : List ℕ) (id l : ℕ) → HasRoomForPresent room s → standing_clause s id ≡ Some c → verdict assumed c ≡ opens l → (is_among room l ≡ true) × (is_among assumed l ≡ false)
 opens_in_room s room assumed c id l h e v = let u = is_unit assumed c l v in ((room_in room c l (h id c e) u.within).0, u.not_true)
 
@@ -70,7 +70,7 @@ rooms s room h (id ∷ ids) cs e = go (λ ds. rooms s room h ids ds) (standing_c
     go ih (Some c) i None k e = absurd cc
     go ih (Some c) i (Some ds) k e = let f : c ∷ ds ≡ cs = cc in subst (HasClausesRoom room) f (h id c i, ih ds k)
 
--- where the literals are assumed as far as there is room, clauses run as they do under all
+-- assuming only the literals for which there is room gives the same result
 module _ (s : Standing) (ls ids : List ℕ) (why : Option HintWhy) where
   pub refuted_by : (room assumed : List ℕ) → HasRoomForPresent room s → is_tautology ls ≡ false → AgreesOn room assumed ls → why ≡ refutation_failure_of assumed (standing_clauses s ids) → WhyNotRefuted s ls ids why
   refuted_by room assumed h t a w = go (standing_clauses s ids) refl

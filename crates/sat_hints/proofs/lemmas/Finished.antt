@@ -1,4 +1,4 @@
--- Where nothing waited before, and what waits is written out at the end.
+-- Nothing is pending at first, and the pending bytes are written at the end.
 use Rattle.std.proofs.Common.{ℕ, ◌≡◌, Bool, true, false, List, [], ◌∷◌, ◌++◌, Result, Ok, Err, sym, ◌∙◌, ap, subst, append_assoc, append-nil, inl, inr}
 use Rattle.std.specs.Borrow.{MutBor}
 use Rattle.sat_base.specs.device.Device.{Reader, Writer, WriterBreaks, lent_writer}
@@ -15,7 +15,7 @@ use Rattle.sat_hints.specs.declared.line_writer.LineWriter.{LineWriter}
 use Rattle.sat_hints.specs.inner.LineWriting.{Outlet, outlet, PutsText, PutFrom, PutBy}
 use Rattle.sat_hints.specs.inner.LinesWritten.{BrokenAfter, SentFront, WritesLines}
 
--- a front was put, so a front was taken
+-- if a prefix was put, the writer accepted a prefix
 front_took : (a b : Outlet) (text : List ℕ) → a.sink.waiting ≡ [] → SentFront a b text → WritesFrontOf a.sink.writer b.sink.writer text
 front_took a b text e s =
     let w = s.sent.sent in
@@ -46,7 +46,7 @@ errs_convert OutOfMemory from to a b e w = (w.0, w.1, w.2, w.3, w.4, front_took 
 put_by : (text : List ℕ) (a b : Outlet) (f : Bool) → a.failed ≡ false → b.failed ≡ f → PutsText text a b → PutBy f text a.sink b.sink
 put_by text a b f e d h = subst (λ x. PutBy x text a.sink b.sink) d (subst (λ x. PutFrom x text a b) e h)
 
--- what waits is written out
+-- the pending bytes are written
 pub ok_converts : (from to : Reader) (a b c : Outlet) → a.sink.waiting ≡ [] → WritesLines (Ok tt) from to a b → PutsText [] b c → c.failed ≡ false → c.sink.waiting ≡ [] → Converts (Ok tt) from to a.sink.writer c.sink.writer
 ok_converts from to a b c e w p f none =
     let text : List ℕ = hint_text (End ∷ taken_after w.0 []) in
@@ -78,7 +78,7 @@ module _ {W : Type 0} (seen : W → Writer) (a z v : W) (given back : ℕ) (same
   lent_converts (Err Write) from to c = (c.0, c.1, c.2, c.3, c.4, lent_breaks c.1 (taken_after c.0 []) c.5)
   lent_converts (Err OutOfMemory) from to c = (c.0, c.1, c.2, c.3, c.4, lent_took _ c.5)
 
--- through a writer that is lent
+-- lines written through a lent writer
 pub lent_text : {W : Type 0} (seen : W → Writer) (a z : W) (r : MutBor W) (first last : LineWriter (MutBor W)) (given : ℕ) (result : Result (Unit {0}) HintError) (from to : Reader) → (given ≡ r.ghost_name → z ≡ r.now)
     → (outlet (λ (w : MutBor W). lent_writer w.ghost_name (seen w.now)) first).sink.writer ≡ lent_writer given (seen a) → r ≡ last.writer
     → Converts result from to (outlet (λ (w : MutBor W). lent_writer w.ghost_name (seen w.now)) first).sink.writer (outlet (λ (w : MutBor W). lent_writer w.ghost_name (seen w.now)) last).sink.writer

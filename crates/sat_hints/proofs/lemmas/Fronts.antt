@@ -1,4 +1,4 @@
--- Which bytes may come at each place of a line.
+-- Which bytes can follow at every place of a line.
 use Rattle.std.proofs.Common.{ℕ, ◌+◌, ◌/◌, ◌^◌, ◌<◌, ◌≡◌, Bool, true, false, cond, Option, None, Some, List, [], ◌∷◌, ◌++◌, decimal, refl, sym, ◌∙◌, ap, subst, arith, append_assoc}
 use Rattle.std.proofs.lemmas.Fmt.{decimal_nonempty, first_decimal}
 use Rattle.sat_base.specs.values.Literals.{var_limit, is_positive}
@@ -20,13 +20,13 @@ pub limit_fits : (part : Part) → limit_of part < 2 ^ 64
 limit_fits End = omega arith
 limit_fits e = omega arith
 
--- a part begins with a number, with `-` and a number, or with `0`
+-- that a part begins with a number, with `-` and a number, or with `0`
 data Turn (part : Part) (bytes : List ℕ) : Type 0 where
   begun : Numbered (limit_of part) (IsPartOfLine (next_of part)) 0 bytes → Turn part bytes
   negative : (rest : List ℕ) → bytes ≡ 45 ∷ rest → IsLeftIf (sign_place part) rest → Turn part bytes
   last : (rest : List ℕ) → bytes ≡ 48 ∷ rest → IsLeftIf (zero_place part) rest → Turn part bytes
 
--- a literal and a space
+-- that the bytes begin with a literal and a space
 data Signed (Rest : List ℕ → Type 0) (bytes : List ℕ) : Type 0 where
   plain : Numbered var_limit Rest 0 bytes → Signed Rest bytes
   minus : (rest : List ℕ) → bytes ≡ 45 ∷ rest → Numbered var_limit Rest 0 rest → Signed Rest bytes
@@ -82,7 +82,7 @@ leads_sign part more h = go (turn part (45 ∷ more) h)
     go (negative rest e w) = let r : rest ≡ more = cc in subst (IsLeftIf (sign_place part)) r w
     go (last rest e w) = absurd (let r : ◌≡◌ {A = ℕ} 45 48 = cc in omega arith)
 
--- with another byte a number begins
+-- any other byte begins a number
 pub leads_digit : (part : Part) (b : ℕ) (to : Option Place) → (b ≡ 48 → ⊥) → (b ≡ 45 → ⊥) → LeadsToPlace (Digits part 0) (b ∷ []) to → LeadsToPlace (Item part) (b ∷ []) to
 leads_digit part b to no_zero no_minus leads more h = go (turn part (b ∷ more) h)
   where
@@ -99,7 +99,7 @@ number_ends part number small more_than more w =
     let e = at_space (number_digits_so_far number) (decimal w.value) more w.rest (plain_so_far number small) (plain_number w.value (omega arith)) w.whole in
     subst (IsPartOfLine (next_of part)) (sym e.1) w.following
 
--- a digit comes
+-- a further digit
 pub number_goes : (part : Part) (number b m : ℕ) → IsNumberUpTo (limit_of part) m → decimal m ≡ number_digits_so_far number ++ (b ∷ []) → LeadsToPlace (Digits part number) (b ∷ []) (Some (Digits part m))
 number_goes part number b m within e more w = record {
   value = w.value;
@@ -114,7 +114,7 @@ number_stops part number b small space none more w =
     let r = number_goes_on (limit_of part) (limit_fits part) number b more w.value w.rest small space w.within w.whole in
     none w.value r.0 w.within r.1
 
--- so far bytes lead from one place to another
+-- that the bytes read so far lead from one place to another, and `rest` was not read yet
 pub record LeadsSoFar (from : Place) (bytes : List ℕ) (here : Place) (rest : List ℕ) : Type 0 where
   pub inside : HasNoEnd rest
   pub leads : (more : List ℕ) → IsRestOfLine from (bytes ++ more) → IsRestOfLine here (rest ++ more)

@@ -1,4 +1,4 @@
--- What a writer of lines has written once it has heard announcements.
+-- What a writer of lines has written after it received announcements.
 use Rattle.std.proofs.Common.{ℕ, ◌≡◌, Bool, true, false, List, [], ◌∷◌, ◌++◌, Option, None, Some, Result, Ok, Err, refl, sym, ◌∙◌, ap, subst, ◌⊎◌, inl, inr, append_assoc, append-nil}
 use Rattle.anyhow.specs.declared.error.Error.{Error}
 use Rattle.sat_base.specs.device.Device.{Writer}
@@ -20,7 +20,7 @@ use Rattle.sat_hints.specs.inner.LineWriting.{Outlet, outlet, PutsText, PutFrom,
 use Rattle.sat_hints.specs.inner.LinesWritten.{SentAll, SentFront}
 use Rattle.sat_hints.specs.inner.AnnouncedLines.{text_if, announced_text, AnswersIf, PutsAnnouncedLine}
 
--- THE TEXT OF WHAT IS TOLD
+-- THE TEXT OF ANNOUNCEMENTS
 abbrev pub texts : List Notice → List ℕ
 texts [] = []
 texts (t ∷ ts) = announced_text t ++ texts ts
@@ -65,7 +65,7 @@ module _ {W P T : Type 0} (seen : W → Writer) (Takes : P → Notice → Result
   abbrev sink_in : Hearers (LineWriter W) (Processing P T) → Sink
   sink_in a = (outlet seen a.own).sink
 
-  -- heard without a fault
+  -- an announcement that was received without a fault
   one_sent : (t : Notice) (a b : Hearers (LineWriter W) (Processing P T)) → a.own.failed ≡ false → HearsSame Hears a t (Ok tt) b → (b.own.failed ≡ false) × AddsToSink (sink_in a) (sink_in b) (announced_text t)
   one_sent t a b e h = elim h.2 [
     | inl k ↦
@@ -81,7 +81,7 @@ module _ {W P T : Type 0} (seen : W → Writer) (Takes : P → Notice → Result
       let more = all_sent ts h.0 b one.0 h.2 in
       record { well = more.well; sent = sent_more (sink_in a) (sink_in h.0) (sink_in b) (announced_text t) (texts ts) one.1 more.sent }
 
-  -- a fault is a write's, or one of the others'
+  -- that the fault is a failed write, or comes from another listener
   abbrev BreaksOr : ProcessingError → List Notice → Hearers (LineWriter W) (Processing P T) → Hearers (LineWriter W) (Processing P T) → Type 0
   BreaksOr f ts a b = ((cause : Error) × (f ≡ faults.ProofProcessorError cause) × SinkFails (sink_in a) (sink_in b) (texts ts)) ⊎ HearsUpTo (HearsEach Takes Reads) f ts a.others b.others
 
@@ -114,14 +114,14 @@ module _ {W P T : Type 0} (seen : W → Writer) (Takes : P → Notice → Result
     | inr k ↦ absurd (nobody_fails Takes Reads f ts a.others b.others none k)
   ]
 
-  -- SINCE THE BEGINNING
+  -- SINCE THE START
   pub since_sent : (notices : List Notice) (a b : Hearers (LineWriter W) (Processing P T)) → a.own.failed ≡ false → HearsSince Hears [] notices a b → SentAll (outlet seen a.own) (outlet seen b.own) (texts notices)
   since_sent notices a b e h = subst (λ ts. SentAll (outlet seen a.own) (outlet seen b.own) (texts ts)) (sym h.1) (all_sent h.0 a b e h.2)
 
   pub since_broken : (f : ProcessingError) (notices : List Notice) (a b : Hearers (LineWriter W) (Processing P T)) → a.own.failed ≡ false → listeners_of a.others ≡ record { processors = []; transcripts = [] } → HearsSinceUpTo Hears f [] notices a b → (cause : Error) × (f ≡ faults.ProofProcessorError cause) × SinkFails (sink_in a) (sink_in b) (texts notices)
   since_broken f notices a b e none h = subst (λ ts. (cause : Error) × (f ≡ faults.ProofProcessorError cause) × SinkFails (sink_in a) (sink_in b) (texts ts)) (sym h.1) (all_broken f h.0 a b e none h.2)
 
--- all that steps told, or that but for what waits
+-- the text of all announcements, or of all but the pending ones
 pub front_all : (old new : Outlet) (steps : List Step) → SentAll old new (texts (all_notices_after steps)) → SentFront old new (hint_text steps)
 front_all old new steps s = record { front = texts (all_notices_after steps); following = []; whole = hint_texts steps ∙ sym (append-nil (texts (all_notices_after steps))); sent = s }
 

@@ -1,4 +1,4 @@
--- What bytes more leave of a text so far.
+-- The effect of more bytes on a text that was read so far.
 use Rattle.std.proofs.Common.{ℕ, ◌+◌, ◌<◌, ◌≤◌, ◌≡◌, ◌⊎◌, inl, inr, Bool, true, false, eqb, List, [], ◌∷◌, ◌++◌, length, take, drop, get_or, Option, None, Some, refl, sym, ◌∙◌, ap, subst, arith, append_assoc, append-nil}
 use Rattle.std.proofs.lemmas.Bool.{both_ways, eqb-true, eq-eqb}
 use Rattle.std.proofs.lemmas.List.{take-append-drop, take_more, take_all}
@@ -17,16 +17,16 @@ use Rattle.sat_hints.specs.declared.answer.HintVerdict.{HintVerdict}
 use Rattle.sat_hints.specs.declared.answer.HintVerdict.TheVariants.{Bad}
 use Rattle.sat_hints.specs.declared.checking.Checking.{Checking}
 
--- no LF in both
+-- appending bytes without LF
 pub no_end_both : (xs ys : List ℕ) → HasNoEnd xs → HasNoEnd ys → HasNoEnd (xs ++ ys)
 no_end_both [] ys h k = k
 no_end_both (x ∷ xs) ys h k = (h.0, no_end_both xs ys h.1 k)
 
--- the front of a line, and the rest of it
+-- the start of a line, and the rest of it
 pub whole_with : (held bytes : List ℕ) → HasNoEnd held → IsWholeLine bytes → IsWholeLine (held ++ bytes)
 whole_with held bytes h w = record { front = held ++ w.front; inside = no_end_both held w.front h w.inside; ended = ap (λ b. held ++ b) w.ended ∙ sym (append_assoc held w.front (10 ∷ [])) }
 
--- a line's end comes
+-- the end of a line
 module _ (old new : Checking) (bytes : List ℕ) (w : IsWholeLine bytes) where
   line_follows : (text : List ℕ) (r : HasRead old text) (line : Line) → SpellsLine (old.held.items ++ bytes) line → FollowsLines r.lines line → HasTakenLines new.judge (line ∷ r.lines) → new.held.items ≡ [] → LeadsToPlace Letter new.held.items (Some new.place) → HasRead new (text ++ bytes)
   line_follows text r line s f t e fits = record {
@@ -60,13 +60,13 @@ module _ (old new : Checking) (bytes : List ℕ) (w : IsWholeLine bytes) where
   line_goes None text r t e fits = line_follows text r t.0 t.1 t.2 t.3 e fits
   line_goes (Some why) text r t e fits = line_faulty text r why t.0 t.1
 
-  -- that of a line whose front was held
+  -- the start of the line was held
   pub line_ends : (why : Option HintWhy) (all : List ℕ) → all ≡ old.held.items ++ bytes → (IsWholeLine all → (lines : List Line) → HasTakenLines old.judge lines → JudgesLineBytes why old.judge new.judge lines all) → new.held.items ≡ [] → new.place ≡ Letter → ReadsFurther why old bytes new
   line_ends why all a h e at text r =
       let whole : IsWholeLine all = subst IsWholeLine (sym a) (whole_with old.held.items bytes r.inside w) in
       line_goes why text r (subst (JudgesLineBytes why old.judge new.judge r.lines) a (h whole r.lines r.taken)) e (rw (e, at) (λ more h. h))
 
-  -- that of a line of which nothing was held
+  -- nothing of the line was held
   pub line_passes : (why : Option HintWhy) → old.held.items ≡ [] → new.held.items ≡ old.held.items → new.place ≡ old.place → ((lines : List Line) → HasTakenLines old.judge lines → JudgesLineBytes why old.judge new.judge lines bytes) → ReadsFurther why old bytes new
   line_passes why none e at h text r =
       let fits : LeadsToPlace Letter new.held.items (Some new.place) = rw (e, at) r.fits in
@@ -75,7 +75,7 @@ module _ (old new : Checking) (bytes : List ℕ) (w : IsWholeLine bytes) where
 leads_on : (held bytes : List ℕ) (here : Place) (to : Option Place) → LeadsToPlace Letter held (Some here) → LeadsToPlace here bytes to → LeadsToPlace Letter (held ++ bytes) to
 leads_on held bytes here to h k more l = k more (h (bytes ++ more) (subst (IsRestOfLine Letter) (append_assoc held bytes more) l))
 
--- bytes of a line that goes on
+-- more bytes of an unfinished line
 pub held_more : (old new : Checking) (bytes : List ℕ) → HasNoEnd bytes → new.judge ≡ old.judge → new.held.items ≡ old.held.items ++ bytes → LeadsToPlace old.place bytes (Some new.place) → ReadsFurther None old bytes new
 held_more old new bytes h e f leads text r = record {
   lines = r.lines;
@@ -87,7 +87,7 @@ held_more old new bytes h e f leads text r = record {
   taken = subst (λ j. HasTakenLines j r.lines) (sym e) r.taken;
 }
 
--- what comes up to the next LF, if there is one
+-- the bytes up to the next LF, if there is one
 record Cut (all : List ℕ) : Type 0 where
   bytes : List ℕ
   rest : List ℕ
@@ -106,7 +106,7 @@ cut (b ∷ all) = go (eqb b 10) refl (cut all)
     go true e c = record { bytes = b ∷ []; rest = all; whole = refl; ends = inr (record { front = []; inside = tt; ended = ap (λ b. b ∷ []) (eqb-true b 10 e) }) }
     go false e c = record { bytes = b ∷ c.bytes; rest = c.rest; whole = ap (λ x. b ∷ x) c.whole; ends = longer c.bytes c.rest (λ f. both_ways (eqb b 10) e (eq-eqb b 10 f)) c.ends }
 
--- a front that no line has is at fault, whatever follows
+-- a prefix with which no line begins is a fault, whatever follows
 module _ (front : List ℕ) (inside : HasNoEnd front) (never : LeadsToPlace Letter front None) where
   some_front : front ≡ [] → ⊥
   some_front e = never (line_text (Gone 0)) (rw e (Gone 0, ((omega arith, tt), refl)))
@@ -143,11 +143,11 @@ held_faulty old bytes h leads text r = record {
       (front_faulty (old.held.items ++ bytes) (no_end_both old.held.items bytes r.inside h) (leads_on old.held.items bytes old.place None r.fits leads) r.lines rest r.are r.derivation);
 }
 
--- bytes, and then more
+-- bytes, and then more bytes
 pub reads_more : (why : Option HintWhy) (a b c : Checking) (xs ys : List ℕ) → ReadsFurther None a xs b → ReadsFurther why b ys c → ReadsFurther why a (xs ++ ys) c
 reads_more why a b c xs ys h k text r = subst (HasReadOrFault why c) (append_assoc text xs ys) (k (text ++ xs) (h text r))
 
--- and bytes that aren't looked at any more
+-- bytes after a fault, which are ignored
 pub reads_after : (why : HintWhy) (a b : Checking) (xs ys : List ℕ) → ReadsFurther (Some why) a xs b → ReadsFurther (Some why) a (xs ++ ys) b
 reads_after why a b xs ys h text r =
     let f = h text r in
@@ -160,7 +160,7 @@ reads_after why a b xs ys h text r =
 pub reads_none : (c : Checking) → ReadsFurther None c [] c
 reads_none c text r = subst (HasRead c) (sym (append-nil text)) r
 
--- each line has its LF
+-- every line has its LF
 no_end_second : (xs ys : List ℕ) → HasNoEnd (xs ++ ys) → HasNoEnd ys
 no_end_second [] ys h = h
 no_end_second (x ∷ xs) ys h = no_end_second xs ys h.1
@@ -189,7 +189,7 @@ ends_badly c text v is some r = subst (λ v. Judges v text) (sym (is (length r.l
   number = refl;
 })
 
--- a verdict on a fault
+-- the verdict on a fault
 pub says_fault : (c : Checking) (text : List ℕ) (why : HintWhy) (v : HintVerdict) → ((count : ℕ) → c.judge.lines ≡ held count → v ≡ Bad (held (count + 1)) why) → HasFault c text why → (rest : List ℕ) → Judges v (text ++ rest)
 says_fault c text why v is f rest = subst (λ v. Judges v (text ++ rest)) (sym (is f.count f.number)) (f.bad rest)
 
@@ -202,6 +202,6 @@ line_at bytes i h e k = record { front = take i bytes; inside = k; ended = take_
 pub no_line : (bytes : List ℕ) (i : ℕ) → length bytes ≤ i → HasNoEnd (take i bytes) → HasNoEnd bytes
 no_line bytes i h k = subst HasNoEnd (take_all i bytes h) k
 
--- a line is taken off the front of a piece
+-- a line is split off the start of a piece
 pub split_off : (piece front rest line following : List ℕ) (end : ℕ) → piece ≡ front ++ rest → line ≡ take end rest → following ≡ drop end rest → piece ≡ (front ++ line) ++ following
 split_off piece front rest line following end e f g = rw (f, g) (e ∙ ap (λ x. front ++ x) (sym (take-append-drop end rest)) ∙ sym (append_assoc front (take end rest) (drop end rest)))

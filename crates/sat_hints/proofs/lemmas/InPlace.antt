@@ -1,4 +1,4 @@
--- Lines at the front of a piece.
+-- Lines at the start of a piece.
 use Rattle.std.proofs.Common.{ℕ, ◌+◌, ◌<◌, ◌≡◌, Bool, true, false, Option, None, Some, Result, Ok, Err, IfOk, List, [], ◌∷◌, ◌++◌, take, drop, refl, sym, ◌∙◌, ap, subst, arith, append_assoc, append-nil}
 use Rattle.std.proofs.lemmas.List.{take-append-drop}
 use Rattle.std.proofs.lemmas.Str.Parse.{digit_from_value}
@@ -62,7 +62,7 @@ line_is_whole (Gone id) p = after_letter 120 _ (omega arith) (ids_whole (id ∷ 
 line_is_whole (Core ls ids) p = after_letter 102 _ (omega arith) (both_whole ls ids p.0 p.1)
 line_is_whole (Fresh v) p = after_letter 101 _ (omega arith) (ids_whole (v ∷ []) (48 ∷ 10 ∷ []) (let k = p.0 in (omega arith, tt)) end_whole)
 
--- what begins with it and has one LF, at its end, is it
+-- if bytes whose only LF is the last byte begin with a line, they are that line
 only_front : (front xs rest : List ℕ) → HasNoEnd front → (HasNoEnd xs → ⊥) → front ++ (10 ∷ []) ≡ xs ++ rest → rest ≡ []
 only_front front [] rest h never e = absurd (never tt)
 only_front [] (x ∷ []) rest h never e = let r : rest ≡ [] = cc in r
@@ -80,7 +80,7 @@ spells_whole bytes rest line w r =
 pub no_line_whole : (bytes : List ℕ) → BeginsWithNoLine bytes → (line : Line) → SpellsLine bytes line → ⊥
 no_line_whole bytes none line s = none line [] (s.0, s.1 ∙ sym (append-nil (line_text line)))
 
--- JUDGED
+-- VERDICTS ON LINES
 at_fault : (why : HintWhy) (lines : List Line) (bytes : List ℕ) (line : Line) → SpellsLine bytes line → IsFaultOf lines line why → IsAtFault lines bytes why
 at_fault Syntax lines bytes line s f = absurd f
 at_fault e lines bytes line s f = (line, s, f)
@@ -98,24 +98,24 @@ pub reads_line : (why : Option HintWhy) (old new : Checking) (bytes rest : List 
 reads_line why old new bytes rest line none e at r t = line_passes old new (line_text line) (line_is_whole line r.0) why none e at (λ lines taken. judged why old.judge new.judge lines (line_text line) line (r.0, refl) (t lines taken))
 
 -- PIECES
--- a line is taken off the front of a piece
+-- a line is split off the start of a piece
 pub line_off : (piece front bytes text rest : List ℕ) → piece ≡ front ++ bytes → bytes ≡ text ++ rest → piece ≡ (front ++ text) ++ rest
 line_off piece front bytes text rest e f = e ∙ ap (λ x. front ++ x) f ∙ sym (append_assoc front text rest)
 
--- what was read, and then a part of it at fault
+-- bytes without a fault, and then a line at fault
 pub reads_fault : (why : HintWhy) (a b c : Checking) (all xs ys rest : List ℕ) → all ≡ (xs ++ ys) ++ rest → ReadsFurther None a xs b → ReadsFurther (Some why) b ys c → ReadsFurther (Some why) a all c
 reads_fault why a b c all xs ys rest e h k = subst (λ t. ReadsFurther (Some why) a t c) (sym e) (reads_after why a c (xs ++ ys) rest (reads_more (Some why) a b c xs ys h k))
 
--- and then all that is left
+-- bytes without a fault, and then the rest
 pub reads_then : {E : Type 0} (r : Result (Option HintWhy) E) (a b c : Checking) (all xs ys : List ℕ) → all ≡ xs ++ ys → ReadsFurther None a xs b → IfOk r (λ why. ReadsFurther why b ys c) → IfOk r (λ why. ReadsFurther why a all c)
 reads_then (Ok why) a b c all xs ys e h k = subst (λ t. ReadsFurther why a t c) (sym e) (reads_more why a b c xs ys h k)
 reads_then (Err x) a b c all xs ys e h k = tt
 
--- and then nothing
+-- bytes without a fault, and then nothing
 pub reads_still : (a b c : Checking) (xs : List ℕ) → ReadsFurther None a xs b → c.judge ≡ b.judge → c.held.items ≡ b.held.items → c.place ≡ b.place → ReadsFurther None a xs c
 reads_still a b c xs h j e p = subst (λ t. ReadsFurther None a t c) (append-nil xs) (reads_more None a b c xs [] h (held_more b c [] tt j (e ∙ sym (append-nil b.held.items)) (rw p (λ more k. k))))
 
--- an LF where no line begins
+-- a line that ends with LF and is no hint line
 pub bad_line : (c : Checking) (bytes : List ℕ) (end : ℕ) → c.held.items ≡ [] → BeginsWithNoLine bytes → IsWholeLine (take end bytes) → ReadsFurther (Some Syntax) c bytes c
 bad_line c bytes end empty none w =
     let whole : take end bytes ++ drop end bytes ≡ bytes = take-append-drop end bytes in

@@ -4,11 +4,11 @@ use Rattle.std.specs.Fmt.{digits}
 use Rattle.sat_hints.specs.Lines.{spaced_words}
 use Rattle.sat_hints.proofs.lemmas.Putting.{no_word}
 
--- one more
+-- one more item was written
 pub item_more : (left part more front now whole : List ℕ) → left ≡ part ++ more → front ++ left ≡ whole → now ≡ front ++ part → now ++ more ≡ whole
 item_more left part more front now whole l e n = ap (λ t. t ++ more) n ∙ append_assoc front part more ∙ ap (λ t. front ++ t) (sym l) ∙ e
 
--- and none
+-- all items were written
 pub items_all : (word : ℕ → List ℕ) (xs : List ℕ) (i : ℕ) (front whole : List ℕ) → length xs ≤ i → front ++ spaced_words word (drop i xs) ≡ whole → front ≡ whole
 items_all word xs i front whole h e = sym (append-nil front) ∙ ap (λ t. front ++ t) (sym (no_word word xs i h)) ∙ e
 

@@ -1,4 +1,4 @@
--- Clauses by ids that rise.
+-- Clauses under increasing ids.
 use Rattle.std.proofs.Common.{ℕ, zero, suc, ◌+◌, ◌<◌, ◌≤◌, ◌≡◌, Bool, true, false, cond, eqb, List, [], ◌∷◌, ◌++◌, length, take, get_or, set, None, Some, Ok, Err, refl, sym, ◌∙◌, ap, subst, arith, inl, inr}
 use Rattle.std.proofs.lemmas.Bool.{eqb-true, eq-eqb, cases_eq, cases_lt}
 use Rattle.std.proofs.lemmas.List.{get_or-take, length-set, length-take-le, take_more, take_all}
@@ -10,7 +10,7 @@ use Rattle.sat_checker.specs.SortedSets.{IsIncreasing}
 use Rattle.sat_hints.specs.inner.Clauses.{FindsPresentClause, listed_clause, clause_in, present_clause_at, times_long, times_kept, occurrences_of, AllBelow, IsStore, AddsPresentClause, Loses, SamePresentClauses}
 use Rattle.sat_hints.proofs.lemmas.Counting.{times-snoc, times-gone, times-more, times_whole, set_at, sets-snoc}
 
--- two numbers that differ
+-- different numbers
 pub apart : (x y : ℕ) → (x ≡ y → ⊥) → eqb x y ≡ false
 apart x y never = go (eqb x y) refl
   where
@@ -21,7 +21,7 @@ apart x y never = go (eqb x y) refl
 below_tail : (x : ℕ) (xs : List ℕ) (k : ℕ) → AllBelow (x ∷ xs) k → AllBelow xs k
 below_tail x xs k h = λ i l. h (suc i) (omega arith)
 
--- one more after lists of one length
+-- one more id, clause and flag at the end
 pub listed-snoc : (id i : ℕ) (c : List ℕ) (g : Bool) (ids : List ℕ) (cs : List (List ℕ)) (gs : List Bool) → length cs ≡ length ids → length gs ≡ length ids → AllBelow ids i
     → listed_clause id (ids ++ (i ∷ [])) (cs ++ (c ∷ [])) (gs ++ (g ∷ [])) ≡ cond (eqb id i) (cond g None (Some c)) (listed_clause id ids cs gs)
 listed-snoc id i c g [] [] [] p q h = refl
@@ -40,7 +40,7 @@ listed-snoc id i c g (x ∷ ids) (d ∷ cs) (b ∷ gs) p q h = go (eqb id x) ref
         rw n refl
     go false e ih = ih
 
--- an id that is not among them
+-- an id that is not in the list
 pub listed-none : (id : ℕ) (ids : List ℕ) (cs : List (List ℕ)) (gs : List Bool) → ((i : ℕ) → i < length ids → get_or ids i 0 ≡ id → ⊥) → listed_clause id ids cs gs ≡ None
 listed-none id [] cs gs h = refl
 listed-none id (x ∷ ids) [] gs h = refl
@@ -49,14 +49,14 @@ listed-none id (x ∷ ids) (c ∷ cs) (g ∷ gs) h =
     let n : eqb id x ≡ false = apart id x (λ e. h 0 (omega arith) (sym e)) in
     rw n (listed-none id ids cs gs (λ i l e. h (suc i) (omega arith) e))
 
--- each before the others
+-- that the ids increase
 abbrev pub Rises : List ℕ → Type 0
 Rises ids = (i j : ℕ) → i < j → j < length ids → get_or ids i 0 < get_or ids j 0
 
 rises_tail : (x : ℕ) (xs : List ℕ) → Rises (x ∷ xs) → Rises xs
 rises_tail x xs h = λ i j l m. h (suc i) (suc j) (omega arith) (omega arith)
 
--- the one at a place
+-- the clause under the id at an index
 pub listed-at : (place : ℕ) (ids : List ℕ) (cs : List (List ℕ)) (gs : List Bool) → length cs ≡ length ids → length gs ≡ length ids → Rises ids → place < length ids
     → listed_clause (get_or ids place 0) ids cs gs ≡ cond (get_or gs place false) None (Some (get_or cs place []))
 listed-at place [] cs gs p q r l = absurd (omega arith)
@@ -68,7 +68,7 @@ listed-at (suc n) (x ∷ ids) (c ∷ cs) (g ∷ gs) p q r l =
     let e : eqb (get_or ids n 0) x ≡ false = apart (get_or ids n 0) x (λ f. omega arith) in
     rw e (listed-at n ids cs gs (omega arith) (omega arith) (rises_tail x ids r) (omega arith))
 
--- it is gone
+-- the clause at an index is removed
 pub listed-gone : (id place : ℕ) (ids : List ℕ) (cs : List (List ℕ)) (gs : List Bool) → length cs ≡ length ids → length gs ≡ length ids → Rises ids → place < length ids
     → listed_clause id ids cs (set gs place true) ≡ cond (eqb id (get_or ids place 0)) None (listed_clause id ids cs gs)
 listed-gone id place [] cs gs p q r l = absurd (omega arith)
@@ -90,7 +90,7 @@ listed-gone id (suc n) (x ∷ ids) (c ∷ cs) (g ∷ gs) p q r l = go (eqb id x)
         rw f refl
     go false e ih = ih
 
--- ids that rise, and one above all
+-- increasing ids, and one above all of them
 below-snoc : (xs : List ℕ) (x k : ℕ) → AllBelow xs x → x < k → AllBelow (xs ++ (x ∷ [])) k
 below-snoc [] x k h l = λ i m. elim i as (λ i. i < 1 → get_or (x ∷ []) i 0 < k) [ zero ↦ λ _. l | suc j ↦ λ n. absurd (omega arith) ] m
 below-snoc (y ∷ ys) x k h l =
@@ -135,14 +135,14 @@ adds old new id clause s h k i g c = record {
   longer = rw i (length-snoc old.ids.items id);
 }
 
--- what a search for an id finds
+-- the result of a search for an id
 pub in_order : (xs : List ℕ) → Rises xs → (i j : ℕ) → i ≤ j → j < length xs → get_or xs i 0 ≤ get_or xs j 0
 in_order xs r i j h l = elim (cases_eq i j) [
   | inl e ↦ rw e (omega arith)
   | inr n ↦ let k : i < j = omega arith in let m = r i j k l in omega arith
 ]
 
--- another default is as good within the list
+-- within the list, the default does not matter
 pub same_default : {A : Type 0} (xs : List A) (i : ℕ) (d e : A) → i < length xs → get_or xs i d ≡ get_or xs i e
 same_default [] i d e h = absurd (omega arith)
 same_default (x ∷ xs) zero d e h = refl
@@ -176,7 +176,7 @@ module _ (p : Present) (s : IsStore p) (id : ℕ) (xs : List ℕ) (is : xs ≡ p
         | inr b ↦ let k = high i b l in omega arith
       ])
 
--- a clause is taken out
+-- a clause is removed
 pub loses : (old new : Present) (place : ℕ) → IsStore old → place < length old.clauses → new.ids.items ≡ old.ids.items → new.gone.items ≡ set old.gone.items place true → new.clauses ≡ old.clauses → Loses old new (get_or old.ids.items place 0)
 loses old new place s l i g c =
     let within : place < length old.ids.items = subst (λ n. place < n) s.clauses l in
@@ -201,7 +201,7 @@ loses old new place s l i g c =
 pub loses_further : (old mid new : Present) (id : ℕ) → Loses old mid id → SamePresentClauses mid new → Loses old new id
 loses_further old mid new id l k = record { store = k.store; below = λ b h. k.below b (l.below b h); clauses = λ j. k.clauses j ∙ l.clauses j; times = λ c e m. ap (λ n. n + times_long m c) (k.times m) ∙ l.times c e m }
 
--- the first clauses are kept, but for those that are gone
+-- that `kept` has the first `count` clauses, except for removed ones
 pub record KeepsFirst (p : Present) (count : ℕ) (kept : Present) : Type 0 where
   pub store : IsStore kept
   pub below : (k : ℕ) → AllBelow (take count p.ids.items) k → AllBelow kept.ids.items k
@@ -224,7 +224,7 @@ module _ (p : Present) (s : IsStore p) (i : ℕ) (inside : i < length p.ids.item
   lengths : (A : Type 0) (xs : List A) → length xs ≡ length p.ids.items → length (take i xs) ≡ length (take i p.ids.items)
   lengths A xs e = length-take-le i xs (omega arith) ∙ sym (length-take-le i p.ids.items (omega arith))
 
-  -- what is listed with one more
+  -- the clauses with one more
   listed_more : (id : ℕ) → listed_clause id (take (i + 1) p.ids.items) (take (i + 1) p.clauses) (take (i + 1) p.gone.items)
       ≡ cond (eqb id (get_or p.ids.items i 0)) (cond (get_or p.gone.items i false) None (Some (get_or p.clauses i []))) (listed_clause id (take i p.ids.items) (take i p.clauses) (take i p.gone.items))
   listed_more id =
@@ -285,7 +285,7 @@ keeps_all p kept i s h k =
     let c : take i p.gone.items ≡ p.gone.items = take_all i p.gone.items (subst (λ n. n ≤ i) (sym s.gone) h) in
     record { store = k.store; below = subst (λ xs. (b : ℕ) → AllBelow xs b → AllBelow kept.ids.items b) a k.below; clauses = λ id. k.clauses id ∙ rw (a, b, c) refl; times = λ l. k.times l ∙ times_whole l p.clauses p.gone.items i (s.gone ∙ sym s.clauses) (subst (λ n. n ≤ i) (sym s.clauses) h) }
 
--- a clause under an id stands at a place
+-- that the clause under an id is at some index
 pub record IsStoredAt (id : ℕ) (c : List ℕ) (ids : List ℕ) (cs : List (List ℕ)) (gs : List Bool) : Type 0 where
   pub place : ℕ
   pub within : place < length cs

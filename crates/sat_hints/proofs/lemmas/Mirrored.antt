@@ -1,4 +1,4 @@
--- What the checker stores, and what is present after the lines of what it announced.
+-- What the checker stores, and what is present after the lines that it announced.
 use Rattle.std.proofs.Common.{ℕ, ◌+◌, ◌<◌, ◌≤◌, ◌≡◌, ◌⊎◌, inl, inr, Bool, true, false, ◌||◌, cond, eqb, is_some, List, [], ◌∷◌, ◌++◌, map, Option, None, Some, refl, sym, ◌∙◌, ap, subst, arith}
 use Rattle.std.proofs.lemmas.Bool.{eqb-true, eq-eqb, ne_eqb, true≢false}
 use Rattle.std.specs.List.{AllByRecursion}
@@ -15,7 +15,7 @@ use Rattle.sat_hints.specs.Conversion.{announced_line, with_line, announced_line
 use Rattle.sat_hints.proofs.lemmas.Sound.{still}
 
 -- LINES OF ANNOUNCEMENTS
--- after earlier ones
+-- after earlier lines
 abbrev pub lines_by : List Announcement → List Line → List Line
 lines_by [] earlier = earlier
 lines_by (a ∷ more) earlier = lines_by more (with_line (announced_line a) earlier)
@@ -56,7 +56,8 @@ pub record HasAccepted (id : ℕ) (c : List ℕ) (cs : List StoredClause) : Type
   pub id_is : clause.id ≡ id
   pub literals_are : clause.literals ≡ c
 
--- The lines are a derivation. What is stored is present, and of clauses of two literals or more nothing else is.
+-- That the lines are a derivation, and what is stored is present. A clause of two or more literals is present only if
+-- it is stored.
 pub record Mirrors (f : Stored) (lines : List Line) : Type 0 where
   pub derivation : IsHintDerivation lines
   pub clauses : AllByRecursion (λ c. IsUnder lines c.id c.literals) f.clauses
@@ -65,7 +66,7 @@ pub record Mirrors (f : Stored) (lines : List Line) : Type 0 where
   pub least : least_id lines ≤ f.next_id
   pub conflict : (ids : ℕ × ℕ) → f.conflict ≡ Some ids → (l : ℕ) × IsUnder lines ids.0 (l ∷ []) × IsUnder lines ids.1 (negated l ∷ [])
 
--- other fields don't matter
+-- other fields do not matter
 pub aside : (f g : Stored) (lines : List Line) → g.clauses ≡ f.clauses → g.units ≡ f.units → g.conflict ≡ f.conflict → f.next_id ≤ g.next_id → Mirrors f lines → Mirrors g lines
 aside f g lines c u k n m = record {
   derivation = m.derivation;
@@ -76,7 +77,7 @@ aside f g lines c u k n m = record {
   conflict = λ ids e. m.conflict ids (sym k ∙ e);
 }
 
--- ids that are present are below the next
+-- every id that is present is below the least next id
 pub under_below : (lines : List Line) → IsHintDerivation lines → (id : ℕ) (c : List ℕ) → IsUnder lines id c → id < least_id lines
 under_below [] d id c e = absurd cc
 under_below (Input i ls ∷ lines) d id c e = go (eqb id i) refl (under_below lines d.0 id c) e
@@ -97,7 +98,7 @@ under_below (Gone i ∷ lines) d id c e = go (eqb id i) (under_below lines d.0 i
 under_below (Core ls ids ∷ lines) d id c e = under_below lines d.0 id c e
 under_below (Fresh v ∷ lines) d id c e = under_below lines d.0 id c (still v (clause_under id lines) c e).0
 
--- A CLAUSE COMES
+-- A NEW CLAUSE
 pub record NewLine (line : Line) (n : ℕ) (set : List ℕ) (lines : List Line) : Type 0 where
   pub follows : FollowsLines lines line
   pub before : least_id lines ≤ n
@@ -112,7 +113,7 @@ new_input n set lines c l = record {
   least = refl;
 }
 
--- a set of literals that isn't stored has no place
+-- a literal that is not stored as a unit is in no stored unit
 unit_absent : (l : ℕ) (us : List StoredUnit) → unit_id l us ≡ None → is_among (map (λ u. u.literal) us) l ≡ false
 unit_absent l [] e = refl
 unit_absent l (u ∷ us) e = go (unit_absent l us) (eqb u.literal l) e
@@ -129,7 +130,7 @@ unit_there l id (u ∷ us) e = go (unit_there l id us) (eqb u.literal l) e
     go ih true k = refl
     go ih false k = ih k
 
--- the unit of an id
+-- the unit under an id
 unit_under : (lines : List Line) (l id : ℕ) (us : List StoredUnit) → unit_id l us ≡ Some id → AllByRecursion (λ u. IsUnder lines u.id (u.literal ∷ [])) us → IsUnder lines id (l ∷ [])
 unit_under lines l id [] e h = absurd cc
 unit_under lines l id (u ∷ us) e h = go (λ k. unit_under lines l id us k h.1) (eqb u.literal l) refl e
@@ -144,7 +145,7 @@ clause_absent : (x : Option StoredClause) → id_of x ≡ None → x ≡ None
 clause_absent None e = refl
 clause_absent (Some c) e = absurd cc
 
--- a clause of two literals or more comes in after the others, or one count more
+-- a clause of two or more literals is added at the end, or gets one more count
 stands_more : (r : Bool) (n : ℕ) (ls : List ℕ) (id : ℕ) (d : List ℕ) (cs : List StoredClause) → (s : StoredClause) → IsOneOf s cs → s.id ≡ id → s.literals ≡ d → HasAccepted id d (with_stored_clause r n ls cs)
 stands_more r n ls id d [] s h i e = absurd h
 stands_more r n ls id d (c ∷ cs) s h i e = elim h [
@@ -179,7 +180,7 @@ module _ (lines : List Line) where
   counted_under true c h = h
   counted_under false c h = h
 
-  -- with one more, which is under its id if it's new
+  -- one more clause, which is under its id if it is new
   under_with : (r : Bool) (n : ℕ) (ls : List ℕ) (cs : List StoredClause) → (clause_with ls cs ≡ None → IsUnder lines n ls) → AreUnder cs → AreUnder (with_stored_clause r n ls cs)
   under_with true n ls [] new h = (new refl, tt)
   under_with false n ls [] new h = (new refl, tt)
@@ -189,7 +190,7 @@ module _ (lines : List Line) where
       go ih true k = (counted_under r c h.0, h.1)
       go ih false k = (h.0, ih k)
 
--- a set that is stored by now changes nothing of what is present
+-- storing a clause again does not change what is present
 long_same : (r : Bool) (ls : List ℕ) (f : Stored) (lines : List Line) (id : ℕ) → id_of (clause_with ls f.clauses) ≡ Some id → Mirrors f lines → Mirrors (with_long r ls f) lines
 long_same r ls f lines id e m = record {
   derivation = m.derivation;
@@ -209,7 +210,7 @@ set_same r [] f lines id e m = absurd cc
 set_same r (l ∷ []) f lines id e m = subst (λ b. Mirrors (cond b f (cond (is_unit f (negated l)) (with_contradiction l f) (with_new_unit l f))) lines) (sym (unit_there l id f.units e)) m
 set_same r (l ∷ k ∷ ls) f lines id e m = long_same r (l ∷ k ∷ ls) f lines id e m
 
--- one that isn't comes with its line
+-- a new clause has its own line
 module _ (line : Line) (set : List ℕ) (f : Stored) (lines : List Line) (new : NewLine line f.next_id set lines) (m : Mirrors f lines) where
   kept : (id : ℕ) (c : List ℕ) → IsUnder lines id c → IsUnder (line ∷ lines) id c
   kept id c e =
@@ -245,7 +246,7 @@ module _ (line : Line) (set : List ℕ) (f : Stored) (lines : List Line) (new : 
   least_kept : least_id (line ∷ lines) ≤ f.next_id + 1
   least_kept = let l = new.least in omega (arith, l)
 
-  -- an empty set, or one that no field but the next id and `unsat` tells of
+  -- a new clause of fewer than two literals, if only the next id and `unsat` change
   pub empty_new : is_long set ≡ false → (g : Stored) → g.clauses ≡ f.clauses → g.units ≡ f.units → g.conflict ≡ f.conflict → g.next_id ≡ f.next_id + 1 → Mirrors g (line ∷ lines)
   empty_new short g c u k n = record {
     derivation = (m.derivation, new.follows);

@@ -1,4 +1,4 @@
--- Two verdicts on a text are one.
+-- Two verdicts on a text are equal.
 use Rattle.std.proofs.Common.{ℕ, ◌+◌, ◌≡◌, Bool, List, [], ◌∷◌, ◌++◌, length, Option, None, Some, refl, sym, ◌∙◌, ap, subst, inl, inr, append-nil}
 use Rattle.sat_base.specs.text.Text.{lines}
 use Rattle.sat_base.specs.text.Tokenizing.{held}
@@ -12,7 +12,7 @@ use Rattle.sat_hints.specs.declared.answer.HintWhy.TheVariants.{Syntax, IdOrder,
 use Rattle.sat_hints.proofs.lemmas.Unused.{uses_in_order, uses_none, uses_nothing}
 use Rattle.sat_hints.proofs.lemmas.OneVerdict.{same_unit, one_line, texts_in, texts_in-cons, lines_of_text, lines_none, later_than, bad_lines, derivation_has_none, proved_is_not_bad}
 
--- ONE REASON
+-- EQUAL REASONS
 fails_once : (cs : List (List ℕ)) (assumed : List ℕ) → SomeIsNotUnit assumed cs → LastIsNotFalsified assumed cs → ⊥
 fails_once [] assumed s t = s
 fails_once (c ∷ []) assumed s t = s
@@ -71,7 +71,7 @@ module _ (earlier : List Line) (line : Line) where
   one_reason VarInUse NotFalsified h g = absurd (unused_tries h g)
   one_reason VarInUse VarInUse h g = refl
 
--- the reason of bytes: they are no line, or they are one and it is at fault
+-- the reason of a fault: the bytes are not a line, or they are a line at fault
 data Reason (earlier : List Line) (bytes : List ℕ) (w : HintWhy) : Type 0 where
   no_line : w ≡ Syntax → ((line : Line) → SpellsLine bytes line → ⊥) → Reason earlier bytes w
   a_line : (line : Line) → SpellsLine bytes line → IsFaultOf earlier line w → Reason earlier bytes w
@@ -87,8 +87,8 @@ one_why earlier bytes w v (a_line l s h) (no_line f g) = absurd (g l s)
 one_why earlier bytes w v (a_line k s h) (a_line l t g) =
     one_reason earlier l w v (subst (λ x. IsFaultOf earlier x w) (one_line k l s.0 t.0 (sym s.1 ∙ t.1)) h) g
 
--- ONE PLACE
--- two texts stand in a list, after fronts: at the same place, or one in the other's front
+-- EQUAL POSITIONS
+-- that two texts are at the same position of a list, or one is in the prefix before the other
 data Beside (xs ys : List (List ℕ)) (x y : List ℕ) : Type 0 where
   same : xs ≡ ys → x ≡ y → Beside xs ys x y
   sooner : (following : List (List ℕ)) → ys ≡ xs ++ (x ∷ following) → Beside xs ys x y
@@ -116,13 +116,13 @@ no_texts : (ls : List Line) → texts_in ls ≡ [] → ls ≡ []
 no_texts [] e = refl
 no_texts (l ∷ ls) e = absurd (ends_in (texts_in ls) _ (sym (texts_in-cons l ls) ∙ e))
 
--- lines with the same texts are the same
+-- lines with the same texts are equal
 same_lines : (ks ls : List Line) → AreLines ks → AreLines ls → texts_in ks ≡ texts_in ls → ls ≡ ks
 same_lines ks ls p q e =
     let a = later_than ks ls [] p q (sym e ∙ sym (append-nil (texts_in ks))) in
     a.are ∙ ap (λ x. x ++ ks) (no_texts a.later a.others)
 
--- two lines at fault are one
+-- that two lines at fault have the same number and the same reason
 record SameBad (k l : ℕ) (w v : HintWhy) : Type 0 where
   number : k ≡ l
   why : w ≡ v
@@ -145,7 +145,7 @@ module _ (text : List ℕ) (k l : ℕ) (w v : HintWhy) (p : IsBadAt text k w) (q
       let d = bad_lines q.earlier q.bytes q.rest q.are q.first in
       at_one_place (beside (texts_in p.earlier) (texts_in q.earlier) p.bytes q.bytes b.0 d.0 (sym b.1 ∙ ap lines (sym p.whole ∙ q.whole) ∙ d.1))
 
--- ONE PROOF
+-- EQUAL PROOFS
 texts_of : (text : List ℕ) (ls : List Line) → AreLines ls → text ≡ text_of ls → lines text ≡ texts_in ls
 texts_of text ls p e =
     ap lines (e ∙ sym (append-nil (text_of ls))) ∙ lines_of_text ls [] p ∙ ap (λ x. texts_in ls ++ x) lines_none ∙ append-nil (texts_in ls)

@@ -1,4 +1,4 @@
--- A text has one verdict.
+-- A text has at most one verdict.
 use Rattle.std.proofs.Common.{ℕ, ◌+◌, ◌^◌, ◌<◌, ◌≡◌, Bool, true, false, cond, eqb, nat_eq, List, [], ◌∷◌, ◌++◌, decimal, Option, None, Some, refl, sym, ◌∙◌, ap, subst, arith, ◌⊎◌, inl, inr, append_assoc, append-nil}
 use Rattle.std.proofs.lemmas.Bool.{or_cases, eqb-true, true≢false, both_ways}
 use Rattle.std.proofs.lemmas.Str.Parse.{digit_from_value}
@@ -20,7 +20,7 @@ use Rattle.sat_hints.proofs.lemmas.Digits.{are_digits}
 use Rattle.sat_hints.proofs.lemmas.Words.{at_space, same_words, ids_are_words, literals_are_words}
 use Rattle.sat_hints.proofs.lemmas.Holding.{no_end_both}
 
--- HOW CLAUSES RUN, IN ONE WAY
+-- CLAUSES GIVE ONE RESULT
 all_at : (P : ℕ → Type 0) (ls : List ℕ) (l : ℕ) → AllByRecursion P ls → is_among ls l ≡ true → P l
 all_at P [] l h m = absurd (true≢false (sym m))
 all_at P (x ∷ xs) l h m = elim (or_cases (eqb x l) (is_among xs l) m) [ inl e ↦ subst P (eqb-true x l e) h.0 | inr k ↦ all_at P xs l h.1 k ]
@@ -44,7 +44,7 @@ turn_not_last [] assumed t s = t
 turn_not_last (c ∷ []) assumed t s = s t
 turn_not_last (c ∷ d ∷ ds) assumed t s = turn_not_last (d ∷ ds) (t.0 ∷ assumed) t.2 (subst (λ l. LastIsNotFalsified (l ∷ assumed) (d ∷ ds)) (same_unit assumed c t.0 s.0 t.1 s.1) s.2)
 
--- the conflict of a line that follows, and one that fails
+-- a line that follows the earlier ones is at no fault
 module _ (earlier : List Line) (line : Line) (f : FollowsLines earlier line) where
   conflict_at : (assumed : List ℕ) (clauses : List (List ℕ)) → assumed_by line ≡ Some assumed → clauses_under (named_ids line) earlier ≡ Some clauses → is_tautology assumed ≡ false → UnitInTurn assumed clauses
   conflict_at assumed clauses a p t = go (assumed_by line) a f.conflict
@@ -136,7 +136,7 @@ one_line (Fresh v) (Derived j ks js) p q e = other_kind 101 100 _ _ (λ f. omega
 one_line (Fresh v) (Gone j) p q e = other_kind 101 120 _ _ (λ f. omega arith) e
 one_line (Fresh v) (Core ks js) p q e = other_kind 101 102 _ _ (λ f. omega arith) e
 
--- A TEXT'S LINES
+-- THE LINES OF A TEXT
 digits_no_end : (ds : List ℕ) → AllDigits 10 ds → HasNoEnd ds
 digits_no_end [] d = tt
 digits_no_end (c ∷ cs) d = ((λ e. let r = digit_from_value c d.0 in omega arith), digits_no_end cs d.1)
@@ -161,7 +161,7 @@ zero_no_end = ((λ e. omega arith), tt)
 space_no_end : HasNoEnd (48 ∷ 32 ∷ [])
 space_no_end = ((λ e. omega arith), ((λ e. omega arith), tt))
 
--- so each line is a whole one
+-- so every line is complete
 record Ended (bytes : List ℕ) : Type 0 where
   front : List ℕ
   inside : HasNoEnd front
@@ -215,7 +215,7 @@ pub lines_none : lines [] ≡ []
 unfolding lines
 lines_none = refl
 
--- the texts of lines, the oldest first
+-- the texts of lines, oldest first
 pub texts_in : List Line → List (List ℕ)
 texts_in [] = []
 texts_in (l ∷ ls) = texts_in ls ++ (line_text l ∷ [])
@@ -234,7 +234,7 @@ lines_of_text (l ∷ ls) more h =
     ap lines (append_assoc (text_of ls) (line_text l) more) ∙ lines_of_text ls (line_text l ++ more) h.1 ∙ ap (λ t. texts_in ls ++ t) (split_ended (line_text l) more (line_ended l h.0))
     ∙ sym (append_assoc (texts_in ls) (line_text l ∷ []) (lines more)) ∙ ap (λ t. t ++ lines more) (sym (texts_in-cons l ls))
 
--- the first of several texts is that of the oldest line
+-- that the first of several texts is that of the oldest line
 record Oldest (ls : List Line) (t : List ℕ) (more : List (List ℕ)) : Type 0 where
   later : List Line
   line : Line
@@ -266,7 +266,7 @@ all_second : (P : Line → Type 0) (xs ys : List Line) → AllByRecursion P (xs 
 all_second P [] ys h = h
 all_second P (x ∷ xs) ys h = all_second P xs ys h.1
 
--- lines whose texts begin with those of others are these, and later ones
+-- that all lines are the earlier ones and some later ones
 pub record Later (all earlier : List Line) (more : List (List ℕ)) : Type 0 where
   pub later : List Line
   pub are : all ≡ later ++ earlier
@@ -286,12 +286,12 @@ derived_second : (xs ys : List Line) → IsHintDerivation (xs ++ ys) → IsHintD
 derived_second [] ys h = h
 derived_second (x ∷ xs) ys h = derived_second xs ys h.0
 
--- the lines of a text that begins so
+-- the lines of a text that begins with the earlier ones and these bytes
 pub bad_lines : (earlier : List Line) (bytes rest : List ℕ) → AreLines earlier → BeginsWithLine bytes rest → (more : List (List ℕ)) × (lines (text_of earlier ++ (bytes ++ rest)) ≡ texts_in earlier ++ (bytes ∷ more))
 bad_lines earlier bytes rest p (ended front inside e) = (lines rest, lines_of_text earlier (bytes ++ rest) p ∙ ap (λ x. texts_in earlier ++ x) (split_ended bytes rest (record { front = front; inside = inside; ended = e })))
 bad_lines earlier bytes rest p (cut_off inside some e) = ([], lines_of_text earlier (bytes ++ rest) p ∙ ap (λ x. texts_in earlier ++ x) (ap lines (ap (λ x. bytes ++ x) e ∙ append-nil bytes) ∙ split_last bytes inside some))
 
--- a line that follows is at no fault
+-- the bytes of a line that follows the earlier ones are at no fault
 at_no_fault : (earlier : List Line) (bytes : List ℕ) (why : HintWhy) (l : Line) → bytes ≡ line_text l → IsLine l → FollowsLines earlier l → IsAtFault earlier bytes why → ⊥
 at_no_fault earlier bytes Syntax l e p f h = h l (p, e)
 at_no_fault earlier bytes z l e p f h = never_at_fault earlier l f z (subst (λ x. IsFaultOf earlier x z) (one_line h.0 l h.1.0 p (sym h.1.1 ∙ e)) h.2)

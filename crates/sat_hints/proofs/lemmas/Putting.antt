@@ -1,4 +1,4 @@
--- Texts that are put one after another.
+-- Texts that are put, one after another.
 use Rattle.std.proofs.Common.{ℕ, suc, ◌+◌, ◌^◌, ◌<◌, ◌≤◌, ◌≡◌, Bool, true, false, List, [], ◌∷◌, ◌++◌, length, take, drop, get_or, set, decimal, codes, refl, sym, ◌∙◌, ap, subst, arith, append_assoc, append-nil}
 use Rattle.std.proofs.lemmas.List.{drop_more, drop_all}
 use Rattle.std.proofs.Math.Seq.{take-suc-set}
@@ -35,14 +35,14 @@ put_more xs ys a b c h k = go a.failed b.failed refl refl h k
 pub put_same : (xs ys : List ℕ) (a b : Outlet) → xs ≡ ys → PutsText xs a b → PutsText ys a b
 put_same xs ys a b e h = subst (λ t. PutsText t a b) e h
 
--- several in turn
+-- three texts, one after another
 pub put_three : (xs ys zs : List ℕ) (a b c d : Outlet) → PutsText xs a b → PutsText ys b c → PutsText zs c d → PutsText (xs ++ (ys ++ zs)) a d
 put_three xs ys zs a b c d h k l = put_more xs (ys ++ zs) a b d h (put_more ys zs b c d k l)
 
 pub put_four : (xs ys zs ws : List ℕ) (a b c d e : Outlet) → PutsText xs a b → PutsText ys b c → PutsText zs c d → PutsText ws d e → PutsText (xs ++ (ys ++ (zs ++ ws))) a e
 put_four xs ys zs ws a b c d e h k l m = put_more xs (ys ++ (zs ++ ws)) a b e h (put_three ys zs ws b c d e k l m)
 
--- so far
+-- that a prefix of the text was put, and `left` is the rest
 pub record PutSoFar (whole left : List ℕ) (old new : Outlet) : Type 0 where
   pub front : List ℕ
   pub rest : whole ≡ front ++ left
@@ -73,7 +73,7 @@ pub no_word : (word : ℕ → List ℕ) (xs : List ℕ) (i : ℕ) → length xs 
 no_word word xs i h = ap (spaced_words word) (drop_all i xs h)
 
 -- A BYTE
--- within the room
+-- there is room for it
 pub byte_waits : (w : Writer) (bytes : List ℕ) (len byte : ℕ) (a b : Outlet) → len < length bytes → a.failed ≡ false → a.sink ≡ record { writer = w; waiting = take len bytes } → b.failed ≡ false → b.sink ≡ record { writer = w; waiting = take (len + 1) (set bytes len byte) } → PutsText (byte ∷ []) a b
 byte_waits w bytes len byte a b h e f g k =
     let sent : AddsToSink (record { writer = w; waiting = take len bytes }) (record { writer = w; waiting = take (len + 1) (set bytes len byte) }) (byte ∷ [])
@@ -83,7 +83,7 @@ byte_waits w bytes len byte a b h e f g k =
     one_more : (bytes : List ℕ) (len byte : ℕ) → len < length bytes → take (len + 1) (set bytes len byte) ≡ take len bytes ++ (byte ∷ [])
     one_more bytes len byte h = let e : len + 1 ≡ suc len = omega arith in ap (λ n. take n (set bytes len byte)) e ∙ take-suc-set bytes len byte h
 
--- after what was written out
+-- after the pending bytes were written
 pub first_byte_waits : (w : Writer) (bytes : List ℕ) (len byte : ℕ) (a b c : Outlet) → len ≡ 0 → 0 < length bytes → PutsText [] a b → b.failed ≡ false → b.sink ≡ record { writer = w; waiting = take len bytes } → c.failed ≡ false → c.sink ≡ record { writer = w; waiting = take 1 (set bytes 0 byte) } → PutsText (byte ∷ []) a c
 first_byte_waits w bytes len byte a b c z h p e f g k =
     let f' : b.sink ≡ record { writer = w; waiting = take 0 bytes } = f ∙ ap (λ (n : ℕ). let s : Sink = record { writer = w; waiting = take n bytes } in s) z in

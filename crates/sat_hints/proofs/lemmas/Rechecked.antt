@@ -1,4 +1,4 @@
--- What is answered to a text that is proved.
+-- The result of checking a text that is proved.
 use Rattle.std.proofs.Common.{ℕ, ◌≡◌, List, ◌++◌, Option, None, Some, Ok, Err, refl, sym, subst}
 use Rattle.std.specs.Io.KnownBytes.{Consumes, IsAtEnd}
 use Rattle.sat_hints.specs.Checks.{Judges}
@@ -6,7 +6,7 @@ use Rattle.sat_hints.specs.Laws.{ProofIsProved}
 use Rattle.sat_hints.specs.declared.answer.HintVerdict.TheVariants.{Proved}
 use Rattle.sat_hints.proofs.lemmas.OneFault.{one_verdict}
 
--- what is still to come
+-- the bytes still to come are the rest of the known ones
 pub reported_left : (xs : List ℕ) (was now : Option (List ℕ)) (bytes : List ℕ) → was ≡ Some xs → Consumes was now bytes → (ys : List ℕ) × (now ≡ Some ys) × (xs ≡ bytes ++ ys)
 reported_left xs was now bytes e c = go now (subst (λ o. Consumes o now bytes) e c)
   where

@@ -1,4 +1,4 @@
--- Literals, or their negations, that are assumed in turn.
+-- Literals, or their negations, that are assumed one after another.
 use Rattle.std.proofs.Common.{ℕ, zero, suc, ◌+◌, ◌<◌, ◌≤◌, ◌≡◌, ◌≢◌, Bool, true, false, ◌||◌, eqb, List, [], ◌∷◌, length, take, drop, get_or, refl, sym, ◌∙◌, ap, subst, arith, ◌⊎◌, inl, inr}
 use Rattle.std.proofs.lemmas.Bool.{or_cases, or_left, or_right, both_ways, eqb-true, eq-eqb, true≢false}
 use Rattle.std.proofs.lemmas.List.{take_more, take_all, take-append-drop, take-map, get_or-map, length-map}
@@ -9,11 +9,11 @@ use Rattle.sat_checker.proofs.lemmas.sets.Canonical.{tautology_from, both_signs}
 use Rattle.sat_checker.proofs.lemmas.sets.Order.{among-append}
 use Rattle.sat_hints.specs.inner.Course.{AreJustAssumed}
 
--- of no variable both signs are among these
+-- that no literal is in the list together with its negation
 abbrev pub OneSign : List ℕ → Type 0
 OneSign ls = (l : ℕ) → is_among ls l ≡ true → is_among ls (negated l) ≡ true → ⊥
 
--- the first so many literals are assumed, of each variable one sign
+-- that the first `count` literals are assumed, none together with its negation
 pub record AssumesFirst (ls : List ℕ) (count : ℕ) (assumed : List ℕ) : Type 0 where
   pub are : AreJustAssumed (take count ls) assumed
   pub one_sign : OneSign (take count ls)
@@ -42,17 +42,17 @@ or_false : (b : Bool) → (b || (false || false)) ≡ b
 or_false true = refl
 or_false false = refl
 
--- another default is as good within the list
+-- within the list, the default does not matter
 pub same_default : {A : Type 0} (xs : List A) (i : ℕ) (d e : A) → i < length xs → get_or xs i d ≡ get_or xs i e
 same_default [] i d e h = absurd (omega arith)
 same_default (x ∷ xs) zero d e h = refl
 same_default (x ∷ xs) (suc i) d e h = same_default xs i d e (omega arith)
 
--- the literal at a place, or its negation
+-- the literal at an index, or its negation
 pub lit_at : (negate : Bool) (ls : List ℕ) (i item lit : ℕ) → i < length ls → item ≡ get_or ls i item → lit ≡ negated_if negate item → lit ≡ get_or (signed negate ls) i 0
 lit_at negate ls i item lit h is e = e ∙ ap (negated_if negate) (is ∙ same_default ls i item 0 h) ∙ sym (signed-at negate ls i h)
 
--- what is among the first, with one more
+-- membership in the first i literals, and in one more
 module _ (ls : List ℕ) (i : ℕ) (inside : i < length ls) where
   among_more : (m : ℕ) → is_among (take (i + 1) ls) m ≡ (is_among (take i ls) m || (eqb (get_or ls i 0) m || false))
   among_more m = ap (λ xs. is_among xs m) (take_more ls i 0 inside) ∙ among-append (take i ls) (get_or ls i 0 ∷ []) m
@@ -70,7 +70,7 @@ module _ (ls : List ℕ) (i : ℕ) (inside : i < length ls) where
   among_at : is_among ls (get_or ls i 0) ≡ true
   among_at = among_take ls (i + 1) (get_or ls i 0) (among_more (get_or ls i 0) ∙ or_right (is_among (take i ls) (get_or ls i 0)) (eqb (get_or ls i 0) (get_or ls i 0) || false) (or_left (eqb (get_or ls i 0) (get_or ls i 0)) false (eq-eqb (get_or ls i 0) (get_or ls i 0) refl)))
 
-  -- the other sign stands before it
+  -- its negation is before it
   pub both_stand : is_among (take i ls) (negated (get_or ls i 0)) ≡ true → is_tautology ls ≡ true
   both_stand h = tautology_from ls (get_or ls i 0) among_at (among_take ls i (negated (get_or ls i 0)) h)
 
@@ -97,14 +97,14 @@ module _ (ls : List ℕ) (i : ℕ) (inside : i < length ls) where
       turn false false = refl
 
 module _ (ls assumed : List ℕ) (i : ℕ) (inside : i < length ls) (so_far : AssumesFirst ls i assumed) where
-  -- the other sign of its variable is assumed
+  -- its negation is assumed
   pub both_met : is_among assumed (negated (get_or ls i 0)) ≡ true → is_tautology ls ≡ true
   both_met h = both_stand ls i inside (sym (so_far.are (negated (get_or ls i 0))) ∙ h)
 
   one_sign_still : is_among assumed (negated (get_or ls i 0)) ≡ false → OneSign (take (i + 1) ls)
   one_sign_still fresh = one_sign_more ls i inside so_far.one_sign (sym (so_far.are (negated (get_or ls i 0))) ∙ fresh)
 
-  -- it is assumed already
+  -- it is already assumed
   pub assumes_same : is_among assumed (negated (get_or ls i 0)) ≡ false → is_among assumed (get_or ls i 0) ≡ true → AssumesFirst ls (i + 1) assumed
   assumes_same fresh had = record { are = λ m. so_far.are m ∙ go m (eqb (get_or ls i 0) m) refl ∙ sym (among_more ls i inside m); one_sign = one_sign_still fresh }
     where
@@ -114,7 +114,7 @@ module _ (ls assumed : List ℕ) (i : ℕ) (inside : i < length ls) (so_far : As
           k ∙ sym (or_left (is_among (take i ls) m) (eqb (get_or ls i 0) m || false) k)
       go m false e = sym (ap (λ b. is_among (take i ls) m || (b || false)) e ∙ or_false (is_among (take i ls) m))
 
-  -- it is assumed now
+  -- it becomes assumed
   pub assumes_more : (new : List ℕ) → new ≡ get_or ls i 0 ∷ assumed → is_among assumed (negated (get_or ls i 0)) ≡ false → AssumesFirst ls (i + 1) new
   assumes_more new is fresh = rw is (record { are = λ m. ap (λ b. eqb (get_or ls i 0) m || b) (so_far.are m) ∙ among_last ls i inside m; one_sign = one_sign_still fresh })
 
@@ -125,7 +125,7 @@ no_both ls one = go (is_tautology ls) refl
     go true t = let s = both_signs ls t in absurd (one s.literal s.within s.negation)
     go false t = refl
 
--- all are assumed
+-- that all literals are assumed, and none is together with its negation
 pub record AssumesAll (ls assumed : List ℕ) : Type 0 where
   pub consistent : is_tautology ls ≡ false
   pub are : AreJustAssumed ls assumed
@@ -136,7 +136,7 @@ assumes_all ls assumed i h so_far =
     record { consistent = no_both ls (subst OneSign e so_far.one_sign); are = subst (λ xs. AreJustAssumed xs assumed) e so_far.are }
 
 -- AS FAR AS THERE IS ROOM
--- the first so many literals are assumed where there is room for them, and of each variable one sign is among them
+-- that the first `count` literals with room are assumed, and none of the first `count` is with its negation
 pub record AgreesFirst (room ls : List ℕ) (count : ℕ) (assumed : List ℕ) : Type 0 where
   pub agrees : AgreesOn room assumed (take count ls)
   pub one_sign : OneSign (take count ls)
@@ -165,7 +165,7 @@ turned : (negate : Bool) (x : ℕ) → negated (negated_if negate x) ≡ negated
 turned true x = refl
 turned false x = refl
 
--- whether the other sign stands before it is the same of the negations
+-- negating all literals does not change whether a literal's negation is before it
 among_before : (negate : Bool) (ls : List ℕ) (i : ℕ) → i < length ls → is_among (take i (signed negate ls)) (negated (get_or (signed negate ls) i 0)) ≡ is_among (take i ls) (negated (get_or ls i 0))
 among_before negate ls i h =
     ap (λ xs. is_among xs (negated (get_or (signed negate ls) i 0))) (take-signed negate i ls)

@@ -1,4 +1,4 @@
--- A derivation shows what it derives.
+-- What a derivation derives holds.
 use Rattle.std.proofs.Common.{ℕ, ◌≡◌, Bool, true, false, cond, eqb, not, ◌||◌, List, [], ◌∷◌, map, Option, None, Some, refl, sym, ◌∙◌, ap, subst, inl, inr}
 use Rattle.std.proofs.lemmas.Bool.{cases_Bool, both_ways, or_parts, true≢false}
 use Rattle.sat_base.specs.values.Literals.{negated}
@@ -12,18 +12,18 @@ use Rattle.sat_hints.specs.Lines.{Line, Input, Derived, Gone, Core, Fresh}
 use Rattle.sat_hints.specs.Hints.{and_clauses, is_unit_over, unless_unit_over, clause_under, clauses_under, Conflicts, IsInNonUnitClause, IsHintDerivation}
 use Rattle.sat_hints.specs.Laws.{IsLeftByLines, DerivedFollow, HintCoresFail, PresentHold, EmptyMeansNone, FormulaIsLeft, FormulaLeaves}
 
--- where a clause is false, the negations of its literals are true
+-- if a clause is false, the negations of its literals are true
 negations_true : (a : Valuation) (clause : List ℕ) → clause_true a clause ≡ false → EachTrue a (map negated clause)
 negations_true a [] e = tt
 negations_true a (l ∷ ls) e =
     let parts = or_parts (literal_true a l) (clause_true a ls) e in
     (negated_value a l ∙ not_false (literal_true a l) parts.0, negations_true a ls parts.1)
 
--- what a clause is, so is its set
+-- if a clause is true, so is its sorted set
 set_true : (a : Valuation) (ls c : List ℕ) → clause_true a ls ≡ true → Some (canonical ls) ≡ Some c → clause_true a c ≡ true
 set_true a ls c h e = let f : canonical ls ≡ c = cc in subst (λ x. clause_true a x ≡ true) f (superset_true a ls (canonical ls) (subset_canonical ls) h)
 
--- assumed literals that conflict with clauses that hold aren't all true
+-- assumed literals that conflict with clauses are not all true if the clauses hold
 conflicts_never : (a : Valuation) (assumed : List ℕ) (cs : List (List ℕ)) → EachHolds a cs → Conflicts assumed cs → EachTrue a assumed → ⊥
 conflicts_never a assumed cs h (inl t) true_all =
     let s = both_signs assumed t in
@@ -32,14 +32,14 @@ conflicts_never a assumed cs h (inl t) true_all =
     both_ways (literal_true a (negated s.literal)) (negated_value a s.literal ∙ ap not p) q
 conflicts_never a assumed cs h (inr u) true_all = conflict_never a assumed cs true_all h u
 
--- so a clause whose negation conflicts with them holds, too
+-- so a clause holds if its negation conflicts with clauses that hold
 holds_too : (a : Valuation) (clause : List ℕ) (cs : List (List ℕ)) → EachHolds a cs → Conflicts (map negated clause) cs → clause_true a clause ≡ true
 holds_too a clause cs h k = elim (cases_Bool (clause_true a clause)) [
   | inl t ↦ t
   | inr n ↦ absurd (conflicts_never a (map negated clause) cs h k (negations_true a clause n))
 ]
 
--- where each clause that is present holds, those hold that are named
+-- that every clause that is present holds
 abbrev Present : List Line → Valuation → Type 0
 Present lines a = (id : ℕ) (c : List ℕ) → clause_under id lines ≡ Some c → clause_true a c ≡ true
 
@@ -53,7 +53,7 @@ named_hold lines a p (id ∷ ids) cs e = go (λ ds. named_hold lines a p ids ds)
     go ih (Some c) h (Some ds) k e = let f : c ∷ ds ≡ cs = cc in subst (EachHolds a) f (p id c h, ih ds k)
 
 -- A NEW VARIABLE
--- what is present still, was so before, and is no unit over it
+-- a clause that is present after the line was present before, and is not a unit over the variable
 pub still : (v : ℕ) (o : Option (List ℕ)) (c : List ℕ) → unless_unit_over v o ≡ Some c → (o ≡ Some c) × (is_unit_over v c ≡ false)
 still v None c e = absurd cc
 still v (Some d) c e = go (is_unit_over v d) refl e
@@ -62,7 +62,7 @@ still v (Some d) c e = go (is_unit_over v d) refl e
     go true u f = absurd cc
     go false u f = let g : d ≡ c = cc in (f, subst (λ x. is_unit_over v x ≡ false) g u)
 
--- so it hasn't the variable, where that is not in use
+-- so it does not have the variable, if that is not in use
 pub not_mentioned : (v : ℕ) (earlier : List Line) → (IsInNonUnitClause v earlier → ⊥) → (id : ℕ) (c : List ℕ) → clause_under id earlier ≡ Some c → is_unit_over v c ≡ false → mentions c v ≡ false
 not_mentioned v earlier none id [] e u = refl
 not_mentioned v earlier none id (l ∷ []) e u = ap (λ b. b || false) u
@@ -72,7 +72,7 @@ not_mentioned v earlier none id (l ∷ m ∷ ls) e u = go (mentions (l ∷ m ∷
     go true t = absurd (none (record { id = id; clause = l ∷ m ∷ ls; present = e; long = refl; within = t }))
     go false t = refl
 
--- EACH CLAUSE THAT IS PRESENT
+-- EVERY CLAUSE THAT IS PRESENT
 pub present_hold : PresentHold
 present_hold [] a id c d h e = absurd cc
 present_hold (Input i ls ∷ lines) a id c d h e = go (eqb id i) (present_hold lines a id c d.0 h.0) e
@@ -104,7 +104,7 @@ present_hold (Fresh v ∷ lines) a id c d h e =
 present_all : (lines : List Line) (a : Valuation) → IsHintDerivation lines → IsLeftByLines lines a → Present lines a
 present_all lines a d h = λ id c e. present_hold lines a id c d h e
 
--- WHAT IT SHOWS
+-- WHAT A DERIVATION DERIVES
 pub derived_follow : DerivedFollow
 derived_follow [] d = tt
 derived_follow (Input id clause ∷ lines) d = derived_follow lines d.0
@@ -137,7 +137,7 @@ empty_means_none (Gone id ∷ lines) a d e h = empty_means_none lines a d.0 e h
 empty_means_none (Core core ids ∷ lines) a d e h = empty_means_none lines a d.0 e h
 empty_means_none (Fresh v ∷ lines) a d e h = elim h [ inl x ↦ empty_means_none lines a d.0 e x | inr y ↦ empty_means_none lines (flipped v a) d.0 e y ]
 
--- without new variables
+-- without new variables, exactly the models of the formula are left
 pub formula_leaves : FormulaLeaves
 formula_leaves [] a k = (λ h. tt, λ h. tt)
 formula_leaves (Input id clause ∷ lines) a k = let p = formula_leaves lines a k.1 in (λ h. (h.1, p.0 h.0), λ h. (p.1 h.1, h.0))
@@ -146,7 +146,7 @@ formula_leaves (Gone id ∷ lines) a k = formula_leaves lines a k.1
 formula_leaves (Core core ids ∷ lines) a k = formula_leaves lines a k.1
 formula_leaves (Fresh v ∷ lines) a k = absurd k.0
 
--- nothing need be flipped
+-- the models of the formula are left, even with new variables
 pub formula_is_left : FormulaIsLeft
 formula_is_left [] a h = tt
 formula_is_left (Input id clause ∷ lines) a h = (formula_is_left lines a h.1, h.0)

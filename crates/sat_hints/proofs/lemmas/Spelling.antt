@@ -1,4 +1,4 @@
--- Which bytes begin with a line.
+-- Which bytes begin with a hint line.
 use Rattle.std.proofs.Common.{ℕ, ◌≡◌, Bor, Option, None, Some, MatchOption, List, [], ◌∷◌, ◌++◌, refl, sym, ◌∙◌, ap, arith, append_assoc}
 use Rattle.sat_base.specs.dimacs.DimacsText.{number_text}
 use Rattle.sat_hints.specs.Lines.{Input, Derived, Gone, Core, Fresh, id_text, id_words, literal_words, line_text}
@@ -8,7 +8,7 @@ use Rattle.sat_hints.proofs.lemmas.Words.{ended_words, same_word, ids_are_words,
 abbrev end : List ℕ
 end = 48 ∷ 10 ∷ []
 
--- `LITS 0` and LF, and `LITS 0 IDS 0` and LF, before a rest
+-- `LITS 0` and LF, or `LITS 0 IDS 0` and LF, and then a rest
 abbrev one_before : List ℕ → List ℕ → List ℕ
 one_before ls rest = literal_words ls ++ (48 ∷ 10 ∷ rest)
 
@@ -37,14 +37,14 @@ both_answer (Some x) bytes ls rest following ids last r e s f = (
   r.whole ∙ ap (λ t. literal_words ls ++ t) (e ∙ ap (λ t. 48 ∷ 32 ∷ t) (s.whole ∙ ap (λ t. id_words ids ++ t) f)),
 )
 
--- WHAT A LINE IS BEFORE A REST
+-- THE TEXT OF A LINE, and then a rest
 one_text : (ls rest : List ℕ) → (literal_words ls ++ end) ++ rest ≡ one_before ls rest
 one_text ls rest = append_assoc (literal_words ls) end rest
 
 both_text : (ls ids rest : List ℕ) → (literal_words ls ++ (48 ∷ 32 ∷ (id_words ids ++ end))) ++ rest ≡ both_before ls ids rest
 both_text ls ids rest = append_assoc (literal_words ls) (48 ∷ 32 ∷ (id_words ids ++ end)) rest ∙ ap (λ t. literal_words ls ++ (48 ∷ 32 ∷ t)) (append_assoc (id_words ids) end rest)
 
--- one id in front
+-- one id before it
 id_before : (id : ℕ) (text rest all : List ℕ) → text ++ rest ≡ all → (id_words (id ∷ []) ++ text) ++ rest ≡ id_text id ++ (32 ∷ all)
 id_before id text rest all e = append_assoc (id_words (id ∷ [])) text rest ∙ append_assoc (id_text id) (32 ∷ []) (text ++ rest) ∙ ap (λ t. id_text id ++ (32 ∷ t)) e
 
@@ -60,7 +60,7 @@ gone_text id rest = ap (λ t. 120 ∷ 32 ∷ t) (id_before id end rest (48 ∷ 1
 fresh_text : (v : ℕ) (rest : List ℕ) → line_text (Fresh v) ++ rest ≡ 101 ∷ 32 ∷ (id_text v ++ (32 ∷ 48 ∷ 10 ∷ rest))
 fresh_text v rest = ap (λ t. 101 ∷ 32 ∷ t) (id_before v end rest (48 ∷ 10 ∷ rest) refl)
 
--- A LINE OF EACH KIND
+-- LINES OF EVERY KIND
 abbrev IsInput : List ℕ → Type 0
 IsInput bytes = (id : ℕ) × (following : List ℕ) × (ls : List ℕ) × (rest : List ℕ) × BeginsWithWord id_text IsId bytes id following × BeginsWithOne following ls rest
 
@@ -125,7 +125,7 @@ derived_refused bytes following id b never = not_derived bytes (λ i. never i.2 
 pub gone_refused : (bytes following : List ℕ) (id : ℕ) → BeginsWithWord id_text IsId bytes id following → ((tail : List ℕ) → following ≡ 48 ∷ 10 ∷ tail → ⊥) → BeginsWithNoLine (120 ∷ 32 ∷ bytes)
 gone_refused bytes following id b never = not_gone bytes (λ i. never i.1 (sym (same_id bytes id i.0 following (48 ∷ 10 ∷ i.1) b i.2)))
 
--- a variable is a smaller id
+-- the number of a variable is also that of an id
 as_id : (bytes : List ℕ) (v : ℕ) (rest : List ℕ) → BeginsWithWord id_text IsVariableIndex bytes v rest → BeginsWithWord id_text IsId bytes v rest
 as_id bytes v rest b = ((let k = b.0 in omega arith), b.1)
 

@@ -1,4 +1,4 @@
--- The clauses that are present, as they come and go and as variables become new.
+-- The clauses that are present, as clauses are added and removed and variables become new.
 use Rattle.std.proofs.Common.{ℕ, zero, suc, ◌+◌, ◌*◌, ◌<◌, ◌≤◌, ◌^◌, ◌≡◌, ◌≢◌, Bool, true, false, cond, eqb, nat_lt, List, [], ◌∷◌, length, get_or, Option, None, Some, refl, sym, ◌∙◌, ap, subst, arith, MatchBool}
 use Rattle.std.proofs.lemmas.Bool.{eqb-true, lt-ltb, le-ltb}
 use Rattle.sat_base.specs.declared.table.Table.{Table}
@@ -16,8 +16,8 @@ use Rattle.sat_hints.specs.declared.uses.Uses.{Uses}
 use Rattle.sat_hints.proofs.lemmas.Counting.{times_one, times-few, times-there, times-some, counted_long, counted_mentions, mentions_counted}
 use Rattle.sat_hints.proofs.lemmas.Listed.{stands_at, listed-at}
 
--- A STALE UNIT
--- an id that comes is below none
+-- STALE UNITS
+-- a clause that was just added is not stale
 fresh_unit : (since : Table ℕ) (id : ℕ) (c : List ℕ) → ((v : ℕ) → value_at 0 since v ≤ id) → is_stale since id c ≡ false
 fresh_unit since id [] h = refl
 fresh_unit since id (l ∷ []) h = le-ltb id (value_at 0 since (variable l)) (h (variable l))
@@ -28,7 +28,7 @@ long_not_stale since id [] e = refl
 long_not_stale since id (l ∷ []) e = absurd cc
 long_not_stale since id (l ∷ m ∷ ls) e = refl
 
--- what is present was stored
+-- a clause that is present is stored
 pub was_stored : (since : Table ℕ) (id : ℕ) (o : Option (List ℕ)) (c : List ℕ) → unless_stale since id o ≡ Some c → o ≡ Some c
 was_stored since id None c e = absurd cc
 was_stored since id (Some d) c e = go (is_stale since id d) e
@@ -37,7 +37,7 @@ was_stored since id (Some d) c e = go (is_stale since id d) e
     go true f = absurd cc
     go false f = f
 
--- COMING
+-- ADDED CLAUSES
 if_more : (b : Bool) (m n k : ℕ) → m ≡ n + k → if_counting b n + if_counting b k ≡ if_counting b m
 if_more true m n k e = sym e
 if_more false m n k e = refl
@@ -60,7 +60,7 @@ gains old new id clause s w a e c u = record {
     one j true t = let same : j ≡ id = eqb-true j id t in ap (λ x. cond x None (Some clause)) (subst (λ i. is_stale old.since i clause ≡ false) (sym same) (fresh_unit old.since id clause w))
     one j false t = refl
 
--- there is room for the counts
+-- the counts do not overflow
 if_few : (b : Bool) (n : ℕ) → if_counting b n ≤ n
 if_few true n = omega arith
 if_few false n = omega arith
@@ -75,13 +75,13 @@ few_uses old new u id n clause s c i a e f l =
     let t : length old.clauses ≡ length old.ids.items = s.clauses in
     omega (arith, x, y, z, w, v, t, e, f)
 
--- GOING
+-- REMOVED CLAUSES
 if_less : (b : Bool) (m n k : ℕ) → m + k ≡ n → if_counting b m + if_counting b k ≡ if_counting b n
 if_less true m n k e = e
 if_less false m n k e = refl
 
 module _ (old : Standing) (id place : ℕ) (s : StandingInvariant old) (f : FindsClause old id place) where
-  -- its place isn't gone
+  -- the clause at this index was not removed
   not_gone : (c : List ℕ) → clause_in old.present id ≡ Some c → (get_or old.present.gone.items place false ≡ false) × (present_clause_at old.present place ≡ c)
   not_gone c e =
       let k : place < length old.present.ids.items = subst (λ n. place < n) s.store.clauses f.within in
@@ -130,7 +130,7 @@ module _ (old : Standing) (id place : ℕ) (s : StandingInvariant old) (f : Find
 pub found_some : (s : Standing) (id place : ℕ) → FindsClause s id place → standing_clause s id ≢ None
 found_some s id place f e = let x : ◌≡◌ {A = Option (List ℕ)} (Some (present_clause_at s.present place)) None = sym f.clause ∙ e in cc
 
--- IN USE
+-- VARIABLES IN USE
 module _ (s : Standing) (v : ℕ) (st : IsStore s.present) where
   abbrev both : ℕ
   both = occurrences_of s.present (2 * v) + occurrences_of s.present (2 * v + 1)
@@ -175,7 +175,7 @@ module _ (s : Standing) (v : ℕ) (st : IsStore s.present) where
   used_is false h = used_none h
 
 -- A NEW VARIABLE
--- what is listed is under an id that is
+-- an id with a clause is in the list, so it is below the bound of all ids
 below_bound : (p : Present) (bound : ℕ) → IsStore p → AllBelow p.ids.items bound → (id : ℕ) (c : List ℕ) → clause_in p id ≡ Some c → id < bound
 below_bound p bound s h id c e =
     let t = stands_at id c p.ids.items p.clauses p.gone.items e in

@@ -1,4 +1,4 @@
--- What it is for a judge to take a line.
+-- What it means that a judge accepted a line.
 use Rattle.std.proofs.Common.{ℕ, ◌+◌, ◌-◌, ◌^◌, ◌≤◌, ◌≡◌, ◌≢◌, Bool, true, false, cond, eqb, ◌||◌, List, [], ◌∷◌, length, min, map, Option, None, Some, refl, sym, ◌∙◌, ap, subst, arith, inl, inr}
 use Rattle.std.proofs.lemmas.Bool.{eqb-true}
 use Rattle.std.specs.List.{AllByRecursion}
@@ -26,7 +26,7 @@ use Rattle.sat_hints.proofs.lemmas.Finding.{room_still}
 use Rattle.sat_hints.proofs.lemmas.Sound.{still}
 use Rattle.sat_hints.proofs.lemmas.Unused.{unused_assuming}
 
--- the same clauses under ids
+-- the judge finds the same clauses under ids
 clauses_same : (p : Standing) (lines : List Line) → ((id : ℕ) → standing_clause p id ≡ clause_under id lines) → (ids : List ℕ) → standing_clauses p ids ≡ clauses_under ids lines
 clauses_same p lines h [] = refl
 clauses_same p lines h (id ∷ ids) = ap (λ c. and_clauses c (standing_clauses p ids)) (h id) ∙ ap (and_clauses (clause_under id lines)) (clauses_same p lines h ids)
@@ -64,7 +64,7 @@ sets_once (id ∷ ids) lines cs e = go (λ ds. sets_once ids lines ds) (clause_u
     go ih (Some c) h None k e = absurd cc
     go ih (Some c) h (Some ds) k e = let f : c ∷ ds ≡ cs = cc in subst (AllByRecursion NoRepeats) f (one_once id lines c h, ih ds k)
 
--- what a line that has to run into a conflict is
+-- the verdict on a line whose clauses have to lead to a conflict
 abbrev Says_of : Option HintWhy → List Line → Line → Type 0
 Says_of None lines line = FollowsLines lines line
 Says_of (Some why) lines line = IsFaultOf lines line why
@@ -100,7 +100,7 @@ stored_ready old new id clause w s = record {
   room = s.room;
 }
 
--- it can go on after what leaves it the same
+-- a judge is still ready after a call that kept its state
 pub same_ready : (old new : Judge) → IsReadyJudge old → IsSame old new → IsReadyJudge new
 same_ready old new r m = record {
   standing = subst StandingInvariant (sym m.standing) r.standing;
@@ -120,7 +120,7 @@ derived_refuted old id clause ids why l r lines t =
 pub derived_may : (old : Judge) (id : ℕ) (clause ids : List ℕ) → old.least_id ≤ id → WhyNotRefuted old.standing (signed true clause) ids None → MayFollow old (Derived id clause ids)
 derived_may old id clause ids l r lines t = derived_refuted old id clause ids None l r lines t
 
--- there is room for those of one more clause
+-- there is room for the literals of one more clause
 pub room_stored : (old new : Standing) (id : ℕ) (clause xs ys : List ℕ) → AddsStandingClause old new id clause → HasRoomForPresent xs old → RoomStays xs ys → HasClauseRoom ys clause → HasRoomForPresent ys new
 room_stored old new id clause xs ys a h k m j c e = go (eqb j id) (sym (a.clauses j) ∙ e)
   where
@@ -152,7 +152,7 @@ derived_taken old mid last new id clause ids e y l r m s f n = (
   },
 )
 
--- A CLAUSE THAT IS GONE
+-- REMOVED CLAUSES
 some_clause : (o : Option (List ℕ)) → o ≢ None → (c : List ℕ) × (o ≡ Some c)
 some_clause None h = absurd (h refl)
 some_clause (Some c) h = (c, refl)
@@ -185,7 +185,7 @@ gone_taken old new id p r h l n = (
   },
 )
 
--- A CORE
+-- CORES
 core_refuted : (old : Judge) (core ids : List ℕ) (why : Option HintWhy) → WhyNotRefuted old.standing (signed false core) ids why → (lines : List Line) → HasTakenLines old lines → Says_of why lines (Core core ids)
 core_refuted old core ids why r lines t = refuted lines (Core core ids) core tt refl old.standing why t.clauses r
 

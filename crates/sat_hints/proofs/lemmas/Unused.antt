@@ -1,4 +1,4 @@
--- Lines that make a variable new, and others.
+-- Lines that make a variable new, and other lines.
 use Rattle.std.proofs.Common.{ℕ, ◌≡◌, List, [], Option, None, Some, refl, sym, ◌∙◌}
 use Rattle.sat_hints.specs.Lines.{Line, Fresh}
 use Rattle.sat_hints.specs.Hints.{clauses_under, IsInOrder, named_ids, assumed_by, UsesVariable}
@@ -16,6 +16,6 @@ pub uses_nothing : (earlier : List Line) (line : Line) → UsesVariable earlier 
 uses_nothing earlier (Fresh v) u = refl
 uses_nothing earlier e u = absurd u
 
--- a line that assumes something makes none new
+-- a line that assumes literals makes no variable new
 pub unused_assuming : (earlier : List Line) (line : Line) (assumed : List ℕ) → assumed_by line ≡ Some assumed → UsesVariable earlier line → ⊥
 unused_assuming earlier line assumed e u = let f : ◌≡◌ {A = Option (List ℕ)} None (Some assumed) = sym (uses_nothing earlier line u) ∙ e in cc

@@ -1,4 +1,4 @@
--- The lines of what accepted steps announce are within the limits of the grammar.
+-- The lines that accepted steps announce are within the limits of the grammar.
 use Rattle.std.proofs.Common.{ℕ, ◌*◌, ◌-◌, ◌^◌, ◌<◌, ◌≤◌, ◌≡◌, Bool, true, false, not, ◌&&◌, cond, eqb, List, [], ◌∷◌, ◌++◌, Option, None, Some, refl, sym, ◌∙◌, subst, arith}
 use Rattle.std.specs.List.{AllByRecursion}
 use Rattle.sat_base.specs.values.Literals.{var_limit}
@@ -140,7 +140,7 @@ lines_fit steps h =
     (by_fits (delayed (stored_after steps)) (announced_lines (notices_after steps) []) (delayed_fit (stored_after steps)) (reported_fit steps h))
 
 -- IDS
--- those that are named are present
+-- ids that a line names are present, so they are below the next id
 named_below : (ids : List ℕ) (lines : List Line) (cs : List (List ℕ)) (n : ℕ) → IsHintDerivation lines → least_id lines ≤ n → clauses_under ids lines ≡ Some cs → AllByRecursion (λ id. id < n) ids
 named_below [] lines cs n d l e = tt
 named_below (id ∷ ids) lines cs n d l e = go (λ ds. named_below ids lines ds n d l) (clause_under id lines) refl (clauses_under ids lines) refl e

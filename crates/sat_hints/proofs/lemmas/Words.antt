@@ -1,4 +1,4 @@
--- Words, each with a space after it, are read in one way.
+-- Words with a space after each are read in exactly one way.
 use Rattle.std.proofs.Common.{ℕ, ◌+◌, ◌/◌, ◌%◌, ◌^◌, ◌<◌, ◌≤◌, ◌≡◌, ◌⊎◌, inl, inr, Bool, true, false, cond, eqb, List, [], ◌∷◌, ◌++◌, length, get_or, decimal, refl, sym, ◌∙◌, ap, subst, arith, append_assoc}
 use Rattle.std.proofs.lemmas.Bool.{both_ways, eqb-true, eq-eqb}
 use Rattle.std.proofs.lemmas.Fmt.{decimal_injective, decimal_nonempty, first_decimal}
@@ -11,13 +11,13 @@ use Rattle.sat_hints.specs.Lines.{spaced_words, id_text}
 use Rattle.sat_hints.specs.inner.LineReading.{IsId, IsVariableIndex, IsLiteralCode, IsNumberUpTo, EndsNone, NoWord, BeginsWithWord, BeginsWithWords, number_digits_so_far}
 use Rattle.sat_hints.proofs.lemmas.Digits.{Plain, plain_number, plain_so_far, are_digits, so_far, no_digit, number_goes_on}
 
--- words that a space ends, each of one value, and none that begins with `0`
+-- that no word has a space or begins with `0`, and every word has one value
 pub record AreWords (word : ℕ → List ℕ) (P : ℕ → Type 0) : Type 0 where
   pub plain : (x : ℕ) → P x → Plain (word x)
   pub one : (x y : ℕ) → P x → P y → word x ≡ word y → x ≡ y
   pub no_zero : (x : ℕ) (rest tail : List ℕ) → P x → 48 ∷ rest ≡ word x ++ (32 ∷ tail) → ⊥
 
--- two words before spaces
+-- two texts with a word before a space
 pub at_space : (ds es x y : List ℕ) → Plain ds → Plain es → ds ++ (32 ∷ x) ≡ es ++ (32 ∷ y) → (ds ≡ es) × (x ≡ y)
 at_space [] [] x y p q e = (refl, cc)
 at_space [] (c ∷ cs) x y p q e = absurd (q.0 (let r : c ≡ 32 = cc in r))
@@ -36,7 +36,7 @@ pub record SameWords (xs ys r s : List ℕ) : Type 0 where
   pub rests : r ≡ s
 
 module _ (word : ℕ → List ℕ) (P : ℕ → Type 0) (w : AreWords word P) where
-  -- as many words as there are can be read in one way
+  -- reading as many words as possible has one result
   pub same_words : (xs ys r s : List ℕ) → AllByRecursion P xs → AllByRecursion P ys → NoWord word P r → NoWord word P s → spaced_words word xs ++ r ≡ spaced_words word ys ++ s → SameWords xs ys r s
   same_words [] [] r s p q m n e = record { items = refl; rests = e }
   same_words [] (y ∷ ys) r s p q m n e = absurd (m y (spaced_words word ys ++ s) q.0 (e ∙ append_assoc (word y) (32 ∷ spaced_words word ys) s))
@@ -54,7 +54,7 @@ module _ (word : ℕ → List ℕ) (P : ℕ → Type 0) (w : AreWords word P) wh
   pub ended_words : (bytes xs rest : List ℕ) → BeginsWithWords word P bytes xs rest → (ys tail : List ℕ) → AllByRecursion P ys → bytes ≡ spaced_words word ys ++ (48 ∷ tail) → SameWords xs ys rest (48 ∷ tail)
   ended_words bytes xs rest r ys tail q e = same_words xs ys rest (48 ∷ tail) r.are q r.no_more (λ x t p f. w.no_zero x tail t p f) (sym r.whole ∙ e)
 
-  -- one word is read in one way
+  -- reading one word has one result
   pub same_word : (bytes : List ℕ) (x y : ℕ) (r s : List ℕ) → BeginsWithWord word P bytes x r → P y → bytes ≡ word y ++ (32 ∷ s) → (x ≡ y) × (r ≡ s)
   same_word bytes x y r s b q e = let g = at_space (word x) (word y) r s (w.plain x b.0) (w.plain y q) (sym b.1 ∙ e) in (w.one x y b.0 q g.0, g.1)
 
@@ -68,7 +68,7 @@ module _ (word : ℕ → List ℕ) (P : ℕ → Type 0) where
   all-snoc [] x p q = (q, tt)
   all-snoc (y ∷ ys) x p q = (p.0, all-snoc ys x p.1 q)
 
-  -- so far
+  -- that these words were read so far
   pub record ReadSoFar (bytes xs rest : List ℕ) : Type 0 where
     pub are : AllByRecursion P xs
     pub whole : bytes ≡ spaced_words word xs ++ rest
@@ -91,14 +91,14 @@ ids_are_words = record {
   no_zero = λ x rest tail p e. id_first (decimal (x + 1)) rest tail (decimal_nonempty (x + 1) (omega arith)) (first_decimal (x + 1) (omega arith) (omega arith)) e;
 }
 
--- bytes that begin with 0 are no number
+-- no number begins with `0`
 pub no_number_zero : (limit : ℕ) → limit < 2 ^ 64 → (bytes : List ℕ) → 0 < length bytes → get_or bytes 0 0 ≡ 48 → NoWord decimal (IsNumberUpTo limit) bytes
 no_number_zero limit fits [] h e n tail k f = omega arith
 no_number_zero limit fits (b ∷ bytes) h e n tail k f =
     let g : 48 ∷ bytes ≡ decimal n ++ (32 ∷ tail) = ap (λ c. c ∷ bytes) (sym e) ∙ f in
     id_first (decimal n) bytes tail (decimal_nonempty n (omega arith)) (first_decimal n k.0 (omega arith)) g
 
--- nor are digits where something else comes, unless it ends a number within the limit
+-- digits before another byte are not a number, unless a space ends one within the limit
 pub no_number_stop : (limit : ℕ) → limit < 2 ^ 64 → (number b : ℕ) (bytes x : List ℕ) → number < 2 ^ 64 → ((48 ≤ b) × (b ≤ 57) → ⊥) → EndsNone number b limit → bytes ≡ number_digits_so_far number ++ (b ∷ x) → NoWord decimal (IsNumberUpTo limit) bytes
 no_number_stop limit fits number b bytes x small other space e n tail k f = go (eqb b 32) refl
   where

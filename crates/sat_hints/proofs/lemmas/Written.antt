@@ -1,4 +1,4 @@
--- What the checker's answer to a certificate means for the lines written.
+-- What the checker's result for a certificate means for the lines that were written.
 use Rattle.std.proofs.Common.{ℕ, ◌+◌, ◌<◌, ◌≤◌, ◌^◌, ◌≡◌, false, List, [], ◌∷◌, ◌++◌, length, length-append, Result, Ok, Err, inl, inr, refl, subst, arith}
 use Rattle.std.proofs.lemmas.Bool.{both_ways}
 use Rattle.anyhow.specs.declared.error.Error.{Error}
@@ -28,7 +28,7 @@ use Rattle.sat_hints.specs.inner.AnnouncedLines.{PutsAnnouncedLine}
 use Rattle.sat_hints.proofs.lemmas.AreProved.{read_proved}
 use Rattle.sat_hints.proofs.lemmas.Heard.{since_sent, since_broken, front_all, front_reported, front_by, all_by, broken_all, broken_reported}
 
--- FEW BYTES
+-- SHORT TEXTS
 within : (text rest : List ℕ) → length (text ++ rest) ≤ most_bytes → length text ≤ most_bytes
 within text rest h = let e : length (text ++ rest) ≡ length text + length rest = length-append text rest in omega arith
 
@@ -95,7 +95,7 @@ module _ {W P T : Type 0} (seen : W → Writer) (Takes : P → Notice → Result
       (k.0, k.1, k.2, k.4, gave_of k.3 b.2, b.3)
   errs_written errors.HasFailed old new from to f u k = absurd (both_ways (has_failed old) f k.0)
 
-  -- accepted to its end
+  -- the certificate was accepted to its end
   ends_of : (old new : Checker) (from to : Reader) → (k : AnswersProof Hears [] begun (Ok tt) old new from to []) → IsAccepted from to k.0 k.1
   ends_of old new from to k = record { gave = gave_of k.2 k.4.0.kernel.accepted.0; none_failed = k.3; ends = k.4.0.kernel.accepted.1 }
 

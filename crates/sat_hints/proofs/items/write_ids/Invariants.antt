@@ -2,7 +2,7 @@ use Rattle.std.proofs.Common.{◌≡◌, ◌+◌, ◌*◌, ◌≤◌, ◌++◌, 
 use Rattle.sat_hints.specs.Lines.{id_words}
 use Rattle.sat_hints.proofs.items.write_ids.Given as goal
 
--- what was written, and what is left, are the whole list
+-- the text written so far and the rest make up the complete list
 abbrev pub invariant-loop-id : goal.invariant-loop-id
 invariant-loop-id l = record {
   same : length l.bytes ≡ length l.fn.bytes;

@@ -2,7 +2,7 @@ use Rattle.std.proofs.Common.{◌≡◌, ◌+◌, ◌*◌, ◌≤◌, ◌++◌, 
 use Rattle.sat_hints.specs.Lines.{literal_words}
 use Rattle.sat_hints.proofs.items.write_literals.Given as goal
 
--- what was written, and what is left, are the whole list
+-- the text written so far and the rest make up the complete list
 abbrev pub invariant-loop-literal : goal.invariant-loop-literal
 invariant-loop-literal l = record {
   same : length l.bytes ≡ length l.fn.bytes;

@@ -2,6 +2,6 @@ use Rattle.std.proofs.Common.{◌≡◌, ◌≤◌, ◌++◌, drop}
 use Rattle.sat_hints.specs.inner.LineReading.{number_digits_so_far}
 use Rattle.sat_hints.proofs.numbers.read_number.Given as goal
 
--- what was read is the number's digits, of which the first is not 0
+-- the bytes read so far are the digits of `number`, the first of which is not 0
 abbrev pub invariant-loop-i : goal.invariant-loop-i
 invariant-loop-i l = record { more : l.i ≤ l.number; digits : l.bytes ≡ number_digits_so_far l.number ++ drop l.i l.bytes }

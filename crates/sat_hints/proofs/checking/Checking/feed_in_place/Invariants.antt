@@ -3,7 +3,7 @@ use Rattle.sat_hints.specs.inner.Judging.{IsReadyJudge}
 use Rattle.sat_hints.specs.inner.Holding.{ReadsFurther}
 use Rattle.sat_hints.proofs.checking.Checking.feed_in_place.Given as goal
 
--- the lines of a front of the piece were taken
+-- the lines of a prefix of the piece were read
 abbrev pub invariant-loop-head : goal.invariant-loop-head
 invariant-loop-head l = record {
   ready : IsReadyJudge l.self.judge;
