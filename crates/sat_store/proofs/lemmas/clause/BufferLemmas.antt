@@ -1,4 +1,4 @@
--- What a write to the buffer leaves of the clauses in it.
+-- The effect of writes to the buffer on the clauses in it.
 use Rattle.std.proofs.Common.{◌≡◌, ◌≢◌, ◌-◌, ℕ, zero, suc, append_assoc, ◌+◌, ◌*◌, ◌^◌, ◌<◌, ◌≤◌, inl, inr, List, [], ◌∷◌, ◌++◌, length, get_or, set, take, drop, refl, sym, ap, ◌∙◌, subst, arith, length-append, length-drop}
 use Rattle.std.proofs.lemmas.List.{get_or_read, take_more, length-take-le, get_or-take, get_or-drop, get_or_append_left, get_or-append-add, ext_get_or, get_or-set_same, get_or-set_other, length-set, drop-set-add, get_or_past}
 use Rattle.std.proofs.Math.Seq.{take-set-lt, take-append_seam}
@@ -9,7 +9,7 @@ use Rattle.sat_base.specs.values.Literals.{var_limit}
 use Rattle.sat_store.specs.clause.Header.{Header, header_of}
 use Rattle.sat_store.specs.clause.Buffer.{header_at, lits_at, IsClause, HaveNoCommonWord, HoldsClauses, SameClauseAt, ChangesAt, AppendsClause}
 
--- the clause's length is its header's and that of its literals
+-- the number of literals of a clause is the length in its header
 
 pub lits_count : (w : List ℕ) (o : ℕ) → IsClause w o → length (lits_at w o) ≡ get_or w (o + 2) 0
 unfolding lits_at
@@ -23,7 +23,7 @@ pub header_len : (w : List ℕ) (o : ℕ) → (header_at w o).len ≡ get_or w (
 unfolding header_at
 header_len w o = refl
 
--- two clauses of the same words are the same
+-- two clauses with the same words have the same literals
 
 same_lits : (v w : List ℕ) (o p : ℕ) → IsClause v o → IsClause w p → get_or w (p + 2) 0 ≡ get_or v (o + 2) 0 → ((k : ℕ) → k < get_or v (o + 2) 0 → get_or w (p + 3 + k) 0 ≡ get_or v (o + 3 + k) 0) → lits_at w p ≡ lits_at v o
 same_lits v w o p c d n e =
@@ -64,7 +64,7 @@ others_kept v w o size below above p c apart = elim apart [
   | inr following ↦ kept v w p c (omega arith) (λ i h k. below i (omega arith))
 ]
 
--- a write within the words of the clause at o, which is at most as long as before
+-- a write that changes only words of the clause at o, and does not lengthen the clause
 pub changes_at : (v w : List ℕ) (o : ℕ) → IsClause v o → IsClause w o → length w ≡ length v → get_or w (o + 2) 0 ≤ get_or v (o + 2) 0 → ((i : ℕ) → i < o → get_or w i 0 ≡ get_or v i 0) → ((i : ℕ) → o + 3 + get_or v (o + 2) 0 ≤ i → get_or w i 0 ≡ get_or v i 0) → ChangesAt v w o
 changes_at v w o was now size shorter below above =
     let others : (p : ℕ) → IsClause v p → HaveNoCommonWord v o p → SameClauseAt v w p = others_kept v w o size below above in
@@ -123,7 +123,7 @@ changes_lit w o k x c within small =
     (λ i h. at_other w (o + 3 + k) i x (omega arith))
     (λ i h. at_other w (o + 3 + k) i x (omega arith))
 
--- two writes one after the other
+-- two writes, one after the other
 
 keeps_twice : (u v w : List ℕ) (p : ℕ) → SameClauseAt u v p → SameClauseAt v w p → SameClauseAt u w p
 keeps_twice u v w p a b = record { clause = b.clause; header = b.header ∙ a.header; lits = b.lits ∙ a.lits }
@@ -158,7 +158,7 @@ changes_swapped w o i j c h k =
 pub header_swapped : (w : List ℕ) (o i j x y : ℕ) → header_at (set (set w (o + 3 + i) x) (o + 3 + j) y) o ≡ header_at w o
 header_swapped w o i j x y = header_set_lit (set w (o + 3 + i) x) o j y ∙ header_set_lit w o i x
 
--- the words that a call found in the buffer, where it was given the same words under another name
+-- the words that a call reads, if its buffer and offset equal those of the clause
 
 pub within_words : (v w : List ℕ) (p o k : ℕ) → v ≡ w → p ≡ o → IsClause w o → k < length (lits_at w o) → (k < get_or v (p + 2) 0) × (p + 3 + k < length v)
 within_words v w p o k e f c small =
@@ -180,7 +180,7 @@ lit_read v w p o k x e f c small read =
     let there : x ≡ get_or w (o + 3 + k) 0 = word_read v w p o k x e f c small read in
     (there ∙ sym (lit_there w o k (omega arith)), omega (arith, c.lits k (omega arith)))
 
--- what a write of a literal leaves, and what an exchange of two
+-- the effect of writing one literal or swapping two: the header stays, and only this clause changes
 
 pub record Leaves (w v : List ℕ) (o : ℕ) (ls : List ℕ) : Type 0 where
   pub header : header_at v o ≡ header_at w o
@@ -289,7 +289,7 @@ header_read v w p o a f l e g c read_a read_f read_l h is =
     let third : l ≡ get_or v (p + 2) 0 = get_or_read v (p + 2) l (omega (arith, c.whole)) read_l 0 in
     is ∙ rw (first, second, third, e, g) refl
 
--- a clause after all others
+-- a clause that is appended after all others
 
 single : (c x : ℕ) → Contains (c ∷ []) x → x ≡ c
 single c x (zero, h, e) = sym e
@@ -380,7 +380,7 @@ one_more v items ls i x y within read is front =
 pub one_more_fits : (ls : List ℕ) (i x : ℕ) (P : ℕ → Type 0) → i < length ls → x ≡ get_or ls i x → P x → All P (take i ls) → All P (take (i + 1) ls)
 one_more_fits ls i x P within read fits front = All-more P ls i 0 within front (subst P (get_or_read ls i x within read 0) fits)
 
--- the words of one clause alone
+-- the words of one clause, copied out
 
 part_at : (v : List ℕ) (p m i : ℕ) → i < m → get_or (take m (drop p v)) i 0 ≡ get_or v (p + i) 0
 part_at v p m i small = get_or-take m (drop p v) i 0 small ∙ get_or-drop p v i 0
@@ -417,7 +417,7 @@ lent v w p o n end e f c read is =
     let m : end - p ≡ 3 + get_or w (o + 2) 0 = omega arith in
     rw (e, f) (subst (λ (k : ℕ). Lent (take k (drop o w)) w o) (sym (ap (λ (x : ℕ). end - x) (sym f) ∙ m)) (part_lent w o (3 + get_or w (o + 2) 0) c refl))
 
--- the words of a clause that stands alone, as they are read one by one
+-- reading the words of a clause that was copied out
 
 pub alone_header : (w : List ℕ) → header_of (get_or w 0 0) (get_or w 1 0) (get_or w 2 0) ≡ header_at w 0
 unfolding header_at
@@ -429,7 +429,7 @@ alone_lits w c =
     let n : 3 + get_or w 2 0 - 3 ≡ get_or w 2 0 = omega arith in
     (omega (arith, c.whole), ap (λ (k : ℕ). take k (drop 3 w)) n)
 
--- a clause copied after all others
+-- a clause that is copied and appended after all others
 
 copied_words : (v u : List ℕ) (o m : ℕ) → IsClause u o → m ≡ 3 + get_or u (o + 2) 0 → WroteClause v (v ++ take m (drop o u)) (get_or u o 0) (get_or u (o + 1) 0) (lits_at u o)
 copied_words v u o m c is =
@@ -464,7 +464,7 @@ copied_clause v w x u c o m e place is clause size fit =
     let whole : x ≡ w ++ take m (drop o u) = is ∙ ap (λ (ws : List ℕ). ws ++ take m (drop o u)) e in
     rw (whole, place, e) here
 
--- the same, where the call knows the other buffer's words under another name
+-- the same, if the call's buffers and offset equal those of the clause
 pub copied_by : (v w x u t : List ℕ) (c o p n : ℕ) → v ≡ w → t ≡ u → p ≡ o → c ≡ length v → n ≡ get_or t (p + 2) n → x ≡ v ++ take (p + 3 + n - p) (drop p t) → IsClause u o → All (λ l. l < 2 * var_limit) (lits_at u o) → AppendsClause w x c (header_at u o) (lits_at u o)
 copied_by v w x u t c o p n e same f place read is clause fit =
     let there : n ≡ get_or u (o + 2) 0 = (len_read t u p o n same f clause read).0 ∙ lits_count u o clause in

@@ -1,4 +1,4 @@
--- What a header has after one of its flags was written.
+-- The header after one of its flags was written.
 use Rattle.std.proofs.Common.{◌≡◌, ℕ, ◌+◌, ◌*◌, ◌/◌, ◌%◌, ◌<◌, nat_eq, Bool, true, false, refl, arith}
 use Rattle.std.specs.Int.{from_bool}
 use Rattle.sat_store.specs.clause.Header.{header_of, index_of, tier_of}

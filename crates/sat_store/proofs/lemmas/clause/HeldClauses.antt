@@ -1,4 +1,4 @@
--- For crates above: what a call on one clause leaves of the others that are live.
+-- For callers in other crates: the effect of a call on one clause on the other live clauses.
 use Rattle.std.proofs.Common.{◌≡◌, ◌≢◌, ℕ, ◌+◌, ◌*◌, ◌<◌, ◌≤◌, inl, inr, List, [], length, get_or, arith, sym, ◌∙◌}
 use Rattle.std.proofs.lemmas.List.{get_or_default}
 use Rattle.std.specs.List.{Contains, All}
@@ -7,33 +7,33 @@ use Rattle.sat_store.specs.clause.Header.{Header}
 use Rattle.sat_store.specs.clause.Buffer.{header_at, lits_at, IsClause, HaveNoCommonWord, HoldsClauses, SameClauseAt, ChangesAt, AppendsClause}
 use Rattle.sat_store.proofs.lemmas.clause.BufferLemmas.{lits_count, lit_there, header_len}
 
--- nothing is live in an empty buffer
+-- an empty list of live clauses is always held
 pub holds_none : (words : List ℕ) → HoldsClauses words []
 holds_none words = record {
   clauses = λ o (k, h, e). absurd (omega arith);
   apart = λ o p (k, h, e) has differ. absurd (omega arith);
 }
 
--- a list of some of the live clauses, in any order, is held as well
+-- a list of some of the live clauses, in any order, is also held
 pub holds_among : (words live some : List ℕ) → ((o : ℕ) → Contains some o → Contains live o) → HoldsClauses words live → HoldsClauses words some
 holds_among words live some among holds_clauses = record {
   clauses = λ o has. holds_clauses.clauses o (among o has);
   apart = λ o p has_o has_p differ. holds_clauses.apart o p (among o has_o) (among p has_p) differ;
 }
 
--- a change of one live clause keeps each other one
+-- changing one live clause leaves every other one unchanged
 pub kept_beside : (old new live : List ℕ) (o p : ℕ) → HoldsClauses old live → Contains live o → Contains live p → p ≢ o → ChangesAt old new o → SameClauseAt old new p
 kept_beside old new live o p holds_clauses has_o has_p differ change = change.others p (holds_clauses.clauses p has_p) (holds_clauses.apart o p has_o has_p (λ e. differ (sym e)))
 
--- a clause added keeps each live one, and isn't one of them
+-- appending a clause leaves every live clause unchanged
 pub kept_below : (old new live : List ℕ) (c p : ℕ) (header : Header) (lits : List ℕ) → HoldsClauses old live → Contains live p → AppendsClause old new c header lits → SameClauseAt old new p
 kept_below old new live c p header lits holds_clauses has added = added.others p (holds_clauses.clauses p has)
 
--- the length in the header is that of the literals
+-- the number of literals is the length in the header
 pub same_count : (words : List ℕ) (o : ℕ) → IsClause words o → length (lits_at words o) ≡ (header_at words o).len
 same_count words o clause = lits_count words o clause ∙ sym (header_len words o)
 
--- each literal is the code of one
+-- every literal is the code of a literal
 pub lits_fit : (words : List ℕ) (o : ℕ) → IsClause words o → All (λ l. l < 2 * var_limit) (lits_at words o)
 lits_fit words o clause k d small =
     let n : length (lits_at words o) ≡ get_or words (o + 2) 0 = lits_count words o clause in
@@ -45,7 +45,7 @@ lits_fit words o clause k d small =
 pub clause_within : (words : List ℕ) (o : ℕ) → IsClause words o → o + 3 + length (lits_at words o) ≤ length words
 clause_within words o clause = omega (arith, lits_count words o clause, clause.whole)
 
--- of two live clauses the words of the first end before those of the second begin
+-- if a live clause begins before another, its words end before the other begins
 pub ends_before : (words live : List ℕ) (o p : ℕ) → HoldsClauses words live → Contains live o → Contains live p → o < p → o + 3 + length (lits_at words o) ≤ p
 unfolding HaveNoCommonWord
 ends_before words live o p holds_clauses has_o has_p lt =

@@ -1,4 +1,4 @@
--- Which variables stand among the first m, after two were exchanged.
+-- Which variables are among the first m, after two entries were swapped.
 use Rattle.std.proofs.Common.{◌≡◌, ◌≢◌, ℕ, suc, ◌<◌, ◌≤◌, inl, inr, nat_lt, true, false, List, length, get_or, set, sym, ap, ◌∙◌, arith}
 use Rattle.std.proofs.lemmas.Bool.{cases_eq, cases_lt}
 use Rattle.std.proofs.lemmas.Bool.Decides.{nat_tests}
@@ -31,7 +31,7 @@ flags_same m i j old new a b t =
     ] in
     flag_at m new v (omega (arith, t.count)) ∙ tests ∙ sym (flag_at m old v within))
 
--- the variable at i goes after the first n, where the last of n + 1 stood
+-- the variable at i leaves the first n + 1 entries, swapped with the last of them
 pub flags_taken : (n i u : ℕ) (old new : List ℕ) → i < suc n → u < length old → get_or old u 0 ≡ i → ((v w : ℕ) → v < length old → w < length old → get_or old v 0 ≡ get_or old w 0 → v ≡ w) → Transposes old new i n → flags n new ≡ set (flags (suc n) old) u false
 flags_taken n i u old new a within_u at_u once t =
     let count : length (flags n new) ≡ length (set (flags (suc n) old) u false) = flags_count n new ∙ t.count ∙ sym (flags_count (suc n) old) ∙ sym (length-set (flags (suc n) old) u false) in
@@ -58,7 +58,7 @@ flags_taken n i u old new a within_u at_u once t =
           left ∙ tests ∙ sym (flag_at (suc n) old v within) ∙ sym (get_or-set_other (flags (suc n) old) u v false false differ)
     ])
 
--- the variable at i comes to place n, after the first n
+-- the variable at i joins the first n entries, at position n
 pub flags_given : (n i u : ℕ) (old new : List ℕ) → n ≤ i → u < length old → get_or old u 0 ≡ i → ((v w : ℕ) → v < length old → w < length old → get_or old v 0 ≡ get_or old w 0 → v ≡ w) → Transposes old new i n → flags (suc n) new ≡ set (flags n old) u true
 flags_given n i u old new a within_u at_u once t =
     let count : length (flags (suc n) new) ≡ length (set (flags n old) u true) = flags_count (suc n) new ∙ t.count ∙ sym (flags_count n old) ∙ sym (length-set (flags n old) u true) in

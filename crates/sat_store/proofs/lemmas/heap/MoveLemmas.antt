@@ -1,4 +1,4 @@
--- Variables that are exchanged, and heaps in another order.
+-- Swapping entries, and reordering heaps.
 use Rattle.std.proofs.Common.{◌≡◌, ◌≢◌, ℕ, ◌-◌, ◌/◌, ◌<◌, inl, inr, List, length, nat_eq, if◌then◌else◌, get_or, set, refl, sym, ap, ◌∙◌, arith, subst}
 use Rattle.std.proofs.lemmas.Bool.{cases_eq}
 use Rattle.std.proofs.lemmas.Bool.Decides.{nat_tests}
@@ -7,7 +7,7 @@ use Rattle.sat_store.specs.declared.vsids.heap.Entry.{Entry}
 use Rattle.sat_store.specs.heap.Heap.{no_entry, var_at, key_at, Placed, rank, rank_at, IsFirstChild, FirstAbove, Exchanged, Rearranged, keys}
 use Rattle.sat_store.proofs.lemmas.heap.FlagLemmas.{flags_same}
 
--- the place of i and j that k isn't, or k
+-- the position where the entry at k is after i and j are swapped
 abbrev pub other : ℕ → ℕ → ℕ → ℕ
 other i j k = if nat_eq k i then j else if nat_eq k j then i else k
 
@@ -38,7 +38,7 @@ other_twice i j k = elim (cases_eq k i) [
   ]
 ]
 
--- what each place has, and where each variable stands
+-- that the entries at i and j, and the positions of their variables, were swapped
 pub record Swapped (h : List Entry) (p : List ℕ) (h' : List Entry) (p' : List ℕ) (i j : ℕ) : Type 0 where
   pub count : length h' ≡ length h
   pub counts : length p' ≡ length p
@@ -107,7 +107,7 @@ exchanged h h' p p' i j placed within_i within_j s =
       keys = swapped_keys h h' p p' i j placed s;
     }
 
--- lists that are read so have two exchanged
+-- lists that read as if the entries at i and j were swapped
 pub swapped : (h h' : List Entry) (p p' : List ℕ) (i j : ℕ) → Placed h p → i < length h → j < length h → length h' ≡ length h → length p' ≡ length p → get_or h' j no_entry ≡ get_or h i no_entry → (i ≢ j → get_or h' i no_entry ≡ get_or h j no_entry) → ((k : ℕ) → k ≢ i → k ≢ j → get_or h' k no_entry ≡ get_or h k no_entry) → get_or p' (var_at h i) 0 ≡ j → (var_at h j ≢ var_at h i → get_or p' (var_at h j) 0 ≡ i) → ((v : ℕ) → v ≢ var_at h i → v ≢ var_at h j → get_or p' v 0 ≡ get_or p v 0) → Swapped h p h' p' i j
 swapped h h' p p' i j placed within_i within_j count counts at_j at_i at_else of_i of_j of_else =
     let there : (v k : ℕ) → v < length h → get_or p v 0 ≡ k → v ≡ var_at h k = λ v k within is. sym (placed.variable v within) ∙ ap (var_at h) is in
@@ -139,7 +139,7 @@ swapped h h' p p' i j placed within_i within_j count counts at_j at_i at_else of
       ];
     }
 
--- the two are written one after the other
+-- both entries are written, one after the other
 writing : (h : List Entry) (p : List ℕ) (i j : ℕ) → Placed h p → i < length h → j < length h → Exchanged h p (set (set h i (get_or h j no_entry)) j (get_or h i no_entry)) (set (set p (var_at h j) i) (var_at h i) j) i j
 writing h p i j placed within_i within_j =
     let a : Entry = get_or h i no_entry in
@@ -162,7 +162,7 @@ exchanged_by_writing h p a b i j placed within_i within_j is_a is_b =
     subst (λ (x : Entry). Exchanged h p (set (set h i b) j x) (set (set p b.var i) x.var j) i j) (sym is_a)
     (subst (λ (y : Entry). Exchanged h p (set (set h i y) j (get_or h i no_entry)) (set (set p y.var i) (var_at h i) j) i j) (sym is_b) (writing h p i j placed within_i within_j))
 
--- the hole moves from i to j, whose entry moves into it
+-- the hole moves from i to j, and the entry at j moves into it
 moving : (h : List Entry) (p : List ℕ) (e : Entry) (i j : ℕ) → Placed (set h i e) (set p e.var i) → i < length h → j < length h → i ≢ j → Exchanged (set h i e) (set p e.var i) (set (set h i (get_or h j no_entry)) j e) (set (set p (var_at h j) i) e.var j) i j
 moving h p e i j placed within_i within_j differ =
     let b : Entry = get_or h j no_entry in
@@ -199,7 +199,7 @@ pub exchanged_by_moving : (h : List Entry) (p : List ℕ) (e b : Entry) (i j : �
 exchanged_by_moving h p e b i j placed within_i within_j differ is =
     subst (λ (x : Entry). Exchanged (set h i e) (set p e.var i) (set (set h i x) j e) (set (set p x.var i) e.var j) i j) (sym is) (moving h p e i j placed within_i within_j differ)
 
--- heaps in another order
+-- reordered heaps
 
 pub as_it_is : (m : ℕ) (h : List Entry) (p : List ℕ) → Placed h p → Rearranged m h p h p
 as_it_is m h p placed = record { placed = placed; count = refl; flags = refl; keys = refl }
@@ -212,7 +212,7 @@ one_more_exchanged m i j h h' h'' p p' p'' small_i small_j ex before = record {
   keys = ex.keys ∙ before.keys;
 }
 
--- the hole is where its entry was
+-- an entry that is written back where it was read
 
 pub full_again : (h : List Entry) (at : ℕ) (e : Entry) → e ≡ get_or h at no_entry → set h at e ≡ h
 full_again h at e is = ap (set h at) is ∙ set-get_or h at no_entry
@@ -224,7 +224,7 @@ not_moved m at h p e within is placed =
     let ep : set p e.var at ≡ p = ap (set p e.var) was ∙ set-get_or p e.var 0 in
     rw (full_again h at e is, ep) (as_it_is m h p placed)
 
--- what stands in a list in which an entry is written
+-- the variables of a list in which one entry is written
 
 pub written_listed : (h : List Entry) (at n : ℕ) (e : Entry) → ((k : ℕ) → k < length h → var_at h k < n) → e.var < n → at < length h → (k : ℕ) → k < length (set h at e) → var_at (set h at e) k < n
 written_listed h at n e listed small within k there = elim (cases_eq k at) [
@@ -242,7 +242,7 @@ rank_there h at e within = ap rank (get_or-set_same h at e no_entry within)
 pub rank_elsewhere : (h : List Entry) (at k : ℕ) (e : Entry) → k ≢ at → rank_at (set h at e) k ≡ rank_at h k
 rank_elsewhere h at k e differ = ap rank (get_or-set_other h at k e no_entry differ)
 
--- the child that goes up into the hole, and the end where none does
+-- the child that moves up into the hole
 
 pub child_is_above : (h : List Entry) (m hole child : ℕ) (e : Entry) → hole < length h → FirstAbove h m e hole child → rank_at (set h hole e) hole < rank_at (set h hole e) child
 child_is_above h m hole child e within f =

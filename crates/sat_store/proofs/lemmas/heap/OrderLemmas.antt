@@ -1,4 +1,4 @@
--- Heaps by the rank at each place.
+-- The order of heaps, by the rank at each position.
 use Rattle.std.proofs.Common.{◌≡◌, ℕ, zero, suc, ◌<◌, ◌≤◌, inl, inr, sym, ap, ◌∙◌, arith, subst}
 use Rattle.std.proofs.lemmas.Bool.{cases_eq}
 use Rattle.sat_store.specs.heap.Heap.{parent, Ordered, UpFrom, DownFrom, Exchanges}
@@ -74,7 +74,7 @@ down_step r s m low hole big child some within ex below largest_child from down 
           omega arith;
     }
 
--- nothing is above or below any more
+-- the entry at the hole is in order
 
 pub up_done : (r : ℕ → ℕ) (m hole : ℕ) → (0 < hole → r hole ≤ r (parent hole)) → UpFrom r m hole → Ordered r m 0
 up_done r m hole fits up k pos small low = elim (cases_eq k hole) [
@@ -82,7 +82,7 @@ up_done r m hole fits up k pos small low = elim (cases_eq k hole) [
   | inr differ ↦ up.others k pos small differ
 ]
 
--- the first is the greatest
+-- the first entry ranks highest
 
 top_within : (r : ℕ → ℕ) (m n k : ℕ) → k < n → k < m → Ordered r m 0 → r k ≤ r 0
 top_within r m zero k less small ordered = absurd (omega arith)

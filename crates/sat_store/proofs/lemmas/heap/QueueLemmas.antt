@@ -1,4 +1,4 @@
--- What the calls on a heap of variables leave of it.
+-- The effect of calls on a heap of variables.
 use Rattle.std.proofs.Common.{◌≡◌, ◌≢◌, ℕ, zero, suc, ◌+◌, ◌-◌, ◌*◌, ◌/◌, ◌%◌, ◌^◌, ◌<◌, ◌≤◌, ◌⊎◌, inl, inr, nat_lt, Bool, true, false, cond, List, [], ◌∷◌, ◌++◌, length, map, replicate, get_or, set, refl, sym, ap, ◌∙◌, arith, subst, length-append, append_assoc, max}
 use Rattle.std.proofs.lemmas.Bool.{cases_eq, cases_lt, false≢true}
 use Rattle.std.specs.List.{count_by}
@@ -26,7 +26,7 @@ at_end xs x d n e = get_or_at xs x [] d n e
 one_longer : {A : Type 0} (xs : List A) (x : A) → length (xs ++ x ∷ []) ≡ length xs + 1
 one_longer xs x = omega (arith, length-append xs (x ∷ []))
 
--- a variable after all others, of activity 0
+-- the entry of a new variable, with activity 0
 abbrev pub newcomer : ℕ → Entry
 newcomer v = record { key = 0; var = v }
 
@@ -128,13 +128,13 @@ below_limit a v x u limit small fits = elim (cases_eq u v) [
   | inr differ ↦ let e : get_or (set a v x) u 0 ≡ get_or a u 0 = get_or-set_other a v u x 0 differ in omega (arith, small u)
 ]
 
--- an activity written
+-- writing an activity
 
 -- the entry with another activity
 abbrev pub with_key : ℕ → Entry → Entry
 with_key x e = record e { key = x }
 
--- the list in which the entry at a place has another activity
+-- the list in which the entry at a position has another activity
 abbrev pub keyed : List Entry → ℕ → ℕ → List Entry
 keyed h at x = set h at (with_key x (get_or h at no_entry))
 
@@ -147,7 +147,7 @@ keyed_same h at x k differ = get_or-set_other h at k (with_key x (get_or h at no
 keyed_at : (h : List Entry) (at x : ℕ) → at < length h → get_or (keyed h at x) at no_entry ≡ with_key x (get_or h at no_entry)
 keyed_at h at x within = get_or-set_same h at (with_key x (get_or h at no_entry)) no_entry within
 
--- the variables stand where they stood
+-- variables that keep their positions are still placed
 placed_again : (h h' : List Entry) (p : List ℕ) → Placed h p → length h' ≡ length h → ((k : ℕ) → k < length h → var_at h' k ≡ var_at h k) → Placed h' p
 placed_again h h' p placed count same = record {
   count = count ∙ placed.count;
@@ -185,7 +185,7 @@ keyed_keys h p v at x placed within is =
           ap (λ (e : Entry). e.key) (keyed_same h at x (get_or p u 0) apart) ∙ sym (key_of h p u there) ∙ sym (get_or-set_other (keys h p) v u x 0 differ)
     ])
 
--- after the first m
+-- an activity after the first m entries may change
 pub keyed_after : (h : List Entry) (m at x : ℕ) → m ≤ at → Ordered (rank_at h) m 0 → Ordered (rank_at (keyed h at x)) m 0
 keyed_after h m at x following ordered = same_order (rank_at h) (rank_at (keyed h at x)) m (λ k small. ap rank (keyed_same h at x k (omega arith))) ordered
 
@@ -198,14 +198,14 @@ keyed_heap h p m v at x heap within is following fits = record {
   ordered = keyed_after h m at x following heap.ordered;
 }
 
--- the same of an entry that was read before
+-- the same for an entry that was read before
 pub written_key : (h : List Entry) (at x : ℕ) (e : Entry) → at < length h → e ≡ get_or h at e → set h at (record { key = x; var = e.var }) ≡ keyed h at x
 written_key h at x e within is = ap (λ (r : Entry). set h at (with_key x r)) (get_or_read h at e within is no_entry)
 
 pub place_read : (p : List ℕ) (i v at : ℕ) → i < length p → i ≡ v → at ≡ get_or p i at → get_or p v 0 ≡ at
 place_read p i v at within same is = sym (get_or_read p i at within is 0 ∙ ap (λ (x : ℕ). get_or p x 0) same)
 
--- the activity of a variable, by its place
+-- the activity of a variable, from its position
 pub key_there : (h : List Entry) (p : List ℕ) (m v at : ℕ) → IsHeap h p m → v < length h → get_or p v 0 ≡ at → key_at h at ≡ get_or (keys h p) v 0
 key_there h p m v at heap within is = sym (key_of h p v (omega (arith, heap.placed.count)) ∙ ap (key_at h) is)
 
@@ -215,7 +215,7 @@ after_those p m v within flag = elim (cases_lt (get_or p v 0) m) [
   | inr more ↦ more
 ]
 
--- a smaller scale
+-- rescaling
 
 pub scaled_at : (a : List ℕ) (v : ℕ) → get_or (map (λ x. x / 2 ^ 40) a) v 0 ≡ get_or a v 0 / 2 ^ 40
 scaled_at a v = elim (cases_lt v (length a)) [
@@ -229,7 +229,7 @@ scaled_at a v = elim (cases_lt v (length a)) [
 pub scaled_small : (a : List ℕ) (v : ℕ) → ((w : ℕ) → get_or a w 0 < 2 ^ 61) → get_or (map (λ x. x / 2 ^ 40) a) v 0 < 2 ^ 60
 scaled_small a v small = omega (arith, scaled_at a v, small v)
 
--- an entry past the end has activity 0
+-- rescaling the activity at a position, also past the end
 scaled_entry : (h : List Entry) (k : ℕ) → key_at (map scaled h) k ≡ key_at h k / 2 ^ 40
 scaled_entry h k = elim (cases_lt k (length h)) [
   | inl within ↦ ap (λ (e : Entry). e.key) (get_or-map scaled h k no_entry no_entry within)
@@ -253,7 +253,7 @@ scaled_keys h p =
     let within : v < length p = omega (arith, keys_count (map scaled h) p) in
     key_of (map scaled h) p v within ∙ scaled_entry h (get_or p v 0) ∙ ap (λ (x : ℕ). x / 2 ^ 40) (sym (key_of h p v within)) ∙ sym (scaled_at a v))
 
--- lists that grow by one element
+-- lists that grow by one item
 
 pub one_more_copy {ℓ} : {X : Type ℓ} → (xs ys : List X) (x : X) (k : ℕ) → ys ≡ xs ++ replicate k x → ys ++ x ∷ [] ≡ xs ++ replicate (k + 1) x
 one_more_copy xs ys x k is = ap (λ zs. zs ++ x ∷ []) is ∙ append_assoc xs (replicate k x) (x ∷ []) ∙ ap (λ zs. xs ++ zs) (replicate-append-replicate k 1 x)
@@ -267,7 +267,7 @@ one_more_added h h' p p' i some count placed adds =
       keys = grown ∙ one_more_copy (keys h p) (keys h' p') 0 (i - length h) adds.keys ∙ ap (λ (k : ℕ). keys h p ++ replicate k 0) (sym more);
     }
 
--- after a change of scale and a new order
+-- after rescaling and reordering
 
 pub heap_again : (h mid h' : List Entry) (p p' : List ℕ) (m : ℕ) → IsHeap h p m → length mid ≡ length h → Rearranged m mid p h' p' → ((v : ℕ) → get_or (keys mid p) v 0 < 2 ^ 60) → Ordered (rank_at h') m 0 → IsHeap h' p' m
 heap_again h mid h' p p' m heap count same small ordered = record {
@@ -278,7 +278,7 @@ heap_again h mid h' p p' m heap count same small ordered = record {
   ordered = ordered;
 }
 
--- a quotient of a thousandfold, in parts that fit
+-- a quotient of 1000 times a number, computed without overflow
 
 pub thousandfold : (b d : ℕ) → 0 < d → b / d * 1000 + (b % d * 1000 + d - 1) / d ≡ (b * 1000 + d - 1) / d
 thousandfold b d some =
@@ -315,7 +315,7 @@ bumped_large q v x n f a is large same raised bump =
     let t : nat_lt (activity_of q v + q.bump) (2 ^ 60) ≡ false = from_test (activity_of q v + q.bump) (2 ^ 60) (subst (λ (y : ℕ). 2 ^ 60 ≤ y) is large) in
     rw (same, raised, bump, is, t) refl
 
--- a variable comes among the first, or leaves them
+-- a variable leaves the first entries; the last of them takes its position, and may have to move up or down
 
 pub taken_up : (r s : ℕ → ℕ) (last i : ℕ) → 0 < i → i < last → Exchanges r s i last → s (parent i) < s i → Ordered r (last + 1) 0 → UpFrom s last i
 taken_up r s last i some within ex above ordered =
@@ -346,7 +346,7 @@ taken_down r s last i within ex fits ordered = record {
       omega (arith, ex.others k (omega arith) (omega arith), ex.others (parent i) (omega arith) (omega arith), ordered k pos (omega arith) (omega arith), ordered i some (omega arith) (omega arith));
 }
 
--- where the variable that comes or goes was exchanged with the one after the first
+-- after a swap of two entries and a reordering, which put one variable more or fewer among the first
 
 pub heap_of : (h h' h'' : List Entry) (p p' p'' : List ℕ) (m n i j : ℕ) → IsHeap h p m → Exchanged h p h' p' i j → Rearranged n h' p' h'' p'' → n ≤ length h → Ordered (rank_at h'') n 0 → IsHeap h'' p'' n
 heap_of h h' h'' p p' p'' m n i j heap ex same within ordered = record {
@@ -357,7 +357,7 @@ heap_of h h' h'' p p' p'' m n i j heap ex same within ordered = record {
   ordered = ordered;
 }
 
--- the one in front goes before all others
+-- the first entry is picked first
 
 flag_true : (m : ℕ) (p : List ℕ) (u : ℕ) → get_or (flags m p) u false ≡ true → (u < length p) × (get_or p u 0 < m)
 flag_true m p u flag = elim (cases_lt u (length p)) [
@@ -403,7 +403,7 @@ none_flagged p v = elim (cases_lt v (length p)) [
 pub set_again : (xs : List Bool) (v : ℕ) (b : Bool) → get_or xs v false ≡ b → set xs v b ≡ xs
 set_again xs v b is = ap (λ (x : Bool). set xs v x) (sym is) ∙ set-get_or xs v false
 
--- the flags after a variable was taken out, or put in
+-- the flags after a variable left the first entries or joined them
 
 pub taken_flags : (h : List Entry) (p p' : List ℕ) (m i : ℕ) → Placed h p → i < m → m ≤ length h → Transposes p p' i (m - 1) → flags (m - 1) p' ≡ set (flags m p) (var_at h i) false
 taken_flags h p p' zero i placed within few t = absurd (omega arith)
@@ -428,7 +428,7 @@ stays_available p m v within less = set_again (flags m p) v true (flag_at m p v 
 pub stays_unavailable : (p : List ℕ) (m v : ℕ) → v < length p → m ≤ get_or p v 0 → set (flags m p) v false ≡ flags m p
 stays_unavailable p m v within more = set_again (flags m p) v false (flag_at m p v within ∙ from_test (get_or p v 0) m more)
 
--- how many may be picked
+-- how many variables may be picked
 
 pub one_fewer_true : (f : List Bool) (u : ℕ) → u < length f → get_or f u false ≡ true → count_by (λ b. b) (set f u false) + 1 ≡ count_by (λ b. b) f
 one_fewer_true f u within flag =

@@ -1,4 +1,4 @@
--- What a filter of levels lets pass.
+-- Which levels pass a filter.
 use Rattle.std.proofs.Common.{◌≡◌, ◌≢◌, ℕ, ◌*◌, ◌^◌, ◌%◌, ◌/◌, ◌<◌, true, false, bit_or, bit_and, if◌then◌else◌, inl, inr, refl, ap, arith}
 use Rattle.std.proofs.lemmas.Bool.{cases_eq}
 use Rattle.std.proofs.lemmas.Bool.Decides.{nat_tests}

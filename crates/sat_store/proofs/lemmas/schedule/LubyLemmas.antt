@@ -64,7 +64,7 @@ luby_by_bound k t less =
     let e : t + k ≡ k + t = omega arith in
     sym (stable k t t less) ∙ ap (λ (n : ℕ). luby_below n t) e ∙ stable t k t (pow_above t)
 
--- the definition in words: term 2 ^ (k + 1) - 1 is 2 ^ k, and each other one from 2 ^ k on is that of t - 2 ^ k + 1
+-- the sequence: term 2 ^ (k + 1) - 1 is 2 ^ k; any other term t from 2 ^ k on is term t - 2 ^ k + 1
 
 pub luby_last : (k : ℕ) → luby (2 ^ suc k - 1) ≡ 2 ^ k
 luby_last k =
@@ -77,7 +77,7 @@ luby_rest k t from less =
     ∙ below_rest k t (omega (arith, pow_double k, pow_pos k)) from
     ∙ luby_by_bound k (t - 2 ^ k + 1) (omega (arith, pow_double k, pow_pos k))
 
--- the same at a bound of b, where h is 2 ^ (b - 1)
+-- the same for `luby_below` with bound b, where h is 2 ^ (b - 1)
 
 pub step_last : (b t h : ℕ) → 0 < b → h ≡ 2 ^ (b - 1) → t ≡ h - 1 + h → luby_below b t ≡ h
 step_last zero t h some is last = absurd (omega arith)
