@@ -22,7 +22,7 @@ taken_append [] ys earlier = refl
 taken_append (x ∷ xs) ys earlier = taken_append xs ys (x ∷ earlier)
 
 -- STEPS THAT WERE READ
--- that `bytes` spell the steps of the certificate after those read so far
+-- that `bytes` are the text of the steps after those read so far, and then `more`
 pub record Left (steps read : List Step) (bytes more : List ℕ) : Type 0 where
   pub tail : List Step
   pub all : steps ≡ read ++ tail

@@ -167,7 +167,7 @@ signed_begins c true n rest k e m = let s = says_decimal n k in plain_begins c (
 signed_begins c false n rest k e m = begins c 45 (decimal n ++ rest) refl ∙ (grind (arith, nat_tests))
 
 -- A CLAUSE'S LINE
--- each literal is within the limit
+-- every literal is within the limit
 abbrev Within : List ℕ → Type 0
 Within = AllByRecursion (λ l. variable l < var_limit)
 
@@ -303,7 +303,7 @@ lines_header v c rest h k =
     ∙ lines_front (decimal v) (32 ∷ ((decimal c ++ 10 ∷ []) ++ rest)) (32 ∷ (decimal c ++ 10 ∷ [])) (lines rest) (solid_on_line (decimal v) (digits_solid (decimal v) s.all)) two in
     lines_front (codes "p cnf ") ((decimal v ++ (32 ∷ (decimal c ++ 10 ∷ []))) ++ rest) (decimal v ++ (32 ∷ (decimal c ++ 10 ∷ []))) (lines rest) (refl, (refl, (refl, (refl, (refl, (refl, tt)))))) three
 
--- THE WHOLE TEXT
+-- THE COMPLETE TEXT
 text_tokens : (v c : ℕ) (cs : List (List ℕ)) → v < 2 ^ 64 → c < 2 ^ 64
     → tokens_of true 0 (lines (header_line v c ++ clause_lines cs)) ≡ (0 + 1, Header v c) ∷ tokens_of false (0 + 1) (lines (clause_lines cs))
 text_tokens v c cs h k =

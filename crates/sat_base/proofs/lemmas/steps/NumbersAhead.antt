@@ -6,7 +6,7 @@ use Rattle.sat_base.specs.device.TakenAhead.{IsEncodedBetween, from}
 use Rattle.sat_base.specs.steps.Numbers.{IsBelow}
 use Rattle.sat_base.proofs.lemmas.steps.Numbers.{Front, front_none, front_more, last_read}
 
--- that the groups between `whole` and `rest` have this value, and the number in `rest` has weight `place`
+-- that `whole` begins with groups of this value before `rest`, and the number in `rest` has weight `place`
 pub record LookedAt (value place : ℕ) (whole rest : List ℕ) : Type 0 where
   pub front : List ℕ
   pub is : Front front value place

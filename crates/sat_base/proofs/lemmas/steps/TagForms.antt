@@ -1,4 +1,4 @@
--- The fields after each tag. A new tag needs its `.._back` and `.._form`, and a line in `after_one`
+-- The fields after every tag. A new tag needs its `.._back` and `.._form`, and a line in `after_one`
 -- and in `known` of `StepReads`.
 use Rattle.std.proofs.Common.{◌≡◌, ℕ, Bool, Option, List, [], Result, Ok, Err, refl, sym, ap, ◌∙◌, arith}
 use Rattle.sat_base.specs.declared.steps.error.StepError.{StepError}

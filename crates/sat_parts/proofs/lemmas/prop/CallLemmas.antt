@@ -83,7 +83,7 @@ lists_added o a b w = elim (cases_Bool w.enabled) [
       (ap (λ (x : Watching). length x.lists) e, ap (λ (x : Watching). x.enabled) e)
 ]
 
--- enabled watch lists watch the new clause
+-- enabled watch lists get the watches of the new clause
 watched_added : (words words' : List ℕ) (db db' : Db) (o count : ℕ) (header : Header) (lits : List ℕ) (w : Watching) → AddsLongClause words db words' db' o header lits →
     HoldsClauses words db.refs → 3 ≤ length lits → ((k : ℕ) → k < length lits → get_or lits k 0 < 2 * count) → w.enabled ≡ true → AreWatched words (live_refs words db.refs) w.lists count →
     AreWatched words' (live_refs words' db'.refs) (with_clause_watches o (get_or lits 0 0) (get_or lits 1 0) w).lists count

@@ -64,7 +64,7 @@ half_kept w v live s lists list lit kept at p l h lt at_p e two has sat =
           ];
     }
 
--- the watch at index `at` is dropped, because lit does not watch its clause
+-- the watch at index `at` is dropped, because its clause does not watch the negation of lit
 pub half_stale : (w live : List ℕ) (s : State) (lists : List (List Watch)) (list : List Watch) (lit kept at p : ℕ) →
     WalkInvariant w live s lists list lit kept at → at < length list → p ≡ (get_or list at no_watch).cref →
     lit_of w p 0 ≢ negated lit → lit_of w p 1 ≢ negated lit →
@@ -87,7 +87,7 @@ half_stale w live s lists list lit kept at p h lt at_p n0 n1 = record {
   ];
 }
 
--- the watch at index `at` is dropped; the new second literal, which is not false, watches the clause
+-- the watch at index `at` is dropped; its clause watches its new second literal instead, which is not false
 pub half_moved : (w v live : List ℕ) (s : State) (lists : List (List Watch)) (list : List Watch) (lit kept at p : ℕ) →
     WalkInvariant w live s lists list lit kept at → at < length list → p ≡ (get_or list at no_watch).cref →
     PermutesClause w v p → IsOther w v p (negated lit) → (IsFalseLit s.values (lit_of v p 1) → ⊥) →

@@ -100,7 +100,7 @@ not_watched w p lit n0 n1 = at_two (λ i. negated (lit_of w p i) ≢ lit)
     (λ e. n0 (sym (negated_twice (lit_of w p 0)) ∙ ap (λ z. negated z) e))
     (λ e. n1 (sym (negated_twice (lit_of w p 1)) ∙ ap (λ z. negated z) e))
 
--- the watch at index `at` is dropped, because lit does not watch its clause
+-- the watch at index `at` is dropped, because its clause does not watch the negation of lit
 pub walked_stale : (w live : List ℕ) (lists : List (List Watch)) (list : List Watch) (lit kept at count p : ℕ) →
     AreWalked w live lists list lit kept at count → at < length list → p ≡ (get_or list at no_watch).cref →
     lit_of w p 0 ≢ negated lit → lit_of w p 1 ≢ negated lit →
@@ -166,7 +166,7 @@ first_second ls d long e = zero_one 0 1 refl refl (d 0 1 (omega arith) (omega ar
     zero_one : (a b : ℕ) → a ≡ 0 → b ≡ 1 → a ≡ b → ⊥
     zero_one a b p q r = omega arith
 
--- after a visit, lit does not watch the first literal, because the clause has no literal twice
+-- after a visit, the first literal is not the negation of lit, because the clause has no literal twice
 pub first_other : (w v : List ℕ) (p lit : ℕ) → AreDistinct (lits_at w p) → 2 ≤ size_of w p → IsOther w v p (negated lit) → negated (lit_of v p 0) ≢ lit
 first_other w v p lit d long other r =
     let fl : lit_of v p 0 ≡ negated lit = sym (negated_twice (lit_of v p 0)) ∙ ap (λ z. negated z) r in
@@ -175,7 +175,7 @@ first_other w v p lit d long other r =
       | inr s ↦ first_second (lits_at w p) d long (s.0 ∙ sym fl ∙ s.1)
     ]
 
--- the watch at index `at` is dropped, and the new second literal watches the clause
+-- the watch at index `at` is dropped, and its clause watches its new second literal instead
 pub walked_moved : (w v live : List ℕ) (lists : List (List Watch)) (list : List Watch) (lit kept at count p : ℕ) →
     AreClauses w live count → AreClauses v live count → AreWalked w live lists list lit kept at count → at < length list → p ≡ (get_or list at no_watch).cref →
     PermutesClause w v p → IsOther w v p (negated lit) → negated (lit_of v p 1) ≢ lit →

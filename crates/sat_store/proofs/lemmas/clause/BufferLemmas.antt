@@ -82,7 +82,7 @@ changes_at v w o was now size shorter below above =
       };
     }
 
--- one literal written
+-- writing one literal
 
 at_other : (w : List ℕ) (i j x : ℕ) → j ≢ i → get_or (set w i x) j 0 ≡ get_or w j 0
 at_other w i j x differ = get_or-set_other w i j x 0 differ
@@ -211,7 +211,7 @@ wrote_two v w p o i j x y e f c h k read_x read_y =
     } in
     rw (e, f, x_is, y_is) here
 
--- a header written
+-- writing a header
 
 record WroteHeader (w v : List ℕ) (o a f l : ℕ) : Type 0 where
   first : get_or v o 0 ≡ a
