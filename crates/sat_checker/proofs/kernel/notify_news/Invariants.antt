@@ -5,7 +5,7 @@ use Rattle.sat_checker.specs.listeners.Hearing.{hearers, HearsAll, HearsFirst, H
 use Rattle.sat_checker.specs.listeners.ProcessingView.{HearsEach}
 use Rattle.sat_checker.proofs.kernel.notify_news.Given as goal
 
--- who hears what is left has heard all
+-- if the listeners now hear the remaining announcements, they have heard all of them
 abbrev pub invariant-loop-place : goal.invariant-loop-place
 invariant-loop-place g l = record {
   all : (m : _) → HearsAll (HearsFirst g.O.ProofProcessor.takes (HearsEach g.P.ProofProcessor.takes g.T.ProofTranscriptProcessor.reads))

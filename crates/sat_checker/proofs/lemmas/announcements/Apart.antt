@@ -1,4 +1,4 @@
--- No variable has two units, also among the first units of a step.
+-- No variable has two units, even after some units of a step were added.
 use Rattle.std.proofs.Common.{ℕ, ◌/◌, ◌≡◌, Bool, true, false, cond, eqb, List, [], ◌∷◌, ◌++◌, map, refl, sym, arith}
 use Rattle.std.proofs.lemmas.Bool.{or_from, or_parts, eqb-false, ne_eqb}
 use Rattle.sat_base.specs.values.Literals.{variable, negated}
@@ -10,7 +10,7 @@ use Rattle.sat_checker.specs.Accepts.{VariablesApart}
 abbrev literals_in : List StoredUnit → List ℕ
 literals_in = map (λ u. u.literal)
 
--- neither sign is there: the variable isn't
+-- if neither a literal nor its negation is in the list, its variable is not mentioned
 not_mentioned : (ls : List ℕ) (l : ℕ) → is_among ls l ≡ false → is_among ls (negated l) ≡ false → mentions ls (variable l) ≡ false
 not_mentioned [] l n m = refl
 not_mentioned (x ∷ xs) l n m =

@@ -1,4 +1,4 @@
--- What a conflict rests on is what is found by following it backwards.
+-- `conflict_causes` gives exactly what following the conflict backwards finds.
 use Rattle.std.proofs.Common.{ℕ, ◌≡◌, Bool, true, false, not, ◌||◌, cond, eqb, List, [], ◌∷◌, ◌++◌, map, filter, refl, sym, ◌∙◌, ap, subst, None, ◌⊎◌, inl, inr}
 use Rattle.std.proofs.lemmas.Bool.{or_cases, or_left, or_right, or_parts, both_ways, eqb-true, eq-eqb, eqb-false, ne_eqb, true≢false, false_from_ne_true}
 use Rattle.std.specs.List.{AllByRecursion}
@@ -14,7 +14,7 @@ use Rattle.sat_checker.proofs.lemmas.meaning.Clauses.{literals_of}
 use Rattle.sat_checker.proofs.lemmas.sets.Members.{each_at}
 use Rattle.sat_checker.proofs.lemmas.announcements.Grounds.{among_negated, Says, verdict_says}
 
--- a negation comes from a literal
+-- a member of the negated list is the negation of a member
 record Negation (ls : List ℕ) (m : ℕ) : Type 0 where
   literal : ℕ
   within : is_among ls literal ≡ true
@@ -70,7 +70,7 @@ among_either (x ∷ xs) ys m e =
       | inr k ↦ elim (among_either xs ys m k) [ inl a ↦ inl (or_right (eqb x m) (is_among xs m) a) | inr b ↦ inr b ]
     ]
 
--- a clause that rests is neither falsified nor unit
+-- if all literals of a clause are false, none is left; a clause with verdict `rests` is neither falsified nor unit
 all_gone : (assumed clause : List ℕ) → IsFalsified assumed clause → not_false assumed clause ≡ []
 all_gone assumed [] h = refl
 all_gone assumed (l ∷ ls) h = rw h.0 (all_gone assumed ls h.1)
@@ -100,7 +100,7 @@ never_unit assumed clause n e o u =
     let j : opens o ≡ rests = subst (λ b. cond b rests (opens o) ≡ rests) u.not_true k in
     absurd cc
 
--- with one more reason, what was needed is
+-- a needed literal is still needed after another reason is added
 still_needed : (r : Reason) (rs : List Reason) (last : StoredClause) (m : ℕ) → IsNeededLiteral rs last m → IsNeededLiteral (r ∷ rs) last m
 still_needed r rs last m (of_last l h) = of_last l h
 still_needed r rs last m (of_reason s l k n h d) = of_reason s l (inr k) (still_needed r rs last s.literal n) h d
@@ -120,7 +120,7 @@ map_each : (P Q : Reason → Type 0) (rs : List Reason) → ((r : Reason) → P 
 map_each P Q [] w h = tt
 map_each P Q (r ∷ rs) w h = (w r h.0, map_each P Q rs w h.1)
 
--- it is the ground, and what the reasons made true wasn't assumed
+-- the causes are exact, and no literal that a reason implied was assumed
 pub record Followed (assumed : List ℕ) (cs : List StoredClause) (g : ConflictCauses) : Type 0 where
   pub is_ground : IsConflictCauses assumed cs g
   pub fresh : AllByRecursion (λ r. is_among assumed r.literal ≡ false) is_ground.reasons
@@ -161,7 +161,7 @@ module _ (assumed : List ℕ) (c : StoredClause) (cs : List StoredClause) where
     fresh_still : AllByRecursion (λ r. is_among assumed r.literal ≡ false) d.is_ground.reasons
     fresh_still = map_each (λ r. is_among (o ∷ assumed) r.literal ≡ false) (λ r. is_among assumed r.literal ≡ false) d.is_ground.reasons (λ r e. (or_parts (eqb o r.literal) (is_among assumed r.literal) e).1) d.fresh
 
-    -- the negations of the other literals were assumed
+    -- the negations of all literals of the unit clause but the implied one are assumed
     others_assumed : (m : ℕ) → is_among (others_denied o c.literals) m ≡ true → is_among assumed m ≡ true
     others_assumed m e =
         let n = from_negated (filter (λ x. not (eqb x o)) c.literals) m e in

@@ -1,4 +1,4 @@
--- What a clause that passes rests on, by cases: both signs of a variable, a unit that is true in it, or a conflict.
+-- What a clause that passes rests on, by cases: a tautology, a unit that satisfies it, or a conflict.
 use Rattle.std.proofs.Common.{ℕ, ◌≡◌, Bool, true, false, cond, List, [], ◌∷◌, ◌++◌, map, Some, None, sym, ◌∙◌, ap}
 use Rattle.std.specs.List.{list_any}
 use Rattle.sat_base.specs.values.Literals.{negated}
@@ -16,7 +16,7 @@ module _ (clause literals : List ℕ) (set : literals ≡ canonical clause) wher
   no_unit_true us e =
       any_none (is_among (map (λ u. u.literal) us)) clause (λ m k. true_missing (canonical clause) us (ap (λ ls. true_unit ls us) (sym set) ∙ e) m (canonical_among clause m ∙ k))
 
-  -- neither both signs nor a unit that is true: what the check says of a conflict holds
+  -- if the clause is no tautology and no unit satisfies it, what the check says about a conflict holds
   pub met_conflict : (us : List StoredUnit) (both : Bool) (E : Type 0) → both ≡ is_tautology literals → both ≡ false → true_unit literals us ≡ None → (list_any (is_among (map (λ u. u.literal) us)) clause ≡ false → is_tautology clause ≡ false → E) → E
   met_conflict us both E s n e h = h (no_unit_true us e) (sym signs_of ∙ sym s ∙ n)
 

@@ -1,4 +1,4 @@
--- Worked rows of each announcement, by computing.
+-- Worked examples of announcements about clauses, proved by computing.
 use Rattle.std.proofs.Common.{refl, inl, inr, lit<}
 use Rattle.sat_checker.specs.Propagation.{unit_true, tautology}
 use Rattle.sat_checker.specs.announcements.Rows.{InputNew, InputDuplicate, InputRedundant, InputUnitAgain, InputTautology, InputAfterUnsat, DerivedNew, DerivedIrredundant, DerivedRedundantAgain, DerivedIrredundantAgain, DerivedUnitAgain, DerivedTautology, RedundantGone, RedundantStays, SatisfiedGone, SatisfiedKept, SimplifiedGone, SimplifiedByEmpty, SatisfiedStays}

@@ -1,4 +1,4 @@
--- What a deleted clause rests on, and the order of what is reported.
+-- What a deleted clause rests on, and the order of announcements.
 use Rattle.std.proofs.Common.{ℕ, ◌≡◌, Bool, true, false, cond, eqb, List, [], ◌∷◌, map, refl, sym, ◌∙◌, ap, subst, Option, Some, None, inl, inr}
 use Rattle.std.proofs.lemmas.Bool.{both_ways, eqb-true}
 use Rattle.std.specs.List.{AllByRecursion, list_any}
@@ -18,7 +18,7 @@ use Rattle.sat_checker.proofs.lemmas.announcements.Sorted.{sorted_ready}
 use Rattle.sat_checker.proofs.lemmas.announcements.Grounds.{among_negated}
 use Rattle.sat_checker.proofs.lemmas.announcements.Rests.{rests_on_unit, true_missing}
 
--- the unit and the clause of an id
+-- the stored unit or clause with this id
 pub record UnitNumbered (us : List StoredUnit) (id : ℕ) (ls : List ℕ) : Type 0 where
   pub unit : StoredUnit
   pub stored : IsOneOf unit us
@@ -47,7 +47,7 @@ signed id ls (c ∷ cs) e = go (signed id ls cs) (eqb c.id id) refl e
     go ih true s k = record { clause = c; stored = inl refl; id_is = eqb-true c.id id s; literals_are = cc }
     go ih false s k = let w = ih k in record { clause = w.clause; stored = inr w.stored; id_is = w.id_is; literals_are = w.literals_are }
 
--- a part of a clause is falsified under its negated literals
+-- if all literals of a clause are false, every part of it is falsified
 part_falsified : (part clause : List ℕ) → is_part part clause ≡ true → IsFalsified (map negated clause) part
 part_falsified part clause e = go part (each_true (is_among clause) part e)
   where

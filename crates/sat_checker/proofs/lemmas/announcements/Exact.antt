@@ -1,4 +1,4 @@
--- Propagations are just what the conflict rests on.
+-- Propagations are exactly what the conflict rests on.
 use Rattle.std.proofs.Common.{ℕ, ◌≡◌, true, false, cond, eqb, List, [], ◌∷◌, ◌++◌, map, refl, sym, ◌∙◌, ap, subst, Option, Some, None, inl, inr}
 use Rattle.std.proofs.lemmas.Bool.{or_left, or_right, both_ways, eq-eqb, false_from_ne_true}
 use Rattle.std.specs.List.{AllByRecursion, list_any}
@@ -27,7 +27,7 @@ one_among u (w ∷ ws) h =
       | inr k ↦ or_right (eqb w.literal u.literal) (is_among (map (λ x. x.literal) ws) u.literal) (one_among u ws k)
     ]
 
--- each of some clauses that are stored
+-- what holds for every member of a list holds for all of it
 each_named : (P : StoredClause → Type 0) (cs : List StoredClause) → ((c : StoredClause) → IsOneOf c cs → P c) → AllByRecursion P cs
 each_named P [] h = tt
 each_named P (c ∷ cs) h = (h c (inl refl), each_named P cs (λ d k. h d (inr k)))

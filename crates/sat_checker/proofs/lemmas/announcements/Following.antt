@@ -1,4 +1,4 @@
--- The ground of a conflict, clause by clause: from the start on, reasons are put after those passed before.
+-- The causes of a conflict, clause by clause: every new reason is appended to the reasons so far.
 use Rattle.std.proofs.Common.{ℕ, ◌≡◌, List, [], ◌∷◌, ◌++◌, map, refl, sym, ◌∙◌, ap}
 use Rattle.sat_base.specs.values.Literals.{negated}
 use Rattle.sat_checker.specs.Stored.{StoredClause}

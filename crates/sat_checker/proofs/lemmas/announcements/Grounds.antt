@@ -1,4 +1,4 @@
--- The clauses that a conflict rests on are unit in turn, the last falsified, under what it rests on of the assumed literals.
+-- The clauses that a conflict rests on are unit in turn under the needed literals, the last one falsified.
 use Rattle.std.proofs.Common.{ℕ, ◌≡◌, Bool, true, false, not, cond, eqb, List, [], ◌∷◌, ◌++◌, map, filter, refl, sym, ap, subst, None, ◌⊎◌, inl, inr}
 use Rattle.std.proofs.lemmas.Bool.{or_cases, or_left, or_right, both_ways, eqb-true, eq-eqb, true≢false, false_from_ne_true}
 use Rattle.std.specs.List.{AllByRecursion}
@@ -34,7 +34,7 @@ among_filter p (l ∷ ls) m e t = go (λ k. among_filter p ls m k t) (p l) refl 
     go ih false x (inl s) = absurd (both_ways (p l) x (subst (λ y. p y ≡ true) (sym (eqb-true l m s)) t))
     go ih false x (inr k) = ih k
 
--- what a clause says
+-- what the verdict on a clause says
 abbrev pub Says : List ℕ → List ℕ → Verdict → Type 0
 Says assumed clause falsified = IsFalsified assumed clause
 Says assumed clause (opens l) = IsUnit assumed clause l
@@ -87,16 +87,16 @@ verdict_says assumed clause = go (not_false assumed clause) refl
     go (o ∷ []) e = marked o e (is_among assumed o) refl
     go (o ∷ p ∷ ls) e = tt
 
--- one more clause in front, which is unit
+-- a unit clause can be put before clauses that are unit in turn once its literal is assumed
 pub unit_front : (known clause : List ℕ) (o : ℕ) (rest : List (List ℕ)) → IsUnit known clause o → UnitInTurn (o ∷ known) rest → UnitInTurn known (clause ∷ rest)
 unit_front known clause o [] u r = absurd r
 unit_front known clause o (c ∷ cs) u r = (o, u, r)
 
--- what isn't in the longer list isn't in the shorter one
+-- a literal that is not in the larger list is not in the smaller one
 not_within : (fewer more : List ℕ) (m : ℕ) → Within fewer more → is_among more m ≡ false → is_among fewer m ≡ false
 not_within fewer more m w e = false_from_ne_true (is_among fewer m) (λ t. both_ways (is_among more m) e (w.each m t))
 
--- the literals known are assumed, and among them are all assumed ones that the conflict rests on
+-- the known literals are assumed, and include every assumed literal that is needed
 pub record Covers (known assumed needed : List ℕ) : Type 0 where
   pub within : Within known assumed
   pub enough : (m : ℕ) → is_among needed m ≡ true → is_among assumed m ≡ true → is_among known m ≡ true
@@ -138,7 +138,7 @@ after_covers known assumed front following o k = record {
     later [] m e = e
     later (x ∷ xs) m e = or_right (eqb x m) (is_among (xs ++ following) m) (later xs m e)
 
--- the literal that was opened isn't needed
+-- an implied literal that is not needed can be left out of the known literals
 aside_covers : (known assumed following : List ℕ) (o : ℕ) → is_among following o ≡ false → Covers known assumed following → Covers known (o ∷ assumed) following
 aside_covers known assumed following o n k = record {
   within = record { each = λ m e. or_right (eqb o m) (is_among assumed m) (k.within.each m e) };
@@ -154,7 +154,7 @@ Turns known g = UnitInTurn known (literals_of g.clauses)
 abbrev Run : List StoredClause → Type 0
 Run cs = (assumed known : List ℕ) → walk assumed (literals_of cs) ≡ None → Covers known assumed (conflict_causes assumed cs).literals → Turns known (conflict_causes assumed cs)
 
--- the clauses needed run to the conflict
+-- the needed clauses are unit in turn, and the last is falsified
 pub grounds_run : (cs : List StoredClause) (assumed known : List ℕ) → walk assumed (literals_of cs) ≡ None → Covers known assumed (conflict_causes assumed cs).literals → UnitInTurn known (literals_of (conflict_causes assumed cs).clauses)
 grounds_run [] assumed known e k = absurd cc
 grounds_run (c ∷ cs) assumed known e k = go (grounds_run cs) (verdict assumed c.literals) (verdict_says assumed c.literals) e k

@@ -1,4 +1,4 @@
--- What is stored was announced under its id.
+-- Everything that is stored was announced under its id.
 use Rattle.std.proofs.Common.{ℕ, ◌≡◌, Bool, true, false, not, cond, eqb, List, [], ◌∷◌, ◌++◌, map, filter, refl, sym, ◌∙◌, ap, subst, inl, inr, Option, None, Some}
 use Rattle.std.proofs.lemmas.Bool.{or_parts}
 use Rattle.std.specs.List.{AllByRecursion}
@@ -18,7 +18,7 @@ use Rattle.sat_checker.proofs.lemmas.listeners.Settling.{settled_none}
 use Rattle.sat_checker.proofs.lemmas.announcements.Rests.{unit_found}
 use Rattle.sat_checker.proofs.lemmas.announcements.Deletions.{unit_of, signed}
 
--- where elements stand
+-- members of concatenated and mapped lists
 one_front : {A : Type 0} (x : A) (xs ys : List A) → IsOneOf x xs → IsOneOf x (xs ++ ys)
 one_front x [] ys h = absurd h
 one_front x (y ∷ xs) ys h = elim h [ inl e ↦ inl e | inr k ↦ inr (one_front x xs ys k) ]
@@ -39,7 +39,7 @@ one_each : {A : Type 0} (P : A → Type 0) (x : A) (xs : List A) → AllByRecurs
 one_each P x [] h k = absurd k
 one_each P x (y ∷ ys) h k = elim k [ inl e ↦ subst P (sym e) h.0 | inr m ↦ one_each P x ys h.1 m ]
 
--- the same, before it is reported
+-- `IsAnnounced` for announcements that are not reported yet
 abbrev IsNews : ℕ → List ℕ → List Announcement → Type 0
 IsNews id clause news = (a : Announcement) × IsOneOf a news × IsAnnouncedAs id clause a
 
@@ -58,7 +58,7 @@ reported_front id ls xs ys t = (t.0, one_front t.0 xs ys t.1, t.2)
 reported_after : (id : ℕ) (ls : List ℕ) (xs ys : List Notice) → IsAnnounced id ls ys → IsAnnounced id ls (xs ++ ys)
 reported_after id ls xs ys t = (t.0, one_after t.0 xs ys t.1, t.2)
 
--- a clause that isn't stored yet is announced under the next id
+-- a clause that is not stored yet is announced under the next id
 derived_news : (r : Bool) (c hs : List ℕ) (f : Stored) → is_tautology c ≡ false → id_of_set (canonical c) f ≡ None → IsNews f.next_id (canonical c) (derived r c hs f)
 derived_news r c hs f t e =
     let ids : List ℕ = propagations f c hs in
@@ -70,20 +70,20 @@ input_news c f t e =
     subst (λ b. IsNews f.next_id (canonical c) (cond b (announcements.TautologicalClause f.next_id (canonical c) ∷ []) (input_set f.next_id (canonical c) (id_of_set (canonical c) f)))) (sym t)
     (subst (λ x. IsNews f.next_id (canonical c) (input_set f.next_id (canonical c) x)) (sym e) (announcements.AddClause f.next_id (canonical c), inl refl, (refl, refl)))
 
--- which variables are known doesn't matter
+-- making variables known does not change the id of a set
 known_set : (ls vs : List ℕ) (f : Stored) → id_of_set ls (with_known vs f) ≡ id_of_set ls f
 known_set [] vs f = refl
 known_set (l ∷ []) vs f = refl
 known_set (l ∷ m ∷ ls) vs f = refl
 
--- a literal that is no unit has no id
+-- a literal that is not a unit has no id
 unit_none : (l : ℕ) (us : List StoredUnit) → is_among (map (λ u. u.literal) us) l ≡ false → unit_id l us ≡ None
 unit_none l [] e = refl
 unit_none l (u ∷ us) e =
     let p = or_parts (eqb u.literal l) (is_among (map (λ w. w.literal) us) l) e in
     ap (λ b. cond b (Some u.id) (unit_id l us)) p.0 ∙ unit_none l us p.1
 
--- a unit or a longer clause is no empty one
+-- the last clause is an empty one only if it was before; a unit or a longer clause is not empty
 unit_not_empty : (l id : ℕ) (us : List StoredUnit) (last : Last) → unit_at l us last ≡ Empty id → last ≡ Empty id
 unit_not_empty l id [] last e = e
 unit_not_empty l id (u ∷ us) last e = go (eqb u.literal l) (unit_not_empty l id us last) e
@@ -96,7 +96,7 @@ long_not_empty : (id : ℕ) (x : Option StoredClause) (last : Last) → long_at 
 long_not_empty id None last e = e
 long_not_empty id (Some c) last e = absurd cc
 
--- what was announced stays announced when more is reported
+-- what was announced is still announced after further reports
 reported_more : (f : Stored) (reported next : List Notice) → ((id : ℕ) (ls : List ℕ) → IsAnnounced id ls reported → IsAnnounced id ls next) → AreAnnounced f reported → AreAnnounced f next
 reported_more f reported next w a = record {
   clauses = each_more (λ c. IsAnnounced c.id c.literals reported) (λ c. IsAnnounced c.id c.literals next) (λ c. w c.id c.literals) f.clauses a.clauses;
@@ -115,7 +115,7 @@ module _ (reported : List Notice) where
   abbrev IsConflict : List StoredUnit → ℕ × ℕ → Type 0
   IsConflict us ids = (u : StoredUnit) × IsOneOf u us × (u.id ≡ ids.0) × IsAnnounced ids.1 (negated u.literal ∷ []) reported
 
-  -- other fields don't matter
+  -- only the clauses, the units, the last clause and the conflict matter
   aside : (f g : Stored) → g.clauses ≡ f.clauses → g.units ≡ f.units → g.last ≡ f.last → g.conflict ≡ f.conflict → AreAnnounced f reported → AreAnnounced g reported
   aside f g c u l k a = record {
     clauses = subst AreClauses (sym c) a.clauses;
@@ -124,7 +124,7 @@ module _ (reported : List Notice) where
     conflict = λ ids e. subst (λ us. IsConflict us ids) (sym u) (a.conflict ids (sym k ∙ e));
   }
 
-  -- a clause that comes in was announced, if it's new
+  -- after a clause is stored, all clauses are announced if it is announced or not new
   clauses_with : (r : Bool) (n : ℕ) (ls : List ℕ) (cs : List StoredClause) → (clause_with ls cs ≡ None → IsAnnounced n ls reported) → AreClauses cs → AreClauses (with_stored_clause r n ls cs)
   clauses_with true n ls [] new h = (new refl, tt)
   clauses_with false n ls [] new h = (new refl, tt)
@@ -136,7 +136,7 @@ module _ (reported : List Notice) where
       go false ih true k = h
       go r ih false k = (h.0, ih k)
 
-  -- one count less
+  -- after a count is removed, the remaining clauses are still announced
   clauses_unless : (c : StoredClause) (b : Bool) (cs : List StoredClause) → IsAnnounced c.id c.literals reported → AreClauses cs → AreClauses (cond b [] (c ∷ []) ++ cs)
   clauses_unless c true cs i h = h
   clauses_unless c false cs i h = (i, h)
@@ -165,7 +165,7 @@ module _ (reported : List Notice) where
       go ih true = (h.0, ih)
       go ih false = ih
 
-  -- a unit whose negation is stored was announced, and so was that one
+  -- if a contradicting unit is announced, everything is still announced after it is added
   contradiction : (l : ℕ) (f : Stored) → IsAnnounced f.next_id (l ∷ []) reported → AreAnnounced f reported → AreAnnounced (with_contradiction l f) reported
   contradiction l f new a = record { clauses = a.clauses; units = a.units; last = a.last; conflict = go f.conflict refl (unit_id (negated l) f.units) refl }
     where
@@ -196,7 +196,7 @@ module _ (reported : List Notice) where
       go false e true = contradiction l f (new (unit_none l f.units e)) a
       go false e false = new_unit l f (new (unit_none l f.units e)) a
 
-  -- a set that comes in was announced, if it's new
+  -- after a set is stored, everything is announced if the set is announced or not new
   set_announced : (r : Bool) (ls : List ℕ) (f : Stored) → (id_of_set ls f ≡ None → IsAnnounced f.next_id ls reported) → AreAnnounced f reported → AreAnnounced (with_set r ls f) reported
   set_announced r [] f new a = aside f (with_set r [] f) refl refl refl refl a
   set_announced r (l ∷ []) f new a = unit_announced l f new a
@@ -231,7 +231,7 @@ module _ (reported : List Notice) where
   known_announced : (vs : List ℕ) (f : Stored) → AreAnnounced f reported → AreAnnounced (with_known vs f) reported
   known_announced vs f a = aside f (with_known vs f) refl refl refl refl a
 
-  -- each in turn, those before it being units by then
+  -- after units are added one by one, everything is announced if their announcements were reported
   units_announced : (us : List (ℕ × ℕ)) (f : Stored) → ((id : ℕ) (ls : List ℕ) → IsNews id ls (derived_units us f) → IsAnnounced id ls reported) → AreAnnounced f reported → AreAnnounced (with_units (map (λ u. u.0) us) f) reported
   units_announced [] f w a = a
   units_announced (u ∷ us) f w a =
@@ -243,7 +243,7 @@ module _ (reported : List Notice) where
   deleted_announced : (r : Bool) (ls : List ℕ) (f : Stored) → AreAnnounced f reported → AreAnnounced (record f { clauses = without_clause r ls f.clauses }) reported
   deleted_announced r ls f a = record { clauses = clauses_without r ls f.clauses a.clauses; units = a.units; last = a.last; conflict = a.conflict }
 
-  -- what a step leaves, where no unit conflict was pending
+  -- after a step, everything is announced if the step's announcements were reported and no unit conflict was pending
   effect_announced : (step : Step) (f : Stored) → f.conflict ≡ None → ((id : ℕ) (ls : List ℕ) → IsNews id ls (announced f step) → IsAnnounced id ls reported) → AreAnnounced f reported → AreAnnounced (effect step f) reported
   effect_announced (SolverVarName v None) f n w a = aside f (effect (SolverVarName v None) f) refl refl refl refl a
   effect_announced (UserVarName v (Some name)) f n w a = aside f (effect (UserVarName v (Some name)) f) refl refl refl refl a
@@ -277,7 +277,7 @@ module _ (reported : List Notice) where
       go None = a
       go (Some units) = record { clauses = a.clauses; units = a.units; last = a.last; conflict = λ ids e. absurd cc }
 
--- once the empty clause of a unit conflict was reported
+-- everything is still announced after the empty clause of a unit conflict is reported
 ready_announced : (steps : List Step) → AreAnnounced (stored_after steps) (notices_after steps) → AreAnnounced (ready_after steps) (all_notices_after steps)
 ready_announced steps a =
     let reported : List Notice = notices_after steps in
@@ -293,7 +293,7 @@ identified (step ∷ earlier) =
     effect_announced (reported ++ more) step f (settled_none (stored_after earlier)) (λ id ls n. reported_after id ls reported more (news_reported f id ls (announced f step) n))
     (reported_more f reported (reported ++ more) (λ id ls t. reported_front id ls reported more t) (ready_announced earlier (identified earlier)))
 
--- the two ids of a delayed empty clause
+-- both ids of a delayed empty clause were announced
 pub conflict_named : ConflictIsAnnounced
 conflict_named steps id i j e = go f.conflict refl e
   where
@@ -313,11 +313,11 @@ conflict_named steps id i j e = go f.conflict refl e
         let this = one_each (λ u. IsAnnounced u.id (u.literal ∷ []) reported) c.0 f.units a.units c.1 in
         (c.0.literal, subst (λ x. IsAnnounced x (c.0.literal ∷ []) reported) (c.2 ∙ first) this, subst (λ x. IsAnnounced x (negated c.0.literal ∷ []) reported) second c.3)
 
--- these ids are the one of an announced part of the clause
+-- there is one id, and a part of the clause was announced under it
 abbrev NamesPart : List Notice → List ℕ → List ℕ → Type 0
 NamesPart reported clause ids = (id : ℕ) × (part : List ℕ) × (ids ≡ id ∷ []) × (is_part part clause ≡ true) × IsAnnounced id part reported
 
--- the id of the last irredundant clause stored, while it's still there
+-- the last irredundant clause was announced under its id, if it is a part of the clause
 last_named : (f : Stored) (reported : List Notice) → AreAnnounced f reported → (clause : List ℕ) (last : Last) → f.last ≡ last → IsStrictSubset (last_literals last f) clause → NamesPart reported clause (one (last_id last))
 last_named f reported a clause NoneYet is s = absurd s
 last_named f reported a clause (Empty id) is s = (id, [], refl, s.0, a.last id is)

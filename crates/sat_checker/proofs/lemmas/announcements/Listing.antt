@@ -1,4 +1,4 @@
--- The ids that a conflict rests on, as they are listed.
+-- How the ids that a conflict rests on are listed.
 use Rattle.std.proofs.Common.{ℕ, ◌+◌, ◌<◌, ◌≤◌, ◌≡◌, Bool, true, false, not, ◌&&◌, ◌||◌, cond, eqb, List, [], ◌∷◌, ◌++◌, length, drop, get_or, map, filter, reverse, refl, sym, ◌∙◌, ap, subst, arith, Option, Some, None, Result, Ok, Err, IfOk, inl, inr}
 use Rattle.std.proofs.lemmas.Bool.{or_cases, or_left, or_right, and_parts, both_ways, eqb-true, eq-eqb, true≢false, false_from_ne_true}
 use Rattle.std.proofs.lemmas.List.{drop_more, append_assoc, append-nil, reverse-reverse}
@@ -28,7 +28,7 @@ use Rattle.sat_checker.proofs.lemmas.announcements.Exact.{one_among}
 use Rattle.sat_checker.proofs.lemmas.announcements.Marking.{or_none}
 use Rattle.sat_checker.proofs.lemmas.announcements.Noting.{ground_same}
 
--- what the notes explain, whatever the order in which the units are assumed
+-- the notes explain the same for the units in any order
 pub explained_units : {E : Type 0} (r : Result Bool E) (ss : List Slot) (passed : WalkNotes) (value : List StoredUnit) (assigned clause hashes : List ℕ) → ((l : ℕ) → is_among assigned l ≡ is_among (map (λ u. u.literal) value) l)
     → IfOk r (λ b. b ≡ true → list_any (is_among assigned) clause ≡ false → is_tautology clause ≡ false → Explains ss passed (conflict_causes (map negated clause ++ assigned) (named hashes ss)))
     → IfOk r (λ b. b ≡ true → list_any (is_among (map (λ u. u.literal) value)) clause ≡ false → is_tautology clause ≡ false → Explains ss passed (conflict_causes (map negated clause ++ map (λ u. u.literal) value) (named hashes ss)))
@@ -39,18 +39,18 @@ explained_units (Ok b) ss passed value assigned clause hashes same h = λ t n s.
     among-append (map negated clause) assigned l ∙ ap (λ d. is_among (map negated clause) l || d) (same l) ∙ sym (among-append (map negated clause) units l) in
     subst (Explains ss passed) (ground_same (named hashes ss) (map negated clause ++ assigned) (map negated clause ++ units) front) (h t (same_any assigned units clause same ∙ n) s)
 
--- what a literal adds to the ids
+-- the ids with the id of one literal added, unless the literal is denied or has none
 abbrev pub unless_denied : Bool → Option ℕ → List ℕ → List ℕ
 unless_denied true id ids = ids
 unless_denied false None ids = ids
 unless_denied false (Some id) ids = id ∷ ids
 
--- the ids of those literals that are units and aren't denied
+-- the ids of the literals that are units and are not denied
 abbrev pub unit_ids_of : List ℕ → List StoredUnit → List ℕ → List ℕ
 unit_ids_of denied units [] = []
 unit_ids_of denied units (l ∷ ls) = unless_denied (is_among denied l) (unit_id l units) (unit_ids_of denied units ls)
 
--- one literal more
+-- the ids after one more literal is visited
 module _ (denied : List ℕ) (units : List StoredUnit) (ls : List ℕ) (i : ℕ) (inside : i < length ls) (ids all : List ℕ) (left : ids ++ unit_ids_of denied units (drop i ls) ≡ all) where
   next : ids ++ unless_denied (is_among denied (get_or ls i 0)) (unit_id (get_or ls i 0) units) (unit_ids_of denied units (drop (i + 1) ls)) ≡ all
   next = ap (λ xs. ids ++ unit_ids_of denied units xs) (sym (drop_more ls i 0 inside)) ∙ left
@@ -72,7 +72,7 @@ pub ruleset listing = (id_denied, id_of_none, id_taken)
 pub all_taken : (denied : List ℕ) (units : List StoredUnit) (ls : List ℕ) (i : ℕ) (ids all : List ℕ) → length ls ≤ i → ids ++ unit_ids_of denied units (drop i ls) ≡ all → ids ≡ all
 all_taken denied units ls i ids all l h = sym (append-nil ids) ∙ ap (λ xs. ids ++ unit_ids_of denied units xs) (sym (nothing_left ls i l)) ∙ h
 
--- the first of the literals that is a unit
+-- the id of the first literal that is a unit
 module _ (units : List StoredUnit) (ls : List ℕ) (i : ℕ) (inside : i < length ls) where
   pub true_here : (id : ℕ) → unit_id (get_or ls i 0) units ≡ Some id → true_unit (drop i ls) units ≡ Some id
   true_here id e = ap (λ xs. true_unit xs units) (drop_more ls i 0 inside) ∙ ap (λ o. or_else o (true_unit (drop (i + 1) ls) units)) e
@@ -82,7 +82,7 @@ module _ (units : List StoredUnit) (ls : List ℕ) (i : ℕ) (inside : i < lengt
 
 pub ruleset finding_true = (true_here, true_later)
 
--- a literal that gave an id
+-- a literal of the list that is not denied and whose unit has this id
 pub record Giver (denied : List ℕ) (units : List StoredUnit) (ls : List ℕ) (id : ℕ) : Type 0 where
   pub literal : ℕ
   pub within : is_among ls literal ≡ true
@@ -121,7 +121,7 @@ module _ (denied : List ℕ) (units : List StoredUnit) where
       still false None k = k
       still false (Some i) k = or_right (eqb i id) (is_among (unit_ids_of denied units xs) id) k
 
--- a unit that is left, by its id
+-- a unit with this id that passes the filter
 pub record Left (p : StoredUnit → Bool) (us : List StoredUnit) (id : ℕ) : Type 0 where
   pub unit : StoredUnit
   pub stored : IsOneOf unit us
@@ -153,7 +153,7 @@ is_left p (w ∷ ws) u h t = elim h [
     still true k = or_right (eqb w.id u.id) (is_among (map (λ x. x.id) (filter p ws)) u.id) k
     still false k = k
 
--- no two units have one literal, and no two have one id
+-- different units have different literals and different ids
 id_of_stored : (us : List StoredUnit) (u : StoredUnit) → NoRepeats (map (λ w. w.literal) us) → IsOneOf u us → unit_id u.literal us ≡ Some u.id
 id_of_stored [] u n h = absurd h
 id_of_stored (w ∷ ws) u n h = elim h [
@@ -183,7 +183,7 @@ same_unit (x ∷ xs) u w i h k e = elim h [
   ]
 ]
 
--- different literals give different ids
+-- different literals have different ids
 ids_once : (denied : List ℕ) (units : List StoredUnit) (ls : List ℕ) → IsIncreasing (map (λ u. u.id) units) → NoRepeats ls → NoRepeats (unit_ids_of denied units ls)
 ids_once denied units [] i n = tt
 ids_once denied units (l ∷ ls) i n = go (is_among denied l) (unit_id l units) refl (ids_once denied units ls i n.1)
@@ -200,7 +200,7 @@ ids_once denied units (l ∷ ls) i n = go (is_among denied l) (unit_id l units) 
             let same : l ≡ g.literal = sym a.literal_is ∙ same_unit units a.unit b.unit i a.stored b.stored (a.id_is ∙ sym b.id_is) ∙ b.literal_is in
             both_ways (is_among ls l) n.0 (ap (is_among ls) same ∙ g.within)
 
--- The ids of the marked literals that are units and aren't denied, sorted, are those of the units needed.
+-- The sorted ids of the marked literals that are units and not denied are those of the needed units.
 pub units_listed : (denied marked : List ℕ) (units : List StoredUnit) (ls ids sorted : List ℕ) → ls ≡ reverse marked → NoRepeats ls → NoRepeats (map (λ u. u.literal) units) → ids ≡ unit_ids_of denied units ls → IsPermutation ids sorted → IsSorted nat_cmp sorted
     → (g : ConflictCauses) → ((m : ℕ) → is_among marked m ≡ is_among g.literals m) → IsIncreasing (map (λ u. u.id) units) → sorted ≡ map (λ u. u.id) (needed_units denied g units)
 units_listed denied marked units ls ids sorted r n u e p s g same i =
@@ -228,7 +228,7 @@ units_listed denied marked units ls ids sorted r n u e p s g same i =
         let c = given denied units ls w.unit.literal m (marked_in w.unit.literal ∙ parts.0) d (id_of_stored units w.unit u w.stored ∙ ap Some w.id_is) in
         among_from_contains sorted m (Contains-permutation ids sorted m p (contains_from_among ids m (ap (λ xs. is_among xs m) e ∙ c)))
 
--- which literals are denied counts, not their order
+-- filters that agree everywhere give the same units; the order of denied literals does not matter
 few_same : (p q : StoredUnit → Bool) (us : List StoredUnit) → ((u : StoredUnit) → p u ≡ q u) → filter p us ≡ filter q us
 few_same p q [] h = refl
 few_same p q (u ∷ us) h = ap (λ b. cond b (u ∷ filter p us) (filter p us)) (h u) ∙ ap (λ xs. cond (q u) (u ∷ xs) xs) (few_same p q us h)
@@ -241,7 +241,7 @@ denied_same xs ys g units same =
 pub marked_anew : (marked new xs : List ℕ) → marked ≡ [] → ((m : ℕ) → is_among new m ≡ (is_among xs m || is_among marked m)) → (m : ℕ) → is_among new m ≡ is_among xs m
 marked_anew marked new xs e h m = h m ∙ ap (λ ys. is_among xs m || is_among ys m) e ∙ or_none (is_among xs m)
 
--- literals that are looked at one after another
+-- the remaining literals while the marked literals are visited one by one
 pub all_left : (marked items : List ℕ) (m : ℕ) → items ≡ reverse marked → is_among marked m ≡ true → is_among items m ≡ true
 all_left marked items m e t = ap (λ xs. is_among xs m) e ∙ among-reverse marked m ∙ t
 
@@ -258,7 +258,7 @@ none_left_over units items i m l h = go (is_among units m) refl
     go true e = absurd (true≢false (sym (h e) ∙ ap (λ xs. is_among xs m) (nothing_left items i l)))
     go false e = refl
 
--- no unit is needed where no literal is one
+-- no unit is needed if no needed literal is a unit
 no_units : (denied literals : List ℕ) (us : List StoredUnit) → ((l : ℕ) → is_among literals l ≡ true → is_among (map (λ u. u.literal) us) l ≡ false) → filter (λ u. is_among literals u.literal && not (is_among denied u.literal)) us ≡ []
 no_units denied literals [] h = refl
 no_units denied literals (u ∷ us) h = go (no_units denied literals us) (is_among literals u.literal) refl

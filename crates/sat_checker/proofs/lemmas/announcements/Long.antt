@@ -1,4 +1,4 @@
--- After any steps no clause of one literal stands among those of two literals or more.
+-- After any steps, no clause of one literal is stored among the clauses of two or more literals.
 use Rattle.std.proofs.Common.{ℕ, ◌≡◌, ◌≤◌, Bool, true, false, cond, List, [], ◌∷◌, ◌++◌, length, map, refl, ap, arith, Option, None, Some}
 use Rattle.std.specs.List.{AllByRecursion}
 use Rattle.sat_base.specs.values.Literals.{negated}
@@ -10,7 +10,7 @@ use Rattle.sat_checker.specs.Accepts.{effect, stored_after, ready_after}
 use Rattle.sat_checker.specs.listeners.AnnouncingView as announcing
 use Rattle.sat_checker.proofs.lemmas.meaning.Clauses.{same}
 
--- each has two literals or more
+-- every clause has two or more literals
 abbrev EachLong : List StoredClause → Type 0
 EachLong = AllByRecursion (λ c. 2 ≤ length c.literals)
 

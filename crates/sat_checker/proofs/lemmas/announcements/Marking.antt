@@ -1,4 +1,4 @@
--- Marks, and what they say of the ground of a conflict.
+-- Marked literals, and how they represent the causes of a conflict.
 use Rattle.std.proofs.Common.{ℕ, zero, suc, ◌≤◌, ◌+◌, ◌-◌, ◌<◌, ◌≡◌, Bool, true, false, not, ◌||◌, cond, eqb, List, [], ◌∷◌, ◌++◌, length, drop, get_or, map, filter, reverse, refl, sym, ◌∙◌, ap, subst, Some, arith, MatchBool}
 use Rattle.std.proofs.lemmas.Bool.{eqb-true}
 use Rattle.std.proofs.lemmas.List.{drop_more, reverse-append}
@@ -38,7 +38,7 @@ turned true false d = refl
 turned false true d = refl
 turned false false d = refl
 
--- these literals and the marked ones are those from the start
+-- the remaining literals and the marked ones are all literals to mark and those marked initially
 abbrev pub MarksLeft : List ℕ → List ℕ → List ℕ → List ℕ → Type 0
 MarksLeft left marked all old = (m : ℕ) → (is_among left m || is_among marked m) ≡ (is_among all m || is_among old m)
 
@@ -100,7 +100,7 @@ all_drop ss zero xs h = h
 all_drop ss (suc i) [] h = h
 all_drop ss (suc i) (x ∷ xs) h = all_drop ss i xs h.1
 
--- the notes from a place on, one more of them
+-- one more note is followed, from the last to the first
 module _ (ss : List Slot) (rs : List noted.Reason) (k n : ℕ) (r : noted.Reason) (next : k + 1 ≡ n) (inside : k < length rs) (there : get_or rs k r ≡ r) where
   from_here : drop k rs ≡ r ∷ drop n rs
   from_here = drop_more rs k r inside ∙ ap (λ x. x ∷ drop (k + 1) rs) there ∙ ap (λ i. r ∷ drop i rs) next
@@ -123,7 +123,7 @@ total_left ss zero xs = omega arith
 total_left ss (suc i) [] = omega arith
 total_left ss (suc i) (x ∷ xs) = let h : total_length (map (λ y. literals_at ss y.place) (drop i xs)) ≤ total_length (map (λ y. literals_at ss y.place) xs) = total_left ss i xs in omega arith
 
--- what was read is no more than what was noted
+-- at most as many looks are needed as the noted clauses have literals
 pub within_notes : (ss : List Slot) (passed : WalkNotes) (place i old new : ℕ) → passed.conflict ≡ Some place → new ≤ old + length (literals_at ss place) + total_length (map (λ x. literals_at ss x.place) (drop i passed.reasons)) → new ≤ old + noted_length ss passed
 within_notes ss passed place i old new e h =
     let c : conflict_length ss passed.conflict ≡ length (literals_at ss place) = ap (conflict_length ss) e in

@@ -1,10 +1,10 @@
--- The worked rows of announcements, by computing.
+-- Worked examples of announcements, proved by computing.
 use Rattle.std.proofs.Common.{ℕ, refl, inr}
 use Rattle.sat_checker.specs.Accepts.{MayGetName}
 use Rattle.sat_checker.specs.Stored.{nothing_stored}
 use Rattle.sat_checker.specs.announcements.Rows.{RefutedAnnounced, RefutedAtZeroAnnounced, NamedTwiceAnnounced, CollidingAnnounced, Contradiction, ConflictAndUnitAnnounced}
 
--- any name may be the first one
+-- before the first step, variable 0 may get any name
 pub first_name : (name : ℕ) → MayGetName nothing_stored 0 name
 first_name name = record { free = λ w e. cc; nameless = refl; not_hidden = λ e. cc }
 

@@ -1,4 +1,4 @@
--- A walk that notes what it passes leads from what its clauses rest on to what its notes say.
+-- The notes of a walk preserve what its conflict rests on.
 use Rattle.std.proofs.Common.{ℕ, suc, ◌+◌, ◌<◌, ◌≤◌, ◌≡◌, Bool, true, false, not, ◌||◌, cond, eqb, List, [], ◌∷◌, ◌++◌, length, drop, get_or, map, filter, refl, sym, ◌∙◌, ap, subst, arith, Some, None, inl, inr}
 use Rattle.std.proofs.lemmas.List.{append_assoc, append-nil, map-append, drop_more}
 use Rattle.std.proofs.lemmas.Bool.{both_ways}
@@ -26,7 +26,7 @@ length_push : (ss : List Slot) (rs : List noted.Reason) (r : noted.Reason) → t
 length_push ss [] r = omega arith
 length_push ss (x ∷ xs) r = let e : total_length (map (λ y. literals_at ss y.place) (xs ++ r ∷ [])) ≡ total_length (map (λ y. literals_at ss y.place) xs) + length (literals_at ss r.place) = length_push ss xs r in omega arith
 
--- one clause, by what it says
+-- the notes after one clause, by its verdict
 module _ (ss : List Slot) (old new : WalkNotes) (assumed : List ℕ) (place : ℕ) (inside : place < length ss) where
   pub leads_open : (l : ℕ) → verdict assumed (literals_at ss place) ≡ opens l → new.reasons ≡ old.reasons ++ (record { place = place; lit = l }) ∷ [] → KeepsGround ss old assumed (clause_at ss place ∷ []) new (l ∷ assumed) []
   leads_open l v e =
@@ -67,7 +67,7 @@ module _ (ss : List Slot) (old new : WalkNotes) (assumed : List ℕ) (place : �
       let c : conflict_length ss new.conflict ≡ length (literals_at ss place) = ap (conflict_length ss) k in
       omega arith
 
--- a walk, and a walk over what it left
+-- a walk, and then a walk over the clauses that it left
 module _ (ss : List Slot) (old mid new : WalkNotes) (assumed more most : List ℕ) (cs front left : List StoredClause) (first : KeepsGround ss old assumed cs mid more (front ++ left)) where
   pub leads_further : KeepsGround ss mid more front new most [] → KeepsGround ss old assumed cs new most left
   leads_further then = record {
@@ -85,7 +85,7 @@ module _ (ss : List Slot) (old mid new : WalkNotes) (assumed more most : List �
 pub leads_itself : (ss : List Slot) (passed : WalkNotes) (assumed : List ℕ) (cs : List StoredClause) → KeepsGround ss passed assumed cs passed assumed cs
 leads_itself ss passed assumed cs = record { same = λ rest. refl; there = λ h. h }
 
--- the clauses of a hash are those at its places
+-- the clauses with a hash are the clauses at its places
 filed_from : (ss all : List Slot) (k hash : ℕ) → ((i : ℕ) → slot_at all (k + i) ≡ slot_at ss i) → filed hash ss ≡ map (clause_at all) (places_from k hash ss)
 filed_from [] all k hash h = refl
 filed_from (s ∷ ss) all k hash h =
@@ -100,7 +100,7 @@ filed_from (s ∷ ss) all k hash h =
 pub filed_at : (hash : ℕ) (ss : List Slot) (places : List ℕ) → places_of hash ss ≡ places → filed hash ss ≡ map (clause_at ss) places
 filed_at hash ss places e = filed_from ss ss 0 hash (λ i. let z : 0 + i ≡ i = omega arith in ap (slot_at ss) z) ∙ ap (map (clause_at ss)) e
 
--- places, one after another
+-- the first of the remaining places, or hashes, and those after it
 module _ (ss : List Slot) (places : List ℕ) (i : ℕ) (inside : i < length places) where
   pub next_clause : map (clause_at ss) (drop i places) ≡ clause_at ss (get_or places i 0) ∷ map (clause_at ss) (drop (i + 1) places)
   next_clause = ap (map (clause_at ss)) (drop_more places i 0 inside)
@@ -109,7 +109,7 @@ module _ (ss : List Slot) (places : List ℕ) (i : ℕ) (inside : i < length pla
   next_named = ap (λ hs. named hs ss) (drop_more places i 0 inside)
 
 module _ (ss : List Slot) (old mid new : WalkNotes) (assumed more most : List ℕ) where
-  -- the first place of a hash, and those after it
+  -- the first place of a hash, and the places after it
   module _ (hash place : ℕ) (places : List ℕ) (all : places_of hash ss ≡ place ∷ places) where
     pub leads_first : KeepsGround ss old assumed (clause_at ss place ∷ []) new most [] → KeepsGround ss old assumed (filed hash ss) new most (map (clause_at ss) places)
     leads_first h =
@@ -121,7 +121,7 @@ module _ (ss : List Slot) (old mid new : WalkNotes) (assumed more most : List �
         subst (λ cs. MeetsConflict ss old assumed cs new) (sym (filed_at hash ss (place ∷ places) all))
         (ends_further ss old old new assumed assumed most (map (clause_at ss) (place ∷ places)) (clause_at ss place ∷ []) (map (clause_at ss) places) (leads_itself ss old assumed (map (clause_at ss) (place ∷ places))) h)
 
-  -- the place, or the hash, at i is passed next
+  -- the place or hash at index `i` is visited next
   module _ (numbers : List ℕ) (i : ℕ) (inside : i < length numbers) (cs : List StoredClause) where
     pub leads_next : KeepsGround ss old assumed cs mid more (map (clause_at ss) (drop i numbers)) → KeepsGround ss mid more (clause_at ss (get_or numbers i 0) ∷ []) new most [] → KeepsGround ss old assumed cs new most (map (clause_at ss) (drop (i + 1) numbers))
     leads_next h k =
@@ -178,7 +178,7 @@ both_same true b f g = sym (f refl)
 both_same false true f g = g refl
 both_same false false f g = refl
 
--- A walk that starts with no notes, under the negated clause, ends with notes that explain the ground of its conflict.
+-- A walk that starts without notes, with the clause's literals false, explains what its conflict rests on.
 pub explained : (ss : List Slot) (old new : WalkNotes) (units clause more hashes : List ℕ) → old.reasons ≡ [] → denied_in_turn units clause ≡ Some more → MeetsConflict ss old more (named hashes ss) new
     → Explains ss new (conflict_causes (map negated clause ++ units) (named hashes ss))
 explained ss old new units clause more hashes e d h =
@@ -191,6 +191,6 @@ explained ss old new units clause more hashes e d h =
       met = h.met;
     }
 
--- all negations can be assumed where no unit is true in the clause and it has no variable with both signs
+-- if a clause is no tautology and no unit satisfies it, all its negated literals can be assumed
 pub never_met : (clause units : List ℕ) → denied_in_turn units clause ≡ None → list_any (is_among units) clause ≡ false → is_tautology clause ≡ false → ⊥
 never_met clause units e u t = elim (denied_none clause units e) [ inl a ↦ both_ways (list_any (is_among units) clause) u a | inr b ↦ both_ways (is_tautology clause) t b ]

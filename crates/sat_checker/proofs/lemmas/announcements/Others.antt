@@ -1,4 +1,4 @@
--- Worked rows of names, modes, answers and propagations, and of transcripts, by computing.
+-- Worked examples of names, modes, answers, propagations and transcripts, proved by computing.
 use Rattle.std.proofs.Common.{ℕ, ◌≡◌, ◌≢◌, ◌||◌, Bool, true, false, cond, eqb, List, [], ◌∷◌, ◌++◌, map, refl, sym, ◌∙◌, ap, subst, inr, Some, None}
 use Rattle.std.proofs.lemmas.List.{append-nil, map-append}
 use Rattle.sat_base.specs.values.Literals.{negated}
@@ -60,12 +60,12 @@ both_signs = ((((tt, inr (refl, tt)), tt), (refl, tautology refl)), refl)
 pub others_report : OthersAnnounce
 others_report = (((tt, tt), refl), ((tt, tt), refl), (((tt, inr (refl, tt)), record { known = refl; nameless = refl; unused = refl; not_assumed = refl }), refl))
 
--- what is reported over any variables is what was to be reported
+-- notices of announcements contain exactly these announcements
 reported_again : (f : Stored) (xs : List Announcement) → announcements_of (notices_over f xs) ≡ xs
 reported_again f [] = refl
 reported_again f (x ∷ xs) = ap (λ ys. x ∷ ys) (reported_again f xs)
 
--- the last step's announcements come after those before it, where nothing was delayed
+-- if nothing was delayed, the announcements of the last step follow the earlier ones
 reports_last : (earlier : List Step) (last : Step) (reported : List Announcement) → delayed (stored_after earlier) ≡ [] → announced (ready_after earlier) last ≡ reported → announcements_of (notices_after (last ∷ earlier)) ≡ announcements_of (notices_after earlier) ++ reported
 reports_last earlier last reported d a =
     let s : Stored = stored_after earlier in
@@ -77,7 +77,7 @@ reports_last earlier last reported d a =
 abbrev long : ℕ → List ℕ → StoredClause
 long id literals = record { id = id; literals = literals; irredundant = 1; redundant = 0 }
 
--- what units_and_clauses leaves, computed once
+-- what is stored after `units_and_clauses`, computed once
 abbrev held : Stored
 held = record (ready_by units_and_clauses) {
   clauses = long 2 (3 ∷ 4 ∷ 8 ∷ []) ∷ long 3 (1 ∷ 6 ∷ []) ∷ long 4 (10 ∷ 12 ∷ []) ∷ long 5 (5 ∷ 7 ∷ 8 ∷ []) ∷ [];

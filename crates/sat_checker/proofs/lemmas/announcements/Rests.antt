@@ -24,7 +24,7 @@ use Rattle.sat_checker.proofs.lemmas.announcements.Grounds.{among_negated, unit_
 abbrev literals_in : List StoredUnit → List ℕ
 literals_in = map (λ u. u.literal)
 
--- units that were assumed, one after another
+-- the known literals with those of the units added, one by one
 abbrev pushed : List StoredUnit → List ℕ → List ℕ
 pushed [] known = known
 pushed (u ∷ us) known = pushed us (u.literal ∷ known)
@@ -79,7 +79,7 @@ pushed_from (u ∷ us) known m e =
       | inr k ↦ elim (or_cases (eqb u.literal m) (is_among known m) k) [ inl s ↦ inl (or_left (eqb u.literal m) (is_among (literals_in us) m) s) | inr t ↦ inr t ]
     ]
 
--- some units are left out
+-- what still holds if some units are left out
 module _ (p : StoredUnit → Bool) where
   few_within : (us : List StoredUnit) (m : ℕ) → is_among (literals_in (filter p us)) m ≡ true → is_among (literals_in us) m ≡ true
   few_within [] m e = e
@@ -132,7 +132,7 @@ one_of_itself : (p : StoredUnit → Bool) (us : List StoredUnit) → AllByRecurs
 one_of_itself p [] = tt
 one_of_itself p (u ∷ us) = (λ k. inl refl, one_of_later (λ w. p w ≡ true) u us us (one_of_itself p us))
 
--- the unit of an id
+-- a unit with this literal and this id
 pub record UnitOf (us : List StoredUnit) (l id : ℕ) : Type 0 where
   pub unit : StoredUnit
   pub stored : IsOneOf unit us
@@ -177,7 +177,7 @@ true_missing (l ∷ ls) us e m h = go (true_missing ls us) (unit_id l us) refl e
     go ih None s k (inr t) = ih k m t
     go ih (Some i) s k c = absurd cc
 
--- the named clauses are those of the buckets
+-- the named clauses are the clauses of the buckets
 filter_literals : (p : List ℕ → Bool) (cs : List StoredClause) → filter p (literals_of cs) ≡ literals_of (filter (λ c. p c.literals) cs)
 filter_literals p [] = refl
 filter_literals p (c ∷ cs) = go (filter_literals p cs) (p c.literals)
@@ -215,7 +215,7 @@ walk_joined ((c ∷ cs) ∷ bs) assumed e = walk_both (c ∷ cs) (clauses_in bs)
     go ih None k = refl
     go ih (Some m) k = ih m k
 
--- stored clauses have no literal twice
+-- no literal occurs twice in a stored clause
 sets_once : (p : List ℕ → Bool) (cs : List StoredClause) → AllByRecursion (λ c. IsIncreasing c.literals) cs → AllByRecursion NoRepeats (filter p (literals_of cs))
 sets_once p [] h = tt
 sets_once p (c ∷ cs) h = go (sets_once p cs h.1) (p c.literals)
@@ -228,7 +228,7 @@ buckets_sets : (hashes : List ℕ) (f : Stored) → Sorted f → AllByRecursion 
 buckets_sets [] f s = tt
 buckets_sets (h ∷ hs) f s = (sets_once (λ c. eqb (hash_by f.solver_names f.width c) h) f.clauses s.sets, buckets_sets hs f s)
 
--- the clauses needed are stored
+-- the needed clauses are stored
 pub one_of_few : (p : StoredClause → Bool) (c : StoredClause) (cs : List StoredClause) → IsOneOf c (filter p cs) → IsOneOf c cs
 one_of_few p c [] h = h
 one_of_few p c (d ∷ ds) h = go (one_of_few p c ds) (p d) h
@@ -292,7 +292,7 @@ each_imp : (P Q : StoredUnit → Type 0) (us : List StoredUnit) → ((u : Stored
 each_imp P Q [] w h = tt
 each_imp P Q (u ∷ us) w h = (w u h.0, each_imp P Q us w h.1)
 
--- where no unit is true in the clause, and the clauses named run to a conflict
+-- if no unit satisfies the clause and the walk meets a conflict, the clause rests on its causes
 module _ (f : Stored) (clause hashes : List ℕ) (sorted : Sorted f) (apart : VariablesApart (unit_literals f)) where
   rests_on_conflict : ((m : ℕ) → is_among clause m ≡ true → is_among (unit_literals f) m ≡ false) → walk (map negated clause ++ unit_literals f) (literals_of (clauses_named hashes f)) ≡ None
       → RestsOn f clause (conflict_ids (map negated clause) (conflict_causes (map negated clause ++ unit_literals f) (clauses_named hashes f)) f.units)
@@ -343,7 +343,7 @@ module _ (f : Stored) (clause hashes : List ℕ) (sorted : Sorted f) (apart : Va
         conflict = (among_negated clause t.found.unit.literal m, tt);
       }
 
-  -- where it passes by a conflict, the clauses named run to one
+  -- a clause that passes because of a conflict makes the walk meet one
   pub met : ((m : ℕ) → is_among clause m ≡ true → is_among (unit_literals f) m ≡ false) → is_tautology clause ≡ false → PassesByHashes f clause hashes → walk (map negated clause ++ unit_literals f) (literals_of (clauses_named hashes f)) ≡ None
   met none n (tautology t) = absurd (both_ways (is_tautology clause) n t)
   met none n (unit_true t) = absurd (both_ways (list_any (is_among (unit_literals f)) clause) (any_none (is_among (unit_literals f)) clause none) t)

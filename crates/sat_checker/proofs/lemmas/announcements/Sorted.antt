@@ -1,4 +1,4 @@
--- After accepted steps each stored clause is sorted, and units are in order of their ids.
+-- After accepted steps every stored clause is sorted, and units are in order of their ids.
 use Rattle.std.proofs.Common.{ℕ, ◌+◌, ◌≡◌, ◌<◌, Bool, true, false, not, cond, eqb, max, List, [], ◌∷◌, ◌++◌, map, filter, refl, sym, ap, subst, arith, Option, None, Some, is_some}
 use Rattle.std.specs.List.{AllByRecursion}
 use Rattle.sat_base.specs.values.Literals.{variable, negated}
@@ -22,7 +22,7 @@ pub record Sorted (f : Stored) : Type 0 where
   pub increasing : IsIncreasing (map (λ u. u.id) f.units)
   pub below : AllByRecursion (λ i. i < f.next_id) (map (λ u. u.id) f.units)
 
--- other fields don't matter, and the next id may rise
+-- only the clauses and the units matter, and the next id may increase
 aside : (f g : Stored) → g.clauses ≡ f.clauses → g.units ≡ f.units → ((i : ℕ) → i < f.next_id → i < g.next_id) → Sorted f → Sorted g
 aside f g c u n s = record {
   sets = subst AreSets (sym c) s.sets;
@@ -116,7 +116,7 @@ sorted_input c f s = raised (with_stored false c f) (sorted_stored false c f s)
 sorted_known : (ls : List ℕ) (f : Stored) → Sorted f → Sorted (with_literals_known ls f)
 sorted_known ls f s = aside f (with_literals_known ls f) refl refl (λ k h. h) s
 
--- some units are left out
+-- what holds for all ids still holds if some units are left out
 few_ids : (p : StoredUnit → Bool) (P : ℕ → Type 0) (us : List StoredUnit) → AllByRecursion P (unit_ids us) → AllByRecursion P (unit_ids (filter p us))
 few_ids p P [] h = tt
 few_ids p P (u ∷ us) h = go (few_ids p P us h.1) (p u)

@@ -1,4 +1,4 @@
--- Clauses that are added one after another.
+-- Adding clauses one by one.
 use Rattle.std.proofs.Common.{ℕ, ◌+◌, ◌≤◌, ◌≡◌, Bool, true, false, List, [], ◌∷◌, ◌++◌, append_assoc, Option, None, Some, Result, Ok, Err, refl, sym, ap, subst, ◌∙◌}
 use Rattle.std.proofs.lemmas.List.{append-nil}
 use Rattle.sat_base.specs.steps.Steps.{Step, AddClause}
@@ -28,7 +28,7 @@ after_one cs c earlier = ap (λ (z : List Step). taken_after z earlier) (additio
 cost_one : (cs : List (List ℕ)) (c : List ℕ) (earlier : List Step) → most_looks_after (additions (cs ++ c ∷ [])) earlier ≡ most_looks_after (additions cs) earlier + most_looks (ready_after (after_additions cs earlier)) (AddClause c)
 cost_one cs c earlier = ap (λ (z : List Step). most_looks_after z earlier) (additions_one cs c) ∙ looks_one (additions cs) (AddClause c) earlier
 
--- a unit conflict that is settled is no bar
+-- a clause that may be added may still be added after a unit conflict is settled
 may_settle : (f : Stored) (c : List ℕ) → MayBeAdded f c → MayBeAdded (settled f) c
 may_settle f c h = go f.conflict
   where
@@ -40,7 +40,7 @@ pub may_add : (state : State) (steps : List Step) (kept : KeepsAfter state steps
 may_add state steps kept c h = subst (λ f. MayBeAdded f c) (ready_of state steps kept) (may_settle kept.formula c h)
 
 module _ {L : Type 0} (Hears : L → Notice → Result Unit ProcessingError → L → Type 0) (before : List Notice) (begun : L) where
-  -- these clauses were added, and those are left
+  -- the clauses before `rest` were added
   pub record Added (old new : CheckerView L) (clauses rest : List (List ℕ)) (earlier : List Step) : Type 0 where
     pub added : List (List ℕ)
     pub split : clauses ≡ added ++ rest
@@ -89,7 +89,7 @@ module _ {L : Type 0} (Hears : L → Notice → Result Unit ProcessingError → 
         subst (λ (z : List (List ℕ)). HasAcceptedUnfailed Hears before begun b (after_additions z earlier)) (sym all) p.goes_on,
       )
 
-  -- a clause that may be added is accepted
+  -- for a clause that may be added, the result of its step is the result of adding it
   pub clause_checked : (r : Result Unit CheckerError) (a b : CheckerView L) (c : List ℕ) (steps : List Step) → MayBeAdded (ready_after steps) c → AnswersStep Hears before begun r a (AddClause c) b steps → AnswersClause Hears before begun r a c b steps
   clause_checked (Err errors.CheckFailed) a b c steps m k = absurd (k.1 m)
   clause_checked e a b c steps m k = k

@@ -1,4 +1,4 @@
--- The clauses of a front of a formula's text, whatever follows.
+-- The clauses of a prefix of a formula's text are the same whatever follows.
 use Rattle.std.proofs.Common.{◌≡◌, ℕ, ◌+◌, inl, inr, List, [], ◌∷◌, ◌++◌, Bool, true, false, Option, Some, None, refl, sym, ap, subst, ◌∙◌, append_assoc, arith}
 use Rattle.std.specs.Prelude.{nat_eq, ◌||◌}
 use Rattle.std.proofs.lemmas.List.{append-nil}
@@ -13,9 +13,9 @@ use Rattle.sat_base.proofs.lemmas.dimacs.Collected.{clauses_of_cons, dimacs_is, 
 use Rattle.sat_checker.specs.DimacsView.{AreFirst, AreRead}
 use Rattle.sat_checker.proofs.lemmas.checker.Texts.{no_clauses}
 
--- SPOTS
+-- POSITIONS IN A TEXT
 
--- what one byte gives, and where it leads
+-- the tokens that one byte completes, and the position after it
 record Stepped (spot : Position) (n b : ℕ) : Type 0 where
   gives : List (ℕ × Token)
   next : Position
@@ -48,7 +48,7 @@ blank_quiet (HeaderBetween stage) n = inr (n + 1, stage_end stage, of_header sta
 blank_quiet (HeaderWithin stage x w) n = header_quiet (stage_after stage (x ∷ w)) n
 blank_quiet e n = inl refl
 
--- a blank ends the word in hand
+-- a blank ends the current word
 record Blanked (spot : Position) (n b : ℕ) : Type 0 where
   step : Stepped spot n b
   quiet : QuietTokens (in_hand step.next step.lines)
@@ -77,7 +77,7 @@ by_blank spot n b false e f g = record {
   quiet = blank_quiet spot n;
 }
 
--- nothing is given inside a line
+-- a byte that completes no token
 leads : (spot next : Position) (n b : ℕ) → IsPosition next → ((rest : List ℕ) → left spot n (b ∷ rest) ≡ left next n rest) → Stepped spot n b
 leads spot next n b good h = record { gives = []; next = next; lines = n; good = good; leaves = h }
 
@@ -119,7 +119,7 @@ step_if : (spot : Position) (n b : ℕ) (blank : Bool) → is_blank b ≡ blank 
 step_if spot n b true e g = (by_blank spot n b (nat_eq b 10) refl e g).step
 step_if spot n b false e g = by_byte spot n b (no_LF b (nat_eq b 10) refl e) e g
 
--- what bytes give, and where they lead
+-- the tokens that these bytes complete, and the position after them
 record Reached (spot : Position) (n : ℕ) (text : List ℕ) : Type 0 where
   gives : List (ℕ × Token)
   next : Position
@@ -143,7 +143,7 @@ reach (b ∷ bs) spot n g =
       leaves = λ rest. s.leaves (bs ++ rest) ∙ ap (onto s.gives) (r.leaves rest) ∙ onto_both s.gives r.gives (left r.next r.lines rest);
     }
 
--- a text that a blank ends: its words have ended
+-- all words of this text have ended
 record Rests (text : List ℕ) : Type 0 where
   gives : List (ℕ × Token)
   left_of : List ℕ → Scan
@@ -167,7 +167,7 @@ rests front b e =
 
 -- CLAUSES
 
--- the clauses of these tokens, whatever comes after
+-- the clauses of these tokens are the same whatever follows
 record Keeps (hand : Hand) (before : List (ℕ × Token)) : Type 0 where
   clauses : List (List ℕ)
   more : (last : ℕ) (ts : List (ℕ × Token)) → (left : List (List ℕ)) × ((clauses_of hand last (before ++ ts)).clauses ≡ clauses ++ left)
@@ -214,13 +214,13 @@ after_rest text rest r =
     ap (λ (d : Dimacs). d.clauses) (dimacs_is text r.gives (r.left_of []) (ap scan (sym (append-nil text)) ∙ r.scans [])) ∙ k.quiet (r.left_of []) r.quiet in
     (m.0, all ∙ ap (λ (cs : List (List ℕ)). cs ++ m.0) (sym here))
 
--- UP TO THE LAST BLANK
+-- THE TEXT UP TO ITS LAST BLANK
 
 settled_none : (text : List ℕ) → has_blank text ≡ false → up_to_last_blank text ≡ []
 settled_none [] e = refl
 settled_none (b ∷ bs) e = rw e refl
 
--- what settled leaves ends with a blank
+-- the text up to its last blank ends with a blank
 record Cut (text : List ℕ) : Type 0 where
   front : List ℕ
   byte : ℕ
@@ -242,7 +242,7 @@ cuts : (text : List ℕ) → has_blank text ≡ true → Cut text
 cuts [] e = absurd cc
 cuts (b ∷ bs) e = cut_if b bs (has_blank bs) refl e (λ f. cuts bs f)
 
--- it is a front
+-- the text up to the last blank is a prefix of the text
 unsettled_if : (b : ℕ) (bs : List ℕ) (blank : Bool) → has_blank (b ∷ bs) ≡ blank → (more : List ℕ) × (bs ≡ up_to_last_blank bs ++ more) → (more : List ℕ) × (b ∷ bs ≡ up_to_last_blank (b ∷ bs) ++ more)
 unsettled_if b bs true e h = (h.0, rw e (ap (λ (ys : List ℕ). b ∷ ys) h.1))
 unsettled_if b bs false e h = (b ∷ bs, rw e refl)
@@ -257,7 +257,7 @@ first_if text rest true e =
     subst (λ (s : List ℕ). AreFirst (dimacs s).clauses (s ++ rest)) (sym c.cut) (after_rest (c.front ++ c.byte ∷ []) rest (rests c.front c.byte c.blank))
 first_if text rest false e = subst (λ (s : List ℕ). AreFirst (dimacs s).clauses (s ++ rest)) (sym (settled_none text e)) ((dimacs rest).clauses, ap (λ (cs : List (List ℕ)). cs ++ (dimacs rest).clauses) (sym no_clauses))
 
--- the clauses of the words that have ended stay the first, however the text goes on
+-- the clauses of the words that have ended stay the first, whatever follows
 pub settled_first : (text rest : List ℕ) → AreFirst (dimacs (up_to_last_blank text)).clauses (text ++ rest)
 settled_first text rest =
     let u = unsettled text in

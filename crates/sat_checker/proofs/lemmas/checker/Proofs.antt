@@ -1,4 +1,4 @@
--- What a proof that is read and checked step by step is answered by.
+-- The result of reading and checking a proof, step by step.
 use Rattle.std.proofs.Common.{ℕ, ◌+◌, ◌-◌, ◌*◌, ◌<◌, ◌≤◌, ◌≡◌, Bool, true, false, List, [], ◌∷◌, ◌++◌, length, length-append, append_assoc, Option, Some, None, Result, Ok, Err, inl, inr, refl, sym, ap, subst, ◌∙◌, arith}
 use Rattle.std.specs.Prelude.{◌≢◌}
 use Rattle.std.proofs.lemmas.Bool.{true≢false}
@@ -31,12 +31,12 @@ use Rattle.sat_checker.proofs.lemmas.listeners.Settling.{none_pending, end_settl
 use Rattle.sat_checker.specs.declared.error.CheckerError.{CheckerError}
 use Rattle.sat_checker.specs.declared.error.CheckerError.TheVariants as errors
 
--- NO STEP IS READ
+-- NO STEP READ YET
 
 live_none : IsProperFront SpellsStep []
 live_none = (End, 13, [], ([], refl, refl))
 
--- STEPS ONE AFTER ANOTHER
+-- STEPS READ ONE BY ONE
 
 items_one : {A : Type 0} (F : Format A) (xs : List A) (x : A) (a b : List ℕ) → Items F xs a → F x b → Items F (xs ++ x ∷ []) (a ++ b)
 items_one F [] x a b h k = (b, [], k, refl, ap (λ (z : List ℕ). z ++ b) h ∙ sym (append-nil b))
@@ -63,7 +63,7 @@ looks_one (y ∷ ys) x earlier = apart (most_looks (ready_after earlier) y) (mos
 pub looks_more : (a b c m n k : ℕ) → b ≤ a + m → c ≤ b + n → k ≡ m + n → c ≤ a + k
 looks_more a b c m n k h l e = omega arith
 
--- the loop ends: a step takes a byte at least
+-- the loop terminates: every step consumes at least one byte
 less_left : (m a b ls lt lx lf : ℕ) → lf + 4096 * a ≤ 4096 * b → ls + lf ≡ lx + lt → 0 < lx → b ≤ m → 4096 * (m - b) + lt < 4096 * (m - a) + ls
 less_left m a b ls lt lx lf h e k n = omega arith
 
@@ -93,7 +93,7 @@ pub not_ended : (b : Bool) (x : Step) → b ≡ false → MatchBool b (x ≡ End
 not_ended false x e h = h
 not_ended true x e h = absurd (let g : ◌≡◌ {A = Bool} true false = e in cc)
 
--- READS
+-- READS OF THE SOURCE
 
 pub calls_of : (r : Result Step StepError) (s t : Source) → AnswersUnlessFailed r s t → CountsReads s t
 calls_of (Ok step) s t a = a.1.calls
@@ -104,12 +104,12 @@ calls_of (Err unread_by.Read) s t a = a.1.calls
 calls_of (Err unread_by.OutOfMemory) s t a = a.2.calls
 calls_of (Err unread_by.HasFailed) s t a = rw a (omega arith)
 
--- where memory ran out as a step was read, no read since found the end
+-- if memory runs out while a step is read, the source is at its end only if it was before
 pub starved_going : (e : StepError) (s t : Source) → read_error e ≡ errors.OutOfMemory → AnswersUnlessFailed (Err e) s t → AtEnd t → AtEnd s
 starved_going unread_by.OutOfMemory s t h a = a.2.going refl
 starved_going e s t h a = let k : read_error e ≡ errors.OutOfMemory = h in absurd cc
 
--- the answer of a `?` is that of the call
+-- a `?` returns the error of its call
 pub same_error : {A B : Type 0} (r : Result A CheckerError) (y e x : CheckerError) → r ≡ Err y → y ≡ e → r ≡ Err x → ◌≡◌ {A = Result B CheckerError} (Err e) (Err x)
 same_error {A} r y e x p q h =
     let g : ◌≡◌ {A = Result A CheckerError} (Err y) (Err x) = sym p ∙ h in
@@ -118,7 +118,7 @@ same_error {A} r y e x p q h =
 pub error_of_err : {A : Type 0} {x y : CheckerError} → ◌≡◌ {A = Result A CheckerError} (Err x) (Err y) → x ≡ y
 error_of_err e = cc
 
--- nor has one at the start
+-- a source from which nothing was read is not at its end
 pub fresh_unended : (s : Source) → s ≡ unread s.reader → AtEnd s → ⊥
 fresh_unended s e h = let z : s.reads ≡ 0 = ap (λ (t : Source). t.reads) e in let k : 0 < s.reads = h.0 in absurd (omega arith)
 
@@ -131,7 +131,7 @@ counts_more s t u h k = omega (arith, h, k)
 pub none_found : (s t : Source) → s ≡ unread s.reader → CountsReads s t → (AtEnd t → ⊥) → FoundNoEnd s.reader t.reader
 none_found s t e c n = λ h k. n (let z : s.reads ≡ 0 = ap (λ (x : Source). x.reads) e in omega (arith, z, c, h), k)
 
--- WHAT WAS READ, AS A READER SEES IT
+-- THE READER'S BYTES
 
 reported_front : (a b : Option (List ℕ)) (ws text : List ℕ) → Consumes (prepend_known [] a) (prepend_known ws b) text → Consumes a b (text ++ ws)
 reported_front None b ws text h = tt
@@ -203,7 +203,7 @@ none_waits None ws e h = tt
 none_waits (Some xs) ws e h = sym (ap (λ (z : List ℕ). z ++ xs) e) ∙ h
 
 module _ {L : Type 0} (Hears : L → Notice → Result Unit ProcessingError → L → Type 0) (before : List Notice) (begun : L) where
-  -- the checker with its flag as it was
+  -- clearing the flag of a checker that has not failed changes nothing
   unfailed : (c : CheckerView L) (steps : List Step) → has_failed c ≡ false → HasAccepted Hears before begun c steps → HasAcceptedUnfailed Hears before begun (with_flag false c) steps
   unfailed c steps h s = (record { kernel = record { accepted = s.kernel.accepted; records = s.kernel.records; kept = λ e. s.kernel.kept h }; heard = λ e. s.heard h }, refl)
 
@@ -243,7 +243,7 @@ module _ {L : Type 0} (Hears : L → Notice → Result Unit ProcessingError → 
     looks = tried_looks a b c earlier xs x p t;
   }
 
-  -- steps that were taken, and then the last one, after which bytes may wait
+  -- the steps before the last one, the last one, and the bytes after it were read
   went_tried : (a b c : CheckerAtSource L) (earlier xs : List Step) (x : Step) → a.source ≡ unread a.source.reader → has_failed a.checker ≡ false → c.source.reads ≤ most_reads
       → TakesStepsBeforeEnd Hears before begun a b earlier xs → TriesStep b c (taken_after xs earlier) x → ReadsProofPart a.checker c.checker a.source.reader c.source.reader earlier xs (x ∷ []) ([] ++ c.source.waiting)
   went_tried a b c earlier xs x e h k p t =
@@ -257,7 +257,7 @@ module _ {L : Type 0} (Hears : L → Notice → Result Unit ProcessingError → 
         looks = tried_looks a b c earlier xs x p t;
       }
 
-  -- and then bytes of which no step was read
+  -- the steps and bytes that form no complete step were read
   went_waiting : (n : ℕ) (a b c : CheckerAtSource L) (earlier xs : List Step) (more : List ℕ) → n ≤ 1 → a.source ≡ unread a.source.reader → has_failed a.checker ≡ false → c.source.reads ≤ most_reads
       → looks_of c.checker ≡ looks_of b.checker → TakesStepsBeforeEnd Hears before begun a b earlier xs → ConsumesWithReads n b.source c.source more → ReadsProofPart a.checker c.checker a.source.reader c.source.reader earlier xs [] (more ++ c.source.waiting)
   went_waiting n a b c earlier xs more m e h k l p w = record {
@@ -284,7 +284,7 @@ module _ {L : Type 0} (Hears : L → Notice → Result Unit ProcessingError → 
   kept_by : (n : ℕ) (a b c : CheckerAtSource L) (earlier xs : List Step) (more : List ℕ) → TakesStepsBeforeEnd Hears before begun a b earlier xs → ConsumesWithReads n b.source c.source more → c.source.reader.failures ≡ a.source.reader.failures
   kept_by n a b c earlier xs more p w = w.failures ∙ p.passes.failures
 
-  -- an error after steps that were taken
+  -- the result if an error follows accepted steps
   pub stops : (a b c : CheckerAtSource L) (e : CheckerError) (earlier xs : List Step) → a.source ≡ unread a.source.reader → has_failed a.checker ≡ false → c.source.reads ≤ most_reads
       → TakesStepsBeforeEnd Hears before begun a b earlier xs → StepsOn Hears before begun (Err e) b c (taken_after xs earlier) → AnswersProof Hears before begun (Err e) a.checker c.checker a.source.reader c.source.reader earlier
   stops a b c errors.CheckFailed earlier xs e h k p s =
@@ -337,11 +337,11 @@ module _ {L : Type 0} (Hears : L → Notice → Result Unit ProcessingError → 
   )
   stops a b c errors.HasFailed earlier xs e h k p s = absurd s
 
-  -- after an end nothing is pending
+  -- no unit conflict is pending after an end
   settled_end : (steps : List Step) (c : CheckerView L) → has_failed c ≡ false → HasAccepted Hears before begun c (End ∷ steps) → IsSettled c
   settled_end steps c h s = let k = s.kernel.kept h in none_pending c.kernel (End ∷ steps) k (end_settled steps)
 
-  -- the end after steps that were taken
+  -- the result if the end follows accepted steps
   pub finishes : (a b c : CheckerAtSource L) (earlier xs : List Step) (x : Step) → a.source ≡ unread a.source.reader → has_failed a.checker ≡ false → c.source.reads ≤ most_reads
       → TakesStepsBeforeEnd Hears before begun a b earlier xs → TriesStep b c (taken_after xs earlier) x → x ≡ End → HasAcceptedUnfailed Hears before begun c.checker (x ∷ taken_after xs earlier) → AnswersProof Hears before begun (Ok tt) a.checker c.checker a.source.reader c.source.reader earlier
   finishes a b c earlier xs x e h k p t is g =
@@ -354,7 +354,7 @@ module _ {L : Type 0} (Hears : L → Notice → Result Unit ProcessingError → 
         settled_end (taken_after xs earlier) c.checker on.1 on.0,
       )
 
-  -- a step that was read and isn't accepted
+  -- the result if a step was read and not accepted
   pub step_stops : (a b : CheckerAtSource L) (e : CheckerError) (earlier : List Step) (x : Step) → has_failed a.checker ≡ false → TriesStep a b earlier x → AnswersStep Hears before begun (Err e) a.checker x b.checker earlier → StepsOn Hears before begun (Err e) a b earlier
   step_stops a b errors.CheckFailed earlier x h t k = (x, t, k.1, k.2)
   step_stops a b errors.CounterEnd earlier x h t k = (x, t, k.1, k.2)

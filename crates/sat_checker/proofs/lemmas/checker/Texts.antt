@@ -1,4 +1,4 @@
--- Clauses of a text that are added, piece by piece.
+-- Adding the clauses of a text, chunk by chunk.
 use Rattle.std.proofs.Common.{ℕ, ◌+◌, ◌≤◌, ◌≡◌, true, false, List, [], ◌∷◌, ◌++◌, append_assoc, length, Result, Ok, Err, OnOk, inl, inr, refl, sym, ap, subst, ◌∙◌, arith}
 use Rattle.std.proofs.lemmas.Bool.{true≢false}
 use Rattle.std.proofs.lemmas.List.{append-nil, map-append}
@@ -27,7 +27,7 @@ use Rattle.sat_checker.specs.declared.error.CheckerDimacsError.{CheckerDimacsErr
 use Rattle.sat_checker.specs.declared.error.CheckerDimacsError.TheVariants as refused
 use Rattle.sat_checker.proofs.lemmas.checker.Proofs.{looks_more, failed_now}
 
--- CLAUSES AFTER CLAUSES
+-- CLAUSES ADDED AFTER OTHER CLAUSES
 
 taken_joined : (xs ys earlier : List Step) → taken_after (xs ++ ys) earlier ≡ taken_after ys (taken_after xs earlier)
 taken_joined [] ys earlier = refl
@@ -52,7 +52,7 @@ cost_joined cs ds earlier = ap (λ (z : List Step). most_looks_after z earlier) 
 none_more : (n : ℕ) → n ≤ n + 0
 none_more n = omega arith
 
--- WHAT A PIECE LEAVES
+-- THE PARSER AFTER A CHUNK
 
 pub no_clauses : (dimacs []).clauses ≡ []
 unfolding dimacs scan tokens_of lines clauses_of
@@ -66,7 +66,7 @@ fed_more text piece p q r is f t =
 fed_of : (text : List ℕ) (p : Progress) → HasFed text p → p.fed ≡ text
 fed_of text p is = ap (λ (z : Progress). z.fed) is
 
--- the clauses read of a text that goes on, and of one that is over
+-- the clauses read so far, and all clauses once the text has ended
 pub open_read : (text piece : List ℕ) (p q : Progress) → HasFed text p → q ≡ with_fed piece p → clauses_read q ≡ (dimacs (up_to_last_blank (text ++ piece))).clauses
 open_read text piece p q is f = ap clauses_read (f ∙ ap (with_fed piece) is)
 
@@ -76,7 +76,7 @@ over_read text p q is f = ap clauses_read (f ∙ ap at_its_end is)
 has_ending : (d : Dimacs) (clauses : List (List ℕ)) (ending : Ending) → clauses ≡ d.clauses → d.ending ≡ ending → d ≡ record { clauses = clauses; ending = ending }
 has_ending d clauses ending c e = subst (λ (z : Ending). d ≡ record { clauses = clauses; ending = z }) e (subst (λ (z : List (List ℕ)). d ≡ record { clauses = z; ending = d.ending }) (sym c) refl)
 
--- where a piece is at fault, the text has the clauses read, whatever would follow
+-- if a chunk ends at a fault, the clauses read are those of the text, whatever follows
 fault_says : (ending : Ending) (text piece : List ℕ) (p q : Progress) → HasFed text p → EndsAtFault ending piece p q → (rest : List ℕ) → IsDimacs ((text ++ piece) ++ rest) (clauses_read q) ending
 fault_says ending text piece p q is f rest =
     let fed : q.fed ≡ text ++ f.front = ap (λ (z : Progress). z.fed) f.progress ∙ ap (λ (z : List ℕ). z ++ f.front) (fed_of text p is) in
@@ -85,7 +85,7 @@ fault_says ending text piece p q is f rest =
     ∙ ap (λ (z : List ℕ). z ++ (f.following ++ rest)) (sym fed) in
     ap dimacs all ∙ f.ends (f.following ++ rest)
 
--- and where there is no memory, those of a front
+-- if memory ran out, the clauses read are those of a prefix of the text
 short_says : (text piece : List ℕ) (p q : Progress) → HasFed text p → FallsShort piece p q → (rest : List ℕ) → AreOfFront ((text ++ piece) ++ rest) (clauses_read q)
 short_says text piece p q is f rest = (
   text ++ f.front,
@@ -114,7 +114,7 @@ read_by_end e text p q is f = inr (over_read text p q is f.1)
 pub clean_by_end : (text : List ℕ) (p q : Progress) → HasFed text p → Finishes (Ok tt) p q → IsDimacs text (clauses_read q) Clean
 clean_by_end text p q is f = has_ending (dimacs text) (clauses_read q) Clean (over_read text p q is f.1) (ap (λ (z : List ℕ). (dimacs z).ending) (sym (fed_of text p is)) ∙ f.2)
 
--- what a fault says
+-- what an error of the parser says about the text
 pub fails_by_piece : (e : DimacsError) (from to : Reader) (text piece : List ℕ) (p q : Progress) → HasFed text p → FeedsPiece (Err e) piece p q → NoReadFailed from to → GaveFront from to (text ++ piece) → to.ended ≡ false
     → to.calls ≤ from.calls + length (text ++ piece) + 1 → FailsAfter e from to (clauses_read q)
 fails_by_piece (texts.Malformed line) from to text piece p q is f n g o few = (n, enough_front from to _ (text ++ piece) g o few (λ rest. (f.1, f.2, fault_says (Malformed f.1) text piece p q is f.3 rest)))
@@ -133,9 +133,7 @@ fails_by_end texts.OutOfMemory from to text p q is f n g = (n, enough_all from t
 fails_by_end texts.Read from to text p q is f n g = absurd f
 fails_by_end texts.HasFailed from to text p q is f n g = stopped_not _ text p is f.0
 
--- WHAT IS ANSWERED
-
--- WHAT IS ANSWERED OF A READER
+-- CLAUSES ADDED EARLIER
 
 taken_by_piece : (answer : Result Unit DimacsError) (text piece : List ℕ) (p q : Progress) → HasFed text p → FeedsPiece answer piece p q → q.taken ≡ p.taken
 taken_by_piece (Ok x) text piece p q is f = ap (λ (z : Progress). z.taken) f.1
@@ -203,7 +201,7 @@ module _ {L : Type 0} (Hears : L → Notice → Result Unit ProcessingError → 
   set_failed texts.OutOfMemory mid steps g = failed_now Hears before begun mid steps g.1 g.0
   set_failed e mid steps g = unflagged mid steps g
 
-  -- those that were read before were added, and these are tried
+  -- the clauses read earlier were added, and these are added next
   module _ (old cur new : CheckerView L) (q : Progress) (earlier : List Step) (clauses : List (List ℕ)) (first : AnswersClauses Hears before begun (Ok tt) old cur q.taken earlier) (split : clauses_read q ≡ q.taken ++ clauses) where
     pub after_first : (r : Result Unit CheckerError) (last : CheckerView L) → ((steps : List Step) → HasAccepted Hears before begun cur steps → AnswersClauses Hears before begun r cur last clauses steps) → AnswersClauses Hears before begun r old last (clauses_read q) earlier
     after_first r last a = subst (λ (z : List (List ℕ)). AnswersClauses Hears before begun r old last z earlier) (sym split) (joined r old cur last q.taken clauses earlier first (a (after_additions q.taken earlier) first.1.0))
@@ -228,7 +226,7 @@ module _ {L : Type 0} (Hears : L → Notice → Result Unit ProcessingError → 
   answers_dimacs (Err x) answer old cur new from to q earlier n first clean fails read a = absurd (a.2 before begun (after_additions q.taken earlier) first.1.0)
 
 module _ {L : Type 0} (Hears : L → Notice → Result Unit ProcessingError → L → Type 0) where
-  -- the clauses of what was given before were added
+  -- the clauses of the earlier chunks were added
   abbrev pub AddedBefore : CheckerView L → CheckerView L → Progress → Type 0
   AddedBefore old cur p = (before : List Notice) (begun : L) (earlier : List Step) → HasAccepted Hears before begun old earlier → AnswersClauses Hears before begun (Ok tt) old cur p.taken earlier
 
@@ -238,7 +236,7 @@ module _ {L : Type 0} (Hears : L → Notice → Result Unit ProcessingError → 
   first_of : (old cur : CheckerView L) (p q : Progress) → AddedBefore old cur p → q.taken ≡ p.taken → (before : List Notice) (begun : L) (earlier : List Step) → HasAccepted Hears before begun old earlier → AnswersClauses Hears before begun (Ok tt) old cur q.taken earlier
   first_of old cur p q added e before begun earlier valid = subst (λ (z : List (List ℕ)). AnswersClauses Hears before begun (Ok tt) old cur z earlier) (sym e) (added before begun earlier valid)
 
-  -- a piece without a fault
+  -- a chunk without a fault
   pub piece_added : (old cur new : CheckerView L) (text piece : List ℕ) (p q r : Progress) (answer : Result Unit DimacsError) → HasFed text p → FeedsPiece answer piece p q → r ≡ all_taken q → AddsRead Hears (Ok tt) answer q cur new → AddedBefore old cur p
       → HasFed (text ++ piece) r × (r.taken ≡ (dimacs (up_to_last_blank (text ++ piece))).clauses) × AddedBefore old new r
   piece_added old cur new text piece p q r answer is f t a added =
@@ -249,7 +247,7 @@ module _ {L : Type 0} (Hears : L → Notice → Result Unit ProcessingError → 
             (after_first Hears before begun old cur new q earlier a.0 (first_of old cur p q added (ap (λ (z : Progress). z.taken) fed) before begun earlier valid) a.1 (Ok tt) new (a.2.1 before begun)),
       )
 
-  -- one at which reading stops
+  -- the result if reading stops in a chunk
   pub piece_answers : (e : CheckerDimacsError) (answer : Result Unit DimacsError) (old cur new : CheckerView L) (from to : Reader) (text piece : List ℕ) (p q : Progress) → HasFed text p → FeedsPiece answer piece p q → NoReadFailed from to
       → GaveFront from to (text ++ piece) → to.ended ≡ false → to.calls ≤ from.calls + length (text ++ piece) + 1 → AddedBefore old cur p → AddsRead Hears (Err e) answer q cur new → AddsDimacs Hears (Err e) old new from to
   piece_answers e answer old cur new from to text piece p q is f n g o few added a = λ before begun earlier valid. answers_dimacs Hears before begun (Err e) answer old cur new from to q earlier n (first_of old cur p q added (taken_by_piece answer text piece p q is f) before begun earlier valid)
@@ -258,7 +256,7 @@ module _ {L : Type 0} (Hears : L → Notice → Result Unit ProcessingError → 
       (enough_front from to _ (text ++ piece) g o few (λ rest. read_by_piece answer text piece p q is f rest))
       a
 
-  -- the end of the text
+  -- the result at the end of the text
   pub end_answers : (result : Result Unit CheckerDimacsError) (answer : Result Unit DimacsError) (old cur new : CheckerView L) (from to : Reader) (text : List ℕ) (p q : Progress) → HasFed text p → Finishes answer p q → NoReadFailed from to
       → GaveAll from to text → AddedBefore old cur p → AddsRead Hears result answer q cur new → AddsDimacs Hears result old new from to
   end_answers result answer old cur new from to text p q is f n g added a = λ before begun earlier valid. answers_dimacs Hears before begun result answer old cur new from to q earlier n (first_of old cur p q added (taken_by_end answer p q f) before begun earlier valid)
@@ -267,7 +265,7 @@ module _ {L : Type 0} (Hears : L → Notice → Result Unit ProcessingError → 
       (enough_all from to _ text g (read_by_end answer text p q is f))
       a
 
-  -- a read that failed
+  -- the result if a read failed
   pub read_answers : (old cur : CheckerView L) (from to : Reader) (text : List ℕ) (p : Progress) → HasFed text p → ReadFails from to → GaveFront from to text → IsSoundSoFar p → p.taken ≡ (dimacs (up_to_last_blank text)).clauses → AddedBefore old cur p
       → AddsDimacs Hears (Err (refused.Dimacs texts.Read)) old cur from to
   read_answers old cur from to text p is r g s t added = λ before begun earlier valid. let all = added before begun earlier valid in (p.taken, (r, text, g, subst IsSoundText (fed_of text p is) s, t), all.0, all.1)

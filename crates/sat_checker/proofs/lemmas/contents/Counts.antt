@@ -1,4 +1,4 @@
--- Counts of stored clauses, as clauses come in and go.
+-- Counts of stored clauses, as clauses are added and removed.
 use Rattle.std.proofs.Common.{ℕ, ◌+◌, ◌-◌, ◌<◌, ◌≡◌, Bool, true, false, ◌&&◌, cond, eqb, List, [], ◌∷◌, ◌++◌, refl, sym, ◌∙◌, ap, subst, arith, inl, inr, Option, None, Some, eq-zero-or-pos}
 use Rattle.std.proofs.lemmas.Bool.{and_parts, both_ways, eqb-true, eqb-false}
 use Rattle.std.specs.List.{AllByRecursion}
@@ -12,7 +12,7 @@ use Rattle.sat_checker.specs.Invariants.{EachOnce, EachCounted}
 nonzero : (n : ℕ) → eqb n 0 ≡ false → 0 < n
 nonzero n e = elim (eq-zero-or-pos n) [ inl z ↦ absurd (eqb-false n 0 e z) | inr p ↦ p ]
 
--- what isn't the same as one isn't the same as its copy
+-- if two sets differ, one differs from every copy of the other
 differ : (xs ys zs : List ℕ) → same_literals xs ys ≡ false → same_literals xs zs ≡ true → same_literals ys zs ≡ false
 differ xs ys zs n e = go (same_literals ys zs) refl
   where
@@ -41,7 +41,7 @@ less_none true false false n e = refl
 less_none false true false n e = refl
 less_none false false false n e = refl
 
--- one count more, of one set and one side
+-- adding a clause adds one count of this set on this side
 pub count_more : (r q : Bool) (id : ℕ) (ls ms : List ℕ) (cs : List StoredClause) → count_in q (clause_with ms (with_stored_clause r id ls cs)) ≡ more_if (same_side r q && same_literals ls ms) (count_in q (clause_with ms cs))
 count_more true q id ls ms [] = go q (same_literals ls ms)
   where
@@ -83,7 +83,7 @@ count_more r q id ls ms (c ∷ cs) = go r (count_more r q id ls ms cs) (same_lit
     go false ih true e = hit false q (same_literals c.literals ms) (clause_with ms cs) ∙ ap (λ b. more_if (same_side false q && b) (count_in q (clause_with ms (c ∷ cs)))) (as_its e)
     go r ih false e = miss r ih e (same_literals c.literals ms) refl
 
--- one count less, where no set is stored twice
+-- removing a clause removes one count of this set on this side, if no set is stored twice
 pub count_less : (r q : Bool) (ls ms : List ℕ) (cs : List StoredClause) → EachOnce cs → count_in q (clause_with ms (without_clause r ls cs)) ≡ less_if (same_side r q && same_literals ls ms) (count_in q (clause_with ms cs))
 count_less r q ls ms [] h = go q (same_side r q && same_literals ls ms)
   where
@@ -135,7 +135,7 @@ count_less r q ls ms (c ∷ cs) h = go r (count_less r q ls ms cs h.1) (same_lit
         ∙ ap (λ l. less_if (same_side r q && same_literals l ms) (count_in q (clause_with ms (c ∷ cs)))) (same c.literals ls e)
     go r ih false e = miss r ih e (same_literals c.literals ms) refl
 
--- other sets are as they were
+-- adding a clause does not change other sets
 others_more : (r : Bool) (id : ℕ) (ls ms : List ℕ) (cs : List StoredClause) → same_literals ls ms ≡ false → clause_with ms (with_stored_clause r id ls cs) ≡ clause_with ms cs
 others_more true id ls ms [] n = ap (λ b. cond b (Some (new_clause true id ls)) None) n
 others_more false id ls ms [] n = ap (λ b. cond b (Some (new_clause false id ls)) None) n
@@ -198,7 +198,7 @@ counted_less r ls (c ∷ cs) h = go r (counted_less r ls cs h.1) (same_literals 
     go r ih true = positive (without_count r c) (eqb (without_count r c).irredundant 0 && eqb (without_count r c).redundant 0) refl
     go r ih false = (h.0, ih)
 
--- where no set is stored twice, each clause is found by its literals
+-- if no set is stored twice, every clause is found by its literals
 pub found : (cs : List StoredClause) → EachOnce cs → AllByRecursion (λ c. clause_with c.literals cs ≡ Some c) cs
 found [] h = tt
 found (c ∷ cs) h = (ap (λ b. cond b (Some c) (clause_with c.literals cs)) (same_from c.literals c.literals refl), later cs (found cs h.1))

@@ -1,4 +1,4 @@
--- Whatever steps there were, their contents are those of what is stored after them.
+-- After any steps, the contents of what is stored are the contents computed from the steps.
 use Rattle.std.proofs.Common.{◌≡◌, Bool, true, false, List, [], ◌∷◌, refl, ◌∙◌, ap, None}
 use Rattle.sat_base.specs.steps.Steps.{Step}
 use Rattle.sat_checker.specs.Accepts.{stored_after, ready_after}

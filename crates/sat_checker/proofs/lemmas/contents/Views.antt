@@ -1,4 +1,4 @@
--- What steps make of the contents of what is stored.
+-- How steps change the contents of what is stored.
 use Rattle.std.proofs.Common.{ℕ, ◌≡◌, Bool, true, false, not, ◌&&◌, ◌||◌, cond, eqb, List, [], ◌∷◌, ◌++◌, map, filter, refl, sym, ◌∙◌, ap, Option, None, Some}
 use Rattle.std.proofs.lemmas.Bool.{eqb-true}
 use Rattle.sat_base.specs.values.Literals.{variable, negated}
@@ -20,7 +20,7 @@ among_push (u ∷ us) id l m = ap (λ b. eqb u.literal m || b) (among_push us id
     turn true false z = refl
     turn false y z = refl
 
--- a change of the state, which leaves the rest
+-- a change of the proof state only
 abbrev pub onto : (ProofState → ProofState) → Contents → Contents
 onto change c = record c { state = change c.state }
 
@@ -44,7 +44,7 @@ view_set r [] f = refl
 view_set r (l ∷ []) f = view_unit l f
 view_set r (l ∷ m ∷ ls) f = λ i. onto (λ s. record s { counts = λ q other. count_more r q f.next_id (l ∷ m ∷ ls) other f.clauses i }) (contents f)
 
--- with whatever last clause
+-- storing a clause changes the contents as `clause_more` says
 view_stored : (r : Bool) (clause : List ℕ) (f : Stored) → contents (with_stored r clause f) ≡ onto (clause_more r clause) (contents f)
 view_stored true clause f = go (is_tautology clause)
   where

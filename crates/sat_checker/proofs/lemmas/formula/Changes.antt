@@ -1,4 +1,4 @@
--- What storing a derived clause changes is what deriving it announces.
+-- The change that storing a derived clause makes is the one that deriving it announces.
 use Rattle.std.proofs.Common.{ℕ, ◌+◌, ◌^◌, max, inl, inr, ◌≤◌, ◌≡◌, ◌==◌, ◌&&◌, Bool, true, false, not, cond, List, [], ◌∷◌, length, Option, None, Some, is_some, Err, refl, sym, ◌∙◌, ap, arith}
 use Rattle.sat_checker.specs.Stored.{Stored, StoredClause}
 use Rattle.sat_checker.specs.Storing.{clause_with, with_input, with_stored}
@@ -18,7 +18,7 @@ new_change r p e = ap (λ b. cond b changes.New (cond r changes.Neither (cond (p
 old_change : (r : Bool) (p : Placed) → p.is_new ≡ false → change_in r p ≡ cond r changes.Neither (cond (p.irredundant == 0) (changes.Irredundant p.id) changes.Neither)
 old_change r p e = ap (λ b. cond b changes.New (cond r changes.Neither (cond (p.irredundant == 0) (changes.Irredundant p.id) changes.Neither))) e
 
--- a clause of two literals or more, by how it was placed
+-- the change that a clause of two or more literals makes
 pub long_change : (store : Store) (f : Stored) (id : ℕ) (r : Bool) (ls ids : List ℕ) (p : Placed) → 2 ≤ length ls → StoreEffect store f id r ls p.id p.is_new → store_count_in false (clause_with ls f.clauses) ≡ p.irredundant
     → stored_as (change_in r p) f.next_id r ls ids ≡ derived_set r ls ids f (id_of_set ls f)
 long_change store f id r [] ids p l s n = absurd (omega arith)
@@ -43,7 +43,7 @@ long_change store f id r (x ∷ y ∷ ls) ids p l s n = go (clause_with (x ∷ y
         ∙ sym (ap (λ o. cond (not r && redundant_alone o) (MakeIrredundant c.id (x ∷ y ∷ ls) ∷ []) []) e)
         ∙ sym (ap (λ o. derived_set r (x ∷ y ∷ ls) ids f (id_of o)) e)
 
--- a unit that is stored already
+-- a unit that is already stored announces nothing
 pub neither_reported : (r : Bool) (l : ℕ) (ids : List ℕ) (f : Stored) (id : ℕ) → AreLong f → [] ≡ derived_set r (l ∷ []) ids f (Some id)
 neither_reported r l ids f id long = sym (ap (λ o. cond (not r && redundant_alone o) (MakeIrredundant id (l ∷ []) ∷ []) []) (long l) ∙ none r)
   where
@@ -54,7 +54,7 @@ neither_reported r l ids f id long = sym (ap (λ o. cond (not r && redundant_alo
 below_max : (a b : ℕ) → 2 ^ 64 ≤ a → 2 ^ 64 ≤ max a b
 below_max a b h = omega arith
 
--- a clause of the formula that can't be stored
+-- an error of storing a clause means the same for an input clause
 pub input_refused : (T U : Type 0) (e : StoreError) (K L : Type 0) (c : List ℕ) (f : Stored) → KeepsOrSpends {T = T} (Err e) K (with_stored false c f) → KeepsOrSpends {T = U} (Err e) L (with_input c f)
 input_refused T U OutOfMemory K L c f k = tt
 input_refused T U CounterEnd K L c f k = elim k [
@@ -62,7 +62,7 @@ input_refused T U CounterEnd K L c f k = elim k [
   | inr s ↦ inr (record { literals = s.literals; past = s.past })
 ]
 
--- an error says the same of a result of another type
+-- an error means the same for results of another type
 pub spent_as : (T U : Type 0) (e : StoreError) (K L : Type 0) (g : Stored) → KeepsOrSpends {T = T} (Err e) K g → KeepsOrSpends {T = U} (Err e) L g
 spent_as T U OutOfMemory K L g k = tt
 spent_as T U CounterEnd K L g k = k

@@ -1,4 +1,4 @@
--- Ids, and where the last irredundant clause stored was put, as clauses and units come in and go.
+-- Ids, and the last irredundant clause, as clauses and units are added and removed.
 use Rattle.std.proofs.Common.{ℕ, ◌+◌, ◌<◌, ◌≤◌, ◌≡◌, Bool, true, false, not, ◌&&◌, ◌||◌, cond, eqb, List, [], ◌∷◌, ◌++◌, map, filter, Option, Some, None, refl, sym, ◌∙◌, ap, subst, arith}
 use Rattle.std.proofs.lemmas.Bool.{eq-eqb, ne_eqb, eqb-true, eqb-false, true≢false}
 use Rattle.std.proofs.lemmas.List.{map-append}
@@ -31,7 +31,7 @@ numbered_none is last e n = subst (λ js. AreNumbered js [] last 0) (sym e) (rec
     none (code.Single id l) n = absurd cc
     none (code.Long id) n = tt
 
--- an id is taken
+-- ids stay in order when the next id increases
 ids_more : (is : List ℕ) (n m : ℕ) → n ≤ m → AreIdsInOrder is n → AreIdsInOrder is m
 ids_more is n m l h = record { increasing = h.increasing; below = below_more n m (λ i k. omega (arith, l, k)) is h.below }
 
@@ -45,7 +45,7 @@ put_more e us n m l h = tt
 pub numbered_more : (is : List ℕ) (us : List StoredUnit) (last : LastClause) (n m : ℕ) → n ≤ m → AreNumbered is us last n → AreNumbered is us last m
 numbered_more is us last n m l h = record { of_clauses = ids_more is n m l h.of_clauses; of_units = ids_more (unit_ids us) n m l h.of_units; put = put_more last us n m l h.put }
 
--- a clause takes it
+-- a clause gets the next id
 numbered_clause : (is : List ℕ) (us : List StoredUnit) (last : LastClause) (n : ℕ) → AreNumbered is us last n → AreNumbered (is ++ n ∷ []) us last (n + 1)
 numbered_clause is us last n h = record {
   of_clauses = ids_push is n h.of_clauses;
@@ -60,11 +60,11 @@ numbered_placed old new us last n is_new there k e h = go there (k ∙ ap (λ b.
     go true i = subst (λ is. AreNumbered is us last n) (sym i) h
     go false i = subst (λ is. AreNumbered is us last (n + 1)) (sym i) (numbered_clause (slot_ids old) us last n h)
 
--- clauses go
+-- clauses are removed
 pub numbered_kept : (old new : List Slot) (us : List StoredUnit) (last : LastClause) (n : ℕ) → KeepsIds old new → AreNumbered (slot_ids old) us last n → AreNumbered (slot_ids new) us last n
 numbered_kept old new us last n k h = record { of_clauses = k n h.of_clauses; of_units = h.of_units; put = h.put }
 
--- a unit takes it
+-- a unit gets the next id
 abbrev unit_of : ℕ → ℕ → StoredUnit
 unit_of id l = record { id = id; literal = l }
 
@@ -86,7 +86,7 @@ numbered_unit is us last n l h = record {
   put = put_unit last us n l h.put;
 }
 
--- units are forgotten
+-- units are removed
 module _ (test : StoredUnit → Bool) where
   each_left : (P : StoredUnit → Type 0) (us : List StoredUnit) → AllByRecursion P us → AllByRecursion P (filter test us)
   each_left P [] h = tt
@@ -123,7 +123,7 @@ module _ (test : StoredUnit → Bool) where
     put = put_left last us n h.put;
   }
 
--- a unit is noted as the last irredundant clause
+-- a unit becomes the last irredundant clause
 unit_has : (P : ℕ → Type 0) (l id : ℕ) (us : List StoredUnit) → AllByRecursion P (unit_ids us) → unit_id l us ≡ Some id → P id
 unit_has P l id [] h e = absurd cc
 unit_has P l id (u ∷ us) h e = go (eqb u.literal l) (unit_has P l id us h.1) e
@@ -155,7 +155,7 @@ unit_noted is us last n l id e h = record {
   put = (unit_has (λ i. i < n) l id us h.of_units.below e, is_unit_of l id us h.of_units.increasing e);
 }
 
--- the unit with its id
+-- the unit with this id
 unit_there : (id l : ℕ) (us : List StoredUnit) → AllByRecursion (IsIdOfUnit id l) us → unit_id l us ≡ Some id → unit_numbered id us ≡ Some (l ∷ [])
 unit_there id l [] h e = absurd cc
 unit_there id l (u ∷ us) h e = go (eqb u.literal l) refl (unit_there id l us h.1) e
@@ -188,7 +188,7 @@ pub id_missed : (o : Option ℕ) (id : ℕ) → true ≡ not (option_eq eqb o (S
 id_missed None id e q = absurd cc
 id_missed (Some x) id e q = let k : x ≡ id = cc in true≢false (e ∙ ap not (eq-eqb x id k))
 
--- the last irredundant clause stored stands where it was put, or nowhere
+-- the last irredundant clause is the one that was recorded, unless it was removed
 module _ (F : Formula) (f : Stored) (k : RepresentsFormula F f) where
   last_is : (last : LastClause) → F.status.last ≡ last → last_literals f.last f ≡ last_literals (last_in last) f
   last_is last e = ap (λ (s : RestOfStored). last_literals s.last f) (sym k.status) ∙ ap (λ x. last_literals (last_in x) f) e

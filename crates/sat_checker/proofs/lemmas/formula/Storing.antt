@@ -1,4 +1,4 @@
--- What storing leaves of the formula.
+-- What the formula represents after clauses are stored.
 use Rattle.std.proofs.Common.{ℕ, ◌+◌, ◌≤◌, get_or, ◌^◌, ◌≡◌, Bool, true, false, not, cond, eqb, List, [], ◌∷◌, ◌++◌, length, map, Option, None, Some, is_some, refl, sym, ◌∙◌, ap, subst, arith, Result, Ok, Err, inl, inr, max}
 use Rattle.std.proofs.lemmas.Bool.{true≢false, eq-eqb, eqb-true, eqb-false}
 use Rattle.std.specs.Prelude.{MatchResult}
@@ -23,7 +23,7 @@ use Rattle.sat_checker.proofs.lemmas.sets.Rooms.{room_stays}
 use Rattle.sat_checker.proofs.lemmas.state.Rooms.{stored_stays, stored_with}
 use Rattle.sat_checker.proofs.lemmas.formula.Numbering.{numbered_more, numbered_placed, numbered_unit, unit_noted}
 
--- the place of a unit by its id
+-- a unit is found under its id
 unit_there : (l id : ℕ) (us : List StoredUnit) (otherwise : Last) → unit_id l us ≡ Some id → unit_at l us otherwise ≡ UnitClause id
 unit_there l id [] otherwise e = cc
 unit_there l id (u ∷ us) otherwise e = go (eqb u.literal l) (unit_there l id us otherwise) e
@@ -75,7 +75,7 @@ single_passed F false l f e k u = record {
   marks = k.marks;
 }
 
--- where a clause is, once it was stored
+-- where a clause is after it is stored
 itself : (ls : List ℕ) → same_literals ls ls ≡ true
 itself [] = refl
 itself (x ∷ xs) = let e : eqb x x ≡ true = eq-eqb x x refl in rw e (itself xs)
@@ -91,7 +91,7 @@ long_there r n ls (c ∷ cs) otherwise = go r (same_literals c.literals ls) refl
     go false true e ih = ap (λ b. long_at (cond b (Some (with_count false c)) (clause_with ls cs)) otherwise) e
     go r false e ih = ap (λ b. long_at (cond b (Some c) (clause_with ls (with_stored_clause r n ls cs))) otherwise) e ∙ ih
 
--- one count more
+-- storing a clause adds one count
 count_more : (r : Bool) (n : ℕ) (ls : List ℕ) (cs : List StoredClause) → store_count_in r (clause_with ls (with_stored_clause r n ls cs)) ≡ store_count_in r (clause_with ls cs) + 1
 count_more true n ls [] = ap (λ b. redundant_count (cond b (Some (new_clause true n ls)) None)) (itself ls)
 count_more false n ls [] = ap (λ b. irredundant_count (cond b (Some (new_clause false n ls)) None)) (itself ls)
@@ -113,7 +113,7 @@ noted r p s = cond r s (record s { last = code.Long p.id })
 next_of : (F : Formula) (f : Stored) → RepresentsFormula F f → F.status.next_id ≡ f.next_id
 next_of F f k = ap (λ (s : RestOfStored). s.next_id) k.status
 
--- a new unit
+-- storing a new unit
 pub unit_stored : (F : Formula) (f : Stored) (l id : ℕ) (units : UnitsAndRoom) (status : Status) → RepresentsFormula F f → is_among (map (λ u. u.literal) F.units.units) l ≡ false → is_among (map (λ u. u.literal) F.units.units) (negated l) ≡ false → units ≡ record { units = F.units.units ++ (record { id = id; literal = l }) ∷ []; room = with_room l F.units.room }
     → (id ≡ F.status.next_id) × (status ≡ record F.status { next_id = F.status.next_id + 1 }) → RepresentsFormula (record F { units = units; status = status }) (with_unit l f)
 unit_stored F f l id units status k a b u s =
@@ -135,7 +135,7 @@ next_swap true false n e = refl
 next_swap false true n e = refl
 next_swap false false n e = absurd (true≢false (sym e))
 
--- a clause of two literals or more was stored
+-- storing a clause of two or more literals
 module _ (F : Formula) (store : Store) (f : Stored) (x y : ℕ) (ls : List ℕ) (p : Placed) (k : RepresentsFormula F f) where
   abbrev all : List ℕ
   all = x ∷ y ∷ ls
@@ -191,7 +191,7 @@ module _ (F : Formula) (store : Store) (f : Stored) (x y : ℕ) (ls : List ℕ) 
   count_spent true h = inr (counts_spent (with_canonical true all f) true all (let e = count_more true f.next_id all f.clauses in omega (arith, e, h)))
   count_spent false h = inr (counts_spent (with_canonical false all f) false all (let e = count_more false f.next_id all f.clauses in omega (arith, e, h)))
 
--- what taking an id where one is needed answers
+-- the result of assigning the next id, if one is needed
 abbrev pub Takes : {T : Type 0} → Result T StoreError → Status → Bool → Status → Type 0
 Takes result old needed new =
     MatchResult result (λ x. new ≡ record old { next_id = cond needed (old.next_id + 1) old.next_id }) (λ e. (e ≡ CounterEnd) × (needed ≡ true) × (2 ^ 64 ≤ old.next_id + 1))
@@ -218,7 +218,7 @@ pub long_refused : {T : Type 0} (result : Result T StoreError) (d e : StoreError
     → (e ≡ CounterEnd → 2 ^ 64 ≤ store_count_in r (clause_with ls f.clauses) + 1) → KeepsOrSpends result K (with_canonical r ls f)
 long_refused {T = T} result d e i s K F f r ls l k h = subst (λ x. KeepsOrSpends x K (with_canonical r ls f)) (sym (i ∙ ap Err s)) (long_fails e T K F f r ls l k h)
 
--- ids don't fall
+-- the next id does not decrease
 next_unit : (l : ℕ) (f : Stored) → f.next_id ≤ (with_unit l f).next_id
 next_unit l f = go (is_unit f l) (is_unit f (negated l))
   where
@@ -247,7 +247,7 @@ next_stored r c f = go (is_tautology c)
     go true = omega arith
     go false = next_canonical r (canonical c) f
 
--- a clause of the formula takes an id
+-- an input clause always gets an id
 next_input : (n m : ℕ) (b : Bool) → n ≤ m → b ≡ eqb m n → cond b (m + 1) m ≡ max m (n + 1)
 next_input n m true l e = let h : m ≡ n = eqb-true m n (sym e) in omega arith
 next_input n m false l e = let h : (m ≡ n → ⊥) = eqb-false m n (sym e) in omega arith
@@ -274,7 +274,7 @@ input_stored {T = T} result F G status f c b k g e m = go result m
         subst (λ d. KeepsOrSpends {T = T} (Err d) (RepresentsFormula (record G { status = status }) (with_input c f)) (with_input c f)) (sym m.0)
         (inl (let a = next_of G (with_stored false c f) g in let t = ap (λ x. cond x ((with_stored false c f).next_id + 1) (with_stored false c f).next_id) m.1 in omega (arith, a, t, same, m.2)))
 
--- by their number
+-- cases by the number of literals
 pub is_none : (ls : List ℕ) (b : Bool) → eqb (length ls) 0 ≡ b → b ≡ true → ls ≡ []
 is_none [] b e t = refl
 is_none (l ∷ ls) b e t = let k : length (l ∷ ls) ≡ 0 = eqb-true (length (l ∷ ls)) 0 (e ∙ t) in absurd (omega arith)
@@ -292,7 +292,7 @@ is_long (l ∷ m ∷ ls) b e f n = omega arith
 pub none_more : (looks n : ℕ) → looks ≤ looks + n
 none_more looks n = omega arith
 
--- a clause with both signs of a variable isn't stored, and another one by its sorted literals
+-- a tautology is not stored, any other clause is stored by its sorted literals
 pub stored_signs : (r : Bool) (c : List ℕ) (f : Stored) → is_tautology c ≡ true → with_stored r c f ≡ f
 stored_signs r c f e = rw e refl
 

@@ -1,4 +1,4 @@
--- Whatever steps come, no set of literals is stored twice, and each has a count.
+-- After any steps, no set of literals is stored twice, and every stored set has a count.
 use Rattle.std.proofs.Common.{ℕ, Bool, true, false, cond, List, [], ◌∷◌, map, Option, None, Some}
 use Rattle.sat_base.specs.values.Literals.{negated}
 use Rattle.sat_base.specs.steps.Steps.{Redundant, Simplified, Satisfied, Step, SolverVarName, UserVarName, AddClause, AtClause, UnitClauses, DeleteClause}
@@ -44,7 +44,7 @@ tidy_stored r clause f h = go (is_tautology clause)
 tidy_less : (r : Bool) (set : List ℕ) (cs : List StoredClause) → TidyClauses cs → TidyClauses (without_clause r set cs)
 tidy_less r set cs h = record { once = once_less r set cs h.once; counted = counted_less r set cs h.counted }
 
--- whether the step is accepted or not
+-- every step preserves this, accepted or not
 pub tidy_effect : (step : Step) (f : Stored) → TidyClauses f.clauses → TidyClauses (effect step f).clauses
 tidy_effect (SolverVarName v None) f h = h
 tidy_effect (UserVarName v (Some name)) f h = h

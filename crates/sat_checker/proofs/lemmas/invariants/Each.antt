@@ -1,4 +1,4 @@
--- What holds of each stored clause, of each unit, as clauses come in and go.
+-- What holds for every stored clause or unit still holds as clauses and units are added and removed.
 use Rattle.std.proofs.Common.{ℕ, ◌≤◌, ◌≡◌, Bool, true, false, ◌&&◌, cond, eqb, List, [], ◌∷◌, ◌++◌, map, length, refl, arith}
 use Rattle.std.specs.List.{AllByRecursion}
 use Rattle.sat_base.specs.values.Literals.{negated}

@@ -1,4 +1,4 @@
--- A step takes a byte for each id that it gives and each count that it raises.
+-- A step has at least one byte for every id that it assigns and every count that it raises.
 use Rattle.std.proofs.Common.{ℕ, ◌+◌, ◌^◌, ◌<◌, ◌≤◌, ◌≡◌, Bool, true, false, ◌&&◌, cond, eqb, is_some, max, List, [], ◌∷◌, ◌++◌, map, length, length-append, Option, None, Some, inl, inr, refl, sym, ◌∙◌, ap, subst, arith}
 use Rattle.std.specs.List.{AllByRecursion}
 use Rattle.sat_base.specs.values.Literals.{negated}
@@ -54,7 +54,7 @@ input_more c f = let a = stored_more false c f in at (with_stored false c f).nex
     at : (m n : ℕ) → m ≤ n + 1 → max m (n + 1) ≤ n + 1
     at m n h = omega arith
 
--- the ids that a step takes at most, but for that of a unit conflict that waits after it
+-- the largest number of ids that a step assigns, without the id of a unit conflict pending after it
 abbrev ids_by : Step → ℕ
 ids_by (AddClause clause) = 1
 ids_by (AtClause redundant clause hashes) = 1
@@ -246,7 +246,7 @@ step_takes step bytes h = let a = fields_take step h.0 h.2 in let e : length byt
     one_more : (b : ℕ) (bs : List ℕ) → length (b ∷ bs) ≡ length bs + 1
     one_more b bs = omega arith
 
--- STEPS OF SO MANY BYTES
+-- STEPS AND THEIR BYTES
 record Within (f : Stored) (n : ℕ) : Type 0 where
   ids : (settled f).next_id ≤ n
   counts : CountsWithin n f.clauses

@@ -1,4 +1,4 @@
--- Each variable of a stored clause, of a unit and of an assumption is known.
+-- Every variable of a stored clause, of a unit or of an assumption is known.
 use Rattle.std.proofs.Common.{ℕ, ◌≡◌, Bool, true, false, not, cond, eqb, List, [], ◌∷◌, map, filter, Option, None, Some, refl, sym, ◌∙◌, ap, subst, inl, inr}
 use Rattle.std.proofs.lemmas.Bool.{or_cases, or_left, or_right, or_parts, eqb-true, eq-eqb}
 use Rattle.std.specs.List.{AllByRecursion, list_any}
@@ -14,7 +14,7 @@ use Rattle.sat_checker.proofs.lemmas.meaning.Clauses.{literals_of}
 use Rattle.sat_checker.proofs.lemmas.meaning.Names.{stored_same, units_same, known_stays}
 use Rattle.sat_checker.proofs.lemmas.invariants.Each.{each_without, each_units, each_stored, units_units, units_stored}
 
--- these variables are known, by what says of a variable whether it is
+-- the variables of these clauses, units and assumptions are known
 pub record Knows (known : ℕ → Bool) (clauses : List (List ℕ)) (units assumed : List ℕ) : Type 0 where
   pub clauses_known : AllByRecursion (AllByRecursion (λ l. known (variable l) ≡ true)) clauses
   pub units_known : AllByRecursion (λ l. known (variable l) ≡ true) units
@@ -26,7 +26,7 @@ known_in f v = (f.variables v).known
 abbrev pub KnowsAll : Stored → Type 0
 KnowsAll f = Knows (known_in f) (long_clauses f) (unit_literals f) f.assumed
 
--- where more is known
+-- `Knows` still holds if more variables are known
 knows_more : (p q : ℕ → Bool) (clauses : List (List ℕ)) (units assumed : List ℕ) → ((v : ℕ) → p v ≡ true → q v ≡ true) → Knows p clauses units assumed → Knows q clauses units assumed
 knows_more p q clauses units assumed w k = record {
   clauses_known = each_weaker (AllByRecursion (λ l. p (variable l) ≡ true)) (AllByRecursion (λ l. q (variable l) ≡ true)) (λ c h. lits c h) clauses k.clauses_known;
@@ -44,7 +44,7 @@ variable_among (m ∷ ms) l h = elim (or_cases (eqb m l) (is_among ms l) h) [
   | inr k ↦ or_right (eqb (variable m) (variable l)) (is_among (map variable ms) (variable l)) (variable_among ms l k)
 ]
 
--- literals whose variables are made known are known
+-- the variables of these literals are known once they are made known
 learned : (f : Stored) (ls : List ℕ) → AllKnown (with_literals_known ls f) ls
 learned f ls = each_member (λ l. is_known (variable l) (with_literals_known ls f) ≡ true) ls
     (λ l k. ap (λ b. (cond b (record (f.variables (variable l)) { known = true }) (f.variables (variable l))).known) (variable_among ls l k))
@@ -56,14 +56,14 @@ known_more f ls v h = go (is_among (map variable ls) v)
     go true = refl
     go false = h
 
--- and where variables are the same
+-- `Knows` holds for every state with the same variables
 knows_same : (f g : Stored) (clauses : List (List ℕ)) (units assumed : List ℕ) → g.variables ≡ f.variables → Knows (known_in f) clauses units assumed → Knows (known_in g) clauses units assumed
 knows_same f g clauses units assumed e k = knows_more (known_in f) (known_in g) clauses units assumed (λ v h. ap (λ x. (x v).known) e ∙ h) k
 
 knows_learned : (f : Stored) (ls : List ℕ) → KnowsAll f → KnowsAll (with_literals_known ls f)
 knows_learned f ls k = knows_more (known_in f) (known_in (with_literals_known ls f)) (long_clauses f) (unit_literals f) f.assumed (known_more f ls) k
 
--- a clause whose variables are known comes in
+-- `KnowsAll` still holds after a clause with known variables is stored
 knows_stored : (f : Stored) (r : Bool) (clause : List ℕ) → KnowsAll f → AllKnown f clause → KnowsAll (with_stored r clause f)
 knows_stored f r clause k known =
     let s = stored_same r clause f in
@@ -83,7 +83,7 @@ knows_units f ls k known =
       assumed_known = subst (AllKnown f) (sym s.assumed) k.assumed_known;
     })
 
--- a variable that nothing mentions may be forgotten
+-- a variable that nothing mentions may be deleted
 module _ (f : Stored) (v : ℕ) where
   still : (w : ℕ) → eqb w v ≡ false → is_known w f ≡ true → is_known w (without_variable v f) ≡ true
   still w e h = ap (λ b. (cond b unknown (f.variables w)).known) e ∙ h
@@ -114,7 +114,7 @@ module _ (f : Stored) (v : ℕ) where
   }
 
 module _ (f : Stored) (k : KnowsAll f) where
-  -- a step that leaves clauses, units and assumptions, and forgets no variable
+  -- `Knows` still holds after a step that deletes no variable
   stays : (step : Step) → ((v : ℕ) → step ≡ DeleteVar v → ⊥) → Knows (known_in (effect step f)) (long_clauses f) (unit_literals f) f.assumed
   stays step n = knows_more (known_in f) (known_in (effect step f)) (long_clauses f) (unit_literals f) f.assumed (λ v h. elim (known_stays f step v h) [ inl e ↦ e | inr d ↦ absurd (n v d) ]) k
 

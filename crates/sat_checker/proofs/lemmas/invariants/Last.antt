@@ -1,4 +1,4 @@
--- Which clause is the last irredundant one after a step.
+-- Which clause is the last irredundant clause after a step.
 use Rattle.std.proofs.Common.{ℕ, ◌+◌, ◌<◌, ◌≤◌, ◌≡◌, Bool, true, false, cond, List, [], ◌∷◌, length, refl, ◌∙◌, ap, arith, Option, None, Some}
 use Rattle.sat_base.specs.steps.Steps.{SolverVarName, UserVarName, DeleteVar, AddClause, AtClause, UnitClauses, DeleteClause, ChangeHashBits, Model, FailedAssumptions}
 use Rattle.sat_checker.specs.LiteralSets.{is_tautology, canonical}

@@ -1,4 +1,4 @@
--- A pending unit conflict changes nothing in what is accepted.
+-- A pending unit conflict does not affect which steps are accepted.
 use Rattle.std.proofs.Common.{ℕ, ◌+◌, ◌≡◌, Bool, true, false, cond, eqb, List, [], ◌∷◌, ◌++◌, map, filter, ◌↔◌, Option, None, Some, refl, sym, ◌∙◌, ap, subst}
 use Rattle.sat_base.specs.values.Literals.{negated}
 use Rattle.sat_base.specs.steps.Steps.{Simplified, Step, SolverVarName, UserVarName, DeleteVar, UnitClauses, DeleteClause, ChangeHashBits, Model, Assumptions, End}
@@ -9,7 +9,7 @@ use Rattle.sat_checker.specs.Storing.{with_contradiction, with_new_unit, with_un
 use Rattle.sat_checker.specs.Accepts.{PassesByHashes, PassInTurn, IsStrictSubset, Accepts}
 use Rattle.sat_checker.specs.Invariants.{PendingChangesNothing}
 
--- what the check of a clause looks at
+-- both states agree on everything that the check of a clause uses
 record Alike (f g : Stored) : Type 0 where
   clauses : long_clauses g ≡ long_clauses f
   units : unit_literals g ≡ unit_literals f
@@ -53,7 +53,7 @@ last_alike : (last : Last) (f : Stored) (conflict : Option (ℕ × ℕ)) (next :
 last_alike NoneYet f c n = refl
 last_alike e f c n = refl
 
--- acceptance doesn't look at the pending conflict, nor at the next id
+-- acceptance depends neither on the pending conflict nor on the next id
 other : (f : Stored) (c d : Option (ℕ × ℕ)) (n m : ℕ) (step : Step) → Accepts (record f { conflict = c; next_id = n }) step → Accepts (record f { conflict = d; next_id = m }) step
 other f c d n m (SolverVarName v name) a = tt
 other f c d n m (UserVarName v (Some name)) a = record { free = a.free; nameless = a.nameless; not_hidden = a.not_hidden }

@@ -1,4 +1,4 @@
--- Each stored clause has two different literals or more, in order, and not both signs of a variable.
+-- Every stored clause has at least two literals, is sorted, and is not a tautology.
 use Rattle.std.proofs.Common.{ℕ, ◌≤◌, ◌≡◌, Bool, true, false, cond, List, [], ◌∷◌, map, length, Option, None, Some, refl, sym, ◌∙◌}
 use Rattle.std.proofs.lemmas.Bool.{both_ways}
 use Rattle.std.specs.List.{AllByRecursion}

@@ -1,4 +1,4 @@
--- What always holds of what is stored.
+-- Invariants of what is stored.
 use Rattle.std.proofs.Common.{ℕ, ◌+◌, ◌<◌, ◌≡◌, Bool, true, false, cond, List, [], ◌∷◌, map, ◌↔◌, None, Some, refl, arith}
 use Rattle.sat_base.specs.values.Literals.{negated}
 use Rattle.sat_base.specs.steps.Steps.{Redundant, SolverVarName, UserVarName, AddClause, AtClause, UnitClauses, DeleteClause}

@@ -1,4 +1,5 @@
--- Stored clauses that hashes name stand in the buckets of these hashes, whatever else does, and make a clause pass where they lead to a conflict.
+-- Stored clauses that are named by hashes are in the buckets of these hashes.
+-- A clause passes if they lead to a conflict.
 use Rattle.std.proofs.Common.{ℕ, ◌≡◌, ◌≢◌, Bool, true, false, cond, eqb, List, [], ◌∷◌, ◌++◌, map, filter, refl, sym, ◌∙◌, subst, ◌⊎◌, inl, inr, append-nil, Some, is_some}
 use Rattle.std.proofs.lemmas.Bool.{both_ways, eq-eqb, true≢false}
 use Rattle.std.specs.List.{AllByRecursion}
@@ -39,7 +40,7 @@ has_filter test x (c ∷ cs) h t = go (has_filter test x cs) (test c) refl
     go ih true e = elim h [ inl s ↦ inl s | inr k ↦ inr (ih k t) ]
     go ih false e = elim h [ inl s ↦ absurd (both_ways (test c) e (subst (λ y. test y ≡ true) s t)) | inr k ↦ ih k t ]
 
--- what is found is there
+-- a set that is found is in the list
 has_found : (set : List ℕ) (cs : List StoredClause) → is_some (clause_with set cs) ≡ true → Has set (map (λ c. c.literals) cs)
 has_found set [] n = absurd (true≢false (sym n))
 has_found set (c ∷ cs) n = go (has_found set cs) (same_literals c.literals set) refl n
@@ -59,7 +60,7 @@ not_empty : (x : List ℕ) (b : List (List ℕ)) → Has x b → b ≢ []
 not_empty x [] h e = h
 not_empty x (y ∷ b) h e = cc
 
--- sets, and hashes whose buckets have them
+-- every set is in the bucket of its hash
 abbrev AreInBuckets : Stored → List (List ℕ) → List ℕ → Type 0
 AreInBuckets f [] [] = Unit {0}
 AreInBuckets f [] (h ∷ hs) = ⊥
@@ -77,7 +78,7 @@ none_empty f [] (k ∷ ks) h = absurd h
 none_empty f (c ∷ cs) [] h = absurd h
 none_empty f (c ∷ cs) (k ∷ ks) h = (not_empty c (bucket f k) h.0, none_empty f cs ks h.1)
 
--- what is picked of them is chosen from the buckets
+-- a subsequence of these sets is a subsequence of the clauses of the buckets
 chosen_from : (f : Stored) (picked cs : List (List ℕ)) (hs : List ℕ) → IsSubsequence picked cs → AreInBuckets f cs hs → IsSubsequence picked (clauses_in (map (bucket f) hs))
 chosen_from f picked cs hs s h = sub_trans picked cs (clauses_in (map (bucket f) hs)) s (all_chosen f cs hs h)
 

@@ -1,4 +1,4 @@
--- Clauses that lead to a conflict have a part that is unit in turn, the last falsified.
+-- Clauses that lead to a conflict include some that are unit in turn, the last falsified.
 use Rattle.std.proofs.Common.{ℕ, ◌≡◌, Bool, true, false, ◌||◌, eqb, List, [], ◌∷◌, map, refl, sym, ◌∙◌, ap, subst, ◌⊎◌, inl, inr}
 use Rattle.std.proofs.lemmas.Bool.{or_cases, or_left, or_right, eqb-true}
 use Rattle.std.specs.List.{AllByRecursion}
@@ -30,7 +30,7 @@ others_by : (holds : ℕ → Bool) (assumed c : List ℕ) (o : ℕ) → HoldsAs 
 others_by holds assumed [] o same h = tt
 others_by holds assumed (l ∷ ls) o same h = (elim h.0 [ inl e ↦ inl e | inr k ↦ inr (sym (same (negated l)) ∙ k) ], others_by holds assumed ls o same h.1)
 
--- where the one literal is false as well, all are
+-- if the open literal is false as well, all literals of the clause are
 all_false : (holds : ℕ → Bool) (assumed c : List ℕ) (o : ℕ) → HoldsAs holds assumed → is_among assumed (negated o) ≡ true → AllByRecursion (λ l. (l ≡ o) ⊎ (holds (negated l) ≡ true)) c → IsFalsified assumed c
 all_false holds assumed [] o same f h = tt
 all_false holds assumed (l ∷ ls) o same f h =
@@ -44,7 +44,7 @@ unit_first assumed c o rest w t f others r = go r.picked r.chosen r.conflict
     go [] s k = absurd k
     go (d ∷ ds) s k = record { picked = c ∷ d ∷ ds; chosen = inl (refl, s); conflict = (o, record { within = w; not_true = t; not_false = f; others = others }, k) }
 
--- Some of the clauses are unit in turn, the last falsified: those whose one literal is open, up to the first that is false.
+-- The picked clauses are unit in turn: those whose open literal has no value, up to the first falsified clause.
 pub picked_from : (cs : List (List ℕ)) (holds : ℕ → Bool) (assumed : List ℕ) → HoldsAs holds assumed → LeadsToConflict holds cs → Picked assumed cs
 picked_from [] holds assumed same h = absurd h
 picked_from (c ∷ []) holds assumed same h = record { picked = c ∷ []; chosen = inl (refl, tt); conflict = falsified_by holds assumed c same h }
@@ -74,7 +74,7 @@ sorted_lead (c ∷ []) holds h = canonical_each (λ l. holds (negated l) ≡ tru
 sorted_lead (c ∷ d ∷ cs) holds h =
     (h.0, canonical_each (λ l. (l ≡ h.0) ⊎ (holds (negated l) ≡ true)) c h.1, canonical_among c h.0 ∙ h.2, sorted_lead (d ∷ cs) (λ l. eqb h.0 l || holds l) h.3)
 
--- what is unit in turn leads to a conflict
+-- clauses that are unit in turn lead to a conflict
 pub turns_lead : TurnsLead
 turns_lead assumed [] h = h
 turns_lead assumed (c ∷ []) h = h
@@ -83,7 +83,7 @@ turns_lead assumed (c ∷ d ∷ cs) h = (h.0, h.1.others, h.1.within, turns_lead
 pub turns_conflict : TurnsConflict
 turns_conflict a assumed clauses u t h = conflict_never a assumed clauses t h u
 
--- MORE HOLDS
+-- MORE ASSUMED LITERALS
 
 all_more : (p q : ℕ → Bool) → ((l : ℕ) → p l ≡ true → q l ≡ true) → (c : List ℕ) → AllByRecursion (λ l. p (negated l) ≡ true) c → AllByRecursion (λ l. q (negated l) ≡ true) c
 all_more p q m [] h = tt

@@ -1,4 +1,4 @@
--- If no listener is notified first, the others hear the same.
+-- If the first listener accepts everything, the results also hold for the other listeners by themselves.
 use Rattle.std.proofs.Common.{ℕ, ◌≡◌, List, [], ◌∷◌, Result, Ok, Err, inl, inr, refl, ap}
 use Rattle.anyhow.specs.declared.error.Error.{Error}
 use Rattle.sat_base.specs.device.Device.{Reader}
@@ -12,7 +12,7 @@ use Rattle.sat_checker.specs.declared.error.CheckerError.{CheckerError}
 use Rattle.sat_checker.specs.declared.error.CheckerError.TheVariants as errors
 use Rattle.sat_checker.specs.declared.processing.ProcessingError.{ProcessingError}
 
--- without the one that is notified first
+-- the view without the listener that is notified first
 abbrev pub others_of : {V L : Type 0} → CheckerView (Hearers V L) → CheckerView L
 others_of c = seen c.kernel c.listeners.others
 

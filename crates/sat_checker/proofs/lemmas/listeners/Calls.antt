@@ -40,7 +40,7 @@ module _ {B : Type 0} (Called : Result Unit Error → B → B → Type 0) (xs ys
         failed = h;
       }
 
--- a vector whose items were all written anew has just these
+-- if all items of a vector were overwritten, it has exactly the new items
 module _ {A : Type 0} (n : ℕ) (before seen after : List A) (whole : seen ≡ before) (same : length after ≡ n) where
   refilled : after ≡ take n (after ++ drop (length after) before)
   refilled = sym (take-append_seam after (drop (length after) before)) ∙ ap (λ k. take k (after ++ drop (length after) before)) same

@@ -1,4 +1,4 @@
--- What those who listen have heard, call by call.
+-- What listeners have heard, call by call.
 use Rattle.std.proofs.Common.{ℕ, append_assoc, ◌≡◌, ◌⊎◌, List, [], ◌∷◌, ◌++◌, ◌+◌, ◌<◌, ◌≤◌, length, arith, drop, slice_index_or, Option, None, Some, Result, Ok, Err, inl, inr, refl, sym, ap, subst, ◌∙◌}
 use Rattle.std.proofs.lemmas.Bool.{true≢false}
 use Rattle.std.proofs.lemmas.List.{drop_more, drop_all}
@@ -22,7 +22,7 @@ use Rattle.sat_checker.specs.declared.processing.ProcessingError.TheVariants as 
 pub same_itself : (t : Notice) → SameNotice t t
 same_itself t = record { announcement = refl; names = λ v. refl; modes = λ v. refl }
 
--- WHAT IS TOLD
+-- ANNOUNCEMENTS
 
 pub reported_step : (step : Step) (steps : List Step) → all_notices_after steps ++ notices_over (ready_after steps) (announced (ready_after steps) step) ≡ notices_after (step ∷ steps)
 reported_step step steps = refl
@@ -36,18 +36,18 @@ module _ {L : Type 0} (Hears : L → Notice → Result Unit ProcessingError → 
   up_to_more e [] us a b c h k = subst (λ x. HearsUpTo Hears e us x c) h k
   up_to_more e (t ∷ ts) us a b c h k = inr (h.0, h.1, up_to_more e ts us h.0 b c h.2 k)
 
-  -- after what they have heard since
+  -- announcements that are heard after the earlier ones
   pub since_more : (before ts us : List Notice) (a b c : L) → HearsSince Hears before ts a b → HearsAll Hears us b c → HearsSince Hears before (ts ++ us) a c
   since_more before ts us a b c h k = (h.0 ++ us, ap (λ z. z ++ us) h.1 ∙ append_assoc before h.0 us, all_more h.0 us a b c h.2 k)
 
   pub since_up_to_more : (e : ProcessingError) (before ts us : List Notice) (a b c : L) → HearsSince Hears before ts a b → HearsUpTo Hears e us b c → HearsSinceUpTo Hears e before (ts ++ us) a c
   since_up_to_more e before ts us a b c h k = (h.0 ++ us, ap (λ z. z ++ us) h.1 ∙ append_assoc before h.0 us, up_to_more e h.0 us a b c h.2 k)
 
-  -- none is left
+  -- no announcement remains
   pub news_none : (variables : ℕ → Variable) (xs : List Announcement) (i : ℕ) → length xs ≤ i → (l : L) → HearsAll Hears (announced_by variables (drop i xs)) l l
   news_none variables xs i h l = subst (λ bs. HearsAll Hears (announced_by variables bs) l l) (sym (drop_all i xs h)) refl
 
-  -- one announcement of a list
+  -- the next announcement of a list
   module _ (variables : ℕ → Variable) (xs : List Announcement) (i : ℕ) (d a : Announcement) (inside : i < length xs) (is : a ≡ slice_index_or xs i d) (l : L) where
     here : drop i xs ≡ a ∷ drop (i + 1) xs
     here = drop_more xs i d inside ∙ ap (λ (x : Announcement). x ∷ drop (i + 1) xs) (sym is)
@@ -61,7 +61,7 @@ module _ {L : Type 0} (Hears : L → Notice → Result Unit ProcessingError → 
     pub news_fault : (e : ProcessingError) (m : L) → Hears l (record { announcement = a; variables = variables }) (Err e) m → HearsUpTo Hears e (announced_by variables (drop i xs)) l m
     news_fault e m h = subst (λ bs. HearsUpTo Hears e (announced_by variables bs) l m) (sym here) (inl (record { announcement = a; variables = variables }, same_itself _, h))
 
-  -- one of both was heard
+  -- the listeners have heard the announcements, with or without the delayed one
   pub heard_some : (c : Option (ℕ × ℕ)) (steps : List Step) (before : List Notice) (a b : L) → HearsSince Hears before (notices_by c steps) a b → HearsSince Hears before (notices_after steps) a b ⊎ HearsSince Hears before (all_notices_after steps) a b
   heard_some (Some conflict) steps before a b h = inl h
   heard_some None steps before a b h = inr h
@@ -70,14 +70,14 @@ module _ {L : Type 0} (Hears : L → Notice → Result Unit ProcessingError → 
     pub failing : (new : CheckerView L) (steps : List Step) → kernels.Fails new.kernel steps → Fails Hears before begun new steps
     failing new steps f = record { valid = record { kernel = f.valid; heard = λ e. absurd (true≢false (sym f.failed ∙ e)) }; failed = f.failed }
 
-  -- NOBODY LISTENS
+  -- A LISTENER THAT ACCEPTS EVERYTHING
 
   module _ (l : L) (quiet : (t : Notice) → Hears l t (Ok tt) l) where
     pub all_quiet : (ts : List Notice) → HearsAll Hears ts l l
     all_quiet [] = refl
     all_quiet (t ∷ ts) = (l, (t, same_itself t, quiet t), all_quiet ts)
 
--- NOBODY IS THERE
+-- NO LISTENERS
 
 module _ {P T : Type 0} (Takes : P → Notice → Result Unit Error → P → Type 0) (Reads : T → Transcribed → Result Unit Error → T → Type 0) where
   all_none : {B : Type 0} (Called : Result Unit Error → B → B → Type 0) (xs : List B) → xs ≡ [] → AllNotified Called xs xs
@@ -90,7 +90,7 @@ module _ {P T : Type 0} (Takes : P → Notice → Result Unit Error → P → Ty
   pub none_there : (p : Processing P T) → listeners_of p ≡ record { processors = []; transcripts = [] } → (t : Notice) → HearsEach Takes Reads p t (Ok tt) p
   none_there p e t = all_processors (all_none _ p.processors.items (ap (λ l. l.processors) e)) (none_read _ (transcript t.variables t.announcement) p.transcripts.items (ap (λ l. l.transcripts) e))
 
-  -- and nobody answers a fault
+  -- without listeners there is no fault
   no_front : {B : Type 0} (front : List B) (x : B) (rest : List B) → [] ≡ front ++ x ∷ rest → ⊥
   no_front {B} [] x rest e = absurd (let d : ◌≡◌ {A = List B} [] (x ∷ rest) = e in cc)
   no_front {B} (y ∷ ys) x rest e = absurd (let d : ◌≡◌ {A = List B} [] (y ∷ (ys ++ x ∷ rest)) = e in cc)

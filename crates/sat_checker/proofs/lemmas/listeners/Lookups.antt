@@ -1,4 +1,4 @@
--- What may be looked up while a step is reported: names and modes from before it.
+-- Names and modes that may be looked up while a step is announced: those from before the step.
 use Rattle.std.proofs.Common.{ℕ, ◌≡◌, Bool, true, false, cond, eqb, List, [], ◌∷◌, map, None, Some, refl, sym, ap, ◌∙◌}
 use Rattle.std.proofs.lemmas.Bool.{eqb-true}
 use Rattle.sat_base.specs.values.Literals.{variable}
@@ -35,7 +35,7 @@ known_alike vs g v = go (is_among vs v)
 over : (g h k : ℕ → Variable) (v : ℕ) → k ≡ h → Alike (h v) (g v) → Alike (k v) (g v)
 over g h k v e a = record { name = ap (λ (z : ℕ → Variable). (z v).name) e ∙ a.name; mode = ap (λ (z : ℕ → Variable). (z v).mode) e ∙ a.mode }
 
--- a step changes the name and the mode of no other variable
+-- a step changes name and mode only of the variable that `changed_by` gives
 pub steps_alike : (step : Step) (f : Stored) (v : ℕ) → Alike (put_back (changed_by f.variables step) (effect step f).variables v) (f.variables v)
 steps_alike (SolverVarName w (Some name)) f v = known_alike (w ∷ []) f.variables v
 steps_alike (UserVarName w (Some name)) f v = at_itself f.variables (effect (UserVarName w (Some name)) f).variables v w _ (λ u. refl)

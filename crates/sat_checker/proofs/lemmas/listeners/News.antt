@@ -1,4 +1,4 @@
--- Announcements that wait, as their literals and ids are put after those of others.
+-- Pending announcements, as literals and ids are appended to their shared lists.
 use Rattle.std.proofs.Common.{ℕ, zero, suc, ◌<◌, ◌≡◌, List, [], ◌∷◌, ◌++◌, length, take, get_or, map, refl, sym, ◌∙◌, ap, subst, arith, length-append}
 use Rattle.std.proofs.lemmas.List.{get_or-map, get_or_append_left, get_or_at, length-map, map-append, take-map}
 use Rattle.std.specs.List.{All}
@@ -10,7 +10,7 @@ use Rattle.sat_checker.specs.declared.announce.news.Item.{Item}
 abbrev pub Lists : Type 0
 Lists = List (List ℕ)
 
--- an item stays one, and says the same, as lists are put at the end
+-- an item stays valid and means the same after lists are appended
 pub item_more : (ls ids more less : Lists) (i : Item) → IsItem ls ids i → IsItem (ls ++ more) (ids ++ less) i
 item_more ls ids more less i h = record {
   literals_within = let k = h.literals_within in omega (arith, k, length-append ls more);
@@ -28,7 +28,7 @@ items_more ls ids more less is right = λ k d l. item_more ls ids more less (get
 pub items_kept : (ls ids new newer more less : Lists) (is js : List Item) → All (IsItem ls ids) is → new ≡ ls ++ more → newer ≡ ids ++ less → js ≡ is → All (IsItem new newer) js
 items_kept ls ids new newer more less is js right n m j = rw (n, m, j) (items_more ls ids more less is right)
 
--- one more item after them
+-- one more item is appended
 all_pushed : (P : Item → Type 0) (is : List Item) (i : Item) → All P is → P i → All P (is ++ i ∷ [])
 all_pushed P [] i right p zero d l = p
 all_pushed P [] i right p (suc k) d l = absurd (omega arith)
@@ -48,12 +48,12 @@ same_items ls ids more less (i ∷ is) right =
     ap (λ x. x ∷ map (announcement_at (ls ++ more) (ids ++ less)) is) (same_item ls ids more less i (right 0 i (omega arith)))
     ∙ ap (λ xs. announcement_at ls ids i ∷ xs) (same_items ls ids more less is (λ k d l. right (suc k) d (omega arith)))
 
--- what is seen of them stays
+-- the announcements stay the same after lists are appended
 pub seen_more : (ls ids new newer more less : Lists) (is js : List Item) (value : List Announcement) → All (IsItem ls ids) is → map (announcement_at ls ids) is ≡ value →
     new ≡ ls ++ more → newer ≡ ids ++ less → js ≡ is → map (announcement_at new newer) js ≡ value
 seen_more ls ids new newer more less is js value right v n m j = rw (n, m, j) (same_items ls ids more less is right ∙ v)
 
--- one more is seen
+-- one more announcement is appended
 pub seen_pushed : (ls ids new newer : Lists) (l p : List ℕ) (kind : Kind) (a b : ℕ) (is js : List Item) (value : List Announcement) → All (IsItem ls ids) is → map (announcement_at ls ids) is ≡ value →
     new ≡ ls ++ l ∷ [] → newer ≡ ids ++ p ∷ [] → a ≡ length ls → b ≡ length ids → js ≡ is ++ (record { kind = kind; literals = a; ids = b }) ∷ [] →
     map (announcement_at new newer) js ≡ value ++ announcement_with kind l p ∷ []
@@ -71,7 +71,7 @@ seen_pushed ls ids new newer l p kind a b is js value right v n m e f j =
         ap (λ x. announcement_with kind x (get_or (ids ++ p ∷ []) b [])) (get_or_at ls l [] [] a (sym e))
         ∙ ap (announcement_with kind l) (get_or_at ids p [] [] b (sym f))
 
--- an item that is read is what is seen at its place
+-- an item represents the announcement at its place
 module _ (ls ids : Lists) (is : List Item) (value : List Announcement) (n : ℕ) (x : Item) (v : map (announcement_at ls ids) is ≡ value) (inside : n < length value) (read : x ≡ get_or is n x) where
   within : n < length is
   within = let k : n < length (map (announcement_at ls ids) is) = subst (λ w. n < length w) (sym v) inside in omega (arith, k, length-map is (announcement_at ls ids))
@@ -79,6 +79,6 @@ module _ (ls ids : Lists) (is : List Item) (value : List Announcement) (n : ℕ)
   pub announcement_read : (d : Announcement) → announcement_at ls ids x ≡ get_or value n d
   announcement_read d = subst (λ w. announcement_at ls ids x ≡ get_or w n d) v (ap (announcement_at ls ids) read ∙ sym (get_or-map (announcement_at ls ids) is n x d within))
 
--- the first ones are seen as before
+-- the first items represent the first announcements
 pub seen_first : (ls ids : Lists) (is js : List Item) (value : List Announcement) (n : ℕ) → map (announcement_at ls ids) is ≡ value → js ≡ take n is → map (announcement_at ls ids) js ≡ take n value
 seen_first ls ids is js value n v j = rw j (sym (take-map (announcement_at ls ids) n is) ∙ ap (take n) v)

@@ -1,4 +1,4 @@
--- What is noted of a step that announces nothing, and of a derived clause.
+-- What is noted about a step that announces nothing, and about a derived clause.
 use Rattle.std.proofs.Common.{ℕ, ◌+◌, ◌*◌, ◌≤◌, ◌≡◌, Bool, true, false, cond, List, [], ◌∷◌, ◌++◌, Option, Result, Ok, Err, refl, sym, ◌∙◌, ap, subst, arith, IsTrue}
 use Rattle.std.specs.Result.{OnOk}
 use Rattle.sat_base.specs.steps.Steps as steps
@@ -27,14 +27,14 @@ pub nothing_noted : (r : Result Bool StoreError) (old : State) (step : Step) (no
 nothing_noted (Ok b) old step notes e = λ _ f k a h. none_added notes h ∙ ap (λ x. notes.news ++ x) (sym (e f))
 nothing_noted (Err d) old step notes e = tt
 
--- a clause of the formula, by whether unsat is recorded
+-- what is noted about an input clause, given whether unsat is recorded
 pub input_noted : (f : Stored) (clause : List ℕ) (before after : Notes) → f.unsat ≡ false → AppendsNews before (input clause f) after → AppendsNews before (announced f (AddClause clause)) after
 input_noted f clause before after e a = λ h. a h ∙ ap (λ b. before.news ++ cond b [] (input clause f)) (sym e)
 
 pub unsat_noted : (f : Stored) (clause : List ℕ) (notes : Notes) → f.unsat ≡ true → AppendsNews notes (announced f (AddClause clause)) notes
 unsat_noted f clause notes e = λ h. none_added notes h ∙ ap (λ b. notes.news ++ cond b [] (input clause f)) (sym e)
 
--- an input clause, by its sorted literals
+-- the announcement of an input clause, given its sorted literals
 pub input_reported : (new old : List Announcement) (id : ℕ) (both : Bool) (same : Option ℕ) (ls clause : List ℕ) (f : Stored) → new ≡ old ++ cond both (TautologicalClause id ls ∷ []) (input_set id ls same) → id ≡ f.next_id → both ≡ is_tautology ls → same ≡ id_of_set ls f → ls ≡ canonical clause
     → new ≡ old ++ input clause f
 input_reported new old id both same ls clause f e next signs is set =
@@ -43,7 +43,7 @@ input_reported new old id both same ls clause f e next signs is set =
     ∙ ap (λ xs. old ++ cond (is_tautology xs) (TautologicalClause f.next_id xs ∷ []) (input_set f.next_id xs (id_of_set xs f))) set
     ∙ ap (λ b. old ++ cond b (TautologicalClause f.next_id (canonical clause) ∷ []) (input_set f.next_id (canonical clause) (id_of_set (canonical clause) f))) (canonical_tautology clause)
 
--- a deletion, by what it will announce
+-- the announcement of a deletion
 pub deletion_noted : (f : Stored) (clause : List ℕ) (proof : steps.Deletion) (literals : List ℕ) (deletion : Deletion) (before after : Notes) → (IsTrue before.hears → deletion_announced literals deletion ≡ announced f (DeleteClause clause proof)) → AppendsNews before (deletion_announced literals deletion) after
     → AppendsNews before (announced f (DeleteClause clause proof)) after
 deletion_noted f clause proof literals deletion before after e a = λ h. a h ∙ ap (λ x. before.news ++ x) (e h)
@@ -56,14 +56,14 @@ pub always_ok : {A E : Type 0} (r : Result A E) (P : Type 0) → P → OnOk r P
 always_ok (Ok x) P h = h
 always_ok (Err e) P h = tt
 
--- what storing the sorted literals will change is what deriving the clause announces
+-- if the change matches what deriving announces, its announcement is that of the derived clause
 pub derived_noted : (new old : List Announcement) (change : Change) (id : ℕ) (redundant both : Bool) (clause literals hashes ids : List ℕ) (f : Stored) → new ≡ old ++ stored_as change id redundant literals ids → id ≡ f.next_id
     → stored_as change f.next_id redundant literals ids ≡ cond both [] (derived_set redundant literals ids f (id_of_set literals f)) → both ≡ is_tautology clause → literals ≡ canonical clause → ids ≡ propagations f clause hashes → new ≡ old ++ derived redundant clause hashes f
 derived_noted new old change id redundant both clause literals hashes ids f e next stored signs set listed =
     e ∙ ap (λ i. old ++ stored_as change i redundant literals ids) next ∙ ap (λ x. old ++ x) stored ∙ ap (λ b. old ++ cond b [] (derived_set redundant literals ids f (id_of_set literals f))) signs
     ∙ ap (λ ls. old ++ cond (is_tautology clause) [] (derived_set redundant ls ids f (id_of_set ls f))) set ∙ ap (λ is. old ++ cond (is_tautology clause) [] (derived_set redundant (canonical clause) is f (id_of_set (canonical clause) f))) listed
 
--- a pass to file the clauses, the check's looks, those at what it noted, and one more pass
+-- the looks of one pass that files the clauses, of the check, of its notes, and of one more pass
 once_more : (n l : ℕ) → (5 + 2 * n) * l ≡ n * l + (n * l + 5 * l)
 once_more n l = grind arith
 
@@ -76,6 +76,6 @@ looks_noted before old mid noted len n l b h r k = let e = once_more n l in omeg
 pub looks_followed : (before old mid noted len n l : ℕ) → old ≤ before + l → mid ≤ old + n * l → len + old ≤ mid → noted ≤ mid + len → noted ≤ before + (5 + 2 * n) * l
 looks_followed before old mid noted len n l b h r k = let e = once_more n l in omega arith
 
--- what was noted after other notes, which announce the same so far
+-- what was noted after notes with the same news
 pub noted_after : (before mid after : Notes) (reported : List Announcement) → mid.hears ≡ before.hears → mid.news ≡ before.news → AppendsNews mid reported after → AppendsNews before reported after
 noted_after before mid after reported h n a = λ t. a (subst IsTrue (sym h) t) ∙ ap (λ xs. xs ++ reported) n

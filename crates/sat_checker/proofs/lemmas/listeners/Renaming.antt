@@ -1,4 +1,4 @@
--- Literals in user's names, one after another.
+-- Literals are translated to the user's names, one by one.
 use Rattle.std.proofs.Common.{ℕ, ◌+◌, ◌<◌, ◌≤◌, ◌≡◌, List, [], ◌∷◌, ◌++◌, length, drop, get_or, Some, None, sym, ◌∙◌, ap}
 use Rattle.std.proofs.lemmas.List.{append_assoc, append-nil, drop_more, drop_all}
 use Rattle.sat_base.specs.values.Literals.{variable, coded, is_positive}

@@ -1,4 +1,4 @@
--- A unit conflict that waits, and one that doesn't.
+-- What is stored with and without a pending unit conflict.
 use Rattle.std.proofs.Common.{ℕ, ◌≡◌, true, false, is_some, Option, None, Some, List, ◌∷◌, inl, inr, refl, sym, ap, ◌∙◌}
 use Rattle.sat_base.specs.steps.Steps.{Step, End}
 use Rattle.sat_checker.specs.Stored.{Stored}
@@ -36,21 +36,21 @@ module _ (k : Kernel) (steps : List Step) (kept : KeepsAfter k.state steps) wher
     | inr e ↦ conflict_of ∙ ap (λ (f : Stored). f.conflict) e ∙ settled_none (stored_after steps)
   ]
 
-  -- nothing waits
+  -- if no unit conflict is pending, the stored formula is the one that judges the next step
   pub ready_is : k.state.formula.status.conflict ≡ None → kept.formula ≡ ready_after steps
   ready_is n = elim kept.left [
     | inl e ↦ e ∙ sym (settled_already (stored_after steps) (sym (ap (λ (f : Stored). f.conflict) e) ∙ sym conflict_of ∙ n))
     | inr e ↦ e
   ]
 
-  -- a unit conflict waits
+  -- if a unit conflict is pending, the stored formula is not settled yet
   pub stored_is : (units : ℕ × ℕ) → k.state.formula.status.conflict ≡ Some units → kept.formula ≡ stored_after steps
   stored_is units s = elim kept.left [
     | inl e ↦ e
     | inr e ↦ absurd (let g : ◌≡◌ {A = Option (ℕ × ℕ)} None (Some units) = sym (settled_none (stored_after steps)) ∙ sym (ap (λ (f : Stored). f.conflict) e) ∙ sym conflict_of ∙ s in cc)
   ]
 
--- what the next step is judged by
+-- once settled, the stored formula is the one that judges the next step
 pub ready_of : (state : State) (steps : List Step) (kept : KeepsAfter state steps) → settled kept.formula ≡ ready_after steps
 ready_of state steps kept = elim kept.left [
   | inl e ↦ ap settled e

@@ -1,4 +1,4 @@
--- A fault is answered only by somebody who listens.
+-- A fault is returned only if there is a listener.
 use Rattle.std.proofs.Common.{ℕ, ◌≡◌, List, [], Result, Ok, Err, IfErr, inl, inr, refl, sym}
 use Rattle.std.proofs.lemmas.List.{append-nil}
 use Rattle.anyhow.specs.declared.error.Error.{Error}
@@ -22,7 +22,7 @@ use Rattle.sat_checker.specs.declared.error.CheckerDimacsError.TheVariants as re
 use Rattle.sat_checker.proofs.lemmas.listeners.Heard.{nobody_fails}
 
 module _ {P T : Type 0} (Takes : P → Notice → Result Unit Error → P → Type 0) (Reads : T → Transcribed → Result Unit Error → T → Type 0) where
-  -- all was reported before to the current listeners
+  -- the notices so far, which the current listeners have heard
   abbrev before : CheckerView (Processing P T) → List Step → List Notice
   before old steps = notices_by old.kernel.state.formula.status.conflict steps
 

@@ -1,4 +1,4 @@
--- A unit conflict is settled and reported, and a step is accepted and reported.
+-- A unit conflict is settled and announced, and a step is accepted and announced.
 use Rattle.std.proofs.Common.{ℕ, ◌+◌, ◌≤◌, ◌≡◌, Bool, true, false, List, [], ◌∷◌, ◌++◌, Option, None, Some, Result, Ok, Err, inl, inr, refl, sym, ap, subst, ◌∙◌, arith}
 use Rattle.std.proofs.lemmas.Bool.{true≢false}
 use Rattle.std.specs.Result.{is_err, OnOk, OnErr, IsErrOf}
@@ -33,7 +33,7 @@ use Rattle.sat_checker.proofs.lemmas.listeners.Heard.{reported_step, since_more,
 use Rattle.sat_checker.proofs.lemmas.listeners.Lookups.{Alike, steps_alike}
 use Rattle.sat_checker.proofs.lemmas.listeners.Settling.{conflict_of, ready_is, stored_is}
 
--- THE SAME IS TOLD
+-- NOTICES WITH THE SAME NAMES AND MODES
 
 module _ {L : Type 0} (Hears : L → Notice → Result Unit ProcessingError → L → Type 0) (g h : ℕ → Variable) (same : (v : ℕ) → Alike (g v) (h v)) where
   reported_alike : (a : Announcement) → SameNotice (record { announcement = a; variables = g }) (record { announcement = a; variables = h })
@@ -68,7 +68,7 @@ module _ (old : Kernel) (steps : List Step) (s : kernels.HasAccepted old steps) 
   is_stored : kept.formula ≡ stored_after steps
   is_stored = stored_is old steps kept (one, other) waits
 
-  -- what is stored then
+  -- after the unit conflict is settled, the same steps are accepted
   pub settled_stands : (new : Kernel) → (RepresentsFormula (refiled_in old.state.formula) kept.formula → RepresentsFormula (refiled_in new.state.formula) (settled kept.formula))
       → new.state.variables ≡ old.state.variables → new.state.assumed ≡ old.state.assumed → new.records ≡ old.records → kernels.HasAccepted new steps
   settled_stands new k v a r = record {
@@ -93,7 +93,7 @@ module _ (old : Kernel) (steps : List Step) (s : kernels.HasAccepted old steps) 
   pub leaves_conflict : LeavesConflict steps
   leaves_conflict e = absurd (let g : ◌≡◌ {A = Option (ℕ × ℕ)} None (Some (one, other)) = sym e ∙ left in cc)
 
-  -- it was not settled, or not reported
+  -- the conflict was not settled, or not announced
   module _ (new : Kernel) (looks : kernels.kernel_looks new ≡ kernels.kernel_looks old) (same : new.records ≡ old.records) (failed : kernels.kernel_has_failed new ≡ true) where
     pub unsettled_judges : IsSpent (settled kept.formula) → kernels.AnswersDelayed (Err errors.CounterEnd) old new steps
     unsettled_judges h = (well, looks, settled_spent h, settled_fails new same failed)
@@ -149,7 +149,7 @@ changed_same step g h e = refl
 records_same : (new : Kernel) (g : Stored) → RepresentsFormula (refiled_in new.state.formula) g → records_in new.state.formula.status ≡ records_of g
 records_same new g k = ap (λ (z : RestOfStored). record { unsat = z.unsat; ended = z.ended; var_deleted = z.var_deleted }) k.status
 
--- nothing waits, so all was reported
+-- the notices so far, whether or not a unit conflict is pending
 reported_now : (c : Option (ℕ × ℕ)) (steps : List Step) → (stored_after steps).conflict ≡ c → notices_after steps ≡ notices_by c steps
 reported_now (Some units) steps e = refl
 reported_now None steps e =
@@ -208,22 +208,22 @@ pub taken_on : {L : Type 0} (Hears : L → Notice → Result Unit ProcessingErro
 taken_on Hears reported mid l new m (Ok x) t = t.1.0
 taken_on Hears reported mid l new m (Err e) t = tt
 
--- what is recorded may differ before
+-- the records may have been different before
 pub taken_from : {L : Type 0} (Hears : L → Notice → Result Unit ProcessingError → L → Type 0) (reported : List Notice) (old mid : Kernel) (l : L) (new : Kernel) (m : L) (r : Result Unit CheckerError) → mid.state ≡ old.state → kernels.kernel_looks mid ≡ kernels.kernel_looks old → NotifiesAndKeepsState Hears reported r (seen mid l) (seen new m) → NotifiesAndKeepsState Hears reported r (seen old l) (seen new m)
 taken_from Hears reported old mid l new m (Ok x) s k t = (record { state = t.0.state ∙ s; looks = t.0.looks ∙ k }, t.1)
 taken_from Hears reported old mid l new m (Err e) s k t = (record { state = t.0.state ∙ s; looks = t.0.looks ∙ k }, t.1)
 
--- what was noted, where somebody listens, is what is announced
+-- if there is a listener, exactly what was noted is announced
 pub noted_reported : (begun noted : Notes) (hears : Bool) (step : Step) (f : Stored) (old new : ℕ → Variable) (was : Option (ℕ × Variable)) → begun.hears ≡ hears → (hears ≡ true → begun.news ≡ []) → (hears ≡ true → was ≡ changed_by old step) → AppendsNews begun (announced f step) noted
     → hears ≡ true → announced_by (put_back (changed_by old step) new) (announced f step) ≡ announced_by (put_back was new) noted.news
 noted_reported begun noted hears step f old new was same none put adds h =
     ap (λ w. announced_by (put_back w new) (announced f step)) (sym (put h))
     ∙ ap (announced_by (put_back was new)) (sym (adds (same ∙ h) ∙ ap (λ xs. xs ++ announced f step) (none h)))
 
--- A STEP THAT IS TOLD
+-- A STEP THAT IS ANNOUNCED
 
 module _ (old : Kernel) (steps : List Step) (s : kernels.HasAccepted old steps) (well : kernels.kernel_has_failed old ≡ false) (none : old.state.formula.status.conflict ≡ None) (step : Step) where
-  -- it couldn't be stored
+  -- the step could not be stored
   pub short_judges : (new : Kernel) (error : StoreError) → FormulaEffectIf (Err error) (Accepts (ready_after steps) step) (RepresentsStored new.state (effect step (ready_after steps))) (effect step (ready_after steps)) → new.records ≡ old.records → kernels.kernel_has_failed new ≡ true
       → kernels.AnswersStep (Err (failure_of error)) old step new steps
   short_judges new stores.OutOfMemory h r f = (well, inl (h, step_fails old steps s well none step new r f))
@@ -233,7 +233,7 @@ module _ (old : Kernel) (steps : List Step) (s : kernels.HasAccepted old steps) 
       → kernels.kernel_has_failed new ≡ true → kernels.AnswersStep (Err (kernels.step_error refusal)) old step new steps
   short_alone new error refusal e h r f = subst (λ x. kernels.AnswersStep (Err x) old step new steps) (sym e) (short_judges new error h r f)
 
-  -- it was refused
+  -- the step was refused
   pub refused_judges : (new : Kernel) → (Accepts (ready_after steps) step → ⊥) → new.records ≡ old.records → kernels.kernel_has_failed new ≡ true → kernels.AnswersStep (Err errors.CheckFailed) old step new steps
   refused_judges new h r f = (well, h, step_fails old steps s well none step new r f)
 
@@ -292,7 +292,7 @@ module _ (old : Kernel) (steps : List Step) (s : kernels.HasAccepted old steps) 
           go faults.OutOfMemory u = (well, inr (inr (accepts, record { fails = fails; heard = step_broken old steps s well none step Hears before begun l heard mid k news noted was put faults.OutOfMemory m u })))
           go (faults.ProofProcessorError cause) u = (well, inr (accepts, record { fails = fails; heard = step_broken old steps s well none step Hears before begun l heard mid k news noted was put (faults.ProofProcessorError cause) m u }))
 
--- an answer that is no error
+-- what the result of a change means: `Ok`, or below `CounterEnd`
 pub turned : (r : Result Unit StoreError) (K : Type 0) (g : Stored) → is_err r ≡ false → KeepsOrSpends r K g → K
 turned (Ok x) K g e t = t
 turned (Err d) K g e t = absurd (true≢false e)
@@ -306,7 +306,7 @@ turned_spent (Ok x) K g e h t = absurd (true≢false (sym e))
 turned_spent (Err stores.OutOfMemory) K g e h t = absurd cc
 turned_spent (Err stores.CounterEnd) K g e h t = t
 
--- what an answer to the settling of a unit conflict says
+-- what the result of settling a unit conflict means
 module _ {L : Type 0} (Hears : L → Notice → Result Unit ProcessingError → L → Type 0) (before : List Notice) (begun : L) (old new : Kernel) (l m : L) (steps : List Step) (well : kernels.kernel_has_failed old ≡ false) (looks : kernels.kernel_looks new ≡ kernels.kernel_looks old) where
   pub delayed_ok : kernels.HasAccepted new steps → kernels.kernel_has_failed new ≡ false → new.state.formula.status.conflict ≡ None → HearsSince Hears before (all_notices_after steps) begun m → AnswersDelayed Hears before begun (Ok tt) (seen old l) (seen new m) steps
   delayed_ok k f n h = (well, looks, record { kernel = k; heard = λ e. subst (λ c. HearsSince Hears before (notices_by c steps) begun m) (sym n) h }, f, n)
@@ -318,7 +318,7 @@ module _ {L : Type 0} (Hears : L → Notice → Result Unit ProcessingError → 
 -- A UNIT CONFLICT BEFORE A STEP
 
 module _ {L : Type 0} (Hears : L → Notice → Result Unit ProcessingError → L → Type 0) (before : List Notice) (begun : L) (steps : List Step) (step : Step) where
-  -- it could not be settled, or not be reported
+  -- the conflict could not be settled or not be announced
   pub delayed_stops : (old new : CheckerView L) (e : CheckerError) → AnswersDelayed Hears before begun (Err e) old new steps → AnswersStep Hears before begun (Err e) old step new steps
   delayed_stops old new errors.CounterEnd a = (a.0, inl a.2, a.3)
   delayed_stops old new errors.OutOfMemory a = (a.0, inr (inl (a.2, a.3)))
@@ -326,7 +326,7 @@ module _ {L : Type 0} (Hears : L → Notice → Result Unit ProcessingError → 
   delayed_stops old new errors.HasFailed a = a
   delayed_stops old new e a = absurd a
 
-  -- and the step after it
+  -- the conflict was settled, and the step is checked after it
   pub settled_goes_on : (old mid new : CheckerView L) (r : Result Unit CheckerError) → has_failed old ≡ false → has_failed mid ≡ false → AnswersStep Hears before begun r mid step new steps → AnswersStep Hears before begun r old step new steps
   settled_goes_on old mid new (Ok x) h k a = (h, a.1)
   settled_goes_on old mid new (Err errors.CheckFailed) h k a = (h, a.1, a.2)
@@ -336,7 +336,7 @@ module _ {L : Type 0} (Hears : L → Notice → Result Unit ProcessingError → 
   settled_goes_on old mid new (Err errors.HasFailed) h k a = absurd (true≢false (sym a.0 ∙ k))
   settled_goes_on old mid new (Err e) h k a = absurd a
 
--- the same without those who listen
+-- the same for the kernel, without listeners
 module _ (steps : List Step) (step : Step) where
   pub stops_judges : (old new : Kernel) (e : CheckerError) → kernels.AnswersDelayed (Err e) old new steps → kernels.AnswersStep (Err e) old step new steps
   stops_judges old new errors.CounterEnd a = (a.0, inl a.2, a.3)
@@ -354,7 +354,7 @@ module _ (steps : List Step) (step : Step) where
   goes_on_judges old mid new (Err errors.HasFailed) h k a = absurd (true≢false (sym a.0 ∙ k))
   goes_on_judges old mid new (Err e) h k a = absurd a
 
--- nothing is looked at
+-- settling a conflict needs no looks
 pub stops_looks : (steps : List Step) (old new : Kernel) (e : CheckerError) (n : ℕ) → kernels.kernel_has_failed old ≡ false → kernels.AnswersDelayed (Err e) old new steps → kernels.kernel_looks new ≤ kernels.kernel_looks old + n
 stops_looks steps old new errors.CounterEnd n h a = let q = a.1 in omega arith
 stops_looks steps old new errors.OutOfMemory n h a = let q = a.1 in omega arith

@@ -1,4 +1,4 @@
--- The bridge from proof variables to identities, kept at every name, clause and deletion.
+-- The relation between proof variables and identities is preserved by every name, clause and deletion.
 use Rattle.std.proofs.Common.{ℕ, ◌+◌, ◌/◌, ◌<◌, ◌≡◌, Bool, true, false, not, cond, eqb, List, [], ◌∷◌, map, filter, Option, Some, None, refl, sym, ◌∙◌, ap, subst, arith, ◌⊎◌, inl, inr, unwrap_or}
 use Rattle.std.proofs.lemmas.Bool.{both_ways, eqb-true, eqb-false, eq-eqb, ne_eqb}
 use Rattle.std.specs.List.{AllByRecursion}
@@ -27,7 +27,7 @@ begun k = record {
   back = λ a h. tt;
 }
 
--- a literal's identity
+-- a literal and its identity have the same value
 module _ (k : CheckerRules) (j : ScriptState) (earlier : List Step) (live : Live) (bridge : IsBridge k j earlier live) (a b : Valuation) (agrees : AgreesOnLive live a b) where
   pub value : (l : Literal) (code : ℕ) → Spells (variable_of earlier) l code → literal_true a code ≡ literal_true b (over j l)
   value l code s =
@@ -48,7 +48,7 @@ module _ (k : CheckerRules) (j : ScriptState) (earlier : List Step) (live : Live
       let x = all_at (λ l. (code : ℕ) × Spells (variable_of earlier) l code × Among code c) l.0 ls spelt l.1 in
       among_true a x.0 c x.2 (value l.0 x.0 x.1 ∙ l.2)
 
-  -- where the model's literals are true, so are those of a line that it has
+  -- if the literals of the model are true, so are those of its line
   pub line_true : (ls : List Literal) (c : List ℕ) → EachSpelt (variable_of earlier) ls c → EachTrue a c → AllByRecursion (λ l. literal_true b (over j l) ≡ true) ls
   line_true ls c spelt t = all_map (λ l. (code : ℕ) × Spells (variable_of earlier) l code × Among code c) (λ l. literal_true b (over j l) ≡ true) ls
       (λ l x. sym (value l x.0 x.1) ∙ all_at (λ y. literal_true a y ≡ true) x.0 c t x.2) spelt
@@ -57,7 +57,7 @@ module _ (k : CheckerRules) (j : ScriptState) (earlier : List Step) (live : Live
   core_true ls c same t = all_map (λ code. (l : Literal) × Spells (variable_of earlier) l code × Among l ls) (λ y. literal_true a y ≡ true) c
       (λ code l. value l.0 code l.1 ∙ all_at (λ l. literal_true b (over j l) ≡ true) l.0 ls t l.2) same.1
 
--- of a valuation of identities, that of the live proof variables
+-- the valuation of the live proof variables that a valuation of identities gives
 abbrev pub pulled : Live → Valuation → Valuation
 pulled [] b = λ x. false
 pulled (p ∷ ps) b = λ x. cond (eqb x p.0) (b p.1) (pulled ps b x)
@@ -76,7 +76,7 @@ pulled_agrees (p ∷ ps) b once = (here, all_map (λ q. (q.0 ≡ p.0 → ⊥) ×
     both [] x y = tt
     both (q ∷ qs) x y = ((x.0, y.0), both qs x.1 y.1)
 
--- the live ones but v
+-- the live variables except `v`
 abbrev pub without : ℕ → Live → Live
 without v = filter (λ p. not (eqb p.0 v))
 
@@ -109,7 +109,7 @@ among_without v q (p ∷ ps) n m = go (eqb p.0 v) refl (among_without v q ps n) 
 elsewhere : (v : ℕ) (a : Valuation) (w : ℕ) → (w ≡ v → ⊥) → flipped v a w ≡ a w
 elsewhere v a w n = let e : eqb w v ≡ false = ne_eqb w v n in rw e refl
 
--- where no pair is of v, both agree
+-- if `v` is not live, flipping its value preserves the agreement
 none_of : (v : ℕ) (a b : Valuation) (ps : Live) → AllByRecursion (λ q. q.0 ≡ v → ⊥) ps → AgreesOnLive (without v ps) a b → AgreesOnLive ps a b × AgreesOnLive ps (flipped v a) b
 none_of v a b [] n h = (tt, tt)
 none_of v a b (p ∷ ps) n h =
@@ -136,9 +136,9 @@ either v a b (p ∷ ps) once h = go (eqb p.0 v) refl (either v a b ps once.1) h
         elim (same_or_not (a p.0) (b p.1)) [ inl y ↦ inl (y, rest.0) | inr y ↦ inr (at ∙ y, rest.1) ]
     go false e ih x = elim (ih x.1) [ inl y ↦ inl (x.0, y) | inr y ↦ inr (elsewhere v a p.0 (eqb-false p.0 v e) ∙ x.0, y) ]
 
--- Each kind of step.
+-- Every kind of step preserves the relation.
 module _ (k : CheckerRules) (sound : IsSound k) (j : ScriptState) (earlier : List Step) (live : Live) (bridge : IsBridge k j earlier live) where
-  -- all that is live stays known
+  -- all live variables are still known
   still_known : (step : Step) → k.Accepts earlier step → ((v : ℕ) → step ≡ DeleteVar v → ⊥) → AllByRecursion (λ p. k.knows (step ∷ earlier) p.0 ≡ true) live
   still_known step acc keeps = all_map (λ p. k.knows earlier p.0 ≡ true) (λ p. k.knows (step ∷ earlier) p.0 ≡ true) live (λ p h. elim (sound.keeps earlier step p.0 acc h) [ inl t ↦ t | inr e ↦ absurd (keeps p.0 e) ]) bridge.known
 

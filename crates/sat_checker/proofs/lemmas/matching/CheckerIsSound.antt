@@ -1,4 +1,4 @@
--- The checker of proofs keeps what matching asks of a checker.
+-- The checker of proofs guarantees what matching requires of a checker.
 use Rattle.std.proofs.Common.{ℕ, ◌+◌, ◌-◌, ◌≡◌, Bool, true, false, cond, eqb, List, [], ◌∷◌, map, Option, Some, None, refl, sym, ◌∙◌, ap, subst, arith, ◌⊎◌, inl, inr}
 use Rattle.std.proofs.lemmas.Bool.{or_cases, true≢false, eqb-true, eq-eqb}
 use Rattle.std.specs.List.{AllByRecursion}
@@ -18,7 +18,7 @@ pub all_accepted : (steps : List Step) → Accepted checker_rules steps → Acce
 all_accepted [] h = tt
 all_accepted (step ∷ earlier) h = (all_accepted earlier h.0, h.1)
 
--- WHAT IS ASSUMED
+-- THE ASSUMPTIONS
 
 assumed_by : (step : Step) (f : Stored) (earlier : List Step) → f.assumed ≡ assumed earlier → (effect step f).assumed ≡ assumed (step ∷ earlier)
 assumed_by (SolverVarName v None) f es e = e
@@ -46,9 +46,9 @@ each_there : (ks ls ms : List ℕ) → ks ≡ ms → AllByRecursion (λ l. is_am
 each_there ks [] ms e h = tt
 each_there ks (l ∷ ls) ms e h = (subst (Among l) e (is_there ks l h.0), each_there ks ls ms e h.1)
 
--- WHICH VARIABLE HAS A NAME
+-- THE NAMES OF VARIABLES
 
--- the names that the variables have are those that the steps gave and didn't take
+-- every name that the steps gave and did not remove is the name of its variable
 abbrev Named : (ℕ → Variable) → (ℕ → Option ℕ) → Type 0
 Named variables named = (v name : ℕ) → named name ≡ Some v → (variables v).name ≡ Some (name - 1)
 
@@ -68,7 +68,7 @@ named_known variables named vs h v name e = go (is_among vs v)
 named_same : (f g : Stored) (named : ℕ → Option ℕ) → SameVariables f g → Named f.variables named → Named g.variables named
 named_same f g named s h = subst (λ vs. Named vs named) (sym s.variables) h
 
--- a variable that keeps its name, whatever else of it is set
+-- a variable's other data may be set if its name stays the same
 named_set : (variables : ℕ → Variable) (named : ℕ → Option ℕ) (w : ℕ) (x : Variable) → x.name ≡ (variables w).name → Named variables named → Named (λ v. cond (eqb v w) x (variables v)) named
 named_set variables named w x k h v name e = go (eqb v w) refl
   where
@@ -76,7 +76,7 @@ named_set variables named w x k h v name e = go (eqb v w) refl
     go true m = k ∙ ap (λ u. (variables u).name) (sym (eqb-true v w m)) ∙ h v name e
     go false m = h v name e
 
--- a variable that has no name, by the steps
+-- the data of a variable that has no name may be set
 named_without : (variables : ℕ → Variable) (named : ℕ → Option ℕ) (w : ℕ) (x : Variable) → ((name : ℕ) → named name ≡ Some w → ⊥) → Named variables named → Named (λ v. cond (eqb v w) x (variables v)) named
 named_without variables named w x none h v name e = go (eqb v w) refl
   where
@@ -84,7 +84,7 @@ named_without variables named w x none h v name e = go (eqb v w) refl
     go true m = absurd (none name (e ∙ ap Some (eqb-true v w m)))
     go false m = h v name e
 
--- where it has none, it has none by the steps
+-- a variable that has no name got none from the steps, or lost it again
 never_named : (variables : ℕ → Variable) (named : ℕ → Option ℕ) (w : ℕ) → Named variables named → (variables w).name ≡ None → (name : ℕ) → named name ≡ Some w → ⊥
 never_named variables named w h none name e = none_some (name - 1) (sym none ∙ h w name e)
 
@@ -131,7 +131,7 @@ names_after (step ∷ earlier) ok =
     named_same (stored_after (step ∷ earlier)) (ready_after (step ∷ earlier)) (variable_of (step ∷ earlier)) (settled_same (stored_after (step ∷ earlier)))
     (names_by step (ready_after earlier) earlier ok.1 (names_after earlier ok.0))
 
--- WHICH VARIABLES ARE KNOWN
+-- THE KNOWN VARIABLES
 
 known_ready : (f : Stored) (v : ℕ) → is_known v f ≡ true → is_known v (settled f) ≡ true
 known_ready f v h = ap (λ k. (k v).known) (settled_same f).variables ∙ h

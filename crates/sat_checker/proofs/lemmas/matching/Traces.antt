@@ -1,4 +1,4 @@
--- Traces one after another, and the trace of an ask that is closed.
+-- Traces that follow each other, and the trace of an ask that is closed.
 use Rattle.std.proofs.Common.{ℕ, ◌≡◌, Bool, Option, List, [], ◌∷◌, ◌++◌, refl, sym, subst}
 use Rattle.sat_base.specs.steps.Steps.{Step, Assumptions}
 use Rattle.sat_checker.specs.matching.Checking.{CheckerRules, variable_of}
@@ -31,7 +31,7 @@ module _ {k : CheckerRules} where
       let r = apart_as es fs p tl in
       (r.0, visible (subst (λ z. Fits (k.knows s) s z step) hd f) r.1, r.2)
 
-  -- what is expected in two parts has a place between them
+  -- a trace of two expected parts can be split between them
   pub trace_apart : (es fs : List Expected) {s t : List Step} → HasTrace k s t (es ++ fs) → (m : List Step) × HasTrace k s m es × HasTrace k m t fs
   trace_apart es fs p = apart_as es fs p refl
 
@@ -43,6 +43,6 @@ module _ {k : CheckerRules} where
       let tl : xs ≡ [] = cc in
       visible (closing_fits (k.knows s) s x o step f hd) (subst (HasTrace k (step ∷ s) t) tl p)
 
-  -- an ask without assumptions closes the one before it
+  -- an ask without assumptions also closes the ask before it
   pub closed_by_none : {s t : List Step} (o : Outcome) → HasTrace k s t (Opens [] o ∷ []) → HasTrace k s t (Closes ∷ [])
   closed_by_none o p = closed_as o p refl

@@ -1,4 +1,4 @@
--- What clauses that come in and go ask of a valuation.
+-- What adding and removing clauses requires of a valuation.
 use Rattle.std.proofs.Common.{ℕ, ◌+◌, ◌-◌, ◌≡◌, ◌<◌, Bool, true, false, ◌&&◌, ◌||◌, cond, eqb, ltb, List, [], ◌∷◌, ◌++◌, map, refl, sym, ◌∙◌, ap, subst, arith, ◌⊎◌, inl, inr, Some}
 use Rattle.std.proofs.lemmas.Bool.{and_parts, both_ways, true≢false, eqb-true}
 use Rattle.std.proofs.lemmas.Bool.Decides.{Decides-eqb}
@@ -21,7 +21,7 @@ same xs ys e = (slice_eq-Decides Decides-eqb xs ys (same_literals xs ys) refl).0
 pub same_from : (xs ys : List ℕ) → xs ≡ ys → same_literals xs ys ≡ true
 same_from xs ys e = (slice_eq-Decides Decides-eqb xs ys (same_literals xs ys) refl).1 e
 
--- a literal put in is one that makes the clause true
+-- a clause with one more literal is true if this literal or the rest is
 put_true : (a : Valuation) (l : ℕ) (ls : List ℕ) → clause_true a (with_literal l ls) ≡ literal_true a l || clause_true a ls
 put_true a l [] = refl
 put_true a l (m ∷ ms) = go (ltb l m) (eqb l m) refl (put_true a l ms)
@@ -47,7 +47,7 @@ canonical_true a (l ∷ ls) = put_true a l (canonical ls) ∙ ap (λ x. literal_
 one_more : (n : ℕ) → n + 1 ≡ 0 → ⊥
 one_more n e = omega arith
 
--- what one more clause asks
+-- after a clause is added, a valuation must satisfy the others, and the added one if it is irredundant
 pub more_asks : (a : Valuation) (r : Bool) (id : ℕ) (ls : List ℕ) (cs : List StoredClause) → Kept a (with_stored_clause r id ls cs) → Kept a cs × (r ≡ false → clause_true a ls ≡ true)
 more_asks a true id ls [] h = (tt, λ e. absurd (true≢false e))
 more_asks a false id ls [] h = (tt, λ e. elim h.0 [ inl z ↦ absurd (one_more 0 z) | inr t ↦ t ])
@@ -80,7 +80,8 @@ more_true a r id ls (c ∷ cs) h t = go r (more_true a r id ls cs h.1 t) (same_l
     go false ih true = (h.0, h.1)
     go r ih false = (h.0, ih)
 
--- what one clause less asks, which is true where an irredundant count is taken
+-- if the clauses are satisfied after a count is removed, they were satisfied before,
+-- provided that a removed irredundant clause is true
 pub less_asks : (a : Valuation) (r : Bool) (ls : List ℕ) (cs : List StoredClause) → (r ≡ false → clause_true a ls ≡ true) → Kept a (without_clause r ls cs) → Kept a cs
 less_asks a r ls [] t h = tt
 less_asks a r ls (c ∷ cs) t h = go r t (less_asks a r ls cs t) (same_literals c.literals ls) refl h
@@ -121,7 +122,7 @@ less_true a r ls (c ∷ cs) h = go r (less_true a r ls cs h.1) (same_literals c.
     go r ih true = left_over r (eqb (without_count r c).irredundant 0 && eqb (without_count r c).redundant 0)
     go r ih false = (h.0, ih)
 
--- where it has an irredundant count, it's asked for
+-- a clause with an irredundant count is true
 pub counted_true : (a : Valuation) (ls : List ℕ) (cs : List StoredClause) → Kept a cs → 0 < irredundant_count (clause_with ls cs) → clause_true a ls ≡ true
 counted_true a ls [] h n = absurd (omega arith)
 counted_true a ls (c ∷ cs) h n = go (counted_true a ls cs h.1) (same_literals c.literals ls) refl n
@@ -130,7 +131,7 @@ counted_true a ls (c ∷ cs) h n = go (counted_true a ls cs h.1) (same_literals 
     go ih true e n = elim h.0 [ inl z ↦ (let k : c.irredundant ≡ 0 = z in absurd (omega arith)) | inr t ↦ subst (λ x. clause_true a x ≡ true) (same c.literals ls e) t ]
     go ih false e n = ih n
 
--- what is left after one less of other literals
+-- removing a count of one set does not change another set
 pub others_stay : (r : Bool) (ls ms : List ℕ) (cs : List StoredClause) → same_literals ls ms ≡ false → clause_with ls (without_clause r ms cs) ≡ clause_with ls cs
 others_stay r ls ms [] n = refl
 others_stay r ls ms (c ∷ cs) n = go r (others_stay r ls ms cs n) (same_literals c.literals ms) refl
@@ -151,7 +152,7 @@ others_stay r ls ms (c ∷ cs) n = go r (others_stay r ls ms cs n) (same_literal
     go r ih true e = left_over r (eqb (without_count r c).irredundant 0 && eqb (without_count r c).redundant 0) (not_it e)
     go r ih false e = ap (λ o. cond (same_literals c.literals ls) (Some c) o) ih
 
--- a redundant count less leaves the irredundant ones
+-- a clause with an irredundant count still has one after a redundant count is removed
 pub irredundant_stay : (ls ms : List ℕ) (cs : List StoredClause) → 0 < irredundant_count (clause_with ls cs) → 0 < irredundant_count (clause_with ls (without_clause true ms cs))
 irredundant_stay ls ms [] n = n
 irredundant_stay ls ms (c ∷ cs) n = go (irredundant_stay ls ms cs) (same_literals c.literals ms) refl n
@@ -170,7 +171,7 @@ irredundant_stay ls ms (c ∷ cs) n = go (irredundant_stay ls ms cs) (same_liter
         pick ih true k = k
         pick ih false k = ih k
 
--- so does one more of whatever
+-- a clause with an irredundant count still has one after any clause is added
 pub irredundant_more : (r : Bool) (id : ℕ) (ls ms : List ℕ) (cs : List StoredClause) → 0 < irredundant_count (clause_with ls cs) → 0 < irredundant_count (clause_with ls (with_stored_clause r id ms cs))
 irredundant_more r id ls ms [] n = absurd (omega arith)
 irredundant_more r id ls ms (c ∷ cs) n = go r (irredundant_more r id ls ms cs) (same_literals c.literals ms) n

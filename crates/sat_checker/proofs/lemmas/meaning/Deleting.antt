@@ -1,4 +1,4 @@
--- What deleting a variable does to the valuations.
+-- How deleting a variable changes the valuations.
 use Rattle.std.proofs.Common.{ℕ, ◌/◌, ◌%◌, ◌≡◌, Bool, true, false, not, ◌||◌, cond, eqb, List, [], ◌∷◌, map, filter, refl, sym, ◌∙◌, ap, subst, ◌⊎◌, inl, inr}
 use Rattle.std.proofs.lemmas.Bool.{cases_Bool, or_parts, eqb-true}
 use Rattle.std.specs.List.{list_any}
@@ -9,11 +9,11 @@ use Rattle.sat_checker.specs.Stored.{StoredClause, StoredUnit}
 use Rattle.sat_checker.specs.Accepts.{VariablesApart}
 use Rattle.sat_checker.proofs.lemmas.meaning.Clauses.{Kept, literals_of}
 
--- another variable's literal keeps its value
+-- flipping a variable does not change literals of other variables
 pub other_value : (a : Valuation) (v l : ℕ) → eqb (l / 2) v ≡ false → literal_true (flipped v a) l ≡ literal_true a l
 other_value a v l e = rw e refl
 
--- the variable's literal gets the other value
+-- flipping a variable changes its literals
 flipped_value : (a : Valuation) (v l : ℕ) → eqb (l / 2) v ≡ true → literal_true (flipped v a) l ≡ not (literal_true a l)
 flipped_value a v l e = rw e (go (eqb (l % 2) 0))
   where
@@ -27,7 +27,7 @@ other_clause a v (l ∷ ls) e =
     let parts = or_parts (eqb (l / 2) v) (mentions ls v) e in
     ap (λ b. b || clause_true (flipped v a) ls) (other_value a v l parts.0) ∙ ap (λ b. literal_true a l || b) (other_clause a v ls parts.1)
 
--- valuations that agree on clauses without the variable
+-- the valuations agree on clauses without the variable
 abbrev SameWithout : ℕ → Valuation → Valuation → Type 0
 SameWithout v a b = (c : List ℕ) → mentions c v ≡ false → clause_true b c ≡ clause_true a c
 
@@ -52,7 +52,7 @@ true_by_flip a b v (c ∷ cs) same e h =
     let parts = or_parts (mentions c.literals v) (list_any (λ d. mentions d.literals v) cs) e in
     (same c.literals parts.0 ∙ h.0, true_by_flip a b v cs same parts.1 h.1)
 
--- the units that are left
+-- the units of other variables
 abbrev pub left : ℕ → List ℕ → List ℕ
 left v = filter (λ l. not (eqb (variable l) v))
 
@@ -81,7 +81,7 @@ units_left_flipped a v (u ∷ us) h = go (units_left_flipped a v us h.1) (eqb (v
     go ih true e = ih
     go ih false e = (sym (other_value a v u e) ∙ h.0, ih)
 
--- where no unit is of the variable, both make the units true
+-- if no unit has the variable, the units are true under both valuations
 none_of : (a : Valuation) (v : ℕ) (us : List ℕ) → mentions us v ≡ false → EachTrue a (left v us) → EachTrue a us × EachTrue (flipped v a) us
 none_of a v [] n h = (tt, tt)
 none_of a v (u ∷ us) n h =
@@ -100,7 +100,7 @@ units_either a v (u ∷ us) p h = go (units_either a v us p.1) (eqb (variable u)
         elim (cases_Bool (literal_true a u)) [ inl t ↦ inl (t, others.0) | inr f ↦ inr (flipped_value a v u e ∙ ap not f, others.1) ]
     go ih false e k = elim (ih k.1) [ inl x ↦ inl (k.0, x) | inr y ↦ inr (other_value a v u e ∙ k.0, y) ]
 
--- those left have different variables still
+-- the remaining units still have different variables
 few : (v w : ℕ) (us : List ℕ) → mentions us w ≡ false → mentions (left v us) w ≡ false
 few v w [] h = h
 few v w (u ∷ us) h =

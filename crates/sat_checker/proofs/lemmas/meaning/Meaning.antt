@@ -1,4 +1,4 @@
--- What is stored means what the steps mean.
+-- What is stored has the same meaning as the steps.
 use Rattle.std.proofs.Common.{ℕ, ◌+◌, ◌/◌, ◌≡◌, ◌<◌, Bool, true, false, not, cond, eqb, List, [], ◌∷◌, ◌++◌, map, Some, None, Option, refl, sym, ◌∙◌, subst, arith, ◌⊎◌, inl, inr}
 use Rattle.std.proofs.lemmas.Bool.{cases_Bool, or_cases, or_left, or_parts, both_ways, true≢false, eqb-false, ne_eqb}
 use Rattle.sat_base.specs.values.Literals.{variable, negated}
@@ -34,7 +34,7 @@ not_true : (b : Bool) → b ≡ true → not b ≡ true → ⊥
 not_true true e n = true≢false (sym n)
 not_true false e n = true≢false (sym e)
 
--- storing asks for the clause, if it's irredundant, and for no more
+-- storing a clause requires only that the clause is true, if it is irredundant
 module _ (f : Stored) (a : Valuation) where
   set_asks : (r : Bool) (c : List ℕ) → Satisfies (with_set r c f) a → Satisfies f a × (r ≡ false → clause_true a c ≡ true)
   set_asks r [] s = absurd (true≢false s.consistent)
@@ -92,18 +92,18 @@ apart_set f r (l ∷ []) p = go (is_unit f l) refl (is_unit f (negated l)) refl
     go false n false m = apart_push f.units (record { id = f.next_id; literal = l }) p n m
 apart_set f r (l ∷ m ∷ ls) p = p
 
--- every stored clause follows from those that are kept, and no variable has two units
+-- every stored clause follows from the irredundant ones and the units, and no variable has two units
 pub record IsCoherent (f : Stored) : Type 0 where
   pub follows : (a : Valuation) → Satisfies f a → EachHolds a (long_clauses f)
   pub apart : VariablesApart (unit_literals f)
 
--- it's coherent, and satisfied by these valuations
+-- the state is coherent, and exactly these valuations satisfy it
 pub record Does (g : Stored) (Meant : Valuation → Type 0) : Type 0 where
   pub coherent : IsCoherent g
   pub to : (a : Valuation) → Meant a → Satisfies g a
   pub back : (a : Valuation) → Satisfies g a → Meant a
 
--- other fields mean nothing
+-- only unsat, the clauses and the units matter
 aside_to : (f g : Stored) (a : Valuation) → g.unsat ≡ f.unsat → g.clauses ≡ f.clauses → g.units ≡ f.units → Satisfies f a → Satisfies g a
 aside_to f g a u c l s = record { consistent = u ∙ s.consistent; kept = subst (Kept a) (sym c) s.kept; units = subst (λ us. EachTrue a (map (λ w. w.literal) us)) (sym l) s.units }
 
@@ -120,7 +120,7 @@ aside f g Meant u c l d = record {
 itself : (f : Stored) → IsCoherent f → Does f (Satisfies f)
 itself f s = record { coherent = s; to = λ a h. h; back = λ a h. h }
 
--- a set that is asked for, or that follows
+-- storing a set that is irredundant or follows
 sets : (f : Stored) (r : Bool) (c : List ℕ) → IsCoherent f → ((a : Valuation) → Satisfies f a → r ≡ true → clause_true a c ≡ true) → Does (with_set r c f) (λ a. Satisfies f a × (clause_true a c ≡ true))
 sets f r c s derived = record {
   coherent = record { follows = λ a t. set_true f a r c (s.follows a (set_asks f a r c t).0) (true_then a t); apart = apart_set f r c s.apart };
@@ -135,7 +135,7 @@ canonicals : (f : Stored) (r : Bool) (c : List ℕ) → IsCoherent f → ((a : V
 canonicals f true c s derived = sets f true c s derived
 canonicals f false c s derived = aside (with_set false c f) (record (with_set false c f) { last = place_of f.next_id c (with_set false c f) f.last }) (λ a. Satisfies f a × (clause_true a c ≡ true)) refl refl refl (sets f false c s derived)
 
--- a clause that is asked for, or that follows
+-- storing a clause that is irredundant or follows
 stores : (f : Stored) (r : Bool) (c : List ℕ) → IsCoherent f → ((a : Valuation) → Satisfies f a → r ≡ true → clause_true a c ≡ true) → Does (with_stored r c f) (λ a. Satisfies f a × (clause_true a c ≡ true))
 stores f r c s derived = go (is_tautology c) refl
   where
@@ -173,7 +173,7 @@ one_unit f l hash s p =
     let d = sets f false (l ∷ []) s (λ a t e. absurd (true≢false (sym e))) in
     record { coherent = d.coherent; to = λ a h. d.to a (h, derived_hold f (l ∷ []) (hash ∷ []) a p h.units (s.follows a h)); back = λ a h. (d.back a h).0 }
 
--- units one after another, where each passes
+-- adding units one by one, each of which passes
 units_pass : (us : List (ℕ × ℕ)) (f : Stored) → IsCoherent f → PassInTurn f us → Does (with_units (map (λ u. u.0) us) f) (Satisfies f)
 units_pass [] f s p = itself f s
 units_pass (u ∷ us) f s p =
@@ -181,7 +181,7 @@ units_pass (u ∷ us) f s p =
     let rest = units_pass us (with_unit u.0 f) first.coherent p.1 in
     record { coherent = rest.coherent; to = λ a h. rest.to a (first.to a h); back = λ a h. first.back a (rest.back a h) }
 
--- a count is taken, where what it asks for is true all the same
+-- removing a count, if its clause is still true without it
 deletes : (f : Stored) (r : Bool) (c : List ℕ) → IsCoherent f → ((a : Valuation) → Satisfies (record f { clauses = without_clause r (canonical c) f.clauses }) a → r ≡ false → clause_true a c ≡ true) → Does (record f { clauses = without_clause r (canonical c) f.clauses }) (Satisfies f)
 deletes f r c s holds = record {
   coherent = record { follows = λ a h. less_true a r (canonical c) f.clauses (s.follows a (before a h)); apart = s.apart };
@@ -200,7 +200,7 @@ unit_found a id ls (u ∷ us) e h = go (λ k. unit_found a id ls us k h.1) (eqb 
     go ih true e = let k : u.literal ∷ [] ≡ ls = cc in subst (λ x. clause_true a x ≡ true) k (single_from a u.literal h.0)
     go ih false e = ih e
 
--- the last irredundant clause is true without the one that it's a part of
+-- a clause that contains the last irredundant clause is still true after its count is removed
 last_true : (f : Stored) (c : List ℕ) (a : Valuation) → Orderly f → IsStrictSubset (last_literals f.last f) c → Satisfies (record f { clauses = without_clause false (canonical c) f.clauses }) a → clause_true a c ≡ true
 last_true f c a o p h = go f.last o.last_holds p
   where
@@ -237,7 +237,7 @@ drops f v s free = record {
       | inr u ↦ inr (record { consistent = h.consistent; kept = kept_by_flip a (flipped v a) v f.clauses (to_flipped a v) free.unused h.kept; units = u })
     ]
 
--- which variables are known means nothing to the check
+-- making variables known does not change the check
 same_unit : (f : Stored) (ls : List ℕ) (l : ℕ) → with_unit l (with_literals_known ls f) ≡ with_literals_known ls (with_unit l f)
 same_unit f ls l = go (is_unit f l) (is_unit f (negated l))
   where
@@ -250,11 +250,11 @@ pub pass_known : (us : List (ℕ × ℕ)) (ls : List ℕ) (f : Stored) → PassI
 pass_known [] ls f p = tt
 pass_known (u ∷ us) ls f p = (p.0, subst (λ g. PassInTurn g us) (sym (same_unit f ls u.0)) (pass_known us ls (with_unit u.0 f) p.1))
 
--- one meaning after another
+-- two changes of the state, one after the other
 further : (f g : Stored) (Meant : Valuation → Type 0) → Does f Meant → Does g (Satisfies f) → Does g Meant
 further f g Meant m d = record { coherent = d.coherent; to = λ a h. d.to a (m.to a h); back = λ a h. m.back a (d.back a h) }
 
--- a settled unit conflict means nothing more
+-- settling a unit conflict does not change the meaning
 settle : (earlier : List Step) → Does (stored_after earlier) (Holds earlier) → Does (ready_after earlier) (Holds earlier)
 settle earlier d = go (stored_after earlier) d (stored_after earlier).conflict
   where
@@ -262,7 +262,7 @@ settle earlier d = go (stored_after earlier) d (stored_after earlier).conflict
     go f d None = d
     go f d (Some units) = aside f (record f { conflict = None; next_id = f.next_id + 1 }) (Holds earlier) refl refl refl d
 
--- over all steps
+-- the meaning of all accepted steps
 pub means : (steps : List Step) → AcceptsAll steps → Does (stored_after steps) (Holds steps)
 means [] ok = record {
   coherent = record { follows = λ a h. tt; apart = tt };

@@ -1,4 +1,4 @@
--- Which variables are known and have names after accepted steps.
+-- Which variables are known and which have names, after accepted steps.
 use Rattle.std.proofs.Common.{ℕ, ◌≡◌, Bool, true, false, cond, eqb, List, [], ◌∷◌, map, Option, None, Some, refl, sym, ◌∙◌, ap, subst, ◌⊎◌, inl, inr}
 use Rattle.std.proofs.lemmas.Bool.{both_ways, true≢false, eqb-true, eq-eqb}
 use Rattle.sat_base.specs.values.Literals.{variable, negated}
@@ -10,7 +10,7 @@ use Rattle.sat_checker.specs.Accepts.{Accepts, AcceptsAll, effect, stored_after,
 pub use Rattle.sat_checker.specs.Invariants.{SameVariables}
 use Rattle.sat_checker.specs.Laws.{NamedIsKnown, KnownStays, DeletedIsNameless, NamesApart, UnknownIsUnknown, has_delete_var, DeletionIsSeen}
 
--- STORING LEAVES VARIABLES AS THEY ARE
+-- STORING DOES NOT CHANGE VARIABLES
 
 pub unit_same : (l : ℕ) (f : Stored) → SameVariables f (with_unit l f)
 unit_same l f = go (is_unit f l) (is_unit f (negated l))
@@ -70,7 +70,7 @@ known_set f x v w k h = go (eqb w v)
     go true = k
     go false = h
 
--- a known variable that is set to something known stays known
+-- a variable is still known after a change that does not make it unknown
 known_kept : (f : Stored) (x : Variable) (v w : ℕ) → x.known ≡ (f.variables v).known → is_known w f ≡ true → (cond (eqb w v) x (f.variables w)).known ≡ true
 known_kept f x v w k h = go (eqb w v) refl
   where
@@ -104,13 +104,13 @@ known_stays f step v h = inl h
 pub deleted_is_nameless : DeletedIsNameless
 deleted_is_nameless f v h = h.nameless
 
--- no two variables have one name, and one that isn't known is as at first
+-- no two variables have the same name, and a variable that is not known has its initial data
 pub record AreTidy (variables : ℕ → Variable) : Type 0 where
   pub apart : (v w name : ℕ) → (variables v).name ≡ Some name → (variables w).name ≡ Some name → v ≡ w
   pub unknowns : (v : ℕ) → (variables v).known ≡ false → variables v ≡ unknown
 
 module _ (variables : ℕ → Variable) (tidy : AreTidy variables) where
-  -- one variable is set, to a name that no other one has
+  -- a variable may be set to data with a name that no other variable has
   tidy_set : (v : ℕ) (x : Variable) → ((name w : ℕ) → x.name ≡ Some name → (variables w).name ≡ Some name → v ≡ w) → (x.known ≡ false → x ≡ unknown) → AreTidy (λ w. cond (eqb w v) x (variables w))
   tidy_set v x alone first = record { apart = λ p q name. by_two p q name (eqb p v) refl (eqb q v) refl; unknowns = λ w. by_one w (eqb w v) }
     where

@@ -1,4 +1,4 @@
--- What holds of ids and of the last irredundant clause after accepted steps.
+-- The order of ids, and the last irredundant clause, after accepted steps.
 use Rattle.std.proofs.Common.{ℕ, ◌+◌, ◌≡◌, ◌<◌, Bool, true, false, cond, eqb, List, [], ◌∷◌, ◌++◌, map, refl, sym, ◌∙◌, ap, subst, arith, ◌⊎◌, inl, inr, Option, None, Some, is_some}
 use Rattle.std.proofs.lemmas.Bool.{or_cases, or_left, or_right, true≢false, eqb-true, ne_eqb}
 use Rattle.std.specs.List.{AllByRecursion}
@@ -24,7 +24,7 @@ last_below_more n m w (Empty id) h = w id h
 last_below_more n m w (UnitClause id) h = tt
 last_below_more n m w (LongClause id) h = w id h
 
--- where units become more and unsat stays, what is known of the last one stays
+-- what holds for the last clause still holds if units are added and unsat stays recorded
 pub last_stays : (last : Last) (u v : Bool) (us vs : List ℕ) (cs : List StoredClause) → (u ≡ true → v ≡ true) → ((l : ℕ) → is_among us l ≡ true → is_among vs l ≡ true) → LastHolds last u us cs → LastHolds last v vs cs
 last_stays NoneYet u v us vs cs b w h = tt
 last_stays (Empty id) u v us vs cs b w h = b h
@@ -63,7 +63,7 @@ orderly_unit f l o = go (is_unit f l) (is_unit f (negated l))
       last_holds = last_stays f.last f.unsat f.unsat (unit_literals f) (map (λ w. w.literal) (f.units ++ (record { id = f.next_id; literal = l }) ∷ [])) f.clauses (λ e. e) (λ x h. among_longer f.units (record { id = f.next_id; literal = l }) x h) o.last_holds;
     }
 
--- ids, once a clause was stored
+-- the ids after a clause is stored
 ids_with : (r : Bool) (n : ℕ) (ls : List ℕ) (cs : List StoredClause) → is_some (clause_with ls cs) ≡ true → ids (with_stored_clause r n ls cs) ≡ ids cs
 ids_with r n ls [] e = absurd (true≢false (sym e))
 ids_with r n ls (c ∷ cs) e = go r (ids_with r n ls cs) (same_literals c.literals ls) e
@@ -94,7 +94,7 @@ pub below_push : (is : List ℕ) (n : ℕ) → AllByRecursion (λ i. i < n) is �
 below_push [] n b = (omega arith, tt)
 below_push (i ∷ is) n b = (let h : i < n = b.0 in omega arith, below_push is n b.1)
 
--- the clause of an id, once a clause was stored
+-- the clause with an id after a clause is stored
 pub numbered_with : (r : Bool) (id n : ℕ) (ls ms : List ℕ) (cs : List StoredClause) → clause_numbered id (with_stored_clause r n ls cs) ≡ Some ms → (clause_numbered id cs ≡ Some ms) ⊎ (id ≡ n)
 numbered_with true id n ls ms [] e = go (eqb n id) refl e
   where
@@ -117,7 +117,7 @@ numbered_with r id n ls ms (c ∷ cs) e = go r (numbered_with r id n ls ms cs) (
     go false ih true e = inl e
     go r ih false e = following r (eqb c.id id) ih e
 
--- the last one stays the last where another clause is stored
+-- what holds for the last clause still holds after another clause is stored
 last_beside : (r : Bool) (n : ℕ) (ls : List ℕ) (last : Last) (unsat : Bool) (us : List ℕ) (cs : List StoredClause) → LastBelow n last → LastHolds last unsat us cs → LastHolds last unsat us (with_stored_clause r n ls cs)
 last_beside r n ls NoneYet unsat us cs b h = tt
 last_beside r n ls (Empty id) unsat us cs b h = h
@@ -157,7 +157,7 @@ orderly_set f r [] o = record {
 orderly_set f r (l ∷ []) o = orderly_unit f l o
 orderly_set f r (l ∷ m ∷ ls) o = orderly_long f r (l ∷ m ∷ ls) o
 
--- above an id that is below all of them
+-- if all ids are above a bound, so is the id of every stored clause
 pub numbered_above : (b id : ℕ) (ms : List ℕ) (cs : List StoredClause) → AllByRecursion (λ i. b < i) (ids cs) → clause_numbered id cs ≡ Some ms → b < id
 numbered_above b id ms [] h e = absurd cc
 numbered_above b id ms (c ∷ cs) h e = go (numbered_above b id ms cs h.1) (eqb c.id id) refl e
@@ -174,7 +174,7 @@ with_above b ls c (d ∷ ds) h e = go (with_above b ls c ds h.1) (same_literals 
     go ih true e = let k : d ≡ c = cc in subst (λ x. b < x.id) k h.0
     go ih false e = ih e
 
--- the clause with these literals is the one with its id
+-- a clause found by its literals is also found by its id
 pub numbered_itself : (ls : List ℕ) (c : StoredClause) (cs : List StoredClause) → IsIncreasing (ids cs) → clause_with ls cs ≡ Some c → clause_numbered c.id cs ≡ Some ls
 numbered_itself ls c [] h e = absurd cc
 numbered_itself ls c (d ∷ ds) h e = go (numbered_itself ls c ds h.1) (same_literals d.literals ls) refl e
@@ -200,7 +200,7 @@ below_itself n ls c (d ∷ ds) h e = go (below_itself n ls c ds h.1) (same_liter
     go ih true e = let k : d ≡ c = cc in subst (λ x. x.id < n) k h.0
     go ih false e = ih e
 
--- a clause stored as irredundant has a count
+-- a clause stored as irredundant has an irredundant count
 pub stored_count : (n : ℕ) (ls : List ℕ) (cs : List StoredClause) → 0 < irredundant_count (clause_with ls (with_stored_clause false n ls cs))
 stored_count n ls [] = subst (λ b. 0 < irredundant_count (cond b (Some (record { id = n; literals = ls; irredundant = 0 + 1; redundant = 0 })) None)) (sym (itself ls)) (omega arith)
   where

@@ -1,4 +1,4 @@
--- Accepted steps keep ids and the last irredundant clause in order.
+-- Accepted steps preserve the order of ids and what holds for the last irredundant clause.
 use Rattle.std.proofs.Common.{ℕ, ◌+◌, ◌≡◌, ◌<◌, Bool, true, false, not, ◌&&◌, ◌||◌, cond, eqb, max, List, [], ◌∷◌, ◌++◌, map, refl, sym, ◌∙◌, ap, subst, arith, inl, inr, Option, None, Some}
 use Rattle.std.proofs.lemmas.Bool.{or_cases, or_left, or_right, or_parts, both_ways, true≢false, eqb-true, ne_eqb}
 use Rattle.std.specs.List.{AllByRecursion, list_any}
@@ -14,7 +14,7 @@ use Rattle.sat_checker.proofs.lemmas.meaning.Clauses.{same, others_stay, irredun
 use Rattle.sat_checker.proofs.lemmas.meaning.Deleting.{IsUnused, left, units_of_left}
 use Rattle.sat_checker.proofs.lemmas.meaning.Orderly.{ids, Supported, LastHolds, LastBelow, Orderly, below_more, last_below_more, numbered_above, numbered_itself, below_itself, stored_count, orderly_unit, orderly_set, orderly_settled}
 
--- other fields don't matter
+-- only the clauses, the units, unsat, the last clause and the next id matter
 aside : (f g : Stored) → g.clauses ≡ f.clauses → g.units ≡ f.units → g.unsat ≡ f.unsat → g.last ≡ f.last → g.next_id ≡ f.next_id → Orderly f → Orderly g
 aside f g c u b l n o = record {
   increasing = subst (λ cs. IsIncreasing (ids cs)) (sym c) o.increasing;
@@ -26,7 +26,7 @@ aside f g c u b l n o = record {
       (subst (λ x. LastHolds f.last f.unsat (unit_literals f) x) (sym c) o.last_holds)));
 }
 
--- with another last clause that is known as well
+-- another clause may become the last one if the same holds for it
 orderly_last : (g : Stored) (last : Last) → Orderly g → LastBelow g.next_id last → LastHolds last g.unsat (unit_literals g) g.clauses → Orderly (record g { last = last })
 orderly_last g last o b h = record { increasing = o.increasing; below = o.below; last_below = b; last_holds = h }
 
@@ -84,7 +84,7 @@ orderly_units (l ∷ ls) f o = orderly_units ls (with_unit l f) (orderly_unit f 
 orderly_known : (f : Stored) (ls : List ℕ) → Orderly f → Orderly (with_literals_known ls f)
 orderly_known f ls o = aside f (with_literals_known ls f) refl refl refl refl refl o
 
--- ids, once a count was taken
+-- the ids after a count is removed
 ids_above : (b : ℕ) (r : Bool) (ls : List ℕ) (cs : List StoredClause) → AllByRecursion (λ i. b < i) (ids cs) → AllByRecursion (λ i. b < i) (ids (without_clause r ls cs))
 ids_above b r ls [] h = tt
 ids_above b r ls (c ∷ cs) h = go r (ids_above b r ls cs h.1) (same_literals c.literals ls)
@@ -124,7 +124,7 @@ ids_increase r ls (c ∷ cs) h = go r (ids_increase r ls cs h.1) (same_literals 
     go r ih true = left_over r (eqb (without_count r c).irredundant 0 && eqb (without_count r c).redundant 0)
     go r ih false = (ids_above c.id r ls cs h.0, ih)
 
--- what an id names afterwards, it named before
+-- an id that is found after a count is removed had the same clause before
 numbered_before : (r : Bool) (id : ℕ) (ls ms : List ℕ) (cs : List StoredClause) → IsIncreasing (ids cs) → clause_numbered id (without_clause r ls cs) ≡ Some ms → clause_numbered id cs ≡ Some ms
 numbered_before r id ls ms [] h e = e
 numbered_before r id ls ms (c ∷ cs) h e = go r (numbered_before r id ls ms cs h.1) (same_literals c.literals ls) e
@@ -148,7 +148,7 @@ numbered_before r id ls ms (c ∷ cs) h e = go r (numbered_before r id ls ms cs 
     go r ih true e = left_over r (eqb (without_count r c).irredundant 0 && eqb (without_count r c).redundant 0) e
     go r ih false e = following r (eqb c.id id) ih e
 
--- a count may be taken where what supported the last clause supports it still
+-- a count may be removed if the last clause is still supported
 last_without : (f : Stored) (r : Bool) (ls : List ℕ) → Orderly f → ((ms : List ℕ) → last_literals f.last f ≡ Some ms → Supported (unit_literals f) f.clauses ms → Supported (unit_literals f) (without_clause r ls f.clauses) ms) → LastHolds f.last f.unsat (unit_literals f) (without_clause r ls f.clauses)
 last_without f r ls o w = go f.last o.last_holds w
   where
@@ -166,12 +166,12 @@ orderly_without f r ls o w = record {
   last_holds = last_without f r ls o w;
 }
 
--- the support of other literals stays
+-- clauses with other literals are still supported
 others_supported : (us ms ls : List ℕ) (r : Bool) (cs : List StoredClause) → same_literals ms ls ≡ false → Supported us cs ms → Supported us (without_clause r ls cs) ms
 others_supported us ms ls r cs n (inl t) = inl t
 others_supported us ms ls r cs n (inr k) = inr (subst (λ x. 0 < irredundant_count x) (sym (others_stay r ms ls cs n)) k)
 
--- a strict part of a clause is another clause
+-- a strict part of a clause is a different set
 pub strict_differs : (ms c : List ℕ) → is_part c ms ≡ false → same_literals ms (canonical c) ≡ false
 strict_differs ms c s = go (same_literals ms (canonical c)) refl
   where
@@ -191,7 +191,7 @@ simplified_supports f c p ms e s =
     let q : IsStrictSubset (Some ms) c = subst (λ x. IsStrictSubset x c) e p in
     others_supported (unit_literals f) ms (canonical c) false f.clauses (strict_differs ms c q.1) s
 
--- a clause without the variable keeps its support
+-- clauses without the variable are still supported
 numbered_unused : (v id : ℕ) (ms : List ℕ) (cs : List StoredClause) → IsUnused v cs → clause_numbered id cs ≡ Some ms → mentions ms v ≡ false
 numbered_unused v id ms [] u e = absurd cc
 numbered_unused v id ms (c ∷ cs) u e =

@@ -1,4 +1,4 @@
--- A pair is put in at a place before all those that are linked.
+-- A pair is inserted at a place before those of all linked pairs.
 use Rattle.std.proofs.Common.{ℕ, ◌<◌, ◌≤◌, ◌≡◌, ◌≢◌, true, false, cond, ltb, List, [], ◌∷◌, length, refl, sym, ◌∙◌, ap, subst, arith, None, Some, inl, inr, slice_set}
 use Rattle.std.proofs.lemmas.Bool.{cases_lt}
 use Rattle.std.proofs.lemmas.Bool.Decides.{nat_tests}
@@ -14,7 +14,7 @@ use Rattle.sat_checker.proofs.lemmas.pairs.Walks.{IsThere, leads_there, there_ap
 use Rattle.sat_checker.proofs.lemmas.pairs.Links.{leads_same, last_member}
 use Rattle.sat_checker.proofs.lemmas.pairs.Changing.{has_inserted, not_in}
 
--- a link at a place, and one that leads there
+-- the place `before` now links to the new pair, which links to the pair after it
 pub record IsPutIn (links new : List Link) (p : Pair) (before : ℕ) : Type 0 where
   pub count : length new ≡ length links
   pub same : (x : ℕ) → x ≢ before → x ≢ p.place → link_at new x ≡ link_at links x
@@ -36,7 +36,7 @@ below_none h ps k = filter_none (λ p. ltb p.hash h) ps (all_weaker (λ p. h ≤
 all_from : (h : ℕ) (p : Pair) (ps : List Pair) → AreInOrder (p ∷ ps) → h ≤ p.hash → AllByRecursion (λ q. h ≤ q.hash) (p ∷ ps)
 all_from h p ps o l = (l, all_weaker (IsPairBefore p) (λ q. h ≤ q.hash) (λ q b. let k : p.hash ≤ q.hash = b.hash in omega arith) ps o.0)
 
--- none is below the hash, or the first one is
+-- if no pair is below the hash, all pairs are at or above it
 none_below : (h : ℕ) (ps : List Pair) → AreInOrder ps → below h ps ≡ [] → AllByRecursion (λ q. h ≤ q.hash) ps
 none_below h [] o e = tt
 none_below h (p ∷ ps) o e = elim (cases_lt p.hash h) [
@@ -44,7 +44,7 @@ none_below h (p ∷ ps) o e = elim (cases_lt p.hash h) [
   | inr past ↦ all_from h p ps o past
 ]
 
--- before all pairs of its hash and above
+-- a pair before all others is inserted first
 first_put : (p : Pair) (ps : List Pair) → AllByRecursion (λ q. p.place < q.place) ps → AllByRecursion (λ q. p.hash ≤ q.hash) ps → inserted p ps ≡ p ∷ ps
 first_put p ps a h = inserted_first p ps (all_weaker (λ q. (p.place < q.place) × (p.hash ≤ q.hash)) (IsPairBefore p) (λ q k. record { hash = k.1; place = λ e. k.0 }) ps (all_both (λ q. p.place < q.place) (λ q. p.hash ≤ q.hash) ps a h))
 
@@ -105,7 +105,7 @@ put_in links new at p b (q ∷ qs) l o a e i r = elim (cases_lt q.hash p.hash) [
           subst (λ (k : Link). LinksPairs new k.next (inserted p qs)) (sym here) (ih is),
         )
 
--- a pair before all others of its top
+-- a pair before all others of its part
 put_at_head : (links new : List Link) (at : ℕ) (p : Pair) (ps : List Pair) → LinksPairs links at ps → AreInOrder ps → AllByRecursion (λ q. p.place < q.place) ps → last_or None (below p.hash ps) ≡ None → p.place < length links → length new ≡ length links
     → ((x : ℕ) → x ≢ p.place → link_at new x ≡ link_at links x) → link_at new p.place ≡ record { hash = p.hash; next = at } → LinksPairs new p.place (inserted p ps)
 put_at_head links new at p ps l o a e i count same last =
@@ -126,7 +126,7 @@ module _ (heads : List ℕ) (links : List Link) (shift : ℕ) (a : AreLinked hea
   there : (s : ℕ) → s < length heads → AllByRecursion (IsThere links) (part_at heads links s)
   there s i = leads_there links (head_at heads s) (part_at heads links s) (a.parts s i).leads
 
-  -- the last place below a hash is there, and has its top
+  -- the place of the last pair below a hash exists, and its hash has this top
   pub below_there : (h b : ℕ) → Some b ≡ last_or None (below h (part_at heads links top)) → (b < length links) × (top_of shift (length heads) (link_at links b).hash ≡ top)
   below_there h b e =
       last_member (λ x. (x < length links) × (top_of shift (length heads) (link_at links x).hash ≡ top)) None (below h (part_at heads links top)) b (sym e) (λ s. absurd cc)
@@ -142,7 +142,7 @@ module _ (heads : List ℕ) (links : List Link) (shift : ℕ) (a : AreLinked hea
     apart : AllByRecursion (λ q. p.place ≢ q.place) (part_at heads links top)
     apart = all_weaker (λ q. p.place < q.place) (λ q. p.place ≢ q.place) (λ q k e. omega arith) (part_at heads links top) (part_above top inside)
 
-    -- another one than the last below the hash is at another place
+    -- the last pair below the hash is at a later place
     below_above : (b : ℕ) → Some b ≡ last_or None (below p.hash (part_at heads links top)) → p.place < b
     below_above b e =
         last_member (λ x. p.place < x) None (below p.hash (part_at heads links top)) b (sym e) (λ s. absurd cc)

@@ -1,4 +1,4 @@
--- What the heads list, as a pair comes in or goes.
+-- What heads and links list after a pair is inserted or removed.
 use Rattle.std.proofs.Common.{ℕ, zero, suc, drop, ◌+◌, ◌<◌, ◌≤◌, ◌≡◌, ◌≢◌, Bool, true, false, not, cond, eqb, List, [], ◌∷◌, ◌++◌, length, take, refl, sym, ◌∙◌, ap, subst, arith, None, Some, slice_set, length-append}
 use Rattle.std.proofs.lemmas.Bool.{eq-eqb, ne_eqb, eqb-true, eqb-false}
 use Rattle.std.proofs.lemmas.List.{get_or-set_same, get_or-set_other, get_or_push, get_or_append_left, length-set, drop_more}
@@ -102,7 +102,7 @@ module _ (heads : List ℕ) (links : List Link) (shift : ℕ) (a : AreLinked hea
     }
 
 module _ (heads : List ℕ) (links : List Link) (shift : ℕ) (a : AreLinked heads links shift) (top : ℕ) (inside : top < length heads) where
-  -- a place whose hash has another top isn't in a part
+  -- a place whose hash has one top is not in the part of another top
   pub not_in : (x : ℕ) → top_of shift (length heads) (link_at links x).hash ≡ top → (s : ℕ) → s < length heads → s ≢ top → AllByRecursion (λ q. q.place ≢ x) (part_at heads links s)
   not_in x t s i n =
       all_weaker (λ q. IsThere links q × (top_of shift (length heads) q.hash ≡ s)) (λ q. q.place ≢ x)
@@ -112,7 +112,7 @@ module _ (heads : List ℕ) (links : List Link) (shift : ℕ) (a : AreLinked hea
   there : (s : ℕ) → s < length heads → AllByRecursion (IsThere links) (part_at heads links s)
   there s i = leads_there links (head_at heads s) (part_at heads links s) (a.parts s i).leads
 
-  -- the last place up to a hash is there, and has its top
+  -- the place of the last pair up to a hash exists, and its hash has this top
   pub last_there : (h b : ℕ) → Some b ≡ last_or None (up_to h (part_at heads links top)) → (b < length links) × (top_of shift (length heads) (link_at links b).hash ≡ top)
   last_there h b e =
       last_member (λ x. (x < length links) × (top_of shift (length heads) (link_at links x).hash ≡ top)) None (up_to h (part_at heads links top)) b (sym e) (λ s. absurd cc)
@@ -216,7 +216,7 @@ module _ (heads : List ℕ) (links : List Link) (shift : ℕ) (a : AreLinked hea
         (subst (LinksPairs links (head_at heads top)) (sym (unlink_none links (head_at heads top) x (part_at heads links top) (a.parts top inside).leads n (sym e))) (a.parts top inside).leads)
         (λ s j d. (a.parts s j).leads)
 
--- a pair before all others
+-- a pair before all others is inserted first
 pub put_front : (heads : List ℕ) (links : List Link) (shift : ℕ) (ps : List Pair) (p : Pair) (top : ℕ) → LinksListPairs heads links shift ps → top < length heads → top_of shift (length heads) p.hash ≡ top → p.place < length links → length ps + 1 ≤ length links
     → AllByRecursion (IsPairBefore p) ps → AllByRecursion (λ q. p.place ≢ q.place) ps → LinksListPairs (slice_set heads top p.place) (slice_set links p.place (record { hash = p.hash; next = head_at heads top })) shift (p ∷ ps)
 put_front heads links shift ps p top m inside t i room before apart =
@@ -250,7 +250,7 @@ put_front heads links shift ps p top m inside t i room before apart =
         (all_weaker (λ q. p.place ≢ q.place) (λ q. link_at (slice_set links p.place (record { hash = p.hash; next = head_at heads top })) q.place ≡ link_at links q.place)
         (λ q n. get_or-set_other links p.place q.place (record { hash = p.hash; next = head_at heads top }) (record { hash = 0; next = 0 }) (λ e. n (sym e))) (part_at heads links s) (part (λ q. p.place ≢ q.place) apart s j))
 
--- nothing is linked yet
+-- nothing is linked yet: all heads are `nowhere`
 pub lists_none : (heads : List ℕ) (links : List Link) (shift : ℕ) → length links ≤ nowhere → All (λ h. h ≡ nowhere) heads → LinksListPairs heads links shift []
 lists_none heads links shift few none = record {
   linked = are_linked heads links shift few (λ s. []) each (let e : length (joined (λ s. []) (length heads)) ≡ 0 = ap length (nothing (length heads)) in omega (arith, e));
@@ -264,7 +264,7 @@ lists_none heads links shift few none = record {
     each : (s : ℕ) → s < length heads → IsPairChain links shift (length heads) s (head_at heads s) []
     each s l = record { leads = none s 0 l; short = omega arith; in_order = tt; tops = tt }
 
--- heads that are written whole
+-- a list whose items were all overwritten has exactly the new items
 pub written : (n : ℕ) (xs ys : List ℕ) → length xs ≡ n → take n (xs ++ ys) ≡ xs
 written zero [] ys e = refl
 written zero (x ∷ xs) ys e = absurd (omega (arith, e))
@@ -284,7 +284,7 @@ distinct_drop zero ps d = d
 distinct_drop (suc i) [] d = d
 distinct_drop (suc i) (p ∷ ps) d = distinct_drop i ps (IsDistinct-tail same_place p ps d)
 
--- the pair at a place of the list comes before those after it
+-- the pair at index `i` is before all later pairs
 pub front_of : (ps : List Pair) (i : ℕ) → i < length ps → AreInOrder ps → IsDistinct same_place ps
     → AllByRecursion (IsPairBefore (slice_index_or ps i (record { hash = 0; place = 0 }))) (drop (i + 1) ps) × AllByRecursion (λ q. (slice_index_or ps i (record { hash = 0; place = 0 })).place ≢ q.place) (drop (i + 1) ps)
 front_of ps i l o d =
@@ -301,7 +301,7 @@ unfolding IsDistinct
 distinct_there links [] t o = tt
 distinct_there links (p ∷ ps) t o = (all_weaker (λ q. IsThere links q × IsPairBefore p q) (λ q. same_place p q ≡ false) (λ q k. ne_eqb p.place q.place (λ e. there_apart links p q t.0 k.0 k.1 (sym e))) ps (all_both (IsThere links) (IsPairBefore p) ps t.1 o.0), distinct_there links ps t.1 o.1)
 
--- pairs that are linked are at places of their own
+-- the listed pairs are at different places
 pub listed_distinct : (heads : List ℕ) (links : List Link) (shift : ℕ) → AreLinked heads links shift → IsDistinct same_place (listed_pairs heads links)
 listed_distinct heads links shift a = distinct_there links (listed_pairs heads links) (all_there heads links shift a) (all_in_order heads links shift a)
 

@@ -1,4 +1,4 @@
--- Linked parts, as pairs come in and go.
+-- The linked parts after pairs are inserted and removed.
 use Rattle.std.proofs.Common.{ltb, ◌||◌, ℕ, ◌+◌, ◌<◌, ◌≤◌, ◌≡◌, ◌≢◌, Bool, true, false, not, cond, eqb, leb, List, [], ◌∷◌, length, filter, map, refl, sym, ◌∙◌, ap, subst, arith, Option, None, Some, inl, inr, ◌⊎◌}
 use Rattle.std.proofs.lemmas.Bool.{cases_lt, eq-eqb, ne_eqb, eqb-true, eqb-false, true≢false}
 use Rattle.std.proofs.lemmas.Bool.Decides.{nat_tests}
@@ -12,7 +12,7 @@ use Rattle.sat_checker.proofs.lemmas.pairs.Order.{all_weaker, all_both, all_filt
 use Rattle.sat_checker.proofs.lemmas.pairs.Parts.{Tops, joined_same, all_joined, order_joined, places_joined}
 use Rattle.sat_checker.proofs.lemmas.pairs.Walks.{IsThere, leads_there, there_apart, chain_is}
 
--- what is linked so is what the heads list
+-- if every part is a chain of links, the heads and links list exactly these parts
 module _ (heads : List ℕ) (links : List Link) (shift : ℕ) (few : length links ≤ nowhere) (parts : ℕ → List Pair)
     (each : (top : ℕ) → top < length heads → IsPairChain links shift (length heads) top (head_at heads top) (parts top)) where
   pub part_is : (top : ℕ) → top < length heads → part_at heads links top ≡ parts top
@@ -34,7 +34,7 @@ module _ (heads : List ℕ) (links : List Link) (shift : ℕ) (a : AreLinked hea
   pub all_in_order : AreInOrder (listed_pairs heads links)
   all_in_order = order_joined shift (length heads) (part_at heads links) (length heads) (λ top l. ((a.parts top l).in_order, (a.parts top l).tops))
 
--- links that change where no pair stands
+-- links may change at places where no pair is
 pub leads_same : (links new : List Link) (at : ℕ) (ps : List Pair) → LinksPairs links at ps → length links ≤ length new → AllByRecursion (λ p. link_at new p.place ≡ link_at links p.place) ps → LinksPairs new at ps
 leads_same links new at [] h l s = h
 leads_same links new at (p ∷ ps) h l s = (
@@ -45,7 +45,7 @@ leads_same links new at (p ∷ ps) h l s = (
     here : link_at new at ≡ link_at links at
     here = let e : p.place ≡ at = ap (λ (q : Pair). q.place) h.0.is in ap (link_at new) (sym e) ∙ s.0 ∙ ap (link_at links) e
 
--- a link after the others, and one that leads there
+-- a link was appended, and the place `before` links to it
 pub record IsRelinked (links new : List Link) (hash before : ℕ) : Type 0 where
   pub longer : length new ≡ length links + 1
   pub same : (x : ℕ) → x < length links → x ≢ before → link_at new x ≡ link_at links x
@@ -71,11 +71,11 @@ up_to_none h ps k = filter_none (λ p. leb p.hash h) ps (all_weaker (λ p. h < p
     no : (a b : ℕ) → b < a → leb a b ≡ false
     no a b k = grind (arith, nat_tests)
 
--- all after a pair that is past are past
+-- if a pair is past a hash, so are all later pairs
 all_past : (h : ℕ) (p : Pair) (ps : List Pair) → AreInOrder (p ∷ ps) → h < p.hash → AllByRecursion (λ q. h < q.hash) (p ∷ ps)
 all_past h p ps o l = (l, all_weaker (IsPairBefore p) (λ q. h < q.hash) (λ q b. let k : p.hash ≤ q.hash = b.hash in omega arith) ps o.0)
 
--- none is up to the hash, or the first one is
+-- if no pair is up to the hash, all pairs are past it
 none_up_to : (h : ℕ) (ps : List Pair) → AreInOrder ps → up_to h ps ≡ [] → AllByRecursion (λ q. h < q.hash) ps
 none_up_to h [] o e = tt
 none_up_to h (p ∷ ps) o e = elim (cases_lt h p.hash) [
@@ -141,7 +141,7 @@ link_after links new at h b (p ∷ ps) l o e r = elim (cases_lt h p.hash) [
           subst (λ (k : Link). LinksPairs new k.next (inserted (new_pair links h) ps)) (sym here) (ih is),
         )
 
--- a new pair before all others of its top
+-- a new pair before all others of its part
 pub link_first : (links new : List Link) (at h : ℕ) (ps : List Pair) → LinksPairs links at ps → AreInOrder ps → last_or None (up_to h ps) ≡ None → length new ≡ length links + 1 → ((x : ℕ) → x < length links → link_at new x ≡ link_at links x)
     → link_at new (length links) ≡ record { hash = h; next = at } → LinksPairs new (length links) (inserted (new_pair links h) ps)
 link_first links new at h ps l o e longer same last =
@@ -158,7 +158,7 @@ link_first links new at h ps l o e longer same last =
     empty [] k = refl
     empty (p ∷ u) k = absurd (some p u k)
 
--- what a place before another is
+-- what holds for all places holds for the place before another one
 pub before_member : (P : ℕ → Type 0) (x b : ℕ) (ps : List Pair) → place_before x ps ≡ Some b → AllByRecursion (λ (p : Pair). P p.place) ps → P b
 before_member P x b [] e h = absurd cc
 before_member P x b (p ∷ []) e h = absurd cc
@@ -189,7 +189,7 @@ without_head x p ps e h = ap (λ b. cond (not b) (p ∷ without_pair x ps) (with
 without_tail : (x : ℕ) (p : Pair) (ps : List Pair) → p.place ≢ x → without_pair x (p ∷ ps) ≡ p ∷ without_pair x ps
 without_tail x p ps n = ap (λ b. cond (not b) (p ∷ without_pair x ps) (without_pair x ps)) (ne_eqb p.place x n)
 
--- a link that leads past a place
+-- the place `before` now links to the place after the removed one
 pub record IsUnlinked (links new : List Link) (place before : ℕ) : Type 0 where
   pub count : length new ≡ length links
   pub same : (x : ℕ) → x ≢ before → link_at new x ≡ link_at links x
@@ -239,14 +239,14 @@ unlink links new at x b (p ∷ q ∷ qs) l o e r = go (eqb q.place x) refl e (λ
         subst (LinksPairs new at) (sym (without_tail x p (q ∷ qs) px))
         (record { inside = inside; is = l.0.is ∙ ap (λ (y : Link). record { hash = y.hash; place = at }) (sym here) }, subst (λ (y : Link). LinksPairs new y.next (without_pair x (q ∷ qs))) (sym here) (ih k))
 
--- the first one goes
+-- the first pair is removed
 pub unlink_first : (links : List Link) (x : ℕ) (ps : List Pair) → length links ≤ nowhere → x < length links → LinksPairs links x ps → AreInOrder ps → LinksPairs links (link_at links x).next (without_pair x ps)
 unlink_first links x [] f i l o = absurd (omega (arith, l))
 unlink_first links x (p ∷ ps) f i l o =
     let place : p.place ≡ x = ap (λ (y : Pair). y.place) l.0.is in
     subst (LinksPairs links (link_at links x).next) (sym (without_head x p ps place (subst (λ y. AllByRecursion (λ z. z.place ≢ y) ps) place (apart_after links x p ps l o)))) l.1
 
--- none goes
+-- no pair is removed
 pub unlink_none : (links : List Link) (at x : ℕ) (ps : List Pair) → LinksPairs links at ps → at ≢ x → place_before x ps ≡ None → without_pair x ps ≡ ps
 unlink_none links at x [] l n e = refl
 unlink_none links at x (p ∷ ps) l n e = without_none x (p ∷ ps) ((λ s. n (sym (ap (λ (y : Pair). y.place) l.0.is) ∙ s)), never_before x p ps e)
@@ -274,7 +274,7 @@ member_above x y (z ∷ zs) k e = pick (eqb z x) refl e (λ k'. member_above x y
     pick true d e' ih = subst (λ w. y < w) (eqb-true z x d) k.0
     pick false d e' ih = ih e'
 
--- the links after a place of a hash lead over the others of the hash after it
+-- the links after a place list the later places of its hash
 pub walk_after : (links : List Link) (at h x : ℕ) (ps : List Pair) → length links ≤ nowhere → length ps ≤ length links → LinksPairs links at ps → AreInOrder ps → is_among (places_in h ps) x ≡ true
     → IsWalk links (link_at links x).next × (places_after x (places_in h ps) ≡ places_in h (rest links (link_at links x).next))
 walk_after links at h x [] f s l o m = absurd (true≢false (sym m))
@@ -330,7 +330,7 @@ module _ (heads : List ℕ) (links : List Link) (shift : ℕ) (a : AreLinked hea
   pub places_part : (top : ℕ) → top < length heads → top_of shift (length heads) h ≡ top → places_in h (listed_pairs heads links) ≡ places_in h (part_at heads links top)
   places_part top l t = places_joined shift (length heads) (part_at heads links) h (length heads) (omega (arith, l, t)) (tops_of heads links shift a) ∙ ap (λ s. places_in h (part_at heads links s)) t
 
-  -- a place of the hash is there, and the links after it lead over the others of the hash after it
+  -- the place exists, and the links after it list the later places of its hash
   pub next_of : (x : ℕ) → is_among (places_in h (listed_pairs heads links)) x ≡ true → (x < length links) × IsWalk links (link_at links x).next × (places_after x (places_in h (listed_pairs heads links)) ≡ places_in h (rest links (link_at links x).next))
   next_of x m = go (cases_lt (top_of shift (length heads) h) (length heads))
     where

@@ -1,11 +1,11 @@
--- No two hashes are mixed to one.
+-- Mixing is injective: different hashes have different mixed hashes.
 use Rattle.std.proofs.Common.{ℕ, zero, ◌+◌, ◌*◌, ◌/◌, ◌%◌, ◌^◌, ◌<◌, ◌≡◌, Bool, true, false, eqb, refl, sym, ◌∙◌, ap, arith, pow_pos}
 use Rattle.std.proofs.lemmas.Bool.{eq-eqb, ne_eqb, eqb-true, eqb-false}
 use Rattle.std.proofs.lemmas.Nat.{mod-mul-add, div-mul-add, mul-mod_first, div-add-mod'}
 use Rattle.std.proofs.Math.Nat.{mod-lt, div-eq_of_lt, add-mul-mod_self_right, mul_assoc, mul-add}
 use Rattle.sat_checker.specs.inner.PairView.{mixed}
 
--- a factor that has an inverse, over any modulus
+-- multiplying by a factor that has an inverse modulo `w`
 module _ (w k inverse over : ℕ) (some : zero < w) (one : k * inverse ≡ 1 + over * w) where
   pub spread : ℕ → ℕ
   spread h = h * k % w + h / w * w

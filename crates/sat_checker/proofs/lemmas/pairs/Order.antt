@@ -1,4 +1,4 @@
--- Lists of pairs in order, as pairs come in and go.
+-- Lists of pairs in order, as pairs are inserted and removed.
 use Rattle.std.proofs.Common.{ℕ, ◌+◌, ◌<◌, ◌≤◌, ◌≡◌, ◌≢◌, Bool, true, false, cond, eqb, List, [], ◌∷◌, ◌++◌, map, filter, length, refl, sym, ◌∙◌, ap, subst, arith, inl, inr}
 use Rattle.std.proofs.lemmas.Bool.{cases_lt, ne_eqb, eqb-true}
 use Rattle.std.proofs.lemmas.Bool.Decides.{nat_tests}
@@ -62,7 +62,7 @@ order_filter t (p ∷ ps) o = go (t p) (order_filter t ps o.1)
     go true ih = (all_filter (IsPairBefore p) t ps o.0, ih)
     go false ih = ih
 
--- the test decides
+-- `is_before` decides the order of pairs
 pub is-before : (p q : Pair) → IsPairBefore p q → is_before p q ≡ true
 is-before p q b = let h = b.hash in let k = b.place in grind (arith, nat_tests)
 
@@ -82,7 +82,7 @@ not-before p q b = go (is_before p q) refl
         let same : p.hash ≡ q.hash = omega arith in
         let one : p.place < q.place = f.place same in let two : q.place < p.place = b.place (sym same) in absurd (omega arith)
 
--- before all of them
+-- a pair that is before all others is inserted first
 pub inserted_first : (p : Pair) (ps : List Pair) → AllByRecursion (IsPairBefore p) ps → inserted p ps ≡ p ∷ ps
 inserted_first p [] h = refl
 inserted_first p (q ∷ qs) h = ap (λ b. cond b (p ∷ q ∷ qs) (q ∷ inserted p qs)) (is-before p q h.0)
@@ -134,11 +134,11 @@ length_filter t (p ∷ ps) = go (t p) (length_filter t ps)
     go true ih = omega arith
     go false ih = omega arith
 
--- places of a hash that all pairs are past
+-- if all pairs are past a hash, it has no places
 pub places_past : (h : ℕ) (ps : List Pair) → AllByRecursion (λ p. h < p.hash) ps → places_in h ps ≡ []
 places_past h ps a = ap (map (λ (p : Pair). p.place)) (filter_none (λ p. eqb p.hash h) ps (all_weaker (λ p. h < p.hash) (λ p. eqb p.hash h ≡ false) (λ p l. ne_eqb p.hash h (λ e. omega arith)) ps a))
 
--- a pair that comes in stands after the others of its hash
+-- a pair at a later place is inserted after the others of its hash
 pub places_inserted : (q : ℕ) (p : Pair) (ps : List Pair) → AreInOrder ps → AllByRecursion (λ x. x.place < p.place) ps → places_in q (inserted p ps) ≡ cond (eqb q p.hash) (places_in q ps ++ p.place ∷ []) (places_in q ps)
 places_inserted q p [] o l = ap (λ b. map (λ (x : Pair). x.place) (cond b (p ∷ []) [])) (eqb_flip p.hash q) ∙ go (eqb q p.hash)
   where

@@ -1,4 +1,4 @@
--- Parts of one list, each with the pairs of one top.
+-- A list of pairs in parts, each with the pairs of one top.
 use Rattle.std.proofs.Common.{ℕ, zero, suc, ◌+◌, ◌*◌, ◌/◌, ◌^◌, ◌<◌, ◌≤◌, ◌≡◌, ◌≢◌, Bool, false, eqb, List, [], ◌++◌, map, filter, length, refl, sym, ◌∙◌, ap, subst, arith, length-append, inl, inr, ◌⊎◌, pow_pos}
 use Rattle.std.proofs.lemmas.Bool.{cases_lt, ne_eqb}
 use Rattle.std.proofs.lemmas.List.{append-nil}
@@ -41,7 +41,7 @@ all_part P f (suc n) s l h = go (λ k. all_part P f n s k (all_left P (joined f 
     go ih (inl k) = ih k
     go ih (inr k) = subst (λ t. AllByRecursion P (f t)) (let e : n ≡ s = omega arith in e) (all_right P (joined f n) (f n) h)
 
--- a higher top is that of a higher hash
+-- a higher top means a higher hash
 div_mono : (a b k : ℕ) → 0 < k → a ≤ b → a / k ≤ b / k
 div_mono a b k p l = let m : a / k * k ≤ a = div-mul-le_self a k in le-div (a / k) b k p (omega arith)
 
@@ -95,7 +95,7 @@ module _ (shift count : ℕ) where
     pub places_joined : (q n : ℕ) → top_of shift count q < n → ((s : ℕ) → s < n → Tops s (f s)) → places_in q (joined f n) ≡ places_in q (f (top_of shift count q))
     places_joined q n l h = ap (map (λ (p : Pair). p.place)) (found_joined q n l h)
 
-    -- a pair comes in where the part of its top has it
+    -- inserting a pair into its part inserts it into the joined list
     pub inserted_joined : (p : Pair) (n top : ℕ) → top < n → top_of shift count p.hash ≡ top → ((s : ℕ) → s < n → Tops s (f s)) → (g : ℕ → List Pair) → ((s : ℕ) → s < n → s ≢ top → g s ≡ f s) → g top ≡ inserted p (f top) → joined g n ≡ inserted p (joined f n)
     inserted_joined p zero top l t h g other here = absurd (omega arith)
     inserted_joined p (suc n) top l t h g other here = go (λ k. inserted_joined p n top k t (λ s j. h s (omega arith)) g (λ s j. other s (omega arith)) here) (cases_lt top n)

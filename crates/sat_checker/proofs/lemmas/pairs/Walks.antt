@@ -1,4 +1,4 @@
--- Walks over pairs that are linked by their places.
+-- Walks over pairs linked by their places.
 use Rattle.std.proofs.Common.{ℕ, zero, suc, ◌<◌, ◌≤◌, ◌≡◌, ◌≢◌, Bool, true, false, cond, eqb, leb, ltb, List, [], ◌∷◌, length, filter, map, refl, sym, ◌∙◌, ap, subst, arith, Option, None, Some, inl, inr}
 use Rattle.std.proofs.lemmas.Bool.{eq-eqb, ne_eqb, eqb-true, or_cases, true≢false}
 use Rattle.std.proofs.lemmas.Bool.Decides.{nat_tests}
@@ -10,7 +10,7 @@ use Rattle.sat_checker.specs.declared.store.links.Pair.{Pair}
 use Rattle.sat_checker.specs.declared.store.links.Link.{Link}
 use Rattle.sat_checker.proofs.lemmas.pairs.Order.{all_weaker, filter_none, places_past}
 
--- a pair stands at its place
+-- the link at the pair's place has the pair's hash
 pub record IsThere (links : List Link) (p : Pair) : Type 0 where
   pub inside : p.place < length links
   pub hash : p.hash ≡ (link_at links p.place).hash
@@ -53,7 +53,7 @@ length_chain links (suc n) at = go (eqb at nowhere) (length_chain links n (link_
     go true ih = omega arith
     go false ih = omega arith
 
--- the chain is what the links lead over
+-- the chain lists exactly the pairs that are linked
 pub chain_is : (links : List Link) → length links ≤ nowhere → (n at : ℕ) (ps : List Pair) → LinksPairs links at ps → length ps ≤ n → chain links n at ≡ ps
 chain_is links few n at [] h l = chain_end links n at h
 chain_is links few zero at (p ∷ ps) h l = absurd (omega arith)
@@ -61,7 +61,7 @@ chain_is links few (suc n) at (p ∷ ps) h l =
     ap (λ b. cond b [] (pair_at links at ∷ chain links n (link_at links at).next)) (ne_eqb at nowhere (λ e. let i : at < length links = h.0.inside in omega arith))
     ∙ ap (λ qs. pair_at links at ∷ qs) (chain_is links few n (link_at links at).next ps h.1 (omega arith)) ∙ ap (λ q. q ∷ ps) (sym h.0.is)
 
--- one step of a walk
+-- one step of a walk: the pair at this place, and the pairs after it
 pub record IsStep (links : List Link) (at : ℕ) : Type 0 where
   pub inside : at < length links
   pub head : rest links at ≡ pair_at links at ∷ rest links (link_at links at).next

@@ -1,4 +1,4 @@
--- What it takes to assume the negation of a clause, and that the check is then exact.
+-- The literals after a clause's negation is assumed, and that the check is then exact.
 use Rattle.std.proofs.Common.{length, take, drop, get_or, ap, ◌<◌, ◌+◌, ◌↔◌, ℕ, ◌≡◌, Bool, true, false, cond, eqb, List, [], ◌∷◌, ◌++◌, map, refl, sym, ◌∙◌, subst, Some, None, ◌⊎◌, inl, inr, MatchBool}
 use Rattle.std.proofs.lemmas.Bool.{or_cases, or_left, or_right, or_from, both_ways, eqb-true, eq-eqb, true≢false, false_from_ne_true}
 use Rattle.std.specs.List.{AllByRecursion, list_any}
@@ -13,11 +13,11 @@ use Rattle.std.proofs.lemmas.List.{length-map, map-append, map-id, get_or-map, t
 use Rattle.sat_checker.proofs.lemmas.propagation.Walking.{Extends-itself, Extends-assumed}
 use Rattle.sat_checker.proofs.lemmas.propagation.Greedy.{Within, rule_from_walk, walk_from_rule}
 
--- the assumed literals once l is denied
+-- the assumed literals after the negation of `l` is assumed
 abbrev with_denied : List ℕ → ℕ → List ℕ
 with_denied assumed l = cond (is_among assumed (negated l)) assumed (negated l ∷ assumed)
 
--- they are the old ones and the negation
+-- they are the earlier ones and the negation of `l`
 pub denied_among : (assumed : List ℕ) (l m : ℕ) → is_among (with_denied assumed l) m ≡ true → (m ≡ negated l) ⊎ (is_among assumed m ≡ true)
 denied_among assumed l m = go (is_among assumed (negated l))
   where
@@ -32,7 +32,7 @@ among_denied assumed l m = go (is_among assumed (negated l)) refl
     go true e h = elim h [ inl s ↦ subst (λ x. is_among assumed x ≡ true) (sym s) e | inr k ↦ k ]
     go false e h = elim h [ inl s ↦ or_left (eqb (negated l) m) (is_among assumed m) (eq-eqb (negated l) m (sym s)) | inr k ↦ or_right (eqb (negated l) m) (is_among assumed m) k ]
 
--- one of the list that is in a list with one more is the new one or in the list
+-- if a literal is true after `l` is denied, it is the negation of `l` or was true before
 any_denied : (assumed : List ℕ) (l : ℕ) (ls : List ℕ) → list_any (is_among (with_denied assumed l)) ls ≡ true → (is_among ls (negated l) ≡ true) ⊎ (list_any (is_among assumed) ls ≡ true)
 any_denied assumed l [] h = absurd (true≢false (sym h))
 any_denied assumed l (m ∷ ms) h =
@@ -41,7 +41,7 @@ any_denied assumed l (m ∷ ms) h =
       | inr k ↦ elim (any_denied assumed l ms k) [ inl e ↦ inl (or_right (eqb m (negated l)) (is_among ms (negated l)) e) | inr a ↦ inr (or_right (is_among assumed m) (list_any (is_among assumed) ms) a) ]
     ]
 
--- a literal was true: a unit or both signs
+-- if a literal was true, a unit satisfies the clause or it is a tautology
 pub denied_none : (clause assumed : List ℕ) → denied_in_turn assumed clause ≡ None → (list_any (is_among assumed) clause ≡ true) ⊎ (is_tautology clause ≡ true)
 denied_none [] assumed e = absurd cc
 denied_none (l ∷ ls) assumed e = go (denied_none ls) (is_among assumed l) refl e
@@ -54,7 +54,7 @@ denied_none (l ∷ ls) assumed e = go (denied_none ls) (is_among assumed l) refl
           | inr t ↦ inr (or_right (is_among ls (negated l)) (is_tautology ls) t)
         ]
 
--- what is known once all negations are assumed
+-- exactly the negations and the earlier literals are assumed; no unit satisfies the clause, which is no tautology
 pub record Denied (assumed clause more : List ℕ) : Type 0 where
   pub enough : Within (map negated clause ++ assumed) more
   pub only : Within more (map negated clause ++ assumed)
@@ -77,7 +77,7 @@ append_among (x ∷ xs) ys m h =
       | inr b ↦ or_right (eqb x m) (is_among (xs ++ ys) m) (append_among xs ys m (inr b))
     ]
 
--- a member shows that one passes
+-- `list_any` is true if a member passes the test
 any_member : (test : ℕ → Bool) (ls : List ℕ) (l : ℕ) → is_among ls l ≡ true → test l ≡ true → list_any test ls ≡ true
 any_member test [] l m t = absurd (true≢false (sym m))
 any_member test (x ∷ xs) l m t =
@@ -123,7 +123,7 @@ denied_some (l ∷ ls) assumed more e = go (λ m. denied_some ls m more) (is_amo
               d.no_tautology;
         }
 
--- the check says yes exactly by the rule
+-- the check accepts exactly by the rule
 pub passes_when_true : (units clause : List ℕ) (buckets : List (List (List ℕ))) → denied_in_turn units clause ≡ None → PassesCheck units clause buckets
 passes_when_true units clause buckets e = elim (denied_none clause units e) [ inl u ↦ unit_true u | inr t ↦ tautology t ]
 
@@ -144,18 +144,18 @@ pub exact_when_walked : (units clause more : List ℕ) (buckets : List (List (Li
 exact_when_walked units clause more buckets answer sets e w =
     ((λ t. passes_when_walked units clause more buckets sets e (sym w ∙ t)), (λ p. w ∙ walked_when_passes units clause more buckets sets e p))
 
--- a clause of negations is a map
+-- the signed clause, as a map over its literals
 pub clause_is_map : (negate : Bool) (ls : List ℕ) → signed negate ls ≡ map (negated_if negate) ls
 clause_is_map true ls = refl
 clause_is_map false ls = sym (map-id ls)
 
--- it has one literal more, after those before
+-- the prefix of the signed clause with one more literal
 pub clause_more : (negate : Bool) (ls : List ℕ) (i d : ℕ) → i < length ls → signed negate (take (i + 1) ls) ≡ signed negate (take i ls) ++ negated_if negate (get_or ls i d) ∷ []
 clause_more negate ls i d h =
     clause_is_map negate (take (i + 1) ls) ∙ ap (map (negated_if negate)) (take_more ls i d h) ∙ map-append (negated_if negate) (take i ls) (get_or ls i d ∷ [])
     ∙ ap (λ xs. xs ++ negated_if negate (get_or ls i d) ∷ []) (sym (clause_is_map negate (take i ls)))
 
--- and the rest after
+-- a prefix of the signed clause and the rest are the entire clause
 pub clause_split : (negate : Bool) (ls : List ℕ) (i : ℕ) → signed negate (take i ls) ++ signed negate (drop i ls) ≡ signed negate ls
 clause_split true ls i = sym (map-append negated (take i ls) (drop i ls)) ∙ ap (map negated) (take-append-drop i ls)
 clause_split false ls i = take-append-drop i ls
@@ -164,7 +164,7 @@ clause_length : (negate : Bool) (ls : List ℕ) → length (signed negate ls) �
 clause_length true ls = length-map ls negated
 clause_length false ls = refl
 
--- the next literal of a clause, by what is assumed of it and of its negation
+-- the next literal of the clause, given whether it or its negation is assumed
 module _ (negate : Bool) (ls : List ℕ) (i d x : ℕ) (inside : i < length ls) (is : x ≡ negated_if negate (get_or ls i d)) (assumed : List ℕ) where
   next : drop i (signed negate ls) ≡ x ∷ drop (i + 1) (signed negate ls)
   next =
@@ -180,7 +180,7 @@ module _ (negate : Bool) (ls : List ℕ) (i d x : ℕ) (inside : i < length ls) 
   pub denied-new : is_among assumed x ≡ false → is_among assumed (negated x) ≡ false → denied_in_turn assumed (drop i (signed negate ls)) ≡ denied_in_turn (negated x ∷ assumed) (drop (i + 1) (signed negate ls))
   denied-new f t = rw next (rw (f, t) refl)
 
-  -- the negation is assumed, unless it was
+  -- the negation is assumed, unless it already was
   pub denied_once : (n : ℕ) (first mid new : LiteralsAndRoom) → mid.literals ≡ assumed → is_among mid.literals x ≡ false → n ≡ negated x → AssumesOnce n mid new → AssumesMore first mid
       → (denied_in_turn mid.literals (drop i (signed negate ls)) ≡ denied_in_turn new.literals (drop (i + 1) (signed negate ls))) × AssumesMore first new
   denied_once n first mid new a f e h more = go (is_among mid.literals n) refl h

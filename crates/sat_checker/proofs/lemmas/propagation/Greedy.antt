@@ -1,4 +1,4 @@
--- The greedy walk meets a conflict exactly where some of the clauses are unit in turn, the last falsified.
+-- The greedy walk meets a conflict exactly if some of the clauses are unit in turn, the last falsified.
 use Rattle.std.proofs.Common.{ℕ, ◌≡◌, ◌≢◌, Bool, true, false, not, ◌||◌, cond, eqb, List, [], ◌∷◌, ◌++◌, refl, sym, ◌∙◌, ap, subst, Option, Some, None, ◌⊎◌, inl, inr}
 use Rattle.std.proofs.lemmas.Bool.{or_cases, or_left, or_right, both_ways, eqb-true, eq-eqb, true≢false}
 use Rattle.std.specs.List.{AllByRecursion}
@@ -11,7 +11,7 @@ use Rattle.sat_checker.specs.inner.Walk.{opens, rests, verdict, verdict_of_open,
 abbrev IsFalse : List ℕ → ℕ → Type 0
 IsFalse assumed l = is_among assumed (negated l) ≡ true
 
--- no literal is left open: all are false
+-- if no literal is left, all literals are false
 none_open : (assumed clause : List ℕ) → not_false assumed clause ≡ [] → IsFalsified assumed clause
 none_open assumed [] e = tt
 none_open assumed (l ∷ ls) e = go (none_open assumed ls) (is_among assumed (negated l)) refl e
@@ -24,7 +24,7 @@ all_false : (assumed clause : List ℕ) → IsFalsified assumed clause → not_f
 all_false assumed [] h = refl
 all_false assumed (l ∷ ls) h = rw h.0 (all_false assumed ls h.1)
 
--- one literal is left open
+-- exactly one literal is not false
 record OneOpen (assumed clause : List ℕ) (o : ℕ) : Type 0 where
   within : is_among clause o ≡ true
   not_false : is_among assumed (negated o) ≡ false
@@ -49,12 +49,12 @@ one_open assumed (l ∷ ls) o e = go (one_open assumed ls o) (is_among assumed (
           others = (inl same, others_from assumed ls o (none_open assumed ls rest));
         }
 
--- with all literals but one false, and none twice, that one alone can be left
+-- if a disjunction is false, so is its second part
 or_none : (x y : Bool) → (x || y) ≡ false → y ≡ false
 or_none true y e = absurd cc
 or_none false y e = e
 
--- where o isn't in the clause, each literal is false
+-- if all literals but `o` are false, at most `o` is left, and none if `o` is not in the clause
 away : (assumed : List ℕ) (o : ℕ) (ms : List ℕ) → is_among ms o ≡ false → AllByRecursion (λ m. (m ≡ o) ⊎ IsFalse assumed m) ms → IsFalsified assumed ms
 away assumed o [] k a = tt
 away assumed o (m ∷ ms) k a = (
@@ -74,12 +74,12 @@ only_open assumed (l ∷ ls) o n h = go (only_open assumed ls o n.1 h.1) (is_amo
       | inr f ↦ absurd (both_ways (is_among assumed (negated l)) e f)
     ]
 
--- what is left out of a longer list
+-- a subsequence of a list is a subsequence of a longer list
 IsSubsequence-longer : (xs : List (List ℕ)) (y : List ℕ) (ys : List (List ℕ)) → IsSubsequence xs ys → IsSubsequence xs (y ∷ ys)
 IsSubsequence-longer [] y ys h = tt
 IsSubsequence-longer (x ∷ xs) y ys h = inr h
 
--- what holds of each of a list holds of each of those that are picked
+-- what holds for all members of a list holds for a subsequence
 pub picked_each : (P : List ℕ → Type 0) (xs ys : List (List ℕ)) → IsSubsequence xs ys → AllByRecursion P ys → AllByRecursion P xs
 picked_each P [] ys s h = tt
 picked_each P (x ∷ xs) [] s h = absurd s
@@ -90,7 +90,7 @@ record Runs (assumed : List ℕ) (clauses : List (List ℕ)) : Type 0 where
   chosen : IsSubsequence picked clauses
   conflict : UnitInTurn assumed picked
 
--- one more clause in front, which is unit
+-- a unit clause can be put before clauses that are unit in turn once its literal is assumed
 unit_first : (assumed clause : List ℕ) (o : ℕ) (rest : List (List ℕ)) → IsUnit assumed clause o → Runs (o ∷ assumed) rest → Runs assumed (clause ∷ rest)
 unit_first assumed clause o rest u r = go r.picked r.chosen r.conflict
   where
@@ -98,7 +98,7 @@ unit_first assumed clause o rest u r = go r.picked r.chosen r.conflict
     go [] s c = absurd c
     go (d ∷ ds) s c = record { picked = clause ∷ d ∷ ds; chosen = inl (refl, s); conflict = (o, u, c) }
 
--- where the walk meets a conflict, some of the clauses run to one
+-- if the walk meets a conflict, some of the clauses are unit in turn, the last falsified
 walk_runs : (clauses : List (List ℕ)) (assumed : List ℕ) → walk assumed clauses ≡ None → Runs assumed clauses
 walk_runs [] assumed e = absurd cc
 walk_runs (c ∷ cs) assumed e = by_open (walk_runs cs) (not_false assumed c) refl e
@@ -143,7 +143,7 @@ others_more : (xs ys clause : List ℕ) (o : ℕ) → Within xs ys → AllByRecu
 others_more xs ys [] o h f = tt
 others_more xs ys (l ∷ ls) o h f = (elim f.0 [ inl e ↦ inl e | inr k ↦ inr (h.each (negated l) k) ], others_more xs ys ls o h f.1)
 
--- how the walk goes on from a clause, by what the clause leaves open
+-- how the walk continues after a clause, given its literals that are not false
 abbrev from_open : List ℕ → List (List ℕ) → List ℕ → Option (List ℕ)
 from_open assumed rest ls = and_then (walk_on (verdict_of_open assumed ls) assumed) (λ more. walk more rest)
 
@@ -157,7 +157,7 @@ walk_opened assumed clause rest o e had new = ap (from_open assumed rest) e ∙ 
     go true h = had h
     go false h = new h
 
--- whatever a clause does, the walk goes on with as many literals or more
+-- if the rest of the walk meets a conflict under any superset of the literals, so does the entire walk
 walk_past : (assumed clause : List ℕ) (rest : List (List ℕ)) → ((more : List ℕ) → Within assumed more → walk more rest ≡ None) → walk assumed (clause ∷ rest) ≡ None
 walk_past assumed clause rest next = go (not_false assumed clause) refl
   where
@@ -166,7 +166,8 @@ walk_past assumed clause rest next = go (not_false assumed clause) refl
     go (o ∷ []) e = walk_opened assumed clause rest o e (λ h. next assumed (Within-itself assumed)) (λ h. next (o ∷ assumed) (Within-one_more assumed o))
     go (o ∷ p ∷ ls) e = ap (from_open assumed rest) e ∙ next assumed (Within-itself assumed)
 
--- where some of the clauses run to a conflict, the walk meets one, also with more literals assumed
+-- if some of the clauses are unit in turn, the last falsified, the walk meets a conflict
+-- even under more assumed literals
 walk_finds : (clauses : List (List ℕ)) (fewer more : List ℕ) → Within fewer more → AllByRecursion NoRepeats clauses → (named : List (List ℕ)) → IsSubsequence named clauses → UnitInTurn fewer named → walk more clauses ≡ None
 walk_finds clauses fewer more w n [] s r = absurd r
 walk_finds [] fewer more w n (x ∷ xs) s r = absurd s
@@ -196,7 +197,7 @@ walk-append (c ∷ cs) ys assumed = go (walk-append cs ys) (walk_on (verdict ass
     go ih None = refl
     go ih (Some m) = ih m
 
--- the front of the buckets that the walk went over
+-- the buckets that the walk visited, none of them empty, up to its conflict
 record Front (assumed : List ℕ) (buckets : List (List (List ℕ))) : Type 0 where
   first : List (List (List ℕ))
   rest : List (List (List ℕ))
@@ -231,14 +232,14 @@ walk_over ((c ∷ cs) ∷ fs) rest assumed n e = go (λ m. walk_over fs rest m n
     go ih None e' = refl
     go ih (Some m) e' = ih m e'
 
--- what the walk finds is a conflict by the rule
+-- a conflict that the walk meets is a conflict by the rule
 pub rule_from_walk : (assumed : List ℕ) (buckets : List (List (List ℕ))) → walk_buckets assumed buckets ≡ true → LeadToConflict assumed buckets
 rule_from_walk assumed buckets e =
     let f = walk_front buckets assumed e in
     let r = walk_runs (clauses_in f.first) assumed f.met in
     record { first = f.first; rest = f.rest; picked = r.picked; split = f.split; none_empty = f.none_empty; chosen = r.chosen; conflict = r.conflict }
 
--- what holds of each clause of all buckets holds of each of the first ones
+-- what holds for the clauses of all buckets holds for those of the first buckets
 pub joined_front : (P : List ℕ → Type 0) (first rest : List (List (List ℕ))) → AllByRecursion (AllByRecursion P) (first ++ rest) → AllByRecursion P (clauses_in first)
 joined_front P [] rest h = tt
 joined_front P (b ∷ bs) rest h = both b (clauses_in bs) h.0 (joined_front P bs rest h.1)
@@ -247,7 +248,7 @@ joined_front P (b ∷ bs) rest h = both b (clauses_in bs) h.0 (joined_front P bs
     both [] ys p q = q
     both (x ∷ xs) ys p q = (p.0, both xs ys p.1 q)
 
--- and a conflict by the rule is last_literals, also with more literals assumed
+-- if there is a conflict by the rule, the walk meets one, even under more assumed literals
 pub walk_from_rule : (fewer more : List ℕ) (buckets : List (List (List ℕ))) → Within fewer more → AllByRecursion (AllByRecursion NoRepeats) buckets → LeadToConflict fewer buckets → walk_buckets more buckets ≡ true
 walk_from_rule fewer more buckets w n h =
     let n' : AllByRecursion (AllByRecursion NoRepeats) (h.first ++ h.rest) = subst (AllByRecursion (AllByRecursion NoRepeats)) h.split n in

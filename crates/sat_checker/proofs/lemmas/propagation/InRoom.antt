@@ -1,4 +1,4 @@
--- The check where there isn't room for all literals that it assumes: no clause of the buckets has those without room.
+-- The check is exact without the literals that have no room, because no clause of the buckets has them.
 use Rattle.std.proofs.Common.{ℕ, ◌≡◌, ◌↔◌, ◌∙◌, ◌+◌, ◌<◌, Bool, true, false, ◌||◌, cond, eqb, List, [], ◌∷◌, ◌++◌, length, take, drop, get_or, map, refl, sym, ap, subst, ◌⊎◌, inl, inr}
 use Rattle.std.proofs.lemmas.Bool.{or_cases, or_left, or_right, or_parts, both_ways, eqb-true, eq-eqb, false_from_ne_true}
 use Rattle.std.proofs.lemmas.List.{map-append}
@@ -26,7 +26,7 @@ among_negations : (ls : List ℕ) (x : ℕ) → is_among (map negated ls) x ≡ 
 among_negations [] x = refl
 among_negations (l ∷ ls) x = ap (λ b. b || is_among (map negated ls) x) (negated_is l x) ∙ ap (λ b. eqb l (negated x) || b) (among_negations ls x)
 
--- the negation of a literal of the clause stands in it where that of the one that it was made of stands among those
+-- a signed literal's negation is in the signed clause exactly if the literal's negation is in the clause
 pub other_among : (negate : Bool) (ls : List ℕ) (l : ℕ) → is_among (signed negate ls) (negated (negated_if negate l)) ≡ is_among ls (negated l)
 other_among true ls l = among_negations ls (negated (negated l)) ∙ ap (is_among ls) (ap negated (negated-negated l))
 other_among false ls l = refl
@@ -66,9 +66,9 @@ tautology_front (x ∷ xs) ys h =
       | inr b ↦ or_right (is_among (xs ++ ys) (negated x)) (is_tautology (xs ++ ys)) (tautology_front xs ys b)
     ]
 
--- one literal more is denied
+-- one more literal is denied
 module _ (old mid : LiteralsAndRoom) (seen : List ℕ) (x : ℕ) (within : (l : ℕ) → is_among old.literals l ≡ true → is_among old.room l ≡ true) (denied : DeniedInRoom old seen mid) where
-  -- it is true where a unit is, or where its negation was met
+  -- a literal is true exactly if it is a unit or its negation is one of the earlier literals of the clause
   met_is : cond (is_among old.room x) (is_among mid.literals x) (is_among seen (negated x)) ≡ (is_among seen (negated x) || is_among old.literals x)
   met_is = go (is_among old.room x) refl
     where
@@ -109,7 +109,7 @@ module _ (old mid : LiteralsAndRoom) (seen : List ℕ) (x : ℕ) (within : (l : 
       swap false true a = refl
       swap false false a = refl
 
--- the literal at a place, after those that are denied already
+-- the literal at index `i`, after the earlier ones are denied
 module _ (old mid : LiteralsAndRoom) (negate : Bool) (ls before : List ℕ) (i l : ℕ) (inside : i < length ls) (is : l ≡ get_or ls i l) (front : before ≡ take i ls) (room : mid.room ≡ old.room)
     (within : (m : ℕ) → is_among old.literals m ≡ true → is_among old.room m ≡ true) (denied : DeniedInRoom old (signed negate (take i ls)) mid) where
   one_more : signed negate (take (i + 1) ls) ≡ signed negate (take i ls) ++ negated_if negate l ∷ []
@@ -134,7 +134,7 @@ module _ (old mid : LiteralsAndRoom) (negate : Bool) (ls before : List ℕ) (i l
       (denied_more old mid (signed negate (take i ls)) (negated_if negate l) within denied new (sym tested ∙ h)
       (λ m r. same m (subst (λ xs. is_among xs m ≡ true) (sym room) r) ∙ ap (λ o. eqb o m || is_among mid.literals m) e))
 
--- what leads to a conflict depends only on the literals that there is room for
+-- a conflict depends only on the literals that have room
 pub rule_same : (room us vs : List ℕ) (buckets : List (List (List ℕ))) → AgreesOn room us vs → AllByRecursion (HasClausesRoom room) buckets → LeadToConflict us buckets → LeadToConflict vs buckets
 rule_same room us vs buckets same roomy k = record {
   first = k.first;
@@ -147,7 +147,7 @@ rule_same room us vs buckets same roomy k = record {
       (picked_each (HasClauseRoom room) k.picked (clauses_in k.first) k.chosen (joined_front (HasClauseRoom room) k.first k.rest (subst (AllByRecursion (HasClausesRoom room)) k.split roomy))) k.conflict;
 }
 
--- the check without the literals that there is no room for says yes exactly by the rule
+-- the check accepts exactly by the rule, although literals without room are not assumed
 pub exact_in_room : (old new : LiteralsAndRoom) (clause : List ℕ) (buckets : List (List (List ℕ))) (answer : Bool) → AllByRecursion (AllByRecursion NoRepeats) buckets → AllByRecursion (HasClausesRoom old.room) buckets → DeniedInRoom old clause new → answer ≡ walk_buckets new.literals buckets
     → (answer ≡ true) ↔ PassesCheck old.literals clause buckets
 exact_in_room old new clause buckets answer sets roomy denied w = (

@@ -1,4 +1,4 @@
--- What passes the check depends on which literals are units, not on their order, and only on those of the clauses.
+-- Which clauses pass depends on which literals are units, not on their order, and only on those in the clauses.
 use Rattle.std.proofs.Common.{ℕ, ◌≡◌, ◌||◌, true, eqb, List, [], ◌∷◌, ◌++◌, map, sym, ◌∙◌, ap, refl, ◌⊎◌, inl, inr}
 use Rattle.std.specs.List.{AllByRecursion, list_any}
 use Rattle.sat_base.specs.values.Literals.{negated}
@@ -7,8 +7,8 @@ use Rattle.sat_checker.specs.Propagation.{IsFalsified, UnitInTurn, PassesCheck, 
 use Rattle.sat_checker.proofs.lemmas.sets.Members.{each_at}
 use Rattle.sat_checker.proofs.lemmas.sets.Order.{among-append}
 
--- Of some literals, among them both signs of those of the clauses, units that have the same members run to the same
--- conflicts.
+-- If two lists of units agree on the literals of the clauses and their negations,
+-- the same clauses are unit in turn.
 module _ (Of : ℕ → Type 0) where
   abbrev pub SameOf : List ℕ → List ℕ → Type 0
   SameOf us vs = (l : ℕ) → Of l → is_among us l ≡ is_among vs l
@@ -39,7 +39,7 @@ module _ (Of : ℕ → Type 0) where
         same_runs_of (d ∷ ds) (h.0 ∷ us) (h.0 ∷ vs) (λ l of. ap (λ b. eqb h.0 l || b) (same l of)) are.1 h.2,
       )
 
--- where units have the same members, the same clauses pass
+-- if two lists of units have the same members, the same clauses pass
 abbrev SameMembers : List ℕ → List ℕ → Type 0
 SameMembers us vs = (l : ℕ) → is_among us l ≡ is_among vs l
 

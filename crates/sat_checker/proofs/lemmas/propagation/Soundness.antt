@@ -1,4 +1,4 @@
--- What is unit in turn, the last falsified, under literals can't be true where these literals are.
+-- If assumed literals are true, clauses that are unit in turn, the last falsified, cannot all be true.
 use Rattle.std.proofs.Common.{ℕ, ◌-◌, ◌/◌, ◌%◌, ◌≡◌, Bool, true, false, not, cond, eqb, List, [], ◌∷◌, ◌++◌, map, filter, refl, sym, ◌∙◌, subst, arith, ◌⊎◌, inl, inr}
 use Rattle.std.proofs.lemmas.Bool.{cases_Bool, cases_eq, or_parts, or_cases, or_left, or_right, both_ways, eqb-true, true≢false}
 use Rattle.std.specs.List.{AllByRecursion, list_any}
@@ -17,14 +17,14 @@ not_not : (b : Bool) → b ≡ not (not b)
 not_not true = refl
 not_not false = refl
 
--- the other sign has the other value
+-- a literal's negation has the opposite value
 pub negated_value : (a : Valuation) (l : ℕ) → literal_true a (negated l) ≡ not (literal_true a l)
 negated_value a l =
     let half : negated l / 2 ≡ l / 2 = omega arith in
     let sign : negated l % 2 ≡ 1 - l % 2 = omega arith in
     rw (half, sign) (elim (cases_eq (l % 2) 0) [ inl e ↦ rw e refl | inr e ↦ let o : l % 2 ≡ 1 = omega arith in rw o (not_not (a (l / 2))) ])
 
--- what is among true literals is true
+-- a member of a list of true literals is true
 pub true_among : (a : Valuation) (ls : List ℕ) (l : ℕ) → EachTrue a ls → is_among ls l ≡ true → literal_true a l ≡ true
 true_among a [] l h e = absurd (true≢false (sym e))
 true_among a (x ∷ xs) l h e =
@@ -67,7 +67,7 @@ pub not_false : (b : Bool) → b ≡ false → not b ≡ true
 not_false true e = sym e
 not_false false e = refl
 
--- where a clause is false, the negations of its literals are true
+-- if a clause is false, the negations of its literals are true
 negations_true : (a : Valuation) (clause : List ℕ) → clause_true a clause ≡ false → EachTrue a (map negated clause)
 negations_true a [] e = tt
 negations_true a (l ∷ ls) e =
@@ -85,7 +85,7 @@ EachHolds-filter a test (c ∷ cs) h = go (EachHolds-filter a test cs h.1) (test
 EachHolds-buckets : (a : Valuation) (first rest buckets : List (List (List ℕ))) → AllByRecursion (EachHolds a) buckets → buckets ≡ first ++ rest → EachHolds a (clauses_in first)
 EachHolds-buckets a first rest buckets h e = joined_front (λ c. clause_true a c ≡ true) first rest (subst (AllByRecursion (EachHolds a)) e h)
 
--- a clause with both signs of a variable is true
+-- a clause with a true literal is true
 pub member_true : (a : Valuation) (ls : List ℕ) (l : ℕ) → is_among ls l ≡ true → literal_true a l ≡ true → clause_true a ls ≡ true
 member_true a [] l m t = absurd (true≢false (sym m))
 member_true a (x ∷ xs) l m t =
@@ -113,7 +113,7 @@ unit_in_clause a units (l ∷ ls) h e =
       | inr k ↦ or_right (literal_true a l) (clause_true a ls) (unit_in_clause a units ls h k)
     ]
 
--- a clause that passes is true wherever the units and the clauses of the buckets are
+-- a clause that passes is true if the units and the clauses of the buckets are
 pub passed_holds : (units clause : List ℕ) (buckets : List (List (List ℕ))) (a : Valuation) → PassesCheck units clause buckets → EachTrue a units → AllByRecursion (EachHolds a) buckets → clause_true a clause ≡ true
 passed_holds units clause buckets a (tautology e) u h = tautology_true a clause e
 passed_holds units clause buckets a (unit_true e) u h = unit_in_clause a units clause u e
@@ -127,6 +127,6 @@ buckets_hold : (f : Stored) (hashes : List ℕ) (a : Valuation) → EachHolds a 
 buckets_hold f [] a h = tt
 buckets_hold f (k ∷ ks) a h = (EachHolds-filter a (λ c. eqb (hash_by f.solver_names f.width c) k) (long_clauses f) h, buckets_hold f ks a h)
 
--- a clause that passes is true wherever the stored units and clauses are
+-- a clause that passes is true if the stored units and clauses are
 pub derived_hold : (f : Stored) (clause hashes : List ℕ) (a : Valuation) → PassesByHashes f clause hashes → EachTrue a (unit_literals f) → EachHolds a (long_clauses f) → clause_true a clause ≡ true
 derived_hold f clause hashes a p u h = passed_holds (unit_literals f) clause (map (bucket f) hashes) a p u (buckets_hold f hashes a h)

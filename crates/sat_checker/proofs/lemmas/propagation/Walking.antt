@@ -1,4 +1,4 @@
--- Steps of the walk.
+-- The walk over clauses, one clause at a time.
 use Rattle.std.proofs.Common.{ℕ, suc, ◌+◌, ◌-◌, ◌<◌, ◌≤◌, ◌≡◌, ◌≢◌, Bool, true, false, not, cond, eqb, List, [], ◌∷◌, length, drop, get_or, map, filter, refl, sym, ◌∙◌, ap, subst, arith, Option, Some, None, inl, inr}
 use Rattle.std.proofs.lemmas.Bool.{or_cases, or_left, or_right, eq-eqb}
 use Rattle.std.proofs.lemmas.List.{drop_more, drop-drop}
@@ -12,7 +12,7 @@ use Rattle.sat_checker.proofs.lemmas.sets.Members.{each_at, each_mapped}
 use Rattle.sat_checker.proofs.lemmas.sets.Rooms.{room_stays}
 use Rattle.sat_checker.specs.inner.Walk.{opens, rests, verdict, verdict_of_open, not_false, walk, walk_on, and_then, walk_buckets, if_conflict}
 
--- a literal that a clause opens isn't assumed yet
+-- the open literal of a unit clause is not assumed yet
 opens_from : (assumed ls : List ℕ) (l : ℕ) → verdict_of_open assumed ls ≡ opens l → is_among assumed l ≡ false
 opens_from assumed [] l e = absurd cc
 opens_from assumed (m ∷ []) l e = go (is_among assumed m) refl e
@@ -25,7 +25,7 @@ opens_from assumed (m ∷ n ∷ ls) l e = absurd cc
 pub opens_new : (assumed clause : List ℕ) (l : ℕ) → verdict assumed clause ≡ opens l → is_among assumed l ≡ false
 opens_new assumed clause l e = opens_from assumed (not_false assumed clause) l e
 
--- and it's in the clause
+-- the open literal is in the clause
 filter_among : (test : ℕ → Bool) (ls : List ℕ) (l : ℕ) → is_among (filter test ls) l ≡ true → is_among ls l ≡ true
 filter_among test [] l h = h
 filter_among test (m ∷ ms) l h = go (filter_among test ms l) (test m) h
@@ -46,20 +46,20 @@ among_open assumed (m ∷ n ∷ ls) l e = absurd cc
 pub opens_among : (assumed clause : List ℕ) (l : ℕ) → verdict assumed clause ≡ opens l → is_among clause l ≡ true
 opens_among assumed clause l e = filter_among (λ m. not (is_among assumed (negated m))) clause l (among_open assumed (not_false assumed clause) l e)
 
--- so there is room for it where there is room for the clause
+-- if there is room for the clause, there is room for its open literal
 pub opens_roomy : (room assumed clause : List ℕ) (l : ℕ) → verdict assumed clause ≡ opens l → HasClauseRoom room clause → is_among room l ≡ true
 opens_roomy room assumed clause l e h = (each_at (λ m. (is_among room m ≡ true) × (is_among room (negated m) ≡ true)) clause l h (opens_among assumed clause l e)).0
 
--- and none has to be made for it
+-- assuming the open literal then needs no more room
 pub opens_same : (room assumed clause : List ℕ) (l : ℕ) → verdict assumed clause ≡ opens l → HasClauseRoom room clause → with_room l room ≡ room
 opens_same room assumed clause l e h = ap (λ b. cond b room (l ∷ negated l ∷ room)) (opens_roomy room assumed clause l e h)
 
--- and there is still room for the clause where there is more room
+-- a clause that has room still has it if more literals have room
 pub roomy_further : (old new clause : List ℕ) → RoomStays old new → HasClauseRoom old clause → HasClauseRoom new clause
 roomy_further old new [] s h = tt
 roomy_further old new (l ∷ ls) s h = ((s l h.0.0, s (negated l) h.0.1), roomy_further old new ls s h.1)
 
--- there is room for a clause where there was room for all of these places
+-- if the clauses at all places have room, so has the clause at one of them
 pub roomy_at : (old new : List ℕ) (literals : ℕ → List ℕ) (places : List ℕ) (place : ℕ) → RoomStays old new → is_among places place ≡ true → HasClausesRoom old (map literals places) → HasClauseRoom new (literals place)
 roomy_at old new literals places place s among h = roomy_further old new (literals place) s (each_at (λ p. HasClauseRoom old (literals p)) places place (each_mapped (HasClauseRoom old) literals places h) among)
 
@@ -77,12 +77,12 @@ Extends-more old mid new l h e s =
       room = λ m r. s m (h.room m r);
     }
 
--- one more is assumed, with room for it
+-- one more literal is assumed, with room for it
 pub Extends-assumed : (old mid new : LiteralsAndRoom) (l : ℕ) → AssumesMore old mid → new ≡ record { literals = l ∷ mid.literals; room = with_room l mid.room } → AssumesMore old new
 Extends-assumed old mid new l h e =
     Extends-more old mid new l h (ap (λ (t : LiteralsAndRoom). t.literals) e) (λ m k. subst (λ (t : LiteralsAndRoom). is_among t.room m ≡ true) (sym e) (room_stays l mid.room m k))
 
--- the literals of places, one place after another
+-- the first of the remaining places, and those after it
 module _ (literals : ℕ → List ℕ) (places : List ℕ) (i : ℕ) (inside : i < length places) where
   pub next_place : map literals (drop i places) ≡ literals (get_or places i 0) ∷ map literals (drop (i + 1) places)
   next_place = ap (map literals) (drop_more places i 0 inside)
@@ -96,14 +96,14 @@ module _ (literals : ℕ → List ℕ) (places : List ℕ) (i : ℕ) (inside : i
   pub sum_next : total_length (map literals (drop i places)) ≡ length (literals (get_or places i 0)) + total_length (map literals (drop (i + 1) places))
   sum_next = ap (total_length) next_place
 
--- one more clause of the walk, by how it was met
+-- the walk after one clause, by its verdict
 pub walk-met : (assumed clause : List ℕ) (rest : List (List ℕ)) (more : List ℕ) → walk_on (verdict assumed clause) assumed ≡ Some more → walk assumed (clause ∷ rest) ≡ walk more rest
 walk-met assumed clause rest more e = ap (λ o. and_then o (λ m. walk m rest)) e
 
 pub walk-conflict : (assumed clause : List ℕ) (rest : List (List ℕ)) → walk_on (verdict assumed clause) assumed ≡ None → walk assumed (clause ∷ rest) ≡ None
 walk-conflict assumed clause rest e = ap (λ o. and_then o (λ m. walk m rest)) e
 
--- the clause at a place is walked over, and those after it are left
+-- the walk visits the clause at index `i`, and those after it remain
 module _ (literals : ℕ → List ℕ) (places : List ℕ) (i : ℕ) (inside : i < length places) where
   pub walk_more : (whole : Option (List ℕ)) (mid more : List ℕ) → whole ≡ walk mid (map literals (drop i places)) → walk_on (verdict mid (literals (get_or places i 0))) mid ≡ Some more → whole ≡ walk more (map literals (drop (i + 1) places))
   walk_more whole mid more h e = h ∙ walk_next literals places i inside mid ∙ walk-met mid (literals (get_or places i 0)) (map literals (drop (i + 1) places)) more e
@@ -129,7 +129,7 @@ Extends-further old mid new h k =
       room = λ l r. k.room l (h.room l r);
     }
 
--- where what was assumed in between is forgotten, the literals are the old ones, and what had room still has
+-- after newer literals are forgotten, the old ones are assumed, and no literal loses its room
 pub Extends-undone : (old mid new : LiteralsAndRoom) (left : ℕ) → AssumesMore old mid → left ≡ length old.literals → new ≡ record mid { literals = drop (length mid.literals - left) mid.literals } → (new.literals ≡ old.literals) × RoomStays old.room new.room
 Extends-undone old mid new left h n e = (
   ap (λ (t : LiteralsAndRoom). t.literals) e ∙ ap (λ k. drop (length mid.literals - k) mid.literals) n ∙ h.below,
@@ -141,7 +141,7 @@ pub ruleset meeting = (opens_new, Extends-itself, Extends-assumed)
 pub ruleset walking = (Extends-itself, Extends-further, walk_next, sum_next, walk-met, walk-conflict)
 
 module _ (bucket_of : ℕ → List (List ℕ)) (hashes : List ℕ) (i : ℕ) (inside : i < length hashes) (assumed more : List ℕ) where
-  -- the of_hash at i is walked over first
+  -- the bucket at index `i` is visited first
   pub buckets-open : bucket_of (get_or hashes i 0) ≢ [] → walk assumed (bucket_of (get_or hashes i 0)) ≡ Some more → walk_buckets assumed (map (bucket_of) (drop i hashes)) ≡ walk_buckets more (map (bucket_of) (drop (i + 1) hashes))
   buckets-open full e = rw (drop_more hashes i 0 inside) (go (bucket_of (get_or hashes i 0)) full e)
     where

@@ -1,4 +1,4 @@
--- The worked rows, by computing.
+-- Worked examples, proved by computing.
 use Rattle.std.proofs.Common.{ℕ, ◌≡◌, ◌≢◌, Bool, true, false, cond, ◌||◌, eqb, List, [], ◌∷◌, ◌++◌, map, None, Some, refl, sym, inr}
 use Rattle.std.proofs.lemmas.Bool.{both_ways}
 use Rattle.std.specs.List.{list_any, AllByRecursion}
@@ -24,11 +24,11 @@ end_alone = ((tt, tt), refl, refl)
 none_some : (n : ℕ) → None ≢ Some n
 none_some n e = cc
 
--- a clause passes where the walk meets a conflict
+-- a clause passes if the walk meets a conflict
 pub walked : (f : Stored) (clause hashes : List ℕ) → walk_buckets (map negated clause ++ unit_literals f) (map (bucket f) hashes) ≡ true → PassesByHashes f clause hashes
 walked f clause hashes e = conflict (rule_from_walk (map negated clause ++ unit_literals f) (map (bucket f) hashes) e)
 
--- and doesn't where there is nothing to pass by
+-- a clause does not pass if it is no tautology, no unit satisfies it, and the walk meets no conflict
 pub stuck : (f : Stored) (clause hashes : List ℕ) → is_tautology clause ≡ false → list_any (is_unit f) clause ≡ false → AllByRecursion (AllByRecursion NoRepeats) (map (bucket f) hashes) → walk_buckets (map negated clause ++ unit_literals f) (map (bucket f) hashes) ≡ false → PassesByHashes f clause hashes → ⊥
 stuck f clause hashes t u n w (tautology e) = both_ways (is_tautology clause) t e
 stuck f clause hashes t u n w (unit_true e) = both_ways (list_any (is_unit f) clause) u e
@@ -102,7 +102,7 @@ unit_after =
 named_first : Variable
 named_first = record { known = true; mode = Sample; name = Some 0 }
 
--- no name is left where one variable had it and it was taken away
+-- no variable has the name after the only one with it lost it
 gone : (b d : Bool) → (cond b (record { known = true; mode = Sample; name = None }) (cond b (record { known = true; mode = Hide; name = None }) (cond d (record (cond b named_first unknown) { known = true }) (cond b named_first unknown)))).name ≢ Some 0
 unfolding named_first
 gone true d e = cc

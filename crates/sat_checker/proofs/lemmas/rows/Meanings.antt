@@ -1,4 +1,4 @@
--- Worked rows of what steps mean.
+-- Worked examples of what steps mean.
 use Rattle.std.proofs.Common.{◌≡◌, Bool, true, false, not, ◌||◌, refl, sym, inl, inr}
 use Rattle.std.proofs.lemmas.Bool.{true≢false}
 use Rattle.sat_checker.specs.MeaningRows.{EitherHolds, FourHaveNone, DeletedIsFree, OnlyAddedAsk, StoredAsk, UnsatAsks, LooksOfKinds, LooksOfAll}

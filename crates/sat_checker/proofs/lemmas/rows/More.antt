@@ -1,4 +1,4 @@
--- More worked rows, by computing.
+-- More worked examples, proved by computing.
 use Rattle.std.proofs.Common.{◌≢◌, Bool, true, false, ◌||◌, cond, eqb, [], ◌∷◌, Some, None, refl, sym, lit<, inl, inr}
 use Rattle.std.proofs.lemmas.Bool.{true≢false}
 use Rattle.sat_base.specs.values.Hashes.{hash_of}

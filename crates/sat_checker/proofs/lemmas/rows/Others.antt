@@ -1,4 +1,4 @@
--- Worked rows of deletions, names, models and cores, by computing.
+-- Worked examples of deletions, names, models and cores, proved by computing.
 use Rattle.std.proofs.Common.{ℕ, ◌<◌, ◌≡◌, None, Some, refl, sym, arith, lit<, inl, inr}
 use Rattle.std.proofs.lemmas.Bool.{true≢false}
 use Rattle.sat_checker.specs.Accepts.{MayGetName}

@@ -1,4 +1,4 @@
--- Lists in which nothing stands twice, in another order.
+-- Lists without repeats, in another order.
 use Rattle.std.proofs.Common.{ℕ, ◌≡◌, false, eqb, List, [], ◌∷◌, reverse, refl, ◌∙◌}
 use Rattle.std.proofs.lemmas.Bool.{or_parts, or_from}
 use Rattle.std.proofs.lemmas.List.Sorted.{IsPermutation-reverse, IsNonDecreasingBy-from_sort}
@@ -34,7 +34,7 @@ once_permuted xs ys p h = once_from ys (IsDistinct-IsPermutation eqb eqb_comm xs
 pub once_reversed : (xs : List ℕ) → NoRepeats xs → NoRepeats (reverse xs)
 once_reversed xs = once_permuted xs (reverse xs) (IsPermutation-reverse xs)
 
--- sorting a list without repeats gives an increasing one
+-- sorting a list without repeats gives an increasing list
 pub sorted_increasing : (xs sorted : List ℕ) → NoRepeats xs → IsPermutation xs sorted → IsSorted nat_cmp sorted → IsIncreasing sorted
 sorted_increasing xs sorted n p s =
     increasing_from_sorted sorted

@@ -1,4 +1,4 @@
--- Hashes of clauses, one literal after another.
+-- The hash of a clause, one literal after another.
 use Rattle.std.proofs.Common.{ℕ, suc, ◌+◌, ◌*◌, ◌/◌, ◌%◌, ◌<◌, ◌≡◌, Bool, true, false, cond, eqb, length, drop, get_or, List, map, Option, Some, None, refl, sym, ◌∙◌, arith}
 use Rattle.std.proofs.Math.Seq.{drop-cons}
 use Rattle.std.specs.Int.Bits.{bit_xor, xor_assoc}
@@ -20,7 +20,7 @@ named_some names l v e = sign_of l v ∙ sym (rw e refl)
 pub named_none : (names : ℕ → Option ℕ) (l : ℕ) → names (variable l) ≡ None → l ≡ solver_literal names l
 named_none names l e = rw e (let k : l ≡ 2 * (l / 2) + l % 2 = omega arith in k)
 
--- the next literal's hash moves from what is left into what was taken
+-- the hash of the next literal moves from the remaining hash to the hash so far
 pub hash_next : (solver : ℕ → ℕ) (ls : List ℕ) (i hash : ℕ) → i < length ls
     → bit_xor hash (hash_of (map solver (drop i ls))) ≡ bit_xor (bit_xor hash (literal_hash (solver (get_or ls i 0)))) (hash_of (map solver (drop (i + 1) ls)))
 hash_next solver ls i hash h = let e : i + 1 ≡ suc i = omega arith in rw (e, drop-cons ls i 0) (sym (xor_assoc hash (literal_hash (solver (get_or ls i 0))) (hash_of (map solver (drop (suc i) ls)))))

@@ -1,11 +1,11 @@
--- Members of lists, and lists in which nothing stands twice.
+-- Increasing lists have no repeats.
 use Rattle.std.proofs.Common.{ℕ, ◌<◌, ◌≡◌, false, eqb, List, [], ◌∷◌, refl, arith}
 use Rattle.std.proofs.lemmas.Bool.{ne_eqb}
 use Rattle.std.specs.List.{AllByRecursion}
 use Rattle.sat_checker.specs.LiteralSets.{is_among}
 use Rattle.sat_checker.specs.inner.Marks.{NoRepeats, IsIncreasing}
 
--- what is below all of them isn't one of them
+-- a number below all members is not a member
 pub below_all : (l : ℕ) (ls : List ℕ) → AllByRecursion (λ m. l < m) ls → is_among ls l ≡ false
 below_all l [] h = refl
 below_all l (m ∷ ms) h =

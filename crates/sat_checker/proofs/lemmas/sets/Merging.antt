@@ -1,4 +1,4 @@
--- Going over two increasing lists side by side.
+-- Comparing two increasing lists side by side.
 use Rattle.std.proofs.Common.{ℕ, zero, suc, ◌+◌, ◌<◌, ◌≤◌, ◌≡◌, ◌≢◌, true, false, ◌&&◌, eqb, List, [], ◌∷◌, length, drop, get_or, refl, sym, ◌∙◌, ap, subst, arith, ◌⊎◌, inl, inr}
 use Rattle.std.proofs.lemmas.Bool.{eq-eqb, ne_eqb}
 use Rattle.std.proofs.lemmas.List.{drop_more}
@@ -13,7 +13,7 @@ increasing_drop [] (suc i) h = h
 increasing_drop (x ∷ xs) zero h = h
 increasing_drop (x ∷ xs) (suc i) h = increasing_drop xs i h.1
 
--- what is above the first of a list is looked for after it
+-- numbers above the first item of a list can only be found after it
 all_after : (x : ℕ) (xs ms : List ℕ) → AllByRecursion (λ m. x < m) ms → list_all (is_among (x ∷ xs)) ms ≡ list_all (is_among xs) ms
 all_after x xs [] h = refl
 all_after x xs (m ∷ ms) h =

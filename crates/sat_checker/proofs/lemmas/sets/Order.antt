@@ -1,4 +1,4 @@
--- Members of lists, whatever their order.
+-- Membership in lists does not depend on their order.
 use Rattle.std.proofs.Common.{ℕ, ◌≡◌, Bool, true, false, ◌||◌, eqb, List, [], ◌∷◌, ◌++◌, reverse, refl, ◌∙◌, ap}
 use Rattle.std.proofs.lemmas.List.{reverse-append}
 use Rattle.sat_checker.specs.LiteralSets.{is_among}

@@ -1,4 +1,4 @@
--- Lists in which nothing stands twice, and their parts.
+-- Lists without repeats, and their parts.
 use Rattle.std.proofs.Common.{ℕ, suc, ◌+◌, ◌<◌, ◌≤◌, ◌≡◌, ◌∙◌, Bool, true, false, not, ◌&&◌, eqb, ltb, List, [], ◌∷◌, length, drop, get_or, refl, sym, ap, subst, arith, inl, inr}
 use Rattle.std.proofs.lemmas.Bool.{and_parts, or_cases, or_left, or_right, eqb-true, eq-eqb, true≢false}
 use Rattle.std.proofs.lemmas.Bool.Decides.{nat_tests}
@@ -13,7 +13,7 @@ use Rattle.sat_checker.proofs.lemmas.sets.Rooms.{few}
 use Rattle.sat_checker.proofs.lemmas.sets.Subsets.{all_true}
 use Rattle.sat_checker.proofs.lemmas.sets.Trails.{same_tests}
 
--- the first of those that are left decides, or the others do
+-- whether all remaining literals pass, given the first of them
 module _ (test : ℕ → Bool) (ls : List ℕ) (i : ℕ) (inside : i < length ls) where
   pub all_failed : test (get_or ls i 0) ≡ false → list_all test (drop i ls) ≡ false
   all_failed t = rw (drop_more ls i 0 inside) (rw t refl)
@@ -23,7 +23,7 @@ module _ (test : ℕ → Bool) (ls : List ℕ) (i : ℕ) (inside : i < length ls
 
 pub ruleset each_literal = (all_failed, all_passed)
 
--- one of a list that isn't in another
+-- a member of one list that is not in the other
 pub record Missing (xs ys : List ℕ) : Type 0 where
   pub literal : ℕ
   pub within : is_among xs literal ≡ true
@@ -41,7 +41,7 @@ pub member : (xs ys : List ℕ) (l : ℕ) → is_part xs ys ≡ true → is_amon
 member [] ys l h k = absurd (true≢false (sym k))
 member (x ∷ xs) ys l h k = let p = and_parts (is_among ys x) (is_part xs ys) h in elim (or_cases (eqb x l) (is_among xs l) k) [ inl e ↦ subst (λ y. is_among ys y ≡ true) (eqb-true x l e) p.0 | inr m ↦ member xs ys l p.1 m ]
 
--- a part that is no shorter is the whole
+-- a part that is at least as long contains everything
 pub whole : (xs ys : List ℕ) → NoRepeats xs → is_part xs ys ≡ true → length ys ≤ length xs → is_part ys xs ≡ true
 whole xs ys n p l = go (is_part ys xs) refl
   where
@@ -55,7 +55,7 @@ whole xs ys n p l = go (is_part ys xs) refl
 shorter : (xs ys : List ℕ) → NoRepeats xs → is_part xs ys ≡ true → length xs ≤ length ys
 shorter xs ys n p = few xs ys n (λ l. member xs ys l p)
 
--- the same set, by their lengths
+-- lists of equal length are the same set if one is a part of the other
 pub same_set : (xs ys : List ℕ) → IsIncreasing xs → NoRepeats ys → length xs ≡ length ys → is_part xs ys ≡ same_literals xs (canonical ys)
 same_set xs ys up n e = same_tests (is_part xs ys) (same_literals xs (canonical ys)) to back
   where
@@ -82,7 +82,7 @@ other_length xs ys n e = go (same_literals xs (canonical ys)) refl
 pub not_less : (x y : ℕ) → y ≤ x → ltb x y ≡ false
 not_less x y l = grind (arith, nat_tests)
 
--- a part but not all, by their lengths
+-- a shorter part is a strict part
 pub strict_part : (xs ys : List ℕ) → NoRepeats ys → length xs < length ys → is_part xs ys ≡ (is_part xs ys && not (is_part ys xs))
 strict_part xs ys n l = go (is_part xs ys) (is_part ys xs) refl
   where

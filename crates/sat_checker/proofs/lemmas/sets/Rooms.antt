@@ -1,4 +1,4 @@
--- Marks of literals that there is room for, and how many are assumed at most.
+-- Marks of literals that have room, and the largest number of assumed literals.
 use Rattle.std.proofs.Common.{ℕ, suc, ◌≤◌, ◌≡◌, ◌≢◌, ◌∙◌, Bool, true, false, cond, ◌||◌, eqb, List, [], ◌∷◌, length, refl, sym, ap, subst, arith, inl, inr}
 use Rattle.std.proofs.lemmas.Bool.{or_cases, or_left, or_right, eqb-true, eq-eqb, true≢false, both_ways}
 use Rattle.sat_base.specs.declared.table.Table.{Table}
@@ -15,7 +15,7 @@ use Rattle.sat_checker.proofs.lemmas.propagation.Soundness.{negated-negated}
 use Rattle.sat_checker.proofs.lemmas.sets.Trails.{same_tests}
 use Rattle.sat_checker.proofs.lemmas.store.Places.{eqb_comm}
 
--- without the first that is this number
+-- the list without the first occurrence of a number
 taken : ℕ → List ℕ → List ℕ
 taken x [] = []
 taken x (y ∷ ys) = cond (eqb y x) ys (y ∷ taken x ys)
@@ -38,7 +38,7 @@ left x l (y ∷ ys) n h = go (eqb y x) refl (left x l ys n)
     go true e ih = elim (or_cases (eqb y l) (is_among ys l) h) [ inl s ↦ absurd (both_ways (eqb x l) n (subst (λ z. eqb z l ≡ true) (eqb-true y x e) s)) | inr k ↦ k ]
     go false e ih = elim (or_cases (eqb y l) (is_among ys l) h) [ inl s ↦ or_left (eqb y l) (is_among (taken x ys) l) s | inr k ↦ or_right (eqb y l) (is_among (taken x ys) l) (ih k) ]
 
--- a list without repeats is no longer than one that has all of it
+-- a list without repeats is at most as long as a list with all its members
 pub few : (xs ys : List ℕ) → NoRepeats xs → ((l : ℕ) → is_among xs l ≡ true → is_among ys l ≡ true) → length xs ≤ length ys
 few [] ys n h = omega arith
 few (x ∷ xs) ys n h =
@@ -61,15 +61,15 @@ unfolding code
 not_closed true e = let k = ap code e in absurd cc
 not_closed false e = let k = ap code e in absurd cc
 
--- what there is room for can be marked
+-- a literal that has room can be marked
 pub has_place : (marks : Table Mark) (ls room : List ℕ) (l : ℕ) → AreMarks marks ls room → is_among room l ≡ true → HasPlaceFor marks l
 has_place marks ls room l are h = has_room mark.NoRoom marks l (λ e. not_closed (is_among ls l) (sym (are.each l ∙ ap (mark_for (is_among ls l)) h) ∙ e))
 
--- one more is among them
+-- the assumed literals still have room after one more that has room is assumed
 pub within_more : (ls room : List ℕ) (l : ℕ) → ((k : ℕ) → is_among ls k ≡ true → is_among room k ≡ true) → is_among room l ≡ true → (k : ℕ) → is_among (l ∷ ls) k ≡ true → is_among room k ≡ true
 within_more ls room l within there k h = elim (or_cases (eqb l k) (is_among ls k) h) [ inl e ↦ subst (λ x. is_among room x ≡ true) (eqb-true l k e) there | inr a ↦ within k a ]
 
--- one more is assumed
+-- the marks after one more literal is assumed
 pub newly_assumed : (old new : Table Mark) (ls room : List ℕ) (l : ℕ) → ((k : ℕ) → mark_at new k ≡ cond (eqb k l) mark.Assumed (mark_at old k)) → is_among ls l ≡ false → is_among room l ≡ true
     → AreMarks old ls room → AreMarks new (l ∷ ls) room
 newly_assumed old new ls room l set fresh there are = record {
@@ -82,7 +82,7 @@ newly_assumed old new ls room l set fresh there are = record {
     either true d r = refl
     either false d r = refl
 
--- there is room for one more
+-- the marks after one more literal gets room
 pub newly_roomy : (old new : Table Mark) (ls room : List ℕ) (l : ℕ) → ((k : ℕ) → mark_at new k ≡ cond (eqb k l) mark.Room (mark_at old k)) → is_among room l ≡ false → AreMarks old ls room → AreMarks new ls (l ∷ room)
 newly_roomy old new ls room l set fresh are = record {
   each = λ k. set k ∙ ap (cond (eqb k l) mark.Room) (are.each k) ∙ go k (eqb k l) refl;
@@ -117,13 +117,13 @@ room_stays l room k h = go (is_among room l)
 pub stays_further : (xs ys zs : List ℕ) → RoomStays xs ys → RoomStays ys zs → RoomStays xs zs
 stays_further xs ys zs h k l m = k l (h l m)
 
--- negations, on either side
+-- the negation of `x` is `y` exactly if `x` is the negation of `y`
 turned : (x y : ℕ) → eqb (negated x) y ≡ eqb x (negated y)
 turned x y = same_tests _ _
     (λ h. eq-eqb x (negated y) (sym (negated-negated x) ∙ ap negated (eqb-true (negated x) y h)))
     (λ h. eq-eqb (negated x) y (ap negated (eqb-true x (negated y) h) ∙ negated-negated y))
 
--- where all have room with their negations, they have it still once one more has
+-- after a literal and its negation get room, literals still have room exactly if their negations do
 pub paired_more : (l : ℕ) (room : List ℕ) → ((k : ℕ) → is_among room k ≡ is_among room (negated k)) → (k : ℕ) → is_among (l ∷ negated l ∷ room) k ≡ is_among (l ∷ negated l ∷ room) (negated k)
 paired_more l room p k =
     ap (λ b. eqb l k || (eqb (negated l) k || b)) (p k) ∙ swapped (eqb l k) (eqb (negated l) k) (is_among room (negated k))

@@ -1,4 +1,4 @@
--- What a search in a sorted list says.
+-- What the result of a binary search in a sorted list means.
 use Rattle.std.proofs.Common.{ℕ, zero, suc, ◌<◌, ◌≤◌, ◌≡◌, ◌≢◌, true, false, eqb, List, [], ◌∷◌, length, map, get_or, None, Result, Ok, Err, is_ok, refl, sym, ◌∙◌, arith}
 use Rattle.std.proofs.lemmas.Bool.{or_left, or_right, or_from, eq-eqb, ne_eqb}
 use Rattle.std.proofs.lemmas.Bool.Decides.{nat_tests}
@@ -40,7 +40,7 @@ found_among_sorted xs x (Err i) h p =
     let s = searched xs x (Err i) p (rises_to xs h) in
     sym (not_among xs x (λ k l. let below = s.1 k in let above = s.2 k in grind (arith, below, above, l)))
 
--- what a search by a key says, where the keys rise
+-- searching by an increasing key
 module _ {X : Type 0} (key : X → ℕ) (k : ℕ) where
   key_at : (xs : List X) (i : ℕ) (d : X) → i < length xs → get_or (map key xs) i 0 ≡ key (get_or xs i d)
   key_at xs i d l = get_or-map key xs i d 0 l

@@ -21,7 +21,7 @@ each_true test (l ∷ ls) h = let p = and_parts (test l) (list_all test ls) h in
 pub subset_canonical : (ls : List ℕ) → is_part ls (canonical ls) ≡ true
 subset_canonical ls = all_true (is_among (canonical ls)) ls (λ l h. canonical_among ls l ∙ h)
 
--- one of them passes where one of a list with the same literals does
+-- `list_any` is true if a member passes the test
 pub any_true : (test : ℕ → Bool) (ls : List ℕ) (l : ℕ) → is_among ls l ≡ true → test l ≡ true → list_any test ls ≡ true
 any_true test [] l m t = absurd (true≢false (sym m))
 any_true test (x ∷ xs) l m t =
@@ -43,7 +43,7 @@ some_of test (x ∷ xs) h =
 pub any_canonical : (test : ℕ → Bool) (ls : List ℕ) → list_any test ls ≡ true → list_any test (canonical ls) ≡ true
 any_canonical test ls h = let s = some_of test ls h in any_true test (canonical ls) s.literal (canonical_among ls s.literal ∙ s.within) s.passes
 
--- what makes a part of a clause true makes the clause true
+-- a clause is true if a part of it is
 pub superset_true : (a : Valuation) (part ls : List ℕ) → is_part part ls ≡ true → clause_true a part ≡ true → clause_true a ls ≡ true
 superset_true a [] ls s t = absurd (true≢false (sym t))
 superset_true a (x ∷ xs) ls s t =

@@ -1,4 +1,4 @@
--- A literal is taken off a trail, where the newest takes its place.
+-- A literal is removed from a trail, and the newest literal takes its place.
 use Rattle.std.proofs.Common.{ℕ, ◌+◌, ◌-◌, ◌<◌, ◌^◌, ◌≡◌, ◌≢◌, ◌∙◌, Bool, true, false, ◌||◌, cond, eqb, List, ◌∷◌, ◌++◌, [], length, get_or, reverse, Option, Some, None, refl, sym, ap, subst, arith}
 use Rattle.std.proofs.lemmas.Bool.{eqb-true, eqb-false, eq-eqb, true≢false}
 use Rattle.std.proofs.lemmas.Grind.{get_or_default_zero}
@@ -51,7 +51,7 @@ lost trail rest place n at others = record { count = n; each = λ i h. go i h (e
     go i h true s = let same = eqb-true i place s in ap (λ j. get_or rest j 0) same ∙ at 0 (omega (arith, h, n, same))
     go i h false s = others i 0 (eqb-false i place s) (omega (arith, h, n))
 
--- what has a number has room
+-- a literal that has a number has a place in the table
 pub number_has_room : (numbers : LitNumbers) (l n : ℕ) → number_at numbers l ≡ Some n → HasPlaceFor numbers.numbers l
 number_has_room numbers l n e = has_room (2 ^ 64 - 1) numbers.numbers l (λ s. none (number_at numbers l) (ap unless_largest s) e)
   where
@@ -66,7 +66,7 @@ same_number m n e = ap (number 0) e
     number d None = d
     number d (Some k) = k
 
--- where an assumed literal stands
+-- the place of an assumed literal
 pub record HasAccepted (places : LitNumbers) (trail : List ℕ) (l : ℕ) : Type 0 where
   pub place : ℕ
   pub inside : place < length trail
@@ -85,7 +85,7 @@ stands_at places trail l n placed among e =
     let same : s.place ≡ n = same_number s.place n (sym s.noted ∙ e) in
     (subst (λ k. k < length trail) same s.inside, subst (λ k. get_or trail k 0 ≡ l) same s.there)
 
--- the newest one gets the place of the one that is taken off
+-- the newest literal gets the place of the removed one
 pub placed_without : (places new : LitNumbers) (trail rest : List ℕ) (place newest : ℕ) → AreTrailPlaces places trail → LosesAt place trail rest → newest ≡ get_or trail (length trail - 1) 0
     → ((k : ℕ) → number_at new k ≡ cond (eqb k newest) (Some place) (number_at places k)) → AreTrailPlaces new rest
 placed_without places new trail rest place newest placed loses is numbers i inside = ap (number_at new) (loses.each i inside) ∙ go (eqb i place) refl
@@ -105,7 +105,7 @@ placed_without places new trail rest place newest placed loses is numbers i insi
             let last : i ≡ length trail - 1 = same_number i (length trail - 1) (sym (placed i (omega (arith, n, inside))) ∙ ap (number_at places) (same ∙ is) ∙ placed (length trail - 1) (omega (arith, n, inside))) in
             absurd (omega (arith, n, inside, last))
 
--- one literal more gets the last place
+-- a new literal gets the last place
 pub placed_more : (places new : LitNumbers) (trail : List ℕ) (l place : ℕ) → AreTrailPlaces places trail → is_among trail l ≡ false → place ≡ length trail → ((k : ℕ) → number_at new k ≡ cond (eqb k l) (Some place) (number_at places k))
     → AreTrailPlaces new (trail ++ l ∷ [])
 placed_more places new trail l place placed fresh is numbers i inside = go (eqb i place) refl

@@ -1,4 +1,4 @@
--- Marks of the newest literals are taken away.
+-- Removing the marks of the newest literals.
 use Rattle.std.proofs.Common.{ℕ, ◌+◌, ◌-◌, ◌<◌, ◌≤◌, ◌≡◌, Bool, true, false, ◌||◌, cond, eqb, List, [], ◌∷◌, ◌++◌, length, take, drop, get_or, reverse, refl, sym, ◌∙◌, ap, subst, arith, length-drop, inl, inr}
 use Rattle.std.proofs.Math.Seq.{drop-append_seam}
 use Rattle.std.proofs.lemmas.Bool.{or_parts, or_cases, or_left, eqb-true, true≢false}
@@ -13,7 +13,7 @@ use Rattle.sat_checker.proofs.lemmas.sets.Canonical.{among_from_contains}
 use Rattle.sat_checker.proofs.lemmas.sets.Order.{among-append, among-reverse}
 use Rattle.sat_checker.proofs.lemmas.store.Places.{eqb_comm}
 
--- the next one
+-- unmarking the next literal
 pub unmarked_next : (ls : List ℕ) (i x : ℕ) → i < length ls → x ≡ get_or ls i x → (old new : Table Mark) → ((l : ℕ) → mark_at new l ≡ cond (eqb l x) mark.Room (mark_at old l)) → (k : ℕ)
     → cond (is_among (drop (i + 1) ls) k) mark.Room (mark_at new k) ≡ cond (is_among (drop i ls) k) mark.Room (mark_at old k)
 unmarked_next ls i x inside e old new m k =
@@ -30,11 +30,11 @@ unmarked_next ls i x inside e old new m k =
 pub unmarked_all : (ls : List ℕ) (i : ℕ) → length ls ≤ i → (marks : Table Mark) (k : ℕ) → mark_at marks k ≡ cond (is_among (drop i ls) k) mark.Room (mark_at marks k)
 unmarked_all ls i over marks k = ap (λ xs. cond (is_among xs k) mark.Room (mark_at marks k)) (sym (drop_all i ls over))
 
--- what a list has at a place is among its members
+-- the item at a place is a member
 pub among_at : (ls : List ℕ) (i x : ℕ) → i < length ls → x ≡ get_or ls i x → is_among ls x ≡ true
 among_at ls i x inside e = among_from_contains ls x (i, inside, sym e)
 
--- assumed literals that are gone are marked as those that there is room for
+-- literals that are no longer assumed are marked as `Room`
 pub marks_without : (old new : Table Mark) (ls left room : List ℕ) (gone : ℕ → Bool) → ((l : ℕ) → mark_at new l ≡ cond (gone l) mark.Room (mark_at old l))
     → ((l : ℕ) → is_among left l ≡ cond (gone l) false (is_among ls l)) → ((l : ℕ) → gone l ≡ true → is_among ls l ≡ true) → NoRepeats left → AreMarks old ls room → AreMarks new left room
 marks_without old new ls left room gone set rest there once are = record {
@@ -51,7 +51,7 @@ marks_without old new ls left room gone set rest there once are = record {
     among l true h = absurd (true≢false (sym h))
     among l false h = are.within l h
 
--- what stands before doesn't stand after
+-- if a concatenation has no repeats, its parts share no literal
 apart : (xs ys : List ℕ) → NoRepeats (xs ++ ys) → (l : ℕ) → is_among xs l ≡ true → is_among ys l ≡ false
 apart [] ys h l e = absurd (true≢false (sym e))
 apart (x ∷ xs) ys h l e =
@@ -64,7 +64,7 @@ following : (xs ys : List ℕ) → NoRepeats (xs ++ ys) → NoRepeats ys
 following [] ys h = h
 following (x ∷ xs) ys h = following xs ys h.1
 
--- the oldest so many of a trail are left, the newest first
+-- the oldest `left` literals of a trail, the newest first
 module _ (trail : List ℕ) (left : ℕ) where
   split : reverse (drop left trail) ++ reverse (take left trail) ≡ reverse trail
   split = sym (reverse-append (take left trail) (drop left trail)) ∙ ap reverse (take-append-drop left trail)
@@ -95,7 +95,7 @@ module _ (trail : List ℕ) (left : ℕ) where
       let n : length value - left ≡ length (reverse (drop left trail)) = omega (arith, long, gone) in
       sym (ap (λ k. drop k value) n ∙ ap (drop (length (reverse (drop left trail)))) (sym is ∙ sym split) ∙ drop-append_seam (reverse (drop left trail)) (reverse (take left trail)))
 
--- what is left after the newest are forgotten
+-- the literals after the newest are forgotten
 pub undone : (trail room : List ℕ) (left : ℕ) (t : LiteralsAndRoom) → ◌≡◌ {A = LiteralsAndRoom} (record { literals = reverse trail; room = room }) t → left ≤ length t.literals
     → ◌≡◌ {A = LiteralsAndRoom} (record { literals = reverse (take left trail); room = room }) (record { literals = drop (length t.literals - left) t.literals; room = t.room })
 undone trail room left t is l =

@@ -1,4 +1,4 @@
--- What a propagation check needs of the formula, and what it leaves.
+-- What a propagation check needs from the formula, and what it preserves.
 use Rattle.std.proofs.Common.{ℕ, ◌≡◌, ◌∙◌, ◌↔◌, Bool, true, List, map, refl, sym, ap, subst, Result, Ok, Err, IfOk}
 use Rattle.std.specs.Result.{OnErr}
 use Rattle.sat_checker.specs.Propagation.{PassesCheck}
@@ -16,7 +16,7 @@ use Rattle.sat_checker.proofs.lemmas.state.Rooms.{stored_stays}
 pub checks_as : (F : Formula) (f : Stored) → RepresentsFormula F f → ChecksAs F f
 checks_as F f k = record { clauses = k.clauses; units = ap (map (λ (u : StoredUnit). u.literal)) k.units; room = k.room }
 
--- the notes of a check are no part of what is kept
+-- a check changes only notes, marks and room, so the formula still represents the same
 pub kept_beside : (F G : Formula) (f : Stored) → ChecksBeside F G → RepresentsFormula F f → RepresentsFormula G f
 kept_beside F G f e k = record {
   clauses = subst (λ s. RepresentsClauses s f) (sym e.store) k.clauses;
@@ -34,7 +34,7 @@ checked_beside F G f e k = record {
   room = stored_stays F.units.room G.units.room f.clauses e.room k.room;
 }
 
--- with the units that it has
+-- the state with the formula's units
 under : Formula → Stored → Stored
 under F f = record f { units = F.units.units }
 
@@ -60,12 +60,12 @@ pub checked_as : {E : Type 0} (r : Result Bool E) (F : Formula) (clause hashes :
 checked_as (Ok b) F clause hashes h = λ f a. passes_under F f clause hashes a b (h (under F f) (keeps_under F f a.clauses) (units_under F f) (room_under F f F.units.room a.room))
 checked_as (Err e) F clause hashes h = tt
 
--- want of memory never comes where all is kept
+-- an error is impossible if the formula has room for its clauses
 pub short_as : {E : Type 0} (r : Result Bool E) (F : Formula) → OnErr r ((f : Stored) → RepresentsClauses F.store f → HasStoredRoom F.units.room f.clauses → ⊥) → OnErr r ((f : Stored) → ChecksAs F f → ⊥)
 short_as (Ok b) F h = tt
 short_as (Err e) F h = λ f a. h f a.clauses a.room
 
--- as long as clauses and units stay, so does what a check needs
+-- only the clauses and the units matter to a check
 pub checks_still : (F : Formula) (units : UnitsAndRoom) (status : Status) (f : Stored) → units ≡ F.units → ChecksAs F f → ChecksAs (record F { units = units; status = status }) f
 checks_still F units status f e k = record {
   clauses = k.clauses;

@@ -1,4 +1,4 @@
--- What is left as a variable is deleted.
+-- What remains when a variable is deleted.
 use Rattle.std.proofs.Common.{ℕ, ◌+◌, ◌*◌, ◌/◌, ◌≡◌, Bool, true, false, not, ◌&&◌, ◌||◌, cond, eqb, List, [], ◌∷◌, map, filter, reverse, Option, None, Some, is_some, refl, sym, ◌∙◌, ap, subst, arith}
 use Rattle.std.specs.Bool.{MatchBool}
 use Rattle.std.specs.List.{list_any}
@@ -48,14 +48,14 @@ once_filter t (x ∷ xs) h = go (t x) (once_filter t xs h.1)
         none false = refl
     go false ih = ih
 
--- a literal that is neither of a variable's is of another one
+-- a literal that is neither literal of a variable has another variable
 not_it : (v l : ℕ) → (l ≡ 2 * v + 1 → ⊥) → (l ≡ 2 * v + 0 → ⊥) → eqb (variable l) v ≡ false
 not_it v l a b = ne_eqb (variable l) v (λ s. either a b s)
   where
     either : (l ≡ 2 * v + 1 → ⊥) → (l ≡ 2 * v + 0 → ⊥) → l / 2 ≡ v → ⊥
     either a b s = omega arith
 
--- units without those of which a literal fails the test
+-- the units whose literals pass the test
 module _ (t : ℕ → Bool) where
   literals_left : (us : List StoredUnit) → filter t (map (λ u. u.literal) us) ≡ map (λ u. u.literal) (filter (λ u. t u.literal) us)
   literals_left [] = refl
@@ -83,7 +83,7 @@ module _ (t : ℕ → Bool) where
       go false e true f ih = let s : t l ≡ false = ap t (sym (eqb-true u.literal l f)) ∙ e in ih ∙ ap (λ b. cond b (unit_id l us) None) s ∙ sym (ap (λ b. cond b (Some u.id) None) s)
       go false e false f ih = ih
 
--- the unit of a literal is taken out
+-- the unit of a literal is removed
 pub unit_taken : (l : ℕ) (us : List StoredUnit) (ids new places moved : LitNumbers) (assigned rest : List ℕ) → UnitsInvariant us ids places assigned → ((k : ℕ) → is_among rest k ≡ cond (eqb k l) false (is_among assigned k))
     → ((k : ℕ) → number_at new k ≡ cond (eqb k l) None (number_at ids k)) → AreTrailPlaces moved (reverse rest) → UnitsInvariant (filter (λ u. not (eqb u.literal l)) us) new moved rest
 unit_taken l us ids new places moved assigned rest u among numbers placed = record {
@@ -109,7 +109,7 @@ unit_taken l us ids new places moved assigned rest u among numbers placed = reco
     turned true o = refl
     turned false o = refl
 
--- who is of neither literal of a variable is of another one
+-- a literal has another variable exactly if it is neither literal of the variable
 neither : (v l : ℕ) → (not (eqb l (2 * v + 0)) && not (eqb l (2 * v + 1))) ≡ is_other v l
 neither v l = go (eqb l (2 * v + 0)) refl (eqb l (2 * v + 1)) refl
   where
@@ -133,20 +133,20 @@ filter_as : (p q : StoredUnit → Bool) (us : List StoredUnit) → ((u : StoredU
 filter_as p q [] h = refl
 filter_as p q (u ∷ us) h = ap (λ b. cond b (u ∷ filter p us) (filter p us)) (h u) ∙ ap (λ ws. cond (q u) (u ∷ ws) ws) (filter_as p q us h)
 
--- the units of both literals of a variable are taken out, one after the other
+-- removing the units of both literals of a variable
 pub both_taken : (v p q : ℕ) (us : List StoredUnit) → p ≡ 2 * v + 0 → q ≡ 2 * v + 1 → filter (λ u. not (eqb u.literal q)) (filter (λ u. not (eqb u.literal p)) us) ≡ filter (λ u. is_other v u.literal) us
 both_taken v p q us pe qe =
     filter_twice (λ u. not (eqb u.literal p)) (λ u. not (eqb u.literal q)) us
     ∙ filter_as _ _ us (λ u. ap (λ x. not (eqb u.literal x) && not (eqb u.literal q)) pe ∙ ap (λ x. not (eqb u.literal (2 * v + 0)) && not (eqb u.literal x)) qe ∙ neither v u.literal)
 
--- nothing is taken out where the literal is no unit
+-- nothing is removed if the literal is not a unit
 pub none_taken : (l : ℕ) (us : List StoredUnit) → is_among (map (λ u. u.literal) us) l ≡ false → us ≡ filter (λ u. not (eqb u.literal l)) us
 none_taken l [] h = refl
 none_taken l (u ∷ us) h =
     let apart = or_parts (eqb u.literal l) (is_among (map (λ w. w.literal) us) l) h in
     ap (λ ws. u ∷ ws) (none_taken l us apart.1) ∙ sym (ap (λ b. cond (not b) (u ∷ filter (λ w. not (eqb w.literal l)) us) (filter (λ w. not (eqb w.literal l)) us)) apart.0)
 
--- a variable is mentioned by a list, or by the set of its literals
+-- flags that imply each other are equal; a canonical form mentions the same variables
 implies_same : (a b : Bool) → (a ≡ true → b ≡ true) → (b ≡ true → a ≡ true) → a ≡ b
 implies_same true true f g = refl
 implies_same false false f g = refl
@@ -158,7 +158,7 @@ mentions_set ls v = implies_same (mentions (canonical ls) v) (mentions ls v)
     (λ h. let s = some_of (λ l. eqb (variable l) v) (canonical ls) h in any_true (λ l. eqb (variable l) v) ls s.literal (sym (canonical_among ls s.literal) ∙ s.within) s.passes)
     (λ h. let s = some_of (λ l. eqb (variable l) v) ls h in any_true (λ l. eqb (variable l) v) (canonical ls) s.literal (canonical_among ls s.literal ∙ s.within) s.passes)
 
--- whether a variable may be deleted
+-- when a variable may be deleted
 module _ (state : State) (f : Stored) (k : RepresentsStored state f) (v : ℕ) where
   pub assumed_same : mentions state.assumed v ≡ mentions f.assumed v
   assumed_same = ap (λ xs. mentions xs v) k.assumed ∙ mentions_set f.assumed v

@@ -1,4 +1,4 @@
--- Stored clauses, by marks of the literals that there is room for.
+-- Tests of stored clauses that use only literals that have room.
 use Rattle.std.proofs.Common.{ℕ, ◌<◌, ◌≡◌, ◌∙◌, Bool, true, false, cond, ◌||◌, ◌&&◌, eqb, ltb, List, [], ◌∷◌, Option, None, Some, Result, Ok, Err, IfOk, OnErr, ◌↔◌, refl, sym, ap, subst, arith, inl, inr}
 use Rattle.std.proofs.lemmas.Bool.{or_cases, eqb-true, true≢false, both_ways}
 use Rattle.std.proofs.lemmas.Bool.Decides.{nat_tests}
@@ -26,7 +26,7 @@ any_agrees : (room xs ys c : List ℕ) → AgreesOn room xs ys → HasClauseRoom
 any_agrees room xs ys [] a h = refl
 any_agrees room xs ys (l ∷ c) a h = ap (λ b. b || list_any (is_among xs) c) (a l h.0.0) ∙ ap (λ b. is_among ys l || b) (any_agrees room xs ys c a h.1)
 
--- a model's literals without room are of no use
+-- the literals of a model that have no room do not matter
 pub true_agrees : (room xs ys : List ℕ) (cs : List StoredClause) → AgreesOn room xs ys → HasStoredRoom room cs → are_all_true xs cs ≡ are_all_true ys cs
 true_agrees room xs ys [] a h = refl
 true_agrees room xs ys (c ∷ cs) a h =
@@ -44,7 +44,7 @@ room_found room ls c (d ∷ ds) e h = go (same_literals d.literals ls) refl e (r
     go true n e ih = subst (HasClauseRoom room) (same d.literals ls n) h.0
     go false n e ih = ih e h.1
 
--- a clause with a literal that there is no room for isn't stored
+-- a clause with a literal that has no room is not stored
 pub no_room : (room c : List ℕ) (cs : List StoredClause) → is_part c room ≡ false → HasStoredRoom room cs → (r : Bool) → 0 < store_count_in r (clause_with (canonical c) cs) → ⊥
 no_room room c cs n h r k = go (clause_with (canonical c) cs) refl r k
   where
@@ -58,7 +58,7 @@ refused f c Redundant n h = n true h
 refused f c Satisfied n h = n false h.0
 refused f c Simplified n h = n false h.0
 
--- whether a clause has a count
+-- whether a count is above 0
 pub has_count : (b : Bool) (n m : ℕ) → b ≡ ltb 0 n → n ≡ m → MatchBool b (0 < m) (0 < m → ⊥)
 has_count b n m e s = go b (e ∙ ap (ltb 0) s)
   where
@@ -66,12 +66,12 @@ has_count b n m e s = go b (e ∙ ap (ltb 0) s)
     go true e = grind (arith, nat_tests)
     go false e = λ l. absurd (grind (arith, nat_tests))
 
--- a part of a clause, by its marks
+-- strict parts of a clause depend only on its members
 pub strict_same_set : (o : Option (List ℕ)) (xs ys : List ℕ) → ((l : ℕ) → is_among xs l ≡ is_among ys l) → IsStrictSubset o xs → IsStrictSubset o ys
 strict_same_set None xs ys e h = h
 strict_same_set (Some ms) xs ys e h = (same_part ms xs ms ys (λ l. refl) (λ l. sym (e l)) ∙ h.0, same_part xs ms ys ms (λ l. sym (e l)) (λ l. refl) ∙ h.1)
 
--- where all of a clause has room, no less of it is marked
+-- if all literals of a clause have room, restricting it to literals with room changes nothing
 pub within_room : (room c : List ℕ) (l : ℕ) → is_part c room ≡ true → (is_among room l && is_among c l) ≡ is_among c l
 within_room room c l h = go (is_among c l) refl
   where
@@ -83,7 +83,7 @@ within_room room c l h = go (is_among c l) refl
     go true e = ap (λ b. b && true) (member c room l h e)
     go false e = none (is_among room l)
 
--- marks are no part of what is kept
+-- a check changes only notes, marks and room, so the formula still represents the same
 pub refiled_beside : (F G : Formula) (f : Stored) → ChecksBeside F G → RepresentsFormula (refiled_in F) f → RepresentsFormula (refiled_in G) f
 refiled_beside F G f e k = kept_beside (refiled_in F) (refiled_in G) f (record { store = ap refiled e.store; status = e.status; units = e.units; room = e.room; marks = e.marks }) k
 
@@ -93,7 +93,7 @@ marks_kept F marks f s k = record { clauses = k.clauses; units = k.units; status
 pub stays_through : (old mid left : LiteralsAndRoom) (room : List ℕ) → mid ≡ old → left.room ≡ mid.room → RoomStays left.room room → RoomStays old.room room
 stays_through old mid left room e s h l k = h l (ap (λ xs. is_among xs l) s ∙ ap (λ (t : LiteralsAndRoom). is_among t.room l) e ∙ k)
 
--- a model that is judged by other marks
+-- the check of a model, stated for another formula that represents the same
 pub judged_over : {E : Type 0} (r : Result Bool E) (F G : Formula) (ls : List ℕ) → ((f : Stored) → RepresentsFormula F f → RepresentsFormula G f) → OnErr r ((f : Stored) → RepresentsFormula G f → FitsModel f ls) → OnErr r ((f : Stored) → RepresentsFormula F f → FitsModel f ls)
 judged_over (Ok b) F G ls on h = tt
 judged_over (Err e) F G ls on h = λ f k. h f (on f k)

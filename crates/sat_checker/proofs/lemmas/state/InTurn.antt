@@ -1,4 +1,4 @@
--- Units that are judged in turn without memory for those before them.
+-- Units that are judged one by one, without allocating for the earlier ones.
 use Rattle.std.proofs.Common.{ℕ, zero, suc, ◌+◌, ◌-◌, ◌*◌, ◌<◌, ◌≤◌, ◌≡◌, ◌↔◌, Bool, true, false, not, ◌&&◌, ◌||◌, cond, eqb, List, [], ◌∷◌, ◌++◌, length, take, drop, get_or, map, refl, sym, ◌∙◌, ap, subst, arith, Result, Ok, Err, IfOk}
 use Rattle.std.proofs.lemmas.Bool.{eqb-true, ne_eqb, both_ways}
 use Rattle.std.proofs.lemmas.List.{drop_more, take_more, map-append}
@@ -29,12 +29,12 @@ use Rattle.sat_checker.proofs.lemmas.store.Keeping.{bucket_same}
 abbrev pub firsts : List (ℕ × ℕ) → List ℕ
 firsts us = map (λ u. u.0) us
 
--- the first of those that are left
+-- `stands_first` of the remaining units, given the first of them
 pub first_next : (us : List (ℕ × ℕ)) (i : ℕ) (u : ℕ × ℕ) (l : ℕ) → i < length us → u ≡ get_or us i u
     → stands_first (firsts (drop i us)) l ≡ cond (eqb u.0 l) true (cond (eqb u.0 (negated l)) false (stands_first (firsts (drop (i + 1) us)) l))
 first_next us i u l inside is = ap (λ vs. stands_first (firsts vs) l) (drop_more us i u inside ∙ ap (λ x. x ∷ drop (i + 1) us) (sym is))
 
--- one more stands after the others
+-- `stands_first` after one more literal is appended
 first_more : (ms : List ℕ) (x l : ℕ) → stands_first (ms ++ x ∷ []) l ≡ cond (stands_first ms l) true (cond (stands_first ms (negated l)) false (eqb x l))
 first_more [] x l = go (eqb x l) (eqb x (negated l)) refl refl
   where
@@ -51,7 +51,7 @@ first_more (m ∷ ms) x l = go (eqb m l) (eqb m (negated l)) refl (ap (eqb m) (n
     go false true e k ih = refl
     go false false e k ih = ih ∙ ap (λ c. cond (stands_first ms l) true (cond (cond c false (stands_first ms (negated l))) false (eqb x l))) (sym (k ∙ e))
 
--- the units, as one comes in
+-- whether a literal is a unit after `x` is added
 unit_with : (x l : ℕ) (f : Stored) → is_unit (with_unit x f) l ≡ cond (is_unit f x) (is_unit f l) (cond (is_unit f (negated x)) (is_unit f l) (is_unit f l || eqb x l))
 unit_with x l f = go (is_unit f x) (is_unit f (negated x))
   where
@@ -66,7 +66,7 @@ unit_with x l f = go (is_unit f x) (is_unit f (negated x))
         ap (λ ls. is_among ls l) (map-append (λ (u : StoredUnit). u.literal) f.units ((record { id = f.next_id; literal = x }) ∷ []))
         ∙ among-append (unit_literals f) (x ∷ []) l ∙ ap (λ b. is_unit f l || b) (or_false (eqb x l))
 
--- one more is with_assumed
+-- one more unit is assumed, if there is room for it
 module _ (t : LiteralsAndRoom) (before : List ℕ) (f : Stored) (x : ℕ) (s : AssumesUnits t before f) (paired : (l : ℕ) → is_among t.room l ≡ is_among t.room (negated l)) where
   same_room : (l : ℕ) → is_among t.room l ≡ true → is_among (with_assumed x t) l ≡ is_unit (with_unit x f) l
   same_room l r = go (is_among t.room x) refl ∙ sym (unit_with x l f)
@@ -138,7 +138,7 @@ module _ (t : LiteralsAndRoom) (before : List ℕ) (f : Stored) (x : ℕ) (s : A
   pub assumes_more : AssumesUnits (record t { literals = with_assumed x t }) (before ++ x ∷ []) (with_unit x f)
   assumes_more = record { agrees = same_room; others = same_others }
 
--- what is assumed stays below
+-- assuming one more unit preserves `AssumesMore`
 pub assumed_more : (old mid new : LiteralsAndRoom) (x : ℕ) → AssumesMore old mid → new ≡ record mid { literals = with_assumed x mid } → AssumesMore old new
 assumed_more old mid new x h e = subst (AssumesMore old) (sym e) (go (is_among mid.room x && not (is_among mid.literals x) && not (is_among mid.literals (negated x))))
   where
@@ -146,13 +146,13 @@ assumed_more old mid new x h e = subst (AssumesMore old) (sym e) (go (is_among m
     go true = Extends-more old mid (record mid { literals = x ∷ mid.literals }) x h refl (λ l k. k)
     go false = h
 
--- A unit passes over literals that agree with the units as far as there is room, and about itself.
+-- A unit passes under literals that agree with the units on the literals that have room, and on itself.
 pub agreeing : (room us vs : List ℕ) (l : ℕ) (bs : List (List (List ℕ))) → AllByRecursion (HasClausesRoom room) bs → AgreesOn room us vs → is_among us l ≡ is_among vs l → PassesCheck us (l ∷ []) bs → PassesCheck vs (l ∷ []) bs
 agreeing room us vs l bs roomy same itself (tautology t) = tautology t
 agreeing room us vs l bs roomy same itself (unit_true t) = unit_true (ap (λ b. b || false) (sym itself) ∙ t)
 agreeing room us vs l bs roomy same itself (conflict k) = conflict (rule_same room (negated l ∷ us) (negated l ∷ vs) bs (λ m r. ap (λ b. eqb (negated l) m || b) (same m r)) roomy k)
 
--- the check of a unit that didn't come in without room is the definition's
+-- the check of a unit is exact, unless it was already added without room
 module _ (store : Store) (t : LiteralsAndRoom) (before : List ℕ) (l h : ℕ) (e : (not (is_among t.room l) && stands_first before l) ≡ false) where
   itself : (f : Stored) → AssumesUnits t before f → ((m : ℕ) → is_among t.literals m ≡ true → is_among t.room m ≡ true) → is_among t.literals l ≡ is_unit f l
   itself f s stand = go (is_among t.room l) refl e
@@ -179,7 +179,7 @@ module _ (store : Store) (t : LiteralsAndRoom) (before : List ℕ) (l h : ℕ) (
         (λ p. exact.1 (agreeing t.room (unit_literals f) t.literals l (map (bucket_of store.clauses) (h ∷ [])) roomy (λ m n. sym (s.agrees m n)) (sym is) (subst (PassesCheck (unit_literals f) (l ∷ [])) (sym same) p))),
       )
 
--- what a unit leaves of the clauses
+-- the clauses after a unit is added
 kept_with : (store : Store) (x : ℕ) (f : Stored) → RepresentsClauses store f → RepresentsClauses store (with_unit x f)
 kept_with store x f k = go (is_unit f x) (is_unit f (negated x))
   where
@@ -196,7 +196,7 @@ roomy_with room x f h = go (is_unit f x) (is_unit f (negated x))
     go false true = h
     go false false = h
 
--- The units before one came in, it passed, and those after it are left.
+-- The units before index `i` were added, the unit at `i` passed, and the later units remain.
 pub record Passing (store : Store) (room : List ℕ) (f : Stored) (all : List (ℕ × ℕ)) (i : ℕ) (trail : LiteralsAndRoom) : Type 0 where
   pub now : Stored
   pub kept : RepresentsClauses store now
@@ -205,7 +205,7 @@ pub record Passing (store : Store) (room : List ℕ) (f : Stored) (all : List (�
   pub on : PassAfter now (drop i all) → PassAfter f all
   pub back : PassAfter f all → PassAfter now (drop i all)
 
--- none came in
+-- no unit was added yet
 pub passing_none : (store : Store) (trail : LiteralsAndRoom) (f : Stored) (all : List (ℕ × ℕ)) → ((l : ℕ) → is_among trail.literals l ≡ true → is_among trail.room l ≡ true) → RepresentsClauses store f → ((l : ℕ) → is_among trail.literals l ≡ is_unit f l)
     → HasStoredRoom trail.room f.clauses → Passing store trail.room f all 0 trail
 passing_none store trail f all stand k is h = record {
@@ -221,7 +221,7 @@ passing_none store trail f all stand k is h = record {
     none l n false e = refl
     none l n true e = absurd (both_ways (is_among trail.room l) n (stand l e))
 
--- the next one comes in, and the one after it is judged
+-- the unit at `i` is added, and the next one is judged
 module _ (store : Store) (room : List ℕ) (f : Stored) (all : List (ℕ × ℕ)) (i place : ℕ) (trail : LiteralsAndRoom) (u v : ℕ × ℕ) (some : i + 1 ≡ place) (inside : place < length all) (is : u ≡ get_or all i u) (next : v ≡ get_or all place v)
     (p : Passing store room f all i trail) where
   abbrev pub following : Stored
@@ -236,7 +236,7 @@ module _ (store : Store) (room : List ℕ) (f : Stored) (all : List (ℕ × ℕ)
   came : firsts (take place all) ≡ firsts (take i all) ++ u.0 ∷ []
   came = ap (λ j. firsts (take j all)) (sym some) ∙ ap firsts (take_more all i u (omega arith) ∙ ap (λ x. take i all ++ x ∷ []) (sym is)) ∙ map-append (λ (w : ℕ × ℕ). w.0) (take i all) (u ∷ [])
 
-  -- it is judged over what is assumed then
+  -- the next unit is judged under the literals that are then assumed
   module _ (new : LiteralsAndRoom) (same : trail.room ≡ room) (paired : (l : ℕ) → is_among room l ≡ is_among room (negated l)) (e : new ≡ record trail { literals = with_assumed u.0 trail }) where
     after_assumes : AssumesUnits new (firsts (take place all)) following
     after_assumes =
@@ -262,7 +262,7 @@ module _ (store : Store) (room : List ℕ) (f : Stored) (all : List (ℕ × ℕ)
   pub following_refused : (PassesByHashes following (v.0 ∷ []) (v.1 ∷ []) → ⊥) → PassAfter f all → ⊥
   following_refused n r = n (subst (PassInTurn following) next_split (subst (PassAfter p.now) first_split (p.back r))).0
 
--- none is left
+-- no unit remains
 pub passing_all : (store : Store) (room : List ℕ) (f : Stored) (all : List (ℕ × ℕ)) (i : ℕ) (trail : LiteralsAndRoom) → length all ≤ i + 1 → Passing store room f all i trail → PassAfter f all
 passing_all store room f all i trail l p = p.on (rest p.now all i l)
   where
@@ -273,14 +273,14 @@ passing_all store room f all i trail l p = p.on (rest p.now all i l)
     rest g (u ∷ v ∷ us) zero l = absurd (omega arith)
     rest g (u ∷ us) (suc j) l = rest g us j (omega arith)
 
--- looks of the units so far
+-- the looks for the units so far
 pub looks_then : (old looks new p n : ℕ) → 1 ≤ p → looks ≤ old + (p - 1) * n → new ≤ looks + n → new ≤ old + (p + 1 - 1) * n
 looks_then old looks new p n l h k = let e : (p + 1 - 1) * n ≡ (p - 1) * n + n = ap (λ q. q * n) (let d : p + 1 - 1 ≡ suc (p - 1) = omega arith in d) ∙ (let g : suc (p - 1) * n ≡ (p - 1) * n + n = grind arith in g) in omega arith
 
 pub looks_end : (old looks p m n : ℕ) → p - 1 ≤ m - 1 → looks ≤ old + (p - 1) * n → looks ≤ old + (m - 1) * n
 looks_end old looks p m n l h = let e : (p - 1) * n ≤ (m - 1) * n = grind arith in omega arith
 
--- over units, whatever their ids
+-- the result for units with these literals, whatever their ids
 pub passed_units : {E : Type 0} (r : Result Bool E) (store : Store) (value : UnitsAndRoom) (trail : LiteralsAndRoom) (units : List (ℕ × ℕ)) → ((l : ℕ) → is_among trail.literals l ≡ is_among (map (λ u. u.literal) value.units) l) → trail.room ≡ value.room
     → IfOk r (λ b. (f : Stored) → RepresentsClauses store f → ((l : ℕ) → is_among trail.literals l ≡ is_unit f l) → HasStoredRoom trail.room f.clauses → (b ≡ true) ↔ PassAfter f units)
     → IfOk r (λ b. (f : Stored) → RepresentsClauses store f → map (λ u. u.literal) value.units ≡ unit_literals f → HasStoredRoom value.room f.clauses → (b ≡ true) ↔ PassAfter f units)
@@ -290,7 +290,7 @@ passed_units (Err e) store value trail units same room h = tt
 pub short_units : {E : Type 0} (r : Result Bool E) (store : Store) (old new : List ℕ) → old ≡ new → OnErr r ((f : Stored) → RepresentsClauses store f → HasStoredRoom old f.clauses → ⊥) → OnErr r ((f : Stored) → RepresentsClauses store f → HasStoredRoom new f.clauses → ⊥)
 short_units r store old new e h = subst (λ x. OnErr r ((f : Stored) → RepresentsClauses store f → HasStoredRoom x f.clauses → ⊥)) e h
 
--- over all that a check needs
+-- the result for every state for which `ChecksAs` holds
 pub passed_as : {E : Type 0} (r : Result Bool E) (F : Formula) (units : List (ℕ × ℕ))
     → IfOk r (λ b. (f : Stored) → RepresentsClauses F.store f → map (λ u. u.literal) F.units.units ≡ unit_literals f → HasStoredRoom F.units.room f.clauses → (b ≡ true) ↔ PassAfter f units)
     → IfOk r (λ b. (f : Stored) → ChecksAs F f → (b ≡ true) ↔ PassAfter f units)

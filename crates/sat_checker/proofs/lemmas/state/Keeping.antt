@@ -1,4 +1,4 @@
--- What steps leave of the checker's state.
+-- What the checker's state represents after a step.
 use Rattle.std.proofs.Common.{ℕ, ◌≡◌, Bool, false, cond, List, [], ◌∷◌, Option, None, Some, refl, sym, ◌∙◌, ap, subst, Result, Ok, Err}
 use Rattle.std.specs.List.{AllByRecursion}
 use Rattle.sat_base.specs.values.Literals.{variable}
@@ -20,7 +20,7 @@ use Rattle.sat_checker.proofs.lemmas.state.Refiled.{loosened}
 use Rattle.sat_checker.proofs.lemmas.state.Scanning.{same_part}
 use Rattle.sat_checker.proofs.lemmas.meaning.Names.{SameVariables, stored_same, settled_same}
 
--- an error is handed on
+-- an error is passed on
 pub decides_err : {T : Type 0} (first : Result T StoreError) (result : Result Bool StoreError) (d e : StoreError) → first ≡ Err e → result ≡ Err d → d ≡ e → (K A L : Type 0) (g h : Stored) → A → (IsSpent g → IsSpent h) → KeepsOrSpends first K g → FormulaEffectIf result A L h
 decides_err {T = T} first result d e a b s K A L g h p w t = subst (λ x. FormulaEffectIf x A L h) (sym (b ∙ ap Err s)) (go e (subst (λ x. KeepsOrSpends x K g) a t))
   where
@@ -32,18 +32,18 @@ pub sampling_kept : (vs : Variables) (f : Stored) (ls : List ℕ) → KeepsVaria
 sampling_kept vs f [] k h = tt
 sampling_kept vs f (l ∷ ls) k h = (sym (ap (λ (x : Variable). x.mode) (k.each (variable l))) ∙ h.0, sampling_kept vs f ls k h.1)
 
--- what is kept says more
+-- the claim about what is stored may be weakened
 pub turns_then : {T : Type 0} (result : Result T StoreError) (K L : Type 0) (g : Stored) → (K → L) → KeepsOrSpends result K g → KeepsOrSpends result L g
 turns_then (Ok x) K L g f k = f k
 turns_then (Err OutOfMemory) K L g f k = tt
 turns_then (Err CounterEnd) K L g f k = k
 
--- a clause that was derived
+-- the state after a derived clause
 pub derived : (new : State) (f : Stored) (r : Bool) (c : List ℕ) → RepresentsFormula new.formula (with_stored r c (with_literals_known c f)) → KeepsVariables new.variables (with_literals_known c f).variables → new.assumed ≡ canonical f.assumed
     → RepresentsStored new (with_stored r c (with_literals_known c f))
 derived new f r c F V a = let s = stored_same r c (with_literals_known c f) in record { formula = loosened new.formula (with_stored r c (with_literals_known c f)) F; variables = subst (KeepsVariables new.variables) (sym s.variables) V; assumed = a ∙ ap canonical (sym s.assumed) }
 
--- a clause of the formula
+-- the state after an input clause
 pub input_kept : (new : State) (f : Stored) (c : List ℕ) → RepresentsFormula new.formula (with_input c (with_literals_known c f)) → KeepsVariables new.variables (with_literals_known c f).variables → new.assumed ≡ canonical f.assumed → RepresentsStored new (with_added_clause c f)
 input_kept new f c F V a =
     let s = stored_same false c (with_literals_known c f) in record { formula = loosened new.formula (with_input c (with_literals_known c f)) F; variables = subst (KeepsVariables new.variables) (sym s.variables) V; assumed = a ∙ ap canonical (sym s.assumed) }
@@ -54,7 +54,7 @@ added new f c e k = subst (λ b. RepresentsStored new (cond b f (with_added_clau
 pub added_spent : (f : Stored) (c : List ℕ) → f.unsat ≡ false → IsSpent (with_added_clause c f) → IsSpent (effect (AddClause c) f)
 added_spent f c e k = subst (λ b. IsSpent (cond b f (with_added_clause c f))) (sym e) k
 
--- a solver name
+-- the state after a solver name is set or removed
 pub renamed : (new : State) (f : Stored) (v : ℕ) (name : Option ℕ) (n : ℕ) → name ≡ Some n → RepresentsFormula (refiled_in new.formula) (with_solver_name v (Some n) f) → KeepsVariables new.variables (with_known (v ∷ []) f).variables → new.assumed ≡ canonical f.assumed
     → RepresentsStored new (effect (SolverVarName v name) f)
 renamed new f v name n e F V a = subst (λ o. RepresentsStored new (effect (SolverVarName v o) f)) (sym e) (record { formula = F; variables = V; assumed = a })
@@ -62,7 +62,7 @@ renamed new f v name n e F V a = subst (λ o. RepresentsStored new (effect (Solv
 pub unnamed : (new : State) (f : Stored) (v : ℕ) (name : Option ℕ) → name ≡ None → RepresentsFormula (refiled_in new.formula) (with_solver_name v None f) → KeepsVariables new.variables f.variables → new.assumed ≡ canonical f.assumed → RepresentsStored new (effect (SolverVarName v name) f)
 unnamed new f v name e F V a = subst (λ o. RepresentsStored new (effect (SolverVarName v o) f)) (sym e) (record { formula = F; variables = V; assumed = a })
 
--- the last irredundant clause, beside a clause or its sorted literals
+-- a strict part of a clause is a strict part of its sorted literals
 pub strict_on : (o : Option (List ℕ)) (c ls : List ℕ) → ls ≡ canonical c → IsStrictSubset o c → IsStrictSubset o ls
 strict_on None c ls e h = h
 strict_on (Some ms) c ls e h = subst (IsStrictSubset (Some ms)) (sym e) (same_part ms c ms (canonical c) (λ l. refl) (canonical_among c) ∙ h.0, same_part c ms (canonical c) ms (canonical_among c) (λ l. refl) ∙ h.1)
@@ -72,11 +72,11 @@ strict_back None c ls e h = h
 strict_back (Some ms) c ls e h =
     let k = subst (IsStrictSubset (Some ms)) e h in (sym (same_part ms c ms (canonical c) (λ l. refl) (canonical_among c)) ∙ k.0, sym (same_part c ms (canonical c) ms (canonical_among c) (λ l. refl)) ∙ k.1)
 
--- a core, beside the assumptions
+-- whether a core is among the assumptions
 pub within_assumed : (b : Bool) (core assumed whole : List ℕ) → whole ≡ canonical assumed → b ≡ is_part core whole → b ≡ is_part core assumed
 within_assumed b core assumed whole w e = e ∙ ap (is_part core) w ∙ same_part core assumed core (canonical assumed) (λ l. refl) (canonical_among assumed)
 
--- a deletion changes clauses alone
+-- a deletion changes only clauses
 pub deletion_same : (f : Stored) (c : List ℕ) (p : Deletion) → SameVariables f (effect (DeleteClause c p) f)
 deletion_same f c Redundant = record { variables = refl; deleted = refl; assumed = refl }
 deletion_same f c Satisfied = record { variables = refl; deleted = refl; assumed = refl }
@@ -89,7 +89,7 @@ deleted_kept old new f c p k F v a = let s = deletion_same f c p in record {
   assumed = a ∙ k.assumed ∙ ap canonical (sym s.assumed);
 }
 
--- what a step answers after a settled conflict
+-- the state after a unit conflict is settled
 pub settled_kept : (old new : State) (f : Stored) → RepresentsStored old f → RepresentsFormula (refiled_in new.formula) (settled f) → new.variables ≡ old.variables → new.assumed ≡ old.assumed → RepresentsStored new (settled f)
 settled_kept old new f k F v a = let s = settled_same f in record {
   formula = F;

@@ -1,4 +1,4 @@
--- What is said of a step of one kind is said of the step that is it.
+-- What is proved for a step of one kind holds for an equal step.
 use Rattle.std.proofs.Common.{ℕ, ◌≡◌, Bool, Result, sym, subst}
 use Rattle.sat_base.specs.steps.Steps.{Step}
 use Rattle.sat_checker.specs.inner.StateView.{DecidesStep, LooksWithin}

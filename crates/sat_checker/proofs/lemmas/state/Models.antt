@@ -1,4 +1,4 @@
--- What is checked of a model, test by test.
+-- The tests that a model must pass.
 use Rattle.std.proofs.Common.{ℕ, zero, suc, ◌+◌, ◌<◌, ◌≡◌, ◌≢◌, Bool, true, false, not, ◌||◌, ◌&&◌, eqb, List, [], ◌∷◌, length, drop, get_or, map, refl, sym, ◌∙◌, ap, subst, arith, ◌⊎◌, inl, inr, ◌↔◌}
 use Rattle.std.proofs.lemmas.Bool.{and_parts, or_cases, or_left, or_right, both_ways, eqb-true, eq-eqb, ne_eqb, true≢false}
 use Rattle.std.proofs.lemmas.List.{drop_more, get_or_read}
@@ -12,7 +12,7 @@ use Rattle.sat_checker.specs.inner.ModelTests.{are_all_true}
 same_variable : (x l : ℕ) → x ≡ negated l → variable x ≡ variable l
 same_variable x l e = omega arith
 
--- a variable is among the variables of literals if one of its literals is among these
+-- a list mentions a variable if it has one of its literals
 var_among : (ls : List ℕ) (l : ℕ) → (is_among ls l ≡ true) ⊎ (is_among ls (negated l) ≡ true) → mentions ls (variable l) ≡ true
 var_among [] l (inl h) = absurd (true≢false (sym h))
 var_among [] l (inr h) = absurd (true≢false (sym h))
@@ -54,7 +54,7 @@ apart_drop [] (suc i) h = tt
 apart_drop (l ∷ ls) zero h = h
 apart_drop (l ∷ ls) (suc i) h = apart_drop ls i h.1
 
--- one literal more, from the back
+-- one more literal, from the last to the first
 module _ (ls : List ℕ) (i : ℕ) (inside : i < length ls) where
   pub apart_more : is_among (drop (i + 1) ls) (get_or ls i 0) ≡ false → is_among (drop (i + 1) ls) (negated (get_or ls i 0)) ≡ false → VariablesApart (drop (i + 1) ls) → VariablesApart (drop i ls)
   apart_more a b h = rw (drop_more ls i 0 inside) ((var_not_among (drop (i + 1) ls) (get_or ls i 0) a b, h))
@@ -69,7 +69,7 @@ module _ (ls : List ℕ) (i : ℕ) (inside : i < length ls) where
 
 pub ruleset setting_apart = (apart_more, drop_back)
 
--- the literals from p on are assumed, and the one before was met
+-- if the literal at `i`, or its negation, is among the later literals, a variable occurs twice
 pub met_same : (ls assigned : List ℕ) (i p l : ℕ) → i + 1 ≡ p → i < length ls → l ≡ get_or ls i l → assigned ≡ drop p ls → true ≡ is_among assigned l → VariablesApart ls → ⊥
 met_same ls assigned i p l e inside read set t =
     clash ls i inside (inl (ap (is_among (drop (i + 1) ls)) (sym (get_or_read ls i l inside read 0)) ∙ ap (λ n. is_among (drop n ls) l) e ∙ ap (λ xs. is_among xs l) (sym set) ∙ sym t))
@@ -78,7 +78,7 @@ pub met_negated : (ls assigned : List ℕ) (i p l m : ℕ) → i + 1 ≡ p → i
 met_negated ls assigned i p l m e inside read set n t =
     clash ls i inside (inr (ap (λ x. is_among (drop (i + 1) ls) (negated x)) (sym (get_or_read ls i l inside read 0)) ∙ ap (is_among (drop (i + 1) ls)) (sym n) ∙ ap (λ k. is_among (drop k ls) m) e ∙ ap (λ xs. is_among xs m) (sym set) ∙ sym t))
 
--- a list of literals fits the model's definition just where its tests say so
+-- whether the list contains the negation of a unit
 abbrev pub is_contradicted : List ℕ → List StoredUnit → Bool
 is_contradicted ls us = list_any (λ u. is_among ls (negated u.literal)) us
 

@@ -1,4 +1,4 @@
--- There is room for stored clauses, as they come in and go.
+-- The room of stored clauses, as clauses are added and removed.
 use Rattle.std.proofs.Common.{ℕ, ◌+◌, Bool, true, false, cond, ◌&&◌, eqb, List, [], ◌∷◌, ◌++◌, zero, suc, ◌<◌, length, get_or, sym, subst, arith, ◌≡◌}
 use Rattle.sat_checker.specs.LiteralSets.{is_among, same_literals}
 use Rattle.sat_checker.specs.Stored.{StoredClause}
@@ -13,7 +13,7 @@ pub stored_stays : (old new : List ℕ) (cs : List StoredClause) → RoomStays o
 stored_stays old new [] s h = tt
 stored_stays old new (c ∷ cs) s h = (clause_stays old new c.literals s h.0, stored_stays old new cs s h.1)
 
--- one clause more
+-- after a clause is added
 pub stored_with : (room : List ℕ) (r : Bool) (n : ℕ) (ls : List ℕ) (cs : List StoredClause) → HasClauseRoom room ls → HasStoredRoom room cs → HasStoredRoom room (with_stored_clause r n ls cs)
 stored_with room true n ls [] l h = (l, tt)
 stored_with room false n ls [] l h = (l, tt)
@@ -25,7 +25,7 @@ stored_with room r n ls (c ∷ cs) l h = go r (same_literals c.literals ls) (sto
     go false true ih = (h.0, h.1)
     go r false ih = (h.0, ih)
 
--- one count less
+-- after a count is removed
 pub stored_without : (room : List ℕ) (r : Bool) (ls : List ℕ) (cs : List StoredClause) → HasStoredRoom room cs → HasStoredRoom room (without_clause r ls cs)
 stored_without room r ls [] h = tt
 stored_without room r ls (c ∷ cs) h = go (same_literals c.literals ls) (stored_without room r ls cs h.1)
@@ -45,7 +45,7 @@ stored_without room r ls (c ∷ cs) h = go (same_literals c.literals ls) (stored
     go true ih = left (without_count r c) (taken r)
     go false ih = (h.0, ih)
 
--- a literal of a clause that there is room for has room
+-- every literal of a clause that has room has room
 pub roomy_item : (room ls : List ℕ) (i x : ℕ) → i < length ls → x ≡ get_or ls i x → HasClauseRoom room ls → is_among room x ≡ true
 roomy_item room [] i x h e r = absurd (omega arith)
 roomy_item room (l ∷ ls) zero x h e r = subst (λ k. is_among room k ≡ true) (sym e) r.0.0

@@ -14,13 +14,13 @@ module _ (test : ℕ → Bool) (ls : List ℕ) (i : ℕ) (inside : i < length ls
   pub any_passed : test (get_or ls i 0) ≡ false → list_any test (drop i ls) ≡ list_any test (drop (i + 1) ls)
   any_passed t = rw (drop_more ls i 0 inside) (rw t refl)
 
--- the first of those that are left decides, or the others do
+-- whether some remaining literal passes, given the first of them
 pub first_test : (test : ℕ → Bool) (ls : List ℕ) (i l : ℕ) → i < length ls → l ≡ get_or ls i l → list_any test (drop i ls) ≡ (test l || list_any test (drop (i + 1) ls))
 first_test test ls i l inside e = ap (list_any test) (drop_more ls i l inside) ∙ ap (λ m. test m || list_any test (drop (i + 1) ls)) (sym e)
 
 pub ruleset any_literal = (any_found, any_passed)
 
--- one literal more is negated
+-- one more literal is negated
 pub negated_more : (ls : List ℕ) (i d : ℕ) → i < length ls → map negated (take (i + 1) ls) ≡ map negated (take i ls) ++ negated (get_or ls i d) ∷ []
 negated_more ls i d l = let m : i + 1 ≡ suc i = omega arith in ap (λ k. map negated (take k ls)) m ∙ go ls i l
   where
@@ -37,7 +37,7 @@ negated_all (x ∷ xs) (suc i) l = ap (λ ys. negated x ∷ ys) (negated_all xs 
 
 pub ruleset negating = (negated_more, negated_all)
 
--- parts of sets, whatever the order of their literals
+-- flags that imply each other are equal; `is_part` depends only on the members
 implies_same : (a b : Bool) → (a ≡ true → b ≡ true) → (b ≡ true → a ≡ true) → a ≡ b
 implies_same true true f g = refl
 implies_same false false f g = refl

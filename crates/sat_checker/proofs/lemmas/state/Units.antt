@@ -1,4 +1,4 @@
--- Units that are checked and stored in turn.
+-- Units that are checked and stored one by one.
 use Rattle.std.proofs.Common.{ℕ, zero, suc, ◌+◌, ◌<◌, ◌≤◌, ◌≡◌, Bool, true, false, cond, List, [], ◌∷◌, length, drop, get_or, map, refl, sym, ◌∙◌, ap, subst, arith, Result, MatchResult, Ok, Err, inl, inr}
 use Rattle.std.proofs.lemmas.List.{drop_more}
 use Rattle.std.specs.Bool.{MatchBool}
@@ -24,7 +24,7 @@ use Rattle.sat_checker.proofs.lemmas.state.Refiled.{loosened}
 abbrev pub firsts : List (ℕ × ℕ) → List ℕ
 firsts us = map (λ u. u.0) us
 
--- Some units were checked and stored, and these are left.
+-- Some units were checked and stored, and these remain.
 pub record Left (F : Formula) (f : Stored) (all left : List (ℕ × ℕ)) : Type 0 where
   pub now : Stored
   pub kept : RepresentsFormula F now
@@ -41,7 +41,7 @@ count_unit l f = go (is_unit f l) (is_unit f (negated l))
     go false true = refl
     go false false = refl
 
--- what is spent stays so as units come in
+-- a number that does not fit still does not fit after units are added
 spent_unit : (l : ℕ) (f : Stored) → IsSpent f → IsSpent (with_unit l f)
 spent_unit l f h = go (is_unit f l) (is_unit f (negated l)) h
   where
@@ -56,7 +56,7 @@ spent_units : (ls : List ℕ) (f : Stored) → IsSpent f → IsSpent (with_units
 spent_units [] f h = h
 spent_units (l ∷ ls) f h = spent_units ls (with_unit l f) (spent_unit l f h)
 
--- the next one of those that are left
+-- the next of the remaining units
 module _ (F : Formula) (f : Stored) (all : List (ℕ × ℕ)) (i : ℕ) (u : ℕ × ℕ) (inside : i < length all) (is : u ≡ get_or all i u) (left : Left F f all (drop i all)) where
   split : drop i all ≡ u ∷ drop (i + 1) all
   split = drop_more all i u inside ∙ ap (λ x. x ∷ drop (i + 1) all) (sym is)
@@ -83,7 +83,7 @@ module _ (F : Formula) (f : Stored) (all : List (ℕ × ℕ)) (i : ℕ) (u : ℕ
   pub spent_then : IsSpent (with_unit u.0 left.now) → IsSpent (with_units (firsts all) f)
   spent_then s = subst IsSpent (ap (λ us. with_units (firsts us) left.now) (sym split) ∙ left.same) (spent_units (firsts (drop (i + 1) all)) (with_unit u.0 left.now) s)
 
--- none is left
+-- no unit remains
 pub finished : (F : Formula) (f : Stored) (all : List (ℕ × ℕ)) (i : ℕ) → length all ≤ i → Left F f all (drop i all) → PassInTurn f all × RepresentsFormula F (with_units (firsts all) f)
 finished F f all i l left = let e = past all i l in (left.on (subst (PassInTurn left.now) (sym e) tt), subst (RepresentsFormula F) (ap (λ us. with_units (firsts us) left.now) (sym e) ∙ left.same) left.kept)
   where
@@ -93,7 +93,7 @@ finished F f all i l left = let e = past all i l in (left.on (subst (PassInTurn 
     past (x ∷ xs) zero l = absurd (omega arith)
     past (x ∷ xs) (suc i) l = past xs i (omega arith)
 
--- A fault was met at one of them, which passes: those after it pass too, or the units are refused.
+-- After an error at a unit, the later units decide whether the units are refused or the error is returned.
 pub failed : (r : Result Bool StoreError) (fault : StoreError) (A B P K L : Type 0) (g h : Stored) → FormulaEffectIf (Err fault) A K g → (IsSpent g → IsSpent h) → (A → P → B) → (B → P)
     → MatchResult r (λ passes. (passes ≡ false) × (P → ⊥)) (λ e. (e ≡ fault) × P) → FormulaEffectIf r B L h
 failed (Ok true) fault A B P K L g h t spent on back m = absurd (let e : true ≡ false = m.0 in cc)
@@ -104,7 +104,7 @@ failed (Err e) fault A B P K L g h t spent on back m = subst (λ x. FormulaEffec
     go OutOfMemory a = on a m.1
     go CounterEnd a = (on a.0 m.1, spent a.1)
 
--- units and known variables come in apart from each other
+-- adding units and making variables known commute
 known_unit : (vs : List ℕ) (l : ℕ) (f : Stored) → with_unit l (with_known vs f) ≡ with_known vs (with_unit l f)
 known_unit vs l f = go (is_unit f l) (is_unit f (negated l))
   where
@@ -126,7 +126,7 @@ units_stored new f us F V a =
       assumed = a ∙ ap canonical (sym s.assumed);
     })
 
--- an answer by another
+-- the claims about a flag may be weakened
 pub match_on : (b : Bool) (P Q N M : Type 0) → (P → Q) → (N → M) → MatchBool b P N → MatchBool b Q M
 match_on true P Q N M h g m = h m
 match_on false P Q N M h g m = g m

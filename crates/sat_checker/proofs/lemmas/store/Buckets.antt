@@ -1,4 +1,4 @@
--- Buckets beside all clauses.
+-- Buckets compared with all stored clauses: looks and room.
 use Rattle.std.proofs.Common.{ℕ, ◌+◌, ◌*◌, ◌<◌, ◌≤◌, ◌&&◌, map, ◌≡◌, Bool, true, false, not, cond, eqb, List, [], ◌∷◌, filter, ◌++◌, sym, ap, arith}
 use Rattle.std.specs.List.{AllByRecursion}
 use Rattle.sat_checker.specs.Looks.{total_length}
@@ -25,7 +25,7 @@ looks_more old looks new i n b h k l = let e : (i + 1) * n ≡ i * n + n = grind
 pub looks_within : (old looks i m n : ℕ) → looks ≤ old + i * n → i ≤ m → looks ≤ old + m * n
 looks_within old looks i m n h l = let e : i * n ≤ m * n = grind arith in omega arith
 
--- looks of some, of one more, and of the rest
+-- the looks for the first items, for one more, and for the rest
 pub looks_rest : (old looks then new i k all n m : ℕ) → m ≡ n → k + (i + 1) ≡ all → looks ≤ old + i * n → then ≤ looks + m → new ≤ then + k * m → new ≤ old + all * n
 looks_rest old looks then new i k all n m e f g h l =
     let d : (k + (i + 1)) * n ≡ k * n + i * n + n = grind arith in
@@ -42,7 +42,7 @@ walked_within old looks new i m h ss a b l = looks_within old new (i + 1) m (liv
 pub walked_all : (old looks i m : ℕ) (ss : List Slot) → looks ≤ old + i * live_length ss → i ≤ m → looks ≤ old + m * live_length ss
 walked_all old looks i m ss a l = looks_within old looks i m (live_length ss) a l
 
--- where there is room for what is stored, there is room for a bucket
+-- if all stored clauses have room, so have the clauses of a bucket
 pub bucket_roomy : (room : List ℕ) (h : ℕ) (ss : List Slot) → HasStoredRoom room (live ss) → HasClausesRoom room (bucket_in h ss)
 bucket_roomy room h [] r = tt
 bucket_roomy room h (s ∷ ss) r = go (is_gone s) (eqb s.hash h) r (bucket_roomy room h ss)
@@ -57,11 +57,11 @@ pub buckets_roomy : (room : List ℕ) (hashes : List ℕ) (ss : List Slot) → H
 buckets_roomy room [] ss r = tt
 buckets_roomy room (h ∷ hs) ss r = (bucket_roomy room h ss r, buckets_roomy room hs ss r)
 
--- and there still is where more is assumed
+-- stored clauses still have room if more literals have room
 pub stored_further : (old new : List ℕ) (cs : List StoredClause) → RoomStays old new → HasStoredRoom old cs → HasStoredRoom new cs
 stored_further old new cs s = each_weaker (λ c. HasClauseRoom old c.literals) (λ c. HasClauseRoom new c.literals) (λ c. roomy_further old new c.literals s) cs
 
--- in no clause of a bucket a literal stands twice
+-- no literal occurs twice in a clause of a bucket
 pub buckets_once : (ss : List Slot) (hashes : List ℕ) → AllByRecursion IsIncreasing (all_lits ss) → AllByRecursion (AllByRecursion NoRepeats) (map (bucket_of ss) hashes)
 buckets_once ss [] h = tt
 buckets_once ss (k ∷ ks) h = (bucket_once ss h, buckets_once ss ks h)

@@ -1,4 +1,4 @@
--- How often literals stand in clauses, as these come in and go.
+-- How often literals occur in clauses, as clauses are added and removed.
 use Rattle.std.proofs.Common.{ℕ, zero, suc, ◌+◌, ◌<◌, ◌≤◌, ◌^◌, ◌≡◌, Bool, true, false, cond, eqb, List, [], ◌∷◌, ◌++◌, length, Option, refl, ◌∙◌, ap, subst, arith, slice_set, length-append}
 use Rattle.std.proofs.lemmas.Bool.{eqb-true, or_parts}
 use Rattle.std.specs.List.{AllByRecursion}
@@ -12,21 +12,21 @@ use Rattle.sat_checker.proofs.lemmas.sets.Marks.{below_all}
 use Rattle.sat_checker.proofs.lemmas.store.Places.{gone_more, gone_not}
 
 module _ (l : ℕ) where
-  -- how often the literal stands in a slot's clause, if it isn't gone
+  -- how often the literal occurs in a slot's clause, or 0 if the clause is removed
   abbrev pub occurrences_of : Slot → ℕ
   occurrences_of s = cond (is_gone s) 0 (times_in l s.clause.literals)
 
-  -- one slot more at the end
+  -- after a slot is appended
   times_push : (ss : List Slot) (s : Slot) → times_stored l (ss ++ s ∷ []) ≡ times_stored l ss + occurrences_of s
   times_push [] s = omega arith
   times_push (t ∷ ss) s = let ih : times_stored l (ss ++ s ∷ []) ≡ times_stored l ss + occurrences_of s = times_push ss s in omega (arith, ih)
 
-  -- and one that is stored once
+  -- after a clause that is stored once is appended
   pub times_more : (redundant : Bool) (id hash : ℕ) (literals : List ℕ) (ss : List Slot) → times_stored l (ss ++ stored_slot redundant id hash literals ∷ []) ≡ times_stored l ss + times_in l literals
   times_more true id hash literals ss = times_push ss (stored_slot true id hash literals)
   times_more false id hash literals ss = times_push ss (stored_slot false id hash literals)
 
-  -- a slot that is set
+  -- after a slot is replaced
   times_set : (ss : List Slot) (i : ℕ) (t : Slot) → i < length ss → times_stored l (slice_set ss i t) + occurrences_of (slot_at ss i) ≡ times_stored l ss + occurrences_of t
   times_set [] i t k = absurd (omega arith)
   times_set (s ∷ ss) zero t k = omega arith
@@ -43,7 +43,7 @@ module _ (l : ℕ) where
   left_literals true c = refl
   left_literals false c = refl
 
-  -- a count more of a clause that isn't gone
+  -- after a count is added to a clause that is not removed
   pub times_counted : (r : Bool) (i : ℕ) (ss : List Slot) → i < length ss → is_gone (slot_at ss i) ≡ false → times_stored l (with_count_at r i ss) ≡ times_stored l ss
   times_counted r i ss k g =
       let c : StoredClause = (slot_at ss i).clause in
@@ -54,7 +54,7 @@ module _ (l : ℕ) where
       let b : occurrences_of t ≡ times_in l c.literals = at_state t false (gone_more c h r) ∙ counted_literals r c in
       omega (arith, e, a, b)
 
-  -- a count less of one that stays, and of one that is gone then
+  -- after a count is removed from a clause, which may remove the clause
   module _ (r : Bool) (i : ℕ) (ss : List Slot) (k : i < length ss) (g : 0 < slot_count r (slot_at ss i)) where
     abbrev left : Slot
     left = record { clause = without_count r (slot_at ss i).clause; hash = (slot_at ss i).hash }
@@ -74,7 +74,7 @@ module _ (l : ℕ) where
         let b : occurrences_of left ≡ 0 = at_state left true h in
         omega (arith, e, was, b)
 
-  -- filed anew
+  -- after all clauses are filed again
   pub times_hashed : (names : ℕ → Option ℕ) (width : ℕ) (ss : List Slot) → times_stored l (all_hashed_by names width ss) ≡ times_stored l ss
   times_hashed names width [] = refl
   times_hashed names width (s ∷ ss) = go (is_gone s) refl (times_hashed names width ss)
@@ -83,7 +83,7 @@ module _ (l : ℕ) where
       go true e ih = ap (λ n. occurrences_of s + n) ih
       go false e ih = ap (λ n. occurrences_of s + n) ih
 
-  -- a literal stands once at most in a sorted clause, and so no more often than there are clauses
+  -- a literal that is not in a clause occurs 0 times, and one in a sorted clause at most once
   times_beyond : (ls : List ℕ) → is_among ls l ≡ false → times_in l ls ≡ 0
   times_beyond [] h = refl
   times_beyond (x ∷ xs) h =
@@ -111,7 +111,7 @@ each_before : (ss : List Slot) (x : Slot) → AllByRecursion IsIncreasing (all_l
 each_before [] x h = tt
 each_before (s ∷ ss) x h = (h.0, each_before ss x h.1)
 
--- there is room for the counts of one clause more
+-- the counts of one more clause fit in 64 bits
 pub few_more : (l count n : ℕ) (ss new : List Slot) (x : Slot) (literals : List ℕ) → count ≡ times_stored l ss → new ≡ ss ++ x ∷ [] → AllByRecursion IsIncreasing (all_lits new) → IsIncreasing literals → n ≡ length new → n < 2 ^ 64 → count + times_in l literals < 2 ^ 64
 few_more l count n ss new x literals c e each one m f =
     let a : times_stored l ss ≤ length ss = times_few l ss (each_before ss x (subst (λ ts. AllByRecursion IsIncreasing (all_lits ts)) e each)) in
@@ -119,6 +119,6 @@ few_more l count n ss new x literals c e each one m f =
     let d : length new ≡ length ss + 1 = ap length e ∙ length-append ss (x ∷ []) in
     omega (arith, a, b, c, d, m, f)
 
--- the place of the last
+-- the place of the last slot
 pub last_place : (old new : List Slot) (x : Slot) (n : ℕ) → n ≡ length new → new ≡ old ++ x ∷ [] → n ≡ length old + 1
 last_place old new x n m e = m ∙ ap length e ∙ length-append old (x ∷ [])

@@ -1,4 +1,4 @@
--- Clauses that are gone are dropped, and the others keep all but their places.
+-- Removed clauses are dropped, and the others change only their places.
 use Rattle.std.proofs.Common.{ℕ, zero, suc, ◌+◌, ◌<◌, ◌≤◌, ◌≡◌, inl, inr, Bool, true, false, not, ◌&&◌, cond, eqb, List, [], ◌∷◌, ◌++◌, length, length-append, take, drop, Option, refl, sym, ◌∙◌, ap, subst, arith, slice_set}
 use Rattle.std.proofs.lemmas.Bool.{or_left, or_right, eq-eqb}
 use Rattle.std.proofs.lemmas.List.{append-nil, append_assoc, drop_more}
@@ -18,7 +18,7 @@ use Rattle.sat_checker.specs.declared.store.occurrences.Occurrences.{Occurrences
 use Rattle.sat_checker.specs.declared.store.Store.{Store}
 use Rattle.sat_checker.proofs.lemmas.store.Places.{gone_more, gone_not, set_at}
 
--- how many are gone, as clauses come in and go
+-- the number of removed clauses, as slots are appended and replaced
 gone_push : (ss : List Slot) (s : Slot) → gone_count (ss ++ s ∷ []) ≡ gone_count ss + cond (is_gone s) 1 0
 gone_push [] s = omega arith
 gone_push (t ∷ ss) s = let ih : gone_count (ss ++ s ∷ []) ≡ gone_count ss + cond (is_gone s) 1 0 = gone_push ss s in omega (arith, ih)
@@ -47,7 +47,7 @@ gone_counted r i old ss new is l g e =
     let d : gone_count (slice_set ss i t) ≡ gone_count ss = omega (arith, a, b, c) in
     ap gone_count (e ∙ ap (with_count_at r i) is) ∙ d ∙ ap gone_count (sym is)
 
--- a count less
+-- after a count is removed
 module _ (old ss new : List Slot) (r : Bool) (i : ℕ) (is : old ≡ ss) (l : i < length ss) (c : 0 < slot_count r (slot_at ss i)) (e : new ≡ without_count_at r i old) where
   abbrev left : Slot
   left = record (slot_at ss i) { clause = without_count r (slot_at ss i).clause }
@@ -70,7 +70,7 @@ module _ (old ss new : List Slot) (r : Bool) (i : ℕ) (is : old ≡ ss) (l : i 
   pub gone_removed : is_gone (slot_at new i) ≡ true → gone_count new ≡ gone_count old + 1
   gone_removed h = let a = one true h in omega (arith, a)
 
--- not all were gone before
+-- if some clause is not removed, fewer clauses are removed than there are slots
 pub gone_fewer : (ss : List Slot) (i : ℕ) → i < length ss → is_gone (slot_at ss i) ≡ false → gone_count ss < length ss
 gone_fewer [] i l g = absurd (omega arith)
 gone_fewer (s ∷ ss) zero l g = let a = one_if (is_gone s) false g in let b = most ss in omega (arith, a, b)
@@ -99,7 +99,7 @@ gone_hashed names width ss new e = ap gone_count e ∙ all ss
     all [] = refl
     all (x ∷ xs) = let h = one_if _ _ (one (is_gone x) x refl) in let ih = all xs in omega (arith, h, ih)
 
--- once they are dropped
+-- after removed clauses are dropped
 pub none_gone : (ss : List Slot) → gone_count (slots_present ss) ≡ zero
 none_gone [] = refl
 none_gone (s ∷ ss) = go (is_gone s) refl (none_gone ss)
@@ -148,14 +148,14 @@ rising_standing (s ∷ ss) h = go (is_gone s) (rising_standing ss h.1)
     go true ih = ih
     go false ih = (each_standing (λ m. s.clause.id < m) ss h.0, ih)
 
--- what is kept beside the slots
+-- the invariant of slots still holds after removed clauses are dropped
 pub kept_standing : (ss new : List Slot) (index next : Indexed) (o : Occurrences) → SlotsInvariant ss index o → new ≡ slots_present ss → IndexesSlots next (slots_present ss) → SlotsInvariant new next o
 kept_standing ss new index next o k e f = record {
   files = subst (IndexesSlots next) (sym e) f;
   counted = λ l. k.counted l ∙ sym (times_standing l ss) ∙ ap (times_stored l) (sym e);
 }
 
--- what the store keeps of the definition's state
+-- the store still represents the same after removed clauses are dropped
 pub keeps_dropped : (store : Store) (new : List Slot) (f : Stored) → MayDrop store.clauses new → RepresentsClauses store f → RepresentsClauses (record store { clauses = new }) f
 keeps_dropped store new f (inl e) k = record {
   clauses = ap live e ∙ k.clauses;
@@ -181,7 +181,7 @@ take_whole [] (suc j) k = refl
 take_whole (t ∷ ts) zero k = absurd (omega arith)
 take_whole (t ∷ ts) (suc j) k = ap (λ us. t ∷ us) (take_whole ts j (omega arith))
 
--- those that aren't gone, up to a place
+-- the slots before a place that are not removed
 standing_next : (ss : List Slot) (i : ℕ) → i < length ss → slots_present (take (i + 1) ss) ≡ slots_present (take i ss) ++ cond (not (is_gone (slot_at ss i))) (slot_at ss i ∷ []) []
 standing_next ss i l = filter_more (λ s. not (is_gone s)) ss i (unstored 0 0 []) l
 
@@ -197,7 +197,7 @@ standing_put old mid new ss i s l n same e w =
 pub standing_all : (old mid ss : List Slot) (i : ℕ) → length ss ≤ i → mid ≡ old ++ slots_present (take i ss) → mid ≡ old ++ slots_present ss
 standing_all old mid ss i l e = e ∙ ap (λ xs. old ++ slots_present xs) (take_whole ss i l)
 
--- those that aren't gone, up to a place and from there on
+-- the slots before a place, and from it on, that are not removed
 pub kept_skip : (ss : List Slot) (i : ℕ) → i < length ss → is_gone (slot_at ss i) ≡ true → (slots_present (take (i + 1) ss) ≡ slots_present (take i ss)) × (slots_present (drop i ss) ≡ slots_present (drop (i + 1) ss))
 kept_skip ss i l g = (
   standing_next ss i l ∙ ap (λ b. slots_present (take i ss) ++ cond (not b) (slot_at ss i ∷ []) []) g ∙ append-nil (slots_present (take i ss)),
@@ -210,7 +210,7 @@ kept_next ss i l g = (
   ap slots_present (drop_more ss i (unstored 0 0 []) l) ∙ ap (λ b. cond (not b) (slot_at ss i ∷ slots_present (drop (i + 1) ss)) (slots_present (drop (i + 1) ss))) g,
 )
 
--- the first of those that aren't gone is filed before the others
+-- the pair of the first remaining clause is inserted before the others
 pub filed_kept : (ss : List Slot) (i to next hash : ℕ) → i < length ss → is_gone (slot_at ss i) ≡ false → hash ≡ mixed (slot_at ss i).hash → next + 1 ≡ to
     → inserted (record { hash = hash; place = next }) (inserted_all (pairs_from to (slots_present (drop (i + 1) ss)))) ≡ inserted_all (pairs_from next (slots_present (drop i ss)))
 filed_kept ss i to next hash l g h e =
@@ -219,7 +219,7 @@ filed_kept ss i to next hash l g h e =
     ∙ ap (λ b. inserted_all (cond b (pairs_from (next + 1) (slots_present (drop (i + 1) ss))) ((record { hash = mixed (slot_at ss i).hash; place = next }) ∷ pairs_from (next + 1) (slots_present (drop (i + 1) ss))))) (sym g)
     ∙ ap (λ xs. inserted_all (pairs_from next xs)) (sym (kept_next ss i l g).1)
 
--- one that isn't gone is filed under its hash
+-- a clause that is not removed is filed under its hash
 place_among : (k : ℕ) (ss : List Slot) (i n : ℕ) → i < length ss → is_gone (slot_at ss i) ≡ false → k + i ≡ n → is_among (places_from k (slot_at ss i).hash ss) n ≡ true
 place_among k [] i n l g e = absurd (omega arith)
 place_among k (s ∷ ss) zero n l g e =

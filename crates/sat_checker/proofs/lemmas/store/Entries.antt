@@ -1,4 +1,4 @@
--- Entries of the store and the slots that they mean.
+-- Entries of the store, and the slots that they represent.
 use Rattle.std.proofs.Common.{ℕ, zero, suc, ◌+◌, ◌-◌, ◌<◌, ◌≤◌, ◌≡◌, Bool, true, false, cond, leb, List, [], ◌∷◌, ◌++◌, length, take, drop, get_or, map, refl, sym, ◌∙◌, ap, subst, arith, length-append, length-drop, slice_range, slice_set, Result, Ok, Err, OnErr}
 use Rattle.std.proofs.lemmas.List.{get_or-map, length-map, take-append-le, drop-append-le, map-set, map-append}
 use Rattle.std.proofs.lemmas.List.Elements.{All-push}
@@ -12,7 +12,7 @@ use Rattle.sat_checker.specs.declared.store.filed_hash.FiledHash.{FiledHash}
 use Rattle.sat_checker.specs.declared.store.slots.Entry.{Entry}
 use Rattle.sat_checker.specs.declared.store.slots.ClauseLits.{ClauseLits}
 
--- an entry that is read is the model's slot
+-- an entry represents the slot at its place
 module _ (buffer : List ℕ) (es : List Entry) (value : List Slot) (i : ℕ) (x : Entry) (is : map (slot_of buffer) es ≡ value) (inside : i < length value) (read : x ≡ get_or es i x) where
   there : i < length (map (slot_of buffer) es)
   there = subst (λ v. i < length v) (sym is) inside
@@ -25,7 +25,7 @@ module _ (buffer : List ℕ) (es : List Entry) (value : List Slot) (i : ℕ) (x 
       subst (λ v. slot_of buffer x ≡ slot_at v i) is
       (ap (slot_of buffer) read ∙ sym (get_or-map (slot_of buffer) es i x (unstored 0 0 []) here))
 
--- the ids of entries are those of the slots that they mean
+-- the ids of entries are the ids of their slots
 pub entry_ids : (buffer : List ℕ) (es : List Entry) (value : List Slot) → map (slot_of buffer) es ≡ value → map (λ (e : Entry). e.id) es ≡ slot_ids value
 entry_ids buffer es value is = go es ∙ ap slot_ids is
   where
@@ -38,7 +38,7 @@ id_at [] i k l e = absurd (omega arith)
 id_at (s ∷ ss) zero k l e = e
 id_at (s ∷ ss) (suc i) k l e = id_at ss i k (omega arith) e
 
--- each clause of the list is increasing
+-- the literals of every slot are increasing
 pub each_increasing : (buffer : List ℕ) (es : List Entry) (value : List Slot) → map (slot_of buffer) es ≡ value → All (IsEntry buffer) es → AllByRecursion IsIncreasing (all_lits value)
 each_increasing buffer es value is right = subst (λ v. AllByRecursion IsIncreasing (all_lits v)) is (go es (λ k d. right k d))
   where
@@ -46,7 +46,7 @@ each_increasing buffer es value is right = subst (λ v. AllByRecursion IsIncreas
     go [] h = tt
     go (x ∷ xs) h = ((h 0 x (omega arith)).increasing, go xs (λ k d l. h (suc k) d (omega arith)))
 
--- what lies in the buffer stays as literals are put at its end
+-- what is in the buffer stays the same after literals are appended
 range_more : (buffer more : List ℕ) (a b : ℕ) → a ≤ b → b ≤ length buffer → slice_range (buffer ++ more) a b ≡ slice_range buffer a b
 range_more buffer more a b h k =
     ap (take (b - a)) (drop-append-le a buffer more (omega arith)) ∙ take-append-le (b - a) (drop a buffer) more (omega (arith, length-drop a buffer))
@@ -78,14 +78,14 @@ slots_more buffer more (e ∷ es) right =
     let rest : map (slot_of (buffer ++ more)) es ≡ map (slot_of buffer) es = slots_more buffer more es (λ k d l. right (suc k) d (omega arith)) in
     ap (λ x. x ∷ map (slot_of (buffer ++ more)) es) same ∙ ap (λ xs. slot_of buffer e ∷ xs) rest
 
--- the same over a buffer that is known to be longer
+-- the same for a buffer that extends the old one
 pub entries_over : (buffer all : List ℕ) (es : List Entry) → (more : List ℕ) × (all ≡ buffer ++ more) → All (IsEntry buffer) es → All (IsEntry all) es
 entries_over buffer all es p right = subst (λ b. All (IsEntry b) es) (sym p.1) (entries_more buffer p.0 es right)
 
 pub slots_over : (buffer all : List ℕ) (es : List Entry) (value : List Slot) → (more : List ℕ) × (all ≡ buffer ++ more) → All (IsEntry buffer) es → map (slot_of buffer) es ≡ value → map (slot_of all) es ≡ value
 slots_over buffer all es value p right is = ap (λ b. map (slot_of b) es) p.1 ∙ slots_more buffer p.0 es right ∙ is
 
--- one entry more
+-- one entry is appended
 pub entries_pushed : (buffer : List ℕ) (es new : List Entry) (e : Entry) (ok : Bool) → All (IsEntry buffer) es → IsEntry buffer e → new ≡ cond ok (es ++ e ∷ []) es → All (IsEntry buffer) new
 entries_pushed buffer es new e ok right one n = subst (All (IsEntry buffer)) (sym n) (go ok)
   where
@@ -96,11 +96,11 @@ entries_pushed buffer es new e ok right one n = subst (All (IsEntry buffer)) (sy
 pub slots_pushed : (buffer : List ℕ) (es : List Entry) (value : List Slot) (e : Entry) (s : Slot) → map (slot_of buffer) es ≡ value → slot_of buffer e ≡ s → map (slot_of buffer) (es ++ e ∷ []) ≡ value ++ s ∷ []
 slots_pushed buffer es value e s is same = map-append (slot_of buffer) es (e ∷ []) ∙ ap (λ xs. xs ++ slot_of buffer e ∷ []) is ∙ ap (λ x. value ++ x ∷ []) same
 
--- an entry that is set
+-- an entry is replaced
 pub slots_set : (buffer : List ℕ) (es : List Entry) (value : List Slot) (i : ℕ) (e : Entry) (s : Slot) → map (slot_of buffer) es ≡ value → slot_of buffer e ≡ s → map (slot_of buffer) (slice_set es i e) ≡ slice_set value i s
 slots_set buffer es value i e s is same = map-set (slot_of buffer) es i e ∙ ap (λ v. slice_set v i (slot_of buffer e)) is ∙ ap (λ x. slice_set value i x) same
 
--- what the setting functions leave
+-- an entry after one of its fields is set
 module _ (buffer : List ℕ) (es : List Entry) (value : List Slot) (i : ℕ) (x : Entry) (is : map (slot_of buffer) es ≡ value) (inside : i < length value) (read : x ≡ get_or es i x) where
   pub the_slot : slot_of buffer x ≡ slot_at value i
   the_slot = slot_read buffer es value i x is inside read

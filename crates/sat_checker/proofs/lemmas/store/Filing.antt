@@ -1,4 +1,4 @@
--- The places of a hash, in an index of pairs and one after another.
+-- The places of a hash, in an index of pairs and in a list of slots.
 use Rattle.std.proofs.Common.{ℕ, ◌+◌, ◌<◌, ◌≤◌, ◌≡◌, Bool, true, false, not, ◌||◌, ◌&&◌, cond, eqb, ltb, leb, List, [], ◌∷◌, length, map, filter, Option, None, Some, inl, inr, ◌≢◌, refl, sym, ◌∙◌, ap, subst, arith}
 use Rattle.std.proofs.lemmas.Bool.{cases_lt, eqb-true, eq-eqb, ne_eqb, true≢false}
 use Rattle.std.proofs.lemmas.Bool.Decides.{nat_tests}
@@ -14,7 +14,7 @@ use Rattle.sat_checker.proofs.lemmas.pairs.Order.{all_inserted, all_weaker, is-b
 use Rattle.sat_checker.proofs.lemmas.pairs.Mixing.{mixed_same}
 use Rattle.sat_checker.proofs.lemmas.store.Places.{places_above}
 
--- the pairs of slots have the places of each hash
+-- the pairs of slots have the places of every hash
 pub pairs_places : (q k : ℕ) (ss : List Slot) → places_in (mixed q) (pairs_from k ss) ≡ places_from k q ss
 pairs_places q k [] = refl
 pairs_places q k (s ∷ ss) = go (is_gone s) (pairs_places q (k + 1) ss)
@@ -44,7 +44,7 @@ pairs_below k n (s ∷ ss) l = go (is_gone s) (pairs_below (k + 1) n ss (omega a
     go true ih = ih
     go false ih = (omega arith, ih)
 
--- the places of a hash rise
+-- the places of a hash are increasing
 pub increasing_places : (k q : ℕ) (ss : List Slot) → IsIncreasing (places_from k q ss)
 increasing_places k q [] = tt
 increasing_places k q (s ∷ ss) = go (is_filed q s) (increasing_places (k + 1) q ss)
@@ -53,7 +53,7 @@ increasing_places k q (s ∷ ss) = go (is_filed q s) (increasing_places (k + 1) 
     go true ih = (places_above k (k + 1) q ss (omega arith), ih)
     go false ih = ih
 
--- one put in at a place before all those of the others
+-- the places of a hash after a pair at an earlier place is inserted
 places_before : (q : ℕ) (p : Pair) (ps : List Pair) → AllByRecursion (λ x. p.place < x.place) ps → places_in q (inserted p ps) ≡ places_in q (p ∷ ps)
 places_before q p [] a = refl
 places_before q p (x ∷ xs) a = go (is_before p x) refl (places_before q p xs a.1)
@@ -80,11 +80,11 @@ each_filed : (P : Pair → Type 0) (ps : List Pair) → AllByRecursion P ps → 
 each_filed P [] h = tt
 each_filed P (p ∷ ps) h = all_inserted P p (inserted_all ps) h.0 (each_filed P ps h.1)
 
--- those of slots are above the place before
+-- the pairs of slots from place `k` on are at places above `b`
 pub filed_above : (b k : ℕ) (ss : List Slot) → b < k → AllByRecursion (λ p. b < p.place) (inserted_all (pairs_from k ss))
 filed_above b k ss l = each_filed (λ p. b < p.place) (pairs_from k ss) (pairs_above b k ss l)
 
--- those of slots are in order, and have the places of each hash
+-- the inserted pairs of slots are in order, and have the places of every hash
 filed_in_order : (k : ℕ) (ss : List Slot) → AreInOrder (inserted_all (pairs_from k ss))
 filed_in_order k [] = tt
 filed_in_order k (s ∷ ss) = go (is_gone s) (filed_in_order (k + 1) ss)
@@ -110,7 +110,7 @@ filed_places q k (s ∷ ss) = go (is_gone s) (filed_places q (k + 1) ss)
     go true ih = ih
     go false ih = places_before q (record { hash = mixed s.hash; place = k }) (inserted_all (pairs_from (k + 1) ss)) (filed_above k (k + 1) ss (omega arith)) ∙ pick (eqb (mixed s.hash) q) ih
 
--- an index in which the pairs of all slots were put in
+-- an index of the inserted pairs of all slots
 pub files_all : (ss : List Slot) (index : Indexed) → index ≡ record { pairs = inserted_all (pairs_of ss); places = length ss } → IndexesSlots index ss
 files_all ss index e = subst (λ x. IndexesSlots x ss) (sym e) (record {
   filed = λ q. filed_places (mixed q) 0 ss ∙ pairs_places q 0 ss;
@@ -119,7 +119,7 @@ files_all ss index e = subst (λ x. IndexesSlots x ss) (sym e) (record {
   below = each_filed (λ p. p.place < length ss) (pairs_of ss) (pairs_below 0 (length ss) ss (omega arith));
 })
 
--- a pair that goes takes its place from its hash
+-- removing a pair removes its place from those of its hash
 pub places_without : (q i : ℕ) (ps : List Pair) → places_in q (without_pair i ps) ≡ without_place i (places_in q ps)
 places_without q i [] = refl
 places_without q i (p ∷ ps) = go (eqb p.place i) refl (places_without q i ps)
@@ -139,7 +139,7 @@ places_without q i (p ∷ ps) = go (eqb p.place i) refl (places_without q i ps)
     go true b ih = gone b (eqb p.hash q) ih
     go false b ih = kept b (eqb p.hash q) ih
 
--- those from a place on
+-- the places after a place, and from it on
 module _ (x : ℕ) where
   less : (y : ℕ) → x < y → ltb x y ≡ true
   less y l = grind (arith, nat_tests)
@@ -182,7 +182,7 @@ member_above x y (z ∷ zs) k e = pick (eqb z x) refl e (λ k'. member_above x y
     pick true d e' ih = subst (λ w. y < w) (eqb-true z x d) k.0
     pick false d e' ih = ih e'
 
--- the first of those after a place, and the first of all, are among them
+-- the first place, and the first one after a place, are members
 pub first_among : (ps : List ℕ) (p : ℕ) → Some p ≡ first_of ps → is_among ps p ≡ true
 first_among [] p e = absurd cc
 first_among (q ∷ qs) p e = let s : p ≡ q = cc in ap (λ b. b || is_among qs p) (eq-eqb q p (sym s))
@@ -207,7 +207,7 @@ pub next_among : (x : ℕ) (ps : List ℕ) (o : Option ℕ) → o ≡ first_of (
 next_among x ps None e = tt
 next_among x ps (Some p) e = after_among x ps p (first_among (places_after x ps) p e)
 
--- the first of those after x is above x
+-- the first place after `x` is above `x`
 first_above : (x : ℕ) (ps : List ℕ) (p : ℕ) → Some p ≡ first_of (places_after x ps) → x < p
 first_above x [] p e = absurd cc
 first_above x (q ∷ qs) p e = go (ltb x q) refl e (λ k. first_above x qs p k)
@@ -223,7 +223,7 @@ on_tail : (x : ℕ) (xs : List ℕ) (o : Option ℕ) → ((p : ℕ) → o ≡ So
 on_tail x xs None h = refl
 on_tail x xs (Some p) h = ap (λ b. cond b (x ∷ from_on (Some p) xs) (from_on (Some p) xs)) (passed_on p x (h p refl))
 
--- those from a place on are that place and those from the next one on
+-- the places from `x` on are `x` and the places from the next one on
 pub from_step : (ps : List ℕ) → IsIncreasing ps → (x : ℕ) → is_among ps x ≡ true → (o : Option ℕ) → o ≡ first_of (places_after x ps) → from_on (Some x) ps ≡ x ∷ from_on o ps
 from_step [] i x m o e = absurd (true≢false (sym m))
 from_step (p ∷ ps) i x m o e = go (eqb p x) refl m (λ k o' e'. from_step ps i.1 x k o' e')
@@ -246,7 +246,7 @@ pub first_ok : (ps : List ℕ) (o : Option ℕ) → o ≡ first_of ps → IfSome
 first_ok ps None e = tt
 first_ok ps (Some p) e = first_among ps p e
 
--- what is left from a place of the hash on is that place and what is left after it
+-- the remaining places of the hash are the current place and those from the next one on
 pub left_step : (h : ℕ) (ss : List Slot) (now : Option ℕ) (x : ℕ) → now ≡ Some x → IfSome now (λ p. is_among (places_of h ss) p ≡ true) → (next : Option ℕ) → next ≡ first_of (places_after x (places_of h ss))
     → from_on now (places_of h ss) ≡ x ∷ from_on next (places_of h ss)
 left_step h ss now x e m next n = ap (λ o. from_on o (places_of h ss)) e ∙ from_step (places_of h ss) (increasing_places 0 h ss) x (subst (λ o. IfSome o (λ p. is_among (places_of h ss) p ≡ true)) e m) next n

@@ -22,7 +22,7 @@ places_literals all (s ∷ ss) k h same = go (is_filed h s) (places_literals all
 pub bucket_literals : (h : ℕ) (ss : List Slot) → map (literals_at ss) (places_of h ss) ≡ bucket_in h ss
 bucket_literals h ss = places_literals ss ss 0 h (λ j. let z : 0 + j ≡ j = omega arith in ap (slot_at ss) z)
 
--- a place of a hash is inside
+-- a place of a hash exists
 pub place_inside : (h : ℕ) (ss : List Slot) (p : ℕ) → is_among (places_of h ss) p ≡ true → p < length ss
 place_inside h ss p m = go (places_of h ss) (places_below 0 (length ss) h ss (omega arith)) m
   where
@@ -30,7 +30,7 @@ place_inside h ss p m = go (places_of h ss) (places_below 0 (length ss) h ss (om
     go [] b e = absurd (true≢false (sym e))
     go (q ∷ qs) b e = elim (or_cases (eqb q p) (is_among qs p) e) [ inl s ↦ subst (λ x. x < length ss) (eqb-true q p s) b.0 | inr r ↦ go qs b.1 r ]
 
--- a bucket with a first place has a clause, and one without has none
+-- a bucket is empty exactly if its hash has no first place
 pub is_full : (h : ℕ) (ss : List Slot) (p : ℕ) → Some p ≡ first_of (places_of h ss) → bucket_in h ss ≢ []
 is_full h ss p e z = go (places_of h ss) e (bucket_literals h ss ∙ z)
   where

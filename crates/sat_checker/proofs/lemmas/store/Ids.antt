@@ -1,4 +1,4 @@
--- Ids by place, as clauses come in and go, and the clause that has one.
+-- Ids by place, as clauses are added and removed, and the clause with an id.
 use Rattle.std.proofs.Common.{ℕ, zero, suc, ◌<◌, ◌≤◌, ◌≡◌, Bool, true, false, cond, eqb, List, [], ◌∷◌, ◌++◌, length, get_or, map, Option, Some, None, refl, sym, ◌∙◌, ap, subst, arith, slice_set}
 use Rattle.std.proofs.lemmas.Bool.{eq-eqb, ne_eqb, or_parts}
 use Rattle.std.proofs.lemmas.List.{length-map, map-append}
@@ -11,7 +11,7 @@ use Rattle.sat_checker.specs.Looks.{total_length}
 use Rattle.sat_checker.specs.inner.SlotView.{Slot, slot_at, literals_at, slot_ids, is_gone, IsPresentAt, live, live_length, stored_slot, with_count_at, without_count_at, all_hashed_by}
 use Rattle.sat_checker.specs.inner.StoreView.{PlacesIds}
 
--- ids stay where a clause is counted or hashed anew
+-- ids stay the same if counts or hashes change
 ids_set : (ss : List Slot) (i : ℕ) (t : Slot) → t.clause.id ≡ (slot_at ss i).clause.id → slot_ids (slice_set ss i t) ≡ slot_ids ss
 ids_set [] i t e = refl
 ids_set (s ∷ ss) zero t e = ap (λ x. x ∷ slot_ids ss) e
@@ -39,7 +39,7 @@ ids_hashed names width (s ∷ ss) = ap (λ x. x ∷ slot_ids (all_hashed_by name
     same true = refl
     same false = refl
 
--- a new one stands after the others
+-- the id of a new clause is the last one
 pub ids_pushed : (r : Bool) (n hash : ℕ) (ls : List ℕ) (ss : List Slot) → slot_ids (ss ++ stored_slot r n hash ls ∷ []) ≡ slot_ids ss ++ n ∷ []
 ids_pushed r n hash ls ss = map-append (λ (s : Slot). s.clause.id) ss (stored_slot r n hash ls ∷ []) ∙ ap (λ x. slot_ids ss ++ x ∷ []) (same r)
   where
@@ -55,14 +55,14 @@ slot_id_at (s ∷ ss) (suc i) l = slot_id_at ss i (omega arith)
 ids_length : (ss : List Slot) → length (slot_ids ss) ≡ length ss
 ids_length ss = length-map ss (λ (s : Slot). s.clause.id)
 
--- a clause is put after the others, or counted once more
+-- a clause is appended, or counted once more
 pub placed_new : (old new : List Slot) (r : Bool) (id hash : ℕ) (ls : List ℕ) → new ≡ old ++ stored_slot r id hash ls ∷ [] → PlacesIds old new id true
 placed_new old new r id hash ls n = ap slot_ids n ∙ ids_pushed r id hash ls old
 
 pub placed_again : (old new : List Slot) (r : Bool) (p next_id : ℕ) → new ≡ with_count_at r p old → PlacesIds old new next_id false
 placed_again old new r p next_id n = ap slot_ids n ∙ ids_counted r p old
 
--- the clause with an id is the one at its place, unless that is gone
+-- an id is that of the clause at its place, unless the clause is removed
 numbered_past : (id : ℕ) (ss : List Slot) → AllByRecursion (λ i. id < i) (slot_ids ss) → clause_numbered id (live ss) ≡ None
 numbered_past id [] h = refl
 numbered_past id (s ∷ ss) h = go (is_gone s) (numbered_past id ss h.1)

@@ -1,4 +1,4 @@
--- What the store keeps, as clauses come in and go.
+-- What the store represents, as clauses are added and removed.
 use Rattle.std.proofs.Common.{ℕ, ◌+◌, ◌*◌, ◌/◌, ◌%◌, ◌-◌, ◌^◌, ◌≤◌, ◌≡◌, Bool, true, false, not, ◌&&◌, cond, eqb, List, [], ◌∷◌, ◌++◌, map, filter, Option, refl, sym, ◌∙◌, ap, subst, Result, Ok, Err, IfOk, ◌↔◌, unwrap_or}
 use Rattle.sat_base.specs.values.Literals.{variable}
 use Rattle.sat_base.specs.values.Hashes.{hash_of}
@@ -15,7 +15,7 @@ use Rattle.sat_checker.specs.inner.StoreView.{AreHashed, RepresentsClauses}
 use Rattle.sat_checker.specs.declared.store.Store.{Store}
 use Rattle.sat_checker.specs.declared.hash.ClauseHasher.{ClauseHasher}
 
--- hashes by the same names
+-- equal solver names give equal hashes
 same_names : (f g : ℕ → Option ℕ) → ((v : ℕ) → f v ≡ g v) → (ls : List ℕ) → map (solver_literal f) ls ≡ map (solver_literal g) ls
 same_names f g e [] = refl
 same_names f g e (l ∷ ls) = ap (λ o. solver_by o l ∷ map (solver_literal f) ls) (e (variable l)) ∙ ap (λ ms. solver_literal g l ∷ ms) (same_names f g e ls)
@@ -26,7 +26,7 @@ same_names f g e (l ∷ ls) = ap (λ o. solver_by o l ∷ map (solver_literal f)
 pub hash_same : (f g : ℕ → Option ℕ) (m n : ℕ) → ((v : ℕ) → f v ≡ g v) → m ≡ n → (ls : List ℕ) → hash_by f m ls ≡ hash_by g n ls
 hash_same f g m n e w ls = ap (λ ks. hash_of ks / 2 ^ (64 - m)) (same_names f g e ls) ∙ ap (λ k. hash_of (map (solver_literal g) ls) / 2 ^ (64 - k)) w
 
--- the clauses of a hash are those that the definition has in its bucket
+-- the clauses of a hash are those of the definition's bucket
 bucket_live : (h : ClauseHasher) (f : Stored) (k : ℕ) (ss : List Slot) → AreHashed h ss → ((v : ℕ) → solver_name_of h v ≡ f.solver_names v) → width_of h ≡ f.width
     → bucket_in k ss ≡ filter (λ c. eqb (hash_by f.solver_names f.width c) k) (map (λ c. c.literals) (live ss))
 bucket_live h f k [] a n w = refl
@@ -51,7 +51,7 @@ buckets_same : (store : Store) (f : Stored) → RepresentsClauses store f → (h
 buckets_same store f p [] = refl
 buckets_same store f p (k ∷ ks) = ap (λ b. b ∷ map (bucket_of store.clauses) ks) (bucket_same store f p k) ∙ ap (λ bs. bucket f k ∷ bs) (buckets_same store f p ks)
 
--- the clauses that are filed are those that the definition has there
+-- the filed clauses of a hash are those of the definition
 filed_live : (h : ClauseHasher) (f : Stored) (k : ℕ) (ss : List Slot) → AreHashed h ss → ((v : ℕ) → solver_name_of h v ≡ f.solver_names v) → width_of h ≡ f.width
     → filed k ss ≡ filter (λ c. eqb (hash_by f.solver_names f.width c.literals) k) (live ss)
 filed_live h f k [] a n w = refl
@@ -75,7 +75,7 @@ named_same store f p (k ∷ ks) =
     ap (λ cs. cs ++ named ks store.clauses) (filed_live store.hasher f k store.clauses p.hashed p.names p.width ∙ ap (filter (λ c. eqb (hash_by f.solver_names f.width c.literals) k)) p.clauses)
     ∙ ap (λ cs. filter (λ c. eqb (hash_by f.solver_names f.width c.literals) k) f.clauses ++ cs) (named_same store f p ks)
 
--- there is room for the clauses that are kept
+-- the clauses of the store have room
 room_kept : (store : Store) (room : List ℕ) (f : Stored) → RepresentsClauses store f → HasStoredRoom room f.clauses → HasStoredRoom room (live store.clauses)
 room_kept store room f k h = subst (HasStoredRoom room) (sym k.clauses) h
 
@@ -88,7 +88,7 @@ pub short_checked : {E : Type 0} (r : Result Bool E) (store : Store) (room : Lis
 short_checked (Ok b) store room h = tt
 short_checked (Err e) store room h = λ f k roomy. h (room_kept store room f k roomy)
 
--- what holds under a premise, by a law of what holds
+-- an implication between results still holds under a premise
 pub under_premise : {E : Type 0} (r : Result Bool E) (S A B : Type 0) → (IfOk r (λ b. b ≡ true → A) → IfOk r (λ b. b ≡ true → B)) → IfOk r (λ b. b ≡ true → S → A) → IfOk r (λ b. b ≡ true → S → B)
 under_premise (Ok b) S A B law h = λ t s. law (λ t'. h t' s) t
 under_premise (Err e) S A B law h = tt

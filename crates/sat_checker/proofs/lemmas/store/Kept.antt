@@ -1,4 +1,4 @@
--- What is kept beside the slots, as clauses come in and go.
+-- The invariant of slots, index and counts, as clauses are added and removed.
 use Rattle.std.proofs.Common.{ℕ, suc, ◌+◌, ◌<◌, ◌≤◌, ◌≡◌, ◌≢◌, Bool, true, false, not, cond, eqb, List, [], ◌∷◌, ◌++◌, length, Option, refl, sym, ◌∙◌, ap, subst, arith, Result, Ok, Err, OnOk}
 use Rattle.std.proofs.lemmas.Bool.{true≢false}
 use Rattle.std.specs.Result.{is_err}
@@ -15,7 +15,7 @@ use Rattle.sat_checker.proofs.lemmas.pairs.Mixing.{mixed_same}
 use Rattle.sat_checker.proofs.lemmas.store.Filing.{places_without}
 use Rattle.sat_checker.proofs.lemmas.store.Counting.{times_more, times_counted, times_left, times_gone, times_hashed}
 
--- a clause that is stored once
+-- after a new clause is stored once
 pub kept_stored : (ss new all : List Slot) (index next : Indexed) (o mid p : Occurrences) (r : Bool) (id hash place : ℕ) (literals : List ℕ) → SlotsInvariant ss index o → ((l : ℕ) → count_at mid l ≡ count_at o l) → place ≡ length ss
     → next ≡ record { pairs = inserted (record { hash = mixed hash; place = index.places }) index.pairs; places = index.places + 1 } → new ≡ ss ++ unstored id hash literals ∷ [] → all ≡ with_count_at r place new → ((l : ℕ) → count_at p l ≡ count_at mid l + times_in l literals) → SlotsInvariant all next p
 kept_stored ss new all index next o mid p r id hash place literals k m is h e s a = record {
@@ -37,7 +37,7 @@ kept_stored ss new all index next o mid p r id hash place literals k m is h e s 
     length_more [] x = refl
     length_more (y ∷ ys) x = let ih : length (ys ++ x ∷ []) ≡ length ys + 1 = length_more ys x in omega arith
 
--- a count more
+-- after a count is added
 pub kept_counted : (old ss new : List Slot) (index : Indexed) (o : Occurrences) (r : Bool) (i : ℕ) → old ≡ ss → i < length ss → is_gone (slot_at ss i) ≡ false → SlotsInvariant old index o → new ≡ with_count_at r i old → SlotsInvariant new index o
 kept_counted old ss new index o r i is l n k e = record {
   files = record {
@@ -49,7 +49,7 @@ kept_counted old ss new index o r i is l n k e = record {
   counted = λ q. k.counted q ∙ ap (times_stored q) is ∙ sym (times_counted q r i ss l n) ∙ ap (λ x. times_stored q (with_count_at r i x)) (sym is) ∙ ap (times_stored q) (sym e);
 }
 
--- a count less
+-- after a count is removed
 module _ (old ss new : List Slot) (index : Indexed) (o : Occurrences) (r : Bool) (i : ℕ) (is : old ≡ ss) (l : i < length ss) (c : 0 < slot_count r (slot_at ss i)) (k : SlotsInvariant old index o) (e : new ≡ without_count_at r i old) where
   there : is_gone (slot_at new i) ≡ is_gone (record { clause = without_count r (slot_at ss i).clause; hash = (slot_at ss i).hash })
   there = gone_there (λ q. places_in (mixed q) index.pairs) r i old ss new is l c k.files.filed e
@@ -66,7 +66,7 @@ module _ (old ss new : List Slot) (index : Indexed) (o : Occurrences) (r : Bool)
     counted = λ q. k.counted q ∙ ap (times_stored q) is ∙ sym (times_left q r i ss l c (sym there ∙ n)) ∙ sym (now q);
   }
 
-  -- the literals of one that is gone then were counted
+  -- the literals of a clause that is then removed were counted
   pub were_counted : (literals : List ℕ) → literals ≡ literals_at ss i → is_gone (slot_at new i) ≡ true → (q : ℕ) → times_in q literals ≤ count_at o q
   were_counted literals s g q =
       let a : times_stored q (without_count_at r i ss) + times_in q (literals_at ss i) ≡ times_stored q ss = times_gone q r i ss l c (sym there ∙ g) in
@@ -92,7 +92,7 @@ module _ (old ss new : List Slot) (index : Indexed) (o : Occurrences) (r : Bool)
         omega (arith, a, b, d, f, t);
   }
 
--- all filed anew
+-- after all clauses are filed again
 pub count_hashed : (names : ℕ → Option ℕ) (width : ℕ) (ss : List Slot) → length (all_hashed_by names width ss) ≡ length ss
 count_hashed names width [] = refl
 count_hashed names width (s ∷ ss) = ap suc (count_hashed names width ss)

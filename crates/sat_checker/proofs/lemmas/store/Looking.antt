@@ -1,4 +1,4 @@
--- The clause that a look-up finds.
+-- The clause that a lookup finds.
 use Rattle.std.proofs.Common.{ℕ, ◌≡◌, Bool, true, false, cond, List, [], ◌∷◌, None, Some, refl, sym, ◌∙◌, ap}
 use Rattle.sat_checker.specs.LiteralSets.{same_literals}
 use Rattle.sat_checker.specs.Stored.{Stored, StoredClause, hash_by}
@@ -10,7 +10,7 @@ use Rattle.sat_checker.specs.declared.store.Store.{Store}
 use Rattle.sat_checker.proofs.lemmas.meaning.Clauses.{same}
 use Rattle.sat_checker.proofs.lemmas.store.Storing.{stands_found, stands_none}
 
--- it has the literals
+-- a stored clause that is found has the literals
 pub literals_found : (literals : List ℕ) (c : StoredClause) (cs : List StoredClause) → clause_with literals cs ≡ Some c → c.literals ≡ literals
 literals_found literals c [] e = absurd cc
 literals_found literals c (d ∷ ds) e = go (literals_found literals c ds) (same_literals d.literals literals) refl e
@@ -19,7 +19,7 @@ literals_found literals c (d ∷ ds) e = go (literals_found literals c ds) (same
     go ih true n e = let q : d ≡ c = cc in ap (λ (x : StoredClause). x.literals) (sym q) ∙ same d.literals literals n
     go ih false n e = ih e
 
--- a place that is found has the literals
+-- the clause at a place that is found has the literals
 pub literals_there : (ss : List Slot) (literals : List ℕ) (p : ℕ) (ps : List ℕ) → Some p ≡ found_among ss literals ps → literals ≡ literals_at ss p
 literals_there ss literals p [] e = absurd cc
 literals_there ss literals p (q ∷ ps) e = go (literals_there ss literals p ps) (same_literals (literals_at ss q) literals) refl e

@@ -1,4 +1,5 @@
--- A variable is mentioned just where one of its literals is counted, and hashes of clauses without it don't depend on its name.
+-- A variable is mentioned exactly if one of its literals is counted.
+-- Hashes of clauses without it do not depend on its name.
 use Rattle.std.proofs.Common.{ℕ, zero, ◌+◌, ◌*◌, ◌<◌, ◌≤◌, ◌-◌, ◌/◌, ◌%◌, ◌^◌, ◌≡◌, ◌||◌, Bool, true, false, cond, eqb, List, [], ◌∷◌, ◌++◌, map, Option, refl, sym, ◌∙◌, ap, subst, arith, inl, inr}
 use Rattle.std.specs.Prelude.{MatchBool, unwrap_or}
 use Rattle.std.specs.List.{list_any}
@@ -83,7 +84,7 @@ module _ (v : ℕ) where
           let b : both_stored ss ≡ zero = ih p.1 in
           omega (arith, a, b)
 
-  -- what a test of the counts says
+  -- the counts of both literals decide whether the variable is mentioned
   pub mention_is : (r : Bool) (first second : ℕ) (ss : List Slot) → first ≡ times_stored (2 * v) ss → second ≡ times_stored (2 * v + 1) ss → MatchBool r (0 < first + second) (first + second ≡ zero) → r ≡ list_any (λ c. mentions c.literals v) (live ss)
   mention_is r first second ss e f h = go r h (list_any (λ c. mentions c.literals v) (live ss)) refl
     where
@@ -114,7 +115,7 @@ module _ (v : ℕ) where
             let p = or_parts (mentions s.clause.literals v) (list_any (λ c. mentions c.literals v) (live ss)) f in
             (λ m. k.0 m ∙ same_hash s.clause.literals p.0, rest p.1)
 
--- a variable that no clause has is named anew
+-- a variable that is in no clause gets another solver name
 pub named_still : (store : Store) (f : Stored) (g : ClauseHasher) (v : ℕ) (name : Option ℕ) → RepresentsClauses (refiled store) f → ((w : ℕ) → solver_name_of g w ≡ cond (eqb w v) name (solver_name_of store.hasher w)) → width_of g ≡ width_of store.hasher
     → list_any (λ c. mentions c.literals v) (live store.clauses) ≡ false → RepresentsClauses (refiled (record store { hasher = g })) (with_solver_name v name f)
 named_still store f g v name k names width none = record {

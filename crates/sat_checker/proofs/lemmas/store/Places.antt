@@ -1,4 +1,4 @@
--- The places of hashes, as clauses come in and go.
+-- The places of hashes, as clauses are added and removed.
 use Rattle.std.proofs.Common.{ℕ, zero, suc, ◌+◌, ◌<◌, ◌≤◌, ◌≡◌, Bool, true, false, not, ◌&&◌, cond, eqb, List, [], ◌∷◌, ◌++◌, length, get_or, refl, sym, ◌∙◌, ap, arith, slice_set}
 use Rattle.std.proofs.lemmas.Bool.{eqb-true, eqb-false, eq-eqb, ne_eqb}
 use Rattle.std.specs.List.{AllByRecursion}
@@ -16,7 +16,7 @@ eqb_comm x y = go (eqb x y) refl (eqb y x) refl
     go true e false f = absurd (eqb-false y x f (sym (eqb-true x y e)))
     go false e true f = absurd (eqb-false x y e (sym (eqb-true y x f)))
 
--- one slot more at the end
+-- after a slot is appended
 pub places_push : (k hash : ℕ) (ss : List Slot) (s : Slot) → places_from k hash (ss ++ s ∷ []) ≡ places_from k hash ss ++ cond (is_filed hash s) ((k + length ss) ∷ []) []
 places_push k hash [] s = let e : k + 0 ≡ k = omega arith in rw e (go (is_filed hash s))
   where
@@ -43,7 +43,7 @@ pub get_last : (ss : List Slot) (s d : Slot) → get_or (ss ++ s ∷ []) (length
 get_last [] s d = refl
 get_last (x ∷ ss) s d = get_last ss s d
 
--- the clause that was put after the others gets its count
+-- after an appended clause gets its first count
 pub counted_last : (redundant : Bool) (id hash : ℕ) (literals : List ℕ) (ss : List Slot) → with_count_at redundant (length ss) (ss ++ unstored id hash literals ∷ []) ≡ ss ++ stored_slot redundant id hash literals ∷ []
 counted_last redundant id hash literals ss =
     ap (λ (s : Slot). slice_set (ss ++ unstored id hash literals ∷ []) (length ss) (record s { clause = with_count redundant s.clause })) (get_last ss (unstored id hash literals) (unstored 0 0 []))
@@ -63,13 +63,13 @@ places_stored redundant q id hash literals ss =
     go true = refl
     go false = append_none (places_of q ss)
 
--- a slot that is set and stays filed as it was
+-- after a slot is replaced, if it is filed under the same hashes
 places_same : (k q : ℕ) (ss : List Slot) (i : ℕ) (t : Slot) → i < length ss → is_filed q t ≡ is_filed q (slot_at ss i) → places_from k q (slice_set ss i t) ≡ places_from k q ss
 places_same k q [] i t l e = absurd (omega arith)
 places_same k q (s ∷ ss) zero t l e = ap (λ b. cond b (k ∷ places_from (k + 1) q ss) (places_from (k + 1) q ss)) e
 places_same k q (s ∷ ss) (suc i) t l e = let ih : places_from (k + 1) q (slice_set ss i t) ≡ places_from (k + 1) q ss = places_same (k + 1) q ss i t (omega arith) e in ap (λ ps. cond (is_filed q s) (k ∷ ps) ps) ih
 
--- places are those from the first one on
+-- all places are at or after the first one
 pub places_above : (b k q : ℕ) (ss : List Slot) → b < k → AllByRecursion (λ p. b < p) (places_from k q ss)
 places_above b k q [] l = tt
 places_above b k q (s ∷ ss) l = go (is_filed q s) (places_above b (k + 1) q ss (omega arith))
@@ -92,7 +92,7 @@ without_lower p (x ∷ xs) h =
     let e : eqb x p ≡ false = ne_eqb x p (λ s. let l : p < x = h.0 in omega arith) in
     ap (λ b. cond (not b) (x ∷ without_place p xs) (without_place p xs)) e ∙ ap (λ ys. x ∷ ys) (without_lower p xs h.1)
 
--- a slot that isn't filed under a hash has no place there
+-- a slot with another hash has no place under this hash
 without_absent : (k q : ℕ) (ss : List Slot) (i : ℕ) → i < length ss → eqb q (slot_at ss i).hash ≡ false → (n : ℕ) → k + i ≡ n → without_place n (places_from k q ss) ≡ places_from k q ss
 without_absent k q [] i l d n e = absurd (omega arith)
 without_absent k q (s ∷ ss) zero l d n e =
@@ -114,7 +114,7 @@ without_absent k q (s ∷ ss) (suc i) l d n e = go (is_filed q s) (without_absen
     go true ih = ap (λ b. cond (not b) (k ∷ without_place n (places_from (k + 1) q ss)) (without_place n (places_from (k + 1) q ss))) other ∙ ap (λ ps. k ∷ ps) ih
     go false ih = ih
 
--- a slot that is gone from here on has no place
+-- a clause that is removed loses its place
 places_gone : (k q : ℕ) (ss : List Slot) (i : ℕ) (t : Slot) → i < length ss → is_gone t ≡ true → is_gone (slot_at ss i) ≡ false → places_from k q (slice_set ss i t) ≡ cond (eqb q (slot_at ss i).hash) (without_place (k + i) (places_from k q ss)) (places_from k q ss)
 places_gone k q [] i t l g n = absurd (omega arith)
 places_gone k q (s ∷ ss) zero t l g n =
@@ -150,7 +150,7 @@ places_gone k q (s ∷ ss) (suc i) t l g n =
     go false true = refl
     go false false = refl
 
--- gone or not, by the counts
+-- a clause with a count is not removed
 pub gone_not : (s : Slot) (r : Bool) → 0 < slot_count r s → is_gone s ≡ false
 gone_not s true h = let e : eqb s.clause.redundant 0 ≡ false = ne_eqb s.clause.redundant 0 (λ z. let k : 0 < s.clause.redundant = h in omega arith) in ap (λ b. eqb s.clause.irredundant 0 && b) e ∙ and_false (eqb s.clause.irredundant 0)
   where
@@ -163,13 +163,13 @@ pub gone_more : (c : StoredClause) (h : ℕ) (r : Bool) → is_gone (record { cl
 gone_more c h true = gone_not (record { clause = with_count true c; hash = h }) true (omega arith)
 gone_more c h false = gone_not (record { clause = with_count false c; hash = h }) false (omega arith)
 
--- a count more of a clause that isn't gone
+-- after a count is added to a clause that is not removed
 pub places_counted : (q : ℕ) (r : Bool) (i : ℕ) (ss : List Slot) → i < length ss → is_gone (slot_at ss i) ≡ false → places_of q (with_count_at r i ss) ≡ places_of q ss
 places_counted q r i ss l n =
     places_same 0 q ss i (record { clause = with_count r (slot_at ss i).clause; hash = (slot_at ss i).hash }) l
     (ap (λ b. not b && eqb (slot_at ss i).hash q) (gone_more (slot_at ss i).clause (slot_at ss i).hash r ∙ sym n))
 
--- a count less of one that isn't gone afterwards, and of one that is
+-- after a count is removed from a clause, which may remove the clause
 
 pub places_left : (q : ℕ) (r : Bool) (i : ℕ) (ss : List Slot) → i < length ss → 0 < slot_count r (slot_at ss i) → is_gone (record { clause = without_count r (slot_at ss i).clause; hash = (slot_at ss i).hash }) ≡ false → places_of q (without_count_at r i ss) ≡ places_of q ss
 places_left q r i ss l c n =
@@ -187,7 +187,7 @@ set_at [] i t l = absurd (omega arith)
 set_at (s ∷ ss) zero t l = refl
 set_at (s ∷ ss) (suc i) t l = set_at ss i t (omega arith)
 
--- what the index has is what the slots say
+-- the index has exactly the places of the slots
 abbrev Agrees : (ℕ → List ℕ) → List Slot → Type 0
 Agrees f ss = (q : ℕ) → f q ≡ places_of q ss
 

@@ -1,4 +1,4 @@
--- Filing all clauses anew.
+-- Filing all clauses again, by new hashes.
 use Rattle.std.proofs.Common.{ℕ, zero, suc, ◌+◌, ◌<◌, ◌≤◌, ◌≡◌, Bool, true, false, ◌&&◌, cond, eqb, List, [], ◌∷◌, ◌++◌, length, take, drop, map, Option, refl, sym, ◌∙◌, ap, arith, slice_set, ◌||◌}
 use Rattle.std.proofs.lemmas.Bool.{true≢false}
 use Rattle.std.specs.List.{list_any}
@@ -19,7 +19,7 @@ use Rattle.sat_checker.specs.inner.PairView.{inserted, inserted_all, mixed}
 use Rattle.sat_checker.specs.declared.store.links.Pair.{Pair}
 
 module _ (names : ℕ → Option ℕ) (width : ℕ) where
-  -- the slots from a place on are hashed anew, those up to it aren't yet
+  -- the slots from a place on have new hashes, the earlier ones do not yet
   abbrev pub hashed_from : ℕ → List Slot → List Slot
   hashed_from i ss = take i ss ++ all_hashed_by names width (drop i ss)
 
@@ -68,7 +68,7 @@ module _ (names : ℕ → Option ℕ) (width : ℕ) where
         ∙ ap (λ x. slice_set x i (record (slot_at ss i) { hash = hash_by names width (slot_at ss i).clause.literals })) (e ∙ ap (λ k. hashed_from k ss) to)
         ∙ ap (λ t. slice_set (hashed_from (suc i) ss) i t) (sym (hashed_there (slot_at ss i) (ap is_gone (sym slot_same) ∙ g))) ∙ set_next ss i l
 
-  -- the pairs of the slots from a place on
+  -- the inserted pairs of the slots from a place on, by new hashes
   abbrev pub filed_from : ℕ → List Slot → List Pair
   filed_from i ss = inserted_all (pairs_from i (all_hashed_by names width (drop i ss)))
 
@@ -92,7 +92,7 @@ module _ (names : ℕ → Option ℕ) (width : ℕ) where
       ∙ ap (λ (s : Slot). inserted_all (pairs_from i (s ∷ all_hashed_by names width (drop (i + 1) ss)))) (hashed_there (slot_at ss i) g)
       ∙ ap (λ b. inserted_all (cond b (pairs_from (i + 1) (all_hashed_by names width (drop (i + 1) ss))) ((record { hash = mixed (hash_by names width (slot_at ss i).clause.literals); place = i }) ∷ pairs_from (i + 1) (all_hashed_by names width (drop (i + 1) ss))))) g)
 
--- the literals of a place that are left to look at
+-- the number of literals from a place on
 left_at : (ss : List Slot) (i : ℕ) → i < length ss → live_length (drop i ss) ≡ cond (is_gone (slot_at ss i)) 0 (length (literals_at ss i)) + live_length (drop (suc i) ss)
 left_at [] j k = absurd (omega arith)
 left_at (t ∷ ts) zero k = go (is_gone t)
@@ -113,7 +113,7 @@ left_there ss i l g =
     let m : i + 1 ≡ suc i = omega arith in
     left_at ss i l ∙ ap (λ b. cond b 0 (length (literals_at ss i)) + live_length (drop (suc i) ss)) g ∙ ap (λ k. length (literals_at ss i) + live_length (drop k ss)) (sym m)
 
--- are all of them true? One that is no irredundant clause doesn't matter.
+-- whether all irredundant clauses from a place on are true; other clauses do not matter
 pub all_skip : (ls : List ℕ) (ss : List Slot) (i : ℕ) → i < length ss → (slot_at ss i).clause.irredundant ≡ 0 → are_all_true ls (live (drop i ss)) ≡ are_all_true ls (live (drop (i + 1) ss))
 all_skip ls ss i l z = ap (λ xs. are_all_true ls (live xs)) (drop_more ss i (unstored 0 0 []) l) ∙ go (is_gone (slot_at ss i))
   where
@@ -133,7 +133,7 @@ all_met ls ss i l n t = all_there ls ss i l n ∙ ap (λ b. b && are_all_true ls
 pub all_failed : (ls : List ℕ) (ss : List Slot) (i : ℕ) → i < length ss → eqb (slot_at ss i).clause.irredundant 0 ≡ false → list_any (is_among ls) (literals_at ss i) ≡ false → are_all_true ls (live (drop i ss)) ≡ false
 all_failed ls ss i l n f = all_there ls ss i l n ∙ ap (λ b. b && are_all_true ls (live (drop (i + 1) ss))) f
 
--- the literals of the irredundant ones from a place on
+-- the number of literals of the irredundant clauses from a place on
 pub lengths_skip : (ss : List Slot) (i : ℕ) → i < length ss → (slot_at ss i).clause.irredundant ≡ 0 → irredundant_length (live (drop i ss)) ≡ irredundant_length (live (drop (i + 1) ss))
 lengths_skip ss i l z = ap (λ xs. irredundant_length (live xs)) (drop_more ss i (unstored 0 0 []) l) ∙ go (is_gone (slot_at ss i))
   where
@@ -160,7 +160,7 @@ left_fewer ss i l =
 pub not_gone : (s : Slot) → eqb s.clause.irredundant 0 ≡ false → is_gone s ≡ false
 not_gone s n = ap (λ b. b && eqb s.clause.redundant 0) n
 
--- what is stored, once all is filed anew
+-- the stored clauses after all are filed again
 live_hashed : (names : ℕ → Option ℕ) (width : ℕ) (ss : List Slot) → live (all_hashed_by names width ss) ≡ live ss
 live_hashed names width [] = refl
 live_hashed names width (s ∷ ss) = go (is_gone s) refl (live_hashed names width ss)
@@ -178,7 +178,7 @@ all_hashed h (s ∷ ss) = (go (is_gone s) refl, all_hashed h ss)
     go true g n = absurd (true≢false (sym g ∙ n))
     go false g n = refl
 
--- what is stored stays while all clauses wait to be filed anew
+-- the stored clauses stay the same while they are not yet filed again
 pub refiled_live : (store : Store) → live (refiled store).clauses ≡ live store.clauses
 refiled_live store = go store.stale
   where
@@ -196,7 +196,7 @@ refiled_ids store = go store.stale
     go true = ids_hashed (solver_name_of store.hasher) (width_of store.hasher) store.clauses
     go false = refl
 
--- a store whose clauses are filed by its hashes of now
+-- refiling does nothing to clauses that already have their current hashes
 filed_already : (h : ClauseHasher) (ss : List Slot) (b : Bool) → AreHashed h ss → AreHashed h (cond b (hashed_anew h ss) ss)
 filed_already h ss true k = all_hashed h ss
 filed_already h ss false k = k
@@ -209,7 +209,7 @@ refiled_kept store f k = record {
   width = k.width;
 }
 
--- other hashes hold from now on
+-- after the names or the width change, all clauses must be filed again
 pub hashes_changed : (store : Store) (f : Stored) (h : ClauseHasher) (names : ℕ → Option ℕ) (width : ℕ) → RepresentsClauses (refiled store) f → ((v : ℕ) → solver_name_of h v ≡ names v) → width_of h ≡ width
     → RepresentsClauses (refiled (record store { hasher = h; stale = true })) (record f { solver_names = names; width = width })
 hashes_changed store f h names width k e w = record {
@@ -219,7 +219,7 @@ hashes_changed store f h names width k e w = record {
   width = w;
 }
 
--- they hold already
+-- a store that is not stale is already filed
 pub filed_still : (store : Store) → store.stale ≡ false → store ≡ refiled store
 filed_still store e = ap (λ b. record store { stale = b }) e ∙ ap (λ b. record store { clauses = cond b (hashed_anew store.hasher store.clauses) store.clauses; stale = false }) (sym e)
 

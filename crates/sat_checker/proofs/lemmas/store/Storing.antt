@@ -1,4 +1,4 @@
--- What finding a clause's place says of the clauses that aren't gone.
+-- What the place of a clause means for the stored clauses.
 use Rattle.std.proofs.Common.{ℕ, zero, suc, ◌+◌, ◌<◌, ◌≤◌, ◌≡◌, is_some, Bool, true, false, not, ◌&&◌, cond, eqb, List, [], ◌∷◌, ◌++◌, length, Option, None, Some, refl, sym, ◌∙◌, ap, subst, arith, slice_set}
 use Rattle.std.proofs.lemmas.Bool.{true≢false, eq-eqb}
 use Rattle.sat_checker.specs.LiteralSets.{same_literals}
@@ -15,7 +15,7 @@ use Rattle.sat_checker.proofs.lemmas.store.Places.{gone_more, set_at}
 use Rattle.sat_checker.proofs.lemmas.store.Buckets.{bucket_length}
 use Rattle.sat_checker.proofs.lemmas.store.Keeping.{length_same}
 
--- the first place from k on that has the literals and isn't gone
+-- the first place, counted from `k`, whose clause has the literals and is not removed
 find_place : List ℕ → ℕ → List Slot → Option ℕ
 find_place literals k [] = None
 find_place literals k (s ∷ ss) = cond (not (is_gone s) && same_literals s.clause.literals literals) (Some k) (find_place literals (k + 1) ss)
@@ -43,7 +43,7 @@ found_is h all (s ∷ ss) literals k hash at a e = go (is_gone s) refl (found_is
             absurd (true≢false (sym (eq-eqb s.hash hash right) ∙ m))
         by_hash false m false n = ih
 
--- what is known of the place where a clause stands
+-- what is known about the place of a stored clause
 pub record IsStoredAt (ss : List Slot) (literals : List ℕ) (i : ℕ) : Type 0 where
   pub inside : i < length ss
   pub there : is_gone (slot_at ss i) ≡ false
@@ -144,7 +144,7 @@ module _ (h : ClauseHasher) (ss : List Slot) (literals : List ℕ) (hash : ℕ) 
   pub stands_none : None ≡ found_among ss literals (places_of hash ss) → IsStoredNowhere ss literals
   stands_none f = place_nowhere literals ss 0 (sym (f ∙ from_start))
 
--- hashes stay right
+-- hashes stay current
 pub hashed_set : (h : ClauseHasher) (ss : List Slot) (i : ℕ) (t : Slot) → AreHashed h ss → (is_gone t ≡ false → t.hash ≡ hash_by (solver_name_of h) (width_of h) t.clause.literals) → AreHashed h (slice_set ss i t)
 hashed_set h [] i t a k = tt
 hashed_set h (s ∷ ss) zero t a k = (k, a.1)
@@ -159,7 +159,7 @@ hashed_at h [] i l a g = absurd (omega arith)
 hashed_at h (s ∷ ss) zero l a g = a.0 g
 hashed_at h (s ∷ ss) (suc i) l a g = hashed_at h ss i (omega arith) a.1 g
 
--- a place that was found is there, whatever the hashes
+-- a place that was found exists and is not removed, whatever the hashes are
 pub record IsThere (ss : List Slot) (p : ℕ) : Type 0 where
   pub inside : p < length ss
   pub there : is_gone (slot_at ss p) ≡ false

@@ -1,4 +1,4 @@
--- How often a literal stands in what is left of a list, and its count in a table.
+-- How often a literal occurs in the rest of a list, and its count in a table.
 use Rattle.std.proofs.Common.{ℕ, ◌+◌, ◌-◌, ◌<◌, ◌≤◌, ◌^◌, ◌≡◌, Bool, true, false, cond, eqb, List, length, drop, get_or, refl, sym, subst, ◌∙◌, ap, arith}
 use Rattle.std.proofs.lemmas.Bool.{eq-eqb, eqb-true, eqb-false}
 use Rattle.std.proofs.lemmas.List.{drop_more, get_or_default}
@@ -8,7 +8,7 @@ use Rattle.sat_base.proofs.lemmas.values.TableLemmas.{has_room}
 use Rattle.sat_checker.proofs.lemmas.store.Places.{eqb_comm}
 use Rattle.sat_checker.specs.inner.OccurrenceView.{times_in}
 
--- what comes next is left
+-- the next literal occurs in the rest
 pub still_left : (ls : List ℕ) (i x : ℕ) → i < length ls → x ≡ get_or ls i x → 1 ≤ times_in x (drop i ls)
 still_left ls i x k e =
     let here : times_in x (drop i ls) ≡ cond (eqb (get_or ls i x) x) 1 0 + times_in x (drop (i + 1) ls) = ap (times_in x) (drop_more ls i x k) in
@@ -16,16 +16,16 @@ still_left ls i x k e =
     let is : cond (eqb (get_or ls i x) x) 1 0 ≡ one = ap (λ b. cond b 1 0) (eq-eqb _ _ (sym e)) in
     omega (arith, here, is)
 
--- what is left is the next one and those after it
+-- the rest is the next literal and those after it
 pub next_times : (ls : List ℕ) (i x : ℕ) → i < length ls → x ≡ get_or ls i x → (k : ℕ) → times_in k (drop i ls) ≡ cond (eqb k x) 1 0 + times_in k (drop (i + 1) ls)
 next_times ls i x h e k =
     ap (times_in k) (drop_more ls i x h) ∙ ap (λ y. cond (eqb y k) 1 0 + times_in k (drop (i + 1) ls)) (sym e) ∙ ap (λ b. cond b 1 0 + times_in k (drop (i + 1) ls)) (eqb_comm x k)
 
--- a count that isn't zero has room
+-- a literal with a count above 0 has a place in the table
 pub some_room : (t : Table ℕ) (x : ℕ) → 0 < value_at 0 t x → HasPlaceFor t x
 some_room t x h = has_room 0 t x (λ e. omega (arith, h, e))
 
--- one count more, and one less
+-- after a count is increased or decreased by 1
 module _ (t new : Table ℕ) (p x c : ℕ) (is : p ≡ x) (read : c ≡ value_at 0 t x) where
   pub one_more : ((v : ℕ) → value_at 0 new v ≡ cond (eqb v p) (c + 1) (value_at 0 t v)) → (v : ℕ) → value_at 0 new v ≡ cond (eqb v x) 1 0 + value_at 0 t v
   one_more set v = subst (λ q. value_at 0 new v ≡ cond (eqb v q) (c + 1) (value_at 0 t v)) is (set v) ∙ go (eqb v x) refl
@@ -41,7 +41,7 @@ module _ (t new : Table ℕ) (p x c : ℕ) (is : p ≡ x) (read : c ≡ value_at
       go true e n = let here = ap (value_at 0 t) (eqb-true v x e) in omega (arith, here, read, n, some)
       go false e n = omega (arith, n)
 
--- room for one literal more
+-- all literals up to the next one have a place in the table
 pub room_next : (old new : Table ℕ) (ls : List ℕ) (i x : ℕ) → i < length ls → x ≡ get_or ls i x → ((j d : ℕ) → j < i → HasPlaceFor old (get_or ls j d)) → ((k : ℕ) → HasPlaceFor old k → HasPlaceFor new k) → HasPlaceFor new x
     → (j d : ℕ) → j < i + 1 → HasPlaceFor new (get_or ls j d)
 room_next old new ls i x inside is before others room j d h = go (eqb j i) refl

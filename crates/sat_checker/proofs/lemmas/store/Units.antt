@@ -1,4 +1,4 @@
--- Units, as they come in and are found.
+-- Units, as they are added and looked up.
 use Rattle.std.proofs.Common.{ℕ, ◌≡◌, Bool, true, false, ◌||◌, cond, eqb, List, [], ◌∷◌, ◌++◌, length, map, reverse, Some, None, refl, sym, ◌∙◌, ap, subst, Result, Ok, Err, IfOk, ◌↔◌}
 use Rattle.std.proofs.lemmas.Bool.{eq-eqb, ne_eqb, eqb-true, eqb-false, or_parts, or_from}
 use Rattle.std.proofs.lemmas.List.{reverse-append, length-reverse, map-append}
@@ -33,7 +33,7 @@ eqb_turned x y = go (eqb x y) refl
     go true e = sym (eq-eqb y x (sym (eqb-true x y e)))
     go false e = sym (ne_eqb y x (λ s. eqb-false x y e (sym s)))
 
--- one unit more
+-- after a unit is added
 more_numbered : (us : List StoredUnit) (u : StoredUnit) (l : ℕ) → is_among (map (λ w. w.literal) us) u.literal ≡ false → unit_id l (us ++ u ∷ []) ≡ cond (eqb l u.literal) (Some u.id) (unit_id l us)
 more_numbered [] u l n = ap (λ b. cond b (Some u.id) None) (eqb_turned u.literal l)
 more_numbered (w ∷ ws) u l n = let parts = or_parts (eqb w.literal u.literal) (is_among (map (λ x. x.literal) ws) u.literal) n in go (eqb w.literal l) refl parts.0 (more_numbered ws u l parts.1)
@@ -75,7 +75,7 @@ units_more us u ids mid ids_new places between places_new assigned all place k n
     turned false true = refl
     turned false false = refl
 
--- a list contradicts units just where they contradict it
+-- a list contradicts a unit exactly if a unit contradicts a literal of the list
 any_at : (test : ℕ → Bool) (us : List StoredUnit) → list_any (λ u. test u.literal) us ≡ list_any test (map (λ u. u.literal) us)
 any_at test [] = refl
 any_at test (u ∷ us) = ap (λ b. test u.literal || b) (any_at test us)
@@ -90,7 +90,7 @@ contradicted_same us ls = same_tests _ _
     (λ h. let s = some_of (negated_in ls) (map (λ u. u.literal) us) (sym (any_at (negated_in ls) us) ∙ h) in
     any_true (negated_in (map (λ u. u.literal) us)) ls (negated s.literal) s.passes (ap (is_among (map (λ u. u.literal) us)) (negated-negated s.literal) ∙ s.within))
 
--- the check over what is kept is the definition's, whatever the order in which the units are assumed
+-- results of the check hold for the stored units, assumed in any order
 pub short_units : {E : Type 0} (r : Result Bool E) (store : Store) (room roomy : List ℕ) → roomy ≡ room → OnErr r ((f : Stored) → RepresentsClauses store f → HasStoredRoom roomy f.clauses → ⊥) → OnErr r ((f : Stored) → RepresentsClauses store f → HasStoredRoom room f.clauses → ⊥)
 short_units (Ok b) store room roomy w h = tt
 short_units (Err e) store room roomy w h = λ f k there. h f k (subst (λ r. HasStoredRoom r f.clauses) (sym w) there)

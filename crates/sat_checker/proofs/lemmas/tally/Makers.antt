@@ -1,4 +1,4 @@
--- What walks of functions that make a value without bytes share: the value owns nothing.
+-- Shared by the proofs of functions that make a value without bytes: the value owns nothing.
 use Rattle.std.proofs.Common.{List, [], ◌∷◌, refl}
 use seplogic.Ra.Ura.{Ura}
 use mir.Val.{Val, vstruct, vnil}

@@ -1,4 +1,4 @@
--- What is kept of variables.
+-- What the code stores about variables.
 use Rattle.std.proofs.Common.{ℕ, zero, suc, arith, ◌++◌, take, ◌+◌, ◌<◌, ◌≡◌, Bool, true, false, not, ◌||◌, cond, eqb, List, [], ◌∷◌, length, drop, get_or, map, Option, Some, None, is_some, refl, sym, ◌∙◌, ap, subst}
 use Rattle.std.proofs.lemmas.Bool.{true≢false, eqb-true, eqb-false}
 use Rattle.std.proofs.lemmas.List.{drop_more}
@@ -27,7 +27,7 @@ twice true true x = refl
 twice true false x = refl
 twice false d x = refl
 
--- one more literal's variable is known
+-- the variable of the next literal becomes known
 pub known_next : (ls : List ℕ) (i v w d : ℕ) (x y : Variable) → i < length ls → w ≡ variable (get_or ls i d) → y ≡ known_if (eqb v w) x → known_if (is_among (map variable (drop i ls)) v) x ≡ known_if (is_among (map variable (drop (i + 1) ls)) v) y
 known_next ls i v w d x y l e k =
     ap (λ ms. known_if (is_among (map variable ms) v) x) (drop_more ls i d l)
@@ -35,7 +35,7 @@ known_next ls i v w d x y l e k =
     ∙ ap (λ b. known_if (b || is_among (map variable (drop (i + 1) ls)) v) x) (eqb_comm w v)
     ∙ sym (twice (eqb v w) (is_among (map variable (drop (i + 1) ls)) v) x) ∙ ap (known_if (is_among (map variable (drop (i + 1) ls)) v)) (sym k)
 
--- a name that is taken, a variable that has one, and a hidden one get no name
+-- when a variable may get a name: no variable has the name, and the variable has none and is not hidden
 module _ (vs : Variables) (f : Stored) (k : KeepsVariables vs f.variables) (v name : ℕ) where
   pub refused_taken : (o : Option ℕ) → o ≡ holder_at vs name → is_some o ≡ true → MayGetName f v name → ⊥
   refused_taken None e s h = true≢false (sym s)
@@ -137,7 +137,7 @@ unnamed_kept vs one two g v name x k xn gn e h e2 h2 = record {
         absurd (eqb-false w v c (some_same w v (sym one_way ∙ other_way)))
     back n w false a false c t = h2 n ∙ ap (λ b. cond b None (holder_at one n)) a ∙ h n ∙ (k.holders n w).1 t
 
--- a variable is set and keeps its name or has none
+-- other data of a variable is set, and its name stays the same
 pub set_kept : (vs one : Variables) (g : ℕ → Variable) (v : ℕ) (x : Variable) → KeepsVariables vs g → x.name ≡ (g v).name
     → ((w : ℕ) → variable_at one w ≡ cond (eqb w v) x (variable_at vs w)) → ((n : ℕ) → holder_at one n ≡ holder_at vs n) → KeepsVariables one (λ w. cond (eqb w v) x (g w))
 set_kept vs one g v x k xn e h = record {
@@ -188,7 +188,7 @@ only_one v w = eqb_comm w v ∙ go (eqb v w)
 pub kept_same : (vs : Variables) (g h : ℕ → Variable) → ((v : ℕ) → g v ≡ h v) → KeepsVariables vs g → KeepsVariables vs h
 kept_same vs g h e k = record { each = λ v. k.each v ∙ e v; holders = λ name v. ((λ t. ap (λ x. x.name) (sym (e v)) ∙ (k.holders name v).0 t), (λ t. (k.holders name v).1 (ap (λ x. x.name) (e v) ∙ t))) }
 
--- one unit's variable more is known
+-- the variable of one more unit becomes known
 pub unit_known : (us : List (ℕ × ℕ)) (i : ℕ) (u : ℕ × ℕ) (w v : ℕ) (x : Variable) → i < length us → u ≡ get_or us i u → w ≡ variable u.0
     → known_if (is_among (w ∷ []) v) (known_if (is_among (map variable (map (λ u. u.0) (take i us))) v) x) ≡ known_if (is_among (map variable (map (λ u. u.0) (take (i + 1) us))) v) x
 unit_known us i u w v x l is e =

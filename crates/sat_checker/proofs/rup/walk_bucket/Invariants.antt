@@ -10,7 +10,7 @@ use Rattle.sat_checker.specs.inner.Reasons.{clause_at, filed, noted_length, Keep
 use Rattle.sat_checker.specs.inner.Walk.{walk}
 use Rattle.sat_checker.proofs.rup.walk_bucket.Given as goal
 
--- what is left to walk over gives what the whole bucket gives
+-- walking over the remaining clauses gives the result for the entire bucket
 abbrev pub invariant-loop-next : goal.invariant-loop-next
 invariant-loop-next l = let left = from_on l.next (places_of l.hash l.clauses) in record {
   among : IfSome l.next (λ p. is_among (places_of l.hash l.clauses) p ≡ true);

@@ -6,7 +6,7 @@ use Rattle.sat_checker.specs.inner.Reasons.{named, noted_length, KeepsGround}
 use Rattle.sat_checker.specs.inner.Walk.{walk_buckets}
 use Rattle.sat_checker.proofs.rup.walk_hashes.Given as goal
 
--- the buckets that are left give what all of them give
+-- walking over the remaining buckets gives the result for all buckets
 abbrev pub invariant-loop-hash : goal.invariant-loop-hash
 invariant-loop-hash l = let buckets = map (bucket_of l.clauses) in record {
   walked : walk_buckets l.fn.assigned.literals (buckets l.hashes) ≡ walk_buckets l.assigned.literals (buckets (drop l.hash-index l.hashes));

@@ -10,7 +10,7 @@ use Rattle.sat_checker.specs.listeners.ProcessingView.{HearsEach}
 use Rattle.sat_checker.specs.ClausesView.{AnswersClauses}
 use Rattle.sat_checker.proofs.checker.Checker.add_text.Given as goal
 
--- so much of the text was given, and its clauses were added
+-- the reader gave a text of at least `counter` bytes, and all clauses of its ended words were added
 abbrev pub invariant-loop : goal.invariant-loop
 invariant-loop g l = record {
   well : has_failed (seen_of l.fn.self) ≡ false;

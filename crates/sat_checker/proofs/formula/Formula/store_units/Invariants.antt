@@ -7,7 +7,7 @@ use Rattle.sat_checker.proofs.lemmas.state.Units.{Left}
 use Rattle.sat_checker.proofs.lemmas.listeners.NotedUnits.{Noted}
 use Rattle.sat_checker.proofs.formula.Formula.store_units.Given as goal
 
--- the units that are left are judged by what is kept now
+-- adding the remaining units to the current formula gives the result for all units
 abbrev pub invariant-loop-place : goal.invariant-loop-place
 invariant-loop-place l = record {
   left : (f : Stored) → RepresentsFormula l.fn.self f → Left l.self f l.units (drop l.place l.units);

@@ -8,7 +8,7 @@ use Rattle.sat_checker.specs.inner.StoreView.{RepresentsClauses}
 use Rattle.sat_checker.proofs.lemmas.state.InTurn.{Passing}
 use Rattle.sat_checker.proofs.rup.in_turn.pass_in_turn.Given as goal
 
--- the units before the last one that passed came in
+-- the units before `place - 1` were added, and the unit at `place - 1` passed
 abbrev pub invariant-loop-place : goal.invariant-loop-place
 invariant-loop-place l = record {
   some : 1 ≤ l.place;

@@ -3,6 +3,6 @@ use Rattle.sat_checker.specs.announcements.Needed.{others_denied}
 use Rattle.sat_checker.proofs.lemmas.announcements.Marking.{MarksLeft}
 use Rattle.sat_checker.proofs.rup.needed.mark_others.Given as goal
 
--- those that are left and those that are marked are all
+-- the remaining literals and the marked ones are all literals to mark and those marked initially
 abbrev pub invariant-loop-lit : goal.invariant-loop-lit
 invariant-loop-lit l = MarksLeft (others_denied l.made (drop l.lit-index l.clause)) l.marked.literals (others_denied l.made l.clause) l.fn.marked.literals

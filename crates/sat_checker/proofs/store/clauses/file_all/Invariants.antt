@@ -4,7 +4,7 @@ use Rattle.sat_checker.specs.inner.SlotView.{live_length}
 use Rattle.sat_checker.proofs.lemmas.store.Rehashing.{hashed_from, filed_from}
 use Rattle.sat_checker.proofs.store.clauses.file_all.Given as goal
 
--- the last ones are hashed and filed
+-- the last `done` clauses are hashed and filed
 abbrev pub invariant-loop-done : goal.invariant-loop-done
 invariant-loop-done l = record {
   hashed : l.slots ≡ hashed_from (solver_name_of l.hasher) (width_of l.hasher) (l.count - l.done) l.fn.slots;

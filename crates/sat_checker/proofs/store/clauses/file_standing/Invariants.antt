@@ -4,7 +4,7 @@ use Rattle.sat_checker.specs.inner.PairView.{inserted_all}
 use Rattle.sat_checker.specs.inner.SlotView.{slots_present}
 use Rattle.sat_checker.proofs.store.clauses.file_standing.Given as goal
 
--- the last ones that aren't gone are filed, by the places that they will have
+-- of the last `done` clauses, those not removed are filed under their new places
 abbrev pub invariant-loop-done : goal.invariant-loop-done
 invariant-loop-done l = record {
   to : l.to ≡ length (slots_present (take (l.count - l.done) l.slots));

@@ -3,7 +3,7 @@ use Rattle.sat_checker.specs.inner.PairView.{places_in, first_of}
 use Rattle.sat_checker.specs.inner.LinkView.{rest, IsWalk}
 use Rattle.sat_checker.proofs.store.links.first_from.Given as goal
 
--- the first of the hash is among those that are left
+-- the first pair of the hash, if any, is among the remaining pairs
 abbrev pub invariant-loop-at : goal.invariant-loop-at
 invariant-loop-at l = record {
   walk : IsWalk l.links l.at;

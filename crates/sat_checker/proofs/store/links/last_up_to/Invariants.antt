@@ -2,7 +2,7 @@ use Rattle.std.proofs.Common.{◌≡◌, length, None}
 use Rattle.sat_checker.specs.inner.LinkView.{rest, IsWalk, up_to, last_or}
 use Rattle.sat_checker.proofs.store.links.last_up_to.Given as goal
 
--- the last so far, and those that are left
+-- the result follows from the last pair found so far and the remaining pairs
 abbrev pub invariant-loop-at : goal.invariant-loop-at
 invariant-loop-at l = record {
   walk : IsWalk l.links l.at;

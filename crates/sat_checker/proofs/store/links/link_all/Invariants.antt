@@ -2,7 +2,7 @@ use Rattle.std.proofs.Common.{◌≡◌, ◌-◌, drop, length}
 use Rattle.sat_checker.specs.inner.LinkView.{LinksListPairs}
 use Rattle.sat_checker.proofs.store.links.link_all.Given as goal
 
--- the last ones are linked
+-- the last `done` pairs are linked
 abbrev pub invariant-loop-done : goal.invariant-loop-done
 invariant-loop-done l = record {
   lists : LinksListPairs l.heads l.links l.shift (drop (l.count - l.done) l.pairs);

@@ -2,7 +2,7 @@ use Rattle.std.proofs.Common.{◌≡◌, length}
 use Rattle.sat_checker.specs.inner.LinkView.{rest, IsWalk, place_before}
 use Rattle.sat_checker.proofs.store.links.place_before.Given as goal
 
--- the place is after one of those that are left
+-- the place before is that of a remaining pair, if there is one
 abbrev pub invariant-loop-at : goal.invariant-loop-at
 invariant-loop-at l = record {
   walk : IsWalk l.links l.at;

@@ -2,6 +2,6 @@ use Rattle.std.proofs.Common.{◌≡◌, drop}
 use Rattle.sat_checker.specs.announcements.Needed.{true_unit}
 use Rattle.sat_checker.proofs.units.Units.true_id.Given as goal
 
--- those that are left decide
+-- the result depends only on the remaining literals
 abbrev pub invariant-loop-lit : goal.invariant-loop-lit
 invariant-loop-lit l = true_unit l.literals l.self.units ≡ true_unit (drop l.lit-index l.literals) l.self.units

@@ -2,7 +2,7 @@ use Rattle.std.proofs.Common.{ℕ, ◌≡◌, List, drop}
 use Rattle.sat_checker.specs.inner.AssumedRoom.{HasClauseRoom, RoomStays}
 use Rattle.sat_checker.proofs.units.assigned.make_room_for.Given as goal
 
--- where there will be room for those that are left, there will be for all
+-- once there is room for the remaining literals, there is room for the entire clause
 abbrev pub invariant-loop-lit : goal.invariant-loop-lit
 invariant-loop-lit l = record {
   room : (room : List ℕ) → RoomStays l.assigned.room room → HasClauseRoom room (drop l.lit-index l.clause) → HasClauseRoom room l.clause;

@@ -5,7 +5,7 @@ use Rattle.sat_checker.specs.inner.Marks.{mark_at}
 use Rattle.sat_checker.specs.declared.units.assigned.Mark.TheVariants as mark
 use Rattle.sat_checker.proofs.units.assigned.unmark_all.Given as goal
 
--- without the marks of those that are left it's what it comes to
+-- unmarking the remaining literals gives the final marks
 abbrev pub invariant-loop-lit : goal.invariant-loop-lit
 invariant-loop-lit l = record {
   places : KeepsRoom l.fn.marks l.marks;

@@ -2,7 +2,7 @@ use Rattle.std.proofs.Common.{drop}
 use Rattle.sat_checker.specs.Accepts.{VariablesApart}
 use Rattle.sat_checker.proofs.units.valuation.are_apart.Given as goal
 
--- those that are left decide
+-- the result depends only on the literals from the place on
 abbrev pub invariant-loop-place : goal.invariant-loop-place
 invariant-loop-place l = record {
   then_all : VariablesApart (drop l.place l.literals) → VariablesApart l.literals;

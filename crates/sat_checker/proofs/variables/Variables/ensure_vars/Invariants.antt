@@ -4,7 +4,7 @@ use Rattle.sat_checker.specs.LiteralSets.{is_among}
 use Rattle.sat_checker.specs.inner.VariablesView.{variable_at, holder_at, known_if}
 use Rattle.sat_checker.proofs.variables.Variables.ensure_vars.Given as goal
 
--- the variables of the literals that are left make known the rest
+-- making the variables of the remaining literals known gives the final variables
 abbrev pub invariant-loop-lit : goal.invariant-loop-lit
 invariant-loop-lit l = record {
   variables : (v : ℕ) → known_if (is_among (map variable l.literals) v) (variable_at l.fn.self v) ≡ known_if (is_among (map variable (drop l.lit-index l.literals)) v) (variable_at l.self v);

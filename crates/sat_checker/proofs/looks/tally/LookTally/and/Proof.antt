@@ -1,4 +1,4 @@
--- `and` makes the tally with so many looks more.
+-- `and` adds this many looks.
 use Rattle.std.proofs.Common.{[], ◌∷◌, ◌+◌, refl, w64}
 use Rattle.std.proofs.raw_atomic.Walks.{proved}
 use mir.Syntax.{named}

@@ -1,4 +1,4 @@
--- `and_all` makes the tally with the looks of another one more.
+-- `and_all` adds the looks of another tally.
 use Rattle.std.proofs.Common.{[], ◌∷◌, ◌+◌, refl}
 use Rattle.std.proofs.raw_atomic.Walks.{proved}
 use mir.Syntax.{named}

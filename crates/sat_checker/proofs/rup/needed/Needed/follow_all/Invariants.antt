@@ -6,7 +6,7 @@ use Rattle.sat_checker.specs.inner.Reasons.{reason_in, conflict_at}
 use Rattle.sat_checker.specs.inner.SlotView.{literals_at}
 use Rattle.sat_checker.proofs.rup.needed.Needed.follow_all.Given as goal
 
--- the last notes so far are followed
+-- the last `done` notes were followed
 abbrev pub invariant-loop-done : goal.invariant-loop-done
 invariant-loop-done l = let so_far = drop (l.count - l.done) l.passed.reasons in record {
   followed : IsFollowed l.self (followed_back (map (reason_in l.clauses) so_far) (conflict_at l.clauses (Some l.place)));

@@ -1,4 +1,4 @@
--- `and` has one reason more.
+-- `and` appends one reason.
 use Rattle.std.proofs.Common.{[], ◌∷◌, ◌++◌, refl, w64}
 use Rattle.std.proofs.raw_atomic.Walks.{proved}
 use mir.Syntax.{named}

@@ -3,7 +3,7 @@ use Rattle.sat_checker.specs.inner.ModelTests.{are_all_true, irredundant_length}
 use Rattle.sat_checker.specs.inner.SlotView.{live, live_length}
 use Rattle.sat_checker.proofs.store.clauses.Clauses.are_satisfied.Given as goal
 
--- those that are left decide
+-- the result depends only on the remaining clauses
 abbrev pub invariant-loop-place : goal.invariant-loop-place
 invariant-loop-place l = record {
   found : are_all_true l.assigned.literals (live l.self) ≡ are_all_true l.assigned.literals (live (drop l.place l.self));

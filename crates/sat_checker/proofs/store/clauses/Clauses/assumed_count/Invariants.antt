@@ -4,7 +4,7 @@ use Rattle.sat_checker.specs.Storing.{clause_with}
 use Rattle.sat_checker.specs.inner.SlotView.{live, live_length}
 use Rattle.sat_checker.proofs.store.clauses.Clauses.assumed_count.Given as goal
 
--- it's among those that are left, if at all
+-- the clause is among the remaining clauses, if it is stored
 abbrev pub invariant-loop-place : goal.invariant-loop-place
 invariant-loop-place l = record {
   found : clause_with (canonical l.assigned.literals) (live l.self) ≡ clause_with (canonical l.assigned.literals) (live (drop l.place l.self));

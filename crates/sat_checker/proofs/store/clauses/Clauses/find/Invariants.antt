@@ -6,7 +6,7 @@ use Rattle.sat_checker.specs.inner.PairView.{from_on}
 use Rattle.sat_checker.specs.inner.SlotView.{bucket_in, literals_at, places_of, found_among}
 use Rattle.sat_checker.proofs.store.clauses.Clauses.find.Given as goal
 
--- the literals are found among those that are left
+-- the clause is among the remaining clauses of the bucket, if it is stored
 abbrev pub invariant-loop-next : goal.invariant-loop-next
 invariant-loop-next l = let left = from_on l.next (places_of l.hash l.self) in record {
   among : IfSome l.next (λ p. is_among (places_of l.hash l.self) p ≡ true);

@@ -1,4 +1,4 @@
--- `new` makes a note of this hash.
+-- `new` stores the given hash.
 use Rattle.std.proofs.Common.{[], ◌∷◌, refl, w64}
 use Rattle.std.proofs.raw_atomic.Walks.{proved}
 use types.Kit.{‵, raw, ◌⊛◌, ◌$◌, ◌∵◌, !, qed, done, move, keep, split, join, fjoin, suffices}

@@ -1,4 +1,4 @@
--- `same` makes a note of the hash that is noted.
+-- `same` copies the stored hash.
 use Rattle.std.proofs.Common.{[], ◌∷◌, refl}
 use Rattle.std.proofs.raw_atomic.Walks.{proved}
 use mir.Syntax.{named}

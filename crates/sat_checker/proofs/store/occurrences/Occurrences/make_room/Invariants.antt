@@ -3,7 +3,7 @@ use Rattle.sat_base.specs.values.Tables.{HasPlaceFor}
 use Rattle.sat_checker.specs.inner.OccurrenceView.{count_at}
 use Rattle.sat_checker.proofs.store.occurrences.Occurrences.make_room.Given as goal
 
--- there is room for the literals so far
+-- there is room for the literals before the index
 abbrev pub invariant-loop-lit : goal.invariant-loop-lit
 invariant-loop-lit l = record {
   room : (i d : ℕ) → i < l.lit-index → HasPlaceFor l.self.counts (get_or l.literals i d);

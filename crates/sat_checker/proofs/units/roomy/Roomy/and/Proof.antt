@@ -1,4 +1,4 @@
--- `and` has one literal more.
+-- `and` adds one literal.
 use Rattle.std.proofs.Common.{[], ◌∷◌, refl, w64}
 use Rattle.std.proofs.raw_atomic.Walks.{proved}
 use mir.Syntax.{named}

@@ -1,4 +1,4 @@
--- `and` makes the order with one unit more.
+-- `and` appends one unit.
 use Rattle.std.proofs.Common.{[], ◌∷◌, ◌++◌, refl, w64}
 use Rattle.std.proofs.raw_atomic.Walks.{proved}
 use mir.Syntax.{named}

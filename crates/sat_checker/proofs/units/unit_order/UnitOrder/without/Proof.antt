@@ -1,4 +1,4 @@
--- `without` makes the order without a literal's unit.
+-- `without` removes the unit of a literal.
 use Rattle.std.proofs.Common.{[], ◌∷◌, eqb, not, filter, refl, w64}
 use Rattle.std.proofs.raw_atomic.Walks.{proved}
 use mir.Syntax.{named}
