@@ -1,4 +1,5 @@
--- What is true at the level to go back to is closed under the stored clauses, and the learned literal isn't of it.
+-- The literals that are true at the level to backtrack to are closed under the stored clauses, and the learned literal
+-- isn't one of them.
 use Rattle.std.proofs.Common.{ℕ, ◌≡◌, ◌+◌, ◌<◌, ◌≤◌, ◌⊎◌, inl, inr, suc, zero, true, List, [], ◌∷◌, ◌++◌, length, map, drop, get_or, eqb, refl, sym, ap, ◌∙◌, subst, arith, length-drop, get_or-drop}
 use Rattle.std.proofs.lemmas.Bool.{or_cases, eqb-true, false_from_ne_true}
 use Rattle.std.specs.List.{Contains, AllByRecursion}
@@ -23,7 +24,7 @@ use Rattle.sat_solver.proofs.lemmas.analyze_conflict.InTurn.{negation_of}
 use Rattle.sat_solver.proofs.lemmas.analyze_conflict.Meeting.{level_by_variable}
 use Rattle.sat_solver.proofs.lemmas.analyze_conflict.Callers.{low_left}
 
--- true at a level not above this one
+-- the literal is true, at this level or below
 pub record IsLow (s : State) (back l : ℕ) : Type 0 where
   pub holds : IsTrueLit s.values l
   pub low : level s l ≤ back
@@ -31,11 +32,11 @@ pub record IsLow (s : State) (back l : ℕ) : Type 0 where
 abbrev AreLow : State → ℕ → List ℕ → Type 0
 AreLow s back ls = (m : ℕ) → is_among ls m ≡ true → IsLow s back m
 
--- each literal of the clause but one has a low negation
+-- every literal of the clause except o has a low negation
 abbrev pub OthersLow : State → ℕ → List ℕ → ℕ → Type 0
 OthersLow s back c o = (k : ℕ) → k < length c → (get_or c k 0 ≡ o) ⊎ IsLow s back (negated (get_or c k 0))
 
--- a true literal of the clause that is low is the one
+-- if the clause has a true literal at a low level, this literal is o
 satisfied_low : (s : State) (back o : ℕ) (c : List ℕ) (bound : ℕ) → OthersLow s back c o → bound ≤ back → IsSatisfied s c bound → IsLow s back o
 satisfied_low s back o c bound h le x = elim (h x.place x.within) [
   | inl e ↦ subst (λ z. IsLow s back z) e (record { holds = x.holds; low = omega (arith, x.low) })

@@ -1,4 +1,4 @@
--- What analysis asks, from what the parts give.
+-- What conflict analysis requires follows from the invariants of the parts.
 use Rattle.std.proofs.Common.{ℕ, ◌≡◌, ◌≢◌, ◌+◌, ◌<◌, ◌≤◌, inl, inr, suc, zero, Bool, Option, List, [], ◌∷◌, length, get_or, sym, ap, subst, arith, length-drop, get_or-drop}
 use Rattle.std.proofs.lemmas.Bool.{cases_eq, cases_lt}
 use Rattle.sat_base.specs.values.Literals.{negated}
@@ -78,7 +78,8 @@ stands_by words live implied s p o (Long q) count c h e =
     let same : q ≡ o = cc in
     subst (λ z. IsClause words z × (0 < length (lits_at words z))) same (c.holds_clauses.clauses q h.0, omega (arith, c.long q h.0))
 
--- what analysis asks holds where the parts agree, reasons are unit in turn above level 0, and levels begin with decisions
+-- analysis may begin if the parts agree, reasons are unit in turn above level 0, and every level begins with a
+-- decision
 pub can_analyze : (words live : List ℕ) (implied : List (List ℕ)) (s : State) (count : ℕ) → StateIsConsistent s → IsLevelled s → 0 < current_level s → AreClauses words live count →
     AreUnitInTurn words live implied s (get_or s.trail.starts 0 0) → CanAnalyze words s
 can_analyze words live implied s count a levelled above clauses t = record {

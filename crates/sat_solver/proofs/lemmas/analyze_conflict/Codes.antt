@@ -1,4 +1,4 @@
--- The same facts in the words in which code meets them.
+-- Facts about analysis, in the form in which the code needs them.
 use Rattle.std.proofs.Common.{ℕ, ◌≡◌, ◌+◌, ◌<◌, ◌≤◌, inl, inr, Bool, true, false, List, length, get_or, refl, sym, ap, ◌∙◌, subst, arith}
 use Rattle.std.proofs.lemmas.Bool.{cases_eq}
 use Rattle.std.proofs.lemmas.Bool.Decides.{nat_tests}
@@ -22,7 +22,7 @@ use Rattle.sat_solver.proofs.lemmas.analyze_conflict.InTurn.{above_first}
 use Rattle.sat_solver.proofs.lemmas.analyze_conflict.Meeting.{OpenPlace, open_some, variable_below}
 use Rattle.sat_solver.proofs.lemmas.analyze_conflict.Resolution.{IsLastFlagged}
 
--- some literal is flagged where one is to be resolved
+-- if literals are still to be resolved, some literal of the trail is flagged
 pub some_flagged : (s : State) (top : ℕ) (w : Work) (at : ℕ) (lits : List ℕ) → lits ≡ s.trail.lits → MarksWork s top w at → 0 < w.pending → (p : ℕ) × ((p < at) × (get_or w.flags (variable (get_or lits p 0)) false ≡ true))
 some_flagged s top w at lits e m some =
     let x : OpenPlace s top w.flags at = open_some s top w.flags at (omega (arith, m.counted)) in
@@ -36,17 +36,17 @@ last_place s flags p at lits e lt f others = record {
   others = λ q a b. ap (λ (ls : List ℕ). get_or flags (variable (get_or ls q 0)) false) (sym e) ∙ others q a b;
 }
 
--- the clause of a reason above level 0 stands in the buffer
+-- the clause of a long reason above level 0 is in the buffer
 pub taken_stands : (words : List ℕ) (s : State) (p o : ℕ) (r : Reason) → CanAnalyze words s → get_or s.trail.starts 0 0 ≤ p → p < length s.trail.lits → r ≡ (node s (lit_at s p)).reason → r ≡ Long o → IsClause words o × (0 < length (lits_at words o))
 taken_stands words s p o r can first within r_is e = can.valid p o first within (sym r_is ∙ e)
 
--- and its literals have nodes
+-- the false literals of a reason above level 0 have nodes
 pub before_nodes : (words : List ℕ) (s : State) (p k : ℕ) (ls : List ℕ) → CanAnalyze words s → get_or s.trail.starts 0 0 ≤ p → p < length s.trail.lits → ls ≡ causes_at words s (lit_at s p) → k < length ls → variable (get_or ls k 0) < length s.nodes
 before_nodes words s p k ls can first within e lt =
     let b : IsFalseBefore s p (get_or (causes_at words s (lit_at s p)) k 0) = can.before p k first within (subst (λ (xs : List ℕ). k < length xs) e lt) in
     omega (arith, variable_below s p (get_or (causes_at words s (lit_at s p)) k 0) can.agrees b, can.agrees.nodes, ap (λ (xs : List ℕ). variable (get_or xs k 0)) e)
 
--- a used literal stands on the trail: the clause of its reason stands in the buffer, and its literals have nodes
+-- the long reason of a used literal is in the buffer
 pub reasoned_stands : (words : List ℕ) (s : State) (l o : ℕ) (r : Reason) → CanAnalyze words s → IsReasoned s 0 l → r ≡ (node s l).reason → r ≡ Long o → IsClause words o × (0 < length (lits_at words o))
 reasoned_stands words s l o r can x r_is e =
     can.valid x.place o (above_first s x.place l can.agrees x.within x.there x.above can.above) x.within (ap (λ z. (node s z).reason) x.there ∙ sym r_is ∙ e)
@@ -61,7 +61,8 @@ reasoned_variable s l a x = true_variable s x.place l a x.within x.there
     true_variable : (s : State) (p l : ℕ) → StateIsConsistent s → p < length s.trail.lits → lit_at s p ≡ l → variable l < length s.values
     true_variable s p l a within there = below_from_value s.values (variable l) (is_positive l) (subst (λ z. IsTrueLit s.values z) there (a.holds p within))
 
--- literals of higher levels change places with the second one, one after the other
+-- The search for the second literal of a learned clause: each literal of a higher level is swapped with the second
+-- one.
 abbrev level_in : List ImplNode → ℕ → ℕ
 level_in nodes l = (node_of nodes (variable l)).level
 
@@ -119,7 +120,7 @@ chained_swaps nodes old ls at level h two within more =
       ];
     }
 
--- what was shuffled has the same variables
+-- a reordered list has the same variables, so all of them have nodes
 pub shuffled_nodes : (nodes : List ImplNode) (ls ms : List ℕ) → IsReordering ls ms → ((k : ℕ) → k < length ls → variable (get_or ls k 0) < length nodes) → (k : ℕ) → k < length ms → variable (get_or ms k 0) < length nodes
 shuffled_nodes nodes ls ms h inside k lt =
     let o : (j : ℕ) × ((j < length ls) × (get_or ls j 0 ≡ get_or ms k 0)) = h.back k (omega (arith, h.size)) in

@@ -1,4 +1,4 @@
--- Which variables and long clauses resolution lists.
+-- Resolution lists the variables that it meets and the long clauses that it uses.
 use Rattle.std.proofs.Common.{ℕ, ◌≡◌, ◌<◌, ◌≤◌, ◌⊎◌, inl, inr, suc, zero, Bool, true, false, List, [], ◌∷◌, ◌++◌, length, take, get_or, set, refl, sym, ap, ◌∙◌, subst, arith, append_assoc, length-set, get_or-set_same, get_or-set_other}
 use Rattle.std.proofs.lemmas.Bool.{cases_eq, cases_lt, both_ways}
 use Rattle.std.proofs.lemmas.List.{append-nil, get_or_past, length_push, get_or_push, get_or_append_left, take_at, take-append-le}
@@ -21,7 +21,7 @@ use Rattle.sat_solver.proofs.lemmas.analyze_conflict.Meeting.{OpenPlace, Meets, 
 use Rattle.sat_solver.proofs.lemmas.analyze_conflict.Minimizing.{distinct_push}
 use Rattle.sat_solver.proofs.lemmas.analyze_conflict.Resolution.{IsLastFlagged, at_current}
 
--- what is listed once literals were met
+-- how the list of met variables has changed after these literals were met
 pub record Lists (s : State) (at : ℕ) (rs : List ℕ) (w w' : Work) : Type 0 where
   pub listed : AreListed s w'.met w'.flags at
   pub size : length w'.flags ≡ length w.flags
@@ -37,7 +37,7 @@ push_cases xs x y c = elim (Contains-append_cases xs (x ∷ []) y c) [
       inr (ap (λ k. get_or (x ∷ []) k 0) e ∙ at_place (x ∷ []) y b)
 ]
 
--- a literal that isn't flagged, of one that stands before the place, isn't listed
+-- a literal that was false before this position, and isn't flagged, isn't listed
 not_listed : (s : State) (met : List ℕ) (flags : List Bool) (at r : ℕ) → StateIsConsistent s → IsFalseBefore s at r → 0 < level s r → AreListed s met flags at → get_or flags (variable r) false ≡ false → Contains met (variable r) → ⊥
 not_listed s met flags at r a h above l f c = elim (l.passed (variable r) c) [
   | inl t ↦ both_ways (get_or flags (variable r) false) f t
@@ -46,7 +46,7 @@ not_listed s met flags at r a h above l f c = elim (l.passed (variable r) c) [
       omega (arith, x.following, b.before, places_apart s b.place x.place a b.within x.within (ap (λ z. variable z) b.there ∙ negated_variable r ∙ sym x.there))
 ]
 
--- one that is flagged now is listed
+-- a literal that was false before this position is flagged and listed
 lists_new : (s : State) (met : List ℕ) (flags : List Bool) (at r : ℕ) → StateIsConsistent s → IsFalseBefore s at r → 0 < level s r → length flags ≡ length s.values → AreListed s met flags at → get_or flags (variable r) false ≡ false →
     AreListed s (met ++ variable r ∷ []) (set flags (variable r) true) at
 lists_new s met flags at r a h above size l f =
@@ -147,7 +147,7 @@ lowered flags v u e = elim (cases_eq u v) [
   | inr n ↦ sym (get_or-set_other flags v u false false n) ∙ e
 ]
 
--- a literal is passed by
+-- the flag of a literal is cleared when its position is passed
 listed_passed : (s : State) (w : Work) (p at : ℕ) → p < at → at ≤ length s.trail.lits → AreListed s w.met w.flags at → AreListed s w.met (set w.flags (variable (lit_at s p)) false) p
 listed_passed s w p at lt le l = record {
   distinct = l.distinct;
@@ -166,7 +166,7 @@ longs_push : (s : State) (ls : List ℕ) (l : ℕ) → longs_of s (ls ++ l ∷ [
 longs_push s [] l = append-nil (long_of (node s l).reason)
 longs_push s (m ∷ ms) l = ap (λ (xs : List ℕ). long_of (node s m).reason ++ xs) (longs_push s ms l) ∙ sym (append_assoc (long_of (node s m).reason) (longs_of s ms) (long_of (node s l).reason))
 
--- meeting literals uses none, and takes no clause
+-- meeting literals changes neither the used literals nor the involved clauses
 record Same (w w' : Work) : Type 0 where
   used : w'.used ≡ w.used
   involved : w'.involved ≡ w.involved
@@ -185,7 +185,7 @@ same_all s top (r ∷ rs) w =
     let y : Same w1 (with_met_literals s.nodes top rs w1) = same_all s top rs w1 in
     record { used = y.used ∙ x.used; involved = y.involved ∙ x.involved }
 
--- resolution begins
+-- the invariant holds after the literals of the falsified clause were met
 pub collecting_began : (words : List ℕ) (s : State) (e : Conflict) (w : Work) → StateIsConsistent s → AreClear w.flags → length w.flags ≡ length s.values → ((k : ℕ) → k < length (falsified words e) → IsFalseBefore s (length s.trail.lits) (get_or (falsified words e) k 0)) →
     CollectionInvariant words s e (with_met_literals s.nodes (current_level s) (falsified words e) (begun e w)) (length s.trail.lits)
 collecting_began words s e w a clear size h =
@@ -213,7 +213,7 @@ collecting_began words s e w a clear size h =
     all_began words s conflict used met v none has (met_first y) = has v y
     all_began words s conflict used met v none has (met_cause l c y) = absurd (omega (arith, c.1, ap (λ (xs : List ℕ). length xs) none))
 
--- the other literal of the current level that is left was met
+-- if another literal of the current level is still flagged, it was met
 other_met : (words : List ℕ) (s : State) (e : Conflict) (w : Work) (p at : ℕ) → StateIsConsistent s → CollectionInvariant words s e w at → IsLastFlagged s w.flags p at → at ≤ length s.trail.lits →
     OpenPlace s (current_level s) (set w.flags (variable (lit_at s p)) false) p → HasOther words s (falsified words e) w.used (lit_at s p)
 other_met words s e w p at a c h le o = record {
@@ -233,7 +233,7 @@ needed_more words s conflict used l n o k lt = elim (cases_eq k (length used)) [
       (subst (λ (us : List ℕ). HasOther words s conflict us (get_or used k 0)) (sym (take-append-le k used (l ∷ []) (omega arith))) (n k b))
 ]
 
--- one literal is resolved
+-- resolving one literal preserves the invariant
 pub collecting_taken : (words : List ℕ) (s : State) (e : Conflict) (w : Work) (p at : ℕ) → StateIsConsistent s → CollectionInvariant words s e w at → IsLastFlagged s w.flags p at → at ≤ length s.trail.lits → length w.flags ≡ length s.values →
     ((k : ℕ) → k < length (causes_at words s (lit_at s p)) → IsFalseBefore s p (get_or (causes_at words s (lit_at s p)) k 0)) →
     OpenPlace s (current_level s) (set w.flags (variable (lit_at s p)) false) p →

@@ -1,4 +1,4 @@
--- A literal of the clause that follows from the others is dropped.
+-- Minimization drops a literal that follows from the others of the clause.
 use Rattle.std.proofs.Common.{ℕ, ◌≡◌, ◌≢◌, ◌+◌, ◌<◌, ◌≤◌, ◌⊎◌, inl, inr, suc, zero, Bool, false, List, [], ◌∷◌, ◌++◌, length, get_or, refl, sym, ap, ◌∙◌, subst, arith}
 use Rattle.std.proofs.lemmas.Bool.{cases_eq, cases_lt, both_ways}
 use Rattle.std.proofs.lemmas.List.{length_push, length-append, get_or_append_left, get_or_push, get_or_at}
@@ -15,7 +15,7 @@ use Rattle.sat_solver.specs.analyze_conflict.Marks.{IsLower, HasVariable}
 use Rattle.sat_solver.specs.analyze_conflict.Minimal.{IsUse, use_top, use_low, MinimizationInvariant, IsNewUse, MarksMore, used_up, Minimal}
 use Rattle.sat_solver.proofs.lemmas.analyze_conflict.Minimizing.{front_at}
 
--- a list without one in the middle
+-- an element of a list is also in the list with one more element in the middle
 in_middle : (xs ys : List ℕ) (c x : ℕ) → Contains (xs ++ ys) x → Contains (xs ++ c ∷ ys) x
 in_middle xs ys c x h = elim (Contains-append_cases xs ys x h) [
   | inl a ↦ Contains-append_left xs (c ∷ ys) x a
@@ -31,7 +31,7 @@ out_of_middle xs ys c x h = elim (Contains-append_cases xs (c ∷ ys) x h) [
   ]
 ]
 
--- the place in the longer list
+-- maps a position in the list without its n-th element to one in the complete list
 skip : ℕ → ℕ → ℕ
 skip zero k = suc k
 skip (suc n) zero = zero
@@ -76,7 +76,7 @@ not_middle xs ys c d h =
 lower_kept : (s : State) (w w' : Work) (r : ℕ) → MarksMore w w' → IsLower s (current_level s) w.flags r → IsLower s (current_level s) w'.flags r
 lower_kept s w w' r m h = record { fails = h.fails; above = h.above; below = h.below; flagged = m.kept (variable r) h.flagged }
 
--- after a search that succeeded the literal is dropped
+-- after a successful search the literal is dropped
 pub dropped : (words : List ℕ) (s : State) (conflict : List ℕ) (first low c : ℕ) (xs ys : List ℕ) (w w' : Work) → Minimal words s conflict first low (xs ++ c ∷ ys) w → c ≢ first →
     MarksMore (used_up (negated c) w) w' → MinimizationInvariant words s conflict first low w' (length w'.used) → Minimal words s conflict first low (xs ++ ys) w'
 dropped words s conflict first low c xs ys w w' h other m x =

@@ -1,4 +1,4 @@
--- How resolution begins and ends.
+-- How resolution begins, and how it ends.
 use Rattle.std.proofs.Common.{ℕ, ◌≡◌, ◌+◌, ◌<◌, ◌≤◌, ◌⊎◌, inl, inr, Bool, false, List, [], ◌∷◌, ◌++◌, length, get_or, set, refl, sym, ap, ◌∙◌, subst, arith}
 use Rattle.std.proofs.lemmas.Bool.{cases_eq, cases_lt, cases_Bool, both_ways}
 use Rattle.std.proofs.lemmas.Bool.Decides.{nat_tests}
@@ -27,7 +27,7 @@ use Rattle.sat_solver.proofs.lemmas.analyze_conflict.Meeting.{level_by_variable,
 use Rattle.sat_solver.proofs.lemmas.analyze_conflict.Minimizing.{distinct_push}
 use Rattle.sat_solver.proofs.lemmas.analyze_conflict.Resolution.{IsLastFlagged, last_high, at_current, marks_passed, passed_waiting}
 
--- where no flag is set and the clause is empty, none is counted
+-- without flags and with an empty clause, no literal is counted
 pub begun_marks : (s : State) (top : ℕ) (w : Work) (at : ℕ) → at ≤ length s.trail.lits → AreClear w.flags → length w.flags ≡ length s.values → w.clause ≡ [] → w.pending ≡ 0 → MarksWork s top w at
 begun_marks s top w at le clear size none zero = record {
   size = size;
@@ -38,7 +38,7 @@ begun_marks s top w at le clear size none zero = record {
   counted = zero ∙ sym (open_same s top w.flags 0 at (omega arith) (λ q a b. clear (variable (lit_at s q))));
 }
 
--- where the work has no literals, a covered one of the current level is still to be resolved
+-- before any literal was used, an explained literal of the current level is still to be resolved
 top_waits : (s : State) (w : Work) (at r : ℕ) → MarksWork s (current_level s) w at → w.used ≡ [] → w.core ≡ [] → 0 < current_level s → level s r ≡ current_level s → IsCovered s (current_level s) w at r →
     IsWaiting s (current_level s) w.flags at r
 top_waits s w at r m none bare above top (covered_unit z) = absurd (omega arith)
@@ -47,7 +47,7 @@ top_waits s w at r m none bare above top (covered_reason c) = absurd (omega (ari
 top_waits s w at r m none bare above top (covered_core c) = absurd (omega (arith, c.1, ap (λ (xs : List ℕ). length xs) bare))
 top_waits s w at r m none bare above top (covered_open x) = x
 
--- where one waits, some are counted
+-- if a literal is still to be resolved, some are counted
 pub waiting_counts : (s : State) (top : ℕ) (w : Work) (at r : ℕ) → MarksWork s top w at → IsWaiting s top w.flags at r → 0 < w.pending
 waiting_counts s top w at r m x = elim (cases_eq w.pending 0) [
   | inl e ↦
@@ -77,7 +77,7 @@ began words s conflict e w can clear size fails top =
       start = m.covered;
     }
 
--- a literal is added to a clause, and changes places with the first one
+-- a literal was appended to a clause and then swapped with the first one
 pub record Joined (xs : List ℕ) (r : ℕ) (ys : List ℕ) : Type 0 where
   pub lits : IsReordering (xs ++ r ∷ []) ys
   pub first : get_or ys 0 0 ≡ r
@@ -94,7 +94,7 @@ joined xs r =
       first = ap (λ (ys : List ℕ). get_or ys 0 0) (sym is) ∙ swapped_at (xs ++ r ∷ []) 0 (length xs) 0 (omega arith) (omega arith) ∙ ap (λ k. get_or (xs ++ r ∷ []) k 0) (other_end (length xs)) ∙ get_or_push xs r 0 (length xs) refl;
     }
 
--- a literal of the other clause after the first one
+-- the literal at position k of `ys` is in `xs`
 record FromOld (xs ys : List ℕ) (k : ℕ) : Type 0 where
   place : ℕ
   within : place < length xs
@@ -126,7 +126,7 @@ new_in xs r ys h = Contains-permutation (xs ++ r ∷ []) ys r h.lits.order (Cont
 old_in : (xs : List ℕ) (r : ℕ) (ys : List ℕ) (x : ℕ) → Joined xs r ys → Contains xs x → Contains ys x
 old_in xs r ys x h c = Contains-permutation (xs ++ r ∷ []) ys x h.lits.order (Contains-append_left xs (r ∷ []) x c)
 
--- once the last one is passed by, what was still to be resolved is its negation
+-- if no other flagged literal of the current level is left, every explained literal has a known cause
 last_grounded : (s : State) (w : Work) (p at r : ℕ) (ys : List ℕ) → StateIsConsistent s → at ≤ length s.trail.lits → IsLastFlagged s w.flags p at → open_below s (current_level s) (set w.flags (variable (lit_at s p)) false) p ≡ 0 →
     w.core ≡ [] → Joined w.clause (negated (lit_at s p)) ys → IsCovered s (current_level s) w at r → HasKnownCause s ys w.used r
 last_grounded s w p at r ys a le h none bare j (covered_unit z) = grounded_unit z
@@ -142,7 +142,7 @@ last_grounded s w p at r ys a le h none bare j (covered_open x) = elim (passed_w
   | inr e ↦ grounded_clause (subst (λ z. Contains ys z) (ap (λ z. negated z) e ∙ negated_twice r) (new_in w.clause (negated (lit_at s p)) ys j))
 ]
 
--- the literal of the current level isn't one of the others
+-- the literal of the current level isn't the negation of a literal of the clause
 not_lower : (s : State) (w : Work) (p k : ℕ) → level s (lit_at s p) ≡ current_level s → MarksWork s (current_level s) (passed_by (lit_at s p) w) p → k < length w.clause → get_or w.clause k 0 ≡ negated (lit_at s p) → ⊥
 not_lower s w p k top m lt e = omega (arith, (m.lower k lt).below, ap (λ z. level s z) e, level_by_variable s (negated (lit_at s p)) (lit_at s p) (negated_variable (lit_at s p)))
 
@@ -233,7 +233,7 @@ finished words s conflict w p at can r one h b =
       | inr f ↦ f
     ]
 
--- the parts of a derivation in another order
+-- a derivation stays one if its used literals are permuted
 pub grounds_permuted : (words : List ℕ) (s : State) (conflict learned used used' : List ℕ) → IsPermutation used used' → AreDistinct used' → IsUnorderedDerivation words s conflict learned used → IsUnorderedDerivation words s conflict learned used'
 grounds_permuted words s conflict learned used used' p d g =
     let back : (l : ℕ) → Contains used' l → Contains used l = λ l c. Contains-permutation used' used l (IsPermutation-sym used used' p) c in

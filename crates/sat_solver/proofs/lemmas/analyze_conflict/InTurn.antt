@@ -1,4 +1,4 @@
--- Clauses in the order of the trail, whose causes are accounted for, are unit in turn.
+-- Clauses in trail order whose causes are explained are unit in turn.
 use Rattle.std.proofs.Common.{ℕ, ◌≡◌, ◌+◌, ◌<◌, ◌≤◌, ◌⊎◌, inl, inr, suc, true, false, List, [], ◌∷◌, ◌++◌, length, map, get_or, eqb, refl, sym, ap, ◌∙◌, subst, arith}
 use Rattle.std.proofs.lemmas.Bool.{cases_eq, or_cases, or_left, or_right, or_from, eqb-true, eq-eqb, ne_eqb, true≢false, false_from_ne_true}
 use Rattle.std.specs.List.{Contains, AllByRecursion}
@@ -15,11 +15,11 @@ use Rattle.sat_parts.proofs.lemmas.prop.StateLemmas.{negated_variable, negated_t
 use Rattle.sat_solver.specs.analyze_conflict.Marks.{causes_at, CanAnalyze, IsReasoned, depth}
 use Rattle.sat_solver.specs.analyze_conflict.Derivation.{clause_of, AreLevelZeroLits, HasKnownCause, IsDerivation, IsAcceptable, grounded_unit, grounded_clause, grounded_reason}
 
--- the literal is assumed, or given by an entry of smaller depth
+-- the literal is assumed, or implied by an entry of smaller depth
 abbrev pub Given : (s : State) (known es : List ℕ) (d m : ℕ) → Type 0
 Given s known es d m = (is_among known m ≡ true) ⊎ (Contains es m × (depth s m < d))
 
--- what holds of the clauses that are still to come
+-- the invariant for the clauses that are still to be visited
 pub record Ready (words : List ℕ) (s : State) (conflict known es : List ℕ) : Type 0 where
   pub fresh : (k : ℕ) → k < length es → is_among known (get_or es k 0) ≡ false
   pub apart : (k : ℕ) → k < length es → is_among known (negated (get_or es k 0)) ≡ false
@@ -36,7 +36,7 @@ all_others : (known ls : List ℕ) (e : ℕ) → ((k : ℕ) → k < length ls �
 all_others known [] e h = tt
 all_others known (l ∷ ls) e h = (inr (h 0 (omega arith)), all_others known ls e (λ k lt. h (suc k) (omega arith)))
 
--- the causes of the first entry are assumed: it can't be given by itself or by a deeper one
+-- the negated causes of the first entry are assumed: neither the entry itself nor a deeper one can imply them
 first_known : (words : List ℕ) (s : State) (conflict known : List ℕ) (e : ℕ) (es : List ℕ) → Ready words s conflict known (e ∷ es) → (i : ℕ) → i < length (causes_at words s e) →
     is_among known (negated (get_or (causes_at words s e) i 0)) ≡ true
 first_known words s conflict known e es h i lt = elim (h.causes 0 i (omega arith) lt) [
@@ -98,7 +98,7 @@ turns words s conflict known [] h = last_falsified words s conflict known h
 turns words s conflict known (e ∷ []) h = (e, unit_first words s conflict known e [] h, turns words s conflict (e ∷ known) [] (next_ready words s conflict known e [] h))
 turns words s conflict known (e ∷ f ∷ fs) h = (e, unit_first words s conflict known e (f ∷ fs) h, turns words s conflict (e ∷ known) (f ∷ fs) (next_ready words s conflict known e (f ∷ fs) h))
 
--- among the negations of literals
+-- a literal among negations is the negation of a literal of the list
 pub negation_of : (ls : List ℕ) (m : ℕ) → is_among (map negated ls) m ≡ true → Contains ls (negated m)
 negation_of [] m t = absurd (true≢false (sym t))
 negation_of (l ∷ ls) m t = elim (or_cases (eqb (negated l) m) (is_among (map negated ls) m) t) [
@@ -113,7 +113,7 @@ negated_among (l ∷ ls) r c = elim (cases_eq l r) [
   | inr n ↦ or_right (eqb (negated l) (negated r)) (is_among (map negated ls) (negated r)) (negated_among ls r (there l ls r n c))
 ]
 
--- what was false before a place: its negation is true, of smaller depth, or of level 0
+-- the negation of a literal that was false before a position is true
 pub negation_true : (s : State) (p r : ℕ) → StateIsConsistent s → IsFalseBefore s p r → IsTrueLit s.values (negated r)
 negation_true s p r a h = elim h [
   | inl b ↦ subst (λ z. IsTrueLit s.values z) b.there (a.holds b.place b.within)
@@ -137,7 +137,7 @@ causes_before words s p l i can within there first b =
     subst (λ z. IsFalseBefore s p (get_or (causes_at words s z) i 0)) there
     (can.before p i first within (subst (λ z. i < length (causes_at words s z)) (sym there) b))
 
--- a literal that was false before, and is accounted for, is given
+-- an explained literal that was false before a position has a negation that is assumed or implied
 pub given_one : (words : List ℕ) (s : State) (learned used units : List ℕ) (p r : ℕ) → StateIsConsistent s → AreLevelZeroLits s units →
     ((k : ℕ) → k < length used → IsReasoned s 0 (get_or used k 0)) → IsFalseBefore s p r → HasKnownCause s learned used r →
     Given s (map negated learned ++ units) used (p + 1) (negated r)
@@ -153,7 +153,7 @@ given_one words s learned used units p r a u reasons before (grounded_reason c) 
     let e : get_or used c.0 0 ≡ negated r = at_place used (negated r) c in
     inr (c, negation_depth s p r a before (omega (arith, x.above, ap (λ z. level s z) e)))
 
--- the same for a literal of the clause that was found false
+-- the same for a literal of the falsified clause
 given_start : (s : State) (learned used units : List ℕ) (r : ℕ) → AreLevelZeroLits s units → IsFalseLit s.values r → HasKnownCause s learned used r →
     (is_among (map negated learned ++ units) (negated r) ≡ true) ⊎ Contains used (negated r)
 given_start s learned used units r u fails (grounded_unit z) =
@@ -183,7 +183,7 @@ not_assumed s learned units l u above apart = false_from_ne_true (is_among (map 
       | inr k ↦ omega (arith, (u.only l k).1)
     ])
 
--- a derivation is acceptable to the checker
+-- the checker accepts a derivation
 pub acceptable : (words : List ℕ) (s : State) (conflict learned used : List ℕ) → CanAnalyze words s →
     ((k : ℕ) → k < length learned → IsFalseLit s.values (get_or learned k 0)) → ((k : ℕ) → k < length conflict → IsFalseLit s.values (get_or conflict k 0)) →
     IsDerivation words s conflict learned used → IsAcceptable words s conflict learned used

@@ -1,4 +1,4 @@
--- What was resolved, in the order of the trail and with its second literal in place, is what analysis gives.
+-- The result of analysis: used literals in trail order, and the second literal of the clause in its place.
 use Rattle.std.proofs.Common.{ℕ, ◌≡◌, ◌<◌, ◌≤◌, inl, inr, List, length, get_or, sym, ap, ◌∙◌, subst, arith}
 use Rattle.std.proofs.lemmas.Bool.{cases_eq, cases_lt}
 use Rattle.std.proofs.lemmas.List.Sorted.{IsPermutation-sym, Contains-permutation}
@@ -14,7 +14,7 @@ use Rattle.sat_solver.specs.analyze_conflict.Marks.{causes_at, CanAnalyze}
 use Rattle.sat_solver.specs.analyze_conflict.Derivation.{HasKnownCause, grounded_unit, grounded_clause, grounded_reason, IsUnorderedDerivation, IsDerivation, IsAsserting, PutsSecond, Learns}
 use Rattle.sat_solver.proofs.lemmas.analyze_conflict.InTurn.{acceptable}
 
--- the same clause in another order
+-- a derivation of a clause is one of the reordered clause
 grounds_shuffled : (words : List ℕ) (s : State) (conflict learned learned' used : List ℕ) → IsReordering learned learned' → IsUnorderedDerivation words s conflict learned used → IsUnorderedDerivation words s conflict learned' used
 grounds_shuffled words s conflict learned learned' used p g =
     let forth : (r : ℕ) → HasKnownCause s learned used r → HasKnownCause s learned' used r = λ r x. moved s learned learned' used r p x in
@@ -31,7 +31,7 @@ grounds_shuffled words s conflict learned learned' used p g =
     moved s learned learned' used r p (grounded_clause c) = grounded_clause (Contains-permutation learned learned' r p.order c)
     moved s learned learned' used r p (grounded_reason c) = grounded_reason c
 
--- each literal of the other order was at a place, and after the first one at one after the first
+-- every literal of a reordered list has a position in the first list
 at_other : (ls ms : List ℕ) (k : ℕ) → IsReordering ls ms → k < length ms → (j : ℕ) × ((j < length ls) × (get_or ls j 0 ≡ get_or ms k 0))
 at_other ls ms k p lt = p.back k (omega (arith, p.size))
 

@@ -1,4 +1,4 @@
--- The loop of minimisation: a literal is kept or dropped.
+-- The loop of minimization keeps or drops one literal after another.
 use Rattle.std.proofs.Common.{ℕ, ◌≡◌, ◌≢◌, ◌+◌, ◌<◌, ◌≤◌, inl, inr, Bool, false, List, [], ◌∷◌, ◌++◌, length, take, drop, get_or, set, refl, sym, ap, ◌∙◌, subst, arith, length-set, get_or-set_other, append_assoc, get_or-take}
 use Rattle.std.proofs.lemmas.List.{append-nil, length-append, length-take-le, get_or_append_left, get_or_at, drop_more, drop_all, take_more_set, drop-set-lt, length_push, take_at, take-take, take_all}
 use Rattle.std.specs.List.{Contains}
@@ -13,7 +13,7 @@ use Rattle.sat_solver.specs.analyze_conflict.Involved.{KeepsFront}
 use Rattle.sat_solver.specs.analyze_conflict.Minimal.{IsUse, use_top, use_low, IsMarked, marked_unit, marked_first, marked_flag, marked_reason, MinimizationInvariant, MarksMore, used_up, SameWork, Minimal}
 use Rattle.sat_solver.proofs.lemmas.analyze_conflict.Dropping.{dropped}
 
--- works of the same fields are one
+-- works with the same fields are equal
 pub same_work : (w w' : Work) → SameWork w w' → w' ≡ w
 same_work w w' s =
     ap (λ (xs : List ℕ). worked xs w'.used w'.met w'.involved w'.core w'.flags w'.pending) s.clause
@@ -27,7 +27,7 @@ same_work w w' s =
 pub same_itself : (w : Work) → SameWork w w
 same_itself w = record { clause = refl; met = refl; involved = refl; core = refl; pending = refl; used = refl; flags = refl }
 
--- what is accounted for doesn't hang on the clause that is written
+-- how a literal is explained does not depend on the clause of the work
 marked_over : (s : State) (first r : ℕ) (xs : List ℕ) (w : Work) → IsMarked s first w r → IsMarked s first (record w { clause = xs }) r
 marked_over s first r xs w (marked_unit z) = marked_unit z
 marked_over s first r xs w (marked_first e) = marked_first e
@@ -54,7 +54,8 @@ minimal_over words s conflict first low rest xs w h = record {
   apart = h.apart;
 }
 
--- where the loop stands: the literals kept so far, and those from place at on
+-- the loop before it visits position `at`: the first `kept` literals were kept, and those from `at` on are still to be
+-- visited
 pub record HasAccepted (words : List ℕ) (s : State) (conflict : List ℕ) (first low kept at : ℕ) (clause : List ℕ) (w : Work) : Type 0 where
   pub minimal : Minimal words s conflict first low (take kept clause ++ drop at clause) w
   pub some : 1 ≤ kept
@@ -76,7 +77,7 @@ in_rest kept at clause le lt =
     let m : length (take kept clause ++ c ∷ drop (at + 1) clause) ≡ length (take kept clause) + length (c ∷ drop (at + 1) clause) = length-append (take kept clause) (c ∷ drop (at + 1) clause) in
     (kept, omega arith, get_or_at (take kept clause) c (drop (at + 1) clause) c kept n)
 
--- the literal that is looked at isn't the first one
+-- the literal at position `at` isn't the first one of the clause
 pub not_first : (words : List ℕ) (s : State) (conflict : List ℕ) (first low kept at : ℕ) (clause : List ℕ) (w : Work) → HasAccepted words s conflict first low kept at clause w → get_or clause at 0 ≢ first
 not_first words s conflict first low kept at clause w h e =
     let c : ℕ = get_or clause at 0 in
@@ -95,7 +96,7 @@ lower_here words s conflict first low kept at clause w h =
       | inr x ↦ x
     ]
 
--- what was resolved stays
+-- `KeepsFront` is reflexive and transitive
 pub front_refl : (w : Work) → KeepsFront w w
 front_refl w = record { met = refl; involved = refl; longer = omega arith; front = take_all (length w.used) w.used (omega arith) }
 
@@ -117,7 +118,7 @@ front_more l w w' m =
       front = sym (take-take (length w.used) (length (w.used ++ l ∷ [])) w'.used (omega arith)) ∙ ap (λ (xs : List ℕ). take (length w.used) xs) m.front ∙ take_at w.used (l ∷ []) (length w.used) refl;
     }
 
--- what the loop keeps
+-- the invariant of the loop
 pub record Goes (words : List ℕ) (s : State) (conflict : List ℕ) (first low kept at : ℕ) (size : ℕ) (old w : Work) : Type 0 where
   pub front : KeepsFront old w
   pub minimal : Minimal words s conflict first low (take kept w.clause ++ drop at w.clause) w
@@ -163,7 +164,7 @@ goes_dropped words s conflict first low kept at old w w' f h m x =
       head = ap (λ (xs : List ℕ). get_or xs 0 0) m.clause ∙ h.head;
     }
 
--- at the end
+-- the minimized clause is asserting
 pub minimal_asserting : (words : List ℕ) (s : State) (conflict : List ℕ) (first low : ℕ) (rest : List ℕ) (w : Work) → Minimal words s conflict first low rest w → IsFalseLit s.values first → 0 < length rest → get_or rest 0 0 ≡ first → IsAsserting s rest
 minimal_asserting words s conflict first low rest w h ff some e = record {
   some = some;
@@ -189,7 +190,7 @@ pub minimal_cut : (words : List ℕ) (s : State) (conflict : List ℕ) (first lo
 minimal_cut words s conflict first low kept at clause w le m =
     subst (λ (xs : List ℕ). Minimal words s conflict first low xs w) (ap (λ (ys : List ℕ). take kept clause ++ ys) (drop_all at clause le) ∙ append-nil (take kept clause)) m
 
--- the literals that were used after the resolved ones are of lower levels
+-- literals that were used after resolution are of lower levels
 pub lower_rest : (words : List ℕ) (s : State) (conflict : List ℕ) (first low : ℕ) (rest : List ℕ) (w : Work) → Minimal words s conflict first low rest w → (k : ℕ) → low ≤ k → k < length w.used → level s (get_or w.used k 0) < current_level s
 lower_rest words s conflict first low rest w m k le lt = low_use s low w.flags k (get_or w.used k 0) (m.searching.uses k lt) le
   where

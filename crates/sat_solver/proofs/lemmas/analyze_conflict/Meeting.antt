@@ -1,4 +1,4 @@
--- What a false literal that is met changes, and what it leaves.
+-- Meeting a false literal changes flags, counts and the clause, and preserves the rest.
 use Rattle.std.proofs.Common.{ℕ, ◌≡◌, ◌≢◌, ◌+◌, ◌-◌, ◌^◌, ◌<◌, ◌≤◌, ◌&&◌, ◌⊎◌, inl, inr, suc, zero, min, Bool, true, false, not, Some, List, [], ◌∷◌, ◌++◌, length, get_or, set, cond, eqb, ltb, refl, sym, ap, ◌∙◌, subst, arith, length-set, get_or-set_same, get_or-set_other}
 use Rattle.std.proofs.lemmas.Bool.{cases_eq, cases_lt, cases_Bool, and_parts, and_from, and_left, and_right, eqb-true, eqb-false, ltb-true, ltb-false, lt-ltb, le-ltb, not-true, both_ways, cond-true, cond-false}
 use Rattle.std.proofs.lemmas.List.{length_push, get_or_append_left, get_or_push, get_or_default}
@@ -17,7 +17,7 @@ use Rattle.sat_solver.proofs.lemmas.analyze_conflict.InTurn.{negation_true}
 pub level_by_variable : (s : State) (l m : ℕ) → variable l ≡ variable m → level s l ≡ level s m
 level_by_variable s l m e = ap (λ v. (node_of s.nodes v).level) e
 
--- two true literals of one variable are one
+-- true literals of the same variable are equal, and so are false ones
 some_back : (x y : Bool) → Some x ≡ Some y → x ≡ y
 some_back x y e = cc
 
@@ -29,7 +29,7 @@ same_false s l m t u e =
     let n : negated l ≡ negated m = same_true s (negated l) (negated m) (true_from_false s.values l t) (true_from_false s.values m u) (negated_variable l ∙ e ∙ sym (negated_variable m)) in
     sym (negated_twice l) ∙ ap (λ z. negated z) n ∙ negated_twice m
 
--- levels don't fall along the trail
+-- levels do not decrease along the trail
 pub levels_rise : (s : State) (i j : ℕ) → StateIsConsistent s → i ≤ j → j < length s.trail.lits → level s (lit_at s i) ≤ level s (lit_at s j)
 levels_rise s i j a le lt = elim (cases_lt (level s (lit_at s j)) (level s (lit_at s i))) [
   | inl h ↦ absurd (omega (
@@ -41,7 +41,7 @@ levels_rise s i j a le lt = elim (cases_lt (level s (lit_at s j)) (level s (lit_
   | inr h ↦ h
 ]
 
--- counts
+-- a literal counts 1 if it is flagged and of level `top` or above, otherwise 0
 open_none : (s : State) (top : ℕ) (flags : List Bool) (l : ℕ) → is_open_flagged s top flags l ≡ false → cond {A = ℕ} (is_open_flagged s top flags l) 1 0 ≡ 0
 open_none s top flags l e = ap (λ (b : Bool). cond {A = ℕ} b 1 0) e
 
@@ -64,7 +64,7 @@ open_at_most s top flags (suc n) = elim (cases_Bool (is_open_flagged s top flags
   | inr f ↦ omega (arith, open_none s top flags (lit_at s n) f, open_at_most s top flags n)
 ]
 
--- where places from p on aren't flagged, they don't count
+-- if no position from p on is flagged, counting up to n gives the same as counting up to p
 pub open_same : (s : State) (top : ℕ) (flags : List Bool) (p n : ℕ) → p ≤ n → ((q : ℕ) → p ≤ q → q < n → get_or flags (variable (lit_at s q)) false ≡ false) → open_below s top flags n ≡ open_below s top flags p
 open_same s top flags p zero le h = let e : p ≡ 0 = omega arith in ap (λ m. open_below s top flags m) (sym e)
 open_same s top flags p (suc n) le h = elim (cases_eq p (suc n)) [
@@ -74,11 +74,11 @@ open_same s top flags p (suc n) le h = elim (cases_eq p (suc n)) [
       omega (arith, open_none s top flags (lit_at s n) (unflagged s top flags (lit_at s n) (h n (omega arith) (omega arith))))
 ]
 
--- a flagged literal of these levels counts
+-- a flagged literal of level `top` or above counts
 pub open_last : (s : State) (top : ℕ) (flags : List Bool) (n : ℕ) → get_or flags (variable (lit_at s n)) false ≡ true → top ≤ level s (lit_at s n) → open_below s top flags (suc n) ≡ 1 + open_below s top flags n
 open_last s top flags n f t = omega (arith, open_one s top flags (lit_at s n) (is_high_flagged s top flags (lit_at s n) f t))
 
--- where some count, one is there
+-- the position of a counted literal
 pub record OpenPlace (s : State) (top : ℕ) (flags : List Bool) (n : ℕ) : Type 0 where
   pub place : ℕ
   pub before : place < n
@@ -96,7 +96,7 @@ open_some s top flags (suc n) h = elim (cases_Bool (is_open_flagged s top flags 
       record { place = x.place; before = omega (arith, x.before); flagged = x.flagged; high = x.high }
 ]
 
--- where none counts, none is there
+-- if the count is 0, no flagged literal of level `top` or above is among those counted
 pub open_no : (s : State) (top : ℕ) (flags : List Bool) (n q : ℕ) → open_below s top flags n ≡ 0 → q < n → get_or flags (variable (lit_at s q)) false ≡ true → top ≤ level s (lit_at s q) → ⊥
 open_no s top flags zero q e lt f t = omega arith
 open_no s top flags (suc n) q e lt f t = elim (cases_eq q n) [
@@ -104,7 +104,7 @@ open_no s top flags (suc n) q e lt f t = elim (cases_eq q n) [
   | inr d ↦ open_no s top flags n q (omega arith) (omega arith) f t
 ]
 
--- a flag that is written counts as before at literals of other variables, and at those of lower levels
+-- setting a flag does not change whether a literal counts, if it has another variable or a level below `top`
 open_kept_one : (s : State) (top : ℕ) (flags : List Bool) (v : ℕ) (b : Bool) (l : ℕ) → (variable l ≢ v) ⊎ (level s l < top) → is_open_flagged s top (set flags v b) l ≡ is_open_flagged s top flags l
 open_kept_one s top flags v b l (inl n) = ap (λ c. c && not (ltb (level s l) top)) (get_or-set_other flags v (variable l) b false n)
 open_kept_one s top flags v b l (inr n) = not_high s top (set flags v b) l n ∙ sym (not_high s top flags l n)
@@ -118,7 +118,7 @@ open_kept s top flags v b (suc n) h =
     ap (λ (c : Bool). cond {A = ℕ} c 1 0) (open_kept_one s top flags v b (lit_at s n) (h n (omega arith))) in
     omega arith
 
--- a flag that is set where a literal of these levels stands counts once
+-- flagging a literal of level `top` or above adds 1 to the count
 pub open_more : (s : State) (top : ℕ) (flags : List Bool) (p n : ℕ) → StateIsConsistent s → p < n → n ≤ length s.trail.lits → top ≤ level s (lit_at s p) →
     get_or flags (variable (lit_at s p)) false ≡ false → variable (lit_at s p) < length flags →
     open_below s top (set flags (variable (lit_at s p)) true) n ≡ open_below s top flags n + 1
@@ -139,7 +139,7 @@ open_more s top flags p (suc n) a lt le t f b = elim (cases_eq p n) [
       omega arith
 ]
 
--- what meeting a literal makes of the work
+-- the work after a literal of level `top` or above was met
 abbrev pub counted : ℕ → Work → Work
 counted r w = record w { flags = set w.flags (variable r) true; met = w.met ++ variable r ∷ []; pending = min (w.pending + 1) (2 ^ 64 - 1) }
 
@@ -173,7 +173,7 @@ meets s top r w =
           ]
     ]
 
--- a literal above level 0 that was false before a place has its negation there
+-- if a literal above level 0 was false before a position, its negation is before that position
 pub stands_before : (s : State) (at r : ℕ) → IsFalseBefore s at r → 0 < level s r → IsBefore s at (negated r)
 stands_before s at r h above = elim h [
   | inl b ↦ b
@@ -186,7 +186,7 @@ false_before s at r a h = subst (λ z. IsFalseLit s.values z) (negated_twice r) 
 pub variable_below : (s : State) (at r : ℕ) → StateIsConsistent s → IsFalseBefore s at r → variable r < length s.values
 variable_below s at r a h = below_from_value s.values (variable r) (not (is_positive r)) (false_before s at r a h)
 
--- the marks stay
+-- a flagged variable stays explained if the clause grows
 open_grows : (s : State) (top : ℕ) (clause clause' : List ℕ) (at v : ℕ) →
     ((u : ℕ) → HasVariable clause u → HasVariable clause' u) → (HasVariable clause v ⊎ IsOpenAt s top at v) → HasVariable clause' v ⊎ IsOpenAt s top at v
 open_grows s top clause clause' at v f (inl h) = inl (f v h)
@@ -272,7 +272,7 @@ marks_lower s top w at r a h above f t m =
       ]));
     }
 
--- what stays, and what is gained
+-- what meeting these literals preserves, and what it adds
 pub record Met (s : State) (top at : ℕ) (rs : List ℕ) (w w' : Work) : Type 0 where
   pub marks : MarksWork s top w' at
   pub used : w'.used ≡ w.used
@@ -351,7 +351,7 @@ covered_cons : (s : State) (top : ℕ) (w : Work) (at r : ℕ) (rs : List ℕ) �
 covered_cons s top w at r rs h t zero lt = h
 covered_cons s top w at r rs h t (suc k) lt = t k (omega arith)
 
--- after one literal after the other was met
+-- all these literals were met, one after another
 pub met_all : (s : State) (top at : ℕ) (rs : List ℕ) (w : Work) → StateIsConsistent s → ((k : ℕ) → k < length rs → IsFalseBefore s at (get_or rs k 0)) → MarksWork s top w at →
     Met s top at rs w (with_met_literals s.nodes top rs w)
 met_all s top at [] w a h m = record { marks = m; used = refl; core = refl; involved = refl; pending = omega arith; kept = λ q x. x; covered = λ k lt. absurd (omega arith) }

@@ -1,4 +1,4 @@
--- Minimisation begins with what was resolved, and ends with parts of a derivation.
+-- Minimization starts with the result of resolution, and ends with the parts of a derivation.
 use Rattle.std.proofs.Common.{ℕ, ◌≡◌, ◌≢◌, ◌<◌, ◌≤◌, inl, inr, false, not, List, length, get_or, sym, ap, ◌∙◌, subst, arith}
 use Rattle.std.proofs.lemmas.Bool.{cases_eq}
 use Rattle.std.specs.List.{Contains}
@@ -17,7 +17,7 @@ use Rattle.sat_solver.specs.analyze_conflict.Minimal.{IsMarked, marked_unit, mar
 use Rattle.sat_solver.proofs.lemmas.analyze_conflict.InTurn.{above_first, causes_before}
 use Rattle.sat_solver.proofs.lemmas.analyze_conflict.Meeting.{level_by_variable, same_true, same_false, false_before}
 
--- what is accounted for after resolution is so in the terms of the search
+-- a literal that is explained after resolution is also explained for minimization
 pub marked_from_grounded : (words : List ℕ) (s : State) (conflict : List ℕ) (w : Work) (r : ℕ) → ResolutionResult words s conflict w → HasKnownCause s w.clause w.used r → IsMarked s (get_or w.clause 0 0) w r
 marked_from_grounded words s conflict w r h (grounded_unit z) = marked_unit z
 marked_from_grounded words s conflict w r h (grounded_clause c) = elim (cases_eq c.0 0) [
@@ -54,7 +54,7 @@ minimal_start words s conflict w h = record {
   apart = h.grounds.apart;
 }
 
--- a literal of the clause that isn't a decision may be looked at
+-- a search may begin at a literal of the clause that has a clause as its reason, unless it is the first one
 pub may_start : (words : List ℕ) (s : State) (conflict : List ℕ) (first low : ℕ) (rest : List ℕ) (w : Work) (c : ℕ) → StateIsConsistent s → Minimal words s conflict first low rest w → Contains rest c → c ≢ first →
     is_unit_reason (node s c).reason ≡ false → MayStart s w c
 may_start words s conflict first low rest w c a h in_rest other caused = elim (h.lower c in_rest) [
@@ -80,7 +80,7 @@ may_start words s conflict first low rest w c a h in_rest other caused = elim (h
       }
 ]
 
--- at the end what is flagged is in the clause, or used
+-- at the end, a literal that is explained by its flag is in the clause or used
 ground : (words : List ℕ) (s : State) (conflict : List ℕ) (first low : ℕ) (rest : List ℕ) (w : Work) (r : ℕ) → StateIsConsistent s → IsFalseLit s.values first → Minimal words s conflict first low rest w → IsFalseLit s.values r →
     IsMarked s first w r → HasKnownCause s rest w.used r
 ground words s conflict first low rest w r a ff h f (marked_unit z) = grounded_unit z

@@ -1,4 +1,4 @@
--- Literals that are marked while a literal that may follow from the others of the clause is looked at.
+-- The search whether a literal follows from the others of the clause marks literals.
 use Rattle.std.proofs.Common.{ℕ, ◌≡◌, ◌≢◌, ◌+◌, ◌<◌, ◌≤◌, inl, inr, suc, zero, Bool, true, false, not, List, [], ◌∷◌, ◌++◌, length, take, get_or, set, cond, eqb, refl, sym, ap, ◌∙◌, subst, arith, length-set, get_or-set_same, get_or-set_other, get_or-take}
 use Rattle.std.proofs.lemmas.Bool.{cases_eq, cases_lt, cases_Bool, and_parts, or_cases, or_parts, not-true, both_ways, eqb-true, eqb-false, cond-true, cond-false}
 use Rattle.std.proofs.lemmas.List.{length_push, get_or_append_left, get_or_push, take_at, take-take, take_all}
@@ -96,7 +96,7 @@ more_one r w lt f =
       ];
     }
 
--- what is asked of a literal that is marked
+-- what marking a literal requires
 record CanMark (s : State) (r : ℕ) : Type 0 where
   reasoned : IsReasoned s 0 (negated r)
   below : level s (negated r) < current_level s
@@ -167,7 +167,7 @@ searching_mark words s conflict first low w at r h f c =
       start = λ i x. marked_forth s first (get_or conflict i 0) w (marked r w) m (h.start i x);
     }
 
--- what following the literals of a reason gives
+-- the result of following the literals of a reason
 pub record Follows (words : List ℕ) (s : State) (conflict : List ℕ) (first low at : ℕ) (w : Work) (rs : List ℕ) (f : Followed) : Type 0 where
   pub searching : MinimizationInvariant words s conflict first low f.work at
   pub more : MarksMore w f.work
@@ -183,7 +183,7 @@ settled_marked s first r w e = elim (or_cases (eqb (level s r) 0) (get_or w.flag
   | inr f ↦ marked_flag f
 ]
 
--- a cause of a literal below the current level may be marked
+-- a cause of a literal below the current level may be marked, unless it is of level 0 or cannot follow
 can_mark : (s : State) (filter p r : ℕ) → StateIsConsistent s → p < length s.trail.lits → level s (lit_at s p) < current_level s → IsFalseBefore s p r → level s r ≢ 0 → can_follow s.nodes filter r ≡ true → CanMark s r
 can_mark s filter p r a within low h above e =
     let b : IsBefore s p (negated r) = stands_before s p r h (omega arith) in
@@ -244,7 +244,7 @@ follows words s conflict first low at filter p (r ∷ rs) w a within below h x =
           ]
     ]
 
--- the next used literal's causes are accounted for
+-- the causes of the next used literal are explained
 pub searching_next : (words : List ℕ) (s : State) (conflict : List ℕ) (first low : ℕ) (w : Work) (at : ℕ) → MinimizationInvariant words s conflict first low w at → at < length w.used →
     AreMarked s first w (causes_at words s (get_or w.used at 0)) → MinimizationInvariant words s conflict first low w (at + 1)
 searching_next words s conflict first low w at h lt m = record {
@@ -261,7 +261,7 @@ searching_next words s conflict first low w at h lt m = record {
   start = h.start;
 }
 
--- one step of the search, at a literal that was used while it went on
+-- one step of the search: the causes of a used literal are followed
 pub search_step : (words : List ℕ) (s : State) (conflict : List ℕ) (first low at filter : ℕ) (w : Work) → CanAnalyze words s → MinimizationInvariant words s conflict first low w at → at < length w.used →
     Follows words s conflict first low at w (causes_at words s (get_or w.used at 0)) (followed s.nodes filter (causes_at words s (get_or w.used at 0)) w)
 search_step words s conflict first low at filter w can h lt =
@@ -276,7 +276,7 @@ search_step words s conflict first low at filter w can h lt =
     low_use s low flags k l (use_top b t) le = absurd (omega arith)
     low_use s low flags k l (use_low b t g) le = t
 
--- a search begins
+-- the invariant holds when a search begins
 pub searching_start : (words : List ℕ) (s : State) (conflict : List ℕ) (first low : ℕ) (w : Work) (c : ℕ) → MinimizationInvariant words s conflict first low w (length w.used) → MayStart s w c →
     MinimizationInvariant words s conflict first low (used_up (negated c) w) (length w.used)
 searching_start words s conflict first low w c h m =

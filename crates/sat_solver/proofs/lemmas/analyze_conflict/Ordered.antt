@@ -1,4 +1,4 @@
--- The parts of a derivation, sorted by depth, are one.
+-- The parts of a derivation, sorted by depth, form a derivation in trail order.
 use Rattle.std.proofs.Common.{ℕ, ◌≡◌, ◌+◌, ◌<◌, ◌≤◌, inl, inr, List, length, get_or, sym, ap, ◌∙◌, subst, arith}
 use Rattle.std.proofs.lemmas.Bool.{cases_eq}
 use Rattle.std.specs.List.{swap}
@@ -20,7 +20,7 @@ swap_distinct xs i j p q d = subst (λ (ys : List ℕ). AreDistinct ys) (swap_is
 pub distinct_permuted : (xs ys : List ℕ) → IsPermutation xs ys → AreDistinct xs → AreDistinct ys
 distinct_permuted xs ys p d = IsPermutation-keeps xs AreDistinct d swap_distinct ys p
 
--- reasoned literals of one depth are one
+-- literals of the same depth that have clauses as reasons are equal
 same_depth : (s : State) (l m : ℕ) → StateIsConsistent s → IsReasoned s 0 l → IsReasoned s 0 m → depth s l ≡ depth s m → l ≡ m
 same_depth s l m a x y e =
     let p : x.place + 1 ≡ depth s l = sym (a.depths x.place x.within) ∙ ap (λ z. depth s z) x.there in

@@ -1,4 +1,4 @@
--- What was gone back over, in the order of the trail, refutes the assumption.
+-- The used literals of a failed assumption, in trail order, refute it.
 use Rattle.std.proofs.Common.{ℕ, ◌≡◌, ◌+◌, ◌-◌, ◌<◌, ◌≤◌, ◌⊎◌, inl, inr, suc, zero, true, false, List, [], ◌∷◌, ◌++◌, length, map, take, reverse, get_or, refl, sym, ap, ◌∙◌, subst, arith, length-take, get_or-take}
 use Rattle.std.proofs.lemmas.Bool.{cases_eq, or_cases, or_left, false_from_ne_true}
 use Rattle.std.proofs.lemmas.List.{length-reverse, get_or-reverse, length-take-le, take_more, take_all}
@@ -23,12 +23,12 @@ use Rattle.sat_solver.proofs.lemmas.analyze_conflict.Ends.{grounds_permuted}
 use Rattle.sat_solver.proofs.lemmas.analyze_conflict.Ordered.{distinct_permuted}
 use Rattle.sat_solver.proofs.lemmas.analyze_conflict.Tracing.{negation_in, negation_out}
 
--- negated twice
+-- negating a list twice
 negated_back : (xs : List ℕ) → map negated (map negated xs) ≡ xs
 negated_back [] = refl
 negated_back (x ∷ xs) = ap (λ z. z ∷ map negated (map negated xs)) (negated_twice x) ∙ ap (λ (ys : List ℕ). x ∷ ys) (negated_back xs)
 
--- the literals before a last one
+-- mapping a list with one more element
 map_end : (f : ℕ → List ℕ) (xs : List ℕ) (x : ℕ) → map f (xs ++ x ∷ []) ≡ map f xs ++ f x ∷ []
 map_end f [] x = refl
 map_end f (y ∷ ys) x = ap (λ zs. f y ∷ zs) (map_end f ys x)
@@ -47,7 +47,7 @@ rising_reversed s xs f j k lt b =
       ap (λ z. depth s z) (reversed_at xs k (omega arith)),
     )
 
--- the derivation and its last literal
+-- the derivation, in which the negation of the failed assumption is last
 record Ordered (words : List ℕ) (s : State) (failed : ℕ) (core used : List ℕ) (last : ℕ) : Type 0 where
   size : length used ≡ last + 1
   end : get_or used last 0 ≡ negated failed
@@ -58,7 +58,7 @@ record Ordered (words : List ℕ) (s : State) (failed : ℕ) (core used : List �
 abbrev assumed : (core units : List ℕ) → List ℕ
 assumed core units = map negated (map negated core) ++ units
 
--- a used literal of smaller depth than the last one is before it
+-- a used literal of smaller depth than the last one is among those before it
 in_front : (words : List ℕ) (s : State) (failed : ℕ) (core used : List ℕ) (last m : ℕ) → Ordered words s failed core used last → Contains used m → depth s m < depth s (get_or used last 0) → Contains (take last used) m
 in_front words s failed core used last m h c lt =
     let b : c.0 < last = elim (cases_eq c.0 last) [
@@ -89,7 +89,7 @@ not_denied words s failed core used units last k can u h lt holds =
       | inr k ↦ other (u.only (negated e) k).0
     ])
 
--- what a cause is given by
+-- every cause of a used literal is assumed, or implied by an earlier used literal
 given_front : (words : List ℕ) (s : State) (failed : ℕ) (core used units : List ℕ) (last l i : ℕ) → CanAnalyze words s → AreLevelZeroLits s units → Ordered words s failed core used last → Contains used l → depth s l ≤ depth s (get_or used last 0) →
     i < length (causes_at words s l) → Given s (assumed core units) (take last used) (depth s l) (negated (get_or (causes_at words s l) i 0))
 given_front words s failed core used units last l i can u h c le b =
@@ -104,7 +104,7 @@ given_front words s failed core used units last l i can u h c le b =
       | inr g ↦ inr (in_front words s failed core used last (negated r) h g.0 (omega (arith, g.1)), subst (λ n. depth s (negated r) < n) deep g.1)
     ]
 
--- the clauses are unit in turn, the last one falsified
+-- the clauses are unit in turn, and the last one is falsified
 turns_to_failure : (words : List ℕ) (s : State) (failed : ℕ) (core used units : List ℕ) (last : ℕ) → CanAnalyze words s → AreLevelZeroLits s units → Ordered words s failed core used last →
     UnitInTurn (assumed core units) (map (clause_of words s) (take last used) ++ clause_of words s (negated failed) ∷ [])
 turns_to_failure words s failed core used units last can u h =
@@ -141,7 +141,7 @@ turns_to_failure words s failed core used units last can u h =
           | inr g ↦ inr g.0
         ]
 
--- nothing is flagged, and what was used is turned round
+-- the reversed list of used literals is a refutation of the core
 pub refuted : (words : List ℕ) (s : State) (failed : ℕ) (w : Work) → CanAnalyze words s → IsFalseLit s.values failed → TraceResult words s failed w → IsRefutation words s failed w.core (reverse w.used)
 refuted words s failed w can f t =
     let used : List ℕ = reverse w.used in

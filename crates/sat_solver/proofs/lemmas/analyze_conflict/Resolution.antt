@@ -1,4 +1,4 @@
--- One step of resolution: the last flagged literal of the trail is replaced by the literals of its reason.
+-- One resolution step replaces the last flagged literal of the trail by the literals of its reason.
 use Rattle.std.proofs.Common.{ℕ, ◌≡◌, ◌≢◌, ◌+◌, ◌<◌, ◌≤◌, ◌⊎◌, inl, inr, suc, Bool, true, false, List, [], ◌∷◌, ◌++◌, length, get_or, set, refl, sym, ap, ◌∙◌, subst, arith, length-set, get_or-set_same, get_or-set_other}
 use Rattle.std.proofs.lemmas.Bool.{cases_eq, cases_lt, both_ways, true≢false}
 use Rattle.std.proofs.lemmas.List.{length_push, get_or_append_left, get_or_push}
@@ -15,13 +15,13 @@ use Rattle.sat_solver.specs.analyze_conflict.Marks.{causes_at, CanAnalyze, open_
 use Rattle.sat_solver.proofs.lemmas.analyze_conflict.InTurn.{above_first}
 use Rattle.sat_solver.proofs.lemmas.analyze_conflict.Meeting.{level_by_variable, levels_rise, OpenPlace, open_same, open_last, open_some, open_kept, Met, met_all}
 
--- the last flagged place before another one
+-- p is the last flagged position before `at`
 pub record IsLastFlagged (s : State) (flags : List Bool) (p at : ℕ) : Type 0 where
   pub before : p < at
   pub flagged : get_or flags (variable (lit_at s p)) false ≡ true
   pub others : (q : ℕ) → p < q → q < at → get_or flags (variable (lit_at s q)) false ≡ false
 
--- it is of a level from which literals are resolved, if some flagged one is
+-- if a flagged literal of level `top` or above is left, the last flagged literal is of such a level
 pub last_high : (s : State) (top : ℕ) (flags : List Bool) (p at : ℕ) → StateIsConsistent s → at ≤ length s.trail.lits → IsLastFlagged s flags p at → OpenPlace s top flags at → top ≤ level s (lit_at s p)
 last_high s top flags p at a le h x =
     let in_trail : p < length s.trail.lits = omega (arith, h.before) in
@@ -31,7 +31,7 @@ last_high s top flags p at a le h x =
     ] in
     omega (arith, levels_rise s x.place p a following in_trail, x.high)
 
--- that of the current level is just this one
+-- no level is higher than the current one
 pub at_current : (s : State) (p : ℕ) → StateIsConsistent s → p < length s.trail.lits → current_level s ≤ level s (lit_at s p) → level s (lit_at s p) ≡ current_level s
 at_current s p a lt le = omega (arith, level_low s (lit_at s p) a (a.holds p lt))
 
@@ -41,7 +41,7 @@ unset_cases flags v u lt e = elim (cases_eq u v) [
   | inr n ↦ (n, sym (get_or-set_other flags v u false false n) ∙ e)
 ]
 
--- the marks once it isn't to be resolved any more
+-- the flags are as required once the last flagged literal was passed
 pub marks_passed : (s : State) (top : ℕ) (w : Work) (p at : ℕ) → StateIsConsistent s → MarksWork s top w at → IsLastFlagged s w.flags p at → top ≤ level s (lit_at s p) → variable (lit_at s p) < length w.flags →
     MarksWork s top (passed_by (lit_at s p) w) p
 marks_passed s top w p at a m h high b =
@@ -79,7 +79,7 @@ marks_passed s top w p at a m h high b =
           omega (arith, m.counted);
     }
 
--- what was still to be resolved is that, or it is the negation of the literal that was passed by
+-- after a literal was passed, a literal that was to be resolved still is, unless it is the negation of the passed one
 pub passed_waiting : (s : State) (top : ℕ) (w : Work) (p at r : ℕ) → StateIsConsistent s → at ≤ length s.trail.lits → IsLastFlagged s w.flags p at → IsWaiting s top w.flags at r →
     IsWaiting s top (set w.flags (variable (lit_at s p)) false) p r ⊎ (lit_at s p ≡ negated r)
 passed_waiting s top w p at r a le h x =
@@ -98,7 +98,7 @@ passed_waiting s top w p at r a le h x =
       ]
     ]
 
--- the literals that were accounted for still are
+-- explained literals stay explained when a literal is used
 pub taken_covered : (s : State) (top : ℕ) (w : Work) (n : Reason) (p at r : ℕ) → StateIsConsistent s → at ≤ length s.trail.lits → IsLastFlagged s w.flags p at → IsCovered s top w at r → IsCovered s top (taken_up n (lit_at s p) w) p r
 taken_covered s top w n p at r a le h (covered_unit z) = covered_unit z
 taken_covered s top w n p at r a le h (covered_clause c) = covered_clause c
@@ -109,14 +109,14 @@ taken_covered s top w n p at r a le h (covered_open x) = elim (passed_waiting s 
   | inr e ↦ covered_reason (subst (λ z. Contains (w.used ++ lit_at s p ∷ []) z) e (Contains-push w.used (lit_at s p)))
 ]
 
--- a literal of the current level after another one isn't a decision
+-- a literal of the current level that is after another one isn't a decision
 not_decided : (words : List ℕ) (s : State) (q p : ℕ) → CanAnalyze words s → q < p → p < length s.trail.lits → level s (lit_at s q) ≡ current_level s → is_unit_reason (node s (lit_at s p)).reason ≡ false
 not_decided words s q p can lt within top =
     let in_trail : q < length s.trail.lits = omega arith in
     let begun : (k : ℕ) → k < length s.trail.starts → get_or s.trail.starts k 0 ≤ q = λ k b. (can.agrees.levels q in_trail).begun k (omega arith) in
     can.levelled.caused p 0 can.above (omega (arith, begun 0 can.above)) within (λ k b e. omega (arith, begun k b))
 
--- what resolution keeps
+-- resolution of one literal preserves the invariant of used literals
 pub uses_next : (words : List ℕ) (s : State) (top : ℕ) (w w1 w2 : Work) (p at : ℕ) → CanAnalyze words s → AreUsed words s top w at → p < at → p < length s.trail.lits →
     w1.used ≡ w.used ++ lit_at s p ∷ [] → Met s top p (causes_at words s (lit_at s p)) w1 w2 →
     ((r : ℕ) → IsCovered s top w at r → IsCovered s top w1 p r) →
@@ -165,7 +165,7 @@ uses_next words s top w w1 w2 p at can u before within used_is m forth some high
       ];
     }
 
--- what is left to be resolved when one of several is taken up
+-- what holds when the last flagged literal is used while another one of the current level is left
 pub record Taken (words : List ℕ) (s : State) (w : Work) (p at : ℕ) : Type 0 where
   pub within : p < length s.trail.lits
   pub top : level s (lit_at s p) ≡ current_level s

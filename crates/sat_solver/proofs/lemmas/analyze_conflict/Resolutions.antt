@@ -1,4 +1,4 @@
--- What resolution met, once the clause was minimised and the used literals put in order; and the long clauses among it are live.
+-- Minimization and sorting preserve what resolution has met. The long clauses that were involved are live.
 use Rattle.std.proofs.Common.{ℕ, ◌≡◌, ◌<◌, inl, inr, List, [], ◌∷◌, length, get_or, sym, ap, ◌∙◌, subst, arith, get_or-take, Result, Ok, Err, IfOk, OnOk}
 use Rattle.std.proofs.lemmas.Bool.{cases_lt}
 use Rattle.std.proofs.lemmas.List.Elements.{Contains-append_cases}
@@ -45,7 +45,7 @@ is_resolution words s e w0 w w' r c k order met involved =
       involved = involved ∙ k.front.involved ∙ c.involved;
     }
 
--- the long clause of a reason that implies is live
+-- the long clause of a reason on the trail is live
 reason_live : (words live : List ℕ) (implied : List (List ℕ)) (s : State) (p o : ℕ) (r : Reason) → Implies words live implied s p r → Contains (long_of r) o → Contains live o
 reason_live words live implied s p o NoCause h c = absurd (omega (arith, c.1))
 reason_live words live implied s p o (Binary ls) h c = absurd (omega (arith, c.1))
@@ -68,7 +68,7 @@ conflict_live words live implied s o (conflicts.Long q) h c =
     let e : 0 ≡ c.0 = omega (arith, c.1) in
     subst (λ z. Contains live z) (ap (λ k. get_or (q ∷ []) k 0) e ∙ at_place (q ∷ []) o c) h.0
 
--- each long clause that took part is live
+-- every involved long clause is live
 pub involved_live : (words live : List ℕ) (implied : List (List ℕ)) (s : State) (e : Conflict) (w : Work) → StateIsConsistent s → 0 < current_level s → AreUnitInTurn words live implied s (get_or s.trail.starts 0 0) → IsConflict words live implied s.values e →
     ((l : ℕ) → Contains w.used l → IsReasoned s 0 l) → IsResolution words s e w → (o : ℕ) → Contains w.involved o → Contains live o
 involved_live words live implied s e w a above turns conflict reasons r o c =
@@ -79,14 +79,14 @@ involved_live words live implied s e w a above turns conflict reasons r o c =
           (x.place, subst (λ z. Implies words live implied s x.place (node s z).reason) x.there (turns x.place (above_first s x.place l a x.within x.there x.above above) x.within))) y
     ]
 
--- the same where the analysis answers
+-- every involved long clause is live if the analysis succeeds
 pub live_ok : {E : Type 0} (words live : List ℕ) (implied : List (List ℕ)) (s : State) (e : Conflict) (w : Work) (r : Result ℕ E) → StateIsConsistent s → 0 < current_level s → AreUnitInTurn words live implied s (get_or s.trail.starts 0 0) →
     IsConflict words live implied s.values e → IfOk r (λ back. Learns words s (falsified words e) w back) → OnOk r (IsResolution words s e w) → OnOk r ((o : ℕ) → Contains w.involved o → Contains live o)
 live_ok words live implied s e w (Ok back) a above turns conflict l i = λ o c.
     involved_live words live implied s e w a above turns conflict (λ m d. subst (λ z. IsReasoned s 0 z) (at_place w.used m d) (l.reasons d.0 d.1)) i o c
 live_ok words live implied s e w (Err x) a above turns conflict l i = tt
 
--- and the flags are clear
+-- the flags are clear if the analysis succeeds
 pub clear_ok : {E : Type 0} (words : List ℕ) (s : State) (e : Conflict) (w : Work) (r : Result ℕ E) → IfOk r (λ back. Learns words s (falsified words e) w back) → OnOk r (AreClear w.flags)
 clear_ok words s e w (Ok back) l = l.clear
 clear_ok words s e w (Err x) l = tt

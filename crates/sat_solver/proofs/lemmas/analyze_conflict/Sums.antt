@@ -1,4 +1,4 @@
--- Each literal that is marked takes a flag that wasn't set.
+-- Marking a literal sets one flag and adds one used literal, so their total stays the same.
 use Rattle.std.proofs.Common.{ℕ, ◌≡◌, ◌+◌, ◌<◌, inl, inr, suc, zero, Bool, true, false, List, [], ◌∷◌, length, get_or, set, cond, eqb, refl, sym, ap, ◌∙◌, subst, arith, length-set}
 use Rattle.std.proofs.lemmas.Bool.{cases_Bool, or_parts, cond-true, cond-false}
 use Rattle.std.proofs.lemmas.List.{length_push}
@@ -13,7 +13,7 @@ unset_set [] v lt e = absurd (omega arith)
 unset_set (b ∷ bs) zero lt e = let one : cond {A = ℕ} b 0 1 ≡ 1 = ap (λ (c : Bool). cond {A = ℕ} c 0 1) e in omega arith
 unset_set (b ∷ bs) (suc v) lt e = omega (arith, unset_set bs v (omega arith) e)
 
--- flags that aren't set, and used literals, together
+-- the number of flags that aren't set plus the number of used literals
 abbrev pub total : Work → ℕ
 total w = unset w.flags + length w.used
 

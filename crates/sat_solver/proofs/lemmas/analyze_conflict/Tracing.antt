@@ -1,4 +1,4 @@
--- The reasons of a failed assumption are gone back over: how that begins, goes on and ends.
+-- The reasons of a failed assumption are traced back along the trail: start, step and end.
 use Rattle.std.proofs.Common.{ℕ, ◌≡◌, ◌+◌, ◌-◌, ◌<◌, ◌≤◌, inl, inr, suc, zero, true, false, List, [], ◌∷◌, ◌++◌, length, map, get_or, refl, sym, ap, ◌∙◌, subst, arith}
 use Rattle.std.proofs.lemmas.Bool.{cases_eq, cases_lt, cases_Bool, true≢false}
 use Rattle.std.proofs.lemmas.List.{length_push, get_or_append_left, get_or_push}
@@ -24,31 +24,31 @@ use Rattle.sat_solver.proofs.lemmas.analyze_conflict.Meeting.{level_by_variable,
 use Rattle.sat_solver.proofs.lemmas.analyze_conflict.Resolution.{IsLastFlagged, last_high, marks_passed, passed_waiting, taken_covered, uses_next}
 use Rattle.sat_solver.proofs.lemmas.analyze_conflict.Ends.{begun_marks, distinct_by_depth}
 
--- where the negation of a false literal above level 0 stands
+-- the negation of a false literal above level 0 is on the trail
 pub negation_before : (s : State) (l : ℕ) → StateIsConsistent s → IsFalseLit s.values l → 0 < level s l → IsBefore s (length s.trail.lits) (negated l)
 negation_before s l a f above = elim (a.known (negated l) (true_from_false s.values l f)) [
   | inl b ↦ b
   | inr x ↦ absurd (omega (arith, x.bottom, level_by_variable s (negated l) l (negated_variable l)))
 ]
 
--- its place, by its depth
+-- its position is its depth minus 1
 pub place_by_depth : (s : State) (l : ℕ) → StateIsConsistent s → IsFalseLit s.values l → 0 < level s l → (b : IsBefore s (length s.trail.lits) (negated l)) → b.place ≡ depth s l - 1
 place_by_depth s l a f above b =
     omega (arith, a.depths b.place b.within, ap (λ z. depth s z) b.there, ap (λ v. (node_of s.nodes v).depth) (negated_variable l))
 
--- with level 1 as the one from which literals are resolved, none is of the clause
+-- if literals are resolved from level 1 on, the clause is empty
 pub no_clause : (s : State) (w : Work) (at : ℕ) → MarksWork s 1 w at → length w.clause ≡ 0
 no_clause s w at m = elim (cases_eq (length w.clause) 0) [
   | inl e ↦ e
   | inr n ↦ absurd (omega (arith, (m.lower 0 (omega arith)).above, (m.lower 0 (omega arith)).below))
 ]
 
--- the causes of a literal were false before it
+-- the causes of a literal were false before its position
 before_here : (words : List ℕ) (s : State) (p : ℕ) (rs : List ℕ) → CanAnalyze words s → get_or s.trail.starts 0 0 ≤ p → p < length s.trail.lits → causes_at words s (lit_at s p) ≡ rs → (k : ℕ) → k < length rs → IsFalseBefore s p (get_or rs k 0)
 before_here words s p rs can first within e k lt =
     subst (λ (ls : List ℕ). IsFalseBefore s p (get_or ls k 0)) e (can.before p k first within (subst (λ (ls : List ℕ). k < length ls) (sym e) lt))
 
--- the first clause is taken up
+-- the invariant holds after the reason of the failed assumption was used
 pub traced_first : (words : List ℕ) (s : State) (failed p : ℕ) (w : Work) → CanAnalyze words s → AreClear w.flags → length w.flags ≡ length s.values → p < length s.trail.lits → lit_at s p ≡ negated failed → 0 < level s failed →
     is_unit_reason (node s failed).reason ≡ false → TraceInvariant words s failed (with_met_literals s.nodes 1 (causes_at words s failed) (used_up (negated failed) (begun_core failed w))) p
 traced_first words s failed p w can clear size within there above caused =
@@ -118,7 +118,7 @@ from_earlier s failed core p at le h = record {
 head_kept : (xs : List ℕ) (x h : ℕ) → 0 < length xs → get_or xs 0 0 ≡ h → get_or (xs ++ x ∷ []) 0 0 ≡ h
 head_kept xs x h lt e = get_or_append_left xs (x ∷ []) 0 0 lt ∙ e
 
--- its clause is used
+-- the last flagged literal has a clause as its reason, which is used
 pub traced_used : (words : List ℕ) (s : State) (failed : ℕ) (w : Work) (p at : ℕ) → CanAnalyze words s → TraceInvariant words s failed w at → 0 < w.pending → IsLastFlagged s w.flags p at → variable (lit_at s p) < length w.flags →
     is_unit_reason (node s (lit_at s p)).reason ≡ false →
     TraceInvariant words s failed (with_met_literals s.nodes 1 (causes_at words s (lit_at s p)) (taken_up (node s (lit_at s p)).reason (lit_at s p) w)) p
@@ -150,7 +150,7 @@ chosen_covered s w p at r a le h (covered_open x) = elim (passed_waiting s 1 w p
   | inr e ↦ covered_core (subst (λ z. Contains (w.core ++ lit_at s p ∷ []) z) e (Contains-push w.core (lit_at s p)))
 ]
 
--- it is one of the core
+-- the last flagged literal is a decision, which is added to the core
 pub traced_chosen : (words : List ℕ) (s : State) (failed : ℕ) (w : Work) (p at : ℕ) → CanAnalyze words s → TraceInvariant words s failed w at → 0 < w.pending → IsLastFlagged s w.flags p at → variable (lit_at s p) < length w.flags →
     is_unit_reason (node s (lit_at s p)).reason ≡ true → TraceInvariant words s failed (with_chosen (lit_at s p) w) p
 traced_chosen words s failed w p at can h some last b free =
@@ -192,7 +192,7 @@ traced_chosen words s failed w p at can h some last b free =
       head = h.head;
     }
 
--- among the negations of a list
+-- a literal whose negation is in a list is among the negations of that list
 pub negation_in : (xs : List ℕ) (r : ℕ) → Contains xs (negated r) → Contains (map negated xs) r
 negation_in [] r c = absurd (omega (arith, c.1))
 negation_in (x ∷ xs) r c = elim (cases_eq x (negated r)) [
@@ -227,7 +227,7 @@ core_distinct s failed core a f h j k p q e = elim (cases_eq j k) [
         let x : IsChosen s 0 (get_or core i 0) = h.chosen i pos lt in
         model_excludes_core s.values failed (subst (λ z. IsTrueLit s.values z) (x.there ∙ is) (a.holds x.place x.within)) f
 
--- nothing is flagged any more
+-- the result once no literal is left to be resolved
 pub traced_end : (words : List ℕ) (s : State) (failed : ℕ) (w : Work) (at : ℕ) → CanAnalyze words s → IsFalseLit s.values failed → TraceInvariant words s failed w at → w.pending ≡ 0 → TraceResult words s failed w
 traced_end words s failed w at can f h done =
     let a : StateIsConsistent s = can.agrees in
@@ -286,7 +286,7 @@ traced_end words s failed w at can f h done =
         ground (get_or (causes_at words s (negated failed)) i 0)
         (subst (λ z. (j : ℕ) → j < length (causes_at words s z) → IsCovered s 1 w at (get_or (causes_at words s z) j 0)) h.head (h.uses.causes 0 h.some) i (omega arith))
 
--- where the clause of a failed assumption is found
+-- the position of the negated assumption on the trail
 pub record Found (words : List ℕ) (s : State) (failed p : ℕ) : Type 0 where
   pub within : p < length s.trail.lits
   pub there : lit_at s p ≡ negated failed
@@ -305,6 +305,6 @@ found words s failed can f above =
       node_is = ap (λ v. node_of s.nodes v) (sym v_is);
     })
 
--- a false literal above level 0 has a level that is open
+-- if a literal above level 0 is false, some level is open
 pub some_level : (s : State) (l : ℕ) → StateIsConsistent s → IsFalseLit s.values l → 0 < level s l → 0 < current_level s
 some_level s l a f above = omega (arith, level_low s (negated l) a (true_from_false s.values l f), level_by_variable s (negated l) l (negated_variable l))

@@ -1,4 +1,4 @@
--- Literals in two parts.
+-- Following a list of literals in two parts.
 use Rattle.std.proofs.Common.{ℕ, ◌+◌, ◌-◌, ◌<◌, ◌≤◌, ◌≡◌, ◌∙◌, Bool, true, false, cond, drop, List, [], ◌∷◌, ◌++◌, length, get_or, refl, sym, ap, arith}
 use Rattle.std.proofs.lemmas.Bool.{true≢false}
 use Rattle.std.proofs.lemmas.List.{length-append, get_or_append_left, get_or-append_right, drop_more, drop_all}
@@ -34,7 +34,7 @@ hash_both (x ∷ xs) ys = ap (bit_xor (literal_hash x)) (hash_both xs ys) ∙ sy
 abbrev done : Work → Bool → Followed
 done w b = record { work = w; whole = b }
 
--- one literal may follow
+-- if the first literal may follow, the rest is followed after it
 follows_one : (nodes : List ImplNode) (filter r : ℕ) (rs : List ℕ) (w v : Work) → followed nodes filter (r ∷ []) w ≡ done v true → followed nodes filter (r ∷ rs) w ≡ followed nodes filter rs v
 follows_one nodes filter r rs w v e = go (is_settled nodes r w) (can_follow nodes filter r) e
   where
@@ -44,7 +44,7 @@ follows_one nodes filter r rs w v e = go (is_settled nodes r w) (can_follow node
     go false true e = ap (λ (f : Followed). followed nodes filter rs f.work) e
     go false false e = absurd (true≢false (sym (ap (λ (f : Followed). f.whole) e)))
 
--- or it ends them
+-- if the first literal may not follow, following stops there
 follows_none : (nodes : List ImplNode) (filter r : ℕ) (rs : List ℕ) (w v : Work) → followed nodes filter (r ∷ []) w ≡ done v false → followed nodes filter (r ∷ rs) w ≡ done v false
 follows_none nodes filter r rs w v e = go (is_settled nodes r w) (can_follow nodes filter r) e
   where
@@ -54,7 +54,7 @@ follows_none nodes filter r rs w v e = go (is_settled nodes r w) (can_follow nod
     go false true e = absurd (true≢false (ap (λ (f : Followed). f.whole) e))
     go false false e = e
 
--- the first part, and then the second
+-- the first part is followed, then the second
 followed_both : (nodes : List ImplNode) (filter : ℕ) (xs ys : List ℕ) (w v : Work) → followed nodes filter xs w ≡ done v true → followed nodes filter (xs ++ ys) w ≡ followed nodes filter ys v
 followed_both nodes filter [] ys w v e = ap (λ (f : Followed). followed nodes filter ys f.work) e
 followed_both nodes filter (x ∷ xs) ys w v e = go (is_settled nodes x w) (can_follow nodes filter x) (λ u. followed_both nodes filter xs ys u v) e
@@ -89,14 +89,14 @@ module _ (nodes : List ImplNode) (filter : ℕ) (ls : List ℕ) (at : ℕ) (w v 
   here lt = ap (λ (xs : List ℕ). followed nodes filter xs w) (drop_more ls at 0 lt)
 
   module _ (l : ℕ) (b : Bool) (lt : at < length ls) (is : l ≡ get_or ls at 0) (one : followed nodes filter (l ∷ []) w ≡ done v b) where
-    -- a loop's step: the literal at this place may follow
+    -- a step of the loop: the literal at this position may follow
     pub follows_next : b ≡ true → followed nodes filter (drop (at + 1) ls) v ≡ followed nodes filter (drop at ls) w
     follows_next e = sym (here lt ∙ ap (λ r. followed nodes filter (r ∷ drop (at + 1) ls) w) (sym is) ∙ follows_one nodes filter l (drop (at + 1) ls) w v (one ∙ ap (done v) e))
 
-    -- or it may not
+    -- the literal at this position may not follow
     pub follows_end : b ≡ false → followed nodes filter (drop at ls) w ≡ done v false
     follows_end e = here lt ∙ ap (λ r. followed nodes filter (r ∷ drop (at + 1) ls) w) (sym is) ∙ follows_none nodes filter l (drop (at + 1) ls) w v (one ∙ ap (done v) e)
 
--- or none is left
+-- no literal is left
 pub follows_all : (nodes : List ImplNode) (filter : ℕ) (ls : List ℕ) (at : ℕ) (w : Work) → length ls ≤ at → followed nodes filter (drop at ls) w ≡ done w true
 follows_all nodes filter ls at w le = ap (λ (xs : List ℕ). followed nodes filter xs w) (drop_all at ls le)

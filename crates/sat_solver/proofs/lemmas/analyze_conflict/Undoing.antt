@@ -1,4 +1,4 @@
--- A search that failed leaves nothing after.
+-- A failed search restores the work as it was before.
 use Rattle.std.proofs.Common.{ℕ, ◌≡◌, ◌+◌, ◌<◌, ◌≤◌, ◌⊎◌, inl, inr, suc, zero, false, List, [], ◌∷◌, ◌++◌, length, take, get_or, refl, sym, ap, ◌∙◌, arith}
 use Rattle.std.proofs.lemmas.Bool.{cases_eq, cases_lt, cases_Bool, both_ways}
 use Rattle.std.proofs.lemmas.List.{length_push, take_at, take-take, ext_get_or}
@@ -9,7 +9,7 @@ use Rattle.sat_solver.specs.analyze_conflict.Minimal.{MarksMore, used_up, Undoes
 abbrev IsNewUseBelow : (used : List ℕ) (from n v : ℕ) → Type 0
 IsNewUseBelow used from n v = (k : ℕ) × ((from ≤ k) × (k < n) × (variable (get_or used k 0) ≡ v))
 
--- whether a literal that was used from a place on has this variable
+-- whether a literal that was used at position `from` or later has this variable
 new_use : (used : List ℕ) (from n v : ℕ) → n ≤ length used → IsNewUseBelow used from n v ⊎ (IsNewUseBelow used from n v → ⊥)
 new_use used from zero v le = inr (λ x. omega (arith, x.1.1))
 new_use used from (suc n) v le = elim (new_use used from n v (omega arith)) [

@@ -1,4 +1,4 @@
--- A core is told by one step.
+-- One step states a core.
 use Rattle.std.proofs.Common.{ℕ, zero, suc, ◌<◌, ◌≤◌, ◌≡◌, ◌∙◌, Ok, Err, List, [], ◌∷◌, length, map, get_or, refl, sym, ap, subst, arith, inl, inr}
 use Rattle.std.proofs.lemmas.Bool.{cases_eq}
 use Rattle.std.specs.List.{Contains}
@@ -58,7 +58,7 @@ module _ (p : Parts) (assumed : List ℕ) (failed : ℕ) (holds : PartsInvariant
   both c (suc zero) lt = chosen_assumed (state p) assumed (negated failed) failing.decided c
   both c (suc (suc k)) lt = absurd (omega arith)
 
-  -- the core is of assumptions, the failed one first
+  -- the core consists of assumptions, the failed one first
   pub fails_failed : (core used : List ℕ) → IsFailedAssumption p.clauses (state p) failed core used → AreFailed assumed failed core
   fails_failed core used (fails_bottom low one none) = subst (λ ls. AreFailed assumed failed ls) (sym one) (record { some = omega arith; first = refl; among = only })
   fails_failed core used (fails_signs chosen two none) = subst (λ ls. AreFailed assumed failed ls) (sym two) (record { some = omega arith; first = refl; among = both chosen })
@@ -99,17 +99,17 @@ module _ (p : Parts) (assumed : List ℕ) (failed : ℕ) (holds : PartsInvariant
     cause_some k o lt r = (valid k o lt r).1
 
 module _ {W L : Type 0} {G : Ghosts L} (seen : W → Writer) (a b : Proof W L G) (c c' : Search) where
-  -- no memory was left before anything was written
+  -- memory ran out before anything was written
   pub reports_starved : HasAllowedSteps a → WritesCoreStep seen (Err errors.OutOfMemory) a a c c'
   reports_starved keeps = record { steps = []; went = adds_none seen a; core = tt; keeps = keeps; kept = tt; loss = inl refl; ends = tt }
 
-  -- the target failed
+  -- writing or checking the step failed
   pub reports_broken : (e : ProofError) (core hashes : List ℕ) → HasAllowedSteps b → EmitsAsAnswered {T = Unit {0}} seen (Err e) (FailedAssumptions core hashes ∷ []) a b → WritesCoreStep seen (Err (proof_fault e)) a b c c'
   reports_broken (Write cause) core hashes keeps fails = record { steps = FailedAssumptions core hashes ∷ []; went = fails.0; core = (refl, tt); keeps = keeps; kept = fails.1; loss = tt; ends = tt }
   reports_broken OutOfMemory core hashes keeps gains = record { steps = []; went = gains_adds seen [] a b gains; core = tt; keeps = keeps; kept = tt; loss = inl gains.taking; ends = tt }
   reports_broken (Check fault) core hashes keeps fails = record { steps = FailedAssumptions core hashes ∷ []; went = went_checked seen (Unit {0}) fault (FailedAssumptions core hashes ∷ []) a b fails.0; core = (refl, tt); keeps = keeps; kept = complaint_kept fault b fails.1; loss = check_loss fault a b fails.0.why; ends = fault_checked _ fault }
 
-  -- what is told stands
+  -- the step of the core was written
   pub reports_core : HasAllowedSteps b → (core : List ℕ) → core ≡ map (with_var (global_in c)) c'.analysis.core → (hashes : List ℕ) → hashes ≡ causes_hashes c.parts c'.analysis.used → EmitsChecked seen (FailedAssumptions core hashes ∷ []) a b →
       IsSearch (session_of a) c → IsFailing c.assumptions.lits.items c.parts c.failed → IsFailedAssumption c.parts.clauses (state c.parts) c.failed c'.analysis.core c'.analysis.used → IsFree c' →
       c'.parts ≡ c.parts → c'.globals ≡ c.globals → c'.assumptions ≡ c.assumptions → WritesCoreStep seen (Ok tt) a b c c'

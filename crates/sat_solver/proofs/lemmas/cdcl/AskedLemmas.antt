@@ -1,4 +1,4 @@
--- Steps of a search leave the assumptions, the solver names and the modes.
+-- Steps of a search leave assumptions, solver names and modes unchanged.
 use Rattle.std.proofs.Common.{ℕ, ◌≡◌, ◌∙◌, Bool, true, false, Option, List, [], ◌∷◌, ◌++◌, map, refl, ap, cond, eqb, ◌||◌}
 use Rattle.std.specs.List.{AllByRecursion}
 use Rattle.sat_base.specs.values.Literals.{variable, negated}
@@ -10,7 +10,7 @@ use Rattle.sat_solver.proofs.lemmas.session.Changes.{with_facts, with_sorted, wi
 use Rattle.sat_solver.specs.cdcl.Going.{is_searched, AreSearched, IsSearched}
 use Rattle.sat_solver.specs.cdcl.Joint.{SameAssumedAndNames}
 
--- THEIR KINDS
+-- KINDS OF STEPS
 
 kind_of : (names : ℕ → Option ℕ) (step : Step) → IsSearched names step → is_searched step ≡ true
 kind_of names (AtClause r c hs) h = refl
@@ -22,9 +22,9 @@ pub kinds_of : (names : ℕ → Option ℕ) (steps : List Step) → AreSearched 
 kinds_of names [] h = tt
 kinds_of names (step ∷ steps) h = (kind_of names step h.0, kinds_of names steps h.1)
 
--- WHAT STANDS
+-- WHAT STEPS OF A SEARCH LEAVE UNCHANGED
 
--- two sessions assume the same, and have the same solver names and modes
+-- two sessions have the same assumptions, solver names and modes
 record Kept (s t : Session) : Type 0 where
   asked : t.assumed ≡ s.assumed
   names : t.solver_names ≡ s.solver_names
@@ -81,15 +81,15 @@ all (step ∷ steps) earlier h = kept_trans (session_after earlier) (session_aft
 pub asked_after : (steps earlier : List Step) → AllByRecursion (λ step. is_searched step ≡ true) steps → (session_after (steps ++ earlier)).assumed ≡ (session_after earlier).assumed
 asked_after steps earlier h = (all steps earlier h).asked
 
--- the solver names are the same
+-- steps of a search leave the solver names unchanged
 pub names_after : (steps earlier : List Step) (names : ℕ → Option ℕ) → AreSearched names steps → (session_after (steps ++ earlier)).solver_names ≡ (session_after earlier).solver_names
 names_after steps earlier names h = (all steps earlier (kinds_of names steps h)).names
 
--- and so are those after steps that were written
+-- the same, for a later history that adds only these steps
 pub names_following : (steps later earlier : List Step) (names : ℕ → Option ℕ) → later ≡ steps ++ earlier → AreSearched names steps → (session_after later).solver_names ≡ (session_after earlier).solver_names
 names_following steps later earlier names written h = ap (λ ss. (session_after ss).solver_names) written ∙ names_after steps earlier names h
 
--- so is what is assumed
+-- steps of a search leave assumptions and solver names unchanged
 pub leaves_after : (steps earlier : List Step) → AllByRecursion (λ step. is_searched step ≡ true) steps → SameAssumedAndNames (session_after earlier) (session_after (steps ++ earlier))
 leaves_after steps earlier h = let k = all steps earlier h in record { assumed = k.asked; names = λ v. ap (λ f. f v) k.names }
 

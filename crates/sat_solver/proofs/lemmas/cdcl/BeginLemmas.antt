@@ -1,4 +1,4 @@
--- A search without variables.
+-- A search without variables agrees with the empty session.
 use Rattle.std.proofs.Common.{◌≡◌, [], refl, ap, arith}
 use Rattle.sat_parts.specs.clause.Glue.{AreClear}
 use Rattle.sat_parts.specs.prop.Trails.{Trailed, no_trail}

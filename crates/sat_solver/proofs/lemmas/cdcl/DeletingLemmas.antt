@@ -1,4 +1,4 @@
--- Clauses of tier Local that are deleted, one after another.
+-- Clauses of tier Local are deleted, one after another.
 use Rattle.std.proofs.Common.{ℕ, zero, suc, ◌+◌, ◌-◌, ◌/◌, ◌<◌, ◌≤◌, ◌≡◌, ◌≢◌, ◌∙◌, Bool, true, false, cond, List, [], ◌∷◌, ◌++◌, length, drop, get_or, refl, sym, ap, subst, arith, append_assoc, append-nil, inl, inr}
 use Rattle.std.proofs.lemmas.Bool.{cases_eq}
 use Rattle.std.proofs.lemmas.List.Elements.{Contains-append_left, Contains-append_right, Contains-append_cases}
@@ -31,7 +31,7 @@ deletes_none p keeps = record {
   same = ((refl, refl, refl), refl, refl);
 }
 
--- one clause more
+-- one more clause is deleted
 module _ (p q r : Parts) (gone : List ℕ) (o : ℕ) (x : DeletesJustThese p q gone) (here : Contains (live q) o) (d : DropsLongClause q r o) where
   left_alone : (u : ℕ) → Contains (live r) u → Contains (live q) u × (u ≢ o)
   left_alone u c = in_without o u (live q) (subst (λ os. Contains os u) d.deletes.live c)
@@ -65,7 +65,7 @@ module _ (p q r : Parts) (gone : List ℕ) (o : ℕ) (x : DeletesJustThese p q g
     same = search_trans p q r x.same d.same;
   }
 
--- a clause that stands is a reason as it was
+-- a clause that is not deleted is a reason only if it was one before
 module _ (p q : Parts) (gone : List ℕ) (o : ℕ) (x : DeletesJustThese p q gone) (here : Contains (live q) o) where
   reason_before : IsReason q o → IsReason p o
   reason_before h = rw (x.same.0.0, x.same.0.1, (x.stay o here).1.lits) at h
@@ -73,7 +73,8 @@ module _ (p q : Parts) (gone : List ℕ) (o : ℕ) (x : DeletesJustThese p q gon
   free_before : (IsReason q o → ⊥) → IsReason p o → ⊥
   free_before h k = h (rw (x.same.0.0, x.same.0.1, (x.stay o here).1.lits) k)
 
--- Some clauses of a list were looked at. These were deleted, and so many may still be.
+-- The clauses of `list` before `rest` were visited: those in `gone` were deleted, and at most `left` more are deleted
+-- later.
 pub record Halving (p q : Parts) (list rest : List ℕ) (left : ℕ) : Type 0 where
   pub gone : List ℕ
   pub first : (free : List ℕ) → AreFirstFree p rest left free → AreFirstFree p list (length list / 2) (gone ++ free)
@@ -109,15 +110,15 @@ module _ (p q : Parts) (list : List ℕ) (all : IsPermutation (filter (is_live_o
     deletes = h.deletes;
   }
 
-  -- half of them were deleted
+  -- half of the clauses were deleted
   pub halved_enough : (rest : List ℕ) (left : ℕ) → left ≡ 0 → Halving p q list rest left → HalvesLocals p q
   halved_enough rest left e h = done rest left (rw e (none_free p rest)) h
 
-  -- no other is left
+  -- all clauses of the list were visited
   pub halved_all : (rest : List ℕ) (left : ℕ) → rest ≡ [] → Halving p q list rest left → HalvesLocals p q
   halved_all rest left e h = done rest left (rw e refl) h
 
--- one clause more of the list was looked at
+-- one more clause of the list was visited
 pub halving_step : (p q r : Parts) (list : List ℕ) (at o left later : ℕ) (b : Bool) → Halving p q list (drop at list) left → at < length list → o ≡ get_or list at 0 → 0 < left → Contains (live q) o → DeletesUnlessReason b o q r → later ≡ cond b (left - 1) left →
     Halving p r list (drop (at + 1) list) later
 halving_step p q r list at o zero later b h lt here some c t e = absurd (omega arith)

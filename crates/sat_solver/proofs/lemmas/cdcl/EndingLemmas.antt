@@ -1,4 +1,4 @@
--- How rounds end that began with a simplification.
+-- How rounds that begin with a simplification end.
 use Rattle.std.proofs.Common.{◌∙◌, Result, Ok, Err, List, [], ◌++◌, refl, sym, subst}
 use Rattle.sat_base.specs.device.Device.{Writer}
 use Rattle.sat_base.specs.steps.Steps.{Step}
@@ -35,7 +35,7 @@ use Rattle.sat_solver.proofs.lemmas.unit_simplify.FreedLemmas.{asked_refl}
 use Rattle.sat_solver.proofs.lemmas.unit_simplify.StrengthenSearchLemmas.{goes_leaves}
 use Rattle.sat_solver.proofs.lemmas.unit_simplify.PassesLemmas.{falls_goes, falls_later}
 
--- what a round began with
+-- the first part of a round made only quiet steps, and changed neither variables nor assumptions
 record Reaches {W L : Type 0} {G : Ghosts L} (seen : W → Writer) (n m : Variables) (p q : Proof W L G) (c d : Search) : Type 0 where
   took : ComesByCheckedSteps seen p q
   quiet : ComesQuietly (steps_of p) (steps_of q)
@@ -67,11 +67,11 @@ module _ {W L : Type 0} {G : Ghosts L} (seen : W → Writer) (n m : Variables) (
       }
   ends_after b (Err f) z e g = falls_later seen f p q z b.took (falls_goes seen f q z (λ _ _. ⊥) (goes_failing seen f q z (λ o steps. RoundSays o (steps_of q) steps (session_of z) d e) (λ (_ : Unit {0}) _. ⊥) g))
 
-  -- after a simplification, or nothing
+  -- the round ends after a simplification that found no false clause, or after none
   pub ends_on : PassesQuietly seen n m p q c d → (r : Result Outcome SolverError) (z : Proof W L G) (e : Search) → EmitsStepsOr (IsFull e.parts) seen r q z (λ o steps. RoundSays o (steps_of q) steps (session_of z) d e) → EndsRound seen r n m p z c e
   ends_on b = ends_after (record { took = b.took; quiet = b.quiet; does = b.does; asked = b.asked; shares = b.together.shares; moved = b.moved; word = b.word })
 
-  -- after a clause that is false at level 0
+  -- the round ends after the simplification found a clause that is false at level 0
   pub ends_refuted : JointInvariant n p c → (f : Conflict) → FindsFalseClause n m p q c d f → (r : Result Outcome SolverError) (z : Proof W L G) (e : Search) → EmitsStepsOr (IsFull e.parts) seen r q z (λ o steps. RoundSays o (steps_of q) steps (session_of z) d e) → EndsRound seen r n m p z c e
   ends_refuted h f b = ends_after reaches
     where

@@ -1,4 +1,4 @@
--- A clause that was learned, written and taken in.
+-- A clause is learned, written and stored.
 use Rattle.std.proofs.Common.{ℕ, ◌<◌, ◌≡◌, ◌∙◌, Bool, true, List, [], ◌∷◌, length, map, get_or, refl, sym, ap, subst, Some}
 use Rattle.sat_base.specs.steps.Steps.{Step, AtClause}
 use Rattle.sat_store.specs.clause.Header.{Header}
@@ -42,13 +42,13 @@ module _ (p : Parts) (e : Conflict) (w : Work) (back : ℕ) (steps : List Step) 
       let l : ℕ = get_or w.clause k 0 in
       subst (λ v. (session_after steps).solver_names (global v) ≡ Some v) (negated_variable l) (names (negated l) (true_from_false p.assignment.current l (learns.asserting.fails k lt))))
 
-  -- its step may be written
+  -- the step that derives the learned clause may be written
   pub learned_allowed : (clause hashes : List ℕ) → clause ≡ map (with_var global) w.clause → hashes ≡ named_hashes p.clauses (state p) w.used e → MayDerive (session_after steps) clause hashes
   learned_allowed clause hashes c h =
       rw (c, h)
       (learned_may p.clauses (live_refs p.clauses p.db.refs) p.binary.implied (state p) (session_after steps) global e w back fits refuted.0.asks.agrees refuted.0.asks.clauses (refuted.2 above).0 refuted.0.turns refuted.1 learns)
 
-  -- and then it comes to the others
+  -- after this step, parts with the stored clause match the session
   pub learned_stands : (q : Parts) (header : Header) (clause hashes : List ℕ) (flag : Bool) (new : List Step) → clause ≡ map (with_var global) w.clause → FlagFits flag header w.clause →
       new ≡ AtClause flag clause hashes ∷ steps → PartsInvariant q → FitsAfterLearning p q header w.clause → PartsSessionInvariant q (session_after new) global
   learned_stands q header clause hashes flag new c flags added holds takes = record {
@@ -67,7 +67,7 @@ module _ (p : Parts) (e : Conflict) (w : Work) (back : ℕ) (steps : List Step) 
     advances = rw c (learned_clause_advances p e w back (session_after steps) global (units_consistent steps) refuted fits names learns);
   }
 
--- what became of all
+-- the search after a clause was learned
 pub learned_whole : (steps new : List Step) (step : Step) (c c' : Search) → IsReadySearch (session_after steps) c → is_searched step ≡ true → new ≡ step ∷ steps → PartsSessionInvariant c'.parts (session_after new) (global_in c) → TrailWordRises c.parts c'.parts → SameSize c.parts c'.parts → LastAdvances steps (step ∷ []) →
     c'.globals ≡ c.globals → c'.assumptions.lits ≡ c.assumptions.lits → ArePlaced c'.assumptions (state c'.parts) → IsFree c' → LearnsAndRises steps (step ∷ []) (session_after new) c c'
 learned_whole steps new step c c' ready s added valid rises size last globals lits placed free =
@@ -79,7 +79,7 @@ learned_whole steps new step c c' ready s added valid rises size last globals li
       last = last;
     }
 
--- the levels that are gone back to are kept as the first literal is enqueued
+-- enqueuing the first literal preserves the levels up to `top`
 module _ (p q : Parts) (header : Header) (ls : List ℕ) (top : ℕ) (h : PartsInvariant p) (pending : IsPending (state p) p.vsids ls) where
   enqueued_by : (r : Reason) → state q ≡ enqueued (get_or ls 0 0) r (state p) → KeepsTo top (state p) (state q)
   enqueued_by r e = subst (λ s. KeepsTo top (state p) s) (sym e) (keeps_enqueued top (state p) (get_or ls 0 0) r h.below.asks.agrees h.below.levelled pending.open_first pending.there)

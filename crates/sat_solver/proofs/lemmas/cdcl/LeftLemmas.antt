@@ -1,4 +1,4 @@
--- What the parts of a search are left as.
+-- The parts of a search after units were written and taken off the trail.
 use Rattle.std.proofs.Common.{ℕ, ◌≡◌, ◌<◌, ◌+◌, ◌∙◌, List, [], ◌∷◌, length, get_or, refl, sym, ap, subst, arith}
 use Rattle.sat_base.specs.steps.Steps.{UnitClauses}
 use Rattle.sat_parts.specs.clause.Db.{live_refs}
@@ -23,7 +23,7 @@ pub none_left : {A : Type 0} (xs : List A) → length xs ≡ 0 → xs ≡ []
 none_left [] e = refl
 none_left (x ∷ xs) e = absurd (omega arith)
 
--- no unit was written: all of them are units of the session
+-- if no unit has to be written, the session already has all units
 fits_quiet : (words live : List ℕ) (implied : List (List ℕ)) (p : Parts) (s : Session) (global : ℕ → ℕ) → FitsAll words live implied (state p) (after (UnitClauses []) s) global → FitsAll words live implied (state p) s global
 fits_quiet words live implied p s global h = record {
   fits = record {
@@ -45,7 +45,7 @@ module _ (p : Parts) (s : Session) (global : ℕ → ℕ) (orderly : IsOrderly p
   units_none none =
       fits_quiet p.clauses (live_refs p.clauses p.db.refs) p.binary.implied p s global (subst (λ us. AllUnits p (after (UnitClauses us) s) global) none units_step)
 
--- what was looked at at level 0 stays so
+-- assumptions visited at level 0 stay visited when units are taken off the trail
 placed_cleared : (ls below : List ℕ) (place : ℕ) (s s' : State) → length s.trail.starts ≡ 0 → s'.trail.starts ≡ [] → TakesOffUnits s s' → IsPlaced ls below place s → IsPlaced ls below place s'
 placed_cleared ls below place s s' bottom none clears x =
     let flat : length s'.trail.starts ≡ 0 = ap (λ (xs : List ℕ). length xs) none in
@@ -59,7 +59,7 @@ placed_cleared ls below place s s' bottom none clears x =
       all = λ lt. absurd (omega arith);
     }
 
--- above level 0 nothing is done
+-- above level 0 nothing changes
 pub settled_above : (p : Parts) (s : Session) (global : ℕ → ℕ) → 0 < length p.trail.starts → HoldsBelow (length p.trail.starts + 1) p → IsFullyPropagated p → UnitsHaveNoReason (state p) × IsBased p.trail → SessionMatchesParts p s global → TakesUnitsOff p p s global
 settled_above p s global above h done units fits = record {
   valid = record { holds = record { below = h; units = units.0; base = units.1 }; fits = fits };

@@ -23,13 +23,13 @@ module _ (names : ℕ → Option ℕ) (global : ℕ → ℕ) where
   one : (l : ℕ) → names (global (variable l)) ≡ Some (variable l) → (x : ℕ) × (names (variable (with_var global l)) ≡ Some x)
   one l e = (let half : variable (with_var global l) ≡ global (variable l) = omega arith in (variable l, ap names half ∙ e))
 
-  -- literals of named variables, as proof variables
+  -- literals whose variables have solver names still have them when mapped to proof variables
   pub mapped_named : (ls : List ℕ) → ((k : ℕ) → k < length ls → names (global (variable (get_or ls k 0))) ≡ Some (variable (get_or ls k 0))) → HaveSolverNames names (map (with_var global) ls)
   mapped_named [] h = tt
   mapped_named (l ∷ ls) h = (one l (h 0 (omega arith)), mapped_named ls (λ k lt. h (suc k) (omega arith)))
 
   module _ (words : List ℕ) (st : State) (width : ℕ) where
-    -- and those that are written as units
+    -- the same for the literals that are written as units
     pub written_named : (ls : List ℕ) → ((k : ℕ) → k < length ls → names (global (variable (get_or ls k 0))) ≡ Some (variable (get_or ls k 0))) → HaveSolverNames names (map (λ u. u.0) (written_units words st width global ls))
     written_named [] h = tt
     written_named (l ∷ ls) h = more (written_units words st width global ls) (hash_of (reason_clause words l (node st l).reason) / 2 ^ (64 - width)) (is_unit_reason (node st l).reason) (one l (h 0 (omega arith))) (written_named ls (λ k lt. h (suc k) (omega arith)))
@@ -38,13 +38,13 @@ module _ (names : ℕ → Option ℕ) (global : ℕ → ℕ) where
         more us n true x h = h
         more us n false x h = (x, h)
 
--- the units of level 0
+-- the units of level 0 are over variables with solver names
 pub units_named : (p : Parts) (s : Session) (global : ℕ → ℕ) → TrueLitsHaveNames p.assignment.current s global → IsOrderly p → (us : List (ℕ × ℕ)) → us ≡ written_units p.clauses (state p) 64 global p.trail.lits → HaveSolverNames s.solver_names (map (λ u. u.0) us)
 units_named p s global names orderly us e =
     rw e
     (written_named s.solver_names global p.clauses (state p) 64 p.trail.lits (λ k lt. names (get_or p.trail.lits k 0) (orderly.agrees.holds k lt)))
 
--- a learned clause
+-- a learned clause is over variables with solver names
 pub learned_named : (p : Parts) (e : Conflict) (w : Work) (back : ℕ) (s : Session) (global : ℕ → ℕ) → TrueLitsHaveNames p.assignment.current s global → Learns p.clauses (state p) (falsified p.clauses e) w back → (clause : List ℕ) → clause ≡ map (with_var global) w.clause →
     HaveSolverNames s.solver_names clause
 learned_named p e w back s global names learns clause is =

@@ -15,7 +15,7 @@ use Rattle.sat_solver.specs.cdcl.Learning.{LastAdvances}
 use Rattle.sat_solver.specs.cdcl.Rounds.{LastRefutes, RoundSays}
 use Rattle.sat_solver.proofs.lemmas.cdcl.TurnLemmas.{moved_trans}
 
--- the newest step advances, whatever steps are told apart from the earlier ones
+-- if the newest step advances, it still does when earlier quiet steps are counted with the new ones
 pub last_later : (earlier xs ys : List Step) → AreQuiet xs → LastAdvances (xs ++ earlier) ys → LastAdvances earlier (ys ++ xs)
 last_later earlier xs ys quiet l = record {
   redundant = l.redundant;
@@ -27,7 +27,7 @@ last_later earlier xs ys quiet l = record {
   quiet = quiet_both xs l.rest quiet l.quiet;
 }
 
--- the newest step refutes, whatever steps are told apart from the earlier ones
+-- the same for a newest step that records unsat
 pub refutes_later : (earlier xs ys : List Step) (s : Session) → AreQuiet xs → LastRefutes (xs ++ earlier) ys s → LastRefutes earlier (ys ++ xs) s
 refutes_later earlier xs ys s quiet l = record {
   last = l.last;
@@ -38,7 +38,7 @@ refutes_later earlier xs ys s quiet l = record {
   quiet = quiet_both xs ys quiet l.quiet;
 }
 
--- what is said of a later state after an earlier one
+-- the result of a round also holds from an earlier state, if only quiet steps came between
 pub round_from : (outcome : Outcome) (earlier xs ys : List Step) (s : Session) (a b c : Search) → SameVarsAndAssumptions a b → TrailWordExtendsFor (assumed_indices a) a.parts b.parts → AreQuiet xs → RoundSays outcome (xs ++ earlier) ys s b c → RoundSays outcome earlier (ys ++ xs) s a c
 round_from outcomes.Learned earlier xs ys s a b c moved word quiet r = record {
   search = r.search;
@@ -50,7 +50,7 @@ round_from outcomes.Model earlier xs ys s a b c moved word quiet r = (record { s
 round_from outcomes.Unsat earlier xs ys s a b c moved word quiet r = refutes_later earlier xs ys s quiet r
 round_from outcomes.Failed earlier xs ys s a b c moved word quiet r = (record { search = r.0.search; moved = moved_trans a b c moved r.0.moved; failing = r.0.failing }, quiet_both xs ys quiet r.1)
 
--- which assumption failed is noted
+-- storing the failed assumption preserves the invariant
 pub search_failed : (s : Session) (c : Search) (l : ℕ) → IsSearch s c → IsSearch s (record c { failed = l })
 search_failed s c l h = record {
   valid = h.valid;

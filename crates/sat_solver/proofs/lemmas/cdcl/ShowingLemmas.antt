@@ -1,4 +1,4 @@
--- The literals that a search has made true may be shown.
+-- The true literals of a complete search may be written as a model.
 use Rattle.std.proofs.Common.{ℕ, suc, ◌+◌, ◌-◌, ◌*◌, ◌/◌, ◌%◌, ◌≤◌, ◌≡◌, ◌∙◌, Bool, true, false, eqb, Option, None, Some, List, [], ◌∷◌, map, get_or, sym, ap, arith, inl, inr}
 use Rattle.std.proofs.lemmas.Bool.{cases_eq, or_cases, or_left, or_right, eq-eqb, eqb-true, true≢false, false_from_ne_true}
 use Rattle.std.proofs.lemmas.Option.{none-some}
@@ -90,7 +90,7 @@ are_true_lits values = record {
   once = once 0 values;
 }
 
--- the true literals may be shown
+-- the true literals may be written as a model
 pub complete_may : (s : Session) (c : Search) → IsSearch s c → IsComplete c.assumptions.lits.items c.parts → IsAllowedStep s (Model (map (with_var (global_in c)) (true_lits 0 c.parts.assignment.current)))
 complete_may s c search complete =
     model_may c.parts s (global_in c) (true_lits 0 c.parts.assignment.current) search.valid.fits (ready_names s c search.ready) search.valid.holds (are_true_lits c.parts.assignment.current) complete.all

@@ -1,4 +1,4 @@
--- What was learned comes in where levels were undone and headers changed.
+-- A learned clause is stored after levels were undone and headers changed.
 use Rattle.std.proofs.Common.{ℕ, ◌≡◌, ◌∙◌, Bool, List, length, get_or, refl, ap, subst, Result, Ok, Err, OnOk}
 use Rattle.sat_store.specs.clause.Header.{Header}
 use Rattle.sat_parts.specs.clause.Activity.{Scale}
@@ -50,7 +50,7 @@ module _ (p mid q n : Parts) (header : Header) (ls : List ℕ) (top : ℕ) (leve
   taken_ok (Ok x) a b c d = taken a b c d
   taken_ok (Err e) a b c d = tt
 
--- clauses and levels are the same once levels are undone
+-- undoing levels changes neither clauses nor the levels of nodes
 module _ (p mid : Parts) (same : SameClauses p mid) (graph : mid.graph ≡ p.graph) where
   pub involved_undone : (flags : List Bool) (os : List ℕ) → AreInvolved p flags os → AreInvolved mid flags os
   involved_undone flags os x = record {
@@ -60,7 +60,7 @@ module _ (p mid : Parts) (same : SameClauses p mid) (graph : mid.graph ≡ p.gra
   }
 
   module _ (q n : Parts) (s s' : Scale) (w : Work) (header : Header) where
-    -- what became of the clauses that took part, and of the learned one
+    -- the involved clauses were bumped, and the learned clause was stored
     pub rated_ok : {E : Type 0} → q.db.refs ≡ mid.db.refs → BumpsClauses (levels_in mid) mid.db.refs w.involved mid.clauses s q.clauses s' → (r : Result (Unit {0}) E) → OnOk r (AddsLearnedClause q n header w.clause) → OnOk r (BumpsInvolved p s w header n s')
     rated_ok refs take (Ok x) learnt = record {
       between = q;
@@ -70,7 +70,7 @@ module _ (p mid : Parts) (same : SameClauses p mid) (graph : mid.graph ≡ p.gra
     }
     rated_ok refs take (Err e) learnt = tt
 
--- the flags are again as they were
+-- `IsFree` is preserved if the flags are as before
 pub free_taken : (c c' : Search) → IsFree c → SameVarsAndAssumptions c c' → c'.analysis ≡ c.analysis → c'.flags.flags.items ≡ c.flags.flags.items → IsFree c'
 free_taken c c' f moved analysis flags = record {
   names = rw (moved.globals, moved.size) f.names;

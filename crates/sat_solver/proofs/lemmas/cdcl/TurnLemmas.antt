@@ -37,7 +37,7 @@ moved_refl c = record { globals = refl; lits = refl; size = refl }
 pub moved_trans : (a b c : Search) → SameVarsAndAssumptions a b → SameVarsAndAssumptions b c → SameVarsAndAssumptions a c
 moved_trans a b c x y = record { globals = y.globals ∙ x.globals; lits = y.lits ∙ x.lits; size = y.size ∙ x.size }
 
--- what is true, or may be picked, or is assumed, is of variables that have their solver names
+-- variables of true literals have their solver names
 none_some : {A : Type 0} (x : A) → None ≡ Some x → ⊥
 none_some x e = cc
 
@@ -50,7 +50,7 @@ ready_names s c r l t = elim (r.used (variable l) (below_from_value c.parts.assi
 pub leaves_refl : (s : Session) → SameAssumedAndNames s s
 leaves_refl s = record { assumed = refl; names = λ v. refl }
 
--- variables and assumptions are the same, and what was looked at of these stands
+-- `IsReadySearch` is preserved if variables, assumptions and names stay the same, and idle variables stay idle
 pub ready_moved : (s s' : Session) (c c' : Search) → IsReadySearch s c → SameAssumedAndNames s s' → SameVarsAndAssumptions c c' → GoneAndIdleStay (assumed_indices c) (state c.parts) c.parts.vsids (state c'.parts) c'.parts.vsids → ArePlaced c'.assumptions (state c'.parts) → IsFree c' → IsReadySearch s' c'
 ready_moved s s' c c' r leaves moved goes placed free = record {
   free = free;
@@ -63,7 +63,7 @@ ready_moved s s' c c' r leaves moved goes placed free = record {
   ];
 }
 
--- the flags and lists that analysis works with are the same, and so is the number of variables
+-- `IsFree` is preserved if the working lists of analysis and the number of variables are unchanged
 pub free_moved : (c c' : Search) → IsFree c → SameVarsAndAssumptions c c' → c'.analysis ≡ c.analysis → c'.flags ≡ c.flags → IsFree c'
 free_moved c c' f moved analysis flags = record {
   names = rw (moved.globals, moved.size) f.names;
@@ -75,7 +75,7 @@ free_moved c c' f moved analysis flags = record {
 
 -- PROPAGATION
 
--- all was propagated, and no clause is false
+-- everything was propagated without a conflict
 pub record Propagation (s : Session) (c d : Search) : Type 0 where
   pub whole : IsPropagated s d
   pub moved : SameVarsAndAssumptions c d
@@ -128,9 +128,9 @@ module _ (s : Session) (c c' : Search) (search : IsSearch s c) (globals : c'.glo
     word = word (assumed_indices c);
   }
 
--- A LEVEL BEGINS, OR NONE
+-- A NEW LEVEL, OR THE SEARCH STOPS
 
--- what is said of a later state after an earlier one
+-- the result of a turn also holds from an earlier state of the same level
 pub turned_from : (found : Option FoundConflict) (s : Session) (a b c : Search) → SameVarsAndAssumptions a b → TrailWordExtendsFor (assumed_indices a) a.parts b.parts → length b.parts.trail.starts ≡ length a.parts.trail.starts → TakesTurn found s b c → TakesTurn found s a c
 turned_from found s a b c moved word starts t = record {
   says = later found t.says;
@@ -178,7 +178,7 @@ module _ (s s' : Session) (c c' : Search) (mid : Parts) (propagated : IsPropagat
 
 -- A TURN
 
--- what was propagated, units that were written, and a level that began, or none
+-- a turn: propagation, then units are written, then a level begins or the search stops
 module _ {W L : Type 0} {G : Ghosts L} (seen : W → Writer) (p q : Proof W L G) (c d e : Search) (mid : Parts) (went : Propagation (session_of p) c d) (gs : List ℕ) (same : gs ≡ d.globals.items)
     (settles : EmitsSteps {A = Unit {0}} seen (Ok tt) p q (λ _ _. TakesUnitsOff d.parts mid (session_of q) (global_of_index gs))) (globals : e.globals ≡ d.globals) (analysis : e.analysis ≡ d.analysis) (flags : e.flags ≡ d.flags) where
   pub turned : (found : Option FoundConflict) → GoesDeeper found d.assumptions e.assumptions mid e.parts → TakesTurn found (session_of q) c e

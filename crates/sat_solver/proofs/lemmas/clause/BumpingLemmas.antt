@@ -1,4 +1,4 @@
--- Raised activities leave what is searched.
+-- Raising activities leaves the rest of the search unchanged.
 use Rattle.std.proofs.Common.{ℕ, zero, suc, ◌+◌, ◌<◌, ◌≤◌, ◌≡◌, List, [], ◌∷◌, ◌++◌, length, drop, get_or, refl, sym, ap, subst, arith}
 use Rattle.std.proofs.lemmas.List.{at_drop_more}
 use Rattle.sat_store.specs.heap.Vsids.{Queue, bumped}
@@ -33,7 +33,7 @@ bumped_same s c c' search globals assumptions analysis flags holds clauses state
       word = word;
     }
 
--- what a word is below of may go on
+-- a word stays lower when the higher one is extended
 below_more : (u v z : List Letter) → IsLowerWord u v → IsLowerWord u (v ++ z)
 below_more [] [] z h = absurd h
 below_more [] (y ∷ v) z h = tt
@@ -49,7 +49,7 @@ rises_on p q r x y = λ am. (
   λ w h. let v = (x am).1 w h in let u = (y am).1 v.0 v.1.0 in (u.0, (u.1.0, subst (λ z. IsLowerWord w z) (sym u.1.1.1) (below_more w v.0 u.1.1.0 v.1.1))),
 )
 
--- a learned clause stands when activities were raised
+-- what holds after learning a clause still holds after activities were raised
 pub learned_on : (earlier steps : List Step) (s : Session) (a b c : Search) → LearnsAndRises earlier steps s a b → BumpEffect s b c → LearnsAndRises earlier steps s a c
 learned_on earlier steps s a b c x y = record {
   search = y.search;

@@ -1,4 +1,4 @@
--- There is a flag for the level of each literal that an analysis gives.
+-- Every level of a learned clause's literals has a flag.
 use Rattle.std.proofs.Common.{ℕ, zero, suc, ◌+◌, ◌-◌, ◌*◌, ◌<◌, ◌≤◌, ◌≡◌, List, [], ◌∷◌, length, get_or, refl, sym, ap, subst, arith, inl, inr}
 use Rattle.std.proofs.lemmas.Bool.{cases_eq}
 use Rattle.sat_base.specs.values.Literals.{variable}
@@ -19,7 +19,7 @@ letters_counted : (starts ls : List ℕ) (at : ℕ) → length (letters starts l
 letters_counted starts [] at = refl
 letters_counted starts (l ∷ ls) at = ap suc (letters_counted starts ls (at + 1))
 
--- level k doesn't begin before place k
+-- `starts[k]` is at least k
 ladder : (s : State) → IsLevelled s → (k : ℕ) → k < length s.trail.starts → k ≤ get_or s.trail.starts k 0
 ladder s x zero b = omega arith
 ladder s x (suc k) b = omega (arith, ladder s x k (omega arith), x.strict k (suc k) (omega arith) b)
@@ -30,19 +30,19 @@ levels_few p n x le = elim (cases_eq (length p.trail.starts) 0) [
   | inr d ↦ omega (arith, ladder (state p) x (length p.trail.starts - 1) (omega arith), x.begun (length p.trail.starts - 1) (omega arith))
 ]
 
--- levels are no more than variables
+-- there are at most as many levels as variables
 pub starts_few : (p : Parts) → PartsInvariant p → length p.trail.starts ≤ length p.assignment.current
 starts_few p h =
     let fits : length (trail_letters p.trail) ≤ length p.assignment.current = word_fits [] (state p) p.vsids (trail_letters p.trail) h.below.asks.agrees (word_begins [] p) in
     levels_few p (length p.assignment.current) h.below.levelled (omega (arith, fits, letters_counted p.trail.starts p.trail.lits 0))
 
--- above a conflict, too
+-- the same when a clause is falsified
 starts_refuted : (p : Parts) (e : Conflict) → IsRefuted p e → length p.trail.starts ≤ length p.assignment.current
 starts_refuted p e refuted =
     let fits : length (trail_letters p.trail) ≤ length p.assignment.current = word_fits [] (state p) p.vsids (trail_letters p.trail) refuted.0.asks.agrees (word_begins [] p) in
     levels_few p (length p.assignment.current) refuted.0.levelled (omega (arith, fits, letters_counted p.trail.starts p.trail.lits 0))
 
--- there is a flag for a level up to the current one
+-- every level up to the current one has a flag
 pub levels_below : (p : Parts) (e : Conflict) (count : ℕ) → IsRefuted p e → 0 < length p.assignment.current → 2 * length p.assignment.current ≤ count → (level : ℕ) → level ≤ length p.trail.starts → level < count
 levels_below p e count refuted some le level low = omega (arith, starts_refuted p e refuted)
 

@@ -1,4 +1,4 @@
--- Headers of clauses that took part in an analysis.
+-- Headers of clauses that were involved in an analysis.
 use Rattle.std.proofs.Common.{ℕ, zero, suc, ◌+◌, ◌*◌, ◌<◌, ◌≤◌, ◌≡◌, ◌∙◌, inl, inr, Bool, true, false, cond, ltb, List, [], ◌∷◌, length, drop, get_or, refl, sym, ap, subst, arith, lt-ltb}
 use Rattle.std.proofs.lemmas.List.{drop_more}
 use Rattle.std.specs.List.{Contains}
@@ -16,7 +16,7 @@ use Rattle.sat_parts.specs.parts.Whole.{PartsInvariant}
 use Rattle.sat_parts.proofs.lemmas.parts.WordSteps.{extends_refl, extends_trans}
 use Rattle.sat_solver.specs.clause.Assessed.{with_glue, improved, levels_in, BumpsClause, DecaysActivities, BumpsClauses, ChangesOnlyHeaders, AreInvolved}
 
--- the header of a clause was put twice
+-- if the header of a clause is written twice, the second one remains
 pub puts_twice : (a b c refs : List ℕ) (o : ℕ) (h k : Header) → PutsHeader a b refs o h → PutsHeader b c refs o k → PutsHeader a c refs o k
 puts_twice a b c refs o h k x y = record {
   size = y.size ∙ x.size;
@@ -52,7 +52,7 @@ rates_trans p q r x y = record {
 
 -- LEVELS
 
--- each literal of a live clause has a node
+-- every literal of a live clause has a node
 pub clause_nodes : (p : Parts) (o : ℕ) → PartsInvariant p → Contains (live_refs p.clauses p.db.refs) o → HaveNodes p.graph (lits_at p.clauses o)
 clause_nodes p o h live k lt = (let b : lit_of p.clauses o k < 2 * length p.assignment.current = h.below.asks.clauses.below o k live lt in omega (arith, b, h.below.asks.agrees.nodes))
 
@@ -66,7 +66,7 @@ module _ (p q : Parts) (h : ChangesHeaders p q) (o : ℕ) (live : Contains (live
   pub levels_kept : levels_in q o ≡ levels_in p o
   levels_kept = rw (h.same.0.1, h.lits o live) (refl {a = levels_in p o})
 
--- what is asked of clauses that took part holds still, as headers change
+-- what bumping requires of involved clauses still holds after headers change
 pub involved_kept : (p q : Parts) (flags : List Bool) (os : List ℕ) → ChangesHeaders p q → AreInvolved p flags os → AreInvolved q flags os
 involved_kept p q flags os h x = record {
   live = λ o c. live_kept p q h o (x.live o c);
@@ -74,9 +74,9 @@ involved_kept p q flags os h x = record {
   clear = x.clear;
 }
 
--- ONE AFTER ANOTHER
+-- CLAUSES, ONE AFTER ANOTHER
 
--- one clause more took part, and the others are left
+-- one more involved clause was bumped, then the rest of the list
 pub takes_next : (levels : ℕ → ℕ) (refs os : List ℕ) (i o : ℕ) (words mid words' : List ℕ) (s t s' : Scale) → i < length os → o ≡ get_or os i 0 → BumpsClause (levels o) words mid refs o s t → BumpsClauses levels refs (drop (i + 1) os) mid t words' s' →
     BumpsClauses levels refs (drop i os) words s words' s'
 takes_next levels refs os i o words mid words' s t s' lt at one rest =
@@ -93,13 +93,13 @@ drop_all [] (suc n) le = refl
 drop_all (o ∷ os) zero le = absurd (omega arith)
 drop_all (o ∷ os) (suc n) le = drop_all os n (omega arith)
 
--- and when none is left, activities decay
+-- when no involved clause is left, activities decay
 pub takes_last : (levels : ℕ → ℕ) (refs os : List ℕ) (n : ℕ) (words words' : List ℕ) (s s' : Scale) → length os ≤ n → DecaysActivities words words' refs s s' → BumpsClauses levels refs (drop n os) words s words' s'
 takes_last levels refs os n words words' s s' le h = subst (λ ps. BumpsClauses levels refs ps words s words' s') (sym (drop_all os n le)) h
 
--- WHAT MAY BE IMPROVED
+-- IMPROVED GLUE
 
--- the header of a clause that was given, by no number of levels
+-- an irredundant clause gets the same header for every number of levels
 pub improved_given : (m n : ℕ) (h : Header) → is_learned h.tier ≡ false → improved m h ≡ improved n h
 improved_given m n h e =
     ap (λ b. cond (b && ltb m h.glue) (with_glue m (record h { active = true })) (record h { active = true })) e
@@ -108,7 +108,7 @@ improved_given m n h e =
 not_below : (k g : ℕ) → g ≤ k → ltb k g ≡ false
 not_below k g le = false_from_ne_true (ltb k g) (λ t. let lt = ltb-true k g t in absurd (omega arith))
 
--- levels past the glue improve no header
+-- counting levels beyond the glue does not change the improved header
 pub improved_limit : (m n : ℕ) (h : Header) → m ≡ min h.glue n → improved m h ≡ improved n h
 improved_limit m n h e = elim (cases_lt n h.glue) [
   | inl lt ↦ ap (λ k. improved k h) (let q : m ≡ n = omega arith in q)

@@ -1,4 +1,4 @@
--- The literals of the clauses that took part in an analysis are of levels that have flags.
+-- Every level of the literals of involved clauses has a flag.
 use Rattle.std.proofs.Common.{ℕ, zero, suc, ◌*◌, ◌<◌, ◌≤◌, ◌≡◌, ◌∙◌, Bool, List, [], ◌∷◌, length, get_or, sym, ap, subst, arith, inl, inr}
 use Rattle.std.proofs.lemmas.List.Elements.{Contains-append_cases}
 use Rattle.std.specs.List.{Contains}
@@ -67,7 +67,7 @@ module _ (words live : List ℕ) (implied : List (List ℕ)) (s : State) (agrees
       let e : 0 ≡ c.0 = omega (arith, c.1) in
       subst (λ z. AreLow z) (ap (λ k. get_or (q ∷ []) k 0) e ∙ at_place (q ∷ []) o c) (λ k b. negated_low (lit_of words q k) (true_from_false s.values (lit_of words q k) (h.1 k b)))
 
--- they are live ones, and there is a flag for each level of their literals
+-- involved clauses are live, and every level of their literals has a flag
 pub are_involved : (p : Parts) (e : Conflict) (w : Work) (back : ℕ) (flags : List Bool) → IsRefuted p e → Learns p.clauses (state p) (falsified p.clauses e) w back → IsResolution p.clauses (state p) e w →
     ((o : ℕ) → Contains w.involved o → Contains (live_refs p.clauses p.db.refs) o) → 2 * length p.assignment.current ≤ length flags → AreClear flags → AreInvolved p flags w.involved
 are_involved p e w back flags refuted learns r live le clear = record {

@@ -1,4 +1,4 @@
--- Reductions leave what is searched.
+-- Reductions leave the search unchanged except for its clauses.
 use Rattle.std.proofs.Common.{ℕ, ◌<◌, ◌≡◌, ◌≢◌, ◌∙◌, ◌==◌, ◌&&◌, Bool, true, false, List, length, map, get_or, refl, sym, ap, subst, arith}
 use Rattle.std.proofs.lemmas.Bool.{eqb-true}
 use Rattle.std.proofs.lemmas.List.Sorted.{IsPermutation-sym, Contains-permutation}
@@ -46,7 +46,7 @@ second_true : (a b : Bool) → (a && b) ≡ true → b ≡ true
 second_true true b e = e
 second_true false b e = absurd cc
 
--- clauses of tier Local are learned ones
+-- clauses of tier Local are learned
 pub locals_learned : (p : Parts) (list : List ℕ) → IsPermutation (filter (is_live_of p.clauses Local) p.db.refs) list →
     ((k : ℕ) → k < length list → Contains (live_refs p.clauses p.db.refs) (get_or list k 0)) → (k : ℕ) → k < length list → IsLearnedLong p (get_or list k 0)
 locals_learned p list perm live k lt =
@@ -58,7 +58,7 @@ locals_learned p list perm live k lt =
       learned = local_learned (header_at p.clauses (get_or list k 0)).tier (eqb-true (index_of (header_at p.clauses (get_or list k 0)).tier) (index_of Local) (second_true (is_live p.clauses (get_or list k 0)) (index_of (header_at p.clauses (get_or list k 0)).tier == index_of Local) both));
     }
 
--- WHAT IS SEARCHED
+-- THE REST OF THE SEARCH
 
 pub reduced_refl : (s : Session) (c : Search) → IsSearch s c → ReductionEffect s c c
 reduced_refl s c search = record { search = search; moved = moved_refl c; word = extends_refl c.parts (assumed_indices c) }
@@ -94,7 +94,7 @@ module _ (s : Session) (c c' : Search) (search : IsSearch s c) (globals : c'.glo
         word = word (assumed_indices c);
       }
 
-  -- clauses are at other places
+  -- clauses moved in the buffer
   pub reduced_copied : PartsInvariant c'.parts → MovesLongClauses c.parts c'.parts → TrailWordExtends c.parts c'.parts → ReductionEffect s c c'
   reduced_copied holds h word =
       let a = search.ready.placed in
@@ -106,7 +106,7 @@ module _ (s : Session) (c c' : Search) (search : IsSearch s c) (globals : c'.glo
         word = word (assumed_indices c);
       }
 
-  -- nothing was deleted
+  -- the clause is a reason, so nothing was deleted
   pub deleted_none : (o : ℕ) → IsReason c.parts o → c'.parts ≡ c.parts → DeletesIf false o s c c'
   deleted_none o reason parts =
       let size : SameSize c.parts c'.parts = ap (λ p. length p.assignment.current) parts in
@@ -126,11 +126,11 @@ module _ (s : Session) (c c' : Search) (search : IsSearch s c) (globals : c'.glo
     both =
         fits_dropped_redundant c.parts c'.parts s (global_in c) search.valid.fits search.valid.holds o learnt.live (lits_at c.parts.clauses o) (shuffled_eq (lits_at c.parts.clauses o) (lits_at c.parts.clauses o) refl) dropped learnt.learned
 
-    -- its step may be written
+    -- the clause may be deleted by a step
     pub deleted_may : (clause : List ℕ) → clause ≡ map (with_var (global_in c)) (lits_at c.parts.clauses o) → IsAllowedStep s (DeleteClause clause Redundant)
     deleted_may clause e = subst (λ (ls : List ℕ). IsAllowedStep s (DeleteClause ls Redundant)) (sym e) both.0
 
-    -- and leaves what is searched
+    -- deleting the clause leaves the rest of the search unchanged
     pub deleted_one : (s' : Session) (clause : List ℕ) → clause ≡ map (with_var (global_in c)) (lits_at c.parts.clauses o) → s' ≡ after (DeleteClause clause Redundant) s → PartsInvariant c'.parts → TrailWordExtends c.parts c'.parts →
         ((p : ℕ) → p ≢ o → Contains (live_refs c.parts.clauses c.parts.db.refs) p → Contains (live_refs c'.parts.clauses c'.parts.db.refs) p) → (IsReason c.parts o → ⊥) → DeletesIf true o s' c c'
     deleted_one s' clause e its holds word others free =

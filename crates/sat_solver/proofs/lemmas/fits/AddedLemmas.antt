@@ -1,4 +1,4 @@
--- Clauses of the formula come in: each case of loading a clause, at level 0.
+-- A clause of the formula is added to the session: every case of loading, at level 0.
 use Rattle.std.proofs.Common.{ℕ, ◌*◌, ◌<◌, ◌≤◌, ◌≡◌, ◌≢◌, true, false, ◌||◌, eqb, List, [], ◌∷◌, map, length, refl, sym, ◌∙◌, ap, subst, arith, inl, inr, Some}
 use Rattle.std.proofs.lemmas.Bool.{true≢false, false_from_ne_true}
 use Rattle.sat_base.specs.values.Literals.{variable, negated}
@@ -37,7 +37,7 @@ pub unit_true : (st : State) (l : ℕ) → StateIsConsistent st → IsUnitLit st
 unit_true st l agrees (inl r) = (r.holds, r.bottom)
 unit_true st l agrees (inr b) = (subst (λ m. IsTrueLit st.values m) b.there (agrees.holds b.place b.within), b.bottom)
 
--- and each such literal is one, where no clause of the trail makes any true
+-- a true literal of level 0 is a unit if no literal of level 0 has a clause as its reason
 pub true_unit : (st : State) (l : ℕ) → StateIsConsistent st → AreBare st → IsTrueLit st.values l → level st l ≡ 0 → IsUnitLit st l
 true_unit st l agrees bare t z = elim (agrees.known l t) [
   | inl b ↦
@@ -53,9 +53,9 @@ module _ (words live : List ℕ) (implied : List (List ℕ)) (st : State) (s : S
   its : FitsList all st s global
   its = listed words live implied st s global fits
 
-  -- A UNIT
+  -- A UNIT CLAUSE
 
-  -- one that is true at level 0
+  -- its literal is true at level 0
   pub fits_added_true : (l : ℕ) → s.solver_names (global (variable l)) ≡ Some (variable l) → IsTrueLit st.values l → level st l ≡ 0 → SessionMatches words live implied st (after (AddClause (with_var global l ∷ [])) s) global
   fits_added_true l own holds bottom =
       let w : ℕ = with_var global l in
@@ -77,7 +77,7 @@ module _ (words live : List ℕ) (implied : List (List ℕ)) (st : State) (s : S
       } in
       fits_listed words live implied st (after (AddClause (w ∷ [])) s) global (listed_by all st s global (w ∷ []) [] fits.consistent derived) fits.paired
 
-  -- one that is false by a unit: unsat is recorded
+  -- its literal is false by a unit, so unsat is recorded
   pub added_refutes : (l : ℕ) → s.solver_names (global (variable l)) ≡ Some (variable l) → IsUnitLit st (negated l) → (after (AddClause (with_var global l ∷ [])) s).unsat ≡ true
   added_refutes l own unit =
       let w : ℕ = with_var global l in
@@ -90,7 +90,7 @@ module _ (words live : List ℕ) (implied : List (List ℕ)) (st : State) (s : S
       ∙ ap (λ b. (session_if b known (session_if (s.units (negated w)) (record known { unsat = true }) (record known { units = λ m. eqb w m || s.units m }))).unsat) open_here
       ∙ ap (λ b. (session_if b (record known { unsat = true }) (record known { units = λ m. eqb w m || s.units m })).unsat) other
 
-  -- so it is where the clause is empty
+  -- the same for an empty clause
   pub added_empty : (after (AddClause []) s).unsat ≡ true
   added_empty = ap (λ b. (session_if b s (record (knowing_literals [] s) { unsat = true })).unsat) fits.consistent
 
@@ -110,17 +110,17 @@ module _ (words live : List ℕ) (implied : List (List ℕ)) (st : State) (s : S
       })
       (ap (λ (x : Session). x.solver_names) same) (λ r set. ap (λ (x : Session). x.live r set) same)) fits.paired
 
-  -- TWO LITERALS OR MORE: the step has them as ls, the parts store them as ms
+  -- TWO LITERALS OR MORE: in the order `ls` in the step, and `ms` in the parts
 
   module _ (ls ms : List ℕ) (order : IsReordering ls ms) (differ : AreDistinct ls) (names : AreMapped global s.solver_names ms) (two : 2 ≤ length ms) (taut : is_tautology ms ≡ false) where
     pub come : MayCome s.solver_names global ls ms
     come = record { order = order; mapped = names; once = once_shuffled ls ms order differ; long = omega arith; plain = taut_mapped global s.solver_names ms names taut }
 
-    -- a list of clauses that has it beside the others
+    -- the list of live clauses that also contains the new one matches
     pub listed_added : (new : List LiveClause) → InsertsClause all new (record { redundant = false; literals = ms }) → FitsList new st (after (AddClause (map (with_var global) ls)) s) global
     listed_added new i = listed_by new st s global (map (with_var global) ls) [] fits.consistent (listed_derived s global ls ms come st all new false i its [])
 
-    -- true by a unit: it comes in and goes at once, its literals in whatever order both times
+    -- a clause that contains a unit may be deleted at once, with its literals in any order
     pub satisfied_at_once : (ns : List ℕ) (l : ℕ) → IsReordering ns ms → is_among ns l ≡ true → IsUnitLit st l →
         IsAllowedStep (after (AddClause (map (with_var global) ls)) s) (DeleteClause (map (with_var global) ns) Satisfied)
         × SessionMatches words live implied st (after (DeleteClause (map (with_var global) ns) Satisfied) (after (AddClause (map (with_var global) ls)) s)) global
@@ -132,7 +132,7 @@ module _ (words live : List ℕ) (implied : List (List ℕ)) (st : State) (s : S
         let x = listed_satisfied t global st (c ∷ all) all false ns ms again i h refl (some_unit t global st (c ∷ all) all false ns ms again i h l there (h.known l unit)) in
         (x.0, fits_listed words live implied st (after (DeleteClause (map (with_var global) ns) Satisfied) t) global x.1 fits.paired)
 
--- a clause of two literals
+-- a binary clause
 pub fits_added_binary : (words live : List ℕ) (x : Binaries) (st : State) (s : Session) (global : ℕ → ℕ) → StateIsConsistent st → SessionMatches words live x.implied st s global →
     (ls : List ℕ) (a b : ℕ) → IsReordering ls (a ∷ b ∷ []) → AreDistinct ls → a < 2 * length st.values → b < 2 * length st.values → AreMapped global s.solver_names (a ∷ b ∷ []) → length x.implied ≡ 2 * length st.values → is_tautology ls ≡ false →
     SessionMatches words live (with_binary a b x).implied st (after (AddClause (map (with_var global) ls)) s) global
@@ -149,7 +149,7 @@ fits_added_binary words live x st s global agrees fits ls a b order differ small
     (solver_clauses (is_redundant words) words live (with_binary a b x).implied) came.inserted)
     (paired_binary x a b first second apart_ab fits.paired)
 
--- a long one
+-- a long clause
 pub fits_added_long_as : (words words' : List ℕ) (db db' : Db) (implied : List (List ℕ)) (st : State) (s : Session) (global : ℕ → ℕ) → StateIsConsistent st → SessionMatches words (live_refs words db.refs) implied st s global →
     (ls ms : List ℕ) (o : ℕ) (header : Header) → DbMatchesBuffer words db → AddsLongClause words db words' db' o header ms → is_learned header.tier ≡ false → IsReordering ls ms → AreDistinct ls → 3 ≤ length ms →
     AreMapped global s.solver_names ms → is_tautology ls ≡ false →

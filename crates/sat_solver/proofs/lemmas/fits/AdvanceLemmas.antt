@@ -1,4 +1,4 @@
--- What is learned advances in the session.
+-- A learned clause advances in the session.
 use Rattle.std.proofs.Common.{ℕ, ◌+◌, ◌<◌, ◌≤◌, ◌≡◌, Bool, true, false, ◌||◌, eqb, List, [], ◌∷◌, map, drop, length, length-drop, get_or, get_or-drop, refl, sym, ◌∙◌, ap, subst, arith, ◌⊎◌, inl, inr, Some}
 use Rattle.std.proofs.lemmas.Bool.{or_cases, eqb-true, cases_lt, true≢false, false_from_ne_true}
 use Rattle.std.proofs.lemmas.List.{length-map}
@@ -52,7 +52,7 @@ module _ (p : Parts) (e : Conflict) (w : Work) (back : ℕ) (s : Session) (globa
   false_named : (l : ℕ) → IsFalseLit p.assignment.current l → IsNamed l
   false_named l f = subst (λ v. s.solver_names (global v) ≡ Some v) (negated_variable l) (named_lits (negated l) (true_from_false p.assignment.current l f))
 
-  -- a live clause of the session as one of the search
+  -- the stored clause for a live clause of the session
   record Found (c : List ℕ) : Type 0 where
     literals : List ℕ
     stored : IsStored p.clauses (live_refs p.clauses p.db.refs) p.binary.implied literals
@@ -88,7 +88,7 @@ module _ (p : Parts) (e : Conflict) (w : Work) (back : ℕ) (s : Session) (globa
   name_of : (ls : List ℕ) (m : ℕ) → AreMapped global s.solver_names ls → is_among ls m ≡ true → IsNamed m
   name_of ls m a t = each IsNamed ls m a t
 
-  -- the others of the clause are false by what is low
+  -- all literals of the stored clause except q have low negations
   others : (c : List ℕ) (f : Found c) (holds : ℕ → Bool) (o q : ℕ) → LowIn holds → AllByRecursion (λ l. (l ≡ o) ⊎ (holds (negated l) ≡ true)) c → IsNamed q → with_var global q ≡ o → OthersLow (state p) back f.literals q
   others c f holds o q low a n is k lt =
       let m : ℕ = get_or f.literals k 0 in
@@ -139,7 +139,7 @@ module _ (p : Parts) (e : Conflict) (w : Work) (back : ℕ) (s : Session) (globa
   not_low : (l : ℕ) → level (state p) l ≡ level (state p) (get_or w.clause 0 0) → IsLow (state p) back l → ⊥
   not_low l e x = omega (arith, x.low, learns.below, learns.asserting.top)
 
-  -- the negation of another one, as a literal of the search
+  -- a proof literal that stands for a literal of the search
   record Denied (l : ℕ) : Type 0 where
     literal : ℕ
     named : IsNamed literal
@@ -158,7 +158,7 @@ module _ (p : Parts) (e : Conflict) (w : Work) (back : ℕ) (s : Session) (globa
         same = negated_mapped global y.0 ∙ ap negated y.1.1 ∙ x.1.1;
       }
 
-  -- it and its negation don't both hold
+  -- this literal and its negation aren't both assumed
   one_of : (l : ℕ) → Denied l → denied_in s (map (with_var global) (drop 1 w.clause)) l ≡ true → denied_in s (map (with_var global) (drop 1 w.clause)) (negated l) ≡ true → ⊥
   one_of l d t u =
       let q : ℕ = d.literal in
@@ -196,7 +196,7 @@ module _ (p : Parts) (e : Conflict) (w : Work) (back : ℕ) (s : Session) (globa
 pub learned_advances_in : LearnedAdvancesIn
 learned_advances_in p e w back s global picked reached refuted fits names learns h = advances p e w back s global refuted fits names learns picked reached h
 
--- the same of the clause as it is written
+-- the clause advances as it is written in the step
 pub learned_clause_advances : (p : Parts) (e : Conflict) (w : Work) (back : ℕ) (s : Session) (global : ℕ → ℕ) → AreConsistent s.units → IsRefuted p e → SessionMatchesParts p s global → TrueLitsHaveNames p.assignment.current s global → Learns p.clauses (state p) (falsified p.clauses e) w back → Advances s (map (with_var global) w.clause)
 learned_clause_advances p e w back s global consistent refuted fits names learns = record {
   some = subst (λ n. 0 < n) (sym (length-map w.clause (with_var global))) learns.asserting.some;

@@ -15,7 +15,7 @@ use Rattle.sat_solver.proofs.lemmas.fits.UsableLemmas.{among_place}
 use Rattle.sat_solver.proofs.lemmas.fits.ListedLemmas.{listed, fits_listed, listed_stays}
 use Rattle.sat_solver.proofs.lemmas.fits.SetLemmas.{part_mapped}
 
--- what these steps leave
+-- these steps leave clauses, units and solver names unchanged
 rests : (step : Step) (s : Session) → ChangesNoClause step → SameFacts s (after step s) × (((r : Bool) (set : List ℕ) → (after step s).live r set ≡ s.live r set) × ((after step s).solver_names ≡ s.solver_names))
 rests (UserVarName v (Some name)) s h = (record { names = λ w. refl; units = λ l. refl; unsat = refl; width = refl }, (λ r set. refl, refl))
 rests (UserVarName v None) s h = (record { names = λ w. refl; units = λ l. refl; unsat = refl; width = refl }, (λ r set. refl, refl))
@@ -34,11 +34,11 @@ module _ (st : State) (s : Session) (global : ℕ → ℕ) (step : Step) (quiet 
   fits_rests words live implied fits =
       fits_listed words live implied st (after step s) global (listed_rests (solver_clauses (is_redundant words) words live implied) (listed words live implied st s global fits)) fits.paired
 
--- what is assumed, in proof variables
+-- a part of the assumptions of the search is, over proof variables, a part of the session's
 pub assumed_part : (s : Session) (global : ℕ → ℕ) (core assumed : List ℕ) → s.assumed ≡ map (with_var global) assumed → is_part core assumed ≡ true → is_part (map (with_var global) core) s.assumed ≡ true
 assumed_part s global core assumed e p = ap (is_part (map (with_var global) core)) e ∙ part_mapped (with_var global) core assumed p
 
--- each of these literals is one of those
+-- a list is a part of another if that one contains all its literals
 pub part_from : (core ls : List ℕ) → ((k : ℕ) → k < length core → Contains ls (get_or core k 0)) → is_part core ls ≡ true
 part_from core ls h = all_true (is_among ls) core (λ l t.
     let p = among_place core l t in

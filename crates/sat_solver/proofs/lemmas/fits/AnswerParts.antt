@@ -1,4 +1,4 @@
--- The struct of parts, as names, modes, assumptions and answers are written.
+-- Names, modes, assumptions and answers are written for the struct of parts.
 use Rattle.std.proofs.Common.{ℕ, ◌<◌, ◌≡◌, true, List, [], ◌∷◌, ◌++◌, map, length, get_or}
 use Rattle.sat_base.specs.values.Hashes.{hash_of}
 use Rattle.sat_base.specs.steps.Steps.{Step, FailedAssumptions}
@@ -26,13 +26,14 @@ module _ (p : Parts) (s : Session) (global : ℕ → ℕ) (fits : SessionMatches
   parts_rests step quiet = fits_rests (state p) s global step quiet p.clauses live p.binary.implied fits
 
   module _ (holds : PartsInvariant p) where
-    -- a core that clauses refute: those of the used literals, the last of which is falsified where the core is true
+    -- a core may be written if the reasons of the used literals are unit in turn under it, and the last one is
+    -- falsified
     pub parts_core_may : (core used assumed : List ℕ) → s.assumed ≡ map (with_var global) assumed → is_part core assumed ≡ true → ((k : ℕ) → k < length used → IsReasoned (state p) 0 (get_or used k 0)) →
         ((units : List ℕ) → AreLevelZeroLits (state p) units → UnitInTurn (core ++ units) (map (clause_of p.clauses (state p)) used)) →
         IsAllowedStep s (FailedAssumptions (map (with_var global) core) (map (λ l. hash_of (clause_of p.clauses (state p) l)) used))
     parts_core_may = core_may p.clauses live p.binary.implied (state p) s global fits holds.below.asks.agrees holds.below.asks.clauses holds.units holds.below.turns
 
-    -- an assumption that is false at level 0
+    -- an assumption that is false at level 0 is a core by itself
     pub parts_bottom_may : (failed : ℕ) (assumed hashes : List ℕ) → s.assumed ≡ map (with_var global) assumed → is_among assumed failed ≡ true → IsFalseLit p.assignment.current failed → level (state p) failed ≡ 0 →
         IsAllowedStep s (FailedAssumptions (with_var global failed ∷ []) hashes)
     parts_bottom_may = core_bottom_may p.clauses live p.binary.implied (state p) s global fits holds.below.asks.agrees holds.below.asks.clauses holds.units holds.below.turns

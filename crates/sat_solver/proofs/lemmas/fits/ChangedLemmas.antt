@@ -18,7 +18,7 @@ use Rattle.sat_solver.proofs.lemmas.trail.InsertedLemmas.{inserted_after, insert
 use Rattle.sat_solver.specs.session.Fits.{is_redundant}
 use Rattle.sat_solver.proofs.lemmas.fits.FitLemmas.{longs_same}
 
--- live clauses stand once in their list
+-- the list of live clauses has every reference once, in rising order
 rising_cons : (x : ℕ) (xs : List ℕ) → ((p : ℕ) → Contains xs p → x < p) → AreRising xs → AreRising (x ∷ xs)
 rising_cons x xs above h zero zero a b = absurd (omega arith)
 rising_cons x xs above h zero (suc k) a b = above (get_or xs k 0) (place_in xs k (omega arith))
@@ -43,7 +43,7 @@ module _ (words words' : List ℕ) (db db' : Db) (implied : List (List ℕ)) whe
   abbrev live' : List ℕ
   live' = live_refs words' db'.refs
 
-  -- a long clause that came
+  -- adding a long clause inserts it into the list
   pub added_there : (o : ℕ) (header : Header) (ls : List ℕ) (r : Bool) → DbMatchesBuffer words db → AddsLongClause words db words' db' o header ls → is_learned header.tier ≡ r →
       InsertsClause (solver_clauses (is_redundant words) words live implied) (solver_clauses (is_redundant words') words' live' implied) (record { redundant = r; literals = ls })
   added_there o header ls r held adds side =
@@ -58,7 +58,7 @@ module _ (words words' : List ℕ) (db db' : Db) (implied : List (List ℕ)) whe
       (subst (λ os. InsertsClause (longs (is_redundant words') words' live) (longs (is_redundant words') words' os) new) (sym adds.live)
       (subst (λ d. InsertsClause (longs (is_redundant words') words' live) (longs (is_redundant words') words' (live ++ o ∷ [])) d) same (long_comes (is_redundant words') words' live o))))
 
-  -- and one that went
+  -- deleting a long clause removes it from the list
   pub deleted_there : (o : ℕ) → DbMatchesBuffer words db → Contains live o → DeletesClause words db words' db' o →
       InsertsClause (solver_clauses (is_redundant words') words' live' implied) (solver_clauses (is_redundant words) words live implied) (record { redundant = is_redundant words o; literals = lits_at words o })
   deleted_there o held there d =
@@ -71,7 +71,7 @@ module _ (words words' : List ℕ) (db db' : Db) (implied : List (List ℕ)) whe
       (subst (λ os. InsertsClause (longs (is_redundant words') words' os) (longs (is_redundant words) words live) c) (sym d.live)
       (subst (λ ds. InsertsClause ds (longs (is_redundant words) words live) c) (sym its) (long_goes (is_redundant words) words live o (live_distinct words db held) there)))
 
--- a clause of two literals that came, the lower one first
+-- a binary clause was inserted, with its literals in either order
 pub record CameTwo (old new : List LiveClause) (a b : ℕ) : Type 0 where
   pub lits : List ℕ
   pub order : IsReordering (a ∷ b ∷ []) lits

@@ -9,13 +9,13 @@ use Rattle.sat_solver.specs.session.LiveClauses.{with_var}
 use Rattle.sat_solver.specs.session.TrailEntries.{reason_clause}
 use Rattle.sat_solver.specs.session.TrailUnits.{written_units}
 
--- a list that is written item by item
+-- one more item of a list is mapped
 pub map_next : (f : ℕ → ℕ) (i : ℕ) (items xs : List ℕ) → i < length xs → (items ++ f (get_or xs i 0) ∷ []) ++ map f (drop (i + 1) xs) ≡ items ++ map f (drop i xs)
 map_next f i items xs n =
     let e : i + 1 ≡ suc i = omega arith in
     rw (e, drop-cons xs i 0 n) (append_assoc items (f (get_or xs i 0) ∷ []) (map f (drop (suc i) xs)))
 
--- a literal of this variable and sign
+-- the literal of this proof variable with the same sign
 pub coded_by : (global : ℕ → ℕ) (l : ℕ) → coded (global (variable l)) (is_positive l) ≡ with_var global l
 coded_by global l = elim (cases_eq (l % 2) 0) [
   | inl e ↦ ap (λ b. 2 * global (variable l) + cond b 0 1) (ap (λ r. eqb r 0) e) ∙ ap (λ r. 2 * global (variable l) + r) (sym e)

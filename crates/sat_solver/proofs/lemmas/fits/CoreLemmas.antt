@@ -1,4 +1,4 @@
--- A core of assumptions that fail may be written.
+-- A core of failed assumptions may be written.
 use Rattle.std.proofs.Common.{ℕ, suc, ◌<◌, ◌≡◌, Bool, true, false, ◌||◌, List, [], ◌∷◌, ◌++◌, map, length, get_or, refl, sym, ◌∙◌, ap, subst, arith, inl, inr, eqb}
 use Rattle.std.proofs.lemmas.Bool.{or_cases, or_left, or_right, eq-eqb}
 use Rattle.sat_base.specs.values.Literals.{negated}
@@ -37,7 +37,7 @@ hashes_of f (l ∷ ls) = ap (λ hs. hash_of (f l) ∷ hs) (hashes_of f ls)
 one_part : (l : ℕ) (ls : List ℕ) → is_among ls l ≡ true → is_part (l ∷ []) ls ≡ true
 one_part l ls t = rw t refl
 
--- by the clauses of used literals, the last of which is falsified where the core is true
+-- the reasons of the used literals refute the core: they are unit in turn under it, and the last one is falsified
 module _ (words live : List ℕ) (implied : List (List ℕ)) (st : State) (s : Session) (global : ℕ → ℕ) (fits : SessionMatches words live implied st s global) (agrees : StateIsConsistent st) (clauses : AreClauses words live (length st.values)) (bare : AreBare st) (turns : AreUnitInTurn words live implied st 0) where
   all_usable : (used : List ℕ) → ((k : ℕ) → k < length used → IsReasoned st 0 (get_or used k 0)) → AllUsable s global (map (clause_of words st) used)
   all_usable [] r = tt
@@ -68,7 +68,7 @@ module _ (words live : List ℕ) (implied : List (List ℕ)) (st : State) (s : S
       IsAllowedStep s (FailedAssumptions (map (with_var global) core) (map (λ l. hash_of (clause_of words st l)) used))
   core_may core used assumed e within reasons acceptable = (assumed_part s global core assumed e within, by_derivation (core_derives core used reasons acceptable))
 
-  -- an assumption that is false at level 0 fails alone
+  -- an assumption that is false at level 0 is a core by itself
   pub core_bottom_may : (failed : ℕ) (assumed hashes : List ℕ) → s.assumed ≡ map (with_var global) assumed → is_among assumed failed ≡ true → IsFalseLit st.values failed → level st failed ≡ 0 →
       IsAllowedStep s (FailedAssumptions (with_var global failed ∷ []) hashes)
   core_bottom_may failed assumed hashes e among fails low =
@@ -78,7 +78,7 @@ module _ (words live : List ℕ) (implied : List (List ℕ)) (st : State) (s : S
         by_derivation (by_unit (or_left (s.units (negated (with_var global failed))) false (subst (λ l. s.units l ≡ true) (negated_mapped global failed) u))),
       )
 
--- both signs of a variable among the assumptions fail by themselves
+-- assumptions with both signs of a variable are a core without any clause
 pub core_signs_may : (s : Session) (global : ℕ → ℕ) (core assumed hashes : List ℕ) → s.assumed ≡ map (with_var global) assumed → is_part core assumed ≡ true → is_tautology core ≡ true →
     IsAllowedStep s (FailedAssumptions (map (with_var global) core) hashes)
 core_signs_may s global core assumed hashes e within taut =
@@ -89,7 +89,7 @@ core_signs_may s global core assumed hashes e within taut =
     among_mapped negated ks (negated (with_var global b.literal)) (subst (λ m. is_among ks m ≡ true) (negated_mapped global b.literal) (among_mapped (with_var global) core (negated b.literal) b.negation)) in
     (assumed_part s global core assumed e within, by_signs (tautology_from (map negated ks) (negated (with_var global b.literal)) first second))
 
--- an assumption and its negation
+-- an assumption and its negation are a core
 pub core_pair_may : (s : Session) (global : ℕ → ℕ) (failed : ℕ) (assumed hashes : List ℕ) → s.assumed ≡ map (with_var global) assumed → is_part (failed ∷ negated failed ∷ []) assumed ≡ true →
     IsAllowedStep s (FailedAssumptions (map (with_var global) (failed ∷ negated failed ∷ [])) hashes)
 core_pair_may s global failed assumed hashes e within =

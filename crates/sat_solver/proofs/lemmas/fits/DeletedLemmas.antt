@@ -1,4 +1,4 @@
--- Long clauses go: redundant ones, and those with a true literal of level 0.
+-- Long clauses are deleted: redundant ones, and those with a true literal of level 0.
 use Rattle.std.proofs.Common.{ℕ, ◌≡◌, true, false, List, map}
 use Rattle.std.specs.List.{Contains}
 use Rattle.sat_base.specs.steps.Steps.{DeleteClause, Redundant, Satisfied}
@@ -16,7 +16,7 @@ use Rattle.sat_solver.specs.session.Listed.{FitsList}
 use Rattle.sat_solver.proofs.lemmas.fits.ListedLemmas.{listed, fits_listed, listed_redundant, listed_satisfied, some_unit}
 use Rattle.sat_solver.proofs.lemmas.fits.ChangedLemmas.{deleted_there}
 
--- the step has the literals ls, those of the clause in whatever order
+-- the step has the literals of the clause in some order, `ls`
 module _ (words words' : List ℕ) (db db' : Db) (implied : List (List ℕ)) (st : State) (s : Session) (global : ℕ → ℕ) (fits : SessionMatches words (live_refs words db.refs) implied st s global) (held : DbMatchesBuffer words db) (o : ℕ) (there : Contains (live_refs words db.refs) o) (gone : DeletesClause words db words' db' o) (ls : List ℕ) (order : IsReordering ls (lits_at words o)) where
   abbrev old : List LiveClause
   old = solver_clauses (is_redundant words) words (live_refs words db.refs) implied

@@ -1,4 +1,4 @@
--- An assumption that fails: its core may be written, whatever the reason.
+-- The core of a failed assumption may be written, for every kind of failure.
 use Rattle.std.proofs.Common.{ℕ, zero, suc, ◌<◌, ◌≡◌, List, [], ◌∷◌, map, length, get_or, sym, ◌∙◌, ap, subst, arith, inl, inr}
 use Rattle.std.proofs.lemmas.Bool.{cases_eq}
 use Rattle.std.specs.List.{Contains}
@@ -21,7 +21,7 @@ use Rattle.sat_solver.proofs.lemmas.fits.AnswerLemmas.{part_from}
 use Rattle.sat_solver.proofs.lemmas.fits.AnswerParts.{parts_core_may, parts_bottom_may}
 use Rattle.sat_solver.proofs.lemmas.fits.CoreLemmas.{core_pair_may}
 
--- what was chosen is assumed, where nothing else was decided
+-- if only assumptions were decided, every decision is an assumption
 chosen_assumed : (st : State) (assumed : List ℕ) (at l : ℕ) → AreDecided assumed st → IsChosen st at l → Contains assumed l
 chosen_assumed st assumed at l decided c = subst (λ m. Contains assumed m) c.there (decided c.place c.within (rw c.there c.above) (rw c.there c.free))
 

@@ -1,4 +1,4 @@
--- Sessions fit on as the parts take their steps.
+-- Parts and session still match after the parts change.
 use Rattle.std.proofs.Common.{ℕ, zero, suc, ◌+◌, ◌<◌, ◌≡◌, ◌≢◌, Bool, true, false, ◌||◌, eqb, List, [], ◌∷◌, ◌++◌, map, length, get_or, refl, sym, ◌∙◌, ap, subst, arith, ◌⊎◌, inl, inr, Option, Some, None, length-set, ◌&&◌}
 use Rattle.std.proofs.lemmas.Bool.{or_cases, or_left, or_right, eqb-true, eq-eqb, true≢false, false_from_ne_true, or_from, or_parts, cases_lt}
 use Rattle.std.proofs.lemmas.List.{length_push}
@@ -35,7 +35,7 @@ use Rattle.sat_solver.specs.session.Fits.{ArePaired, is_redundant, SessionMatche
 use Rattle.sat_solver.proofs.lemmas.fits.UsableLemmas.{among_place, once_distinct}
 use Rattle.sat_solver.proofs.lemmas.trail.ClauseLemmas.{in_after, long_there}
 
--- WHERE NO UNIT IS NEW
+-- NO NEW UNITS
 
 pub fits_carried : (words live : List ℕ) (implied : List (List ℕ)) (st st' : State) (s : Session) (global : ℕ → ℕ) → AddsNoUnit st st' → SessionMatches words live implied st s global → SessionMatches words live implied st' s global
 fits_carried words live implied st st' s global c h = record {
@@ -71,7 +71,7 @@ among_shuffled f ls ms forth y t =
     let p = among_back f ls y t in
     subst (λ z. is_among (map f ms) z ≡ true) p.1.1 (among_mapped f ms p.0 (forth p.0 p.1.0))
 
--- the sorted set is the same
+-- the sorted set does not depend on the order of the literals
 pub canonical_shuffled : (f : ℕ → ℕ) (ls ms : List ℕ) → IsReordering ls ms → canonical (map f ls) ≡ canonical (map f ms)
 canonical_shuffled f ls ms h =
     let forth : (m : ℕ) → is_among ls m ≡ true → is_among ms m ≡ true = λ m t.
@@ -83,7 +83,7 @@ canonical_shuffled f ls ms h =
     same_increasing (canonical (map f ls)) (canonical (map f ms)) (canonical_increasing (map f ls)) (canonical_increasing (map f ms))
     (λ y. canonical_among (map f ls) y ∙ both_true (is_among (map f ls) y) (is_among (map f ms) y) (among_shuffled f ls ms forth y) (among_shuffled f ms ls back y) ∙ sym (canonical_among (map f ms) y))
 
--- a clause of the list of long ones is that of a reference
+-- a clause in the list of long ones has a reference
 pub record IsLongOf (r : ℕ → Bool) (words os : List ℕ) (c : LiveClause) : Type 0 where
   pub place : ℕ
   pub there : Contains os place
@@ -122,13 +122,13 @@ counts_kept global a b words words' (o ∷ os) r set h =
     ∙ ap (λ ks. more_if (same_side (b o) r && same_literals ks set) (live_count_of (map (mapped global) (longs a words os)) r set)) (canonical_shuffled (with_var global) (lits_at words o) (lits_at words' o) x.1)
     ∙ ap (more_if (same_side (b o) r && same_literals (canonical (map (with_var global) (lits_at words' o))) set)) rest
 
--- a literal of a clause has its solver name
+-- every literal of a clause has its solver name
 pub mapped_at : (global : ℕ → ℕ) (names : ℕ → Option ℕ) (ls : List ℕ) (k : ℕ) → AreMapped global names ls → k < length ls → names (global (variable (get_or ls k 0))) ≡ Some (variable (get_or ls k 0))
 mapped_at global names [] k h lt = absurd (omega arith)
 mapped_at global names (l ∷ ls) zero h lt = h.0
 mapped_at global names (l ∷ ls) (suc k) h lt = mapped_at global names ls k h.1 (omega arith)
 
--- in whatever order
+-- the same in any order
 pub mapped_shuffled : (global : ℕ → ℕ) (names : ℕ → Option ℕ) (ls ms : List ℕ) → IsReordering ls ms → AreMapped global names ls → AreMapped global names ms
 mapped_shuffled global names ls ms order h = all_at (λ l. names (global (variable l)) ≡ Some (variable l)) ms (λ k lt.
     let j = order.back k (omega (arith, order.size)) in
@@ -167,7 +167,7 @@ fits_reordered words words' live implied st s global clauses kept h = record {
   width = h.width;
 }
 
--- A CLAUSE OF TWO LITERALS
+-- A BINARY CLAUSE
 
 pub paired_binary : (x : Binaries) (a b : ℕ) → negated a < length x.implied → negated b < length x.implied → a ≢ b → ArePaired x.implied → ArePaired (with_binary a b x).implied
 paired_binary x a b first second differ h =
@@ -192,9 +192,9 @@ paired_binary x a b first second differ h =
       apart = λ l n c e. apart (negated l) c.0 c.1 (negated_twice l ∙ e ∙ sym (at_place (implied_by new (negated l)) n c));
     }
 
--- A CLAUSE THAT IS LEARNED
+-- A LEARNED CLAUSE
 
--- the units where a literal more is enqueued
+-- enqueuing a literal adds no unit except this literal, if no clause is its reason
 pub units_enqueued : (s : State) (l : ℕ) (r : Reason) → StateIsConsistent s → IsOpenLit s.values l → variable l < length s.values → (m : ℕ) → IsUnitLit (enqueued l r s) m → IsUnitLit s m ⊎ ((m ≡ l) × (is_unit_reason r ≡ true))
 units_enqueued s l r a free below m (inl x) = inl (inl ((grows_enqueued s l r a free below (room_for s l r a free below)).removed m x))
 units_enqueued s l r a free below m (inr b) =
@@ -237,7 +237,7 @@ fact_unsat l s n = go (s.units l) (s.units (negated l)) n
     go false false e = refl
 
 module _ (words live : List ℕ) (implied : List (List ℕ)) (st : State) (s : Session) (global : ℕ → ℕ) (agrees : StateIsConsistent st) (fits : SessionMatches words live implied st s global) where
-  -- a unit, at level 0
+  -- a learned unit, at level 0
   pub fits_unit : (l : ℕ) (r : Reason) (flag : Bool) (hashes : List ℕ) → s.solver_names (global (variable l)) ≡ Some (variable l) → IsOpenLit st.values l → variable l < length st.values → st.trail.starts ≡ [] →
       SessionMatches words live implied (enqueued l r st) (after (AtClause flag (with_var global l ∷ []) hashes) s) global
   fits_unit l r flag hashes its free below bottom =
@@ -267,7 +267,7 @@ module _ (words live : List ℕ) (implied : List (List ℕ)) (st : State) (s : S
         width = fact_width known (with_var global l) ∙ fits.width;
       }
 
-  -- a longer one, where the clauses came to be these
+  -- a longer learned clause, if the list of clauses is as the step says
   pub fits_long_by : (words' live' : List ℕ) (implied' : List (List ℕ)) (l : ℕ) (r : Reason) (flag : Bool) (c hashes : List ℕ) → IsOpenLit st.values l → variable l < length st.values → is_unit_reason r ≡ false →
       NoRepeats c → 1 < length c → is_tautology c ≡ false → ArePaired implied' → AreOf (after (AtClause flag c hashes) s) global (solver_clauses (is_redundant words') words' live' implied') →
       SessionMatches words' live' implied' (enqueued l r st) (after (AtClause flag c hashes) s) global
@@ -289,7 +289,7 @@ module _ (words live : List ℕ) (implied : List (List ℕ)) (st : State) (s : S
         width = ap (λ (x : Session). x.width) same ∙ fits.width;
       }
 
--- no two of them are negations of each other
+-- if no two literals are negations of each other, the clause is no tautology
 pub no_signs : (values : List (Option Bool)) (ls : List ℕ) → ((j k : ℕ) → j < length ls → k < length ls → get_or ls k 0 ≢ negated (get_or ls j 0)) → is_tautology ls ≡ false
 no_signs values [] h = refl
 no_signs values (l ∷ ls) h =

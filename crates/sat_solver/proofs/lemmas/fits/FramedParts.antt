@@ -1,4 +1,4 @@
--- The struct of parts fits on by what the rest of a solver sees of a step.
+-- Parts and session still match after changes, as the rest of the solver sees them.
 use Rattle.std.proofs.Common.{ℕ, ◌*◌, ◌<◌, ◌≤◌, ◌≡◌, true, false, List, [], ◌∷◌, ◌++◌, map, take, length, get_or, refl, sym, ◌∙◌, ap, subst, arith, Some, None}
 use Rattle.std.specs.List.{Contains}
 use Rattle.sat_base.specs.values.Literals.{negated}
@@ -37,13 +37,13 @@ use Rattle.sat_solver.proofs.lemmas.fits.ListedLemmas.{listed, fits_listed}
 abbrev clauses_of : Parts → List LiveClause
 clauses_of p = solver_clauses (is_redundant p.clauses) p.clauses (live_refs p.clauses p.db.refs) p.binary.implied
 
--- two steps, and what fits after them
+-- two steps that may be written one after the other, after which parts and session match
 pub record BothParts (p p' : Parts) (s : Session) (global : ℕ → ℕ) (first second : Step) : Type 0 where
   pub derive : IsAllowedStep s first
   pub delete : IsAllowedStep (after first s) second
   pub fits : SessionMatchesParts p' (after second (after first s)) global
 
--- at level 0 what is true is a unit
+-- at level 0 every true literal is a unit
 pub bottom_unit : (p : Parts) (l : ℕ) → PartsInvariant p → p.trail.starts ≡ [] → IsTrueLit p.assignment.current l → IsUnitLit (state p) l
 bottom_unit p l holds bottom t =
     let agrees : StateIsConsistent (state p) = holds.below.asks.agrees in
@@ -60,14 +60,14 @@ module _ (p p' : Parts) (s : Session) (global : ℕ → ℕ) (fits : SessionMatc
   abbrev live' : List ℕ
   live' = live_refs p'.clauses p'.db.refs
 
-  -- headers of the same side
+  -- headers changed, but not which clauses are redundant
   pub fits_headed : ChangesHeaders p p' → SessionMatchesParts p' s global
   fits_headed h =
       rw (same_state p p' h.same.0, h.same.1)
       (fits_longs p.clauses p'.clauses live live' p.binary.implied (state p) s global
       (ap (longs (is_redundant p'.clauses) p'.clauses) h.live ∙ longs_same (is_redundant p.clauses) (is_redundant p'.clauses) p.clauses p'.clauses live (λ o c. (h.sides o c, h.lits o c))) fits)
 
-  -- other places
+  -- long clauses moved in the buffer
   pub fits_copied : MovesLongClauses p p' → SessionMatchesParts p' s global
   fits_copied h =
       rw h.binary
@@ -75,7 +75,7 @@ module _ (p p' : Parts) (s : Session) (global : ℕ → ℕ) (fits : SessionMatc
       (fits_longs p.clauses p'.clauses live live' p.binary.implied (state p) s global (longs_copied p.clauses live p'.clauses live' h.copies) fits))
 
   module _ (holds : PartsInvariant p) (o : ℕ) (there : Contains live o) (ls : List ℕ) (order : IsReordering ls (lits_at p.clauses o)) where
-    -- a long clause goes
+    -- a long clause is deleted
     pub fits_dropped_redundant : DropsLongClause p p' o → is_redundant p.clauses o ≡ true →
         IsAllowedStep s (DeleteClause (map (with_var global) ls) Redundant) × SessionMatchesParts p' (after (DeleteClause (map (with_var global) ls) Redundant) s) global
     fits_dropped_redundant d side = rw (same_state p p' d.same.0, d.same.1) (fits_deleted_redundant p.clauses p'.clauses p.db p'.db p.binary.implied (state p) s global fits holds.below.held o there d.deletes ls order side)
@@ -84,7 +84,7 @@ module _ (p p' : Parts) (s : Session) (global : ℕ → ℕ) (fits : SessionMatc
         IsAllowedStep s (DeleteClause (map (with_var global) ls) Satisfied) × SessionMatchesParts p' (after (DeleteClause (map (with_var global) ls) Satisfied) s) global
     fits_dropped_satisfied d side l t unit = rw (same_state p p' d.same.0, d.same.1) (fits_deleted_satisfied p.clauses p'.clauses p.db p'.db p.binary.implied (state p) s global fits holds.below.held o there d.deletes ls order side l t unit)
 
-    -- a part of it takes its place, named by the hash of its literals in the order hs
+    -- a part of the clause replaces it; the hash is that of its literals in the order `hs`
     module _ (plain : ArePlain s) (part hs : List ℕ) (hash : ℕ) (hash_order : IsReordering hs (lits_at p.clauses o)) (hash_distinct : AreDistinct hs) (its : hash ≡ hash_of hs) where
       module _ (len : ℕ) (short : ShortensLongClause p p' o len) (long : 3 ≤ len) (fewer : len < size_of p.clauses o) (false_by : (k : ℕ) → len ≤ k → k < size_of p.clauses o → IsUnitLit (state p) (negated (lit_of p.clauses o k))) (part_order : IsReordering part (take len (lits_at p.clauses o))) where
         pub fits_short : is_redundant p.clauses o ≡ false → BothParts p p' s global (AtClause false (map (with_var global) part) (hash ∷ [])) (DeleteClause (map (with_var global) ls) Simplified)
@@ -97,7 +97,7 @@ module _ (p p' : Parts) (s : Session) (global : ℕ → ℕ) (fits : SessionMatc
             let x = fits_shortened_redundant p.clauses p'.clauses p.db p.binary.implied (state p) s global holds.below.asks.agrees fits holds.below.held holds.below.asks.clauses plain o len there short.shortens long fewer false_by ls part order part_order hs hash_order hash_distinct hash its side in
             record { derive = x.derive; delete = x.delete; fits = rw (same_state p p' short.same.0, short.same.1, short.db) x.fits }
 
-      -- the part has two literals: it is stored, and then the clause goes
+      -- the part has two literals: it is stored, then the clause is deleted
       module _ (pm : Parts) (two : length part ≡ 2) (stores : AddsOriginalClause p pm part) (drops : DropsLongClause pm p' o) (are : AreTwo (state p) (lits_at p.clauses o) (get_or part 0 0) (get_or part 1 0)) where
         abbrev a : ℕ
         a = get_or part 0 0
@@ -135,11 +135,11 @@ module _ (p p' : Parts) (s : Session) (global : ℕ → ℕ) (fits : SessionMatc
             let t : Session = after (DeleteClause (map (with_var global) ls) Redundant) (after (AtClause false (map (with_var global) part) (hash ∷ [])) s) in
             record { derive = x.derive; delete = x.delete; fits = rw m.pairs (fits_carried p'.clauses live' (with_binary a b p.binary).implied (state p) (state p') t global m.carries x.fits) }
 
--- the clauses of two literals that went with their steps
+-- binary clauses were removed, after their steps
 pub fits_removed : (p p' : Parts) (s : Session) (global : ℕ → ℕ) → PartsInvariant p → ArePaired p.binary.implied → p.trail.starts ≡ [] → p.trail.lits ≡ [] → LeftParts p s global (length p.binary.implied) 0 → RemovesBinaries p p' → SessionMatchesParts p' s global
 fits_removed p p' s global holds paired bottom empty h r = parts_removal_ends p global holds paired bottom empty p' s h r.removes r.clauses r.db (same_state p p' r.state)
 
--- more variables
+-- variables were added
 pub fits_grown : (p p' : Parts) (count : ℕ) (s : Session) (global : ℕ → ℕ) → PartsInvariant p → length p.assignment.current ≤ count → AddsVars p p' count → SessionMatchesParts p s global → SessionMatchesParts p' s global
 fits_grown p p' count s global holds more g h =
     let room : length p.binary.implied ≡ 2 * length p.assignment.current = holds.below.asks.ranges.room in
@@ -156,7 +156,7 @@ fits_grown p p' count s global holds more g h =
       width = h.width;
     }
 
--- a variable that no clause has loses its name and its value
+-- a variable in no clause loses its solver name and its value
 pub fits_freed : (p p' : Parts) (s : Session) (global : ℕ → ℕ) (w x : ℕ) → SessionMatchesParts p s global → FreesVar p p' x → IsUnused p.clauses (live_refs p.clauses p.db.refs) p.binary.implied x → s.solver_names w ≡ Some x → global x ≡ w →
     SessionMatchesParts p' (after (SolverVarName w None) s) global
 fits_freed p p' s global w x fits f unused its there =

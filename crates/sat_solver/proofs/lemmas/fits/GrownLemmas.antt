@@ -1,4 +1,4 @@
--- Clauses of two literals, as more variables come.
+-- Adding variables changes no binary clause.
 use Rattle.std.proofs.Common.{ℕ, zero, suc, ◌+◌, ◌-◌, ◌≤◌, ◌≡◌, List, [], ◌∷◌, ◌++◌, take, replicate, length, get_or, refl, sym, ◌∙◌, ap, subst, arith, inl, inr}
 use Rattle.std.proofs.lemmas.Bool.{cases_lt}
 use Rattle.std.proofs.lemmas.List.{get_or-replicate, length-replicate, get_or_past, take_all}
@@ -8,7 +8,7 @@ use Rattle.sat_parts.specs.prop.Binaries.{Binaries, implied_by, with_binary_list
 use Rattle.sat_solver.specs.session.SolverClauses.{binaries_of, binaries_from, binaries}
 use Rattle.sat_solver.specs.session.Fits.{ArePaired}
 
--- A LIST THAT GREW BY A DEFAULT
+-- A LIST EXTENDED BY DEFAULT VALUES
 
 same_everywhere : {X : Type 0} → (m i : ℕ) (x : X) → get_or (replicate m x) i x ≡ x
 same_everywhere m i x = elim (cases_lt i m) [
@@ -24,7 +24,7 @@ appended_reads (y ∷ ys) m x (suc i) = appended_reads ys m x i
 grown_reads : {X : Type 0} → (xs : List X) (x : X) (n i : ℕ) → length xs ≤ n → get_or (take n xs ++ replicate (n - length xs) x) i x ≡ get_or xs i x
 grown_reads xs x n i le = ap (λ ys. get_or (ys ++ replicate (n - length xs) x) i x) (take_all n xs le) ∙ appended_reads xs (n - length xs) x i
 
--- new literals have no clauses
+-- new literals have no binary clauses
 none_from : (l m : ℕ) → binaries_from l (replicate m []) ≡ []
 none_from l zero = refl
 none_from l (suc m) = none_from (l + 1) m

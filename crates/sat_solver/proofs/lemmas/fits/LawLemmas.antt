@@ -1,4 +1,4 @@
--- The laws.
+-- Proofs of the laws in `session.FitLaws`.
 use Rattle.std.proofs.Common.{ℕ, ◌<◌, List, length, refl, sym, subst, arith, inl, inr, Bool, Option}
 use Rattle.std.proofs.lemmas.Bool.{true≢false}
 use Rattle.sat_base.specs.values.Literals.{variable}

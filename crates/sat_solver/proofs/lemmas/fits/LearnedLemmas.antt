@@ -1,4 +1,4 @@
--- From what an analysis gives to what a round takes in, and the session after the clause that is learned.
+-- The result of an analysis is a clause that can be stored, and the session matches after its step.
 use Rattle.std.proofs.Common.{ℕ, ◌*◌, ◌<◌, ◌≤◌, ◌≡◌, ◌≢◌, Bool, false, eqb, List, [], ◌∷◌, ◌++◌, map, length, get_or, sym, ◌∙◌, ap, subst, arith, inl, inr, Option, Some, append_assoc, length-set}
 use Rattle.std.proofs.lemmas.Bool.{cases_eq, ne_eqb, eqb-true, true≢false}
 use Rattle.std.proofs.lemmas.List.{append-nil}
@@ -43,7 +43,7 @@ use Rattle.sat_solver.specs.session.Fits.{is_redundant, SessionMatches, SessionM
 use Rattle.sat_solver.proofs.lemmas.fits.UsableLemmas.{once_distinct}
 use Rattle.sat_solver.proofs.lemmas.fits.FitLemmas.{fits_carried, fits_unit, fits_long_by, mapped_at, no_signs, taut_mapped, longs_same, longs_push, alone, two_of, paired_binary}
 
--- different numbers below a bound are at most as many
+-- a list of different numbers below n has at most n elements
 few_distinct : (ls : List ℕ) (n : ℕ) → AreDistinct ls → ((k : ℕ) → k < length ls → get_or ls k 0 < n) → length ls ≤ n
 few_distinct ls n differ below =
     length-le_from_distinct_below ls n
@@ -78,7 +78,7 @@ is_learned_clause words st conflict w back a h =
 pub false_signs : (values : List (Option Bool)) (ls : List ℕ) → AreAllFalse values ls → is_tautology ls ≡ false
 false_signs values ls h = no_signs values ls (λ j k a b e. model_excludes_core values (negated (get_or ls j 0)) (true_from_false values (get_or ls j 0) (h j a)) (subst (λ z. IsFalseLit values z) e (h k b)))
 
--- THE CLAUSE COMES IN
+-- THE CLAUSE IS STORED
 
 module _ (s : Session) (global : ℕ → ℕ) (header : Header) (ls hashes : List ℕ) (flag : Bool) (flags : FlagFits flag header ls) (taut : is_tautology ls ≡ false) (mapped_here : AreMapped global s.solver_names ls) where
   abbrev now : Session
@@ -142,7 +142,7 @@ module _ (s : Session) (global : ℕ → ℕ) (header : Header) (ls hashes : Lis
         fits_long_by words (live_refs words db.refs) x.implied st s global agrees fits words' (live_refs words' db'.refs) x.implied (get_or ls 0 0) r flag (map (with_var global) ls) hashes
         pending.open_first pending.there caused (once_mapped global s.solver_names ls mapped_here once_here) (mapped_long (omega arith)) plain fits.paired comes
 
--- whatever the clause's length
+-- parts and session match after a learned clause of any length
 pub fits_learnt : (p p' : Parts) (s : Session) (global : ℕ → ℕ) (header : Header) (ls hashes : List ℕ) (flag : Bool) → FlagFits flag header ls → is_tautology ls ≡ false → AreMapped global s.solver_names ls → PartsInvariant p → IsPending (state p) p.vsids ls →
     AddsLearnedClause p p' header ls → SessionMatchesParts p s global → SessionMatchesParts p' (after (AtClause flag (map (with_var global) ls) hashes) s) global
 fits_learnt p p' s global header ls hashes flag flags taut names holds pending (learnt_unit one same r bare is) fits =
@@ -152,7 +152,7 @@ fits_learnt p p' s global header ls hashes flag flags taut names holds pending (
 fits_learnt p p' s global header ls hashes flag flags taut names holds pending (learnt_long three o adds b r caused is) fits =
     rw (is, b) (learnt_as_long s global header ls hashes flag flags taut names p.clauses p.db p.binary (state p) p.vsids holds.below.asks.agrees fits pending r p'.clauses p'.db o caused three holds.below.held adds)
 
--- levels that are undone
+-- undoing levels preserves the match
 pub fits_undone : (p p' : Parts) (s : Session) (global : ℕ → ℕ) → SameClauses p p' → AddsNoUnit (state p) (state p') → SessionMatchesParts p s global → SessionMatchesParts p' s global
 fits_undone p p' s global same carries fits =
     rw (same.0, same.1, same.2) (fits_carried p.clauses (live_refs p.clauses p.db.refs) p.binary.implied (state p) (state p') s global carries fits)

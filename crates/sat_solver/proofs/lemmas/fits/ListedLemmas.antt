@@ -1,4 +1,4 @@
--- Lists of clauses fit sessions on as steps are written.
+-- A list of clauses still matches the session after steps are written.
 use Rattle.std.proofs.Common.{ℕ, ◌<◌, ◌≡◌, Bool, true, false, List, [], ◌∷◌, ◌++◌, map, length, refl, sym, ◌∙◌, ap, subst, arith, inl, inr, Option}
 use Rattle.std.specs.List.{list_any}
 use Rattle.sat_base.specs.values.Literals.{variable}
@@ -28,7 +28,7 @@ module _ (words live : List ℕ) (implied : List (List ℕ)) (st : State) (s : S
   fits_listed h p = record { clauses = h.clauses; paired = p; known = h.known; sound = h.sound; consistent = h.consistent; width = h.width }
 
 module _ (cs : List LiveClause) (st : State) (s : Session) (global : ℕ → ℕ) (h : FitsList cs st s global) where
-  -- the session has other clauses
+  -- the match holds for another session with the same facts and its own clauses
   pub listed_as : (t : Session) (ds : List LiveClause) → SameFacts s t → AreOf t global ds → FitsList ds st t global
   listed_as t ds f a = record {
     clauses = a;
@@ -38,14 +38,14 @@ module _ (cs : List LiveClause) (st : State) (s : Session) (global : ℕ → ℕ
     width = f.width ∙ h.width;
   }
 
--- a step that changes live clauses alone
+-- a step that changes neither facts nor live clauses preserves the match
 pub listed_stays : (cs : List LiveClause) (st : State) (s t : Session) (global : ℕ → ℕ) → FitsList cs st s global → SameFacts s t → t.solver_names ≡ s.solver_names → ((r : Bool) (set : List ℕ) → t.live r set ≡ s.live r set) →
     FitsList cs st t global
 listed_stays cs st s t global h f n e = listed_as cs st s global h t cs f (still_of s t global cs e n h.clauses)
 
--- CLAUSES COME IN AND GO
+-- CLAUSES ARE ADDED AND DELETED
 
--- a clause that comes in: two or more literals, the step's in whatever order
+-- a clause that may be added: it has two or more different literals `ms`, in the step in some order `ls`
 pub record MayCome (names : ℕ → Option ℕ) (global : ℕ → ℕ) (ls ms : List ℕ) : Type 0 where
   pub order : IsReordering ls ms
   pub mapped : AreMapped global names ms
@@ -60,7 +60,7 @@ module _ (s : Session) (global : ℕ → ℕ) (ls ms : List ℕ) (c : MayCome s.
   abbrev set : List ℕ
   set = canonical (map (with_var global) ms)
 
-  -- what it makes of the session
+  -- the step adds the sorted set of these literals
   pub comes_as : (r : Bool) (t : Session) → with_live_clause r ks t ≡ with_live r set t
   comes_as r t =
       clause_of_set r ks set t (set_shuffled (with_var global) ls ms c.order)
@@ -87,7 +87,7 @@ module _ (s : Session) (global : ℕ → ℕ) (ls ms : List ℕ) (c : MayCome s.
         (still_of (with_live r set s) t global (i.before ++ d ∷ i.following) (λ q u. ap (λ (x : Session). x.live q u) same) (ap (λ (x : Session). x.solver_names) same)
         (comes_in s global i.before i.following d from c.mapped c.once)))
 
--- a clause of the formula does what an irredundant derived one does, while unsat isn't recorded
+-- a clause of the formula changes the session as an irredundant derived one does, unless unsat is recorded
 pub listed_by : (cs : List LiveClause) (st : State) (s : Session) (global : ℕ → ℕ) (ks hashes : List ℕ) → s.unsat ≡ false →
     FitsList cs st (after (AtClause false ks hashes) s) global → FitsList cs st (after (AddClause ks) s) global
 listed_by cs st s global ks hashes u h =
@@ -122,7 +122,7 @@ module _ (s : Session) (global : ℕ → ℕ) (st : State) (old new : List LiveC
   is_counted =
       subst (λ n. 0 < n) (sym (ap (s.live r) same_set ∙ from.counts r (canonical (map (with_var global) ms)))) (in_counts (map (mapped global) (i.before ++ d ∷ i.following)) (mapped global d) (in_mapped_middle global i.before i.following d))
 
-  -- without it, whatever else the step changes
+  -- the match holds without the clause, if the step deletes it and changes no facts
   listed_without : (t : Session) → SameFacts s t → t.solver_names ≡ s.solver_names → ((q : Bool) (set : List ℕ) → t.live q set ≡ (without_live r its s).live q set) → FitsList new st t global
   listed_without t f n e =
       listed_as old st s global h t new f
@@ -150,6 +150,6 @@ module _ (s : Session) (global : ℕ → ℕ) (st : State) (old new : List LiveC
         (λ q set. ap (λ b. (without_live b its s).live q set) (sym e)),
   )
 
-  -- a unit in it
+  -- a literal of the clause is a unit of the session
   pub some_unit : (l : ℕ) → is_among ls l ≡ true → s.units (with_var global l) ≡ true → list_any s.units (map (with_var global) ls) ≡ true
   some_unit l t u = any_true s.units (map (with_var global) ls) (with_var global l) (among_mapped (with_var global) ls l t) u

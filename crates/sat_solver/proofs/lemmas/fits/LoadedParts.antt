@@ -1,4 +1,4 @@
--- The struct of parts fits on once a clause of the formula was loaded.
+-- Parts and session match after a clause of the formula was loaded.
 use Rattle.std.proofs.Common.{ℕ, ◌*◌, ◌<◌, ◌≤◌, ◌≡◌, true, false, List, [], ◌∷◌, map, length, get_or, refl, sym, ◌∙◌, ap, subst, arith, inl, inr, Some, None}
 use Rattle.std.proofs.lemmas.Bool.{cases_eq, false_from_ne_true}
 use Rattle.sat_base.specs.values.Literals.{variable, negated, is_positive}
@@ -35,7 +35,7 @@ use Rattle.sat_solver.proofs.lemmas.fits.SetLemmas.{same_shuffled}
 use Rattle.sat_solver.proofs.lemmas.fits.ListedLemmas.{fits_listed, listed_by}
 use Rattle.sat_solver.proofs.lemmas.fits.AddedLemmas.{true_unit, fits_added_true, added_refutes, added_empty, satisfied_at_once, fits_added_binary, fits_added_long_as}
 
--- a unit that the search gains
+-- the search gains a unit
 pub fits_gained : (words live : List ℕ) (implied : List (List ℕ)) (st st' : State) (s : Session) (global : ℕ → ℕ) (l : ℕ) → SessionMatches words live implied st s global → s.solver_names (global (variable l)) ≡ Some (variable l) → IsOpenLit st.values l → GainsUnit l st st' →
     SessionMatches words live implied st' (after (AddClause (with_var global l ∷ [])) s) global
 fits_gained words live implied st st' s global l fits own free g =
@@ -67,7 +67,7 @@ no_more : (ls : List ℕ) → length ls ≡ 0 → ls ≡ []
 no_more [] e = refl
 no_more (l ∷ ls) e = absurd (omega arith)
 
--- what stands alone is the same in any order
+-- a list of one literal has only one order
 alone_shuffled : (ls ms : List ℕ) → IsReordering ls ms → length ms ≡ 1 → ls ≡ get_or ms 0 0 ∷ []
 alone_shuffled ls ms h one =
     let n : length ls ≡ 1 = sym h.size ∙ one in
@@ -75,7 +75,7 @@ alone_shuffled ls ms h one =
     let z : j.0 ≡ 0 = omega (arith, j.1.0) in
     alone ls n ∙ ap (λ l. l ∷ []) (sym j.1.1 ∙ ap (λ k. get_or ms k 0) z)
 
--- as it was given, and as it is stored
+-- the clause as it was given, and as it is stored
 module _ (p p' : Parts) (s : Session) (global : ℕ → ℕ) (holds : PartsInvariant p) (fits : SessionMatchesParts p s global) (bottom : p.trail.starts ≡ []) (given ls : List ℕ) (order : IsReordering given ls) (differ : AreDistinct given) (small : (k : ℕ) → k < length given → get_or given k 0 < 2 * length p.assignment.current) (plain : is_tautology given ≡ false) (names : AreMapped global s.solver_names given) where
   abbrev live : List ℕ
   live = live_refs p.clauses p.db.refs

@@ -1,4 +1,4 @@
--- What an analysis names may be written: the clause that it learns follows by the clauses that it used.
+-- A learned clause may be written: it follows from the clauses that the analysis used.
 use Rattle.std.proofs.Common.{ℕ, zero, suc, ◌-◌, ◌*◌, ◌/◌, ◌^◌, ◌<◌, ◌≡◌, ◌≢◌, Bool, true, false, ◌||◌, ◌&&◌, cond, eqb, List, [], ◌∷◌, ◌++◌, map, length, get_or, refl, sym, ◌∙◌, ap, subst, arith, ◌⊎◌, inl, inr}
 use Rattle.std.proofs.lemmas.Bool.{or_cases, or_left, or_right, eqb-true, eq-eqb, cases_eq, true≢false, and_parts, and_from}
 use Rattle.std.specs.List.{AllByRecursion}
@@ -69,7 +69,7 @@ bottom_units st = record {
       (lit_true st.values l p.0, eqb-true (level st l) 0 p.1);
 }
 
--- UNIT IN TURN, IN THE WORDS OF SESSIONS
+-- UNIT IN TURN, IN TERMS OF SESSIONS
 
 all_known : (known : ℕ → Bool) (us c : List ℕ) → ((l : ℕ) → is_among us l ≡ true → known l ≡ true) → AllByRecursion (λ l. is_among us (negated l) ≡ true) c → AllByRecursion (λ l. known (negated l) ≡ true) c
 all_known known us [] m h = tt
@@ -117,7 +117,7 @@ module _ (words live : List ℕ) (implied : List (List ℕ)) (st : State) (s : S
         all_used ls c (λ k lt. r (suc k) (omega arith)) u,
       )
 
-  -- what is true at level 0 is a unit of the session, where no clause makes it true
+  -- if no clause is a reason at level 0, every true literal of level 0 is a unit of the session
   pub bottom_known : StateIsConsistent st → AreBare st → (l : ℕ) → IsTrueLit st.values l → level st l ≡ 0 → s.units (with_var global l) ≡ true
   bottom_known agrees bare l t z = elim (agrees.known l t) [
     | inl b ↦

@@ -1,4 +1,4 @@
--- A search in which all is assigned may show its model.
+-- The true literals of a complete assignment may be written as a model.
 use Rattle.std.proofs.Common.{ℕ, suc, ◌+◌, ◌*◌, ◌/◌, ◌%◌, ◌<◌, ◌≤◌, ◌≡◌, Bool, true, false, cond, eqb, ltb, List, [], ◌∷◌, map, length, get_or, refl, sym, ◌∙◌, ap, subst, arith, ◌⊎◌, inl, inr, Some}
 use Rattle.std.proofs.lemmas.Bool.{or_left, or_right, or_from, or_parts, ne_eqb, eq-eqb, cases_lt, eqb-false, cases_eq, false_from_ne_true}
 use Rattle.std.proofs.lemmas.List.{get_or_past}
@@ -26,7 +26,7 @@ use Rattle.sat_solver.specs.session.Units.{AreTrueLits}
 use Rattle.sat_solver.specs.session.Fits.{is_redundant, SessionMatchesParts, TrueLitsHaveNames}
 use Rattle.sat_solver.proofs.lemmas.fits.FitLemmas.{among_at, among_back, long_of, in_either}
 
--- a clause of the list of those of two literals stands in a list of implied literals
+-- a binary clause is stored in a list of implied literals
 pub record IsPairOf (implied : List (List ℕ)) (c : LiveClause) : Type 0 where
   pub list : ℕ
   pub place : ℕ

@@ -1,4 +1,4 @@
--- Long clauses get other headers or places.
+-- Long clauses get new headers, or move in the buffer.
 use Rattle.std.proofs.Common.{ℕ, suc, ◌<◌, ◌≡◌, Bool, List, [], ◌∷◌, ◌++◌, length, get_or, refl, sym, ◌∙◌, ap, subst, arith}
 use Rattle.sat_store.specs.clause.Buffer.{lits_at}
 use Rattle.sat_store.specs.clause.Header.{Header, is_learned}
@@ -9,7 +9,7 @@ use Rattle.sat_solver.specs.session.LiveClauses.{AreOf}
 use Rattle.sat_solver.specs.session.SolverClauses.{binaries, longs}
 use Rattle.sat_solver.specs.session.Fits.{is_redundant, SessionMatches}
 
--- the same long clauses, as a list
+-- the match depends only on the list of long clauses
 pub fits_longs : (words words' live live' : List ℕ) (implied : List (List ℕ)) (st : State) (s : Session) (global : ℕ → ℕ) → longs (is_redundant words') words' live' ≡ longs (is_redundant words) words live → SessionMatches words live implied st s global →
     SessionMatches words' live' implied st s global
 fits_longs words words' live live' implied st s global e h = record {
@@ -21,7 +21,7 @@ fits_longs words words' live live' implied st s global e h = record {
   width = h.width;
 }
 
--- copies are the same clauses
+-- copied clauses form the same list
 longs_by : (r r' : ℕ → Bool) (words words' os ps : List ℕ) → length ps ≡ length os → ((k : ℕ) → k < length os → (r' (get_or ps k 0) ≡ r (get_or os k 0)) × (lits_at words' (get_or ps k 0) ≡ lits_at words (get_or os k 0))) →
     longs r' words' ps ≡ longs r words os
 longs_by r r' words words' [] [] n h = refl

@@ -1,4 +1,4 @@
--- Solver variables get proof variables, and lose them.
+-- Indices get proof variables, and lose them.
 use Rattle.std.proofs.Common.{ℕ, suc, ◌<◌, ◌≡◌, ◌≢◌, Bool, false, cond, eqb, List, [], ◌∷◌, length, get_or, refl, sym, ◌∙◌, ap, arith, inl, inr, Option, Some, None}
 use Rattle.std.proofs.lemmas.Bool.{cases_eq, eq-eqb, ne_eqb, or_from}
 use Rattle.sat_base.specs.values.Literals.{variable, negated}
@@ -19,7 +19,7 @@ use Rattle.sat_solver.specs.session.Listed.{FitsList}
 use Rattle.sat_solver.proofs.lemmas.fits.FitLemmas.{long_of, in_either, IsLongOf}
 use Rattle.sat_solver.proofs.lemmas.fits.ModelLemmas.{pair_of, IsPairOf}
 
--- CLAUSES THAT DON'T HAVE A VARIABLE
+-- CLAUSES WITHOUT A VARIABLE
 
 none_mentions : (ls : List ℕ) (v : ℕ) → ((k : ℕ) → k < length ls → variable (get_or ls k 0) ≢ v) → mentions ls v ≡ false
 none_mentions [] v h = refl
@@ -38,7 +38,7 @@ unused_in redundant words live implied v h c k = elim (in_either c (binaries imp
       ap (λ (d : LiveClause). mentions d.literals v) x.same ∙ none_mentions (lits_at words x.place) v (λ i lt. h.long x.place i x.there lt)
 ]
 
--- NAMES COME
+-- NAMES ARE ADDED
 
 none_some : (x : ℕ) → None ≡ Some x → ⊥
 none_some x e = cc
@@ -49,9 +49,9 @@ name_there names w u name e = ap (λ b. cond b name (names u)) (eq-eqb u w e)
 name_other : (names : ℕ → Option ℕ) (w u : ℕ) (name : Option ℕ) → u ≢ w → cond (eqb u w) name (names u) ≡ names u
 name_other names w u name n = ap (λ b. cond b name (names u)) (ne_eqb u w n)
 
--- AND GO
+-- NAMES ARE REMOVED
 
--- the solver variable x, which no clause has, loses its proof variable w: the search may forget its value
+-- index x, which is in no clause, loses its proof variable w, and the search may forget its value
 pub record LosesName (st st' : State) (s : Session) (global : ℕ → ℕ) (w x : ℕ) : Type 0 where
   pub its : s.solver_names w ≡ Some x
   pub there : global x ≡ w

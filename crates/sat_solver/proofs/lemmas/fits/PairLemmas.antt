@@ -1,4 +1,4 @@
--- A long clause is shortened to a clause of two literals.
+-- A long clause is strengthened to a binary clause.
 use Rattle.std.proofs.Common.{ℕ, zero, suc, ◌*◌, ◌<◌, ◌≤◌, ◌≡◌, ◌≢◌, true, false, eqb, List, [], ◌∷◌, map, length, get_or, refl, sym, ◌∙◌, subst, arith, ◌⊎◌, inl, inr}
 use Rattle.std.proofs.lemmas.Bool.{cases_eq, or_left, or_right, or_cases, or_from, ne_eqb, eqb-true, eq-eqb, true≢false}
 use Rattle.std.specs.List.{Contains}
@@ -27,7 +27,7 @@ use Rattle.sat_solver.proofs.lemmas.fits.ChangedLemmas.{deleted_there, CameTwo, 
 use Rattle.sat_solver.proofs.lemmas.fits.PartLemmas.{come_shorter, derive_shorter, replace_shorter}
 use Rattle.sat_solver.proofs.lemmas.fits.ReplacedLemmas.{Both}
 
--- of three different numbers one is neither of two
+-- an element of the list that is neither a nor b
 record Third (xs : List ℕ) (a b : ℕ) : Type 0 where
   place : ℕ
   within : place < length xs
@@ -68,7 +68,7 @@ two_distinct a b n (suc (suc j)) k p q e = absurd (omega arith)
 two_distinct a b n zero (suc (suc k)) p q e = absurd (omega arith)
 two_distinct a b n (suc zero) (suc (suc k)) p q e = absurd (omega arith)
 
--- the literals of a clause: two, and such that are false by units
+-- a clause with these two literals, whose other literals are false by units
 pub record AreTwo (st : State) (c : List ℕ) (a b : ℕ) : Type 0 where
   pub first : is_among c a ≡ true
   pub second : is_among c b ≡ true

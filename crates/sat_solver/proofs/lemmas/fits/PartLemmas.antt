@@ -1,4 +1,4 @@
--- A part of a live clause that takes its place.
+-- A part of a live clause replaces it.
 use Rattle.std.proofs.Common.{ℕ, ◌-◌, ◌/◌, ◌^◌, ◌<◌, ◌≡◌, true, false, eqb, List, [], ◌∷◌, map, length, get_or, sym, ◌∙◌, ap, subst, arith, ◌⊎◌, inl, inr, Some}
 use Rattle.std.proofs.lemmas.Bool.{or_right}
 use Rattle.std.specs.List.{Contains}
@@ -29,7 +29,7 @@ use Rattle.sat_solver.proofs.lemmas.fits.PlainLemmas.{part_plain}
 use Rattle.sat_solver.proofs.lemmas.fits.ListedLemmas.{MayCome}
 use Rattle.sat_solver.proofs.lemmas.fits.ShortenedLemmas.{may_shorten, may_replace, live_plain}
 
--- a part of a live clause takes its place: the step derives part, in whatever order, what is stored is d, and w is missing
+-- a part of a live clause replaces it: the step derives `part`, the parts store `d`, and literal w was dropped
 module _ (words live : List ℕ) (implied : List (List ℕ)) (st : State) (s : Session) (global : ℕ → ℕ) (agrees : StateIsConsistent st) (fits : SessionMatches words live implied st s global) (clauses : AreClauses words live (length st.values)) (plain : ArePlain s) (o : ℕ) (there : Contains live o) where
   abbrev c : List ℕ
   c = lits_at words o
@@ -46,7 +46,7 @@ module _ (words live : List ℕ) (implied : List (List ℕ)) (st : State) (s : S
   all_named [] h = tt
   all_named (l ∷ ls) h = (named_in l (h l (among_at (l ∷ ls) 0 (omega arith))), all_named ls (λ m t. h m (or_right (eqb l m) (is_among ls m) t)))
 
-  -- it is usable with its literals in whatever order
+  -- the clause is usable with its literals in any order
   usable_as : (hs : List ℕ) → IsReordering hs c → AreDistinct hs → IsUsable s global hs
   usable_as hs order differ =
       let same : (l : ℕ) → is_among hs l ≡ is_among c l = same_shuffled hs c order in
@@ -75,7 +75,7 @@ module _ (words live : List ℕ) (implied : List (List ℕ)) (st : State) (s : S
       plain = part_plain (map (with_var global) d) (map (with_var global) c) (part_mapped (with_var global) d c (all_true (is_among c) d within)) (live_plain s (map (with_var global) c) plain usable.live);
     }
 
-    -- the hash is that of the clause with its literals in whatever order
+    -- the part may be derived by the hash of the clause, with its literals in any order
     pub derive_shorter : (hs : List ℕ) (hash : ℕ) → IsReordering hs c → AreDistinct hs → hash ≡ hash_of hs → ((k : ℕ) → k < length c → (is_among d (get_or c k 0) ≡ true) ⊎ IsUnitLit st (negated (get_or c k 0))) → MayDerive s (map (with_var global) part) (hash ∷ [])
     derive_shorter hs hash shuffled distinct e each = may_shorten s global hs part hash fits.width (usable_as hs shuffled distinct) e (λ k lt.
         let j = shuffled.forth k lt in

@@ -13,13 +13,13 @@ use Rattle.sat_solver.proofs.lemmas.session.StepsOfClauses.{fact_stays, facts_st
 use Rattle.sat_solver.specs.session.Listed.{ArePlain}
 use Rattle.sat_solver.proofs.lemmas.fits.SetLemmas.{part_has}
 
--- a part of a clause that has no variable's both signs has none
+-- a part of a clause that is no tautology is none either
 pub part_plain : (xs ys : List ℕ) → is_part xs ys ≡ true → is_tautology ys ≡ false → is_tautology xs ≡ false
 part_plain xs ys p n = false_from_ne_true (is_tautology xs) (λ t.
     let b = both_signs xs t in
     true≢false (sym (tautology_from ys b.literal (part_has xs ys b.literal p b.within) (part_has xs ys (negated b.literal) p b.negation)) ∙ n))
 
--- WHAT STEPS MAKE OF IT
+-- STEPS PRESERVE THIS
 
 more_positive : (b : Bool) (n : ℕ) → 0 < more_if b n → (b ≡ true) ⊎ (0 < n)
 more_positive true n h = inl refl
@@ -74,7 +74,7 @@ plain_changed (DeleteClause clause Simplified) s h = plain_without false (canoni
 plain_changed (DeleteClause clause Satisfied) s h = plain_without false (canonical clause) s h
 plain_changed step s h = h
 
--- whatever steps there were
+-- this holds after any steps
 pub sessions_are_plain : (steps : List Step) → ArePlain (session_after steps)
 sessions_are_plain [] q set c = absurd (omega arith)
 sessions_are_plain (step ∷ earlier) q set c = plain_changed step (session_after earlier) (sessions_are_plain earlier) q set c

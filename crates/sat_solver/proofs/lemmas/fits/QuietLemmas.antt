@@ -1,4 +1,4 @@
--- Steps by which nothing is learned.
+-- Quiet steps derive no clause that advances.
 use Rattle.std.proofs.Common.{ℕ, ◌≡◌, ◌∙◌, ◌⊎◌, ◌||◌, ◌++◌, Bool, true, false, eqb, cond, List, [], ◌∷◌, map, refl, sym, ap, subst, arith, inl, inr}
 use Rattle.std.proofs.lemmas.Bool.{or_cases, or_left, or_right, eqb-true, true≢false}
 use Rattle.std.proofs.lemmas.List.{append_cancel_right}
@@ -19,7 +19,7 @@ pub quiet_both : (xs ys : List Step) → AreQuiet xs → AreQuiet ys → AreQuie
 quiet_both xs [] h k = h
 quiet_both xs (y ∷ ys) h k = (k.0, quiet_both xs ys h k.1)
 
--- a clause by a unit or a single clause
+-- deriving a clause from a unit or a single clause is quiet
 pub few_quiet : (redundant : Bool) (clause hashes : List ℕ) → are_few hashes ≡ true → is_quiet (AtClause redundant clause hashes) ≡ true
 few_quiet redundant [] hashes e = refl
 few_quiet redundant (l ∷ ls) hashes e = e
@@ -56,7 +56,7 @@ among_denied (x ∷ xs) m e = elim (or_cases (eqb (negated x) (negated m)) (is_a
   | inr k ↦ or_right (eqb x m) (is_among xs m) (among_denied xs m k)
 ]
 
--- another literal of the clause is one of the others
+-- `others_of` has every other literal of the clause
 among_others : (l m : ℕ) (ls : List ℕ) → (m ≡ l → ⊥) → is_among ls m ≡ true → is_among (others_of l ls) m ≡ true
 among_others l m [] n e = e
 among_others l m (x ∷ xs) n e = go (eqb x l) refl (λ k. among_others l m xs n k)
@@ -71,7 +71,7 @@ among_others l m (x ∷ xs) n e = go (eqb x l) refl (λ k. among_others l m xs n
       | inr k ↦ or_right (eqb x m) (is_among (others_of l xs) m) (later k)
     ]
 
--- which of them is a unit
+-- a literal of the list that is a unit
 record UnitIn (s : Session) (ls : List ℕ) : Type 0 where
   unit : ℕ
   among : is_among ls unit ≡ true
@@ -102,7 +102,7 @@ module _ (s : Session) (clause : List ℕ) (l : ℕ) (o : LeavesLiteralOpen s cl
     | inr f ↦ true≢false (sym (other_denied h.unit (λ e. true≢false (sym (subst (λ z. eqb h.unit z ≡ true) e (self h.unit)) ∙ f)) h.among) ∙ o.agree h.unit (unit_holds h.unit h.is))
   ]
 
-  -- each literal of a clause that is false under all negations is this one, or false under the others
+  -- a literal that is false under the negated clause is l, or false under the negations of the other literals
   one_split : (m : ℕ) → denied_in s clause (negated m) ≡ true → (m ≡ l) ⊎ (holds (negated m) ≡ true)
   one_split m t = elim (either_way (eqb m l)) [
     | inl q ↦ inl (eqb-true m l q)
@@ -146,7 +146,7 @@ module _ (s : Session) (clause : List ℕ) (l : ℕ) (o : LeavesLiteralOpen s cl
   by_few (c ∷ d ∷ cs) (x ∷ []) few n h = n.2
   by_few (c ∷ d ∷ cs) (x ∷ y ∷ hashes) few n h = true≢false (sym few)
 
--- nothing of the clause is new then
+-- a clause derived from a unit or a single clause leaves none of its literals open
 clause_never : (s : Session) (clause hashes : List ℕ) → MayDerive s clause hashes → are_few hashes ≡ true → (l : ℕ) → LeavesLiteralOpen s clause l → ⊥
 clause_never s clause hashes may few l o = elim may [
   | by_unit u ↦ by_a_unit s clause l o (unit_in s clause u)

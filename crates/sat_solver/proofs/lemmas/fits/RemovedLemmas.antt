@@ -1,4 +1,4 @@
--- Clauses of two literals go of which a variable has a value: each with its step, and then all of them at once.
+-- Binary clauses with an assigned variable are removed: a step for each, then all of them at once.
 use Rattle.std.proofs.Common.{ℕ, zero, suc, ◌+◌, ◌<◌, ◌≤◌, ◌≡◌, Bool, true, false, ◌&&◌, cond, eqb, ltb, List, [], ◌∷◌, ◌++◌, map, length, get_or, refl, sym, ◌∙◌, ap, subst, arith, ◌⊎◌, inl, inr, Option}
 use Rattle.std.proofs.lemmas.Bool.{cases_Bool, cases_eq, and_cases, or_left, or_right, eq-eqb, lt-ltb, true≢false}
 use Rattle.std.specs.Prelude.{is_none}
@@ -73,12 +73,12 @@ paired_open values x y h p =
 
 -- THE PASS
 
--- the first k literals of the list l were looked at, and all lists before it
+-- the first k literals of list l, and all lists before it, were visited
 abbrev pub LeftFits : (words live : List ℕ) (x : Binaries) (st : State) (global : ℕ → ℕ) → Session → (l k : ℕ) → Type 0
 LeftFits words live x st global t l k = FitsList (binaries_left st.values x.implied l k ++ longs (is_redundant words) words live) st t global
 
 module _ (words live : List ℕ) (x : Binaries) (st : State) (global : ℕ → ℕ) (agrees : StateIsConsistent st) (bare : AreBare st) (bottom : length st.trail.starts ≡ 0) (paired : ArePaired x.implied) (complete : (l k : ℕ) → k < length (implied_by x.implied l) → IsTrueLit st.values l → IsTrueLit st.values (get_or (implied_by x.implied l) k 0)) where
-  -- what a clause of two literals makes true where one of its variables has a value
+  -- an assigned variable makes one of its literals true
   set_or_open : (a : ℕ) → is_unset st.values (variable a) ≡ false → IsTrueLit st.values a ⊎ IsTrueLit st.values (negated a)
   set_or_open a n = elim (open_or_true st.values (variable a)) [
     | inl none ↦ absurd (true≢false (sym (ap is_none none) ∙ n))
@@ -121,14 +121,14 @@ module _ (words live : List ℕ) (x : Binaries) (st : State) (global : ℕ → �
     abbrev m : ℕ
     m = get_or (implied_by x.implied l) k 0
 
-    -- the clause is looked at in its other list, or stays
+    -- the clause stays, or is visited in its other list
     pub removal_passes : (ltb (negated l) m ≡ false) ⊎ (is_open_clause st.values (pair (negated l) m) ≡ true) → LeftFits words live x st global t l (k + 1)
     removal_passes why = same_left t (binaries_left st.values x.implied l k) (binaries_left st.values x.implied l (k + 1)) (elim (cases_Bool (ltb (negated l) m)) [
       | inl lower ↦ elim why [ inl n ↦ absurd (true≢false (sym lower ∙ n)) | inr u ↦ left_open st.values x.implied l k lt lower u ]
       | inr n ↦ left_other st.values x.implied l k lt n
     ]) h
 
-    -- or goes, with its step
+    -- the clause is deleted by a step
     pub removal_deletes : negated l < m → is_open_clause st.values (pair (negated l) m) ≡ false →
         IsAllowedStep t (DeleteClause (map (with_var global) (negated l ∷ m ∷ [])) Satisfied) × LeftFits words live x st global (after (DeleteClause (map (with_var global) (negated l ∷ m ∷ [])) Satisfied) t) l (k + 1)
     removal_deletes lower n =

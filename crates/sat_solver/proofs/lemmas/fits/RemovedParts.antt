@@ -1,4 +1,4 @@
--- The struct of parts, as clauses of two literals go of which a variable has a value, while nothing is on the trail.
+-- Binary clauses with an assigned variable are removed from the parts, while the trail is empty.
 use Rattle.std.proofs.Common.{ℕ, ◌+◌, ◌<◌, ◌≤◌, ◌≡◌, true, false, ltb, List, [], ◌∷◌, map, length, get_or, ap, arith, ◌⊎◌, inl, inr}
 use Rattle.sat_base.specs.values.Literals.{negated}
 use Rattle.sat_base.specs.steps.Steps.{DeleteClause, Satisfied}
@@ -26,7 +26,7 @@ module _ (p : Parts) (global : ℕ → ℕ) (holds : PartsInvariant p) (paired :
   none : length p.trail.starts ≡ 0
   none = ap (λ (xs : List ℕ). length xs) bottom
 
-  -- all that is true was propagated, and so what it implies is true
+  -- everything was propagated, so literals implied by true ones are true
   complete : (l k : ℕ) → k < length (implied_by p.binary.implied l) → IsTrueLit p.assignment.current l → IsTrueLit p.assignment.current (get_or (implied_by p.binary.implied l) k 0)
   complete l k lt t =
       let nothing : length p.trail.lits ≡ 0 = ap (λ (xs : List ℕ). length xs) empty in
@@ -51,6 +51,6 @@ module _ (p : Parts) (global : ℕ → ℕ) (holds : PartsInvariant p) (paired :
         IsAllowedStep s (DeleteClause (map (with_var global) (negated l ∷ m ∷ [])) Satisfied) × LeftParts p (after (DeleteClause (map (with_var global) (negated l ∷ m ∷ [])) Satisfied) s) global l (k + 1)
     parts_removal_deletes = removal_deletes p.clauses live p.binary (state p) global agrees holds.units none paired complete s l k lt h
 
-  -- and then they are removed
+  -- after all steps, parts without these clauses match the session
   pub parts_removal_ends : (p' : Parts) (s : Session) → LeftParts p s global (length p.binary.implied) 0 → RemovesAssigned p.assignment.current p.binary p'.binary → p'.clauses ≡ p.clauses → p'.db ≡ p.db → state p' ≡ state p → SessionMatchesParts p' s global
   parts_removal_ends p' s h gone words db same = rw (words, db, same) (removal_ends p.clauses live p.binary (state p) global agrees holds.units none paired complete s p'.binary h gone)

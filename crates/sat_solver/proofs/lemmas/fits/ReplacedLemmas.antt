@@ -1,4 +1,4 @@
--- Long clauses are shortened: to long ones, and to clauses of two literals.
+-- Long clauses are strengthened, to long or binary ones.
 use Rattle.std.proofs.Common.{ℕ, ◌<◌, ◌≤◌, ◌≡◌, ◌≢◌, Bool, true, false, List, [], ◌∷◌, ◌++◌, map, take, length, get_or, refl, sym, ◌∙◌, ap, subst, arith, ◌⊎◌, inl, inr}
 use Rattle.std.proofs.lemmas.Bool.{cases_lt, false_from_ne_true}
 use Rattle.std.proofs.lemmas.List.{get_or-take, length-take-le}
@@ -27,13 +27,13 @@ use Rattle.sat_solver.proofs.lemmas.fits.ListedLemmas.{MayCome, listed, fits_lis
 use Rattle.sat_solver.proofs.lemmas.fits.ChangedLemmas.{live_distinct}
 use Rattle.sat_solver.proofs.lemmas.fits.PartLemmas.{come_shorter, derive_shorter, replace_shorter}
 
--- two steps that may be written one after the other, and what fits after them
+-- two steps that may be written one after the other, after which everything matches
 pub record Both (words live : List ℕ) (implied : List (List ℕ)) (st : State) (s : Session) (global : ℕ → ℕ) (first second : Step) : Type 0 where
   pub derive : IsAllowedStep s first
   pub delete : IsAllowedStep (after first s) second
   pub fits : SessionMatches words live implied st (after second (after first s)) global
 
--- the long clauses where one of them was shortened, and where both stand
+-- the list of clauses while one is strengthened: first d is added, then c is deleted
 record Shortened (old mid new : List LiveClause) (c d : LiveClause) : Type 0 where
   comes : InsertsClause old mid d
   goes : InsertsClause new mid c
@@ -117,7 +117,7 @@ module _ (words words' : List ℕ) (db : Db) (implied : List (List ℕ)) (st : S
   abbrev step : Bool → Step
   step flag = AtClause flag (map (with_var global) part) (hash ∷ [])
 
-  -- the flag of the derived clause is that of the old one
+  -- the derived clause is redundant if and only if the old one is
   middle : (flag : Bool) → is_redundant words o ≡ flag → (mid : List LiveClause) × (FitsList mid st (after (step flag) s) global × InsertsClause (solver_clauses (is_redundant words') words' live' implied) mid (record { redundant = flag; literals = c }))
   middle flag side =
       let x = shortened_there words words' db implied o len held there short in

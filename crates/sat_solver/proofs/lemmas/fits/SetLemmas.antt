@@ -19,7 +19,7 @@ both_true true b f g = sym (f refl)
 both_true false true f g = absurd (true≢false (sym (g refl)))
 both_true false false f g = refl
 
--- the same literals in another order
+-- reordering a clause does not change its literals
 pub same_shuffled : (ls ms : List ℕ) → IsReordering ls ms → (m : ℕ) → is_among ls m ≡ is_among ms m
 same_shuffled ls ms h m = both_true (is_among ls m) (is_among ms m)
     (λ t.
@@ -42,7 +42,7 @@ set_same xs ys same =
     same_increasing (canonical xs) (canonical ys) (canonical_increasing xs) (canonical_increasing ys)
     (λ m. canonical_among xs m ∙ same m ∙ sym (canonical_among ys m))
 
--- the sorted set over proof variables
+-- the sorted set over proof variables does not depend on the order
 pub set_shuffled : (f : ℕ → ℕ) (ls ms : List ℕ) → IsReordering ls ms → canonical (map f ls) ≡ canonical (map f ms)
 set_shuffled f ls ms h = set_same (map f ls) (map f ms) (same_mapped f ls ms (same_shuffled ls ms h))
 
@@ -52,14 +52,14 @@ taut_shuffled f ls ms h = same_tautology (map f ls) (map f ms) (same_mapped f ls
 pub once_shuffled : (ls ms : List ℕ) → IsReordering ls ms → AreDistinct ls → NoRepeats ms
 once_shuffled ls ms h d = once_distinct ms (h.apart d)
 
--- both signs of a variable are both signs of its proof variable
+-- a tautology is still one over proof variables
 pub taut_carried : (global : ℕ → ℕ) (ls : List ℕ) → is_tautology ls ≡ true → is_tautology (map (with_var global) ls) ≡ true
 taut_carried global ls t =
     let b = both_signs ls t in
     tautology_from (map (with_var global) ls) (with_var global b.literal) (among_mapped (with_var global) ls b.literal b.within)
     (subst (λ z. is_among (map (with_var global) ls) z ≡ true) (negated_mapped global b.literal) (among_mapped (with_var global) ls (negated b.literal) b.negation))
 
--- a part over proof variables
+-- every literal of a part is in the clause
 pub part_has : (xs ys : List ℕ) (l : ℕ) → is_part xs ys ≡ true → is_among xs l ≡ true → is_among ys l ≡ true
 part_has [] ys l h t = absurd (true≢false (sym t))
 part_has (x ∷ xs) ys l h t =
@@ -74,7 +74,7 @@ part_mapped f xs ys h = all_true (is_among (map f ys)) (map f xs) (λ y t.
     let p = among_back f xs y t in
     subst (λ z. is_among (map f ys) z ≡ true) p.1.1 (among_mapped f ys p.0 (part_has xs ys p.0 h p.1.0)))
 
--- a clause of two literals or more, of which the sorted set is known
+-- adding a clause of two or more literals, by its sorted set
 pub clause_of_set : (r : Bool) (c set : List ℕ) (s : Session) → canonical c ≡ set → 1 < length set → is_tautology c ≡ false → with_live_clause r c s ≡ with_live r set s
 clause_of_set r c set s e n t = ap (λ b. session_if b s (with_sorted r (canonical c) s)) t ∙ ap (λ x. with_sorted r x s) e ∙ long set n
   where

@@ -1,4 +1,4 @@
--- A long clause is replaced by one without its false literals: it is derived from the old one alone, which goes then.
+-- A clause without its false literals is derived from a long one only, which is then deleted.
 use Rattle.std.proofs.Common.{ℕ, zero, suc, ◌+◌, ◌<◌, ◌≡◌, true, false, cond, List, [], ◌∷◌, map, length, get_or, refl, sym, ◌∙◌, ap, subst, arith, ◌⊎◌, inl, inr, Some, None}
 use Rattle.std.proofs.lemmas.Bool.{or_left, or_right, cases_lt, true≢false, false_from_ne_true}
 use Rattle.std.specs.List.{AllByRecursion}
@@ -20,7 +20,7 @@ all_of_map : (P : ℕ → Type 0) (f : ℕ → ℕ) (ls : List ℕ) → ((k : �
 all_of_map P f [] h = tt
 all_of_map P f (l ∷ ls) h = (h zero (omega arith), all_of_map P f ls (λ k n. h (suc k) (omega arith)))
 
--- a part may be derived from a live clause whose other literals are false by units
+-- a part may be derived from a live clause if the other literals are false by units
 pub may_shorten : (s : Session) (global : ℕ → ℕ) (c part : List ℕ) (hash : ℕ) → s.width ≡ 64 → IsUsable s global c → hash ≡ hash_of c →
     ((k : ℕ) → k < length c → (is_among part (get_or c k 0) ≡ true) ⊎ (s.units (with_var global (negated (get_or c k 0))) ≡ true)) → MayDerive s (map (with_var global) part) (hash ∷ [])
 may_shorten s global c part hash width u e each =
@@ -39,7 +39,7 @@ long_some [] n = absurd (omega arith)
 long_some (l ∷ []) n = absurd (omega arith)
 long_some (l ∷ m ∷ ls) n = refl
 
--- and then replaces the clause, where a literal of it is missing
+-- then the part may replace the clause if it lacks one of its literals
 pub may_replace : (s : Session) (ks ms hashes : List ℕ) (w : ℕ) → 1 < length (canonical ks) → is_tautology ks ≡ false → is_part ks ms ≡ true → is_among ms w ≡ true → is_among ks w ≡ false → MayReplace (after (AtClause false ks hashes) s) ms
 may_replace s ks ms hashes w two plain within there missing = record {
   part = canonical ks;
@@ -48,7 +48,7 @@ may_replace s ks ms hashes w two plain within there missing = record {
   strict = false_from_ne_true (is_part ms (canonical ks)) (λ t. true≢false (sym (part_has ms (canonical ks) w t there) ∙ canonical_among ks w ∙ missing));
 }
 
--- a live clause has no variable's both signs
+-- a live clause is no tautology
 pub live_plain : (s : Session) (c : List ℕ) → ArePlain s → IsLive s c → is_tautology c ≡ false
 live_plain s c plain h =
     let set : List ℕ = canonical c in

@@ -1,4 +1,4 @@
--- What the steps of learning ask and leave.
+-- What the steps of learning require, and what they preserve.
 use Rattle.std.proofs.Common.{ℕ, ◌≡◌, ◌<◌, ◌≤◌, List, [], ◌∷◌, length, get_or, refl, ◌∙◌, ap, subst, arith}
 use Rattle.sat_base.specs.values.Literals.{variable}
 use Rattle.sat_store.specs.clause.Buffer.{IsClause, lits_at}

@@ -1,4 +1,4 @@
--- Units of level 0 are written in the order of the trail, and then every literal of level 0 is a unit of the session.
+-- Units of level 0 are written in trail order. Then every literal of level 0 is a unit of the session.
 use Rattle.std.proofs.Common.{ℕ, zero, suc, ◌-◌, ◌/◌, ◌^◌, ◌<◌, ◌≤◌, ◌≡◌, Bool, true, false, cond, eqb, List, [], ◌∷◌, map, length, get_or, refl, sym, ◌∙◌, ap, subst, arith, ◌⊎◌, inl, inr, Option, Some}
 use Rattle.std.proofs.lemmas.Bool.{or_cases, or_left, or_right, eqb-true, eq-eqb, true≢false, false_from_ne_true}
 use Rattle.std.specs.List.{AllByRecursion}
@@ -33,7 +33,7 @@ use Rattle.sat_solver.proofs.lemmas.fits.UsableLemmas.{reason_usable, conflict_u
 use Rattle.sat_solver.proofs.lemmas.fits.FitLemmas.{fact_unsat, all_at}
 
 module _ (st : State) (global : ℕ → ℕ) where
-  -- what is known of a session's units
+  -- every unit of the session is true at level 0
   record Sound (t : Session) : Type 0 where
     sound : (l : ℕ) → t.solver_names (global (variable l)) ≡ Some (variable l) → t.units (with_var global l) ≡ true → IsTrueLit st.values l × (level st l ≡ 0)
 
@@ -51,7 +51,7 @@ module _ (st : State) (global : ℕ → ℕ) where
     unsat : t'.unsat ≡ t.unsat
     sound : Sound t'
 
-  -- the negation of a literal of level 0 is no unit
+  -- the negation of a true literal of level 0 is no unit
   never : (t : Session) (l : ℕ) → Sound t → IsGood t.solver_names l → t.units (negated (with_var global l)) ≡ false
   never t l s g = false_from_ne_true (t.units (negated (with_var global l))) (λ u.
       let n : t.solver_names (global (variable (negated l))) ≡ Some (variable (negated l)) = subst (λ v. t.solver_names (global v) ≡ Some v) (sym (negated_variable l)) g.named in
@@ -94,7 +94,7 @@ module _ (st : State) (global : ℕ → ℕ) where
         sound = rest.sound;
       }
 
-  -- the literals that are written
+  -- the literals of the written units
   written_same : (words : List ℕ) (width : ℕ) (ls : List ℕ) → map (λ u. u.0) (written_units words st width global ls) ≡ map (with_var global) (written_lits st ls)
   written_same words width [] = refl
   written_same words width (l ∷ ls) = go (is_unit_reason (node st l).reason) (written_same words width ls)
@@ -145,11 +145,11 @@ module _ (words live : List ℕ) (implied : List (List ℕ)) (st : State) (s : S
     sound = λ l n u. (fits.sound l n u).0;
   }
 
-  -- they may be written
+  -- these units may be written
   pub units_may : MayProve s (written_units words st 64 global st.trail.lits)
   units_may = subst (λ w. MayProve s (written_units words st w global st.trail.lits)) fits.width (trail_units_may words live implied st s global (λ o c. omega (arith, clauses.long o c)) agrees turns units_fit)
 
-  -- and then every literal of level 0 is a unit
+  -- after they are written, every true literal of level 0 is a unit
   pub units_written : FitsAll words live implied st (after (UnitClauses (written_units words st 64 global st.trail.lits)) s) global
   units_written =
       let us : List (ℕ × ℕ) = written_units words st 64 global st.trail.lits in
@@ -183,7 +183,7 @@ module _ (words live : List ℕ) (implied : List (List ℕ)) (st : State) (s : S
       true_or_false true = inl refl
       true_or_false false = inr refl
 
--- units that were written are taken off the trail
+-- written units are taken off the trail
 pub fits_cleared : (words live : List ℕ) (implied : List (List ℕ)) (st st' : State) (s : Session) (global : ℕ → ℕ) → TakesOffUnits st st' → FitsAll words live implied st s global → SessionMatches words live implied st' s global
 fits_cleared words live implied st st' s global c h = record {
   clauses = h.fits.clauses;
@@ -196,7 +196,7 @@ fits_cleared words live implied st st' s global c h = record {
 
 -- THE EMPTY CLAUSE
 
--- a conflict at level 0, once its units are written
+-- at a conflict at level 0, the empty clause may be derived once the units are written
 pub empty_may : (words live : List ℕ) (implied : List (List ℕ)) (st : State) (s : Session) (global : ℕ → ℕ) (e : Conflict) → FitsAll words live implied st s global → StateIsConsistent st → length st.trail.starts ≡ 0 → IsConflict words live implied st.values e →
     MayDerive s [] (hash_of (falsified words e) ∷ [])
 empty_may words live implied st s global e h agrees bottom conflict =

@@ -1,4 +1,4 @@
--- Clauses that reasons and conflicts name are live in the session, and have there the hashes that are computed.
+-- Reasons and falsified clauses are live in the session, with the hashes that the search computes.
 use Rattle.std.proofs.Common.{ℕ, suc, ◌-◌, ◌/◌, ◌^◌, ◌<◌, ◌≡◌, Bool, true, false, ◌||◌, eqb, List, [], ◌∷◌, map, drop, length, get_or, refl, sym, ap, subst, arith, inl, inr, Option}
 use Rattle.std.proofs.lemmas.Bool.{or_cases, or_from, ne_eqb, eqb-true, cases_lt, cases_order, true≢false, false_from_ne_true}
 use Rattle.std.proofs.lemmas.List.{get_or_past}
@@ -33,7 +33,7 @@ use Rattle.sat_solver.specs.session.TrailEntries.{reason_clause}
 use Rattle.sat_solver.proofs.lemmas.trail.ClauseLemmas.{binary_there, long_there, in_front, in_after}
 use Rattle.sat_solver.specs.session.Fits.{ArePaired, is_redundant}
 
--- a literal among others stands at a place
+-- a literal of a list has a position
 pub among_place : (xs : List ℕ) (m : ℕ) → is_among xs m ≡ true → (k : ℕ) × ((k < length xs) × (get_or xs k 0 ≡ m))
 among_place [] m t = absurd (true≢false (sym t))
 among_place (x ∷ xs) m t = elim (or_cases (eqb x m) (is_among xs m) t) [
@@ -41,7 +41,7 @@ among_place (x ∷ xs) m t = elim (or_cases (eqb x m) (is_among xs m) t) [
   | inr r ↦ let p = among_place xs m r in (suc p.0, (omega (arith, p.1.0), p.1.1))
 ]
 
--- different literals in the words of the checker
+-- different literals never repeat, in terms of the checker
 pub once_distinct : (ls : List ℕ) → AreDistinct ls → NoRepeats ls
 once_distinct [] h = tt
 once_distinct (x ∷ xs) h = (
@@ -52,7 +52,7 @@ once_distinct (x ∷ xs) h = (
   once_distinct xs (λ j k a b e. let q : suc j ≡ suc k = h (suc j) (suc k) (omega arith) (omega arith) e in omega arith),
 )
 
--- what an implied literal says of the number of lists
+-- a literal that implies another one is within the range of lists
 in_range : (implied : List (List ℕ)) (l m : ℕ) → Contains (implied_by implied l) m → l < length implied
 in_range implied l m c = elim (cases_lt l (length implied)) [
   | inl lt ↦ lt
@@ -84,7 +84,7 @@ module _ (words live : List ℕ) (implied : List (List ℕ)) (s : Session) (glob
       in_front (pair a b) (binaries implied) (longs (is_redundant words) words live)
       (binary_there implied a b c.0 (in_range implied (negated a) b c) c.1 (at_place (implied_by implied (negated a)) b c) lt)
 
-  -- a clause of two literals
+  -- a binary clause
   pub pair_usable : (a b : ℕ) → Contains (implied_by implied (negated a)) b → IsUsable s global (a ∷ b ∷ [])
   pair_usable a b c = elim (cases_order a b) [
     | inl e ↦ absurd (paired.apart a b c e)
@@ -112,18 +112,18 @@ module _ (words live : List ℕ) (implied : List (List ℕ)) (s : Session) (glob
       let it : LiveClause = record { redundant = is_redundant words o; literals = lits_at words o } in
       clauses.named it (in_after it (binaries implied) (longs (is_redundant words) words live) (long_there (is_redundant words) words live o c))
 
-  -- the clause by which a literal of the trail is true
+  -- the reason of a literal on the trail
   pub reason_usable : (st : State) (i : ℕ) (r : Reason) → is_unit_reason r ≡ false → Implies words live implied st i r → IsUsable s global (reason_clause words (lit_at st i) r)
   reason_usable st i NoCause u h = absurd (true≢false u)
   reason_usable st i (Binary ls) u h = pair_usable (lit_at st i) (get_or ls 0 0) (paired.back (get_or ls 0 0) (lit_at st i) h.0)
   reason_usable st i (Long o) u h = long_usable o h.0
 
-  -- the clause that was found false
+  -- the falsified clause
   pub conflict_usable : (values : List (Option Bool)) (e : Conflict) → IsConflict words live implied values e → IsUsable s global (falsified words e)
   conflict_usable values (conflicts.Binary ls) c = pair_usable (get_or ls 0 0) (get_or ls 1 0) (paired.back (get_or ls 1 0) (get_or ls 0 0) c.0)
   conflict_usable values (conflicts.Long o) c = long_usable o c.0
 
--- the two ways in which the clause of a reason is written agree
+-- two ways to write the clause of a reason agree
 pub reason_clauses : (words live : List ℕ) (implied : List (List ℕ)) (st : State) (i count : ℕ) (r : Reason) → AreClauses words live count → is_unit_reason r ≡ false → Implies words live implied st i r → lit_at st i ∷ causes words r ≡ reason_clause words (lit_at st i) r
 reason_clauses words live implied st i count NoCause h u x = absurd (true≢false u)
 reason_clauses words live implied st i count (Binary ls) h u x = refl

@@ -1,4 +1,4 @@
--- A search fits each session that it can't tell from one that it fits, and it sees nothing of a tautology.
+-- A search that matches a session matches every session that looks the same to it. A tautology changes nothing for it.
 use Rattle.std.proofs.Common.{inl, inr, ℕ, ◌≡◌, ◌∙◌, true, Option, Some, List, [], ◌∷◌, map, sym, ap}
 use Rattle.sat_base.specs.values.Literals.{variable, is_positive}
 use Rattle.sat_base.specs.steps.Steps.{Step}
@@ -51,7 +51,7 @@ search_alike s t c x a =
     unit_same : (l : ℕ) → s.solver_names (global_in c (variable l)) ≡ Some (variable l) → t.units (with_var (global_in c) l) ≡ s.units (with_var (global_in c) l)
     unit_same l e = ap t.units (sym (coded_by (global_in c) l)) ∙ a.units (global_in c (variable l)) (variable l) (is_positive l) e ∙ ap s.units (coded_by (global_in c) l)
 
--- a clause with both signs of a variable was added
+-- a tautology was added
 pub tautology_loads : (steps : List Step) (c : Search) (ls : List ℕ) → IsAdded steps c ls → is_tautology ls ≡ true → IsSearch (session_after steps) c
 tautology_loads steps c ls added both =
     let x = added.search in

@@ -42,7 +42,7 @@ fully_restarted c p a bottom holds same carries stay placed lits =
       };
     }
 
--- a variable of literals that have their solver names has its own
+-- a variable of literals with solver names has its own solver name
 pub mention_named : (global : ℕ → ℕ) (names : ℕ → Option ℕ) (ls : List ℕ) (v : ℕ) → AreMapped global names ls → mentions ls v ≡ true → names (global v) ≡ Some v
 mention_named global names [] v h t = absurd (true≢false (sym t))
 mention_named global names (l ∷ ls) v h t = elim (or_cases (eqb (variable l) v) (mentions ls v) t) [
@@ -50,7 +50,7 @@ mention_named global names (l ∷ ls) v h t = elim (or_cases (eqb (variable l) v
   | inr k ↦ mention_named global names ls v h.1 k
 ]
 
--- one that isn't mentioned isn't that of a literal
+-- a variable that isn't mentioned differs from those of all literals
 pub mention_not : (ls : List ℕ) (v : ℕ) → mentions ls v ≡ false → (k : ℕ) → k < length ls → variable (get_or ls k 0) ≢ v
 mention_not [] v out k lt = absurd (let less : k < 0 = lt in omega arith)
 mention_not (l ∷ ls) v out zero lt = λ e. true≢false (sym (or_left (eqb (variable l) v) (mentions ls v) (eq-eqb (variable l) v e)) ∙ out)
@@ -64,7 +64,7 @@ variables_mention [] v c = absurd (let lt : c.0 < 0 = c.1 in omega arith)
 variables_mention (l ∷ ls) v (zero, lt, e) = or_left (eqb (variable l) v) (mentions ls v) (eq-eqb (variable l) v e)
 variables_mention (l ∷ ls) v (suc k, lt, e) = or_right (eqb (variable l) v) (mentions ls v) (variables_mention ls v (k, omega arith, e))
 
--- other literals are assumed
+-- other assumptions replace the current ones
 pub assumed : (c : Search) (a : Assumptions) → c.parts.trail.starts ≡ [] → HaveVariablesIn a.lits.items c.parts → ((s : State) → s.trail.starts ≡ [] → ArePlaced a s) → ReplacesAssumed a.lits.items c (record c { assumptions = a })
 assumed c a bottom there placed = record {
   lits = refl;

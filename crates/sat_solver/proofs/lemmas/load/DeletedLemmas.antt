@@ -1,4 +1,4 @@
--- A clause that is loaded is deleted, as it is true.
+-- A loaded clause with a true literal is deleted.
 use Rattle.std.proofs.Common.{ℕ, ◌≡◌, ◌∙◌, Bool, true, Result, Ok, Err, OnOk, List, ◌∷◌, sym, ap, subst}
 use Rattle.sat_base.specs.device.Device.{Writer}
 use Rattle.sat_base.specs.steps.Steps.{DeleteClause, Satisfied}
@@ -14,7 +14,7 @@ use Rattle.sat_solver.specs.cdcl.Going.{EmitsSteps, EmitsStepsOr}
 use Rattle.sat_solver.specs.cdcl.Joint.{IsSearch}
 use Rattle.sat_solver.proofs.lemmas.session.ComingLemmas.{comes_one}
 
--- the clause that was added is deleted, and unsat isn't recorded
+-- the only step deletes the clause that was added, and unsat isn't recorded
 pub comes_true : {W L full : Type 0} {G : Ghosts L} (seen : W → Writer) (r : Result Bool SolverError) (p q : Proof W L G) (clause : List ℕ) (c c' : Search) → EmitsSteps seen r p q (λ left _. (left ≡ true) × (steps_of q ≡ DeleteClause clause Satisfied ∷ steps_of p)) →
     EmitsStepsOr full seen r p q (λ left _. IsLoaded left (session_of q) c c') → IsLastAdded (steps_of p) clause → OnOk r (OnlyAllowedSteps DeletesAdded (steps_of p) (steps_of q))
 comes_true seen (Ok left) p q clause c c' g h last =

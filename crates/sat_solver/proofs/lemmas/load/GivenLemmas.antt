@@ -1,4 +1,4 @@
--- Indices that proof variables were given, in the session and in the search.
+-- Proof variables are given indices, in the session and in the search.
 use Rattle.std.specs.Prelude.{replicate}
 use Rattle.std.proofs.Common.{ℕ, zero, suc, take, ◌+◌, ◌*◌, ◌/◌, ◌%◌, ◌≡◌, ◌≢◌, ◌<◌, ◌≤◌, ◌∙◌, ◌⊎◌, inl, inr, Bool, true, false, Option, Some, None, List, [], ◌∷◌, ◌++◌, map, length, get_or, refl, sym, ap, subst, arith}
 use Rattle.std.proofs.lemmas.Bool.{cases_lt, true≢false}
@@ -34,14 +34,14 @@ use Rattle.sat_solver.specs.load.Restart.{FullyRestarted}
 use Rattle.sat_solver.specs.variables.Initialized.{GivesLit, IsVacant, AreVacant, ActivatesIndices, Renames, IsGivenTo, GivesNames, GivesSearchIndices}
 use Rattle.sat_solver.proofs.lemmas.load.IndexLemmas.{given_or_not, lit_given}
 
--- two maps of literals agree where their variables do
+-- two maps of variables that agree on a clause map it to the same clause
 pub mapped_same : (f h : ℕ → ℕ) (ls : List ℕ) → ((k : ℕ) → k < length ls → f (variable (get_or ls k 0)) ≡ h (variable (get_or ls k 0))) → map (with_var f) ls ≡ map (with_var h) ls
 mapped_same f h [] same = refl
 mapped_same f h (l ∷ ls) same =
     let e : f (l / 2) ≡ h (l / 2) = same 0 (omega arith) in
     ap (λ v. (2 * v + l % 2) ∷ map (with_var f) ls) e ∙ ap (λ ms. with_var h l ∷ ms) (mapped_same f h ls (λ k lt. same (suc k) (omega arith)))
 
--- other sessions, in which variables that had solver names have them still
+-- another session, in which variables with solver names keep them
 module _ (f h : ℕ → ℕ) (p q : ℕ → Option ℕ) (stays : (v : ℕ) → p (f v) ≡ Some v → (h v ≡ f v) × (q (h v) ≡ Some v)) where
   mapped_on : (ls : List ℕ) → AreMapped f p ls → AreMapped h q ls
   mapped_on [] m = tt
@@ -75,7 +75,7 @@ found globals s t [] x all h = absurd h
 found globals s t (g ∷ gs) x all (inl e) = subst (λ z. Found globals s t z) e (record { without = all.0.without; free = all.0.free; named = all.0.named })
 found globals s t (g ∷ gs) x all (inr k) = found globals s t gs x all.1 k
 
--- the unit of a given index is the session's
+-- the unit of a given index is a unit of the session
 lit_unit : (globals : List ℕ) (s t : Session) (gs : List Given) (l : ℕ) → AllByRecursion (IsGivenTo globals s t) gs → GivesLit gs l → s.units (with_var (global_of_index globals) l) ≡ true
 lit_unit globals s t [] l all h = absurd h
 lit_unit globals s t (g ∷ gs) l all (inl e) =
@@ -100,7 +100,7 @@ unit_lit globals s t (g ∷ gs) l all (inl e) u =
     says_only (Some false) false h = refl
 unit_lit globals s t (g ∷ gs) l all (inr k) u = inr (unit_lit globals s t gs l all.1 k u)
 
--- at level 0 what was looked at stands as long as literals of level 0 do
+-- at level 0, visited assumptions stay visited as long as literals of level 0 stay true
 pub placed_bottom : (ls below : List ℕ) (place : ℕ) (s s' : State) → s.trail.starts ≡ [] → s'.trail.starts ≡ [] → ((l : ℕ) → IsTrueLit s.values l → level s l ≡ 0 → IsTrueLit s'.values l × (level s' l ≡ 0)) →
     IsPlaced ls below place s → IsPlaced ls below place s'
 placed_bottom ls below place s s' e e' kept h =
@@ -137,7 +137,7 @@ module _ (c c' : Search) (globals : List ℕ) (gs : List Given) (count : ℕ) (h
   others v lt out = renamed.others v out ∙ front v lt
 
   module _ (s t : Session) (x : IsSearch s c) (g : GivesNames globals gs (length c.globals.items) s t) where
-    -- what had a solver name wasn't given
+    -- a variable that had a solver name keeps it
     old_stays : (v : ℕ) → s.solver_names (global_in c v) ≡ Some v → (global_in c' v ≡ global_in c v) × (t.solver_names (global_in c' v) ≡ Some v)
     old_stays v own =
         let out : HasGiven gs v → ⊥ = λ h. (found globals s t gs v g.each h).free (global_in c v) own in
@@ -153,7 +153,7 @@ module _ (c c' : Search) (globals : List ℕ) (gs : List Given) (count : ℕ) (h
     names : TrueLitsHaveNames c.parts.assignment.current s (global_in c)
     names = ready_names s c x.ready
 
-    -- units of before are of variables that had solver names
+    -- earlier units are over variables that had solver names
     unit_named : (l : ℕ) → IsUnitLit (state p) l → s.solver_names (global_in c (variable l)) ≡ Some (variable l)
     unit_named l u = names l (unit_true (state c.parts) l holds.below.asks.agrees (grown.units l u)).0
 
@@ -188,7 +188,7 @@ module _ (c c' : Search) (globals : List ℕ) (gs : List Given) (count : ℕ) (h
     small : (k : ℕ) → k < length c.assumptions.lits.items → variable (get_or c.assumptions.lits.items k 0) < n
     small = x.ready.there
 
-    -- what is past the variables is idle
+    -- an index beyond the variables is idle
     past_idle : (v : ℕ) → n ≤ v → IsIdle (assumed_indices c) (state c.parts) c.parts.vsids v
     past_idle v ge = (
       get_or_past c.parts.assignment.current v None ge,
@@ -277,7 +277,7 @@ are_vacant globals s t c count gs h each below apart = record { each = go gs eac
     go [] a b = tt
     go (k ∷ ks) a b = let i = idle_index s c k.solver h a.0.free in (record { below = b.0; open_value = i.0; unpicked = i.1 }, go ks a.1 b.1)
 
--- what is vacant is so after a restart
+-- a vacant index is still vacant after a restart
 pub vacant_restarted : (c c' : Search) (count : ℕ) (gs : List Given) → FullyRestarted c c' → AreVacant c.parts count gs → AreVacant c'.parts count gs
 vacant_restarted c c' count gs back h = record { each = go gs h.each; apart = h.apart }
   where
@@ -287,7 +287,7 @@ vacant_restarted c c' count gs back h = record { each = go gs h.each; apart = h.
         let idle : IsIdle [] (state c'.parts) c'.parts.vsids k.solver = (back.stay []).idle k.solver (a.0.open_value, a.0.unpicked, λ x. let lt : x.0 < 0 = x.1 in omega arith) in
         (record { below = a.0.below; open_value = idle.0; unpicked = idle.1 }, go ks a.1)
 
--- and where there are more variables
+-- it is still vacant after variables are added
 pub vacant_grown : (p q : Parts) (reach count : ℕ) (gs : List Given) → AddsVars p q count → AllByRecursion (λ g. g.solver < count) gs → AreVacant p reach gs → AreVacant q (length q.assignment.current) gs
 vacant_grown p q reach count gs grown past h = record { each = subst (λ n. AllByRecursion (IsVacant q n) gs) (sym grown.size) (go gs past h.each); apart = h.apart }
   where
@@ -299,14 +299,14 @@ pub below_all : (p : Parts) (count : ℕ) (gs : List Given) → AllByRecursion (
 below_all p count [] a = tt
 below_all p count (g ∷ gs) a = (a.0.below, below_all p count gs a.1)
 
--- A LIST THAT IS FILLED UP
+-- A LIST FILLED UP WITH A VALUE
 
 pub front_kept : (xs zs : List ℕ) (count m x : ℕ) → length xs ≤ count → zs ≡ take count xs ++ replicate m x → (v : ℕ) → v < length xs → get_or zs v 0 ≡ get_or xs v 0
 front_kept xs zs count m x le e v lt = ap (λ ws. get_or ws v 0) e ∙ ap (λ ws. get_or (ws ++ replicate m x) v 0) (take_all count xs le) ∙ get_or_append_left xs (replicate m x) 0 v lt
 
 -- NO INDICES
 
--- a session in which only variables without an index got names is the same to a search
+-- if only variables without an index got names, the search still agrees with the session
 none_given : (globals : List ℕ) (count : ℕ) (s t : Session) (c : Search) → IsSearch s c → GivesNames globals [] count s t → IsSearch t c
 none_given globals count s t c x g = record {
   valid = record {
@@ -333,7 +333,7 @@ none_given globals count s t c x g = record {
   };
 }
 
--- where no index was given, a search at level 0 has all of them
+-- without new indices, a search at level 0 is unchanged
 pub none_indexed : (globals : List ℕ) (c : Search) → length c.globals.items ≡ length c.parts.assignment.current → c.parts.trail.starts ≡ [] → PartsInvariant c.parts → GivesSearchIndices globals [] c c
 none_indexed globals c next bottom holds = record {
   named = λ v h. absurd h;
@@ -351,7 +351,7 @@ none_indexed globals c next bottom holds = record {
 
 -- THE RESTART
 
--- a search was restarted, and then it got these indices
+-- a search was restarted, and then given these indices
 pub restarted_indexed : (gs ks : List ℕ) (hs js : List Given) (c m c' : Search) → gs ≡ ks → hs ≡ js → FullyRestarted c m → GivesSearchIndices gs hs m c' → GivesSearchIndices ks js c c'
 restarted_indexed gs ks hs js c m c' same_globals same_given back i =
     let kept : length m.globals.items ≡ length c.globals.items = ap (λ w. length w.items) back.moved.globals in

@@ -72,7 +72,7 @@ takes_cons g gs p m q apart x y = record {
   its = λ l h. elim h [ inl e ↦ (let w = x.its l (inl e) in y.kept l w.0 w.1) | inr k ↦ y.its l k ];
 }
 
--- the others are vacant still
+-- the other indices are still vacant
 pub vacant_on : (g : Given) (gs : List Given) (p m : Parts) (count : ℕ) → AllByRecursion (λ h. h.solver ≢ g.solver) gs → ActivatesIndices (g ∷ []) p m → AllByRecursion (IsVacant p count) gs → AllByRecursion (IsVacant m count) gs
 vacant_on g [] p m count apart x h = tt
 vacant_on g (k ∷ ks) p m count apart x h =
@@ -86,7 +86,7 @@ module _ (p m p' : Parts) (g : Given) (bottom : p.trail.starts ≡ []) (vacant :
   same_state : state m ≡ state p
   same_state = rw (same.1.0, same.1.1, same.1.2) refl
 
-  -- one with a unit
+  -- an index is taken together with its unit
   pub takes_restored : (l : ℕ) → variable l ≡ g.solver → g.unit ≡ Some (is_positive l) → SameClauses m p' → GainsUnit l (state m) (state p') → p'.assignment ≡ made_true l m.assignment → p'.vsids ≡ m.vsids → p'.trail ≡ m.trail → ActivatesIndices (g ∷ []) p p'
   takes_restored l var unit clauses gains values queue trail =
       let its : (k : ℕ) → variable l ≡ variable k → is_positive l ≡ is_positive k → k ≡ l = λ k e b. lit_from_parts k l (sym e) (sym b) in

@@ -49,12 +49,12 @@ use Rattle.sat_solver.proofs.lemmas.load.BottomLemmas.{mention_named}
 use Rattle.sat_solver.proofs.lemmas.load.GivenLemmas.{placed_bottom}
 use Rattle.sat_parts.specs.parts.Assumed.{ArePlaced}
 
--- what is assumed stays so as a clause is added
+-- adding a clause leaves the assumptions unchanged
 pub asked_added : (ks : List ℕ) (earlier : List Step) → (session_after earlier).unsat ≡ false → (session_after (AddClause ks ∷ earlier)).assumed ≡ (session_after earlier).assumed
 asked_added ks earlier consistent =
     ap (λ b. (session_if b (session_after earlier) (with_live_clause false ks (knowing_literals ks (session_after earlier)))).assumed) consistent ∙ asked_after (AtClause false ks [] ∷ []) earlier (refl, tt)
 
--- and the solver names
+-- adding a clause leaves solver names unchanged, too
 pub leaves_added : (ks : List ℕ) (earlier : List Step) → (session_after earlier).unsat ≡ false → SameAssumedAndNames (session_after earlier) (session_after (AddClause ks ∷ earlier))
 leaves_added ks earlier consistent = record {
   assumed = asked_added ks earlier consistent;
@@ -62,7 +62,7 @@ leaves_added ks earlier consistent = record {
       ap (λ b. (session_if b (session_after earlier) (with_live_clause false ks (knowing_literals ks (session_after earlier)))).solver_names v) consistent ∙ (leaves_after (AtClause false ks [] ∷ []) earlier (refl, tt)).names v;
 }
 
--- different literals of these variables are few
+-- a clause of different literals has fewer than 2^32 of them
 pub few_lits : (c : Search) (ls : List ℕ) → PartsInvariant c.parts → MayLoad c ls → length ls < 2 ^ 32
 few_lits c ls holds may =
     let n : length ls ≤ 2 * length c.parts.assignment.current = fits_below ls (2 * length c.parts.assignment.current) may.differ may.below in
@@ -77,12 +77,12 @@ mentions_at (l ∷ ls) (suc k) lt = or_right (eqb (variable l) (variable (get_or
 leaves_both : (s t u : Session) → SameAssumedAndNames s t → SameAssumedAndNames t u → SameAssumedAndNames s u
 leaves_both s t u x y = record { assumed = y.assumed ∙ x.assumed; names = λ v. y.names v ∙ x.names v }
 
--- nothing was written, and then the clause buffer refused
+-- nothing was written, and then the clause buffer returned an error
 pub goes_unstored : {A W L full : Type 0} {G : Ghosts L} (seen : W → Writer) (e : StoreError) (p : Proof W L G) (P : A → List Step → Type 0) → HasAllowedSteps p → (e ≡ stores.StoreFull → full) → EmitsStepsOr full seen (Err (buffer_failure e)) p p P
 goes_unstored seen stores.StoreFull p P keeps f = record { steps = []; went = adds_none seen p; searched = tt; quiet = tt; keeps = keeps; kept = tt; loss = refl; ends = f refl }
 goes_unstored seen stores.OutOfMemory p P keeps f = record { steps = []; went = adds_none seen p; searched = tt; quiet = tt; keeps = keeps; kept = tt; loss = inl refl; ends = tt }
 
--- lists that steps are made of don't matter
+-- the lists from which steps are made don't matter
 loaded_scratch : (s : Session) (c c' : Search) (x : Scratch) → IsLoaded true s c c' → IsLoaded true s c (record c' { scratch = x })
 loaded_scratch s c c' x h =
     let r = h.goes_on.ready in
@@ -121,7 +121,7 @@ module _ (c : Search) (ls : List ℕ) (steps : List Step) (added : IsAdded steps
   none_some : {A : Type 0} (x : A) → None ≡ Some x → ⊥
   none_some x e = cc
 
-  -- what was idle and isn't of the clause stays so
+  -- an idle variable stays idle if it isn't in the clause
   idle2 : (r : Loaded) → LoadEffect r p1 p2 ms → (v : ℕ) → mentions ls v ≡ false → IsIdle (assumed_indices c) (state c.parts) c.parts.vsids v → IsIdle (assumed_indices c) (state p2) p2.vsids v
   idle2 r says v out idle = (
     elim (open_or_true p2.assignment.current v) [
@@ -205,7 +205,7 @@ module _ (c : Search) (ls : List ℕ) (steps : List Step) (added : IsAdded steps
     bottom = kept.1;
   }
 
-  -- each of its literals has a proof variable
+  -- every literal of the clause has a proof variable
   pub loaded_names : (k : ℕ) → k < length ms → variable (get_or ms k 0) < length c'.globals.items
   loaded_names k lt =
       let x = shuffled_last p1.assignment.current ls in
@@ -221,7 +221,7 @@ module _ (c : Search) (ls : List ℕ) (steps : List Step) (added : IsAdded steps
       let h : IsLoaded true (session_after later) c c' = rw e (loaded_deleted says two) in
       rw good (subst (λ z. IsLoaded true (session_after later) c z) (sym rest) (loaded_scratch (session_after later) c c' c4.scratch h))
 
-  -- it is the clause that was added, its literals in another order
+  -- the stored literals are those of the added clause in some order
   pub loaded_last : (ds : List ℕ) → ds ≡ ms → IsLastAdded steps (map (with_var (global_in c')) ds)
   loaded_last ds same = record {
     added = map (with_var (global_in c)) ls;

@@ -1,4 +1,4 @@
--- What calls over names give is what a search takes.
+-- The indices that a call gives to names are those that the search takes.
 use Rattle.std.proofs.Common.{ℕ, zero, suc, ◌*◌, ◌/◌, ◌%◌, ◌+◌, ◌≡◌, ◌<◌, ◌∙◌, inl, inr, Option, Some, None, List, [], ◌∷◌, map, length, get_or, refl, sym, ap, subst, arith}
 use Rattle.std.specs.List.{AllByRecursion}
 use Rattle.sat_base.specs.values.Literals.{variable, coded}
@@ -40,7 +40,7 @@ module _ (old new : Variables) (s t : Session) (gs : List Given) (tidy : AreTidy
   all_below (k ∷ ks) h = ((let lt : k.solver < indices_used new = some_within new.solver_from_global.bwd k.solver h.0.variable h.0.taken in omega (arith, tidy'.globals_count)), all_below ks h.1)
 
   module _ (c : Search) (shares : SharesIndices old c) where
-    -- the session after the steps is one where the search may take the indices
+    -- the session before and after the steps is as the search requires, so that it may take the indices
     pub gives_names : GivesNames new.globals.items gs (length c.globals.items) s t
     gives_names = record {
       keeps = keeps;
@@ -53,7 +53,7 @@ module _ (old new : Variables) (s t : Session) (gs : List Given) (tidy : AreTidy
     pub given_vacant : IsSearch s c → AreVacant c.parts (length new.globals.items) gs
     given_vacant h = are_vacant new.globals.items s t c (length new.globals.items) gs h (all_given gs gives.each) (all_below gs gives.each) gives.apart
 
-    -- and then it has those of the names
+    -- then search and names share the indices
     pub shares_given : (c' : Search) → GivesSearchIndices new.globals.items gs c c' → SharesIndices new c'
     shares_given c' a = record { size = a.size; few = (let k = tidy'.globals_count in let u = gives.used in let f = shares.few in let le = a.few (omega arith) in omega arith); below = below; same = same }
       where
@@ -79,7 +79,7 @@ module _ (old new : Variables) (s t : Session) (gs : List Given) (tidy : AreTidy
 
 -- LITERALS OVER INDICES
 
--- each literal is of an index that a variable has
+-- every literal is over the index of a proof variable
 abbrev pub AreOver : Variables → List ℕ → Type 0
 AreOver n = AllByRecursion (λ l. (v : ℕ) × (global_at n (variable l) ≡ Some v))
 
@@ -93,7 +93,7 @@ over_named n c t [] tidy names shares h = tt
 over_named n c t (l ∷ ls) tidy names shares h =
     (ap t.solver_names (shares.same (variable l) h.0.0 h.0.1) ∙ names h.0.0 ∙ tidy.solvers.forth h.0.0 (variable l) h.0.1, over_named n c t ls tidy names shares h.1)
 
--- the same literals over proof variables, by the names and by the search
+-- names and search map these literals to the same proof variables
 pub over_same : (n : Variables) (c : Search) (ls : List ℕ) → AreTidy n → SharesIndices n c → AreOver n ls → map (with_var (adding.global_with_index n)) ls ≡ map (with_var (global_in c)) ls
 over_same n c [] tidy shares h = refl
 over_same n c (l ∷ ls) tidy shares h =

@@ -1,4 +1,4 @@
--- What a call over names took is what a search loads.
+-- The clause that a call over names received is the one that the search loads.
 use Rattle.std.proofs.Common.{ℕ, zero, suc, ◌≡◌, ◌<◌, ◌∙◌, true, false, List, [], ◌∷◌, length, get_or, refl, sym, ap, subst, arith, Bool, eqb, inl, inr, Some}
 use Rattle.std.proofs.lemmas.Bool.{true≢false, or_cases, or_left, or_right, eq-eqb, eqb-true}
 use Rattle.sat_base.specs.values.Literals.{variable, is_positive}
@@ -34,7 +34,7 @@ distinct_once (l ∷ ls) h (suc j) (suc k) a b e = ap (λ i. suc i) (distinct_on
 pub canonical_differ : (ls : List ℕ) → AreDistinct (canonical ls)
 canonical_differ ls = distinct_once (canonical ls) (once (canonical ls) (canonical_increasing ls))
 
--- LITERALS THAT A CALL TOOK
+-- LITERALS OF A CALL
 
 member : (P : ℕ → Type 0) (ls : List ℕ) (l : ℕ) → AllByRecursion P ls → is_among ls l ≡ true → P l
 member P [] l h t = absurd (true≢false (sym t))
@@ -45,7 +45,7 @@ all_members P ls [] h f = tt
 all_members P ls (m ∷ ms) h f =
     (member P ls m h (f m (or_left (eqb m m) (is_among ms m) (eq-eqb m m refl))), all_members P ls ms h (λ k t. f k (or_right (eqb m k) (is_among ms k) t)))
 
--- each is of an index
+-- every literal is over an index
 pub images_over : (n : Variables) (user ls : List ℕ) → AreTidy n → Images n user ls → AreOver n ls
 images_over n user ls tidy i = all_at (λ l. (v : ℕ) × (global_at n (variable l) ≡ Some v)) ls (λ k lt.
     let x : Image n (get_or user k 0) (get_or ls k 0) = i.each k (omega (arith, i.count)) in
@@ -55,7 +55,7 @@ images_over n user ls tidy i = all_at (λ l. (v : ℕ) × (global_at n (variable
 pub set_over : (n : Variables) (ls : List ℕ) → AreOver n ls → AreOver n (canonical ls)
 set_over n ls h = all_members (λ l. (v : ℕ) × (global_at n (variable l) ≡ Some v)) ls (canonical ls) h (λ m t. sym (canonical_among ls m) ∙ t)
 
--- solver names are as they were once the clause is added
+-- adding a clause leaves solver names unchanged
 pub added_names : (ks : List ℕ) (s : Session) (v : ℕ) → (after (AddClause ks) s).solver_names v ≡ s.solver_names v
 added_names ks s v = ap (λ f. f v) (go s.unsat)
   where
@@ -63,13 +63,13 @@ added_names ks s v = ap (λ f. f v) (go s.unsat)
     go true = refl
     go false = names_added ks s
 
--- THE CLAUSE THAT A CALL TOOK
+-- THE CLAUSE OF A CALL
 
 module _ (new : Variables) (t : Taken) (user : List ℕ) (between to : List Step) (c : Search) (tidy : AreTidy new) (images : Images new user t.order.items) (maps : MapsClause new t) (shares : SharesIndices new c) where
   over : AreOver new t.lits.items
   over = subst (λ ls. AreOver new ls) (sym maps.lits) (set_over new t.order.items (images_over new user t.order.items tidy images))
 
-  -- it may be loaded
+  -- the clause may be loaded
   pub taken_may : c.parts.trail.starts ≡ [] → is_tautology t.order.items ≡ false → MayLoad c t.lits.items
   taken_may bottom plain = record {
     bottom = bottom;
@@ -78,7 +78,7 @@ module _ (new : Variables) (t : Taken) (user : List ℕ) (between to : List Step
     below = λ k lt. (let z : variable (get_or t.lits.items k 0) < length c.parts.assignment.current = over_below new c t.lits.items shares over k lt in omega (arith, z));
   }
 
-  -- its step was the last
+  -- the last step added the clause
   pub taken_added : to ≡ AddClause t.globals.items ∷ between → ((v : ℕ) → (session_after to).solver_names v ≡ solver_of new v) → IsSearch (session_after between) c → IsAdded to c t.lits.items
   taken_added written names search = record {
     earlier = between;

@@ -1,4 +1,4 @@
--- Long gaps.
+-- Long gaps between restarts occur again and again.
 use Rattle.std.proofs.Common.{◌≡◌, ◌≢◌, ℕ, zero, suc, ◌+◌, ◌-◌, ◌*◌, ◌^◌, ◌<◌, ◌≤◌, inl, inr, arith, refl, sym, ap, ◌∙◌, subst, false}
 use Rattle.std.specs.Bool.{◌==◌}
 use Rattle.std.proofs.lemmas.Bool.{cases_lt}
@@ -19,7 +19,7 @@ pow_mono zero n h = omega (arith, pow_pos n)
 pow_mono (suc m) zero h = absurd (omega arith)
 pow_mono (suc m) (suc n) h = omega (arith, pow_double m, pow_double n, pow_mono m n (omega arith))
 
--- each positive number stands between two powers
+-- every positive number is between a power of 2 and the next one
 between : (s : ℕ) → (k : ℕ) × ((2 ^ k ≤ s + 1) × (s + 1 < 2 ^ suc k))
 between zero = (0, (omega arith, omega arith))
 between (suc s) = let l : (k : ℕ) × ((2 ^ k ≤ s + 1) × (s + 1 < 2 ^ suc k)) = between s in elim (cases_lt (s + 2) (2 ^ suc l.0)) [
@@ -27,7 +27,7 @@ between (suc s) = let l : (k : ℕ) × ((2 ^ k ≤ s + 1) × (s + 1 < 2 ^ suc k)
   | inr h ↦ (suc l.0, (omega (arith, h), omega (arith, l.1.1, pow_double (suc l.0), pow_pos l.0, pow_double l.0)))
 ]
 
--- of any 2 ^ (j + 1) - 1 terms in a row one is at least 2 ^ j
+-- of any 2 ^ (j + 1) - 1 consecutive terms, one is at least 2 ^ j
 window_below : (n j s : ℕ) → s ≤ n → 0 < s → (t : ℕ) × ((s ≤ t) × (t + 1 < s + 2 ^ suc j) × (2 ^ j ≤ luby t))
 window_below zero j s h p = absurd (omega arith)
 window_below (suc n) j s h p =
@@ -60,14 +60,14 @@ window j s p = window_below s j s (omega arith) p
 after_less : (t : ℕ) → t ≢ 2 ^ 64 - 1 → wrapped_number t ≡ t
 after_less t d = let e : (t == 2 ^ 64 - 1) ≡ false = grind (arith, nat_tests) in rw e refl
 
--- terms that are no last ones are given in turn
+-- terms are numbered in turn until the counter wraps
 given_in_turn : (d t : ℕ) → ((i : ℕ) → i < d → t + i + 1 ≢ 2 ^ 64 - 1) → given_after d t ≡ t + d
 given_in_turn zero t h = omega arith
 given_in_turn (suc d) t h =
     let e : wrapped_number (t + 1) ≡ t + 1 = after_less (t + 1) (λ q. h 0 (omega arith) (omega arith)) in
     ap (λ z. given_after d z) e ∙ given_in_turn d (t + 1) (λ i b q. h (i + 1) (omega arith) (omega arith)) ∙ omega arith
 
--- whatever terms were given, one of the next 2 ^ (j + 1) - 1 is at least 2 ^ j, also where the terms begin again
+-- after any number of terms, one of the next 2^(j+1) - 1 is at least 2^j, even if the counter wraps
 pub long_ahead : (j given : ℕ) → j < 64 → (d : ℕ) × ((d + 1 < 2 ^ suc j) × (2 ^ j ≤ luby (given_after d given + 1)))
 long_ahead j given few =
     let w : (t : ℕ) × ((given + 1 ≤ t) × (t + 1 < given + 1 + 2 ^ suc j) × (2 ^ j ≤ luby t)) = window j (given + 1) (omega arith) in

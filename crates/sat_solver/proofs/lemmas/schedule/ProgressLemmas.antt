@@ -52,7 +52,7 @@ rank_few n w = omega (arith, rank_below n w, pow_next n)
 gaps_few : (n start round next given : ℕ) (w : List Letter) (p : AskProgress n start round next given w) → p.gaps + 1 ≤ 2 ^ (n + 2)
 gaps_few n start round next given w p = elim p.due [ inl x ↦ omega (arith, x.few) | inr x ↦ x.few ]
 
--- it has come to few rounds
+-- the ask has made few rounds so far
 pub progress_few : (n start round next given : ℕ) (w : List Letter) → AskProgress n start round next given w → round + 1 < start + 2 ^ (2 * n + 3)
 progress_few n start round next given w p =
     omega (arith, p.spent, p.risen, rank_few n w, times_next p.gaps (2 ^ (n + 1)), times_mono (p.gaps + 1) (2 ^ (n + 2)) (2 ^ (n + 1)) (gaps_few n start round next given w p), pow_whole n)
@@ -66,7 +66,7 @@ long_begun n round term scale some h = elim (cases_lt (round + term * scale) (2 
   | inr ge ↦ inr (omega arith)
 ]
 
--- it restarts
+-- the search restarts
 pub progress_restarts : (n start round next given scale : ℕ) (w v : List Letter) → round < 2 ^ 64 - 1 → next ≤ round → 0 < scale → AskProgress n start round next given w →
     AskProgress n start round (gap_end round (luby (given + 1)) scale) (wrapped_number (given + 1)) v
 progress_restarts n start round next given scale w v counts over some p =
@@ -86,12 +86,12 @@ progress_restarts n start round next given scale w v counts over some p =
     coming zero few long = inr (record { few = omega arith; long = long_begun n round (luby (given + 1)) scale some long })
     coming (suc d) few long = inl (record { ahead = d; few = omega arith; long = long })
 
--- a round
+-- a round raises the word
 pub progress_climbs : (n start round next given : ℕ) (w v : List Letter) → word_rank n w < word_rank n v → AskProgress n start round next given w → AskProgress n start (round + 1) next given v
 progress_climbs n start round next given w v lt p =
     record { gaps = p.gaps; base = p.base; spent = p.spent; risen = omega (arith, p.risen); due = p.due }
 
--- what stands between rounds
+-- a change that does not lower the word preserves progress
 pub progress_keeps : (n start round next given : ℕ) (w v : List Letter) → word_rank n w ≤ word_rank n v → AskProgress n start round next given w → AskProgress n start round next given v
 progress_keeps n start round next given w v le p =
     record { gaps = p.gaps; base = p.base; spent = p.spent; risen = omega (arith, p.risen); due = p.due }
@@ -121,7 +121,7 @@ come_few words s n start round next given h = progress_few n start round next gi
 pub come_begins : {A : Type 0} (words : A → List Letter → Type 0) (s : A) (n round next given : ℕ) (w : List Letter) → words s w → n < 63 → AskReachesRound words s n round round next given
 come_begins words s n round next given w h few = (w, (h, progress_begins n round next given w few))
 
--- an ask made few rounds, whatever the number of variables
+-- an ask made few rounds, for any number of variables
 pub few_rounds : {A : Type 0} (words : A → List Letter → Type 0) (s : A) (n start round next given : ℕ) → round < 2 ^ 64 →
     (n < 63 → AskReachesRound words s n start round next given) → round + 1 < start + 2 ^ (2 * n + 3)
 few_rounds words s n start round next given counts h = elim (cases_lt n 63) [
@@ -129,6 +129,6 @@ few_rounds words s n start round next given counts h = elim (cases_lt n 63) [
   | inr ge ↦ omega (arith, pow_mono 65 (2 * n + 3) (omega arith))
 ]
 
--- fewer than were left
+-- the limit of rounds isn't reached
 pub none_left : (n m start steps most : ℕ) → m ≤ n → steps < start + 2 ^ (2 * m + 3) → start ≤ steps → 2 ^ (2 * n + 3) ≤ min most (2 ^ 64 - 1 - start) → min (start + most) (2 ^ 64 - 1) ≤ steps → ⊥
 none_left n m start steps most le few from left end = omega (arith, pow_mono (2 * m + 3) (2 * n + 3) (omega arith))

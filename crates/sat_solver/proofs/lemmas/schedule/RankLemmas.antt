@@ -17,7 +17,7 @@ rank_below (suc n) [] = omega (arith, pow_double (suc n), pow_double n, rank_bel
 rank_below (suc n) (D ∷ w) = omega (arith, pow_double (suc n), rank_below n w)
 rank_below (suc n) (P ∷ w) = omega (arith, pow_double (suc n), rank_below n w)
 
--- a word with more letters isn't lower
+-- appending letters does not lower the rank
 pub rank_begins : (n : ℕ) (u w : List Letter) → word_rank n u ≤ word_rank n (u ++ w)
 rank_begins zero [] w = omega arith
 rank_begins zero (x ∷ u) w = omega arith
@@ -25,7 +25,7 @@ rank_begins (suc n) [] w = omega arith
 rank_begins (suc n) (D ∷ u) w = omega (arith, rank_begins n u w)
 rank_begins (suc n) (P ∷ u) w = omega (arith, rank_begins n u w)
 
--- ranks go by the order of words
+-- a lower word has a lower rank
 pub rank_rises : (n : ℕ) (u v : List Letter) → length v ≤ n → IsLowerWord u v → word_rank n u < word_rank n v
 rank_rises n [] [] h b = absurd b
 rank_rises n (x ∷ u) [] h b = absurd b

@@ -47,7 +47,7 @@ use Rattle.sat_solver.proofs.lemmas.fits.LearnedLemmas.{fits_undone}
 
 -- STEPS THAT ADVANCE
 
--- steps by which nothing is learned come after them
+-- quiet steps after these do not change how many advanced
 pub times_quiet : (earlier xs ys : List Step) (k : ℕ) → AreAllowedSteps (ys ++ (xs ++ earlier)) → AreQuiet ys → AdvanceTimes earlier xs k → AdvanceTimes earlier (ys ++ xs) k
 times_quiet earlier xs [] k may quiet h = h
 times_quiet earlier xs (y ∷ ys) k may quiet h =
@@ -56,7 +56,7 @@ times_quiet earlier xs (y ∷ ys) k may quiet h =
       subst (λ zs. NeverAdvancesByForm (session_after zs) y) (sym (append_assoc ys xs earlier)) (record { quiet = quiet.0; never = quiet_never (session_after (ys ++ (xs ++ earlier))) y may.1 quiet.0 }),
     )
 
--- and then one that advances
+-- an advancing step adds 1 to the number
 times_more : (earlier xs ys : List Step) (k : ℕ) → AreAllowedSteps (ys ++ (xs ++ earlier)) → LastAdvances (xs ++ earlier) ys → AdvanceTimes earlier xs k → AdvanceTimes earlier (ys ++ xs) (k + 1)
 times_more earlier xs ys k may l h =
     subst (λ zs. AdvanceTimes earlier (zs ++ xs) (k + 1)) (sym l.is)
@@ -67,7 +67,7 @@ times_more earlier xs ys k may l h =
       times_quiet earlier xs l.rest k (subst (λ zs. AreAllowedSteps (zs ++ (xs ++ earlier))) l.is may).0 l.quiet h,
     ))
 
--- all steps from these on, as what was allowed in turn
+-- all steps since the start are allowed, as one list
 allowed : {W L : Type 0} {G : Ghosts L} (s a b : Core W L G) (xs ys : List Step) → steps_of a.proof ≡ xs ++ steps_of s.proof → steps_of b.proof ≡ ys ++ steps_of a.proof → AreAllowedSteps (steps_of b.proof) → AreAllowedSteps (ys ++ (xs ++ steps_of s.proof))
 allowed s a b xs ys e f may = subst (λ zs. AreAllowedSteps (ys ++ zs)) e (subst AreAllowedSteps f may)
 
@@ -82,7 +82,7 @@ words_moved p a b m v x = subst (λ ls. Words (variables_of_lits ls.items) p v) 
 pub core_word : {W L : Type 0} {G : Ghosts L} (c : Core W L G) → Words (assumed_indices c.search) c.search.parts (trail_letters c.search.parts.trail)
 core_word c = word_begins (assumed_indices c.search) c.search.parts
 
--- decisions were undone
+-- undoing decisions preserves the invariant
 pub search_undone : (s : Session) (c : Search) (p : Parts) → IsSearch s c → PartsInvariant p → SameClauses c.parts p → AddsNoUnit (state c.parts) (state p) → TrailWordStays c.parts p → ArePlaced c.assumptions (state p) → IsSearch s (record c { parts = p })
 search_undone s c p h holds same carries stay placed =
     let moved : SameVarsAndAssumptions c (record c { parts = p }) = record { globals = refl; lits = refl; size = carries.size } in
@@ -118,7 +118,7 @@ module _ {W L : Type 0} {G : Ghosts L} (seen : W → Writer) where
       times = times;
     }
 
-    -- a fault after what went well
+    -- a call failed after rounds that succeeded
     falls : (e : SolverError) → PassFailsOr (IsFull b.search.parts) seen e a.proof b.proof → (s : Core W L G) (n : Variables) (k : ℕ) → ComesByRounds seen s n k a na → BreaksRounds seen s e b
     falls e f s n k gone = falls_later seen e s.proof a.proof b.proof (gone.steps, gone.adds) f
 
@@ -252,6 +252,6 @@ module _ {W L : Type 0} {G : Ghosts L} (seen : W → Writer) where
     pub round_fails : (e : SolverError) → Round (Err e) → (s : Core W L G) (n : Variables) (k : ℕ) → ComesByRounds seen s n k a na → BreaksRounds seen s e b
     round_fails e g = λ s n k gone. falls a b na nb config e g s n k gone
 
--- a reduction, as a schedule of rounds has it
+-- a reduction at this round
 pub reduced_at : {W L : Type 0} {G : Ghosts L} (seen : W → Writer) (a b : Core W L G) (round : ℕ) → b.config ≡ a.config → (x : Unit {0}) → ReductionBySteps (Reduces a.config round) seen (Ok x) a.proof b.proof a.search b.search → ReducedAt seen a round b
 reduced_at seen a b round config x g = record { steps = g.steps; adds = g.went; reduces = g.ends.1; moved = g.ends.0.moved; config = config }

@@ -1,4 +1,4 @@
--- What a session may write is accepted, by the view that the session is of the checker.
+-- A checker accepts what a session may write if the session is a view of its stored clauses.
 use Rattle.std.proofs.Common.{ℕ, ◌+◌, ◌<◌, ◌≡◌, Bool, true, false, ◌||◌, eqb, List, [], ◌∷◌, map, refl, sym, ◌∙◌, ap, subst, arith, ◌⊎◌, inl, inr, Option, None, Some, eq-zero-or-pos, is_some}
 use Rattle.std.proofs.lemmas.Bool.{or_left, or_right, eq-eqb}
 use Rattle.std.specs.List.{AllByRecursion, list_any}
@@ -21,7 +21,7 @@ use Rattle.sat_solver.proofs.lemmas.session.LastLemmas.{LastIs}
 
 -- WHAT MAY BE WRITTEN IS ACCEPTED
 
--- what has a count is stored
+-- a clause with a positive count is stored
 counted_some : (o : Option StoredClause) → 0 < count_in false o + count_in true o → is_some o ≡ true
 counted_some None n = absurd (omega arith)
 counted_some (Some c) n = refl
@@ -39,23 +39,23 @@ module _ (f : Stored) (last : Option (List ℕ)) where
   passes clause hashes (by_unit t) = unit_true t
   passes clause hashes (by_clauses named n lead) = leading_passes f clause hashes named (are_named named hashes n) lead
 
-  -- a core that may fail passes with its negation
+  -- the negation of a core that may be written passes the check
   pub core_passes : (core hashes : List ℕ) → MayFail (view last f) core hashes → PassesByHashes f (map negated core) hashes
   core_passes core hashes (by_signs t) = tautology t
   core_passes core hashes (by_derivation d) = passes (map negated core) hashes d
 
--- units that may be proved pass in turn
+-- units that may be written pass the checks in turn
 pub pass_in_turn : (us : List (ℕ × ℕ)) (last : Option (List ℕ)) (f : Stored) → MayProve (view last f) us → PassInTurn f us
 pass_in_turn [] last f h = tt
 pass_in_turn (u ∷ us) last f h = (passes f last (u.0 ∷ []) (u.1 ∷ []) h.0, pass_in_turn us last (with_unit u.0 f) (subst (λ s. MayProve s us) (sym (view_unit last u.0 f)) h.1))
 
--- each stored clause counts in the session
+-- every stored clause counts in the session
 module _ (f : Stored) (last : Option (List ℕ)) where
-  -- a stored clause's count is the session's
+  -- the session has the count of a stored clause
   is_counted : (r : Bool) (c : StoredClause) → clause_with c.literals f.clauses ≡ Some c → 0 < count_in r (Some c) → 0 < (view last f).live r c.literals
   is_counted r c e n = subst (λ o. 0 < count_in r o) (sym e) n
 
-  -- a variable that may be forgotten is in no stored clause
+  -- a variable that may be deleted is in no stored clause
   unused_by : (v : ℕ) → MayForget (view last f) v → (cs : List StoredClause) → AllByRecursion (λ c. clause_with c.literals f.clauses ≡ Some c) cs → EachCounted cs → list_any (λ c. mentions c.literals v) cs ≡ false
   unused_by v m [] e n = refl
   unused_by v m (c ∷ cs) e n =
@@ -65,21 +65,21 @@ module _ (f : Stored) (last : Option (List ℕ)) where
       ] in
       ap (λ b. b || list_any (λ c. mentions c.literals v) cs) here ∙ unused_by v m cs e.1 n.1
 
-  -- a model that may be shown satisfies each stored clause
+  -- a model that may be written satisfies every irredundant stored clause
   modelled : (ls : List ℕ) → MayShow (view last f) ls → (cs : List StoredClause) → AllByRecursion (λ c. clause_with c.literals f.clauses ≡ Some c) cs → AllByRecursion (λ c. (c.irredundant ≡ 0) ⊎ (list_any (is_among ls) c.literals ≡ true)) cs
   modelled ls m [] e = tt
   modelled ls m (c ∷ cs) e = (elim (eq-zero-or-pos c.irredundant) [ inl z ↦ inl z | inr p ↦ inr (m.clauses c.literals (is_counted false c e.0 p)) ], modelled ls m cs e.1)
 
--- what holds of each that is among them holds of each
+-- a property of all members holds for the whole list
 pub each_member : (P : ℕ → Type 0) (us : List ℕ) → ((l : ℕ) → is_among us l ≡ true → P l) → AllByRecursion P us
 each_member P [] h = tt
 each_member P (u ∷ us) h = (h u (or_left (eqb u u) (is_among us u) (eq-eqb u u refl)), each_member P us (λ l k. h l (or_right (eqb u l) (is_among us l) k)))
 
--- the last clause is a strict part of one that it may replace
+-- the clause that was derived last is a strict subset of one that it may replace
 strict_by : (last : Option (List ℕ)) (f : Stored) (clause : List ℕ) → LastIs last f → MayReplace (view last f) clause → IsStrictSubset (last_literals f.last f) clause
 strict_by last f clause h m = subst (λ o. IsStrictSubset o clause) (sym (h m.part m.last)) (m.within, m.strict)
 
--- a step that may be written by the session's view is accepted
+-- the checker accepts a step that its view may write
 pub accepts_view : (step : Step) (last : Option (List ℕ)) (f : Stored) → TidyClauses f.clauses → LastIs last f → IsAllowedStep (view last f) step → Accepts f step
 accepts_view (SolverVarName v name) last f t l m = tt
 accepts_view (UserVarName v (Some name)) last f t l m = record { free = m.free; nameless = m.nameless; not_hidden = m.not_hidden }

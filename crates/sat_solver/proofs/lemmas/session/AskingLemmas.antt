@@ -1,4 +1,4 @@
--- That an ask has begun stays noted while steps are written.
+-- The target still records that an ask has begun while steps are written.
 use Rattle.std.proofs.Common.{◌≡◌, Bool, true, false, Option, None, Some, List, [], refl, sym, subst}
 use Rattle.std.proofs.lemmas.Bool.{true≢false}
 use Rattle.sat_base.specs.device.Device.{Writer}
@@ -11,7 +11,7 @@ use Rattle.sat_solver.specs.declared.proof.output.Output.{Output}
 use Rattle.sat_solver.specs.declared.proof.Proof.{Proof}
 use Rattle.sat_solver.proofs.lemmas.session.ProofLemmas.{flushed_carries}
 
--- where the target is open, its count says that an ask has begun
+-- if the target is open, its counts record that an ask has begun
 abbrev IsNoted : Target → Type 0
 IsNoted Closed = Unit {0}
 IsNoted (Open f c s) = c.solving ≡ true

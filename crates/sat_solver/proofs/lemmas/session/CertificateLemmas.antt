@@ -1,4 +1,4 @@
--- What a target took is the text of steps that a checker accepts.
+-- A target received the text of steps that a checker accepts.
 use Rattle.std.proofs.Common.{◌≡◌, false, List, [], ◌∷◌, ◌++◌, refl, ap, subst}
 use Rattle.std.proofs.lemmas.Bool.{true≢false}
 use Rattle.sat_base.specs.device.Device.{Writer}
@@ -10,7 +10,7 @@ use Rattle.sat_solver.specs.declared.proof.format.ProofFormat.{ProofFormat}
 use Rattle.sat_solver.proofs.lemmas.session.CutsLemmas.{cuts_are_free}
 use Rattle.sat_solver.proofs.lemmas.session.StepLemmas.{valid}
 
--- ends of proofs leave nothing
+-- after ends of proofs only, the session is the empty one
 none_begun : (before : List Step) → has_begun before ≡ false → session_after before ≡ nothing
 none_begun [] e = refl
 none_begun (End ∷ steps) e = ap (after End) (none_begun steps e)
@@ -32,7 +32,7 @@ module _ (before : List Step) (none : session_after before ≡ nothing) where
   session_following [] = none
   session_following (step ∷ steps) = ap (after step) (session_following steps)
 
-  -- what comes after them may come first
+  -- steps that are allowed after these are also allowed at the beginning
   may_after : (steps : List Step) → AreAllowedSteps (steps ++ before) → AreAllowedSteps steps
   may_after [] h = tt
   may_after (step ∷ steps) h = (may_after steps h.0, subst (λ s. IsAllowedStep s step) (session_following steps) h.1)

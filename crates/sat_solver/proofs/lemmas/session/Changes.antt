@@ -1,14 +1,14 @@
--- What the parts of steps make of a session: what they make of the state of the proof.
+-- How a step changes a session: it changes the state of the proof.
 use Rattle.std.specs.Prelude.{ℕ, Bool, Option, List, if◌then◌else◌}
 use Rattle.sat_base.specs.steps.Steps.{Step}
 use Rattle.sat_checker.specs.Contents.{ProofState, one_more, one_less, units_more, set_more, clause_more, known_more, literals_known, solver_name_set, state_after}
 use Rattle.sat_solver.specs.session.Session.{Session, proof_state, session_with}
 
--- what does this to the state, does it to a session
+-- applies a change of the proof state to a session
 abbrev pub onto : (ProofState → ProofState) → Session → Session
 onto change s = session_with s.last (change (proof_state s))
 
--- one of two sessions, with the last set of the first
+-- chooses one of two sessions; the set that was derived last is that of the first
 abbrev pub session_if : Bool → Session → Session → Session
 session_if b s t = session_with s.last (if b then proof_state s else proof_state t)
 

@@ -1,4 +1,4 @@
--- A solver's own checker takes what may be made.
+-- A solver's own checker accepts every step that may be made.
 use Rattle.std.proofs.Common.{ℕ, ◌≡◌, ◌∙◌, ◌⊎◌, inl, inr, Bool, true, false, cond, eqb, not, ◌||◌, Option, None, Some, List, [], ◌∷◌, ◌++◌, Result, Ok, Err, refl, sym, ap, subst}
 use Rattle.std.proofs.lemmas.Bool.{true≢false, eq-eqb, eqb-true}
 use Rattle.sat_solver.specs.proof.Counting.{width_change}
@@ -36,7 +36,7 @@ use Rattle.sat_solver.proofs.lemmas.session.EndedLemmas.{unended_may}
 use Rattle.sat_solver.proofs.lemmas.session.HearingLemmas.{answered_delayed, has_heard, heard_all, none_reported, widths_quiet}
 use Rattle.sat_solver.proofs.lemmas.session.Narrowing.{widths_are_free}
 
--- what was given is written for the steps, but for ends
+-- the checker received what is written for the steps, except for ends of proofs
 given_narrowed : {steps given : List Step} {width : ℕ} → AreGiven steps given width → IsNarrowedTo (unended steps) given width
 given_narrowed none_given = none_yet
 given_narrowed (one_given {steps} {given} {before} step now e k g) =
@@ -47,11 +47,11 @@ given_narrowed (end_given {steps} {given} {before} step now e g) =
 then_narrowed : {steps given : List Step} {now : ℕ} → AreGivenAndWidth steps given now → IsNarrowedTo (unended steps) given now
 then_narrowed {steps} {given} {now} t = subst (λ x. IsNarrowedTo (unended steps) x now) (sym t.given_is) (width_changed t.before now (given_narrowed t.cut))
 
--- a width that stays isn't told
+-- an unchanged width needs no step
 width_same : (bits : ℕ) (written : List Step) → written ≡ width_change bits bits ++ written
 width_same bits written = ap (λ b. cond b [] (ChangeHashBits bits ∷ []) ++ written) (sym (eq-eqb bits bits refl))
 
--- another one is
+-- a changed width needs one
 width_other : (before now : ℕ) → (before ≡ now → ⊥) → ChangeHashBits now ∷ [] ≡ width_change before now
 width_other before now n = go (eqb before now) refl
   where
@@ -59,7 +59,7 @@ width_other before now n = go (eqb before now) refl
     go true e = absurd (n (eqb-true before now e))
     go false e = refl
 
--- what comes of an answer, where more comes of it
+-- weakens both statements about an answer of the checker
 pub cause_map : (r : Result (Unit {0}) CheckerError) (F G : Type 0) (P Q : CheckFault → Type 0) → (F → G) → ((fault : CheckFault) → P fault → Q fault) → OkOrCause r F P → OkOrCause r G Q
 cause_map (Ok x) F G P Q f g h = f h
 cause_map (Err e) F G P Q f g h = (h.0, g (cause_in e) h.1)
@@ -71,12 +71,12 @@ ended_next step steps rest e = go (is_end step) refl
     go true w = ap (λ x. kept_if (not x) step (unended steps)) w ∙ rest (sym (ap (λ x. not x || has_begun steps) w) ∙ e)
     go false w = absurd (true≢false (sym (ap (λ x. not x || has_begun steps) w) ∙ e))
 
--- steps that are ends of proofs alone
+-- if all steps are ends of proofs, none is left without them
 unended_none : (steps : List Step) → has_begun steps ≡ false → unended steps ≡ []
 unended_none [] e = refl
 unended_none (step ∷ steps) e = ended_next step steps (unended_none steps) e
 
--- ends of proofs before the first step, at the width that there is
+-- an end of a proof before the first step adds nothing to what the checker receives
 given_end : (step : Step) (steps written : List Step) (bits : ℕ) → (has_begun steps ≡ false → AreGiven steps written bits) → has_begun (step ∷ steps) ≡ false → AreGiven (step ∷ steps) written bits
 given_end step steps written bits rest e = go (is_end step) refl
   where
@@ -89,7 +89,7 @@ given_ended [] written bits g e = g
 given_ended (step ∷ steps) written bits g e = given_end step steps written bits (given_ended steps written bits g) e
 
 module _ {L : Type 0} (takes : L → Notice → Result Unit Error → L → Type 0) where
-  -- nothing was taken yet, and these listen
+  -- a new checker with these listeners has received no steps
   pub fed_first : (own : Checked L) (added : List L) → own.bits ≡ 64 → kernels.HasAccepted (kernel_of own.checker) [] → kernel_has_failed (kernel_of own.checker) ≡ false → kernels.KernelIsSettled (kernel_of own.checker) → AreJustListeners added (who_listens own) → IsFed takes own added []
   fed_first own added e s g settled listed = record {
     written = [];
@@ -100,11 +100,11 @@ module _ {L : Type 0} (takes : L → Notice → Result Unit Error → L → Type
     going = g;
   }
 
-  -- one that has taken nothing stands after ends of proofs
+  -- the same after ends of proofs
   pub fed_ended : (own : Checked L) (added : List L) (steps : List Step) → has_begun steps ≡ false → IsFed takes own added [] → IsFed takes own added steps
   fed_ended own added steps e fed = record { written = fed.written; cut = given_ended steps fed.written own.bits fed.cut e; begun = fed.begun; were = fed.were; valid = fed.valid; going = fed.going }
 
-  -- those who listen have heard what it told
+  -- the listeners have heard what the checker announced
   pub fed_heard : (own : Checked L) (added : List L) (steps : List Step) → IsFed takes own added steps → Heard takes added (listeners_of (who_listens own)) steps
   fed_heard own added steps fed = record {
     later = [];
@@ -118,7 +118,7 @@ module _ {L : Type 0} (takes : L → Notice → Result Unit Error → L → Type
     heard = (who_listens own, refl, inl (heard_all takes fed.begun (who_listens own) fed.written own.checker.kernel.state.formula.status.conflict (fed.valid.heard fed.going)));
   }
 
-  -- all of it
+  -- the listeners have heard all that the checker announced
   pub fed_whole : (own : Checked L) (added : List L) (steps : List Step) → IsFed takes own added steps → HeardWhole takes added (listeners_of (who_listens own)) steps
   fed_whole own added steps fed = (
     record {
@@ -135,23 +135,23 @@ module _ {L : Type 0} (takes : L → Notice → Result Unit Error → L → Type
     refl,
   )
 
-  -- so they have where it failed
+  -- the listeners have heard what was announced before the checker failed
   pub failed_heard : (added : List L) (now : Listeners L Nobody) (steps : List Step) (fault : CheckFault) → FailsWhileHeard takes added now steps fault → Heard takes added now steps
   failed_heard added now steps fault f = record { later = f.later; taken = f.taken; all = f.all; written = f.written; bits = f.bits; cut = f.cut; begun = f.begun; were = f.were; heard = (f.heard.0, f.heard.1, has_heard takes f.begun f.heard.0 f.written fault f.heard.2) }
 
-  -- a step more that it wasn't given
+  -- one more step that the checker did not receive
   pub heard_later : (added : List L) (now : Listeners L Nobody) (step : Step) (steps : List Step) → Heard takes added now steps → Heard takes added now (step ∷ steps)
   heard_later added now step steps h = record { later = step ∷ h.later; taken = h.taken; all = ap (λ xs. step ∷ xs) h.all; written = h.written; bits = h.bits; cut = h.cut; begun = h.begun; were = h.were; heard = h.heard }
 
   failed_later : (added : List L) (now : Listeners L Nobody) (step : Step) (steps : List Step) (fault : CheckFault) → FailsWhileHeard takes added now steps fault → FailsWhileHeard takes added now (step ∷ steps) fault
   failed_later added now step steps fault h = record { later = step ∷ h.later; taken = h.taken; all = ap (λ xs. step ∷ xs) h.all; written = h.written; bits = h.bits; cut = h.cut; begun = h.begun; were = h.were; heard = h.heard }
 
-  -- a width stays
+  -- the width is unchanged
   pub width_kept : (old : Checked L) (bits : ℕ) → old.bits ≡ bits → TakesWidth takes (Ok tt) old old
   width_kept old bits e added steps may fed = record { written = fed.written; cut = record { before = old.bits; earlier = fed.written; cut = fed.cut; given_is = width_same old.bits fed.written }; begun = fed.begun; were = fed.were; valid = fed.valid; going = fed.going }
 
   module _ (r : Result (Unit {0}) CheckerError) (old new : Checked L) where
-    -- a width was told
+    -- the checker received a new width
     pub width_fed : (bits : ℕ) → (old.bits ≡ bits → ⊥) → new.bits ≡ bits → FeedsOwnChecker takes r (seen_of old.checker) (ChangeHashBits bits) (seen_of new.checker) → TakesWidth takes r old new
     width_fed bits other e feeds added steps may fed =
         cause_map r _ (IsFedBy takes (AreGivenAndWidth steps) new added) _ (FailsWhileHeard takes added (listeners_of (who_listens new)) steps)
@@ -166,7 +166,7 @@ module _ {L : Type 0} (takes : L → Notice → Result Unit Error → L → Type
         failed fault (inl h) = record { later = []; taken = steps; all = refl; written = fed.written; bits = old.bits; cut = given_narrowed fed.cut; begun = fed.begun; were = fed.were; heard = (who_listens new, refl, h) }
         failed fault (inr h) = record { later = []; taken = steps; all = refl; written = ChangeHashBits bits ∷ fed.written; bits = bits; cut = changed; begun = fed.begun; were = fed.were; heard = (who_listens new, refl, h) }
 
-    -- what waited was told
+    -- the pending unit conflict was reported
     pub delayed_fed : new.bits ≡ old.bits → ChecksDelayed (Hears takes) r (seen_of old.checker) (seen_of new.checker) → TakesDelayed takes r old new
     delayed_fed e checks_delayed added steps fed =
         cause_map r _ _ _ _
@@ -175,7 +175,7 @@ module _ {L : Type 0} (takes : L → Notice → Result Unit Error → L → Type
         (answered_delayed takes fed.begun (seen_of old.checker) (seen_of new.checker) fed.written fed.going r (checks_delayed [] fed.begun fed.written fed.valid))
 
   module _ (old : Checked L) (step : Step) where
-    -- a step was taken at its width
+    -- the checker received a step at its width
     pub step_fed : (r : Result (Unit {0}) CheckerError) (mid new : Checked L) (cut_step : Step) → is_end step ≡ false → KeepsWidth step → TakesWidth takes (Ok tt) old mid → new.bits ≡ mid.bits → cut_step ≡ narrowed mid.bits step
         → FeedsOwnChecker takes r (seen_of mid.checker) cut_step (seen_of new.checker) → TakesStep takes r old step new
     step_fed r mid new cut_step e k takes_width same is feeds added steps may fed =
@@ -215,13 +215,13 @@ module _ {L : Type 0} (takes : L → Notice → Result Unit Error → L → Type
         failed fault (inl h) = record { later = step ∷ []; taken = steps; all = refl; written = f.written; bits = mid.bits; cut = then_narrowed f.cut; begun = f.begun; were = f.were; heard = (who_listens new, refl, h) }
         failed fault (inr h) = record { later = []; taken = step ∷ steps; all = refl; written = narrowed mid.bits step ∷ f.written; bits = mid.bits; cut = cut_all; begun = f.begun; were = f.were; heard = (who_listens new, refl, h) }
 
-    -- a width alone was told
+    -- at the end of a proof, the checker received only the width
     pub width_taken : (r : Result (Unit {0}) CheckerError) (new : Checked L) → is_end step ≡ true → TakesWidth takes r old new → TakesStep takes r old step new
     width_taken r new e takes_width added steps may fed =
         cause_map r _ _ _ _ (λ (f : IsFedBy takes (AreGivenAndWidth steps) new added). record { written = f.written; cut = subst (λ x. AreGiven (step ∷ steps) x new.bits) (sym f.cut.given_is) (end_given step new.bits e f.cut.cut); begun = f.begun; were = f.were; valid = f.valid; going = f.going })
         (failed_later added (listeners_of (who_listens new)) step steps) (takes_width added steps may.0 fed)
 
-    -- the width wasn't
+    -- receiving the width failed
     pub width_untaken : (er : CheckerError) (new : Checked L) → TakesWidth takes (Err er) old new → TakesStep takes (Err er) old step new
     width_untaken er new takes_width added steps may fed = (let h = takes_width added steps may.0 fed in (h.0, failed_later added (listeners_of (who_listens new)) step steps (cause_in er) h.1))
 
@@ -238,7 +238,7 @@ module _ {L : Type 0} (takes : L → Notice → Result Unit Error → L → Type
       go [] e k = k
       go (t ∷ ts) e k = cc
 
-  -- nothing was told yet, and another one listens
+  -- before the first step, a listener was added
   listens_more : (old new : Checked L) (one : L) (added : List L) (steps : List Step) → has_begun steps ≡ false → IsFed takes old added steps → new.bits ≡ old.bits → kernel_of new.checker ≡ kernel_of old.checker
       → listeners_of (who_listens new) ≡ record (listeners_of (who_listens old)) { processors = (listeners_of (who_listens old)).processors ++ one ∷ [] } → IsFed takes new (added ++ one ∷ []) steps
   listens_more old new one added steps unbegun fed bits kernel listed = record {
@@ -259,7 +259,7 @@ module _ {L : Type 0} (takes : L → Notice → Result Unit Error → L → Type
       silent : notices_by conflict fed.written ≡ []
       silent = none_reported fed.written (widths_quiet (unended steps) (unended_none steps unbegun) (given_narrowed fed.cut)) conflict
 
-  -- another one was added, or no memory was left for it
+  -- a listener was added, or memory ran out
   pub taken_in : (r : Result (Unit {0}) CheckerError) (old new : Checked L) (one : L) → new.bits ≡ old.bits
       → AddsListener r (kernel_of old.checker) (kernel_of new.checker) (listeners_of (who_listens old)) (listeners_of (who_listens new)) (record (listeners_of (who_listens old)) { processors = (listeners_of (who_listens old)).processors ++ one ∷ [] })
       → AddsOwnListener takes r old one new
@@ -268,7 +268,7 @@ module _ {L : Type 0} (takes : L → Notice → Result Unit Error → L → Type
   taken_in (Err errors.HasFailed) old new one bits a added steps unbegun fed = absurd (true≢false (sym a.0 ∙ fed.going))
   taken_in (Err e) old new one bits a added steps unbegun fed = absurd a
 
--- ALL STEPS THAT WERE MADE
+-- ALL STEPS SO FAR
 
 none_stable : (o : Option (ℕ × ℕ)) → ((o ≡ None → ⊥) → ⊥) → o ≡ None
 none_stable None h = refl
@@ -285,7 +285,7 @@ starved_stable errors.CounterEnd h = absurd (∥∥₁_elim h (λ a b. absurd a)
 starved_stable (errors.ProofProcessorError cause) h = absurd (∥∥₁_elim h (λ a b. absurd a) (λ q. cc))
 starved_stable e h = refl
 
--- where nobody was added no processor answers a fault
+-- without added processors, no processor returns a fault
 module _ {L : Type 0} (takes : L → Notice → Result Unit Error → L → Type 0) where
   nobody_failed : (now : Listeners L Nobody) (steps : List Step) (cause : Error) → FailsWhileHeard takes [] now steps (checks.Processor cause) → ⊥
   nobody_failed now steps cause f = elim f.heard.2 [
@@ -303,7 +303,7 @@ module _ {L : Type 0} (takes : L → Notice → Result Unit Error → L → Type
       (h, λ e. ∥∥₁_elim h (λ a b. absurd a) (λ f. nobody_failed now steps cause (subst (λ xs. FailsWhileHeard takes xs now steps (checks.Processor cause)) (same_added added e) f)))
 
 module _ {L : Type 0} (takes : L → Notice → Result Unit Error → L → Type 0) (lost : Bool) (own : Option (Checked L)) (added : List L) (steps : List Step) (fed : ∥ FedUnless takes lost own added steps ∥₁) where
-  -- a step more that the checker isn't given
+  -- one more step, which the checker does not receive
   pub skipped_fed : (step : Step) (now : List Step) → now ≡ step ∷ steps → ∥ FedUnless takes true own added now ∥₁
   skipped_fed step now e = subst (λ x. ∥ FedUnless takes true own added x ∥₁) (sym e) (∥∥₁_elim fed ∥∥₁_prop (go own))
     where
@@ -311,7 +311,7 @@ module _ {L : Type 0} (takes : L → Notice → Result Unit Error → L → Type
       go None f = ∣ f ∣₁
       go (Some c) f = ∣ ((λ l. absurd (true≢false l)), heard_later takes added (listeners_of (who_listens c)) step steps f.1) ∣₁
 
-  -- there was no checker, and so nobody was added
+  -- without a checker, no processor was added
   pub none_added : own ≡ None → ∥ added ≡ [] ∥₁
   none_added is = ∥∥₁_elim (subst (λ o. ∥ FedUnless takes lost o added steps ∥₁) is fed) ∥∥₁_prop (λ f. ∣ f ∣₁)
 
@@ -319,26 +319,26 @@ module _ {L : Type 0} (takes : L → Notice → Result Unit Error → L → Type
     was : ∥ FedUnless takes lost (Some old) added steps ∥₁
     was = subst (λ o. ∥ FedUnless takes lost o added steps ∥₁) is fed
 
-    -- those who listen are handed back
+    -- the listeners are returned
     pub returned : (given : List L) → given ≡ (listeners_of (who_listens old)).processors → ∥ AddedAfterHearing takes added given steps ∥₁
     returned given e = ∥∥₁_elim was ∥∥₁_prop (λ f. ∣ record { now = listeners_of (who_listens old); are = sym e; heard = f.1 } ∣₁)
 
-    -- after all that is told of all steps, where none was lost
+    -- if no step was lost, the listeners are returned after they heard everything
     pub returned_notified : (given : List L) → given ≡ (listeners_of (who_listens old)).processors → lost ≡ false → ∥ AddedAfterHearingAll takes added given steps ∥₁
     returned_notified given e l = ∥∥₁_elim was ∥∥₁_prop (λ f. ∣ record { now = listeners_of (who_listens old); are = sym e; heard = fed_whole takes old added steps (f.0 l) } ∣₁)
 
     module _ (new : Checked L) where
-      -- a step was taken
+      -- the checker accepted a step
       pub taken_fed : (step : Step) (now : List Step) → now ≡ step ∷ steps → lost ≡ false → AreAllowedSteps (step ∷ steps) → TakesStep takes (Ok tt) old step new → ∥ FedUnless takes lost (Some new) added now ∥₁
       taken_fed step now e l may takes_step = subst (λ x. ∥ FedUnless takes lost (Some new) added x ∥₁) (sym e)
           (∥∥₁_elim was ∥∥₁_prop (λ f. let k = takes_step added steps may (f.0 l) in ∣ ((λ _. k), fed_heard takes new added (step ∷ steps) k) ∣₁))
 
-      -- it failed at a step
+      -- the checker failed at a step
       pub failed_fed : (e : CheckerError) (step : Step) (now : List Step) → now ≡ step ∷ steps → lost ≡ false → AreAllowedSteps (step ∷ steps) → TakesStep takes (Err e) old step new → ∥ FedUnless takes true (Some new) added now ∥₁
       failed_fed e step now q l may takes_step = subst (λ x. ∥ FedUnless takes true (Some new) added x ∥₁) (sym q)
           (∥∥₁_elim was ∥∥₁_prop (λ f. ∣ ((λ t. absurd (true≢false t)), failed_heard takes added (listeners_of (who_listens new)) (step ∷ steps) (cause_in e) (takes_step added steps may (f.0 l)).1) ∣₁))
 
-      -- and this is why
+      -- the error is one that the checker may have at an allowed step
       pub taken_cause : (e : CheckerError) (step : Step) → lost ≡ false → AreAllowedSteps (step ∷ steps) → TakesStep takes (Err e) old step new → IsCause e
       taken_cause e step l may takes_step = ∥∥₁_elim was (cause_prop e) (λ f. (takes_step added steps may (f.0 l)).0)
 
@@ -346,15 +346,15 @@ module _ {L : Type 0} (takes : L → Notice → Result Unit Error → L → Type
       taken_why e step now q l may takes_step =
           with_listeners takes (cause_in e) added (listeners_of (who_listens new)) now (subst (λ x. ∥ FailsWhileHeard takes added (listeners_of (who_listens new)) x (cause_in e) ∥₁) (sym q) (∥∥₁_elim was ∥∥₁_prop (λ f. ∣ (takes_step added steps may (f.0 l)).1 ∣₁)))
 
-      -- what waited was told
+      -- the pending unit conflict was reported
       pub reported_fed : lost ≡ false → TakesDelayed takes (Ok tt) old new → ∥ FedUnless takes lost (Some new) added steps ∥₁
       reported_fed l takes_delayed = ∥∥₁_elim was ∥∥₁_prop (λ f. let k = takes_delayed added steps (f.0 l) in ∣ ((λ _. k.0), fed_heard takes new added steps k.0) ∣₁)
 
-      -- and nothing waits any more
+      -- no unit conflict is pending then
       pub reported_settled : lost ≡ false → TakesDelayed takes (Ok tt) old new → KernelIsSettled (kernel_of new.checker)
       reported_settled l takes_delayed = none_stable new.checker.kernel.state.formula.status.conflict (λ n. ∥∥₁_elim was (λ x y. absurd x) (λ f. n (takes_delayed added steps (f.0 l)).1))
 
-      -- or it failed
+      -- reporting the unit conflict failed
       pub unreported_fed : (e : CheckerError) → lost ≡ false → TakesDelayed takes (Err e) old new → ∥ FedUnless takes true (Some new) added steps ∥₁
       unreported_fed e l takes_delayed = ∥∥₁_elim was ∥∥₁_prop (λ f. ∣ ((λ t. absurd (true≢false t)), failed_heard takes added (listeners_of (who_listens new)) steps (cause_in e) (takes_delayed added steps (f.0 l)).1) ∣₁)
 
@@ -364,12 +364,12 @@ module _ {L : Type 0} (takes : L → Notice → Result Unit Error → L → Type
       pub unreported_why : (e : CheckerError) → lost ≡ false → TakesDelayed takes (Err e) old new → ∥ FailsWhileHeard takes added (listeners_of (who_listens new)) steps (cause_in e) ∥₁ × HasListeners (cause_in e) (Some added)
       unreported_why e l takes_delayed = with_listeners takes (cause_in e) added (listeners_of (who_listens new)) steps (∥∥₁_elim was ∥∥₁_prop (λ f. ∣ (takes_delayed added steps (f.0 l)).1 ∣₁))
 
-      -- another one listens
+      -- a listener was added
       pub listens_fed : (one : L) (more : List L) → more ≡ added ++ one ∷ [] → has_begun steps ≡ false → lost ≡ false → AddsOwnListener takes (Ok tt) old one new → ∥ FedUnless takes lost (Some new) more steps ∥₁
       listens_fed one more e u l takes_in = subst (λ x. ∥ FedUnless takes lost (Some new) x steps ∥₁) (sym e)
           (∥∥₁_elim was ∥∥₁_prop (λ f. let k = takes_in added steps u (f.0 l) in ∣ ((λ _. k), fed_heard takes new (added ++ one ∷ []) steps k) ∣₁))
 
-      -- no memory was left for it
+      -- memory ran out while a listener was added
       pub unlistened_fed : (e : CheckerError) (one : L) → has_begun steps ≡ false → lost ≡ false → AddsOwnListener takes (Err e) old one new → ∥ FedUnless takes true (Some new) added steps ∥₁
       unlistened_fed e one u l takes_in = ∥∥₁_elim was ∥∥₁_prop (λ f. ∣ ((λ t. absurd (true≢false t)), (takes_in added steps u (f.0 l)).1.1) ∣₁)
 
@@ -380,7 +380,7 @@ module _ {L : Type 0} (takes : L → Notice → Result Unit Error → L → Type
       unlistened_why e one u l takes_in = starved_stable e (∥∥₁_elim was ∥∥₁_prop (λ f. ∣ (takes_in added steps u (f.0 l)).1.0 ∣₁))
 
 module _ {L : Type 0} (takes : L → Notice → Result Unit Error → L → Type 0) where
-  -- a lost one stays so
+  -- a lost step is still lost after more steps
   pub lost_fed : (lost : Bool) (own : Option (Checked L)) (added : List L) (steps : List Step) → ∥ FedUnless takes lost own added steps ∥₁ → lost ≡ true → (step : Step) (now : List Step) → now ≡ step ∷ steps → ∥ FedUnless takes lost own added now ∥₁
   lost_fed lost own added steps fed l step now e = subst (λ b. ∥ FedUnless takes b own added now ∥₁) (sym l) (skipped_fed takes lost own added steps fed step now e)
 
@@ -389,11 +389,11 @@ module _ {L : Type 0} (takes : L → Notice → Result Unit Error → L → Type
   begun_fed own new lost added steps fed is u f = ∥∥₁_elim (none_added takes lost own added steps fed is) ∥∥₁_prop (λ e.
       let k = fed_ended takes new added steps u (subst (λ x. IsFed takes new x []) (sym e) f) in ∣ ((λ _. k), fed_heard takes new added steps k) ∣₁)
 
-  -- and where a step was lost it begins anew
+  -- checking restarts, even if a step was lost
   pub anew_fed : (new : Checked L) (added : List L) (steps : List Step) → has_begun steps ≡ false → IsFed takes new added [] → ∥ FedUnless takes false (Some new) added steps ∥₁
   anew_fed new added steps u f = (let k = fed_ended takes new added steps u f in ∣ ((λ _. k), fed_heard takes new added steps k) ∣₁)
 
-  -- a checker began anew
+  -- the checker was restarted
   pub anew : (old new : Checked L) (added given : List L) → added ≡ given → given ≡ (listeners_of (who_listens old)).processors → new.bits ≡ 64 → kernels.HasAccepted (kernel_of new.checker) [] → kernel_has_failed (kernel_of new.checker) ≡ false
       → kernels.KernelIsSettled (kernel_of new.checker) → listeners_of (who_listens new) ≡ record { processors = given; transcripts = [] } → CheckerRestarts takes old new added
   anew old new added given e f bits valid going settled listed = record {
@@ -405,28 +405,28 @@ module _ {L : Type 0} (takes : L → Notice → Result Unit Error → L → Type
   nil_stable [] h = refl
   nil_stable (x ∷ xs) h = absurd (∥∥₁_elim h (λ a b. absurd a) (λ e. cc))
 
-  -- who has no checker has nobody who listens
+  -- without a checker there are no listeners
   pub none_listed : (lost : Bool) (own : Option (Checked L)) (added : List L) (steps : List Step) → ∥ FedUnless takes lost own added steps ∥₁ → own ≡ None → added ≡ []
   none_listed lost own added steps fed is = nil_stable added (none_added takes lost own added steps fed is)
 
--- MADE
+-- THE RECORD OF STEPS
 
 module _ {L : Type 0} {G : Ghosts L} (m : Made L G) where
-  -- those who listened are handed back
+  -- the listeners are returned
   pub made_returned : (own : Checked L) (given : List L) → m.own ≡ Some own → given ≡ (listeners_of (who_listens own)).processors → MadeReturnsListeners m given
   made_returned own given is e = subst (λ o. ReturnsIfChecked G.takes (listed_in o m.roll.items) given m.history.steps) (sym is) (returned G.takes m.lost m.own m.roll.items m.history.steps m.fed own is given e)
 
   pub made_returned_notified : (own : Checked L) (given : List L) → m.own ≡ Some own → given ≡ (listeners_of (who_listens own)).processors → MadeReturnsNotifiedListeners m given
   made_returned_notified own given is e l = subst (λ o. ReturnsNotifiedIfChecked G.takes (listed_in o m.roll.items) given m.history.steps) (sym is) (returned_notified G.takes m.lost m.own m.roll.items m.history.steps m.fed own is given e l)
 
-  -- who listens as checking begins
+  -- the listeners when checking begins
   pub listed_first : m.own ≡ None → MadeListenersAtRestart m.lost m (made_audience m) m.roll.items
   listed_first is = subst (λ o. MadeListenersAtRestart m.lost m (listed_in o m.roll.items) m.roll.items) (sym is) (none_listed G.takes m.lost m.own m.roll.items m.history.steps m.fed is)
 
   pub listed_again : (own : Checked L) (given : List L) → m.own ≡ Some own → m.lost ≡ true → given ≡ (listeners_of (who_listens own)).processors → MadeListenersAtRestart m.lost m (made_audience m) given
   listed_again own given is l e = subst (λ o. MadeListenersAtRestart m.lost m (listed_in o m.roll.items) given) (sym is) (subst (λ b. MadeListenersAtRestart b m (Some m.roll.items) given) (sym l) (made_returned own given is e))
 
--- a complaint was told, and nothing else has changed
+-- the stored error was reported, and nothing else has changed
 pub complaint_reported : {L : Type 0} {G : Ghosts L} (m : Made L G) (complaint : Option Error) (counted : m.begun ≡ has_begun m.history.steps) (may : ∥ AreAllowedSteps m.history.steps ∥₁) (fed : ∥ FedUnless G.takes m.lost m.own m.roll.items m.history.steps ∥₁) → complaint ≡ None
     → record { history = m.history; own = m.own; roll = m.roll; begun = m.begun; lost = m.lost; complaint = complaint; counted = counted; may = may; fed = fed } ≡ cleared_complaint m
 complaint_reported m complaint counted may fed none = λ i. record m {
@@ -436,6 +436,6 @@ complaint_reported m complaint counted may fed none = λ i. record m {
   fed = ∥∥₁_prop fed m.fed i;
 }
 
--- a step more may be made
+-- one more step is allowed
 pub may_more : (steps now : List Step) (step : Step) → now ≡ step ∷ steps → AreAllowedSteps (step ∷ steps) → ∥ AreAllowedSteps now ∥₁
 may_more steps now step e may = ∣ subst AreAllowedSteps (sym e) may ∣₁

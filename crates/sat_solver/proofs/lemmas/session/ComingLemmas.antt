@@ -1,4 +1,4 @@
--- Steps that may come.
+-- Which steps a call may make.
 use Rattle.std.proofs.Common.{◌≡◌, ◌∙◌, Bool, true, false, List, [], ◌∷◌, ◌++◌, refl, sym, ap, subst, append_assoc}
 use Rattle.std.proofs.lemmas.Bool.{true≢false}
 use Rattle.sat_base.specs.steps.Steps.{Step}
@@ -24,7 +24,7 @@ module _ (IsAllowedStep : List Step → Step → Type 0) where
     each = each_both from a.steps b.steps a.each (subst (λ ss. EachIsAllowed IsAllowedStep ss b.steps) a.following b.each);
   }
 
--- what may come may come by another rule
+-- steps that are allowed by a rule are allowed by a weaker one
 each_map : (P Q : List Step → Step → Type 0) → ((earlier : List Step) (step : Step) → P earlier step → Q earlier step) → (earlier steps : List Step) → EachIsAllowed P earlier steps → EachIsAllowed Q earlier steps
 each_map P Q f earlier [] h = tt
 each_map P Q f earlier (step ∷ steps) h = (each_map P Q f earlier steps h.0, f (steps ++ earlier) step h.1)
@@ -32,7 +32,7 @@ each_map P Q f earlier (step ∷ steps) h = (each_map P Q f earlier steps h.0, f
 pub comes_map : (P Q : List Step → Step → Type 0) → ((earlier : List Step) (step : Step) → P earlier step → Q earlier step) → (from to : List Step) → OnlyAllowedSteps P from to → OnlyAllowedSteps Q from to
 comes_map P Q f from to c = record { steps = c.steps; following = c.following; each = each_map P Q f from c.steps c.each }
 
--- unsat wasn't recorded before, where it isn't by now
+-- if unsat isn't recorded after a step, it wasn't before
 not_before : (step : Step) (earlier : List Step) → (session_after (step ∷ earlier)).unsat ≡ false → (session_after earlier).unsat ≡ false
 not_before step earlier e = go (session_after earlier).unsat refl
   where
@@ -46,11 +46,11 @@ each_ends earlier (step ∷ steps) e =
     let before = not_before step (steps ++ earlier) e in
     (each_ends earlier steps before, λ u. absurd (true≢false (sym u ∙ before)))
 
--- steps after which unsat isn't recorded
+-- steps after which unsat isn't recorded are allowed by `EndsAtUnsat`
 pub comes_open : (from to steps : List Step) → to ≡ steps ++ from → (session_after to).unsat ≡ false → OnlyAllowedSteps EndsAtUnsat from to
 comes_open from to steps e open_still = record { steps = steps; following = e; each = each_ends from steps (subst (λ ss. (session_after ss).unsat ≡ false) e open_still) }
 
--- and one that may have recorded it
+-- so is one more step, which may record unsat
 pub comes_last : (from mids to steps : List Step) (step : Step) → mids ≡ steps ++ from → (session_after mids).unsat ≡ false → to ≡ step ∷ mids → OnlyAllowedSteps EndsAtUnsat from to
 comes_last from mids to steps step e open_still last =
     comes_both EndsAtUnsat from mids to (comes_open from mids steps e open_still) (comes_one EndsAtUnsat mids to step last (λ u. absurd (true≢false (sym u ∙ open_still))))

@@ -1,10 +1,10 @@
--- The width of hashes, turn by turn.
+-- The loops that adjust the width of hashes.
 use Rattle.std.proofs.Common.{ℕ, zero, suc, ◌+◌, ◌-◌, ◌<◌, ◌≤◌, ◌≡◌, ◌∙◌, Bool, true, false, not, ◌&&◌, refl, sym, ap, arith}
 use Rattle.std.proofs.lemmas.Bool.{true≢false}
 use Rattle.std.specs.Prelude.{cond, min}
 use Rattle.sat_solver.specs.proof.Counting.{too_short, too_long, widened_bits, shortened, fitting}
 
--- a turn is left
+-- at least one iteration is left
 turn : (i : ℕ) → i < 32 → 32 - i ≡ suc (32 - (i + 1))
 turn i h = omega arith
 

@@ -1,4 +1,4 @@
--- What is written for steps that may be made may be made.
+-- What is written for allowed steps is allowed.
 use Rattle.std.proofs.Common.{ℕ, ◌≡◌, Bool, true, false, cond, eqb, List, [], ◌∷◌, ◌++◌, refl, sym, subst}
 use Rattle.std.proofs.lemmas.Bool.{eqb-true}
 use Rattle.sat_base.specs.steps.Steps.{Step, ChangeHashBits}
@@ -8,7 +8,7 @@ use Rattle.sat_solver.specs.proof.Widths.{IsNarrowedTo, none_yet, width_changes,
 use Rattle.sat_solver.specs.declared.proof.hash_bits.Counting.{Counting}
 use Rattle.sat_solver.proofs.lemmas.session.Narrowing.{widths_are_free}
 
--- a width that changes was written
+-- a change of the width was written
 pub width_changed : {made written : List Step} (before now : ℕ) → IsNarrowedTo made written before → IsNarrowedTo made (width_change before now ++ written) now
 width_changed {made} {written} before now w = go (eqb before now) refl
   where
@@ -16,7 +16,7 @@ width_changed {made} {written} before now w = go (eqb before now) refl
     go true e = subst (IsNarrowedTo made written) (eqb-true before now e) w
     go false e = width_changes now w
 
--- what is written for steps, by whole hashes at first
+-- the steps were written, starting with complete hashes
 pub is_written : {c d : Counting} {made written : List Step} → c ≡ nothing_counted → TruncatesHashes c made written d → IsNarrowedTo made written d.bits
 is_written e none_made = subst (λ (x : Counting). IsNarrowedTo [] [] x.bits) (sym e) none_yet
 is_written e (ask_begun p) = is_written e p

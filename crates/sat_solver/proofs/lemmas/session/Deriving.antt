@@ -6,7 +6,7 @@ use Rattle.sat_base.specs.values.Literals.{negated}
 use Rattle.sat_checker.specs.LiteralSets.{is_among}
 use Rattle.sat_solver.specs.session.Session.{Session, IsLive, denied_in, hash_in, MayDerive, by_clauses}
 
--- a unit of a trail: its reason has no other literal that isn't false by the units before it
+-- a unit may be derived from a live clause if all its other literals are false by units
 pub proves : (s : Session) (l hash : ℕ) (c : List ℕ) → IsLive s c → hash ≡ hash_in s c → AllByRecursion (λ m. (m ≡ l) ⊎ (s.units (negated m) ≡ true)) c → MayDerive s (l ∷ []) (hash ∷ [])
 proves s l hash c live e h = by_clauses (c ∷ []) (live, e, tt) (all c h)
   where
@@ -19,7 +19,3 @@ proves s l hash c live e h = by_clauses (c ∷ []) (live, e, tt) (all c h)
       ],
       all ms k.1,
     )
-
--- CORES
-
--- FOR LINES THAT NAME NO CLAUSES

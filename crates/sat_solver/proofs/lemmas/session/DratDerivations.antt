@@ -1,4 +1,4 @@
--- Steps that may be made give a DRAT derivation.
+-- Allowed steps give a DRAT derivation.
 use Rattle.std.proofs.Common.{ℕ, ◌+◌, ◌<◌, ◌≤◌, ◌≡◌, ◌⊎◌, inl, inr, Bool, true, false, ◌||◌, ◌&&◌, not, cond, eqb, List, [], ◌∷◌, map, None, refl, sym, ap, subst, arith}
 use Rattle.std.specs.List.{AllByRecursion, list_any}
 use Rattle.std.specs.Cmp.Lexicographic.{same_text}
@@ -14,7 +14,7 @@ use Rattle.sat_solver.specs.session.Session.{Session, nothing, with_fact, after,
 use Rattle.sat_solver.proofs.lemmas.session.Changes.{with_live, without_live, with_facts, with_sorted, with_live_clause, knowing_literals, session_if}
 use Rattle.sat_solver.proofs.lemmas.session.DratLemmas.{times_after, times_itself, times_left, times_less, refutes_one, refutes_unit, leads_refute, units_first, negations, leads_within, units_in, units_there, units_are}
 
--- of two literals or more
+-- the clause has two or more literals
 abbrev pub IsLong : List ℕ → Type 0
 IsLong [] = ⊥
 IsLong (l ∷ []) = ⊥
@@ -24,14 +24,14 @@ IsLong (l ∷ m ∷ ls) = Unit {0}
 abbrev pub Conflict : List (List ℕ) → Type 0
 Conflict ps = (0 < times [] ps) ⊎ ((l : ℕ) × (0 < times (l ∷ []) ps) × (0 < times (negated l ∷ []) ps))
 
--- what a session has is present
+-- all live clauses and units of the session are present
 pub record Kept (s : Session) (ps : List (List ℕ)) : Type 0 where
   pub counts : (set : List ℕ) → s.live false set + s.live true set ≤ times set ps
   pub long : (r : Bool) (set : List ℕ) → 0 < s.live r set → IsLong set
   pub units : (l : ℕ) → s.units l ≡ true → 0 < times (l ∷ []) ps
   pub unsat : s.unsat ≡ true → Conflict ps
 
--- ONE MORE
+-- ONE CLAUSE MORE
 
 still : (set c : List ℕ) (ps : List (List ℕ)) → 0 < times set ps → 0 < times set (c ∷ ps)
 still set c ps h = let e = times_after set c ps in omega (arith, e, h)
@@ -51,7 +51,7 @@ kept_more s c ps k = record {
   unsat = λ e. conflict_more c ps (k.unsat e);
 }
 
--- a unit
+-- a unit is added
 fact_kept : (l : ℕ) (s : Session) (ps : List (List ℕ)) → Kept s ps → Kept (with_fact l s) ((l ∷ []) ∷ ps)
 fact_kept l s ps k = go (s.units l) (s.units (negated l)) refl
   where
@@ -69,7 +69,7 @@ fact_kept l s ps k = go (s.units l) (s.units (negated l)) refl
     go false true e = record { counts = wider.counts; long = wider.long; units = wider.units; unsat = λ _. inr (l, here (l ∷ []) ps, wider.units (negated l) e) }
     go false false e = record { counts = wider.counts; long = wider.long; units = there; unsat = wider.unsat }
 
--- a clause, counted on its side
+-- a clause is counted on one of the two sides
 add_one : (r b : Bool) (x y t : ℕ) → x + y ≤ t → more_if (same_side r false && b) x + more_if (same_side r true && b) y ≤ more_if b t
 add_one true true x y t h = omega (arith, h)
 add_one true false x y t h = h
@@ -106,9 +106,9 @@ units_kept : (us : List (ℕ × ℕ)) (s : Session) (ps : List (List ℕ)) → K
 units_kept [] s ps k = k
 units_kept (u ∷ us) s ps k = units_kept us (with_fact u.0 s) ((u.0 ∷ []) ∷ ps) (fact_kept u.0 s ps k)
 
--- ONE LESS
+-- ONE CLAUSE LESS
 
--- a short clause isn't one that goes
+-- a clause of two or more literals differs from one with fewer
 apart : (out set : List ℕ) → IsLong out → (IsLong set → ⊥) → same_literals out set ≡ false
 apart out set i n = go (same_literals out set) refl
   where
@@ -166,7 +166,7 @@ among_negated (x ∷ xs) l e = elim (or_cases (eqb x l) (is_among xs l) e) [
   | inr t ↦ or_right (eqb (negated x) (negated l)) (is_among (map negated xs) (negated l)) (among_negated xs l t)
 ]
 
--- a present unit in a clause
+-- if a clause contains a present unit, its negation is refuted
 unit_refutes : (ps : List (List ℕ)) (q : ℕ → Bool) → ((l : ℕ) → q l ≡ true → 0 < times (l ∷ []) ps) → (known ls : List ℕ) → ((l : ℕ) → is_among ls l ≡ true → is_among known (negated l) ≡ true) → list_any q ls ≡ true → RefutesByUnits ps known
 unit_refutes ps q p known [] f e = absurd (true≢false (sym e))
 unit_refutes ps q p known (l ∷ ls) f e = elim (or_cases (q l) (list_any q ls) e) [
@@ -179,7 +179,7 @@ named_present s ps k [] hashes n = tt
 named_present s ps k (c ∷ cs) [] n = absurd n
 named_present s ps k (c ∷ cs) (h ∷ hs) n = ((let a = k.counts (canonical c) in let b = n.0.counted in omega (arith, a, b)), named_present s ps k cs hs n.2)
 
--- what may be derived is refuted when it's denied
+-- the negation of a clause that may be derived is refuted
 derive_refutes : (s : Session) (ps : List (List ℕ)) (clause hashes : List ℕ) → Kept s ps → MayDerive s clause hashes → RefutesByUnits ps (map negated clause)
 derive_refutes s ps clause hashes k (by_unit t) = unit_refutes ps s.units k.units (map negated clause) clause (among_negated clause) t
 derive_refutes s ps clause hashes k (by_clauses named n lead) =
@@ -201,7 +201,7 @@ unit_lines_right (u ∷ us) s ps k m = (derive_refutes s ps (u.0 ∷ []) (u.1 �
 
 -- STEPS
 
--- the same clauses, units and unsat
+-- live clauses, units and unsat are unchanged
 moved : (s t : Session) (ps : List (List ℕ)) → t.live ≡ s.live → t.units ≡ s.units → t.unsat ≡ s.unsat → Kept s ps → Kept t ps
 moved s t ps a b c k = record {
   counts = λ set. subst (λ f. f false set + f true set ≤ times set ps) (sym a) (k.counts set);
@@ -266,7 +266,7 @@ both (step ∷ earlier) m =
     let ih = both earlier m.0 in
     (step_kept step (session_after earlier) (present earlier) ih.0 m.1, (ih.1, step_lines_right step (session_after earlier) (present earlier) ih.0 m.1))
 
--- what is left after recorded unsat is refuted
+-- once unsat is recorded, the present clauses are refuted without assumptions
 conflict_refutes : (ps : List (List ℕ)) → Conflict ps → RefutesByUnits ps []
 conflict_refutes ps (inl h) = refutes_one ps [] [] h tt
 conflict_refutes ps (inr h) =

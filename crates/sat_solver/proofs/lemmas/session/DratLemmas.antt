@@ -18,11 +18,11 @@ more_or : (b : Bool) (n : ℕ) → n ≤ more_if b n
 more_or true n = omega arith
 more_or false n = omega arith
 
--- one more set leaves the others
+-- adding a clause lowers no count
 pub times_after : (set c : List ℕ) (cs : List (List ℕ)) → times set cs ≤ times set (c ∷ cs)
 times_after set c cs = more_or (same_literals c set) (times set cs)
 
--- a set is itself
+-- a clause equals itself
 same_itself : (xs : List ℕ) → same_literals xs xs ≡ true
 same_itself [] = refl
 same_itself (x ∷ xs) = ap (λ b. b && same_literals xs xs) (eq-eqb x x refl) ∙ same_itself xs
@@ -30,7 +30,7 @@ same_itself (x ∷ xs) = ap (λ b. b && same_literals xs xs) (eq-eqb x x refl) �
 pub times_itself : (set : List ℕ) (cs : List (List ℕ)) → times set (set ∷ cs) ≡ times set cs + 1
 times_itself set cs = ap (λ b. more_if b (times set cs)) (same_itself set)
 
--- one that goes leaves the others
+-- removing a clause leaves the counts of other clauses unchanged
 pub times_left : (set out : List ℕ) (cs : List (List ℕ)) → same_literals out set ≡ false → times set cs ≤ times set (without_set out cs)
 times_left set out [] e = omega arith
 times_left set out (c ∷ cs) e = go (times_left set out cs e) (same_literals c out) refl
@@ -46,7 +46,7 @@ times_left set out (c ∷ cs) e = go (times_left set out cs e) (same_literals c 
         omega (arith, is)
     go ih false s = wider ih (same_literals c set)
 
--- and takes one away at most
+-- removing a clause lowers a count by at most 1
 pub times_less : (set out : List ℕ) (cs : List (List ℕ)) → times set cs ≤ times set (without_set out cs) + 1
 times_less set out [] = omega arith
 times_less set out (c ∷ cs) = go (times_less set out cs) (same_literals c out)
@@ -65,11 +65,11 @@ times_less set out (c ∷ cs) = go (times_less set out cs) (same_literals c out)
 
 -- REFUTATIONS
 
--- one clause that is falsified
+-- one clause is falsified
 pub refutes_one : (cs : List (List ℕ)) (known c : List ℕ) → 0 < times c cs → IsFalsified known c → RefutesByUnits cs known
 refutes_one cs known c p f = record { named = c ∷ []; are_present = (p, tt); turns = f }
 
--- one that is unit before others
+-- one clause is unit, and with its literal the rest is refuted
 pub refutes_unit : (cs : List (List ℕ)) (known c : List ℕ) (o : ℕ) → 0 < times c cs → IsUnit known c o → RefutesByUnits cs (o ∷ known) → RefutesByUnits cs known
 refutes_unit cs known c o p u r = go r.named r.are_present r.turns
   where
@@ -77,7 +77,7 @@ refutes_unit cs known c o p u r = go r.named r.are_present r.turns
     go [] a t = absurd t
     go (d ∷ ds) a t = record { named = c ∷ d ∷ ds; are_present = (p, a); turns = (o, u, t) }
 
--- these hold among the known literals
+-- all these literals are known
 abbrev pub Has : List ℕ → (ℕ → Bool) → Type 0
 Has known q = (l : ℕ) → q l ≡ true → is_among known l ≡ true
 
@@ -95,12 +95,12 @@ others_falsified : (known : List ℕ) (q : ℕ → Bool) (o : ℕ) → Has known
 others_falsified known q o h [] a = tt
 others_falsified known q o h (l ∷ ls) a = (elim a.0 [ inl e ↦ inl e | inr t ↦ inr (h (negated l) t) ], others_falsified known q o h ls a.1)
 
--- where the one literal is false, too, all are
+-- if the one remaining literal is false too, the clause is falsified
 all_falsified : (known : List ℕ) (o : ℕ) → is_among known (negated o) ≡ true → (c : List ℕ) → AllByRecursion (λ l. (l ≡ o) ⊎ (is_among known (negated l) ≡ true)) c → IsFalsified known c
 all_falsified known o f [] a = tt
 all_falsified known o f (l ∷ ls) a = (elim a.0 [ inl e ↦ subst (λ x. is_among known (negated x) ≡ true) (sym e) f | inr t ↦ t ], all_falsified known o f ls a.1)
 
--- Present clauses that lead to a conflict refute what holds: those that are no longer unit in their turn are left out.
+-- Present clauses that lead to a conflict refute what is known: those that aren't unit in turn are left out.
 pub leads_refute : (ps cs : List (List ℕ)) (known : List ℕ) (q : ℕ → Bool) → AllByRecursion (λ c. 0 < times (canonical c) ps) cs → Has known q → LeadsToConflict q cs → RefutesByUnits ps known
 leads_refute ps [] known q p h l = absurd l
 leads_refute ps (c ∷ []) known q p h l = refutes_one ps known (canonical c) p.0 (canonical_each (λ m. is_among known (negated m) ≡ true) c (each_falsified known q h c l))
@@ -122,7 +122,7 @@ leads_refute ps (c ∷ d ∷ cs) known q p h l = go (λ k r a b. leads_refute ps
 
 -- UNITS
 
--- present units come first
+-- present units may be used first
 pub units_first : (ps : List (List ℕ)) (us known : List ℕ) (q : ℕ → Bool) → AllByRecursion (λ u. 0 < times (u ∷ []) ps) us → Has known q → ((k : List ℕ) → Has k (λ l. is_among us l || q l) → RefutesByUnits ps k) → RefutesByUnits ps known
 units_first ps [] known q p h f = f known h
 units_first ps (u ∷ us) known q p h f = go (λ k r a b. units_first ps us k r p.1 a b) (is_among known u) refl (is_among known (negated u)) refl
@@ -157,7 +157,7 @@ among_right : (xs ys : List ℕ) (l : ℕ) → is_among ys l ≡ true → is_amo
 among_right [] ys l e = e
 among_right (x ∷ xs) ys l e = or_right (eqb x l) (is_among (xs ++ ys) l) (among_right xs ys l e)
 
--- what is asked of a clause is asked of its own literals
+-- a condition on a clause concerns only its own literals
 within_each : (q r : ℕ → Bool) (c : List ℕ) → ((l : ℕ) → is_among (map negated c) l ≡ true → q l ≡ true → r l ≡ true) → AllByRecursion (λ l. q (negated l) ≡ true) c → AllByRecursion (λ l. r (negated l) ≡ true) c
 within_each q r [] f a = tt
 within_each q r (x ∷ xs) f a =
@@ -181,7 +181,7 @@ leads_within (c ∷ d ∷ cs) q r f h = (
       (λ l e t. elim (or_cases (eqb h.0 l) (q l) t) [ inl s ↦ or_left (eqb h.0 l) (r l) s | inr s ↦ or_right (eqb h.0 l) (r l) (f l (among_right (map negated c) (negations (d ∷ cs)) l e) s) ]) h.3,
 )
 
--- those of a list that are units
+-- the literals of a list that are units
 abbrev pub units_in : (ℕ → Bool) → List ℕ → List ℕ
 units_in q [] = []
 units_in q (l ∷ ls) = cond (q l) (l ∷ units_in q ls) (units_in q ls)

@@ -1,4 +1,4 @@
--- The ends of proofs change nothing of what may be made: without them the session keeps the last clause longer, and nothing else differs.
+-- Steps stay allowed without the ends of proofs: the session then remembers the clause derived last for longer.
 use Rattle.std.proofs.Common.{ℕ, ◌≡◌, Option, None, Some, List, [], ◌∷◌, map, refl, sym, ap, subst}
 use Rattle.sat_base.specs.values.Literals.{negated}
 use Rattle.sat_base.specs.steps.Steps.{Simplified, Step, SolverVarName, UserVarName, DeleteVar, AtClause, UnitClauses, DeleteClause, ChangeHashBits, Model, Assumptions, FailedAssumptions, End}
@@ -6,11 +6,11 @@ use Rattle.sat_checker.specs.Contents.{state_after}
 use Rattle.sat_solver.specs.session.Session.{Session, proof_state, session_with, with_fact, last_after, after, session_after, AreLiveByHash, MayDerive, MayFail, by_signs, by_derivation, by_unit, by_clauses, MayProve, IsAllowedStep, AreAllowedSteps}
 use Rattle.sat_solver.specs.proof.Checked.{unended}
 
--- the session with another last clause
+-- the session with another clause derived last
 abbrev at : Option (List ℕ) → Session → Session
 at last s = record s { last = last }
 
--- named clauses are named
+-- hashes still name the same clauses
 named_at : (o : Option (List ℕ)) (s : Session) (named : List (List ℕ)) (hashes : List ℕ) → AreLiveByHash s named hashes → AreLiveByHash (at o s) named hashes
 named_at o s [] [] h = tt
 named_at o s [] (k ∷ ks) h = absurd h
@@ -25,12 +25,12 @@ fail_at : (o : Option (List ℕ)) (s : Session) (core hashes : List ℕ) → May
 fail_at o s core hashes (by_signs t) = by_signs t
 fail_at o s core hashes (by_derivation d) = by_derivation (derive_at o s (map negated core) hashes d)
 
--- units
+-- units may still be derived
 prove_at : (o : Option (List ℕ)) (us : List (ℕ × ℕ)) (s : Session) → MayProve s us → MayProve (at o s) us
 prove_at o [] s h = tt
 prove_at o (u ∷ us) s h = (derive_at o s (u.0 ∷ []) (u.1 ∷ []) h.0, prove_at o us (with_fact u.0 s) h.1)
 
--- the last clause is kept, at least
+-- the second has the clause of the first, if that one has a clause
 abbrev Longer : Option (List ℕ) → Option (List ℕ) → Type 0
 Longer a b = (part : List ℕ) → a ≡ Some part → b ≡ Some part
 
@@ -44,7 +44,7 @@ longer_after : (step : Step) (a b : Option (List ℕ)) → Longer a b → Longer
 longer_after (ChangeHashBits bits) a b h = h
 longer_after step a b h = λ part e. e
 
--- what may be made may be where the last clause is kept
+-- an allowed step is still allowed if the session remembers the clause derived last
 may_longer : (o : Option (List ℕ)) (step : Step) (s : Session) → Longer s.last o → IsAllowedStep s step → IsAllowedStep (at o s) step
 may_longer o (SolverVarName v name) s l m = tt
 may_longer o (UserVarName v (Some name)) s l m = record { free = m.free; nameless = m.nameless; not_hidden = m.not_hidden }
@@ -59,7 +59,7 @@ may_longer o (FailedAssumptions core hashes) s l m = (m.0, fail_at o s core hash
 may_longer o End s l m = tt
 may_longer o step s l m = m
 
--- the session without ends is the same, but for the last clause, which it keeps longer
+-- the session without ends is the same, but may remember the clause derived last for longer
 record Alike (s t : Session) : Type 0 where
   same : t ≡ at t.last s
   longer : Longer s.last t.last
@@ -88,7 +88,7 @@ may_next : (step : Step) (steps : List Step) → AreAllowedSteps (unended steps)
 may_next End steps h m = h
 may_next step steps h m = (h, may_alike step _ _ (alike steps) m)
 
--- what may be made in turn may be without the ends
+-- allowed steps are still allowed without the ends of proofs
 pub unended_may : (steps : List Step) → AreAllowedSteps steps → AreAllowedSteps (unended steps)
 unended_may [] h = tt
 unended_may (step ∷ steps) h = may_next step steps (unended_may steps h.0) h.1

@@ -1,4 +1,4 @@
--- What the target of a proof took, whatever call failed since it was opened.
+-- What the target of a proof received since it was opened, even if a call failed.
 use Rattle.std.proofs.Common.{◌≡◌, ◌∙◌, inl, inr, false, Some, List, [], ◌∷◌, ◌++◌, append_assoc, refl, sym, ap, subst}
 use Rattle.std.proofs.lemmas.Bool.{true≢false}
 use Rattle.std.specs.Io.KnownBytes.{Appends}
@@ -19,7 +19,7 @@ use Rattle.sat_solver.proofs.lemmas.session.StepLemmas.{sessions_are_accepted}
 
 -- STEPS AFTER AN END
 
--- nothing but ends of proofs leaves nothing
+-- after ends of proofs only, the session is the empty one
 ended : (before : List Step) → has_begun before ≡ false → session_after before ≡ nothing
 ended [] h = refl
 ended (End ∷ before) h = ap (after End) (ended before h)
@@ -36,25 +36,25 @@ ended (Model ls ∷ before) h = absurd (true≢false h)
 ended (Assumptions ls ∷ before) h = absurd (true≢false h)
 ended (FailedAssumptions c hs ∷ before) h = absurd (true≢false h)
 
--- so the steps after it leave what they leave alone
+-- so later steps lead to the same session as without them
 alone : (before steps : List Step) → has_begun before ≡ false → session_after (steps ++ before) ≡ session_after steps
 alone before [] h = ended before h
 alone before (step ∷ steps) h = ap (after step) (alone before steps h)
 
--- and may be made alone
+-- later steps are also allowed without them
 may_alone : (before steps : List Step) → has_begun before ≡ false → AreAllowedSteps (steps ++ before) → AreAllowedSteps steps
 may_alone before [] h m = tt
 may_alone before (step ∷ steps) h m = (may_alone before steps h m.0, subst (λ s. IsAllowedStep s step) (alone before steps h) m.1)
 
--- the first of them might be made
+-- the first ones of allowed steps are allowed
 may_first : (later first : List Step) → AreAllowedSteps (later ++ first) → AreAllowedSteps first
 may_first [] first m = m
 may_first (step ∷ later) first m = may_first later first m.0
 
--- FRONTS
+-- PREFIXES OF THE TEXT
 
 module _ (f : ProofFormat) (from given : Writer) where
-  -- of the text of steps that were carried
+  -- the target received the text of these steps
   carried_front : (steps : List Step) (now : Target) → AreAllowedSteps steps → TargetTakes (Open f nothing_counted (empty_sink from)) steps now → GivesWriter now (Some given) → FrontText f from given steps
   carried_front steps now m h g =
       let q : Some given ≡ Some h.1.writer = subst (λ (z : Target). GivesWriter z (Some given)) h.2 g in
@@ -73,7 +73,7 @@ module _ (f : ProofFormat) (from given : Writer) where
         known_bytes = subst (λ (z : Writer). Appends from.contents z.contents h.3.wrote.sent.fresh) same h.3.wrote.sent.takes.known_bytes;
       }
 
-  -- of the text at which a call failed
+  -- a call failed while their text was written
   stopped_front : (steps : List Step) (now : Target) → AreAllowedSteps steps → TargetFails (Open f nothing_counted (empty_sink from)) steps now → GivesWriter now (Some given) → FrontText f from given steps
   stopped_front steps now m h g =
       let q : Some given ≡ Some h.0 = subst (λ (z : Target). GivesWriter z (Some given)) h.1 g in
@@ -107,7 +107,7 @@ fronts_are_accepted f from given before steps now b m follows g =
 
 -- FROM STEP TO STEP
 
--- a target that failed takes nothing more
+-- a target that failed receives nothing more
 broken_follows : (w : Writer) (ys : List Step) (c : Target) → TargetTakesFront (Faulty w) ys c → c ≡ Faulty w
 broken_follows w ys c h = elim h [ inl k ↦ k | inr k ↦ absurd k.3 ]
 
@@ -139,10 +139,10 @@ went_more seen a b c p q = record {
   target = follows_more (target_of seen a) (target_of seen b) (target_of seen c) p.steps q.steps p.target q.target;
 }
 
--- steps that were taken
+-- steps were made, and their text was written
 pub went_added : {W L : Type 0} {G : Ghosts L} (seen : W → Writer) (steps : List Step) (a b : Proof W L G) → EmitsExactly seen steps a b → GoesOnFrom seen a b
 went_added seen steps a b h = record { steps = steps; history = h.history; target = inl h.target }
 
--- and steps at whose text a call failed
+-- steps were made, and a call failed while their text was written
 pub went_failed : {W L : Type 0} {G : Ghosts L} (seen : W → Writer) (steps : List Step) (a b : Proof W L G) → FailsToEmit seen steps a b → GoesOnFrom seen a b
 went_failed seen steps a b h = record { steps = steps; history = h.history; target = inr ([], steps, refl, h.target) }

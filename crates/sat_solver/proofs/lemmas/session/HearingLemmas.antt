@@ -1,4 +1,4 @@
--- What those hear who listen to a solver's own checker.
+-- What the listeners of a solver's own checker hear.
 use Rattle.std.proofs.Common.{ℕ, ◌≡◌, ◌∙◌, ◌⊎◌, inl, inr, false, Option, None, Some, List, [], ◌∷◌, ◌++◌, Result, Ok, Err, refl, sym, ap}
 use Rattle.std.proofs.lemmas.Bool.{true≢false}
 use Rattle.anyhow.specs.declared.error.Error.{Error}
@@ -24,7 +24,7 @@ use Rattle.sat_solver.specs.session.Session.{AreAllowedSteps}
 use Rattle.sat_solver.specs.proof.Widths.{IsNarrowedTo, none_yet, width_changes, one_more}
 use Rattle.sat_solver.proofs.lemmas.session.StepLemmas.{sessions_are_accepted}
 
--- changes of width tell nothing, and leave no unit conflict
+-- these steps announce nothing and leave no unit conflict
 pub record Quiet (written : List Step) : Type 0 where
   pub conflict : (stored_after written).conflict ≡ None
   pub no_notices : notices_after written ≡ []
@@ -46,25 +46,25 @@ widths_quiet wide e none_yet = record { conflict = refl; no_notices = refl }
 widths_quiet wide e (width_changes bits h) = width_quiet bits _ (widths_quiet wide e h)
 widths_quiet wide e (one_more step k h) = cc
 
--- so all of it was told
+-- so there is nothing to report
 pub none_reported : (written : List Step) → Quiet written → (conflict : Option (ℕ × ℕ)) → notices_by conflict written ≡ []
 none_reported written q (Some c) = q.no_notices
 none_reported written q None = ap (λ ts. ts ++ notices_over (stored_after written) (delayed (stored_after written))) q.no_notices ∙ ap (λ c. notices_over (stored_after written) (delayed_by (stored_after written).next_id c)) q.conflict
 
 module _ {L : Type 0} (takes : L → Notice → Result Unit Error → L → Type 0) (begun : Processing L Nobody) where
-  -- what a checker that goes on has told
+  -- listeners have heard everything as long as the checker does not fail
   pub heard_all : (now : Processing L Nobody) (written : List Step) (conflict : Option (ℕ × ℕ)) → HearsSince (Hears takes) [] (notices_by conflict written) begun now → HeardAll takes begun now written
   heard_all now written (Some c) h = inl h
   heard_all now written None h = inr h
 
-  -- what was heard where it failed
+  -- what listeners have heard when the checker failed
   pub has_heard : (now : Processing L Nobody) (written : List Step) (fault : CheckFault) → FailedOf takes begun now written fault → HasHeard takes begun now written
   has_heard now written checks.OutOfMemory h = elim h [ inl a ↦ inl a | inr b ↦ inr (faults.OutOfMemory, b) ]
   has_heard now written checks.CounterEnd h = inl h.1
   has_heard now written (checks.Processor cause) h = inr (faults.ProofProcessorError cause, h)
 
   module _ (old new : CheckerView (Processing L Nobody)) (written : List Step) (going : has_failed old ≡ false) where
-    -- before the step, or as it was told
+    -- the checker failed before it announced the step, or while it did
     abbrev pub Broke : Step → CheckFault → Type 0
     Broke step fault = FailedOf takes begun new.listeners written fault ⊎ FailedOf takes begun new.listeners (step ∷ written) fault
 
@@ -80,7 +80,7 @@ module _ {L : Type 0} (takes : L → Notice → Result Unit Error → L → Type
     starved_at step (inl s) = inl (inl s.1.heard)
     starved_at step (inr b) = starved step (up_to step faults.OutOfMemory b)
 
-    -- an answer to a step that may be written
+    -- the checker's answer to an allowed step
     pub answered : (r : Result (Unit {0}) CheckerError) (step : Step) → AreAllowedSteps (step ∷ written) → AnswersStep (Hears takes) [] begun r old step new written
         → OkOrCause r (HasAccepted (Hears takes) [] begun new (step ∷ written) × (has_failed new ≡ false)) (Broke step)
     answered (Ok x) step may a = (a.1.valid, a.1.goes_on)
@@ -91,7 +91,7 @@ module _ {L : Type 0} (takes : L → Notice → Result Unit Error → L → Type
     answered (Err errors.HasFailed) step may a = absurd (true≢false (sym a.0 ∙ going))
     answered (Err e) step may a = absurd a
 
-    -- an answer to what waits
+    -- the checker's answer when it reports a pending unit conflict
     pub answered_delayed : (r : Result (Unit {0}) CheckerError) → AnswersDelayed (Hears takes) [] begun r old new written
         → OkOrCause r (HasAccepted (Hears takes) [] begun new written × (has_failed new ≡ false) × KernelIsSettled new.kernel) (FailedOf takes begun new.listeners written)
     answered_delayed (Ok x) a = (a.2, a.3, a.4)

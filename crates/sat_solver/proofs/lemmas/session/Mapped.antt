@@ -1,4 +1,4 @@
--- Clauses in solver variables, and what they are in proof variables.
+-- Clauses over search variables, mapped to proof variables.
 use Rattle.std.proofs.Common.{ℕ, ◌+◌, ◌-◌, ◌*◌, ◌/◌, ◌%◌, ◌≡◌, Bool, true, false, ◌||◌, eqb, List, [], ◌∷◌, map, refl, sym, ◌∙◌, ap, subst, arith, ◌⊎◌, inl, inr, Option, Some}
 use Rattle.std.proofs.lemmas.Bool.{or_cases, or_left, or_right, or_parts, or_from, eqb-true, eqb-false, eq-eqb, ne_eqb, true≢false}
 use Rattle.std.specs.List.{AllByRecursion}
@@ -9,7 +9,7 @@ use Rattle.sat_checker.specs.Leading.{LeadsToConflict}
 use Rattle.sat_solver.specs.session.Session.{Session, denied_in}
 use Rattle.sat_solver.specs.session.LiveClauses.{with_var, AreMapped}
 
--- the other sign of a mapped literal
+-- mapping commutes with negation
 pub negated_mapped : (global : ℕ → ℕ) (l : ℕ) → with_var global (negated l) ≡ negated (with_var global l)
 negated_mapped global l =
     let half : negated l / 2 ≡ l / 2 = omega arith in
@@ -18,7 +18,7 @@ negated_mapped global l =
     let flip : negated l % 2 ≡ 1 - l % 2 = omega arith in
     ap (λ v. 2 * global v + negated l % 2) half ∙ ap (λ b. 2 * global (l / 2) + b) flip ∙ sym (ap (λ v. 2 * v + (1 - (2 * global (l / 2) + l % 2) % 2)) other ∙ ap (λ b. 2 * global (l / 2) + (1 - b)) sign)
 
--- a member's image is among the images
+-- the image of a member is among the images
 pub among_mapped : (w : ℕ → ℕ) (ls : List ℕ) (l : ℕ) → is_among ls l ≡ true → is_among (map w ls) (w l) ≡ true
 among_mapped w [] l h = absurd (true≢false (sym h))
 among_mapped w (x ∷ xs) l h = elim (or_cases (eqb x l) (is_among xs l) h) [
@@ -27,21 +27,21 @@ among_mapped w (x ∷ xs) l h = elim (or_cases (eqb x l) (is_among xs l) h) [
 ]
 
 module _ (global : ℕ → ℕ) where
-  -- what holds of a literal holds of its image
+  -- if p holds for a literal, q holds for its image
   abbrev pub Carries : (ℕ → Bool) → (ℕ → Bool) → Type 0
   Carries p q = (l : ℕ) → p l ≡ true → q (with_var global l) ≡ true
 
-  -- the literals of a mapped clause are false
+  -- if all literals of a clause are false, so are those of its image
   all_mapped : (p q : ℕ → Bool) → Carries p q → (c : List ℕ) → AllByRecursion (λ l. p (negated l) ≡ true) c → AllByRecursion (λ l. q (negated l) ≡ true) (map (with_var global) c)
   all_mapped p q m [] h = tt
   all_mapped p q m (l ∷ ls) h = (subst (λ x. q x ≡ true) (negated_mapped global l) (m (negated l) h.0), all_mapped p q m ls h.1)
 
-  -- the same of all but one
+  -- the same for all literals but one
   others_mapped : (p q : ℕ → Bool) (o : ℕ) → Carries p q → (c : List ℕ) → AllByRecursion (λ l. (l ≡ o) ⊎ (p (negated l) ≡ true)) c → AllByRecursion (λ l. (l ≡ with_var global o) ⊎ (q (negated l) ≡ true)) (map (with_var global) c)
   others_mapped p q o m [] h = tt
   others_mapped p q o m (l ∷ ls) h = (elim h.0 [ inl e ↦ inl (ap (with_var global) e) | inr k ↦ inr (subst (λ x. q x ≡ true) (negated_mapped global l) (m (negated l) k)) ], others_mapped p q o m ls h.1)
 
-  -- what leads to a conflict in solver variables does in proof variables; that no two are mapped to one isn't asked
+  -- clauses that lead to a conflict still do when mapped, even if two variables have the same image
   pub leads_mapped : (cs : List (List ℕ)) (p q : ℕ → Bool) → Carries p q → LeadsToConflict p cs → LeadsToConflict q (map (map (with_var global)) cs)
   leads_mapped [] p q m h = h
   leads_mapped (c ∷ []) p q m h = all_mapped p q m c h
@@ -56,7 +56,7 @@ module _ (global : ℕ → ℕ) where
         ]) h.3,
       )
 
-  -- the negations of a clause, and units
+  -- the negations of a clause and the units are mapped
   pub denied_mapped : (s : Session) (clause : List ℕ) (known : ℕ → Bool) → Carries known s.units → Carries (λ l. is_among (map negated clause) l || known l) (denied_in s (map (with_var global) clause))
   denied_mapped s clause known m l h = elim (or_cases (is_among (map negated clause) l) (known l) h) [
     | inl k ↦ or_left (is_among (map negated (map (with_var global) clause)) (with_var global l)) (s.units (with_var global l)) (go clause k)
@@ -70,7 +70,7 @@ module _ (global : ℕ → ℕ) where
         | inr r ↦ or_right (eqb (negated (with_var global x)) (with_var global l)) (is_among (map negated (map (with_var global) xs)) (with_var global l)) (go xs r)
       ]
 
-  -- Different literals stay different where each variable is the solver name of what it is mapped to.
+  -- Different literals have different images if every variable is the solver name of its image.
   module _ (names : ℕ → Option ℕ) where
     pub apart : (l m : ℕ) → names (global (variable l)) ≡ Some (variable l) → names (global (variable m)) ≡ Some (variable m) → with_var global l ≡ with_var global m → l ≡ m
     apart l m e f k =

@@ -18,34 +18,34 @@ use Rattle.sat_solver.proofs.lemmas.session.StepLemmas.{sessions_are_accepted}
 
 -- LISTS
 
--- what holds of each member holds of this one
+-- a property of all members holds for this one
 pub all_at : {A : Type 0} (P : A → Type 0) (x : A) (xs : List A) → AllByRecursion P xs → Among x xs → P x
 all_at P x [] h m = absurd m
 all_at P x (y ∷ ys) h m = elim m [ inl e ↦ subst P (sym e) h.0 | inr n ↦ all_at P x ys h.1 n ]
 
--- what follows for a member follows for each
+-- a property of every member holds for the whole list
 pub all_from : {A : Type 0} (Q : A → Type 0) (xs : List A) → ((x : A) → Among x xs → Q x) → AllByRecursion Q xs
 all_from Q [] f = tt
 all_from Q (x ∷ xs) f = (f x (inl refl), all_from Q xs (λ y m. f y (inr m)))
 
--- a list's images
+-- a property of all images, as one of the mapped list
 pub all_images : {A : Type 0} (P : ℕ → Type 0) (f : A → ℕ) (xs : List A) → AllByRecursion (λ x. P (f x)) xs → AllByRecursion P (map f xs)
 all_images P f [] h = tt
 all_images P f (x ∷ xs) h = (h.0, all_images P f xs h.1)
 
--- a member of the images is one of a member
+-- an element of the mapped list is the image of a member
 pub image_of : {A : Type 0} (f : A → ℕ) (xs : List A) (y : ℕ) → Among y (map f xs) → (x : A) × Among x xs × (y ≡ f x)
 image_of f [] y m = absurd m
 image_of f (x ∷ xs) y m = elim m [ inl e ↦ (x, inl refl, e) | inr n ↦ let r = image_of f xs y n in (r.0, inr r.1, r.2) ]
 
--- a member's image is one of the images
+-- the image of a member is in the mapped list
 pub among_images : {A : Type 0} (f : A → ℕ) (x : A) (xs : List A) → Among x xs → Among (f x) (map f xs)
 among_images f x [] m = absurd m
 among_images f x (y ∷ ys) m = elim m [ inl e ↦ inl (ap f e) | inr n ↦ inr (among_images f x ys n) ]
 
 -- VALUES
 
--- a literal of this sign
+-- the value of a literal of this sign
 literal_coded : (a : Valuation) (v : ℕ) (s : Bool) → literal_true a (coded v s) ≡ cond s (a v) (not (a v))
 literal_coded a v true = let e : (2 * v + 0) % 2 ≡ 0 = omega arith in let h : (2 * v + 0) / 2 ≡ v = omega arith in rw (e, h) refl
 literal_coded a v false = let e : (2 * v + 1) % 2 ≡ 1 = omega arith in let h : (2 * v + 1) / 2 ≡ v = omega arith in rw (e, h) refl
@@ -58,7 +58,7 @@ among_true a x (y ∷ ys) m t = elim m [
   | inr n ↦ or_right (literal_true a y) (clause_true a ys) (among_true a x ys n t)
 ]
 
--- and a true clause has one
+-- a true clause has a true literal
 pub some_true : (a : Valuation) (c : List ℕ) → clause_true a c ≡ true → (x : ℕ) × Among x c × (literal_true a x ≡ true)
 some_true a [] t = absurd (true≢false (sym t))
 some_true a (y ∷ ys) t = elim (or_cases (literal_true a y) (clause_true a ys) t) [
@@ -66,7 +66,7 @@ some_true a (y ∷ ys) t = elim (or_cases (literal_true a y) (clause_true a ys) 
   | inr e ↦ let r = some_true a ys e in (r.0, inr r.1, r.2)
 ]
 
--- a literal over a name is true where the one over its proof variable is
+-- a literal over a name has the value of the literal over its proof variable
 pub read_value : (j : ScriptState) (variable_of : ℕ → Option ℕ) (a b : Valuation) → AgreeOn j variable_of a b → (l : Literal) (code : ℕ) → IsReadAs j variable_of l code → literal_true a code ≡ literal_true b (over j l)
 read_value j variable_of a b agree l code r =
     let e : a r.var ≡ b r.identity = agree l.name r.identity r.var r.in_use r.named in
@@ -75,7 +75,7 @@ read_value j variable_of a b agree l code r =
 
 -- RIGHT ANSWERS
 
--- a model that may be written gives a right line
+-- a model that may be written has a right line over names
 pub named_models_are_right : NamedModelsAreRight
 named_models_are_right j variable_of steps codes ask line means may names read asked =
     let s = sessions_are_accepted (Model codes ∷ steps) may in
@@ -93,13 +93,13 @@ named_models_are_right j variable_of steps codes ask line means may names read a
       asked = all_images (λ x. literal_true k.0 x ≡ true) (over j) ask (all_from (λ l. literal_true k.0 (over j l) ≡ true) ask (λ l i. all_at (λ x. literal_true k.0 (over j x) ≡ true) l line each (all_at (λ x. Among x line) l ask asked i)));
     }
 
--- where the literals of a core are true, so are those over proof variables
+-- if all literals of a core are true, so are those over proof variables
 core_true : (j : ScriptState) (variable_of : ℕ → Option ℕ) (a b : Valuation) (codes : List ℕ) (core : List Literal) → AgreeOn j variable_of a b → AllFrom j variable_of codes core → EachTrue b (map (over j) core) → EachTrue a codes
 core_true j variable_of a b codes core agree from t = all_from (λ x. literal_true a x ≡ true) codes (λ x i.
     let r = all_at (λ code. (l : Literal) × IsReadAs j variable_of l code × Among l core) x codes from i in
     read_value j variable_of a b agree r.0 x r.1 ∙ all_at (λ y. literal_true b y ≡ true) (over j r.0) (map (over j) core) t (among_images (over j) r.0 core r.2))
 
--- a failed core that may be written gives a right core
+-- a failed core that may be written is a right core over names
 pub named_cores_are_right : NamedCoresAreRight
 named_cores_are_right j variable_of steps codes hashes ask core means may order among from =
     let s = sessions_are_accepted (FailedAssumptions codes hashes ∷ steps) may in
@@ -109,7 +109,7 @@ named_cores_are_right j variable_of steps codes hashes ask core means may order 
       none = λ b t h. let k = means.back b h in cores_fail steps codes hashes k.0 s.0.0 s.0.1 k.2 (core_true j variable_of k.0 b codes core k.1 from t);
     }
 
--- once unsat is recorded the empty core is right
+-- once unsat is recorded, the empty core is right
 pub named_unsat_is_right : NamedUnsatIsRight
 named_unsat_is_right j variable_of steps ask means may unsat =
     let s = sessions_are_accepted steps may in
@@ -119,9 +119,9 @@ named_unsat_is_right j variable_of steps ask means may unsat =
       none = λ b t h. let k = means.back b h in unsat_means_none steps k.0 s.0 (s.1.unsat ∙ unsat) k.2;
     }
 
--- WHERE NO NAME WAS EVER HIDDEN
+-- IF NO NAME WAS EVER HIDDEN
 
--- where no variable was deleted, what the steps leave satisfies all added clauses
+-- if no variable was deleted, every valuation that the steps admit satisfies all added clauses
 pub holds_added : (steps : List Step) (a : Valuation) → AllByRecursion DeletesNoVar steps → Holds steps a → EachHolds a (added steps)
 holds_added [] a k h = tt
 holds_added (AddClause clause ∷ earlier) a k h = (h.1, holds_added earlier a k.1 h.0)
@@ -138,7 +138,7 @@ holds_added (Assumptions ls ∷ earlier) a k h = holds_added earlier a k.1 h
 holds_added (FailedAssumptions core hashes ∷ earlier) a k h = holds_added earlier a k.1 h
 holds_added (End ∷ earlier) a k h = holds_added earlier a k.1 h
 
--- a literal's value over proof variables
+-- a literal and its image have the same value
 mapped_value : (global : ℕ → ℕ) (a b : Valuation) (l : ℕ) → a (global (variable l)) ≡ b (variable l) → literal_true a (with_var global l) ≡ literal_true b l
 mapped_value global a b l e =
     let half : (2 * global (l / 2) + l % 2) / 2 ≡ global (l / 2) = omega arith in
@@ -146,21 +146,21 @@ mapped_value global a b l e =
     let f : a (variable (with_var global l)) ≡ b (variable l) = ap a half ∙ e in
     ap (λ n. cond (eqb n 0) (a (variable (with_var global l))) (not (a (variable (with_var global l))))) sign ∙ ap (λ x. cond (eqb (l % 2) 0) x (not x)) f
 
--- a true clause over proof variables
+-- if a clause over proof variables is true, so is the one over identities
 clause_to : (global : ℕ → ℕ) (a : Valuation) (c d : List ℕ) → AllByRecursion (λ l. Among l (map (with_var global) d)) c → clause_true a c ≡ true → clause_true (λ i. a (global i)) d ≡ true
 clause_to global a c d within t =
     let x = some_true a c t in
     let r = image_of (with_var global) d x.0 (all_at (λ l. Among l (map (with_var global) d)) x.0 c within x.1) in
     among_true (λ i. a (global i)) r.0 d r.1 (sym (mapped_value global a (λ i. a (global i)) r.0 refl) ∙ sym (ap (literal_true a) r.2) ∙ x.2)
 
--- a true clause over identities
+-- if a clause over identities is true, so is the one over proof variables
 clause_back : (global : ℕ → ℕ) (a b : Valuation) (c d : List ℕ) → AllByRecursion (λ l. a (global (variable l)) ≡ b (variable l)) d → AllByRecursion (λ l. Among l c) (map (with_var global) d) → clause_true b d ≡ true → clause_true a c ≡ true
 clause_back global a b c d same within t =
     let x = some_true b d t in
     among_true a (with_var global x.0) c (all_at (λ l. Among l c) (with_var global x.0) (map (with_var global) d) within (among_images (with_var global) x.0 d x.1))
     (mapped_value global a b x.0 (all_at (λ l. a (global (variable l)) ≡ b (variable l)) x.0 d same x.1) ∙ x.2)
 
--- where no name was ever hidden, the steps mean what the accepted clauses do
+-- if no name was ever hidden, steps and accepted clauses admit the same valuations
 pub none_hidden_means : NoneHiddenMeans
 none_hidden_means j variable_of steps may n = record {
   to = λ a h. ((λ i. a (n.global i)), agree a, satisfied a h n.all_added);

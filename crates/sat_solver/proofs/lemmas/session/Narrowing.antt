@@ -1,4 +1,4 @@
--- A solver need not think of widths: what it may write with whole hashes may be written with their top bits at any width.
+-- A solver may ignore widths: what it may write with complete hashes may be written with their top bits, at any width.
 use Rattle.std.proofs.Common.{ℕ, ◌-◌, ◌/◌, ◌^◌, ◌≡◌, List, [], ◌∷◌, map, refl, sym, ◌∙◌, ap, subst, arith, Option, Some}
 use Rattle.sat_base.specs.values.Literals.{negated}
 use Rattle.sat_base.specs.values.Hashes.{hash_of}
@@ -12,11 +12,11 @@ use Rattle.sat_solver.proofs.lemmas.session.WidthLemmas.{after_wide, fact_wide, 
 abbrev pub at : ℕ → Session → Session
 at width s = record s { width = width }
 
--- 64 bits are all of a hash
+-- at 64 bits a hash is complete
 whole : (n : ℕ) → n / 2 ^ (64 - 64) ≡ n
 whole n = omega arith
 
--- named clauses are named at another width
+-- the same clauses are named by truncated hashes at another width
 named_at : (w : ℕ) (s : Session) → s.width ≡ 64 → (named : List (List ℕ)) (hashes : List ℕ) → AreLiveByHash s named hashes → AreLiveByHash (at w s) named (map (kept_bits w) hashes)
 named_at w s e [] [] h = tt
 named_at w s e [] (k ∷ ks) h = absurd h
@@ -27,17 +27,17 @@ named_at w s e (c ∷ cs) (k ∷ ks) h = (
   named_at w s e cs ks h.2,
 )
 
--- a derivation stands at another width
+-- a derivation is still one at another width
 pub derive_at : (w : ℕ) (s : Session) → s.width ≡ 64 → (clause hashes : List ℕ) → MayDerive s clause hashes → MayDerive (at w s) clause (map (kept_bits w) hashes)
 derive_at w s e clause hashes (by_unit t) = by_unit t
 derive_at w s e clause hashes (by_clauses named n lead) = by_clauses named (named_at w s e named hashes n) lead
 
--- so does a core's failing
+-- so is the derivation of a core
 fail_at : (w : ℕ) (s : Session) → s.width ≡ 64 → (core hashes : List ℕ) → MayFail s core hashes → MayFail (at w s) core (map (kept_bits w) hashes)
 fail_at w s e core hashes (by_signs t) = by_signs t
 fail_at w s e core hashes (by_derivation d) = by_derivation (derive_at w s e (map negated core) hashes d)
 
--- units that may be proved may be at another width
+-- units that may be written may be written at another width
 pub prove_at : (w : ℕ) (us : List (ℕ × ℕ)) (s : Session) → s.width ≡ 64 → MayProve s us → MayProve (at w s) (map (λ u. (u.0, kept_bits w u.1)) us)
 prove_at w [] s e h = tt
 prove_at w (u ∷ us) s e h = (
@@ -45,16 +45,16 @@ prove_at w (u ∷ us) s e h = (
   subst (λ x. MayProve x (map (λ v. (v.0, kept_bits w v.1)) us)) (sym (ap (session_with s.last) (fact_wide u.0 w (proof_state s)))) (prove_at w us (with_fact u.0 s) (fact_width u.0 (proof_state s) ∙ e) h.1),
 )
 
--- the last irredundant clause does not look at hashes
+-- the clause derived last does not depend on hashes
 last_at : (w : ℕ) (step : Step) (last : Option (List ℕ)) → last_after (narrowed w step) last ≡ last_after step last
 last_at w (SolverVarName v name) last = refl
 last_at w step last = refl
 
--- what a step leaves, at another width
+-- the effect of a step at another width
 pub after_at : (w : ℕ) (step : Step) (s : Session) → KeepsWidth step → after (narrowed w step) (at w s) ≡ at w (after step s)
 after_at w step s k = λ i. session_with (last_at w step s.last i) (after_wide w step w (proof_state s) k i)
 
--- a step that may be written may be at another width, with cut hashes
+-- an allowed step is allowed at another width, with truncated hashes
 pub may_at : (w : ℕ) (step : Step) (s : Session) → s.width ≡ 64 → IsAllowedStep s step → IsAllowedStep (at w s) (narrowed w step)
 may_at w (SolverVarName v name) s e m = tt
 may_at w (UserVarName v (Some name)) s e m = record { free = m.free; nameless = m.nameless; not_hidden = m.not_hidden }
@@ -69,7 +69,7 @@ may_at w (FailedAssumptions core hashes) s e m = (m.0, fail_at w s e core hashes
 may_at w End s e m = tt
 may_at w step s e m = m
 
--- what is written for steps may be written, and the steps themselves are at 64 bits
+-- what is written for allowed steps is allowed, and the steps themselves have width 64
 written_may : {wide written : List Step} {width : ℕ} → IsNarrowedTo wide written width → AreAllowedSteps wide → MayAt wide written width × (session_after wide).width ≡ 64
 written_may none_yet h = (record { may = tt; session = refl }, refl)
 written_may (width_changes {wide = wide} {written = written} {width = width} bits w) h =
@@ -85,6 +85,6 @@ written_may (one_more {wide = wide} {written = written} {width = width} step k w
       step_width step (proof_state s) k ∙ ih.1,
     )
 
--- whatever widths are chosen, what is written may be written
+-- at any chosen widths, what is written for allowed steps is allowed
 pub widths_are_free : WidthsAreFree
 widths_are_free wide written width w h = (written_may w h).0

@@ -1,4 +1,4 @@
--- Lines of DRAT for what is written.
+-- DRAT lines of what is written.
 use Rattle.std.proofs.Common.{ℕ, ◌≡◌, ◌∙◌, Bool, true, false, Result, Ok, Err, List, [], ◌∷◌, ◌++◌, refl, sym, ap, subst}
 use Rattle.std.specs.Prelude.{nat_eq, cond}
 use Rattle.std.proofs.lemmas.List.{append-nil}
@@ -20,7 +20,7 @@ module _ (binary : Bool) where
       go false = refl
       go true = refl
 
-  -- a width has none
+  -- a change of the width has no lines
   reported_text : (before now : ℕ) → text_in (lines_format binary) (width_change before now) ≡ []
   reported_text before now = go (nat_eq before now)
     where
@@ -28,7 +28,7 @@ module _ (binary : Bool) where
       go true = refl
       go false = step_is (ChangeHashBits now)
 
-  -- so what is written after a width has the lines of the step
+  -- so a step after a change of the width has only its own lines
   text_is : (before now : ℕ) (step : Step) → text_in (lines_format binary) (step ∷ width_change before now) ≡ drat_text binary step
   text_is before now step = ap (λ xs. xs ++ step_text (lines_format binary) step) (reported_text before now) ∙ step_is step
 
@@ -40,17 +40,17 @@ module _ (binary : Bool) where
       go false = tt
       go true = tt
 
--- lines are of either format
+-- both DRAT formats consist of lines
 pub lines_are : (binary : Bool) → true ≡ is_lines (lines_format binary)
 lines_are false = refl
 lines_are true = refl
 
--- lines were put, and nothing waits
+-- lines were written, and nothing is buffered
 pub lines_put : (binary : Bool) (r : Result (Unit {0}) OutputError) (before now : ℕ) (step : Step) (v w : Writer) → PutsLines binary r step v w → PutsSteps (lines_format binary) r (step ∷ width_change before now) (empty_sink v) (empty_sink w)
 lines_put binary (Ok x) before now step v w h = record { spelt = spelt_any binary (step ∷ width_change before now); sent = record { fresh = drat_text binary step; flows = text_is binary before now step ∙ sym (append-nil (drat_text binary step)); takes = h } }
 lines_put binary (Err (Write e)) before now step v w h = subst (WriterBreaks v w) (sym (text_is binary before now step)) h
 lines_put binary (Err OutOfMemory) before now step v w h = ap empty_sink h
 
--- they were flushed
+-- lines were flushed
 pub lines_flushed : {E : Type 0} (r : Result (Unit {0}) E) (v w : Writer) → FlushesOnce r v w → Flushes r (empty_sink v) (empty_sink w)
 lines_flushed r v w h = sends_flush (empty_sink v) v w [] r refl (sent_none (empty_sink v)) h

@@ -1,4 +1,4 @@
--- Steps mean what the accepted clauses do, as steps come and no name is hidden.
+-- As long as no name is hidden, steps and accepted clauses admit the same valuations.
 use Rattle.std.proofs.Common.{ℕ, ◌≡◌, Bool, true, false, ◌||◌, eqb, Some, None, List, [], ◌∷◌, map, refl}
 use Rattle.sat_base.specs.values.Literals.{negated}
 use Rattle.sat_base.specs.steps.Steps.{Redundant, Step, SolverVarName, UserVarName, AddClause, AtClause, UnitClauses, DeleteClause}
@@ -6,7 +6,7 @@ use Rattle.sat_checker.specs.LiteralSets.{is_tautology, canonical}
 use Rattle.sat_solver.specs.session.Session.{Session, with_fact, after}
 use Rattle.sat_solver.proofs.lemmas.session.Changes.{with_facts, with_sorted, with_live_clause, knowing_literals, session_if}
 
--- RECORDED UNSAT STAYS
+-- RECORDED UNSAT IS NEVER LOST
 
 -- after a unit
 fact_unsat : (l : ℕ) (s : Session) → s.unsat ≡ true → (with_fact l s).unsat ≡ true
@@ -36,7 +36,7 @@ clause_unsat r clause s u = go (is_tautology clause)
     go true = u
     go false = sorted_unsat r (canonical clause) s u
 
--- after each step
+-- after any step
 pub unsat_stays : (step : Step) (s : Session) → s.unsat ≡ true → (after step s).unsat ≡ true
 unsat_stays (SolverVarName v None) s u = u
 unsat_stays (UserVarName v (Some name)) s u = u

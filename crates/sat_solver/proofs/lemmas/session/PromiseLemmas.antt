@@ -1,4 +1,4 @@
--- What sessions promise.
+-- What sessions guarantee.
 use Rattle.std.proofs.Common.{◌≡◌, true, List, [], ◌∷◌, sym, ◌∙◌, inl}
 use Rattle.sat_base.specs.values.Clauses.{Valuation, literal_true, EachHolds}
 use Rattle.sat_base.specs.steps.Steps.{Step, SolverVarName, UserVarName, DeleteVar, ChangeSamplingMode, AddClause, AtClause, UnitClauses, DeleteClause, ChangeHashBits, Model, Assumptions, FailedAssumptions, End}
@@ -10,7 +10,7 @@ use Rattle.sat_solver.specs.session.Promises.{added, CoresAreRight, UnsatIsRight
 use Rattle.sat_solver.proofs.lemmas.session.AcceptLemmas.{each_member}
 use Rattle.sat_solver.proofs.lemmas.session.StepLemmas.{sessions_are_accepted}
 
--- what satisfies all added clauses is left by the steps, whatever was deleted
+-- a valuation that satisfies all added clauses is admitted by the steps, whatever was deleted
 pub added_hold : (steps : List Step) (a : Valuation) → EachHolds a (added steps) → Holds steps a
 added_hold [] a h = tt
 added_hold (AddClause clause ∷ earlier) a h = (added_hold earlier a h.1, h.0)
@@ -31,11 +31,11 @@ added_hold (End ∷ earlier) a h = added_hold earlier a h
 pub cores_are_right : CoresAreRight
 cores_are_right steps core hashes a m h t = let s = sessions_are_accepted (FailedAssumptions core hashes ∷ steps) m in cores_fail steps core hashes a s.0.0 s.0.1 (added_hold steps a h) t
 
--- once unsat is recorded none satisfies them
+-- once unsat is recorded, no valuation satisfies them
 pub unsat_is_right : UnsatIsRight
 unsat_is_right steps a m u h = let s = sessions_are_accepted steps m in unsat_means_none steps a s.0 (s.1.unsat ∙ u) (added_hold steps a h)
 
--- every completion of a model that has the units is left by the steps
+-- every completion of a model with the values of the units is admitted by the steps
 pub models_are_right : ModelsAreRight
 models_are_right steps ls a m t u =
     let s = sessions_are_accepted (Model ls ∷ steps) m in

@@ -1,4 +1,4 @@
--- Steps that went to a proof's target, one after another.
+-- Steps are written to a proof's target, one after another.
 use Rattle.std.proofs.Common.{◌≡◌, ◌∙◌, ℕ, Bool, true, false, Option, None, Some, Result, Ok, Err, List, [], ◌∷◌, ◌++◌, append_assoc, refl, sym, ap, subst, ◌⊎◌, inl, inr}
 use Rattle.std.proofs.lemmas.Bool.{true≢false}
 use Rattle.std.proofs.lemmas.List.{append-nil, reverse-append}
@@ -32,12 +32,12 @@ use Rattle.sat_solver.specs.declared.proof.ProofError.TheVariants.{Write, OutOfM
 
 -- TEXTS
 
--- a list with an item more
+-- a list with one more item
 items_one : {A : Type 0} (F : Format A) (xs : List A) (x : A) (a b : List ℕ) → Items F xs a → F x b → Items F (xs ++ x ∷ []) (a ++ b)
 items_one F [] x a b h k = (b, [], k, refl, subst (λ (z : List ℕ). z ++ b ≡ b ++ []) (sym h) (sym (append-nil b)))
 items_one F (y ∷ xs) x a b h k = (h.0, h.1 ++ b, h.2, items_one F xs x h.1 b h.3 k, subst (λ (z : List ℕ). z ++ b ≡ h.0 ++ (h.1 ++ b)) (sym h.4) (append_assoc h.0 h.1 b))
 
--- in bytes the text spells the steps, the oldest first
+-- the bytes encode the steps, the oldest first
 pub text_spells : (steps : List Step) → AreSpeltInFormat Varisat steps → SpellsSteps (reverse steps) (text_in Varisat steps)
 text_spells [] h = refl
 text_spells (step ∷ earlier) h =
@@ -45,12 +45,12 @@ text_spells (step ∷ earlier) h =
     (items_one SpellsStep (reverse earlier) step (text_in Varisat earlier) (step_bytes step) (text_spells earlier h.1) h.0)
 
 module _ (f : ProofFormat) where
-  -- the text of steps and of later ones
+  -- the text of later steps follows that of earlier ones
   pub text_append : (ys xs : List Step) → text_in f (ys ++ xs) ≡ text_in f xs ++ text_in f ys
   text_append [] xs = sym (append-nil (text_in f xs))
   text_append (y ∷ ys) xs = ap (λ (z : List ℕ). z ++ step_text f y) (text_append ys xs) ∙ append_assoc (text_in f xs) (text_in f ys) (step_text f y)
 
-  -- all of them are spelt
+  -- all of them are encoded
   pub spelt_append : (ys xs : List Step) → AreSpeltInFormat f ys → AreSpeltInFormat f xs → AreSpeltInFormat f (ys ++ xs)
   spelt_append [] xs h k = k
   spelt_append (y ∷ ys) xs h k = (h.0, spelt_append ys xs h.1 k)
@@ -68,13 +68,13 @@ module _ (f : ProofFormat) where
     sent = subst (AddsToSink s u) (sym (text_append ys xs)) (sent_more s t u (text_in f xs) (text_in f ys) p.sent q.sent);
   }
 
-  -- what waits after steps, and the text of later ones
+  -- the text that is buffered after steps, and that of later ones
   pub rest_text : (s t : Sink) (fresh : List ℕ) (xs ys : List Step) → s.waiting ++ text_in f xs ≡ fresh ++ t.waiting → fresh ++ (t.waiting ++ text_in f ys) ≡ s.waiting ++ text_in f (ys ++ xs)
   rest_text s t fresh xs ys flows =
       sym (append_assoc fresh t.waiting (text_in f ys)) ∙ ap (λ (z : List ℕ). z ++ text_in f ys) (sym flows) ∙ append_assoc s.waiting (text_in f xs) (text_in f ys)
       ∙ ap (λ (z : List ℕ). s.waiting ++ z) (sym (text_append ys xs))
 
-  -- steps were written, and a call failed at later ones
+  -- steps were written, and a call failed while later ones were written
   pub breaks_after : (s t : Sink) (w : Writer) (xs ys : List Step) → SendsSteps f xs s t → WriterBreaks t.writer w (t.waiting ++ text_in f ys) → WriterBreaks s.writer w (s.waiting ++ text_in f (ys ++ xs))
   breaks_after s t w xs ys p q =
       subst (WriterBreaks s.writer w) (rest_text s t p.sent.fresh xs ys p.sent.flows) (breaks_later s.writer t.writer w p.sent.fresh (t.waiting ++ text_in f ys) p.sent.takes q)
@@ -100,7 +100,7 @@ carries_none Closed = refl
 carries_none (Open f c s) = (c, s, refl, record { written = []; cuts = none_made; wrote = wrote_none f s })
 carries_none (Faulty w) = refl
 
--- the text of steps was carried, and that of later ones
+-- the text of steps was written, then that of later ones
 pub carried_more : (f : ProofFormat) (c d e : Counting) (s t u : Sink) (xs ys : List Step) → Carried f c s xs d t → Carried f d t ys e u → Carried f c s (ys ++ xs) e u
 carried_more f c d e s t u xs ys p q = record { written = q.written ++ p.written; cuts = cuts_more p.cuts q.cuts; wrote = wrote_more f s t u p.written q.written p.wrote q.wrote }
 
@@ -112,7 +112,7 @@ carries_more (Open f n s) b c xs ys p q =
     (k.0, k.1, k.2, carried_more f n p.0 k.0 s p.1 k.1 xs ys p.3 k.3)
 carries_more (Faulty w) b c xs ys p q = subst (λ (z : Target). TargetTakes z ys c) p q
 
--- steps, and a fault at later ones
+-- steps were written, and a call failed at later ones
 pub stops_later : (a b c : Target) (xs ys : List Step) → TargetTakes a xs b → TargetFails b ys c → TargetFails a (ys ++ xs) c
 stops_later Closed b c xs ys p q = subst (λ (z : Target). TargetFails z ys c) p q
 stops_later (Open f n s) b c xs ys p q =
@@ -134,7 +134,7 @@ flushed_carries Closed b h = h
 flushed_carries (Open f c s) b h = (c, h.0, h.1, record { written = []; cuts = none_made; wrote = record { spelt = tt; sent = h.2.sent } })
 flushed_carries (Faulty w) b h = h
 
--- steps, a flush, and the target is handed back
+-- steps were written and flushed, and the target is returned
 pub takes_all : (a b c : Target) (given : Option Writer) (w : Writer) (xs : List Step) → is_open a ≡ true → TargetTakes a xs b → Flushed b c → GivesWriter c given → given ≡ Some w → TakesAll a xs w
 takes_all Closed b c given w xs o p f g e = cc
 takes_all (Open a n s) b c given w xs o p f g e =
@@ -155,11 +155,11 @@ takes_all (Open a n s) b c given w xs o p f g e =
     }
 takes_all (Faulty w) b c given v xs o p f g e = cc
 
--- in bytes it spells them
+-- the bytes encode the steps
 spells : (f : ProofFormat) (steps : List Step) → AreSpeltInFormat f steps → f ≡ Varisat → SpellsSteps (reverse steps) (text_in f steps)
 spells f steps h e = subst (λ (z : ProofFormat). SpellsSteps (reverse steps) (text_in z steps)) (sym e) (text_spells steps (subst (λ (z : ProofFormat). AreSpeltInFormat z steps) e h))
 
--- What a target took from the opening of a proof to its end, in which these steps were made.
+-- What a target received from the opening of a proof to its end.
 pub closed_is_text : ClosedIsText
 closed_is_text f from given steps last t p q =
     let k = subst (λ (z : Target). TakesAll z (last ∷ []) given) p.2 q in
@@ -174,7 +174,7 @@ closed_is_text f from given steps last t p q =
       flushed = k.flushed;
     }
 
--- What a target that failed took since the opening of a proof: a front of the text, and that call was the last.
+-- What a target that failed received since the opening of a proof: a prefix of the text. No later call was made.
 pub broken_is_front : BrokenIsFront
 broken_is_front f from given steps t p g =
     let q = subst (λ (z : Target). GivesWriter z (Some given)) p.1 g in
@@ -195,11 +195,11 @@ adds_more seen xs ys a b c p q = record {
   target = carries_more (target_of seen a) (target_of seen b) (target_of seen c) xs ys p.target q.target;
 }
 
--- the same, where the checker took them
+-- the same, and the checker accepted the steps
 pub gains_none : {W L : Type 0} {G : Ghosts L} (seen : W → Writer) (p : Proof W L G) → EmitsChecked seen [] p p
 gains_none seen p = record { history = refl; listening = refl; taking = refl; asked = refl; width = λ h. elim h [ inl w ↦ w | inr n ↦ absurd (n refl) ]; target = carries_none (target_of seen p) }
 
--- nothing was made
+-- no step was made
 pub gains_kept : {W L : Type 0} {G : Ghosts L} (seen : W → Writer) (p q : Proof W L G) → q.made ≡ p.made → q.counting ≡ p.counting → has_asked q ≡ has_asked p → TargetTakes (target_of seen p) [] (target_of seen q) → EmitsChecked seen [] p q
 gains_kept {W} {L} {G} seen p q made counting asked target = record {
   history = ap (λ (m : Made L G). m.history.steps) made;
@@ -222,11 +222,11 @@ gains_more seen xs ys a b c p q =
     let both = adds_more seen xs ys a b c (gains_adds seen xs a b p) (gains_adds seen ys b c q) in
     record { history = both.history; listening = both.listening; taking = q.taking ∙ p.taking; asked = q.asked ∙ p.asked; width = width_more xs ys a b c p.width q.width; target = both.target }
 
--- after steps the checker is at the width of the target's text
+-- if steps were made, the checker is at the width of the target's text
 pub gained_width : {W L : Type 0} {G : Ghosts L} (seen : W → Writer) (a b : Proof W L G) → ComesByCheckedSteps seen a b → (steps_of b ≡ steps_of a → ⊥) → IsAtWidth b
 gained_width seen a b t n = t.1.width (inr (λ e. n (t.1.history ∙ ap (λ xs. xs ++ steps_of a) e)))
 
--- steps, and then a fault at later ones
+-- steps were written, and a call failed at later ones
 pub fails_later : {W L : Type 0} {G : Ghosts L} (seen : W → Writer) (xs ys : List Step) (a b c : Proof W L G) → EmitsExactly seen xs a b → FailsToEmit seen ys b c → FailsToEmit seen (ys ++ xs) a c
 fails_later seen xs ys a b c p q = record {
   history = q.history ∙ ap (λ z. ys ++ z) p.history ∙ sym (append_assoc ys xs (steps_of a));
@@ -234,7 +234,7 @@ fails_later seen xs ys a b c p q = record {
   target = stops_later (target_of seen a) (target_of seen b) (target_of seen c) xs ys p.target q.target;
 }
 
--- who has a checker that failed has one
+-- a proof whose checker failed has a checker
 pub complains_checked : {W L : Type 0} {G : Ghosts L} (fault : CheckFault) (p : Proof W L G) → Complains fault p → is_checked p ≡ true
 complains_checked {G = G} fault p h = go p.made.own h
   where
@@ -242,7 +242,7 @@ complains_checked {G = G} fault p h = go p.made.own h
     go None h = absurd h
     go (Some own) h = refl
 
--- steps, and then later ones at which the checker failed
+-- steps were made, and the checker failed at later ones
 pub check_later : {W L : Type 0} {G : Ghosts L} {fault : CheckFault} (seen : W → Writer) (xs ys : List Step) (a b c : Proof W L G) → EmitsExactly seen xs a b → FailsCheck seen fault ys b c → FailsCheck seen fault (ys ++ xs) a c
 check_later seen xs ys a b c p q = record { adds = adds_more seen xs ys a b c p q.adds; why = q.why }
 
@@ -250,24 +250,24 @@ check_later seen xs ys a b c p q = record { adds = adds_more seen xs ys a b c p 
 drained : {W L : Type 0} {G : Ghosts L} (seen : W → Writer) (a b : Proof W L G) → Drains seen a b → EmitsExactly seen [] a b
 drained seen a b h = record { history = h.history; listening = h.listening; target = flushed_carries (target_of seen a) (target_of seen b) h.target }
 
--- it hadn't failed before
+-- if no step was lost before, the checker has failed just now
 pub complains_now : {W L : Type 0} {G : Ghosts L} (fault : CheckFault) (p : Proof W L G) (lost : Bool) → lost ≡ false → mades.ComplainsOrWasLost lost fault p.made → Complains fault p × IsComplaint fault p.made.complaint
 complains_now fault p lost taking h = elim h [ inl k ↦ k | inr k ↦ absurd (true≢false (sym k.0 ∙ taking)) ]
 
--- nor does what the checker tells after it
+-- flushing and notifying the listeners makes no step
 pub flush_records : {W L : Type 0} {G : Ghosts L} (seen : W → Writer) (r : Result (Unit {0}) ProofError) (a b : Proof W L G) → is_lost a ≡ false → FlushesOrFails seen r a b → EmitsAsAnswered seen r [] a b
 flush_records seen (Ok x) a b taking h = record { history = h.history; listening = h.listening; taking = h.taking; asked = h.asked; width = λ k. elim k [ inl w ↦ h.width w | inr n ↦ absurd (n refl) ]; target = flushed_carries (target_of seen a) (target_of seen b) h.target }
 flush_records seen (Err (Write e)) a b taking h = h
 flush_records seen (Err OutOfMemory) a b taking h = absurd h
 flush_records seen (Err (Check fault)) a b taking h = (let k = complains_now fault b (is_lost a) taking h.1 in (record { adds = drained seen a b h.0; why = k.0 }, k.1))
 
--- the last step wasn't made, or not taken
+-- writing or checking the last step failed
 pub close_stops : {W L : Type 0} {G : Ghosts L} (T : Type 0) (seen : W → Writer) (e : ProofError) (a b : Proof W L G) → EmitsAsAnswered {T = T} seen (Err e) (End ∷ []) a b → ClosesTarget seen (Err e) a b
 close_stops T seen (Write e) a b h = h
 close_stops T seen OutOfMemory a b h = h
 close_stops T seen (Check fault) a b h = (h.0.adds, inl (h.0.why, h.1))
 
--- the last step was made, and then a flush failed
+-- the last step was made, then a flush failed
 pub close_fails : {W L : Type 0} {G : Ghosts L} (seen : W → Writer) (e : ProofError) (a b c : Proof W L G) → EmitsChecked seen (End ∷ []) a b → FlushesOrFails seen (Err e) b c → ClosesTarget seen (Err e) a c
 close_fails seen (Write e) a b c p q = (
   record {
@@ -288,7 +288,7 @@ gives_none (Open a n s) b c xs o p f g =
     cc
 gives_none (Faulty w) b c xs o p f g = absurd (true≢false (sym o))
 
--- the last step was made, the target flushed and handed back
+-- the last step was made, the target was flushed and returned
 pub close_gives : {W L : Type 0} {G : Ghosts L} (seen : W → Writer) (o : Option W) (a b c d : Proof W L G) → is_open (target_of seen a) ≡ true → EmitsChecked seen (End ∷ []) a b → FlushesAndNotifies seen b c → ReturnsTarget seen o c d → ClosesTarget seen (Ok o) a d
 close_gives seen None a b c d open_yet p q h = absurd (gives_none (target_of seen a) (target_of seen b) (target_of seen c) (End ∷ []) open_yet p.target q.target h.gives)
 close_gives seen (Some w) a b c d open_yet p q h = record {

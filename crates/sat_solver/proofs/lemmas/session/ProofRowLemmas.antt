@@ -1,4 +1,4 @@
--- Rows of widths and lines, computed.
+-- Worked examples of widths and DRAT lines, computed.
 use Rattle.std.proofs.Common.{refl}
 use Rattle.sat_base.specs.steps.StepBytes.{groups}
 use Rattle.sat_solver.specs.proof.Counting.{widened_bits, shortened}

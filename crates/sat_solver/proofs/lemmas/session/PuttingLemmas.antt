@@ -1,4 +1,4 @@
--- Steps that are put into a target's text, with the widths that they have.
+-- Steps are written to a target, each at its width.
 use Rattle.std.proofs.Common.{ℕ, Bool, ◌≡◌, ◌∙◌, true, false, Option, None, Some, Err, List, [], ◌∷◌, ◌++◌, append_assoc, refl, sym, ap, subst}
 use Rattle.sat_base.specs.device.Device.{Writer, WriterBreaks}
 use Rattle.sat_base.specs.device.Sink.{Sink, AddsToSink}
@@ -27,25 +27,25 @@ use Rattle.sat_solver.proofs.lemmas.session.ProofLemmas.{wrote_none, breaks_afte
 pub wrote_one : (f : ProofFormat) (step : Step) (s t : Sink) → AddsToSink s t (step_text f step) → SpellsIn f step → SendsSteps f (step ∷ []) s t
 wrote_one f step s t h k = record { spelt = (k, tt); sent = h }
 
--- one at the same width waits
+-- one step at an unchanged width was buffered
 pub waits_at : (step : Step) (before now : ℕ) (s t : Sink) → before ≡ now → AddsToSink s t (step_bytes step) → SpellsStep step (step_bytes step) → SendsSteps Varisat (step ∷ width_change before now) s t
 waits_at step before now s t e sent spells = subst (λ xs. SendsSteps Varisat (step ∷ xs) s t) (sym (ap (λ b. cond b [] (ChangeHashBits now ∷ [])) (eq-eqb before now e))) (wrote_one Varisat step s t sent spells)
 
--- a step after others that were written
+-- steps were written, and a call failed at one more step
 pub puts_after : (f : ProofFormat) (step : Step) (xs : List Step) (s t u : Sink) → SendsSteps f xs s t → WriterBreaks t.writer u.writer (t.waiting ++ step_text f step) → WriterBreaks s.writer u.writer (s.waiting ++ text_in f (step ∷ xs))
 puts_after f step xs s t u p q = breaks_after f s t u.writer xs (step ∷ []) p q
 
--- a fault at the text of steps is one at the text of these and one more
+-- a fault while steps are written is also one for a longer list
 pub puts_short : (f : ProofFormat) (e : OutputError) (step : Step) (xs : List Step) (s t : Sink) → PutsSteps f (Err e) xs s t → PutsSteps f (Err e) (step ∷ xs) s t
 puts_short f (Write e) step xs s t h =
     subst (WriterBreaks s.writer t.writer) (append_assoc s.waiting (text_in f xs) (step_text f step)) (breaks_within s.writer t.writer (s.waiting ++ text_in f xs) (step_text f step) h)
 puts_short f OutOfMemory step xs s t h = h
 
--- a step was carried
+-- a step was written
 pub carries_step : (f : ProofFormat) (c : Counting) (s t : Sink) (step : Step) → KeepsWidth step → SendsSteps f (written_for c.bits (counted step c).bits step) s t → TargetTakes (Open f c s) (step ∷ []) (Open f (counted step c) t)
 carries_step f c s t step k w = (counted step c, t, refl, record { written = written_for c.bits (counted step c).bits step; cuts = cuts_one c step k; wrote = w })
 
--- or the target failed at its text
+-- a call failed while its text was written
 pub stops_step : (f : ProofFormat) (c : Counting) (s t : Sink) (step : Step) → KeepsWidth step → WriterBreaks s.writer t.writer (s.waiting ++ text_in f (written_for c.bits (counted step c).bits step)) → TargetFails (Open f c s) (step ∷ []) (Faulty t.writer)
 stops_step f c s t step k b = (t.writer, refl, record { written = written_for c.bits (counted step c).bits step; counting = counted step c; cuts = cuts_one c step k; breaks = b })
 
@@ -53,7 +53,7 @@ module _ {W L : Type 0} {G : Ghosts L} (seen : W → Writer) (p : Proof W L G) w
   abbrev pub begun : Proof W L G
   begun = record p { counting = record p.counting { solving = true } }
 
-  -- an ask begins, and no step is made of it
+  -- an ask begins without a step
   pub adds_begun : EmitsExactly seen [] p begun
   adds_begun = record { history = refl; listening = refl; target = go p.output p.broken }
     where
@@ -66,7 +66,7 @@ module _ {W L : Type 0} {G : Ghosts L} (seen : W → Writer) (p : Proof W L G) w
     was_open : Open (output_format o) p.counting (output_sink seen o) ≡ target_of seen p
     was_open = sym (ap (λ x. target_in seen x p.broken p.counting) is ∙ ap (λ b. with_fault b (output_format o) p.counting (output_sink seen o)) well)
 
-    -- an output that stays
+    -- an unchanged output
     pub same_output : u ≡ o → record p { output = Some u } ≡ p
     same_output e = ap (λ x. record p { output = Some x }) e ∙ ap (λ x. record p { output = x }) (sym is)
 
@@ -91,7 +91,7 @@ module _ {W L : Type 0} {G : Ghosts L} (seen : W → Writer) (p : Proof W L G) w
               (carries_step (output_format o) p.counting (output_sink seen o) (output_sink seen u) step keeps (subst (λ x. SendsSteps (output_format o) (written_for p.counting.bits x.bits step) (output_sink seen o) (output_sink seen u)) e
               (subst (λ x. SendsSteps (output_format o) (x ∷ width_change p.counting.bits d.bits) (output_sink seen o) (output_sink seen u)) is_cut wrote)))))
 
-      -- a call of the target failed at its text
+      -- a call failed while its text was written
       pub stops_put : WriterBreaks (output_sink seen o).writer (output_sink seen u).writer ((output_sink seen o).waiting ++ text_in (output_format o) (cut ∷ width_change p.counting.bits d.bits)) →
           TargetFails (target_of seen p) (step ∷ []) (Faulty (output_sink seen u).writer)
       stops_put b = subst (λ t. TargetFails t (step ∷ []) (Faulty (output_sink seen u).writer)) was_open
@@ -99,7 +99,7 @@ module _ {W L : Type 0} {G : Ghosts L} (seen : W → Writer) (p : Proof W L G) w
           (subst (λ x. WriterBreaks (output_sink seen o).writer (output_sink seen u).writer ((output_sink seen o).waiting ++ text_in (output_format o) (written_for p.counting.bits x.bits step))) e
           (subst (λ x. WriterBreaks (output_sink seen o).writer (output_sink seen u).writer ((output_sink seen o).waiting ++ text_in (output_format o) (x ∷ width_change p.counting.bits d.bits))) is_cut b)))
 
-    -- no memory was left, and nothing was written
+    -- memory ran out before anything was written
     pub carries_starved : output_format u ≡ output_format o → output_sink seen u ≡ output_sink seen o → TargetTakes (target_of seen p) [] (target_in seen (Some u) p.broken p.counting)
     carries_starved same sent = subst (λ t. TargetTakes (target_of seen p) [] t) unchanged (carries_none (target_of seen p))
       where

@@ -1,4 +1,4 @@
--- What walks of functions that make a struct of one field without bytes share: the struct owns what the field does.
+-- Shared by the walks of functions that build a struct of one zero-sized field: it owns what the field owns.
 use Rattle.std.proofs.Common.{List, [], ◌∷◌, refl}
 use seplogic.Ra.Ura.{Ura}
 use mir.Val.{Val, vstruct, vcons, vnil}
@@ -9,7 +9,7 @@ use denote.Steps.{nothing}
 use denote.Struct.Struct.{Struct, within}
 use Rattle.sat_checker.proofs.lemmas.tally.Makers.{no_bytes}
 
--- a struct of a field without bytes
+-- a struct with one zero-sized field
 abbrev pub in_one : Val
 in_one = vstruct (vcons no_bytes vnil)
 

@@ -1,4 +1,4 @@
--- Worked rows of what a session may write.
+-- Worked examples of what a session may write.
 use Rattle.std.proofs.Common.{ℕ, ◌+◌, ◌<◌, ◌≡◌, ◌≢◌, Bool, true, false, ◌||◌, cond, eqb, List, [], ◌∷◌, refl, sym, subst, arith, inl, inr, None, Some}
 use Rattle.std.proofs.lemmas.Bool.{or_cases, both_ways, true≢false, eqb-true}
 use Rattle.sat_base.specs.values.Literals.{negated}
@@ -9,27 +9,27 @@ use Rattle.sat_checker.specs.SortedSets.{NoRepeats}
 use Rattle.sat_solver.specs.session.Session.{Session, IsLive, AreAllowedSteps, session_after, by_clauses}
 use Rattle.sat_solver.specs.session.SessionRows.{four, CollidingMay, HiddenMay}
 
--- a sampled variable is not hidden
+-- the mode Sample isn't Hide
 not_hidden : Sample ≢ Hide
 not_hidden e = cc
 
--- nothing is not something
+-- None isn't Some
 no_name : (n : ℕ) → None ≡ Some n → ⊥
 no_name n e = cc
 
--- the number that is there is one
+-- equal options have equal values
 some_same : (m n : ℕ) → Some m ≡ Some n → m ≡ n
 some_same m n e = cc
 
--- a number is not a smaller one
+-- equal numbers are not less than each other
 apart : (m n : ℕ) → m ≡ n → m < n → ⊥
 apart m n e l = omega arith
 
--- a name is not a smaller one
+-- different names aren't equal
 other_name : (m n : ℕ) → m < n → Some m ≡ Some n → ⊥
 other_name m n l e = apart m n (some_same m n e) l
 
--- the second name is free
+-- the name of the second variable is free
 free : (w : ℕ) → ((session_after (SolverVarName 0 (Some 0) ∷ UserVarName 0 (Some 0) ∷ [])).variables w).name ≢ Some 1
 free w = go (eqb 0 w) (eqb w 0)
   where
@@ -59,11 +59,12 @@ four_may = ((
 )
     )
 
--- what is live once
+-- a clause that is live once
 once : (s : Session) (c : List ℕ) → NoRepeats c → s.live false (canonical c) + s.live true (canonical c) ≡ 1 → IsLive s c
 once s c n e = record { once = n; counted = omega (arith, e) }
 
--- By hashes that also name other clauses: at width 8 the first and the last clause have one hash, and so have the other two.
+-- Hashes may also name other clauses: at width 8 the first and the last clause have the same hash, and so have the
+-- other two.
 pub colliding_may : CollidingMay
 colliding_may =
     let learned : Session = session_after (ChangeHashBits 8 ∷ Assumptions [] ∷ four) in
@@ -89,11 +90,11 @@ colliding_may =
 
 -- HIDDEN AND DELETED
 
--- no clause counts
+-- no clause is live
 nothing_lives : (v : ℕ) (set : List ℕ) → 0 < 0 → mentions set v ≡ false
 nothing_lives v set n = absurd (apart 0 0 refl n)
 
--- the hidden name is free
+-- the hidden name is free again
 no_zero : (w : ℕ) → ((session_after (UserVarName 0 None ∷ AddClause (0 ∷ []) ∷ SolverVarName 0 (Some 0) ∷ UserVarName 0 (Some 0) ∷ [])).variables w).name ≢ Some 0
 no_zero w = go (eqb w 0) (eqb 0 w) refl refl
   where
@@ -108,7 +109,7 @@ no_zero w = go (eqb w 0) (eqb 0 w) refl refl
     go false true x y e = no_name 0 e
     go false false x y e = no_name 0 e
 
--- only one literal is the negation of the unit
+-- 2 is the only literal whose negation is the unit
 two_or_not : (l : ℕ) → is_among (3 ∷ []) (negated l) ≡ true → l ≡ 2
 two_or_not l h = elim (or_cases (eqb 3 (negated l)) false h) [ inl e ↦ let k : 3 ≡ negated l = eqb-true 3 (negated l) e in omega arith | inr f ↦ absurd (true≢false (sym f)) ]
 
@@ -125,7 +126,7 @@ model_units l u = go (is_among (3 ∷ []) (negated l)) refl
     go true e = let k : l ≡ 2 = two_or_not l e in absurd (both_ways (units 2) not_two (subst (λ x. units x ≡ true) k u))
     go false e = refl
 
--- the row of the hidden variable may be written
+-- the example of the hidden variable may be written
 pub hidden_may : HiddenMay
 hidden_may = ((
   (

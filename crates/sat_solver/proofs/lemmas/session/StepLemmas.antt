@@ -1,4 +1,4 @@
--- Sessions and checkers agree, step by step.
+-- Session and checker agree after every step.
 use Rattle.std.proofs.Common.{◌≡◌, Bool, true, false, List, [], ◌∷◌, refl, sym, ◌∙◌, ap, subst, None}
 use Rattle.sat_base.specs.steps.Steps.{Step}
 use Rattle.sat_checker.specs.Stored.{Stored, nothing_stored}
@@ -23,7 +23,7 @@ pub record Fits (s : Session) (f : Stored) : Type 0 where
   pub tidy : TidyClauses f.clauses
   pub last : LastIs s.last f
 
--- a session that agrees fits
+-- `MatchesStored` implies `Fits`
 pub fits : (s : Session) (f : Stored) → MatchesStored s f → Fits s f
 fits s f a = record {
   same = λ i. record { live = λ r set. a.live r set i; units = λ l. a.units l i; unsat = a.unsat i; variables = a.variables i; solver_names = a.solver_names i; width = a.width i; assumed = a.assumed i; last = s.last };
@@ -31,7 +31,7 @@ fits s f a = record {
   last = a.last;
 }
 
--- one that fits agrees
+-- `Fits` implies `MatchesStored`
 pub agrees : (s : Session) (f : Stored) → Fits s f → MatchesStored s f
 agrees s f h = record {
   live = λ r set. ap (λ x. x.live r set) h.same;
@@ -46,15 +46,15 @@ agrees s f h = record {
   counted = h.tidy.counted;
 }
 
--- a settled conflict leaves both fitting
+-- settling a conflict preserves `Fits`
 pub fits_settled : (s : Session) (f : Stored) → Fits s f → Fits s (settled f)
 fits_settled s f h = record { same = view_settled s.last f ∙ h.same; tidy = tidy_settled f h.tidy; last = last_settled s.last f h.last }
 
--- a step that may be written is accepted where both fit
+-- if both fit, the checker accepts every allowed step
 pub accepts_fit : (s : Session) (f : Stored) (step : Step) → Fits s f → IsAllowedStep s step → Accepts f step
 accepts_fit s f step h m = accepts_view step s.last f h.tidy h.last (subst (λ x. IsAllowedStep x step) (sym h.same) m)
 
--- both fit after an accepted step
+-- an accepted step preserves `Fits`
 pub fits_after : (s : Session) (f : Stored) (step : Step) → Fits s f → Orderly f → Accepts f step → Fits (after step s) (effect step f)
 fits_after s f step h o a = record {
   same = view_after s.last step f h.tidy.once ∙ ap (after step) h.same;
@@ -62,16 +62,16 @@ fits_after s f step h o a = record {
   last = last_kept step s.last f (orderly_effect step f a o) h.last;
 }
 
--- what a session may write is accepted
+-- the checker accepts what a session may write
 pub may_is_accepted : MayIsAccepted
 may_is_accepted s f step a m = accepts_fit s f step (fits s f a) m
 
--- nothing counts as none
+-- an absent clause has count 0
 none_counts : (r : Bool) → count_in r None ≡ 0
 none_counts true = refl
 none_counts false = refl
 
--- steps that may be written are accepted in their turn, and both fit after them
+-- allowed steps are accepted in turn, and both fit after them
 pub valid : (steps : List Step) → AreAllowedSteps steps → AcceptsAll steps × Fits (session_after steps) (stored_after steps)
 valid [] h = (
   tt,
@@ -87,7 +87,7 @@ valid (step ∷ earlier) h =
     let a : Accepts (ready_after earlier) step = accepts_fit (session_after earlier) (ready_after earlier) step r h.1 in
     ((ih.0, a), fits_after (session_after earlier) (ready_after earlier) step r (orderly_settled (stored_after earlier) (orderly earlier ih.0)) a)
 
--- the same, with what both agree on
+-- the same, stated by `MatchesStored`
 pub sessions_are_accepted : SessionsAreAccepted
 sessions_are_accepted steps h =
     let s = valid steps h in (s.0, agrees (session_after steps) (ready_after steps) (fits_settled (session_after steps) (stored_after steps) s.1))

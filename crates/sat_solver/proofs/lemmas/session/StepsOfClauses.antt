@@ -1,4 +1,4 @@
--- What steps make of a solver's list of clauses.
+-- How steps change the search's list of clauses.
 use Rattle.std.proofs.Common.{ℕ, suc, ◌+◌, ◌<◌, ◌≡◌, Bool, true, false, ◌||◌, cond, eqb, ltb, List, [], ◌∷◌, ◌++◌, map, length, refl, sym, ◌∙◌, ap, arith}
 use Rattle.std.proofs.lemmas.Bool.{both_ways, eqb-true, eq-eqb, true≢false}
 use Rattle.sat_base.specs.values.Literals.{negated}
@@ -14,7 +14,7 @@ use Rattle.sat_solver.proofs.lemmas.session.Represented.{comes_in, still_of}
 
 -- THE LENGTH OF A SORTED SET
 
--- a literal put into a sorted clause
+-- inserting a new literal into a sorted clause adds 1 to its length
 length_put : (l : ℕ) (ls : List ℕ) → is_among ls l ≡ false → length (with_literal l ls) ≡ length ls + 1
 length_put l [] n = refl
 length_put l (m ∷ ms) n = go (ltb l m) (eqb l m) refl (eqb m l) refl n (length_put l ms)
@@ -25,7 +25,7 @@ length_put l (m ∷ ms) n = go (ltb l m) (eqb l m) refl (eqb m l) refl n (length
     go false true x false y k ih = absurd (both_ways (eqb m l) y (eq-eqb m l (sym (eqb-true l m x))))
     go false false x false y k ih = let j : length (with_literal l ms) ≡ length ms + 1 = ih k in omega arith
 
--- different literals are as many once sorted
+-- sorting different literals preserves their number
 pub length_sorted : (ls : List ℕ) → NoRepeats ls → length (canonical ls) ≡ length ls
 length_sorted [] h = refl
 length_sorted (l ∷ ls) h =
@@ -33,19 +33,19 @@ length_sorted (l ∷ ls) h =
     let b : length (canonical ls) ≡ length ls = length_sorted ls h.1 in
     omega arith
 
--- images are as many
+-- mapping a list preserves its length
 pub length_mapped : (f : ℕ → ℕ) (ls : List ℕ) → length (map f ls) ≡ length ls
 length_mapped f [] = refl
 length_mapped f (l ∷ ls) = ap suc (length_mapped f ls)
 
--- WHAT STAYS
+-- WHAT STAYS THE SAME
 
--- live clauses and solver names stay
+-- live clauses and solver names are unchanged
 pub record Stays (s t : Session) : Type 0 where
   pub live : t.live ≡ s.live
   pub names : t.solver_names ≡ s.solver_names
 
--- a unit leaves live clauses and solver names
+-- a unit changes neither live clauses nor solver names
 pub fact_stays : (l : ℕ) (s : Session) → Stays s (with_fact l s)
 fact_stays l s = go (s.units l) (s.units (negated l))
   where
@@ -54,28 +54,28 @@ fact_stays l s = go (s.units l) (s.units (negated l))
     go false true = record { live = refl; names = refl }
     go false false = record { live = refl; names = refl }
 
--- units leave them
+-- nor do several units
 pub facts_stay : (ls : List ℕ) (s : Session) → Stays s (with_facts ls s)
 facts_stay [] s = record { live = refl; names = refl }
 facts_stay (l ∷ ls) s = let a = fact_stays l s in let b = facts_stay ls (with_fact l s) in record { live = b.live ∙ a.live; names = b.names ∙ a.names }
 
--- the solver's clauses are the session's where live clauses and solver names stay
+-- the list still matches if live clauses and solver names are unchanged
 pub of_staying : (s t : Session) (global : ℕ → ℕ) (cs : List LiveClause) → Stays s t → AreOf s global cs → AreOf t global cs
 of_staying s t global cs k h = still_of s t global cs (λ r set. ap (λ f. f r set) k.live) k.names h
 
--- a clause of two literals or more is live once more; a shorter one is a unit or nothing
+-- a sorted set of two or more literals is added to the live clauses
 sorted_long : (r : Bool) (set : List ℕ) (s : Session) → 1 < length set → with_sorted r set s ≡ with_live r set s
 sorted_long r [] s n = absurd (omega arith)
 sorted_long r (l ∷ []) s n = absurd (omega arith)
 sorted_long r (l ∷ m ∷ ls) s n = refl
 
--- a clause of less than two literals leaves them
+-- a shorter set changes neither live clauses nor solver names
 sorted_short : (r : Bool) (set : List ℕ) (s : Session) → length set < 2 → Stays s (with_sorted r set s)
 sorted_short r [] s n = record { live = refl; names = refl }
 sorted_short r (l ∷ []) s n = fact_stays l s
 sorted_short r (l ∷ m ∷ ls) s n = absurd (omega arith)
 
--- a clause of two literals or more comes to the live ones
+-- a clause of two or more literals is added to the live clauses
 pub clause_long : (r : Bool) (c : List ℕ) (s : Session) → NoRepeats c → 1 < length c → is_tautology c ≡ false → with_live_clause r c s ≡ with_live r (canonical c) s
 clause_long r c s n l t =
     ap (λ b. session_if b s (with_sorted r (canonical c) s)) t ∙ sorted_long r (canonical c) s (let e : length (canonical c) ≡ length c = length_sorted c n in omega arith)
@@ -83,7 +83,7 @@ clause_long r c s n l t =
 -- STEPS
 
 module _ (s : Session) (global : ℕ → ℕ) where
-  -- a derived clause comes in, redundant or not
+  -- a derived clause is added, redundant or not
   pub derived_comes : (xs ys : List LiveClause) (c : LiveClause) (hashes : List ℕ) → AreOf s global (xs ++ ys) → AreMapped global s.solver_names c.literals → NoRepeats c.literals → 1 < length c.literals → is_tautology (map (with_var global) c.literals) ≡ false
       → AreOf (after (AtClause c.redundant (map (with_var global) c.literals) hashes) s) global (xs ++ c ∷ ys)
   derived_comes xs ys c hashes h n o l t =
@@ -92,13 +92,13 @@ module _ (s : Session) (global : ℕ → ℕ) where
       let same : with_live_clause c.redundant w (knowing_literals w s) ≡ with_live c.redundant (canonical w) (knowing_literals w s) = clause_long c.redundant w (knowing_literals w s) (once_mapped global s.solver_names c.literals n o) long t in
       still_of (with_live c.redundant (canonical w) s) (after (AtClause c.redundant w hashes) s) global (xs ++ c ∷ ys) (λ r set. ap (λ x. x.live r set) same) (ap (λ x. x.solver_names) same) (comes_in s global xs ys c h n o)
 
-  -- units leave the clauses
+  -- units leave the list unchanged
   pub units_leave : (cs : List LiveClause) (us : List (ℕ × ℕ)) → AreOf s global cs → AreOf (after (UnitClauses us) s) global cs
   units_leave cs us h =
       let ls : List ℕ = map (λ u. u.0) us in let k = facts_stay ls (knowing_literals ls s) in
       of_staying s (after (UnitClauses us) s) global cs (record { live = k.live; names = k.names }) h
 
-  -- so do derived clauses of at most one literal
+  -- derived clauses of at most one literal leave it unchanged, too
   pub short_leaves : (cs : List LiveClause) (r : Bool) (c hashes : List ℕ) → NoRepeats c → length c < 2 → is_tautology c ≡ false → AreOf s global cs → AreOf (after (AtClause r c hashes) s) global cs
   short_leaves cs r c hashes n l t h =
       let e : length (canonical c) ≡ length c = length_sorted c n in

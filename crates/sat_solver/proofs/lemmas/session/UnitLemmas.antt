@@ -1,4 +1,4 @@
--- No literal and its negation are both units, whatever steps came.
+-- After any steps, a literal and its negation are never both units.
 use Rattle.std.proofs.Common.{ℕ, ◌≡◌, ◌≢◌, Bool, true, false, not, ◌&&◌, ◌||◌, eqb, Some, None, List, [], ◌∷◌, map, refl, sym, ◌∙◌, ap, arith, inl, inr}
 use Rattle.std.proofs.lemmas.Bool.{or_cases, eqb-true, false_from_ne_true, true≢false}
 use Rattle.sat_base.specs.values.Literals.{variable, negated}
@@ -15,7 +15,7 @@ negated_other l e = omega arith
 both : (b : Bool) → b ≡ true → b ≡ false → ⊥
 both b t f = true≢false (sym t ∙ f)
 
--- one more
+-- one more unit
 more : (units : ℕ → Bool) (l : ℕ) → units l ≡ false → units (negated l) ≡ false → AreConsistent units → AreConsistent (λ m. eqb l m || units m)
 more units l new other h m t = false_from_ne_true (eqb l (negated m) || units (negated m)) (λ u. elim (or_cases (eqb l m) (units m) t) [
   | inl e ↦ elim (or_cases (eqb l (negated m)) (units (negated m)) u) [
@@ -52,7 +52,7 @@ clause_consistent r clause s h = go (is_tautology clause)
     go true = h
     go false = sorted_consistent r (canonical clause) s h
 
--- those of a variable are no more
+-- the units of a variable are removed
 without : (units : ℕ → Bool) (gone : ℕ → Bool) → AreConsistent units → AreConsistent (λ l. units l && gone l)
 without units gone h l t = go (units l) refl (units (negated l)) refl t
   where

@@ -1,4 +1,4 @@
--- The session that agrees with what is stored, and what steps make of it.
+-- The session that agrees with the stored clauses, and how steps change it.
 use Rattle.std.proofs.Common.{ℕ, ◌≡◌, List, ap, Option}
 use Rattle.sat_base.specs.steps.Steps.{Step}
 use Rattle.sat_checker.specs.Stored.{Stored}
@@ -9,19 +9,19 @@ use Rattle.sat_checker.specs.Invariants.{EachOnce}
 use Rattle.sat_checker.proofs.lemmas.contents.Views.{view_unit as unit_viewed, contents_follow, contents_are_settled}
 use Rattle.sat_solver.specs.session.Session.{Session, session_with, with_fact, last_after, after}
 
--- it agrees with what is stored
+-- the session that agrees with the stored clauses
 abbrev pub view : Option (List ℕ) → Stored → Session
 view last f = session_with last (stored_state f)
 
 module _ (last : Option (List ℕ)) where
-  -- a unit, as the session sees it
+  -- the view after a unit
   pub view_unit : (l : ℕ) (f : Stored) → view last (with_unit l f) ≡ with_fact l (view last f)
   view_unit l f = ap (λ c. session_with last c.state) (unit_viewed l f)
 
-  -- one step later
+  -- the view after a step
   pub view_after : (step : Step) (f : Stored) → EachOnce f.clauses → view (last_after step last) (effect step f) ≡ after step (view last f)
   view_after step f h = ap (λ c. session_with (last_after step last) c.state) (contents_follow f step h)
 
-  -- a settled conflict shows nothing to the session
+  -- settling a conflict does not change the view
   pub view_settled : (f : Stored) → view last (settled f) ≡ view last f
   view_settled f = ap (λ c. session_with last c.state) (contents_are_settled f)

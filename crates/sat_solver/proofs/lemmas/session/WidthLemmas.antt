@@ -1,4 +1,4 @@
--- Steps that leave the width do the same at every width.
+-- Steps that do not change the width have the same effect at every width.
 use Rattle.std.proofs.Common.{ℕ, ◌≡◌, ◌∙◌, Bool, true, false, List, [], ◌∷◌, map, refl, ap, Some, None}
 use Rattle.std.specs.Prelude.{if◌then◌else◌}
 use Rattle.sat_base.specs.values.Literals.{negated}
@@ -40,14 +40,14 @@ step_wide (DeleteClause clause Redundant) x c k = refl
 step_wide (ChangeHashBits bits) x c k = absurd k
 step_wide step x c k = refl
 
--- they leave it: they do the same at the width that it is
+-- these changes preserve the width
 pub fact_width : (l : ℕ) (c : ProofState) → (unit_more l c).width ≡ c.width
 fact_width l c = ap (λ (d : ProofState). d.width) (fact_wide l c.width c)
 
 pub step_width : (step : Step) (c : ProofState) → KeepsWidth step → (state_after step c).width ≡ c.width
 step_width step c k = ap (λ (d : ProofState). d.width) (step_wide step c.width c k)
 
--- cut hashes change nothing
+-- truncating hashes does not change the effect of a step
 narrowed_same : (w : ℕ) (step : Step) (c : ProofState) → state_after (narrowed w step) c ≡ state_after step c
 narrowed_same w (SolverVarName v None) c = refl
 narrowed_same w (UserVarName v (Some name)) c = refl

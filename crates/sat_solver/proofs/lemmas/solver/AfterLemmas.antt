@@ -36,7 +36,7 @@ unordered names (UnitClauses us) h = refl
 unordered names (DeleteClause clause proof) h = refl
 unordered names step h = absurd h
 
--- names stand after steps of a search
+-- steps of a search preserve the invariant of names
 pub stands_after : (n : Variables) (earlier steps : List Step) → NamesInvariant n earlier → AreAllowedSteps (steps ++ earlier) → AllByRecursion (IsSearched (session_after earlier).solver_names) steps → NamesInvariant n (steps ++ earlier)
 stands_after n earlier [] valid may h = valid
 stands_after n earlier (step ∷ steps) valid may h =
@@ -53,14 +53,14 @@ quiet_writes : (names : ℕ → Option ℕ) (earlier steps : List Step) → AllB
 quiet_writes names earlier [] h = no_step
 quiet_writes names earlier (step ∷ steps) h = traces_both (quiet_writes names earlier steps h.1) (silent (unordered names step h.0) no_step)
 
--- the judge sees nothing of them
+-- the judge does not see these steps
 pub nothing_after : (n : Variables) (earlier steps : List Step) → NamesInvariant n earlier → AreAllowedSteps (steps ++ earlier) → AllByRecursion (IsSearched (session_after earlier).solver_names) steps → DoesNothing n n earlier (steps ++ earlier)
 nothing_after n earlier steps valid may h = record {
   valid = stands_after n earlier steps valid may h;
   kept = λ j live a. record { live = live; agree = agree_after n earlier steps valid may h j live a; trace = quiet_writes (session_after earlier).solver_names earlier steps h };
 }
 
--- a call, and then steps of a search
+-- a call over names, followed by steps of a search
 pub does_after : (old new : Variables) (from to steps : List Step) (judge : ScriptState → ScriptState) (due : ScriptState → List Expected) → NamesEffect old new from to judge due → AreAllowedSteps (steps ++ to) → AllByRecursion (IsSearched (session_after to).solver_names) steps →
     NamesEffect old new from (steps ++ to) judge due
 does_after old new from to steps judge due does may h =

@@ -1,4 +1,4 @@
--- What a search came to, as names and judge see it.
+-- The result of a search, for names and judge.
 use Rattle.std.proofs.Common.{ℕ, zero, suc, ◌+◌, ◌<◌, ◌≡◌, ◌∙◌, Bool, Option, None, Some, List, [], ◌∷◌, ◌++◌, length, map, get_or, refl, sym, ap, subst, arith, inl, inr}
 use Rattle.std.specs.List.{AllByRecursion, Contains}
 use Rattle.sat_base.specs.device.Device.{Writer}
@@ -44,7 +44,7 @@ use Rattle.sat_solver.proofs.lemmas.solver.LineLemmas.{named_has, named_each, ma
 use Rattle.sat_solver.proofs.lemmas.solver.ReportingLemmas.{each_live, shares_moved}
 use Rattle.sat_parts.proofs.lemmas.parts.ValueLemmas.{coded_variable}
 
--- what holds at each place holds of all
+-- a property at all positions holds for the whole list
 pub all_places : (P : ℕ → Type 0) (ls : List ℕ) → ((k : ℕ) → k < length ls → P (get_or ls k 0)) → AllByRecursion P ls
 all_places P [] f = tt
 all_places P (l ∷ ls) f = (f 0 (omega arith), all_places P ls (λ k lt. f (suc k) (omega arith)))
@@ -64,14 +64,14 @@ module _ (n : Variables) (values : List (Option Bool)) (user order : List ℕ) (
       subst (λ m. Among m (named_to n values (names_used n))) (ap (coded (variable l)) value ∙ coded_back l)
       (named_has n values (names_used n) (variable l) i.variable_is (some_within n.global_from_user.fwd (variable l) i.variable_is i.named) i.named)
 
-  -- each of the assumptions stands in the line of a model that makes them true
+  -- if a model makes the assumptions true, its line contains all of them
   pub asked_shown : ((k : ℕ) → k < length order → IsTrueLit values (get_or order k 0)) → AllByRecursion (λ l. Among l (named_to n values (names_used n))) user
   asked_shown t = all_places (λ l. Among l (named_to n values (names_used n))) user (λ k lt. asked_at k lt (t k (let c = images.count in omega arith)))
 
 -- CORES OVER NAMES
 
 module _ (n : Variables) (steps : List Step) (valid : NamesInvariant n steps) (c : Search) (shares : SharesIndices n c) (user order : List ℕ) (images : Images n user order) where
-  -- the literal over names that an assumption of the search was taken from
+  -- the user's literal for an assumption of the search
   pub record Taken_from (l : ℕ) : Type 0 where
     pub from : ℕ
     pub among : Among from user
@@ -107,7 +107,7 @@ module _ (n : Variables) (steps : List Step) (valid : NamesInvariant n steps) (c
       }
 
   module _ (core : List ℕ) (among : (k : ℕ) → k < length core → Contains order (get_or core k 0)) where
-    -- the core over names is of the assumptions
+    -- the core over names consists of assumptions
     pub core_among : AllByRecursion (λ l. Among l user) (map (lit_over_names n) core)
     core_among = each core among
       where
@@ -115,7 +115,7 @@ module _ (n : Variables) (steps : List Step) (valid : NamesInvariant n steps) (c
         each [] f = tt
         each (l ∷ ls) f = (let t = taken_from l (f 0 (omega arith)) in subst (λ m. Among m user) (sym t.is) t.among, each ls (λ k lt. f (suc k) (omega arith)))
 
-    -- and stands for what was written
+    -- it stands for the core that was written
     pub core_spelt : SameSet (variable_of steps) (map user_literal (map (lit_over_names n) core)) (map (with_var (global_in c)) core)
     core_spelt = (there core among (λ x m. m), only core among (λ x m. m))
       where
@@ -135,13 +135,13 @@ module _ (n : Variables) (steps : List Step) (valid : NamesInvariant n steps) (c
         only [] g m = tt
         only (l ∷ ls) g m = ((user_literal (lit_over_names n l), spells_at l (g 0 (omega arith)), m (user_literal (lit_over_names n l)) (inl refl)), only ls (λ k lt. g (suc k) (omega arith)) (λ x i. m x (inr i)))
 
--- no valuation that the steps leave makes a core true that was written
+-- no valuation that the steps admit satisfies a core that was written
 pub core_none : (steps : List Step) (codes hashes : List ℕ) → AreAllowedSteps (FailedAssumptions codes hashes ∷ steps) → (a : Valuation) → Holds steps a → EachTrue a codes → ⊥
 core_none steps codes hashes may a held t = (let s = sessions_are_accepted (FailedAssumptions codes hashes ∷ steps) may in cores_fail steps codes hashes a s.0.0 s.0.1 held t)
 
 -- STEPS OF ANSWERS
 
--- the line of a model spells what was written
+-- the line of a model stands for the model that was written
 pub line_spelt : (n : Variables) (steps : List Step) (values : List (Option Bool)) → NamesInvariant n steps → EachSpelt (variable_of steps) (map user_literal (named_to n values (names_used n))) (model_to n values (variables_used n))
 line_spelt n steps values valid =
     mapped_each (λ l. (code : ℕ) × Spells (variable_of steps) l code × Among code (model_to n values (variables_used n))) (named_to n values (names_used n))
@@ -157,7 +157,7 @@ named_among_all : (line asked : List ℕ) → AllByRecursion (λ l. Among l line
 named_among_all line [] h = tt
 named_among_all line (l ∷ asked) h = (literal_among l line h.0, named_among_all line asked h.1)
 
--- names and search stand where a search came to, whatever became of names
+-- names and search are joined after a search, even if the names have changed
 pub joined_by : {W L : Type 0} {G : Ghosts L} (n m : Variables) (a b : Core W L G) → IsJoined n a → b.config ≡ a.config → HasAllowedSteps b.proof → NamesInvariant m (steps_of b.proof) → IsSearch (session_of b.proof) b.search → SharesIndices m b.search → IsJoined m b
 joined_by n m a b joined config keeps valid search shares = record {
   sound = record {
@@ -171,7 +171,7 @@ joined_by n m a b joined config keeps valid search shares = record {
 }
 
 module _ {W L : Type 0} {G : Ghosts L} (seen : W → Writer) (n : Variables) (a : Core W L G) (joined : IsJoined n a) where
-  -- names stand where a search came to
+  -- names and search are joined after steps of a search
   pub joined_at : (b : Core W L G) (steps : List Step) → EmitsChecked seen steps a.proof b.proof → AreSearched (session_of a.proof).solver_names steps → HasAllowedSteps b.proof → SameVarsAndAssumptions a.search b.search → IsSearch (session_of b.proof) b.search →
       b.config ≡ a.config → IsJoined n b
   joined_at b steps adds searched keeps moved search config = record {
@@ -185,7 +185,7 @@ module _ {W L : Type 0} {G : Ghosts L} (seen : W → Writer) (n : Variables) (a 
     shares = shares_moved n a.search b.search joined.shares moved;
   }
 
-  -- the step of a model, as the judge expects it
+  -- the step of a model is the one that the judge expects
   pub does_shown : (b : Core W L G) → Shown seen n a b → (asked : List ℕ) → AllByRecursion (λ l. Among l (line_of_names n a)) asked →
       NamesEffect n n (steps_of a.proof) (steps_of b.proof) (λ j. j) (λ j. Shows (names_of (map user_literal (line_of_names n a))) (map user_literal asked) (map user_literal (line_of_names n a)) ∷ [])
   does_shown b shown asked among =
@@ -201,7 +201,7 @@ module _ {W L : Type 0} {G : Ghosts L} (seen : W → Writer) (n : Variables) (a 
         };
       }
 
-  -- the step of a core, as the judge expects it
+  -- the step of a core is the one that the judge expects
   pub does_failed : (b : Core W L G) (core : List ℕ) → WritesFailedCore seen n a b core → (asked order : List ℕ) → Images n asked order → a.search.assumptions.lits.items ≡ order →
       NamesEffect n n (steps_of a.proof) (steps_of b.proof) (λ j. j) (λ j. Fails (map user_literal asked) (map user_literal core) ∷ [])
   does_failed b core f asked order images lits =

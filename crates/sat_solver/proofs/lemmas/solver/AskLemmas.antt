@@ -1,4 +1,4 @@
--- An ask: it begins, an answer is looked for, and what waits is flushed.
+-- An ask begins, searches for an answer, and flushes the target.
 use Rattle.std.proofs.Common.{◌≡◌, true, false, Err, [], ap, subst}
 use Rattle.sat_base.specs.device.Device.{Writer}
 use Rattle.sat_checker.specs.declared.processing.ProofProcessor.{Ghosts}
@@ -26,7 +26,7 @@ module _ {W L : Type 0} {G : Ghosts L} (seen : W → Writer) (s : Solver W L G) 
   abbrev pub asking : Solver W L G
   asking = begun seen used p adds taking
 
-  -- looking for an answer failed
+  -- the search for an answer failed
   pub ask_ends : (e : SolverError) → AnswersOrBreaks seen (Err e) asking mid → Solves seen (Err e) s (failed_with mid)
   ask_ends e h =
       solve_ends seen s mid going e
@@ -46,7 +46,7 @@ module _ {W L : Type 0} {G : Ghosts L} (seen : W → Writer) (s : Solver W L G) 
     pub ask_broken : (e : ProofError) → FlushesOrFails seen (Err e) mid.core.proof q → Solves seen (Err (proof_fault e)) s (failed_with flushed)
     ask_broken e f = solve_ends seen s flushed going (proof_fault e) (ask_breaks e f)
 
-    -- or not
+    -- the flush succeeded
     pub ask_whole : FlushesAndNotifies seen mid.core.proof q → IsSolver flushed
     ask_whole f _ = (settled_flushed seen used mid following q f).whole
 

@@ -1,4 +1,4 @@
--- An ask begins: no step is made of it, and from there on hashes are shortened.
+-- An ask begins without a step. From then on hashes may be shortened.
 use Rattle.std.proofs.Common.{ℕ, ◌+◌, ◌-◌, ◌*◌, ◌^◌, ◌≤◌, ◌≡◌, ◌∙◌, [], subst}
 use Rattle.sat_base.specs.device.Device.{Writer}
 use Rattle.sat_checker.specs.declared.processing.ProofProcessor.{Ghosts}
@@ -32,7 +32,7 @@ module _ {W L : Type 0} {G : Ghosts L} (seen : W → Writer) (old : Solver W L G
   pub rounds_begun : (now : ℕ) → RoundsOn old.names (steps_in begun) old.core.config.max_steps old.clock.rounds now → RoundsOn old.names (steps_in old) old.core.config.max_steps old.clock.rounds now
   rounds_begun now h = subst (λ ss. RoundsOn old.names ss old.core.config.max_steps old.clock.rounds now) adds.history h
 
-  -- what is settled after it
+  -- the result of an ask, seen from before it began
   pub settled_begun : (new : Solver W L G) → Settled seen begun new → Settled seen old new
   settled_begun new s = record {
     whole = s.whole;
@@ -55,6 +55,6 @@ module _ {W L : Type 0} {G : Ghosts L} (seen : W → Writer) (old : Solver W L G
   flush_begun (errors.ProofProcessorError cause) q h = check_later seen [] [] old.core.proof p q adds h
   flush_begun e q h = absurd h
 
-  -- or fails
+  -- a failure of an ask, seen from before it began
   pub breaks_begun : (e : SolverError) (core : Core W L G) → BreaksOff seen e begun.core core → BreaksOff seen e old.core core
   breaks_begun e core b = (record { fault = b.0.fault; steps = _; went = went_after seen (Unit {0}) e [] b.0.steps old.core.proof p core.proof adds b.0.went; loss = loss_later e old.core.proof p core.proof taking b.0.loss }, b.1)

@@ -1,4 +1,4 @@
--- A solver that took a clause, or assumptions.
+-- A solver has accepted a clause or assumptions.
 use Rattle.std.proofs.Common.{ℕ, ◌≡◌, ◌∙◌, true, false, Option, None, Some, is_some, Err, List, get_or, refl, sym, ap, subst, ◌⊎◌, inl, inr}
 use Rattle.sat_base.specs.device.Device.{Writer}
 use Rattle.sat_base.specs.script.ScriptState.{ScriptState, bring_all, refused_literal}
@@ -45,7 +45,7 @@ use Rattle.sat_solver.proofs.lemmas.variables.ComingSteps.{comes_added, comes_du
 use Rattle.sat_solver.specs.session.Coming.{OnlyAllowedSteps}
 use Rattle.sat_solver.specs.variables.Coming.{MayTake}
 
--- the search goes on unless unsat is recorded
+-- the search can continue unless unsat is recorded
 pub goes_of : {W L : Type 0} {G : Ghosts L} (st : State) (c : Core W L G) (n : Variables) (asked : Taken) (assumed core : List ℕ) → (st ≡ states.Unsat → ⊥) → StateSays st c n asked assumed core → AskGoesOn c n asked
 goes_of states.Unknown c n asked assumed core k h = h
 goes_of states.Sat c n asked assumed core k h = h.0
@@ -87,7 +87,7 @@ module _ {W L : Type 0} {G : Ghosts L} (seen : W → Writer) (s : Solver W L G) 
     due_by states.Unsat k d = absurd (k refl)
     due_by e k d = d
 
-    -- a clause came in, and a valuation may be left
+    -- a clause was added, and unsat isn't recorded
     pub took_left : TookClause seen s.names n' s.core b user true → AddClauseEffect seen s (added states.Unknown) user
     took_left t = record {
       whole = record {
@@ -115,7 +115,7 @@ module _ {W L : Type 0} {G : Ghosts L} (seen : W → Writer) (s : Solver W L G) 
       state = by_state s.state states.Unknown apart (inl refl);
     }
 
-    -- or none is
+    -- a clause was added, and unsat is recorded
     pub took_none : TookClause seen s.names n' s.core b user false → AddClauseEffect seen s (added states.Unsat) user
     took_none t = record {
       whole = record {
@@ -143,7 +143,7 @@ module _ {W L : Type 0} {G : Ghosts L} (seen : W → Writer) (s : Solver W L G) 
       state = by_state s.state states.Unsat apart (inr refl);
     }
 
-  -- other assumptions came in
+  -- other assumptions replaced the earlier ones
   pub asked_in : (b : Core W L G) (n' : Variables) (user : List ℕ) (asked : Taken) → TookAssumptions seen s.names n' s.core b user asked → AskedIn seen s (record s { core = b; names = n'; asked = asked; state = states.Unknown }) user
   asked_in b n' user asked t = record {
     whole = record {
@@ -179,7 +179,7 @@ module _ {W L : Type 0} {G : Ghosts L} (seen : W → Writer) (s : Solver W L G) 
   unsat : (session_of s.core.proof).unsat ≡ true
   unsat = subst (λ st. StateSays st s.core s.names s.asked s.assumed.items s.reported.failed_core.items) known whole.says
 
-  -- a clause was left out
+  -- a clause was left out, since unsat is recorded
   pub left_in : LeavesOut s.names n' (steps_in s) (steps_of p) user → AddClauseEffect seen s (record s { core = record s.core { proof = p }; names = n' }) user
   left_in l = record {
     whole = record {
@@ -214,7 +214,7 @@ module _ {W L : Type 0} {G : Ghosts L} (seen : W → Writer) (s : Solver W L G) 
             record { variable_is = x.variable_is; index_is = x.index_is; named = (l.extends.stays (variable (get_or s.assumed.items k 0)) x.variable_is x.named).0; indexed = ap (λ m. target m.fwd x.variable_is) l.unseen.solvers ∙ x.indexed; is = x.is };
       }
 
-  -- assumptions came in, of which the search isn't told
+  -- assumptions replaced the earlier ones, but were not passed to the search
   pub asked_known : (asked : Taken) → assuming.BringsAssumptions s.names n' (steps_in s) (steps_of p) user asked → AskedIn seen s (record s { core = record s.core { proof = p }; names = n'; asked = asked }) user
   asked_known asked a = record {
     whole = record {
@@ -242,7 +242,7 @@ module _ {W L : Type 0} {G : Ghosts L} (seen : W → Writer) (s : Solver W L G) 
 
 -- FAULTS
 
--- a call over a clause failed
+-- adding a clause failed
 pub adding_ends : {W L : Type 0} {G : Ghosts L} (seen : W → Writer) (e : SolverError) (s new : Solver W L G) (user : List ℕ) → s.failed ≡ false → IsBeforeDrat seen s → AreSampled s user → HasVariablesFor s.names (user_vars_in user) → IsFaultOr (HasFullStore new) e → BreaksNamesOr (HasFullStore new) seen e s.core new.core → new.clock ≡ s.clock → new.failed ≡ true → AddsClause seen (Err e) s new user
 adding_ends seen errors.OutOfMemory s new user g d w r x b k f = ((d, w), r, record { going = g; failed = f; fault = x; breaks = b; clock = k })
 adding_ends seen errors.StoreFull s new user g d w r x b k f = ((d, w), r, record { going = g; failed = f; fault = x; breaks = b; clock = k })
@@ -251,7 +251,7 @@ adding_ends seen (errors.ProofProcessorError cause) s new user g d w r x b k f =
 adding_ends seen errors.CounterEnd s new user g d w r x b k f = ((d, w), r, record { going = g; failed = f; fault = x; breaks = b; clock = k })
 adding_ends seen e s new user g d w r x b k f = absurd x
 
--- a call over assumptions failed
+-- setting assumptions failed
 pub asking_ends : {W L : Type 0} {G : Ghosts L} (seen : W → Writer) (e : SolverError) (s new : Solver W L G) (user : List ℕ) → s.failed ≡ false → AreSampled s user → HasVariablesFor s.names (user_vars_in user) → IsFault e → BreaksNames seen e s.core new.core → new.clock ≡ s.clock → new.failed ≡ true → AssumesOrRefuses seen (Err e) s new user
 asking_ends seen errors.OutOfMemory s new user g w r x b k f = (w, r, record { going = g; failed = f; fault = x; breaks = b; clock = k })
 asking_ends seen (errors.ProofIoError cause) s new user g w r x b k f = (w, r, record { going = g; failed = f; fault = x; breaks = b; clock = k })
@@ -261,12 +261,12 @@ asking_ends seen e s new user g w r x b k f = absurd x
 
 -- CALLS
 
--- no name of mode witness was found
+-- no literal is over a name of mode witness
 pub none_refused : {W L : Type 0} {G : Ghosts L} (s : Solver W L G) (user : List ℕ) (o : Option ℕ) → ((j : ScriptState) (live : Live) → NamesMatchState s.names j live → refused_literal j (names_in user) ≡ as_refusal o) → is_some o ≡ false → AreSampled s user
 none_refused s user None judged none = λ j live agree. judged j live agree.judged
 none_refused s user (Some name) judged none = absurd (true≢false none)
 
--- assumptions were taken, and no memory was left to list them over names
+-- assumptions were accepted, but memory ran out before they were stored over names
 pub asking_starved : {W L : Type 0} {G : Ghosts L} (seen : W → Writer) (s mid new : Solver W L G) (user : List ℕ) → s.failed ≡ false → AreSampled s user → HasVariablesFor s.names (user_vars_in user) → is_lost s.core.proof ≡ false → AskedIn seen (record s { used = true }) mid user → mid.clock ≡ s.clock → new.core ≡ (failed_with mid).core → new.clock ≡ mid.clock → new.failed ≡ true → AssumesOrRefuses seen (Err errors.OutOfMemory) s new user
 asking_starved seen s mid new user going sampled room taking a clock core same failed = (
   sampled,
@@ -274,7 +274,7 @@ asking_starved seen s mid new user going sampled room taking a clock core same f
   record { going = going; failed = failed; fault = tt; breaks = subst (λ c. BreaksNames seen errors.OutOfMemory s.core c) (sym core) (names_reported seen errors.OutOfMemory s.core mid (took_starved seen s.core mid.core a.took (a.whole.taking ∙ sym taking))); clock = same ∙ clock },
 )
 
--- assumptions were taken, and listed over names
+-- assumptions were accepted and stored over names
 pub assumed_by : {W L : Type 0} {G : Ghosts L} (seen : W → Writer) (s mid new : Solver W L G) (user : List ℕ) → s.failed ≡ false → AreSampled s user → HasVariablesFor s.names (user_vars_in user) → AskedIn seen (record s { used = true }) mid user → mid.clock ≡ s.clock → new ≡ record mid { assumed = new.assumed } → new.assumed.items ≡ user → ReplacesAssumptions seen s new user
 assumed_by {W} {L} {G} seen s mid new user going sampled room a clock same items = record {
   sampled = sampled;

@@ -47,7 +47,7 @@ parts_of u h =
     let d = and_both (passes (nat_le 1) u.reduce_mids_interval) (passes (nat_le 1) u.luby_restart_interval_scale) c.1 in
     record { vsids = a.0; clauses = b.0; locals = c.0; mids = d.0; scale = d.1 }
 
--- decays stay in their ranges
+-- an update in range keeps the decays in their ranges
 pub decays_kept : (u : SolverConfigUpdate) (c : SolverConfig) → in_range u ≡ true → AreDecays c → AreDecays (updated u c)
 decays_kept u c h d =
     let p = parts_of u h in
@@ -55,7 +55,7 @@ decays_kept u c h d =
     let k = kept_decay u.clause_activity_decay c.clause_activity_decay p.clauses d.2 d.3 in
     (v.0, v.1, k.0, k.1)
 
--- the scale that is changed is positive
+-- an update in range keeps the scale positive
 pub scale_kept : (u : SolverConfigUpdate) (scale : ℕ) → in_range u ≡ true → 0 < scale → 0 < unwrap_or u.luby_restart_interval_scale scale
 scale_kept u scale h low = kept_count u.luby_restart_interval_scale scale (parts_of u h).scale low
 
@@ -94,12 +94,12 @@ module _ {W L : Type 0} {G : Ghosts L} (u : SolverConfigUpdate) (c : Core W L G)
   )
   says states.Unsat b d h = subst (λ (x : Core W L G). (session_of x.proof).unsat ≡ true) (sym d) h
 
-  -- the parts of a core that aren't the search
+  -- proof and parameters, the parts of a core outside the search
   pub core_same : (st : State) (b : Core W L G) → PassesToSearch st changed b → (b.proof ≡ c.proof) × (b.config ≡ updated u c.config)
   core_same states.Unsat b d = (ap (λ x. x.proof) d, ap (λ x. x.config) d)
   core_same e b d = (ap (λ x. x.proof) d.same, ap (λ x. x.config) d.same)
 
-  -- all stands after it
+  -- the invariant holds after an update
   pub whole_configured : (st : State) (b : Core W L G) → PassesToSearch st changed b → IsWholeOf c n asked assumed core scale st → IsWholeOf b n asked assumed core (unwrap_or u.luby_restart_interval_scale scale) st
   whole_configured st b d whole = record {
     valid = subst (λ p. NamesInvariant n (steps_of p)) (sym (core_same st b d).0) whole.valid;

@@ -1,4 +1,4 @@
--- A solver whose proof was ended.
+-- The proof of a solver was closed.
 use Rattle.std.proofs.Common.{ℕ, ◌≡◌, ◌∙◌, false, Option, None, Some, Ok, List, [], ◌∷◌, map, refl, sym, ap, subst}
 use Rattle.sat_base.specs.device.Device.{Writer}
 use Rattle.sat_base.specs.steps.Steps.{End}
@@ -29,7 +29,7 @@ use Rattle.sat_solver.proofs.lemmas.session.ProofLemmas.{since_closed}
 use Rattle.sat_solver.proofs.lemmas.solver.ReportingLemmas.{search_rests}
 use Rattle.sat_solver.proofs.lemmas.solver.SettlingLemmas.{whole_over}
 
--- the last step leaves all as it is
+-- the last step preserves the invariant
 pub whole_ended : {W L : Type 0} {G : Ghosts L} (c : Core W L G) (n : Variables) (asked : Taken) (assumed core : List ℕ) (scale : ℕ) (state : State) (p : Proof W L G) → IsWholeOf c n asked assumed core scale state → steps_of p ≡ End ∷ steps_of c.proof → HasAllowedSteps p → is_lost p ≡ is_lost c.proof → IsWholeOf (record c { proof = p }) n asked assumed core scale state
 whole_ended {W} {L} {G} c n asked assumed core scale state p whole e keeps taking = record {
   valid = valid;
@@ -78,7 +78,7 @@ whole_ended {W} {L} {G} c n asked assumed core scale state p whole e keeps takin
     says states.Unsat h = ap (λ ss. (session_after ss).unsat) e ∙ h
 
 module _ {W L : Type 0} {G : Ghosts L} (seen : W → Writer) (s : Solver W L G) (whole : SolverInvariant s) (going : s.failed ≡ false) (p : Proof W L G) (keeps : HasAllowedSteps p) where
-  -- the target came back
+  -- the target was returned
   pub closed_one : (given : W) → ClosesOne seen given s.core.proof p → ClosedOne seen given s (record s { core = record s.core { proof = p } })
   closed_one given c = record {
     going = going;
@@ -100,7 +100,7 @@ module _ {W L : Type 0} {G : Ghosts L} (seen : W → Writer) (s : Solver W L G) 
       may : AreAllowedSteps (End ∷ steps_in s)
       may = subst AreAllowedSteps c.history keeps
 
-  -- what came of closing it
+  -- the result of closing a proof
   pub closed_by : (o : Option W) → ClosesTarget seen (Ok o) s.core.proof p → ClosesProof seen (Ok o) s (record s { core = record s.core { proof = p } })
   closed_by None c = record { going = going; closes = c; same = refl }
   closed_by (Some given) c = closed_one given c

@@ -1,4 +1,4 @@
--- What a search came to, told.
+-- The outcome of a search is reported.
 use Rattle.std.specs.Prelude.{IfOk, IfErr}
 use Rattle.std.proofs.Common.{ℕ, ◌-◌, Option, None, Some, Result, Ok, Err, List, ◌++◌, sym, subst}
 use Rattle.sat_base.specs.device.Device.{Writer}
@@ -21,14 +21,14 @@ use Rattle.sat_solver.specs.declared.solver.find.Clock.{Clock}
 use Rattle.sat_solver.proofs.lemmas.solver.AnsweredLemmas.{joined_by}
 
 module _ {W L : Type 0} {G : Ghosts L} (seen : W → Writer) (n m : Variables) (a : Core W L G) where
-  -- names stand where it came to
+  -- what the outcome says holds after the search
   pub comes_to : {k : ℕ} → IsJoined n a → (outcome : Outcome) (mid : Core W L G) → Ended seen a n k outcome mid m → OutcomeHolds outcome m mid
   comes_to joined outcomes.Learned mid e = e.says
   comes_to joined outcomes.Model mid e = (joined_by n m a mid joined e.config e.keeps e.does.valid e.says.0.search e.says.1, e.says.0.complete)
   comes_to joined outcomes.Failed mid e = (joined_by n m a mid joined e.config e.keeps e.does.valid e.says.0.search e.says.1, e.says.0.failing)
   comes_to joined outcomes.Unsat mid e = tt
 
-  -- and it was told
+  -- the outcome was reported
   pub finds_reported : (outcome : Outcome) (o : Option State) (mid b : Core W L G) (core : List ℕ) (rounds : ℕ) → Ended seen a n (rounds - 1) outcome mid m → ReportSays seen o outcome m mid b core → FindsAnswer seen o rounds n m a b core
   finds_reported outcomes.Model (Some states.Sat) mid b core rounds e t = record { mid = mid; ended = e; shown = t }
   finds_reported outcomes.Failed (Some states.UnsatUnderAssumptions) mid b core rounds e t = record { mid = mid; ended = e; failed = t }
@@ -45,11 +45,11 @@ module _ {W L : Type 0} {G : Ghosts L} (seen : W → Writer) (n m : Variables) (
   finds_reported outcomes.Unsat (Some states.UnsatUnderAssumptions) mid b core rounds e t = absurd t
   finds_reported outcomes.Model (Some x) mid b core rounds e t = absurd t
 
-  -- or its telling failed
+  -- reporting the outcome failed
   pub breaks_reported : {k : ℕ} → (outcome : Outcome) (e : SolverError) (mid b : Core W L G) → Ended seen a n k outcome mid m → BreaksOff seen e mid b → BreaksOff seen e a b
   breaks_reported outcome e mid b ended k = (record { fault = k.0.fault; steps = k.0.steps ++ ended.steps; went = went_after seen (Unit {0}) e ended.steps k.0.steps a.proof mid.proof b.proof (gains_adds seen ended.steps a.proof mid.proof ended.adds) k.0.went; loss = loss_later e a.proof mid.proof b.proof ended.adds.taking k.0.loss }, k.1)
 
-  -- what came of telling it
+  -- the result of reporting it
   pub finds_by : (outcome : Outcome) (r : Result (Option State) SolverError) (mid b : Core W L G) (core : List ℕ) (rounds : ℕ) → Ended seen a n (rounds - 1) outcome mid m → ReportsOutcome seen r outcome m mid b core → IfOk r (λ o. FindsAnswer seen o rounds n m a b core)
   finds_by outcome (Ok o) mid b core rounds e t = finds_reported outcome o mid b core rounds e t
   finds_by outcome (Err x) mid b core rounds e t = tt
@@ -58,7 +58,7 @@ module _ {W L : Type 0} {G : Ghosts L} (seen : W → Writer) (n m : Variables) (
   breaks_by outcome (Ok o) mid b core e t = tt
   breaks_by outcome (Err x) mid b core e t = breaks_reported outcome x mid b e t
 
-  -- by which rounds it was found
+  -- the rounds by which it was found
   pub searched_by : (before now : Clock) (outcome : Outcome) (r : Result (Option State) SolverError) (mid b : Core W L G) (core : List ℕ) →
       LastRoundAnswers Restarted (ReducedAt seen) (RoundOf seen) (Some outcome) a n before.restarts before.rounds mid m now.restarts now.rounds →
       ReportsOutcome seen r outcome m mid b core → IfOk r (λ o. SearchedBy seen (state_found o) before now n m a b core)

@@ -1,4 +1,4 @@
--- Clauses that are added one after another, and those of a text, piece by piece.
+-- Clauses are added one after another, or read from a text in chunks.
 use Rattle.std.proofs.Common.{ℕ, ◌+◌, ◌≤◌, ◌≡◌, ◌⊎◌, ◌∙◌, Bool, true, false, Result, Ok, Err, List, [], ◌∷◌, ◌++◌, append_assoc, length, refl, sym, ap, subst, inl, inr}
 use Rattle.std.proofs.lemmas.Bool.{true≢false}
 use Rattle.std.proofs.lemmas.List.{append-nil}
@@ -20,7 +20,7 @@ use Rattle.sat_solver.specs.solver.Adding.{Added, AddsClause}
 use Rattle.sat_solver.specs.solver.Calls.{Refuses}
 use Rattle.sat_solver.specs.solver.Formulas.{AddsAll, StopsAtClause, AddsFormula, text_fault, TextFails, ClauseFails, AddsText, AddsFormulaRead}
 
--- what was taken before isn't touched by reading
+-- Reading more of a text does not change the clauses that were taken before.
 
 taken_by_piece : (answer : Result Unit DimacsError) (text piece : List ℕ) (p q : Progress) → HasFed text p → FeedsPiece answer piece p q → q.taken ≡ p.taken
 taken_by_piece (Ok x) text piece p q is f = ap (λ (z : Progress). z.taken) f.1
@@ -52,7 +52,7 @@ module _ {W L : Type 0} {G : Ghosts L} (seen : W → Writer) where
   adds_going a b [] going p = ap (λ (z : Solver W L G). z.failed) p ∙ going
   adds_going a b (c ∷ cs) going p = adds_going p.0 b cs p.1.did.failed p.2
 
-  -- these clauses were added, and those are left
+  -- the clauses before `rest` were added
   pub record AddedSo (old now : Solver W L G) (clauses rest : List (List ℕ)) : Type 0 where
     pub before : List (List ℕ)
     pub split : clauses ≡ before ++ rest
@@ -75,7 +75,7 @@ module _ {W L : Type 0} {G : Ghosts L} (seen : W → Writer) where
   stops_at e old now new clauses rest more c going at so stops =
       record { going = going; before = so.before; clause = c; left = more; split = so.split ∙ ap (λ (z : List (List ℕ)). so.before ++ z) at; mid = now; added = so.added; stops = stops }
 
-  -- a clause that isn't added isn't refused for an earlier failure
+  -- a clause is never refused because of an earlier failure
   clause_apart : (e : SolverError) (old new : Solver W L G) (clauses : List (List ℕ)) → StopsAtClause seen e old new clauses → e ≡ errors.HasFailed → ⊥
   clause_apart e old new clauses s is =
       let r : Refuses s.mid new (s.mid.failed ≡ true) = subst (λ (z : SolverError). AddsClause seen (Err z) s.mid new s.clause) is s.stops in
@@ -90,7 +90,7 @@ module _ {W L : Type 0} {G : Ghosts L} (seen : W → Writer) where
       let s = stops_at e old now new clauses rest more c going at so stops in
       formula_by e old new clauses (clause_apart e old new clauses s) s
 
-  -- and back
+  -- the converse, for a solver that has not failed
   pub stops_of : (e : SolverError) (old new : Solver W L G) (clauses : List (List ℕ)) → old.failed ≡ false → AddsFormula seen (Err e) old new clauses → StopsAtClause seen e old new clauses
   stops_of errors.HasFailed old new clauses going s = absurd (true≢false (sym s.cause ∙ going))
   stops_of e old new clauses going s = s
@@ -102,7 +102,7 @@ module _ {W L : Type 0} {G : Ghosts L} (seen : W → Writer) where
   text_by e old new from to n s = s
 
   module _ (old cur : Solver W L G) (going : old.failed ≡ false) (q : Progress) (first : AddsAll seen old q.taken cur) where
-    -- those that were read before were added, and these are tried
+    -- the clauses that were read before are added, then these
     first_then : (new : Solver W L G) (clauses : List (List ℕ)) → clauses_read q ≡ q.taken ++ clauses → AddsAll seen cur clauses new → AddsAll seen old (clauses_read q) new
     first_then new clauses split added = subst (λ cs. AddsAll seen old cs new) (sym split) (adds_joined old cur new q.taken clauses first added)
 
@@ -126,7 +126,7 @@ module _ {W L : Type 0} {G : Ghosts L} (seen : W → Writer) where
       | inr s ↦ text_by e old new from to (clause_apart e cur new a.0 s) (inr (record { quiet = quiet; clauses = clauses_read q; read = read; stops = stops_then e new a.0 a.1 s }))
     ]
 
-  -- a piece without a fault
+  -- a chunk was read without a fault, and its clauses were added
   pub piece_added : (old cur new : Solver W L G) (text piece : List ℕ) (p q r : Progress) (answer : Result Unit DimacsError) → HasFed text p → FeedsPiece answer piece p q → r ≡ all_taken q → AddsFormulaRead seen (Ok tt) answer q cur new → AddsAll seen old p.taken cur
       → HasFed (text ++ piece) r × (r.taken ≡ (dimacs (up_to_last_blank (text ++ piece))).clauses) × AddsAll seen old r.taken new
   piece_added old cur new text piece p q r answer is f t a added =
@@ -137,7 +137,7 @@ module _ {W L : Type 0} {G : Ghosts L} (seen : W → Writer) where
         subst (λ cs. AddsAll seen old cs new) (sym (ap (λ (z : Progress). z.taken) t)) (subst (λ cs. AddsAll seen old cs new) (sym a.1) (adds_joined old cur new q.taken a.0 first a.2.1)),
       )
 
-  -- one at which reading stops
+  -- reading stops in a chunk
   pub piece_answers : (e : SolverError) (answer : Result Unit DimacsError) (old cur new : Solver W L G) (from to : Reader) (text piece : List ℕ) (p q : Progress) → old.failed ≡ false → HasFed text p → FeedsPiece answer piece p q → NoReadFailed from to
       → GaveFront from to (text ++ piece) → to.ended ≡ false → to.calls ≤ from.calls + length (text ++ piece) + 1 → AddsAll seen old p.taken cur → AddsFormulaRead seen (Err e) answer q cur new → AddsText seen (Err e) old new from to
   piece_answers e answer old cur new from to text piece p q going is f n g o few added a =
@@ -147,7 +147,7 @@ module _ {W L : Type 0} {G : Ghosts L} (seen : W → Writer) where
       (enough_front from to _ (text ++ piece) g o few (λ rest. read_by_piece answer text piece p q is f rest))
       a
 
-  -- the end of the text
+  -- the text has ended
   pub end_answers : (result : Result Unit SolverError) (answer : Result Unit DimacsError) (old cur new : Solver W L G) (from to : Reader) (text : List ℕ) (p q : Progress) → old.failed ≡ false → HasFed text p → Finishes answer p q → NoReadFailed from to
       → GaveAll from to text → AddsAll seen old p.taken cur → AddsFormulaRead seen result answer q cur new → AddsText seen result old new from to
   end_answers (Ok x) answer old cur new from to text p q going is f n g added a =
@@ -166,7 +166,7 @@ module _ {W L : Type 0} {G : Ghosts L} (seen : W → Writer) where
       (enough_all from to _ text g (read_by_end answer text p q is f))
       a
 
-  -- a read that failed
+  -- a read failed
   pub read_answers : (old cur : Solver W L G) (from to : Reader) (text : List ℕ) (p : Progress) → old.failed ≡ false → HasFed text p → ReadFails from to → GaveFront from to text → IsSoundSoFar p → p.taken ≡ (dimacs (up_to_last_blank text)).clauses → AddsAll seen old p.taken cur →
       AddsText seen (Err errors.Read) old cur from to
   read_answers old cur from to text p going is r g s t added = inl (record {

@@ -1,4 +1,4 @@
--- What the target of a solver took, whatever call of the solver failed since it was opened.
+-- What the target of a solver received since it was opened, even if a call failed.
 use Rattle.std.proofs.Common.{ℕ, ◌≡◌, ◌∙◌, ◌⊎◌, inl, inr, Some, Result, Ok, Err, List, [], ◌∷◌, ◌++◌, sym, ap, subst, append-nil, Bool, true, Option}
 use Rattle.std.proofs.Math.Logic.{∥∥₁_elim, ∥∥₁_prop}
 use Rattle.std.specs.Prelude.{reverse}
@@ -41,14 +41,14 @@ module _ {W L : Type 0} {G : Ghosts L} (seen : W → Writer) where
   took : (a b : Proof W L G) → ComesBySteps seen a b → GoesOnFrom seen a b
   took a b t = went_added seen t.0 a b t.1
 
-  -- no step, and the target as it was
+  -- no step was made, and the target is unchanged
   stood : (a b : Proof W L G) → steps_of b ≡ steps_of a → target_of seen b ≡ target_of seen a → GoesOnFrom seen a b
   stood a b h t = record { steps = []; history = h; target = inl (subst (TargetTakes (target_of seen a) []) (sym t) (carries_none (target_of seen a))) }
 
   checked : {fault : CheckFault} (steps : List Step) (a b : Proof W L G) → FailsCheck seen fault steps a b → GoesOnFrom seen a b
   checked steps a b h = went_added seen steps a b h.adds
 
-  -- steps of a call that failed
+  -- steps were made by a call that failed
   failed : (e : SolverError) (steps : List Step) (a b : Proof W L G) → going.EmitsUpToFault {A = Unit {0}} seen (Err e) steps a b → GoesOnFrom seen a b
   failed (errors.ProofProcessorError cause) steps a b h = checked steps a b h
   failed (errors.ProofIoError cause) steps a b h = went_failed seen steps a b h

@@ -1,4 +1,4 @@
--- Assumptions over names keep their literals of the search.
+-- Assumptions over names keep their literals in search and proof.
 use Rattle.std.proofs.Common.{ℕ, ◌<◌, ◌≡◌, ◌∙◌, true, List, map, length, get_or, sym, ap, subst, arith}
 use Rattle.sat_base.specs.values.Literals.{variable, is_positive}
 use Rattle.sat_base.specs.steps.Steps.{Step}
@@ -35,6 +35,6 @@ images_kept n m steps c s t valid shares user order asked images kept = record {
         let var : global_in c (variable (get_or order k 0)) ≡ i.variable_is = ap (global_in c) index ∙ shares.same i.index_is i.variable_is (valid.tidy.solvers.back i.variable_is i.index_is i.indexed) in
         subst (λ ls. mentions ls i.variable_is ≡ true) (sym asked) (subst (λ v. mentions (map (with_var (global_in c)) order) v ≡ true) var (assumed_mention (global_in c) order (variable (get_or order k 0)) (contains_at order k less)))
 
--- and of the proof
+-- their literals in the proof
 pub globals_kept : (n m : Variables) (user codes : List ℕ) → GlobalImages n user codes → m.global_from_user ≡ n.global_from_user → GlobalImages m user codes
 globals_kept n m user codes h users = record { count = h.count; each = λ k lt. (let y = h.each k lt in (y.0, ap (λ x. target x.fwd (variable (get_or user k 0))) users ∙ y.1, y.2)) }

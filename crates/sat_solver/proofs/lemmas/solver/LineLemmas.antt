@@ -1,4 +1,4 @@
--- The line of a model, from what names, steps and search say.
+-- The line of a model, from names, steps and search.
 use Rattle.std.proofs.Common.{ℕ, zero, suc, ◌+◌, ◌<◌, ◌≡◌, ◌∙◌, Bool, true, Option, None, Some, List, [], ◌∷◌, ◌++◌, map, refl, sym, ap, subst, arith, inl, inr}
 use Rattle.std.proofs.lemmas.Bool.{cases_eq}
 use Rattle.std.proofs.lemmas.Option.{none-some}
@@ -60,7 +60,7 @@ module _ (n : Variables) (steps : List Step) (j : ScriptState) (live : Live) (ag
     back = λ b h. let g = pulled_agrees live b agree.bridge.once in (pulled live b, agree_on (pulled live b) b g, agree.bridge.back (pulled live b) (b, g, h));
   }
 
-  -- the proof's literal of a name in use
+  -- the proof literal of a name in use
   pub reads_at : (u v : ℕ) (b : Bool) → NamesInvariant n steps → global_of n u ≡ Some v → IsReadAs j (variable_of steps) (user_literal (coded u b)) (coded v b)
   reads_at u v b valid e =
       let name : variable_of steps (variable (coded u b) + 1) ≡ Some v = ap (λ w. variable_of steps (w + 1)) (coded_variable u b) ∙ valid.read u ∙ e in
@@ -89,7 +89,7 @@ module _ (n : Variables) (values : List (Option Bool)) where
   lits_all P u None f = tt
   lits_all P u (Some v) f = (f v refl, tt)
 
-  -- what holds of the literal of each name in use below the count holds of all of them
+  -- a property of the literal of every name in use holds for the whole line
   pub named_each : (P : ℕ → Type 0) (count : ℕ) → ((u v : ℕ) → u < count → global_of n u ≡ Some v → P (coded u (value_in n values v))) → AllByRecursion P (named_to n values count)
   named_each P zero f = subst (AllByRecursion P) (sym (named_zero n values)) tt
   named_each P (suc count) f = subst (AllByRecursion P) (sym (named_grown count))
@@ -165,7 +165,7 @@ module _ (n : Variables) (steps : List Step) (values : List (Option Bool)) (vali
         (named_each n values (λ l. (i : ℕ) × (identity_of j (variable l + 1) ≡ Some i)) (names_used n) (λ u v lt e.
         let r = reads_at n steps j live agree u v (value_in n values v) valid e in (r.identity, r.in_use)))
 
-    -- the names in use, in order
+    -- the line has the names in use, in order
     lists : names_of (map user_literal line) ≡ map (λ n. n.name) j.in_use
     lists = lists_in_use j (names_of (map user_literal line)) agree.judged.increasing (line_rises n values (names_used n)) lists_all lists_only
 
@@ -178,7 +178,7 @@ module _ (n : Variables) (steps : List Step) (values : List (Option Bool)) (vali
           test_among (model_to n values (variables_used n)) (coded v (value_in n values v)) (model_all n values (variables_used n) v (live_within n v live_) live_),
         )))
 
-    -- the line of a model that may be shown is right
+    -- the line of a model that may be written is right
     pub model_line : (asked : List ℕ) → IsAllowedStep (session_after steps) (Model (model_to n values (variables_used n))) → AllByRecursion (λ l. Among l line) asked → IsRightModel j (map user_literal asked) (map user_literal line)
     model_line asked may among =
         named_models_are_right j (variable_of steps) steps (model_to n values (variables_used n)) (map user_literal asked) (map user_literal line)
@@ -188,7 +188,7 @@ module _ (n : Variables) (steps : List Step) (values : List (Option Bool)) (vali
         each_among [] h = tt
         each_among (x ∷ xs) h = (literal_among x line h.0, each_among xs h.1)
 
--- a core that no valuation of the steps makes true is right
+-- a core that no admitted valuation satisfies is right
 module _ (n : Variables) (steps : List Step) (j : ScriptState) (live : Live) (agree : NamesAgree n steps j live) where
   spells_reads : (l : Literal) (code : ℕ) → Spells (variable_of steps) l code → IsReadAs j (variable_of steps) l code
   spells_reads l code s = (let k = agree.bridge.named l.name s.variable s.named in record { identity = k.0; in_use = k.1; var = s.variable; named = s.named; is = s.is })

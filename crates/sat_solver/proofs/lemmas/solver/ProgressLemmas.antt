@@ -1,4 +1,4 @@
--- What a solver counts.
+-- The counts that a solver reports.
 use Rattle.std.proofs.Common.{ℕ, suc, ◌+◌, ◌≡◌, ◌∙◌, Bool, cond, List, get_or, Option, refl, sym, ap, arith}
 use Rattle.sat_store.specs.clause.Header.{index_of}
 use Rattle.sat_store.specs.declared.clause.tier.Tier.{Tier}
@@ -14,7 +14,7 @@ use Rattle.sat_parts.specs.parts.Whole.{PartsInvariant}
 use Rattle.sat_solver.specs.solver.Progressing.{is_open_at, live_count_of_tier, GoesOnIn}
 use Rattle.sat_solver.specs.solver.Whole.{StateSays}
 
--- the search goes on
+-- if the search continues, its parts satisfy their invariant
 pub parts_hold : {W L : Type 0} {G : Ghosts L} (s : Solver W L G) → GoesOnIn s → PartsInvariant s.core.search.parts
 parts_hold s h = go s.state refl (h.solver h.going).says
   where
@@ -24,12 +24,12 @@ parts_hold s h = go s.state refl (h.solver h.going).says
     go states.UnsatUnderAssumptions e x = x.0.joined.sound.search.valid.holds
     go states.Unsat e x = absurd (h.left e)
 
--- one index more was looked at
+-- one more index was visited
 pub counted_next : (n : Variables) (values : List (Option Bool)) (x count next : ℕ) (open_there : Bool) → count ≡ count_to x (is_open_at n values) → open_there ≡ is_open_at n values x → next ≡ count + cond open_there 1 0 → next ≡ count_to (x + 1) (is_open_at n values)
 counted_next n values x count next b c e s =
     s ∙ ap (λ k. k + cond b 1 0) c ∙ ap (λ t. count_to x (is_open_at n values) + cond t 1 0) e ∙ sym (count_suc x (is_open_at n values))
     ∙ ap (λ k. count_to k (is_open_at n values)) (let q : suc x ≡ x + 1 = omega arith in q)
 
--- the number of a tier is that of its live clauses
+-- the count of a tier is the number of its live clauses
 pub tier_count : (p : Parts) → PartsInvariant p → (tier : Tier) (r : ℕ) → r ≡ get_or p.db.counts (index_of tier) 0 → r ≡ live_count_of_tier p tier
 tier_count p h tier r e = e ∙ h.below.held.counts tier

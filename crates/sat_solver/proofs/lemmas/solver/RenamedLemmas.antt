@@ -1,4 +1,4 @@
--- A solver whose names came in, were hidden, or changed their modes.
+-- Names of a solver were introduced or hidden, or their modes changed.
 use Rattle.std.proofs.Common.{ℕ, zero, suc, ◌+◌, ◌<◌, ◌≡◌, ◌∙◌, Bool, true, false, ◌||◌, cond, eqb, not, Err, Option, None, Some, List, [], ◌∷◌, length, map, get_or, refl, sym, ap, subst, arith, inl, inr}
 use Rattle.std.proofs.lemmas.Bool.{true≢false, or_cases, or_left, or_right, eqb-true, eq-eqb}
 use Rattle.std.specs.List.{AllByRecursion}
@@ -80,7 +80,7 @@ some_same v w e = cc
 -- ASSUMPTIONS AND THEIR MARKS
 
 module _ {W L : Type 0} {G : Ghosts L} (s : Solver W L G) (whole : SolverInvariant s) where
-  -- the variable of one of the assumptions
+  -- the variable of an assumption
   pub record Asked_as (l : ℕ) : Type 0 where
     pub variable_is : ℕ
     pub named : global_of s.names (variable l) ≡ Some variable_is
@@ -98,7 +98,7 @@ module _ {W L : Type 0} {G : Ghosts L} (s : Solver W L G) (whole : SolverInvaria
             ∙ mention_at s.asked.globals.items p.0 x.0 (omega (arith, p.1)) (ap variable x.2 ∙ coded_variable x.0 (is_positive (get_or s.assumed.items p.0 0)));
       }
 
-  -- a name whose variable is marked is one of those assumed
+  -- a name whose variable is marked is assumed
   pub marked_asked : (user : ℕ) → IsAssumed s.names user → IsAsked s user
   marked_asked user m =
       let c = whole.spelt.count in
@@ -112,7 +112,7 @@ module _ {W L : Type 0} {G : Ghosts L} (s : Solver W L G) (whole : SolverInvaria
         some_same (variable l) user (sym (whole.valid.tidy.users.back (variable l) x.0 x.1) ∙ ap (user_of s.names) same ∙ whole.valid.tidy.users.back user m.variable_is m.named),
       )
 
-  -- and the other way round
+  -- the variable of an assumed name is marked
   pub asked_marked : (user : ℕ) → IsAsked s user → IsAssumed s.names user
   asked_marked user a =
       let x = asked_as a.0 a.1 in
@@ -125,7 +125,7 @@ module _ {W L : Type 0} {G : Ghosts L} (s : Solver W L G) (whole : SolverInvaria
   pub not_marked : (user : ℕ) → (IsAssumed s.names user → ⊥) → IsAsked s user → ⊥
   not_marked user n a = n (asked_marked user a)
 
-  -- NAMES THAT THE ASSUMPTIONS DON'T HAVE
+  -- NAMES THAT AREN'T ASSUMED
 
   module _ (n' : Variables) (p : Proof W L G) (valid : NamesInvariant n' (steps_of p)) (kept : (l v : ℕ) → Among l s.assumed.items → global_of s.names (variable l) ≡ Some v → global_of n' (variable l) ≡ Some v) (alike : IsAlike s.names n' (steps_in s) (steps_of p)) where
     abbrev new : Core W L G
@@ -171,7 +171,7 @@ module _ {W L : Type 0} {G : Ghosts L} (s : Solver W L G) (whole : SolverInvaria
       lits = g.lits;
     }
 
-    -- literals of the assumptions are spelt as before
+    -- assumed literals stand for the same literals of the proof as before
     spells : (l code : ℕ) → Among l s.assumed.items → Spells (variable_of (steps_in s)) (user_literal l) code → Spells (variable_of (steps_of p)) (user_literal l) code
     spells l code h x = record { variable = x.variable; named = valid.read (variable l) ∙ kept l x.variable h (sym (whole.valid.read (variable l)) ∙ x.named); is = x.is }
 
@@ -181,7 +181,7 @@ module _ {W L : Type 0} {G : Ghosts L} (s : Solver W L G) (whole : SolverInvaria
       there [] h t = tt
       there (l ∷ ls) h t = ((t.0.0, spells l t.0.0 h.0 t.0.1, t.0.2), there ls h.1 t.1)
 
-      -- one of these literals is one of the user's
+      -- this literal is one of the assumptions
       pub record Named_from (x : Literal) : Type 0 where
         pub from : ℕ
         pub among : Among from s.assumed.items
@@ -199,7 +199,7 @@ module _ {W L : Type 0} {G : Ghosts L} (s : Solver W L G) (whole : SolverInvaria
           let f = named_from core t.0.0 h t.0.2 in
           ((user_literal f.from, spells f.from c f.among (subst (λ x. Spells (variable_of (steps_in s)) x c) f.is t.0.1), subst (λ x. Among x (map user_literal core)) f.is t.0.2), only cs h t.1)
 
-      -- valuations that agree on the assumptions make the same codes true
+      -- valuations that agree on the assumptions satisfy the same of these codes
       module _ (a b : Valuation) (same : (v : ℕ) → mentions (session_in s).assumed v ≡ true → b v ≡ a v) where
         true_at : (c : ℕ) (x : Literal) → Spells (variable_of (steps_in s)) x c → Named_from x → literal_true a c ≡ true → literal_true b c ≡ true
         true_at c x sp f t =
@@ -212,7 +212,7 @@ module _ {W L : Type 0} {G : Ghosts L} (s : Solver W L G) (whole : SolverInvaria
         each_true [] h o t = tt
         each_true (c ∷ cs) h o t = (true_at c o.0.0 o.0.1 (named_from core o.0.0 h o.0.2) t.0, each_true cs h o.1 t.1)
 
-    -- a failed core stays one
+    -- a failed core is still one
     core_kept : HasCore s.core s.assumed.items s.reported.failed_core.items → HasCore new s.assumed.items s.reported.failed_core.items
     core_kept h =
         let core = s.reported.failed_core.items in
@@ -230,7 +230,7 @@ module _ {W L : Type 0} {G : Ghosts L} (s : Solver W L G) (whole : SolverInvaria
     says states.UnsatUnderAssumptions h = (going h.0, core_kept h.1)
     says states.Unsat h = alike.unsat ∙ h
 
-    -- all stands after it
+    -- the invariant holds after the call
     whole_renamed : HasScriptState n' (steps_of p) → is_lost p ≡ is_lost s.core.proof → IsWholeOf new n' s.asked s.assumed.items s.reported.failed_core.items s.clock.restarts.scale s.state
     whole_renamed judged taking = record {
       valid = valid;
@@ -245,7 +245,7 @@ module _ {W L : Type 0} {G : Ghosts L} (s : Solver W L G) (whole : SolverInvaria
       says = says s.state whole.says;
     }
 
-  -- a name that isn't assumed
+  -- if only a name that isn't assumed changes, assumptions keep their variables
   pub others_kept : (n' : Variables) (user : ℕ) → (IsAsked s user → ⊥) → KeepsOthers s.names n' user → (l v : ℕ) → Among l s.assumed.items → global_of s.names (variable l) ≡ Some v → global_of n' (variable l) ≡ Some v
   others_kept n' user free others l v h e = others (variable l) v (λ q. free (l, h, q)) e
 
@@ -261,7 +261,7 @@ module _ {W L : Type 0} {G : Ghosts L} (seen : W → Writer) (s : Solver W L G) 
     solver_same : (v : ℕ) → solver_of n' v ≡ solver_of s.names v
     solver_same v = ap (λ m. target m.fwd v) alike.solvers
 
-    -- a variable whose units are as they were has the value that it had
+    -- a variable whose units are unchanged keeps its value
     value_same : (v : ℕ) → ((b : Bool) → (session_of p).units (coded v b) ≡ (session_in s).units (coded v b)) → value_in n' values v ≡ value_in s.names values v
     value_same v units = go (solver_of s.names v) refl
       where
@@ -271,7 +271,7 @@ module _ {W L : Type 0} {G : Ghosts L} (seen : W → Writer) (s : Solver W L G) 
             ∙ sym (says_true (data_at n' v).unit) ∙ sym (valid.said.units v (solver_same v ∙ e) true) ∙ units true ∙ whole.valid.said.units v e true ∙ says_true (data_at s.names v).unit
             ∙ sym (ap (λ o. value_by o values (data_at s.names v).unit) e)
 
-    -- one that isn't in use is false
+    -- a variable that isn't in use is false
     unused_false : (v : ℕ) → (data_at s.names v).deleted ≡ true → value_in s.names values v ≡ false
     unused_false v gone = ap (λ o. value_by o values (data_at s.names v).unit) (none (solver_of s.names v) refl) ∙ ap (λ k. has_true_value k.unit) (whole.valid.tidy.gone v gone)
       where
@@ -288,7 +288,7 @@ module _ {W L : Type 0} {G : Ghosts L} (seen : W → Writer) (s : Solver W L G) 
         go None e (Some w) f = value_same w (λ b. units user w b f) ∙ unused_false w (fresh.fresh user w e f)
         go (Some v) e (Some w) f = value_same w (λ b. units user w b f) ∙ ap (value_in s.names values) (fresh.same user v w e f)
 
-  -- a call over names was carried out
+  -- the call over names succeeded
   pub renamed : (judge : ScriptState → ScriptState) (due : ScriptState → List Expected) (IsAllowedStep : List Step → Step → Type 0) → OnlyAllowedSteps IsAllowedStep (steps_in s) (steps_of p) → NamesEffect s.names n' (steps_in s) (steps_of p) judge due → VariablesAreKeptOrNew s.names n' → KeepsUnits n' (steps_in s) (steps_of p) →
       ((l v : ℕ) → Among l s.assumed.items → global_of s.names (variable l) ≡ Some v → global_of n' (variable l) ≡ Some v) → IsAlike s.names n' (steps_in s) (steps_of p) → ComesByCheckedSteps seen s.core.proof p →
       Renamed seen s (record s { core = record s.core { proof = p }; names = n'; used = true }) judge due IsAllowedStep
@@ -303,7 +303,7 @@ module _ {W L : Type 0} {G : Ghosts L} (seen : W → Writer) (s : Solver W L G) 
     values = values_kept alike does.valid fresh units;
   }
 
--- a call over modes failed
+-- a call that changes modes failed
 pub mode_ends : {W L : Type 0} {G : Ghosts L} (seen : W → Writer) (e : SolverError) (s new : Solver W L G) (user : ℕ) (judge : ScriptState → ScriptState) (due : ScriptState → List Expected) (IsAllowedStep : List Step → Step → Type 0) → s.failed ≡ false → (IsAsked s user → ⊥) → HasVariablesFor s.names (user ∷ []) → IsFault e → BreaksNames seen e s.core new.core → new.clock ≡ s.clock → new.failed ≡ true → ChangesMode seen (Err e) s new user judge due IsAllowedStep
 mode_ends seen errors.OutOfMemory s new user judge due IsAllowedStep g n r x b k f = (n, r, record { going = g; failed = f; fault = x; breaks = b; clock = k })
 mode_ends seen (errors.ProofIoError cause) s new user judge due IsAllowedStep g n r x b k f = (n, r, record { going = g; failed = f; fault = x; breaks = b; clock = k })
@@ -311,7 +311,7 @@ mode_ends seen (errors.ProofProcessorError cause) s new user judge due IsAllowed
 mode_ends seen errors.CounterEnd s new user judge due IsAllowedStep g n r x b k f = (n, r, record { going = g; failed = f; fault = x; breaks = b; clock = k })
 mode_ends seen e s new user judge due IsAllowedStep g n r x b k f = absurd x
 
--- a call that gives names failed
+-- a call that introduces names failed
 pub new_ends : {W L : Type 0} {G : Ghosts L} (seen : W → Writer) (e : SolverError) (s new : Solver W L G) → s.failed ≡ false → IsFault e → BreaksNames seen e s.core new.core → new.clock ≡ s.clock → new.failed ≡ true → NamesFail seen e s new
 new_ends seen errors.OutOfMemory s new g x b k f = record { going = g; failed = f; fault = x; breaks = b; clock = k }
 new_ends seen (errors.ProofIoError cause) s new g x b k f = record { going = g; failed = f; fault = x; breaks = b; clock = k }
@@ -327,32 +327,32 @@ new_fails seen (errors.ProofProcessorError cause) s new g n x b k f = (n, record
 new_fails seen errors.CounterEnd s new g n x b k f = (n, record { going = g; failed = f; fault = x; breaks = b; clock = k })
 new_fails seen e s new g n x b k f = absurd x
 
--- where it wasn't for want of a variable, there was one
+-- if a call failed for another reason, a variable was left
 pub one_left : {W : Type 0} (e : NameError) (old new : Variables) (from to : W) → (reported_as e ≡ errors.VariableLimit → ⊥) → Limits e old new from to → NoneLeft old → ⊥
 one_left names.VariableLimit old new from to n h = absurd (n refl)
 one_left e old new from to n h = h
 
--- what a call over names fails of, but for the limit
+-- an error of a call over names is a fault, unless the limit was reached
 pub fault_left : (e : SolverError) → IsNameFaultOr ⊥ e → (e ≡ errors.VariableLimit → ⊥) → IsFault e
 fault_left e h n = elim h [ inl x ↦ x | inr q ↦ absurd (n q) ]
 
--- which fault a call over names tells as the limit
+-- the limit is reported for this error only
 pub reported_limit : (e : NameError) → reported_as e ≡ errors.VariableLimit → e ≡ names.VariableLimit
 reported_limit names.VariableLimit h = refl
 reported_limit (names.Check checks.OutOfMemory) h = cc
 reported_limit e h = cc
 
--- a call that changed neither names nor steps
+-- a call that changed neither names nor steps leaves the solver unchanged
 pub same_solver : {W L : Type 0} {G : Ghosts L} (s : Solver W L G) (n' : Variables) (p : Proof W L G) → n' ≡ s.names → p ≡ s.core.proof → ◌≡◌ {A = Solver W L G} (record s { core = record s.core { proof = p }; names = n' }) s
 same_solver {W} {L} {G} s n' p e f =
     subst (λ (n : Variables). ◌≡◌ {A = Solver W L G} (record s { core = record s.core { proof = p }; names = n }) s) (sym e)
     (subst (λ (q : Proof W L G). ◌≡◌ {A = Solver W L G} (record s { core = record s.core { proof = q } }) s) (sym f) refl)
 
--- the next of the names is the judge's lowest one not in use
+-- the next name is the lowest one that isn't in use
 pub next_name : {W L : Type 0} {G : Ghosts L} (s : Solver W L G) → SolverInvariant s → (user : ℕ) → IsNextUser s.names user → IsNextName s (user + 1)
 next_name s whole user next j live agree = lowest_unused s.names (steps_in s) j live user whole.valid agree.judged next
 
--- hidden variables got names
+-- all hidden variables got names
 pub observed_all : {W L : Type 0} {G : Ghosts L} (seen : W → Writer) (s : Solver W L G) → SolverInvariant s → s.failed ≡ false → (n' : Variables) (p : Proof W L G) (users : List ℕ) (used : Bool) → used ≡ (s.used || not (eqb (length users) 0)) → NamesAllHidden s.names n' (steps_in s) (steps_of p) users → ComesByCheckedSteps seen s.core.proof p →
     Observed seen s (record s { core = record s.core { proof = p }; names = n'; used = used }) users
 observed_all seen s whole going n' p users used opened all took = record {

@@ -1,4 +1,4 @@
--- A failed call tells its cause, which the proof no longer keeps then.
+-- A failed call reports the underlying error, and the proof no longer stores it.
 use Rattle.std.proofs.Common.{◌≡◌, false, true, inl, inr, refl, Err, List, [], ◌∷◌}
 use Rattle.sat_base.specs.device.Device.{Writer}
 use Rattle.sat_base.specs.steps.Steps.{Step, End}
@@ -34,7 +34,7 @@ module _ {W L : Type 0} {G : Ghosts L} (seen : W → Writer) (p q : Proof W L G)
   pub check_reported : (fault : CheckFault) (steps : List Step) → FailsCheck seen fault steps p q → FailsCheck seen fault steps p (without_complaint q)
   check_reported fault steps h = record { adds = adds_reported steps h.adds; why = h.why }
 
-  -- what went wrong did so, told or not
+  -- what a failed call has done is the same once its error was reported
   pub went_reported : (e : SolverError) (steps : List Step) → EmitsUpToFault {A = Unit {0}} seen (Err e) steps p q → EmitsUpToFault {A = Unit {0}} seen (Err e) steps p (without_complaint q)
   went_reported (errors.ProofIoError cause) steps h = fails_reported steps h
   went_reported (errors.ProofProcessorError cause) steps h = check_reported _ steps h
@@ -83,7 +83,7 @@ module _ {W L : Type 0} {G : Ghosts L} (seen : W → Writer) where
     unchecked : (fault : CheckFault) → ClosesTarget {W = W} seen (Err (Check fault)) s.core.proof p → FailsCheck seen fault (End ∷ []) s.core.proof (without_complaint p)
     unchecked fault h = check_reported seen s.core.proof p fault (End ∷ []) (record { adds = h.0; why = (complains_now fault p (is_lost s.core.proof) taking h.1).0 })
 
-    -- a proof wasn't closed
+    -- closing a proof failed
     pub close_ends : (e : ProofError) → ClosesTarget {W = W} seen (Err e) s.core.proof p → ClosesProof seen (Err (proof_fault e)) s (failed_with closing)
     close_ends (Write cause) h = record { going = going; failed = refl; fails = fails_reported seen s.core.proof p _ h.0; clock = refl }
     close_ends OutOfMemory h = record { going = going; failed = refl; adds = inl (adds_reported seen s.core.proof p [] (gains_adds seen [] s.core.proof p h)); loss = inl h.taking; clock = refl }

@@ -34,7 +34,7 @@ use Rattle.sat_solver.specs.solver.Joined.{IsJoined, lit_over_names}
 use Rattle.sat_solver.specs.solver.Answering.{Shown, WritesFailedCore, BreaksOff, model_of}
 use Rattle.sat_solver.proofs.lemmas.solver.ShownLemmas.{model_only}
 
--- the search doesn't see a step that leaves clauses, units, names and assumptions as they are
+-- a step that changes neither clauses, units, names nor assumptions preserves the invariant of the search
 pub search_rests : (s : Session) (c : Search) (step : Step) → IsSearch s c → ChangesNoClause step → (after step s).assumed ≡ s.assumed → (after step s).solver_names ≡ s.solver_names → IsSearch (after step s) c
 search_rests s c step search quiet assumed names = record {
   valid = record { holds = search.valid.holds; fits = parts_rests c.parts s (global_in c) search.valid.fits step quiet };
@@ -54,7 +54,7 @@ each_live n values count (l ∷ ls) h = (
     later : (l m : ℕ) (ls : List ℕ) → is_among ls m ≡ true → is_among (l ∷ ls) m ≡ true
     later l m ls t = or_right (eqb l m) (is_among ls m) t
 
--- indices are shared where variables are the same
+-- names and search share their indices if the search's variables are unchanged
 pub shares_moved : (n : Variables) (c c' : Search) → SharesIndices n c → SameVarsAndAssumptions c c' → SharesIndices n c'
 shares_moved n c c' h moved = record {
   size = moved.size ∙ h.size ∙ sym (ap (λ gs. length gs.items) moved.globals);
@@ -68,7 +68,7 @@ module _ {W L : Type 0} {G : Ghosts L} (seen : W → Writer) (n : Variables) (a 
     abbrev pub reported : Core W L G
     reported = record a { proof = proof }
 
-    -- the step of a model was taken
+    -- the step of a model was accepted
     pub model_shown : (ls : List ℕ) → ls ≡ model_of n a → EmitsChecked seen (Model ls ∷ []) a.proof proof → HasAllowedSteps proof → Shown seen n a reported
     model_shown ls e adds keeps =
         let adds_model : EmitsChecked seen (Model (model_of n a) ∷ []) a.proof proof = subst (λ xs. EmitsChecked seen (Model xs ∷ []) a.proof proof) e adds in
@@ -90,11 +90,11 @@ module _ {W L : Type 0} {G : Ghosts L} (seen : W → Writer) (n : Variables) (a 
           };
         }
 
-  -- want of memory before anything was written
+  -- memory ran out before anything was written
   pub starved : BreaksOff seen errors.OutOfMemory a a
   starved = (record { fault = tt; steps = []; went = adds_none seen a.proof; loss = inl refl }, tt)
 
-  -- the target failed at a step
+  -- writing or checking a step failed
   pub broken : (e : ProofError) (step : Step) (proof : Proof W L G) → EmitsAsAnswered {T = Unit {0}} seen (Err e) (step ∷ []) a.proof proof → BreaksOff seen (proof_fault e) a (record a { proof = proof })
   broken (Write cause) step proof fails = (record { fault = tt; steps = step ∷ []; went = fails.0; loss = tt }, fails.1)
   broken OutOfMemory step proof gains = (record { fault = tt; steps = []; went = gains_adds seen [] a.proof proof gains; loss = inl gains.taking }, tt)

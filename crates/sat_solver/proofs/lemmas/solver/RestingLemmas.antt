@@ -1,4 +1,4 @@
--- What answers rest on.
+-- Why answers are right.
 use Rattle.std.proofs.Common.{ℕ, ◌<◌, ◌≡◌, ◌∙◌, Bool, false, Option, List, [], length, get_or, refl, sym, subst}
 use Rattle.sat_checker.specs.declared.processing.ProofProcessor.{Ghosts}
 use Rattle.sat_parts.specs.prop.Values.{IsTrueLit}
@@ -32,14 +32,14 @@ module _ {W L : Type 0} {G : Ghosts L} (s : Solver W L G) (whole : SolverInvaria
       says : StateSays states.Sat s.core s.names s.asked s.assumed.items s.reported.failed_core.items
       says = subst (λ st. StateSays st s.core s.names s.asked s.assumed.items s.reported.failed_core.items) state whole.says
 
-  -- so is a core
+  -- a failed core is right
   pub core_rests : s.failed ≡ false → s.state ≡ states.UnsatUnderAssumptions → (core : List ℕ) → core ≡ s.reported.failed_core.items → IsCore s core
   core_rests going state core e = (record { going = going; unsat = rw state tt; core_is = e ∙ rw state refl; right = subst (IsRightCoreOf s) (sym e) (λ j live agree. core_of s.names (steps_in s) j live agree s.assumed.items s.reported.failed_core.items says.1.codes says.1.none says.1.same says.1.among) })
     where
       says : StateSays states.UnsatUnderAssumptions s.core s.names s.asked s.assumed.items s.reported.failed_core.items
       says = subst (λ st. StateSays st s.core s.names s.asked s.assumed.items s.reported.failed_core.items) state whole.says
 
-  -- and an empty one, where the clauses alone are unsatisfiable
+  -- the empty core is right if the clauses are unsatisfiable without assumptions
   pub unsat_rests : s.failed ≡ false → s.state ≡ states.Unsat → (core : List ℕ) → core ≡ [] → IsCore s core
   unsat_rests going state core e = (record {
     going = going;

@@ -1,4 +1,4 @@
--- A solver that looked for an answer.
+-- A solver after an ask.
 use Rattle.std.proofs.Common.{ℕ, ◌+◌, ◌-◌, ◌*◌, ◌^◌, ◌≤◌, ◌<◌, ◌≡◌, ◌∙◌, true, false, Ok, Err, List, [], ◌∷◌, ◌++◌, length, map, get_or, refl, sym, ap, subst, arith, inl}
 use Rattle.std.specs.List.{AllByRecursion, Contains}
 use Rattle.sat_base.specs.device.Device.{Writer}
@@ -82,12 +82,12 @@ no_rounds : (st : State) (n : ℕ) → learned_of st (n - n) ≡ 0
 no_rounds states.Unknown n = omega arith
 no_rounds e n = omega arith
 
--- and then a step that doesn't advance
+-- a last step that does not advance leaves the number of advancing steps unchanged
 then_still : (from mids to steps : List Step) (step : Step) (k : ℕ) → mids ≡ steps ++ from → to ≡ step ∷ mids → AdvanceTimes from steps k → NeverAdvancesByForm (session_after (steps ++ from)) step → AdvancesIn from to k
 then_still from mids to steps step k e f times still = record { steps = step ∷ steps; following = f ∙ ap (λ ss. step ∷ ss) e; times = inl (times, still) }
 
 module _ {W L : Type 0} {G : Ghosts L} (seen : W → Writer) (s : Solver W L G) (whole : SolverInvariant s) where
-  -- where an answer was known
+  -- the answer was known before
   pub settled_known : (s.state ≡ states.Unknown → ⊥) → Settled seen s s
   settled_known n = record {
     whole = whole;
@@ -129,7 +129,7 @@ module _ {W L : Type 0} {G : Ghosts L} (seen : W → Writer) (s : Solver W L G) 
     kept_spelt : {t : Session} → KeepsAsked s.names m (session_in s) t → GlobalImages m s.assumed.items s.asked.globals.items
     kept_spelt {t} k = globals_kept s.names m s.assumed.items s.asked.globals.items whole.spelt k.users
 
-    -- where there's no answer by now
+    -- no answer was found
     pub settled_none : s.state ≡ states.Unknown → Counts s (record s { core = core; names = m; reported = reported; clock = clock }) → FoundNone seen (clock.rounds - s.clock.rounds) s.names m s.core core → Settled seen s (record s { core = core; names = m; reported = reported; clock = clock })
     settled_none unknown counts found = record {
       whole = record {
@@ -163,7 +163,7 @@ module _ {W L : Type 0} {G : Ghosts L} (seen : W → Writer) (s : Solver W L G) 
       from_unknown : (st : State) → NamesEffect s.names m (steps_in s) (steps_of core.proof) (λ j. j) (λ j. due_between_states states.Unknown st (line_of_names m core) s.assumed.items reported.failed_core.items) → NamesEffect s.names m (steps_in s) (steps_of core.proof) (λ j. j) (λ j. due_between_states s.state st (line_of_names m core) s.assumed.items reported.failed_core.items)
       from_unknown st d = subst (λ before. NamesEffect s.names m (steps_in s) (steps_of core.proof) (λ j. j) (λ j. due_between_states before st (line_of_names m core) s.assumed.items reported.failed_core.items)) (sym unknown) d
 
-      -- where a model was found
+      -- a model was found
       pub settled_model : Counts s (new states.Sat) → FoundModel seen (clock.rounds - s.clock.rounds) s.names m s.core core → Settled seen s (new states.Sat)
       settled_model counts found = record {
         whole = record {
@@ -225,7 +225,7 @@ module _ {W L : Type 0} {G : Ghosts L} (seen : W → Writer) (s : Solver W L G) 
               (subst (λ c. NamesEffect m m (steps_of found.mid.proof) (steps_of core.proof) (λ j. j) (λ j. Shows (names_of (map user_literal (line_by c))) (map user_literal s.assumed.items) (map user_literal (line_by c)) ∷ [])) (sym found.shown.search)
               (does_shown seen m found.mid mid core found.shown s.assumed.items (subst (λ c. AllByRecursion (λ l. Among l (line_by c)) s.assumed.items) found.shown.search asked)))
 
-      -- where assumptions were found that can't be true together
+      -- a failed core was found
       pub settled_core : Counts s (new states.UnsatUnderAssumptions) → FoundCore seen (clock.rounds - s.clock.rounds) s.names m s.core core reported.failed_core.items → Settled seen s (new states.UnsatUnderAssumptions)
       settled_core counts found = record {
         whole = record {
@@ -294,7 +294,7 @@ module _ {W L : Type 0} {G : Ghosts L} (seen : W → Writer) (s : Solver W L G) 
                 among = subst (AllByRecursion (λ l. Among l s.assumed.items)) (sym f.named) (core_among m (steps_of core.proof) f.joined.valid mid.search joined.shares s.assumed.items s.asked.order.items images used among);
               }
 
-      -- where the clauses alone turned out to be unsatisfiable
+      -- the clauses turned out to be unsatisfiable without assumptions
       pub settled_unsat : Counts s (new states.Unsat) → Ended seen s.core s.names (clock.rounds - s.clock.rounds - 1) outcomes.Unsat core m → Settled seen s (new states.Unsat)
       settled_unsat counts ended = record {
         whole = record {
@@ -321,7 +321,7 @@ module _ {W L : Type 0} {G : Ghosts L} (seen : W → Writer) (s : Solver W L G) 
         known = λ k. absurd (k unknown);
       }
 
--- the same over a proof with the same steps
+-- the invariant holds for another proof with the same steps
 pub whole_over : {W L : Type 0} {G : Ghosts L} (c : Core W L G) (n : Variables) (asked : Taken) (assumed core : List ℕ) (scale : ℕ) (state : State) (p : Proof W L G) → IsWholeOf c n asked assumed core scale state → steps_of p ≡ steps_of c.proof → is_lost p ≡ is_lost c.proof → IsWholeOf (record c { proof = p }) n asked assumed core scale state
 whole_over {W} {L} {G} c n asked assumed core scale state p whole e taking = record {
   valid = subst (NamesInvariant n) (sym e) whole.valid;
@@ -373,7 +373,7 @@ module _ {W L : Type 0} {G : Ghosts L} (seen : W → Writer) (old mid : Solver W
   flush_adds : FlushesAndNotifies seen mid.core.proof p → EmitsExactly seen [] mid.core.proof p
   flush_adds f = gains_adds seen [] mid.core.proof p (flush_records seen (Ok tt) mid.core.proof p settled.whole.taking f)
 
-  -- the answer was flushed
+  -- the target was flushed after the answer
   pub settled_flushed : FlushesAndNotifies seen mid.core.proof p → Settled seen old (record mid { core = record mid.core { proof = p } })
   settled_flushed f = record {
     whole = whole_over mid.core mid.names mid.asked mid.assumed.items mid.reported.failed_core.items mid.clock.restarts.scale mid.state p settled.whole f.history f.taking;
@@ -389,7 +389,7 @@ module _ {W L : Type 0} {G : Ghosts L} (seen : W → Writer) (old mid : Solver W
     known = λ k. let h = settled.known k in (adds_more seen [] [] old.core.proof mid.core.proof p h.0 (flush_adds f), ap (λ (m : Solver W L G). record m { core = record m.core { proof = p } }) h.1);
   }
 
-  -- and where the target failed at it
+  -- flushing the target failed
   pub settled_broken : (e : ProofError) → FlushesOrFails seen (Err e) mid.core.proof p → BreaksOff seen (proof_fault e) old.core (record mid.core { proof = p }) × CountsRounds old mid × ((old.state ≡ states.Unknown → ⊥) → FlushFails seen (proof_fault e) old.core.proof p)
   settled_broken (Write cause) f = ((record { fault = tt; steps = _; went = fails_later seen settled.took.0 [] old.core.proof mid.core.proof p settled.took.1 f.0; loss = tt }, f.1), settled.counts.on, λ k. fails_later seen [] [] old.core.proof mid.core.proof p (settled.known k).0 f.0)
   settled_broken OutOfMemory f = absurd f
@@ -407,7 +407,7 @@ module _ {W L : Type 0} {G : Ghosts L} (seen : W → Writer) (s : Solver W L G) 
   goes_on : AskGoesOn s.core s.names s.asked
   goes_on = subst (λ st. StateSays st s.core s.names s.asked s.assumed.items s.reported.failed_core.items) unknown whole.says
 
-  -- no more variables than identities
+  -- there are at most as many variables as identities
   over_identities : (j : ScriptState) (live : Live) → NamesAgree s.names (steps_in s) j live → values_in s.core ≤ j.identity_count
   over_identities j live agree =
       let shares = goes_on.joined.shares in
@@ -431,13 +431,13 @@ module _ {W L : Type 0} {G : Ghosts L} (seen : W → Writer) (s : Solver W L G) 
   settled_some round states.UnsatUnderAssumptions found = settled_core seen s whole goes_on core m reported clock scale unknown (record { on = rounds_on; round = λ u k. round; spent = λ u. absurd (apart_core u); answered = λ j live a fits u. apart_core u }) found
   settled_some round states.Unsat found = settled_unsat seen s whole goes_on core m reported clock scale unknown (record { on = rounds_on; round = λ u k. round; spent = λ u. absurd (apart_unsat u); answered = λ j live a fits u. apart_unsat u }) found
 
-  -- or none by now
+  -- no answer was found, and the rounds are exhausted
   pub settled_without : clock.rounds ≡ s.clock.rounds + round_allowance s.core.config.max_steps s.clock.rounds →
       ((n : ℕ) → values_in s.core ≤ n → 2 ^ (2 * n + 3) ≤ round_allowance s.core.config.max_steps s.clock.rounds → ⊥) →
       FoundNone seen (clock.rounds - s.clock.rounds) s.names m s.core core → Settled seen s (record s { core = core; names = m; reported = reported; clock = clock })
   settled_without spent answered found = settled_none seen s whole goes_on core m reported clock scale unknown (record { on = rounds_on; round = λ u k. absurd (k unknown); spent = λ u. spent; answered = λ j live a fits u. answered j.identity_count (over_identities j live a) fits }) found
 
--- a target was flushed
+-- the target was flushed
 pub flushed_by : {W L : Type 0} {G : Ghosts L} (seen : W → Writer) (p q : Proof W L G) → FlushesAndNotifies seen p q → IsFlushed (target_of seen q)
 flushed_by seen p q f = go (target_of seen p) (target_of seen q) f.target
   where
@@ -449,7 +449,7 @@ flushed_by seen p q f = go (target_of seen p) (target_of seen q) f.target
 -- CALLS
 
 module _ {W L : Type 0} {G : Ghosts L} (seen : W → Writer) (s new : Solver W L G) (settled : Settled seen (record s { used = true }) new) (going : s.failed ≡ false) (flushed : IsFlushed (target_of seen new.core.proof)) (reported : AllStepsReported new.core.proof) (asked : NotesAsk seen new.core.proof) (rounds : s.state ≡ states.Unknown → MakesRounds seen s new) where
-  -- an ask was looked at
+  -- the ask was answered
   pub answered : Answered seen s new
   answered = record {
     did = record { whole = settled.whole; going = going; failed = ap (λ (x : Solver W L G). x.failed) settled.same ∙ going; used = ap (λ (x : Solver W L G). x.used) settled.same; config = settled.config; does = settled.does; took = settled.took; width = settled.width };

@@ -1,4 +1,4 @@
--- A model of all variables of the proof may be shown.
+-- A model of all variables of the proof may be written.
 use Rattle.std.proofs.Common.{ℕ, zero, suc, ◌+◌, ◌*◌, ◌/◌, ◌%◌, ◌<◌, ◌≡◌, ◌∙◌, Bool, true, false, cond, eqb, ◌||◌, Option, None, Some, List, [], ◌∷◌, ◌++◌, map, get_or, refl, sym, ap, subst, arith, inl, inr}
 use Rattle.std.specs.List.{list_any}
 use Rattle.std.proofs.lemmas.List.{append-nil}
@@ -25,7 +25,7 @@ use Rattle.sat_solver.specs.declared.variables.Variables.{Variables}
 use Rattle.sat_solver.proofs.lemmas.variables.ModelSteps.{model_zero, model_next}
 use Rattle.sat_parts.proofs.lemmas.parts.ValueLemmas.{coded_variable}
 
--- the literal is the one of a variable in use, below the count, with its value
+-- the literal is that of a variable in use, below the count, with its value
 pub record IsShown (n : Variables) (values : List (Option Bool)) (count l : ℕ) : Type 0 where
   pub below : variable l < count
   pub live : (data_at n (variable l)).deleted ≡ false
@@ -44,7 +44,7 @@ negated_variable l = elim (cases_eq (l % 2) 0) [
   | inr k ↦ omega arith
 ]
 
--- the list of one literal, or of none
+-- the only literal of a list of at most one
 pub only_lit : (gone : Bool) (v l : ℕ) (b : Bool) → is_among (cond gone [] (coded v b ∷ [])) l ≡ true → (gone ≡ false) × (coded v b ≡ l)
 only_lit true v l b h = absurd (true≢false (sym h))
 only_lit false v l b h = elim (or_cases (eqb (coded v b) l) false h) [
@@ -94,7 +94,7 @@ mentioned (x ∷ ls) v h = elim (or_cases (eqb (variable x) v) (mentions ls v) h
   | inr k ↦ (let m = mentioned ls v k in (m.0, or_right (eqb x m.0) (is_among ls m.0) m.1, m.2))
 ]
 
--- a literal of another variable after literals
+-- a literal of a new variable is appended
 apart_more : (ls : List ℕ) (y : ℕ) → VariablesApart ls → mentions ls (variable y) ≡ false → VariablesApart (ls ++ y ∷ [])
 apart_more [] y h k = (refl, tt)
 apart_more (x ∷ ls) y h k = (
@@ -170,7 +170,7 @@ module _ (n : Variables) (s : Session) (c : Search) (tidy : AreTidy n) (said : N
   global_is : (v x : ℕ) → solver_of n v ≡ Some x → global_in c x ≡ v
   global_is v x e = shares.same x v (tidy.solvers.back v x e)
 
-  -- the literal of a variable with an index, as the search has it
+  -- the proof literal of an index is that of its variable
   searched : (v x : ℕ) (b : Bool) → solver_of n v ≡ Some x → with_var (global_in c) (coded x b) ≡ coded v b
   searched v x b e =
       sym (coded_by (global_in c) (coded x b))
@@ -178,7 +178,7 @@ module _ (n : Variables) (s : Session) (c : Search) (tidy : AreTidy n) (said : N
       ∙ ap (λ w. coded w (is_positive (coded x b))) (global_is v x e)
       ∙ ap (coded v) (coded_sign x b)
 
-  -- the value of a unit's variable makes it true
+  -- the value of a unit's variable is the one that makes the unit true
   unit_shown : (v : ℕ) (b : Bool) (o : Option ℕ) → solver_of n v ≡ o → s.units (coded v b) ≡ true → value_in n values v ≡ b
   unit_shown v b None e u = ap (λ o. value_by o values (data_at n v).unit) e ∙ unit_value (data_at n v).unit b (sym (said.units v e b) ∙ u)
   unit_shown v b (Some x) e u =

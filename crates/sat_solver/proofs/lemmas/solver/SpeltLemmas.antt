@@ -1,4 +1,4 @@
--- Assumptions over names, and the literals of the proof that stand for them.
+-- Assumptions over names, and the proof literals that stand for them.
 use Rattle.std.proofs.Common.{ℕ, zero, suc, ◌<◌, ◌≡◌, ◌∙◌, refl, List, [], ◌∷◌, length, map, get_or, sym, ap, arith}
 use Rattle.sat_base.specs.values.Literals.{variable, is_positive, coded}
 use Rattle.sat_solver.specs.session.LiveClauses.{with_var}
@@ -20,7 +20,7 @@ mapped_at f [] k lt = absurd (omega arith)
 mapped_at f (l ∷ ls) zero lt = refl
 mapped_at f (l ∷ ls) (suc k) lt = mapped_at f ls k (omega arith)
 
--- what was written for assumptions stands for them
+-- the proof literals that were written stand for the assumptions
 pub global_images_of : (n : Variables) (user : List ℕ) (t : Taken) → AreTidy n → Images n user t.order.items → t.globals.items ≡ map (with_var (global_with_index n)) t.order.items → GlobalImages n user t.globals.items
 global_images_of n user t tidy images e = record {
   count = ap (λ ls. length ls) e ∙ length_mapped (with_var (global_with_index n)) t.order.items ∙ images.count;
@@ -36,7 +36,7 @@ global_images_of n user t tidy images e = record {
       );
 }
 
--- and still does where names keep their variables
+-- they still do if names keep their variables
 pub global_images_kept : (old new : Variables) (user codes : List ℕ) → KeepsNames old new → GlobalImages old user codes → GlobalImages new user codes
 global_images_kept old new user codes keeps g = record {
   count = g.count;

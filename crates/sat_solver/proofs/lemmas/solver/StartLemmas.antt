@@ -78,7 +78,7 @@ module _ (n : Variables) (tidy : AreTidy n) (none : variables_used n ≡ 0) wher
     bridge = begun checker_rules;
   }
 
-  -- names and a search without steps are joined
+  -- before the first step, names and search are joined
   pub joined_first : {W L : Type 0} {G : Ghosts L} (c : Core W L G) → steps_of c.proof ≡ [] → IsSearch nothing c.search → c.search.parts.assignment.current ≡ [] → c.search.globals.items ≡ [] → 0 < c.config.reduce_locals_interval → 0 < c.config.reduce_mids_interval → IsJoined n c
   joined_first c steps search values globals locals mids = record {
     sound = record { keeps = subst AreAllowedSteps (sym steps) tt; search = subst (λ ss. IsSearch (session_after ss) c.search) (sym steps) search; locals = locals; mids = mids };
@@ -91,7 +91,7 @@ module _ (n : Variables) (tidy : AreTidy n) (none : variables_used n ≡ 0) wher
     };
   }
 
-  -- a solver without steps is whole
+  -- a solver without steps satisfies its invariant
   pub whole_first : {W L : Type 0} {G : Ghosts L} (c : Core W L G) (asked : Taken) (assumed core : List ℕ) (scale : ℕ) → steps_of c.proof ≡ [] → IsSearch nothing c.search → c.search.parts.assignment.current ≡ [] → c.search.globals.items ≡ [] →
       0 < c.config.reduce_locals_interval → 0 < c.config.reduce_mids_interval → asked.order.items ≡ [] → asked.globals.items ≡ [] → assumed ≡ [] → 0 < scale → scale ≡ c.config.luby_restart_interval_scale → AreDecays c.config → is_lost c.proof ≡ false → IsWholeOf c n asked assumed core scale states.Unknown
   whole_first c asked assumed core scale steps search values globals locals mids order asked_globals none_assumed positive scaled decays taking = record {

@@ -1,4 +1,4 @@
--- A clause, or assumptions, over names: names, proof and search after them.
+-- Names, proof and search after a clause or assumptions over names.
 use Rattle.std.proofs.Common.{ℕ, ◌<◌, ◌≡◌, ◌∙◌, Bool, true, false, Result, Ok, Err, IfErr, OnOk, List, [], ◌∷◌, ◌++◌, length, map, get_or, append_assoc, refl, sym, ap, subst, inl, inr}
 use Rattle.std.specs.Prelude.{IsErrAnd}
 use Rattle.std.proofs.lemmas.Result.{err_from_is_err_and}
@@ -65,17 +65,17 @@ use Rattle.sat_solver.proofs.lemmas.solver.ReportingLemmas.{shares_moved}
 
 -- FAULTS
 
--- nothing was made
+-- no step was made
 pub none_took : {W L : Type 0} {G : Ghosts L} (seen : W → Writer) (p : Proof W L G) → ComesByCheckedSteps seen p p
 none_took seen p = ([], gains_none seen p)
 
--- a failure of a call over names, as a solver tells it
+-- a failure of a call over names, as the solver reports it
 pub reported_fails : (e : NameError) → IsFailure e → IsFault (reported_as e)
 reported_fails names.VariableLimit h = absurd h
 reported_fails (names.Check checks.OutOfMemory) h = tt
 reported_fails e h = tt
 
--- a fault that is handed on, or one of a search
+-- an error that is passed on, or one of a search
 pub fault_on : {A : Type 0} (full : Type 0) (r : Result A SolverError) (e : SolverError) → IsErrAnd r (λ f. f ≡ e) → IsFaultOr full e → IfErr r (IsFaultOr full)
 fault_on full r e h f = let p = err_from_is_err_and r h in subst (λ r. IfErr r (IsFaultOr full)) (sym p.1) (subst (IsFaultOr full) (sym p.2) f)
 
@@ -91,14 +91,14 @@ module _ {W L : Type 0} {G : Ghosts L} (seen : W → Writer) (a b : Core W L G) 
   names_broke (names.Write cause) h = (record { fault = inl tt; steps = h.0.0; went = h.0.1; loss = tt }, h.1)
   names_broke (names.Check fault) h = (record { fault = inl (fault_checked _ fault); steps = h.0; went = went_checked seen (Unit {0}) fault h.0 a.proof b.proof h.1; loss = check_loss fault a.proof b.proof h.1.why }, complaint_kept fault b.proof h.2)
 
-  -- no memory was left after it
+  -- memory ran out after steps were made
   pub took_starved : {full : Type 0} → ComesBySteps seen a.proof b.proof → is_lost b.proof ≡ is_lost a.proof → BreaksNamesOr full seen errors.OutOfMemory a b
   took_starved h taking = record { fault = inl tt; steps = h.0; went = h.1; loss = inl taking }
 
   pub names_starved : {full : Type 0} → ComesByCheckedSteps seen a.proof b.proof → BreaksNamesOff full seen errors.OutOfMemory a b
   names_starved h = (took_starved (h.0, gains_adds seen h.0 a.proof b.proof h.1) h.1.taking, tt)
 
-  -- a search failed after it
+  -- the search failed after the call over names
   pub load_broke : {A full : Type 0} (e : SolverError) (p : Proof W L G) (P : A → List Step → Type 0) → ComesByCheckedSteps seen a.proof p → EmitsStepsOr {A = A} full seen (Err e) p b.proof P → BreaksNamesOff full seen e a b
   load_broke {A} {full} e p P h goes = (
     record {
@@ -110,7 +110,7 @@ module _ {W L : Type 0} {G : Ghosts L} (seen : W → Writer) (a b : Core W L G) 
     goes.kept,
   )
 
--- names that keep variables and indices keep their literals of the search
+-- names that keep their variables and indices keep their search literals
 keep_images : (n n' : Variables) (s : Session) (gs : _) → ExtendsNames n n' → GivesIndices n n' s gs → KeepImages n n'
 keep_images n n' s gs extends gives user order i = record {
   count = i.count;
@@ -183,7 +183,7 @@ module _ {W L : Type 0} {G : Ghosts L} (seen : W → Writer) (n n' : Variables) 
       shares = subst (SharesIndices n') (sym f) shares1;
     }
 
-    -- a clause with both signs of a variable is written and nothing more
+    -- a tautology is written and not loaded
     pub clause_both : both ≡ true → TookClause seen n n' a (record a { proof = p; search = c1 }) user true
     clause_both e = record {
       does = adds.does;
@@ -199,7 +199,7 @@ module _ {W L : Type 0} {G : Ghosts L} (seen : W → Writer) (n n' : Variables) 
       assumed = assumed1;
     }
 
-    -- another one is loaded
+    -- any other clause is loaded
     module _ (left : Bool) (q : Proof W L G) (c2 : Search) (goes : EmitsStepsOr (IsFull c2.parts) seen (Ok left) p q (λ l _. IsLoaded l (session_of q) c1 c2)) (deletes : OnlyAllowedSteps DeletesAdded (steps_of p) (steps_of q)) where
       abbrev pub new : Core W L G
       new = record a { proof = q; search = c2 }
@@ -231,7 +231,7 @@ module _ {W L : Type 0} {G : Ghosts L} (seen : W → Writer) (n n' : Variables) 
         assumed = ap (λ ss. (session_after ss).assumed) goes.went.history ∙ asked_after goes.steps (steps_of p) (kinds_of (session_of p).solver_names goes.steps goes.searched) ∙ assumed1;
       }
 
-    -- or it isn't
+    -- loading the clause may fail
     pub clause_result : (r : Result Bool SolverError) (q : Proof W L G) (c2 : Search) → EmitsStepsOr (IsFull c2.parts) seen r p q (λ l _. IsLoaded l (session_of q) c1 c2) → OnOk r (OnlyAllowedSteps DeletesAdded (steps_of p) (steps_of q)) → TakesClause seen r n n' a (record a { proof = q; search = c2 }) user
     clause_result (Ok left) q c2 goes deletes = clause_loaded left q c2 goes deletes
     clause_result (Err e) q c2 goes deletes = load_broke seen a (record a { proof = q; search = c2 }) e p (λ l _. IsLoaded l (session_of q) c1 c2) took goes

@@ -1,4 +1,4 @@
--- A complete assignment makes a literal of each live clause true.
+-- A complete assignment satisfies every live clause.
 use Rattle.std.proofs.Common.{ℕ, zero, suc, ◌%◌, ◌<◌, ◌≡◌, Bool, true, false, not, ◌||◌, eqb, Option, Some, None, List, [], ◌∷◌, length, slice_index_or, refl, sym, ◌∙◌, ap, arith, ◌⊎◌, inl, inr}
 use Rattle.std.proofs.lemmas.Bool.{or_left, or_right, cases_eq, true≢false}
 use Rattle.std.specs.List.{list_any}
@@ -15,7 +15,7 @@ same_itself false = refl
 pub true_lit : (values : List (Option Bool)) (l : ℕ) → IsTrueLit values l → is_true values l ≡ true
 true_lit values l t = ap (same_value (is_positive l)) t ∙ same_itself (is_positive l)
 
--- true, false or open
+-- a literal is true, false or open
 data Three (values : List (Option Bool)) (l : ℕ) : Type 0 where
   it_is_true : is_true values l ≡ true → Three values l
   it_is_false : IsFalseLit values l → Three values l
@@ -31,7 +31,7 @@ three values l = go (is_positive l) refl (value_of values (variable l)) refl
     go false p (Some true) e = it_is_false (e ∙ ap (λ x. Some (not x)) (sym p))
     go false p (Some false) e = it_is_true (ap (same_value (is_positive l)) e ∙ ap (λ x. same_value x (Some false)) p)
 
--- a list of literals with values has a true one, or each is false
+-- a clause without open literals has a true one, or all of them are false
 some_true : (values : List (Option Bool)) (ls : List ℕ) → ((k : ℕ) → k < length ls → IsOpenLit values (slice_index_or ls k 0) → ⊥)
     → (list_any (is_true values) ls ≡ true) ⊎ ((k : ℕ) → k < length ls → IsFalseLit values (slice_index_or ls k 0))
 some_true values [] h = inr (λ k n. absurd (omega arith))
@@ -47,7 +47,7 @@ some_true values (l ∷ ls) h = go (three values l) (some_true values ls (λ k n
     go (it_is_false f) r = elim r [ inl t ↦ inl (or_right (is_true values l) (list_any (is_true values) ls) t) | inr g ↦ inr (both f g) ]
     go (it_is_open o) r = absurd (h zero (omega arith) o)
 
--- where a literal isn't true, its negation is
+-- the negation of a false literal is true
 pub other_side : (values : List (Option Bool)) (l : ℕ) → IsFalseLit values l → is_true values (negated l) ≡ true
 other_side values l f =
     let half : variable (negated l) ≡ variable l = omega arith in

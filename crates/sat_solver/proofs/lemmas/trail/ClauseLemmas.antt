@@ -1,4 +1,4 @@
--- How the list of clauses changes where one of two literals comes in, and where reasons stand in it.
+-- How the list of clauses changes when a binary clause is added, and where reasons are in it.
 use Rattle.std.proofs.Common.{ℕ, zero, suc, ◌+◌, ◌<◌, ◌≡◌, Bool, true, false, cond, ltb, List, [], ◌∷◌, ◌++◌, length, slice_index_or, slice_set, refl, sym, ◌∙◌, ap, subst, arith, ◌⊎◌, inl, inr, append_assoc, length-set}
 use Rattle.std.proofs.lemmas.Bool.{lt-ltb, le-ltb}
 use Rattle.std.specs.List.{Contains}
@@ -8,7 +8,7 @@ use Rattle.sat_parts.specs.prop.Binaries.{Binaries, implied_by, with_implied, wi
 use Rattle.sat_solver.specs.session.LiveClauses.{LiveClause, IsIn}
 use Rattle.sat_solver.specs.session.SolverClauses.{pair, binaries_of, binaries_from, binaries, longs, InsertsClause}
 
--- after the others of a list
+-- a higher literal is appended to the list of one literal
 push_lower : (a m : ℕ) (ms : List ℕ) → ltb a m ≡ true → binaries_of a (ms ++ m ∷ []) ≡ binaries_of a ms ++ pair a m ∷ []
 push_lower a m [] e = ap (λ b. cond b (pair a m ∷ []) []) e
 push_lower a m (k ∷ ks) e = go (ltb a k) (push_lower a m ks e)
@@ -25,7 +25,7 @@ push_higher a m (k ∷ ks) e = go (ltb a k) (push_higher a m ks e)
     go true ih = ap (λ cs. pair a k ∷ cs) ih
     go false ih = ih
 
--- a literal more in one of the lists
+-- a higher literal is appended to one of the lists
 inserted_from : (implied : List (List ℕ)) (l i m : ℕ) → i < length implied → ltb (negated (l + i)) m ≡ true → InsertsClause (binaries_from l implied) (binaries_from l (slice_set implied i (slice_index_or implied i [] ++ m ∷ []))) (pair (negated (l + i)) m)
 inserted_from [] l i m n e = absurd (omega arith)
 inserted_from (ms ∷ rest) l zero m n e =
@@ -52,7 +52,7 @@ same_from [] l i m n e = absurd (omega arith)
 same_from (ms ∷ rest) l zero m n e = let z : l + zero ≡ l = omega arith in ap (λ cs. cs ++ binaries_from (l + 1) rest) (push_higher (negated l) m ms (subst (λ k. ltb (negated k) m ≡ false) z e))
 same_from (ms ∷ rest) l (suc i) m n e = let z : l + 1 + i ≡ l + suc i = omega arith in ap (λ cs. binaries_of (negated l) ms ++ cs) (same_from rest (l + 1) i m (omega arith) (subst (λ k. ltb (negated k) m ≡ false) (sym z) e))
 
--- where the implied literal is the higher one, the clause comes in; else nothing changes
+-- if the implied literal is the higher one, the binary clause is inserted
 implied_lower : (implied : List (List ℕ)) (a m : ℕ) → negated a < length implied → a < m → InsertsClause (binaries implied) (binaries (with_implied (negated a) m implied)) (pair a m)
 implied_lower implied a m n o =
     let z : negated (0 + negated a) ≡ a = omega arith in
@@ -61,7 +61,7 @@ implied_lower implied a m n o =
 implied_higher : (implied : List (List ℕ)) (a m : ℕ) → negated a < length implied → m < a → binaries (with_implied (negated a) m implied) ≡ binaries implied
 implied_higher implied a m n o = let z : negated (0 + negated a) ≡ a = omega arith in same_from implied 0 (negated a) m n (ap (λ k. ltb k m) z ∙ le-ltb a m (omega arith))
 
--- The clause of two literals, the lower one first, comes in.
+-- A binary clause, the lower literal first, is inserted.
 pub binary_comes : (x : Binaries) (a b : ℕ) → negated a < length x.implied → negated b < length x.implied → a < b → InsertsClause (binaries x.implied) (binaries (with_binary a b x).implied) (pair a b)
 binary_comes x a b n m o =
     let first = implied_lower x.implied a b n o in
@@ -116,6 +116,6 @@ pair_from (ms ∷ rest) l (suc i) k m n j e o =
     in_after (pair (negated (l + suc i)) m) (binaries_of (negated l) ms) (binaries_from (l + 1) rest)
     (subst (λ x. IsIn (pair (negated x) m) (binaries_from (l + 1) rest)) z (pair_from rest (l + 1) i k m (omega arith) j e (subst (λ x. negated x < m) (sym z) o)))
 
--- A clause of two literals by its implied literal, where that is the higher one. Where it is the lower one, the other list has the clause, as long as the lists are each other's.
+-- A binary clause is found where its higher literal is the implied one. Otherwise the paired list has the clause.
 pub binary_there : (implied : List (List ℕ)) (a m k : ℕ) → negated a < length implied → k < length (implied_by implied (negated a)) → slice_index_or (implied_by implied (negated a)) k 0 ≡ m → a < m → IsIn (pair a m) (binaries implied)
 binary_there implied a m k n j e o = let z : negated (0 + negated a) ≡ a = omega arith in subst (λ x. IsIn (pair x m) (binaries implied)) z (pair_from implied 0 (negated a) k m n j e (subst (λ x. x < m) (sym z) o))

@@ -1,4 +1,4 @@
--- One clause more among the clauses of the parts.
+-- One more clause among the clauses of the parts.
 use Rattle.std.proofs.Common.{ℕ, zero, suc, ◌<◌, ◌≡◌, ◌≢◌, Bool, not, cond, List, [], ◌∷◌, ◌++◌, refl, sym, ◌∙◌, ap, subst, arith, ◌⊎◌, inl, inr, append_assoc}
 use Rattle.std.proofs.lemmas.Bool.{cases_eq, ne_eqb, eq-eqb}
 use Rattle.std.proofs.lemmas.List.{append-nil}
@@ -10,7 +10,7 @@ use Rattle.sat_parts.proofs.lemmas.clause.ListLemmas.{in_tail, in_head, there, a
 use Rattle.sat_solver.specs.session.LiveClauses.{LiveClause}
 use Rattle.sat_solver.specs.session.SolverClauses.{longs, InsertsClause}
 
--- after other clauses, or before them
+-- a clause is inserted after or before other clauses
 pub inserted_after : (xs old new : List LiveClause) (c : LiveClause) → InsertsClause old new c → InsertsClause (xs ++ old) (xs ++ new) c
 inserted_after xs old new c i = record {
   before = xs ++ i.before;
@@ -30,7 +30,7 @@ inserted_before ys old new c i = record {
 pub inserted_first : (old : List LiveClause) (c : LiveClause) → InsertsClause old (c ∷ old) c
 inserted_first old c = record { before = []; following = old; was = refl; is = refl }
 
--- a clause comes before another one, which goes
+-- a clause is inserted before another one, which is then deleted
 pub replaces : (xs front back : List LiveClause) (c d : LiveClause) → InsertsClause (xs ++ (front ++ c ∷ back)) (xs ++ (front ++ d ∷ c ∷ back)) d × InsertsClause (xs ++ (front ++ d ∷ back)) (xs ++ (front ++ d ∷ c ∷ back)) c
 replaces xs front back c d = (
   inserted_after xs (front ++ c ∷ back) (front ++ d ∷ c ∷ back) d (record { before = front; following = c ∷ back; was = refl; is = refl }),
@@ -43,7 +43,7 @@ pub longs_both : (r : ℕ → Bool) (words os ps : List ℕ) → longs r words (
 longs_both r words [] ps = refl
 longs_both r words (o ∷ os) ps = ap (λ ds. (record { redundant = r o; literals = lits_at words o }) ∷ ds) (longs_both r words os ps)
 
--- the list without one that stands there once
+-- splits a list at an element that occurs once
 pub record Splits (os : List ℕ) (o : ℕ) : Type 0 where
   pub front : List ℕ
   pub back : List ℕ
@@ -90,7 +90,7 @@ splits (p ∷ os) o d c = elim (cases_eq p o) [
       }
 ]
 
--- a long clause that goes
+-- a long clause is deleted
 pub long_goes : (r : ℕ → Bool) (words os : List ℕ) (o : ℕ) → AreDistinct os → Contains os o → InsertsClause (longs r words (without o os)) (longs r words os) (record { redundant = r o; literals = lits_at words o })
 long_goes r words os o d c =
     let x : Splits os o = splits os o d c in
@@ -101,6 +101,6 @@ long_goes r words os o d c =
       is = ap (longs r words) x.was ∙ longs_both r words x.front (o ∷ x.back);
     }
 
--- and one that comes
+-- a long clause is added
 pub long_comes : (r : ℕ → Bool) (words os : List ℕ) (o : ℕ) → InsertsClause (longs r words os) (longs r words (os ++ o ∷ [])) (record { redundant = r o; literals = lits_at words o })
 long_comes r words os o = record { before = longs r words os; following = []; was = sym (append-nil (longs r words os)); is = longs_both r words os (o ∷ []) }

@@ -1,4 +1,4 @@
--- Learning a clause of two literals.
+-- A binary clause is learned.
 use Rattle.std.proofs.Common.{ℕ, ◌<◌, ◌≡◌, ◌≢◌, Bool, true, false, ◌||◌, eqb, List, [], ◌∷◌, ◌++◌, map, length, refl, sym, ◌∙◌, ap, subst, arith, inl, inr, append_assoc}
 use Rattle.std.proofs.lemmas.Bool.{or_from, ne_eqb, cases_order}
 use Rattle.sat_base.specs.values.Literals.{negated}
@@ -28,7 +28,7 @@ turned_set x y = same_increasing (canonical (x ∷ y ∷ [])) (canonical (y ∷ 
     (λ l. canonical_among (x ∷ y ∷ []) l ∙ or_turn (eqb x l) (eqb y l) ∙ sym (canonical_among (y ∷ x ∷ []) l))
 
 module _ (s : Session) (global : ℕ → ℕ) (a b : ℕ) (hashes : List ℕ) (rest : List LiveClause) (apart : a ≢ b) (named : AreMapped global s.solver_names (a ∷ b ∷ [])) where
-  -- where the clause was put in somewhere
+  -- the clause was inserted at some position
   put_in : (old new : List LiveClause) (c : LiveClause) → c.redundant ≡ false → AreMapped global s.solver_names c.literals → NoRepeats c.literals → canonical (map (with_var global) (a ∷ b ∷ [])) ≡ canonical (map (with_var global) c.literals)
       → is_tautology (map (with_var global) (a ∷ b ∷ [])) ≡ false → InsertsClause old new c → AreOf s global (old ++ rest) → AreOf (after (AtClause c.redundant (map (with_var global) (a ∷ b ∷ [])) hashes) s) global (new ++ rest)
   put_in old new c r m n e t i h =

@@ -1,4 +1,4 @@
--- The clauses of two literals that are left, as one list of implied literals after the other is looked at.
+-- The binary clauses that are left while the lists of implied literals are visited.
 use Rattle.std.proofs.Common.{ℕ, zero, suc, ◌+◌, ◌<◌, ◌≤◌, ◌≡◌, Bool, true, false, cond, ltb, List, [], ◌∷◌, ◌++◌, take, drop, drop-cons, length, get_or, refl, sym, ◌∙◌, ap, arith, inl, inr, Option, append_assoc}
 use Rattle.std.proofs.lemmas.Bool.{cases_lt}
 use Rattle.std.proofs.lemmas.List.{append-nil, get_or_past, length-take-le}
@@ -24,7 +24,7 @@ from_both l (ms ∷ xs) ys =
     ap (λ cs. binaries_of (negated l) ms ++ cs) (from_both (l + 1) xs ys) ∙ sym (append_assoc (binaries_of (negated l) ms) (binaries_from (l + 1) xs) (binaries_from (l + 1 + length xs) ys))
     ∙ ap (λ k. (binaries_of (negated l) ms ++ binaries_from (l + 1) xs) ++ binaries_from k ys) z
 
--- a list and those after it
+-- the clauses from one list on are those of this list and of the lists after it
 from_here : (implied : List (List ℕ)) (l : ℕ) → binaries_from l (drop l implied) ≡ binaries_of (negated l) (implied_by implied l) ++ binaries_from (l + 1) (drop (l + 1) implied)
 from_here implied l = elim (cases_lt l (length implied)) [
   | inl lt ↦ ap (binaries_from l) (drop-cons implied l [] lt) ∙ (let z : suc l ≡ l + 1 = omega arith in ap (λ n. binaries_of (negated l) (implied_by implied l) ++ binaries_from (l + 1) (drop n implied)) z)
@@ -37,11 +37,11 @@ module _ (values : List (Option Bool)) (implied : List (List ℕ)) where
   abbrev opens : List LiveClause → List LiveClause
   opens = filter (is_open_clause values)
 
-  -- at first all are left
+  -- at first all clauses are left
   pub left_start : binaries_left values implied 0 0 ≡ binaries implied
   left_start = sym (from_here implied 0)
 
-  -- a list was looked at
+  -- all literals of a list were visited
   pub left_list : (l : ℕ) → l < length implied → binaries_left values implied l (length (implied_by implied l)) ≡ binaries_left values implied (l + 1) 0
   left_list l lt =
       let ms : List ℕ = implied_by implied l in
@@ -60,7 +60,7 @@ module _ (values : List (Option Bool)) (implied : List (List ℕ)) where
       ∙ ap (λ cs. opens cs ++ following) (sym more)
       ∙ ap (λ cs. opens (binaries_from 0 (take (l + 1) implied)) ++ cs) (from_here implied (l + 1))
 
-  -- in the end the open ones are left
+  -- in the end only clauses without assigned variables are left
   pub left_end : binaries_left values implied (length implied) 0 ≡ opens (binaries implied)
   left_end =
       let n : ℕ = length implied in
@@ -69,7 +69,7 @@ module _ (values : List (Option Bool)) (implied : List (List ℕ)) where
       ap (λ xs. opens (binaries_from 0 xs) ++ (binaries_of (negated n) (implied_by implied n) ++ binaries_from (n + 1) (drop (n + 1) implied))) (take-length implied)
       ∙ ap (λ cs. opens (binaries implied) ++ cs) gone ∙ append-nil (opens (binaries implied))
 
-  -- AN ITEM OF A LIST
+  -- A LITERAL OF A LIST
 
   module _ (l k : ℕ) (lt : k < length (implied_by implied l)) where
     abbrev m : ℕ
@@ -90,7 +90,7 @@ module _ (values : List (Option Bool)) (implied : List (List ℕ)) where
     abbrev following : List LiveClause
     following = binaries_of a (drop (k + 1) (implied_by implied l)) ++ binaries_from (l + 1) (drop (l + 1) implied)
 
-    -- before it is looked at, and after
+    -- the clauses before and after this literal is visited
     left_with : binaries_left values implied l k ≡ before ++ (first ++ (one ++ following))
     left_with =
         let ms : List ℕ = implied_by implied l in
@@ -108,20 +108,20 @@ module _ (values : List (Option Bool)) (implied : List (List ℕ)) where
         ∙ ap (λ cs. before ++ (cs ++ following)) (filter-append (is_open_clause values) (binaries_of a (take k ms)) one)
         ∙ ap (λ cs. before ++ cs) (append_assoc first (opens one) following)
 
-    -- the clause stands elsewhere
+    -- the clause is visited in its other list
     pub left_other : ltb a m ≡ false → binaries_left values implied l k ≡ binaries_left values implied l (k + 1)
     left_other e =
         let none : binaries_of a (m ∷ []) ≡ [] = ap (λ b. cond b (pair a m ∷ []) []) e in
         left_with ∙ ap (λ cs. before ++ (first ++ (cs ++ following))) none ∙ sym (ap (λ cs. before ++ (first ++ (opens cs ++ following))) none) ∙ sym left_next
 
-    -- it stays
+    -- the clause stays
     pub left_open : ltb a m ≡ true → is_open_clause values (pair a m) ≡ true → binaries_left values implied l k ≡ binaries_left values implied l (k + 1)
     left_open e u =
         let its : binaries_of a (m ∷ []) ≡ pair a m ∷ [] = ap (λ b. cond b (pair a m ∷ []) []) e in
         let same : opens (pair a m ∷ []) ≡ pair a m ∷ [] = ap (λ b. cond b (pair a m ∷ []) []) u in
         left_with ∙ ap (λ cs. before ++ (first ++ (cs ++ following))) (its ∙ sym same ∙ sym (ap opens its)) ∙ sym left_next
 
-    -- it goes
+    -- the clause is removed
     pub left_set : ltb a m ≡ true → is_open_clause values (pair a m) ≡ false → InsertsClause (binaries_left values implied l (k + 1)) (binaries_left values implied l k) (pair a m)
     left_set e u =
         let its : binaries_of a (m ∷ []) ≡ pair a m ∷ [] = ap (λ b. cond b (pair a m ∷ []) []) e in

@@ -1,4 +1,4 @@
--- Clauses of two literals with a variable that has a value go, in the order of their lists.
+-- Binary clauses with an assigned variable are removed, in the order of their lists.
 use Rattle.std.proofs.Common.{ℕ, suc, ◌+◌, ◌<◌, ◌≡◌, Bool, true, false, ◌&&◌, cond, ltb, List, [], ◌∷◌, ◌++◌, length, get_or, refl, sym, ◌∙◌, ap, arith, inl, inr, Option}
 use Rattle.std.proofs.lemmas.Bool.{cases_Bool}
 use Rattle.std.proofs.lemmas.List.Elements.{filter-append}
@@ -42,7 +42,7 @@ module _ (values : List (Option Bool)) where
       go true = refl
       go false = refl
 
-  -- the literal has no value
+  -- literal a has no value
   opens_open : (a : ℕ) (ms : List ℕ) → unset a ≡ true → binaries_of a (filter unset ms) ≡ opens (binaries_of a ms)
   opens_open a [] u = refl
   opens_open a (m ∷ ms) u =
@@ -51,7 +51,7 @@ module _ (values : List (Option Bool)) where
       ∙ ap (λ cs. cond (ltb a m) (cond (unset m) (pair a m ∷ cs) cs) cs) ih
       ∙ sym (opens_if a m ms u (ltb a m))
 
-  -- or has one
+  -- literal a has a value
   opens_set : (a : ℕ) (ms : List ℕ) → unset a ≡ false → [] ≡ opens (binaries_of a ms)
   opens_set a [] u = refl
   opens_set a (m ∷ ms) u = go (ltb a m) (opens_set a ms u)
@@ -79,6 +79,6 @@ module _ (values : List (Option Bool)) where
       ap (λ xs. binaries_of (negated l) xs ++ binaries_from (l + 1) new) here ∙ ap (λ cs. cs ++ binaries_from (l + 1) new) (opens_of l ms) ∙ ap (λ cs. opens (binaries_of (negated l) ms) ++ cs) rest
       ∙ sym (filter-append (is_open_clause values) (binaries_of (negated l) ms) (binaries_from (l + 1) old))
 
-  -- what remove_assigned leaves
+  -- the clauses that `remove_assigned` leaves
   pub binaries_open : (x y : Binaries) → RemovesAssigned values x y → binaries y.implied ≡ opens (binaries x.implied)
   binaries_open x y h = opens_from 0 x.implied y.implied h.size (λ i lt. (let z : 0 + i ≡ i = omega arith in h.implied i ∙ ap (λ k. open_among values (variable k) (get_or x.implied i [])) (sym z)))

@@ -1,4 +1,4 @@
--- Places of a list that is gone over.
+-- Positions of a list that is visited in order.
 use Rattle.std.proofs.Common.{ℕ, zero, suc, ◌+◌, ◌<◌, ◌≡◌, List, [], ◌∷◌, length, drop, slice_index_or, ◌∙◌, ap, arith}
 use Rattle.std.specs.List.{AllByRecursion}
 

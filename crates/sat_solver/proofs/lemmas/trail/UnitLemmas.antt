@@ -1,4 +1,4 @@
--- Units of a trail of level 0 may be written in its order.
+-- The units of a trail at level 0 may be written in trail order.
 use Rattle.std.proofs.Common.{ℕ, ◌+◌, ◌-◌, ◌/◌, ◌%◌, ◌^◌, ◌<◌, ◌≡◌, Bool, true, false, ◌||◌, cond, eqb, Option, Some, List, [], ◌∷◌, map, length, drop, slice_index_or, refl, sym, ◌∙◌, ap, subst, arith, ◌⊎◌, inl, inr, eq-zero-or-pos}
 use Rattle.std.proofs.lemmas.Bool.{or_cases, or_left, or_right, eqb-true, eq-eqb, true≢false, cases_lt, false_from_ne_true}
 use Rattle.std.specs.List.{AllByRecursion, Contains}
@@ -21,7 +21,7 @@ use Rattle.sat_solver.specs.session.TrailEntries.{reason_clause}
 use Rattle.sat_solver.specs.session.TrailUnits.{written_units, IsUsable, HasOwnSolverName, UnitsFit, TrailUnitsMay}
 use Rattle.sat_solver.proofs.lemmas.trail.TrailLemmas.{Parts, drop_parts, from_index}
 
--- WHAT ONE UNIT MORE LEAVES
+-- ONE MORE UNIT
 
 module _ (s : Session) (l : ℕ) where
   pub fact_keeps : (m : ℕ) → s.units m ≡ true → (with_fact l s).units m ≡ true
@@ -72,7 +72,7 @@ module _ (s : Session) (l : ℕ) where
       go false true = record { live = record { once = h.live.once; counted = h.live.counted }; hash = h.hash }
       go false false = record { live = record { once = h.live.once; counted = h.live.counted }; hash = h.hash }
 
--- true and false at once
+-- no literal is both true and false
 model_excludes_core : (values : List (Option Bool)) (l : ℕ) → IsTrueLit values l → IsTrueLit values (negated l) → ⊥
 model_excludes_core values l a b =
     let half : variable (negated l) ≡ variable l = omega arith in
@@ -86,7 +86,7 @@ model_excludes_core values l a b =
     differ x y p q e = let k : x ≡ y = cc in true≢false (sym p ∙ k ∙ q)
 
 module _ (words live : List ℕ) (implied : List (List ℕ)) (st : State) (global : ℕ → ℕ) (filled : (o : ℕ) → Contains live o → 0 < size_of words o) (agrees : StateIsConsistent st) (turns : AreUnitInTurn words live implied st 0) where
-  -- what is a unit by now
+  -- the literals before position i are units of the session
   record Now (s : Session) (i : ℕ) : Type 0 where
     fits : UnitsFit words st s global
     passed : (m : ℕ) → IsBefore st i m → s.units (with_var global m) ≡ true
@@ -115,7 +115,7 @@ module _ (words live : List ℕ) (implied : List (List ℕ)) (st : State) (globa
     ];
   }
 
-  -- the unit's negation is none
+  -- the negation of the next unit is no unit
   open_by : (s : Session) (i : ℕ) → i < length st.trail.lits → Now s i → s.units (negated (with_var global (lit_at st i))) ≡ false
   open_by s i j n =
       let l : ℕ = lit_at st i in

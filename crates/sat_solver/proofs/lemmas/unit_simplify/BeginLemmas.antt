@@ -19,7 +19,7 @@ use Rattle.sat_solver.specs.unit_simplify.Passes.{JointInvariant, MaySettle, Pas
 use Rattle.sat_solver.proofs.lemmas.unit_simplify.StrengthenSearchLemmas.{goes_leaves}
 use Rattle.sat_solver.proofs.lemmas.unit_simplify.PassesLemmas.{passes_goes, passes_trans, falls_later}
 
--- all was propagated at level 0
+-- everything was propagated at level 0
 pub may_settle : {W L : Type 0} {G : Ghosts L} (n : Variables) (p : Proof W L G) (c d : Search) → JointInvariant n p c → c.parts.trail.starts ≡ [] → Propagation (session_of p) c d → MaySettle n p d
 may_settle n p c d h bottom went = record { keeps = h.keeps; valid = h.valid; shares = shares_moved n c d h.shares went.moved; propagated = went.whole; bottom = went.starts ∙ bottom }
 
@@ -48,7 +48,7 @@ module _ {W L : Type 0} {G : Ghosts L} (seen : W → Writer) (n : Variables) (p 
       (settled_search (session_of p) (session_of q) c d may.propagated leaves g.ends globals assumptions analysis flags)
       (settled_moved (session_of p) (session_of q) c d may.propagated leaves g.ends globals assumptions analysis flags) (g.ends.word (assumed_indices c))
 
-  -- and then simplification
+  -- then the simplification follows
   pub settled_simplified : (r : Result (Unit {0}) SolverError) (n' : Variables) (z : Proof W L G) (e : Search) → Simplifies seen r n n' q z d e → Simplifies seen r n n' p z c e
   settled_simplified (Ok x) n' z e h = record { passes = passes_trans seen n n n' p q z c d e settled_passes h.passes; flat = h.flat; left = h.left; indices = h.indices }
   settled_simplified (Err f) n' z e h = falls_later seen f p q z settled_passes.took h

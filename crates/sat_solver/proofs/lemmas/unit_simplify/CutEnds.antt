@@ -1,4 +1,4 @@
--- How a clause is cut.
+-- A long clause is strengthened.
 use Rattle.std.proofs.Common.{ℕ, ◌≡◌, ◌∙◌, Bool, Result, Ok, Err, List, [], ◌∷◌, map, take, sym, ap, subst}
 use Rattle.std.specs.List.{Contains}
 use Rattle.sat_base.specs.device.Device.{Writer}
@@ -31,7 +31,7 @@ use Rattle.sat_solver.proofs.lemmas.unit_simplify.StrengthenSearchLemmas.{goes_l
 use Rattle.sat_solver.proofs.lemmas.unit_simplify.StrengthenClauseLemmas.{strengthens_cut}
 use Rattle.sat_solver.proofs.lemmas.unit_simplify.TrueLemmas.{strengthened_by}
 
--- the clause at o was gathered in m, and what is left of it put in its place in d
+-- the open literals of the clause at o were gathered in m, and replace the clause in d
 module _ {W L : Type 0} {G : Ghosts L} (seen : W → Writer) (p : Proof W L G) (c m : Search) (o len : ℕ) (h : IsSearch (session_of p) c) (flat : HasEmptyTrail c.parts) (there : Contains (live_refs c.parts.clauses c.parts.db.refs) o) (has : HasFalse c.parts o)
     (same : m ≡ record c { parts = m.parts; scratch = m.scratch }) (left : List ℕ) (n : NamesCut c m left o len) (q : Parts) (r : Replaces m.parts q o len) (b : Bool) (side : is_redundant m.parts.clauses o ≡ b) where
   abbrev part : List ℕ

@@ -1,4 +1,4 @@
--- What is left of a long clause takes its place.
+-- A long clause is replaced by its open literals.
 use Rattle.std.proofs.Common.{ℕ, zero, suc, ◌≡◌, ◌≢◌, ◌<◌, ◌≤◌, ◌∙◌, ◌&&◌, inl, inr, ltb, Bool, true, false, Some, List, [], ◌∷◌, map, take, length, get_or, refl, sym, ap, subst, arith}
 use Rattle.std.proofs.lemmas.Bool.{cases_lt, lt-ltb}
 use Rattle.std.proofs.lemmas.List.{get_or-take, length-take-le}
@@ -42,12 +42,12 @@ take_two [] le = absurd (omega arith)
 take_two (a ∷ []) le = absurd (omega arith)
 take_two (a ∷ b ∷ ls) le = refl
 
--- the flag of what is left
+-- the flag of the derived clause
 flag_long : (b : Bool) (n : ℕ) → 2 < n → (b && ltb 2 n) ≡ b
 flag_long true n lt = lt-ltb 2 n lt
 flag_long false n lt = refl
 
--- false literals are cut off
+-- a clause with a false literal becomes shorter
 pub fewer_open : (c p : Parts) (o len : ℕ) → Contains (live_refs c.clauses c.db.refs) o → Gathers c p o len (size_of c.clauses o) → HasFalse c o → len < size_of c.clauses o
 fewer_open c p o len there g has =
     let j = (g.moved.kept.lits o there).forth has.0 has.1.0 in
@@ -112,7 +112,7 @@ module _ (steps : List Step) (c : Search) (p : Parts) (o len : ℕ) (h : IsSearc
   abbrev Cut : Parts → Bool → Type 0
   Cut q b = BothParts p q s (global_in c) (derived_step b mpart (hash ∷ [])) (deleted_step b Simplified mold)
 
-  -- a long clause is left
+  -- three or more literals are left
   module _ (q : Parts) (long : 3 ≤ len) (short : ShortensLongClause p q o len) where
     cut_long : (b : Bool) → is_redundant p.clauses o ≡ b → Cut q b
     cut_long false side =
@@ -153,12 +153,12 @@ module _ (steps : List Step) (c : Search) (p : Parts) (o len : ℕ) (h : IsSearc
         subst (λ (ls : List ℕ). BothParts p q s (global_in c) (derived_step true (map (with_var (global_in c)) ls) (hash ∷ [])) (deleted_step true Simplified mold)) (sym is_two)
         (fits_pair_redundant p q s (global_in c) fits_p g.holds o there_p old order (sessions_are_plain steps) (a ∷ b2 ∷ []) old hash order distinct refl mid refl stores drops are side)
 
-  -- its steps may be written, and then the rest fits
+  -- the steps may be written, and then parts and session match
   pub cut_goes : (q : Parts) → PutsPart p q o len → (b : Bool) → is_redundant p.clauses o ≡ b → Cut q b
   cut_goes q (puts_long long short) b side = cut_long q long short b side
   cut_goes q (puts_pair two mid stores drops) b side = cut_pair q mid two stores drops b side
 
-  -- what is left has solver names
+  -- the derived clause has solver names
   pub part_named : HaveSolverNames (session_after steps).solver_names mpart
   part_named =
       mapped_named (session_after steps).solver_names (global_in c) part (λ k lt.

@@ -1,4 +1,4 @@
--- Indices are given up, one after another.
+-- Indices are released, one after another.
 use Rattle.std.proofs.Common.{ℕ, zero, suc, ◌+◌, ◌≡◌, ◌≢◌, ◌<◌, ◌∙◌, inl, inr, Bool, true, false, cond, eqb, Option, Some, None, List, [], ◌∷◌, map, length, get_or, set, refl, sym, ap, subst, arith, get_or-set_same, get_or-set_other, Result, Ok, Err, OnOk}
 use Rattle.std.proofs.lemmas.List.{get_or_past}
 use Rattle.sat_store.specs.declared.data.VarData.{VarData}
@@ -71,7 +71,7 @@ module _ (old mid : Variables) (from mids : List Step) (v x : ℕ) (valid : Name
   quiet_mid : ComesQuietly from mids
   quiet_mid = quiet_comes from mids (SolverVarName v None ∷ []) u.step (refl, tt)
 
-  -- a variable that has a name
+  -- the variable keeps its name
   pub gives_up_named : FreesIndex old mid from mids v
   gives_up_named = record {
     does = u.does;
@@ -89,7 +89,7 @@ module _ (old mid : Variables) (from mids : List Step) (v x : ℕ) (valid : Name
     quiet = quiet_mid;
   }
 
-  -- and then its variable
+  -- then the variable may be deleted
   pub gives_up_both : (new : Variables) (to : List Step) → DoesNothing mid new mids to → IsAlike mid new mids to → ForgetsIdle mid mids to v → new.global_from_user ≡ mid.global_from_user → FreesIndex old new from to v
   gives_up_both new to does a idle users = record {
     quiet = comes_both (λ earlier step. is_quiet step ≡ true) from mids to quiet_mid
@@ -157,7 +157,7 @@ module _ (s : Session) (c : Search) (v x : ℕ) (search : IsSearch s c) (flat : 
   abbrev all : List LiveClause
   all = solver_clauses (is_redundant c.parts.clauses) c.parts.clauses (live_refs c.parts.clauses c.parts.db.refs) c.parts.binary.implied
 
-  -- no clause of the session has its variable
+  -- no clause of the session has the variable
   pub session_unused : IsInNoNonUnitClause s v
   session_unused r set n = unused_in_all (map (mapped (global_in c)) all) v (λ d k.
       let y = in_map_back (mapped (global_in c)) all d k in
@@ -181,7 +181,7 @@ module _ (s : Session) (c : Search) (v x : ℕ) (search : IsSearch s c) (flat : 
       let t : IsTrueLit c.parts.assignment.current (coded x b) = ap (value_of c.parts.assignment.current) (coded_variable x b) ∙ e ∙ ap (λ d. Some d) (sym (coded_sign x b)) in
       ap s.units (sym (lit_is b)) ∙ search.valid.fits.known (coded x b) (bottom_unit c.parts (coded x b) search.valid.holds flat.bottom t)
 
-  -- its unit is its value
+  -- the session's unit is the variable's value in the search
   pub session_unit : (b : Bool) → s.units (coded v b) ≡ says_unit (value_of c.parts.assignment.current x) b
   session_unit b = go (value_of c.parts.assignment.current x) refl b
     where
@@ -275,16 +275,16 @@ module _ (s : Session) (c : Search) (v x : ℕ) (search : IsSearch s c) (flat : 
       };
     }
 
--- WHAT NAMES AND A SEARCH SHARE
+-- WHAT NAMES AND SEARCH SHARE
 
--- no index is another variable's
+-- every index belongs to the variable that it had before
 pub global_before : (old new : Variables) (v : ℕ) → AreTidy old → AreTidy new → ((w : ℕ) → solver_of new w ≡ cond (eqb w v) None (solver_of old w)) → (x w : ℕ) → global_at new x ≡ Some w → global_at old x ≡ Some w
 global_before old new v tidy tidy' solvers x w e = elim (cases_eq w v) [
   | inl q ↦ absurd (none_some x (sym (ap (λ b. cond b None (solver_of old w)) (eq-eqb w v q)) ∙ sym (solvers w) ∙ tidy'.solvers.forth w x e))
   | inr n ↦ tidy.solvers.back w x (sym (ap (λ b. cond b None (solver_of old w)) (ne_eqb w v n)) ∙ sym (solvers w) ∙ tidy'.solvers.forth w x e)
 ]
 
--- the variable has none any more
+-- the variable no longer has an index
 pub global_gone : (old new : Variables) (v x w : ℕ) → AreTidy old → AreTidy new → ((w : ℕ) → solver_of new w ≡ cond (eqb w v) None (solver_of old w)) → global_at old x ≡ Some v → global_at new x ≡ Some w → ⊥
 global_gone old new v x w tidy tidy' solvers e f =
     let same : w ≡ v = some_same w v (sym (global_before old new v tidy tidy' solvers x w f) ∙ e) in
@@ -376,7 +376,7 @@ module _ (n : Variables) (steps : List Step) (c : Search) (may : MayFree n steps
             unset = λ w e. ap (λ a. value_of a.current w) freed.values ∙ set_none c.parts.assignment.current x w room e;
           }
 
--- ONE AFTER ANOTHER
+-- ONE INDEX AFTER ANOTHER
 
 pub asked_refl : (n : Variables) (s : Session) → KeepsAsked n n s s
 asked_refl n s = record { users = refl; assumed = refl; indices = λ v x m e. e }
@@ -421,17 +421,17 @@ frees_both a b d from mids to c1 c2 c3 x y = record {
 pub may_free_on : (a b : Variables) (from to : List Step) (c c' : Search) → FreesSome a b from to c c' → MayFree b to c'
 may_free_on a b from to c d x = record { valid = x.does.valid; search = x.search; shares = x.shares; flat = x.flat }
 
--- WHICH INDICES ARE LEFT
+-- WHICH INDICES REMAIN
 
 module _ (a b d : Variables) (s t : Session) (p : Parts) (at : ℕ) (left : AreLeft b s p at) where
-  -- one that a clause has
+  -- an index that a clause uses
   pub left_used : (InNoClause p.clauses (live_refs p.clauses p.db.refs) p.binary.implied at → ⊥) → AreLeft b s p (at + 1)
   left_used has x lt none = elim (cases_eq x at) [
     | inl e ↦ absurd (has (subst (λ z. InNoClause p.clauses (live_refs p.clauses p.db.refs) p.binary.implied z) e none))
     | inr n ↦ left x (omega arith) none
   ]
 
-  -- one that no clause has
+  -- an index that no clause uses, but whose variable is assumed
   pub left_more : ((x v : ℕ) → global_at d x ≡ Some v → global_at b x ≡ Some v) → t.assumed ≡ s.assumed → IsIndexOfAssumed d t at → AreLeft d s p (at + 1)
   left_more fewer asked here x lt none = elim (cases_eq x at) [
     | inl e ↦ λ v f. (ap (λ ls. mentions ls v) (sym asked) ∙ here v (subst (λ z. global_at d z ≡ Some v) e f))

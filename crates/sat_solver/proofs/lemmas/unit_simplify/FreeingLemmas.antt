@@ -1,4 +1,4 @@
--- Variables are freed by marks, in any order.
+-- Freeing the unmarked variables gives the same result in any order.
 use Rattle.std.proofs.Common.{ℕ, zero, suc, ◌+◌, ◌≡◌, ◌<◌, ◌≤◌, ◌∙◌, inl, inr, Bool, true, false, cond, Some, None, List, length, get_or, set, refl, sym, ap, subst, arith, get_or-set_same, get_or-set_other}
 use Rattle.std.proofs.lemmas.Bool.{cases_eq, true≢false}
 use Rattle.std.proofs.lemmas.List.{length-set, set_comm}
@@ -41,14 +41,14 @@ freed_marked used k p e = ap (λ n. freed_below used n p) (one_more k) ∙ freed
 freed_here : (used : List Bool) (k : ℕ) (p : Parts) → get_or used k false ≡ false → freed_below used (k + 1) p ≡ without_var k (freed_below used k p)
 freed_here used k p e = ap (λ n. freed_below used n p) (one_more k) ∙ freed_suc used k p ∙ ap (λ b. cond b (freed_below used k p) (without_var k (freed_below used k p))) e
 
--- later marks don't count
+-- marks at or after position `at` don't matter
 freed_same : (used other : List Bool) (at : ℕ) (p : Parts) → ((v : ℕ) → v < at → get_or other v false ≡ get_or used v false) → freed_below other at p ≡ freed_below used at p
 freed_same used other zero p h = freed_zero other p ∙ sym (freed_zero used p)
 freed_same used other (suc k) p h =
     let rest : freed_below other k p ≡ freed_below used k p = freed_same used other k p (λ v lt. h v (omega arith)) in
     freed_suc other k p ∙ ap (λ q. cond (get_or other k false) q (without_var k q)) rest ∙ ap (λ b. cond b (freed_below used k p) (without_var k (freed_below used k p))) (h k (omega arith)) ∙ sym (freed_suc used k p)
 
--- what freeing leaves as it was
+-- what freeing variables leaves unchanged
 record KeepsRest (p q : Parts) (at : ℕ) : Type 0 where
   pub words : q.clauses ≡ p.clauses
   pub db : q.db ≡ p.db
@@ -72,7 +72,7 @@ keeps_rest used (suc k) p =
       values = λ v le. get_or-set_other (freed_below used k p).assignment.current k v None None (omega arith) ∙ h.values v (omega arith);
     }
 
--- ANY ORDER
+-- THE ORDER DOES NOT MATTER
 
 without_comm : (x y : ℕ) (p : Parts) → without_var x (without_var y p) ≡ without_var y (without_var x p)
 without_comm x y p = elim (cases_eq y x) [
@@ -91,7 +91,7 @@ freed_commutes used (suc k) x p =
     go true = refl
     go false = without_comm k x (freed_below used k p)
 
--- the last one may be freed first
+-- the last variable may be freed first
 pub freed_first : (used : List Bool) (k : ℕ) (p : Parts) → get_or used k false ≡ false → freed_below used k (without_var k p) ≡ freed_below used (k + 1) p
 freed_first used k p e = freed_commutes used k k p ∙ sym (freed_here used k p e)
 
@@ -121,7 +121,7 @@ module _ (used : List Bool) (c : Search) (x : ℕ) where
   pub same_there : x < length c.parts.assignment.current → x < length at_x.parts.assignment.current
   same_there lt = omega (arith, (keeps_rest used x c.parts).size)
 
-  -- one that stays
+  -- the index stays
   pub frees_marked : (n : Variables) (steps : List Step) (marks : List Bool) → MayFree n steps at_x → x < length used → marks ≡ set used x true → FreesSome n n steps steps at_x (freed_search marks (x + 1) c)
   frees_marked n steps marks may lt e =
       let set_here : get_or marks x false ≡ true = ap (λ (bs : List Bool). get_or bs x false) e ∙ get_or-set_same used x true false lt in
@@ -130,7 +130,7 @@ module _ (used : List Bool) (c : Search) (x : ℕ) where
       subst (λ p. FreesSome n n steps steps at_x (record c { parts = p })) (sym same) (frees_none n steps at_x may)
 
   module _ (n : Variables) (steps : List Step) (may : MayFree n steps at_x) (v : ℕ) (there : global_at n x ≡ Some v) (n1 : Variables) (put : PutsUnit n n1 v (value_of at_x.parts.assignment.current x)) (unused : InNoClause at_x.parts x) where
-    -- one that is given up
+    -- the index is released
     pub frees_here : (new : Variables) (to : List Step) → FreesIndex n1 new steps to v → (data_at n v).assumed ≡ false → get_or used x false ≡ false → x < length at_x.parts.assignment.current → FreesSome n new steps to at_x (freed_search used (x + 1) c)
     frees_here new to gone free unmarked room =
         let p : Parts = at_x.parts in
@@ -142,7 +142,7 @@ module _ (used : List Bool) (c : Search) (x : ℕ) where
         (λ am other. word_goes am (state_of p.assignment p.graph p.trail) p.vsids (state_of (assigned x None p.assignment) p.graph p.trail) (with_available x false p.vsids)
         (gone_freed am p.assignment p.graph p.trail p.vsids x queue may.search.valid.holds.below.queue other) (begins_refl (trail_letters p.trail))))
 
--- a mark is set
+-- one mark is set
 pub marks_one : (used marks : List Bool) (x : ℕ) → marks ≡ set used x true → x < length used → MarksAtMost x used marks
 marks_one used marks x e lt = record {
   size = ap (λ (bs : List Bool). length bs) e ∙ length-set used x true;
@@ -156,14 +156,14 @@ marks_one used marks x e lt = record {
 pub marks_none : (used : List Bool) (x : ℕ) → MarksAtMost x used used
 marks_none used x = record { size = refl; others = λ v n. refl; more = λ v f. f }
 
--- a marked one is skipped
+-- a marked index is skipped
 pub frees_skipped : (a b : Variables) (from to : List Step) (c0 c : Search) (used : List Bool) (k : ℕ) → get_or used k false ≡ true → FreesSome a b from to c0 (freed_search used k c) → FreesSome a b from to c0 (freed_search used (k + 1) c)
 frees_skipped a b from to c0 c used k e h = subst (λ p. FreesSome a b from to c0 (record c { parts = p })) (freed_skipped used k c.parts e) h
 
--- all were freed
+-- all unmarked indices were freed
 pub frees_all : (a b : Variables) (from to : List Step) (c : Search) (used : List Bool) (k : ℕ) (p : Parts) → k ≡ length used → p ≡ freed_below used (length used) c.parts → FreesSome a b from to c (freed_search used k c) → FreesSome a b from to c (record c { parts = p })
 frees_all a b from to c used k p e q h = subst (λ z. FreesSome a b from to c (record c { parts = z })) (ap (λ n. freed_below used n c.parts) e ∙ sym q) h
 
--- as many may be picked, and no more than there can be
+-- the number of indices is within the limit of variables
 pub marks_fit : (n : Variables) (steps : List Step) (c : Search) → MayFree n steps c → length c.parts.assignment.current ≤ var_limit
 marks_fit n steps c may = omega (arith, may.shares.size, may.shares.few, may.valid.tidy.indices, may.valid.tidy.within)

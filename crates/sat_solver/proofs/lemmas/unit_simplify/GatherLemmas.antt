@@ -1,4 +1,4 @@
--- Open literals come to the front of a clause.
+-- The open literals of a clause are moved to its front.
 use Rattle.std.proofs.Common.{ℕ, ◌+◌, ◌≡◌, ◌≢◌, ◌<◌, ◌≤◌, ◌∙◌, inl, inr, Bool, true, false, not, Option, Some, None, List, length, get_or, set, refl, sym, ap, subst, arith, get_or-set_same, get_or-set_other, length-set}
 use Rattle.std.proofs.lemmas.Bool.{cases_eq}
 use Rattle.std.specs.List.{Contains}
@@ -29,7 +29,7 @@ open_value (Some false) false n m = absurd (n refl)
 open_value (Some true) false n m = absurd (m refl)
 open_value (Some false) true n m = absurd (m refl)
 
--- a literal is open that is neither true nor false
+-- a literal that is neither true nor false is open
 pub open_from : (values : List (Option Bool)) (l : ℕ) → (IsTrueLit values l → ⊥) → (IsFalseLit values l → ⊥) → IsOpenLit values l
 open_from values l n m = open_value (value_of values (variable l)) (is_positive l) n m
 
@@ -67,7 +67,7 @@ moved_there p q o x c = subst (λ (xs : List ℕ). Contains xs o) (sym x.live) c
 pub moved_size : (p q : Parts) (o : ℕ) → ReordersLits p q → Contains (live_refs p.clauses p.db.refs) o → size_of q.clauses o ≡ size_of p.clauses o
 moved_size p q o x c = (x.kept.lits o c).size
 
--- EXCHANGES
+-- SWAPS
 
 swapped_first : (ls : List ℕ) (i j : ℕ) → i < length ls → j < length ls → get_or (swapped ls i j) i 0 ≡ get_or ls j 0
 swapped_first ls i j p q =
@@ -103,7 +103,7 @@ gathers_none p o h front = record {
 }
 
 module _ (p q : Parts) (o kept at : ℕ) (g : Gathers p q o kept at) (le : kept ≤ at) where
-  -- a false literal stays
+  -- a false literal stays where it is
   pub gathers_skip : IsFalseLit q.assignment.current (lit_of q.clauses o at) → Gathers p q o kept (at + 1)
   gathers_skip f = record {
     holds = g.holds;
@@ -119,7 +119,7 @@ module _ (p q : Parts) (o kept at : ℕ) (g : Gathers p q o kept at) (le : kept 
     rest = λ k a. g.rest k (omega arith);
   }
 
-  -- another one comes to the front
+  -- an open literal is moved to the front
   module _ (r : Parts) (there : Contains (live_refs p.clauses p.db.refs) o) (lt : at < size_of p.clauses o) (is_open : IsOpenLit p.assignment.current (lit_of q.clauses o at)) (s : SwapsLits q r o kept at) (holds : PartsInvariant r) (db : r.db ≡ q.db) (word : TrailWordExtends q r) where
     size : size_of q.clauses o ≡ size_of p.clauses o
     size = moved_size p q o g.moved there
@@ -154,9 +154,9 @@ module _ (p q : Parts) (o kept at : ℕ) (g : Gathers p q o kept at) (le : kept 
       rest = λ k a. is_other k (λ e. omega arith) (λ e. omega arith) ∙ g.rest k (omega arith);
     }
 
--- THE FIRST TWO
+-- THE FIRST TWO LITERALS
 
--- what is true at level 0 with an empty trail has left the queue
+-- with an empty trail, every true literal of level 0 has left the queue
 pub flat_left : (p : Parts) (l : ℕ) → PartsInvariant p → HasEmptyTrail p → IsTrueLit p.assignment.current l → HasLeftQueue (state p) l
 flat_left p l h flat t =
     let nothing : length p.trail.lits ≡ 0 = ap (λ (xs : List ℕ). length xs) flat.empty in

@@ -1,4 +1,4 @@
--- Names, proof and search stand together from call to call.
+-- Names, proof and search stay consistent from call to call.
 use Rattle.std.proofs.Common.{inl, ℕ, ◌≡◌, ◌<◌, ◌∙◌, Bool, true, length, Ok, Err, List, [], ◌++◌, None, refl, sym, ap, subst}
 use Rattle.std.specs.List.{Contains}
 use Rattle.sat_base.specs.device.Device.{Writer}
@@ -68,7 +68,7 @@ module _ {W L : Type 0} {G : Ghosts L} (seen : W → Writer) where
     word = extends_after (assumed_indices x) x.parts y.parts z.parts one.word (rw one.moved.lits at two.word);
   }
 
-  -- what changed before without a step
+  -- the search changed without a step before
   pub passes_after : (a b : Variables) (p q : Proof W L G) (x y z : Search) → SameVarsAndAssumptions x y → TrailWordExtendsFor (assumed_indices x) x.parts y.parts → PassesQuietly seen a b p q y z → PassesQuietly seen a b p q x z
   passes_after a b p q x y z moved word h = record {
     together = h.together;
@@ -80,7 +80,7 @@ module _ {W L : Type 0} {G : Ghosts L} (seen : W → Writer) where
     word = extends_after (assumed_indices x) x.parts y.parts z.parts word (rw moved.lits at h.word);
   }
 
-  -- steps of a search
+  -- steps of a search were made
   pub passes_goes : {A : Type 0} (v : A) (n : Variables) (p q : Proof W L G) (c d : Search) (P : A → List Step → Type 0) → NamesInvariant n (steps_of p) → SharesIndices n c → EmitsSteps seen (Ok v) p q P → IsSearch (session_of q) d → SameVarsAndAssumptions c d → TrailWordExtendsFor (assumed_indices c) c.parts d.parts → PassesQuietly seen n n p q c d
   passes_goes v n p q c d P valid shares g search moved word =
       let may : AreAllowedSteps (g.steps ++ steps_of p) = subst AreAllowedSteps g.went.history g.keeps in
@@ -95,7 +95,7 @@ module _ {W L : Type 0} {G : Ghosts L} (seen : W → Writer) where
         word = word;
       }
 
-  -- indices that were given up
+  -- indices were released
   pub passes_frees : (a b : Variables) (p q : Proof W L G) (c d : Search) → FreesSome a b (steps_of p) (steps_of q) c d → HasAllowedSteps q → ((w : Proof W L G) → ComesByCheckedSteps seen w p → ComesByCheckedSteps seen w q) → PassesQuietly seen a b p q c d
   passes_frees a b p q c d f keeps came = record {
     together = record { keeps = keeps; valid = f.does.valid; search = f.search; shares = f.shares };
@@ -112,18 +112,18 @@ module _ {W L : Type 0} {G : Ghosts L} (seen : W → Writer) where
   pub falls_goes : {full : Type 0} {learns : Bool} (e : SolverError) (p q : Proof W L G) (P : Unit {0} → List Step → Type 0) → EmitsStepsWith {A = Unit {0}} full learns seen (Err e) p q P → PassFailsOr full seen e p q
   falls_goes e p q P g = record { fault = g.ends; steps = g.steps; went = g.went; kept = g.kept; loss = g.loss }
 
-  -- what goes wrong where no clause is stored may go wrong where one is
+  -- a failure of a call that stores no clause is one of a call that may
   pub falls_or : (full : Type 0) (e : SolverError) (p q : Proof W L G) → PassFails seen e p q → PassFailsOr full seen e p q
   falls_or full e p q h = record { fault = fault_or full e h.fault; steps = h.steps; went = h.went; kept = h.kept; loss = h.loss }
 
   pub falls_starved : (p : Proof W L G) → PassFails seen errors.OutOfMemory p p
   falls_starved p = record { fault = tt; steps = []; went = adds_none seen p; kept = tt; loss = inl refl }
 
-  -- after what went well
+  -- the call failed after steps that were checked
   pub falls_later : {full : Type 0} (e : SolverError) (p q r : Proof W L G) → ComesByCheckedSteps seen p q → PassFailsOr full seen e q r → PassFailsOr full seen e p r
   falls_later e p q r took f = record { fault = f.fault; steps = f.steps ++ took.0; went = went_after seen (Unit {0}) e took.0 f.steps p q r (gains_adds seen took.0 p q took.1) f.went; kept = f.kept; loss = loss_later e p q r took.1.taking f.loss }
 
-  -- a call over names
+  -- a call over names failed
   pub falls_names : (e : NameError) (p q : Proof W L G) → IsFailure e → ((w : Proof W L G) → ComesByCheckedSteps seen w p → EmitsUpTo (ComesByCheckedSteps seen) (NotTaken seen) w e q) → PassFails seen (reported_as e) p q
   falls_names names.OutOfMemory p q f came = (let t = came p ([], gains_none seen p) in record { fault = tt; steps = t.0; went = gains_adds seen t.0 p q t.1; kept = tt; loss = inl t.1.taking })
   falls_names (names.Write cause) p q f came = (let t = came p ([], gains_none seen p) in record { fault = tt; steps = t.0.0; went = t.0.1; kept = t.1; loss = tt })

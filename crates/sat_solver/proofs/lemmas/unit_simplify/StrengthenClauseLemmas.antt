@@ -1,4 +1,4 @@
--- One long clause was looked at, and the others are as they were.
+-- One long clause was visited, and the others are unchanged.
 use Rattle.std.proofs.Common.{ℕ, ◌≡◌, ◌≢◌, ◌<◌, ◌≤◌, ◌∙◌, List, [], ◌∷◌, take, length, get_or, refl, sym, ap, subst, arith}
 use Rattle.std.proofs.lemmas.List.{get_or-take, length-take-le}
 use Rattle.std.specs.List.{Contains}
@@ -20,7 +20,7 @@ use Rattle.sat_solver.specs.unit_simplify.Looks.{IsOpenClause}
 use Rattle.sat_solver.proofs.lemmas.unit_simplify.GatherLemmas.{moved_size}
 use Rattle.sat_solver.proofs.lemmas.unit_simplify.StrengthenSearchLemmas.{strengthened_refl}
 
--- live clauses but for one are live ones of before, and open where they were
+-- every other live clause was live before, and is open if it was
 abbrev OthersStay : Parts → Parts → ℕ → Type 0
 OthersStay p q o = (x : ℕ) → x ≢ o → Contains (live_refs q.clauses q.db.refs) x → Contains (live_refs p.clauses p.db.refs) x × (IsOpenClause p x → IsOpenClause q x)
 
@@ -56,7 +56,7 @@ others_moved p q o m values x n c =
     let y : Contains (live_refs p.clauses p.db.refs) x = subst (λ (xs : List ℕ). Contains xs x) m.live c in
     (y, open_moved p q x (m.kept.lits x y) values)
 
--- a clause of two literals leaves the long ones
+-- storing a binary clause leaves the long clauses unchanged
 pub stores_two : (p q : Parts) (ls : List ℕ) → length ls ≡ 2 → AddsOriginalClause p q ls → (q.clauses ≡ p.clauses) × (q.db ≡ p.db)
 stores_two p q ls two (stores_binary e words list pairs carries) = (words, list)
 stores_two p q ls two (stores_long three o adds pairs carries) = absurd (omega arith)
@@ -66,15 +66,15 @@ others_stored p q o ls two s values x n c =
     let same = stores_two p q ls two s in
     (subst (λ (d : Db). Contains (live_refs p.clauses d.refs) x) same.1 (subst (λ (ws : List ℕ). Contains (live_refs ws q.db.refs) x) same.0 c), open_kept p q x (ap (λ ws. lits_at ws x) same.0) values)
 
--- a clause without values
+-- a clause without assigned variables is unchanged
 pub strengthens_none : (s : Session) (c : Search) (o : ℕ) → IsSearch s c → IsOpenClause c.parts o → StrengthensClause s c c o
 strengthens_none s c o h is_open = record { strengthened = strengthened_refl s c h; left = λ k. is_open; others = λ p n k. (k, λ x. x) }
 
--- a clause went
+-- the clause was deleted
 pub strengthens_dropped : (t : Session) (c d : Search) (o : ℕ) → IsStrengthened t c d → DropsLongClause c.parts d.parts o → StrengthensClause t c d o
 strengthens_dropped t c d o l dropped = record { strengthened = l; left = gone_dropped c.parts d.parts o dropped; others = others_dropped c.parts d.parts o dropped }
 
--- a clause lost its false literals
+-- the clause lost its false literals
 module _ (t : Session) (c d : Search) (p : Parts) (o len : ℕ) (l : IsStrengthened t c d) (there : Contains (live_refs c.parts.clauses c.parts.db.refs) o) (within : len ≤ size_of c.parts.clauses o) (g : Gathers c.parts p o len (size_of c.parts.clauses o)) (r : Replaces p d.parts o len) where
   short_open : ShortensLongClause p d.parts o len → IsOpenClause d.parts o
   short_open s k lt =

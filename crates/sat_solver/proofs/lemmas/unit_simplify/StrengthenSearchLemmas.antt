@@ -1,4 +1,4 @@
--- Clauses go with their steps at level 0.
+-- At level 0 clauses are removed along with their steps.
 use Rattle.std.proofs.Common.{ℕ, zero, suc, ◌+◌, ◌*◌, ◌≡◌, ◌<◌, ◌∙◌, ◌⊎◌, Bool, true, false, ltb, List, [], ◌∷◌, map, length, get_or, refl, sym, ap, subst, arith, Ok}
 use Rattle.sat_base.specs.values.Literals.{variable, negated}
 use Rattle.sat_base.specs.steps.Steps.{DeleteClause, Satisfied}
@@ -44,16 +44,16 @@ flat_on a b s x f = record { bottom = ap (λ t. t.starts) x.state.2 ∙ f.bottom
 pub may_remove : (s : Session) (c : Search) → IsSearch s c → HasEmptyTrail c.parts → MayRemove c
 may_remove s c h flat = record { holds = h.valid.holds; flat = flat; paired = h.valid.fits.paired; names = h.ready.free.names }
 
--- steps of a search leave what is assumed, and the names
+-- steps of a search leave assumptions and names unchanged
 pub goes_leaves : {A W L full : Type 0} {learns : Bool} {G : Ghosts L} (seen : W → Writer) (x : A) (p q : Proof W L G) (P : A → List Step → Type 0) → EmitsStepsWith full learns seen (Ok x) p q P → SameAssumedAndNames (session_of p) (session_of q)
 goes_leaves seen x p q P h = subst (λ ss. SameAssumedAndNames (session_of p) (session_after ss)) (sym h.went.history) (leaves_after h.steps (steps_of p) (kinds_of (session_of p).solver_names h.steps h.searched))
 
 pub may_scratch : (c : Search) (x : Scratch) → MayRemove c → MayRemove (record c { scratch = x })
 may_scratch c x m = record { holds = m.holds; flat = m.flat; paired = m.paired; names = m.names }
 
--- CLAUSES OF TWO LITERALS
+-- BINARY CLAUSES
 
--- the clause that stands at place k of the list l
+-- the clause at position k of list l
 pub record PairAt (c : Search) (l k a b : ℕ) : Type 0 where
   pub first : a ≡ negated l
   pub second : b ≡ get_or (implied_by c.parts.binary.implied l) k 0
@@ -82,7 +82,7 @@ module _ (s : Session) (c : Search) (may : MayRemove c) where
         IsAllowedStep s (DeleteClause (map (with_var (global_in c)) (a ∷ b ∷ [])) Satisfied) × LeavesPairs (after (DeleteClause (map (with_var (global_in c)) (a ∷ b ∷ [])) Satisfied) s) c l (k + 1)
     pair_deletes = rw (at.first, at.second) deleted
 
-    -- its variables are there
+    -- the second variable of the clause exists
     pub second_there : variable b < length c.parts.assignment.current
     second_there = (let x : m < 2 * length c.parts.assignment.current = may.holds.below.asks.ranges.below l k lt in omega (arith, at.second))
 
@@ -93,7 +93,7 @@ module _ (s : Session) (c : Search) (may : MayRemove c) where
     pair_there there (suc zero) less = omega (arith, may.names, second_there)
     pair_there there (suc (suc i)) less = absurd (omega arith)
 
--- and then they are removed
+-- then the clauses are removed
 pub pairs_removed : (s s' : Session) (c c' : Search) → IsSearch s c → HasEmptyTrail c.parts → SameAssumedAndNames s s' → LeavesPairs s' c (length c.parts.binary.implied) 0 → c'.globals ≡ c.globals → c'.assumptions ≡ c.assumptions → c'.analysis ≡ c.analysis → c'.flags ≡ c.flags →
     PartsInvariant c'.parts → RemovesBinaries c.parts c'.parts → TrailWordExtends c.parts c'.parts → IsStrengthened s' c c'
 pairs_removed s s' c c' h flat leaves left globals assumptions analysis flags holds r word =

@@ -1,4 +1,4 @@
--- A long clause goes that a unit made true.
+-- A long clause that a unit satisfies is deleted.
 use Rattle.std.proofs.Common.{ℕ, ◌≡◌, Bool, true, false, List, map, length, refl, ap}
 use Rattle.std.specs.List.{Contains}
 use Rattle.sat_base.specs.steps.Steps.{Satisfied}
@@ -23,7 +23,7 @@ use Rattle.sat_solver.specs.unit_simplify.Cuts.{deleted_step}
 use Rattle.sat_solver.specs.unit_simplify.Flat.{HasEmptyTrail, IsStrengthened}
 use Rattle.sat_solver.specs.unit_simplify.Looks.{HasTrue}
 
--- the search goes on, where values stay
+-- the search after clauses changed and values did not
 pub strengthened_by : (s t : Session) (c c' : Search) → IsSearch s c → c'.globals ≡ c.globals → c'.assumptions ≡ c.assumptions → c'.analysis ≡ c.analysis → c'.flags ≡ c.flags → SameAssumedAndNames s t → PartsInvariant c'.parts → SessionMatchesParts c'.parts t (global_in c) →
     SameState c.parts c'.parts → TrailWordExtends c.parts c'.parts → c'.parts.db.refs ≡ c.parts.db.refs → IsStrengthened t c c'
 strengthened_by s t c c' h globals assumptions analysis flags leaves holds fits same word refs =
@@ -36,13 +36,13 @@ strengthened_by s t c c' h globals assumptions analysis flags leaves holds fits 
       refs = refs;
     }
 
--- A CLAUSE THAT IS TRUE
+-- A TRUE CLAUSE
 
 module _ (s : Session) (c : Search) (p : Parts) (o : ℕ) (h : IsSearch s c) (flat : HasEmptyTrail c.parts) (there : Contains (live_refs c.parts.clauses c.parts.db.refs) o) (has : HasTrue c.parts o) (dropped : DropsLongClause c.parts p o) where
   abbrev mapped : List ℕ
   mapped = map (with_var (global_in c)) (lits_at c.parts.clauses o)
 
-  -- its step may be written, and then the rest fits
+  -- its step may be written, and then parts and session match
   pub true_goes : (b : Bool) → is_redundant c.parts.clauses o ≡ b → IsAllowedStep s (deleted_step b Satisfied mapped) × SessionMatchesParts p (after (deleted_step b Satisfied mapped) s) (global_in c)
   true_goes true e = fits_dropped_redundant c.parts p s (global_in c) h.valid.fits h.valid.holds o there (lits_at c.parts.clauses o) (shuffled_eq (lits_at c.parts.clauses o) (lits_at c.parts.clauses o) refl) dropped e
   true_goes false e =
@@ -53,7 +53,7 @@ module _ (s : Session) (c : Search) (p : Parts) (o : ℕ) (h : IsSearch s c) (fl
   leaves_deleted true = record { assumed = refl; names = λ v. refl }
   leaves_deleted false = record { assumed = refl; names = λ v. refl }
 
-  -- and the search goes on
+  -- then the search satisfies its invariant
   pub true_lighter : (b : Bool) → is_redundant c.parts.clauses o ≡ b → (x : Scratch) → PartsInvariant p → TrailWordExtends c.parts p → IsStrengthened (after (deleted_step b Satisfied mapped) s) c (record c { parts = p; scratch = x })
   true_lighter b e x holds word =
       strengthened_by s (after (deleted_step b Satisfied mapped) s) c (record c { parts = p; scratch = x }) h refl refl refl refl (leaves_deleted b) holds (true_goes b e).1

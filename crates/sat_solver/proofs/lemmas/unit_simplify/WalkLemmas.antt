@@ -1,4 +1,4 @@
--- The list of long clauses is walked.
+-- The list of long clauses is visited in order.
 use Rattle.std.proofs.Common.{ℕ, ◌+◌, ◌≡◌, ◌<◌, ◌∙◌, inl, inr, false, List, length, get_or, refl, sym, subst, arith}
 use Rattle.std.proofs.lemmas.Bool.{cases_eq, true≢false}
 use Rattle.std.proofs.lemmas.List.{get_or_default}
@@ -15,7 +15,7 @@ pub to_none : (c d : Search) → AreOpenTo c d 0
 to_none c d k lt = absurd (omega arith)
 
 module _ (c m : Search) (at : ℕ) (h : AreOpenTo c m at) where
-  -- a clause more
+  -- one more clause was visited
   pub to_more : (t : Session) (d : Search) (o : ℕ) → at < length c.parts.db.refs → AreRising c.parts.db.refs → o ≡ get_or c.parts.db.refs at 0 → StrengthensClause t m d o → AreOpenTo c d (at + 1)
   to_more t d o lt rising is x k less there = elim (cases_eq k at) [
     | inl e ↦
@@ -27,7 +27,7 @@ module _ (c m : Search) (at : ℕ) (h : AreOpenTo c m at) where
         y.1 (h k (omega arith) y.0)
   ]
 
-  -- one that was deleted
+  -- a clause that was deleted is skipped
   pub to_skip : (o : ℕ) → o ≡ get_or c.parts.db.refs at 0 → is_live m.parts.clauses o ≡ false → AreOpenTo c m (at + 1)
   to_skip o is dead k less there = elim (cases_eq k at) [
     | inl e ↦
@@ -36,7 +36,7 @@ module _ (c m : Search) (at : ℕ) (h : AreOpenTo c m at) where
     | inr n ↦ h k (omega arith) there
   ]
 
--- all of them
+-- all clauses were visited
 pub to_all : (c d : Search) → d.parts.db.refs ≡ c.parts.db.refs → AreOpenTo c d (length c.parts.db.refs) → (o : ℕ) → Contains (live_refs d.parts.clauses d.parts.db.refs) o → IsOpenClause d.parts o
 to_all c d same h o there =
     let x = subst (λ (xs : List ℕ). Contains xs o) same (live_in d.parts.clauses d.parts.db.refs o there) in

@@ -1,4 +1,4 @@
--- A clause or assumptions, as they were taken and written.
+-- A clause or assumptions are written.
 use Rattle.std.proofs.Common.{ℕ, ◌<◌, ◌≡◌, Bool, None, Some, List, [], ◌∷◌, map, length, get_or, true, ◌||◌, eqb, inl, inr, refl, sym, ◌∙◌, ap, subst, arith}
 use Rattle.std.proofs.lemmas.Bool.{eq-eqb, or_right}
 use Rattle.sat_base.specs.values.Literals.{variable, is_positive}
@@ -63,7 +63,7 @@ images_kept old new user order users solvers i = record {
   each = λ k lt. let x = i.each k lt in record { variable_is = x.variable_is; index_is = x.index_is; named = ap (λ m. target m.fwd (variable (get_or user k 0))) users ∙ x.named; indexed = ap (λ m. target m.fwd x.variable_is) solvers ∙ x.indexed; is = x.is };
 }
 
--- marks leave names and modes as they are
+-- setting marks changes neither names nor modes
 extends_marked : (old new : Variables) (ls : List ℕ) → PutsMarks old new ls → ExtendsNames old new
 extends_marked old new ls put = record {
   stays = λ u v e. (same u ∙ e, ap (λ d. d.sampling_mode) (put.kept v));
@@ -92,7 +92,7 @@ assumptions_added old mid new from mids to user t u takes put globals order give
   comes = comes_both (MayTake (names_in user)) from mids to takes.comes (comes_one (MayTake (names_in user)) mids to (Assumptions u.globals.items) e refl);
 }
 
--- WITHIN
+-- VARIABLES WITHIN BOUNDS
 
 mention : (ls : List ℕ) (l : ℕ) → Among l ls → mentions ls (variable l) ≡ true
 mention [] l m = absurd m
@@ -115,7 +115,7 @@ mapped_within n user order mapped tidy images e k lt =
     let same : variable (get_or mapped k 0) ≡ i.variable_is = ap variable (q.2 ∙ ap (with_var (global_with_index n)) (sym p.2) ∙ mapped_is n (get_or user p.0 0) (get_or order p.0 0) i tidy) ∙ coded_half i.variable_is (is_positive (get_or user p.0 0)) in
     subst (λ v. v < variables_used n) (sym same) (live_within n i.variable_is (tidy.indexed i.variable_is i.index_is i.indexed))
 
--- LENT LISTS
+-- BORROWED LISTS
 
 pub list_within : (lent ls globals list : List ℕ) → lent ≡ ls → globals ≡ list → ((k : ℕ) → k < length ls → variable (get_or ls k 0) < length list) → (k : ℕ) → k < length lent → variable (get_or lent k 0) < length globals
 list_within lent ls globals list e f h k lt = subst (λ gs. variable (get_or lent k 0) < length gs) (sym f) (subst (λ xs. variable (get_or xs k 0) < length list) (sym e) (h k (subst (λ xs. k < length xs) e lt)))

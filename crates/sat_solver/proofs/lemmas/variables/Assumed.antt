@@ -63,7 +63,7 @@ all_marked first now all index assumed le m = m.rest now (subst (λ ls. MarksAss
 
 -- ALL MARKS
 
--- the marks of the earlier list go, those of the other come
+-- the marks of the earlier list are cleared, those of the new one are set
 pub remarked : (old mid new : ℕ → VarData) (before ls : List ℕ) → ((v : ℕ) → mentions before v ≡ (old v).assumed) → MarksAssumed old mid before false → MarksAssumed mid new ls true → (v : ℕ) → new v ≡ record (old v) { assumed = mentions ls v }
 remarked old mid new before ls marked one two v = two.each v ∙ ap (marked_if (mentions ls v) true) (cleared (mentions before v) refl) ∙ set (mentions ls v)
   where
@@ -78,11 +78,11 @@ remarked old mid new before ls marked one two v = two.each v ∙ ap (marked_if (
     set true = refl
     set false = refl
 
--- the same of lists that are lent
+-- the same for borrowed lists
 pub remarked_lent : (old mid new : ℕ → VarData) (first second before ls : List ℕ) → ((v : ℕ) → mentions before v ≡ (old v).assumed) → MarksAssumed old mid first false → MarksAssumed mid new second true → first ≡ before → second ≡ ls → (v : ℕ) → new v ≡ record (old v) { assumed = mentions ls v }
 remarked_lent old mid new first second before ls marked one two e f = remarked old mid new before ls marked (subst (λ xs. MarksAssumed old mid xs false) e one) (subst (λ xs. MarksAssumed mid new xs true) f two)
 
--- what is mentioned is in use
+-- a marked variable is in use
 pub marked_within : (n : Variables) (ls : List ℕ) (v : ℕ) → AreTidy n → mentions ls v ≡ (data_at n v).assumed → mentions ls v ≡ true → (data_at n v).deleted ≡ false
 marked_within n ls v tidy e m = go (data_at n v).deleted refl
   where
@@ -159,7 +159,7 @@ module _ (old new : Variables) (ls : List ℕ) (tidy : AreTidy old) (live : (v :
     modes = λ w i e. subst (λ m. IsModeOf m (get_or j.modes i Sampled)) (sym (mode_at w)) (judged.modes w i e);
   }
 
--- the variables that literals stand for are in use
+-- the proof literals for names are over variables in use
 pub spelt_live : (n : Variables) (user ls : List ℕ) → AreTidy n → AllByRecursion (λ code. (l : ℕ) × IsProofLiteralOf n l code × Among l user) ls → (v : ℕ) → mentions ls v ≡ true → (data_at n v).deleted ≡ false
 spelt_live n user [] tidy h v e = absurd (true≢false (sym e))
 spelt_live n user (x ∷ xs) tidy h v e = go (spelt_live n user xs tidy h.1 v) (eqb (variable x) v) refl e

@@ -1,4 +1,4 @@
--- A name that is brought in: which names become new variables.
+-- A name is introduced, together with the names below it that were never used.
 use Rattle.std.proofs.Common.{ℕ, ◌+◌, ◌-◌, ◌<◌, ◌≤◌, ◌≡◌, Bool, true, false, not, ◌&&◌, cond, ltb, lt-ltb, List, [], ◌∷◌, map, Option, Some, None, is_some, refl, sym, ◌∙◌, ap, subst, arith, Result, Ok, Err, IfOk, OnOk, inl, inr}
 use Rattle.std.proofs.lemmas.Bool.{le-ltb, ltb-true, cases_lt}
 use Rattle.sat_base.specs.script.ScriptState.{ScriptState, identity_of, with_names, names_from, new_names}
@@ -79,7 +79,7 @@ hidden_name n u tidy e = go (ltb u (names_used n)) refl (global_of n u) refl (sy
     go true x (Some w) y f = absurd (cc)
     go false x o y f = absurd (cc)
 
--- the next name came in
+-- the next name was introduced
 pub brought_next : (old new : Variables) (from to : List Step) (user v : ℕ) → NamesInvariant old from → IsNextUser old user → NamesOne old new from to user v → BringsInUnseen old new from to user
 brought_next old new from to user v valid next one = elim (cases_lt user (names_used old)) [
   | inl lt ↦ record { brings = brings_again old new from to user v lt next.unused one; extends = one.extends; unseen = one.unseen; comes = comes_one IsDue from to (UserVarName v (Some user)) one.step one.next; room = room_one old new user v next.unused next.reach one.named one.used one.live }

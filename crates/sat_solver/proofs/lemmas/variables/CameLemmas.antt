@@ -1,4 +1,4 @@
--- What takes steps, from call to call.
+-- The steps of one call follow those of another.
 use Rattle.std.proofs.Common.{◌≡◌, sym, subst, Result, Err, List, [], ◌∷◌}
 use Rattle.std.specs.Prelude.{IsErrAnd}
 use Rattle.std.proofs.lemmas.Result.{err_from_is_err_and}
@@ -14,32 +14,32 @@ use Rattle.sat_solver.specs.declared.variables.error.NameError.TheVariants as er
 use Rattle.sat_solver.specs.variables.Failing.{EmitsUpTo, EmitsOrFails}
 use Rattle.sat_solver.proofs.lemmas.session.ProofLemmas.{gains_adds, gains_more, fails_later, check_later}
 
--- a step was taken after others
+-- a step was accepted after others
 pub took_step : {W L : Type 0} {G : Ghosts L} (seen : W → Writer) (w a b : Proof W L G) (step : Step) → ComesByCheckedSteps seen w a → EmitsChecked seen (step ∷ []) a b → ComesByCheckedSteps seen w b
 took_step seen w a b step t adds = (_, gains_more seen t.0 (step ∷ []) w a b t.1 adds)
 
--- or a call of the target failed at its text, and what is kept stays so
+-- a call of the target failed while the text of a step was written; other facts still hold
 pub broke_step : {W L Kept : Type 0} {G : Ghosts L} (seen : W → Writer) (w a b : Proof W L G) (step : Step) → ComesByCheckedSteps seen w a → FailsToEmit seen (step ∷ []) a b × Kept → BreaksEmitting seen w b × Kept
 broke_step seen w a b step t fails = ((_, fails_later seen t.0 (step ∷ []) w a b (gains_adds seen t.0 w a t.1) fails.0), fails.1)
 
--- or the checker failed at it
+-- the checker failed at a step
 pub check_step : {W L Kept : Type 0} {G : Ghosts L} {fault : CheckFault} (seen : W → Writer) (w a b : Proof W L G) (step : Step) → ComesByCheckedSteps seen w a → FailsCheck seen fault (step ∷ []) a b × Kept → (steps : List Step) × FailsCheck seen fault steps w b × Kept
 check_step seen w a b step t fails = (_, check_later seen t.0 (step ∷ []) w a b (gains_adds seen t.0 w a t.1) fails.0, fails.1)
 
--- or none was made for want of memory
+-- memory ran out before a step was made
 pub took_none : {W L : Type 0} {G : Ghosts L} (seen : W → Writer) (w a b : Proof W L G) → ComesByCheckedSteps seen w a → EmitsChecked seen [] a b → ComesByCheckedSteps seen w b
 took_none seen w a b t adds = (_, gains_more seen t.0 [] w a b t.1 adds)
 
 module _ {W : Type 0} (took : W → W → Type 0) (broke : W → NameError → W → Type 0) where
-  -- a call after another that took its steps
+  -- a call follows one whose steps were accepted
   pub came_then : {A : Type 0} (r : Result A NameError) (a b c : W) → ((w : W) → took w a → took w b) → EmitsOrFails took broke r b c → EmitsOrFails took broke r a c
   came_then (Err errors.VariableLimit) a b c first last = λ w t. last w (first w t)
   came_then e a b c first last = λ w t. last w (first w t)
 
-  -- a fault that is handed on
+  -- an error is passed on
   pub came_on : {A : Type 0} (r : Result A NameError) (e : NameError) (a b : W) → IsErrAnd r (λ f. f ≡ e) → ((w : W) → took w a → EmitsUpTo took broke w e b) → EmitsOrFails took broke r a b
   came_on r e a b h f = (let p = err_from_is_err_and r h in subst (λ r. EmitsOrFails took broke r a b) (sym p.1) (subst (λ e. (w : W) → took w a → EmitsUpTo took broke w e b) (sym p.2) f))
 
-  -- no memory was left
+  -- memory ran out
   pub came_starved : {A : Type 0} (r : Result A NameError) (a b : W) → IsErrAnd r (λ f. f ≡ errors.OutOfMemory) → ((w : W) → took w a → took w b) → EmitsOrFails took broke r a b
   came_starved r a b h f = came_on r errors.OutOfMemory a b h f

@@ -65,7 +65,7 @@ known_among s (x ∷ xs) v h e = go (eqb (variable x) v) refl e (known_among s x
 known_still : (x : Variable) → x.known ≡ true → record x { known = true } ≡ x
 known_still x e = ap {A = Bool} (λ b. record x { known = b }) (sym e)
 
--- what is known stays as it is
+-- marking variables as known changes nothing if they are known already
 pub known_same : (s : Session) (c : List ℕ) (v : ℕ) → AllByRecursion (λ code. (s.variables (variable code)).known ≡ true) c → (knowing_literals c s).variables v ≡ s.variables v
 known_same s c v h = known (is_among (map variable c) v) refl
   where
@@ -112,7 +112,7 @@ same_lists [] (y ∷ ys) e = absurd (true≢false (sym e))
 same_lists (x ∷ xs) [] e = absurd (true≢false (sym e))
 same_lists (x ∷ xs) (y ∷ ys) e = let h = and_left (eqb x y) (same_literals xs ys) e in let t = and_right (eqb x y) (same_literals xs ys) e in ap (λ k. k ∷ xs) (eqb-true x y h) ∙ ap (λ k. y ∷ k) (same_lists xs ys t)
 
--- units of variables that the clause hasn't are as they were
+-- units of variables that aren't in the clause are unchanged
 fact_units : (l m : ℕ) (s : Session) → l ≢ m → (with_fact l s).units m ≡ s.units m
 fact_units l m s ne = go (s.units l) (s.units (negated l))
   where
@@ -140,13 +140,13 @@ added_units s c m e = go s.unsat
 none_some : {x : ℕ} {o : Option ℕ} → o ≡ None → o ≡ Some x → ⊥
 none_some e f = cc
 
--- a variable without index is in none of them
+-- a variable without index is in no literal of the clause
 unindexed : (n : Variables) (user c : List ℕ) (w m : ℕ) → solver_of n w ≡ None → variable m ≡ w → AllByRecursion (λ code. (l : ℕ) × IsProofLiteralOf n l code × Among l user) c → is_among c m ≡ false
 unindexed n user [] w m e f h = refl
 unindexed n user (x ∷ xs) w m e f h =
     ap (λ b. b || is_among xs m) (ne_eqb x m (λ q. none_some e (ap (solver_of n) (sym f ∙ ap variable (sym q) ∙ ap variable h.0.1.is ∙ coded_half h.0.1.variable_is (is_positive h.0.0)) ∙ h.0.1.indexed))) ∙ unindexed n user xs w m e f h.1
 
--- it is in no clause afterwards either
+-- if the clause does not mention a variable, the variable is still in no clause after it
 added_unused : (s : Session) (c : List ℕ) (w : ℕ) → mentions c w ≡ false → IsInNoNonUnitClause s w → IsInNoNonUnitClause (after (AddClause c) s) w
 added_unused s c w e h r set lt = go s.unsat lt
   where
@@ -172,14 +172,14 @@ added_unused s c w e h r set lt = go s.unsat lt
         tautology true y = h r set y
         tautology false y = inner (canonical c) (mentions_set c w ∙ e) set y
 
--- a variable without index is in none of them
+-- the clause does not mention a variable without index
 unmentioned : (n : Variables) (user c : List ℕ) (w : ℕ) → solver_of n w ≡ None → AllByRecursion (λ code. (l : ℕ) × IsProofLiteralOf n l code × Among l user) c → mentions c w ≡ false
 unmentioned n user [] w e h = refl
 unmentioned n user (x ∷ xs) w e h =
     ap (λ b. b || mentions xs w) (ne_eqb (variable x) w (λ q. none_some e (ap (solver_of n) (sym q ∙ ap variable h.0.1.is ∙ coded_half h.0.1.variable_is (is_positive h.0.0)) ∙ h.0.1.indexed))) ∙ unmentioned n user xs w e h.1
 
 module _ (n : Variables) (from : List Step) (user clause : List ℕ) (valid : NamesInvariant n from) (same : SameLiterals n user clause) where
-  -- what is known of a literal's variable
+  -- the session's data of a literal's variable
   at : (l code : ℕ) → IsProofLiteralOf n l code → (session_after from).variables (variable code) ≡ record { known = true; mode = Sample; name = Some (variable l) }
   at l code f =
       let name = valid.tidy.users.back (variable l) f.variable_is f.named in

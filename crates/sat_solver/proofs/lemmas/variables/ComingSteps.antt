@@ -17,7 +17,7 @@ use Rattle.sat_solver.specs.variables.Variables.{NamesMatchSteps, AreTidy, data_
 use Rattle.sat_solver.specs.declared.variables.Variables.{Variables}
 use Rattle.sat_solver.proofs.lemmas.session.ComingLemmas.{comes_none, comes_one, comes_both, comes_map}
 
--- each name of a literal is among the names
+-- the name of every literal is among the names
 pub name_among : (ls : List ℕ) (k : ℕ) → k < length ls → Among (variable (get_or ls k 0) + 1) (names_in ls)
 name_among [] k lt = absurd (omega arith)
 name_among (l ∷ ls) zero lt = inl refl
@@ -46,7 +46,7 @@ module _ (names : List ℕ) (from to : List Step) where
   pub comes_deleted : OnlyAllowedSteps DeletesAdded from to → OnlyAllowedSteps (MayAdd names) from to
   comes_deleted c = comes_map DeletesAdded (MayAdd names) (delete_add names) from to c
 
-  -- an index for the variable of a name
+  -- the variable of a name got an index
   pub comes_index : (name v x : ℕ) → Among name names → variable_of from name ≡ Some v → (to ≡ from) ⊎ ((to ≡ SolverVarName v (Some x) ∷ from) × ((session_after from).solver_names v ≡ None) × IsNextSolver (session_after from) (Some x)) → OnlyAllowedSteps (MayTake names) from to
   comes_index name v x among named step = elim step [
     | inl e ↦ subst (OnlyAllowedSteps (MayTake names) from) (sym e) (comes_none (MayTake names) from)
@@ -63,7 +63,7 @@ due_set : (user : ℕ) (sample : Bool) (earlier : List Step) (step : Step) → I
 due_set user sample earlier (ChangeSamplingMode v mode) h = absurd (true≢false (sym h))
 due_set user sample earlier step h = h
 
--- a name came in, was hidden, and its variable may have gone
+-- a name was introduced and hidden, and its variable may have been deleted
 pub comes_hidden : {A E : Type 0} (r : Result A E) (n : Variables) (from mids hides to : List Step) (v : ℕ) → NamesMatchSteps n (session_after hides) → OnlyAllowedSteps IsDue from mids → hides ≡ UserVarName v None ∷ mids → OnOk r (ForgetsIdle n hides to v) → OnOk r (OnlyAllowedSteps MayHide from to)
 comes_hidden (Err e) n from mids hides to v said brought hidden gone = tt
 comes_hidden (Ok x) n from mids hides to v said brought hidden gone = comes_both MayHide from hides to (comes_both MayHide from mids hides (comes_map IsDue MayHide due_hide from mids brought) (comes_one MayHide mids hides (UserVarName v None) hidden refl)) (elim gone [
@@ -71,7 +71,7 @@ comes_hidden (Ok x) n from mids hides to v said brought hidden gone = comes_both
   | inr e ↦ subst (OnlyAllowedSteps MayHide hides) (sym e.0) (comes_none MayHide hides)
 ])
 
--- a name that isn't assumed came in and was hidden: its variable isn't assumed either
+-- if a name that isn't assumed was introduced and hidden, its variable isn't assumed
 pub hidden_unmarked : (n m h : Variables) (from mids hides : List Step) (user v : ℕ) → AreTidy n → NamesMatchSteps n (session_after from) → ExtendsNames n m → IsUnseen n m from mids → (IsAssumed n user → ⊥) → global_of m user ≡ Some v →
     NamesMatchSteps h (session_after hides) → hides ≡ UserVarName v None ∷ mids → (data_at h v).assumed ≡ false
 hidden_unmarked n m h from mids hides user v tidy said extends unseen free named then hidden =
@@ -86,12 +86,12 @@ hidden_unmarked n m h from mids hides user v tidy said extends unseen free named
           | inr out ↦ out
         ]
 
--- the variable whose name a step took
+-- the variable whose name the last step removed
 abbrev hidden_by : List Step → Option ℕ
 hidden_by (UserVarName v None ∷ steps) = Some v
 hidden_by steps = None
 
--- it has gone, unless it has an index
+-- this variable was deleted, unless it has an index
 pub leaves_none : {A E : Type 0} (r : Result A E) (n : Variables) (mids hides to : List Step) (v : ℕ) → NamesMatchSteps n (session_after hides) → hides ≡ UserVarName v None ∷ mids → (data_at n v).assumed ≡ false → OnOk r (ForgetsIdle n hides to v) → OnOk r (LeavesNoneIdle to)
 leaves_none (Err e) n mids hides to v said hidden free gone = tt
 leaves_none (Ok x) n mids hides to v said hidden free gone = λ w h. elim gone [
@@ -104,7 +104,7 @@ leaves_none (Ok x) n mids hides to v said hidden free gone = λ w h. elim gone [
   ]
 ]
 
--- a name came in, and its variable may have got a mode
+-- a name was introduced, and the mode of its variable may have changed
 pub comes_set : {A E : Type 0} (r : Result A E) (from mids to : List Step) (name v : ℕ) (sample : Bool) → OnlyAllowedSteps IsDue from mids → variable_of mids name ≡ Some v → OnOk r ((to ≡ mids) ⊎ ((to ≡ ChangeSamplingMode v sample ∷ mids) × TurnsMode (session_after mids) v sample)) → OnOk r (OnlyAllowedSteps (MaySet name sample) from to)
 comes_set (Err e) from mids to name v sample brought named set = tt
 comes_set (Ok x) from mids to name v sample brought named set = comes_both (MaySet name sample) from mids to (comes_map IsDue (MaySet name sample) (due_set name sample) from mids brought) (elim set [

@@ -1,4 +1,4 @@
--- A hidden variable that is forgotten.
+-- A hidden variable is deleted.
 use Rattle.std.proofs.Common.{ℕ, ◌+◌, ◌≡◌, ◌≢◌, Bool, true, false, not, ◌&&◌, cond, eqb, ltb, lt-ltb, List, [], ◌∷◌, length, get_or, Option, Some, None, is_some, refl, sym, ◌∙◌, ap, subst, arith}
 use Rattle.std.proofs.lemmas.Bool.{eqb-true, eqb-false, eq-eqb, ne_eqb}
 use Rattle.sat_base.specs.values.Literals.{variable, coded}
@@ -242,6 +242,6 @@ var_deleted old new from to v valid alive nameless noindex unmarked put e = reco
     accepted : checker_rules.Accepts from (DeleteVar v)
     accepted = (sessions_are_accepted (DeleteVar v ∷ from) (valid.may, may_delete old v (session_after from) valid.tidy valid.said alive nameless noindex unmarked)).0.1
 
--- the search sees that units are forgotten
+-- the step makes the session forget the variable's units
 pub var_forgotten : (from to : List Step) (v : ℕ) → to ≡ DeleteVar v ∷ from → ForgetsUnits (session_after from) (session_after to) v
 var_forgotten from to v e = subst (λ steps. ForgetsUnits (session_after from) (session_after steps) v) (sym e) (record { live = refl; units = λ l. refl; unsat = refl; width = refl; assumed = refl })

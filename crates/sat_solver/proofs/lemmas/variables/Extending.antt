@@ -1,4 +1,4 @@
--- What stays as names come in.
+-- What stays the same while names are introduced.
 use Rattle.std.proofs.Common.{ℕ, ◌≡◌, ◌≢◌, Bool, true, false, cond, eqb, Option, Some, None, get_or, refl, sym, ◌∙◌, ap}
 use Rattle.std.proofs.lemmas.Bool.{eqb-true, eq-eqb, ne_eqb, true≢false}
 use Rattle.sat_store.specs.declared.data.SamplingMode.TheVariants as kept
@@ -40,7 +40,7 @@ extends_both a b c one two = record {
         let same : w ≡ v = some_same y.0 f in
         ap (λ k. (data_at c k).sampling_mode) (sym same) ∙ y.1 ∙ one.came u w e x
 
--- where names and data are as they were
+-- maps of names and data are unchanged
 pub extends_kept : (old new : Variables) → new.global_from_user ≡ old.global_from_user → new.var_data ≡ old.var_data → ExtendsNames old new
 extends_kept old new users items = record {
   stays = λ u v e. (ap (λ m. target m.fwd u) users ∙ e, ap (λ d. (get_or d.items v unused_variable).sampling_mode) items);
@@ -49,11 +49,11 @@ extends_kept old new users items = record {
   lives = λ v d. ap (λ x. (get_or x.items v unused_variable).deleted) items ∙ d;
 }
 
--- variables of names that stay, or come in
+-- names in use keep their variables, and new names get unused ones
 pub are_fresh : (old new : Variables) → ExtendsNames old new → VariablesAreKeptOrNew old new
 are_fresh old new x = record { same = λ u v w e f. some_same f (x.stays u v e).0; fresh = x.fresh }
 
--- after a call by which names at most go
+-- the same if a later call only removes names
 pub fresh_only : (old mid new : Variables) → VariablesAreKeptOrNew old mid → ((u v : ℕ) → global_of new u ≡ Some v → global_of mid u ≡ Some v) → VariablesAreKeptOrNew old new
 fresh_only old mid new x only = record { same = λ u v w e f. x.same u v w e (only u w f); fresh = λ u v e f. x.fresh u v e (only u v f) }
 

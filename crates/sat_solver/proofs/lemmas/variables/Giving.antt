@@ -1,4 +1,4 @@
--- Indices of the search that calls give.
+-- Calls give indices of the search to variables.
 use Rattle.std.proofs.Common.{ℕ, ◌≡◌, ◌≢◌, ◌⊎◌, not, ◌&&◌, Bool, true, false, cond, eqb, List, [], ◌∷◌, ◌++◌, length, Option, Some, None, is_some, Result, Ok, Err, OnOk, refl, sym, ◌∙◌, ap, subst, arith, inl, inr}
 use Rattle.std.proofs.lemmas.Bool.{eqb-true, eq-eqb, ne_eqb, true≢false}
 use Rattle.std.specs.List.{AllByRecursion}
@@ -39,7 +39,7 @@ unseen_both a b c from mids to x y = record { solvers = y.solvers ∙ x.solvers;
 pub gives_none : (n : Variables) (s : Session) → GivesIndices n n s []
 gives_none n s = record { stays = λ v x e. e; each = tt; apart = tt; others = λ v x e. inl e; used = omega arith }
 
--- a call that the search doesn't see
+-- a call that changes no index
 pub gives_unseen : (a b c : Variables) (s : Session) (gs : List Given) → GivesIndices a b s gs → c.solver_from_global ≡ b.solver_from_global → GivesIndices a c s gs
 gives_unseen a b c s gs g e = record {
   stays = λ v x f. ap (λ m. target m.fwd v) e ∙ g.stays v x f;
@@ -86,7 +86,7 @@ gives_both a b c s t xs ys ia ib ic units one two = record {
     apart [] i h = two.apart
     apart (g ∷ gs) i h = (all_both (λ k. k.solver ≢ g.solver) gs ys h.0 (all_map (IsGiven b c t) (λ k. k.solver ≢ g.solver) ys (λ k j same. none_some j.free (ap (global_at b) same ∙ i.0.taken)) two.each), apart gs i.1 h.1)
 
--- one index
+-- one index is given
 pub gives_one : (old new : Variables) (s : Session) (v : ℕ) (g : Given) → solver_of old v ≡ None → global_at old g.solver ≡ None → PutsIndex old new v g.solver true → ((b : Bool) → s.units (coded v b) ≡ says_unit g.unit b) → GivesIndices old new s (g ∷ [])
 gives_one old new s v g without free put unit = record {
   stays = stays;
@@ -135,7 +135,7 @@ alike_both a b c from mids to x y = record {
       (l.0, l.1, λ v t. l.2 v t ∙ m.2 v (ap (λ ls. mentions ls v) x.assumed ∙ t));
 }
 
--- a variable that wasn't assumed was deleted
+-- a variable that wasn't assumed was deleted, which the search does not see
 pub alike_forgets : (a b : Variables) (from to : List Step) (v : ℕ) → b.solver_from_global ≡ a.solver_from_global → b.globals ≡ a.globals → solver_of a v ≡ None → to ≡ DeleteVar v ∷ from → mentions (session_after from).assumed v ≡ false →
     ForgetsUnits (session_after from) (session_after to) v → IsAlike a b from to
 alike_forgets a b from to v solvers globals none step unmarked f = record {
@@ -161,7 +161,7 @@ pub ok_alike : {A E : Type 0} (r : Result A E) (a b c : Variables) (from mids to
 ok_alike (Ok x) a b c from mids to one two = alike_both a b c from mids to one two
 ok_alike (Err x) a b c from mids to one two = tt
 
--- units after a call that the search doesn't see, and then one that keeps those of names
+-- a call that changes no unit, followed by one that preserves the units of names
 pub ok_units : {A E : Type 0} (r : Result A E) (c : Variables) (from mids to : List Step) → KeepsSearch (session_after from) (session_after mids) → OnOk r (KeepsUnits c mids to) → OnOk r (KeepsUnits c from to)
 ok_units (Ok x) c from mids to one two = λ u v b e. two u v b e ∙ ap (λ f. f (coded v b)) one.units
 ok_units (Err x) c from mids to one two = tt
@@ -176,12 +176,12 @@ units_forgotten a b from to v inverse none users f u w d e =
     and_true true = refl
     and_true false = refl
 
--- names that came in freshly, after a call that leaves them all
+-- a call that introduces names, followed by one that changes none
 pub ok_fresh : {A E : Type 0} (r : Result A E) (a b c : Variables) → VariablesAreKeptOrNew a b → OnOk r (c.global_from_user ≡ b.global_from_user) → OnOk r (VariablesAreKeptOrNew a c)
 ok_fresh (Ok x) a b c fresh e = fresh_only a b c fresh (λ u v f. sym (ap (λ m. target m.fwd u) e) ∙ f)
 ok_fresh (Err x) a b c fresh e = tt
 
--- names that kept their variables still do after a call that leaves them all
+-- the same for names that keep their variables
 pub ok_others : {A E : Type 0} (r : Result A E) (a b c : Variables) (user : ℕ) → KeepsOthers a b user → OnOk r (c.global_from_user ≡ b.global_from_user) → OnOk r (KeepsOthers a c user)
 ok_others (Ok x) a b c user keeps e = λ u v n named. ap (λ m. target m.fwd u) e ∙ keeps u v n named
 ok_others (Err x) a b c user keeps e = tt

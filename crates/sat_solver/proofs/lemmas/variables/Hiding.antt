@@ -1,4 +1,4 @@
--- A variable that loses its name.
+-- A variable loses its name.
 use Rattle.std.proofs.Common.{ℕ, ◌+◌, ◌≡◌, ◌≢◌, Bool, true, false, not, ◌&&◌, cond, eqb, ltb, lt-ltb, List, [], ◌∷◌, length, get_or, Option, Some, None, is_some, refl, sym, ◌∙◌, ap, subst, arith}
 use Rattle.std.proofs.lemmas.Bool.{eqb-true, eqb-false, eq-eqb, ne_eqb, true≢false}
 use Rattle.sat_base.proofs.lemmas.script.ScriptStates.{filtered_order}
@@ -238,7 +238,7 @@ hidden_unseen old new from to user v put e = record {
   leaves = λ a h. subst (λ steps. Holds steps a) e h;
 }
 
--- no name comes in
+-- no name was introduced
 pub hidden_only : (old new : Variables) (user v : ℕ) → PutsHidden old new user v → (u w : ℕ) → global_of new u ≡ Some w → global_of old u ≡ Some w
 hidden_only old new user v put u w e = go (eqb u user) (put.users.fwd u)
   where

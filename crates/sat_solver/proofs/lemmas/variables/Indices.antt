@@ -1,4 +1,4 @@
--- Indices of the search that come and go.
+-- Indices of the search are given and released.
 use Rattle.std.proofs.Common.{ℕ, ◌+◌, ◌<◌, ◌≤◌, ◌≡◌, max, Bool, true, false, not, ◌&&◌, ◌||◌, cond, eqb, ltb, List, [], ◌∷◌, ◌++◌, length, get_or, Option, Some, None, is_some, refl, sym, ◌∙◌, ap, subst, arith, inl, inr}
 use Rattle.std.proofs.lemmas.Bool.{eqb-true, eqb-false, eq-eqb, lt-ltb, true≢false}
 use Rattle.std.proofs.lemmas.List.{append-nil}
@@ -34,7 +34,7 @@ use Rattle.sat_solver.proofs.lemmas.variables.Doing.{does_none}
 use Rattle.sat_checker.proofs.lemmas.matching.Bridge.{nothing_new}
 use Rattle.sat_checker.proofs.lemmas.matching.CheckerIsSound.{the_checking_sound}
 
--- the judge sees names and data alone
+-- the judge sees only names and data
 pub judged_same : (old new : Variables) (j : ScriptState) (live : Live) → new.global_from_user ≡ old.global_from_user → new.var_data ≡ old.var_data → NamesMatchState old j live → NamesMatchState new j live
 judged_same old new j live users items judged =
     let at : (v : ℕ) → data_at new v ≡ data_at old v = λ v. ap (λ d. get_or d.items v unused_variable) items in
@@ -208,7 +208,7 @@ module _ (old new : Variables) (v x : ℕ) (there : Bool) (tidy : AreTidy old) (
                   still false f = refl
                   still true f = absurd (true≢false f)
 
--- the search's clauses are as they were
+-- the step leaves clauses, units and assumptions of the session unchanged
 pub index_search : (from to : List Step) (v : ℕ) (name : Option ℕ) → to ≡ SolverVarName v name ∷ from → KeepsSearch (session_after from) (session_after to)
 index_search from to v name e = subst (λ steps. KeepsSearch (session_after from) (session_after steps)) (sym e) (go name)
   where
@@ -274,6 +274,6 @@ index_taken old new from to v x valid there unit unused put globals e = record {
   step = e;
 }
 
--- there is room for an index in use to be free
+-- the set of free indices has room for every index in use
 pub index_within : (n : Variables) (v x : ℕ) → AreTidy n → solver_of n v ≡ Some x → x < n.free_solvers.room
 index_within n v x tidy e = let lt = some_within n.solver_from_global.bwd x v (tidy.solvers.back v x e) in let r = tidy.spans_solvers.room in omega arith

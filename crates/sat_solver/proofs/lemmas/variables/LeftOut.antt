@@ -1,4 +1,4 @@
--- A clause that isn't written once unsat is recorded.
+-- A clause is not written once unsat is recorded.
 use Rattle.std.proofs.Common.{ℕ, suc, ◌+◌, ◌<◌, ◌≤◌, ◌≡◌, true, not, List, [], ◌∷◌, map, drop, length, get_or, Some, is_some, sym, ◌∙◌, ap, subst, arith, inl, inr}
 use Rattle.std.proofs.lemmas.Bool.{true≢false, cases_eq}
 use Rattle.std.proofs.lemmas.List.{drop_more, drop_all}
@@ -30,7 +30,7 @@ use Rattle.sat_solver.specs.session.Coming.{OnlyAllowedSteps}
 use Rattle.sat_solver.specs.variables.Coming.{IsDue}
 use Rattle.sat_solver.proofs.lemmas.session.ComingLemmas.{comes_none, comes_both}
 
--- so many names came in
+-- the names before position `index` were introduced
 pub record Bringing (old now : Variables) (from steps : List Step) (all : List ℕ) (index : ℕ) : Type 0 where
   pub valid : NamesInvariant now steps
   pub extends : ExtendsNames old now

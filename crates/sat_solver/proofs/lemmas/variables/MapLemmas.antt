@@ -1,4 +1,4 @@
--- Lists and maps after a change.
+-- Lists and maps after one change.
 use Rattle.std.proofs.Common.{◌≡◌, ℕ, ◌<◌, List, [], ◌∷◌, ◌++◌, length, get_or, cond, eqb, inl, inr, ap, ◌∙◌, sym, arith, length-append, Option, None, Some}
 use Rattle.std.proofs.lemmas.List.{get_or_append_left, get_or_at, get_or_past}
 use Rattle.std.proofs.lemmas.Bool.{cases_eq, cases_lt, eq-eqb, ne_eqb}
@@ -12,7 +12,7 @@ pushed xs v i x d e = elim (cases_lt v (length xs)) [
   ]
 ]
 
--- what is mapped is below the list's end
+-- a key that is mapped is below the length of the list
 pub some_within : (xs : List (Option ℕ)) (v u : ℕ) → get_or xs v None ≡ Some u → v < length xs
 some_within xs v u e = elim (cases_lt v (length xs)) [ inl lt ↦ lt | inr past ↦ absurd (differ (get_or xs v None) (get_or_past xs v None past) e) ]
   where

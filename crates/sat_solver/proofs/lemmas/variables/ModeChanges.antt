@@ -1,4 +1,4 @@
--- A variable with a name gets another mode.
+-- The mode of a variable with a name changes.
 use Rattle.std.proofs.Common.{ℕ, ◌+◌, ◌<◌, ◌≡◌, ◌≢◌, Bool, true, false, not, ◌&&◌, cond, eqb, ltb, List, [], ◌∷◌, length, get_or, set, Option, Some, None, is_some, refl, sym, ◌∙◌, ap, subst, arith, inl, inr, unwrap_or}
 use Rattle.std.proofs.Math.ListN.{length-set}
 use Rattle.std.proofs.lemmas.List.{get_or_past, get_or-set_same, get_or-set_other}
@@ -46,7 +46,7 @@ not_hide : (sample : Bool) → mode_for sample ≢ kept.Hide
 not_hide true e = cc
 not_hide false e = cc
 
--- a mode that the variable has already
+-- the variable has this mode already
 pub same_mode : (n : Variables) (v : ℕ) (mode : SamplingMode) → AreTidy n → (data_at n v).sampling_mode ≡ mode → PutsMode n n v mode
 same_mode n v mode tidy e = record {
   users = refl;
@@ -225,7 +225,7 @@ module _ (old new : Variables) (user v : ℕ) (sample : Bool) (tidy : AreTidy ol
               subst (λ d. IsModeOf d.sampling_mode (get_or (set j.modes (unwrap_or (identity_of j (user + 1)) 0) (script_mode sample)) i Sampled)) (sym x)
               (subst (IsModeOf (data_at old w).sampling_mode) (sym (get_or-set_other j.modes (unwrap_or (identity_of j (user + 1)) 0) i (script_mode sample) Sampled differ)) (judged.modes w i e))
 
--- modes mean nothing to the bridge
+-- the bridge does not depend on modes
 bridged : (j : ScriptState) (steps : List Step) (live : Live) (mode : judged.NameMode) (name : ℕ) → IsBridge checker_rules j steps live → IsBridge checker_rules (with_mode mode name j) steps live
 bridged j steps live mode number b = record {
   accepted = b.accepted;
@@ -290,7 +290,7 @@ mode_unseen old new from to v mode sample put e = record {
   leaves = λ a h. subst (λ steps. Holds steps a) e h;
 }
 
--- MODES THAT A STEP SAYS
+-- MODES AS STEPS STATE THEM
 
 mode_back : (m : SamplingMode) (sample : Bool) → checker_mode m ≡ mode_said sample → m ≡ mode_for sample
 mode_back kept.Sample true e = refl
@@ -300,14 +300,14 @@ mode_back kept.Witness false e = refl
 mode_back kept.Hide true e = absurd (let d : Hide ≡ Sample = e in cc)
 mode_back kept.Hide false e = absurd (let d : Hide ≡ Witness = e in cc)
 
--- the step changes what the session has
+-- the step changes the mode that the session has
 pub turns_mode : (n : Variables) (from : List Step) (user v : ℕ) (sample : Bool) → NamesInvariant n from → global_of n user ≡ Some v → ((data_at n v).sampling_mode ≡ mode_for sample → ⊥) → TurnsMode (session_after from) v sample
 turns_mode n from user v sample valid had differs e = differs (mode_back (data_at n v).sampling_mode sample (sym (ap (λ (x : Variable). x.mode) (valid.said.variables v) ∙ ap (λ b. (cond b unknown live).mode) (valid.tidy.named v user (valid.tidy.users.back user v had))) ∙ e))
   where
     live : Variable
     live = record { known = true; mode = checker_mode (data_at n v).sampling_mode; name = user_of n v }
 
--- which mode a variable has
+-- the two modes differ
 pub sample_other : (sample : Bool) → sample ≡ false → kept.Sample ≡ mode_for sample → ⊥
 sample_other true e h = true≢false e
 sample_other false e h = cc

@@ -1,4 +1,4 @@
--- A model, literal by literal.
+-- A model is built literal by literal.
 use Rattle.std.proofs.Common.{ℕ, suc, ◌+◌, ◌≡◌, ◌++◌, ◌∷◌, [], Bool, true, false, cond, Option, Some, None, List, refl, sym, ◌∙◌, ap, arith}
 use Rattle.std.proofs.lemmas.List.{append-nil}
 use Rattle.sat_base.specs.values.Literals.{coded}
@@ -28,7 +28,7 @@ named_suc n values u = refl
 pub named_next : (n : Variables) (values : List (Option Bool)) (u : ℕ) (items next : List ℕ) → items ≡ named_to n values u → next ≡ items ++ name_literal n values u (global_of n u) → next ≡ named_to n values (u + 1)
 named_next n values u items next e f = f ∙ ap (λ xs. xs ++ name_literal n values u (global_of n u)) e ∙ sym (named_suc n values u) ∙ ap (named_to n values) (let q : suc u ≡ u + 1 = omega arith in q)
 
--- nothing for a variable that isn't in use
+-- a variable that isn't in use adds nothing
 pub none_for : (n : Variables) (values : List (Option Bool)) (v : ℕ) (items : List ℕ) → (data_at n v).deleted ≡ true → items ≡ items ++ literal_in n values v
 none_for n values v items e = sym (ap (λ b. items ++ cond b [] (coded v (value_in n values v) ∷ [])) e ∙ append-nil items)
 

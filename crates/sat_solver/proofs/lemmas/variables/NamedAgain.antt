@@ -1,4 +1,4 @@
--- The bridge where a hidden variable gets a name again.
+-- The bridge still holds when a hidden variable gets a name.
 use Rattle.std.proofs.Common.{ℕ, ◌+◌, ◌/◌, ◌<◌, ◌≡◌, map, Bool, true, false, cond, eqb, List, [], ◌∷◌, Some, refl, sym, ◌∙◌, ap, subst, inl, inr, unwrap_or}
 use Rattle.std.proofs.lemmas.Bool.{eqb-true, eqb-false, eq-eqb, ne_eqb}
 use Rattle.std.specs.List.{AllByRecursion}
@@ -52,7 +52,7 @@ named_again k sound j earlier live bridge name v index i is there hidden acc = r
     one m n w false x true y e f = absurd (hidden m (e ∙ sym f))
     one m n w false x false y e f = bridge.distinct m n w e f
 
--- a name in use has an identity that was given
+-- every literal is over a name in use
 abbrev pub InUse : ScriptState → List Literal → Type 0
 InUse j ls = AllByRecursion (λ l. (i : ℕ) × (identity_of j l.name ≡ Some i)) ls
 

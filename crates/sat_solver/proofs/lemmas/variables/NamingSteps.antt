@@ -1,4 +1,4 @@
--- Names that come in, step by step.
+-- Names are introduced, step by step.
 use Rattle.std.proofs.Common.{ℕ, suc, ◌+◌, ◌-◌, ◌<◌, ◌≤◌, ◌≡◌, true, false, cond, eqb, List, [], ◌∷◌, map, Some, None, refl, sym, ◌∙◌, ap, subst, arith, Result, Ok, Err, IfOk, OnOk}
 use Rattle.std.proofs.lemmas.Bool.{eq-eqb}
 use Rattle.std.proofs.lemmas.List.{get_or_past}
@@ -30,7 +30,7 @@ use Rattle.sat_solver.proofs.lemmas.variables.NextVariables.{next_variable}
 use Rattle.sat_solver.proofs.lemmas.variables.RoomLemmas.{live_named, room_one, room_below, room_less}
 use Rattle.sat_solver.proofs.lemmas.session.ComingLemmas.{comes_none, comes_one, comes_both}
 
--- what the steps say a variable is, where the checker knows it
+-- steps and names agree on which variables are known
 pub known_as : (steps : List Step) (n : Variables) (v : ℕ) → AreAllowedSteps steps → NamesMatchSteps n (session_after steps) → checker_rules.knows steps v ≡ (checker_variable_at n v).known
 known_as steps n v may said = ap (λ f. (f v).known) (sessions_are_accepted steps may).1.variables ∙ ap (λ x. x.known) (said.variables v)
 
@@ -89,20 +89,20 @@ one_then old mid new from mids to user v names one rest = record {
       };
 }
 
--- the names from this one on, of which one goes
+-- the first of these names, and the rest
 pub next_of : (user w : ℕ) → w ≤ user → names_from (user + 1 - w) (w + 1) ≡ (w + 1) ∷ names_from (user + 1 - (w + 1)) (w + 1 + 1)
 next_of user w le = let e : user + 1 - w ≡ suc (user + 1 - (w + 1)) = omega arith in ap (λ k. names_from k (w + 1)) e
 
 pub none_of : (user w : ℕ) → user < w → names_from (user + 1 - w) (w + 1) ≡ []
 none_of user w lt = let e : user + 1 - w ≡ 0 = omega arith in ap (λ k. names_from k (w + 1)) e
 
--- in the form of what is still to come
+-- introducing one name reduces the rest that is to be introduced
 pub comes : (old mid : Variables) (from mids : List Step) (user v w : ℕ) → w ≤ user → NamesOne old mid from mids w v → names_used old ≡ w
     → (new : Variables) (to : List Step) → NamesAll mid new mids to (names_from (user + 1 - (w + 1)) (w + 1 + 1)) → NamesAll old new from to (names_from (user + 1 - w) (w + 1))
 comes old mid from mids user v w le one used new to rest =
     subst (NamesAll old new from to) (sym (next_of user w le)) (one_then old mid new from mids to w v (names_from (user + 1 - (w + 1)) (w + 1 + 1)) one rest)
 
--- Names up to this index have come in; those that are left come in by what is said of them.
+-- Names below `index` were introduced; introducing the rest introduces all.
 pub record Coming (old now : Variables) (from log : List Step) (user index : ℕ) : Type 0 where
   pub valid : NamesInvariant now log
   pub used : names_used now ≡ index
@@ -132,7 +132,7 @@ last_came old mid new from mids to user v c one =
 pub last_room : (old mid new : Variables) (from mids to : List Step) (user v : ℕ) → Coming old mid from mids user user → NamesOne mid new mids to user v → LeavesRoom old new user
 last_room old mid new from mids to user v c one us h = room_one mid new user v (unused mid user c.used) (let b = c.used in omega arith) one.named one.used one.live us (c.room us h)
 
--- there is a variable for each name that is left
+-- a variable is left for every remaining name
 pub room_left : (old mid : Variables) (from mids : List Step) (user index : ℕ) (us : List ℕ) → Coming old mid from mids user index → HasVariablesFor old (user ∷ us) → live_count mid < var_limit
 room_left old mid from mids user index us c h = room_less mid user us (get_or_past mid.global_from_user.fwd user None (let a = c.used in let b = c.low in omega arith)) (c.room us h)
 

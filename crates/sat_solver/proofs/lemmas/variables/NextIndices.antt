@@ -1,4 +1,4 @@
--- The index that comes next.
+-- The next index.
 use Rattle.std.proofs.Common.{ℕ, ◌+◌, ◌<◌, ◌≤◌, ◌≡◌, Bool, true, false, not, ◌&&◌, ltb, lt-ltb, length, Option, Some, None, is_some, refl, sym, ◌∙◌, ap, arith}
 use Rattle.std.proofs.lemmas.Bool.{ltb-true, true≢false}
 use Rattle.std.proofs.lemmas.List.{get_or_past}
@@ -23,7 +23,7 @@ some_of : (o : Option ℕ) → (o ≡ None → ⊥) → is_some o ≡ true
 some_of None f = absurd (f refl)
 some_of (Some x) f = refl
 
--- below the first index never used, what isn't free is taken
+-- every index below the first unused one is free or taken
 taken : (n : Variables) (y : ℕ) → AreTidy n → y < indices_used n → is_free n.free_solvers y ≡ false → global_at n y ≡ None → ⊥
 taken n y tidy lt e none = true≢false (sym here ∙ e)
   where
@@ -67,6 +67,6 @@ index_below n v x tidy alive without next =
     let few = fewer_taken n v tidy alive without in
     omega arith
 
--- and there is one more
+-- and the limit of indices is not reached
 pub index_left : (n : Variables) (v : ℕ) → AreTidy n → (data_at n v).deleted ≡ false → solver_of n v ≡ None → ((y : ℕ) → is_free n.free_solvers y ≡ false) → indices_used n < var_limit
 index_left n v tidy alive without none = let k = index_below n v (indices_used n) tidy alive without (next_last n (indices_used n) tidy none refl) in let w = tidy.within in omega arith

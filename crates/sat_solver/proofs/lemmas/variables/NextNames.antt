@@ -1,4 +1,4 @@
--- The name that comes next.
+-- The next name.
 use Rattle.std.proofs.Common.{ℕ, ◌<◌, ◌≡◌, Bool, true, false, not, ◌&&◌, ltb, lt-ltb, None, is_some, refl, sym, ◌∙◌, ap, arith}
 use Rattle.std.proofs.lemmas.Bool.{ltb-true, true≢false}
 use Rattle.sat_solver.specs.variables.Free.{is_free, IsLowest}
@@ -8,14 +8,14 @@ use Rattle.sat_solver.specs.declared.variables.Variables.{Variables}
 use Rattle.sat_solver.proofs.lemmas.variables.BroughtIn.{hidden_name}
 use Rattle.sat_solver.proofs.lemmas.variables.NamingSteps.{unused}
 
--- below the first never used, what isn't free is in use
+-- every name below the first unused one is free or in use
 taken : (n : Variables) (m : ℕ) → AreTidy n → m < names_used n → is_free n.free_users m ≡ false → global_of n m ≡ None → ⊥
 taken n m tidy lt e none = true≢false (sym here ∙ e)
   where
     here : is_free n.free_users m ≡ true
     here = tidy.free_users m ∙ ap (λ o. ltb m (names_used n) && not (is_some o)) none ∙ ap (λ b. b && true) (lt-ltb m (names_used n) lt)
 
--- where none of them is free, all are
+-- if none of them is free, all are in use
 pub all_named : (n : Variables) → AreTidy n → ((i : ℕ) → is_free n.free_users i ≡ false) → (u : ℕ) → u < names_used n → global_of n u ≡ None → ⊥
 all_named n tidy none u lt e = taken n u tidy lt (none u) e
 

@@ -1,4 +1,4 @@
--- The variable that comes next.
+-- The next variable.
 use Rattle.std.proofs.Common.{ℕ, ◌<◌, ◌≤◌, ◌≡◌, Bool, true, false, not, ◌&&◌, cond, ltb, lt-ltb, Some, None, refl, sym, ◌∙◌, ap, arith}
 use Rattle.std.proofs.lemmas.Bool.{ltb-true, true≢false}
 use Rattle.std.proofs.lemmas.List.{get_or_past}
@@ -13,7 +13,7 @@ use Rattle.sat_solver.specs.variables.Variables.{AreTidy, NamesMatchSteps, data_
 use Rattle.sat_solver.specs.declared.variables.Variables.{Variables}
 use Rattle.sat_solver.proofs.lemmas.variables.NewName.{none_or}
 
--- below the first variable never used, what isn't free is in use
+-- every variable below the first unused one is free or in use
 taken : (n : Variables) (w : ℕ) → AreTidy n → w < variables_used n → is_free n.free_globals w ≡ false → (data_at n w).deleted ≡ false
 taken n w tidy lt e = go (data_at n w).deleted refl
   where

@@ -1,4 +1,4 @@
--- A hidden variable that gets a name, and mode witness.
+-- A hidden variable gets a name, and mode witness.
 use Rattle.std.proofs.Common.{ℕ, zero, suc, set, append_assoc, ◌+◌, ◌<◌, ◌≤◌, ◌≡◌, ◌≢◌, Bool, true, false, not, ◌&&◌, cond, eqb, ltb, lt-ltb, List, [], ◌∷◌, ◌++◌, length, get_or, Option, Some, None, is_some, refl, sym, ◌∙◌, ap, subst, arith, inl, inr}
 use Rattle.std.proofs.lemmas.Bool.{eqb-true, eqb-false, eq-eqb, ne_eqb, cases_lt, ltb-true, true≢false}
 use Rattle.std.proofs.lemmas.List.{append-nil, get_or-set_same, get_or-set_other}
@@ -55,7 +55,7 @@ given_among ((w, k) ∷ ps) v i e = go (eqb w v) refl e (given_among ps v i)
     go true t f ih = inl (same v i (eqb-true w v t) (one f))
     go false t f ih = inr (ih f)
 
--- where a variable has no name, fewer names are in use than variables
+-- if all names are in use but a variable has none, there are fewer names than variables
 few_named : (n : Variables) (v : ℕ) → AreTidy n → v < variables_used n → user_of n v ≡ None → ((m : ℕ) → m < names_used n → global_of n m ≡ None → ⊥) → names_used n < variables_used n
 few_named n v tidy within nameless all =
     let fwd : mapped_count n.global_from_user.fwd ≡ names_used n = count_full (names_used n) (λ m. is_some (global_of n m)) (λ m lt. some_at (global_of n m) (all m lt)) in
@@ -92,14 +92,14 @@ few_named n v tidy within nameless all =
         go true e = absurd (let lt = ltb-true w (variables_used n) e in omega arith)
         go false e = refl
 
--- so a name is left for a hidden one
+-- so a name is left for a hidden variable
 few_names : (n : Variables) (v : ℕ) → AreTidy n → IsHidden n v → ((m : ℕ) → m < names_used n → global_of n m ≡ None → ⊥) → names_used n < variables_used n
 few_names n v tidy h all = few_named n v tidy (live_within n v h.live) h.nameless all
 
 pub name_left : (n : Variables) (v : ℕ) → AreTidy n → IsHidden n v → NamesFull n → ⊥
 name_left n v tidy h full = let a = few_names n v tidy h full.all in let b = full.used in let c = tidy.within in absurd (omega arith)
 
--- where every name is in use, so is every variable
+-- if every name is in use, so is every variable
 pub none_left : (n : Variables) → AreTidy n → NamesFull n → NoneLeft n
 none_left n tidy full v lt = go (data_at n v).deleted refl
   where
@@ -214,7 +214,7 @@ module _ (old new : Variables) (user v : ℕ) (tidy : AreTidy old) (here : IsHid
     pub may_witness : IsAllowedStep s (ChangeSamplingMode v false)
     may_witness = ap (λ x. x.known) at
 
-    -- and then the name
+    -- then the name may be written
     pub may_observe : MayName witnessed v user
     may_observe = record {
       free = λ w e. free w (eqb w v) refl e;
@@ -308,9 +308,9 @@ module _ (old new : Variables) (user v : ℕ) (tidy : AreTidy old) (here : IsHid
               subst (λ d. IsModeOf d.sampling_mode (get_or (set j.modes i Witnessed) k Sampled)) (sym x)
               (subst (IsModeOf (data_at old w).sampling_mode) (sym (get_or-set_other j.modes i k Witnessed Sampled differ)) (judged.modes w k e))
 
--- A NAME FOR A HIDDEN VARIABLE
+-- A HIDDEN VARIABLE GETS A NAME
 
--- no name has a hidden variable
+-- no name in use has a hidden variable
 pub nameless_in : (n : Variables) (from : List Step) (v : ℕ) (j : ScriptState) (live : Live) → NamesInvariant n from → NamesAgree n from j live → IsHidden n v → (name : ℕ) → variable_of from name ≡ Some v → ⊥
 nameless_in n from v j live valid agree here zero e = (let p = agree.bridge.named 0 v e in none_some agree.judged.no_zero p.1)
 nameless_in n from v j live valid agree here (suc m) e =
@@ -362,7 +362,7 @@ module _ (old new : Variables) (from to : List Step) (user v : ℕ) (valid : Nam
 
 -- ALL HIDDEN VARIABLES
 
--- those below this index got names
+-- the hidden variables below `index` got names
 pub record Observing (old now : Variables) (from steps : List Step) (users : List ℕ) (index : ℕ) : Type 0 where
   pub valid : NamesInvariant now steps
   pub none : (v : ℕ) → v < index → IsHidden now v → ⊥
@@ -381,7 +381,7 @@ observing_begins old from valid = record {
   kept = λ j live a. (j, a, λ to k more o. o);
 }
 
--- a variable that isn't hidden
+-- a variable that isn't hidden is skipped
 pub observing_passes : (old now : Variables) (from steps : List Step) (users : List ℕ) (index : ℕ) → Observing old now from steps users index → (IsHidden now index → ⊥) → Observing old now from steps users (index + 1)
 observing_passes old now from steps users index o shown = record {
   valid = o.valid;
@@ -396,7 +396,7 @@ observing_passes old now from steps users index o shown = record {
     higher all_named = all_named
     higher (one_more v i user le g n l o) = one_more v i user (omega (arith, le)) g n l o
 
--- one that is
+-- a hidden variable gets the next name
 pub observing_goes : (old now new : Variables) (from steps to : List Step) (users : List ℕ) (index user : ℕ) → Observing old now from steps users index → IsHidden now index → NamesHidden now new steps to index user → Observing old new from to (users ++ user ∷ []) (index + 1)
 observing_goes old now new from steps to users index user o here n = record {
   valid = n.valid;

@@ -25,7 +25,7 @@ witness_some n user v tidy e j live judged =
     mode_same (data_at n v).sampling_mode (get_or j.modes i.0 Sampled) (tidy.shown v user name) (judged.modes v i.0 i.1)
     ∙ sym (ap (has_witness j) (judged.names user ∙ ap (given_of live) e ∙ i.1))
 
--- what is left of the literals decides
+-- only the remaining literals can be refused
 abbrev pub IsLeft : Variables → List ℕ → List ℕ → Type 0
 IsLeft n all rest = (j : ScriptState) (live : Live) → NamesMatchState n j live → refused_literal j (names_in all) ≡ refused_literal j (names_in rest)
 
@@ -42,7 +42,7 @@ sampled_some n user v tidy e w x f =
     some_same : {a b : ℕ} {o : Option ℕ} → o ≡ Some a → o ≡ Some b → a ≡ b
     some_same f g = cc
 
--- where no variable may be of mode witness, no name is
+-- if no variable was ever of mode witness, no name is
 module _ (n : Variables) (tidy : AreTidy n) (user : ℕ) (plain : n.witnessed ≡ false) where
   pub plain_judged : (j : ScriptState) (live : Live) → NamesMatchState n j live → false ≡ has_witness j (identity_of j (user + 1))
   plain_judged j live judged = go (global_of n user) refl

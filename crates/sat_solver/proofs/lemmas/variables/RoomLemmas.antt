@@ -1,4 +1,4 @@
--- Names that come in take a variable each.
+-- Every name that is introduced needs a variable.
 use Rattle.std.proofs.Common.{ℕ, zero, suc, ◌+◌, ◌-◌, ◌<◌, ◌≤◌, ◌≡◌, ◌≢◌, max, Bool, true, false, not, ◌&&◌, ◌||◌, cond, eqb, ltb, lt-ltb, List, [], ◌∷◌, drop, take, length, length-drop, get_or, None, Some, is_some, Result, Ok, Err, IfErr, refl, sym, ◌∙◌, ap, subst, arith, inl, inr}
 use Rattle.std.specs.Prelude.{IsErrAnd}
 use Rattle.std.proofs.lemmas.Bool.{eq-eqb, ne_eqb, le-ltb, cases_eq, cases_lt, ltb-true, true≢false}
@@ -31,7 +31,7 @@ not_not : (b : Bool) → not (not b) ≡ b
 not_not true = refl
 not_not false = refl
 
--- those that aren't are kept as free
+-- the other variables are free
 pub live_others : (n : Variables) → AreTidy n → live_count n + n.free_globals.count ≡ variables_used n
 live_others n tidy =
     let counted = tidy.spans_globals.tree.counted in
@@ -40,7 +40,7 @@ live_others n tidy =
     let both = count_not (variables_used n) (is_live n) in
     omega arith
 
--- where every variable is in use, so many are
+-- if no variable is left, the number in use is the limit
 pub live_full : (n : Variables) → AreTidy n → NoneLeft n → live_count n ≡ var_limit
 live_full n tidy none = ap (λ k. count_to k (is_live n)) same ∙ count_full var_limit (is_live n) (λ k lt. ap not (none k lt))
   where
@@ -50,7 +50,7 @@ live_full n tidy none = ap (λ k. count_to k (is_live n)) same ∙ count_full va
       | inr le ↦ (let w = tidy.within in omega arith)
     ]
 
--- one came into use
+-- one more variable is in use
 pub live_named : (old new : Variables) (user v : ℕ) → IsRoom old user v → PutsName old new user v → live_count new ≡ live_count old + 1
 live_named old new user v room put =
     let size = put.count in
@@ -58,13 +58,13 @@ live_named old new user v room put =
     (λ k ne. ap (λ d. not d.deleted) (put.kept k ∙ ap (λ b. cond b user_variable (data_at old k)) (ne_eqb k v ne)))
     ∙ ap (λ c. c + 1) (count_reach (variables_used old) (variables_used new) (is_live old) (omega arith) (λ k le. ap (λ d. not d.deleted) (get_or_past old.var_data.items k unused_variable le)))
 
--- NAMES THAT COME IN
+-- NAMES ARE INTRODUCED
 
 pub reach_low : (us : List ℕ) (used : ℕ) → used ≤ reach used us
 reach_low [] used = omega arith
 reach_low (u ∷ us) used = let r = reach_low us (max used (u + 1)) in omega arith
 
--- among more names
+-- a name other than the first is listed among the rest
 listed_other : (user k : ℕ) (us : List ℕ) → user ≢ k → is_listed (user ∷ us) k ≡ is_listed us k
 listed_other user k us ne = ap (λ b. b || is_listed us k) (ne_eqb user k ne)
 
@@ -74,7 +74,7 @@ hidden_other n user k us ne = ap (λ b. not (is_some (global_of n k)) && b) (lis
 hidden_here : (n : Variables) (user : ℕ) (us : List ℕ) → global_of n user ≡ None → is_hidden_name n (user ∷ us) user ≡ true
 hidden_here n user us free = ap (λ o. not (is_some o) && is_listed (user ∷ us) user) free ∙ ap (λ b. b || is_listed us user) (eq-eqb user user refl)
 
--- one that isn't in use takes a variable
+-- a name that isn't in use takes a variable
 pub room_one : (old new : Variables) (user v : ℕ) → global_of old user ≡ None → user ≤ names_used old → ((u : ℕ) → global_of new u ≡ cond (eqb u user) (Some v) (global_of old u)) → names_used new ≡ max (names_used old) (user + 1) → live_count new ≡ live_count old + 1
     → (us : List ℕ) → HasVariablesFor old (user ∷ us) → HasVariablesFor new us
 room_one old new user v free low named used live us h = elim (cases_lt user (names_used old)) [ inl lt ↦ again lt | inr le ↦ first le ]
@@ -107,21 +107,21 @@ room_one old new user v free low named used live us h = elim (cases_lt user (nam
         let r = reach_low us (names_used new) in
         omega arith
 
--- those below one that was never used come in with it
+-- if there is room for a name, there is room for the lower names that were never used
 pub room_below : (n : Variables) (w user : ℕ) (us : List ℕ) → names_used n ≤ w → w ≤ user → HasVariablesFor n (user ∷ us) → HasVariablesFor n (w ∷ user ∷ us)
 room_below n w user us low le h =
     let top : reach (max (max (names_used n) (w + 1)) (user + 1)) us ≡ reach (max (names_used n) (user + 1)) us = ap (λ k. reach k us) (omega arith) in
     let same = count_same (names_used n) (is_hidden_name n (w ∷ user ∷ us)) (is_hidden_name n (user ∷ us)) (λ k lt. hidden_other n w k (user ∷ us) (λ e. omega arith)) in
     omega arith
 
--- there is one for a name that isn't in use
+-- a variable is left for a name that isn't in use
 pub room_less : (n : Variables) (user : ℕ) (us : List ℕ) → global_of n user ≡ None → HasVariablesFor n (user ∷ us) → live_count n < var_limit
 room_less n user us free h = elim (cases_lt user (names_used n)) [
   | inl lt ↦ (let s = count_some (names_used n) user (is_hidden_name n (user ∷ us)) lt (hidden_here n user us free) in omega arith)
   | inr le ↦ (let r = reach_low us (max (names_used n) (user + 1)) in omega arith)
 ]
 
--- one in use takes none
+-- a name in use takes no variable
 pub room_none : (n : Variables) (user v : ℕ) (us : List ℕ) → user < names_used n → global_of n user ≡ Some v → HasVariablesFor n (user ∷ us) → HasVariablesFor n us
 room_none n user v us lt e h =
     let top : reach (max (names_used n) (user + 1)) us ≡ reach (names_used n) us = ap (λ k. reach k us) (omega arith) in
@@ -134,7 +134,7 @@ room_none n user v us lt e h =
       | inr ne ↦ hidden_other n user k us ne
     ]
 
--- where names and variables stay, so does the room
+-- the room is unchanged if names and variables are
 pub room_same : (old new : Variables) (us : List ℕ) → new.global_from_user ≡ old.global_from_user → new.var_data ≡ old.var_data → HasVariablesFor old us → HasVariablesFor new us
 room_same old new us users kept h =
     let live : live_count new ≡ live_count old = ap (λ d. count_to (length d.items) (λ v. not (get_or d.items v unused_variable).deleted)) kept in
@@ -142,18 +142,18 @@ room_same old new us users kept h =
     ap (λ m. reach (length m.fwd) us - length m.fwd + count_to (length m.fwd) (λ u. not (is_some (target m.fwd u)) && is_listed us u)) users in
     omega arith
 
--- for the next of these literals and those after it
+-- there is room for the next of these literals, and for those after it
 pub room_at : (n : Variables) (all : List ℕ) (index user : ℕ) → index < length all → user ≡ variable (get_or all index 0) → HasVariablesFor n (user_vars_in (drop index all)) → HasVariablesFor n (user ∷ user_vars_in (drop (index + 1) all))
 room_at n all index user lt at h = subst (HasVariablesFor n) (ap user_vars_in (drop_more all index 0 lt) ∙ ap (λ u. u ∷ user_vars_in (drop (index + 1) all)) (sym at)) h
 
 -- FAULTS
 
--- where a variable is left, that isn't why it failed
+-- if a variable is left, the call failed for another reason
 pub limit_fails : {W : Type 0} (e : NameError) (old new : Variables) (from to : W) → AreTidy old → live_count old < var_limit → Limits e old new from to → IsFailure e
 limit_fails errors.VariableLimit old new from to tidy lt h = let e = live_full old tidy h.none in absurd (omega arith)
 limit_fails x old new from to tidy lt h = tt
 
--- a fault that is handed on
+-- an error is passed on
 pub fails_on : {A : Type 0} (r : Result A NameError) (e : NameError) → IsErrAnd r (λ f. f ≡ e) → IsFailure e → IfErr r IsFailure
 fails_on r e h f = let p = err_from_is_err_and r h in subst (λ r. IfErr r IsFailure) (sym p.1) (subst IsFailure (sym p.2) f)
 
@@ -171,11 +171,11 @@ none_listed : (b : Bool) → (b && false) ≡ false
 none_listed true = refl
 none_listed false = refl
 
--- at first there is none
+-- an empty list has no hidden name
 pub hidden_none : (n : Variables) → hidden_count n [] ≡ 0
 hidden_none n = count_none (names_used n) (is_hidden_name n []) (λ u lt. none_listed (not (is_some (global_of n u))))
 
--- a name that isn't hidden, or stands after again, adds nothing
+-- a name adds nothing if it isn't hidden, or occurs again later
 hidden_same : (n : Variables) (user : ℕ) (us : List ℕ) → ((u : ℕ) → u < names_used n → u ≡ user → is_hidden_name n (user ∷ us) u ≡ is_hidden_name n us u) → hidden_count n (user ∷ us) ≡ hidden_count n us
 hidden_same n user us here = count_same (names_used n) (is_hidden_name n (user ∷ us)) (is_hidden_name n us) each
   where
@@ -204,23 +204,23 @@ hidden_more n user us lt new free =
     here : is_hidden_name n (user ∷ us) user ≡ true
     here = ap (λ b. not b && is_listed (user ∷ us) user) free ∙ ap (λ b. b || is_listed us user) (eq-eqb user user refl)
 
--- a literal is over the name, or none is
+-- a list mentions a variable if and only if the name is listed
 pub mentions_listed : (ls : List ℕ) (v : ℕ) → mentions ls v ≡ is_listed (user_vars_in ls) v
 mentions_listed [] v = refl
 mentions_listed (l ∷ ls) v = ap (λ b. eqb (variable l) v || b) (mentions_listed ls v)
 
--- among the literals after a place
+-- the literals from a position on mention a variable if and only if the name is listed there
 pub mentions_after : (ls : List ℕ) (k v : ℕ) → mentions (take (length ls - k) (drop k ls)) v ≡ is_listed (user_vars_in (drop k ls)) v
 mentions_after ls k v = ap (λ zs. mentions zs v) (take_all (length ls - k) (drop k ls) (omega (arith, length-drop k ls))) ∙ mentions_listed (drop k ls) v
 
--- the literals from a place on
+-- the names of the literals from a position on
 pub users_at : (ls : List ℕ) (at l : ℕ) → at < length ls → l ≡ get_or ls at l → user_vars_in (drop at ls) ≡ variable l ∷ user_vars_in (drop (at + 1) ls)
 users_at ls at l lt e = ap user_vars_in (drop_more ls at l lt) ∙ ap (λ m. variable m ∷ user_vars_in (drop (at + 1) ls)) (sym e)
 
 pub hidden_at : (n : Variables) (ls : List ℕ) (at l user : ℕ) → at < length ls → l ≡ get_or ls at l → user ≡ variable l → hidden_count n (user_vars_in (drop at ls)) ≡ hidden_count n (user ∷ user_vars_in (drop (at + 1) ls))
 hidden_at n ls at l user lt e u = ap (hidden_count n) (users_at ls at l lt e ∙ ap (λ v. v ∷ user_vars_in (drop (at + 1) ls)) (sym u))
 
--- so many at most, as there are literals
+-- there are at most as many hidden names as literals
 pub hidden_most : (n : Variables) (us : List ℕ) → count_to (names_used n) (is_hidden_name n us) ≤ length us
 hidden_most n [] = let e = count_none (names_used n) (is_hidden_name n []) (λ u lt. none_listed (not (is_some (global_of n u)))) in omega arith
 hidden_most n (user ∷ us) = let ih = hidden_most n us in let p = count_part_but (names_used n) user (is_hidden_name n (user ∷ us)) (is_hidden_name n us) (λ k ne. hidden_other n user k us (λ e. ne (sym e))) in omega arith
@@ -239,7 +239,7 @@ hidden_most n (user ∷ us) = let ih = hidden_most n us in let p = count_part_bu
 
 -- TESTS
 
--- among one name alone
+-- a list of one name contains no other
 only_here : (n : Variables) (user k : ℕ) → user ≢ k → is_hidden_name n (user ∷ []) k ≡ false
 only_here n user k ne = hidden_other n user k [] ne ∙ none_listed (not (is_some (global_of n k)))
 
@@ -264,7 +264,7 @@ one_hidden n user lt free =
     here : is_hidden_name n (user ∷ []) user ≡ true
     here = ap (λ b. not b && is_listed (user ∷ []) user) free ∙ ap (λ b. b || false) (eq-eqb user user refl)
 
--- what a test of a count says
+-- a test of a count decides whether there is room
 says_room : (n : Variables) (us : List ℕ) (b : Bool) → (b ≡ true → HasVariablesFor n us) → (b ≡ false → HasVariablesFor n us → ⊥) → SaysRoom b n us
 says_room n us true fits lacks = fits refl
 says_room n us false fits lacks = lacks refl
@@ -285,7 +285,7 @@ says_hidden n user left lt free all = says_room n (user ∷ []) (ltb 0 left)
 pub fits_used : (n : Variables) (user : ℕ) → AreTidy n → user < names_used n → is_some (global_of n user) ≡ true → HasVariablesFor n (user ∷ [])
 fits_used n user tidy lt some = let o = one_used n user lt some in let m = live_most n tidy in omega arith
 
--- as there is room for all of them at once
+-- there is room for all names of these literals at once
 pub fits_all : (n : Variables) (lits : List ℕ) (top left : ℕ) → top ≡ reach (names_used n) (user_vars_in lits) → left + live_count n ≡ var_limit → top - names_used n ≤ left → length lits ≤ left - (top - names_used n) → HasVariablesFor n (user_vars_in lits)
 fits_all n lits top left is all low le = let m = hidden_most n (user_vars_in lits) in let l = length-map lits variable in omega arith
 

@@ -1,4 +1,4 @@
--- Steps of the search leave the names as they are.
+-- Steps of the search leave the names unchanged.
 use Rattle.std.proofs.Common.{ℕ, ◌+◌, ◌-◌, ◌<◌, ◌≡◌, ◌≢◌, Bool, true, false, ◌||◌, ◌&&◌, eqb, List, [], ◌∷◌, map, Option, Some, None, refl, sym, ◌∙◌, ap, arith}
 use Rattle.std.proofs.lemmas.Bool.{eqb-true, eq-eqb, ne_eqb, true≢false}
 use Rattle.std.specs.List.{AllByRecursion}
@@ -26,7 +26,7 @@ use Rattle.sat_solver.proofs.lemmas.variables.ClauseWritten.{known_same, same_li
 none_some : {x : ℕ} {o : Option ℕ} → o ≡ None → o ≡ Some x → ⊥
 none_some e f = cc
 
--- What a step over variables with indices leaves: all but clauses and units over these.
+-- What a step over variables with indices leaves unchanged: everything but clauses and units over these.
 pub record Leaves (n : Variables) (s t : Session) : Type 0 where
   variables : (v : ℕ) → t.variables v ≡ s.variables v
   solver_names : t.solver_names ≡ s.solver_names
@@ -46,7 +46,7 @@ leaves_both n a b c x y = record {
   unused = λ v e h. y.unused v e (x.unused v e h);
 }
 
--- a literal over a variable that has an index isn't one of a variable that has none
+-- a literal whose variable has an index differs from one whose variable has none
 differs : (n : Variables) (l v x : ℕ) (b : Bool) → solver_of n (variable l) ≡ Some x → solver_of n v ≡ None → l ≢ coded v b
 differs n l v x b e f q = none_some (ap (solver_of n) (ap variable q ∙ coded_half v b) ∙ f) e
 
@@ -62,7 +62,7 @@ leaves_facts : (n : Variables) (ls : List ℕ) (s : Session) → AreIndexed n ls
 leaves_facts n [] s h = leaves_same n s
 leaves_facts n (l ∷ ls) s h = leaves_both n s (with_fact l s) (with_facts ls (with_fact l s)) (leaves_fact n l h.0.0 s h.0.1) (leaves_facts n ls (with_fact l s) h.1)
 
--- a variable without index is in none of them
+-- a clause over variables with indices does not mention one without
 unmentioned : (n : Variables) (c : List ℕ) (v : ℕ) → solver_of n v ≡ None → AreIndexed n c → mentions c v ≡ false
 unmentioned n [] v e h = refl
 unmentioned n (x ∷ xs) v e h = ap (λ b. b || mentions xs v) (ne_eqb (variable x) v (λ q. none_some (ap (solver_of n) q ∙ e) h.0.1)) ∙ unmentioned n xs v e h.1
@@ -113,7 +113,7 @@ leaves_less n r set s = record {
     fewer true m lt = let z : 0 < m - 1 = lt in omega arith
     fewer false m lt = lt
 
--- variables in use are known
+-- marking variables as known changes nothing if they are known already
 leaves_known : (n : Variables) (ls : List ℕ) (s : Session) → AllByRecursion (λ l. (s.variables (variable l)).known ≡ true) ls → Leaves n s (knowing_literals ls s)
 leaves_known n ls s h = record { variables = λ v. known_same s ls v h; solver_names = refl; assumed = refl; units = λ v e b. refl; unused = λ v e k. k }
 

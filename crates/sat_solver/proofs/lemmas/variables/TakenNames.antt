@@ -1,4 +1,4 @@
--- The names of a clause come in, literal by literal.
+-- The names of a clause are introduced, literal by literal.
 use Rattle.std.proofs.Common.{ℕ, zero, suc, ◌+◌, ◌*◌, ◌%◌, ◌||◌, ◌<◌, ◌≤◌, ◌≡◌, ◌⊎◌, Bool, true, false, cond, eqb, List, [], ◌∷◌, ◌++◌, map, drop, length, get_or, Option, Some, None, refl, sym, ◌∙◌, ap, subst, arith, length-append, inl, inr}
 use Rattle.std.proofs.lemmas.Bool.{eqb-true, eq-eqb, ne_eqb, cases_eq, true≢false, or_cases, or_right}
 use Rattle.std.proofs.lemmas.List.{drop_more, drop_all}
@@ -35,11 +35,11 @@ use Rattle.sat_solver.proofs.lemmas.variables.NextVariables.{next_solver}
 use Rattle.sat_solver.proofs.lemmas.variables.ComingSteps.{name_among, comes_due, comes_index}
 use Rattle.sat_solver.proofs.lemmas.variables.Giving.{keeps_same, keeps_both, gives_none, gives_unseen, gives_both}
 
--- the names of these literals are brought in
+-- the names of these literals are introduced
 abbrev pub Brings : Variables → Variables → List Step → List Step → List ℕ → Type 0
 Brings old new from to lits = NamesEffect old new from to (bring_all (names_in lits)) (bringing (names_in lits))
 
--- so many literals were taken, and those that are left come in by what is said of them
+-- the literals before position `index` were taken; taking the rest introduces all names
 pub record Taking (old now : Variables) (from steps : List Step) (all : List ℕ) (index : ℕ) (items : List ℕ) (given : List Given) : Type 0 where
   pub first : AreInverse old.solver_from_global
   pub valid : NamesInvariant now steps
@@ -54,7 +54,7 @@ pub record Taking (old now : Variables) (from steps : List Step) (all : List ℕ
 image_stays : (old new : Variables) (l code : ℕ) → ExtendsNames old new → ((v x : ℕ) → solver_of old v ≡ Some x → solver_of new v ≡ Some x) → Image old l code → Image new l code
 image_stays old new l code e stays i = record { variable_is = i.variable_is; index_is = i.index_is; named = (e.stays (variable l) i.variable_is i.named).0; indexed = stays i.variable_is i.index_is i.indexed; is = i.is }
 
--- one literal's name and index
+-- the name and the index of one literal
 pub one_taken : (old now mid new : Variables) (from log mids to : List Step) (all items next : List ℕ) (before after : List Given) (index l v x code : ℕ) → Taking old now from log all index items before → index < length all → l ≡ get_or all index 0
     → BringsInUnseen now mid log mids (variable l) → global_of mid (variable l) ≡ Some v → Indexes mid new mids to before after v x → code ≡ coded x (is_positive l) → next ≡ items ++ code ∷ [] → Taking old new from to all (index + 1) next after
 one_taken old now mid new from log mids to all items next before after index l v x code t lt at brought named indexes is e = record {
@@ -118,7 +118,7 @@ all_taken old new from to all t index le ge taking = record {
   comes = taking.comes;
 }
 
--- FROM PLACES TO SETS
+-- FROM POSITIONS TO SETS
 
 pub at_place : (xs : List ℕ) (x : ℕ) → Among x xs → (k : ℕ) × (k < length xs) × (get_or xs k 0 ≡ x)
 at_place [] x m = absurd m
@@ -135,7 +135,7 @@ no_witness_at n [] l h m = absurd m
 no_witness_at n (x ∷ xs) l h (inl e) = subst (λ y. (v : ℕ) → global_of n (variable y) ≡ Some v → (data_at n v).sampling_mode ≡ kept.Sample) (sym e) h.0
 no_witness_at n (x ∷ xs) l h (inr m) = no_witness_at n xs l h.1 m
 
--- the proof's literal for one of the search's
+-- the proof literal for a literal of the search
 pub mapped_is : (n : Variables) (l code : ℕ) (i : Image n l code) → AreTidy n → with_var (global_with_index n) code ≡ coded i.variable_is (is_positive l)
 mapped_is n l code i tidy =
     ap (with_var (global_with_index n)) i.is
@@ -157,7 +157,7 @@ map_among f y [] m = absurd m
 map_among f y (x ∷ xs) (inl e) = (x, inl refl, e)
 map_among f y (x ∷ xs) (inr m) = let p = map_among f y xs m in (p.0, inr p.1, p.2)
 
--- literals that have the same members as those in order, over the proof's variables
+-- a clause with the members of these literals, over proof variables
 pub same_literals : (old new : Variables) (user order set clause : List ℕ) → AreTidy new → ExtendsNames old new → NoWitness old user → Images new user order → ((x : ℕ) → Among x order → Among x set) → ((x : ℕ) → Among x set → Among x order) → clause ≡ map (with_var (global_with_index new)) set → SameLiterals new user clause
 same_literals old new user order set clause tidy extends none images more less e = record {
   there = all_from (λ l. (code : ℕ) × IsProofLiteralOf new l code × Among code clause) user (λ l m.
@@ -190,7 +190,7 @@ same_literals old new user order set clause tidy extends none images more less e
             some_same : {x y : ℕ} {o : Option ℕ} → o ≡ Some x → o ≡ Some y → x ≡ y
             some_same f g = cc
 
--- membership as a test
+-- a member of a list passes the test of membership
 pub among_test : (xs : List ℕ) (x : ℕ) → Among x xs → is_among xs x ≡ true
 among_test [] x m = absurd m
 among_test (y ∷ ys) x (inl e) = ap (λ b. b || is_among ys x) (eq-eqb y x (sym e))
@@ -206,7 +206,7 @@ canonical_more xs x m = test_among (canonical xs) x (canonical_among xs x ∙ am
 pub canonical_less : (xs : List ℕ) (x : ℕ) → Among x (canonical xs) → Among x xs
 canonical_less xs x m = test_among xs x (sym (canonical_among xs x) ∙ among_test (canonical xs) x m)
 
--- the search's indices are among those of the list
+-- every literal of the list is over an index that the names have
 pub images_within : (n : Variables) (user order : List ℕ) → AreTidy n → Images n user order → (x : ℕ) → Among x order → variable x < length n.globals.items
 images_within n user order tidy images x m =
     let p = at_place order x m in

@@ -1,4 +1,4 @@
--- Binary trees of tests in one list.
+-- Binary trees of flags, each in one list.
 use Rattle.std.proofs.Common.{ℕ, zero, suc, ◌+◌, ◌-◌, ◌*◌, ◌/◌, ◌<◌, ◌≤◌, ◌≡◌, ◌≢◌, Bool, true, false, ◌||◌, cond, eqb, List, [], ◌∷◌, ◌++◌, take, replicate, length, get_or, refl, sym, ◌∙◌, ap, subst, arith, inl, inr}
 use Rattle.std.proofs.lemmas.Bool.{eqb-true, eqb-false, eq-eqb, ne_eqb, true≢false, or_left, or_right, cases_eq, cases_lt}
 use Rattle.std.proofs.lemmas.List.{get_or_past, get_or_append_left, get_or-append_right, take_all}
@@ -21,7 +21,7 @@ doubled_suc h = refl
 pub doubled_more : (h : ℕ) → doubled (h + 1) ≡ 2 * doubled h
 doubled_more h = ap doubled (let e : h + 1 ≡ suc h = omega arith in e) ∙ doubled_suc h
 
--- a number is below its power
+-- every number is below its power of 2
 pub below_doubled : (h : ℕ) → h < doubled h
 below_doubled zero = let e = doubled_zero in omega arith
 below_doubled (suc h) = let e = doubled_suc h in let ih = below_doubled h in omega arith
@@ -37,14 +37,14 @@ doubled_largest : doubled 28 ≡ var_limit
 unfolding doubled
 doubled_largest = refl
 
--- there is room for one more level below the limit
+-- below the limit there is room for one more level
 pub doubled_small : (h : ℕ) → doubled h < var_limit → 2 * doubled h ≤ var_limit
 doubled_small h lt = elim (cases_lt h 28) [
   | inl low ↦ let e = doubled_suc h in let le = doubled_le (suc h) 28 (omega arith) in let l = doubled_largest in omega arith
   | inr high ↦ let le = doubled_le 28 h high in let l = doubled_largest in absurd (omega arith)
 ]
 
--- THE NODE SO MANY LEVELS ABOVE
+-- ANCESTORS OF A NODE
 
 pub up : ℕ → ℕ → ℕ
 up zero l = l
@@ -66,7 +66,7 @@ up_root : (h l : ℕ) → doubled h ≤ l → l < 2 * doubled h → up h l ≡ 1
 up_root zero l a b = let e = doubled_zero in up_zero l ∙ omega arith
 up_root (suc h) l a b = let e = doubled_suc h in up_suc h l ∙ up_root h (l / 2) (omega arith) (omega arith)
 
--- above a node of the set, all are
+-- every ancestor of a set node is set
 ancestor : (f : FreeIndices) → IsTree f → (h l : ℕ) → tree_node_at f.nodes.items l ≡ true → l < 2 * f.room → 0 < up h l → tree_node_at f.nodes.items (up h l) ≡ true
 ancestor f tree zero l e lt pos = ap (tree_node_at f.nodes.items) (up_zero l) ∙ e
 ancestor f tree (suc h) l e lt pos = ap (tree_node_at f.nodes.items) (up_suc h l) ∙ ancestor f tree h (l / 2) here (omega arith) (subst (λ x. 0 < x) (up_suc h l) pos)
@@ -109,7 +109,7 @@ none_root f tree p e i = elim (cases_lt i f.room) [
 
 -- THE WAY DOWN
 
--- a node on this level has an index in the set, and no leaf left of it has
+-- the node has a free index below it, and no leaf to its left is free
 pub record Descends (f : FreeIndices) (level at : ℕ) : Type 0 where
   pub tree : IsTree f
   pub full : f.room ≡ doubled f.height
@@ -164,7 +164,7 @@ goes_down f level at child d lt c = record {
 pub inner : (f : FreeIndices) (level at : ℕ) → Descends f level at → level < f.height → at < f.room
 inner f level at d lt = let a = d.high in let e = doubled_more level in let m = doubled_le (level + 1) f.height (omega arith) in let r = d.full in omega arith
 
--- the children of a node that holds
+-- a child of a set node is set
 pub some_below : (f : FreeIndices) (level at : ℕ) → Descends f level at → level < f.height → (tree_node_at f.nodes.items (2 * at) || tree_node_at f.nodes.items (2 * at + 1)) ≡ true
 some_below f level at d lt = sym (d.tree.inner at (let a = d.low in let z = below_doubled level in omega arith) (inner f level at d lt)) ∙ d.holds
 
@@ -200,9 +200,9 @@ lowest_fits f level at d le = let p = leaf_place f level at d le in let p0 = p.0
 pub child_within : (f : FreeIndices) (level at : ℕ) → Descends f level at → level < f.height → 2 * at + 1 < length f.nodes.items
 child_within f level at d lt = let a = inner f level at d lt in let s = d.tree.size in omega arith
 
--- HOW MANY THERE ARE
+-- THE NUMBER OF FREE INDICES
 
--- none in an empty tree
+-- an empty tree
 pub tree_none : (f : FreeIndices) → f.nodes.items ≡ [] → f.room ≡ 0 → f.count ≡ 0 → IsTree f
 tree_none f nodes room count = record {
   size = let s = ap (λ (xs : List Bool). length xs) nodes in omega arith;
@@ -211,7 +211,7 @@ tree_none f nodes room count = record {
   inner = λ q pos lt. absurd (omega arith);
 }
 
--- one that is in the set is counted
+-- if an index is free, the count is positive
 pub some_counted : (f : FreeIndices) (index : ℕ) → IsTree f → index < f.room → is_free f index ≡ true → 0 < f.count
 some_counted f index tree lt e = let s = count_some f.room index (is_free f) lt e in let c = tree.counted in omega arith
 
@@ -220,7 +220,7 @@ counted_small f tree = let l = count_le f.room (is_free f) in let c = tree.count
 
 -- A LEAF CHANGES
 
--- the leaf has this value, and all nodes are as those below say but the one above this one
+-- the leaf has this value, and every inner node except the parent of `at` follows from its children
 pub record Mends (room : ℕ) (first nodes : List Bool) (leaf : ℕ) (value : Bool) (at : ℕ) : Type 0 where
   pub size : length nodes ≡ length first
   pub leaves : (l : ℕ) → room ≤ l → tree_node_at nodes l ≡ cond (eqb l leaf) value (tree_node_at first l)
@@ -263,7 +263,7 @@ mended f g index value at tree lt room height count m le = (
         let all : g.count ≡ count_to f.room (is_free g) = omega arith in
         all ∙ ap (λ r. count_to r (is_free g)) (sym room)
 
--- a node that stays leaves all above it right
+-- if the parent already follows from its children, the whole tree is up to date
 pub mended_early : (room : ℕ) (first nodes : List Bool) (leaf : ℕ) (value : Bool) (at : ℕ) → Mends room first nodes leaf value at → 1 < at → tree_node_at nodes (at / 2) ≡ (tree_node_at nodes (2 * (at / 2)) || tree_node_at nodes (2 * (at / 2) + 1)) → Mends room first nodes leaf value 1
 mended_early room first nodes leaf value at m more fresh = record {
   size = m.size;
@@ -276,17 +276,17 @@ mended_early room first nodes leaf value at m more fresh = record {
   within = let w = m.within in omega arith;
 }
 
--- ALL NODES ANEW
+-- ALL NODES ARE RECOMPUTED
 
--- leaves are as they were, and all nodes from this one on are as those below say
+-- leaves are unchanged, and inner nodes from `from` on follow from their children
 pub record Renews (room : ℕ) (first nodes : List Bool) (from : ℕ) : Type 0 where
   pub size : length nodes ≡ length first
   pub leaves : (l : ℕ) → room ≤ l → tree_node_at nodes l ≡ tree_node_at first l
   pub inner : (q : ℕ) → from ≤ q → 0 < q → q < room → tree_node_at nodes q ≡ (tree_node_at nodes (2 * q) || tree_node_at nodes (2 * q + 1))
 
--- LEAVES MOVE
+-- LEAVES ARE MOVED
 
--- in a list of twice the length the leaves are the same
+-- in a list of twice the length the same indices are free
 pub grown : (f g h : FreeIndices) (wide : List Bool) → IsTree f → f.room ≡ doubled f.height → length wide ≡ 4 * f.room → ((q : ℕ) → tree_node_at wide q ≡ tree_node_at f.nodes.items q) → CopiesLeaves wide g.nodes.items f.room → g.room ≡ 2 * f.room → ((i : ℕ) → is_free h i ≡ is_free g i) → (i : ℕ) → is_free h i ≡ is_free f i
 grown f g h wide tree p size same c room leaves i = leaves i ∙ ap (λ r. tree_node_at g.nodes.items (r + i)) room ∙ elim (cases_lt i f.room) [
   | inl lt ↦ c.there i lt ∙ same (f.room + i)
@@ -300,13 +300,13 @@ grown_powers f g tree n lt room height =
     let d = doubled_more f.height in
     power (omega (arith, ap doubled height)) (omega arith)
 
--- no leaf that came is in the set
+-- growing the tree preserves the count, since no new leaf is free
 pub grown_counted : (f g : FreeIndices) (wide : List Bool) → IsTree f → f.room ≡ doubled f.height → length wide ≡ 4 * f.room → ((q : ℕ) → tree_node_at wide q ≡ tree_node_at f.nodes.items q) → CopiesLeaves wide g.nodes.items f.room → g.room ≡ 2 * f.room → g.count ≡ f.count → IsCounted g
 grown_counted f g wide tree p size same c room count =
     count ∙ tree.counted ∙ sym (count_reach f.room g.room (is_free f) (omega arith) (λ k le. past f k tree le))
     ∙ count_same g.room (is_free f) (is_free g) (λ i lt. sym (grown f g g wide tree p size same c room (λ k. refl) i))
 
--- where no leaf is in the set, no node says so
+-- if the count is 0, no index is free
 nothing_free : (f : FreeIndices) → IsTree f → f.count ≡ 0 → (i : ℕ) → is_free f i ≡ false
 nothing_free f tree e i = bool_false (is_free f i) (λ t. elim (cases_lt i f.room) [
   | inl lt ↦ absurd (let s = some_counted f i tree lt t in omega arith)
@@ -324,7 +324,7 @@ module _ (f g : FreeIndices) (tree : IsTree f) (some : f.room ≡ 0 → ⊥) (lt
   nothing_wide : (q : ℕ) → 0 < q → tree_node_at g.nodes.items q ≡ false
   nothing_wide q pos = same q ∙ nothing_above f tree empty_set (2 * f.room) q (omega arith) pos
 
-  -- a tree of no free index grows as it is
+  -- growing a tree without free indices leaves none free
   pub empty_same : (i : ℕ) → is_free g i ≡ is_free f i
   empty_same i = nothing_wide (g.room + i) (elim (cases_eq f.room 0) [ inl z ↦ absurd (some z) | inr n ↦ omega arith ]) ∙ sym (nothing_free f tree empty_set i)
 
@@ -339,7 +339,7 @@ module _ (f g : FreeIndices) (tree : IsTree f) (some : f.room ≡ 0 → ⊥) (lt
 pub height_fits : (f : FreeIndices) → IsTree f → (f.room ≡ 0 → ⊥) → f.height < var_limit
 height_fits f tree n = let p = full f tree n in let s = small f tree in let b = below_doubled f.height in omega arith
 
--- one leaf
+-- the first leaf is added
 pub tree_one : (f g : FreeIndices) → IsTree f → f.room ≡ 0 → g.room ≡ 1 → g.height ≡ 0 → g.count ≡ f.count → length g.nodes.items ≡ 2 → ((q : ℕ) → tree_node_at g.nodes.items q ≡ tree_node_at f.nodes.items q) → IsTree g
 tree_one f g tree none room height count size same = record {
   size = omega arith;
@@ -361,7 +361,7 @@ widened old new count n le e q = ap (λ xs. get_or xs q false) (e ∙ ap (λ xs.
   | inr past ↦ get_or-append_right old (replicate n false) (length old) q false refl past ∙ none_in n (q - length old) ∙ sym (get_or_past old q false past)
 ]
 
--- what is read of a node
+-- the default does not matter for a position in the list
 default : (xs : List Bool) (i : ℕ) (x y : Bool) → i < length xs → get_or xs i x ≡ get_or xs i y
 default [] i x y lt = absurd (omega arith)
 default (z ∷ zs) zero x y lt = refl

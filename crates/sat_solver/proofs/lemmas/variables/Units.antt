@@ -1,4 +1,4 @@
--- The value of a unit is noted.
+-- The value of a unit is stored.
 use Rattle.std.proofs.Common.{ℕ, ◌+◌, ◌≡◌, ◌≢◌, Bool, true, false, not, ◌&&◌, cond, eqb, ltb, List, length, get_or, Option, Some, None, is_some, refl, sym, ◌∙◌, ap, subst, arith}
 use Rattle.std.proofs.lemmas.Bool.{eqb-true, true≢false}
 use Rattle.sat_base.specs.script.ScriptState.{ScriptState, Sampled}
@@ -16,7 +16,7 @@ use Rattle.sat_solver.specs.variables.Calls.{NamesInvariant, NamesAgree}
 use Rattle.sat_solver.specs.declared.variables.Variables.{Variables}
 use Rattle.sat_solver.proofs.lemmas.variables.NewName.{shape}
 
--- data that change in units and marks alone
+-- only units and marks of the data change
 module _ (old new : Variables) (tidy : AreTidy old) (maps : SameMaps old new) (deleted_at : (w : ℕ) → (data_at new w).deleted ≡ (data_at old w).deleted) (mode_at : (w : ℕ) → (data_at new w).sampling_mode ≡ (data_at old w).sampling_mode) (gone : (w : ℕ) → (data_at old w).deleted ≡ true → data_at new w ≡ unused_variable) where
   user_at : (w : ℕ) → user_of new w ≡ user_of old w
   user_at w = ap (λ m. target m.bwd w) maps.users

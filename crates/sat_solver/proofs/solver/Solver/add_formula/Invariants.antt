@@ -3,7 +3,7 @@ use Rattle.sat_solver.specs.solver.Whole.{IsSolver}
 use Rattle.sat_solver.proofs.lemmas.solver.FormulaLemmas.{AddedSo}
 use Rattle.sat_solver.proofs.solver.Solver.add_formula.Given as goal
 
--- the clauses before were added
+-- the earlier clauses were added
 abbrev pub invariant-loop-clause : goal.invariant-loop-clause
 invariant-loop-clause g l = record {
   was : l.fn.self.failed ≡ false;

@@ -7,7 +7,7 @@ use Rattle.sat_solver.specs.solver.Formulas.{AddsAll}
 use Rattle.sat_solver.specs.solver.Whole.{IsSolver}
 use Rattle.sat_solver.proofs.solver.Solver.add_text.Given as goal
 
--- so much of the text was given, and its clauses were added
+-- this much of the text was read, and its clauses were added
 abbrev pub invariant-loop : goal.invariant-loop
 invariant-loop g l = record {
   was : l.fn.self.failed ≡ false;

@@ -1,4 +1,4 @@
--- `of` makes what contracts see of a cause.
+-- `of` creates what contracts see of an underlying error.
 use Rattle.std.proofs.Common.{◌≡◌, [], ◌∷◌, refl}
 use Rattle.std.proofs.raw_atomic.Walks.{proved}
 use mir.Syntax.{a_type, named}

@@ -1,4 +1,4 @@
--- `and` makes the history with one step more.
+-- `and` creates the history with one more step.
 use Rattle.std.proofs.Common.{[], ◌∷◌, refl}
 use Rattle.std.proofs.raw_atomic.Walks.{proved}
 use mir.Syntax.{named}

@@ -1,4 +1,4 @@
--- `and` makes the roll with one more.
+-- `and` creates the roll with one more element.
 use Rattle.std.proofs.Common.{[], ◌∷◌, ◌++◌, refl}
 use Rattle.std.proofs.raw_atomic.Walks.{proved}
 use mir.Syntax.{a_type, named}

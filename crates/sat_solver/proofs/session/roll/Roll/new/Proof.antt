@@ -1,4 +1,4 @@
--- `new` makes a roll of nobody.
+-- `new` creates an empty roll.
 use Rattle.std.proofs.Common.{[], ◌∷◌, refl}
 use Rattle.std.proofs.raw_atomic.Walks.{proved}
 use mir.Syntax.{a_type}
