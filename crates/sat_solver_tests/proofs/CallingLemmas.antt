@@ -1,4 +1,4 @@
--- What came of a proof that a caller wrote.
+-- The result of a proof that a caller wrote.
 use Rattle.std.proofs.Common.{ℕ, ◌≡◌, ◌∙◌, false, List, [], ◌∷◌, ◌++◌, Option, None, Some, Result, Ok, Err, refl, sym, ap, subst}
 use Rattle.std.proofs.lemmas.Bool.{true≢false}
 use Rattle.std.specs.Prelude.{is_some}
@@ -21,17 +21,17 @@ use Rattle.sat_solver_tests.specs.Calling.{made, PutsMade, CallAnswers, PutsOwne
 abbrev opened_as : Writer → Target
 opened_as from = Open Varisat nothing_counted (empty_sink from)
 
--- a target that failed at the text of steps, handed back
+-- the target failed to write the text of steps, and its writer is returned
 faulty : {W : Type 0} (seen : W → Writer) (from : Writer) (steps : List Step) (t : Target) (given : Option W) → TargetFails (opened_as from) steps t → GivesWriter t (returned_writer seen given) → (w : W) × (given ≡ Some w) × BrokeText Varisat from (seen w) steps
 faulty seen from steps t None p g = let q = subst (λ z. GivesWriter z None) p.1 g in absurd (let e = q in cc)
 faulty seen from steps t (Some w) p g = (w, refl, broken_is_front Varisat from (seen w) steps t p g)
 
--- one that is still open, handed back
+-- the target is still open, and its writer is returned
 still : {W : Type 0} (seen : W → Writer) (from : Writer) (steps : List Step) (t : Target) (given : Option W) → TargetTakes (opened_as from) steps t → GivesWriter t (returned_writer seen given) → (w : W) × (given ≡ Some w)
 still seen from steps t None p g = let q = subst (λ z. GivesWriter z None) p.2 g in absurd (let e = q in cc)
 still seen from steps t (Some w) p g = (w, refl)
 
--- a fault at the first step's text is one at the text of all
+-- a fault while the first step is written is a fault while all steps are
 all_broke : (e : _) (from given : Writer) → BrokeText Varisat from given (Assumptions [] ∷ []) → PutsMade (Err (Write e)) from given
 all_broke e from given b = record {
   written = written_for b.counting.bits (counted End b.counting).bits End ++ b.written;
@@ -75,7 +75,7 @@ module _ {W L : Type 0} {G : Ghosts L} (seen : W → Writer) (w : W) (p q : Proo
         let t = closed_is_text Varisat (seen w) (seen given) (Assumptions [] ∷ []) End (target_of seen q) carried c.takes in
         record { written = t.written; counting = t.counting; cuts = t.cuts; puts = t.takes }
 
--- what was put into a lent target
+-- what a lent target received
 pub lent_calls : {W : Type 0} (seen : W → Writer) (a z v : W) (given back : ℕ) (r : Result (Unit {0}) ProofError) → (given ≡ back → z ≡ v) → CallAnswers r (lent_writer given (seen a)) (lent_writer back (seen v)) → CallAnswers r (seen a) (seen z)
 lent_calls seen a z v given back (Ok x) h c = record { written = c.written; counting = c.counting; cuts = c.cuts; puts = lent_puts {E = ProofError} seen a z v given back (text_in Varisat c.written) (Ok x) h c.puts }
 lent_calls seen a z v given back (Err (Write e)) h c = record { written = c.written; counting = c.counting; cuts = c.cuts; puts = lent_puts {E = ProofError} seen a z v given back (text_in Varisat c.written) (Err (Write e)) h c.puts }

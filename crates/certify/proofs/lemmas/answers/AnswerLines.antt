@@ -12,7 +12,7 @@ use Rattle.certify.specs.answers.AnswerReading.{first_answer_line, second_line, 
 use Rattle.certify.specs.declared.answers.read.AnswerKind.{AnswerKind}
 use Rattle.certify.specs.declared.answers.read.AnswerKind.TheVariants as kind
 
--- an outcome's kind and literals
+-- the kind and literals of an outcome, and its lines at the beginning of the bytes
 pub record Lines (o : Outcome) (tail bytes : List ℕ) : Type 0 where
   pub kind : AnswerKind
   pub line : List Literal
@@ -24,7 +24,7 @@ lines_of (Sat line) tail bytes e = record { kind = kind.Sat; line = line; is = r
 lines_of (Unsat core) tail bytes e = record { kind = kind.Unsat; line = core; is = refl; text = e ∙ append_assoc s_unsatisfiable (f_line core) tail }
 lines_of Unknown tail bytes e = record { kind = kind.Unknown; line = []; is = refl; text = e }
 
--- one first line
+-- a text begins with the first line of at most one kind of answer
 pub same_kind : (k m : AnswerKind) (x y : List ℕ) → first_answer_line k ++ x ≡ first_answer_line m ++ y → (k ≡ m) × (x ≡ y)
 same_kind kind.Sat kind.Sat x y e = (refl, append_cancel_left s_satisfiable x y e)
 same_kind kind.Unsat kind.Unsat x y e = (refl, append_cancel_left s_unsatisfiable x y e)
@@ -36,7 +36,7 @@ same_kind kind.Unsat kind.Unknown x y e = let r : ◌≡◌ {A = ℕ} 83 75 = cc
 same_kind kind.Unknown kind.Sat x y e = let r : ◌≡◌ {A = ℕ} 85 83 = cc in absurd (omega arith)
 same_kind kind.Unknown kind.Unsat x y e = let r : ◌≡◌ {A = ℕ} 75 83 = cc in absurd (omega arith)
 
--- its names are within the limit
+-- the names of an outcome in form are within the limit
 pub printed : (o : Outcome) → IsInForm o → HasPrintableNames o
 printed (Sat line) h = all_low line h.0
   where

@@ -1,4 +1,4 @@
--- Places that rise are the order of a line.
+-- The literals of a line are in order exactly when their sort keys rise.
 use Rattle.std.proofs.Common.{ℕ, ◌+◌, ◌<◌, ◌≤◌, ◌≡◌, ◌∷◌, [], List, map, arith}
 use Rattle.std.proofs.lemmas.Bool.Decides.{nat_tests}
 use Rattle.sat_base.specs.values.Literals.{variable}
@@ -8,7 +8,7 @@ use Rattle.certify.specs.answers.AnswerReading.{HasLine, outcome_of, literal_pla
 use Rattle.certify.specs.declared.answers.read.AnswerKind.{AnswerKind}
 use Rattle.certify.specs.declared.answers.read.AnswerKind.TheVariants as kind
 
--- each place is above those before it, the first being this one or above it
+-- that the places rise strictly, and the first is at least `least`
 abbrev pub RiseFrom : ℕ → List ℕ → Type 0
 RiseFrom least [] = Unit {0}
 RiseFrom least (p ∷ ps) = (least ≤ p) × RiseFrom (p + 1) ps

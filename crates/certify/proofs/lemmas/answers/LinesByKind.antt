@@ -21,19 +21,19 @@ line_literals kind.Sat ls h = refl
 line_literals kind.Unsat ls h = refl
 line_literals kind.Unknown ls h = absurd h
 
--- the line in full, with what is after it
+-- a second line is its head and the text of its literals
 line_after : (k : AnswerKind) (head bytes : List ℕ) (ls : List Literal) (tail : List ℕ) → IsHead k head → bytes ≡ second_line (outcome_of k ls) ++ tail → bytes ≡ head ++ (literals_text ls ++ tail)
 line_after k head bytes ls tail h e = e ∙ ap (λ t. t ++ tail) (line_text k head ls h) ∙ append_assoc head (literals_text ls) tail
 
--- the line has been read
+-- the head and the text of literals make up a second line
 pub line_read : (k : AnswerKind) (head bytes following : List ℕ) (ls : List Literal) (tail : List ℕ) → IsHead k head → bytes ≡ head ++ following → following ≡ literals_text ls ++ tail → bytes ≡ second_line (outcome_of k ls) ++ tail
 line_read k head bytes following ls tail h e f = e ∙ ap (λ t. head ++ t) f ∙ sym (append_assoc head (literals_text ls) tail) ∙ ap (λ t. t ++ tail) (sym (line_text k head ls h))
 
--- it doesn't begin as it has to
+-- bytes that don't begin with the head don't begin with a second line
 pub no_head : (k : AnswerKind) (head bytes : List ℕ) → IsHead k head → bytes ≢ [] → ((tail : List ℕ) → bytes ≡ head ++ tail → ⊥) → NoLine k bytes Text
 no_head k head bytes h some none = (some, λ ls tail o e. none (literals_text ls ++ tail) (line_after k head bytes ls tail h e))
 
--- no list of literals is after its head
+-- if no literals are read after the head, no second line is read, with the same fault
 pub no_list : (k : AnswerKind) (head bytes following : List ℕ) (fault : AnswerFault) → IsHead k head → bytes ≢ [] → bytes ≡ head ++ following → NoLiterals k following fault → NoLine k bytes fault
 no_list k head bytes following Missing h some e none = absurd none
 no_list k head bytes following Text h some e none = (
@@ -50,7 +50,7 @@ no_list k head bytes following OutOfMemory h some e none =
     let b : bytes ≡ (head ++ front) ++ tail = e ∙ ap (λ x. head ++ x) none.1.2.1.2.1 ∙ sym (append_assoc head front tail) in
     (none.0, (ls, l, (none.1.2.0, (head ++ front, tail, (t, b)))))
 
--- the first line tells the kind
+-- the first line determines the kind of an outcome
 of_kind : (k : AnswerKind) (o : Outcome) (x y : List ℕ) → first_answer_line k ++ x ≡ outcome_text o ++ y → (ls : List Literal) × ((o ≡ outcome_of k ls) × (x ≡ second_line o ++ y))
 of_kind kind.Sat (Sat ls) x y e = (ls, (refl, cc))
 of_kind kind.Unsat (Unsat ls) x y e = (ls, (refl, cc))
@@ -67,7 +67,7 @@ kind_text (Sat ls) = (kind.Sat, refl)
 kind_text (Unsat ls) = (kind.Unsat, refl)
 kind_text Unknown = (kind.Unknown, refl)
 
--- no first line
+-- if no first line is read, no answer is read
 pub no_kind : (bytes : List ℕ) (fault : AnswerFault) → NoKind bytes fault → NoOutcome bytes fault
 no_kind bytes Missing e = (inl e, λ o tail h f. go (kind_text o).0 (second_line o ++ tail) (sym e ∙ f ∙ ap (λ t. t ++ tail) (kind_text o).1 ∙ append_assoc (first_answer_line (kind_text o).0) (second_line o) tail))
   where
@@ -83,7 +83,7 @@ no_kind bytes Text none = (cut, λ o tail h f. none.1 (kind_text o).0 (second_li
     cut (inr (inr e)) = none.1 kind.Unsat [] e
 no_kind bytes OutOfMemory none = absurd none
 
--- a first line without its second
+-- if no second line is read after the first line, no answer is read
 pub no_line : (k : AnswerKind) (bytes following : List ℕ) (fault : AnswerFault) → bytes ≡ first_answer_line k ++ following → NoLine k following fault → NoOutcome bytes fault
 no_line k bytes following Missing e none = (cut k none.0 (e ∙ ap (λ t. first_answer_line k ++ t) none.1), begins)
   where
@@ -120,12 +120,12 @@ no_line k bytes following Text e none = (
     cut kind.Unknown some e (inr (inr f)) = let g : s_unknown ++ following ≡ s_unsatisfiable = sym e ∙ f in let r : ◌≡◌ {A = ℕ} 75 83 = cc in omega arith
 no_line k bytes following OutOfMemory e none = (k, following, (e, none))
 
--- no line begins with bytes that go past its head, if no literals begin with what is after it
+-- the bytes are no prefix of a second line if those after the head are no prefix of literals
 pub starts_no_list : (k : AnswerKind) (head bytes following : List ℕ) → IsHead k head → bytes ≡ head ++ following → StartsNoLiterals k following → StartsNoLine k bytes
 starts_no_list k head bytes following h e none ls more o f =
     none ls more o (append_cancel_left head (literals_text ls) (following ++ more) (sym (line_text k head ls h) ∙ f ∙ ap (λ t. t ++ more) e ∙ append_assoc head following more))
 
--- nor with bytes of which neither text begins with the other
+-- the bytes are no prefix of a second line if neither they nor the head is a prefix of the other
 pub starts_no_head : (k : AnswerKind) (head bytes : List ℕ) → IsHead k head → ((tail : List ℕ) → head ≡ bytes ++ tail → ⊥) → ((tail : List ℕ) → bytes ≡ head ++ tail → ⊥) → StartsNoLine k bytes
 starts_no_head k head bytes h short long ls more o f = go head bytes (literals_text ls) more short long (sym (line_text k head ls h) ∙ f)
   where

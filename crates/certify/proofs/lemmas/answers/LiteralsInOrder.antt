@@ -1,4 +1,4 @@
--- The literals of a line that were read in their order.
+-- The literals of a line, read in order.
 use Rattle.std.proofs.Common.{ℕ, ◌+◌, ◌<◌, ◌≤◌, ◌≡◌, ◌↔◌, ◌++◌, ◌∷◌, [], List, map, append-nil, append_assoc, refl, sym, ◌∙◌, ap, subst, arith}
 use Rattle.std.proofs.lemmas.List.{map-append}
 use Rattle.sat_base.specs.script.Script.{Literal, names_of, InOrder}
@@ -12,22 +12,22 @@ use Rattle.certify.proofs.lemmas.answers.LinesByKind.{line_literals}
 use Rattle.certify.proofs.lemmas.answers.LiteralsOfLines.{Read, not_read, one_read, same_literals}
 use Rattle.certify.proofs.lemmas.answers.LineOrder.{RiseFrom, rise_ordered, ordered_rise}
 
--- each literal and a space
+-- the text of each literal and a space after it
 abbrev pub words_text : List Literal → List ℕ
 words_text [] = []
 words_text (l ∷ ls) = word_of l ++ (32 ∷ words_text ls)
 
--- places rise after the line's own exactly where they rise from the least one
+-- that places rise after those of the line exactly when they rise from `least`
 abbrev pub GoOnFrom : AnswerKind → List ℕ → ℕ → Type 0
 GoOnFrom k line least = (places : List ℕ) → RiseFrom 0 (map (literal_place k) line ++ places) ↔ RiseFrom least places
 
--- the line's literals have been read, word by word and in their order, and the rest of the bytes is left
+-- that the literals of the line have been read word by word and in order, and `rest` is left
 pub record ReadInOrder (k : AnswerKind) (bytes line rest : List ℕ) (least : ℕ) : Type 0 where
   pub read : Read bytes line rest
   pub words : bytes ≡ words_text (named_literals line) ++ rest
   pub order : GoOnFrom k line least
 
--- words before and after
+-- the words of joined lists are the joined words
 words_joined : (ls ks : List Literal) → words_text (ls ++ ks) ≡ words_text ls ++ words_text ks
 words_joined [] ks = refl
 words_joined (l ∷ ls) ks = ap (λ t. word_of l ++ (32 ∷ t)) (words_joined ls ks) ∙ sym (append_assoc (word_of l) (32 ∷ words_text ls) (words_text ks))
@@ -37,7 +37,7 @@ words_ended : (ls : List Literal) → literals_text ls ≡ words_text ls ++ (48 
 words_ended [] = refl
 words_ended (l ∷ ls) = ap (λ t. word_of l ++ (32 ∷ t)) (words_ended ls) ∙ sym (append_assoc (word_of l) (32 ∷ words_text ls) (48 ∷ 10 ∷ []))
 
--- the front of an order is one
+-- if the names of a list rise, so do those of a prefix
 increasing_front : (ls ks : List Literal) → NamesRise (names_of (ls ++ ks)) → NamesRise (names_of ls)
 increasing_front [] ks h = tt
 increasing_front (l ∷ []) ks h = tt
@@ -53,14 +53,14 @@ ordered_front kind.Sat ls ks h = increasing_front ls ks h
 ordered_front kind.Unsat ls ks h = in_order_front ls ks h
 ordered_front kind.Unknown ls ks h = tt
 
--- one more place
+-- after one more literal in order, later places must be above its place
 goes_on : (k : AnswerKind) (line : List ℕ) (l least : ℕ) → GoOnFrom k line least → least ≤ literal_place k l → GoOnFrom k (line ++ (l ∷ [])) (literal_place k l + 1)
 goes_on k line l least g h places =
     let e : map (literal_place k) (line ++ (l ∷ [])) ++ places ≡ map (literal_place k) line ++ (literal_place k l ∷ places)
     = ap (λ t. t ++ places) (map-append (literal_place k) line (l ∷ [])) ∙ append_assoc (map (literal_place k) line) (literal_place k l ∷ []) places in
     (λ r. ((g (literal_place k l ∷ places)).0 (subst (RiseFrom 0) e r)).1, λ r. subst (RiseFrom 0) (sym e) ((g (literal_place k l ∷ places)).1 (h, r)))
 
--- all the places rise
+-- a line that can be continued in order is in order
 in_full_order : (k : AnswerKind) (line : List ℕ) (least : ℕ) → GoOnFrom k line least → IsOrdered (outcome_of k (named_literals line))
 in_full_order k line least g = rise_ordered k line (subst (RiseFrom 0) (append-nil (map (literal_place k) line)) ((g []).1 tt))
 
@@ -83,7 +83,7 @@ have_both : (ls ks : List Literal) → HaveNames ls → HaveNames ks → HaveNam
 have_both [] ks h i = i
 have_both (l ∷ ls) ks h i = (h.0, have_both ls ks h.1 i)
 
--- any line in form that begins the bytes begins with the literals that were read
+-- any line in form at the beginning of the bytes begins with the literals that were read
 begun : (k : AnswerKind) (bytes line rest : List ℕ) (ls : List Literal) (tail : List ℕ) → HasLine k → Read bytes line rest → IsInForm (outcome_of k ls) → bytes ≡ literals_text ls ++ tail → (more : List Literal) × (ls ≡ named_literals line ++ more)
 begun k bytes line rest ls tail d r o e =
     let n : HaveNames ls = subst HaveNames (line_literals k ls d) o.0 in
@@ -91,7 +91,7 @@ begun k bytes line rest ls tail d r o e =
     let m = have_both (named_literals line) more.0 r.names more.1.0 in
     (more.0, (same_literals ls (named_literals line ++ more.0) tail tail n m (sym e ∙ r.back more.0 tail more.1.1)).0)
 
--- a place below the least one
+-- the bytes begin with no line if the next literal is out of order
 pub out_of_order : (k : AnswerKind) (bytes line rest following : List ℕ) (l least : ℕ) → HasLine k → ReadInOrder k bytes line rest least → IsName (named_literal l).name → rest ≡ word_of (named_literal l) ++ (32 ∷ following) → literal_place k l < least
     → NoLiterals k bytes Text
 out_of_order k bytes line rest following l least d r n e low ls tail o f =
@@ -101,7 +101,7 @@ out_of_order k bytes line rest following l least d r n e low ls tail o f =
     let q = ((r.order (literal_place k l ∷ [])).0 p).0 in
     omega arith
 
--- memory is wanted for a literal in its order
+-- memory is needed for the next literal, which is in order
 pub no_room : (k : AnswerKind) (bytes line rest following : List ℕ) (l least : ℕ) → HasLine k → ReadInOrder k bytes line rest least → IsName (named_literal l).name → rest ≡ word_of (named_literal l) ++ (32 ∷ following) → least ≤ literal_place k l
     → NoLiterals k bytes OutOfMemory
 no_room k bytes line rest following l least d r n e h =
@@ -111,14 +111,14 @@ no_room k bytes line rest following l least d r n e h =
     let w = s.words ∙ ap (λ ls. words_text ls ++ following) t in
     (d, (named_literals line, named_literal l, (o, (words_text (named_literals line ++ (named_literal l ∷ [])), following, (words_ended (named_literals line ++ (named_literal l ∷ [])), w)))))
 
--- BYTES THAT MAY GO ON
+-- PREFIXES OF A TEXT
 
--- so it is whatever would follow
+-- that the literals were read in order, whatever bytes follow
 pub record ReadSoFar (k : AnswerKind) (bytes rest : List ℕ) (least : ℕ) : Type 0 where
   pub line : List ℕ
   pub before : (more : List ℕ) → ReadInOrder k (bytes ++ more) line (rest ++ more) least
 
--- the word, the space and what is after it, with what would follow
+-- the next word and its space stay next if more bytes follow
 after_space : (l : ℕ) (rest following more : List ℕ) → rest ≡ word_of (named_literal l) ++ (32 ∷ following) → rest ++ more ≡ word_of (named_literal l) ++ (32 ∷ (following ++ more))
 after_space l rest following more e = ap (λ t. t ++ more) e ∙ append_assoc (word_of (named_literal l)) (32 ∷ following) more
 

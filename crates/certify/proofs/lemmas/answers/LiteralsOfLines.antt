@@ -13,11 +13,12 @@ within_limit : (ls : List Literal) → HaveNames ls → AllByRecursion (λ l. l.
 within_limit [] h = tt
 within_limit (l ∷ ls) h = (h.0.1, within_limit ls h.1)
 
--- a line's text tells its literals
+-- the text of a line determines its literals
 pub same_literals : (ls ks : List Literal) (x y : List ℕ) → HaveNames ls → HaveNames ks → literals_text ls ++ x ≡ literals_text ks ++ y → (ls ≡ ks) × (x ≡ y)
 same_literals ls ks x y h k e = literals_of_texts ls ks x y (within_limit ls h) (within_limit ks k) e
 
--- The line's literals have been read and the rest of the bytes is left. Any line that begins the bytes goes on in the rest, and the other way round.
+-- That the literals of the line have been read, and `rest` is left. Any line at the beginning of the bytes
+-- continues in `rest`, and conversely.
 pub record Read (bytes line rest : List ℕ) : Type 0 where
   pub names : HaveNames (named_literals line)
   pub forth : (ls : List Literal) (tail : List ℕ) → HaveNames ls → bytes ≡ literals_text ls ++ tail → (more : List Literal) × (HaveNames more × (rest ≡ literals_text more ++ tail))
@@ -45,11 +46,11 @@ one_read bytes line rest following l r h e = record {
       r.back (named_literal l ∷ more) tail g ∙ ap (λ t. literals_text t ++ tail) (sym s);
 }
 
--- up to `0` and LF
+-- if `0` and LF come next, all literals of the line were read
 pub all_read : (bytes line rest tail : List ℕ) → Read bytes line rest → rest ≡ 48 ∷ 10 ∷ tail → HaveNames (named_literals line) × (bytes ≡ literals_text (named_literals line) ++ tail)
 all_read bytes line rest tail r e = (r.names, r.back [] tail e ∙ ap (λ t. literals_text t ++ tail) (append-nil (named_literals line)))
 
--- where neither a literal nor the end comes
+-- the bytes begin with no line if neither a literal nor the end comes next
 pub not_read : (bytes line rest : List ℕ) → Read bytes line rest → NoLiteral rest → (ls : List Literal) (tail : List ℕ) → (rest ≡ 48 ∷ 10 ∷ tail → ⊥) → HaveNames ls → bytes ≡ literals_text ls ++ tail → ⊥
 not_read bytes line rest r none ls tail end h e = let more = r.forth ls tail h e in go more.0 more.1.0 more.1.1
   where
@@ -57,7 +58,7 @@ not_read bytes line rest r none ls tail end h e = let more = r.forth ls tail h e
     go [] k f = end f
     go (l ∷ ks) k f = none l (literals_text ks ++ tail) k.0 (f ∙ append_assoc (word_of l) (32 ∷ literals_text ks) tail)
 
--- a literal and a space are pushed in front of the rest
+-- appending a literal and a space to the output leaves the text of the later literals
 pub literal_pushed : (whole : List ℕ) (ls : List ℕ) (i d : ℕ) (out word spaced : List ℕ) → i < length ls → word ≡ out ++ word_of (named_literal (get_or ls i d)) → spaced ≡ word ++ 32 ∷ [] → out ++ literals_text (named_literals (drop i ls)) ≡ whole → spaced ++ literals_text (named_literals (drop (i + 1) ls)) ≡ whole
 literal_pushed whole ls i d out word spaced h w s before =
     let text = word_of (named_literal (get_or ls i d)) in

@@ -1,4 +1,4 @@
--- Names, digit by digit, and literals as words in front of a space.
+-- Names, digit by digit, and literals as words before a space.
 use Rattle.std.proofs.Common.{ℕ, zero, suc, ◌+◌, ◌-◌, ◌*◌, ◌/◌, ◌%◌, ◌^◌, ◌<◌, ◌≤◌, ◌≡◌, ◌≢◌, ◌⊎◌, inl, inr, Bool, true, false, cond, ◌∷◌, ◌++◌, List, length, take, get_or, decimal, append-nil, refl, sym, ◌∙◌, ap, subst, arith, append_assoc, []}
 use Rattle.std.proofs.lemmas.Fmt.{decimal_digit, decimal_step, decimal_is_IsNumeral, first_decimal, decimal_nonempty}
 use Rattle.std.proofs.lemmas.Str.Parse.{digit_from_value, digits_value-take-le}
@@ -16,11 +16,11 @@ digit_after : (ds : List ℕ) (b : ℕ) (more : List ℕ) → AllDigits 10 (ds +
 digit_after [] b more d = digit_from_value b d.0
 digit_after (c ∷ ds) b more d = digit_after ds b more d.1
 
--- a byte that is no digit
+-- no name continues with a byte that is not a digit
 pub no_digit : (name b : ℕ) → ((48 ≤ b) × (b ≤ 57) → ⊥) → NoNameDigit name b
 no_digit name b wrong n more h e = wrong (digit_after (digits_so_far name) b more (subst (AllDigits 10) e (digits n h.1)))
 
--- a leading zero
+-- no name begins with a zero
 pub no_zero : (name b : ℕ) → 48 ≤ b → 10 * name + (b - 48) ≡ 0 → NoNameDigit name b
 no_zero zero b low z n more h e =
     let f : 48 < get_or (decimal n) 0 0 = first_decimal n h.0 (small n h.1) in
@@ -28,7 +28,7 @@ no_zero zero b low z n more h e =
     omega arith
 no_zero (suc name) b low z n more h e = absurd (omega arith)
 
--- a digit after those of a name
+-- a digit after those of a name gives the digits of a larger number
 pub next_digit : (name b : ℕ) → name ≤ var_limit → 48 ≤ b → b ≤ 57 → 0 < 10 * name + (b - 48) → decimal (10 * name + (b - 48)) ≡ digits_so_far name ++ (b ∷ [])
 next_digit zero b h low high more =
     let e : 10 * 0 + (b - 48) ≡ b - 48 = omega arith in
@@ -41,7 +41,7 @@ next_digit (suc name) b h low high more =
     let g = decimal_step (10 * suc name + (b - 48)) (omega arith) (omega arith) in
     g ∙ ap (λ n. decimal n ++ ((48 + (10 * suc name + (b - 48)) % 10) ∷ [])) e ∙ ap (λ d. decimal (suc name) ++ (d ∷ [])) f
 
--- a number with these first digits is no less
+-- a number whose digits begin with those of `m` is at least `m`
 begun_below : (m n : ℕ) (more : List ℕ) → m < 2 ^ 64 → n < 2 ^ 64 → decimal n ≡ decimal m ++ more → m ≤ n
 begun_below m n more h k e =
     let p : digits_value 10 (take (length (decimal m)) (decimal n)) ≤ digits_value 10 (decimal n) = digits_value-take-le 10 (decimal n) (length (decimal m)) (omega arith) in
@@ -50,7 +50,7 @@ begun_below m n more h k e =
     let s : digits_value 10 (decimal n) ≡ n = (decimal_is_IsNumeral n k).1 in
     omega arith
 
--- a number past the limit
+-- no name continues with a digit that takes it past the limit
 pub past_limit : (name b : ℕ) → name ≤ var_limit → 48 ≤ b → b ≤ 57 → var_limit < 10 * name + (b - 48) → NoNameDigit name b
 past_limit name b h low high past n more k e =
     let d = next_digit name b h low high (omega arith) in
@@ -63,14 +63,14 @@ plain_so_far : (name : ℕ) → name ≤ var_limit → Plain (digits_so_far name
 plain_so_far zero h = tt
 plain_so_far (suc name) h = plain_digits (decimal (suc name)) (digits (suc name) h)
 
--- a word before a space, and another text without a space
+-- a plain text contains no space
 no_space : (ds es y : List ℕ) → Plain ds → ds ≡ es ++ (32 ∷ y) → ⊥
 no_space [] [] y p e = cc
 no_space [] (c ∷ es) y p e = cc
 no_space (d ∷ ds) [] y p e = p.0.0 (let r : d ≡ 32 = cc in r)
 no_space (d ∷ ds) (c ∷ es) y p e = no_space ds es y p.1 (let r : ds ≡ es ++ (32 ∷ y) = cc in r)
 
--- a word that goes on after another's bytes
+-- bytes without a space are a prefix of any bytes up to the first space
 goes_on : (ds es : List ℕ) (b : ℕ) (x y : List ℕ) → Plain ds → (b ≡ 32 → ⊥) → ds ++ (b ∷ x) ≡ es ++ (32 ∷ y) → (more : List ℕ) × (es ≡ ds ++ (b ∷ more))
 goes_on [] [] b x y p other e = absurd (other (let r : b ≡ 32 = cc in r))
 goes_on [] (c ∷ es) b x y p other e = (es, let r : c ≡ b = cc in ap (λ c. c ∷ es) r)
@@ -84,17 +84,17 @@ goes_on (d ∷ ds) (c ∷ es) b x y p other e =
     pair : (c d : ℕ) (es ds : List ℕ) → c ≡ d → es ≡ ds → (c ∷ es) ≡ (d ∷ ds)
     pair c d es ds h t = cc
 
--- the first byte of a name
+-- a nonempty word begins with the first byte of the text
 first_byte : (ds : List ℕ) (b : ℕ) (x y : List ℕ) → 0 < length ds → b ∷ x ≡ ds ++ (32 ∷ y) → (more : List ℕ) × (ds ≡ b ∷ more)
 first_byte [] b x y h e = absurd (omega arith)
 first_byte (c ∷ cs) b x y h e = (cs, let r : c ≡ b = cc in ap (λ c. c ∷ cs) r)
 
--- a space comes next only where no digit has been read
+-- a space comes next only if no digit has been read
 pub at_zero : (b name : ℕ) → ((b ≡ 32) × (name ≤ 0)) ⊎ (b ≢ 32) → b ≡ 32 → name ≡ 0
 at_zero b name (inl h) e = omega arith
 at_zero b name (inr h) e = absurd (h e)
 
--- where no digit of a name comes next
+-- the bytes begin with no name if no name continues with the next byte
 pub no_name_so : (name b : ℕ) (bytes x : List ℕ) → name ≤ var_limit → (b ≡ 32 → name ≡ 0) → NoNameDigit name b → bytes ≡ digits_so_far name ++ (b ∷ x) → NoName bytes
 no_name_so zero b bytes x h space none e n tail k f =
     let r = first_byte (decimal n) b x tail (decimal_nonempty n (small n k.1)) (sym e ∙ f) in
@@ -103,11 +103,11 @@ no_name_so (suc name) b bytes x h space none e n tail k f =
     let r = goes_on (decimal (suc name)) (decimal n) b x tail (plain_so_far (suc name) h) (λ s. let z : suc name ≡ 0 = space s in omega arith) (sym e ∙ f) in
     none n r.0 k r.1
 
--- where the bytes are over
+-- the bytes begin with no name if they end before a space
 pub no_name_end : (name : ℕ) (bytes : List ℕ) → name ≤ var_limit → bytes ≡ digits_so_far name ++ [] → NoName bytes
 no_name_end name bytes h e n tail k f = no_space (digits_so_far name) (decimal n) tail (plain_so_far name h) (sym (append-nil (digits_so_far name)) ∙ sym e ∙ f)
 
--- no minus sign comes before a name
+-- a name does not begin with a minus sign
 no_minus : (n : ℕ) (x y : List ℕ) → n ≤ var_limit → decimal n ++ (32 ∷ x) ≡ 45 ∷ y → ⊥
 no_minus n x y h e = go (decimal n) (digits n h) (decimal_nonempty n (small n h)) e
   where
@@ -122,7 +122,7 @@ no_negative bytes following e none l tail h f = go l.positive l.name h f
     go true n h f = no_minus n tail following h.1 (sym f ∙ e)
     go false n h f = none n tail h (let r : 45 ∷ following ≡ 45 ∷ (decimal n ++ (32 ∷ tail)) = sym e ∙ f in let t : following ≡ decimal n ++ (32 ∷ tail) = cc in t)
 
--- BYTES WITH WHICH NONE BEGINS
+-- BYTES THAT ARE NO PREFIX OF A NAME
 
 pub starts_no_name : (name b : ℕ) (bytes x : List ℕ) → name ≤ var_limit → (b ≡ 32 → name ≡ 0) → NoNameDigit name b → bytes ≡ digits_so_far name ++ (b ∷ x) → StartsNoName bytes
 starts_no_name name b bytes x h space none e more = no_name_so name b (bytes ++ more) (x ++ more) h space none (ap (λ t. t ++ more) e ∙ append_assoc (digits_so_far name) (b ∷ x) more)
@@ -130,7 +130,7 @@ starts_no_name name b bytes x h space none e more = no_name_so name b (bytes ++ 
 pub starts_no_negative : (bytes following : List ℕ) → bytes ≡ 45 ∷ following → StartsNoName following → StartsNoLiteral bytes
 starts_no_negative bytes following e none more = no_negative (bytes ++ more) (following ++ more) (ap (λ t. t ++ more) e) (none more)
 
--- some name begins with no bytes
+-- the empty text is a prefix of a name and a space
 starts_some : (bytes : List ℕ) → StartsNoName bytes → bytes ≡ [] → ⊥
 starts_some bytes none e = none (decimal 1 ++ (32 ∷ [])) 1 [] (omega arith, omega arith) (ap (λ t. t ++ (decimal 1 ++ (32 ∷ []))) e)
 

@@ -1,4 +1,4 @@
--- Short definitions of scripts and answers say the same as those that code is proved against.
+-- The short definitions of scripts and answers agree with those that code is proved against.
 use Rattle.std.proofs.Common.{ℕ, ◌+◌, ◌≡◌, ◌∙◌, Bool, true, false, not, cond, ◌&&◌, Option, Some, None, List, ◌∷◌, ◌++◌, map, nat_eq, refl, sym, ap, subst, []}
 use Rattle.std.specs.Prelude.{is_some, unwrap_or, decimal, if◌then◌else◌}
 use Rattle.sat_base.specs.text.Text.{is_letter, is_none, lines, words, begins_with, digits, header_in, header_if, header_first, on_line, plain, minus, after_minus, alone, token, tokens_of, scan, tokens, dimacs_header, Token, Number, Letter, Header, Wrong}
@@ -89,7 +89,7 @@ names_append : (ls : List Literal) (l : Literal) → names_of ls ++ l.name ∷ [
 names_append [] l = refl
 names_append (k ∷ ls) l = ap (λ (ns : List ℕ). k.name ∷ ns) (names_append ls l)
 
--- what is said after a hand is the same
+-- that both definitions read the rest in the same way, whatever command has begun
 abbrev Agree : (Option Command → Reading) → (CommandHand → Reading) → Type 0
 Agree short long = (h : CommandHand) → short (hand_in h) ≡ long h
 
@@ -164,7 +164,7 @@ says text =
 pub says_the_same : SaysTheSame
 says_the_same = says
 
--- the commands that stand in a text
+-- both definitions give a text the same commands
 pub same_written : (text : List ℕ) → spelled None (tokens_in true (lines text)) ≡ written text
 unfolding written
 same_written text = ap (λ (ts : List Token). spelled None ts) (same_tokens text) ∙ same_commands (spoken (tokens text)) Nothing
@@ -206,7 +206,7 @@ same_answers commands ending outcomes = same_from 1 start commands ending outcom
 
 -- MATCHING
 
--- what is so of a reading of the script
+-- that the answers and the steps match a reading of the script
 abbrev MatchesBy : List ℕ → List Outcome → List Step → Reading → Type 0
 MatchesBy answers outcomes steps r = (answers ≡ lines_from 1 start r.0 r.1 outcomes) × StepsMatch checker_rules r.0 outcomes steps
 

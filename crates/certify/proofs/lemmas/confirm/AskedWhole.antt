@@ -22,7 +22,7 @@ use Rattle.certify.proofs.lemmas.answers.AnswerLines.{printed}
 use Rattle.certify.proofs.lemmas.laws.DistinctTexts.{same_outcome}
 use Rattle.certify.proofs.lemmas.confirm.UsedNames.{used_names, line_form}
 
--- a line that lists the names in use may be printed
+-- that every line that lists the names in use has valid names in increasing order
 abbrev pub Listed : ScriptState → Type 0
 Listed j = (line : List Literal) → names_of line ≡ map (λ n. n.name) j.in_use → HaveNames line × NamesRise (names_of line)
 
@@ -32,7 +32,7 @@ all_listed names j h up line e =
     let l = h.limit in
     line_form names line (omega arith) (e ∙ used_names names j h up)
 
--- names that have a variable are within the limit
+-- that every name that has a variable is valid
 abbrev pub Within : List Step → Type 0
 Within earlier = (name v : ℕ) → variable_of earlier name ≡ Some v → IsName name
 
@@ -50,7 +50,7 @@ variables_named earlier (l ∷ ls) f h = (f l.name h.0.0 h.0.1, variables_named 
 core_form : (ask core : List Literal) (earlier : List Step) (certificate : List ℕ) (es : List Expected) → Within earlier → CanMeet earlier (Fails ask core ∷ es) certificate → HaveNames core
 core_form ask core earlier certificate es named m = elim (met_fails earlier ask core es certificate m) [ inl e ↦ subst HaveNames (sym e) tt | inr h ↦ variables_named earlier core named h ]
 
--- what is met for an outcome is an outcome that can be read
+-- an outcome whose steps can be met is in form
 shown_form : (j : ScriptState) (ask : List Literal) (o : Outcome) (earlier : List Step) (certificate : List ℕ) (es : List Expected) → Listed j → Within earlier → InForm o → CanMeet earlier (showing j ask o ++ es) certificate → IsInForm o
 shown_form j ask (Sat line) earlier certificate es listed named form m = listed line (met_shows earlier (map (λ n. n.name) j.in_use) ask line es certificate m)
 shown_form j ask (Unsat core) earlier certificate es listed named form m = (core_form ask core earlier certificate es named m, form)
@@ -61,7 +61,7 @@ form_of (Sat line) h = tt
 form_of (Unsat core) h = h.1
 form_of Unknown h = tt
 
--- the answer is still to be read, after the ask's assumptions
+-- that an outcome can be read next, and the steps that show it and close the ask are still to be met
 pub record Answerable (j : ScriptState) (n : ℕ) (earlier : List Step) (ask : List Literal) (cs : List Command) (ending : ScriptEnding) (answers certificate : List ℕ) : Type 0 where
   pub outcome : Outcome
   pub tail : List ℕ
@@ -71,14 +71,14 @@ pub record Answerable (j : ScriptState) (n : ℕ) (earlier : List Step) (ask : L
   pub left : Rest j n earlier (showing j ask outcome ++ (Closes ∷ [])) cs ending tail certificate
 
 module _ (j : ScriptState) (n : ℕ) (ask : List Literal) (cs : List Command) (ending : ScriptEnding) (answers : List ℕ) (e : refusal_of j (Ask ask) ≡ None) where
-  -- its names can't be met
+  -- an ask is not confirmed if the steps for its names cannot be met
   pub ask_unnamed : (first : List Step) (c : List ℕ) → MeetsNoneOf first c (bringing (names_of ask) j) → Rest j n first [] (Ask ask ∷ cs) ending answers c → ⊥
   ask_unnamed first c b l =
       let a = ask_on j n first ask cs ending answers c e l in
       left_barred (Opens ask a.outcome ∷ (showing (accepted (Ask ask) j) ask a.outcome ++ (Closes ∷ []))) (accepted (Ask ask) j) (n + 1) cs ending a.tail b a.left
 
   module _ (first second : List Step) (c d : List ℕ) (named : MeetsExactly first c (bringing (names_of ask) j) second d) where
-    -- its assumptions can't be met
+    -- an ask is not confirmed if its assumptions cannot be met
     pub ask_unopened : ((o : Outcome) → MeetsNoneOf second d (Opens ask o ∷ [])) → Rest j n first [] (Ask ask ∷ cs) ending answers c → ⊥
     ask_unopened b l =
         let a = ask_on j n first ask cs ending answers c e l in
@@ -108,7 +108,7 @@ module _ (j : ScriptState) (n : ℕ) (ask : List Literal) (cs : List Command) (e
             left = there;
           }
 
-      -- the outcome that was read
+      -- once the outcome was read, the steps that show it are left to confirm
       pub answered_on : (o : Outcome) (tail : List ℕ) → IsInForm o → answers ≡ outcome_text o ++ tail → Rest j n first [] (Ask ask ∷ cs) ending answers c
           → Rest (accepted (Ask ask) j) (n + 1) third (showing (accepted (Ask ask) j) ask o ++ (Closes ∷ [])) cs ending tail f
       answered_on o tail form answered l =
@@ -130,6 +130,6 @@ module _ (j : ScriptState) (n : ℕ) (ask : List Literal) (cs : List Command) (e
             left = left_back (Opens ask o ∷ more) next (n + 1) cs ending tail named (left_back more next (n + 1) cs ending tail (opened o allowed) h);
           })
 
-      -- no outcome can be read
+      -- an ask is not confirmed if no outcome can be read
       pub ask_unread : ((o : Outcome) (tail : List ℕ) → IsInForm o → ((ready_after third).unsat ≡ true → o ≡ Unsat []) → answers ≡ outcome_text o ++ tail → ⊥) → Rest j n first [] (Ask ask ∷ cs) ending answers c → ⊥
       ask_unread none l = let a = answerable l in none a.outcome a.tail a.readable a.alone a.answered

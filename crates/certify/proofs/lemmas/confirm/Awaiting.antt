@@ -1,4 +1,4 @@
--- One step of a certificate that is read step by step, and then another, up to the next ordered one.
+-- Reading a certificate step by step, up to the next ordered step.
 use Rattle.std.proofs.Common.{◌≡◌, Bool, true, false, List, ◌∷◌, Option, Some, None, Result, Ok, Err, sym, subst, ◌∙◌}
 use Rattle.sat_base.specs.device.Reading.{AtEnd}
 use Rattle.sat_base.specs.steps.Steps.{Step}
@@ -23,14 +23,14 @@ use Rattle.certify.proofs.lemmas.confirm.OneStep.{one_step}
 use Rattle.certify.proofs.lemmas.confirm.Streams.{going_then, confirms_none, confirms_then, then_stop, confirms_stop, feeds_on, feeds_stop, settles_on, settles_stop}
 use Rattle.certify.proofs.lemmas.confirm.Following.{others}
 
--- what a round that ends brings
+-- the results of trying to read one more step
 module _ (names : NamedVars) (old : CertificateState) (new : CertificateState) (unsat : Bool) (unsat_is : (steps : List Step) → HasAccepted old.checker steps → unsat ≡ (ready_after steps).unsat) where
   -- unsat is recorded
   is_cut : unsat ≡ true → (earlier : List Step) → CheckerIsAt old.checker names earlier → UnsatIsRecorded names old earlier old
   is_cut is earlier s = record { later = earlier; valid = s; closed = sym (unsat_is earlier s.taken.valid) ∙ is; skips = skips_none earlier old.rest }
 
   module _ (is : unsat ≡ false) where
-    -- an ordered step stands there
+    -- the next step is ordered
     is_step : ReadsStep (certificate_place old) (certificate_place new) → is_ordered new.step ≡ true → new.checker ≡ old.checker → (earlier : List Step) → CheckerIsAt old.checker names earlier → StepIsReady names old earlier new
     is_step r o k earlier s =
         let open_yet = sym (unsat_is earlier s.taken.valid) ∙ is in
@@ -41,7 +41,7 @@ module _ (names : NamedVars) (old : CertificateState) (new : CertificateState) (
           offers = offers_step one_step earlier new.step old.rest r.text new.rest open_yet r.front r.spelt o;
         }
 
-    -- another one stands there
+    -- the next step is unordered and accepted
     is_passed : ReadsStep (certificate_place old) (certificate_place new) → is_ordered new.step ≡ false → FeedsStep (Ok tt) old.checker new.step new.checker → (earlier : List Step) → CheckerIsAt old.checker names earlier → StepWasPassed names old earlier new
     is_passed r o a earlier s =
         let open_yet = sym (unsat_is earlier s.taken.valid) ∙ is in
@@ -52,7 +52,7 @@ module _ (names : NamedVars) (old : CertificateState) (new : CertificateState) (
           skips = skips_step one_step earlier new.step old.rest r.text new.rest open_yet r.front r.spelt o fed.0;
         }
 
-    -- it is refused
+    -- the next step is unordered and refused
     is_refused : (mid : CertificateState) → ReadsStep (certificate_place old) (certificate_place mid) → is_ordered mid.step ≡ false → ((steps : List Step) → HasTaken old.checker steps → Accepts (ready_after steps) mid.step → ⊥)
         → (earlier : List Step) → CheckerIsAt old.checker names earlier → MeetsNothing earlier old.rest
     is_refused mid r o a earlier s =
@@ -82,7 +82,7 @@ module _ (names : NamedVars) (a : Stream) (unsat : Bool) (unsat_is : (steps : Li
           (λ total why r h. is_refused names (seen_in total a) (seen_in total (record b { checker = next })) unsat unsat_is is (seen_in total b) r o
           (subst (λ (x : Kernel). (steps : List Step) → HasTaken x steps → Accepts (ready_after steps) b.step → ⊥) c h)) p
 
--- ROUNDS FOLLOW ONE ANOTHER
+-- STEP AFTER STEP
 
 module _ (names : NamedVars) where
   pub passed_none : (a : Stream) → Confirms (Ok tt) a a (PassesUnordered names)
@@ -111,7 +111,7 @@ module _ (names : NamedVars) where
 
   -- A UNIT CONFLICT IS SETTLED
 
-  -- what waits is so of a checker that settled one, too
+  -- what was found still holds after a unit conflict is settled
   awaits_settled : (x : Awaited) (u v : CertificateState) (next : Kernel) → SettlesConflict (Ok tt) v.checker next → AwaitsNext names u v (Ok x) → AwaitsNext names u (record v { checker = next }) (Ok x)
   awaits_settled awaited.Step u v next settled h = λ earlier s.
       let y = h earlier s in
@@ -120,7 +120,7 @@ module _ (names : NamedVars) where
       let y = h earlier s in
       record { later = y.later; valid = record { taken = (settled y.later y.valid.taken).0; stand = y.valid.stand }; closed = y.closed; skips = y.skips }
 
-  -- a checker that goes on refuses to settle none
+  -- a checker that has not failed never refuses to settle a unit conflict
   awaits_never : (x : Awaited) (u v w : CertificateState) (why : Why) → AwaitsNext names u v (Ok x) → ((steps : List Step) → HasTaken v.checker steps → ⊥) → AwaitsNext names u w (Err why)
   awaits_never awaited.Step u v w why h none = λ earlier s. let y = h earlier s in absurd (none y.later y.valid.taken)
   awaits_never awaited.Cut u v w why h none = λ earlier s. let y = h earlier s in absurd (none y.later y.valid.taken)

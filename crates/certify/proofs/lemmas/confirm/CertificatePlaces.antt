@@ -1,4 +1,4 @@
--- How places of a certificate lead from one to another.
+-- Which expected steps are met from one place of a certificate to another.
 use Rattle.std.proofs.Common.{ℕ, ◌≡◌, Bool, true, false, List, [], ◌∷◌, ◌++◌, refl, sym, ◌∙◌, ap, subst, append_assoc}
 use Rattle.std.proofs.lemmas.Bool.{true≢false}
 use Rattle.std.proofs.lemmas.List.{append_cancel_left}
@@ -29,7 +29,7 @@ bars_after {earlier} {mid} {bytes} {between} {p} {q} l b = record { none = λ es
 pub bars_more : {earlier : List Step} {bytes : List ℕ} {p : List Expected} (q : List Expected) → MeetsNoneOf earlier bytes p → MeetsNoneOf earlier bytes (p ++ q)
 bars_more {earlier} {bytes} {p} q b = record { none = λ es h. b.none (q ++ es) (subst (λ xs. CanMeet earlier xs bytes) (append_assoc p q es) h) }
 
--- once unsat is recorded, all that counts is what may be left unmet
+-- if expected steps are met once unsat is recorded, all of them may be unmet
 pub when_cut : (earlier : List Step) (es : List Expected) (bytes : List ℕ) → (ready_after earlier).unsat ≡ true → CanMeet earlier es bytes → AllByRecursion MayBeUnmet es
 when_cut earlier es bytes u m = go m.steps es m.meets
   where
@@ -63,11 +63,11 @@ leads_cut earlier bytes p u x = record {
 pub bars_cut : (earlier : List Step) (bytes : List ℕ) (p : List Expected) → (ready_after earlier).unsat ≡ true → (AllByRecursion MayBeUnmet p → ⊥) → MeetsNoneOf earlier bytes p
 bars_cut earlier bytes p u x = record { none = λ es h. x (all_before p es (when_cut earlier (p ++ es) bytes u h)) }
 
--- nothing is met from a place where nothing can be expected
+-- an expected step is not met without further steps, unless unsat is recorded
 not_over : (earlier : List Step) (e : Expected) (es : List Expected) → (ready_after earlier).unsat ≡ false → Meets checker_rules earlier [] (e ∷ es) → ⊥
 not_over earlier e es u (cut v x) = true≢false (sym v ∙ u)
 
--- no step's text begins the bytes
+-- nothing is met if the bytes begin with no step
 pub no_step : (earlier : List Step) (bytes : List ℕ) → (ready_after earlier).unsat ≡ false → ((step : Step) (text rest : List ℕ) → bytes ≡ text ++ rest → SpellsStep step text → ⊥) → MeetsNothing earlier bytes
 no_step earlier bytes u none = record { none = λ e es m. go e es m.rest m.steps m.text m.begins m.spelt m.meets }
   where
@@ -75,7 +75,7 @@ no_step earlier bytes u none = record { none = λ e es m. go e es m.rest m.steps
     go e es following [] text b s k = not_over earlier e es u k
     go e es following (step ∷ steps) text b s k = none step s.0 (s.1 ++ following) (b ∙ ap (λ x. x ++ following) s.4 ∙ append_assoc s.0 s.1 following) s.2
 
--- what is met from a place where this step stands
+-- that `step` and steps from the bytes after it meet what is expected
 record Begun (earlier : List Step) (step : Step) (es : List Expected) (more : List ℕ) : Type 0 where
   steps : List Step
   text : List ℕ
@@ -116,7 +116,7 @@ skips_step one earlier step bytes text more u b s o a = record {
   };
 }
 
--- a step that the checker refuses
+-- nothing is met if the next step is unordered and the checker refuses it
 pub stops_at_step : IsUniquelyDecodable SpellsStep → (earlier : List Step) (step : Step) (bytes text more : List ℕ) → (ready_after earlier).unsat ≡ false → bytes ≡ text ++ more → SpellsStep step text → is_ordered step ≡ false
     → (Accepts (ready_after earlier) step → ⊥) → MeetsNothing earlier bytes
 stops_at_step one earlier step bytes text more u b s o a = record { none = λ e es m. let g = begun one earlier step bytes text more e es u b s m in a (skipped checker_rules o g.meets).0 }
@@ -150,7 +150,7 @@ skips_stop s t = record { none = λ e es m. t.none e es (s.on e es m) }
 pub skips_offer : {earlier mid later : List Step} {bytes between rest : List ℕ} {step : Step} → SkipsUnordered earlier bytes mid between → NextIsOrdered mid between later step rest → NextIsOrdered earlier bytes later step rest
 skips_offer s o = record { on = λ e es m. o.on e es (s.on e es m); back = λ e es f a m. s.back e es (o.back e es f a m) }
 
--- the step that was expected
+-- the next ordered step meets the expected step if it fits and is accepted
 pub leads_step : {earlier later : List Step} {bytes rest : List ℕ} {step : Step} (e : Expected) → NextIsOrdered earlier bytes later step rest → Fits (checker_rules.knows later) later e step → Accepts (ready_after later) step → MeetsExactly earlier bytes (e ∷ []) (step ∷ later) rest
 leads_step e o f a = record { on = λ es m. (o.on e es m).2; back = λ es m. o.back e es f a m }
 
@@ -163,7 +163,7 @@ bars_refused e o n = record { none = λ es m. n (o.on e es m).1 }
 pub bars_stop : {earlier : List Step} {bytes : List ℕ} (e : Expected) → MeetsNothing earlier bytes → MeetsNoneOf earlier bytes (e ∷ [])
 bars_stop e s = record { none = λ es m. s.none e es m }
 
--- unsat was recorded before the step came
+-- an expected step that may be unmet counts as met if unsat is recorded before the next ordered step
 pub leads_skip : {earlier later : List Step} {bytes rest : List ℕ} (e : Expected) → SkipsUnordered earlier bytes later rest → (ready_after later).unsat ≡ true → MayBeUnmet e → MeetsExactly earlier bytes (e ∷ []) later rest
 leads_skip {earlier} {later} {bytes} {rest} e s u x =
     let l = leads_cut later rest (e ∷ []) u (x, tt) in record { on = λ es m. l.on es (s.on e es m); back = λ es m. s.back e es (l.back es m) }
@@ -171,7 +171,7 @@ leads_skip {earlier} {later} {bytes} {rest} e s u x =
 pub bars_skip : {earlier later : List Step} {bytes rest : List ℕ} (e : Expected) → SkipsUnordered earlier bytes later rest → (ready_after later).unsat ≡ true → (MayBeUnmet e → ⊥) → MeetsNoneOf earlier bytes (e ∷ [])
 bars_skip {earlier} {later} {bytes} {rest} e s u x = record { none = λ es m. (bars_cut later rest (e ∷ []) u (λ h. x h.0)).none es (s.on e es m) }
 
--- nothing more is expected
+-- any certificate meets what is expected if nothing is expected
 pub nothing_met : (earlier : List Step) (bytes : List ℕ) → CanMeet earlier [] bytes
 nothing_met earlier bytes = go (ready_after earlier).unsat refl
   where

@@ -33,7 +33,7 @@ abbrev NoAsk : Command → Type 0
 NoAsk (Ask ls) = ⊥
 NoAsk e = Unit {0}
 
--- for its names
+-- the steps that a command expects for its names
 abbrev for_names : Command → ScriptState → List Expected
 for_names (Clause ls) j = bringing (names_of ls) j
 for_names (Ask ls) j = bringing (names_of ls) j
@@ -41,7 +41,7 @@ for_names (Hide names) j = hiding names j
 for_names (Witness names) j = setting Witnessed names j
 for_names (Sample names) j = setting Sampled names j
 
--- and after them
+-- the steps that it expects after them, if it is no ask
 abbrev after_names : Command → List Expected
 after_names (Clause ls) = Adds ls ∷ []
 after_names e = []
@@ -87,7 +87,7 @@ command_pending c a j n earlier cs ending answers certificate e =
       }),
     )
 
--- WHERE A COMMAND IS REFUSED
+-- A REFUSED COMMAND
 
 after_refused : (j : ScriptState) (c : Command) (r : Refusal) → refusal_of j c ≡ Some r → after_command c j ≡ j
 after_refused j c r e = rw e refl
@@ -95,7 +95,7 @@ after_refused j c r e = rw e refl
 after_accepted : (j : ScriptState) (c : Command) → refusal_of j c ≡ None → after_command c j ≡ accepted c j
 after_accepted j c e = rw e refl
 
--- after a command that leaves this state
+-- how a command that leads to state `next` is confirmed
 confirmed : (before following : List ℕ) (old new : CertificateState) (j next : ScriptState) (earlier later : List Step) (n : ℕ) (c : Command) (t : Table) → after_command c j ≡ next → HoldsAt t new next later
     → ((cs : List Command) (ending : ScriptEnding) → ToConfirm j n earlier (c ∷ cs) ending before old.rest → ToConfirm next (n + 1) later cs ending following new.rest)
     → ((cs : List Command) (ending : ScriptEnding) → ToConfirm next (n + 1) later cs ending following new.rest → ToConfirm j n earlier (c ∷ cs) ending before old.rest)
@@ -121,9 +121,9 @@ command_refused before following u n c t r (Err why) refused line = λ j earlier
     let p = refused_on j n earlier c cs ending before u.rest r (refused j s.judged) h in
     line p.0 p.1
 
--- WHERE IT ISN'T
+-- AN ACCEPTED COMMAND
 
--- what its names expect
+-- both definitions give the same steps for the names of a command
 naming_is : (kind : Kind) (ls : List Literal) (j : ScriptState) → naming_all kind (names_of ls) j ≡ for_names (command_of kind ls) j
 naming_is OfClause ls j = names_are_expected.clauses (names_of ls) j
 naming_is OfAsk ls j = names_are_expected.asks (names_of ls) j
@@ -135,7 +135,7 @@ naming_is OfSample ls j = names_are_expected.samples (names_of ls) j
 with_clauses : (names : Names) (ls : List Literal) (j : ScriptState) → NamesHaveState names j → NamesHaveState names (with_clause ls j)
 with_clauses names ls j h = record { first = h.first; limit = h.limit; each = h.each; fresh = h.fresh; given = h.given; modes = h.modes; apart = h.apart }
 
--- what its names leave
+-- a table that fits the state after the names of a command fits the state after the command
 left_is : (kind : Kind) (ls : List Literal) (j : ScriptState) (names : Names) → NamesHaveState names (taken_by kind (names_of ls) j) → NamesHaveState names (accepted (command_of kind ls) j)
 left_is OfClause ls j names h = with_clauses names ls (bring_all (names_of ls) j) (subst (NamesHaveState names) (names_are_expected.left_by_clause (names_of ls) j) h)
 left_is OfAsk ls j names h = subst (NamesHaveState names) (names_are_expected.left_by_ask (names_of ls) j) h
@@ -143,7 +143,7 @@ left_is OfHide ls j names h = subst (NamesHaveState names) (names_are_expected.l
 left_is OfWitness ls j names h = subst (NamesHaveState names) (names_are_expected.left_by_witness (names_of ls) j) h
 left_is OfSample ls j names h = subst (NamesHaveState names) (names_are_expected.left_by_sample (names_of ls) j) h
 
--- they can't be met
+-- a command is not confirmed if the steps for its names cannot be met
 unnamed_barred : (c : Command) (j : ScriptState) (n : ℕ) (earlier : List Step) (cs : List Command) (ending : ScriptEnding) (answers certificate : List ℕ) → refusal_of j c ≡ None → MeetsNoneOf earlier certificate (for_names c j) → Rest j n earlier [] (c ∷ cs) ending answers certificate → ⊥
 unnamed_barred (Clause ls) j n earlier cs ending answers certificate e b h = left_barred (Adds ls ∷ []) (accepted (Clause ls) j) (n + 1) cs ending answers b ((command_pending (Clause ls) tt j n earlier cs ending answers certificate e).0 h)
 unnamed_barred (Ask ls) j n earlier cs ending answers certificate e b h = ask_unnamed j n ls cs ending answers e earlier certificate b h
@@ -268,7 +268,7 @@ over_done n t after before u v met a j earlier s =
 pub over_extra : (n : ℕ) (t : Table) (before : List ℕ) (u : CertificateState) (why : Why) → (before ≡ [] → ⊥) → ConfirmsLast n ([], Clean) t before u (Err why)
 over_extra n t before u why x j earlier s h = x (end_on j n earlier Clean before u.rest h).0
 
--- after the last line of the answers to a malformed text
+-- a malformed script is not confirmed if the answers lack its last line
 pub malformed_barred : (n : ℕ) (t : Table) (before following : List ℕ) (u : CertificateState) (why : Why) → TakesDueLine before following (malformed_line n) (Err why) → ConfirmsLast n ([], Malformed) t before u (Err why)
 malformed_barred n t before following u why line j earlier s h = line [] ((end_on j n earlier Malformed before u.rest h).0 ∙ sym (append-nil (malformed_line n)))
 

@@ -36,7 +36,7 @@ module _ (known : Known) (step : Step) where
       let v_is : v ≡ p.0 = cc in
       differ (sym (ap (λ (f : ℕ → Option ℕ). f (name + 1)) k.named) ∙ p.2 ∙ ap Some (sym v_is))
 
-  -- sets
+  -- steps whose literals are compared as a set
   module _ (ls codes : List ℕ) (same : Bool) (why : Why) (r : Option Why) (is : r ≡ cond same None (Some why)) (compared : MatchBool same (SameSet (vars known) (named_literals ls) codes) (SameSet (vars known) (named_literals ls) codes → ⊥)) where
     pub clause_compared : step ≡ AddClause codes → Compares (λ o ask. Adds (named_literals ls)) known step r
     clause_compared e = subst (Compares (λ o ask. Adds (named_literals ls)) known step) (sym is) (go same compared)
@@ -71,7 +71,7 @@ module _ (known : Known) (step : Step) where
             let codes_are : p.0 ≡ codes = cc in
             n (subst (λ (cs : List ℕ). SameSet (vars known) (named_literals ls) cs) codes_are (subst (λ (f : ℕ → Option ℕ). SameSet f (named_literals ls) p.0) k.named p.3))
 
--- what is looked up of the model that a step is
+-- the result of comparing a model step with a line
 pub line_reported : (known : Known) (step : Step) (line codes : List ℕ) (shown : Bool) (why : Why) (r : Option Why) → r ≡ cond shown None (Some why) → step ≡ Model codes
     → MatchBool shown (EachSpelt (vars known) (named_literals line) codes) (EachSpelt (vars known) (named_literals line) codes → ⊥) → ComparesLine known line step r
 line_reported known step line codes shown why r is e compared = subst (ComparesLine known line step) (sym is) (go shown compared)
@@ -83,7 +83,7 @@ line_reported known step line codes shown why r is e compared = subst (ComparesL
         let codes_are : others ≡ codes = cc in
         n (subst (λ (cs : List ℕ). EachSpelt (vars known) (named_literals line) cs) codes_are s)
 
--- where the line is no line
+-- no model fits if the line does not list the names in use, or lacks a literal of the ask
 pub model_unlisted : (known : Known) (step : Step) (names : Names) (ask line : List ℕ) (why : Why)
     → ((names_of (named_literals line) ≡ used_in (states_of names)) × AllAmong ask line → ⊥)
     → Compares (λ o _. Shows (used_in (states_of names)) (named_literals ask) (named_literals line)) known step (Some why)

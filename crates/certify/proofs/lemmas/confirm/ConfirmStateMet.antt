@@ -1,4 +1,4 @@
--- A session, call by call.
+-- Confirming commands, call by call.
 use Rattle.std.proofs.Common.{ℕ, ◌+◌, ◌≡◌, Bool, true, false, List, [], ◌∷◌, ◌++◌, Some, None, Result, Ok, Err, OnOk, refl, sym, ◌∙◌, ap, subst}
 use Rattle.std.proofs.lemmas.List.{append-nil}
 use Rattle.sat_base.specs.device.Reading.{Source, AtEnd}
@@ -36,7 +36,7 @@ use Rattle.certify.proofs.lemmas.confirm.Joining.{certificate_goes, certificate_
 use Rattle.certify.proofs.lemmas.confirm.Naming.{both, first_barred, nothing}
 use Rattle.certify.proofs.lemmas.confirm.UsedNames.{used_names}
 
--- ONE THING THAT IS EXPECTED
+-- ONE EXPECTED STEP
 
 at_ask : (due : Due) (o : Outcome) (ask : List Literal) → MayStayUnmet (due o ask) → (before after : NamedVars) (u v : CertificateState) (y : Result (Unit {0}) Why) → MeetsDue due before after u v y → MeetsAll (due o ask ∷ []) before after u v y
 at_ask due o ask free before after u v (Ok x) m = λ earlier s. let k = m earlier s in record { later = k.later; valid = k.valid; leads = k.leads o ask (λ closed. free) }
@@ -75,7 +75,7 @@ module _ (n : ℕ) (ask : List Literal) (asked next : Table) (a b : Source) (s :
   answer_unread e h = replies_end ⊥ true e a b s (λ before following y. IsReply before following reply settled y) (ConfirmsAnswer n ask asked next) open_yet
       (λ p q more why none t named x v is same opens. ask_without_answer ask t named x v n is asked (seen_in more s) same opens p next q (seen_in more s) why (λ steps taken o tail form alone e. none o tail form (λ closed. alone (sym (settled_is steps taken) ∙ closed)) e)) h
 
-  -- the answer, and that unsat is recorded or isn't
+  -- that the answer was read, and `settled` says whether unsat is recorded
   abbrev Answered : List ℕ → List ℕ → CertificateState → CertificateState → Result (Unit {0}) Why → Type 0
   Answered before following u v y = (u ≡ v) × IsReply before following reply settled (Ok tt) × ((steps : List Step) → HasTakenSteps u.checker steps → settled ≡ (ready_after steps).unsat)
 
@@ -116,7 +116,7 @@ content_asked n ls named asked next a b s t u r here open_yet same p h = joins_t
 
 -- A COMMAND
 
--- a command that isn't refused is lent whole
+-- a command without a name past the limit is passed with all its literals
 pub lent_whole : (lent : Lent) (c : Command) → lent.past_limit ≡ false → IsLent lent c → c ≡ command_of (kind_of lent.kind) (named_literals lent.literals.now)
 lent_whole lent c none (ls, f, e) = e ∙ ap (command_of (kind_of lent.kind)) (f.whole ∙ ap (λ (bs : List Literal). named_literals lent.literals.now ++ bs) (go lent.past_limit none f.following f.limit) ∙ append-nil (named_literals lent.literals.now))
   where
@@ -124,7 +124,7 @@ lent_whole lent c none (ls, f, e) = e ∙ ap (command_of (kind_of lent.kind)) (f
     go false x bs h = h
     go true x bs h = absurd (cc)
 
--- nothing refuses it
+-- a command is accepted if the names report no refusal
 pub allowed_by : (names : Names) (lent : Lent) (c whole : Command) → c ≡ whole → IsLent lent c → ReportsRefusal None names lent → (j : ScriptState) → NamesHaveState names j → refusal_of j whole ≡ None
 allowed_by names lent c whole e is judges j h = sym (subst (λ (w : Command). None ≡ refusal_of j w) e (judges j c h is))
 
@@ -182,7 +182,7 @@ module _ (n : ℕ) (t : Table) (a b : Source) (s : Stream) (here : AtEnd a → �
       (λ p q z v w y m f g. malformed_then n t p q v m f.1 (subst (λ (x : CertificateState). ConfirmsLast n ([], Clean) t q x m) (sym f.0) g))
       (replies_go ⊥ tt tt a b s (λ before following. TakesDueLine before following (malformed_line n)) (λ p q x y (m : Result (Unit {0}) Why). (x ≡ y) × TakesDueLine p q (malformed_line n) (Ok tt)) (λ p q more line. (refl, line)) h) k
 
--- an ask under no literals, and the end
+-- an ask without literals, and the end
 module _ (n m : ℕ) (t mid : Table) (a b c : Source) (s u v : Stream) (here : AtEnd a → ⊥) (open_yet : AtEnd s.source → ⊥) where
   asked_end : (w : Command) (r : Reading) (p q z : List ℕ) (x y k : CertificateState) (h : Result (Unit {0}) Why) → m ≡ n + 1 → ConfirmsNext n w t mid p q x y (Ok tt) → ConfirmsLast m r mid q y h → ConfirmsLast n (w ∷ r.0, r.1) t p x h
   asked_end w r p q z x y k (Ok o) is f g = λ j earlier s.

@@ -1,4 +1,4 @@
--- How a script is confirmed that is read as its commands are wanted.
+-- Confirming a script whose commands are read as they are needed.
 use Rattle.std.proofs.Common.{ℕ, ◌+◌, ◌^◌, ◌<◌, ◌≤◌, ◌≡◌, true, false, List, [], ◌∷◌, Result, Ok, Err, refl, sym, ◌∙◌, ap, subst, arith}
 use Rattle.sat_base.specs.device.Reading.{Source, AtEnd}
 use Rattle.sat_base.specs.script.Script.{Command, Clean, Malformed}
@@ -40,7 +40,7 @@ through_none text s reader m = record {
   );
 }
 
--- ONE MORE
+-- ONE MORE COMMAND
 
 pub numbers_more : (c : Command) (r : Reading) → numbers (onto_commands (c ∷ []) r) ≡ numbers r + 1
 numbers_more c (cs, Clean) = omega arith
@@ -59,7 +59,7 @@ through_command n m k script c left t between next p q z u v w e f g j earlier s
       back = λ h. x.back (y.back left.0 left.1 (subst (λ i. ToConfirm (after_command c x.judge) i y.later left.0 left.1 z w.rest) e h));
     }
 
--- nothing of what is left can be confirmed
+-- that what is left of the script cannot be confirmed
 abbrev Nothing : ℕ → Reading → Table → List ℕ → List ℕ → CertificateState → CertificateState → Result (Unit {0}) Why → Type 0
 Nothing n script t before following old new r = (j : ScriptState) (earlier : List Step) → HoldsAt t old j earlier → ToConfirm j n earlier script.0 script.1 before old.rest → ⊥
 
@@ -70,13 +70,13 @@ through_last n m script left t between p q z u v w (Err why) f g = λ j earlier 
 through_nothing : (n m : ℕ) (script left : Reading) (t between : Table) (p q z : List ℕ) (u v w : CertificateState) (y : Result (Unit {0}) Why) → Through n script t m left between p q u v (Ok tt) → Nothing m left between q z v w y → Nothing n script t p z u w y
 through_nothing n m script left t between p q z u v w y f g j earlier s k = let h = f j earlier s in g h.judge h.later h.valid (h.on k)
 
--- what a call leaves that went on
+-- the effect of a successful call includes that of running out of memory
 pub quits : (a b : Source) (s t : Stream) (P : List ℕ → List ℕ → CertificateState → CertificateState → Result (Unit {0}) Why → Type 0) → (AtEnd s.source → ⊥) → Joins ⊥ true (Ok tt) a b s t P → NoReadFailedAhead a b × Confirms {A = Unit {0}} (Err stop.OutOfMemory) s t Any
 quits a b s t P open_yet h =
     let total = b.reader.given in
     (took_kept true a b h.0, says_stop {B = ℕ} {C = Unit {0}} true stop.OutOfMemory s t (λ u v. P (rest_in total a) (rest_in total b) u v (Ok tt)) (λ y. ⊥) Any open_yet (λ more why f n. tt) (h.1 total (covers_given b)) tt)
 
--- by what is said of the whole script
+-- a script has the result of its complete reading
 ends_by : (M : Type 0) (text : List ℕ → Reading) (r : Result (Unit {0}) Stop) (old new : ConfirmPlace) → TakesSome false old.script new.script → (M → (total : List ℕ) → Covers new.script total → 2 ^ 64 < old.number + numbers (text (rest_in total old.script)))
     → ((total : List ℕ) → Covers new.script total → Joins M false r old.answers new.answers old.certificate new.certificate (λ before following u v. ConfirmsLast old.number (text (rest_in total old.script)) old.table before u)) → ConfirmsScript text r old new
 ends_by M text (Ok x) old new took many joins = (took, joins)
@@ -91,7 +91,7 @@ module _ (text : List ℕ → Reading) (old mid : ConfirmPlace) (reader after_re
   mid_open : AtEnd mid.script → ⊥
   mid_open = took_open old.script mid.script script_open through.took
 
-  -- a text can't be read any more
+  -- the script cannot be read any further
   pub unread_script : (new : Source) → FaultsAhead mid.script new → ConfirmsScript text (Err stop.ScriptRead) old (record mid { script = new })
   unread_script new f = (failed_then old.script mid.script new through.took f, quits old.answers mid.answers old.certificate mid.certificate (Through old.number (text (rest_in mid.script.reader.given old.script)) old.table mid.number (through.left (rest_in mid.script.reader.given mid.script)) mid.table) open_yet (through.joins mid.script.reader.given (covers_given mid.script)))
 

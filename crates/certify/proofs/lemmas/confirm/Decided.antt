@@ -1,4 +1,4 @@
--- What is said of three texts, by how the confirmation of them ended.
+-- What the result of a confirmation says about the three texts.
 use Rattle.std.proofs.Common.{ℕ, ◌+◌, ◌-◌, ◌^◌, ◌<◌, ◌≤◌, ◌≡◌, ◌↔◌, ◌⊎◌, inl, inr, min, true, false, List, ◌++◌, length, Result, Ok, Err, refl, subst, arith, []}
 use Rattle.std.specs.Prelude.{IfOk}
 use Rattle.sat_base.specs.device.Device.{Reader, GaveEnough, most_reads}
@@ -42,7 +42,7 @@ use Rattle.certify.proofs.lemmas.script.FewCommands.{few_read}
 
 -- RIGHT ANSWERS
 
--- a yes that is exact is sound
+-- an exact verdict is sound
 pub sound_as : {E : Type 0} (r : Result Verdict E) (script answers certificate : Reader × Reader) → IfOk r (Exact script answers certificate) → IfOk r (IsSoundVerdict script answers)
 sound_as (Err e) script answers certificate h = tt
 sound_as (Ok v) script answers certificate h = λ said.
@@ -54,9 +54,10 @@ sound_as (Ok v) script answers certificate h = λ said.
     right_answers s a m.outcomes m.answered (matching_right checker_rules the_checking_sound (reading s).0 m.outcomes m.steps m.match))
     g) h
 
--- HOW EACH READER WAS LEFT
+-- READS THAT FAILED
 
--- what an answer says of three readers, of which the last reads are counted: a read of one text failed at most, that of its fault
+-- What a result says about three readers, with all their reads counted. At most one read failed:
+-- that of the text which the fault names.
 abbrev pub ResultSays : Reader → Reader → Reader → Source → Source → Source → Result Verdict ConfirmFault → Type 0
 ResultSays x a c y b d (Ok v) = NoReadFailedAhead (unread x) y × NoReadFailedAhead (unread a) b × NoReadFailedAhead (unread c) d × Exact (x, y.reader) (a, b.reader) (c, d.reader) v
 ResultSays x a c y b d (Err fault.ScriptRead) = FaultsAhead (unread x) y × NoReadFailedAhead (unread a) b × NoReadFailedAhead (unread c) d
@@ -65,7 +66,7 @@ ResultSays x a c y b d (Err fault.CertificateRead) = NoReadFailedAhead (unread x
 ResultSays x a c y b d (Err fault.OutOfMemory) = NoReadFailedAhead (unread x) y × NoReadFailedAhead (unread a) b × NoReadFailedAhead (unread c) d
 ResultSays x a c y b d (Err fault.CounterEnd) = ⊥
 
--- no read failed, or one did and this is so
+-- that no read failed, or that one failed and P holds
 abbrev Leaves : Type 0 → Reader → Source → Type 0
 Leaves P x y = NoReadFailedAhead (unread x) y ⊎ (P × FaultsAhead (unread x) y)
 
@@ -121,7 +122,7 @@ promised x a c y b d r m n k h =
 
 -- FROM THE BEGINNING
 
--- before the first command
+-- the place before the first command
 abbrev pub begun : Reader → Reader → Reader → Kernel → Step → Table → ConfirmPlace
 begun x a c checker step table = record {
   script = unread x;
@@ -131,7 +132,7 @@ begun x a c checker step table = record {
   table = table;
 }
 
--- the checker took no step yet, and names nothing
+-- that the table and the checker are those at the start, before any step
 abbrev pub IsBegun : Kernel → Step → Table → Type 0
 IsBegun checker step table = (rest : List ℕ) → HoldsAt table (record { checker = checker; step = step; rest = rest }) start []
 
@@ -141,7 +142,7 @@ unread_open r h = none h.0
     none : 0 < 0 → ⊥
     none k = absurd (omega arith)
 
--- what is so of all that a reader gave, whatever would follow
+-- what holds whatever bytes could follow holds of the text that the reader gave
 given : (r : Reader) (t : Source) (P : List ℕ → Type 0) → TakesSome false (unread r) t → ((total : List ℕ) → Covers t total → P (rest_in total (unread r))) → GaveEnough r t.reader P
 given r t P h f = gave_enough r t h.0.0 P h.0.1 h.1 f
 
@@ -214,7 +215,7 @@ module _ (x a c : Reader) (checker : Kernel) (step : Step) (table : Table) (fres
       too_many n l h k m = absurd (let e : most_bytes + 2 < 2 ^ 64 = omega arith in omega arith)
   result_says (Err z) asks short few e = let p = e.1.1 in (e.0, e.1.0, (p.0.0.1.failures, p.0.0.1.calls))
 
-  -- HOW MANY LOOKS IT TOOK
+  -- THE NUMBER OF LOOKS
 
   certified : (r : Result (Unit {0}) Stop) → ConfirmsScript reading r old new → (q : Result (Unit {0}) Stop) × Confirms q old.certificate new.certificate Any
   certified (Ok u) e =
@@ -240,7 +241,7 @@ module _ (x a c : Reader) (checker : Kernel) (step : Step) (table : Table) (fres
     took (Err stop.CounterEnd) p = took_looks 1 c new.certificate.source p.0.0.0 (kernel_looks new.certificate.checker) p.0.0.1 (λ total k. reached_by (rest_in total (unread c)) (p.2 total k))
     took (Err e) p = absurd p
 
-    -- added to those of others
+    -- the looks of the confirmation, added to those of earlier checkers
     pub looks_added : (r : Result (Unit {0}) Stop) (before after : ℕ) → after ≡ before + kernel_looks new.certificate.checker → ConfirmsScript reading r old new → TakesLooks c new.certificate.source.reader before after
     looks_added r before after e ends =
         let q = certified r ends in
@@ -252,13 +253,13 @@ module _ (x a c : Reader) (checker : Kernel) (step : Step) (table : Table) (fres
         subst (λ to. LooksReach [] (t.text ++ rest) before to) sum
         (subst (λ from. LooksReach [] (t.text ++ rest) from (kernel_looks new.certificate.checker + before)) zero (looks_from before [] (t.text ++ rest) 0 (kernel_looks new.certificate.checker) (t.reached rest k))))
 
--- a confirmation of what three readers give keeps its promises
+-- a confirmation of three texts has the properties in `Promised`
 pub keeps_promises : (x a c : Reader) (checker : Kernel) (step : Step) (table : Table) (new : ConfirmPlace) → IsBegun checker step table → (r : Result (Unit {0}) Stop) (asks : ℕ) → new.script.reads ≤ most_reads → new.answers.reads ≤ most_reads → new.certificate.source.reads ≤ most_reads
     → ConfirmsScript reading r (begun x a c checker step table) new → Promised (said_by r asks) (x, new.script.reader) (a, new.answers.reader) (c, new.certificate.source.reader)
 keeps_promises x a c checker step table new fresh r asks m n k h =
     promised x a c new.script new.answers new.certificate.source (said_by r asks) m n k (result_says x a c checker step table fresh new r asks m k h)
 
--- by how the three are read as it begins
+-- a confirmation without bytes read ahead begins before the first command
 pub begins : (r : Result (Unit {0}) Stop) (x a c : Reader) (script answers : LastPiece) (certificate : Source) (checker : Kernel) (step : Step) (number : ℕ) (table : Table) (new : ConfirmPlace)
     → waiting_bytes script ≡ [] → script.reads ≡ 0 → waiting_bytes answers ≡ [] → answers.reads ≡ 0 → certificate ≡ unread c → number ≡ 1
     → ConfirmsScript reading r (record {

@@ -1,4 +1,4 @@
--- What a checker answers to a step, as confirming takes it.
+-- How confirming treats what a checker returns for a step.
 use Rattle.std.proofs.Common.{Ok, Err, sym, ◌∙◌}
 use Rattle.std.proofs.lemmas.Bool.{true≢false}
 use Rattle.sat_base.specs.steps.Steps.{Step}
@@ -19,7 +19,7 @@ unfed errors.HasFailed old step new h = λ steps t. absurd (true≢false (sym (h
 unfed (errors.ProofProcessorError cause) old step new h = tt
 unfed e old step new h = λ steps t. absurd (h steps t.valid)
 
--- A UNIT CONFLICT THAT WAS PENDING
+-- A PENDING UNIT CONFLICT
 
 pub settles : (old new : Kernel) → ChecksDelayed (Ok tt) old new → SettlesConflict (Ok tt) old new
 settles old new h = λ steps t. let x = h steps t.valid in (record { valid = x.2; goes_on = x.3 }, x.1)

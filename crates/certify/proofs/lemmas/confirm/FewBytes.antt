@@ -1,4 +1,4 @@
--- The bytes that a reader gives are too few for the checker's ids and counts to come to their end.
+-- A reader gives too few bytes to exhaust the checker's ids and counts.
 use Rattle.std.proofs.Common.{ℕ, ◌+◌, ◌^◌, ◌<◌, ◌≤◌, ◌≡◌, ◌⊎◌, ◌∙◌, List, [], ◌∷◌, ◌++◌, length, length-append, append_assoc, Option, None, Some, inl, inr, refl, sym, ap, subst, arith}
 use Rattle.std.proofs.lemmas.List.{append-nil}
 use Rattle.sat_base.specs.steps.Steps.{Step}
@@ -12,7 +12,7 @@ use Rattle.sat_checker.proofs.lemmas.checker.Proofs.{taken_one}
 use Rattle.sat_checker.proofs.lemmas.invariants.FewBytes.{ids_within_bytes, none_is_spent}
 use Rattle.certify.specs.confirm.Walks.{ReachesCounterEnd, spent_settling, spent_trying, spent_taking}
 
--- a pending unit conflict that is settled raises no count
+-- settling a pending unit conflict does not change the stored clauses
 settled_clauses : (f : Stored) → (settled f).clauses ≡ f.clauses
 settled_clauses f = go f.conflict
   where

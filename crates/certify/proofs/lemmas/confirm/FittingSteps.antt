@@ -1,4 +1,4 @@
--- What each expected step has to be.
+-- Which steps fit each expected step.
 use Rattle.std.proofs.Common.{ℕ, ◌+◌, ◌≡◌, ◌↔◌, false, List, [], Some, None, refl, subst, sym}
 use Rattle.std.specs.List.{AllByRecursion}
 use Rattle.sat_base.specs.script.Script.{Literal, names_of, Among}

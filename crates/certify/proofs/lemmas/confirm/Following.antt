@@ -1,4 +1,4 @@
--- What names stand for after one step more.
+-- The variables of names after one more step.
 use Rattle.std.proofs.Common.{ℕ, ◌+◌, ◌≤◌, ◌<◌, ◌≡◌, Bool, true, false, cond, eqb, List, ◌∷◌, Option, Some, None, refl, sym, ◌∙◌, ap, subst, arith, inl, inr}
 use Rattle.std.proofs.Common.{Result, Ok, Err, OnOk}
 use Rattle.std.proofs.lemmas.Bool.{true≢false, eqb-true, eqb-false, eq-eqb}
@@ -23,12 +23,12 @@ none_some e = cc
 one_of : {v w : ℕ} → Some v ≡ Some w → v ≡ w
 one_of e = cc
 
--- a step that isn't ordered puts no name
+-- an unordered step does not change the variable of any name
 unnamed : (step : Step) (earlier : List Step) → is_ordered step ≡ false → variable_of (step ∷ earlier) ≡ variable_of earlier
 unnamed (UserVarName v name) earlier h = absurd (true≢false h)
 unnamed step earlier h = refl
 
--- what has a name is known still
+-- a variable that has a name stays known
 known_still : (earlier : List Step) (step : Step) (m v : ℕ) → Accepted checker_rules earlier → Accepts (ready_after earlier) step → variable_of earlier m ≡ Some v → checker_rules.knows earlier v ≡ true → checker_rules.knows (step ∷ earlier) v ≡ true
 known_still earlier step m v all a e k = elim (the_checking_sound.keeps earlier step v a k) [
   | inl h ↦ h
@@ -77,7 +77,7 @@ module _ (old new : NamedVars) (earlier : List Step) (s : AreVariablesOfNames ol
       is_few m w true e x = subst (λ (z : ℕ). z ≤ var_limit) (eqb-true (index + 1) m e) low
       is_few m w false e x = s.few m w x
 
-  -- A NAME TAKEN
+  -- A REMOVED NAME
   takes_a : (name v : ℕ) → variable_of earlier name ≡ Some v → Accepts (ready_after earlier) (UserVarName v None) → PutsVariable old new name None → AreVariablesOfNames new (UserVarName v None ∷ earlier)
   takes_a name v at a p = record {
     accepted = (s.accepted, a);
@@ -128,7 +128,7 @@ puts_name (NewName name) = true
 puts_name (NoName name) = true
 puts_name e = false
 
--- another step puts no name
+-- a step that fits an expected step without a name does not change the variable of any name
 pub unput : (earlier : List Step) (e : Expected) (step : Step) → Fits (checker_rules.knows earlier) earlier e step → (b : Bool) → puts_name e ≡ b → b ≡ false → variable_of (step ∷ earlier) ≡ variable_of earlier
 unput earlier e step (new_name is unknown) b x y = absurd (true≢false (x ∙ y))
 unput earlier e step (no_name at) b x y = absurd (true≢false (x ∙ y))
@@ -143,6 +143,6 @@ pub on_ok : {A E : Type 0} (r : Result A E) (P Q : Type 0) → (P → Q) → OnO
 on_ok (Ok x) P Q f p = f p
 on_ok (Err e) P Q f p = tt
 
--- nothing changes after one
+-- so the table of variables stays the same
 pub unchanged : (due : Due) (variables : NamedVars) (step : Step) → ((o : Outcome) (ask : List Literal) → puts_name (due o ask) ≡ false) → NamesFollow due variables step variables
 unchanged due variables step less earlier o ask s f a = stays variables earlier step s a (unput earlier (due o ask) step f false (less o ask) refl)

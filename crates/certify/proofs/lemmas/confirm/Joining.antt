@@ -47,7 +47,7 @@ pub took_kept : (goes : Bool) (s t : Source) → TakesSome goes s t → NoReadFa
 took_kept true s t p = (p.1.failures, p.1.calls)
 took_kept false s t p = (p.0.1.failures, p.0.1.calls)
 
--- whether or not it goes on
+-- bytes were consumed, whether or not the end was found
 pub took_passed : (goes : Bool) (s t : Source) → TakesSome goes s t → TakesSomeOrEnds s t
 took_passed true s t p = (p.0, weaker s t p.0 p.1)
 took_passed false s t p = p.0
@@ -62,13 +62,13 @@ kept_then s t u p q = (q.0 ∙ p.0, omega (arith, p.1, q.1))
 pub failed_then : (s t u : Source) → TakesSome true s t → FaultsAhead t u → FaultsAhead s u
 failed_then s t u p q = (p.0 ++ q.0, faults_later s t u p.0 q.0 p.1 q.1)
 
--- nothing more may come
+-- the bytes given so far may be all
 pub covers_given : (s : Source) → Covers s s.reader.given
 covers_given s = record { later = []; whole = sym (append-nil s.reader.given); none = λ h. refl }
 
--- ANSWERS ALONE
+-- ANSWERS ONLY
 
--- an error that is handed on
+-- an error that is passed on
 pub replies_stop : {A B : Type 0} (goes : Bool) (e : Stop) (a b : Source) (P : List ℕ → List ℕ → Result A Why → Type 0) (Q : List ℕ → List ℕ → Result B Why → Type 0) → ((p q : List ℕ) (why : Why) → P p q (Err why) → Q p q (Err why))
     → Replies {A = A} goes (Err e) a b P → Replies {A = B} goes (Err e) a b Q
 replies_stop goes (stop.No why) a b P Q f h = (h.0, λ total k. f (rest_in total a) (rest_in total b) why (h.1 total k))
@@ -76,7 +76,7 @@ replies_stop goes stop.OutOfMemory a b P Q f h = h
 replies_stop goes stop.AnswersRead a b P Q f h = h
 replies_stop goes e a b P Q f h = absurd h
 
--- after a call that went on
+-- a call after a successful call
 pub replies_then : {A B : Type 0} (goes : Bool) (x : A) (r : Result B Stop) (a b c : Source) (P : List ℕ → List ℕ → Result A Why → Type 0) (Q R : List ℕ → List ℕ → Result B Why → Type 0) → (AtEnd a → ⊥)
     → ((p q s : List ℕ) (y : Result B Why) → P p q (Ok x) → Q q s y → R p s y) → Replies true (Ok x) a b P → Replies goes r b c Q → Replies goes r a c R
 replies_then goes x (Ok y) a b c P Q R open_yet f h k =
@@ -87,12 +87,12 @@ replies_then goes x (Err stop.OutOfMemory) a b c P Q R open_yet f h k = kept_the
 replies_then goes x (Err stop.AnswersRead) a b c P Q R open_yet f h k = failed_then a b c h.0 k
 replies_then goes x (Err e) a b c P Q R open_yet f h k = absurd k
 
--- a no after a call that went on, of what reads nothing
+-- a `No` without further reading, after a successful call
 pub replies_no : {A B : Type 0} (goes : Bool) (x : A) (why : Why) (a b : Source) (P : List ℕ → List ℕ → Result A Why → Type 0) (R : List ℕ → List ℕ → Result B Why → Type 0) → (AtEnd a → ⊥)
     → ((p q : List ℕ) → P p q (Ok x) → R p q (Err why)) → Replies true (Ok x) a b P → Replies {A = B} goes (Err (stop.No why)) a b R
 replies_no goes x why a b P R open_yet f h = (took_halted a b open_yet h.0, λ total k. f (rest_in total a) (rest_in total b) (h.1 total k))
 
--- WHERE THE CERTIFICATE STAYS
+-- CALLS THAT LEAVE THE CERTIFICATE AS IT IS
 
 no_stays : {A : Type 0} (s : Stream) (why : Why) (P : CertificateState → CertificateState → Result A Why → Type 0) → (AtEnd s.source → ⊥) → ((total : List ℕ) → P (seen_in total s) (seen_in total s) (Err why)) → Confirms {A = A} (Err (stop.No why)) s s P
 no_stays s why P open_yet f = (moves_halt s s open_yet ([], passes_none s.source), (λ total k. f total), (λ total k. tries_none (seen_in total s) (seen_in total s) refl))
@@ -108,9 +108,9 @@ replies_join {A} M goes (Err stop.OutOfMemory) a b s P R open_yet f h = (h, shor
 replies_join {A} M goes (Err stop.AnswersRead) a b s P R open_yet f h = (h, short_stays A s open_yet)
 replies_join {A} M goes (Err e) a b s P R open_yet f h = absurd h
 
--- WHERE THE ANSWERS STAY
+-- CALLS THAT LEAVE THE ANSWERS AS THEY ARE
 
--- a call that went on
+-- a successful call
 pub certificate_goes : {A : Type 0} (M : Type 0) (x : A) (a : Source) (s t : Stream) (P : CertificateState → CertificateState → Result A Why → Type 0) (R : List ℕ → List ℕ → CertificateState → CertificateState → Result A Why → Type 0)
     → ((p : List ℕ) (u v : CertificateState) → P u v (Ok x) → R p p u v (Ok x)) → Confirms (Ok x) s t P → Joins M true (Ok x) a a s t R
 certificate_goes M x a s t P R f h = (took_none a, λ total k. confirms_so (Ok x) s t (λ u v (y : Result _ Why). P u v (Ok x)) (λ u v (y : Result _ Why). R (rest_in total a) (rest_in total a) u v (Ok x)) (λ more y. f (rest_in total a) (seen_in more s) (seen_in more t)) h)
@@ -118,7 +118,7 @@ certificate_goes M x a s t P R f h = (took_none a, λ total k. confirms_so (Ok x
 any_stop : (A B : Type 0) (e : Stop) (s t : Stream) (P : CertificateState → CertificateState → Result A Why → Type 0) → Confirms {A = A} (Err e) s t P → Confirms {A = B} (Err e) s t Any
 any_stop A B e s t P h = confirms_stop {A = A} {B = B} e s t P Any (λ total why k. tt) h
 
--- or stopped
+-- a call that stopped
 pub certificate_stops : {A B : Type 0} (M : Type 0) (goes : Bool) (e : Stop) (a : Source) (s t : Stream) (P : CertificateState → CertificateState → Result A Why → Type 0) (R : List ℕ → List ℕ → CertificateState → CertificateState → Result B Why → Type 0) → (AtEnd a → ⊥)
     → ((p : List ℕ) (u v : CertificateState) (why : Why) → P u v (Err why) → R p p u v (Err why)) → Confirms {A = A} (Err e) s t P → Joins {A = B} M goes (Err e) a a s t R
 certificate_stops {A} {B} M goes (stop.No why) a s t P R open_yet f h = (took_halted a a open_yet (took_none a), λ total k. confirms_stop (stop.No why) s t P (R (rest_in total a) (rest_in total a)) (λ more w. f (rest_in total a) (seen_in more s) (seen_in more t) w) h)
@@ -129,7 +129,7 @@ certificate_stops M goes stop.ScriptRead a s t P R open_yet f h = absurd h
 certificate_stops M goes stop.AnswersRead a s t P R open_yet f h = absurd h
 certificate_stops M goes stop.TooMany a s t P R open_yet f h = absurd h
 
--- BOTH
+-- ANSWERS AND CERTIFICATE
 
 pub joins_stop : {A B : Type 0} (M : Type 0) (goes : Bool) (e : Stop) (a b : Source) (s t : Stream) (P : List ℕ → List ℕ → CertificateState → CertificateState → Result A Why → Type 0) (R : List ℕ → List ℕ → CertificateState → CertificateState → Result B Why → Type 0)
     → ((p q : List ℕ) (u v : CertificateState) (why : Why) → P p q u v (Err why) → R p q u v (Err why)) → Joins {A = A} M goes (Err e) a b s t P → Joins {A = B} M goes (Err e) a b s t R
@@ -139,13 +139,13 @@ joins_stop {A} {B} M goes stop.ScriptRead a b s t P R f h = absurd h
 joins_stop {A} {B} M goes stop.TooMany a b s t P R f h = (h.0, any_stop A B stop.OutOfMemory s t Any h.1, h.2)
 joins_stop {A} {B} M goes e a b s t P R f h = (h.0, any_stop A B e s t Any h.1)
 
--- a stop after a call that went on
+-- a stop after a successful call
 stop_then : (A B : Type 0) (M : Type 0) (x : A) (e : Stop) (a b : Source) (s t u : Stream) (P : List ℕ → List ℕ → CertificateState → CertificateState → Result A Why → Type 0) → (AtEnd s.source → ⊥) → Joins M true (Ok x) a b s t P → Confirms {A = B} (Err e) t u Any → Confirms {A = B} (Err e) s u Any
 stop_then A B M x e a b s t u P open_yet h k =
     let total = b.reader.given in
     then_stop {A = A} {B = B} {C = B} x e s t u (P (rest_in total a) (rest_in total b)) Any Any open_yet (λ more why f g. tt) (h.1 total (covers_given b)) k
 
--- one after another that went on
+-- a call after a successful call
 pub joins_then : {A B : Type 0} (M : Type 0) (goes : Bool) (x : A) (r : Result B Stop) (a b c : Source) (s t u : Stream) (P : List ℕ → List ℕ → CertificateState → CertificateState → Result A Why → Type 0) (Q R : List ℕ → List ℕ → CertificateState → CertificateState → Result B Why → Type 0)
     → (AtEnd a → ⊥) → (AtEnd s.source → ⊥) → ((p q z : List ℕ) (v w y : CertificateState) (n : Result B Why) → P p q v w (Ok x) → Q q z w y n → R p z v y n)
     → Joins M true (Ok x) a b s t P → Joins M goes r b c t u Q → Joins M goes r a c s u R
@@ -168,13 +168,13 @@ joins_then {A} {B} M goes x (Err stop.ScriptRead) a b c s t u P Q R here open_ye
 joins_then {A} {B} M goes x (Err stop.TooMany) a b c s t u P Q R here open_yet f h k = (kept_then a b c (took_kept true a b h.0) k.0, stop_then A B M x stop.OutOfMemory a b s t u P open_yet h k.1, k.2)
 joins_then {A} {B} M goes x (Err e) a b c s t u P Q R here open_yet f h k = (kept_then a b c (took_kept true a b h.0) k.0, stop_then A B M x e a b s t u P open_yet h k.1)
 
--- the same of whatever it answers
+-- a call with any result that reads only the certificate
 pub certificate_joins : {A : Type 0} (M : Type 0) (r : Result A Stop) (a : Source) (s t : Stream) (P : CertificateState → CertificateState → Result A Why → Type 0) (R : List ℕ → List ℕ → CertificateState → CertificateState → Result A Why → Type 0) → (AtEnd a → ⊥)
     → ((p : List ℕ) (u v : CertificateState) (y : Result A Why) → P u v y → R p p u v y) → Confirms r s t P → Joins M true r a a s t R
 certificate_joins M (Ok x) a s t P R open_yet f h = certificate_goes M x a s t P R (λ p u v. f p u v (Ok x)) h
 certificate_joins M (Err e) a s t P R open_yet f h = certificate_stops M true e a s t P R open_yet (λ p u v why. f p u v (Err why)) h
 
--- answers that were read, and the certificate stays
+-- a successful call that reads only answers
 pub replies_go : {A B : Type 0} (M : Type 0) (x : A) (y : B) (a b : Source) (s : Stream) (P : List ℕ → List ℕ → Result A Why → Type 0) (R : List ℕ → List ℕ → CertificateState → CertificateState → Result B Why → Type 0)
     → ((p q more : List ℕ) → P p q (Ok x) → R p q (seen_in more s) (seen_in more s) (Ok y)) → Replies true (Ok x) a b P → Joins M true (Ok y) a b s s R
 replies_go M x y a b s P R f h = (h.0, λ total k. confirms_none y s (R (rest_in total a) (rest_in total b)) (λ more. f (rest_in total a) (rest_in total b) more (h.1 total k)))
@@ -186,16 +186,16 @@ replies_end {A} {B} M goes stop.OutOfMemory a b s P R open_yet f h = (h, short_s
 replies_end {A} {B} M goes stop.AnswersRead a b s P R open_yet f h = (h, short_stays B s open_yet)
 replies_end {A} {B} M goes e a b s P R open_yet f h = absurd h
 
--- commands are too many
+-- there are too many commands
 pub too_many : {B : Type 0} (M : Type 0) (goes : Bool) (a : Source) (s : Stream) (R : List ℕ → List ℕ → CertificateState → CertificateState → Result B Why → Type 0) → (AtEnd s.source → ⊥) → M → Joins {A = B} M goes (Err stop.TooMany) a a s s R
 too_many {B} M goes a s R open_yet m = ((refl, refl), short_stays B s open_yet, m)
 
--- one of two reasons is the other
+-- the statement about too many commands may be weakened
 pub joins_as : {A : Type 0} (M N : Type 0) (goes : Bool) (r : Result A Stop) (a b : Source) (s t : Stream) (P : List ℕ → List ℕ → CertificateState → CertificateState → Result A Why → Type 0) → (M → N) → Joins M goes r a b s t P → Joins N goes r a b s t P
 joins_as M N goes (Err stop.ScriptRead) a b s t P f h = absurd h
 joins_as M N goes (Err stop.TooMany) a b s t P f h = (h.0, h.1, f h.2)
 joins_as M N goes e a b s t P f h = h
 
--- where they aren't, whatever M is
+-- a call that never finds too many commands
 pub joins_many : {A : Type 0} (M : Type 0) (goes : Bool) (r : Result A Stop) (a b : Source) (s t : Stream) (P : List ℕ → List ℕ → CertificateState → CertificateState → Result A Why → Type 0) → Joins ⊥ goes r a b s t P → Joins M goes r a b s t P
 joins_many M goes r a b s t P h = joins_as ⊥ M goes r a b s t P (λ x. absurd x) h

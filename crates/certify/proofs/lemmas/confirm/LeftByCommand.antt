@@ -1,4 +1,4 @@
--- What is left, command by command.
+-- What is left to confirm, command by command.
 use Rattle.std.proofs.Common.{ℕ, ◌+◌, ◌≡◌, ◌↔◌, ◌⊎◌, inl, inr, List, [], ◌∷◌, ◌++◌, Option, Some, None, refl, sym, ◌∙◌, ap, subst, append_assoc}
 use Rattle.std.specs.List.{AllByRecursion}
 use Rattle.sat_base.specs.script.Script.{Literal, Command, Ask, ScriptEnding, names_of}
@@ -13,7 +13,7 @@ use Rattle.sat_checker.specs.matching.ProofChecking.{checker_rules}
 use Rattle.certify.specs.confirm.CertificatePlaces.{CanMeet, MeetsExactly, MeetsNoneOf}
 use Rattle.certify.proofs.lemmas.confirm.StepTags.{unordered_names}
 
--- what is left of the commands from number n on
+-- that the rest matches from command `n` on
 abbrev pub Rest : ScriptState → ℕ → List Step → List Expected → List Command → ScriptEnding → List ℕ → List ℕ → Type 0
 Rest j n earlier pending commands ending answers certificate = Left checker_rules j n earlier pending commands ending answers certificate
 
@@ -23,7 +23,7 @@ left_begins commands ending answers certificate = (
   (λ l. let c = l.certified in record { outcomes = l.outcomes; steps = c.steps; text = c.text; rest = c.rest; answered = l.answered; begins = c.begins; spelt = c.spelt; match = record { one_each = l.one_each; in_form = l.in_form; meets = c.meets } }),
 )
 
--- a refused command takes its line
+-- the answer to a refused command is its line
 pub refused_on : (j : ScriptState) (n : ℕ) (earlier : List Step) (c : Command) (cs : List Command) (ending : ScriptEnding) (answers certificate : List ℕ) (refusal : Refusal) → refusal_of j c ≡ Some refusal
     → Rest j n earlier [] (c ∷ cs) ending answers certificate → (tail : List ℕ) × (answers ≡ refused_line n refusal ++ tail) × Rest j (n + 1) earlier [] cs ending tail certificate
 refused_on j n earlier c cs ending answers certificate refusal e l =
@@ -34,7 +34,7 @@ pub refused_back : (j : ScriptState) (n : ℕ) (earlier : List Step) (c : Comman
 refused_back j n earlier c cs ending answers tail certificate refusal e a l =
     record { outcomes = l.outcomes; answered = rw e (a ∙ ap (λ t. refused_line n refusal ++ t) l.answered); one_each = rw e l.one_each; in_form = l.in_form; certified = rw e l.certified }
 
--- an ask that isn't refused takes an outcome
+-- the answer to an accepted ask is the text of an outcome
 module _ (j : ScriptState) (n : ℕ) (earlier : List Step) (ls : List Literal) (cs : List Command) (ending : ScriptEnding) (answers certificate : List ℕ) where
   same : (v : Outcome) (vs : List Outcome) → (bringing (names_of ls) j ++ (Opens ls v ∷ (showing (accepted (Ask ls) j) ls v ++ (Closes ∷ [])))) ++ expected (accepted (Ask ls) j) (accepted_of (accepted (Ask ls) j) cs) vs
       ≡ bringing (names_of ls) j ++ (Opens ls v ∷ (showing (accepted (Ask ls) j) ls v ++ (Closes ∷ expected (accepted (Ask ls) j) (accepted_of (accepted (Ask ls) j) cs) vs)))
@@ -68,7 +68,7 @@ module _ (j : ScriptState) (n : ℕ) (earlier : List Step) (ls : List Literal) (
         certified = rw e (subst (λ es. CanMeet earlier es certificate) (same p.outcome l.outcomes) l.certified);
       }
 
--- what is pending is met on the way
+-- once the pending steps `p` are met, `q` and the rest are left
 pub left_on : {earlier later : List Step} {certificate rest : List ℕ} {p : List Expected} (q : List Expected) (j : ScriptState) (n : ℕ) (cs : List Command) (ending : ScriptEnding) (answers : List ℕ)
     → MeetsExactly earlier certificate p later rest → Rest j n earlier (p ++ q) cs ending answers certificate → Rest j n later q cs ending answers rest
 left_on {earlier} {later} {certificate} {rest} {p} q j n cs ending answers l m =
@@ -87,7 +87,7 @@ left_barred {earlier} {certificate} {p} q j n cs ending answers b m =
     let more = expected j (accepted_of j cs) m.outcomes in
     b.none (q ++ more) (subst (λ es. CanMeet earlier es certificate) (append_assoc p q more) m.certified)
 
--- no command is left
+-- if no command is left, only the last line and the end of the certificate are
 pub end_on : (j : ScriptState) (n : ℕ) (earlier : List Step) (ending : ScriptEnding) (answers certificate : List ℕ) → Rest j n earlier [] [] ending answers certificate → (answers ≡ ending_text n ending) × CanMeet earlier (Finish ∷ []) certificate
 end_on j n earlier ending answers certificate l = go l.outcomes l.one_each l.answered l.certified
   where
@@ -98,7 +98,7 @@ end_on j n earlier ending answers certificate l = go l.outcomes l.one_each l.ans
 pub end_back : (j : ScriptState) (n : ℕ) (earlier : List Step) (ending : ScriptEnding) (answers certificate : List ℕ) → answers ≡ ending_text n ending → CanMeet earlier (Finish ∷ []) certificate → Rest j n earlier [] [] ending answers certificate
 end_back j n earlier ending answers certificate a m = record { outcomes = []; answered = a; one_each = tt; in_form = tt; certified = m }
 
--- what a line of a model lists where it is met
+-- a model line that is met lists exactly these names
 shown_names : (earlier steps : List Step) (names : List ℕ) (ask line : List Literal) (es : List Expected) → Meets checker_rules earlier steps (Shows names ask line ∷ es) → names_of line ≡ names
 shown_names earlier steps names ask line es (cut u x) = absurd x.0
 shown_names earlier (step ∷ steps) names ask line es (other u n a m) = shown_names (step ∷ earlier) steps names ask line es m
@@ -107,7 +107,7 @@ shown_names earlier (step ∷ steps) names ask line es (ordered u (shows n s k) 
 pub met_shows : (earlier : List Step) (names : List ℕ) (ask line : List Literal) (es : List Expected) (certificate : List ℕ) → CanMeet earlier (Shows names ask line ∷ es) certificate → names_of line ≡ names
 met_shows earlier names ask line es certificate m = shown_names earlier m.steps names ask line es m.meets
 
--- the literals of a core whose step is accepted are those of names that have a variable
+-- that the name of every literal has a variable
 abbrev pub HaveVariables : List Step → List Literal → Type 0
 HaveVariables earlier core = AllByRecursion (λ l. (v : ℕ) × (variable_of earlier l.name ≡ Some v)) core
 

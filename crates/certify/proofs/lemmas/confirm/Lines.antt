@@ -54,7 +54,7 @@ first_lf (a ∷ zs) (b ∷ bs) x y h k e =
     let r = first_lf zs bs x y h.1 k.1 more in
     (ap (λ (ws : List ℕ). a ∷ ws) r.0 ∙ ap (λ (w : ℕ). w ∷ bs) same, r.1)
 
--- bytes without LF in front of a line are in its front
+-- bytes without LF at the beginning of a text are a prefix of its first line
 in_front : (xs ys more tail : List ℕ) → HasNoLf xs → xs ++ more ≡ ys ++ 10 ∷ tail → (rest : List ℕ) × (ys ++ 10 ∷ [] ≡ xs ++ rest)
 in_front [] ys more tail h e = (ys ++ 10 ∷ [], refl)
 in_front (x ∷ xs) [] more tail h e = let same : x ≡ 10 = cc in absurd (h.0 same)
@@ -128,7 +128,7 @@ second_is_line kind.Unknown u ls h = absurd u
 
 -- THE LINE THAT WAS READ
 
--- it stands in front of what is left, or is all of it, or is wrong
+-- that `line` is a line, or all bytes without LF, or bytes that begin no expected line
 abbrev FirstLine : (List ℕ → Type 0) → List ℕ → List ℕ → List ℕ → Type 0
 FirstLine P line bytes more = (IsOneLine line × (bytes ≡ line ++ more)) ⊎ ((HasNoLf line × (bytes ≡ line)) ⊎ ((HasNoLf line × (bytes ≡ line ++ more)) × IsWrong P line))
 
@@ -138,7 +138,7 @@ module _ (P : List ℕ → Type 0) (a b : Source) (line total : List ℕ) (c : C
   first_of (inr (inl h)) = inr (inl (h.1, nothing_after a b line total h.0 c))
   first_of (inr (inr h)) = inr (inr ((h.0.1, taken_front 0 a b line total h.0.0 c), h.1))
 
--- a line that may stand there, and does, is the one
+-- if an expected line comes next, it is the line that was read
 the_line : (P : List ℕ → Type 0) (line bytes more text tail : List ℕ) → P text → IsOneLine text → FirstLine P line bytes more → bytes ≡ text ++ tail → (line ≡ text) × (more ≡ tail)
 the_line P line bytes more text tail right t (inl h) e =
     let l = h.0 in
@@ -152,7 +152,7 @@ the_line P line bytes more text tail right t (inr (inr h)) e =
     let f = in_front line t.front more tail h.0.0 (sym h.0.1 ∙ e ∙ ap (λ (z : List ℕ). z ++ tail) t.whole ∙ append_assoc t.front (10 ∷ []) tail) in
     absurd (h.1.0 f.0 (subst P (t.whole ∙ f.1) right))
 
--- a text in front of the line is all of it
+-- a line that begins a line is all of it
 front_is_line : (line text following : List ℕ) → IsOneLine text → IsOneLine line → line ≡ text ++ following → line ≡ text
 front_is_line line text following t l e =
     let r = first_lf l.front t.front [] following l.none t.none (sym l.whole ∙ e ∙ ap (λ (z : List ℕ). z ++ following) t.whole ∙ append_assoc t.front (10 ∷ []) following) in
@@ -164,7 +164,7 @@ module _ (P : List ℕ → Type 0) (a b : Source) (line : List ℕ) (open_yet : 
   line_halts (inr (inl h)) = ((line, h.0.0), λ e. all_over b h.0.1)
   line_halts (inr (inr h)) = took_halted a b open_yet (line, h.0.0)
 
-  -- a line that is the text, or begins with it
+  -- if the line begins with `text`, exactly `text` was read
   line_taken : (text following : List ℕ) → IsOneLine text → line ≡ text ++ following → IsNextLine P a b line → TakesSome true a b × ((total : List ℕ) → Covers b total → rest_in total a ≡ text ++ rest_in total b)
   line_taken text following t e (inl h) =
       let same = front_is_line line text following t h.1 e in
@@ -172,7 +172,7 @@ module _ (P : List ℕ → Type 0) (a b : Source) (line : List ℕ) (open_yet : 
   line_taken text following t e (inr (inl h)) = absurd (no_lf_in line t.front following h.1 (e ∙ ap (λ (z : List ℕ). z ++ following) t.whole ∙ append_assoc t.front (10 ∷ []) following))
   line_taken text following t e (inr (inr h)) = absurd (no_lf_in line t.front following h.0.1 (e ∙ ap (λ (z : List ℕ). z ++ following) t.whole ∙ append_assoc t.front (10 ∷ []) following))
 
-  -- THE LINE THAT IS DUE
+  -- THE EXPECTED LINE
   pub due_taken : (due : List ℕ) → IsOneLine due → line ≡ due → IsNextLine P a b line → Replies {A = Unit {0}} true (Ok tt) a b (λ before following. TakesDueLine before following due)
   due_taken due d e h = let r = line_taken due [] d (e ∙ sym (append-nil due)) h in (r.0, r.1)
 
@@ -201,7 +201,7 @@ module _ (P : List ℕ → Type 0) (a b : Source) (line : List ℕ) (open_yet : 
           n.1 l.kind [] (same ∙ sym (append-nil (first_answer_line l.kind)))
   kind_differs right fault.OutOfMemory n h = absurd n
 
-  -- ITS SECOND LINE
+  -- AN ANSWER'S SECOND LINE
   pub second_read : (k : AnswerKind) (ls : List Literal) (following : List ℕ) → HasLine k → IsInForm (outcome_of k ls) → line ≡ second_line (outcome_of k ls) ++ following → IsNextLine P a b line → Replies {A = Unit {0}} true (Ok tt) a b (ReadsSecond k ls)
   second_read k ls following u f e h = let r = line_taken (second_line (outcome_of k ls)) following (second_is_line k u ls f) e h in (r.0, λ total c. (r.1 total c, f))
 
@@ -245,14 +245,14 @@ module _ (P : List ℕ → Type 0) (a b : Source) (line : List ℕ) (open_yet : 
       nothing total c (inr (inl k)) e = sym (nothing_after a b line total k.0 c) ∙ e
       nothing total c (inr (inr k)) e = empty line (rest_in total b) (sym (taken_front 0 a b line total k.0.0 c) ∙ e)
 
--- WHOLE ANSWERS
+-- COMPLETE ANSWERS
 
 first_then : (k : AnswerKind) (ls : List Literal) (p q s : List ℕ) → p ≡ first_answer_line k ++ q → q ≡ second_line (outcome_of k ls) ++ s → p ≡ outcome_text (outcome_of k ls) ++ s
 first_then kind.Sat ls p q s e f = e ∙ ap (λ (z : List ℕ). first_answer_line kind.Sat ++ z) f ∙ sym (append_assoc (first_answer_line kind.Sat) (second_line (Sat ls)) s)
 first_then kind.Unsat ls p q s e f = e ∙ ap (λ (z : List ℕ). first_answer_line kind.Unsat ++ z) f ∙ sym (append_assoc (first_answer_line kind.Unsat) (second_line (Unsat ls)) s)
 first_then kind.Unknown ls p q s e f = e ∙ ap (λ (z : List ℕ). first_answer_line kind.Unknown ++ z) f
 
--- another outcome stands there than the only one
+-- an answer of another kind is not the empty core
 pub not_alone : (k : AnswerKind) (p q : List ℕ) → (k ≡ kind.Unsat → ⊥) → p ≡ first_answer_line k ++ q → (o : Outcome) (tail : List ℕ) → o ≡ Unsat [] → p ≡ outcome_text o ++ tail → ⊥
 not_alone k p q u e o tail is f =
     let l = lines_of o tail p f in
@@ -275,7 +275,7 @@ no_second k p q e none o tail form f =
 pub whole_answer : (k : AnswerKind) (ls : List Literal) (p q s : List ℕ) → p ≡ first_answer_line k ++ q → ReadsSecond k ls q s (Ok tt) → (p ≡ outcome_text (outcome_of k ls) ++ s) × IsInForm (outcome_of k ls)
 whole_answer k ls p q s e f = (first_then k ls p q s e f.0, f.1)
 
--- literals where the only answer has none
+-- an answer with literals is not the empty core
 pub not_empty : (k : AnswerKind) (ls : List Literal) (p q s : List ℕ) → (ls ≡ [] → ⊥) → p ≡ first_answer_line k ++ q → ReadsSecond k ls q s (Ok tt) → (o : Outcome) (tail : List ℕ) → o ≡ Unsat [] → p ≡ outcome_text o ++ tail → ⊥
 not_empty k ls p q s some e f o tail is g =
     let w = whole_answer k ls p q s e f in
@@ -298,7 +298,7 @@ no_lf_more bytes i low differ h = subst HasNoLf (sym (take_more bytes i 0 low)) 
 pub no_lf_all : (bytes : List ℕ) (i : ℕ) → length bytes ≤ i → HasNoLf (take i bytes) → HasNoLf bytes
 no_lf_all bytes i over h = subst HasNoLf (take_all i bytes over) h
 
--- BYTES WITH WHICH NO LINE THAT MAY STAND THERE BEGINS
+-- BYTES THAT BEGIN NO EXPECTED LINE
 
 pub starts_due : (w : Wanted) (due bytes : List ℕ) → w ≡ wanted.Due → ((more : List ℕ) → due ≡ bytes ++ more → ⊥) → StartsNone (IsWantedLine w due) bytes
 starts_due w due bytes is none more r = let e = subst (λ (v : Wanted). IsWantedLine v due (bytes ++ more)) is r in none more (sym e)
@@ -312,18 +312,18 @@ starts_second w k due bytes is none more r = let e = subst (λ (v : Wanted). IsW
 pub starts_nothing : (w : Wanted) (due bytes : List ℕ) → w ≡ wanted.Nothing → StartsNone (IsWantedLine w due) bytes
 starts_nothing w due bytes is more r = subst (λ (v : Wanted). IsWantedLine v due (bytes ++ more)) is r
 
--- where no line was read
+-- the call stops if no line was read
 pub line_stops : {A : Type 0} (F : List ℕ → Type 0) (goes : Bool) (e : Stop) (a b : Source) (line : List ℕ) (P : List ℕ → List ℕ → Result A Why → Type 0) → NextLine F (Err e) a b line → Replies {A = A} goes (Err e) a b P
 line_stops F goes stop.AnswersRead a b line P h = h
 line_stops F goes stop.OutOfMemory a b line P h = h
 line_stops F goes e a b line P h = absurd h
 
--- nor read as an answer's
+-- the error of a line that was not read, as a `Stop`
 pub line_unread : (F : List ℕ → Type 0) (e : ReadError) (a b : Source) (line : List ℕ) → ReadsLineOfKind F (Err e) a b line → NextLine F (Err (answers_stop e)) a b line
 line_unread F errors.Failed a b line h = h
 line_unread F errors.OutOfMemory a b line h = h
 
--- bytes that are moved to the line in hand
+-- bytes that are moved to the line being read
 parts : (bytes w v : List ℕ) (count : ℕ) → bytes ≡ w → v ≡ drop count w → w ≡ take count bytes ++ v
 parts bytes w v count e d = sym (take-append-drop count w) ∙ ap (λ (z : List ℕ). take count z ++ drop count w) (sym e) ∙ ap (λ (z : List ℕ). take count bytes ++ z) (sym d)
 

@@ -26,7 +26,7 @@ is_from_among (x ∷ xs) l (inr h) = go (eqb x l) (is_from_among xs l h)
     go true r = refl
     go false r = r
 
--- literals of names
+-- the codes that spell literals
 
 spells_once : (names : ℕ → Option ℕ) (l : Literal) (c d : ℕ) → Spells names l c → Spells names l d → c ≡ d
 spells_once names l c d s t = s.is ∙ ap (λ v. coded v l.positive) (some (sym s.named ∙ t.named)) ∙ sym t.is
@@ -52,7 +52,7 @@ spelt_among names [] (c ∷ cs) codes a h = absurd a
 spelt_among names (l ∷ ls) [] codes a h = absurd a
 spelt_among names (l ∷ ls) (c ∷ cs) codes a h = (subst (λ x. Among x codes) (spells_once names l h.0.0 c h.0.1 a.0) h.0.2, spelt_among names ls cs codes a.1 h.1)
 
--- each code is that of one of the literals
+-- that each code spells one of the literals
 abbrev EachFrom : (ℕ → Option ℕ) → List Literal → List ℕ → Type 0
 EachFrom names ls codes = AllByRecursion (λ code. (l : Literal) × Spells names l code × Among l ls) codes
 
@@ -87,7 +87,7 @@ both_so P Q first false e m n = λ p. n p.1
 pub first_not : (P Q : Type 0) (first : Bool) → first ≡ false → MatchBool first P (P → ⊥) → P × Q → ⊥
 first_not P Q first e m p = subst (λ x. MatchBool x P (P → ⊥)) e m p.0
 
--- the literals were spelt, and compared
+-- after the literals were spelled, comparing codes decides whether each spelling is among `codes`
 pub each_answer : (names : ℕ → Option ℕ) (ls : List Literal) (cs given codes : List ℕ) (first b : Bool) (N : Type 0) → first ≡ true → MatchBool first (AreSpelt names ls cs) N → given ≡ cs → MatchBool b (AllAmong given codes) (AllAmong given codes → ⊥) → MatchBool b (EachSpelt names ls codes) (EachSpelt names ls codes → ⊥)
 each_answer names ls cs given codes first b N e m g h = go b (subst (λ x. MatchBool x (AreSpelt names ls cs) N) e m) (subst (λ x. MatchBool b (AllAmong x codes) (AllAmong x codes → ⊥)) g h)
   where
@@ -106,13 +106,13 @@ set_answer names ls cs given codes first b N e m g h = go b (subst (λ x. MatchB
 pub unspelt_each : (names : ℕ → Option ℕ) (ls : List Literal) (codes : List ℕ) (first : Bool) (P : Type 0) → first ≡ false → MatchBool first P ((codes : List ℕ) → EachSpelt names ls codes → ⊥) → EachSpelt names ls codes → ⊥
 unspelt_each names ls codes first P e m s = subst (λ x. MatchBool x P ((codes : List ℕ) → EachSpelt names ls codes → ⊥)) e m codes s
 
--- one more literal is spelt
+-- one more literal is spelled
 pub spelt_loop : (names : ℕ → Option ℕ) (ls : List Literal) (cs new : List ℕ) (i : ℕ) (l : Literal) (v code : ℕ) → i < length ls → l ≡ get_or ls i l → AreSpelt names (take i ls) cs → new ≡ cs ++ code ∷ [] → names l.name ≡ Some v → code ≡ coded v l.positive → AreSpelt names (take (i + 1) ls) new
 spelt_loop names ls cs new i l v code h is a n e c =
     let more : take (i + 1) ls ≡ take i ls ++ l ∷ [] = take_more ls i l h ∙ ap (λ x. take i ls ++ x ∷ []) (sym is) in
     subst (AreSpelt names (take (i + 1) ls)) (sym n) (subst (λ xs. AreSpelt names xs (cs ++ code ∷ [])) (sym more) (spelt_more names (take i ls) cs l code a (record { variable = v; named = e; is = c })))
 
--- a literal whose name has no variable
+-- a literal whose name has no variable is not spelled
 pub unspelt : (names : ℕ → Option ℕ) (ls : List Literal) (l : Literal) (codes : List ℕ) → Among l ls → names l.name ≡ None → EachSpelt names ls codes → ⊥
 unspelt names [] l codes h n s = absurd h
 unspelt names (k ∷ ls) l codes (inl e) n s = let named = s.0.1.named in let f : names k.name ≡ None = subst (λ x. names x.name ≡ None) e n in absurd (cc)
@@ -123,7 +123,7 @@ among_got [] i d h = absurd (omega arith)
 among_got (l ∷ ls) zero d h = inl refl
 among_got (l ∷ ls) (suc i) d h = inr (among_got ls i d (omega arith))
 
--- LITERALS SPELT IN ORDER
+-- LITERALS SPELLED IN ORDER
 pub spelt_next : (names : ℕ → Option ℕ) (ls : List Literal) (codes : List ℕ) (i : ℕ) (l : Literal) (code : ℕ) → i < length ls → i < length codes → l ≡ get_or ls i l → code ≡ get_or codes i code → Spells names l code
     → AreSpelt names (drop (i + 1) ls) (drop (i + 1) codes) → AreSpelt names (drop i ls) (drop i codes)
 spelt_next names ls codes i l code h k a b s r =

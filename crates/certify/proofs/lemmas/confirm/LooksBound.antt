@@ -1,4 +1,4 @@
--- How many looks the steps from the front of a certificate take, by the length of their text.
+-- A bound on the looks of steps at the beginning of a text, by the length of the text.
 use Rattle.std.proofs.Common.{ℕ, ◌+◌, ◌*◌, ◌≤◌, ◌≡◌, ◌==◌, ◌&&◌, ◌^◌, Bool, true, false, Option, None, Some, List, [], ◌∷◌, ◌++◌, length, map, if◌then◌else◌, refl, subst, ap, ◌∙◌, arith}
 use Rattle.std.proofs.lemmas.List.{append-nil, length-append}
 use Rattle.std.proofs.Math.Nat.{mul-le-mul_left, mul-one, pow-succ', pow-zero}
@@ -17,9 +17,9 @@ use Rattle.sat_checker.specs.Storing.{with_count, new_clause, with_stored_clause
 use Rattle.certify.specs.confirm.VerdictPromises.{TakesLooks}
 use Rattle.certify.specs.confirm.Walks.{LooksReach, same_looks, looks_tried, looks_taken}
 
--- WHAT STANDS IN A TEXT IS NO LONGER THAN IT
+-- A TEXT IS AT LEAST AS LONG AS ITS ITEMS
 
--- each text has a byte at least
+-- that each text has at least one byte
 abbrev HasByte : {A : Type 0} → Format A → Type 0
 HasByte {A} F = (x : A) (bytes : List ℕ) → F x bytes → 1 ≤ length bytes
 
@@ -66,7 +66,7 @@ both_fit ls hs bytes p =
     let joined : length bytes ≡ length p.0 + length p.1 = ap length p.4 ∙ length-append p.0 p.1 in
     omega (arith, one, two, joined)
 
--- the literals of a clause that a step may store
+-- the number of literals of the clause that a step may store
 abbrev clause_size : Step → ℕ
 clause_size (AddClause clause) = length clause
 clause_size (AtClause redundant clause hashes) = length clause
@@ -88,7 +88,7 @@ fields_fit step bytes p = omega arith
 step_fits : (step : Step) (text : List ℕ) → SpellsStep step text → clause_size step + hashes_named step + 1 ≤ length text
 step_fits step text p = let one = fields_fit step p.0 p.2 in let e : length text ≡ length (tag_of step ∷ p.0) = ap length p.1 in omega (arith, one, e)
 
--- WHAT IS STORED GROWS BY A CLAUSE AT MOST
+-- A STEP STORES AT MOST ONE CLAUSE
 
 abbrev literals_in : List StoredClause → ℕ
 literals_in cs = total_length (map (λ (c : StoredClause). c.literals) cs)
@@ -202,15 +202,15 @@ step_grows step earlier =
     let e : literal_count (settled (effect step f)) ≡ literals_in (effect step f).clauses = ap literals_in (settled_keeps (effect step f)) in
     omega (arith, grown, e)
 
--- HOW MANY LOOKS THAT MAKES
+-- THE BOUND ON LOOKS
 
--- seven for each byte of the step and each literal that is stored
+-- a bound for one step, by its bytes and the stored literals
 step_looks : (hashes size count bytes : ℕ) → hashes + 1 ≤ size → (5 + 2 * hashes) * count ≤ 7 * (size * (count + bytes))
 step_looks hashes size count bytes h =
     let wide : count * (5 + 2 * hashes) ≤ count * (7 * size) = mul-le-mul_left count (let k : 5 + 2 * hashes ≤ 7 * size = omega (arith, h) in k) in
     omega (arith, wide)
 
--- a step, and then the rest of the bytes
+-- the bounds for a step and for the rest of the bytes add up
 two_looks : (size rest count grown : ℕ) → grown ≤ count + size → 7 * (size * (count + (size + rest))) + 7 * ((grown + rest) * rest) ≤ 7 * ((count + (size + rest)) * (size + rest))
 two_looks size rest count grown h =
     let more : rest * (grown + rest) ≤ rest * (count + (size + rest)) = mul-le-mul_left rest (let k : grown + rest ≤ count + (size + rest) = omega (arith, h) in k) in
@@ -239,7 +239,7 @@ looks_within earlier bytes from to (looks_taken step text rest between e spelt a
 square : (n : ℕ) → n ^ 2 ≡ n * n
 square n = pow-succ' n 1 ∙ ap (λ (k : ℕ). n * k) (pow-succ' n 0 ∙ ap (λ (k : ℕ). n * k) (pow-zero n) ∙ mul-one n)
 
--- from the beginning a text of n bytes takes at most 16 (n + 1)^2 looks more
+-- a text of n bytes takes at most 16 (n + 1)^2 looks
 looks_bounded : (bytes : List ℕ) (from to : ℕ) → LooksReach [] bytes from to → to ≤ from + 16 * (length bytes + 1) ^ 2
 looks_bounded bytes from to reach =
     let n = length bytes in
@@ -247,7 +247,7 @@ looks_bounded bytes from to reach =
     let whole : (n + 1) ^ 2 ≡ (n + 1) * (n + 1) = square (n + 1) in
     omega (arith, most, whole)
 
--- what so many looks make of a reader that gave a text
+-- the looks of steps in the text that a reader gave are bounded
 pub takes_looks : (old new : Reader) (text : List ℕ) (from to : ℕ) → GaveFront old new text → from ≤ to
     → ((rest : List ℕ) → CanFollow old new rest → LooksReach [] (text ++ rest) from to) → TakesLooks old new from to
 takes_looks old new text from to front rises reached = record {

@@ -1,4 +1,4 @@
--- What becomes of what is expected of the next ordered step.
+-- How the next ordered step meets what is expected.
 use Rattle.std.proofs.Common.{◌≡◌, ℕ, true, false, List, [], ◌∷◌, Option, Some, None, Result, Ok, Err, sym, ◌∙◌, subst}
 use Rattle.std.proofs.lemmas.Bool.{true≢false}
 use mathlib.Core.Path.{fun_ext}
@@ -34,7 +34,7 @@ allowed : (e : Expected) → MayBeUnmet e → MayStayUnmet e
 allowed (Opens ls o) h = h
 allowed e h = tt
 
--- what is assumed records no unsat
+-- if a step records unsat, the expected step that it fits may stay unmet
 still_allowed : (earlier : List Step) (e : Expected) (step : Step) → Fits (checker_rules.knows earlier) earlier e step → (ready_after earlier).unsat ≡ false → (ready_after (step ∷ earlier)).unsat ≡ true → MayStayUnmet e
 still_allowed earlier e step (opens {c = c} same) u v = absurd (true≢false (sym v ∙ settled_unsat (effect (Assumptions c) (ready_after earlier)) ∙ u))
 still_allowed earlier e step (new_name is unknown) u v = tt
@@ -86,7 +86,7 @@ module _ (due : Due) (before after : NamedVars) (a b : Stream) (open_yet : AtEnd
   expects_stop e p = confirms_stop e a b (AwaitsNext before) (MeetsDue due before after) (λ total why. met_stop due before after (seen_in total a) (seen_in total b) why) p
 
   module _ (p : GoesOrStops is_fed (Ok awaited.Step) a b (AwaitsNext before)) where
-    -- there is no room to compare it
+    -- memory ran out before the step was compared
     pub expects_short : Confirms {A = Unit {0}} (Err stop.OutOfMemory) a b (MeetsDue due before after)
     expects_short = says_stop {B = ℕ} false stop.OutOfMemory a b (λ u v. AwaitsNext before u v (Ok awaited.Step)) (λ y. ⊥) (MeetsDue due before after) open_yet (λ total why h n. absurd n) p tt
 
@@ -99,7 +99,7 @@ module _ (due : Due) (before after : NamedVars) (a b : Stream) (open_yet : AtEnd
     expects_refused e next s l = feeds_stop e a b next (λ u v. AwaitsNext before u v (Ok awaited.Step)) (MeetsDue due before after) open_yet (subst (λ z. FeedsStep (Err e) b.checker z next) held s) (subst (λ z. LooksAtMost b.checker z next) held l)
         (λ total why h d. met_refused due before after (seen_in total a) (seen_in total b) next why h d) p
 
-    -- there is no room for a name
+    -- memory ran out after the step was accepted
     pub expects_crowded : (next : Kernel) → FeedsStep (Ok tt) b.checker x next → LooksAtMost b.checker x next → Confirms {A = Unit {0}} (Err stop.OutOfMemory) a (record b { checker = next }) (MeetsDue due before after)
     expects_crowded next fed most = says_stop {B = ℕ} true stop.OutOfMemory a (record b { checker = next }) (λ u v. Unit {0}) (λ y. ⊥) (MeetsDue due before after) open_yet (λ total why h n. absurd n)
         (feeds_on a b next (λ u v. AwaitsNext before u v (Ok awaited.Step)) (λ u v. Unit {0}) (subst (λ z. FeedsStep (Ok tt) b.checker z next) held fed) (subst (λ z. LooksAtMost b.checker z next) held most) (λ total h. tt) p) tt
@@ -115,7 +115,7 @@ expects_cut due names a b open_yet (Err (stop.No why)) p s = says_stop {B = ℕ}
     (λ total w h x earlier t o ask. unmet_barred due names names (seen_in total a) (seen_in total b) why h x earlier t o ask) p s
 expects_cut due names a b open_yet (Err e) p s = absurd s
 
--- before the first step
+-- before the first step, no name has a variable
 pub begins_at : (checker : Kernel) (names : NamedVars) → HasTaken checker [] → ((name : ℕ) → variable_in names name ≡ None) → CheckerIsAt checker names []
 begins_at checker names taken none = record {
   taken = taken;

@@ -1,4 +1,4 @@
--- Names' variables as they are put and taken, and names' literals.
+-- Variables of names when they are set, and literals of names.
 use Rattle.std.proofs.Common.{ℕ, zero, suc, ◌+◌, ◌<◌, ◌≡◌, Bool, true, false, cond, eqb, List, [], ◌∷◌, Option, None, length, get_or, refl, sym, ◌∙◌, ap, arith, inl, inr}
 use Rattle.std.proofs.lemmas.List.{length-map}
 use Rattle.std.proofs.lemmas.Bool.{ne_eqb}
@@ -12,7 +12,7 @@ use Rattle.certify.specs.confirm.Variables.{variable_in, PutsVariable}
 use Rattle.certify.specs.declared.confirm.variables.NamedVars.{NamedVars}
 use Rattle.certify.proofs.lemmas.judge.States.{same_place}
 
--- a name is put at the place before its number
+-- the variable of a name is stored at the index that is one less than the name
 pub put_at : (old new : NamedVars) (place name : ℕ) (value : Option ℕ) → place + 1 ≡ name → ((v : ℕ) → value_at None new.variables v ≡ cond (eqb v place) value (value_at None old.variables v)) → PutsVariable old new name value
 put_at old new place name value n h = record { each = at }
   where

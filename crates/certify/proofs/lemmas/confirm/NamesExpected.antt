@@ -1,4 +1,4 @@
--- What names expect one by one is what their command expects.
+-- The steps expected for names, one by one, are those expected for their command.
 use Rattle.std.proofs.Common.{ℕ, ◌≡◌, List, [], ◌∷◌, ◌++◌, map, refl, ◌∙◌, ap, append_assoc}
 use Rattle.std.proofs.lemmas.List.{append-nil}
 use Rattle.sat_base.specs.script.ScriptState.{ScriptState, Sampled, Witnessed, bring_in, bring_all, hide_all, set_all, new_names}
@@ -7,7 +7,7 @@ use Rattle.certify.specs.confirm.Naming.{naming_all, taken_by, NamesAreExpected}
 use Rattle.certify.specs.judge.Names.{taken}
 use Rattle.sat_base.specs.script.Language.{OfClause, OfAsk, OfHide, OfWitness, OfSample}
 
--- a name that only comes in
+-- a name that is only introduced
 comes : (new : List ℕ) (more others : List Expected) → more ≡ others → (map NewName new ++ []) ++ more ≡ map NewName new ++ others
 comes new more others e = ap (λ (es : List Expected). es ++ more) (append-nil (map NewName new)) ∙ ap (λ (es : List Expected). map NewName new ++ es) e
 

@@ -1,4 +1,4 @@
--- Names that come in one by one.
+-- Names that are introduced one by one.
 use Rattle.std.proofs.Common.{ℕ, zero, suc, ◌+◌, ◌≡◌, List, [], ◌∷◌, ◌++◌, refl, ◌∙◌, ap, arith}
 use Rattle.sat_base.specs.script.ScriptState.{ScriptState, with_name, with_names, names_from}
 

@@ -1,4 +1,4 @@
--- How all names of a command are met.
+-- How the steps for all names of a command are met.
 use Rattle.std.proofs.Common.{ℕ, ◌+◌, ◌≤◌, ◌<◌, ◌≡◌, true, map, List, [], ◌∷◌, ◌++◌, length, get_or, take, drop, Ok, Err, refl, sym, ◌∙◌, ap, subst, append_assoc}
 use Rattle.std.proofs.lemmas.List.{append-nil, take_more, take_all, take-append-drop}
 use Rattle.std.proofs.lemmas.Bool.{true≢false}
@@ -38,7 +38,7 @@ listed_append (x ∷ xs) ys = ap (λ (ns : List ℕ). (variable x + 1) ∷ ns) (
 listed_more : (codes : List ℕ) (i code : ℕ) → i < length codes → code ≡ get_or codes i code → listed (take (i + 1) codes) ≡ listed (take i codes) ++ (variable code + 1) ∷ []
 listed_more codes i code low at = ap listed (take_more codes i code low ∙ ap (λ (c : ℕ). take i codes ++ c ∷ []) (sym at)) ∙ listed_append (take i codes) (code ∷ [])
 
--- so far
+-- that the first `i` names of the command were processed
 abbrev pub SoFar : Kind → List ℕ → ℕ → Names → Names → Type 0
 SoFar kind codes i first now = Changes first now (taken_by kind (listed (take i codes)))
 

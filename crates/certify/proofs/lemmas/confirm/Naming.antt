@@ -1,4 +1,4 @@
--- How the names of a command are met.
+-- How the steps for one name of a command are met.
 use Rattle.std.proofs.Common.{ℕ, true, ◌+◌, ◌-◌, ◌<◌, ◌≡◌, List, [], ◌∷◌, ◌++◌, map, Result, Ok, Err, refl, sym, ◌∙◌, ap, subst, arith}
 use Rattle.std.proofs.lemmas.List.{map-append}
 use Rattle.sat_base.specs.device.Reading.{AtEnd}
@@ -28,7 +28,7 @@ nothing names u earlier s = record { later = earlier; valid = s; leads = leads_n
 pub all_none : (names : NamedVars) (a : Stream) → Confirms (Ok tt) a a (MeetsAll [] names names)
 all_none names a = confirms_none tt a (MeetsAll [] names names) (λ total earlier s. record { later = earlier; valid = s; leads = leads_nowhere earlier (seen_in total a).rest })
 
--- one thing that is expected, whatever outcome and ask
+-- one expected step that is the same for any outcome and ask
 pub one : (due : Due) (e : Expected) → ((o : Outcome) (ask : List Literal) → due o ask ≡ e) → MayStayUnmet e → (before after : NamedVars) (u v : CertificateState) (y : Result (Unit {0}) Why) → MeetsDue due before after u v y → MeetsAll (e ∷ []) before after u v y
 one due e is free before after u v (Ok x) m = λ earlier s.
     let k = m earlier s in
@@ -39,7 +39,7 @@ one due e is free before after u v (Ok x) m = λ earlier s.
     }
 one due e is free before after u v (Err why) m = λ earlier s. subst (λ (d : Expected). MeetsNoneOf earlier u.rest (d ∷ [])) (is Unknown []) (m earlier s Unknown [])
 
--- some things, and then others
+-- the first expected steps, and then the others
 pub both : (p q : List Expected) (first mid last : NamedVars) (u v w : CertificateState) (y : Result (Unit {0}) Why) → MeetsAll p first mid u v (Ok tt) → MeetsAll q mid last v w y → MeetsAll (p ++ q) first last u w y
 both p q first mid last u v w (Ok x) f g = λ earlier s.
     let k = f earlier s in
@@ -47,7 +47,7 @@ both p q first mid last u v w (Ok x) f g = λ earlier s.
     record { later = m.later; valid = m.valid; leads = leads_on k.leads m.leads }
 both p q first mid last u v w (Err why) f g = λ earlier s. let k = f earlier s in bars_after k.leads (g k.later k.valid)
 
--- where the first aren't met
+-- if the first expected steps cannot be met, neither can all of them
 pub first_barred : (p q : List Expected) (before after end : NamedVars) (u v : CertificateState) (why : Why) → MeetsAll p before after u v (Err why) → MeetsAll (p ++ q) before end u v (Err why)
 first_barred p q before after end u v why f earlier s = bars_more q (f earlier s)
 

@@ -1,4 +1,4 @@
--- What the next step has to be: each way to meet what is expected, taken apart.
+-- What the next step must be, by the cases of `Meets`.
 use Rattle.std.proofs.Common.{ℕ, ◌+◌, ◌≡◌, true, false, List, ◌∷◌, Some, refl, sym, ◌∙◌}
 use Rattle.std.proofs.lemmas.Bool.{true≢false}
 use Rattle.sat_base.specs.steps.Steps.{Step, UserVarName}
@@ -17,12 +17,12 @@ fits_ordered k earlier (fails same) = refl
 fits_ordered k earlier closes = refl
 fits_ordered k earlier finish = refl
 
--- an ordered step is the one that is expected
+-- an ordered step fits the first expected step, and is accepted
 pub taken : (k : CheckerRules) {earlier steps : List Step} {step : Step} {e : Expected} {es : List Expected} → is_ordered step ≡ true → Meets k earlier (step ∷ steps) (e ∷ es) → Fits (k.knows earlier) earlier e step × k.Accepts earlier step × Meets k (step ∷ earlier) steps es
 taken k o (other u n acc m) = absurd (true≢false (sym o ∙ n))
 taken k o (ordered u f acc m) = (f, acc, m)
 
--- another one is accepted, and leaves what is expected
+-- an unordered step is accepted, and the same steps are expected after it
 pub skipped : (k : CheckerRules) {earlier steps : List Step} {step : Step} {e : Expected} {es : List Expected} → is_ordered step ≡ false → Meets k earlier (step ∷ steps) (e ∷ es) → k.Accepts earlier step × Meets k (step ∷ earlier) steps (e ∷ es)
 skipped k o (other u n acc m) = (acc, m)
 skipped k {earlier = earlier} o (ordered u f acc m) = absurd (true≢false (sym (fits_ordered k earlier f) ∙ o))

@@ -1,4 +1,4 @@
--- No step's text begins another's.
+-- No step's text is a prefix of another's.
 use Rattle.sat_base.specs.steps.Formats.{IsUniquelyDecodable}
 use Rattle.sat_base.specs.steps.StepText.{SpellsStep}
 use Rattle.sat_base.proofs.lemmas.steps.StepReads as reads

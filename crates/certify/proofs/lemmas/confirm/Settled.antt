@@ -1,4 +1,4 @@
--- What a pending unit conflict that is settled leaves as it was.
+-- What settling a pending unit conflict leaves unchanged.
 use Rattle.std.proofs.Common.{ℕ, ◌≡◌, Option, Some, None, refl}
 use Rattle.sat_checker.specs.Stored.{Stored}
 use Rattle.sat_checker.specs.Storing.{settled, settled_by}

@@ -1,4 +1,4 @@
--- Which steps are ordered, by their tags; the others put no name.
+-- Which steps are ordered, by their tags. Other steps do not change the variables of names.
 use Rattle.std.proofs.Common.{◌≡◌, ℕ, Bool, false, List, ◌∷◌, refl, sym, ap, ◌∙◌}
 use Rattle.std.proofs.lemmas.Bool.{true≢false}
 use Rattle.sat_base.specs.steps.Steps.{Step, SolverVarName, UserVarName}
@@ -13,7 +13,7 @@ tag_is_ordered step = refl
 pub ordered_by_tag : (s : Step) (tag : ℕ) (answer b : Bool) → tag ≡ tag_of s → answer ≡ is_ordered_tag tag → answer ≡ b → is_ordered s ≡ b
 ordered_by_tag s tag answer b e f g = sym (tag_is_ordered s) ∙ ap is_ordered_tag (sym e) ∙ sym f ∙ g
 
--- a step that isn't ordered puts no name
+-- an unordered step does not change the variable of any name
 pub unordered_names : (step : Step) (earlier : List Step) → is_ordered step ≡ false → variable_of (step ∷ earlier) ≡ variable_of earlier
 unordered_names (UserVarName v name) earlier h = absurd (true≢false h)
 unordered_names step earlier h = refl

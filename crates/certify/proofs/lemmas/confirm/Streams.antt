@@ -1,4 +1,4 @@
--- A certificate that is read step by step: how its calls follow one another.
+-- How the calls that read a certificate step by step follow one another.
 use Rattle.std.proofs.Common.{◌≡◌, ℕ, ◌+◌, ◌-◌, ◌*◌, ◌<◌, ◌≤◌, Bool, true, false, List, [], ◌∷◌, ◌++◌, drop, length, length-append, Option, Some, None, Result, Ok, Err, inl, inr, append_assoc, refl, sym, ap, ◌∙◌, subst, arith}
 use Rattle.std.proofs.Math.Seq.{drop-append_seam}
 use Rattle.std.proofs.lemmas.List.{append-nil}
@@ -34,7 +34,7 @@ use Rattle.sat_base.proofs.lemmas.steps.Fronts.{no_whole, no_way}
 
 -- WHAT CAN FOLLOW
 
--- a reader that isn't at its end, and what it gave since, can be followed as then
+-- a total that is possible after a read was possible before it
 pub covers_back : (n : ℕ) (s t : Source) (text total : List ℕ) → (AtEnd s → ⊥) → ConsumesWithReads n s t text → Covers t total → Covers s total
 covers_back n s t text total open_yet p c = record {
   later = p.fresh ++ c.later;
@@ -42,7 +42,7 @@ covers_back n s t text total open_yet p c = record {
   none = λ h. absurd (open_yet h);
 }
 
--- the same where reading failed
+-- the same if the read failed
 pub covers_fault : (s t : Source) (text total : List ℕ) → (AtEnd s → ⊥) → ConsumesAndFails s t text → Covers t total → Covers s total
 covers_fault s t text total open_yet p c = record {
   later = p.fresh ++ c.later;
@@ -50,28 +50,28 @@ covers_fault s t text total open_yet p c = record {
   none = λ h. absurd (open_yet h);
 }
 
--- it goes on not to be at its end
+-- a reader that is not at its end does not reach it by consuming bytes
 pub stays_open : (s t : Source) (text : List ℕ) → (AtEnd s → ⊥) → ConsumesBytes s t text → AtEnd t → ⊥
 stays_open s t text open_yet p h = open_yet (p.going refl h)
 
 rest_is : (s : Source) (total later : List ℕ) → total ≡ s.reader.given ++ later → rest_in total s ≡ s.waiting ++ later
 rest_is s total later e = ap (λ (z : List ℕ). s.waiting ++ drop (length s.reader.given) z) e ∙ ap (λ (z : List ℕ). s.waiting ++ z) (drop-append_seam s.reader.given later)
 
--- the bytes that were taken stand in front of those still to come
+-- the bytes to come before a read are those consumed and those to come after it
 pub taken_front : (n : ℕ) (s t : Source) (text total : List ℕ) → ConsumesWithReads n s t text → Covers t total → rest_in total s ≡ text ++ rest_in total t
 taken_front n s t text total p c =
     let whole : total ≡ s.reader.given ++ (p.fresh ++ c.later) = c.whole ∙ ap (λ (z : List ℕ). z ++ c.later) p.gave ∙ append_assoc s.reader.given p.fresh c.later in
     rest_is s total (p.fresh ++ c.later) whole ∙ sym (append_assoc s.waiting p.fresh c.later) ∙ ap (λ (z : List ℕ). z ++ c.later) p.flows
     ∙ append_assoc text t.waiting c.later ∙ ap (λ (z : List ℕ). text ++ z) (sym (rest_is t total c.later c.whole))
 
--- none stand after them where the end was found
+-- if the end was found, no bytes are left
 pub nothing_after : (s t : Source) (text total : List ℕ) → ConsumesToEnd s t text → Covers t total → rest_in total s ≡ text
 nothing_after s t text total p c =
     let none : c.later ≡ [] = c.none (p.1.read, p.1.ended) in
     let following : rest_in total t ≡ [] = rest_is t total c.later c.whole ∙ ap (λ (z : List ℕ). z ++ c.later) p.1.waiting ∙ none in
     taken_front 1 s t text total p.0 c ∙ ap (λ (z : List ℕ). text ++ z) following ∙ append-nil text
 
--- WHERE NO STEP STANDS
+-- NO STEP CAN BE READ
 
 pub no_step_at_byte : (s t : Source) (front : List ℕ) (byte : ℕ) (total : List ℕ) → ConsumesBytes s t (front ++ byte ∷ []) → IsProperFront SpellsStep front → (BeginsText SpellsStep (front ++ byte ∷ []) → ⊥) → Covers t total
     → BeginsNoStep (rest_in total s)
@@ -101,14 +101,14 @@ weaker s t text p = record {
   going = λ e. absurd (omega (arith, e));
 }
 
--- one that went on before one that stops
+-- a successful call, and then one that stops
 halts_later : (a b c : Stream) → TakesStreamBytes a b → TakesBytesOrEnds b c → TakesBytesOrEnds a c
 halts_later a b c m h = ((m.0 ++ h.0.0, passes_more a.source b.source c.source m.0 h.0.0 m.1 h.0.1), h.1)
 
 pub moves_halt : (a b : Stream) → (AtEnd a.source → ⊥) → TakesStreamBytes a b → TakesBytesOrEnds a b
 moves_halt a b open_yet m = ((m.0, weaker a.source b.source m.0 m.1), λ h. absurd (stays_open a.source b.source m.0 open_yet m.1 h))
 
--- what is so between two views, and then two more
+-- statements about two calls imply one about both together
 over_then : (n : ℕ) (a b c : Stream) (text : List ℕ) (P Q R : CertificateState → CertificateState → Type 0) → (AtEnd b.source → ⊥) → ConsumesWithReads n b.source c.source text
     → ((total : List ℕ) → P (seen_in total a) (seen_in total b) → Q (seen_in total b) (seen_in total c) → R (seen_in total a) (seen_in total c)) → HoldsWhateverFollows a b P → HoldsWhateverFollows b c Q → HoldsWhateverFollows a c R
 over_then n a b c text P Q R open_yet p f g h total k = f total (g total (covers_back n b.source c.source text total open_yet p k)) (h total k)
@@ -117,7 +117,7 @@ over_fault : (a b c : Stream) (text : List ℕ) (P Q R : CertificateState → Ce
     → ((total : List ℕ) → P (seen_in total a) (seen_in total b) → Q (seen_in total b) (seen_in total c) → R (seen_in total a) (seen_in total c)) → HoldsWhateverFollows a b P → HoldsWhateverFollows b c Q → HoldsWhateverFollows a c R
 over_fault a b c text P Q R open_yet p f g h total k = f total (g total (covers_fault b.source c.source text total open_yet p k)) (h total k)
 
--- a call that goes on after one that went on
+-- two successful calls
 pub going_then : (fed : Bool) (a b c : Stream) (P Q R : CertificateState → CertificateState → Type 0) → (AtEnd a.source → ⊥)
     → ((total : List ℕ) → P (seen_in total a) (seen_in total b) → Q (seen_in total b) (seen_in total c) → R (seen_in total a) (seen_in total c)) → GoesOnWith true a b P → GoesOnWith fed b c Q → GoesOnWith fed a c R
 going_then fed a b c P Q R open_yet f p q =
@@ -127,7 +127,7 @@ going_then fed a b c P Q R open_yet f p q =
       over_then 0 a b c q.0.0 FeedsAllSteps (walks_if fed) (walks_if fed) here q.0.1 (λ total. walks_on fed (seen_in total a) (seen_in total b) (seen_in total c)) p.2 q.2,
     )
 
--- an error after a call that went on
+-- a successful call, and then an error
 pub then_stop : {A B C : Type 0} (x : A) (e : Stop) (a b c : Stream) (P : CertificateState → CertificateState → Result A Why → Type 0) (Q : CertificateState → CertificateState → Result B Why → Type 0) (R : CertificateState → CertificateState → Result C Why → Type 0) → (AtEnd a.source → ⊥)
     → ((total : List ℕ) (why : Why) → P (seen_in total a) (seen_in total b) (Ok x) → Q (seen_in total b) (seen_in total c) (Err why) → R (seen_in total a) (seen_in total c) (Err why))
     → Confirms (Ok x) a b P → Confirms {A = B} (Err e) b c Q → Confirms {A = C} (Err e) a c R
@@ -155,13 +155,13 @@ then_stop x stop.CounterEnd a b c P Q R open_yet f p q =
     )
 then_stop x e a b c P Q R open_yet f p q = absurd q
 
--- after a call that went on
+-- a successful call, and then any call
 pub confirms_then : {A B : Type 0} (x : A) (r : Result B Stop) (a b c : Stream) (P : CertificateState → CertificateState → Result A Why → Type 0) (Q R : CertificateState → CertificateState → Result B Why → Type 0) → (AtEnd a.source → ⊥)
     → ((total : List ℕ) (y : Result B Why) → P (seen_in total a) (seen_in total b) (Ok x) → Q (seen_in total b) (seen_in total c) y → R (seen_in total a) (seen_in total c) y) → Confirms (Ok x) a b P → Confirms r b c Q → Confirms r a c R
 confirms_then x (Ok y) a b c P Q R open_yet f p q = going_then true a b c (λ u v. P u v (Ok x)) (λ u v. Q u v (Ok y)) (λ u v. R u v (Ok y)) open_yet (λ total. f total (Ok y)) p q
 confirms_then x (Err e) a b c P Q R open_yet f p q = then_stop x e a b c P Q R open_yet (λ total why. f total (Err why)) p q
 
--- an error that is handed on
+-- an error that is passed on
 pub confirms_stop : {A B : Type 0} (e : Stop) (a b : Stream) (P : CertificateState → CertificateState → Result A Why → Type 0) (R : CertificateState → CertificateState → Result B Why → Type 0)
     → ((total : List ℕ) (why : Why) → P (seen_in total a) (seen_in total b) (Err why) → R (seen_in total a) (seen_in total b) (Err why)) → Confirms {A = A} (Err e) a b P → Confirms {A = B} (Err e) a b R
 confirms_stop (stop.No why) a b P R f p = (p.0, (λ total k. f total why (p.1 total k)), p.2)
@@ -170,17 +170,17 @@ confirms_stop stop.AnswersRead a b P R f p = absurd p
 confirms_stop stop.TooMany a b P R f p = absurd p
 confirms_stop e a b P R f p = p
 
--- the same of what is said after it
+-- a weaker statement about the same call
 pub confirms_so : {A : Type 0} (r : Result A Stop) (a b : Stream) (P R : CertificateState → CertificateState → Result A Why → Type 0) → ((total : List ℕ) (y : Result A Why) → P (seen_in total a) (seen_in total b) y → R (seen_in total a) (seen_in total b) y) → Confirms r a b P → Confirms r a b R
 confirms_so (Ok x) a b P R f p = (p.0, (λ total k. f total (Ok x) (p.1 total k)), p.2)
 confirms_so (Err e) a b P R f p = confirms_stop e a b P R (λ total why. f total (Err why)) p
 
--- WHAT READS NOTHING
+-- CALLS THAT READ NOTHING
 
 pub confirms_none : {A : Type 0} (x : A) (a : Stream) (P : CertificateState → CertificateState → Result A Why → Type 0) → ((total : List ℕ) → P (seen_in total a) (seen_in total a) (Ok x)) → Confirms (Ok x) a a P
 confirms_none x a P f = (([], passes_none a.source), (λ total k. f total), (λ total k. walks_none (seen_in total a)))
 
--- an error of what reads nothing, after a call that went on
+-- an error of a call that reads nothing, after a successful call
 pub says_stop : {B C : Type 0} (fed : Bool) (e : Stop) (a b : Stream) (P : CertificateState → CertificateState → Type 0) (S : Result B Why → Type 0) (R : CertificateState → CertificateState → Result C Why → Type 0) → (AtEnd a.source → ⊥)
     → ((total : List ℕ) (why : Why) → P (seen_in total a) (seen_in total b) → S (Err why) → R (seen_in total a) (seen_in total b) (Err why))
     → GoesOnWith fed a b P → SaysAlone {A = B} (Err e) S → Confirms {A = C} (Err e) a b R
@@ -197,7 +197,7 @@ pub feeds_on : (a b : Stream) (next : Kernel) (P Q : CertificateState → Certif
 feeds_on a b next P Q fed looks f p =
     (p.0, (λ total k. f total (p.1 total k)), (λ total k. walks_fed (seen_in total a) (seen_in total b) (seen_in total (record b { checker = next })) refl fed looks (p.2 total k)))
 
--- or isn't
+-- the step that was read last is not accepted
 pub feeds_stop : {C : Type 0} (e : Stop) (a b : Stream) (next : Kernel) (P : CertificateState → CertificateState → Type 0) (R : CertificateState → CertificateState → Result C Why → Type 0) → (AtEnd a.source → ⊥) → FeedsStep (Err e) b.checker b.step next → LooksAtMost b.checker b.step next
     → ((total : List ℕ) (why : Why) → P (seen_in total a) (seen_in total b) → ((steps : List Step) → HasTaken b.checker steps → Accepts (ready_after steps) b.step → ⊥) → R (seen_in total a) (seen_in total (record b { checker = next })) (Err why))
     → GoesOnWith false a b P → Confirms {A = C} (Err e) a (record b { checker = next }) R
@@ -218,7 +218,7 @@ pub settles_on : (fed : Bool) (a b : Stream) (next : Kernel) (P Q : CertificateS
 settles_on fed a b next P Q settled f p =
     (p.0, (λ total k. f total (p.1 total k)), (λ total k. walks_settled fed (seen_in total a) (seen_in total b) (seen_in total (record b { checker = next })) refl refl settled (p.2 total k)))
 
--- or there is no id for it
+-- a pending unit conflict is not settled
 pub settles_stop : {C : Type 0} (e : Stop) (fed : Bool) (a b : Stream) (next : Kernel) (P : CertificateState → CertificateState → Type 0) (R : CertificateState → CertificateState → Result C Why → Type 0) → (AtEnd a.source → ⊥) → SettlesConflict (Err e) b.checker next
     → ((total : List ℕ) (why : Why) → P (seen_in total a) (seen_in total b) → ((steps : List Step) → HasTaken b.checker steps → ⊥) → R (seen_in total a) (seen_in total (record b { checker = next })) (Err why))
     → GoesOnWith fed a b P → Confirms {A = C} (Err e) a (record b { checker = next }) R
@@ -240,7 +240,7 @@ settles_stop e fed a b next P R open_yet settled f p = absurd settled
 
 -- THE NEXT STEP
 
--- a reader of steps that goes on doesn't say that it has failed
+-- a reader of steps that has not failed does not report an earlier failure
 pub answered : (r : Result Step StepError) (s t : Source) → repeated r ≡ false → AnswersUnlessFailed r s t → AnswersStepRead r s t
 answered (Err errors.HasFailed) s t e h = absurd (let k : true ≡ false = e in cc)
 answered x s t e h = h
@@ -253,7 +253,7 @@ step_came step a b e c h =
       (λ total k. walks_read (seen_in total a) (seen_in total b) h.0 spelt (taken_front 0 a.source b.source h.0 total h.1 k) c),
     )
 
--- a step takes a byte at least
+-- reading a step of at least one byte leaves fewer bytes to read
 less_left : (m a b ls lt lx lf : ℕ) → lf + 4096 * a ≤ 4096 * b → ls + lf ≡ lx + lt → 0 < lx → b ≤ m → 4096 * (m - b) + lt < 4096 * (m - a) + ls
 less_left m a b ls lt lx lf h e k n = omega arith
 
@@ -270,7 +270,7 @@ none_waits (Some xs) ws e h = sym (ap (λ (z : List ℕ). z ++ xs) e) ∙ h
 pub all_over : (s : Source) → AllTaken s → IsAtEnd s.reader.to_come
 all_over s t = none_waits s.reader.to_come s.waiting t.waiting t.over
 
--- no step stands there
+-- no step was read
 pub none_came : {A : Type 0} (e : StepError) (a b : Stream) (P : CertificateState → CertificateState → Result A Why → Type 0) → (AtEnd a.source → ⊥) → b.checker ≡ a.checker → AnswersStepRead (Err e) a.source b.source
     → ((total : List ℕ) (why : Why) → BeginsNoStep (rest_in total a.source) → P (seen_in total a) (seen_in total b) (Err why)) → Confirms {A = A} (Err (stop_of e)) a b P
 none_came errors.Ends a b P o c h f = ((([], h.0), λ _. all_over b.source h.1), (λ total k. f total CertificateEnds (no_step_over a.source b.source total h k)), (λ total k. tries_none (seen_in total a) (seen_in total b) c))
@@ -298,7 +298,7 @@ read_some rc tc tr e h = omega arith
 called_some : (rc tc tr : ℕ) → tc + 0 ≡ rc + tr → 0 < tr → rc < tc
 called_some rc tc tr e h = omega arith
 
--- what is so whatever would follow is so of what it gave
+-- what holds whatever bytes could follow holds of what the reader gave
 pub gave_enough : (r : Reader) (t : Source) (text : List ℕ) (P : List ℕ → Type 0) → ConsumesWithReads 1 (unread r) t text → (AtEnd t → IsAtEnd t.reader.to_come)
     → ((total : List ℕ) → Covers t total → P (rest_in total (unread r))) → GaveEnough r t.reader P
 gave_enough r t text P p over f = record {
@@ -312,7 +312,7 @@ gave_enough r t text P p over f = record {
       (f (t.reader.given ++ rest) (record { later = rest; whole = refl; none = λ h. k (called_some r.calls t.reader.calls t.reads p.calls h.0) h.1 }));
 }
 
--- so many reads give at most 2^60 bytes
+-- at most 2^48 reads give at most 2^60 bytes
 few_read : (lf tr : ℕ) → lf + 4096 * 0 ≤ 4096 * tr → tr ≤ most_reads → lf ≤ most_bytes
 few_read lf tr h k = omega arith
 
@@ -328,7 +328,7 @@ read_fails r t text b p = (
   few_of r.calls t.reader.calls t.reads r.given t.reader.given p.fresh p.calls p.few p.gave,
 )
 
--- what is so whatever follows, where the end perhaps wasn't looked for
+-- what holds whatever bytes could follow holds for the prefix that the reader gave
 pub passed_front : (n : ℕ) (r : Reader) (t : Source) (text : List ℕ) (P : List ℕ → Type 0) → ConsumesWithReads n (unread r) t text → ((total : List ℕ) → Covers t total → P (rest_in total (unread r))) → GaveFrontOf r t.reader P
 passed_front n r t text P p f = record {
   text = p.fresh;
@@ -349,7 +349,7 @@ faulted_front r t text P p f = record {
       (f (t.reader.given ++ rest) (record { later = rest; whole = refl; none = λ h. k (called_some r.calls t.reader.calls t.reads p.calls h.0) h.1 }));
 }
 
--- what is so of the looks whatever would follow
+-- the looks of the steps that were read, whatever bytes could follow
 pub took_looks : (n : ℕ) (r : Reader) (t : Source) (text : List ℕ) (to : ℕ) → ConsumesWithReads n (unread r) t text → ((total : List ℕ) → Covers t total → LooksReach [] (rest_in total (unread r)) 0 to) → TakesLooks r t.reader 0 to
 took_looks n r t text to p f = takes_looks r t.reader p.fresh 0 to
     (record { gave = p.gave; known_bytes = reported_front r.to_come t.reader.to_come t.waiting text p.fresh p.flows p.bytes; loans = p.loans }) (omega arith)
@@ -358,7 +358,7 @@ took_looks n r t text to p f = takes_looks r t.reader p.fresh 0 to
     subst (λ bytes. LooksReach [] bytes 0 to) (rest_is (unread r) (t.reader.given ++ rest) (p.fresh ++ rest) whole)
     (f (t.reader.given ++ rest) (record { later = rest; whole = refl; none = λ h. k (called_some r.calls t.reader.calls t.reads p.calls h.0) h.1 })))
 
--- the same where reading failed
+-- the same if a read failed
 pub took_faulted : (r : Reader) (t : Source) (text : List ℕ) (to : ℕ) → ConsumesAndFails (unread r) t text → ((total : List ℕ) → Covers t total → LooksReach [] (rest_in total (unread r)) 0 to) → TakesLooks r t.reader 0 to
 took_faulted r t text to p f = takes_looks r t.reader p.fresh 0 to
     (record { gave = p.gave; known_bytes = reported_front r.to_come t.reader.to_come t.waiting text p.fresh (p.flows ∙ sym (append-nil text) ∙ ap (λ (z : List ℕ). text ++ z) (sym p.none)) p.bytes; loans = p.loans }) (omega arith)

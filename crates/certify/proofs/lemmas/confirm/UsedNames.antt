@@ -1,4 +1,4 @@
--- The names in use are those of the judge, and may stand in a line.
+-- The names in use are those of the script state, and a line may list them.
 use Rattle.std.proofs.Common.{ℕ, zero, suc, ◌+◌, ◌-◌, ◌≤◌, ◌<◌, ◌≡◌, Bool, true, false, not, cond, eqb, List, [], ◌∷◌, map, length, get_or, Option, Some, None, is_some, refl, sym, ◌∙◌, ap, subst, arith}
 use Rattle.std.proofs.lemmas.Bool.{eqb-true, eqb-false, ne_eqb, eq-eqb}
 use Rattle.std.specs.List.{AllByRecursion}
@@ -15,7 +15,7 @@ use Rattle.certify.specs.declared.judge.names.Names.{Names}
 
 -- THE SAME NAMES
 
--- from this name on, just the names that aren't hidden have an identity
+-- that from name `first` on, exactly the names that are not hidden have an identity
 abbrev Agree : ℕ → List Named → List NameState → Type 0
 Agree first ns ss = (i : ℕ) → is_some (identity_in ns (first + i)) ≡ not (is_hidden (get_or ss i state.Hidden))
 

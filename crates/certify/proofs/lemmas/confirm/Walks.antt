@@ -1,4 +1,4 @@
--- How a checker that is fed the steps of a certificate goes from one view of it to the next.
+-- How feeding a checker the steps of a certificate leads from one state to the next.
 use Rattle.std.proofs.Common.{ℕ, ◌+◌, ◌≤◌, ◌≡◌, Bool, true, false, List, ◌∷◌, ◌++◌, Ok, Err, refl, sym, subst, arith}
 use Rattle.sat_base.specs.steps.Steps.{Step}
 use Rattle.sat_base.specs.steps.StepText.{SpellsStep}
@@ -37,7 +37,7 @@ tries_on u v w f g earlier t = let x = f earlier t in x.reaches (kernel_looks w.
 pub runs_on : (u v w : CertificateState) → FeedsAllSteps u v → RunsOut v w → RunsOut u w
 runs_on u v w f g earlier t = let x = f earlier t in x.spends (g x.later x.taken)
 
--- WHERE NOTHING MORE IS FED
+-- NOTHING MORE IS FED
 
 pub tries_if : (fed : Bool) (u v : CertificateState) → walks_if fed u v → FeedsSomeSteps u v
 tries_if true u v f = λ earlier t. let x = f earlier t in x.reaches (kernel_looks v.checker) same_looks
@@ -79,7 +79,7 @@ tries_fed u v w most f earlier t = let x = f.2 earlier t in x.reaches (kernel_lo
 pub runs_fed : (u v w : CertificateState) (next : Kernel) → FeedsStep (Err stop.CounterEnd) v.checker v.step next → WalksBefore u v → RunsOut u w
 runs_fed u v w next fed f earlier t = let x = f.2 earlier t in x.spends (spent_trying v.step f.0 v.rest refl f.1 (fed x.later x.taken))
 
--- A UNIT CONFLICT THAT WAS PENDING
+-- SETTLING A PENDING UNIT CONFLICT
 
 settled_walk : (old : Kernel) (bytes : List ℕ) (mid next : Kernel) (rest : List ℕ) (earlier : List Step) → SettlesConflict (Ok tt) mid next → IsFedFront old bytes mid rest earlier → IsFedFront old bytes next rest earlier
 settled_walk old bytes mid next rest earlier settled x =
@@ -100,7 +100,7 @@ walks_settled false u v w r s settled f = (
   (λ earlier t. subst (λ bytes. IsFedFront u.checker u.rest w.checker (f.0 ++ bytes) earlier) (sym r) (settled_walk u.checker u.rest v.checker w.checker (f.0 ++ v.rest) earlier settled (f.2 earlier t))),
 )
 
--- where it stands
+-- the steps that the checker was fed, with their looks
 pub record Reached (u v : CertificateState) (earlier : List Step) : Type 0 where
   pub later : List Step
   pub taken : HasTaken v.checker later
@@ -111,12 +111,12 @@ reached : (fed : Bool) (u v : CertificateState) → walks_if fed u v → (earlie
 reached true u v f = λ earlier t. let x = f earlier t in record { later = x.later; taken = x.taken; looks = x.reaches (kernel_looks v.checker) same_looks; spent = λ s. x.spends (spent_settling s) }
 reached false u v f = λ earlier t. let x = f.2 earlier t in record { later = x.later; taken = x.taken; looks = x.reaches (kernel_looks v.checker) same_looks; spent = λ s. x.spends (spent_settling s) }
 
--- there is no memory
+-- memory runs out when the unit conflict is settled
 pub tries_kept : (fed : Bool) (u v w : CertificateState) → SettlesConflict (Err stop.OutOfMemory) v.checker w.checker → walks_if fed u v → FeedsSomeSteps u w
 tries_kept fed u v w settled f earlier t =
     let x = reached fed u v f earlier t in subst (LooksReach earlier u.rest (kernel_looks u.checker)) (sym (settled x.later x.taken)) x.looks
 
--- there is no id for its empty clause
+-- no id is left for the empty clause of the unit conflict
 pub tries_spent : (fed : Bool) (u v w : CertificateState) → SettlesConflict (Err stop.CounterEnd) v.checker w.checker → walks_if fed u v → FeedsSomeSteps u w
 tries_spent fed u v w settled f earlier t =
     let x = reached fed u v f earlier t in subst (LooksReach earlier u.rest (kernel_looks u.checker)) (sym (settled x.later x.taken).1) x.looks
@@ -124,11 +124,11 @@ tries_spent fed u v w settled f earlier t =
 pub runs_spent : (fed : Bool) (u v w : CertificateState) → SettlesConflict (Err stop.CounterEnd) v.checker w.checker → walks_if fed u v → RunsOut u w
 runs_spent fed u v w settled f earlier t = let x = reached fed u v f earlier t in x.spent (settled x.later x.taken).0
 
--- what never comes
+-- settling a unit conflict is never refused
 pub never_settled : (fed : Bool) (u v : CertificateState) (T : Type 0) (earlier : List Step) → ((steps : List Step) → HasTaken v.checker steps → ⊥) → walks_if fed u v → HasTaken u.checker earlier → T
 never_settled fed u v T earlier none f t = let x = reached fed u v f earlier t in absurd (none x.later x.taken)
 
--- from another count of looks on
+-- a bound on the rise in looks does not depend on the looks before
 more_looks : (a b m k : ℕ) → b ≤ a + m → b + k ≤ a + k + m
 more_looks a b m k h = omega arith
 

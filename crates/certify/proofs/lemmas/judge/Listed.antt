@@ -16,7 +16,7 @@ use Rattle.certify.proofs.lemmas.judge.States.{item_at, states_length}
 abbrev pub Left : List NameState → List ℕ → ℕ → ℕ → Type 0
 Left states line at index = names_of (named_literals (drop at line)) ≡ used_from (index + 1) (drop index states)
 
--- the two say the same
+-- that the two statements are equivalent
 abbrev pub Same : Type 0 → Type 0 → Type 0
 Same P Q = (P → Q) × (Q → P)
 

@@ -1,4 +1,4 @@
--- Why a command is refused, by states of names.
+-- Why a command is refused, given the states of names.
 use Rattle.std.proofs.Common.{ℕ, suc, drop, drop-cons, length, ◌+◌, ◌*◌, ◌≤◌, ◌<◌, ◌≡◌, Bool, true, false, cond, ltb, lt-ltb, get_or, List, [], ◌∷◌, ◌++◌, Option, Some, None, refl, sym, ◌∙◌, ap, arith, ◌⊎◌, inl, inr}
 use Rattle.std.proofs.lemmas.List.{drop_all}
 use Rattle.std.proofs.lemmas.Bool.{ltb-true}
@@ -32,7 +32,7 @@ within name h = go (ltb var_limit name) refl
     go true e = let x = ltb-true var_limit name e in absurd (omega arith)
     go false e = refl
 
--- the next literal decides, or those after it
+-- the command is refused for its next name if that is a witness, otherwise as for the later literals
 refused_next : (names : Names) (j : ScriptState) (code : ℕ) (codes : List ℕ) (tail : List Literal) → NamesHaveState names j → variable code < var_limit
     → refused_literal j (names_of (named_literals (code ∷ codes) ++ tail))
     ≡ cond (is_witnessed (state_in (states_of names) (variable code + 1))) (Some (WitnessName (variable code + 1))) (refused_literal j (names_of (named_literals codes ++ tail)))
@@ -48,7 +48,7 @@ refused_at names j codes tail k code b h within at low e =
     ∙ refused_next names j code (drop (k + 1) codes) tail h low
     ∙ ap (λ (d : Bool). cond d (Some (WitnessName (variable code + 1))) (refused_literal j (names_of (named_literals (drop (k + 1) codes) ++ tail)))) e
 
--- after all codes stands nothing, or a literal past the limit
+-- after all codes, the command is refused only for a literal past the limit
 past_literals : (j : ScriptState) (past : Bool) (ls : List Literal) → BeginsPast past ls → refused_literal j (names_of ls) ≡ refusal_said (limit_refusal past)
 past_literals j false ls h = ap (λ (ks : List Literal). refused_literal j (names_of ks)) h
 past_literals j true [] h = absurd h
@@ -70,7 +70,7 @@ names_within j (code ∷ codes) tail h = let low = h.0 in rw (within (variable c
 pub names_refused : (j : ScriptState) (codes : List ℕ) (past : Bool) (ls : List Literal) → IsFront codes past ls → first_refusal true j (names_of ls) ≡ refusal_said (limit_refusal past)
 names_refused j codes past ls f = ap (λ (ks : List Literal). first_refusal true j (names_of ks)) f.whole ∙ names_within j codes f.following f.within ∙ past_names j past f.following f.limit
 
--- WHOLE COMMANDS
+-- COMPLETE COMMANDS
 pub says_literals : (names : Names) (lent : Lent) (r : Option CodeRefusal) → (kind_of lent.kind ≡ OfClause) ⊎ (kind_of lent.kind ≡ OfAsk)
     → ((j : ScriptState) (ls : List Literal) → NamesHaveState names j → IsFront lent.literals.now lent.past_limit ls → refusal_said r ≡ refused_literal j (names_of ls)) → ReportsRefusal r names lent
 says_literals names lent r (inl k) said j c h (ls, f, e) = said j ls h f ∙ sym (ap (refusal_of j) (e ∙ ap (λ (kind : Kind). command_of kind ls) k))

@@ -1,4 +1,4 @@
--- What changes of names and modes make of the judge's state.
+-- How changes of names and modes change the script state.
 use Rattle.std.proofs.Common.{ℕ, zero, suc, ◌+◌, ◌-◌, ◌≤◌, ◌<◌, ◌≡◌, Bool, true, false, not, cond, eqb, ltb, max, List, [], ◌∷◌, ◌++◌, Option, Some, None, is_some, length, get_or, set, refl, sym, ◌∙◌, ap, subst, arith, unwrap_or}
 use Rattle.std.proofs.Math.ListN.{length-set, get_or-append}
 use Rattle.std.proofs.Math.Seq.{get_or-append_seam}
@@ -31,7 +31,7 @@ pub past_states : (xs : List NameState) (name : ℕ) → length xs < name → st
 past_states xs zero h = refl
 past_states xs (suc i) h = past_end xs i (omega arith)
 
--- one more after the last
+-- the states of names after one more state is appended
 pub pushed_at : (xs : List NameState) (s : NameState) (m : ℕ) → state_in (xs ++ s ∷ []) m ≡ cond (eqb (length xs + 1) m) s (state_in xs m)
 pushed_at xs s zero = let e : eqb (length xs + 1) zero ≡ false = ne_eqb (length xs + 1) zero (λ x. omega arith) in rw e refl
 pushed_at xs s (suc i) = go (eqb (length xs + 1) (suc i)) refl (ltb i (length xs)) refl
@@ -71,7 +71,7 @@ got t (suc n) i h = pushed_at (first_states t n) (value_at state.Sampled t n) (s
 pub got_at : (names : Names) (index name : ℕ) (s : NameState) → index < names.used → index + 1 ≡ name → s ≡ value_at state.Sampled names.states index → state_in (states_of names) name ≡ s
 got_at names index name s low n e = let m : name ≡ suc index = omega arith in ap (state_in (states_of names)) m ∙ got names.states names.used index low ∙ sym e
 
--- it is in use if it isn't hidden
+-- a name is in use if its state is not hidden
 pub in_use_at : (names : Names) (index name : ℕ) (s : NameState) → index < names.used → index + 1 ≡ name → s ≡ value_at state.Sampled names.states index → (s ≡ state.Hidden → ⊥) → IsInUse names name
 in_use_at names index name s low n e shown h = shown (sym (got_at names index name s low n e) ∙ h)
 
@@ -80,7 +80,7 @@ any_default [] i a b h = absurd (omega arith)
 any_default (x ∷ xs) zero a b h = refl
 any_default (x ∷ xs) (suc i) a b h = any_default xs i a b (omega arith)
 
--- as an item of the list
+-- the state of a name, as an item of the list of states
 pub item_at : (names : Names) (index : ℕ) (s : NameState) → index < names.used → s ≡ value_at state.Sampled names.states index → s ≡ get_or (states_of names) index s
 item_at names index s low e =
     let l = states_length names.states names.used in
@@ -95,7 +95,7 @@ same_place i place name n = go (eqb i place) refl
     go false e = sym (ne_eqb name (suc i) (λ x. eqb-false i place e (omega arith)))
 
 module _ (old new : Names) (index name : ℕ) (s : NameState) (low : index < old.used) (is : index + 1 ≡ name) (same : new.used ≡ old.used) (sets : SetsValue state.Sampled old.states new.states index s) where
-  -- another at its place
+  -- the name has the new state, and every other name keeps its state
   pub set_at : (m : ℕ) → state_in (states_of new) m ≡ cond (eqb name m) s (state_in (states_of old) m)
   set_at zero = let e : eqb name zero ≡ false = ne_eqb name zero (λ x. omega arith) in rw e refl
   set_at (suc i) = go (ltb i old.used) refl
@@ -130,7 +130,7 @@ hidden_none names j name h e = go (identity_of j name) refl
     go None x = refl
     go (Some i) x = absurd (some_used j.modes i (ap (state_of_identity j.modes) (sym x) ∙ h.each name ∙ e))
 
--- another has one
+-- a name that is not hidden has an identity
 pub used_some : (names : Names) (j : ScriptState) (name : ℕ) → NamesHaveState names j → (state_in (states_of names) name ≡ state.Hidden → ⊥) → (i : ℕ) × (identity_of j name ≡ Some i)
 used_some names j name h u = go (identity_of j name) refl
   where
@@ -172,7 +172,7 @@ named old new j name h hidden low high next longer fresh states =
     alone m k i false e true g x y = let z = given_at j.in_use m i j.identity_count h.given x in let w : j.identity_count ≡ i = one_of y in absurd (omega arith)
     alone m k i false e false g x y = h.apart m k i x y
 
--- A NAME HIDDEN
+-- HIDING A NAME
 pub hidden : (old new : Names) (j : ScriptState) (name : ℕ) → NamesHaveState old j → new.used ≡ old.used → UnusedAreUnlisted new
     → ((m : ℕ) → state_in (states_of new) m ≡ cond (eqb name m) state.Hidden (state_in (states_of old) m)) → NamesHaveState new (without_name name j)
 hidden old new j name h same fresh states = record {
@@ -196,7 +196,7 @@ hidden old new j name h same fresh states = record {
         go true e = absurd (none_some (sym (removed_gone name j.in_use) ∙ ap (identity_of (without_name name j)) (eqb-true name m e) ∙ x))
         go false e = sym (removed_found name j.in_use m (λ q. eqb-false name m e (sym q))) ∙ x
 
--- A MODE SET
+-- SETTING A MODE
 pub moded : (old new : Names) (j : ScriptState) (mode : NameMode) (name : ℕ) → NamesHaveState old j → (state_in (states_of old) name ≡ state.Hidden → ⊥) → new.used ≡ old.used → UnusedAreUnlisted new
     → ((m : ℕ) → state_in (states_of new) m ≡ cond (eqb name m) (state_of_mode mode) (state_in (states_of old) m)) → NamesHaveState new (with_mode mode name j)
 moded old new j mode name h used same fresh states =
@@ -231,7 +231,7 @@ moded old new j mode name h used same fresh states =
         ∙ ap (state_of_identity j.modes) (sym x)
         ∙ h.each m
 
--- NAMES THAT COME IN
+-- NEW NAMES
 pub new_past : (names : Names) (j : ScriptState) (name count first : ℕ) → NamesHaveState names j → j.first_unused ≤ name → count ≡ name + 1 - j.first_unused → first ≡ j.first_unused → new_names name j ≡ names_from count first
 new_past names j name count first h past c f = rw (c, f) (go (ltb name j.first_unused) refl)
   where
@@ -249,7 +249,7 @@ below_at j name b low e = go (ltb name j.first_unused) refl
 pub new_hidden : (names : Names) (j : ScriptState) (name : ℕ) → NamesHaveState names j → name < j.first_unused → state_in (states_of names) name ≡ state.Hidden → new_names name j ≡ name ∷ []
 new_hidden names j name h low e = below_at j name false low (ap is_some (hidden_none names j name h e))
 
--- a name in use doesn't come in again
+-- a name in use is not introduced again
 pub new_used : (names : Names) (j : ScriptState) (name : ℕ) → NamesHaveState names j → (state_in (states_of names) name ≡ state.Hidden → ⊥) → new_names name j ≡ []
 new_used names j name h u = below_at j name true (low (ltb names.used name) refl) (ap is_some (used_some names j name h u).1)
   where
@@ -257,7 +257,7 @@ new_used names j name h u = below_at j name true (low (ltb names.used name) refl
     low true e = absurd (u (past_used names name (ltb-true names.used name e)))
     low false e = let f = h.first in let x = ltb-false names.used name e in omega arith
 
--- so bringing it in changes nothing
+-- so introducing it changes nothing
 pub stays : (names : Names) (name : ℕ) → IsInUse names name → Changes names names (bring_in name)
 stays names name u j h = subst (λ (ns : List ℕ). NamesHaveState names (with_names ns j)) (sym (new_used names j name h u)) h
 
@@ -283,7 +283,7 @@ state_set old new state.Hidden index name low n same sets used j h = hide_at old
 state_set old new state.Sampled index name low n same sets used j h = mode_at old new j Sampled index name h low n same sets used
 state_set old new state.Witnessed index name low n same sets used j h = mode_at old new j Witnessed index name h low n same sets used
 
--- a hidden name is used again
+-- a hidden name is introduced again
 pub again_at : (old new : Names) (j : ScriptState) (index name : ℕ) → NamesHaveState old j → index < old.used → index + 1 ≡ name → index < var_limit → new.used ≡ old.used → SetsValue state.Sampled old.states new.states index state.Sampled
     → state_in (states_of old) name ≡ state.Hidden → NamesHaveState new (bring_in name j)
 again_at old new j index name h low n within same sets hidden_yet =
@@ -292,7 +292,7 @@ again_at old new j index name h low n within same sets hidden_yet =
     let b : NamesHaveState new (with_name name j) = named old new j name h hidden_yet (omega arith) (omega arith) (omega arith) longer (set_fresh old new index name state.Sampled low n same sets h.fresh) (set_at old new index name state.Sampled low n same sets) in
     subst (λ (ns : List ℕ). NamesHaveState new (with_names ns j)) (sym (new_hidden old j name h (omega arith) hidden_yet)) b
 
--- which is in use then
+-- a name that is introduced again is in use
 pub again_used : (old new : Names) (index name : ℕ) → index < old.used → index + 1 ≡ name → new.used ≡ old.used → SetsValue state.Sampled old.states new.states index state.Sampled → IsInUse new name
 again_used old new index name low n same sets e =
     let here : eqb name name ≡ true = eq-eqb name name refl in

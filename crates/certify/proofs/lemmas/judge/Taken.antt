@@ -1,4 +1,4 @@
--- What a command makes of names and modes, name by name.
+-- How a command changes names and modes, name by name.
 use Rattle.std.proofs.Common.{ℕ, zero, suc, drop, drop-cons, get_or, ◌+◌, ◌-◌, ◌≤◌, ◌<◌, ◌≡◌, max, Bool, true, false, cond, eqb, List, [], ◌∷◌, ◌++◌, length, refl, sym, ◌∙◌, ap, subst, arith}
 use Rattle.std.proofs.lemmas.List.{append-nil, drop_all}
 use Rattle.std.proofs.lemmas.Bool.{true≢false}
@@ -16,7 +16,7 @@ use Rattle.certify.specs.judge.Names.{state_in, states_of, first_states, BringsN
 use Rattle.certify.proofs.lemmas.confirm.NamesFrom.{from_more, with_names_append}
 use Rattle.certify.proofs.lemmas.judge.States.{past_used, pushed_at, states_length, got_at, named, new_past, new_used, sampled_used}
 
--- so many more names were used
+-- the table with `n` names used so far
 abbrev with_used : Names → ℕ → Names
 with_used names n = record names { used = n }
 
@@ -61,7 +61,7 @@ grown names index past low j h =
     subst (λ (ns : List ℕ). NamesHaveState (with_used names (index + 1)) (with_names ns j)) (sym e)
     (subst (λ (n : ℕ). NamesHaveState (with_used names n) (with_names (names_from count j.first_unused) j)) total (grown_by names j count (omega arith) h))
 
--- the last of them is in use
+-- after names up to a new one are introduced, the new one is in use
 pub grown_used : (names : Names) (index : ℕ) → names.used ≤ index → ComesInUse names (with_used names (index + 1)) (index + 1)
 grown_used names index past j h = sampled_used _ (got_at (with_used names (index + 1)) index (index + 1) state.Sampled (omega arith) refl (sym (h.fresh index past)))
 
@@ -91,7 +91,7 @@ sampled_all [] j = refl
 sampled_all (name ∷ names) j = sampled_all names (taken OfSample name j)
 
 -- NAMES IN USE
--- a name that doesn't come in changes nothing, where that is all that a command makes of it
+-- a name that is not introduced changes nothing, if the command only introduces names
 pub untaken : (kind : Kind) (name : ℕ) (j : ScriptState) → is_of_literals kind ≡ true → new_names name j ≡ [] → taken kind name j ≡ j
 untaken OfClause name j k e = ap (λ (ns : List ℕ). with_names ns j) e
 untaken OfAsk name j k e = ap (λ (ns : List ℕ). with_names ns j) e
@@ -101,7 +101,7 @@ untaken_all : (kind : Kind) (names : List ℕ) (j : ScriptState) → is_of_liter
 untaken_all kind [] j k h = refl
 untaken_all kind (name ∷ names) j k h = ap (taken_all kind names) (untaken kind name j k h.0) ∙ untaken_all kind names j k h.1
 
--- one more of a command's names is in use
+-- no name from here on is introduced if the next one is in use and no later one is introduced
 pub known_next : (n : Names) (j : ScriptState) (codes : List ℕ) (k code v : ℕ) → NamesHaveState n j → k < length codes → code ≡ get_or codes k code → v ≡ variable code → IsInUse n (v + 1)
     → AllByRecursion (λ name. new_names name j ≡ []) (names_of (named_literals (drop (k + 1) codes))) → AllByRecursion (λ name. new_names name j ≡ []) (names_of (named_literals (drop k codes)))
 known_next n j codes k code v h within at e used rest =
@@ -113,7 +113,7 @@ known_next n j codes k code v h within at e used rest =
 pub known_end : (j : ScriptState) (codes : List ℕ) (k : ℕ) → length codes ≤ k → AllByRecursion (λ name. new_names name j ≡ []) (names_of (named_literals (drop k codes)))
 known_end j codes k over = subst (λ (xs : List ℕ). AllByRecursion (λ name. new_names name j ≡ []) (names_of (named_literals xs))) (sym (drop_all k codes over)) tt
 
--- clauses are no names
+-- a clause changes no names
 pub clause_stands : (n : Names) (ls : List Literal) (j : ScriptState) → NamesHaveState n j → NamesHaveState n (with_clause ls j)
 clause_stands n ls j h = record { first = h.first; limit = h.limit; each = h.each; fresh = h.fresh; given = h.given; modes = h.modes; apart = h.apart }
 
@@ -124,7 +124,7 @@ accepted_stands n OfHide ls j h = subst (NamesHaveState n) (hidden_all (names_of
 accepted_stands n OfWitness ls j h = subst (NamesHaveState n) (witnessed_all (names_of ls) j) h
 accepted_stands n OfSample ls j h = subst (NamesHaveState n) (sampled_all (names_of ls) j) h
 
--- the next of a command's names
+-- processing the names from here on processes the next one, and then the later ones
 pub taken_next : (kind : Kind) (codes : List ℕ) (k code v : ℕ) (mid : ScriptState) → k < length codes → code ≡ get_or codes k code → v ≡ variable code
     → taken_all kind (names_of (named_literals (drop k codes))) mid ≡ taken_all kind (names_of (named_literals (drop (k + 1) codes))) (taken kind (v + 1) mid)
 taken_next kind codes k code v mid within at e =
@@ -133,7 +133,7 @@ taken_next kind codes k code v mid within at e =
     ap (λ (xs : List ℕ). taken_all kind (names_of (named_literals xs)) mid) cut
     ∙ ap (λ (n : ℕ). taken_all kind (names_of (named_literals (drop (k + 1) codes))) (taken kind (n + 1) mid)) (sym e)
 
--- all of them, of a command with no name past the limit
+-- after all names were processed, the table is that of the state after the command
 pub all_taken : (n : Names) (kind : Kind) (codes : List ℕ) (past : Bool) (ls : List Literal) (j mid : ScriptState) (k : ℕ) → past ≡ false → IsFront codes past ls → length codes ≤ k → NamesHaveState n mid
     → taken_all kind (names_of (named_literals codes)) j ≡ taken_all kind (names_of (named_literals (drop k codes))) mid → NamesHaveState n (accepted (command_of kind ls) j)
 all_taken n kind codes past ls j mid k not_past f over h same =
@@ -142,7 +142,7 @@ all_taken n kind codes past ls j mid k not_past f over h same =
     let end : taken_all kind (names_of (named_literals codes)) j ≡ mid = same ∙ ap (λ (xs : List ℕ). taken_all kind (names_of (named_literals xs)) mid) (drop_all k codes over) in
     accepted_stands n kind ls j (subst (NamesHaveState n) (sym end ∙ ap (λ (ks : List Literal). taken_all kind (names_of ks) j) (sym whole)) h)
 
--- so where all of its names are in use
+-- a clause or an ask that introduces no name leaves the table as it is
 pub known_taken : (n : Names) (kind : Kind) (codes : List ℕ) (past : Bool) (ls : List Literal) (j : ScriptState) → past ≡ false → IsFront codes past ls → BringsNothing kind (names_of (named_literals codes)) n → NamesHaveState n j
     → NamesHaveState n (accepted (command_of kind ls) j)
 known_taken n kind codes past ls j not_past f b h =

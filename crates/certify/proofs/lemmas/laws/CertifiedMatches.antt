@@ -1,4 +1,4 @@
--- What was certified matches.
+-- If steps are certified for commands and outcomes, they match them.
 use Rattle.std.proofs.Common.{ℕ, ◌≡◌, ◌∙◌, Bool, true, false, Option, None, List, [], ◌∷◌, ◌++◌, refl, sym, ap, subst, append_assoc}
 use Rattle.std.proofs.lemmas.Bool.{both_ways}
 use Rattle.std.proofs.lemmas.List.{append-nil, reverse-append}
@@ -20,7 +20,7 @@ use Rattle.certify.specs.run.Certifies as by
 use Rattle.certify.specs.run.Certifies.{Certifies, MayLack, MayOccur}
 use Rattle.certify.proofs.lemmas.confirm.Settled.{settled_unsat}
 
--- recorded unsat stays
+-- once recorded, unsat stays recorded
 stays : (s : List Step) (step : Step) → checker_rules.unsat s ≡ true → checker_rules.unsat (step ∷ s) ≡ true
 stays s step u = settled_unsat (effect step (ready_after s)) ∙ unsat_stays (ready_after s) step u
 
@@ -37,7 +37,7 @@ stood_excused (Opens ls o) h = absurd h
 stood_excused (Shows names ask line) h = absurd (both_ways true h refl)
 stood_excused e h = tt
 
--- once unsat is recorded, all that is expected
+-- once unsat is recorded, every expected step may be unmet
 excused : {all : List Step} {current : Option Outcome} {earlier : List Step} {es : List Expected} {counts : List ℕ}
     → Certifies checker_rules all current earlier es counts → checker_rules.unsat earlier ≡ true → AllByRecursion MayBeUnmet es
 excused by.complete u = tt
@@ -50,7 +50,7 @@ excused (by.answered {earlier = earlier} {step = step} i f c) u = (tt, excused c
 
 -- STEPS AFTER STEPS
 
--- these, oldest first, after the earlier ones
+-- these steps, the oldest first, after the earlier ones
 abbrev onto : List Step → List Step → List Step
 onto [] earlier = earlier
 onto (step ∷ steps) earlier = onto steps (step ∷ earlier)
@@ -64,7 +64,7 @@ accepted_front : (steps earlier : List Step) → Accepted checker_rules (onto st
 accepted_front [] earlier h = h
 accepted_front (step ∷ steps) earlier h = (accepted_front steps (step ∷ earlier) h).0
 
--- all steps are some after those so far
+-- all steps are the earlier ones and some after them
 following : {all : List Step} {current : Option Outcome} {earlier : List Step} {es : List Expected} {counts : List ℕ}
     → Certifies checker_rules all current earlier es counts → (steps : List Step) × (all ≡ onto steps earlier)
 following by.complete = ([], refl)
@@ -83,7 +83,7 @@ next_accepted {step = step} {earlier = earlier} a c =
 
 -- WHAT IS MET
 
--- some steps after the earlier ones meet what is expected, and these may be followed by others
+-- that steps after the earlier ones meet what is expected, and others may follow
 record Front (all earlier : List Step) (es : List Expected) : Type 0 where
   pub steps : List Step
   pub rest : List Step
@@ -138,7 +138,7 @@ in_form j (Sample names ∷ commands) (o ∷ os) h = in_form (accepted (Sample n
 
 -- TEXTS
 
--- the text of a front is a front of the text
+-- that the text begins with the text of the steps in `front`
 record TextFront (front rest : List Step) (text : List ℕ) : Type 0 where
   pub begins : List ℕ
   pub following : List ℕ

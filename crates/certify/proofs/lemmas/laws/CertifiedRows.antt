@@ -50,11 +50,11 @@ chain hashes = ordered tt (new_name refl refl)
     (left_out refl (record { recorded = refl; none = λ a h. no_chain (a 0) (a 1) h.0.0.0.1 h.0.0.1 h.0.1 })
     (answered (λ u. refl) closes (ordered tt finish complete)))))))))))
 
--- the step that comes next is this one
+-- the next step is `step`
 is_next : {all : List Step} {current : Option Outcome} {earlier : List Step} {es : List Expected} {counts : List ℕ} (later : List Step) (step next : Step) → all ≡ later ++ step ∷ earlier → Certifies checker_rules all current (next ∷ earlier) es counts → next ≡ step
 is_next {earlier = earlier} later step next e c = let f = certified_front c in next_same f.0 later next step earlier (sym f.1 ∙ e)
 
--- what stands first is what is expected first
+-- if the next step is ordered, no unordered step comes next
 no_other : {all earlier : List Step} {current : Option Outcome} {es : List Expected} {counts : List ℕ} (later : List Step) (step : Step) → all ≡ later ++ step ∷ earlier → is_ordered step ≡ true
     → (next : Step) → is_ordered next ≡ false → Certifies checker_rules all current (next ∷ earlier) es counts → ⊥
 no_other later step first i next o c = true≢false (sym i ∙ ap is_ordered (sym (is_next later step next first c)) ∙ o)
@@ -81,7 +81,7 @@ left_added later step first i u (left_out m r c) = inr c
 left_added later step first i u (other {step = next} o c) = absurd (no_other later step first i next o c)
 left_added {earlier = earlier} {ls = ls} later step first i u (ordered {step = next} s f c) = inl (subst (λ x. Fits (checker_rules.knows earlier) earlier (Adds ls) x) (is_next later step next first c) f)
 
--- an ask is opened, of which so much is known by then
+-- that `step` opens an ask, and what is known about its outcome and rounds
 record OpenedBy (all earlier : List Step) (step : Step) (o : Outcome) (es : List Expected) (counts : List ℕ) : Type 0 where
   rounds : ℕ
   rest : List ℕ
@@ -100,14 +100,14 @@ next_asked {all} {earlier} {o = o} {es = es} later step first i (asked {step = n
 closes_ordered : {knows : ℕ → Bool} {earlier : List Step} {step : Step} → Fits knows earlier Closes step → is_ordered step ≡ true
 closes_ordered closes = refl
 
--- another step within an ask
+-- an unordered step in an ask
 next_other : {all earlier : List Step} {o : Outcome} {es : List Expected} {counts : List ℕ} (later : List Step) (step : Step) → all ≡ later ++ step ∷ earlier → is_ordered step ≡ false → Certifies checker_rules all (Some o) earlier (Closes ∷ es) counts → Certifies checker_rules all (Some o) (step ∷ earlier) (Closes ∷ es) counts
 next_other later step first i (left_out m r c) = absurd m
 next_other {all} {earlier} {o} {es} {counts} later step first i (other {step = next} q c) = subst (λ (x : Step). Certifies checker_rules all (Some o) (x ∷ earlier) (Closes ∷ es) counts) (is_next later step next first c) c
 next_other later step first i (ordered s f c) = absurd s
 next_other later step first i (answered {step = next} k f c) = absurd (true≢false (sym (closes_ordered f) ∙ ap is_ordered (is_next later step next first c) ∙ i))
 
--- what closes an ask once unsat is recorded
+-- an ask that is closed once unsat is recorded has the empty core
 next_closed : {all earlier : List Step} {o : Outcome} {es : List Expected} {counts : List ℕ} (later : List Step) (step : Step) → all ≡ later ++ step ∷ earlier → is_ordered step ≡ true → checker_rules.unsat earlier ≡ true → Certifies checker_rules all (Some o) earlier (Closes ∷ es) counts → o ≡ Unsat []
 next_closed later step first i u (left_out m r c) = absurd m
 next_closed later step first i u (other {step = next} q c) = absurd (true≢false (sym i ∙ ap is_ordered (sym (is_next later step next first c)) ∙ q))
@@ -212,7 +212,7 @@ no_model counts (ordered {step = next} s f c) =
 pub model_needed : ModelUncertified
 model_needed counts c = let opened = next_asked (End ∷ Assumptions [] ∷ []) (Assumptions []) refl refl c in no_model opened.rest opened.leads
 
--- where nothing is expected, nothing stands
+-- if nothing is expected, no step follows
 none_following : {all : List Step} {current : Option Outcome} {earlier : List Step} {es : List Expected} {counts : List ℕ} → Certifies checker_rules all current earlier es counts → es ≡ [] → all ≡ earlier
 none_following complete e = refl
 none_following (left_out m none c) e = absurd (cc)

@@ -1,4 +1,4 @@
--- Laws over the definitions alone.
+-- Laws about the definitions only.
 use Rattle.std.proofs.Common.{ℕ, List, ◌≡◌, true, false, not, map, ◌∙◌, ap, ◌⊎◌, inl, inr, unwrap_or}
 use Rattle.std.proofs.lemmas.Bool.{cases_Bool}
 use Rattle.std.specs.List.{AllByRecursion}
@@ -15,7 +15,7 @@ model_excludes_core j ask line core m c = c.none m.valuation
     (λ l x. all_at (λ l. literal_true m.valuation (over j l) ≡ true) l ask (mapped_true m.valuation (over j) ask m.asked) x) c.among))
     m.clauses
 
--- where a clause holds, so does one with all its literals
+-- if a clause holds, so does a clause that contains all its literals
 held_in : (j : ScriptState) (ls ks : List Literal) (a : Valuation) → AllByRecursion (λ l. Among l ks) ls → clause_true a (map (over j) ls) ≡ true → clause_true a (map (over j) ks) ≡ true
 held_in j ls ks a h t =
     let s = some_mapped a (over j) ls t in

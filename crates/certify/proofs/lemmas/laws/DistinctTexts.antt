@@ -13,7 +13,7 @@ use Rattle.sat_checker.specs.matching.Expected.{Outcome, Sat, Unsat, Unknown}
 use Rattle.certify.specs.confirm.Matches.{OneEach}
 use Rattle.certify.specs.laws.Laws.{HasPrintableNames, TextsDetermineOutcomes, AskBindsNothing}
 
--- neither a space nor LF
+-- that no byte is a space or LF
 abbrev pub Plain : List ℕ → Type 0
 Plain = AllByRecursion (λ c. (c ≡ 32 → ⊥) × (c ≡ 10 → ⊥))
 
@@ -27,7 +27,7 @@ plain_digits (c ∷ cs) d = (((λ e. space (subst (λ c. digit_value c < 10) e d
     line : digit_value 10 < 10 → ⊥
     line h = omega arith
 
--- two words before spaces
+-- a text determines the word before its first space
 pub at_space : (ds es x y : List ℕ) → Plain ds → Plain es → ds ++ (32 ∷ x) ≡ es ++ (32 ∷ y) → (ds ≡ es) × (x ≡ y)
 at_space [] [] x y p q e = (refl, cc)
 at_space [] (c ∷ cs) x y p q e = absurd (q.0.0 (let r : c ≡ 32 = cc in r))
@@ -135,7 +135,7 @@ same_outcomes (command ∷ commands) n j ending vs ws o u p q e =
 pub texts_report : TextsDetermineOutcomes
 texts_report commands ending vs ws = same_outcomes commands 1 start ending vs ws
 
--- names that come in leave the clauses
+-- introducing names does not change the clauses
 names_leave : (names : List ℕ) (j : ScriptState) → (with_names names j).clauses ≡ j.clauses
 names_leave [] j = refl
 names_leave (name ∷ names) j = names_leave names (with_name name j)

@@ -1,4 +1,4 @@
--- From what is expected back to the commands and their outcomes.
+-- From expected steps back to the commands and their outcomes.
 use Rattle.std.proofs.Common.{ℕ, List, [], ◌∷◌, ◌++◌, map, Option, Some, None, refl, subst, append_assoc}
 use Rattle.std.specs.List.{AllByRecursion}
 use Rattle.sat_base.specs.script.Script.{Literal, Command, Clause, Ask, Hide, Witness, Sample, names_of}
@@ -11,7 +11,7 @@ use Rattle.certify.specs.confirm.Matches.{OneEach, InForm, StepsMatch}
 use Rattle.sat_checker.proofs.lemmas.matching.Bridge.{begun}
 use Rattle.certify.proofs.lemmas.laws.MatchingSteps.{RightFor, right_for}
 
--- modes show in no ordered step
+-- modes do not matter for expected steps
 modes_aside : (es : List Expected) (q : Option (List Literal)) (j : ScriptState) (m : List NameMode) → RightFor q j es → RightFor q (record j { modes = m }) es
 modes_aside [] q j m h = tt
 modes_aside (NewName name ∷ es) q j m h = modes_aside es None (with_name name j) (m ++ Sampled ∷ []) h
@@ -23,7 +23,7 @@ modes_aside (Fails ask core ∷ es) q j m h = ((λ e. let r = h.0 e in record { 
 modes_aside (Closes ∷ es) q j m h = modes_aside es None j m h
 modes_aside (Finish ∷ es) q j m h = modes_aside es q j m h
 
--- some ask is open, or none
+-- that the expected steps show correct answers, for some open ask or none
 abbrev From : ScriptState → List Expected → Type 0
 From j es = (q : Option (List Literal)) × RightFor q j es
 
@@ -78,7 +78,7 @@ rights (Sample names ∷ commands) vs q j o f h =
     let p = set_to Sampled names q j (expected (accepted (Sample names) j) commands vs) h in
     rights commands vs p.0 (accepted (Sample names) j) o f p.1
 
--- the main law
+-- if the steps match, the answers are correct
 pub matching_right : (k : CheckerRules) → IsSound k → (commands : List Command) (outcomes : List Outcome) (steps : List Step) → StepsMatch k commands outcomes steps → AnswersAreRight commands outcomes
 matching_right k sound commands outcomes steps m =
     rights (accepted_of start commands) outcomes None start m.one_each m.in_form (right_for k sound m.meets None start [] (begun k) tt)

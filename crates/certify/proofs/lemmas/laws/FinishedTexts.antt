@@ -1,4 +1,4 @@
--- What a finished run wrote is confirmed: by whatever readers, and over texts in memory.
+-- What a finished run wrote is confirmed, with any readers and for texts in memory.
 use Rattle.std.proofs.Common.{ℕ, ◌+◌, ◌*◌, ◌^◌, ◌≤◌, ◌≡◌, ◌∙◌, List, ◌++◌, Option, None, Some, Result, Ok, Err, IfOk, sym, ap, subst, arith, length, length-append, []}
 use Rattle.std.specs.Prelude.{IfSome, ◌↔◌}
 use Rattle.std.specs.Io.KnownBytes.{Appends, Consumes}
@@ -19,7 +19,7 @@ use Rattle.certify.specs.declared.verdict.Verdict.TheVariants.{Yes}
 use Rattle.certify.proofs.lemmas.answers.ShortTexts.{same_matches}
 use Rattle.certify.proofs.lemmas.laws.CertifiedMatches.{certified_matches}
 
--- what is said of all that a reader gave is so of a text that it can be
+-- what holds whatever the reader could still give holds of any text that it can be
 can_be : (a b : Reader) (P : List ℕ → Type 0) (text : List ℕ) → CanBe (a, b) text → GaveEnough a b P → P text
 can_be a b P text c g =
     let same : c.given ≡ g.text = append_cancel_left a.given c.given g.text (sym c.front.gave ∙ g.front.gave) in
@@ -36,7 +36,7 @@ finished_confirmed script answers certificate v budget summary text answered cer
     let exact = can_be certificate.0 certificate.1 _ certified c (can_be answers.0 answers.1 _ answered a (can_be script.0 script.1 _ text s e)) in
     exact.1 (guaranteed_matches budget summary text answered certified b)
 
--- what is said of a text that is told
+-- what holds whatever the reader could give holds of its text, if that is known
 pub of_known_text : (a b : Reader) (P : List ℕ → Type 0) (text : List ℕ) → a.to_come ≡ Some text → GaveEnough a b P → P text
 of_known_text a b P text e g = subst (λ o. IfSome o P) e (enough_reported a b P g)
 
@@ -91,6 +91,6 @@ run_finished budget summary x y a b c d text answers certificate e f g h i took 
     let is_certified : certificate ≡ p.1 = appended c.contents d.contents p.1 certificate p.3.known_bytes h i in
     subst (λ s. CertificateGuarantee text budget summary answers s) (sym is_certified) (subst (λ s. CertificateGuarantee text budget summary s p.1) (sym is_answered) p.4)
 
--- a verdict on what a finished run wrote is yes
+-- a verdict on what a finished run wrote is `Yes`
 pub guaranteed_yes : (budget : ℕ) (summary : Summary) (script answers certificate : List ℕ) (v : Verdict) → CertificateGuarantee script budget summary answers certificate → VerdictSays script answers certificate v → v ≡ Yes
 guaranteed_yes budget summary script answers certificate v b s = s.exact.1 (guaranteed_matches budget summary script answers certificate b)

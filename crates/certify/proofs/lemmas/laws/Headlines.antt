@@ -1,4 +1,4 @@
--- From what `certify_over` promises to the headline.
+-- Why the guarantee of `certify_over` implies the headline.
 use Rattle.std.proofs.Common.{ℕ, ◌+◌, ◌≡◌, ◌∙◌, Bool, true, false, cond, List, [], ◌∷◌, map, refl, sym, ap, subst, lt_of_not-le}
 use Rattle.std.specs.Prelude.{◌↔◌, is_some, length}
 use Rattle.sat_base.specs.script.Script.{Literal, Command, Clause, Ask, Hide, Witness, Sample}
@@ -21,7 +21,7 @@ use Rattle.certify.specs.declared.summary.Summary.{Summary}
 
 -- ASK BY ASK
 
--- of these commands, outcomes are right just where they are of their asks
+-- that outcomes are correct for the commands exactly when they are correct for the asks among them
 abbrev Same : ScriptState → List Command → Type 0
 Same j commands = (os : List Outcome) → AreRight j (accepted_of j commands) os ↔ EachIsRight (asks_of j commands) os
 
@@ -59,7 +59,7 @@ same_right j (Sample names ∷ commands) os = let k = accepted (Sample names) j 
 pub right_by_asks : RightByAsks
 right_by_asks commands outcomes = same_right start commands outcomes
 
--- HOW MANY VARIABLES EACH ASK HAS
+-- THE NUMBER OF VARIABLES AT EACH ASK
 
 abbrev SameGiven : ScriptState → List Command → Type 0
 SameGiven j commands = identities_given j (accepted_of j commands) ≡ variables_at (asks_of j commands)
@@ -112,7 +112,7 @@ took budget before (a ∷ asks) (o ∷ os) (r ∷ rs) k h =
       took budget (before + r.steps) asks os rs rest h.2,
     )
 
--- what is so of outcomes by the short definitions
+-- that outcomes are correct and have these answers, for a reading of the script
 abbrev AreRightBy : List ℕ → List Outcome → Reading → Type 0
 AreRightBy answers outcomes r = (answers ≡ lines_from 1 start r.0 r.1 outcomes) × EachIsRight (asks_of start r.0) outcomes
 
@@ -131,7 +131,7 @@ right_by_outcomes script answers =
       λ h. right_answers script answers h.0 h.1 h.2,
     )
 
--- what is so of a run's answers and summary, by a reading of the script
+-- that the answers and the summary of a run are correct, for a reading of the script
 abbrev ReportsBy : ℕ → Summary → List ℕ → List Outcome → Reading → Type 0
 ReportsBy budget summary answered outcomes r =
     (answered ≡ lines_from 1 start r.0 r.1 outcomes) × EachIsRight (asks_of start r.0) outcomes × (summary.refused ≡ refused_count start r.0)

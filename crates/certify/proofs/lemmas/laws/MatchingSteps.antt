@@ -1,4 +1,4 @@
--- Steps that match show right outcomes.
+-- Steps that match show correct outcomes.
 use Rattle.std.proofs.Common.{ℕ, ◌≡◌, Bool, true, false, List, [], ◌∷◌, map, Option, Some, None, refl, sym, ◌∙◌, ap, subst}
 use Rattle.std.proofs.lemmas.Bool.{true≢false}
 use Rattle.std.specs.List.{AllByRecursion}
@@ -13,12 +13,13 @@ use Rattle.sat_checker.specs.matching.Bridge.{Live, IsBridge}
 use Rattle.sat_base.proofs.lemmas.script.LiteralValues.{all_at, all_map, true_mapped, mapped_true, coded_same}
 use Rattle.sat_checker.proofs.lemmas.matching.Bridge.{line_true, core_true, pulled, pulled_agrees, without, nothing_new, added, named_new, unnamed, deleted}
 
--- a right core, but for its order
+-- that a core is correct, except for its order
 pub record IsCore (j : ScriptState) (ask core : List Literal) : Type 0 where
   pub among : AllByRecursion (λ l. Among l ask) core
   pub none : (a : Valuation) → EachTrue a (map (over j) core) → EachHolds a j.clauses → ⊥
 
--- What is expected shows right answers, from a judge's state; q is the ask that is open, no name having come or gone since.
+-- That the expected steps show correct answers, given the script state. `q` is the open ask, if no name was introduced
+-- or removed since it was opened.
 abbrev pub RightFor : Option (List Literal) → ScriptState → List Expected → Type 0
 RightFor q j [] = Unit {0}
 RightFor q j (NewName name ∷ es) = RightFor None (with_name name j) es
@@ -30,7 +31,7 @@ RightFor q j (Fails ask core ∷ es) = (q ≡ Some ask → IsCore j ask core) ×
 RightFor q j (Closes ∷ es) = RightFor None j es
 RightFor q j (Finish ∷ es) = RightFor q j es
 
--- where nothing satisfies the clauses, and no model is expected
+-- answers are correct if no valuation satisfies the clauses and no model is expected
 dead_for : (es : List Expected) (q : Option (List Literal)) (j : ScriptState) → ((b : Valuation) → EachHolds b j.clauses → ⊥) → AllByRecursion MayBeUnmet es → RightFor q j es
 dead_for [] q j d x = tt
 dead_for (NewName name ∷ es) q j d x = dead_for es None (with_name name j) d x.1
@@ -42,12 +43,12 @@ dead_for (Fails ask core ∷ es) q j d x = ((λ e. subst (IsCore j ask) (sym x.0
 dead_for (Closes ∷ es) q j d x = dead_for es None j d x.1
 dead_for (Finish ∷ es) q j d x = dead_for es q j d x.1
 
--- the open ask is what was last assumed
+-- that the open ask is what was assumed last
 abbrev Asked : Option (List Literal) → List Step → Type 0
 Asked None earlier = Unit {0}
 Asked (Some ask) earlier = SameSet (variable_of earlier) ask (assumed earlier)
 
--- literals of one variable and sign are one
+-- two literals of names with the same code are the same
 spelt_once : (k : CheckerRules) (j : ScriptState) (earlier : List Step) (live : Live) → IsBridge k j earlier live → (l m : Literal) (code : ℕ) → Spells (variable_of earlier) l code → Spells (variable_of earlier) m code → l ≡ m
 spelt_once k j earlier live bridge l m code s t =
     let e = coded_same s.variable t.variable l.positive m.positive (sym s.is ∙ t.is) in
@@ -58,7 +59,7 @@ spelt_once k j earlier live bridge l m code s t =
     one x y s t e f = cc
 
 module _ (k : CheckerRules) (sound : IsSound k) where
-  -- a step that isn't ordered
+  -- an unordered step preserves the relation between steps and script state
   data After (earlier : List Step) (q : Option (List Literal)) (j : ScriptState) (step : Step) : Type 0 where
     after : (live : Live) → IsBridge k j (step ∷ earlier) live → Asked q (step ∷ earlier) → After earlier q j step
 
@@ -100,7 +101,7 @@ module _ (k : CheckerRules) (sound : IsSound k) where
       keep (Some ask) w = w
   passed earlier q j live step o b w acc = absurd (true≢false o)
 
-  -- recorded unsat leaves nothing
+  -- once unsat is recorded, no valuation satisfies the clauses
   dead : (j : ScriptState) (earlier : List Step) (live : Live) → IsBridge k j earlier live → k.unsat earlier ≡ true → (b : Valuation) → EachHolds b j.clauses → ⊥
   dead j earlier live bridge u b h = sound.none_left earlier (pulled live b) bridge.accepted u (bridge.back (pulled live b) (b, pulled_agrees live b bridge.once, h))
 

@@ -47,7 +47,7 @@ clause_and_ask_right = (
   tt,
 )
 
--- names that may be put on variables that have none
+-- the names in the row are new, and their variables have no names yet
 some_differs : (m n : ℕ) → Some m ≡ Some n → m ≡ n
 some_differs m n e = cc
 
@@ -72,7 +72,7 @@ clause_and_ask_steps = record {
       (ordered refl closes tt (ordered refl finish tt (met refl)))))));
 }
 
--- small numbers are bytes
+-- a number below 128 is encoded as one byte
 small : (n : ℕ) → n < 128 → IsNumber n (n ∷ [])
 small n h = (h, refl)
 

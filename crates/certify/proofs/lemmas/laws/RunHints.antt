@@ -46,11 +46,11 @@ certificate_of before text s ok u = record {
   accepted = subst (λ xs. AcceptsAll (End ∷ xs)) (sym (taken_back before)) ok;
 }
 
--- a writer took one text
+-- what a writer received is one text
 one_text : (old new : Writer) (s t : List ℕ) → WriterTakes old new s → WriterTakes old new t → s ≡ t
 one_text old new s t a b = append_cancel_left old.taken s t (sym a.taken ∙ b.taken)
 
--- WHAT IS ANSWERED
+-- THE RESULT
 is_hinted : (steps written : List Step) (result : Result (Unit {0}) HintError) (from to : Reader) (old new : Writer) → End ∷ taken_after written [] ≡ steps → Converts result from to old new → IsTextOrFault result written old new
     → HasHints result steps old new
 is_hinted steps written (Ok x) from to old new e c t =

@@ -1,4 +1,4 @@
--- What is printed of texts in memory.
+-- What is printed for texts in memory.
 use Rattle.std.proofs.Common.{ℕ, ◌≡◌, List, ◌++◌, Result, Ok, Err, IfOk, OnOk, inl, inr, refl, sym, ◌∙◌, ap, append_assoc, append-nil, []}
 use Rattle.std.specs.Prelude.{◌+◌, is_ok, is_some, if◌then◌else◌}
 use Rattle.sat_base.specs.device.Device.{Reader, Writer, GaveAll, WriterBreaks, WriterTakes}
@@ -10,8 +10,8 @@ use Rattle.certify.specs.declared.verdict.Verdict.TheVariants.{Yes}
 use Rattle.certify.specs.run.Unfinished.{TookBytes}
 use Rattle.certify.proofs.lemmas.run.Stopping.{bytes_broken, bytes_later, bytes_none, bytes_taken}
 
--- WHAT IS APPENDED PIECE BY PIECE
--- the last piece
+-- TEXTS THAT ARE APPENDED IN PIECES
+-- after the last piece, the text is complete
 last_piece : {E : Type 0} (r : Result (Unit {0}) E) (before after tail whole : List ℕ) → after ≡ (if is_ok r then before ++ tail else before) → before ++ tail ≡ whole → OnOk r (after ≡ whole)
 last_piece (Ok u) before after tail whole e w = e ∙ w
 last_piece (Err e) before after tail whole k w = tt
@@ -35,7 +35,7 @@ module _ (text answers : List ℕ) (is : IsAnswered text answers) where
   abbrev line : List ℕ
   line = verdict_text Yes
 
-  -- a part of the answers
+  -- only a part of the answers was printed
   pub prefix_cut : (a b : Writer) → WriterBreaks a b answers → PrintsPrefix text a b
   prefix_cut a b t = record {
     answers = answers;
@@ -46,11 +46,11 @@ module _ (text answers : List ℕ) (is : IsAnswered text answers) where
     took = bytes_broken a b answers t;
   }
 
-  -- the answers
+  -- the answers were printed
   pub prefix_reported : (a b : Writer) → WriterTakes a b answers → PrintsPrefix text a b
   prefix_reported a b t = record { answers = answers; answered = is; bytes = answers; following = line; whole = refl; took = bytes_taken a b answers t }
 
-  -- and a part of the last line
+  -- the answers and a part of the last line were printed
   pub prefix_line : (a b d : Writer) → WriterTakes a b answers → WriterBreaks b d line → PrintsPrefix text a d
   prefix_line a b d t k = record {
     answers = answers;
@@ -61,7 +61,7 @@ module _ (text answers : List ℕ) (is : IsAnswered text answers) where
     took = bytes_later a b d answers k.front t (bytes_broken b d line k);
   }
 
-  -- all of it
+  -- the answers and the last line were printed
   pub prefix_whole : (a b d f : Writer) → WriterTakes a b answers → WriterTakes b d line → TookBytes d f [] → PrintsPrefix text a f
   prefix_whole a b d f t k e = record {
     answers = answers;
@@ -76,7 +76,7 @@ module _ (text answers : List ℕ) (is : IsAnswered text answers) where
 pub prints_nothing : (input : Reader × Reader) (w : Writer) → PrintsAtMost input (w, w)
 prints_nothing input w = inl (bytes_none w)
 
--- of a text that was read
+-- a prefix was printed for a text that the reader gave
 pub prefix_given : (x y : Reader) (a b : Writer) (text : List ℕ) → GaveAll x y text → PrintsPrefix text a b → PrintsAtMost (x, y) (a, b)
 prefix_given x y a b text g p = inr (enough_all x y (λ k. PrintsPrefix k a b) text g p)
 
@@ -86,7 +86,7 @@ malformed_is n Clean = refl
 malformed_is n Malformed = refl
 
 -- CALLS OVER FILES
--- two facts of a value give a third
+-- two statements about a result imply a third
 pub ok_both : {A E : Type 0} (r : Result A E) (P Q R : A → Type 0) → ((a : A) → P a → Q a → R a) → IfOk r P → IfOk r Q → IfOk r R
 ok_both (Ok a) P Q R f p q = f a p q
 ok_both (Err e) P Q R f p q = tt

@@ -1,4 +1,4 @@
--- Derived clauses advance in what is written where they do in what was made, and nowhere else.
+-- A derived clause advances among the written steps exactly if it does among the steps that were made.
 use Rattle.std.proofs.Common.{ℕ, ◌+◌, ◌<◌, ◌≡◌, ◌∙◌, ◌⊎◌, Bool, true, false, eqb, cond, Option, Some, None, List, [], ◌∷◌, ◌++◌, map, refl, sym, ap, subst, inl, inr, arith}
 use Rattle.std.proofs.lemmas.Bool.{eq-eqb, eqb-true, or_left, true≢false}
 use Rattle.std.specs.Prelude.{◌==◌, ◌||◌, nat_eq, if◌then◌else◌}
@@ -34,20 +34,20 @@ use Rattle.sat_solver.proofs.lemmas.session.Mapped.{among_mapped}
 use Rattle.sat_solver.proofs.lemmas.session.WidthLemmas.{wide, after_wide}
 use Rattle.certify.specs.run.Advancing.{PropagatesTo, leads_none, leads_one, start_literals, IsOpenStill, LeavesOpen, AdvancesStored, DerivesAdvancing}
 
--- A SESSION IS WHAT STEPS MAKE OF THE STATE
+-- THE SESSION AFTER STEPS
 session_is : (steps : List Step) → (last : Option (List ℕ)) × (session_after steps ≡ session_with last (contents_of steps).state)
 session_is [] = (None, refl)
 session_is (step ∷ earlier) = let h = session_is earlier in (last_after step h.0, ap (after step) h.1)
 
 -- WIDTHS CHANGE NOTHING ELSE
 
--- after a width that is told
+-- writing a new width, if it differs, changes only the width
 pub reported_wide : (same : Bool) (now : ℕ) (written : List Step) (c : ProofState) (x : ℕ) → (contents_of written).state ≡ wide x c
     → (y : ℕ) × ((contents_of ((if same then [] else ChangeHashBits now ∷ []) ++ written)).state ≡ wide y c)
 reported_wide true now written c x e = (x, e)
 reported_wide false now written c x e = (now, ap (wide now) e)
 
--- what was written has the state of what was made, but for the width
+-- the written steps lead to the same state as those that were made, except for the width
 pub cuts_state : {c d : Counting} {m w : List Step} → TruncatesHashes c m w d → (x : ℕ) × ((contents_of w).state ≡ wide x (contents_of m).state)
 cuts_state none_made = (64, refl)
 cuts_state (ask_begun p) = cuts_state p
@@ -71,7 +71,7 @@ is_same steps made x e =
       live = λ r set. ap (λ (d : ProofState). d.counts r set) c ∙ sym (ap (λ (t : Session). t.live r set) s.1);
     }
 
--- a stored clause
+-- that the clause is stored, and P holds of it as stored
 pub record Kept (P : StoredClause → Type 0) (cs : List StoredClause) (clause : List ℕ) : Type 0 where
   pub stored : StoredClause
   pub is : clause ≡ stored.literals
@@ -90,7 +90,7 @@ proper_of : (cs : List StoredClause) → AllByRecursion IsProper (map (λ c. c.l
 proper_of [] h = tt
 proper_of (c ∷ cs) h = (h.0, proper_of cs h.1)
 
--- is live
+-- a stored clause is live in the session
 is_live : (steps : List Step) (s : Session) → IsSame (ready_after steps) s → (clause : List ℕ) → Among clause (long_clauses (ready_after steps)) → IsLive s clause
 is_live steps s same clause a =
     let f = ready_after steps in
@@ -107,7 +107,7 @@ is_live steps s same clause a =
     let some : 0 < s.live false (canonical d.literals) + s.live true (canonical d.literals) = let h = k.holds.1 in omega (arith, irredundant, redundant, h) in
     subst (IsLive s) (sym k.is) (record { once = once d.literals k.holds.0.0.sorted; counted = some })
 
--- stored clauses that lead on are live ones that do
+-- unit propagation over stored clauses is unit propagation over live clauses
 each_so : (P Q : ℕ → Type 0) → ((l : ℕ) → P l → Q l) → (ls : List ℕ) → AllByRecursion P ls → AllByRecursion Q ls
 each_so P Q f [] h = tt
 each_so P Q f (l ∷ ls) h = (f l h.0, each_so P Q f ls h.1)
@@ -130,7 +130,7 @@ either_way : (b : Bool) → (b ≡ true) ⊎ (b ≡ false)
 either_way true = inl refl
 either_way false = inr refl
 
--- the literal that advances isn't among the others
+-- a clause that advances with its first literal does not repeat that literal
 not_repeated : (s : Session) (l : ℕ) (ls : List ℕ) → made.Advances s (l ∷ ls) → is_among ls l ≡ false
 not_repeated s l ls a = elim (either_way (is_among ls l)) [
   | inl t ↦
@@ -172,9 +172,9 @@ pub advancing_as : (steps : List Step) (s : Session) → IsSame (ready_after ste
 advancing_as steps s same w (AtClause r clause hashes) a = advances_as steps s same clause a
 advancing_as steps s same w step a = absurd a
 
--- AND NOTHING ELSE DOES
+-- NO OTHER CLAUSE ADVANCES
 
--- what is live is stored
+-- a clause that is counted is stored
 stored_by : (set : List ℕ) (cs : List StoredClause) → 0 < irredundant_count (clause_with set cs) + redundant_count (clause_with set cs) → Among set (map (λ c. c.literals) cs)
 stored_by set [] n = absurd (omega arith)
 stored_by set (c ∷ cs) n = go (same_literals c.literals set) refl n (stored_by set cs)
@@ -196,7 +196,7 @@ none_by : (b x : Bool) → (b ≡ true → x ≡ true) → x ≡ false → b ≡
 none_by true x f e = absurd (true≢false (sym (f refl) ∙ e))
 none_by false x f e = refl
 
--- what holds already is no more
+-- adding a literal that holds already changes nothing
 known_more : (holds : ℕ → Bool) (o : ℕ) → holds o ≡ true → (m : ℕ) → holds m ≡ ((o == m) || holds m)
 known_more holds o t m = go (eqb o m) refl
   where
@@ -219,7 +219,7 @@ module _ (steps : List Step) (s : Session) (same : IsSame (ready_after steps) s)
   falsified_by : (start : List ℕ) (holds : ℕ → Bool) → ((m : ℕ) → is_among start m ≡ holds m) → (c : List ℕ) → AllByRecursion (λ m. holds (negated m) ≡ true) c → IsFalsified start (canonical c)
   falsified_by start holds h c k = canonical_each (λ m. is_among start (negated m) ≡ true) c (each_so (λ m. holds (negated m) ≡ true) (λ m. is_among start (negated m) ≡ true) (λ m e. h (negated m) ∙ e) c k)
 
-  -- live clauses that lead on are stored ones that do, but for what holds already
+  -- unit propagation over live clauses is one over stored clauses, without the literals that hold already
   stays : (start : List ℕ) (holds : ℕ → Bool) → ((m : ℕ) → is_among start m ≡ holds m) → StaysOpen start → (picked : List (List ℕ)) (reached : ℕ → Bool) → made.LeadsOn s holds picked reached → made.StaysNew s l reached
   stays start holds h still [] reached within =
       let o = still start leads_none in
@@ -247,7 +247,7 @@ module _ (steps : List Step) (s : Session) (same : IsSame (ready_after steps) s)
     ]
   ]
 
--- so what never advances in the session doesn't where the checker stands
+-- a step that never advances in the session does not derive a clause that advances in the checker
 pub never_as : (steps : List Step) (s : Session) → IsSame (ready_after steps) s → (w : ℕ) (step : Step) → NeverAdvances s step → DerivesAdvancing (ready_after steps) (narrowed w step) → ⊥
 never_as steps s same w (AtClause r clause hashes) never (l, among, leaves) =
     let others = others_of l clause in

@@ -1,4 +1,4 @@
--- An ask is served by what its solver did.
+-- How the calls of the solver serve an ask.
 use Rattle.std.proofs.Common.{ℕ, ◌+◌, ◌*◌, ◌^◌, ◌-◌, ◌<◌, ◌≡◌, ◌∙◌, Bool, true, false, None, List, [], ◌∷◌, ◌++◌, map, refl, sym, ap, subst, arith, inl, inr, ◌⊎◌}
 use Rattle.std.proofs.lemmas.Bool.{both_ways}
 use Rattle.sat_base.specs.device.Device.{Writer}
@@ -40,7 +40,7 @@ use Rattle.certify.proofs.lemmas.run.Cores.{right_in_order, spelt_in_order}
 use Rattle.certify.proofs.lemmas.run.Recorded.{going_on, known_unsat, unsat_known}
 use Rattle.certify.specs.run.Quiet.{Solver}
 
--- a core's step is that of its literals in order
+-- a step that fits a core also fits its sorted literals
 fails_sorted : (s : List Step) (ask : List Literal) (core : List ℕ) (step : Step) → Fits (checker_rules.knows s) s (Fails ask (named_literals core)) step → Fits (checker_rules.knows s) s (Fails ask (named_literals (canonical core))) step
 fails_sorted s ask core step (fails {c = c} h) = fails (spelt_in_order (variable_of s) core c h)
 
@@ -52,7 +52,7 @@ sorted_core es ask core {t = t} (visible {s = s} {step = step} {e = x} {es = ys}
     let tl : ys ≡ es = cc in
     visible (fails_sorted s ask core step (subst (λ y. Fits (checker_rules.knows s) s y step) hd f)) (subst (HasTrace checker_rules (step ∷ s) t) tl m)
 
--- what an ask was answered, by what is known after it
+-- the outcome of an ask, given the solver after it
 module _ {C : Type 0} (now : Solver C) (ask : List Literal) (asked : named_literals now.assumed.items ≡ ask) (j : ScriptState) (live : Live) (agree : solver.NamesAgree now.names (steps_in now) j live) where
   line_listed : IsReportedRight kind.Sat now → names_of (named_literals (line_in now)) ≡ map (λ n. n.name) j.in_use
   line_listed right = (right j live agree).names
@@ -68,7 +68,7 @@ kind_reported kind.Sat now = refl
 kind_reported kind.Unsat now = refl
 kind_reported kind.Unknown now = refl
 
--- which states answers come from
+-- the state of the solver for each answer
 sat_state : (st : State) → AnswerIs st kind.Sat → st ≡ states.Sat
 sat_state states.Sat h = refl
 sat_state e h = absurd (cc)
@@ -95,13 +95,13 @@ unknown_apart st e f = cc
 unsat_apart : (st : State) → st ≡ states.Unsat → st ≡ states.Unknown → ⊥
 unsat_apart st e f = cc
 
--- once the clauses alone are known to be unsatisfiable, the core is empty
+-- if the solver's state is `Unsat`, the core is empty
 unsat_outcome : {C : Type 0} (now : Solver C) (a : Answer) → now.state ≡ states.Unsat → AnswerIs now.state a → outcome_for a now ≡ Unsat []
 unsat_outcome now kind.Sat e h = absurd (sat_apart now.state (sat_state now.state h) e)
 unsat_outcome now kind.Unsat e h = ap (λ st. Unsat (named_literals (canonical (core_for st now)))) e
 unsat_outcome now kind.Unknown e h = absurd (unknown_apart now.state (unknown_state now.state h) e)
 
--- what shows an answer
+-- the step that shows an answer
 module _ {C : Type 0} (now : Solver C) (whole : SolverInvariant now) (ask : List Literal) (asked : named_literals now.assumed.items ≡ ask) (j : ScriptState) (before : State) (s : List Step) where
   abbrev ReportsBetween : State → State → Type 0
   ReportsBetween b st = HasTrace checker_rules s (steps_in now) (due_between_states b st (line_in now) now.assumed.items now.reported.failed_core.items)
@@ -109,7 +109,7 @@ module _ {C : Type 0} (now : Solver C) (whole : SolverInvariant now) (ask : List
   abbrev Shown : Bool → Outcome → Type 0
   Shown unsat o = HasTrace checker_rules s (steps_in now) (showing_if unsat j ask o)
 
-  -- after a search that goes on
+  -- a search that did not end in state `Unsat` shows its outcome
   shown_going : (o : Outcome) → (now.state ≡ states.Unsat → ⊥) → HasTrace checker_rules s (steps_in now) (showing j ask o) → Shown (checker_rules.unsat (steps_in now)) o
   shown_going o n m = subst (λ b. Shown b o) (sym (going_on now whole n)) m
 
@@ -145,7 +145,7 @@ module _ {C : Type 0} (now : Solver C) (whole : SolverInvariant now) (ask : List
   answer_shown kind.Unsat h b names w = elim (unsat_state now.state h) [ inl e ↦ core_shown e (b (core_apart now.state e)) w | inr e ↦ unsat_shown e w (outcome_for kind.Unsat now) ]
   answer_shown kind.Unknown h b names w = let e = unknown_state now.state h in unknown_shown e (b (unknown_apart now.state e)) w
 
--- what assumptions leave
+-- setting assumptions leaves the solver's state `Unknown` or `Unsat`
 forgets_either : (a b : State) → ForgetsAnswer a b → (b ≡ states.Unknown) ⊎ (b ≡ states.Unsat)
 forgets_either a states.Unknown h = inl refl
 forgets_either a states.Unsat h = inr refl
@@ -158,7 +158,7 @@ forgets_either states.Unknown states.UnsatUnderAssumptions h = absurd h
 forgets_either states.Sat states.UnsatUnderAssumptions h = absurd h
 forgets_either states.UnsatUnderAssumptions states.UnsatUnderAssumptions h = absurd h
 
--- how many rounds learn
+-- the number of rounds that derive a clause
 none_learned : (st : State) → learned_of st 0 ≡ 0
 none_learned states.Unknown = refl
 none_learned e = refl
@@ -178,7 +178,7 @@ answer_learns now states.UnsatUnderAssumptions kind.Unknown n h f = absurd (cc)
 answer_learns now states.Unsat kind.Unknown n h f = absurd (cc)
 answer_learns now x kind.Sat n h f = absurd (cc)
 
--- an ask: its literals were assumed, and the solver searched; nothing is assumed from there on
+-- an ask: its literals are assumed, and the solver searches
 module _ {C : Type 0} (seen : C → Writer) (old mid now : Solver C) (user : List ℕ) (budget : ℕ) (report : AskReport) (opened : ReplacesAssumptions seen old mid user) (searched : Searched seen budget report mid now) (right : IsReportedRight report.answer now) where
   o : Outcome
   o = outcome_for report.answer now
@@ -203,11 +203,11 @@ module _ {C : Type 0} (seen : C → Writer) (old mid now : Solver C) (user : Lis
       let r = searched.rounds in let l = searched.limited.rounds in
       record { outcome = unsat_outcome now report.answer (unsat_stays at) searched.solved.answer_is; rounds = omega arith }
 
-  -- as the search counts rounds
+  -- the number of rounds, as the search counts them
   count : now.clock.rounds - searched.mid.clock.rounds ≡ report.steps
   count = let r = searched.rounds in let l = searched.limited.rounds in omega arith
 
-  -- an answer that wasn't known took a round
+  -- an answer that was not known before took a round
   takes_rounds : checker_rules.unsat (steps_in mid) ≡ false → (now.state ≡ states.Unknown → ⊥) → 0 < report.steps
   takes_rounds g known_now =
       let before : searched.mid.state ≡ states.Unknown = elim (forgets_either old.state mid.state opened.state) [
@@ -218,7 +218,7 @@ module _ {C : Type 0} (seen : C → Writer) (old mid now : Solver C) (user : Lis
       let r = searched.rounds in let l = searched.limited.rounds in
       omega arith
 
-  -- each round derived a clause that advances, but for the one that answered
+  -- each round derived a clause that advances, except the round that answered
   learns : LearnsBetween (checker_rules.unsat (steps_in mid)) (outcome_for report.answer now) report.steps (steps_in mid) (steps_in now)
   learns = record {
     learned = learned_of now.state report.steps;
@@ -261,7 +261,7 @@ module _ {C : Type 0} (seen : C → Writer) (old mid now : Solver C) (user : Lis
     pub ask_right : IsRight (accepted (Ask (named_literals user)) j) (named_literals user) (outcome_for report.answer now)
     ask_right = reported_right now (named_literals user) assumed_is (accepted (Ask (named_literals user)) j) second.live second.agree report.answer right
 
-    -- n is the judge's next identity
+    -- the bound on rounds, by the number of identities
     pub ask_bounded : IsBounded (accepted (Ask (named_literals user)) j).identity_count budget old.clock.rounds report
     ask_bounded =
         let most : ℕ = 2 ^ (2 * (accepted (Ask (named_literals user)) j).identity_count + 3) in

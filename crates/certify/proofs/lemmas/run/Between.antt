@@ -1,4 +1,4 @@
--- What is made between two places is written between two places, where as many derived clauses advance.
+-- The steps made between two places are written between two places, with as many clauses that advance.
 use Rattle.std.proofs.Common.{ℕ, ◌≡◌, ◌∙◌, Bool, true, false, Option, Some, None, List, [], ◌∷◌, ◌++◌, refl, sym, ap, subst, inl, inr, append_assoc, append-nil}
 use Rattle.std.specs.Prelude.{nat_eq, if◌then◌else◌}
 use Rattle.std.specs.List.{AllByRecursion}
@@ -18,9 +18,9 @@ use Rattle.sat_solver.specs.proof.Widths.{narrowed}
 use Rattle.certify.specs.run.Advancing.{DerivesAdvancing, AdvanceTimesStored, AreUnordered}
 use Rattle.certify.proofs.lemmas.run.Advanced.{IsSame, advancing_as, cuts_state, is_same, never_as, reported_wide}
 
--- STEPS BY WHICH NOTHING IS LEARNED, AND NOTHING RECORDED
+-- STEPS THAT DERIVE AND RECORD NOTHING
 
--- indices of variables, and widths
+-- that the step sets the index of a variable, or the width
 pub data IsAside : Step → Type 0 where
   index_aside : {v : ℕ} {index : Option ℕ} → IsAside (SolverVarName v index)
   width_aside : {bits : ℕ} → IsAside (ChangeHashBits bits)
@@ -47,7 +47,7 @@ reported_aside before now = go (nat_eq before now)
     go true = tt
     go false = (width_aside, tt)
 
--- in what is made
+-- such a step never advances among the steps that were made
 aside_still : {step : Step} (s : Session) → IsAside step → made.NeverAdvancesByForm s step
 aside_still s index_aside = record { quiet = refl; never = tt }
 aside_still s width_aside = record { quiet = refl; never = tt }
@@ -65,7 +65,7 @@ after_asides earlier mid (x ∷ xs) k h (inl (t, still)) =
 after_asides earlier mid (x ∷ xs) k h (inr (j, e, a, t)) =
     inr (j, e, subst (λ (v : List Step). made.IsAdvancing (session_after v) x) (sym (append_assoc xs mid earlier)) a, after_asides earlier mid xs j h t)
 
--- in what is written
+-- it never advances among the written steps
 aside_never : {step : Step} (f : Stored) → IsAside step → DerivesAdvancing f step → ⊥
 aside_never f index_aside a = a
 aside_never f width_aside a = a
@@ -142,7 +142,7 @@ pub record Timed (c : Counting) (opened written steps : List Step) (k : ℕ) : T
   pub times : AdvanceTimesStored before middle k
   pub unordered : AreUnordered steps → AreUnordered middle
 
--- the last step that was made, and what stands before it
+-- how the last step was written, after any change of the width, and what was written before it
 pub record Head (c : Counting) (step : Step) (made written : List Step) : Type 0 where
   pub bits : ℕ
   pub widths : List Step
@@ -167,7 +167,7 @@ head_cut {c} (one_made {d = d} {made = m} {written = w} s k p) step made e =
       cuts = subst (λ (ms : List Step). TruncatesHashes c ms w d) (same_later s step m made e) p;
     }
 
--- what is written at a step
+-- that before the step is written, the checker agrees with the session
 record Here (d : Counting) (step : Step) (m w : List Step) : Type 0 where
   same : IsSame (ready_after (width_change d.bits (counted step d).bits ++ w)) (session_after m)
 

@@ -1,4 +1,4 @@
--- What the calls of a run's solver fail of.
+-- Why the calls of a run's solver fail.
 use Rattle.std.proofs.Common.{◌≡◌, ◌∙◌, inl, inr, true, false, is_some, Option, None, Some, List, [], ◌∷◌, Err, refl, sym, ap, subst}
 use Rattle.std.specs.Prelude.{ℕ}
 use Rattle.sat_base.specs.device.Device.{Writer}
@@ -34,7 +34,7 @@ apart e = cc
 none_some : (r : Refusal) → None ≡ Some r → ⊥
 none_some r e = cc
 
--- the same for what comes of its causes
+-- the reasons for a fault may be weakened
 pub caused_map : (e : RunFault) (full lacks P Q : Type 0) → (full → P) → (lacks → Q) → IsCaused e full lacks → IsCaused e P Q
 caused_map fault.StoreFull full lacks P Q f g h = f h
 caused_map fault.CounterEnd full lacks P Q f g h = g h
@@ -46,7 +46,7 @@ module _ {C : Type 0} (seen : C → Writer) (a b : Solver C) where
   ends errors.CounterEnd h = (h.breaks.steps, h.breaks.went.adds)
   ends e h = (h.breaks.steps, h.breaks.went)
 
-  -- nobody complains of a checker that isn't there
+  -- a checker that does not exist reports no fault
   pub complains_never : (k : CheckFault) → is_checked (proof_in a) ≡ false → (steps : List Step) → FailsCheck seen k steps (proof_in a) (proof_in b) → ⊥
   complains_never k alone steps h = go (proof_in b).made.own (ap is_some h.adds.listening ∙ alone) h.why
     where
@@ -116,7 +116,7 @@ module _ {C : Type 0} (seen : C → Writer) (a b : Solver C) where
     assume_caused errors.VariableLimit h = (h.cause.2, h.same)
     assume_caused e h = ends_caused ⊥ (RefusedForRoom a b (user_vars_in user)) e ready h.2
 
-  -- no name is assumed where nothing is
+  -- no name is assumed if no literal is
   none_asked : (user : ℕ) → a.assumed.items ≡ [] → IsAsked a user → ⊥
   none_asked user free h = subst (Among h.0) free h.1
 

@@ -1,4 +1,4 @@
--- The last command that came was carried out.
+-- The latest command was carried out.
 use Rattle.std.proofs.Common.{ℕ, ◌+◌, ◌≡◌, ◌∙◌, [], ◌∷◌, refl, sym, ap, subst}
 use Rattle.std.proofs.lemmas.List.{append-nil}
 use Rattle.sat_base.specs.device.Device.{Writer}
@@ -14,7 +14,7 @@ use Rattle.certify.specs.run.Stretches.{IsNoAsk}
 use Rattle.certify.proofs.lemmas.run.ServedOnce.{serves_plain}
 use Rattle.certify.specs.run.Quiet.{Solver}
 
--- where a run stands after the last command that came
+-- the place of a run after the latest command
 pub place_following : {C : Type 0} (old new : RunState C) (c : Command) (j : ScriptState) (rounds : ℕ) → new.commands ≡ old.commands → rounds ≡ new.solver.clock.rounds
     → place_after (last_place old j) c (steps_in new.solver) rounds ≡ place_in new (accepted c j)
 place_following old new c j rounds e f = ap (λ (k : ℕ). at (k + 1) rounds) (sym e) ∙ ap (at (new.commands + 1)) f
@@ -22,7 +22,7 @@ place_following old new c j rounds e f = ap (λ (k : ℕ). at (k + 1) rounds) (s
     at : ℕ → ℕ → RunPlace
     at k n = record { judge = accepted c j; number = k; steps = steps_in new.solver; rounds = n }
 
--- by the solver alone
+-- a command that only the solver carries out
 pub obeyed_carried : {C : Type 0} (seen : C → Writer) (old : RunState C) (s : Solver C) (c : Command) (w : Writer) → IsNoAsk c → old.solver.assumed.items ≡ [] → Obeyed seen c old.solver s
     → CarriedOut seen old (record old { solver = s }) c w w
 obeyed_carried seen old s c w quiet free o = record {

@@ -1,4 +1,4 @@
--- Why a part of a run failed, but for devices and memory.
+-- Why a part of a run failed, except for device and allocation failures.
 use Rattle.std.proofs.Common.{ℕ, ◌+◌, ◌<◌, ◌≡◌, ◌∙◌, inl, inr, false, None, List, [], ◌∷◌, ◌++◌, drop, get_or, length, length-append, take, Result, Ok, Err, IfErr, refl, sym, ap, subst, append_assoc, arith}
 use Rattle.std.proofs.lemmas.List.{map-append, take-append-drop}
 use Rattle.sat_base.specs.device.Device.{Writer}
@@ -31,11 +31,11 @@ use Rattle.certify.proofs.lemmas.run.Needing.{clause_needs, names_need_more, scr
 use Rattle.certify.proofs.lemmas.run.Next.{after_accepted}
 use Rattle.certify.proofs.lemmas.run.Obeys.{name_more}
 
--- no store is to blame where memory was lacking, and no counter
+-- an allocation failure needs no further reason
 pub memory_caused : (e : RunFault) (full lacks : Type 0) → e ≡ fault.OutOfMemory → IsCaused e full lacks
 memory_caused e full lacks m = subst (λ x. IsCaused x full lacks) (sym m) tt
 
--- nor where answers couldn't be written
+-- a failed write of the answers needs no further reason
 pub unwritten_caused : (e : RunFault) (full lacks : Type 0) → e ≡ fault.AnswersWrite → IsCaused e full lacks
 unwritten_caused e full lacks m = subst (λ x. IsCaused x full lacks) (sym m) tt
 
@@ -47,7 +47,7 @@ caused_if : {T : Type 0} (r : Result T RunFault) (full lacks P Q : Type 0) → (
 caused_if (Ok x) full lacks P Q f g h = tt
 caused_if (Err e) full lacks P Q f g h = caused_map e full lacks P Q f g h
 
--- whatever is left
+-- reasons for each value are a reason for all values
 pub caused_all : (e : RunFault) (full : Type 0) (A : Type 0) (P : A → Type 0) → A → ((x : A) → IsCaused e full (P x)) → IsCaused e full ((x : A) → P x)
 caused_all fault.StoreFull full A P a h = h a
 caused_all fault.CounterEnd full A P a h = h
@@ -55,7 +55,7 @@ caused_all e full A P a h = tt
 
 -- NAMES
 
--- the names of literals up to one, its own and those after it
+-- the names of literals are those before one literal, its own, and those after it
 names_split : (codes : List ℕ) (k code user : ℕ) → k < length codes → code ≡ get_or codes k code → user ≡ variable code → names_in (take k codes) ++ ((user + 1) ∷ [] ++ names_in (drop (k + 1) codes)) ≡ names_in codes
 names_split codes k code user lt is at =
     sym (append_assoc (names_in (take k codes)) ((user + 1) ∷ []) (names_in (drop (k + 1) codes))) ∙ ap (λ ns. ns ++ names_in (drop (k + 1) codes)) (name_more codes k code user lt is at)
@@ -83,7 +83,7 @@ ask_caused_by lent old new r e h = subst (λ c. CausedBy r old new c) (sym (spel
 
 -- WHAT IS LEFT OF A SCRIPT
 
--- what comes after takes no identity back
+-- a script exceeds a limit if its first command lacks variables
 pub needs_exceed : {C : Type 0} (old : RunState C) (new : Solver C) (c : Command) (left : Reading) (j : ScriptState) → HasStateBetweenCommands old j → refusal_of j c ≡ None → LacksFor old.solver new c
     → Exceeds old.commands j (onto_commands (c ∷ []) left) (steps_in new)
 needs_exceed old new c left j at free needs =
@@ -101,7 +101,7 @@ module _ {C : Type 0} (old mid new : RunState C) (lent : Lent) (r : Result (Unit
       caused_if r (HasFullStore new.solver) (LacksFor mid.solver new.solver (spelled_by lent)) (HasFullStore new.solver) ((j : ScriptState) → HasStateBetweenCommands old j → Exceeds old.commands j (onto_commands (c ∷ []) left) (steps_in new.solver)) (λ x. x)
       (λ needs j at. needs_exceed old new.solver c left j at (sym (judges j c at.names l)) (subst (λ s. LacksFor s new.solver c) same (subst (LacksFor mid.solver new.solver) (sym (lent_is lent c l within)) needs))) h
 
--- nothing is to blame
+-- a fault that is caused by neither a full store nor a counter
 pub blameless : {T C : Type 0} (r : Result T RunFault) (old new : RunState C) (script : Reading) → IfErr r (λ e. IsCaused e ⊥ ⊥) → CausedOver r old new script
 blameless r old new script h = caused_if r ⊥ ⊥ (HasFullStore new.solver) ((j : ScriptState) → HasStateBetweenCommands old j → Exceeds old.commands j script (steps_in new.solver)) (λ x. absurd x) (λ x. absurd x) h
 
@@ -109,7 +109,7 @@ pub after_both : (xs ys : List Command) (i : ScriptState) → after_script (xs +
 after_both [] ys i = refl
 after_both (x ∷ xs) ys i = after_both xs ys (after_command x i)
 
--- commands that were served before
+-- a limit that is exceeded after some commands is exceeded by the complete script
 pub exceeds_later : (n m : ℕ) (cs : List Command) (script : Reading) (j : ScriptState) (steps : List Step) → m ≡ n + length cs → Exceeds m (after_script cs j) script steps → Exceeds n j (onto_commands cs script) steps
 exceeds_later n m cs script j steps e (inl few) = inl (let l = length-append cs script.0 in omega arith)
 exceeds_later n m cs script j steps e (inr (needs, one)) = inr (
@@ -124,13 +124,13 @@ exceeds_later n m cs script j steps e (inr (needs, one)) = inr (
   },
 )
 
--- one command, and what is left
+-- a fault after one command was served
 pub caused_after : {T C : Type 0} (seen : C → Writer) (r : Result T RunFault) (c : Command) (script : Reading) (a b new : RunState C) (u v : Writer) → ServedNext seen a b c u v → CausedOver r b new script → CausedOver r a new (onto_commands (c ∷ []) script)
 caused_after seen r c script a b new u v f h =
     caused_if r (HasFullStore new.solver) ((j : ScriptState) → HasStateBetweenCommands b j → Exceeds b.commands j script (steps_in new.solver)) (HasFullStore new.solver) ((j : ScriptState) → HasStateBetweenCommands a j → Exceeds a.commands j (onto_commands (c ∷ []) script) (steps_in new.solver)) (λ x. x)
     (λ k j at. exceeds_later a.commands b.commands (c ∷ []) script j (steps_in new.solver) f.commands (k (after_command c j) (f.serves j at).0)) h
 
--- the ask that a header brings
+-- a fault at the ask that a header adds
 pub asked_caused : {T C : Type 0} (a new : RunState C) (r : Result T RunFault) → CausedBy r a new (Ask []) → CausedOver r a new (Ask [] ∷ [], Clean)
 asked_caused a new r h =
     caused_if r (HasFullStore new.solver) (LacksFor a.solver new.solver (Ask [])) (HasFullStore new.solver) ((j : ScriptState) → HasStateBetweenCommands a j → Exceeds a.commands j (Ask [] ∷ [], Clean) (steps_in new.solver)) (λ x. x)

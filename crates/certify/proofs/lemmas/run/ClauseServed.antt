@@ -1,4 +1,4 @@
--- A clause is served by what its solver did.
+-- How the calls of the solver serve a clause.
 use Rattle.std.proofs.Common.{ℕ, ◌≡◌, ◌∙◌, Bool, true, false, List, [], ◌∷◌, ◌++◌, refl, sym, ap, subst, append-nil}
 use Rattle.sat_base.specs.device.Device.{Writer}
 use Rattle.sat_base.specs.script.Script.{Clause, names_of}
@@ -52,7 +52,7 @@ module _ {C : Type 0} (seen : C → Writer) (old new : Solver C) (user : List �
       apart x = cc
   due_by states.Unsat e w = subst Due (sym (known_unsat old whole e)) (made_by true [] refl (subst (HasTrace checker_rules (steps_in old) (steps_in new)) (sym (append-nil (bringing (names_in user) j))) w))
 
-  -- the names come in, and the clause is written, or left out once the clauses are known to be unsatisfiable
+  -- the names are introduced, and the clause is written, or left out once unsat is recorded
   pub clause_stretch : Stretch (MayFor (Clause (named_literals user))) (steps_in old) (steps_in new) (due_for (checker_rules.unsat (steps_in old)) (Clause (named_literals user)) j)
   clause_stretch = record {
     due = due_by old.state refl kept.trace;

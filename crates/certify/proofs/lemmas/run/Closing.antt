@@ -1,4 +1,4 @@
--- An ask is closed by steps that record nothing.
+-- The steps that close an ask do not record unsat.
 use Rattle.std.proofs.Common.{◌≡◌, ◌∙◌, false, List, [], ◌∷◌, ◌++◌, refl, sym, subst, append_assoc}
 use Rattle.std.proofs.lemmas.List.{append_cancel_right}
 use Rattle.std.specs.List.{AllByRecursion}
@@ -33,7 +33,7 @@ first_comes s t x ys zs b c d =
     let h = each_first s x zs (subst (EachIsAllowed (MayTake []) s) e c) in
     record { may = h.0; steps = zs; following = d; each = h.1 }
 
--- a step that comes of itself records nothing
+-- an unordered step that may close an ask does not record unsat
 keeps_going : (s : List Step) (step : Step) → is_ordered step ≡ false → MayTake [] s step → checker_rules.unsat s ≡ false → checker_rules.unsat (step ∷ s) ≡ false
 keeps_going s (ChangeHashBits bits) q m g = settled_unsat (effect (ChangeHashBits bits) (ready_after s)) ∙ g
 keeps_going s (SolverVarName v n) q m g = absurd (m.2.1)

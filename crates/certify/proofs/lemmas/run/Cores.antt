@@ -1,4 +1,4 @@
--- A core whose literals are put in order.
+-- A core whose literals are sorted.
 use Rattle.std.proofs.Common.{ℕ, ◌+◌, ◌*◌, ◌/◌, ◌%◌, ◌≡◌, ◌∙◌, ◌<◌, Bool, true, false, cond, eqb, Option, List, [], ◌∷◌, map, refl, sym, ap, subst, arith, inl, inr}
 use Rattle.std.proofs.lemmas.Bool.Decides.{nat_tests}
 use Rattle.std.specs.List.{AllByRecursion}
@@ -13,7 +13,7 @@ use Rattle.sat_base.proofs.lemmas.script.LiteralValues.{all_at, all_from, all_ma
 use Rattle.certify.specs.answers.AnswerForms.{named_literal, named_literals}
 use Rattle.certify.proofs.lemmas.confirm.LiteralSets.{among_is, is_from_among}
 
--- the same literals, in whatever order and however often
+-- a sorted list contains the same literals, without repeats
 pub in_canonical : (xs : List ℕ) (x : ℕ) → Among x xs → Among x (canonical xs)
 in_canonical xs x m = among_is (canonical xs) x (canonical_among xs x ∙ is_from_among xs x m)
 
@@ -34,7 +34,7 @@ named_canonical xs l m = let r = named_from xs l m in subst (λ k. Among k (name
 pub canonical_named : (xs : List ℕ) (l : Literal) → Among l (named_literals (canonical xs)) → Among l (named_literals xs)
 canonical_named xs l m = let r = named_from (canonical xs) l m in subst (λ k. Among k (named_literals xs)) (sym r.2) (named_in xs r.0 (from_canonical xs r.0 r.1))
 
--- codes rise as their literals do
+-- literals are in order exactly if their codes are
 place_of : (x : ℕ) → place (named_literal x) ≡ x + 2
 place_of x = go (eqb (x % 2) 0) refl
   where
@@ -47,7 +47,7 @@ in_order [] h = tt
 in_order (x ∷ []) h = tt
 in_order (x ∷ y ∷ ys) h = ((let a = place_of x in let b = place_of y in let lt = h.0 in omega arith), in_order (y ∷ ys) h.1)
 
--- a right core, put in order
+-- a core in any order is correct once its literals are sorted
 pub right_in_order : (j : ScriptState) (ask : List Literal) (core : List ℕ) → AllByRecursion (λ l. Among l ask) (named_literals core)
     → ((a : Valuation) → EachTrue a (map (over j) (named_literals core)) → EachHolds a j.clauses → ⊥) → IsRightCore j ask (named_literals (canonical core))
 right_in_order j ask core among none = record {

@@ -1,4 +1,4 @@
--- A certificate that isn't ended.
+-- A certificate that could not be ended.
 use Rattle.std.proofs.Common.{◌∙◌, ◌⊎◌, inl, inr, Some, [], ◌∷◌, Err, refl, sym}
 use Rattle.std.proofs.lemmas.Bool.{true≢false}
 use Rattle.sat_base.specs.device.Device.{Writer}
@@ -18,7 +18,7 @@ use Rattle.certify.proofs.lemmas.run.CallFaults.{complains_never}
 use Rattle.certify.proofs.lemmas.run.Stopping.{bytes_none}
 use Rattle.certify.specs.run.Quiet.{Solver}
 
--- closing it failed, and its writer was given back
+-- closing the proof failed, and its writer was returned
 pub closing_fails : {C : Type 0} (seen : C → Writer) (e : SolverError) (old new : Solver C) (given : C) → IsReadySolver old → ClosesProof seen (Err e) old new → GivesWriter (target_of seen (proof_in new)) (Some (seen given))
     → FaultSays (fault_for e) ⊥ (GivenBack seen BreaksEmitting old given) (GivenBack seen ComesBySteps old given)
 closing_fails seen errors.HasFailed old new given ready h g = absurd (true≢false (sym h.cause ∙ ready.going))
@@ -41,7 +41,7 @@ closing_fails seen errors.Read old new given ready h g = absurd h
 closing_fails seen errors.Malformed old new given ready h g = absurd h
 closing_fails seen errors.OutOfRange old new given ready h g = absurd h
 
--- for which no store is to blame and no counter, since nobody checks the steps
+-- closing never fails because of a full store or a counter
 pub closing_caused : {C : Type 0} (seen : C → Writer) (e : SolverError) (old new : Solver C) → IsReadySolver old → ClosesProof seen (Err e) old new → IsCaused (fault_for e) ⊥ ⊥
 closing_caused seen errors.HasFailed old new ready h = absurd (true≢false (sym h.cause ∙ ready.going))
 closing_caused seen (errors.ProofIoError cause) old new ready h = tt
@@ -50,7 +50,7 @@ closing_caused seen (errors.ProofProcessorError cause) old new ready h = absurd 
 closing_caused seen errors.CounterEnd old new ready h = absurd (complains_never seen old new checks.CounterEnd ready.unchecked (End ∷ []) h.fails)
 closing_caused seen e old new ready h = absurd h
 
--- and the answers' writer was left alone
+-- the answers' writer received nothing more
 pub closing_keeps : {C : Type 0} (seen : C → Writer) (e : RunFault) (s : Solver C) (given : C) (w : Writer) → EndsCertificate seen (Err e) s given → FinishesRun seen (Err e) s given w w
 closing_keeps seen fault.ScriptRead s given w f = absurd f.0
 closing_keeps seen fault.AnswersWrite s given w f = absurd f.0

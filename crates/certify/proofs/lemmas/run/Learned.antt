@@ -1,4 +1,4 @@
--- What a run made for its asks stands in its certificate.
+-- What the asks of a run derived is in the certificate.
 use Rattle.std.proofs.Common.{ℕ, ◌+◌, ◌*◌, ◌≡◌, ◌∙◌, Bool, true, false, List, [], ◌∷◌, ◌++◌, map, refl, sym, ap, subst, append_assoc, append-nil, arith}
 use Rattle.std.proofs.lemmas.Bool.{true≢false}
 use Rattle.std.proofs.lemmas.List.{append_cancel_right}
@@ -38,7 +38,7 @@ extends made_none = ([], refl)
 extends (made_one mid i st rest) = onward (ext_of st) (extends rest)
 extends (made_ask mid a rest) = onward (onward (onward (ext_of a.opens) (ext_of a.searches)) (ext_of a.closes)) (extends rest)
 
--- THE LAST STEP THAT IS DUE
+-- THE LAST EXPECTED STEP
 
 none_more : {A : Type 0} (es : List Expected) (e : Expected) → ◌≡◌ {A = List Expected} [] (es ++ e ∷ []) → A
 none_more [] e h = absurd (cc)
@@ -60,7 +60,7 @@ quiet_between (silent {s = s} {step = step} n m) e =
     (h.0 ++ (step ∷ []), h.1 ∙ sym (append_assoc h.0 (step ∷ []) s), append_unordered h.0 (step ∷ []) h.2 (n, tt))
 quiet_between (visible {e = x} {es = xs} f m) e = absurd (cc)
 
--- where it stands, after others that are due
+-- the place of the last expected step, after the other expected steps
 record LastDue (k : CheckerRules) (s t : List Step) (fs : List Expected) (e : Expected) : Type 0 where
   front : List Step
   step : Step
@@ -114,9 +114,9 @@ opening (expecting.opens {c = c} h) = (c, refl)
 closing : {knows : ℕ → Bool} {earlier : List Step} {step : Step} → Fits knows earlier Closes step → step ≡ Assumptions []
 closing expecting.closes = refl
 
--- WHAT ELSE COMES AT AN ASK'S ENDS
+-- OTHER STEPS AT BOTH ENDS OF AN ASK
 
--- each of these steps comes somewhere
+-- that each of these steps is allowed at some place
 abbrev ComesThere : (List Step → Step → Type 0) → List Step → Type 0
 ComesThere IsAllowedStep = AllByRecursion (λ step. (earlier : List Step) × IsAllowedStep earlier step)
 
@@ -142,7 +142,7 @@ aside_each : (names : List ℕ) (xs : List Step) → ComesThere (MayTake names) 
 aside_each names [] h u = tt
 aside_each names (x ∷ xs) h u = (aside_one names h.0.0 x h.0.1 u.0, aside_each names xs h.1 u.1)
 
--- the steps before and after the last that is due
+-- the steps before and after the last expected step
 module _ (names : List ℕ) (from to : List Step) (es : List Expected) (st : Stretch (MayTake names) from to es) (fs : List Expected) (e : Expected) (d : LastDue checker_rules from to fs e) where
   steps_are : st.comes.steps ≡ d.following ++ (d.step ∷ d.front)
   steps_are = append_cancel_right st.comes.steps (d.following ++ (d.step ∷ d.front)) from (sym st.comes.following ∙ d.whole ∙ sym (append_assoc d.following (d.step ∷ d.front) from))
@@ -163,9 +163,9 @@ shows_none : (b : Bool) (j : ScriptState) (ls : List Literal) → showing_if b j
 shows_none true j ls = refl
 shows_none false j ls = refl
 
--- HOW OFTEN SOMETHING IS ASSUMED
+-- HOW OFTEN ASSUMPTIONS ARE SET
 
--- how often that is expected
+-- how often these expected steps set assumptions
 abbrev due_times : List Expected → ℕ
 due_times [] = 0
 due_times (Opens ls o ∷ es) = due_times es + 1
@@ -202,7 +202,7 @@ both_times (Fails ask core ∷ xs) ys = both_times xs ys
 both_times (Closes ∷ xs) ys = let h = both_times xs ys in omega (arith, h)
 both_times (Finish ∷ xs) ys = both_times xs ys
 
--- after what is no assumption
+-- expected steps that set no assumptions do not count
 after_none : (xs ys : List Expected) → due_times xs ≡ 0 → due_times (xs ++ ys) ≡ due_times ys
 after_none xs ys e = let h = both_times xs ys in omega (arith, h, e)
 
@@ -224,7 +224,7 @@ setting_times mode [] j = refl
 setting_times mode (name ∷ names) j =
     after_none (map NewName (new_names name j)) (setting mode names (with_mode mode name (bring_in name j))) (new_times (new_names name j)) ∙ setting_times mode names (with_mode mode name (bring_in name j))
 
--- a command that is no ask assumes nothing
+-- a command that is no ask sets no assumptions
 due_none : (unsat : Bool) (c : Command) (j : ScriptState) → IsNoAsk c → due_times (due_for unsat c j) ≡ 0
 due_none true (Clause ls) j h = after_none (bringing (names_of ls) j) [] (bringing_times (names_of ls) j)
 due_none false (Clause ls) j h = after_none (bringing (names_of ls) j) (Adds ls ∷ []) (bringing_times (names_of ls) j)
@@ -239,7 +239,7 @@ shown_none false j ls (Sat line) = refl
 shown_none false j ls (Unsat core) = refl
 shown_none false j ls Unknown = refl
 
--- widths assume nothing
+-- changes of the width set no assumptions
 reported_times : (same : Bool) (now : ℕ) (w : List Step) → assumed_times ((if same then [] else ChangeHashBits now ∷ []) ++ w) ≡ assumed_times w
 reported_times true now w = refl
 reported_times false now w = refl
@@ -248,7 +248,7 @@ narrowed_times : (bits : ℕ) (step : Step) (made written : List Step) → assum
 narrowed_times bits (Assumptions ls) m w e = ap (λ (k : ℕ). k + 1) e
 narrowed_times bits step m w e = e
 
--- what is written assumes as often as what was made
+-- the written steps set assumptions as often as the steps that were made
 cut_times : {c d : Counting} {m w : List Step} → TruncatesHashes c m w d → assumed_times w ≡ assumed_times m
 cut_times none_made = refl
 cut_times (ask_begun p) = cut_times p
@@ -256,7 +256,7 @@ cut_times (one_made {d = d} {made = m} {written = w} step k p) =
     let now = (counted step d).bits in
     narrowed_times now step m ((if nat_eq d.bits now then [] else ChangeHashBits now ∷ []) ++ w) (reported_times (nat_eq d.bits now) now w ∙ cut_times p)
 
--- more of them
+-- the assumptions of two lists of steps add up
 both_assumed : (xs ys : List Step) → assumed_times (xs ++ ys) ≡ assumed_times xs + assumed_times ys
 both_assumed [] ys = omega arith
 both_assumed (SolverVarName v name ∷ xs) ys = both_assumed xs ys
@@ -283,7 +283,7 @@ asides_times (x ∷ xs) earlier h = aside_times (xs ++ earlier) h.0 ∙ asides_t
 
 -- WHAT AN ASK LEARNED
 
--- in what is made
+-- the steps of an ask, as they were made
 record MadeAsk (from to : List Step) (o : Outcome) (rounds : ℕ) : Type 0 where
   before : List Step
   ask : List ℕ
@@ -375,7 +375,7 @@ module _ (j : ScriptState) (ls : List Literal) (o : Outcome) (n : ℕ) (from to 
       let closed : assumed_times to ≡ assumed_times a.shown + 1 = makes_times a.closes.due in
       omega (arith, opened, shown, none, closed)
 
--- and in what is written
+-- the steps of an ask, as they were written
 module _ {c d : Counting} {whole steps : List Step} (p : TruncatesHashes c whole steps d) (asks n : ℕ) (o : Outcome) (from to : List Step) (m : MadeAsk from to o n)
     (ext : Ext to whole) (at : assumed_times from ≡ 2 * asks) (shut : assumed_times to ≡ assumed_times from + 2) where
   abbrev opened : List Step
@@ -454,7 +454,7 @@ each_learns c d {j = j} {s = s} asks whole steps (made_ask {ls = ls} {o = o} {n 
       each_learns c d (asks + 1) whole steps rest (omega (arith, closed, before)) ext p,
     )
 
--- each ask of a run is such
+-- `EachLearns` holds for the asks of a run
 pub asks_learn : {j : ScriptState} {made steps : List Step} {commands : List Command} {outcomes : List Outcome} {counts : List ℕ} (c d : Counting)
     → ServesCommands j [] made commands outcomes counts → TruncatesHashes c (End ∷ made) steps d → EachLearns steps 0 outcomes counts
 asks_learn {made = made} {steps = steps} c d m p = each_learns c d 0 (End ∷ made) steps m refl (End ∷ [], refl) p

@@ -1,4 +1,4 @@
--- Commands that are lent are carried out.
+-- Commands that the reader passes are carried out.
 use Rattle.std.proofs.Common.{ℕ, ◌≡◌, ◌∙◌, false, None, List, [], ◌++◌, Result, Ok, Err, OnOk, IfErr, sym, ap, subst}
 use Rattle.std.proofs.lemmas.List.{append-nil}
 use Rattle.sat_base.specs.device.Device.{Writer}
@@ -31,14 +31,14 @@ on_ok : {T E A B : Type 0} (r : Result T E) → (A → B) → OnOk r A → OnOk 
 on_ok (Ok x) f h = f h
 on_ok (Err e) f h = h
 
--- a command that is lent, none of whose names is past the limit
+-- a command without a name past the limit is passed with all its literals
 pub lent_is : (lent : Lent) (c : Command) → IsLent lent c → lent.past_limit ≡ false → c ≡ spelled_by lent
 lent_is lent c (ls, f, e) within =
     let none : f.following ≡ [] = subst (λ b. BeginsPast b f.following) within f.limit in
     let whole : ls ≡ named_literals lent.literals.now = f.whole ∙ ap (λ ks. named_literals lent.literals.now ++ ks) none ∙ append-nil (named_literals lent.literals.now) in
     e ∙ ap (command_of (kind_of lent.kind)) whole
 
--- names that refuse nothing of what is lent
+-- a command is accepted if the names report no refusal
 pub lent_allowed : (names : Names) (lent : Lent) → (c : Command) × IsLent lent c → lent.past_limit ≡ false → ReportsRefusal None names lent → NamesAllow names (spelled_by lent)
 lent_allowed names lent h within judges j valid =
     sym (judges j (spelled_by lent) valid (subst (IsLent lent) (lent_is lent h.0 h.1 within) h.1))

@@ -1,4 +1,4 @@
--- What a solver made for commands, one after another, certifies them.
+-- The steps that a solver made for commands certify the commands.
 use Rattle.std.proofs.Common.{ℕ, ◌≡◌, ◌∙◌, Bool, true, false, None, Some, List, [], ◌∷◌, ◌++◌, refl, sym, ap, subst, append_assoc, append-nil}
 use Rattle.std.proofs.lemmas.Bool.{both_ways}
 use Rattle.std.specs.List.{AllByRecursion}
@@ -18,7 +18,7 @@ use Rattle.certify.proofs.lemmas.run.Recorded.{recorded_at}
 
 -- EARLIER STEPS
 
--- what may be made to some step may be made up to an earlier one
+-- if steps are allowed, so are the earlier ones among them
 may_before : (later earlier : List Step) → AreAllowedSteps (later ++ earlier) → AreAllowedSteps earlier
 may_before [] earlier m = m
 may_before (step ∷ later) earlier m = may_before later earlier m.0
@@ -39,7 +39,7 @@ made_after (made_ask {from = from} {to = to} mid a m) =
     let whole = following_both from a.shown mid (y.steps ++ x.steps) z.steps searched z.following in
     (r.0 ++ (z.steps ++ (y.steps ++ x.steps)), following_both from mid to (z.steps ++ (y.steps ++ x.steps)) r.0 whole r.1)
 
--- SOMETHING IS EXPECTED TO THE END
+-- A STEP IS ALWAYS EXPECTED
 
 expects_more : (j : ScriptState) (cs : List Command) (os : List Outcome) → (e : Expected) × (es : List Expected) × (expected j cs os ≡ e ∷ es)
 expects_more j [] os = (Finish, [], refl)
@@ -70,14 +70,14 @@ expects_more j (Sample names ∷ cs) os = either (setting Sampled names j) (expe
     either [] h = h
     either (x ∷ xs) {es} h = (x, xs ++ es, refl)
 
--- ONE THAT IS NO ASK
+-- A COMMAND THAT IS NO ASK
 
 expects_next : (j : ScriptState) (c : Command) (cs : List Command) (os : List Outcome) → IsNoAsk c → expected j (c ∷ cs) os ≡ due_for false c j ++ expected (accepted c j) cs os
 expects_next j (Clause ls) cs os h = sym (append_assoc (bringing (names_of ls) j) (Adds ls ∷ []) (expected (accepted (Clause ls) j) cs os))
 expects_next j (Ask ls) cs os h = absurd h
 expects_next j e cs os h = refl
 
--- what leads to something that is expected leads to all of it
+-- the steps in `es` are certified before those of more commands
 leads_expected : {s t : List Step} (es : List Expected) → Leads s t es → (all : List Step) (j : ScriptState) (cs : List Command) (os : List Outcome) (counts : List ℕ)
     → Certifies checker_rules all None t (expected j cs os) counts → Certifies checker_rules all None s (es ++ expected j cs os) counts
 leads_expected {s} {t} es leads all j cs os counts c =
@@ -85,7 +85,7 @@ leads_expected {s} {t} es leads all j cs os counts c =
     subst (λ fs. Certifies checker_rules all None s (es ++ fs) counts) (sym m.2)
     (leads all None m.0 m.1 counts (subst (λ fs. Certifies checker_rules all None t fs counts) m.2 c))
 
--- what was made for it leads on, with the clause that is left out once unsat is recorded
+-- the steps of a command are certified, with its clause left out once unsat is recorded
 plain_leads : (from mid : List Step) (j : ScriptState) (c : Command) → HasTrace checker_rules from mid (due_for (checker_rules.unsat from) c j) → AreAllowedSteps mid → Leads from mid (due_for false c j)
 plain_leads from mid j c m may = at (checker_rules.unsat from) refl
   where
@@ -109,7 +109,7 @@ showing_going j ls (Sat line) = (refl, tt)
 showing_going j ls (Unsat core) = (refl, tt)
 showing_going j ls Unknown = tt
 
--- what was shown, or is left out once unsat is recorded
+-- the step that shows an outcome is certified, or left out once unsat is recorded
 shown_leads : {opened shown : List Step} (j : ScriptState) (ls : List Literal) (o : Outcome) → HasTrace checker_rules opened shown (showing_if (checker_rules.unsat shown) j ls o)
     → (checker_rules.unsat shown ≡ true → o ≡ Unsat []) → AreAllowedSteps shown → Leads opened shown (showing j ls o)
 shown_leads {opened} {shown} j ls o m recorded may = at (checker_rules.unsat shown) refl
@@ -125,7 +125,7 @@ module _ {from to : List Step} {j : ScriptState} {ls : List Literal} {o : Outcom
   may_shown : AreAllowedSteps a.shown
   may_shown = may_at a.shown to a.closes.comes.steps a.closes.comes.following may
 
-  -- it is closed by steps that record nothing
+  -- if unsat is recorded after an ask, its outcome is the empty core
   knows : checker_rules.unsat to ≡ true → o ≡ Unsat []
   knows u = at (checker_rules.unsat a.shown) refl
     where

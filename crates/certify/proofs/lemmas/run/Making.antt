@@ -1,4 +1,4 @@
--- Steps that a call makes lead to what is expected after them.
+-- Steps that a call makes certify what was expected before it.
 use Rattle.std.proofs.Common.{ℕ, ◌≡◌, ◌∙◌, Bool, true, false, Option, Some, None, List, [], ◌∷◌, ◌++◌, map, refl, sym, subst, append_assoc}
 use Rattle.std.proofs.lemmas.Bool.{both_ways}
 use Rattle.std.specs.List.{AllByRecursion}
@@ -15,16 +15,16 @@ use Rattle.sat_checker.specs.matching.Traces.{HasTrace, no_step, silent, visible
 use Rattle.certify.specs.run.Stretches.{due_for}
 use Rattle.certify.proofs.lemmas.confirm.Settled.{settled_unsat}
 
--- whatever is expected next, it is certified from here where it is from there
+-- that if further steps are certified after `to`, then `es` and the further steps are certified after `from`
 abbrev pub Leads : List Step → List Step → List Expected → Type 0
 Leads from to es = (all : List Step) (current : Option Outcome) (e : Expected) (fs : List Expected) (counts : List ℕ)
     → Certifies checker_rules all current to (e ∷ fs) counts → Certifies checker_rules all current from (es ++ (e ∷ fs)) counts
 
--- it may stand wherever it is expected
+-- that the expected step may be written whether or not unsat is recorded
 abbrev pub IsFree : Expected → Type 0
 IsFree e = (unsat : Bool) → MayOccur unsat e
 
--- something is expected, so another step may come
+-- an unordered step may come before any expected step
 other_before : (es : List Expected) {all : List Step} {current : Option Outcome} {earlier : List Step} {step : Step} (e : Expected) (fs : List Expected) {counts : List ℕ}
     → is_ordered step ≡ false → Certifies checker_rules all current (step ∷ earlier) (es ++ (e ∷ fs)) counts → Certifies checker_rules all current earlier (es ++ (e ∷ fs)) counts
 other_before [] e fs q c = other q c
@@ -46,11 +46,11 @@ leads_both {s} {t} {u} es gs f g = λ all current e fs counts c.
         at [] c = f all current e fs counts c
         at (x ∷ xs) c = f all current x (xs ++ (e ∷ fs)) counts c
 
--- what is left out leads on
+-- an expected step that may be left out
 pub leads_lacking : (s : List Step) (e : Expected) → MayLack e → IsRecorded checker_rules s → Leads s s (e ∷ [])
 leads_lacking s x h r = λ all current e fs counts c. left_out h r c
 
--- recorded unsat stays
+-- once recorded, unsat stays recorded
 stays_once : (s : List Step) (step : Step) → checker_rules.unsat s ≡ true → checker_rules.unsat (step ∷ s) ≡ true
 stays_once s step u = settled_unsat (effect step (ready_after s)) ∙ unsat_stays (ready_after s) step u
 
@@ -73,25 +73,25 @@ opens_ask n (silent q m) known all e fs counts c = other q (opens_ask n m known 
 opens_ask n (visible {s = s} {step = step} f m) known all e fs counts c =
     asked (λ u. known (unsat_made m (stays_once s step u))) f (leads_free m tt all (Some _) e fs counts c)
 
--- and closed
+-- an ask is closed
 pub closes_ask : {s t : List Step} {o : Outcome} → HasTrace checker_rules s t (Closes ∷ []) → (checker_rules.unsat t ≡ true → o ≡ Unsat [])
     → (all : List Step) (e : Expected) (fs : List Expected) (counts : List ℕ) → Certifies checker_rules all None t (e ∷ fs) counts → Certifies checker_rules all (Some o) s (Closes ∷ e ∷ fs) counts
 closes_ask (silent q m) known all e fs counts c = other q (closes_ask m known all e fs counts c)
 closes_ask (visible {s = s} {step = step} f m) known all e fs counts c =
     answered (λ u. known (unsat_made m (stays_once s step u))) f (leads_free m tt all None e fs counts c)
 
--- what may stand where unsat isn't recorded
+-- that the expected step may be written if unsat is not recorded
 abbrev pub IsGoing : Expected → Type 0
 IsGoing e = MayOccur false e
 
--- what a search that goes on shows
+-- the expected steps of a call that does not record unsat
 pub leads_going : {s t : List Step} {es : List Expected} → HasTrace checker_rules s t es → checker_rules.unsat t ≡ false → AllByRecursion IsGoing es → Leads s t es
 leads_going no_step g h = λ all current e fs counts c. c
 leads_going (silent {es = es} q m) g h = λ all current e fs counts c. other_before es e fs q (leads_going m g h all current e fs counts c)
 leads_going {t = t} (visible {s = s} {step = step} {e = x} f m) g h = λ all current e fs counts c.
     ordered (subst (λ b. MayOccur b x) (sym (going_by (visible f m) g)) h.0) f (leads_going m g h.1 all current e fs counts c)
 
--- names may come in and go wherever that is expected
+-- the steps that introduce and remove names may be written whether or not unsat is recorded
 free_both : (es fs : List Expected) → AllByRecursion IsFree es → AllByRecursion IsFree fs → AllByRecursion IsFree (es ++ fs)
 free_both [] fs h k = k
 free_both (e ∷ es) fs h k = (h.0, free_both es fs h.1 k)
@@ -116,7 +116,7 @@ setting_free mode (name ∷ names) j =
     let next = with_mode mode name (bring_in name j) in
     free_both (map NewName (new_names name j)) (setting mode names next) (names_free (new_names name j)) (setting_free mode names next)
 
--- and a clause
+-- the steps due for any command may be written whether or not unsat is recorded
 pub due_free : (unsat : Bool) (c : Command) (j : ScriptState) → AllByRecursion IsFree (due_for unsat c j)
 due_free true (Clause ls) j = free_both (bringing (names_of ls) j) [] (bringing_free (names_of ls) j) tt
 due_free false (Clause ls) j = free_both (bringing (names_of ls) j) (Adds ls ∷ []) (bringing_free (names_of ls) j) ((λ b. tt), tt)

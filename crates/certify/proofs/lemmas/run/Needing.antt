@@ -1,4 +1,4 @@
--- Names for which no variable is left: so many variables are in use, and more identities are needed than there are variables.
+-- If no variable is left for a name, more identities are needed than there can be variables.
 use Rattle.std.proofs.Common.{ℕ, zero, suc, ◌+◌, ◌-◌, ◌<◌, ◌≤◌, ◌≡◌, ◌≢◌, ◌∙◌, Bool, true, false, not, ◌&&◌, ◌||◌, cond, ltb, Option, Some, None, is_some, List, [], ◌∷◌, ◌++◌, map, length, inl, inr, refl, sym, ap, subst, arith}
 use Rattle.std.specs.List.{AllByRecursion}
 use Rattle.std.proofs.lemmas.List.{length-map}
@@ -36,9 +36,9 @@ use Rattle.certify.proofs.lemmas.run.NamesIn.{names_same}
 use Rattle.certify.proofs.lemmas.run.Obeys.{accepted_both}
 use Rattle.certify.proofs.lemmas.run.RunStateCalls.{agree_still}
 
--- NAMES THAT COME IN
+-- NEW NAMES
 
--- is it one of these names, and not in use?
+-- whether this name is one of those listed, and not in use
 abbrev is_asked : ScriptState → List ℕ → ℕ → Bool
 is_asked j users u = not (is_some (identity_of j (u + 1))) && is_listed users u
 
@@ -75,7 +75,7 @@ never false = refl
 count_none : (n : ℕ) (j : ScriptState) → count_to n (is_asked j []) ≡ 0
 count_none n j = count_same n (is_asked j []) (λ k. false) (λ k lt. never (not (is_some (identity_of j (k + 1))))) ∙ no_one n
 
--- this is of the names from one on, where it is of those after
+-- that introducing these names creates an identity for each new name
 abbrev Brings : List ℕ → Type 0
 Brings us = (used : ℕ) (j : ScriptState) → j.first_unused ≡ used + 1 → j.identity_count + (reach used us - used) + count_to used (is_asked j us) ≤ (bring_all (map (λ u. u + 1) us) j).identity_count
 
@@ -138,12 +138,12 @@ module _ (u : ℕ) (us : List ℕ) (later : Brings us) (used : ℕ) (j : ScriptS
       let count : ℕ = u + 1 + 1 - j.first_unused in
       subst (λ first. Goal (with_names (names_from count first) j)) (sym e) (one_first count le (omega arith))
 
--- each name that comes in gives an identity
+-- introducing names creates an identity for each new name
 brings : (us : List ℕ) → Brings us
 brings [] used j e = let z = count_none used j in omega arith
 brings (u ∷ us) used j e = one_more u us (brings us) used j e (ltb (u + 1) j.first_unused) refl (identity_of j (u + 1)) refl
 
--- IDENTITIES ARE NEVER TAKEN BACK
+-- THE NUMBER OF IDENTITIES NEVER DECREASES
 
 grows : (names : List ℕ) (j : ScriptState) → j.identity_count ≤ (with_names names j).identity_count
 grows [] j = omega arith
@@ -181,7 +181,7 @@ script_grows (c ∷ cs) j = let r = script_grows cs (after_command c j) in let q
 
 -- NAMES THAT A SOLVER INTRODUCES
 
--- as many as the judge's
+-- the solver introduces at most as many names as the script state
 introduced : (n : Variables) (steps : List Step) (j : ScriptState) (live : Live) (users : List ℕ) → NamesAgree n steps j live → j.identity_count + coming n users ≤ (bring_all (map (λ u. u + 1) users) j).identity_count
 introduced n steps j live users agree =
     let used = names_used n in
@@ -196,9 +196,9 @@ introduced n steps j live users agree =
     hidden : (k : ℕ) → is_hidden_name n users k ≡ true → is_asked j users k ≡ true
     hidden k h = ap (λ o. not (is_some o) && is_listed users k) (agree.judged.names k) ∙ at (global_of n k) (is_listed users k) h
 
--- VARIABLES THAT ARE LACKING
+-- MISSING VARIABLES
 
--- there are as many variables in use as identities, at most, and as many names are introduced
+-- if variables are missing for names, introducing them leads to more identities than there can be variables
 all_need : (n : Variables) (steps : List Step) (j : ScriptState) (live : Live) (users : List ℕ) → NamesAgree n steps j live → (HasVariablesFor n users → ⊥) → var_limit < (bring_all (map (λ u. u + 1) users) j).identity_count
 all_need n steps j live users agree lacks =
     let h = introduced n steps j live users agree in
@@ -207,7 +207,7 @@ all_need n steps j live users agree lacks =
     let g = all_grow (map (λ u. u + 1) users) j in
     elim (cases_lt var_limit (live_count n + coming n users)) [ inl lt ↦ omega arith | inr le ↦ absurd (lacks le) ]
 
--- what is in use, as a checker knows it
+-- the proof variables in use
 abbrev vars : Live → List ℕ
 vars live = map (λ (p : ℕ × ℕ). p.0) live
 
@@ -223,7 +223,7 @@ known_vars : (steps : List Step) (live : Live) → AllByRecursion (λ (p : ℕ �
 known_vars steps [] h = tt
 known_vars steps (p ∷ ps) h = (h.0, known_vars steps ps h.1)
 
--- two tests that differ at one place at most
+-- tests that differ for at most one number have counts that differ by at most one
 differ_once : (m i : ℕ) (f g : ℕ → Bool) → ((k : ℕ) → k ≢ i → f k ≡ g k) → count_to m f ≤ count_to m g + 1
 differ_once zero i f g h = let e = count_zero f in omega arith
 differ_once (suc m) i f g h = elim (cases_eq m i) [
@@ -251,7 +251,7 @@ given_few : (m : ℕ) (live : Live) → count_to m (λ v. is_some (given live v)
 given_few m [] = let e = no_one m in omega arith
 given_few m (p ∷ ps) = let d = differ_once m p.0 (λ v. is_some (given (p ∷ ps) v)) (λ v. is_some (given ps v)) (other_given p ps) in let r = given_few m ps in omega arith
 
--- so many proof variables are in use, and so many names are introduced
+-- if the solver lacks variables for names, so do its steps
 lacks_variables : (n : Variables) (steps : List Step) (j : ScriptState) (live : Live) (users : List ℕ) → NamesAgree n steps j live → (HasVariablesFor n users → ⊥) → LacksVariables steps (introduced_for (map (λ u. u + 1) users) j)
 lacks_variables n steps j live users agree lacks = record {
   in_use = vars live;
@@ -272,7 +272,7 @@ users_names : (ls : List ℕ) → map (λ u. u + 1) (user_vars_in ls) ≡ names_
 users_names [] = refl
 users_names (l ∷ ls) = ap (λ xs. (variable l + 1) ∷ xs) (users_names ls)
 
--- the names of literals, as scripts have them
+-- the names of literals, as scripts write them
 names_of_users : (ls : List ℕ) → map (λ u. u + 1) (user_vars_in ls) ≡ names_of (named_literals ls)
 names_of_users ls = users_names ls ∙ sym (names_same ls)
 
@@ -299,7 +299,7 @@ module _ {C : Type 0} (s t : Solver C) where
   pub ask_needs : (ls : List ℕ) → RefusedForRoom s t (user_vars_in ls) → LacksFor s t (Ask (named_literals ls))
   ask_needs ls h j live agree = literals_need ls h j live agree
 
--- the identities that one name of a command needs
+-- a command about one name creates the identities that introducing the name creates
 one_needs : (st : NameState) (name : ℕ) (j : ScriptState) → var_limit < (bring_all (name ∷ []) j).identity_count → var_limit < (accepted (command_to st (name ∷ [])) j).identity_count
 one_needs state.Hidden name j h = h
 one_needs state.Sampled name j h = h
@@ -311,7 +311,7 @@ next_lacks state.Hidden names j steps first name following e h = record { first 
 next_lacks state.Sampled names j steps first name following e h = record { first = first; name = name; following = following; whole = e; lacks = h }
 next_lacks state.Witnessed names j steps first name following e h = record { first = first; name = name; following = following; whole = e; lacks = h }
 
--- after names that were introduced, and before others
+-- a command lacks variables if one of its names does, after the names before it
 pub names_need_more : {C : Type 0} (seen : C → Writer) (st : NameState) (xs zs : List ℕ) (user : ℕ) (a b c : Solver C) → Obeyed seen (command_to st xs) a b → RefusedForRoom b c (user ∷ [])
     → LacksFor a c (command_to st (xs ++ ((user + 1) ∷ zs)))
 names_need_more seen st xs zs user a b c done refused j live agree =
@@ -324,7 +324,7 @@ names_need_more seen st xs zs user a b c done refused j live agree =
       next_lacks st (xs ++ ((user + 1) ∷ zs)) j (steps_in c) xs (user + 1) zs refl both.1,
     )
 
--- after an ask nothing is assumed, which introduces no name
+-- if variables are missing when the assumptions of an ask are removed, the ask lacks variables
 pub none_needs : {C : Type 0} (seen : C → Writer) (a b c d : Solver C) (user : List ℕ) (budget : ℕ) (report : AskReport) → ReplacesAssumptions seen a b user → Searched seen budget report b c → RefusedForRoom c d []
     → LacksFor a d (Ask (named_literals user))
 none_needs seen a b c d user budget report opened s refused j live agree =

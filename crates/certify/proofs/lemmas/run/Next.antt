@@ -1,4 +1,4 @@
--- The next command was served.
+-- The next command is served.
 use Rattle.std.proofs.Common.{ℕ, ◌+◌, ◌≡◌, ◌∙◌, Some, None, [], ◌∷◌, refl, sym, ap, subst, arith}
 use Rattle.std.proofs.lemmas.List.{append-nil}
 use Rattle.sat_base.specs.device.Device.{Writer}
@@ -19,7 +19,7 @@ use Rattle.certify.proofs.lemmas.run.ServedOnce.{serves_refused}
 use Rattle.certify.proofs.lemmas.run.RunStateCalls.{took_none}
 use Rattle.certify.specs.run.Quiet.{Solver}
 
--- a run that has counted one more command
+-- the run, with one more command counted
 abbrev pub counted : {C : Type 0} → RunState C → RunState C
 counted s = record s { commands = s.commands + 1 }
 
@@ -34,7 +34,7 @@ after_refused : (j : ScriptState) (c : Command) (r : Refusal) → refusal_of j c
 after_refused j c r e = rw e refl
 
 module _ {C : Type 0} (seen : C → Writer) (old new : RunState C) (c : Command) (before after : Writer) (on : RunGoesOn old) where
-  -- it was taken
+  -- the command was accepted
   module _ (carried : CarriedOut seen (counted old) new c before after) (allowed : NamesAllow old.names c) (valid : (j : ScriptState) → NamesHaveState old.names j → NamesHaveState new.names (accepted c j)) where
     taken_at : (j : ScriptState) → HasStateBetweenCommands old j → HasStateBetweenCommands new (accepted c j) × Serves old.budget (place_in old j) (place_in new (accepted c j)) (c ∷ []) carried.text carried.reports 0
     taken_at j at =
@@ -63,7 +63,7 @@ module _ {C : Type 0} (seen : C → Writer) (old new : RunState C) (c : Command)
           subst (λ k. HasStateBetweenCommands new k × Serves old.budget (place_in old j) (place_in new k) (c ∷ []) carried.text carried.reports 0) (sym (after_accepted j c (allowed j at.names))) (taken_at j at);
     }
 
-  -- it was refused
+  -- the command was refused
   module _ (why : Refusal) (refused : Refused (counted old) new why before after) (denied : (j : ScriptState) → NamesHaveState old.names j → refusal_of j c ≡ Some why) where
     place_same : (j : ScriptState) → record (place_in old j) { number = old.commands + 1 + 1 } ≡ place_in new j
     place_same j = ap (λ (k : ℕ). at k old.solver) (sym (ap (λ (k : ℕ). k + 1) refused.commands)) ∙ ap (at (new.commands + 1)) (sym refused.solver)

@@ -1,4 +1,4 @@
--- The next command that is lent was served.
+-- The next command that the reader passes is served.
 use Rattle.std.proofs.Common.{◌+◌, ◌≡◌, false, Some, None, [], ◌∷◌, Result, Ok, Err, OnErr, OnOk, sym, subst}
 use Rattle.sat_base.specs.device.Device.{Writer}
 use Rattle.sat_base.specs.script.Language.{Reading, onto_commands}

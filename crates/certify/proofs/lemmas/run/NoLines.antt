@@ -9,7 +9,7 @@ use Rattle.sat_solver.specs.proof.ProofView.{Target, Closed, Open, Broken, Targe
 use Rattle.certify.specs.run.SolverCalls.{HasNoLines}
 use Rattle.certify.specs.run.Quiet.{Proof}
 
--- whatever is seen of a writer
+-- whether lines of DRAT are written does not depend on how the writer is viewed
 alike : {C : Type 0} (a b : C → Writer) (o : Option (Output C)) (broken : Bool) (c : Counting) → is_drat (target_in a o broken c) ≡ is_drat (target_in b o broken c)
 alike a b None broken c = refl
 alike a b (Some o) false c = refl

@@ -27,7 +27,7 @@ use Rattle.sat_checker.proofs.lemmas.matching.Traces.{traces_both}
 use Rattle.certify.proofs.lemmas.run.RunStateCalls.{took_both, took_none}
 use Rattle.certify.specs.run.Quiet.{Solver}
 
--- SEVERAL NAMES, AND THEN OTHERS
+-- SOME NAMES, AND THEN OTHERS
 
 hidden_both : (xs ys : List ℕ) (j : ScriptState) → hide_all (xs ++ ys) j ≡ hide_all ys (hide_all xs j)
 hidden_both [] ys j = refl
@@ -54,7 +54,7 @@ accepted_both state.Hidden xs ys j = hidden_both xs ys j
 accepted_both state.Sampled xs ys j = set_both Sampled xs ys j
 accepted_both state.Witnessed xs ys j = set_both Witnessed xs ys j
 
--- recorded unsat is of no matter to names
+-- recorded unsat does not matter for commands about names
 due_both : (st : NameState) (u v : Bool) (xs ys : List ℕ) (j : ScriptState) → due_for u (command_to st (xs ++ ys)) j ≡ due_for u (command_to st xs) j ++ due_for v (command_to st ys) (accepted (command_to st xs) j)
 due_both state.Hidden u v xs ys j = hiding_both xs ys j
 due_both state.Sampled u v xs ys j = setting_both Sampled xs ys j
@@ -65,7 +65,7 @@ due_same state.Hidden u names j = refl
 due_same state.Sampled u names j = refl
 due_same state.Witnessed u names j = refl
 
--- what may come for one of several names
+-- what is allowed for some names is allowed for more names
 front_among : (x : ℕ) (xs ys : List ℕ) → Among x xs → Among x (xs ++ ys)
 front_among x [] ys m = absurd m
 front_among x (y ∷ xs) ys m = elim m [ inl e ↦ inl e | inr k ↦ inr (front_among x xs ys k) ]
@@ -104,7 +104,7 @@ none_due state.Hidden u j = refl
 none_due state.Sampled u j = refl
 none_due state.Witnessed u j = refl
 
--- the next of several names
+-- the names up to the next one
 pub name_more : (codes : List ℕ) (k code v : ℕ) → k < length codes → code ≡ get_or codes k code → v ≡ variable code → names_in (take k codes) ++ ((v + 1) ∷ []) ≡ names_in (take (k + 1) codes)
 name_more codes k code v within at e =
     let cut : take (k + 1) codes ≡ take k codes ++ (code ∷ []) = take_more codes k code within ∙ ap (λ (x : ℕ). take k codes ++ (x ∷ [])) (sym at) in
@@ -167,7 +167,7 @@ module _ {C : Type 0} (seen : C → Writer) where
         );
   }
 
-  -- a clause came in
+  -- a clause was added
   pub clause_obeyed : (user : List ℕ) (a b : Solver C) → IsReadySolver a → IsReadySolver b → Added seen a b user → Obeyed seen (Clause (named_literals user)) a b
   clause_obeyed user a b before ready added = record {
     ready = ready;

@@ -1,4 +1,4 @@
--- What the certificate's writer took, whatever call failed.
+-- What the certificate's writer received, whichever call failed.
 use Rattle.std.proofs.Common.{◌≡◌, ◌∙◌, inl, inr, Some, Option, Ok, Err, List, [], ◌∷◌, ◌++◌, refl, sym, ap, subst, append-nil}
 use Rattle.std.proofs.Math.Logic.{∥∥₁_elim, ∥∥₁_prop}
 use Rattle.std.specs.Io.KnownBytes.{Appends}
@@ -27,7 +27,7 @@ use Rattle.sat_solver.specs.solver.View.{proof_in}
 use Rattle.certify.specs.run.Ending.{GivesFront}
 use Rattle.certify.specs.run.Quiet.{Solver}
 
--- FRONTS
+-- PREFIXES
 
 front_of : (from given : Writer) (made : List Step) → FrontText Varisat from given made → StepsFront from given
 front_of from given made h = record {
@@ -42,7 +42,7 @@ front_of from given made h = record {
   took = record { taken = h.taken; known_bytes = h.known_bytes };
 }
 
--- all of the text is a front of it
+-- the writer received the complete text
 whole_of : (from given : Writer) (now : List Step) → TookAcceptedSteps Varisat from given [] now → StepsFront from given
 whole_of from given now h = record {
   made = h.since.steps;
@@ -56,7 +56,7 @@ whole_of from given now h = record {
   took = record { taken = h.since.took.takes.taken; known_bytes = h.since.took.takes.known_bytes };
 }
 
--- of the text of steps that were carried, each of which may be made
+-- the writer received a prefix of the text of allowed steps
 pub carried_front : (from given : Writer) (steps : List Step) (now : Target) → AreAllowedSteps steps → TargetTakes (Open Varisat uncounted (empty_sink from)) steps now → GivesWriter now (Some given)
     → (k : StepsFront from given) × (k.made ≡ steps)
 carried_front from given steps now may h g =
@@ -81,7 +81,7 @@ carried_front from given steps now may h g =
     )
 
 module _ {C : Type 0} (seen : C → Writer) where
-  -- WHERE A SOLVER WENT
+  -- THE STEPS THAT A SOLVER MADE
 
   pub went_took : (a b : Solver C) → ComesBySteps seen (proof_in a) (proof_in b) → ReachesBySteps seen a b
   went_took a b t = went_added seen t.0 (proof_in a) (proof_in b) t.1
@@ -89,23 +89,23 @@ module _ {C : Type 0} (seen : C → Writer) where
   pub went_broke : (a b : Solver C) → BreaksEmitting seen (proof_in a) (proof_in b) → ReachesBySteps seen a b
   went_broke a b t = went_failed seen t.0 (proof_in a) (proof_in b) t.1
 
-  -- WHAT IS GIVEN BACK
+  -- THE RETURNED WRITER
 
-  -- as it is
+  -- the writer is returned without any further call
   pub returned_prefix : (s : Solver C) (returned : Option C) (given : C) → returned ≡ Some given → ReturnsAcceptedPrefix seen returned s → GivesFront seen s given
   returned_prefix s returned given is h = record {
     front = λ opened from open_then none went.
         ∥∥₁_elim (h opened Varisat from given is open_then (ap has_begun none) went) ∥∥₁_prop (λ k. ∣ front_of from (seen given) k.steps k.front ∣₁);
   }
 
-  -- after a call that failed to end it
+  -- the writer is returned after closing the proof failed
   pub front_after : (s new : Solver C) (given : C) (e : SolverError) → ClosesProof seen (Err e) s new → GivesFront seen new given → GivesFront seen s given
   front_after s new given e h g = record {
     front = λ opened from open_then none went.
         g.front opened from open_then none (went_more seen (proof_in opened) (proof_in s) (proof_in new) went ((calls_go_on seen s new).closing_fails e h));
   }
 
-  -- at the end
+  -- the writer is returned after the proof was closed
   pub front_closed : (s new : Solver C) (given : C) → ClosesProof seen (Ok (Some given)) s new → GivesFront seen s given
   front_closed s new given h = record {
     front = λ opened from open_then none went.

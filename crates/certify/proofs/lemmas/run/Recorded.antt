@@ -1,4 +1,4 @@
--- Whether unsat is recorded where a solver stands.
+-- Whether unsat is recorded after the steps of a solver.
 use Rattle.std.proofs.Common.{◌≡◌, ◌∙◌, true, false, List, refl, sym, subst}
 use Rattle.std.proofs.lemmas.Bool.{both_ways}
 use Rattle.sat_base.specs.steps.Steps.{Step}
@@ -19,7 +19,7 @@ pub recorded_at : (steps : List Step) → AreAllowedSteps steps → checker_rule
 recorded_at steps may u = record { recorded = u; none = λ a h. unsat_means_none steps a (sessions_are_accepted steps may).0 u h }
 
 module _ {C : Type 0} (s : Solver C) (whole : SolverInvariant s) where
-  -- it is where the clauses alone are known to be unsatisfiable
+  -- unsat is recorded if the solver's state is `Unsat`
   pub known_unsat : s.state ≡ states.Unsat → checker_rules.unsat (steps_in s) ≡ true
   known_unsat e = unsat_as (steps_in s) whole.valid.may ∙ subst (λ st. StateSays st s.core s.names s.asked s.assumed.items s.reported.failed_core.items) e whole.says
 
@@ -29,11 +29,11 @@ module _ {C : Type 0} (s : Solver C) (whole : SolverInvariant s) where
   going_by states.UnsatUnderAssumptions n h = h.0.joined.sound.search.valid.fits.consistent
   going_by states.Unsat n h = absurd (n refl)
 
-  -- and nowhere else
+  -- unsat is not recorded in any other state
   pub going_on : (s.state ≡ states.Unsat → ⊥) → checker_rules.unsat (steps_in s) ≡ false
   going_on n = unsat_as (steps_in s) whole.valid.may ∙ going_by s.state n whole.says
 
-  -- so where it is recorded, they are known to be
+  -- so the solver's state is `Unsat` if unsat is recorded
   pub unsat_known : checker_rules.unsat (steps_in s) ≡ true → s.state ≡ states.Unsat
   unsat_known u = at s.state refl
     where

@@ -1,4 +1,4 @@
--- What the parts of a run leave of its writers.
+-- The effect of the parts of a run on its writers.
 use Rattle.std.proofs.Common.{ℕ, ◌+◌, ◌≡◌, List, [], ◌∷◌, ◌++◌, is_some, None, Result, Ok, Err, OnErr, OnOk, IfErr, refl, sym, ap, subst, ◌∙◌}
 use Rattle.sat_base.specs.device.Device.{Writer, WriterBreaks, WriterTakes}
 use Rattle.sat_base.specs.script.Script.{Command, Ask}
@@ -51,11 +51,11 @@ fails_then seen fault.AnswersWrite a b c t f = f
 fails_then seen fault.CertificateWrite a b c t f = broke_later seen (proof_in a) (proof_in b) (proof_in c) t f
 fails_then seen e a b c t f = took_both seen (proof_in a) (proof_in b) (proof_in c) t f
 
--- a search leaves what the solver wrote
+-- a search only adds steps to the proof
 pub search_took : {C : Type 0} (seen : C → Writer) (budget : ℕ) (report : AskReport) (a b : Solver C) → Searched seen budget report a b → ComesBySteps seen (proof_in a) (proof_in b)
 search_took seen budget report a b s = subst (λ p. ComesBySteps seen p (proof_in b)) s.limited.proof s.solved.answered.did.took
 
--- a call was carried out
+-- a solver that carried out a call is ready for the next
 pub did_ready : {C : Type 0} (seen : C → Writer) (a b : Solver C) (judge : ScriptState → ScriptState) (due : ScriptState → List Expected) → IsReadySolver a → CallEffect seen a b judge due → IsReadySolver b
 did_ready seen a b judge due ready did = record { solver = λ g. did.whole; going = did.failed; no_lines = none_still seen (proof_in a) (proof_in b) did.took ready.no_lines; unchecked = ap is_some did.took.1.listening ∙ ready.unchecked }
 
@@ -65,7 +65,7 @@ searched_ready seen budget report a b s = did_ready seen s.mid b _ _ s.limited.r
 pub ask_took : {C : Type 0} (seen : C → Writer) (a b c : Solver C) (user : List ℕ) (budget : ℕ) (report : AskReport) → ReplacesAssumptions seen a b user → Searched seen budget report b c → ComesBySteps seen (proof_in a) (proof_in c)
 ask_took seen a b c user budget report opened s = took_both seen (proof_in a) (proof_in b) (proof_in c) (opened.did Unknown).took (search_took seen budget report b c s)
 
--- a solver still agrees with the judge
+-- after an ask, the solver agrees with the state after the names of the ask were introduced
 pub agree_still : {C : Type 0} (seen : C → Writer) (a b c : Solver C) (user : List ℕ) (budget : ℕ) (report : AskReport) → ReplacesAssumptions seen a b user → Searched seen budget report b c
     → (j : ScriptState) (live : Live) → solver.NamesAgree a.names (steps_in a) j live → (then : Live) × solver.NamesAgree c.names (steps_in c) (bring_all (names_in user) j) then
 agree_still seen a b c user budget report opened s j live agree =
@@ -74,13 +74,13 @@ agree_still seen a b c user budget report opened s j live agree =
     let n = s.solved.answered.did.does.kept (bring_all (names_in user) j) k.live at in
     (n.live, n.agree)
 
--- some state of the judge agrees with it, and no name is refused where there is none
+-- after an ask, setting no assumptions is allowed
 pub allowed_still : {C : Type 0} (seen : C → Writer) (a b c : Solver C) (user : List ℕ) (budget : ℕ) (report : AskReport) → IsAllowed a user → ReplacesAssumptions seen a b user → Searched seen budget report b c → IsAllowed c []
 allowed_still seen a b c user budget report allowed opened s =
     let n = agree_still seen a b c user budget report opened s allowed.0 allowed.1 allowed.2 in
     (bring_all (names_in user) allowed.0, n.0, n.1, refl)
 
--- an answer was written, and nothing is assumed any more
+-- an answer was written, and the assumptions were removed
 pub asked_of : {C : Type 0} (seen : C → Writer) (old new : RunState C) (now : Solver C) (user text : List ℕ) (report : AskReport) (before after : Writer)
     → AskEffect seen old.budget report user text old.solver now → WriterTakes before after text → ReplacesAssumptions seen now new.solver [] → new.commands ≡ old.commands → new.refused ≡ old.refused → new.budget ≡ old.budget → new.asks.items ≡ old.asks.items ++ report ∷ []
     → CarriedOut seen old new (Ask (named_literals user)) before after
@@ -110,9 +110,9 @@ asked_of seen old new now user text report before after effect written closed co
       );
 }
 
--- WHERE A PART FAILED
+-- WHEN A PART OF A RUN FAILS
 
--- an answer that was found is right, of which all was written or a front
+-- the answer that was found is correct, and a prefix of its text was written
 module _ {C : Type 0} (seen : C → Writer) (old : RunState C) (now : Solver C) (user text : List ℕ) (report : AskReport) (before after : Writer) (effect : AskEffect seen old.budget report user text old.solver now)
     (left : Reading) (j : ScriptState) (live : Live) (means : AgreesWithState old.solver j live) (free : refusal_of j (Ask (named_literals user)) ≡ None) where
   right : IsRight (accepted (Ask (named_literals user)) j) (named_literals user) (outcome_for report.answer now)
@@ -144,7 +144,7 @@ pub nothing_stops : {T C : Type 0} (r : Result T RunFault) (old : RunState C) (c
 nothing_stops (Ok x) old c left w = tt
 nothing_stops (Err e) old c left w = λ j live means free. front_none old.budget old.solver.clock.rounds old.commands j (onto_commands (c ∷ []) left) w
 
--- of any fault
+-- what holds for every result holds for a fault
 pub on_err : {T : Type 0} (r : Result T RunFault) (P : Type 0) → P → OnErr r P
 on_err (Ok x) P p = tt
 on_err (Err e) P p = p
@@ -156,7 +156,7 @@ err_map (Err e) P Q f p = f p
 pub memory_fails : {C : Type 0} (seen : C → Writer) (e : RunFault) (a b : Solver C) → e ≡ fault.OutOfMemory → ComesBySteps seen (proof_in a) (proof_in b) → FailsSolver seen e a b
 memory_fails seen e a b m t = subst (λ x. FailsSolver seen x a b) (sym m) t
 
--- what a fault says of both writers
+-- the statement about both writers that belongs to a fault
 abbrev pub Says : {C : Type 0} → (C → Writer) → RunFault → Writer → Writer → Solver C → Solver C → Type 0
 Says seen e before after old new = FaultSays e (OneFailed before after × ComesBySteps seen (proof_in old) (proof_in new)) (NoneFailed before after × BreaksEmitting seen (proof_in old) (proof_in new)) (NoneFailed before after × ComesBySteps seen (proof_in old) (proof_in new))
 
@@ -172,7 +172,7 @@ answers_say seen e before after a b m f t = subst (λ x. Says seen x before afte
 pub memory_says : {C : Type 0} (seen : C → Writer) (e : RunFault) (before after : Writer) (a b : Solver C) → e ≡ fault.OutOfMemory → NoneFailed before after → ComesBySteps seen (proof_in a) (proof_in b) → Says seen e before after a b
 memory_says seen e before after a b m n t = subst (λ x. Says seen x before after a b) (sym m) (n, t)
 
--- what was sought left the solver's writer so
+-- an ask only adds steps to the proof
 pub ask_writes : {C : Type 0} (seen : C → Writer) (a c : Solver C) (user text : List ℕ) (budget : ℕ) (report : AskReport) → AskEffect seen budget report user text a c → ComesBySteps seen (proof_in a) (proof_in c)
 ask_writes seen a c user text budget report s = ask_took seen a s.mid c user budget report s.opened s.searched
 
@@ -184,7 +184,7 @@ pub written_of : {C : Type 0} (seen : C → Writer) (r : Result (Unit {0}) RunFa
 written_of seen (Ok x) before after s text t f = (takes_none before after text t, took_none seen (proof_in s))
 written_of seen (Err e) before after s text t f = answers_say seen e before after s s f.0 f.1 (took_none seen (proof_in s))
 
--- the solver alone was called
+-- only the solver was called
 pub solver_writes : {C : Type 0} (seen : C → Writer) (r : Result (Unit {0}) RunFault) (w : Writer) (a b : Solver C) → OnOk r (ComesBySteps seen (proof_in a) (proof_in b)) → IfErr r (λ e. FailsSolver seen e a b) → WritesBoth r seen w w a b
 solver_writes seen (Ok x) w a b t f = ((refl, refl), t)
 solver_writes seen (Err e) w a b t f = solver_says seen e w w a a b (refl, refl) (took_none seen (proof_in a)) f

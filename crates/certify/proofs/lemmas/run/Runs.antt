@@ -1,4 +1,4 @@
--- What a run has done at its end.
+-- The result of a run.
 use Rattle.std.proofs.Common.{ℕ, ◌+◌, ◌≤◌, ◌≡◌, ◌∙◌, true, false, Option, Some, None, List, [], ◌∷◌, ◌++◌, map, length, Result, Ok, Err, OnErr, OnOk, IfOk, inl, inr, refl, sym, ap, subst, arith, append-nil}
 use Rattle.std.specs.Prelude.{IsErrOf}
 use Rattle.std.proofs.Math.Logic.{∥∥₁_elim, ∥∥₁_prop}
@@ -56,7 +56,7 @@ use Rattle.certify.proofs.lemmas.run.Stopping.{front_whole}
 use Rattle.certify.proofs.lemmas.run.Written.{written_certifies}
 use Rattle.certify.specs.run.Quiet.{Proof}
 
--- a session before its first command, whose certificate is written to this writer
+-- that the run is before its first command, and its certificate is written to this writer
 pub record IsNew {C : Type 0} (seen : C → Writer) (budget : ℕ) (certificate : Writer) (s : RunState C) : Type 0 where
   pub steps : steps_in s.solver ≡ []
   pub target : target_of seen (proof_in s.solver) ≡ Open Varisat uncounted (empty_sink certificate)
@@ -69,17 +69,17 @@ pub record IsNew {C : Type 0} (seen : C → Writer) (budget : ℕ) (certificate 
 enough_so : (x y : Reader) (P Q : List ℕ → Type 0) → ((text : List ℕ) → P text → Q text) → GaveEnough x y P → GaveEnough x y Q
 enough_so x y P Q f h = record { text = h.text; front = h.front; over = h.over; few = h.few; holds = λ rest k. f (h.text ++ rest) (h.holds rest k) }
 
--- a reader of which nothing was read ahead
+-- a reader from which nothing was read ahead
 pub fresh_source : {R : Type 0} (seen : R → Reader) (r : R) (a : LastPiece) → waiting_bytes a ≡ [] → a.reads ≡ 0 → source_in seen r a ≡ unread (seen r)
 fresh_source seen r a e f = rw (e, f) refl
 
--- WHAT A TARGET TOOK
+-- WHAT A TARGET RECEIVED
 
 some_same : (a b : Writer) → ◌≡◌ {A = Option Writer} (Some a) (Some b) → a ≡ b
 some_same a b e = cc
 
 module _ {C : Type 0} (seen : C → Writer) (w : Writer) (p q : Proof C) (opened_at : target_of seen p ≡ Open Varisat uncounted (empty_sink w)) where
-  -- it carried what was made since
+  -- the target received the steps that were made since
   carried : (t : ComesBySteps seen p q) → TargetTakes (Open Varisat uncounted (empty_sink w)) t.0 (target_of seen q)
   carried t = subst (λ x. TargetTakes x t.0 (target_of seen q)) opened_at t.1.target
 
@@ -95,7 +95,7 @@ module _ {C : Type 0} (seen : C → Writer) (w : Writer) (p q : Proof C) (opened
   pub broke_target : BreaksEmitting seen p q → target_of seen q ≡ Closed → ⊥
   broke_target t e = let x : Broken (stopped t).0 ≡ Closed = sym (stopped t).1 ∙ e in absurd (cc)
 
-  -- given back where no call failed
+  -- if all steps were written, no call of the returned writer failed
   pub given_none : (given : Writer) → ComesBySteps seen p q → GivesWriter (target_of seen q) (Some given) → NoneFailed w given
   given_none given t g =
       let c = carried t in
@@ -103,7 +103,7 @@ module _ {C : Type 0} (seen : C → Writer) (w : Writer) (p q : Proof C) (opened
       let k = c.3.wrote.sent.takes in
       (ap (λ x. x.failures) e ∙ k.failures, ap (λ x. x.loans) e ∙ k.loans)
 
-  -- or where one did
+  -- if writing a step failed, exactly one call of the returned writer failed
   pub given_one : (given : Writer) → BreaksEmitting seen p q → GivesWriter (target_of seen q) (Some given) → OneFailed w given
   given_one given t g =
       let c = stopped t in
@@ -111,7 +111,7 @@ module _ {C : Type 0} (seen : C → Writer) (w : Writer) (p q : Proof C) (opened
       let k = c.2.breaks in
       (ap (λ x. x.failures) e ∙ k.failures, ap (λ x. x.failed) e ∙ k.failed, ap (λ x. x.loans) e ∙ k.loans)
 
-  -- or at the end
+  -- if the proof was closed, the returned writer received the complete text
   pub closed_text : (given : Writer) (t : ComesBySteps seen p q) → TakesAll (target_of seen q) (End ∷ []) given → TookText Varisat w given (End ∷ t.0)
   closed_text given t g = closed_is_text Varisat w given t.0 End (target_of seen q) (carried t) g
 
@@ -202,7 +202,7 @@ one_both : (u v w : Writer) → NoneFailed u v → OneFailed v w → OneFailed u
 one_both u v w n m = (let a = n.0 in let b = m.0 in omega arith, m.1, m.2 ∙ n.1)
 
 module _ {C : Type 0} (seen : C → Writer) (budget : ℕ) (w : Writer) (s t : RunState C) (fresh : IsNew seen budget w s) (x : Reader) (b : Source) (bounded : b.reads ≤ most_reads) (given : C) (u v z : Writer) where
-  -- all was served, and the end isn't finished
+  -- the script was served, but the run could not be ended
   ended_fault : (e : RunFault) (at : Option ℕ) → ServesScript seen start reading written (Ok at) (unread x) b s t u v → FaultSays e (OneFailed v z × ClosedBy seen t.solver given) (NoneFailed v z × GivenBack seen BreaksEmitting t.solver given) (NoneFailed v z × GivenBack seen ComesBySteps t.solver given)
       → FinishesOrFaults (Err e) budget (x, b.reader) (u, z) (w, seen given)
   ended_fault fault.ScriptRead at h f = absurd f
@@ -223,7 +223,7 @@ module _ {C : Type 0} (seen : C → Writer) (budget : ℕ) (w : Writer) (s t : R
       let k = h.2 b.reader.given (covers_given b) in
       ((took_kept false (unread x) b h.0).0, none_both u v z (k.written.failures, k.written.loans) f.0, given_none seen w (proof_in s.solver) f.1.proof fresh.target (seen given) (took_both seen (proof_in s.solver) (proof_in t.solver) f.1.proof k.took f.1.goes) f.1.gives)
 
-  -- not all was served
+  -- the script was not served to its end
   served_fault : (e : RunFault) → FailsWhole seen e (unread x) b s.solver t.solver u v → z ≡ v → GivesWriter (target_of seen (proof_in t.solver)) (Some (seen given)) → FinishesOrFaults (Err e) budget (x, b.reader) (u, z) (w, seen given)
   served_fault fault.ScriptRead h same g = (read_fails x b h.0.0 bounded h.0.1, subst (NoneFailed u) (sym same) h.1, given_none seen w (proof_in s.solver) (proof_in t.solver) fresh.target (seen given) h.2 g)
   served_fault fault.AnswersWrite h same g = (h.0.1.failures, subst (OneFailed u) (sym same) h.1, given_none seen w (proof_in s.solver) (proof_in t.solver) fresh.target (seen given) h.2 g)
@@ -247,7 +247,7 @@ module _ {C : Type 0} (seen : C → Writer) (budget : ℕ) (w : Writer) (s t : R
   runs_so (Ok at) (Err e) h f = ended_fault e at h f.0
   runs_so (Err e) r h f = subst (λ (q : Result Summary RunFault). FinishesOrFaults q budget (x, b.reader) (u, z) (w, seen given)) (sym f.0) (served_fault e h.0 f.1 f.2)
 
-  -- what it has written of the answers
+  -- that the writer received a prefix of correct answers
   abbrev Front : List ℕ → Writer → Type 0
   Front text w = TookAnswersFront budget 0 1 start (reading text) u w
 
@@ -269,7 +269,7 @@ module _ {C : Type 0} (seen : C → Writer) (budget : ℕ) (w : Writer) (s t : R
   unfinished_so (Err e) r h f = subst (λ (q : Result Summary RunFault). OnErr q (Unfinished budget (x, b.reader) (u, z))) (sym f.0)
       (served_front e h.0 (λ total k. subst (λ (w : Writer). Front (rest_in total (unread x)) w) (sym f.1) (first_command (rest_in total (unread x)) v (h.1 total k))))
 
-  -- the certificate's writer took a prefix of the text of the steps that were made
+  -- the certificate's writer received a prefix of the text of the steps that were made
   made_front : ComesBySteps seen (proof_in s.solver) (proof_in t.solver) → GivesWriter (target_of seen (proof_in t.solver)) (Some (seen given)) → ∥ ((k : StepsFront w (seen given)) × (k.made ≡ steps_in t.solver)) ∥₁
   made_front took gives =
       let all : steps_in t.solver ≡ took.0 = took.1.history ∙ ap (λ xs. took.0 ++ xs) fresh.steps ∙ append-nil took.0 in
@@ -277,7 +277,7 @@ module _ {C : Type 0} (seen : C → Writer) (budget : ℕ) (w : Writer) (s t : R
       let front = carried_front w (seen given) took.0 (target_of seen (proof_in t.solver)) (subst AreAllowedSteps all may) (carried seen w (proof_in s.solver) (proof_in t.solver) fresh.target took) gives in
       ∣ (front.0, front.1 ∙ sym all) ∣₁)
 
-  -- why a counter has ended
+  -- the reason if a counter has ended
   served_end : (e : RunFault) → e ≡ fault.CounterEnd → FailsWhole seen e (unread x) b s.solver t.solver u v → GivesWriter (target_of seen (proof_in t.solver)) (Some (seen given))
       → IsCaused e (HasFullStore t.solver) ((total : List ℕ) → Covers b total → Exceeds s.commands start (reading (rest_in total (unread x))) (steps_in t.solver)) → CounterEnds (x, b.reader) (w, seen given)
   served_end fault.CounterEnd q h gives k =
@@ -295,7 +295,7 @@ module _ {C : Type 0} (seen : C → Writer) (budget : ℕ) (w : Writer) (s t : R
   counter_so (Ok at) (Err e) h f q = let k : e ≡ fault.CounterEnd = cc in absurd (subst (λ i. IsCaused i ⊥ ⊥) k f.2)
   counter_so (Err e) r h f q = let k : ◌≡◌ {A = Result Summary RunFault} (Err e) (Err fault.CounterEnd) = sym f.0 ∙ q in served_end e (cc) h.0 f.2 h.2
 
-  -- what it has written of the certificate
+  -- a run that failed reached the solver's state by steps
   fails_went : (e : RunFault) → FailsWhole seen e (unread x) b s.solver t.solver u v → ReachesBySteps seen s.solver t.solver
   fails_went fault.CertificateWrite h = went_broke seen s.solver t.solver h.2
   fails_went e h = went_took seen s.solver t.solver h.2
@@ -332,7 +332,7 @@ module _ {C : Type 0} (seen : C → Writer) (budget : ℕ) (w : Writer) (s t : R
   is_ready (Ok at) h = h.1
   is_ready (Err e) h = tt
 
--- A WRITER THAT WAS LENT
+-- A LENT WRITER
 
 unlent_names : (a b : Writer) (given back : ℕ) → (lent_writer back b).loans ≡ (lent_writer given a).loans → given ≡ back
 unlent_names a b given back loans = let h : ◌≡◌ {A = List ℕ} (back ∷ b.loans) (given ∷ a.loans) = loans in cc
@@ -382,7 +382,7 @@ module _ (budget : ℕ) (x y : Reader) (u z a b : Writer) (given back : ℕ) whe
   }
   unlent (Err e) h = unlent_fault e h
 
--- given back, it is what it was at the end of the loan
+-- once a lent writer is returned, the result of the run holds for it
 pub runs_lent : {C : Type 0} (seen : C → Writer) (budget : ℕ) (x y : Reader) (u z : Writer) (a c v : C) (given back : ℕ) → (given ≡ back → c ≡ v) → (r : Result Summary RunFault)
     → FinishesOrFaults r budget (x, y) (u, z) (lent_writer given (seen a), lent_writer back (seen v)) → FinishesOrFaults r budget (x, y) (u, z) (seen a, seen c)
 runs_lent seen budget x y u z a c v given back same r h =
@@ -405,7 +405,7 @@ unlent_front a b given back k = record {
 unlent_steps : (a b : Writer) (given back : ℕ) → TookSteps (lent_writer given a, lent_writer back b) → TookSteps (a, b)
 unlent_steps a b given back h = ∥∥₁_elim h ∥∥₁_prop (λ (k : StepsFront (lent_writer given a) (lent_writer back b)). ∣ unlent_front a b given back k ∣₁)
 
--- the same of what it took of the certificate
+-- the same for the steps that the writer received
 pub steps_lent : {C : Type 0} (seen : C → Writer) (budget : ℕ) (x y : Reader) (u z : Writer) (a c v : C) (given back : ℕ) → (given ≡ back → c ≡ v) → (r : Result Summary RunFault)
     → FinishesOrFaults r budget (x, y) (u, z) (lent_writer given (seen a), lent_writer back (seen v)) → TookSteps (lent_writer given (seen a), lent_writer back (seen v)) → TookSteps (seen a, seen c)
 steps_lent seen budget x y u z a c v given back same r h k =
@@ -417,7 +417,7 @@ unfolding unlent_front
 unlent_exceeds script a b given back (inl many) = inl many
 unlent_exceeds script a b given back (inr h) = inr (∥∥₁_elim h ∥∥₁_prop (λ k. ∣ (unlent_front a b given back k.0, k.1, k.2) ∣₁))
 
--- and of why a counter has ended
+-- the same for the reason why a counter has ended
 pub counter_lent : {C : Type 0} (seen : C → Writer) (budget : ℕ) (x y : Reader) (u z : Writer) (a c v : C) (given back : ℕ) → (given ≡ back → c ≡ v) → (r : Result Summary RunFault)
     → FinishesOrFaults r budget (x, y) (u, z) (lent_writer given (seen a), lent_writer back (seen v)) → CounterEnds (x, y) (lent_writer given (seen a), lent_writer back (seen v)) → CounterEnds (x, y) (seen a, seen c)
 counter_lent seen budget x y u z a c v given back same r h k =
@@ -428,7 +428,7 @@ counter_lent seen budget x y u z a c v given back same r h k =
       holds = λ rest f. subst (λ (q : _). ExceedsWritten (reading (k.text ++ rest)) (seen a, seen q)) (sym is_back) (unlent_exceeds (reading (k.text ++ rest)) (seen a) (seen v) given back (k.holds rest f));
     }
 
--- WHAT A RUN PROMISES
+-- WHAT A RUN GUARANTEES
 
 module _ (budget : ℕ) (x y : Reader) (u z a b : Writer) where
   pub answered_if : (r : Result Summary RunFault) → FinishesOrFaults r budget (x, y) (u, z) (a, b) → IfOk r (λ s. WritesAnswers budget s (x, y) (u, z))

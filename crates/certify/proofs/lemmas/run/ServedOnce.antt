@@ -1,4 +1,4 @@
--- One command that is served.
+-- One command is served.
 use Rattle.std.proofs.Common.{ℕ, ◌+◌, ◌≡◌, Some, None, List, [], ◌∷◌, refl, sym, ap, subst}
 use Rattle.sat_base.specs.script.Script.{Literal, Command, Ask, ScriptEnding}
 use Rattle.sat_base.specs.script.ScriptState.{ScriptState, Refusal, accepted, accepted_of, refusal_of}
@@ -12,7 +12,7 @@ use Rattle.certify.specs.run.Serving.{RunPlace, Serves, place_after}
 use Rattle.certify.specs.run.Stretches.{AskStretches, IsNoAsk, ServesCommands, MayFor, Stretch, due_for, made_ask, made_one}
 use Rattle.certify.specs.declared.summary.AskReport.{AskReport}
 
--- A COMMAND THAT IS REFUSED
+-- A REFUSED COMMAND
 
 pub accepted_refused : (j : ScriptState) (c : Command) (r : Refusal) (cs : List Command) → refusal_of j c ≡ Some r → accepted_of j (c ∷ cs) ≡ accepted_of j cs
 accepted_refused j c r cs e = rw e refl
@@ -28,7 +28,7 @@ serves_refused budget a c r e = record {
   follows = λ to left rest counts x. subst (λ cs. ServesCommands a.judge a.steps to cs rest counts) (sym (accepted_refused a.judge c r left e)) x;
 }
 
--- ONE THAT IS NO ASK
+-- A COMMAND THAT IS NO ASK
 
 pub accepted_next : (j : ScriptState) (c : Command) (cs : List Command) → refusal_of j c ≡ None → accepted_of j (c ∷ cs) ≡ c ∷ accepted_of (accepted c j) cs
 accepted_next j c cs e = rw e refl

@@ -1,4 +1,4 @@
--- How a script is served that is read as its commands are wanted.
+-- Serving a script whose commands are read as they are needed.
 use Rattle.std.proofs.Common.{ℕ, ◌+◌, ◌≡◌, ◌∙◌, true, false, Option, Some, None, List, [], ◌∷◌, ◌++◌, map, length, length-append, Result, Ok, Err, OnOk, IfOk, refl, sym, ap, subst, arith, append_assoc, append-nil}
 use Rattle.std.proofs.lemmas.List.{map-append}
 use Rattle.sat_base.specs.declared.device.whole.ReadError.{ReadError}
@@ -71,7 +71,7 @@ to_then budget a b cs script to s t rs qs k l f g = record {
       (f.follows to script.0 g.outcomes (rounds_of_asks qs) g.follows);
 }
 
--- SESSIONS
+-- STATES OF A RUN
 
 module _ {C : Type 0} (seen : C → Writer) where
   pub served_none : (j : ScriptState) (s : RunState C) (w : Writer) → HasStateBetweenCommands s j → ServedAll seen j [] s s w w
@@ -91,7 +91,7 @@ module _ {C : Type 0} (seen : C → Writer) where
     serves = serves_none s.budget (place_in s j);
   }
 
-  -- one more
+  -- one more command was served
   pub served_more : (j : ScriptState) (cs : List Command) (c : Command) (a b d : RunState C) (u v w : Writer) → ServedAll seen j cs a b u v → ServedNext seen b d c v w → ServedAll seen j (cs ++ c ∷ []) a d u w
   served_more j cs c a b d u v w f g =
       let h = g.serves f.judge f.at in
@@ -115,7 +115,7 @@ module _ {C : Type 0} (seen : C → Writer) where
             (subst (λ n. Serves n (place_in b f.judge) (place_in d (after_command c f.judge)) (c ∷ []) g.text g.reports g.refused) f.budget h.1);
       }
 
-  -- and the end
+  -- commands were served, and then the rest of the script
   pub served_whole : (j : ScriptState) (cs : List Command) (script : Reading) (k : ℕ) (at : Option ℕ) (a b d : RunState C) (u v w : Writer) → (f : ServedAll seen j cs a b u v) → ServesWhole seen f.judge script k at b d v w → ServesWhole seen j (onto_commands cs script) (length cs + k) at a d u w
   served_whole j cs script k at a b d u v w f g =
       let m = f.counted in let n = g.counted in
@@ -136,7 +136,7 @@ module _ {C : Type 0} (seen : C → Writer) where
             (subst (λ n. ServesTo n (place_in b f.judge) script (steps_in d.solver) g.text g.reports g.refused) f.budget g.serves);
       }
 
-  -- one command is the last
+  -- the last command was served
   pub served_last : (j : ScriptState) (c : Command) (script : Reading) (at : Option ℕ) (a b d : RunState C) (u v w : Writer) → HasStateBetweenCommands a j → ServedNext seen a b c u v → ((i : ScriptState) → HasStateBetweenCommands b i → ServesWhole seen i script 0 at b d v w) → ServesWhole seen j (onto_commands (c ∷ []) script) 1 at a d u w
   served_last j c script at a b d u v w is f g =
       let h : ServedAll seen j (c ∷ []) a b u v = served_more j [] c a a b u u v (served_none j a u is) f in
@@ -148,7 +148,7 @@ module _ {C : Type 0} (seen : C → Writer) where
 
   -- THE END
 
-  -- nothing more is told
+  -- nothing is written at a clean end
   pub ends_clean : (j : ScriptState) (s : RunState C) (w : Writer) → ServesWhole seen j ([], Clean) 0 None s s w w
   ends_clean j s w = record {
     took = took_none seen (proof_in s.solver);
@@ -163,7 +163,7 @@ module _ {C : Type 0} (seen : C → Writer) where
     serves = to_end s.budget (place_in s j) Clean;
   }
 
-  -- its last line
+  -- the last line is written at a malformed end
   pub ends_malformed : (j : ScriptState) (a b : RunState C) (u v : Writer) (number : ℕ) → number ≡ a.commands + 1 → b.solver ≡ a.solver → b.commands ≡ a.commands → b.refused ≡ a.refused → b.asks ≡ a.asks → WriterTakes u v (malformed_line number) → ServesWhole seen j ([], Malformed) 0 (Some number) a b u v
   ends_malformed j a b u v number e solver commands refused asks written = record {
     took = subst (λ x. ComesBySteps seen (proof_in a.solver) (proof_in x)) (sym solver) (took_none seen (proof_in a.solver));
@@ -178,7 +178,7 @@ module _ {C : Type 0} (seen : C → Writer) where
     serves = subst (λ x. ServesTo a.budget (place_in a j) ([], Malformed) (steps_in x) (malformed_line (a.commands + 1)) [] 0) (sym solver) (to_end a.budget (place_in a j) Malformed);
   }
 
-  -- the ask after a header, which has no number
+  -- the answer to the ask that a header adds does not depend on its number
   unnumbered : (j : ScriptState) (k l : ℕ) (os : List Outcome) → answers_from k j (Ask [] ∷ []) Clean os ≡ answers_from l j (Ask [] ∷ []) Clean os
   unnumbered j k l [] = refl
   unnumbered j k l (o ∷ os) = refl
@@ -234,7 +234,7 @@ module _ {C : Type 0} (seen : C → Writer) where
 
   -- FAULTS
 
-  -- after one command that was served
+  -- a fault after one command was served
   pub stops_following : {T : Type 0} (r : Result T RunFault) (c : Command) (script : Reading) (a b : RunState C) (u v w : Writer) → ServedNext seen a b c u v → StopsOver r b script v w → StopsOver r a (onto_commands (c ∷ []) script) u w
   stops_following (Ok x) c script a b u v w f g = tt
   stops_following (Err e) c script a b u v w f g = λ j at.
@@ -242,7 +242,7 @@ module _ {C : Type 0} (seen : C → Writer) where
       front_later a.budget (place_in a j) (place_in b (after_command c j)) (c ∷ []) script f.text f.reports f.refused u v w h.1 f.written
       (subst (λ budget. TookAnswersFront budget b.solver.clock.rounds (b.commands + 1) (after_command c j) script v w) f.budget (g (after_command c j) h.0))
 
-  -- what a part after others says of its devices
+  -- a fault of a part of a run, after parts that succeeded
   pub fails_then : (e : RunFault) (a b : Source) (p q r : Solver C) (u v w : Writer) → TakesSomeOrEnds a b → NoneFailed u v → ComesBySteps seen (proof_in p) (proof_in q)
       → FaultSays e (OneFailed v w × ComesBySteps seen (proof_in q) (proof_in r)) (NoneFailed v w × BreaksEmitting seen (proof_in q) (proof_in r)) (NoneFailed v w × ComesBySteps seen (proof_in q) (proof_in r)) → FailsWhole seen e a b p r u w
   fails_then fault.ScriptRead a b p q r u v w k n t h = absurd h
@@ -253,7 +253,7 @@ module _ {C : Type 0} (seen : C → Writer) where
   fails_then fault.CertificateWrite a b p q r u v w k n t h = (k, (h.0.0 ∙ n.0, h.0.1 ∙ n.1), broke_later seen (proof_in p) (proof_in q) (proof_in r) t h.1)
   fails_then e a b p q r u v w k n t h = (k, (h.0.0 ∙ n.0, h.0.1 ∙ n.1), took_both seen (proof_in p) (proof_in q) (proof_in r) t h.1)
 
-  -- one after another
+  -- a part of a run, after one that succeeded
   pub both_then : {B : Type 0} (r : Result B RunFault) (p q s : Solver C) (u v w : Writer) → NoneFailed u v × ComesBySteps seen (proof_in p) (proof_in q) → WritesBoth r seen v w q s → WritesBoth r seen u w p s
   both_then (Err fault.ScriptRead) p q s u v w f g = absurd g
   both_then (Err fault.AnswersWrite) p q s u v w f g = ((let n = f.0.0 in let m = g.0.0 in omega arith, g.0.1, g.0.2 ∙ f.0.1), took_both seen (proof_in p) (proof_in q) (proof_in s) f.1 g.1)
@@ -284,7 +284,7 @@ module _ {C : Type 0} (seen : C → Writer) (j : ScriptState) (text counted : Li
   none_failed : NoneFailed u v
   none_failed = (through.served.written.failures, through.served.written.loans)
 
-  -- a front of right answers after those to the commands that were served
+  -- a prefix of correct answers, after those to the commands that were served
   following : (c : Source) (script : List ℕ → Reading) (w : Writer) → ((total : List ℕ) → Covers c total → Covers b total) → ((total : List ℕ) → Covers c total → through.left (rest_in total b) ≡ script total)
       → ((total : List ℕ) → Covers c total → TookAnswersFront mid.budget mid.solver.clock.rounds (mid.commands + 1) through.served.judge (script total) v w)
       → (total : List ℕ) → Covers c total → TookAnswersFront old.budget old.solver.clock.rounds (old.commands + 1) j (text (rest_in total a)) u w
@@ -297,7 +297,7 @@ module _ {C : Type 0} (seen : C → Writer) (j : ScriptState) (text counted : Li
   served_so_far : (c : Source) → ((total : List ℕ) → Covers c total → Covers b total) → (total : List ℕ) → Covers c total → TookAnswersFront old.budget old.solver.clock.rounds (old.commands + 1) j (text (rest_in total a)) u v
   served_so_far c back = following c (λ total. through.left (rest_in total b)) v back (λ total k. refl) (λ total k. front_none mid.budget mid.solver.clock.rounds (mid.commands + 1) through.served.judge (through.left (rest_in total b)) v)
 
-  -- why no more was served, but for devices and memory
+  -- why no further command was served, except for device and allocation failures
   caused : (e : RunFault) (c : Source) (new : RunState C) (script : List ℕ → Reading) → ((total : List ℕ) → Covers c total → Covers b total) → ((total : List ℕ) → Covers c total → through.left (rest_in total b) ≡ script total)
       → IsCaused e (HasFullStore new.solver) ((total : List ℕ) (i : ScriptState) → HasStateBetweenCommands mid i → Exceeds mid.commands i (script total) (steps_in new.solver)) → IsCaused e (HasFullStore new.solver) ((total : List ℕ) → Covers c total → Exceeds old.commands j (text (rest_in total a)) (steps_in new.solver))
   caused e c new script back is h =
@@ -306,7 +306,7 @@ module _ {C : Type 0} (seen : C → Writer) (j : ScriptState) (text counted : Li
       (λ k total y. subst (λ s. Exceeds old.commands j s (steps_in new.solver)) (sym (through.reads total (back total y) ∙ ap (onto_commands through.commands) (is total y)))
       (exceeds_later old.commands mid.commands through.commands (script total) j (steps_in new.solver) f.counted (subst (λ i. Exceeds mid.commands i (script total) (steps_in new.solver)) f.judges (k total f.judge f.at)))) h
 
-  -- the script can't be read any more
+  -- the script cannot be read any further
   pub unread : (e : ReadError) (c : Source) → NextComes (Err e) b c reader after_reader → ServesScript seen j text counted (Err (run_fault e)) a c old mid u v
   unread errors.Failed c f = ((failed_then a b c through.took f, none_failed, through.served.took), served_so_far c (λ total k. covers_fault b c f.0 total mid_open f.1 k), tt)
   unread errors.OutOfMemory c f = ((took_passed true a c (took_then true a b c through.took f), none_failed, through.served.took), served_so_far c (λ total k. covers_took true b c total mid_open f k), tt)

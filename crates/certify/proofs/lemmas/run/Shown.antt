@@ -1,4 +1,4 @@
--- The rounds that asks took stand in the certificate: each but the last of an ask has derived a clause there.
+-- Every round of an ask except the last derived a clause. So a certificate has at least as many bytes as rounds.
 use Rattle.std.proofs.Common.{ℕ, ◌+◌, ◌*◌, ◌<◌, ◌≤◌, ◌≡◌, ◌∙◌, Bool, true, false, List, [], ◌∷◌, ◌++◌, length, reverse, sym, ap, arith, length-append, append_assoc, append-nil, lt_of_not-le, inl, inr}
 use Rattle.std.specs.Prelude.{sum}
 use Rattle.std.proofs.lemmas.List.{length-reverse}
@@ -11,7 +11,7 @@ use Rattle.certify.specs.run.Advancing.{AdvanceTimesStored}
 use Rattle.certify.specs.run.Learning.{EachLearns, assumed_times}
 use Rattle.certify.specs.run.Stretches.{LearnsEachRound}
 
--- a list of steps spells no fewer bytes
+-- the text of steps has at least one byte for each step
 spelt_long : (steps : List Step) (text : List ℕ) → SpellsSteps steps text → length steps ≤ length text
 spelt_long [] text h = omega arith
 spelt_long (step ∷ steps) text h =
@@ -20,7 +20,7 @@ spelt_long (step ∷ steps) text h =
     let whole = ap length h.4 in
     omega (arith, rest, first, whole, length-append h.0 h.1)
 
--- HOW OFTEN SOMETHING IS ASSUMED
+-- HOW OFTEN ASSUMPTIONS ARE SET
 
 once : Step → ℕ
 once step = assumed_times (step ∷ [])
@@ -34,7 +34,7 @@ assumed_append : (xs ys : List Step) → assumed_times (xs ++ ys) ≡ assumed_ti
 assumed_append [] ys = omega arith
 assumed_append (x ∷ xs) ys = omega (arith, assumed_more x (xs ++ ys), assumed_more x xs, assumed_append xs ys)
 
--- of two ends of one list the longer one has no fewer
+-- of two suffixes of a list, the longer one sets assumptions at least as often
 ends : (a b x y : List Step) → a ++ x ≡ b ++ y → length y ≤ length x → assumed_times y ≤ assumed_times x
 ends [] b x y e h = let c = ap assumed_times e in omega (arith, c, assumed_append b y)
 ends (s ∷ a) [] x y e h = let c = ap length e in absurd (omega (arith, c, h, length-append (s ∷ a) x))
@@ -54,7 +54,7 @@ few_rounds false (Sat line) rounds learned h = omega (arith, h)
 few_rounds false (Unsat core) rounds learned h = omega (arith, h)
 
 module _ (steps : List Step) where
-  -- after an end of the steps that has no more assumptions than the earlier asks
+  -- the rounds of later asks, after steps that set assumptions at most as often as the earlier asks
   from_here : (asks : ℕ) (outcomes : List Outcome) (rounds : List ℕ) → EachLearns steps asks outcomes rounds
       → (front here : List Step) → steps ≡ front ++ here → assumed_times here ≤ 2 * asks → sum rounds + length here ≤ length steps
   from_here asks [] [] h front here e few = let c = ap length e in omega (arith, c, length-append front here)
@@ -76,7 +76,7 @@ module _ (steps : List Step) where
       let more : sum (n ∷ ns) ≡ n + sum ns = sum_by-cons (λ x. x) n ns in
       omega (arith, rest, longer, whole, learned, took, more)
 
--- a certificate has no fewer bytes than all asks took rounds
+-- a certificate has at least as many bytes as there were rounds
 pub rounds_are_shown : (steps : List Step) (outcomes : List Outcome) (rounds certificate : List ℕ)
     → EachLearns steps 0 outcomes rounds → SpellsSteps (reverse steps) certificate → sum rounds ≤ length certificate
 rounds_are_shown steps outcomes rounds certificate h spells =

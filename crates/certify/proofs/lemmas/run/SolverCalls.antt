@@ -8,7 +8,7 @@ use Rattle.certify.specs.declared.summary.Answer.TheVariants as kind
 use Rattle.certify.specs.run.SolverCalls.{AnswerIs, Limited, Searched, Solved}
 use Rattle.certify.specs.run.Quiet.{Solver}
 
--- what a search came to, with its rounds
+-- the result of a search, with its number of rounds
 pub searched : {C : Type 0} (seen : C → Writer) (budget : ℕ) (answer : Answer) (old mid new : Solver C) (before after : ℕ) → Limited budget old mid → before ≡ mid.clock.rounds → after ≡ new.clock.rounds → Solved seen answer mid new
     → Searched seen budget (record { answer = answer; steps = after - before }) old new
 searched seen budget answer old mid new before after limited at now solved = record {

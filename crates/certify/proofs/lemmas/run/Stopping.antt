@@ -1,4 +1,4 @@
--- What a part of a run that failed has written of the answers.
+-- What a run that failed has written of the answers.
 use Rattle.std.proofs.Common.{ℕ, ◌+◌, ◌*◌, ◌≡◌, ◌∙◌, Option, Some, None, List, [], ◌∷◌, ◌++◌, map, length, Err, append_assoc, refl, sym, ap, subst, arith}
 use Rattle.std.proofs.lemmas.List.{append-nil, map-append}
 use Rattle.std.proofs.lemmas.Nat.{pow_pos}
@@ -20,7 +20,7 @@ use Rattle.certify.specs.run.Serving.{RunPlace, Serves}
 use Rattle.certify.specs.run.ServedScript.{ServesTo}
 use Rattle.certify.proofs.lemmas.run.ServedOnce.{accepted_next, accepted_refused}
 
--- UNKNOWN IS RIGHT
+-- UNKNOWN IS CORRECT
 
 abbrev unknowns : List Command → List Outcome
 unknowns [] = []
@@ -40,7 +40,7 @@ unknowns_right j (Sample names ∷ commands) = unknowns_right (accepted (Sample 
 
 -- ROUNDS OF THE FIRST ASKS
 
--- of all asks, so of the first
+-- bounds for all asks are bounds for the first ones
 spent_first : (budget before : ℕ) (ns : List ℕ) (rs qs : List AskReport) → AreWithinBudget budget before ns (rs ++ qs) → AreSpentSoFar budget before ns rs
 spent_first budget before ns [] qs h = tt
 spent_first budget before [] (r ∷ rs) qs h = h
@@ -49,7 +49,7 @@ spent_first budget before (n ∷ ns) (r ∷ rs) qs h = (h.0, h.1, spent_first bu
 not_unknown : kind.Sat ≡ kind.Unknown → ⊥
 not_unknown e = cc
 
--- a report that any ask can have
+-- a report within the bounds of any ask
 abbrev quick : AskReport
 quick = record { answer = kind.Sat; steps = 0 }
 
@@ -59,7 +59,7 @@ quick_spent budget before = record { within = omega arith; unknown = λ e. absur
 quick_bounded : (n budget before : ℕ) → IsBounded n budget before quick
 quick_bounded n budget before = record { few = pow_pos (2 * n + 3); answered = λ le. not_unknown }
 
--- reports for the other asks
+-- there are reports within the bounds of the other asks
 padded : (budget before : ℕ) (ns : List ℕ) (rs : List AskReport) → AreSpentSoFar budget before ns rs → (qs : List AskReport) × AreWithinBudget budget before ns (rs ++ qs)
 padded budget before [] [] h = ([], tt)
 padded budget before (n ∷ ns) [] h = let k = padded budget (before + 0) ns [] tt in (quick ∷ k.0, (quick_spent budget before, quick_bounded n budget before, k.1))
@@ -91,7 +91,7 @@ module _ (budget before n : ℕ) (j : ScriptState) where
     spent = h.spent;
   }
 
-  -- the answer to the next command, which is right, and the rounds that it took
+  -- the answer to an ask, which is correct, is a prefix of correct answers
   begins_ask : (ls : List Literal) (o : Outcome) (report : AskReport) (left : Reading) → refusal_of j (Ask ls) ≡ None → IsRight (accepted (Ask ls) j) ls o → report.answer ≡ answer_kind o → SpendsWithinBudget budget before report
       → IsBounded (accepted (Ask ls) j).identity_count budget before report → BeginAnswers budget before n j (onto_commands (Ask ls ∷ []) left) (outcome_text o)
   begins_ask ls o report left e right same spends bounded =
@@ -130,7 +130,7 @@ module _ (budget before n : ℕ) (j : ScriptState) where
     spent = tt;
   }
 
--- what was answered before, and a prefix after it
+-- the answers to earlier commands, and then a prefix of those to the later ones
 begins_later : (budget : ℕ) (a b : RunPlace) (cs : List Command) (script : Reading) (text bytes : List ℕ) (rs : List AskReport) (k : ℕ)
     → Serves budget a b cs text rs k → BeginAnswers budget b.rounds b.number b.judge script bytes → BeginAnswers budget a.rounds a.number a.judge (onto_commands cs script) (text ++ bytes)
 begins_later budget a b cs script text bytes rs k f g =
@@ -155,7 +155,7 @@ none_left : (others : List Outcome) → length others ≡ 0 → others ≡ []
 none_left [] e = refl
 none_left (o ∷ os) e = absurd (cc)
 
--- WHAT A WRITER TOOK
+-- WHAT A WRITER RECEIVED
 
 pub bytes_none : (w : Writer) → TookBytes w w []
 bytes_none w = record { taken = sym (append-nil w.taken); known_bytes = appends_none w.contents }
@@ -172,7 +172,7 @@ bytes_later u v w text bytes t b = record {
   known_bytes = appends_more u.contents v.contents w.contents text bytes t.known_bytes b.known_bytes;
 }
 
--- BOTH
+-- PREFIXES THAT A WRITER RECEIVED
 
 module _ (budget before n : ℕ) (j : ScriptState) where
   -- nothing was written
@@ -185,15 +185,15 @@ module _ (budget before n : ℕ) (j : ScriptState) where
   front_broken : (script : Reading) (u v : Writer) (text : List ℕ) → BeginAnswers budget before n j script text → WriterBreaks u v text → TookAnswersFront budget before n j script u v
   front_broken script u v text h b = record { bytes = b.front; took = bytes_broken u v text b; front = begins_less budget before n j script b.front b.following (subst (BeginAnswers budget before n j script) b.whole h) }
 
-  -- the line of a refusal
+  -- a part of the line of a refusal was written
   pub front_refused : (c : Command) (r : Refusal) (left : Reading) (u v : Writer) → refusal_of j c ≡ Some r → WriterBreaks u v (refused_line n r) → TookAnswersFront budget before n j (onto_commands (c ∷ []) left) u v
   front_refused c r left u v e b = front_broken (onto_commands (c ∷ []) left) u v (refused_line n r) (begins_refused budget before n j c r left e) b
 
-  -- that of a text that is malformed
+  -- a part of the last line for a malformed text was written
   pub front_malformed : (u v : Writer) → WriterBreaks u v (malformed_line n) → TookAnswersFront budget before n j ([], Malformed) u v
   front_malformed u v b = front_broken ([], Malformed) u v (malformed_line n) (begins_malformed budget before n j) b
 
-  -- the answer to an ask, or a front of it
+  -- the answer to an ask, or a prefix of it, was written
   module _ (ls : List Literal) (o : Outcome) (report : AskReport) (left : Reading) (u v : Writer) (e : refusal_of j (Ask ls) ≡ None) (right : IsRight (accepted (Ask ls) j) ls o) (same : report.answer ≡ answer_kind o)
       (spends : SpendsWithinBudget budget before report) (bounded : IsBounded (accepted (Ask ls) j).identity_count budget before report) where
     pub front_answered : WriterTakes u v (outcome_text o) → TookAnswersFront budget before n j (onto_commands (Ask ls ∷ []) left) u v
@@ -202,7 +202,7 @@ module _ (budget before n : ℕ) (j : ScriptState) where
     pub front_cut : WriterBreaks u v (outcome_text o) → TookAnswersFront budget before n j (onto_commands (Ask ls ∷ []) left) u v
     front_cut b = front_broken (onto_commands (Ask ls ∷ []) left) u v (outcome_text o) (begins_ask budget before n j ls o report left e right same spends bounded) b
 
--- after commands that were served
+-- a prefix was written after the answers to commands that were served
 pub front_later : (budget : ℕ) (a b : RunPlace) (cs : List Command) (script : Reading) (text : List ℕ) (rs : List AskReport) (k : ℕ) (u v w : Writer)
     → Serves budget a b cs text rs k → WriterTakes u v text → TookAnswersFront budget b.rounds b.number b.judge script v w → TookAnswersFront budget a.rounds a.number a.judge (onto_commands cs script) u w
 front_later budget a b cs script text rs k u v w f t g = record {
@@ -211,12 +211,12 @@ front_later budget a b cs script text rs k u v w f t g = record {
   front = begins_later budget a b cs script text g.bytes rs k f g.front;
 }
 
--- all that was answered to commands that were served
+-- only the answers to commands that were served were written
 pub front_served : (budget : ℕ) (a b : RunPlace) (cs : List Command) (script : Reading) (text : List ℕ) (rs : List AskReport) (k : ℕ) (u v : Writer)
     → Serves budget a b cs text rs k → WriterTakes u v text → TookAnswersFront budget a.rounds a.number a.judge (onto_commands cs script) u v
 front_served budget a b cs script text rs k u v f t = front_later budget a b cs script text rs k u v v f t (front_none budget b.rounds b.number b.judge script v)
 
--- to the whole script, after which nothing more was written
+-- the answers to the complete script were written, and nothing more
 pub front_whole : (budget : ℕ) (a : RunPlace) (script : Reading) (to : List Step) (text : List ℕ) (rs : List AskReport) (k : ℕ) (u v w : Writer)
     → ServesTo budget a script to text rs k → WriterTakes u v text → TookBytes v w [] → TookAnswersFront budget a.rounds a.number a.judge script u w
 front_whole budget a script to text rs k u v w f t b = record {
@@ -240,6 +240,6 @@ keeps_appends None b k = tt
 keeps_appends (Some x) None k = absurd k
 keeps_appends (Some x) (Some y) k = k ∙ sym (append-nil x)
 
--- a flush gives a writer nothing
+-- a flush that fails adds no bytes
 pub bytes_flushed : {E : Type 0} (e : E) (u v : Writer) → FlushesOnce {E = E} (Err e) u v → TookBytes u v []
 bytes_flushed e u v f = record { taken = f.taken ∙ sym (append-nil u.taken); known_bytes = keeps_appends u.contents v.contents f.known_bytes }

@@ -1,4 +1,4 @@
--- A run's steps end with its closing end, and where its commands hide nothing, none of them deletes a variable.
+-- The steps of a run end with its only `End`. If its commands hide no name, no step deletes a variable.
 use Rattle.std.proofs.Common.{ℕ, ◌≡◌, ◌≢◌, Bool, true, false, ◌||◌, cond, eqb, List, [], ◌∷◌, ◌++◌, map, None, Some, refl, sym, ◌∙◌, ap, subst}
 use Rattle.std.specs.List.{AllByRecursion}
 use Rattle.sat_base.specs.values.Literals.{variable, negated}
@@ -21,7 +21,7 @@ use Rattle.sat_solver.specs.declared.proof.hash_bits.Counting.{Counting}
 use Rattle.certify.specs.run.Hiding.{HidesNothing}
 use Rattle.certify.specs.run.Stretches.{due_for, showing_if, ServesCommands, made_none, made_one, made_ask}
 
--- STEPS THAT DON'T END, AND TAKE NO NAME BUT WHERE HIDING IS ALLOWED
+-- STEPS THAT ARE NO END, AND REMOVE NO NAME UNLESS HIDING IS ALLOWED
 abbrev IsPlain : Bool → Step → Type 0
 IsPlain hides (UserVarName v None) = hides ≡ true
 IsPlain hides End = ⊥
@@ -30,7 +30,7 @@ IsPlain hides step = Unit {0}
 abbrev ArePlain : Bool → List Step → Type 0
 ArePlain hides = AllByRecursion (IsPlain hides)
 
--- what is expected is such
+-- that the expected step is no end, and removes no name unless hiding is allowed
 abbrev Spares : Bool → Expected → Type 0
 Spares hides (NoName name) = hides ≡ true
 Spares hides Finish = ⊥
@@ -39,7 +39,7 @@ Spares hides e = Unit {0}
 abbrev AllSpare : Bool → List Expected → Type 0
 AllSpare hides = AllByRecursion (Spares hides)
 
--- and so is what is commanded
+-- that the command hides no name, unless hiding is allowed
 abbrev Allows : Bool → Command → Type 0
 Allows hides (Hide (name ∷ names)) = hides ≡ true
 Allows hides command = Unit {0}
@@ -127,7 +127,7 @@ module _ (hides : Bool) where
       let shown = makes_plain a.searches.due (showing_spares (checker_rules.unsat a.shown) (accepted (Ask ls) j) ls o) opened in
       made_plain more h.1 (makes_plain a.closes.due (tt, tt) shown)
 
--- NO VARIABLE IS HIDDEN THEN
+-- NO VARIABLE IS HIDDEN
 abbrev NoneHidden : Session → Type 0
 NoneHidden s = (v : ℕ) → (s.variables v).mode ≢ stored.Hide
 
@@ -200,7 +200,7 @@ none_hidden : (steps : List Step) → ArePlain false steps → NoneHidden (sessi
 none_hidden [] p = λ v e. cc
 none_hidden (step ∷ steps) p = changed_none step (session_after steps) p.0 (none_hidden steps p.1)
 
--- SO NONE IS DELETED
+-- NO VARIABLE IS DELETED
 none_deleted : (steps : List Step) → AreAllowedSteps steps → ArePlain false steps → has_delete_var steps ≡ false
 none_deleted [] m p = refl
 none_deleted (SolverVarName v name ∷ steps) m p = none_deleted steps m.0 p.1
@@ -235,7 +235,7 @@ cuts_delete (ask_begun k) = cuts_delete k
 cuts_delete (one_made {d = d} {made = made} {written = written} step keeps k) =
     narrowed_delete (counted step d).bits step made (width_change d.bits (counted step d).bits ++ written) (reported_delete d.bits (counted step d).bits written ∙ cuts_delete k)
 
--- none of them is an end
+-- that none of the steps is an `End`
 abbrev GoOn : List Step → Type 0
 GoOn = AllByRecursion (λ step. step ≢ End)
 
@@ -260,7 +260,7 @@ cuts_go_on (ask_begun k) h = cuts_go_on k h
 cuts_go_on (one_made {d = d} {written = written} step keeps k) h =
     (narrowed_goes_on (counted step d).bits step h.0, reported_goes_on d.bits (counted step d).bits written (cuts_go_on k h.1))
 
--- the closing end is written last, and is the only one
+-- that the last step is an `End`, and no other step is
 pub record EndsWith (steps : List Step) : Type 0 where
   pub before : List Step
   pub last : steps ≡ End ∷ before

@@ -1,4 +1,4 @@
--- What is certified by the steps that a solver made is certified by what it wrote for them.
+-- What the steps that a solver made certify is certified by the steps as they were written.
 use Rattle.std.proofs.Common.{ℕ, ◌≡◌, ◌∙◌, Bool, true, false, eqb, Option, Some, None, List, [], ◌∷◌, ◌++◌, length, length-append, refl, sym, ap, subst, arith, append_assoc}
 use Rattle.std.proofs.lemmas.Bool.{eqb-true}
 use mathlib.Core.Path.{fun_ext}
@@ -16,7 +16,7 @@ use Rattle.certify.proofs.lemmas.run.Recorded.{recorded_at}
 
 -- STEP BY STEP
 
--- From these steps and what is written for them, at this width, to all steps and all that is written.
+-- That steps so far, and what was written for them at this width, continue to all steps and all that was written.
 data Narrows : List Step → List Step → ℕ → List Step → List Step → Type 0 where
   all_narrowed : {made written : List Step} {width : ℕ} → Narrows made written width made written
   same_width : {e w made written : List Step} {width : ℕ} (step : Step) → KeepsWidth step → Narrows (step ∷ e) (narrowed width step ∷ w) width made written → Narrows e w width made written
@@ -75,7 +75,7 @@ quiet_narrowed : (bits : ℕ) (step : Step) → is_ordered (narrowed bits step) 
 quiet_narrowed bits (SolverVarName v s) = refl
 quiet_narrowed bits step = refl
 
--- one step more
+-- the variables of names after one more step
 variable_narrowed : (bits : ℕ) (step : Step) (w e : List Step) (name : ℕ) → variable_of w name ≡ variable_of e name → variable_of (narrowed bits step ∷ w) name ≡ variable_of (step ∷ e) name
 variable_narrowed bits (UserVarName v (Some i)) w e name h = rw h refl
 variable_narrowed bits (UserVarName v None) w e name h = rw h refl
@@ -86,7 +86,7 @@ variable_written none_yet name = refl
 variable_written (width_changes bits p) name = variable_written p name
 variable_written (one_more {wide = e} {written = w} {width = width} step k p) name = variable_narrowed width step w e name (variable_written p name)
 
--- it sees the same after what is written
+-- a checker sees the same after the written steps
 module _ (e w : List Step) (width : ℕ) (p : IsNarrowedTo e w width) (may : AreAllowedSteps e) where
   at : MayAt e w width
   at = widths_are_free e w width p may
@@ -130,7 +130,7 @@ may_front all_narrowed m = m
 may_front (same_width step k n) m = (may_front n m).0
 may_front (new_width bits step k n) m = (may_front n m).0
 
--- what is written next, and what is certified after it
+-- what is written for the next step, and how the steps continue
 record Turned (e w made written : List Step) (width : ℕ) (step : Step) : Type 0 where
   now : ℕ
   widths : List Step

@@ -1,4 +1,4 @@
--- What a reader of scripts makes of bytes.
+-- The effect of bytes on a reader of scripts.
 use Rattle.std.proofs.Common.{◌≡◌, ℕ, ◌+◌, ◌-◌, ◌≤◌, List, [], ◌∷◌, ◌++◌, Bool, true, false, length, take, drop, Some, None, is_some, refl, sym, ap, subst, ◌∙◌, append_assoc, arith, inl, inr}
 use Rattle.std.specs.Prelude.{◌&&◌}
 use Rattle.std.proofs.Math.Seq.{take-add}
@@ -55,7 +55,7 @@ bytes_take reached.Malformed old bytes t next new k r = λ asks before m rest.
     let h = k m.scan_of m.valid in
     m.reads (bytes ++ rest) ∙ ap (λ (s : Scan). meaning asks old.commands m.hand (spoken s.tokens)) (h.2.2 rest) ∙ r h.2.0 h.2.1 m.hand m.holds asks (spoken (h.0 rest).tokens)
 
--- after them a word is wrong, whatever follows
+-- a text is malformed if no valid word can continue after the bytes
 pub bytes_wrong : (old : ScriptReader) (bytes : List ℕ) (next : Tokenizer) → TakesFront old.tokenizer bytes None next → ((after : List ℕ → Scan) → IsPositionedBefore next after → HasNoValidContinuation after)
     → TakesBytes reached.Malformed old bytes (reader next old.commands)
 bytes_wrong old bytes next t w = λ asks before m rest.
@@ -64,7 +64,7 @@ bytes_wrong old bytes next t w = λ asks before m rest.
     m.reads (bytes ++ rest) ∙ ap (λ (s : Scan). meaning asks old.commands m.hand (spoken s.tokens)) (h.2 rest)
     ∙ ap (λ (ts : List (ℕ × Token)). meaning asks old.commands m.hand (spoken ts)) wrong.1 ∙ fails old.commands m.hand Wrong refl asks (spoken wrong.0)
 
--- some bytes, and then others
+-- the effect of some bytes, and then of others
 pub followed : (r : Reached) (a b c : ScriptReader) (xs ys : List ℕ) → ((asks : Bool) → Follows (MeansIf asks) a xs b) → TakesBytes r b ys c → TakesBytes r a (xs ++ ys) c
 followed reached.More a b c xs ys f t = λ asks before m.
     let h = f asks before m in
@@ -90,7 +90,7 @@ goes_nowhere a asks before m = (before, m, λ rest. refl)
 pub no_more : (xs : List ℕ) (n k : ℕ) → n ≤ length xs → k ≤ length (take (length xs - n) (drop n xs)) → n + k ≤ length xs
 no_more xs n k h i = let l = length-take (length xs - n) (drop n xs) in omega arith
 
--- the first bytes, and then some of those after them
+-- a prefix is a shorter prefix and some of the bytes after it
 front_and : (n k : ℕ) (xs : List ℕ) → n ≤ length xs → k ≤ length (take (length xs - n) (drop n xs)) → take (n + k) xs ≡ take n xs ++ take k (take (length xs - n) (drop n xs))
 front_and n k xs h i = take-add n k xs ∙ ap (λ (ys : List ℕ). take n xs ++ ys) (sym (take-take k (length xs - n) (drop n xs) (let l = length-take (length xs - n) (drop n xs) in omega arith)))
 
@@ -104,7 +104,7 @@ pub ends_none : (asks : Bool) (old : ScriptReader) (before : List ℕ → Readin
     → ((hand : CommandHand) → HoldsHand old.commands.draft hand → r ≡ meaning asks old.commands hand []) → before [] ≡ r
 ends_none asks old before r k m e = m.reads [] ∙ ap (λ (ts : List (ℕ × Token)). meaning asks old.commands m.hand (spoken ts)) (k m.scan_of m.valid) ∙ sym (e m.hand m.holds)
 
--- where what follows is ignored, and no token is in hand
+-- the rest of the text is ignored, and no token is pending
 pub ends_over : (asks : Bool) (old : ScriptReader) (before : List ℕ → Reading) (r : Reading) → ((scan_of : List ℕ → Scan) → IsPositionedBefore old.tokenizer scan_of → IgnoresRest scan_of)
     → ((scan_of : List ℕ → Scan) → IsPositionedBefore old.tokenizer scan_of → (scan_of []).tokens ≡ []) → MeansIf asks old before
     → ((hand : CommandHand) → HoldsHand old.commands.draft hand → r ≡ meaning asks old.commands hand []) → (rest : List ℕ) → before rest ≡ r
@@ -124,7 +124,7 @@ ends_some asks old new t completes e before k m r =
     let same : before [] ≡ meaning asks old.commands m.hand (h.0 ∷ []) = m.reads [] ∙ ap (λ (ts : List (ℕ × Token)). meaning asks old.commands m.hand (spoken ts)) h.2 in
     subst (λ (x : Reading). EndsLast asks completes e new x) (sym same) (lasts asks completes e new (meaning asks old.commands m.hand (h.0 ∷ [])) (r h.0 h.1 m.hand m.holds))
 
--- WHOLE TEXTS
+-- COMPLETE TEXTS
 words_none : (ts : List Token) → AreWords ts → any_header ts ≡ false
 words_none [] w = refl
 words_none (Number negative value ∷ ts) w = words_none ts w.1
@@ -148,7 +148,7 @@ first_header : (ts : List (ℕ × Token)) (v c : ℕ) (rest : List Token) → sp
 first_header [] v c rest e = absurd (cc)
 first_header (t ∷ ts) v c rest e = let h : t.1 ≡ Header v c = ap first_of e in rw h refl
 
--- a text's header is the only one of its tokens
+-- a script contains a header exactly if it begins with one
 headed_by : (ts : List (ℕ × Token)) → AreScript (spoken ts) → any_header (spoken ts) ≡ is_some (header_first ts)
 headed_by ts (inl w) = words_none (spoken ts) w ∙ sym (first_none ts w)
 headed_by ts (inr (v, c, rest, w, e)) = ap any_header e ∙ sym (first_header ts v c rest e)

@@ -1,4 +1,4 @@
--- A text has no more commands than bytes, but for two.
+-- A text has at most two more commands than bytes.
 use Rattle.std.proofs.Common.{ℕ, ◌+◌, ◌≤◌, ◌<◌, ◌≡◌, ◌∙◌, Bool, true, false, not, ◌&&◌, cond, nat_eq, is_some, List, [], ◌∷◌, ◌++◌, length, length-append, refl, sym, subst, arith}
 use Rattle.std.proofs.lemmas.List.{length-map}
 use Rattle.sat_base.specs.text.Text.{Token, is_blank, goes_on, begins_with, header_if, dimacs_header, is_none, lines, onto_first, on_line, words, token, tokens, tokens_of, scan}
@@ -29,7 +29,7 @@ few_words : (line : List ℕ) → length (words line) ≤ length line
 few_words [] = no_words
 few_words (b ∷ bs) = let h = few_words bs in let k = words_next b bs in omega arith
 
--- the bytes of lines
+-- the number of bytes in lines
 abbrev total : List (List ℕ) → ℕ
 total [] = 0
 total (line ∷ ls) = length line + total ls

@@ -1,4 +1,4 @@
--- Bytes that are read ahead of need.
+-- Bytes that are read ahead.
 use Rattle.std.proofs.Common.{◌≡◌, ℕ, ◌+◌, ◌-◌, ◌≤◌, List, [], ◌++◌, length, take, drop, Option, Some, None, Ok, refl, sym, ap, subst, ◌∙◌, append_assoc, arith}
 use Rattle.std.proofs.lemmas.List.{append-nil, drop-drop, drop-take, length-take}
 use Rattle.std.specs.Io.KnownBytes.{Consumes, prepend_known}
@@ -27,7 +27,7 @@ consumes_front : (k : Option (List ℕ)) (ws vs text : List ℕ) → ws ≡ text
 consumes_front None ws vs text e = tt
 consumes_front (Some z) ws vs text e = ap (λ (x : List ℕ). x ++ z) e ∙ append_assoc text vs z
 
--- bytes that waited are taken
+-- waiting bytes were consumed
 pub passes_front : (r : Reader) (n m : ℕ) (ws vs text : List ℕ) → ws ≡ text ++ vs → m ≡ n
     → ConsumesBytes (record { reader = r; waiting = ws; reads = n; names = [] }) (record { reader = r; waiting = vs; reads = m; names = [] }) text
 passes_front r n m ws vs text e same = record {

@@ -26,7 +26,7 @@ use Rattle.certify.proofs.lemmas.confirm.Joining.{covers_took, failed_then, took
 use Rattle.certify.proofs.lemmas.script.LastPieces.{passes_front}
 use Rattle.certify.proofs.lemmas.script.Bytes.{followed, goes_nowhere}
 
--- BYTES THAT WAIT
+-- WAITING BYTES
 
 pub take_parts : (r : Reached) (old new : ScriptReader) (xs w v : List ℕ) (n : ℕ) → xs ≡ w → n ≤ length xs → (0 < length xs → 0 < n) → v ≡ drop n w → TakesBytes r old (take n xs) new
     → (text : List ℕ) × (w ≡ text ++ v) × (0 < length w → 0 < length text) × TakesBytes r old text new
@@ -55,13 +55,13 @@ module _ {R : Type 0} (seen : R → Reader) (r : R) (old new : CommandStream) (s
               ap before (taken_front 0 (source_in seen r old.ahead) (source_in seen r new.ahead) h.0 total h.1 c) ∙ h.3 asks before m (rest_in total (source_in seen r new.ahead)) ∙ sym (malformed asks),
         )
 
--- no memory was left for them
+-- memory ran out before waiting bytes were consumed
 pub brings_none : {R : Type 0} (seen : R → Reader) (r : R) (old new : CommandStream) (e : ReadError) → e ≡ errors.OutOfMemory → new.ahead ≡ old.ahead → Brings (Err e) (source_in seen r old.ahead) (source_in seen r new.ahead) old.reader new.reader
 brings_none seen r old new e starved same =
     subst (λ (x : ReadError). Brings (Err x) (source_in seen r old.ahead) (source_in seen r new.ahead) old.reader new.reader) (sym starved)
     (subst (λ (a : LastPiece). TakesSome true (source_in seen r old.ahead) (source_in seen r a)) (sym same) (took_none (source_in seen r old.ahead)))
 
--- fewer rounds are left
+-- consuming a byte leaves fewer calls that can consume bytes
 pub taken_fewer : (old new : LastPiece) (text : List ℕ) → waiting_bytes old ≡ text ++ waiting_bytes new → new.reads ≡ old.reads → 0 < length text → 4097 * (most_reads - new.reads) + length (waiting_bytes new) < 4097 * (most_reads - old.reads) + length (waiting_bytes old)
 taken_fewer old new text e same some =
     let l : length (waiting_bytes old) ≡ length text + length (waiting_bytes new) = ap length e ∙ length-append text (waiting_bytes new) in
@@ -76,7 +76,7 @@ refilled_fewer old new none more =
     let b = new.bounded in
     omega arith
 
--- ANOTHER PIECE
+-- ANOTHER CHUNK
 
 pub refill_goes : (n : ℕ) (a b : Source) (reader : ScriptReader) → (n ≡ 0 → ⊥) → RefillsAhead (Ok n) a b → Brings (Ok None) a b reader reader
 refill_goes n a b reader some h = ([], gave_some n a b some h.0, goes_nowhere reader)
@@ -88,7 +88,7 @@ refill_ends n (next.End e) a b old new none h f =
     let ends : ConsumesToEnd a b [] = (gave_nothing n a b none h.0, h.1 none) in
     ((([], ends.0), λ x. all_over b ends.1), λ asks before m total c. ap before (nothing_after a b [] total ends c) ∙ f asks before m)
 
--- THE TEXT HAS ENDED, AND IS NOT READ ON
+-- THE REST OF THE TEXT IS IGNORED
 pub brings_over : (a : Source) (reader : ScriptReader) (e : ScriptEnd) → (AtEnd a → ⊥) → EndsWhateverFollows reader e → Brings (Ok (Some (next.End e))) a a reader reader
 brings_over a reader e open_yet ends = (took_halted a a open_yet (took_none a), λ asks before m total c. ends asks before m (rest_in total a))
 

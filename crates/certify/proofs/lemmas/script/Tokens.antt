@@ -1,4 +1,4 @@
--- What tokens make of what is in hand.
+-- The effect of tokens on the unfinished command.
 use Rattle.std.proofs.Common.{◌≡◌, ℕ, ◌<◌, List, [], ◌∷◌, ◌++◌, Bool, true, false, cond, Option, Some, None, refl, sym, ap, ◌∙◌, arith}
 use Rattle.std.specs.Prelude.{nat_eq, not, ◌&&◌, ◌||◌}
 use Rattle.std.proofs.lemmas.Bool.Decides.{nat_tests}
@@ -31,7 +31,7 @@ malformed_if : (due : Bool) → with_ask due ([], Malformed) ≡ ([], Malformed)
 malformed_if true = refl
 malformed_if false = refl
 
--- where no ask is due
+-- if no ask is due, none is added
 undue : (due : Bool) (r : Reading) → due ≡ false → with_ask due r ≡ r
 undue due r e = rw e refl
 
@@ -57,7 +57,7 @@ ask_onto : (h a : Bool) (c : Command) (r : Reading) → with_ask (h && not a) (o
 ask_onto h a (Ask ls) r = has_one (h && not a) r.0 r.1 ls ∙ ap (onto_commands (Ask ls ∷ [])) (sym (undue (h && not (a || true)) r (asked_no_more h a)))
 ask_onto h a e r = rw (or_false a) (plain_onto (h && not a) e r refl)
 
--- so where the header's ask isn't asked for
+-- whether the ask of a header is due after a command
 ask_onto_if : (asks h a : Bool) (c : Command) (r : Reading) → with_ask (asks && (h && not a)) (onto_commands (c ∷ []) r) ≡ onto_commands (c ∷ []) (with_ask (asks && (h && not (a || is_ask c))) r)
 ask_onto_if true h a c r = ask_onto h a c r
 ask_onto_if false h a c r = refl
@@ -72,7 +72,7 @@ following : (asks : Bool) (old : Commands) (hand : CommandHand) (t : Token) (k :
 following asks old hand t k ts e =
     ap (with_ask (asks && ((old.headed || (is_header t || any_header ts)) && not old.asked))) (commands_of_cons hand t ts ∙ ap (λ (j : CommandTurn). after_command_turn j (λ d. commands_of d ts)) e)
 
--- a token that is no header, after which the command goes on
+-- a token that is no header and leaves the command unfinished
 pub goes_on : (old new : Commands) (hand next : CommandHand) (t : Token) → is_header t ≡ false → new.headed ≡ old.headed → new.asked ≡ old.asked → command_turn hand t ≡ GoesOn next
     → (asks : Bool) (ts : List Token) → meaning asks old hand (t ∷ ts) ≡ meaning asks new next ts
 goes_on old new hand next t w h a e asks ts = following asks old hand t (GoesOn next) ts e ∙ rw (w, h, a) refl
@@ -105,7 +105,7 @@ zero_taken old new negative h a none whole hand holds =
 pub turn_number : (hand : CommandHand) (negative : Bool) (value : ℕ) → 0 < value → command_turn hand (Number negative value) ≡ turn_with_literal hand (record { name = value; positive = not negative })
 turn_number hand negative value some = let e : nat_eq value 0 ≡ false = grind (arith, nat_tests) in rw e refl
 
--- a literal where it may stand
+-- a literal that the command may contain
 pub valid : (d : Draft) (hand : CommandHand) (l : Literal) → HoldsHand d (opened hand) → may_stand (kind_of d.kind) l.positive ≡ true
     → (kind : Kind) × (ls : List Literal) × HoldsHand d (Within kind ls) × (turn_with_literal hand l ≡ GoesOn (Within kind (ls ++ l ∷ [])))
 valid d Nothing l h m = (OfClause, [], h, refl)
@@ -115,12 +115,12 @@ pub misplaced : (d : Draft) (hand : CommandHand) (l : Literal) → HoldsHand d (
 misplaced d Nothing l h m = absurd (let e : may_stand OfClause l.positive ≡ may_stand (kind_of d.kind) l.positive = ap (λ (k : Kind). may_stand k l.positive) h.1 in cc)
 misplaced d (Within kind ls) l h m = let e : may_stand kind l.positive ≡ false = ap (λ (k : Kind). may_stand k l.positive) h.1 ∙ m in rw e refl
 
--- a letter inside a command
+-- a letter within a command is an error
 pub letter_inside : (d : Draft) (hand : CommandHand) (b : ℕ) → d.is_open ≡ true → HoldsHand d hand → with_letter hand b ≡ Fails
 letter_inside d Nothing b o h = absurd (cc)
 letter_inside d (Within kind ls) b o h = refl
 
--- one that begins no command
+-- a letter that begins no command is an error
 pub letter_unknown : (hand : CommandHand) (b : ℕ) → kind_of_letter b ≡ None → with_letter hand b ≡ Fails
 letter_unknown Nothing b e = ap beginning e
 letter_unknown (Within kind ls) b e = refl
@@ -156,7 +156,7 @@ held_some v name e h = omega arith
 ends_at : (asks : Bool) (commands : Commands) (hand : CommandHand) → meaning asks commands hand [] ≡ with_ask (asks && (commands.headed && not commands.asked)) ([], command_at_end hand)
 ends_at asks commands hand = ap (λ (b : Bool). with_ask (asks && (b && not commands.asked)) (commands_of hand [])) (or_false commands.headed) ∙ ap (with_ask (asks && (commands.headed && not commands.asked))) (commands_of_nil hand)
 
--- malformed text ends so, whatever is asked for
+-- a malformed text has the same end with and without the ask of a header
 pub end_malformed : (asks : Bool) → end_if asks ends.Malformed ≡ ([], Malformed)
 end_malformed true = refl
 end_malformed false = refl
@@ -175,7 +175,7 @@ ends_clean true commands Nothing o h e = sym (ends_at true commands Nothing ∙ 
 ends_clean false commands Nothing o h e = sym (ends_at false commands Nothing)
 ends_clean asks commands (Within kind ls) o h e = absurd (cc (h.0))
 
--- a last word that goes on in a command, or fails
+-- the text is malformed if its last token leaves a command unfinished
 pub ends_with : (asks : Bool) (commands : Commands) (hand : CommandHand) (t : Token) → ((kind : Kind) × (ls : List Literal) × (command_turn hand t ≡ GoesOn (Within kind ls))) → end_if asks ends.Malformed ≡ meaning asks commands hand (t ∷ [])
 ends_with asks commands hand t x =
     end_malformed asks ∙ sym (following asks commands hand t (GoesOn (Within x.0 x.1)) [] x.2 ∙ ap (with_ask (asks && ((commands.headed || (is_header t || false)) && not commands.asked))) (commands_of_nil (Within x.0 x.1)) ∙ malformed_if (asks && ((commands.headed || (is_header t || false)) && not commands.asked)))
@@ -202,7 +202,7 @@ pub letter_ends : (asks : Bool) (commands : Commands) (hand : CommandHand) (b : 
 letter_ends asks commands Nothing b = letter_at asks commands b (kind_of_letter b) refl
 letter_ends asks commands (Within kind ls) b = ends_wrong asks commands (Within kind ls) (Letter b) refl
 
--- after a last header
+-- a header as the last token
 pub header_ends : (asks : Bool) (old new : Commands) (hand : CommandHand) (v c : ℕ) → new ≡ record old { headed = true } → meaning asks old hand (Header v c ∷ []) ≡ meaning asks new hand []
 header_ends asks old new hand v c e =
     let whole = following asks old hand (Header v c) (GoesOn hand) [] refl ∙ ap (λ (b : Bool). with_ask (asks && (b && not old.asked)) (commands_of hand [])) (or_true old.headed) in
