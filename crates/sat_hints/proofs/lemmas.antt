@@ -1,7 +1,7 @@
 pub mod Digits
 pub mod Words
 pub mod Spelling
-pub mod Fronts
+pub mod Prefixes
 pub mod Counting
 pub mod Listed
 pub mod Standing

@@ -1,5 +1,5 @@
 pub mod LineReading
-pub mod Fronts
+pub mod Prefixes
 pub mod Clauses
 pub mod UsesView
 pub mod Standing

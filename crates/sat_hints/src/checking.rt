@@ -10,8 +10,8 @@ ghost use Rattle.sat_hints.specs.inner.Holding.{HasRead, IsReadyIf, IsWholeLine,
 ghost use Rattle.sat_hints.specs.inner.Holding.{JudgesLineBytes, TakesPiece};
 
 use crate::answer::{HintFault, HintVerdict, HintWhy};
-use crate::fronts::{Place, following};
 use crate::judging::Judge;
+use crate::prefixes::{Place, following};
 use crate::reading::Lists;
 use sat_base::CountedRead;
 use std::alloc::{AllocError, Global};

@@ -3,7 +3,7 @@ pub mod Complaints
 pub mod Counting
 pub mod Drat
 pub mod DratText
-pub mod Fronts
+pub mod Prefixes
 pub mod Listening
 pub mod MadeView
 pub mod OutputView

@@ -15,5 +15,5 @@ pub mod Proving
 pub mod Configuring
 pub mod Naming
 pub mod Formulas
-pub mod Fronts
+pub mod Prefixes
 pub mod Failing

@@ -8,7 +8,7 @@ use Rattle.sat_solver.specs.proof.Counting.{nothing_counted as uncounted}
 use Rattle.sat_solver.specs.session.Making.{ComesBySteps, BreaksEmitting}
 use Rattle.sat_solver.specs.proof.ProofView.{Closed, Open, GivesWriter, TakesAll, is_open, target_of}
 use Rattle.sat_solver.specs.session.Session.{AreAllowedSteps}
-use Rattle.sat_solver.specs.solver.Fronts.{ReachesBySteps}
+use Rattle.sat_solver.specs.solver.Prefixes.{ReachesBySteps}
 use Rattle.sat_solver.specs.solver.Whole.{steps_in}
 use Rattle.certify.specs.Devices.{NoneFailed, OneFailed}
 use Rattle.certify.specs.declared.fault.RunFault.{RunFault}

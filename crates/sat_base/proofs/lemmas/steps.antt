@@ -1,6 +1,6 @@
 pub mod FormatReads
 pub mod Formats
-pub mod Fronts
+pub mod Prefixes
 pub mod LentInput
 pub mod ListBytes
 pub mod NumberBytes

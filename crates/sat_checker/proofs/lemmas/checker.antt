@@ -1,4 +1,4 @@
 pub mod Additions
 pub mod Proofs
 pub mod Texts
-pub mod Fronts
+pub mod Prefixes

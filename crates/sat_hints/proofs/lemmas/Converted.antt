@@ -4,7 +4,7 @@ use Rattle.std.specs.Io.KnownBytes.{IsAtEnd}
 use Rattle.sat_base.specs.device.Device.{Reader, WriterTakes}
 use Rattle.sat_base.specs.steps.Steps.{Step, End}
 use Rattle.sat_base.specs.steps.StepText.{SpellsStep, SpellsSteps}
-use Rattle.sat_base.proofs.lemmas.steps.Fronts.{no_whole, no_way}
+use Rattle.sat_base.proofs.lemmas.steps.Prefixes.{no_whole, no_way}
 use Rattle.sat_base.proofs.lemmas.steps.StepReads.{one_step}
 use Rattle.sat_checker.specs.Accepts.{Accepts, AcceptsAll, ready_after}
 use Rattle.sat_checker.specs.ProofView.{taken_after}

@@ -6,9 +6,9 @@ use Rattle.sat_base.specs.text.Tokenizing.{held}
 use Rattle.sat_hints.specs.Lines.{Line, AreLines, Input, Derived, Gone, Core, Fresh, text_of, line_text, id_words, literal_words, SpellsLine, HasNoEnd, BeginsWithLine, ended, cut_off}
 use Rattle.sat_hints.specs.Hints.{FollowsLines, IsHintDerivation}
 use Rattle.sat_hints.specs.Checks.{IsAtFault, IsBadAt, Judges}
-use Rattle.sat_hints.specs.inner.Fronts.{IsRestOfLine, LeadsToPlace}
-use Rattle.sat_hints.specs.declared.fronts.Place.{Place}
-use Rattle.sat_hints.specs.declared.fronts.Place.TheVariants.{Letter}
+use Rattle.sat_hints.specs.inner.Prefixes.{IsRestOfLine, LeadsToPlace}
+use Rattle.sat_hints.specs.declared.prefixes.Place.{Place}
+use Rattle.sat_hints.specs.declared.prefixes.Place.TheVariants.{Letter}
 use Rattle.sat_hints.specs.inner.Judging.{HasTakenLines}
 use Rattle.sat_hints.specs.inner.Holding.{IsWholeLine, JudgesLineBytes, HasRead, HasFault, HasReadOrFault, ReadsFurther}
 use Rattle.sat_hints.specs.declared.answer.HintWhy.{HintWhy}

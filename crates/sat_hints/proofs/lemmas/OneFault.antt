@@ -25,8 +25,8 @@ module _ (earlier : List Line) (line : Line) where
   present_or_not : {F : List ℕ → List (List ℕ) → Type 0} → clauses_under (named_ids line) earlier ≡ None → TriesLine earlier line F → ⊥
   present_or_not e t = let f : ◌≡◌ {A = Option (List (List ℕ))} None (Some t.clauses) = sym e ∙ t.present in cc
 
-  model_excludes_core : TriesLine earlier line SomeIsNotUnit → TriesLine earlier line LastIsNotFalsified → ⊥
-  model_excludes_core s t =
+  not_both : TriesLine earlier line SomeIsNotUnit → TriesLine earlier line LastIsNotFalsified → ⊥
+  not_both s t =
       let f : Some s.clauses ≡ Some t.clauses = sym s.present ∙ t.present in
       let g : Some s.assumed ≡ Some t.assumed = sym s.assumes ∙ t.assumes in
       let same : s.clauses ≡ t.clauses = cc in
@@ -56,10 +56,10 @@ module _ (earlier : List Line) (line : Line) where
   one_reason NotUnit IdOrder h g = absurd (g h.in_order)
   one_reason NotUnit UnknownId h g = absurd (present_or_not g.1 h)
   one_reason NotUnit NotUnit h g = refl
-  one_reason NotUnit NotFalsified h g = absurd (model_excludes_core h g)
+  one_reason NotUnit NotFalsified h g = absurd (not_both h g)
   one_reason NotFalsified IdOrder h g = absurd (g h.in_order)
   one_reason NotFalsified UnknownId h g = absurd (present_or_not g.1 h)
-  one_reason NotFalsified NotUnit h g = absurd (model_excludes_core g h)
+  one_reason NotFalsified NotUnit h g = absurd (not_both g h)
   one_reason NotFalsified NotFalsified h g = refl
   one_reason IdOrder VarInUse h g = absurd (unused_order g h)
   one_reason UnknownId VarInUse h g = absurd (unused_present g h.1)

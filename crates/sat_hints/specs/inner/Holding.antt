@@ -4,8 +4,8 @@ use Rattle.sat_base.specs.text.Tokenizing.{held}
 use Rattle.sat_hints.specs.Lines.{Line, AreLines, text_of, SpellsLine, HasNoEnd}
 use Rattle.sat_hints.specs.Hints.{IsHintDerivation, FollowsLines}
 use Rattle.sat_hints.specs.Checks.{IsAtFault, Judges}
-use Rattle.sat_hints.specs.inner.Fronts.{LeadsToPlace}
-use Rattle.sat_hints.specs.declared.fronts.Place.TheVariants.{Letter}
+use Rattle.sat_hints.specs.inner.Prefixes.{LeadsToPlace}
+use Rattle.sat_hints.specs.declared.prefixes.Place.TheVariants.{Letter}
 use Rattle.sat_hints.specs.inner.Judging.{HasTakenLines, IsReadyJudge}
 use Rattle.sat_hints.specs.declared.answer.HintWhy.{HintWhy}
 use Rattle.sat_hints.specs.declared.answer.HintVerdict.{HintVerdict}

@@ -33,4 +33,4 @@ pub mod AskingLemmas
 pub mod Rolling
 pub mod HearingLemmas
 pub mod CertificateLemmas
-pub mod FrontLemmas
+pub mod PrefixLemmas

@@ -17,6 +17,6 @@ pub mod EndingLemmas
 pub mod ConfigLemmas
 pub mod KeptLemmas
 pub mod ProgressLemmas
-pub mod FrontLemmas
+pub mod PrefixLemmas
 pub mod ReportedLemmas
 pub mod AskLemmas

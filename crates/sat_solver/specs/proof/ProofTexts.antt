@@ -38,12 +38,12 @@ ClosedIsText = (f : ProofFormat) (from given : Writer) (steps : List Step) (last
 
 -- a target that is returned after one of its calls failed while writing the text of these steps has received a prefix of it, and that call was
 -- the last
-abbrev pub BrokenIsFront : Type 0
-BrokenIsFront = (f : ProofFormat) (from given : Writer) (steps : List Step) (t : Target) → TargetFails (Open f nothing_counted (empty_sink from)) steps t → GivesWriter t (Some given) → BrokeText f from given steps
+abbrev pub BrokenIsPrefix : Type 0
+BrokenIsPrefix = (f : ProofFormat) (from given : Writer) (steps : List Step) (t : Target) → TargetFails (Open f nothing_counted (empty_sink from)) steps t → GivesWriter t (Some given) → BrokeText f from given steps
 
 -- what is written for allowed steps is allowed, at any widths
-abbrev pub CutsAreFree : Type 0
-CutsAreFree = (made written : List Step) (c : Counting) → TruncatesHashes nothing_counted made written c → AreAllowedSteps made → MayAt made written c.bits
+abbrev pub TruncationsAreAllowed : Type 0
+TruncationsAreAllowed = (made written : List Step) (c : Counting) → TruncatesHashes nothing_counted made written c → AreAllowedSteps made → MayAt made written c.bits
 
 -- since the target was opened with this writer and these steps were made, what it received and what is pending is the text of the steps
 -- made since

@@ -6,7 +6,7 @@ use Rattle.sat_parts.specs.clause.Stored.{AreClauses}
 use Rattle.sat_parts.specs.prop.Causes.{falsified}
 use Rattle.sat_parts.specs.prop.State.{State, StateIsConsistent}
 use Rattle.sat_parts.specs.prop.Ready.{IsConflict}
-use Rattle.sat_parts.specs.parts.Round.{UnitsHaveNoReason as AreBare}
+use Rattle.sat_parts.specs.parts.Round.{UnitsHaveNoReason}
 use Rattle.sat_parts.specs.prop.Reasons.{AreUnitInTurn}
 use Rattle.sat_solver.specs.session.Session.{Session, MayDerive}
 use Rattle.sat_solver.specs.session.LiveClauses.{with_var}
@@ -37,7 +37,7 @@ named_hashes words st used e = map (λ l. hash_of (clause_of words st l)) used +
 abbrev pub LearnedMay : Type 0
 LearnedMay =
     (words live : List ℕ) (implied : List (List ℕ)) (st : State) (s : Session) (global : ℕ → ℕ) (e : Conflict) (w : Work) (back : ℕ) →
-    SessionMatches words live implied st s global → StateIsConsistent st → AreClauses words live (length st.values) → AreBare st → AreUnitInTurn words live implied st 0 →
+    SessionMatches words live implied st s global → StateIsConsistent st → AreClauses words live (length st.values) → UnitsHaveNoReason st → AreUnitInTurn words live implied st 0 →
     IsConflict words live implied st.values e → Learns words st (falsified words e) w back →
     MayDerive s (map (with_var global) w.clause) (named_hashes words st w.used e)
 

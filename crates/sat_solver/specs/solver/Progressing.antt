@@ -29,7 +29,7 @@ abbrev pub open_in : {W L : Type 0} {G : Ghosts L} → Solver W L G → ℕ
 open_in s = open_vars s.names s.core.search.parts.assignment.current
 
 -- that no call failed, and the clauses are not known to be unsatisfiable
-pub record GoesOnIn {W L : Type 0} {G : Ghosts L} (s : Solver W L G) : Type 0 where
+pub record IsOngoing {W L : Type 0} {G : Ghosts L} (s : Solver W L G) : Type 0 where
   pub solver : IsSolver s
   pub going : has_failed s ≡ false
   pub left : answer_in s ≡ states.Unsat → ⊥

@@ -7,7 +7,7 @@ ghost use Rattle.sat_solver.specs.session.Due.{WidthsKeepOrder};
 ghost use Rattle.sat_solver.specs.session.NamedMeaning.{NamedCoresAreRight, NamedModelsAreRight, NamedUnsatIsRight};
 ghost use Rattle.sat_solver.specs.session.NamedMeaning.{NoneHiddenMeans};
 ghost use Rattle.sat_solver.specs.proof.ProofRows.{CountRow, LineRows, WidthRows};
-ghost use Rattle.sat_solver.specs.proof.ProofTexts.{BrokenIsFront, ClosedIsText, CutsAreFree};
+ghost use Rattle.sat_solver.specs.proof.ProofTexts.{BrokenIsPrefix, ClosedIsText, TruncationsAreAllowed};
 ghost use Rattle.sat_solver.specs.session.SessionRows.{CollidingMay, HiddenMay};
 ghost use Rattle.sat_solver.specs.proof.Widths.{WidthsAreFree};
 
@@ -32,7 +32,7 @@ pub fn answers_are_right()
 pub fn widths_are_free()
     ensures may { WidthsAreFree }
     ensures order { WidthsKeepOrder }
-    ensures cuts { CutsAreFree }
+    ensures cuts { TruncationsAreAllowed }
 {}
 
 /// States that a solver's own checker, if it has no listeners, never fails because of one.
@@ -66,7 +66,7 @@ pub fn plain_steps_mean_clauses()
 /// target failed, it has received a prefix of this text.
 pub fn targets_take_texts()
     ensures closed { ClosedIsText }
-    ensures broken { BrokenIsFront }
+    ensures broken { BrokenIsPrefix }
 {}
 
 /// States that the DRAT lines of allowed steps are a derivation. Once the steps have recorded `unsat`, unit propagation

@@ -1,5 +1,5 @@
 //! Laws about solvers. Each law is the contract of a function that does nothing.
-ghost use Rattle.sat_solver.specs.solver.Fronts.{CallsGoOn, FlushedIsText};
+ghost use Rattle.sat_solver.specs.solver.Prefixes.{CallsGoOn, FlushedIsText};
 ghost use Rattle.sat_solver.specs.solver.Resting.{SolverMatchesSomeState};
 
 use crate::solver::Solver;

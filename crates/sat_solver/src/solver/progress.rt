@@ -1,7 +1,7 @@
 //! The progress of a solver.
 ghost use Rattle.std.specs.Prelude.{◌≡◌, false, slice_index_or};
 ghost use Rattle.sat_solver.specs.variables.Variables.{AreTidy};
-ghost use Rattle.sat_solver.specs.solver.Progressing.{is_open_at, open_vars, open_in, GoesOnIn, CountsClausesIn};
+ghost use Rattle.sat_solver.specs.solver.Progressing.{is_open_at, open_vars, open_in, IsOngoing, CountsClausesIn};
 ghost use Rattle.sat_solver.specs.solver.View.{has_failed, restarts_in, rounds_in};
 ghost use Rattle.sat_solver.specs.solver.Whole.{IsSolver};
 
@@ -49,7 +49,7 @@ impl<W: CountedWrite + Drop, P: ProofProcessor> Solver<W, P> {
         ensures conflicts { result.conflicts ≡ rounds_in self.now }
         ensures restarts { result.restarts ≡ restarts_in self.now }
         ensures vars { IsSolver self.now → has_failed self.now ≡ false → result.vars ≡ open_in self.now }
-        ensures clauses { GoesOnIn self.now → CountsClausesIn result self.now }
+        ensures clauses { IsOngoing self.now → CountsClausesIn result self.now }
     {
         let parts = &self.core.search.parts;
         Progress {

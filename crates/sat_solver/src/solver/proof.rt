@@ -1,6 +1,6 @@
 //! The proof of a solver, and where its text is written.
 ghost use Rattle.sat_solver.specs.proof.ProofView.{GivesWriter, ReturnsListeners, ReturnsNotifiedListeners, returned_writer};
-ghost use Rattle.sat_solver.specs.solver.Fronts.{ReturnsAcceptedPrefix};
+ghost use Rattle.sat_solver.specs.solver.Prefixes.{ReturnsAcceptedPrefix};
 ghost use Rattle.sat_solver.specs.solver.Proving.{AddsProcessor, Enables, OpensProof, ClosesProof};
 ghost use Rattle.sat_solver.specs.solver.View.{proof_in, target_in};
 ghost use Rattle.sat_solver.specs.solver.Whole.{IsSolver};

@@ -30,7 +30,7 @@ use Rattle.certify.specs.run.Unfinished.{GaveFrontOf}
 use Rattle.certify.proofs.lemmas.confirm.LooksBound.{takes_looks}
 use Rattle.certify.proofs.lemmas.confirm.OneStep.{one_step}
 use Rattle.certify.proofs.lemmas.confirm.Walks.{walks_none, walks_on, tries_on, runs_on, tries_if, tries_none, walks_read, walks_fed, tries_fed, runs_fed, walks_settled, tries_kept, tries_spent, runs_spent, never_settled}
-use Rattle.sat_base.proofs.lemmas.steps.Fronts.{no_whole, no_way}
+use Rattle.sat_base.proofs.lemmas.steps.Prefixes.{no_whole, no_way}
 
 -- WHAT CAN FOLLOW
 
@@ -284,10 +284,10 @@ none_came errors.HasFailed a b P o c h f = absurd h
 
 -- WHAT THE READER GAVE
 
-reported_front : (a b : Option (List ℕ)) (ws text fresh : List ℕ) → fresh ≡ text ++ ws → Consumes (prepend_known [] a) (prepend_known ws b) text → Consumes a b fresh
-reported_front None b ws text fresh e h = tt
-reported_front (Some x) None ws text fresh e h = absurd h
-reported_front (Some x) (Some y) ws text fresh e h = h ∙ sym (append_assoc text ws y) ∙ ap (λ (z : List ℕ). z ++ y) (sym e)
+known_front : (a b : Option (List ℕ)) (ws text fresh : List ℕ) → fresh ≡ text ++ ws → Consumes (prepend_known [] a) (prepend_known ws b) text → Consumes a b fresh
+known_front None b ws text fresh e h = tt
+known_front (Some x) None ws text fresh e h = absurd h
+known_front (Some x) (Some y) ws text fresh e h = h ∙ sym (append_assoc text ws y) ∙ ap (λ (z : List ℕ). z ++ y) (sym e)
 
 few_of : (rc tc tr : ℕ) (rg tg fresh : List ℕ) → tc + 0 ≡ rc + tr → tr ≤ 0 + length fresh + 1 → tg ≡ rg ++ fresh → tc + length rg ≤ rc + length tg + 1
 few_of rc tc tr rg tg fresh e k g = let l : length tg ≡ length rg + length fresh = ap length g ∙ length-append rg fresh in omega arith
@@ -303,7 +303,7 @@ pub gave_enough : (r : Reader) (t : Source) (text : List ℕ) (P : List ℕ → 
     → ((total : List ℕ) → Covers t total → P (rest_in total (unread r))) → GaveEnough r t.reader P
 gave_enough r t text P p over f = record {
   text = p.fresh;
-  front = record { gave = p.gave; known_bytes = reported_front r.to_come t.reader.to_come t.waiting text p.fresh p.flows p.bytes; loans = p.loans };
+  front = record { gave = p.gave; known_bytes = known_front r.to_come t.reader.to_come t.waiting text p.fresh p.flows p.bytes; loans = p.loans };
   over = λ called e. over (read_some r.calls t.reader.calls t.reads p.calls called, e);
   few = few_of r.calls t.reader.calls t.reads r.given t.reader.given p.fresh p.calls p.few p.gave;
   holds = λ rest k.
@@ -332,7 +332,7 @@ read_fails r t text b p = (
 pub passed_front : (n : ℕ) (r : Reader) (t : Source) (text : List ℕ) (P : List ℕ → Type 0) → ConsumesWithReads n (unread r) t text → ((total : List ℕ) → Covers t total → P (rest_in total (unread r))) → GaveFrontOf r t.reader P
 passed_front n r t text P p f = record {
   text = p.fresh;
-  front = record { gave = p.gave; known_bytes = reported_front r.to_come t.reader.to_come t.waiting text p.fresh p.flows p.bytes; loans = p.loans };
+  front = record { gave = p.gave; known_bytes = known_front r.to_come t.reader.to_come t.waiting text p.fresh p.flows p.bytes; loans = p.loans };
   holds = λ rest k.
       let whole : t.reader.given ++ rest ≡ r.given ++ (p.fresh ++ rest) = ap (λ (z : List ℕ). z ++ rest) p.gave ∙ append_assoc r.given p.fresh rest in
       subst P (rest_is (unread r) (t.reader.given ++ rest) (p.fresh ++ rest) whole)
@@ -342,7 +342,7 @@ passed_front n r t text P p f = record {
 pub faulted_front : (r : Reader) (t : Source) (text : List ℕ) (P : List ℕ → Type 0) → ConsumesAndFails (unread r) t text → ((total : List ℕ) → Covers t total → P (rest_in total (unread r))) → GaveFrontOf r t.reader P
 faulted_front r t text P p f = record {
   text = p.fresh;
-  front = record { gave = p.gave; known_bytes = reported_front r.to_come t.reader.to_come t.waiting text p.fresh (p.flows ∙ sym (append-nil text) ∙ ap (λ (z : List ℕ). text ++ z) (sym p.none)) p.bytes; loans = p.loans };
+  front = record { gave = p.gave; known_bytes = known_front r.to_come t.reader.to_come t.waiting text p.fresh (p.flows ∙ sym (append-nil text) ∙ ap (λ (z : List ℕ). text ++ z) (sym p.none)) p.bytes; loans = p.loans };
   holds = λ rest k.
       let whole : t.reader.given ++ rest ≡ r.given ++ (p.fresh ++ rest) = ap (λ (z : List ℕ). z ++ rest) p.gave ∙ append_assoc r.given p.fresh rest in
       subst P (rest_is (unread r) (t.reader.given ++ rest) (p.fresh ++ rest) whole)
@@ -352,7 +352,7 @@ faulted_front r t text P p f = record {
 -- the looks of the steps that were read, whatever bytes could follow
 pub took_looks : (n : ℕ) (r : Reader) (t : Source) (text : List ℕ) (to : ℕ) → ConsumesWithReads n (unread r) t text → ((total : List ℕ) → Covers t total → LooksReach [] (rest_in total (unread r)) 0 to) → TakesLooks r t.reader 0 to
 took_looks n r t text to p f = takes_looks r t.reader p.fresh 0 to
-    (record { gave = p.gave; known_bytes = reported_front r.to_come t.reader.to_come t.waiting text p.fresh p.flows p.bytes; loans = p.loans }) (omega arith)
+    (record { gave = p.gave; known_bytes = known_front r.to_come t.reader.to_come t.waiting text p.fresh p.flows p.bytes; loans = p.loans }) (omega arith)
     (λ rest k.
     let whole : t.reader.given ++ rest ≡ r.given ++ (p.fresh ++ rest) = ap (λ (z : List ℕ). z ++ rest) p.gave ∙ append_assoc r.given p.fresh rest in
     subst (λ bytes. LooksReach [] bytes 0 to) (rest_is (unread r) (t.reader.given ++ rest) (p.fresh ++ rest) whole)
@@ -361,7 +361,7 @@ took_looks n r t text to p f = takes_looks r t.reader p.fresh 0 to
 -- the same if a read failed
 pub took_faulted : (r : Reader) (t : Source) (text : List ℕ) (to : ℕ) → ConsumesAndFails (unread r) t text → ((total : List ℕ) → Covers t total → LooksReach [] (rest_in total (unread r)) 0 to) → TakesLooks r t.reader 0 to
 took_faulted r t text to p f = takes_looks r t.reader p.fresh 0 to
-    (record { gave = p.gave; known_bytes = reported_front r.to_come t.reader.to_come t.waiting text p.fresh (p.flows ∙ sym (append-nil text) ∙ ap (λ (z : List ℕ). text ++ z) (sym p.none)) p.bytes; loans = p.loans }) (omega arith)
+    (record { gave = p.gave; known_bytes = known_front r.to_come t.reader.to_come t.waiting text p.fresh (p.flows ∙ sym (append-nil text) ∙ ap (λ (z : List ℕ). text ++ z) (sym p.none)) p.bytes; loans = p.loans }) (omega arith)
     (λ rest k.
     let whole : t.reader.given ++ rest ≡ r.given ++ (p.fresh ++ rest) = ap (λ (z : List ℕ). z ++ rest) p.gave ∙ append_assoc r.given p.fresh rest in
     subst (λ bytes. LooksReach [] bytes 0 to) (rest_is (unread r) (t.reader.given ++ rest) (p.fresh ++ rest) whole)

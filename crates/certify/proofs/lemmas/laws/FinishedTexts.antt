@@ -6,7 +6,7 @@ use Rattle.std.proofs.lemmas.List.{append_cancel_left}
 use Rattle.std.proofs.Math.Nat.{mul-le-mul, mul-one, pow-succ', pow-zero}
 use Rattle.sat_base.specs.device.Device.{Reader, Writer, GaveEnough, WriterTakes}
 use Rattle.sat_base.specs.script.Language.{reading}
-use Rattle.sat_base.proofs.lemmas.device.Given.{enough_reported}
+use Rattle.sat_base.proofs.lemmas.device.Given.{enough_known}
 use Rattle.sat_checker.specs.matching.ProofChecking.{checker_rules}
 use Rattle.certify.specs.confirm.Matches.{Matches, TextsMatch}
 use Rattle.certify.specs.confirm.VerdictPromises.{AreRightAnswers, Exact, GaveTextWith, IsSoundVerdict, TakesLooks}
@@ -38,7 +38,7 @@ finished_confirmed script answers certificate v budget summary text answered cer
 
 -- what holds whatever the reader could give holds of its text, if that is known
 pub of_known_text : (a b : Reader) (P : List ℕ → Type 0) (text : List ℕ) → a.to_come ≡ Some text → GaveEnough a b P → P text
-of_known_text a b P text e g = subst (λ o. IfSome o P) e (enough_reported a b P g)
+of_known_text a b P text e g = subst (λ o. IfSome o P) e (enough_known a b P g)
 
 pub says : (r : Result Verdict ConfirmFault) (a x b y c z : Reader) (s t u : List ℕ) → a.to_come ≡ Some s → b.to_come ≡ Some t → c.to_come ≡ Some u
     → IfOk r (Exact (a, x) (b, y) (c, z)) → IfOk r (IsSoundVerdict (a, x) (b, y)) → IfOk r (VerdictSays s t u)

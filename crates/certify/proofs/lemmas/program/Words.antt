@@ -44,12 +44,12 @@ no_digit word i l d e n s = let no : true ≡ false = sym s.digits ∙ sym e ∙
 pub all_digits : (word : List ℕ) (i : ℕ) → length word ≤ i → all_ascii_digits (drop i word) ≡ all_ascii_digits word → all_ascii_digits word ≡ true
 all_digits word i l e = sym e ∙ ap all_ascii_digits (drop_all i word l)
 
-steps_or_none : {E : Type 0} (word : List ℕ) (r : Result ℕ E) → OkIff r ((0 < length word) × (digits_value 10 word < 2 ^ 64)) (digits_value 10 word) → all_ascii_digits word ≡ true
+rounds_or_none : {E : Type 0} (word : List ℕ) (r : Result ℕ E) → OkIff r ((0 < length word) × (digits_value 10 word < 2 ^ 64)) (digits_value 10 word) → all_ascii_digits word ≡ true
     → MatchOption (result_ok r) ((n : ℕ) → IsRoundCount word n → ⊥) (IsRoundCount word)
-steps_or_none word (Ok n) ((some, fits), value) digits = record { digits = digits; some = some; value = value; fits = let g : n < 2 ^ 64 = rw value fits in omega arith }
-steps_or_none word (Err e) none digits = λ n s. none (s.some, let g : digits_value 10 word ≤ most_rounds = subst (λ (k : ℕ). k ≤ most_rounds) s.value s.fits in omega arith)
+rounds_or_none word (Ok n) ((some, fits), value) digits = record { digits = digits; some = some; value = value; fits = let g : n < 2 ^ 64 = rw value fits in omega arith }
+rounds_or_none word (Err e) none digits = λ n s. none (s.some, let g : digits_value 10 word ≤ most_rounds = subst (λ (k : ℕ). k ≤ most_rounds) s.value s.fits in omega arith)
 
 -- what `parse` returns for a word of digits
-pub steps_parsed : {E : Type 0} (word : List ℕ) (r : Result ℕ E) → ParsesUnsigned 64 10 word r → all_ascii_digits word ≡ true
+pub rounds_parsed : {E : Type 0} (word : List ℕ) (r : Result ℕ E) → ParsesUnsigned 64 10 word r → all_ascii_digits word ≡ true
     → MatchOption (result_ok r) ((n : ℕ) → IsRoundCount word n → ⊥) (IsRoundCount word)
-steps_parsed word r h p = steps_or_none word r (parse_digits numerals 64 word r h p) p
+rounds_parsed word r h p = rounds_or_none word r (parse_digits numerals 64 word r h p) p

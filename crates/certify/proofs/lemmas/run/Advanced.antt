@@ -42,10 +42,10 @@ session_is (step ∷ earlier) = let h = session_is earlier in (last_after step h
 -- WIDTHS CHANGE NOTHING ELSE
 
 -- writing a new width, if it differs, changes only the width
-pub reported_wide : (same : Bool) (now : ℕ) (written : List Step) (c : ProofState) (x : ℕ) → (contents_of written).state ≡ wide x c
+pub change_wide : (same : Bool) (now : ℕ) (written : List Step) (c : ProofState) (x : ℕ) → (contents_of written).state ≡ wide x c
     → (y : ℕ) × ((contents_of ((if same then [] else ChangeHashBits now ∷ []) ++ written)).state ≡ wide y c)
-reported_wide true now written c x e = (x, e)
-reported_wide false now written c x e = (now, ap (wide now) e)
+change_wide true now written c x e = (x, e)
+change_wide false now written c x e = (now, ap (wide now) e)
 
 -- the written steps lead to the same state as those that were made, except for the width
 pub cuts_state : {c d : Counting} {m w : List Step} → TruncatesHashes c m w d → (x : ℕ) × ((contents_of w).state ≡ wide x (contents_of m).state)
@@ -54,7 +54,7 @@ cuts_state (ask_begun p) = cuts_state p
 cuts_state (one_made {d = d} {made = made} {written = written} step k p) =
     let h = cuts_state p in
     let now = (counted step d).bits in
-    let t = reported_wide (nat_eq d.bits now) now written (contents_of made).state h.0 h.1 in
+    let t = change_wide (nat_eq d.bits now) now written (contents_of made).state h.0 h.1 in
     (t.0, ap (state_after (narrowed now step)) t.1 ∙ after_wide now step t.0 (contents_of made).state k)
 
 -- WHAT THE CHECKER HAS STORED

@@ -16,7 +16,7 @@ use Rattle.sat_solver.specs.proof.Counting.{TruncatesHashes, none_made, ask_begu
 use Rattle.sat_solver.specs.session.Session.{Session, session_after}
 use Rattle.sat_solver.specs.proof.Widths.{narrowed}
 use Rattle.certify.specs.run.Advancing.{DerivesAdvancing, AdvanceTimesStored, AreUnordered}
-use Rattle.certify.proofs.lemmas.run.Advanced.{IsSame, advancing_as, cuts_state, is_same, never_as, reported_wide}
+use Rattle.certify.proofs.lemmas.run.Advanced.{IsSame, advancing_as, cuts_state, is_same, never_as, change_wide}
 
 -- STEPS THAT DERIVE AND RECORD NOTHING
 
@@ -175,7 +175,7 @@ here : {c d : Counting} {m w : List Step} (step : Step) → TruncatesHashes c m 
 here {d = d} {m = m} {w = w} step p =
     let now = (counted step d).bits in
     let h = cuts_state p in
-    let wider = reported_wide (nat_eq d.bits now) now w (contents_of m).state h.0 h.1 in
+    let wider = change_wide (nat_eq d.bits now) now w (contents_of m).state h.0 h.1 in
     record { same = is_same (width_change d.bits now ++ w) m wider.0 wider.1 }
 
 pub timed : {c d : Counting} {m w : List Step} → TruncatesHashes c m w d → (steps opened : List Step) (k : ℕ) → m ≡ steps ++ opened → made.AdvanceTimes opened steps k → Timed c opened w steps k

@@ -240,9 +240,9 @@ shown_none false j ls (Unsat core) = refl
 shown_none false j ls Unknown = refl
 
 -- changes of the width set no assumptions
-reported_times : (same : Bool) (now : ℕ) (w : List Step) → assumed_times ((if same then [] else ChangeHashBits now ∷ []) ++ w) ≡ assumed_times w
-reported_times true now w = refl
-reported_times false now w = refl
+change_times : (same : Bool) (now : ℕ) (w : List Step) → assumed_times ((if same then [] else ChangeHashBits now ∷ []) ++ w) ≡ assumed_times w
+change_times true now w = refl
+change_times false now w = refl
 
 narrowed_times : (bits : ℕ) (step : Step) (made written : List Step) → assumed_times written ≡ assumed_times made → assumed_times (narrowed bits step ∷ written) ≡ assumed_times (step ∷ made)
 narrowed_times bits (Assumptions ls) m w e = ap (λ (k : ℕ). k + 1) e
@@ -254,7 +254,7 @@ cut_times none_made = refl
 cut_times (ask_begun p) = cut_times p
 cut_times (one_made {d = d} {made = m} {written = w} step k p) =
     let now = (counted step d).bits in
-    narrowed_times now step m ((if nat_eq d.bits now then [] else ChangeHashBits now ∷ []) ++ w) (reported_times (nat_eq d.bits now) now w ∙ cut_times p)
+    narrowed_times now step m ((if nat_eq d.bits now then [] else ChangeHashBits now ∷ []) ++ w) (change_times (nat_eq d.bits now) now w ∙ cut_times p)
 
 -- the assumptions of two lists of steps add up
 both_assumed : (xs ys : List Step) → assumed_times (xs ++ ys) ≡ assumed_times xs + assumed_times ys

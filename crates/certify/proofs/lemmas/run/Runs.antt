@@ -17,7 +17,7 @@ use Rattle.sat_solver.specs.proof.OutputView.{text_in}
 use Rattle.sat_solver.specs.proof.ProofTexts.{TookText}
 use Rattle.sat_solver.specs.proof.ProofView.{Closed, Open, Broken, TargetTakes, TargetFails, GivesWriter, TakesAll, is_open, target_of}
 use Rattle.sat_solver.specs.session.Session.{AreAllowedSteps}
-use Rattle.sat_solver.specs.solver.Fronts.{ReachesBySteps}
+use Rattle.sat_solver.specs.solver.Prefixes.{ReachesBySteps}
 use Rattle.sat_solver.specs.solver.Whole.{HasFullStore, steps_in}
 use Rattle.sat_solver.proofs.lemmas.session.CutsLemmas.{cuts_are_free}
 use Rattle.sat_solver.proofs.lemmas.session.ProofLemmas.{closed_is_text}
@@ -50,7 +50,7 @@ use Rattle.certify.proofs.lemmas.confirm.Streams.{faulted_front, gave_enough, pa
 use Rattle.certify.proofs.lemmas.confirm.Joining.{covers_given, took_kept}
 use Rattle.certify.proofs.lemmas.laws.Headlines.{same_reports}
 use Rattle.certify.proofs.lemmas.run.MadeCertifies.{made_certifies}
-use Rattle.certify.proofs.lemmas.run.ProofFronts.{carried_front, went_broke, went_took}
+use Rattle.certify.proofs.lemmas.run.ProofPrefixes.{carried_front, went_broke, went_took}
 use Rattle.certify.proofs.lemmas.run.RunStateCalls.{broke_later, took_both}
 use Rattle.certify.proofs.lemmas.run.Stopping.{front_whole}
 use Rattle.certify.proofs.lemmas.run.Written.{written_certifies}

@@ -218,8 +218,8 @@ none_deleted (FailedAssumptions core hs ∷ steps) m p = none_deleted steps m.0 
 none_deleted (End ∷ steps) m p = none_deleted steps m.0 p.1
 
 -- WHAT IS WRITTEN FOR STEPS
-reported_delete : (before now : ℕ) (steps : List Step) → has_delete_var (width_change before now ++ steps) ≡ has_delete_var steps
-reported_delete before now steps = go (eqb before now)
+change_delete : (before now : ℕ) (steps : List Step) → has_delete_var (width_change before now ++ steps) ≡ has_delete_var steps
+change_delete before now steps = go (eqb before now)
   where
     go : (b : Bool) → has_delete_var (cond b [] (ChangeHashBits now ∷ []) ++ steps) ≡ has_delete_var steps
     go true = refl
@@ -233,7 +233,7 @@ cuts_delete : {c d : Counting} {made written : List Step} → TruncatesHashes c 
 cuts_delete none_made = refl
 cuts_delete (ask_begun k) = cuts_delete k
 cuts_delete (one_made {d = d} {made = made} {written = written} step keeps k) =
-    narrowed_delete (counted step d).bits step made (width_change d.bits (counted step d).bits ++ written) (reported_delete d.bits (counted step d).bits written ∙ cuts_delete k)
+    narrowed_delete (counted step d).bits step made (width_change d.bits (counted step d).bits ++ written) (change_delete d.bits (counted step d).bits written ∙ cuts_delete k)
 
 -- that none of the steps is an `End`
 abbrev GoOn : List Step → Type 0

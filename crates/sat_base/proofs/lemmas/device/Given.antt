@@ -146,8 +146,8 @@ reported_of (Some all) None xs P h k = absurd h
 reported_of (Some all) (Some rest) xs P h k = subst P (sym h) (k rest refl)
 
 -- if the bytes to come are known, P holds of them
-pub enough_reported : (a c : Reader) (P : List ℕ → Type 0) → GaveEnough a c P → IfSome a.to_come P
-enough_reported a c P g = reported_of a.to_come c.to_come g.text P g.front.known_bytes (λ rest h. g.holds rest (λ called e. rest_ends c.to_come rest h (g.over called e)))
+pub enough_known : (a c : Reader) (P : List ℕ → Type 0) → GaveEnough a c P → IfSome a.to_come P
+enough_known a c P g = reported_of a.to_come c.to_come g.text P g.front.known_bytes (λ rest h. g.holds rest (λ called e. rest_ends c.to_come rest h (g.over called e)))
 
 -- enough for P is enough for whatever follows from P
 pub enough_as : (a c : Reader) (P Q : List ℕ → Type 0) → ((text : List ℕ) → P text → Q text) → GaveEnough a c P → GaveEnough a c Q

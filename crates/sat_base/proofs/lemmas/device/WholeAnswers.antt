@@ -10,14 +10,14 @@ if_err r e P h = subst (λ z. IfOk z P) (sym h) tt
 pub ok_is_no_err : {T E X : Type 0} (x : T) (e : E) → ◌≡◌ {A = Result T E} (Ok x) (Err e) → X
 ok_is_no_err x e h = absurd cc
 
-pub want_is_no_failure : {T X : Type 0} (r : Result T ReadError) (d : ReadError) → r ≡ Err d → d ≡ whole.OutOfMemory → r ≡ Err whole.Failed → X
-want_is_no_failure r d h k e = absurd cc
+pub memory_is_no_failure : {T X : Type 0} (r : Result T ReadError) (d : ReadError) → r ≡ Err d → d ≡ whole.OutOfMemory → r ≡ Err whole.Failed → X
+memory_is_no_failure r d h k e = absurd cc
 
-pub failure_is_no_want : {T X : Type 0} → ◌≡◌ {A = Result T ReadError} (Err whole.Failed) (Err whole.OutOfMemory) → X
-failure_is_no_want h = absurd cc
+pub failure_is_not_memory : {T X : Type 0} → ◌≡◌ {A = Result T ReadError} (Err whole.Failed) (Err whole.OutOfMemory) → X
+failure_is_not_memory h = absurd cc
 
-pub failed_is_no_want : {T X : Type 0} (e : ReadError) → e ≡ whole.Failed → ◌≡◌ {A = Result T ReadError} (Err e) (Err whole.OutOfMemory) → X
-failed_is_no_want e h k = absurd cc
+pub failed_is_not_memory : {T X : Type 0} (e : ReadError) → e ≡ whole.Failed → ◌≡◌ {A = Result T ReadError} (Err e) (Err whole.OutOfMemory) → X
+failed_is_not_memory e h k = absurd cc
 
 -- a nonempty piece adds at least one byte
 pub one_more : (xs piece ys : List ℕ) (n : ℕ) → ys ≡ xs ++ piece → n ≤ length xs → 0 < length piece → n + 1 ≤ length ys

@@ -1,4 +1,4 @@
-use Rattle.sat_checker.proofs.lemmas.checker.Fronts.{settled_first, read_first}
+use Rattle.sat_checker.proofs.lemmas.checker.Prefixes.{settled_first, read_first}
 use Rattle.sat_checker.proofs.laws.clauses_read_are_first.Goals as goal
 
 pub returns : goal.returns

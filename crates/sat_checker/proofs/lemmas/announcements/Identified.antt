@@ -52,8 +52,8 @@ news_after id ls xs ys n = (n.0, one_after n.0 xs ys n.1, n.2)
 news_reported : (f : Stored) (id : ℕ) (ls : List ℕ) (news : List Announcement) → IsNews id ls news → IsAnnounced id ls (notices_over f news)
 news_reported f id ls news n = (record { announcement = n.0; variables = f.variables }, one_mapped (λ a. record { announcement = a; variables = f.variables }) n.0 news n.1, n.2)
 
-reported_front : (id : ℕ) (ls : List ℕ) (xs ys : List Notice) → IsAnnounced id ls xs → IsAnnounced id ls (xs ++ ys)
-reported_front id ls xs ys t = (t.0, one_front t.0 xs ys t.1, t.2)
+announced_front : (id : ℕ) (ls : List ℕ) (xs ys : List Notice) → IsAnnounced id ls xs → IsAnnounced id ls (xs ++ ys)
+announced_front id ls xs ys t = (t.0, one_front t.0 xs ys t.1, t.2)
 
 reported_after : (id : ℕ) (ls : List ℕ) (xs ys : List Notice) → IsAnnounced id ls ys → IsAnnounced id ls (xs ++ ys)
 reported_after id ls xs ys t = (t.0, one_after t.0 xs ys t.1, t.2)
@@ -282,7 +282,7 @@ ready_announced : (steps : List Step) → AreAnnounced (stored_after steps) (not
 ready_announced steps a =
     let reported : List Notice = notices_after steps in
     let waiting : List Notice = notices_over (stored_after steps) (delayed (stored_after steps)) in
-    settled_announced (reported ++ waiting) (stored_after steps) (reported_more (stored_after steps) reported (reported ++ waiting) (λ id ls t. reported_front id ls reported waiting t) a)
+    settled_announced (reported ++ waiting) (stored_after steps) (reported_more (stored_after steps) reported (reported ++ waiting) (λ id ls t. announced_front id ls reported waiting t) a)
 
 pub identified : IdsAreAnnounced
 identified [] = record { clauses = tt; units = tt; last = λ id e. absurd cc; conflict = λ ids e. absurd cc }
@@ -291,7 +291,7 @@ identified (step ∷ earlier) =
     let reported : List Notice = all_notices_after earlier in
     let more : List Notice = notices_over f (announced f step) in
     effect_announced (reported ++ more) step f (settled_none (stored_after earlier)) (λ id ls n. reported_after id ls reported more (news_reported f id ls (announced f step) n))
-    (reported_more f reported (reported ++ more) (λ id ls t. reported_front id ls reported more t) (ready_announced earlier (identified earlier)))
+    (reported_more f reported (reported ++ more) (λ id ls t. announced_front id ls reported more t) (ready_announced earlier (identified earlier)))
 
 -- both ids of a delayed empty clause were announced
 pub conflict_named : ConflictIsAnnounced

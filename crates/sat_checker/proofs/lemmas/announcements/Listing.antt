@@ -23,7 +23,7 @@ use Rattle.sat_checker.proofs.lemmas.sets.Order.{among-append, among-reverse}
 use Rattle.sat_checker.proofs.lemmas.propagation.Members.{same_any}
 use Rattle.sat_checker.proofs.lemmas.sets.Trails.{same_tests}
 use Rattle.sat_checker.proofs.lemmas.announcements.Sorted.{few_increasing}
-use Rattle.sat_checker.proofs.lemmas.announcements.Rests.{unit_found, model_excludes_core, both_from}
+use Rattle.sat_checker.proofs.lemmas.announcements.Rests.{unit_found, not_both, both_from}
 use Rattle.sat_checker.proofs.lemmas.announcements.Exact.{one_among}
 use Rattle.sat_checker.proofs.lemmas.announcements.Marking.{or_none}
 use Rattle.sat_checker.proofs.lemmas.announcements.Noting.{ground_same}
@@ -224,7 +224,7 @@ units_listed denied marked units ls ids sorted r n u e p s g same i =
     back m k =
         let w = left_by test units m k in
         let parts = and_parts (is_among g.literals w.unit.literal) (not (is_among denied w.unit.literal)) w.passes in
-        let d : is_among denied w.unit.literal ≡ false = model_excludes_core (is_among g.literals w.unit.literal) (is_among denied w.unit.literal) w.passes in
+        let d : is_among denied w.unit.literal ≡ false = not_both (is_among g.literals w.unit.literal) (is_among denied w.unit.literal) w.passes in
         let c = given denied units ls w.unit.literal m (marked_in w.unit.literal ∙ parts.0) d (id_of_stored units w.unit u w.stored ∙ ap Some w.id_is) in
         among_from_contains sorted m (Contains-permutation ids sorted m p (contains_from_among ids m (ap (λ xs. is_among xs m) e ∙ c)))
 

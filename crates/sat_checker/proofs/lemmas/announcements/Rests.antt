@@ -270,10 +270,10 @@ unnegated (l ∷ ls) m e =
       | inr k ↦ or_right (eqb l m) (is_among ls m) (unnegated ls m k)
     ]
 
-pub model_excludes_core : (b d : Bool) → (b && not d) ≡ true → d ≡ false
-model_excludes_core true true e = absurd (true≢false (sym e))
-model_excludes_core true false e = refl
-model_excludes_core false d e = absurd (true≢false (sym e))
+pub not_both : (b d : Bool) → (b && not d) ≡ true → d ≡ false
+not_both true true e = absurd (true≢false (sym e))
+not_both true false e = refl
+not_both false d e = absurd (true≢false (sym e))
 
 pub both_from : (b d : Bool) → b ≡ true → d ≡ false → (b && not d) ≡ true
 both_from true true e f = absurd (true≢false f)
@@ -304,7 +304,7 @@ module _ (f : Stored) (clause hashes : List ℕ) (sorted : Sorted f) (apart : Va
       let needed : List StoredUnit = needed_units denied g f.units in
       let open_units : AreOpen denied needed = few_each p (λ u. (is_among denied u.literal ≡ false) × (is_among denied (negated u.literal) ≡ false)) f.units
       (each_imp (λ u. is_among clause u.literal ≡ false) (λ u. p u ≡ true → (is_among denied u.literal ≡ false) × (is_among denied (negated u.literal) ≡ false)) f.units
-      (λ u n t. (model_excludes_core (is_among g.literals u.literal) (is_among denied u.literal) t, false_from_ne_true (is_among denied (negated u.literal)) (λ k. both_ways (is_among clause u.literal) n (unnegated clause u.literal k))))
+      (λ u n t. (not_both (is_among g.literals u.literal) (is_among denied u.literal) t, false_from_ne_true (is_among denied (negated u.literal)) (λ k. both_ways (is_among clause u.literal) n (unnegated clause u.literal k))))
       (each_unit (λ l. is_among clause l ≡ false) f.units (λ m k. false_from_ne_true (is_among clause m) (λ t. both_ways (is_among (unit_literals f) m) (none m t) k)))) in
       let within : Within (pushed needed denied) assumed = record {
         each = λ m k. among-append denied (unit_literals f) m ∙ elim (pushed_from needed denied m k) [

@@ -133,10 +133,10 @@ none_found s t e c n = λ h k. n (let z : s.reads ≡ 0 = ap (λ (x : Source). x
 
 -- THE READER'S BYTES
 
-reported_front : (a b : Option (List ℕ)) (ws text : List ℕ) → Consumes (prepend_known [] a) (prepend_known ws b) text → Consumes a b (text ++ ws)
-reported_front None b ws text h = tt
-reported_front (Some x) None ws text h = absurd h
-reported_front (Some x) (Some y) ws text h = h ∙ sym (append_assoc text ws y)
+known_front : (a b : Option (List ℕ)) (ws text : List ℕ) → Consumes (prepend_known [] a) (prepend_known ws b) text → Consumes a b (text ++ ws)
+known_front None b ws text h = tt
+known_front (Some x) None ws text h = absurd h
+known_front (Some x) (Some y) ws text h = h ∙ sym (append_assoc text ws y)
 
 few_of : (n rc tc tr m : ℕ) (rg tg fresh : List ℕ) → n ≤ 1 → tc + 0 ≡ rc + tr → tr ≤ 0 + length fresh + n → tg ≡ rg ++ fresh → tc + length rg ≤ rc + length tg + 1
 few_of n rc tc tr m rg tg fresh h e k g = let l : length tg ≡ length rg + length fresh = ap length g ∙ length-append rg fresh in omega arith
@@ -155,7 +155,7 @@ gave_steps n r t steps text more h b p spelt =
       spelt = spelt;
       front = record {
         gave = p.gave ∙ ap (λ (z : List ℕ). r.given ++ z) fresh;
-        known_bytes = subst (Consumes r.to_come t.reader.to_come) (append_assoc text more t.waiting) (reported_front r.to_come t.reader.to_come t.waiting (text ++ more) p.bytes);
+        known_bytes = subst (Consumes r.to_come t.reader.to_come) (append_assoc text more t.waiting) (known_front r.to_come t.reader.to_come t.waiting (text ++ more) p.bytes);
         loans = p.loans;
       };
       few = few_of n r.calls t.reader.calls t.reads 0 r.given t.reader.given p.fresh h p.calls p.few p.gave;
@@ -169,7 +169,7 @@ faulted_steps r t steps text more b p spelt = record {
   spelt = spelt;
   front = record {
     gave = p.gave ∙ ap (λ (z : List ℕ). r.given ++ z) p.flows;
-    known_bytes = subst (Consumes r.to_come t.reader.to_come) (append-nil (text ++ more)) (reported_front r.to_come t.reader.to_come [] (text ++ more) (subst (λ (z : List ℕ). Consumes (prepend_known [] r.to_come) (prepend_known z t.reader.to_come) (text ++ more)) p.none p.bytes));
+    known_bytes = subst (Consumes r.to_come t.reader.to_come) (append-nil (text ++ more)) (known_front r.to_come t.reader.to_come [] (text ++ more) (subst (λ (z : List ℕ). Consumes (prepend_known [] r.to_come) (prepend_known z t.reader.to_come) (text ++ more)) p.none p.bytes));
     loans = p.loans;
   };
   few = few_of 1 r.calls t.reader.calls t.reads 0 r.given t.reader.given p.fresh (omega arith) p.calls p.few p.gave;

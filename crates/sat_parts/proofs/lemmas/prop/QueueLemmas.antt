@@ -16,7 +16,7 @@ use Rattle.sat_parts.specs.prop.Reasons.{HaveFirsts, PropagatesOn}
 use Rattle.sat_parts.specs.prop.Ready.{AreImplied, AreWatched, AreLists, LongReady, ReadyBelow, IsReadyToPropagate, IsUnitFixpoint, IsConflict}
 use Rattle.sat_parts.specs.prop.Walk.{BinaryWalkInvariant, WatchWalkEffect, due_after}
 use Rattle.sat_parts.proofs.lemmas.clause.OrderLemmas.{reorders_refl}
-use Rattle.sat_parts.proofs.lemmas.prop.StateLemmas.{true_from_false, model_excludes_core, open_other, level_low, left_true, left_back, level_kept, satisfied_forth, before_forth, removed_forth}
+use Rattle.sat_parts.proofs.lemmas.prop.StateLemmas.{true_from_false, not_both, open_other, level_low, left_true, left_back, level_kept, satisfied_forth, before_forth, removed_forth}
 use Rattle.sat_parts.proofs.lemmas.prop.ReasonLemmas.{moves_trans, implies_forth, firsts_moved}
 
 -- the state after the next literal left the queue
@@ -227,14 +227,14 @@ complete w live lists implied s h e = record {
   not_falsified = λ o ho f.
       let long : 3 ≤ size_of w o = h.long.clauses.long o ho in
       let x : IsSatisfied s (lits_at w o) (level s (negated (lit_of w o 0))) = settled_by w live lists s o 0 h.long e ho (omega arith) (f 0 (omega arith)) in
-      model_excludes_core s.values (lit_of w o x.place) x.holds (f x.place x.within);
+      not_both s.values (lit_of w o x.place) x.holds (f x.place x.within);
   not_unit = λ o k ho b u.
       let long : 3 ≤ size_of w o = h.long.clauses.long o ho in
       let other : (i : ℕ) → i < 2 → i ≢ k → ⊥ = λ i hi n.
       let x : IsSatisfied s (lits_at w o) (level s (negated (lit_of w o i))) = settled_by w live lists s o i h.long e ho hi (u.1 i (omega arith) n) in
       elim (cases_eq x.place k) [
         | inl q ↦ open_other s.values (lit_of w o k) (lit_of w o x.place) u.0 x.holds (ap (λ j. variable (lit_of w o j)) q)
-        | inr d ↦ model_excludes_core s.values (lit_of w o x.place) x.holds (u.1 x.place x.within d)
+        | inr d ↦ not_both s.values (lit_of w o x.place) x.holds (u.1 x.place x.within d)
       ] in
       elim (cases_eq k 0) [
         | inl q ↦ other 1 (omega arith) (λ z. omega arith)

@@ -36,8 +36,8 @@ same_sign b e = grind (arith, nat_tests)
 some_back : (x y : Bool) → Some x ≡ Some y → x ≡ y
 some_back x y e = cc
 
-pub model_excludes_core : (values : List (Option Bool)) (l : ℕ) → IsTrueLit values l → IsFalseLit values l → ⊥
-model_excludes_core values l t f = same_sign (is_positive l) (some_back (is_positive l) (not (is_positive l)) (sym t ∙ f))
+pub not_both : (values : List (Option Bool)) (l : ℕ) → IsTrueLit values l → IsFalseLit values l → ⊥
+not_both values l t f = same_sign (is_positive l) (some_back (is_positive l) (not (is_positive l)) (sym t ∙ f))
 
 some_none : {b : Bool} {o : Option Bool} → o ≡ Some b → o ≡ None → ⊥
 some_none p q = (let e : Some _ ≡ None = sym p ∙ q in cc)

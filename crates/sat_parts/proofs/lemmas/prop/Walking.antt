@@ -16,7 +16,7 @@ use Rattle.sat_parts.specs.prop.Reasons.{IsFalseBefore, Implies, PropagatesOn}
 use Rattle.sat_parts.specs.prop.Ready.{HasLit, HasWatch, IsSoundWatch, LongReady}
 use Rattle.sat_parts.specs.prop.Walk.{WalkInvariant, IsOther, WalkInvariantAtClause, WatchWalkEffect}
 use Rattle.sat_parts.proofs.lemmas.clause.OrderLemmas.{shuffles_refl, kept_clauses, reorders_one}
-use Rattle.sat_parts.proofs.lemmas.prop.StateLemmas.{true_from_false, false_from_true, model_excludes_core, level_low, left_true, agrees_enqueued, grows_enqueued, queue_enqueued, true_new, before_forth, removed_forth, lit_last}
+use Rattle.sat_parts.proofs.lemmas.prop.StateLemmas.{true_from_false, false_from_true, not_both, level_low, left_true, agrees_enqueued, grows_enqueued, queue_enqueued, true_new, before_forth, removed_forth, lit_last}
 use Rattle.sat_parts.proofs.lemmas.prop.RoomLemmas.{room_for, below_from_value}
 use Rattle.sat_parts.proofs.lemmas.prop.ReasonLemmas.{moves_refl, moves_shuffled, moves_enqueued, moves_trans}
 use Rattle.sat_parts.proofs.lemmas.prop.WalkLemmas.{shuffled_all, first_two, oriented_two, walked_kept, walked_close, walked_open, cut}
@@ -39,7 +39,7 @@ lit_false w live s lists list lit kept at h = false_lit w live s lists list lit 
 first_stays : (w v : List ℕ) (s : State) (p fl : ℕ) → IsFalseLit s.values fl → IsOther w v p fl → IsTrueLit s.values (lit_of w p 0) → lit_of v p 0 ≡ lit_of w p 0
 first_stays w v s p fl f other t = elim other [
   | inl x ↦ x.1
-  | inr x ↦ absurd (model_excludes_core s.values fl (subst (λ (z : ℕ). IsTrueLit s.values z) x.0 t) f)
+  | inr x ↦ absurd (not_both s.values fl (subst (λ (z : ℕ). IsTrueLit s.values z) x.0 t) f)
 ]
 
 -- a true literal satisfies the clause at the level of lit or lower

@@ -16,7 +16,7 @@ use Rattle.sat_parts.specs.prop.Values.{IsTrueLit, IsFalseLit}
 use Rattle.sat_parts.specs.prop.State.{State, level, current_level, HasLeftQueue, IsSatisfied}
 use Rattle.sat_parts.specs.prop.Asks.{PropagationInvariant}
 use Rattle.sat_parts.proofs.lemmas.clause.ListLemmas.{at_place}
-use Rattle.sat_parts.proofs.lemmas.prop.StateLemmas.{negated_variable, negated_twice, true_from_false, false_from_true, model_excludes_core}
+use Rattle.sat_parts.proofs.lemmas.prop.StateLemmas.{negated_variable, negated_twice, true_from_false, false_from_true, not_both}
 use Rattle.sat_solver.specs.analyze_conflict.Work.{Work}
 use Rattle.sat_solver.specs.analyze_conflict.Derivation.{AreLevelZeroLits, Learns}
 use Rattle.sat_solver.specs.analyze_conflict.Advances.{IsStored, stored_long, stored_pair, LeadTo, LearnedAdvances}
@@ -40,7 +40,7 @@ OthersLow s back c o = (k : ℕ) → k < length c → (get_or c k 0 ≡ o) ⊎ I
 satisfied_low : (s : State) (back o : ℕ) (c : List ℕ) (bound : ℕ) → OthersLow s back c o → bound ≤ back → IsSatisfied s c bound → IsLow s back o
 satisfied_low s back o c bound h le x = elim (h x.place x.within) [
   | inl e ↦ subst (λ z. IsLow s back z) e (record { holds = x.holds; low = omega (arith, x.low) })
-  | inr n ↦ absurd (model_excludes_core s.values (get_or c x.place 0) x.holds (subst (λ z. IsFalseLit s.values z) (negated_twice (get_or c x.place 0)) (false_from_true s.values (negated (get_or c x.place 0)) n.holds)))
+  | inr n ↦ absurd (not_both s.values (get_or c x.place 0) x.holds (subst (λ z. IsFalseLit s.values z) (negated_twice (get_or c x.place 0)) (false_from_true s.values (negated (get_or c x.place 0)) n.holds)))
 ]
 
 long_low : (words refs : List ℕ) (watching : Watching) (implied : List (List ℕ)) (s : State) (back o p : ℕ) → PropagationInvariant words refs watching implied s (current_level s) → back < current_level s → Contains (live_refs words refs) p →
@@ -79,7 +79,7 @@ stored_low words refs watching implied s back o c a lt (stored_pair x y p e) h =
         | inl q ↦ subst (λ z. IsLow s back z) q (pair_low words refs watching implied s back x y a lt p.1 n)
         | inr m ↦
             let t : IsLow s back x = pair_low words refs watching implied s back x y a lt p.1 n in
-            absurd (model_excludes_core s.values x t.holds (subst (λ z. IsFalseLit s.values z) (negated_twice x) (false_from_true s.values (negated x) m.holds)))
+            absurd (not_both s.values x t.holds (subst (λ z. IsFalseLit s.values z) (negated_twice x) (false_from_true s.values (negated x) m.holds)))
       ]
       | inl q ↦ elim (g 0 (omega arith)) [
         | inr m ↦ subst (λ z. IsLow s back z) q (pair_low words refs watching implied s back y x a lt p.2 m)

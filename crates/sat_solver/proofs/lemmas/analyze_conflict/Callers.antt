@@ -20,7 +20,7 @@ use Rattle.sat_parts.specs.prop.TrailWord.{IsLevelled}
 use Rattle.sat_parts.specs.prop.Ready.{IsConflict, AreAllFalse}
 use Rattle.sat_parts.specs.prop.Asks.{PropagationInvariant}
 use Rattle.sat_parts.proofs.lemmas.clause.ListLemmas.{at_place}
-use Rattle.sat_parts.proofs.lemmas.prop.StateLemmas.{negated_variable, true_from_false, model_excludes_core, level_low}
+use Rattle.sat_parts.proofs.lemmas.prop.StateLemmas.{negated_variable, true_from_false, not_both, level_low}
 use Rattle.sat_solver.specs.analyze_conflict.Marks.{CanAnalyze, HasTop}
 
 -- a true literal below the current level has left the queue
@@ -48,7 +48,7 @@ conflict_top words refs w implied s (conflicts.Binary ls) asks c = elim (cases_e
       let low : level s b < current_level s = false_level s (get_or ls 1 0) asks.agrees c.2 n in
       let left : HasLeftQueue s b = low_left s b asks.agrees asks.queue (true_from_false s.values (get_or ls 1 0) c.2) low in
       let t : IsTrueLit s.values (get_or (implied_by implied b) c.0.0 0) = (asks.binary b c.0.0 left low c.0.1).0 in
-      absurd (model_excludes_core s.values (get_or ls 0 0) (subst (λ z. IsTrueLit s.values z) (at_place (implied_by implied b) (get_or ls 0 0) c.0) t) c.1)
+      absurd (not_both s.values (get_or ls 0 0) (subst (λ z. IsTrueLit s.values z) (at_place (implied_by implied b) (get_or ls 0 0) c.0) t) c.1)
 ]
 conflict_top words refs w implied s (conflicts.Long o) asks c =
     let long : 3 ≤ size_of words o = asks.clauses.long o c.0 in
@@ -60,7 +60,7 @@ conflict_top words refs w implied s (conflicts.Long o) asks c =
           let low : level s (negated r) < current_level s = false_level s r asks.agrees f n in
           let left : HasLeftQueue s (negated r) = low_left s (negated r) asks.agrees asks.queue (true_from_false s.values r f) low in
           let x : IsSatisfied s (lits_at words o) (level s (negated r)) = asks.settled o 0 c.0 (omega arith) left low in
-          absurd (model_excludes_core s.values (get_or (lits_at words o) x.place 0) x.holds (c.1 x.place x.within))
+          absurd (not_both s.values (get_or (lits_at words o) x.place 0) x.holds (c.1 x.place x.within))
     ]
 
 before_by : (words live : List ℕ) (implied : List (List ℕ)) (s : State) (p k : ℕ) (r : Reason) → Implies words live implied s p r → k < length (causes words r) → IsFalseBefore s p (get_or (causes words r) k 0)

@@ -11,7 +11,7 @@ use Rattle.sat_parts.specs.prop.Graphs.{node_of}
 use Rattle.sat_parts.specs.prop.State.{State, level, current_level, lit_at, StateIsConsistent}
 use Rattle.sat_parts.specs.prop.Reasons.{IsFalseBefore}
 use Rattle.sat_parts.proofs.lemmas.clause.ListLemmas.{at_place, place_in, in_tail, in_head, there}
-use Rattle.sat_parts.proofs.lemmas.prop.StateLemmas.{negated_variable, negated_twice, false_from_true, true_from_false, model_excludes_core}
+use Rattle.sat_parts.proofs.lemmas.prop.StateLemmas.{negated_variable, negated_twice, false_from_true, true_from_false, not_both}
 use Rattle.sat_solver.specs.analyze_conflict.Marks.{causes_at, CanAnalyze, IsReasoned, depth}
 use Rattle.sat_solver.specs.analyze_conflict.Derivation.{clause_of, AreLevelZeroLits, HasKnownCause, IsDerivation, IsAcceptable, grounded_unit, grounded_clause, grounded_reason}
 
@@ -73,7 +73,7 @@ next_ready words s conflict known e es h = record {
       or_from (eqb e (get_or es k 0)) (is_among known (get_or es k 0)) (ne_eqb e (get_or es k 0) (λ q. omega (arith, ap (λ z. depth s z) q))) (h.fresh (suc k) (omega arith));
   apart = λ k lt.
       let m : ℕ = negated (get_or es k 0) in
-      or_from (eqb e m) (is_among known m) (ne_eqb e m (λ q. model_excludes_core s.values m (subst (λ z. IsTrueLit s.values z) q (h.holds 0 (omega arith))) (false_from_true s.values (get_or es k 0) (h.holds (suc k) (omega arith))))) (h.apart (suc k) (omega arith));
+      or_from (eqb e m) (is_among known m) (ne_eqb e m (λ q. not_both s.values m (subst (λ z. IsTrueLit s.values z) q (h.holds 0 (omega arith))) (false_from_true s.values (get_or es k 0) (h.holds (suc k) (omega arith))))) (h.apart (suc k) (omega arith));
   holds = λ k lt. h.holds (suc k) (omega arith);
   rising = λ j k a b. h.rising (suc j) (suc k) (omega arith) (omega arith);
   causes = λ k i a b.
@@ -195,7 +195,7 @@ acceptable words s conflict learned used can fails start d units u =
           let x : IsReasoned s 0 e = reasons k lt in
           let holds : IsTrueLit s.values e = subst (λ z. IsTrueLit s.values z) x.there (can.agrees.holds x.place x.within) in
           false_from_ne_true (is_among (map negated learned ++ units) (negated e)) (λ t.
-          model_excludes_core s.values e holds (subst (λ z. IsFalseLit s.values z) (negated_twice e) (false_from_true s.values (negated e) (assumed_true s learned units (negated e) u fails t))));
+          not_both s.values e holds (subst (λ z. IsFalseLit s.values z) (negated_twice e) (false_from_true s.values (negated e) (assumed_true s learned units (negated e) u fails t))));
       fresh = λ k lt. not_assumed s learned units (get_or used k 0) u (reasons k lt).above (d.grounds.apart (get_or used k 0) (place_in used k lt));
       holds = λ k lt.
           let x : IsReasoned s 0 (get_or used k 0) = reasons k lt in

@@ -13,7 +13,7 @@ use Rattle.sat_parts.specs.prop.Values.{IsTrueLit, IsFalseLit}
 use Rattle.sat_parts.specs.prop.Reasons.{IsFalseBefore}
 use Rattle.sat_parts.specs.prop.State.{State}
 use Rattle.sat_parts.proofs.lemmas.clause.ListLemmas.{at_place, place_in}
-use Rattle.sat_parts.proofs.lemmas.prop.StateLemmas.{negated_twice, false_from_true, model_excludes_core}
+use Rattle.sat_parts.proofs.lemmas.prop.StateLemmas.{negated_twice, false_from_true, not_both}
 use Rattle.sat_solver.specs.analyze_conflict.Work.{Work}
 use Rattle.sat_solver.specs.analyze_conflict.Marks.{causes_at, CanAnalyze, IsReasoned, depth}
 use Rattle.sat_solver.specs.analyze_conflict.Derivation.{clause_of, AreLevelZeroLits, IsDerivation}
@@ -72,7 +72,7 @@ not_denied : (words : List ℕ) (s : State) (failed : ℕ) (core used units : Li
     is_among (assumed core units) (negated (get_or used k 0)) ≡ false
 not_denied words s failed core used units last k can u h lt holds =
     let e : ℕ = get_or used k 0 in
-    let other : IsTrueLit s.values (negated e) → ⊥ = λ t. model_excludes_core s.values (negated e) t (false_from_true s.values e holds) in
+    let other : IsTrueLit s.values (negated e) → ⊥ = λ t. not_both s.values (negated e) t (false_from_true s.values e holds) in
     false_from_ne_true (is_among (assumed core units) (negated e)) (λ t.
     elim (or_cases (is_among (map negated (map negated core)) (negated e)) (is_among units (negated e)) (sym (among-append (map negated (map negated core)) units (negated e)) ∙ t)) [
       | inl n ↦

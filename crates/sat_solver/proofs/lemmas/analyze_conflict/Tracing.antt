@@ -13,7 +13,7 @@ use Rattle.sat_parts.specs.prop.Reasons.{IsFalseBefore}
 use Rattle.sat_parts.specs.prop.Values.{IsTrueLit, IsFalseLit}
 use Rattle.sat_parts.specs.prop.State.{State, node, level, current_level, lit_at, IsBefore, StateIsConsistent}
 use Rattle.sat_parts.proofs.lemmas.clause.ListLemmas.{at_place, place_in, in_head, in_tail, there}
-use Rattle.sat_parts.proofs.lemmas.prop.StateLemmas.{negated_variable, negated_twice, true_from_false, model_excludes_core, level_low}
+use Rattle.sat_parts.proofs.lemmas.prop.StateLemmas.{negated_variable, negated_twice, true_from_false, not_both, level_low}
 use Rattle.sat_solver.specs.analyze_conflict.Work.{Work, with_met_literals, passed_by, taken_up, with_chosen, begun_core}
 use Rattle.sat_solver.specs.analyze_conflict.Marks.{causes_at, CanAnalyze, MarksWork, IsCovered, covered_unit, covered_clause, covered_reason, covered_core, covered_open, IsReasoned, depth}
 use Rattle.sat_solver.specs.analyze_conflict.Derivation.{clause_of, HasKnownCause, grounded_unit, grounded_clause, grounded_reason}
@@ -225,7 +225,7 @@ core_distinct s failed core a f h j k p q e = elim (cases_eq j k) [
     apart : (i : ℕ) → i < length core → 0 < i → get_or core i 0 ≡ failed → ⊥
     apart i lt pos is =
         let x : IsChosen s 0 (get_or core i 0) = h.chosen i pos lt in
-        model_excludes_core s.values failed (subst (λ z. IsTrueLit s.values z) (x.there ∙ is) (a.holds x.place x.within)) f
+        not_both s.values failed (subst (λ z. IsTrueLit s.values z) (x.there ∙ is) (a.holds x.place x.within)) f
 
 -- the result once no literal is left to be resolved
 pub traced_end : (words : List ℕ) (s : State) (failed : ℕ) (w : Work) (at : ℕ) → CanAnalyze words s → IsFalseLit s.values failed → TraceInvariant words s failed w at → w.pending ≡ 0 → TraceResult words s failed w
@@ -258,7 +258,7 @@ traced_end words s failed w at can f h done =
             elim (cases_eq e.0 0) [
               | inl z ↦
                   let is : failed ≡ l = sym h.lits.first ∙ ap (λ i. get_or w.core i 0) (sym z) ∙ at_place w.core l e in
-                  model_excludes_core s.values failed (subst (λ m. IsTrueLit s.values m) (x.there ∙ sym is) (a.holds x.place x.within)) f
+                  not_both s.values failed (subst (λ m. IsTrueLit s.values m) (x.there ∙ sym is) (a.holds x.place x.within)) f
               | inr n ↦
                   let y : IsChosen s 0 l = subst (λ m. IsChosen s 0 m) (at_place w.core l e) (lits.chosen e.0 (omega arith) e.1) in
                   true≢false (sym y.free ∙ x.caused)

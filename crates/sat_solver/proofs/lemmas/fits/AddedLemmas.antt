@@ -14,7 +14,7 @@ use Rattle.sat_parts.specs.prop.Graphs.{is_unit_reason}
 use Rattle.sat_parts.specs.prop.Values.{IsTrueLit, IsFalseLit}
 use Rattle.sat_parts.specs.prop.State.{State, node, level, lit_at, StateIsConsistent}
 use Rattle.sat_parts.proofs.lemmas.clause.OrderLemmas.{shuffled_trans}
-use Rattle.sat_parts.proofs.lemmas.prop.StateLemmas.{negated_variable, negated_twice, false_from_true, model_excludes_core}
+use Rattle.sat_parts.proofs.lemmas.prop.StateLemmas.{negated_variable, negated_twice, false_from_true, not_both}
 use Rattle.sat_solver.specs.session.Session.{Session, with_fact, after, IsAllowedStep}
 use Rattle.sat_solver.proofs.lemmas.session.Changes.{with_live_clause, with_sorted, knowing_literals, session_if}
 use Rattle.sat_solver.specs.session.LiveClauses.{LiveClause, with_var, AreMapped}
@@ -23,7 +23,7 @@ use Rattle.sat_solver.proofs.lemmas.session.StepsOfClauses.{short_leaves}
 use Rattle.sat_solver.specs.session.SolverClauses.{solver_clauses, InsertsClause}
 use Rattle.sat_solver.proofs.lemmas.trail.UnitLemmas.{fact_keeps, fact_only, fact_names, fact_width}
 use Rattle.sat_solver.proofs.lemmas.trail.InsertedLemmas.{inserted_first}
-use Rattle.sat_parts.specs.parts.Round.{UnitsHaveNoReason as AreBare}
+use Rattle.sat_parts.specs.parts.Round.{UnitsHaveNoReason}
 use Rattle.sat_parts.specs.parts.Frame.{IsUnitLit}
 use Rattle.sat_solver.specs.session.Fits.{is_redundant, SessionMatches}
 use Rattle.sat_solver.specs.session.Listed.{FitsList}
@@ -38,7 +38,7 @@ unit_true st l agrees (inl r) = (r.holds, r.bottom)
 unit_true st l agrees (inr b) = (subst (λ m. IsTrueLit st.values m) b.there (agrees.holds b.place b.within), b.bottom)
 
 -- a true literal of level 0 is a unit if no literal of level 0 has a clause as its reason
-pub true_unit : (st : State) (l : ℕ) → StateIsConsistent st → AreBare st → IsTrueLit st.values l → level st l ≡ 0 → IsUnitLit st l
+pub true_unit : (st : State) (l : ℕ) → StateIsConsistent st → UnitsHaveNoReason st → IsTrueLit st.values l → level st l ≡ 0 → IsUnitLit st l
 true_unit st l agrees bare t z = elim (agrees.known l t) [
   | inl b ↦
       let low : level st (lit_at st b.place) ≡ 0 = ap (λ m. level st m) b.there ∙ z in
@@ -62,7 +62,7 @@ module _ (words live : List ℕ) (implied : List (List ℕ)) (st : State) (s : S
       let known : Session = knowing_literals (with_var global l ∷ []) s in
       let none : s.units (negated (with_var global l)) ≡ false = false_from_ne_true (s.units (negated w)) (λ u.
       let x = fits.sound (negated l) (subst (λ v. s.solver_names (global v) ≡ Some v) (sym (negated_variable l)) own) (subst (λ z. s.units z ≡ true) (sym (negated_mapped global l)) u) in
-      model_excludes_core st.values (negated l) x.0 (false_from_true st.values l holds)) in
+      not_both st.values (negated l) x.0 (false_from_true st.values l holds)) in
       let derived : FitsList all st (after (AtClause false (with_var global l ∷ []) []) s) global = record {
         clauses = short_leaves s global all false (w ∷ []) [] (refl, tt) (omega arith) refl fits.clauses;
         known = λ m u. fact_keeps known w (with_var global m) (fits.known m u);
@@ -84,7 +84,7 @@ module _ (words live : List ℕ) (implied : List (List ℕ)) (st : State) (s : S
       let known : Session = knowing_literals (w ∷ []) s in
       let x = unit_true st (negated l) agrees unit in
       let open_here : s.units (with_var global l) ≡ false = false_from_ne_true (s.units (with_var global l)) (λ u.
-      model_excludes_core st.values l (fits.sound l own u).0 (subst (λ z. IsFalseLit st.values z) (negated_twice l) (false_from_true st.values (negated l) x.0))) in
+      not_both st.values l (fits.sound l own u).0 (subst (λ z. IsFalseLit st.values z) (negated_twice l) (false_from_true st.values (negated l) x.0))) in
       let other : s.units (negated (with_var global l)) ≡ true = subst (λ z. s.units z ≡ true) (negated_mapped global l) (fits.known (negated l) unit) in
       ap (λ b. (session_if b s (with_fact w known)).unsat) fits.consistent
       ∙ ap (λ b. (session_if b known (session_if (s.units (negated w)) (record known { unsat = true }) (record known { units = λ m. eqb w m || s.units m }))).unsat) open_here

@@ -14,7 +14,7 @@ use Rattle.sat_parts.specs.prop.Values.{IsFalseLit}
 use Rattle.sat_parts.specs.prop.Graphs.{node_of}
 use Rattle.sat_parts.specs.prop.State.{level}
 use Rattle.sat_parts.proofs.lemmas.clause.ListLemmas.{place_in}
-use Rattle.sat_parts.proofs.lemmas.prop.StateLemmas.{negated_variable, negated_twice, true_from_false, false_from_true, model_excludes_core}
+use Rattle.sat_parts.proofs.lemmas.prop.StateLemmas.{negated_variable, negated_twice, true_from_false, false_from_true, not_both}
 use Rattle.sat_solver.specs.session.Session.{Session, IsLive, denied_in}
 use Rattle.sat_solver.specs.session.LiveClauses.{LiveClause, IsIn, with_var, mapped, AreMapped}
 use Rattle.sat_solver.proofs.lemmas.session.Lists.{counts_in}
@@ -164,7 +164,7 @@ module _ (p : Parts) (e : Conflict) (w : Work) (back : ℕ) (s : Session) (globa
       let q : ℕ = d.literal in
       let holds : IsLow (state p) back d.literal = at_first q d.named (subst (λ z. denied_in s (map (with_var global) (drop 1 w.clause)) z ≡ true) (sym d.same) t) in
       let other : IsLow (state p) back (negated d.literal) = at_first (negated q) (other_named q d.named) (subst (λ z. denied_in s (map (with_var global) (drop 1 w.clause)) z ≡ true) (sym (negated_mapped global q ∙ ap negated d.same)) u) in
-      model_excludes_core p.assignment.current (negated q) other.holds (false_from_true p.assignment.current q holds.holds)
+      not_both p.assignment.current (negated q) other.holds (false_from_true p.assignment.current q holds.holds)
 
   pub agrees : AreConsistent s.units → AreConsistent (denied_in s (map (with_var global) (drop 1 w.clause)))
   agrees consistent l t = false_from_ne_true (denied_in s (map (with_var global) (drop 1 w.clause)) (negated l)) (λ u.

@@ -21,7 +21,7 @@ use Rattle.sat_solver.proofs.lemmas.session.Mapped.{negated_mapped, among_mapped
 use Rattle.sat_solver.specs.session.TrailUnits.{IsUsable}
 use Rattle.sat_solver.specs.analyze_conflict.Marks.{IsReasoned}
 use Rattle.sat_solver.specs.analyze_conflict.Derivation.{clause_of, AreLevelZeroLits}
-use Rattle.sat_parts.specs.parts.Round.{UnitsHaveNoReason as AreBare}
+use Rattle.sat_parts.specs.parts.Round.{UnitsHaveNoReason}
 use Rattle.sat_solver.specs.session.Fits.{SessionMatches}
 use Rattle.sat_solver.proofs.lemmas.fits.MayLemmas.{bottom, bottom_units, leads_from_turns, AllUsable, named_by, place_usable, bottom_known}
 use Rattle.sat_solver.proofs.lemmas.fits.AnswerLemmas.{assumed_part}
@@ -38,7 +38,7 @@ one_part : (l : ℕ) (ls : List ℕ) → is_among ls l ≡ true → is_part (l �
 one_part l ls t = rw t refl
 
 -- the reasons of the used literals refute the core: they are unit in turn under it, and the last one is falsified
-module _ (words live : List ℕ) (implied : List (List ℕ)) (st : State) (s : Session) (global : ℕ → ℕ) (fits : SessionMatches words live implied st s global) (agrees : StateIsConsistent st) (clauses : AreClauses words live (length st.values)) (bare : AreBare st) (turns : AreUnitInTurn words live implied st 0) where
+module _ (words live : List ℕ) (implied : List (List ℕ)) (st : State) (s : Session) (global : ℕ → ℕ) (fits : SessionMatches words live implied st s global) (agrees : StateIsConsistent st) (clauses : AreClauses words live (length st.values)) (bare : UnitsHaveNoReason st) (turns : AreUnitInTurn words live implied st 0) where
   all_usable : (used : List ℕ) → ((k : ℕ) → k < length used → IsReasoned st 0 (get_or used k 0)) → AllUsable s global (map (clause_of words st) used)
   all_usable [] r = tt
   all_usable (l ∷ ls) r =

@@ -23,7 +23,7 @@ use Rattle.sat_parts.specs.prop.Values.{IsFalseLit}
 use Rattle.sat_parts.specs.prop.State.{State, level, current_level, StateIsConsistent, enqueued}
 use Rattle.sat_parts.specs.prop.Ready.{AreAllFalse}
 use Rattle.sat_parts.proofs.lemmas.clause.ListLemmas.{at_place}
-use Rattle.sat_parts.proofs.lemmas.prop.StateLemmas.{true_from_false, model_excludes_core}
+use Rattle.sat_parts.proofs.lemmas.prop.StateLemmas.{true_from_false, not_both}
 use Rattle.sat_parts.proofs.lemmas.prop.RoomLemmas.{below_from_value}
 use Rattle.sat_parts.proofs.lemmas.prop.BuildLemmas.{live_in}
 use Rattle.sat_solver.specs.session.Session.{Session, after}
@@ -76,7 +76,7 @@ is_learned_clause words st conflict w back a h =
     }
 
 pub false_signs : (values : List (Option Bool)) (ls : List ℕ) → AreAllFalse values ls → is_tautology ls ≡ false
-false_signs values ls h = no_signs values ls (λ j k a b e. model_excludes_core values (negated (get_or ls j 0)) (true_from_false values (get_or ls j 0) (h j a)) (subst (λ z. IsFalseLit values z) e (h k b)))
+false_signs values ls h = no_signs values ls (λ j k a b e. not_both values (negated (get_or ls j 0)) (true_from_false values (get_or ls j 0) (h j a)) (subst (λ z. IsFalseLit values z) e (h k b)))
 
 -- THE CLAUSE IS STORED
 

@@ -24,7 +24,7 @@ use Rattle.sat_solver.specs.session.AnswerFacts.{is_true}
 use Rattle.sat_solver.proofs.lemmas.trail.AnswerLemmas.{true_lit, lit_true}
 use Rattle.sat_solver.specs.analyze_conflict.Marks.{IsReasoned}
 use Rattle.sat_solver.specs.analyze_conflict.Derivation.{clause_of, AreLevelZeroLits}
-use Rattle.sat_parts.specs.parts.Round.{UnitsHaveNoReason as AreBare}
+use Rattle.sat_parts.specs.parts.Round.{UnitsHaveNoReason}
 use Rattle.sat_solver.specs.session.Fits.{SessionMatches}
 use Rattle.sat_solver.specs.session.FitLaws.{named_clauses, LearnedMay}
 use Rattle.sat_solver.proofs.lemmas.fits.UsableLemmas.{reason_usable, conflict_usable, reason_clauses}
@@ -118,7 +118,7 @@ module _ (words live : List ℕ) (implied : List (List ℕ)) (st : State) (s : S
       )
 
   -- if no clause is a reason at level 0, every true literal of level 0 is a unit of the session
-  pub bottom_known : StateIsConsistent st → AreBare st → (l : ℕ) → IsTrueLit st.values l → level st l ≡ 0 → s.units (with_var global l) ≡ true
+  pub bottom_known : StateIsConsistent st → UnitsHaveNoReason st → (l : ℕ) → IsTrueLit st.values l → level st l ≡ 0 → s.units (with_var global l) ≡ true
   bottom_known agrees bare l t z = elim (agrees.known l t) [
     | inl b ↦
         let low : level st (lit_at st b.place) ≡ 0 = ap (λ m. level st m) b.there ∙ z in

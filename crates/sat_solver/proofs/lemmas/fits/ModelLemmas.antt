@@ -13,7 +13,7 @@ use Rattle.sat_parts.specs.clause.Db.{live_refs}
 use Rattle.sat_parts.specs.clause.Stored.{lit_of}
 use Rattle.sat_parts.specs.prop.Binaries.{implied_by}
 use Rattle.sat_parts.specs.prop.Values.{value_of, IsTrueLit}
-use Rattle.sat_parts.proofs.lemmas.prop.StateLemmas.{negated_variable, negated_twice, false_from_true, model_excludes_core, lit_from_parts}
+use Rattle.sat_parts.proofs.lemmas.prop.StateLemmas.{negated_variable, negated_twice, false_from_true, not_both, lit_from_parts}
 use Rattle.sat_solver.specs.session.Session.{Session, MayShow}
 use Rattle.sat_solver.specs.session.LiveClauses.{LiveClause, IsIn, with_var, mapped}
 use Rattle.sat_solver.proofs.lemmas.session.Lists.{shows_all}
@@ -160,7 +160,7 @@ module _ (p : Parts) (s : Session) (global : ℕ → ℕ) (fits : SessionMatches
           let e : u ≡ with_var global (negated x.0) = sym (negated_twice u) ∙ ap negated (sym x.1.1) ∙ sym (negated_mapped global x.0) in
           let n : s.solver_names (global (variable (negated x.0))) ≡ Some (variable (negated x.0)) = subst (λ v. s.solver_names (global v) ≡ Some v) (sym (negated_variable x.0)) (named_true x.0 holds) in
           let y = fits.sound (negated x.0) n (subst (λ z. s.units z ≡ true) e k) in
-          model_excludes_core p.assignment.current (negated x.0) y.0 (false_from_true p.assignment.current x.0 holds));
+          not_both p.assignment.current (negated x.0) y.0 (false_from_true p.assignment.current x.0 holds));
       clauses = λ set n.
           shows_all (map (mapped global) (solver_clauses (is_redundant p.clauses) p.clauses (live_refs p.clauses p.db.refs) p.binary.implied)) (is_among (map (with_var global) ls))
           (λ c k r.

@@ -18,7 +18,7 @@ use Rattle.sat_solver.specs.session.SolverClauses.{pair, binaries, longs, Insert
 use Rattle.sat_solver.proofs.lemmas.trail.InsertedLemmas.{inserted_before}
 use Rattle.sat_solver.proofs.lemmas.trail.OpenLemmas.{binaries_open}
 use Rattle.sat_solver.proofs.lemmas.trail.LeftLemmas.{left_start, left_list, left_end, left_other, left_open, left_set}
-use Rattle.sat_parts.specs.parts.Round.{UnitsHaveNoReason as AreBare}
+use Rattle.sat_parts.specs.parts.Round.{UnitsHaveNoReason}
 use Rattle.sat_parts.proofs.lemmas.parts.ValueLemmas.{open_or_true}
 use Rattle.sat_solver.specs.session.Fits.{ArePaired, is_redundant, SessionMatches}
 use Rattle.sat_solver.specs.session.Listed.{FitsList}
@@ -77,7 +77,7 @@ paired_open values x y h p =
 abbrev pub LeftFits : (words live : List ℕ) (x : Binaries) (st : State) (global : ℕ → ℕ) → Session → (l k : ℕ) → Type 0
 LeftFits words live x st global t l k = FitsList (binaries_left st.values x.implied l k ++ longs (is_redundant words) words live) st t global
 
-module _ (words live : List ℕ) (x : Binaries) (st : State) (global : ℕ → ℕ) (agrees : StateIsConsistent st) (bare : AreBare st) (bottom : length st.trail.starts ≡ 0) (paired : ArePaired x.implied) (complete : (l k : ℕ) → k < length (implied_by x.implied l) → IsTrueLit st.values l → IsTrueLit st.values (get_or (implied_by x.implied l) k 0)) where
+module _ (words live : List ℕ) (x : Binaries) (st : State) (global : ℕ → ℕ) (agrees : StateIsConsistent st) (bare : UnitsHaveNoReason st) (bottom : length st.trail.starts ≡ 0) (paired : ArePaired x.implied) (complete : (l k : ℕ) → k < length (implied_by x.implied l) → IsTrueLit st.values l → IsTrueLit st.values (get_or (implied_by x.implied l) k 0)) where
   -- an assigned variable makes one of its literals true
   set_or_open : (a : ℕ) → is_unset st.values (variable a) ≡ false → IsTrueLit st.values a ⊎ IsTrueLit st.values (negated a)
   set_or_open a n = elim (open_or_true st.values (variable a)) [

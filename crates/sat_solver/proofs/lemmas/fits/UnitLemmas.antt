@@ -14,7 +14,7 @@ use Rattle.sat_parts.specs.prop.Values.{IsTrueLit, IsFalseLit}
 use Rattle.sat_parts.specs.prop.State.{State, node, level, lit_at, current_level, StateIsConsistent}
 use Rattle.sat_parts.specs.prop.Reasons.{AreUnitInTurn}
 use Rattle.sat_parts.specs.prop.Ready.{IsConflict}
-use Rattle.sat_parts.proofs.lemmas.prop.StateLemmas.{negated_variable, true_from_false, false_from_true, model_excludes_core, level_low}
+use Rattle.sat_parts.proofs.lemmas.prop.StateLemmas.{negated_variable, true_from_false, false_from_true, not_both, level_low}
 use Rattle.sat_solver.specs.session.Session.{Session, with_fact, after, MayProve, MayDerive, by_clauses, denied_in}
 use Rattle.sat_solver.proofs.lemmas.session.Changes.{with_facts, knowing_literals}
 use Rattle.sat_solver.specs.session.LiveClauses.{with_var}
@@ -56,7 +56,7 @@ module _ (st : State) (global : ℕ → ℕ) where
   never t l s g = false_from_ne_true (t.units (negated (with_var global l))) (λ u.
       let n : t.solver_names (global (variable (negated l))) ≡ Some (variable (negated l)) = subst (λ v. t.solver_names (global v) ≡ Some v) (sym (negated_variable l)) g.named in
       let x = s.sound (negated l) n (subst (λ z. t.units z ≡ true) (sym (negated_mapped global l)) u) in
-      model_excludes_core st.values (negated l) x.0 (false_from_true st.values l g.holds))
+      not_both st.values (negated l) x.0 (false_from_true st.values l g.holds))
 
   fact_sound : (t : Session) (l : ℕ) → Sound t → IsGood t.solver_names l → Sound (with_fact (with_var global l) t)
   fact_sound t l s g = record {

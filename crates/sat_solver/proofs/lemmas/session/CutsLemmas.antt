@@ -3,7 +3,7 @@ use Rattle.std.proofs.Common.{ℕ, ◌≡◌, Bool, true, false, cond, eqb, List
 use Rattle.std.proofs.lemmas.Bool.{eqb-true}
 use Rattle.sat_base.specs.steps.Steps.{Step, ChangeHashBits}
 use Rattle.sat_solver.specs.proof.Counting.{nothing_counted, width_change, counted, TruncatesHashes, none_made, ask_begun, one_made}
-use Rattle.sat_solver.specs.proof.ProofTexts.{CutsAreFree}
+use Rattle.sat_solver.specs.proof.ProofTexts.{TruncationsAreAllowed}
 use Rattle.sat_solver.specs.proof.Widths.{IsNarrowedTo, none_yet, width_changes, one_more}
 use Rattle.sat_solver.specs.declared.proof.hash_bits.Counting.{Counting}
 use Rattle.sat_solver.proofs.lemmas.session.Narrowing.{widths_are_free}
@@ -22,5 +22,5 @@ is_written e none_made = subst (λ (x : Counting). IsNarrowedTo [] [] x.bits) (s
 is_written e (ask_begun p) = is_written e p
 is_written e (one_made {d = d} step k p) = one_more step k (width_changed d.bits (counted step d).bits (is_written e p))
 
-pub cuts_are_free : CutsAreFree
+pub cuts_are_free : TruncationsAreAllowed
 cuts_are_free made written c p m = widths_are_free made written c.bits (is_written refl p) m

@@ -13,7 +13,7 @@ use Rattle.sat_base.proofs.lemmas.device.Sending.{sent_none, sent_more}
 use Rattle.sat_base.proofs.lemmas.device.Writes.{took_more as took_both, breaks_later}
 use Rattle.sat_checker.specs.declared.processing.ProofProcessor.{Ghosts}
 use Rattle.sat_solver.specs.proof.Counting.{TruncatesHashes, none_made, ask_begun, one_made, written_for, counted}
-use Rattle.sat_solver.specs.proof.ProofTexts.{ClosedIsText, BrokenIsFront, WroteSince, TookSince}
+use Rattle.sat_solver.specs.proof.ProofTexts.{ClosedIsText, BrokenIsPrefix, WroteSince, TookSince}
 use Rattle.sat_solver.specs.proof.OutputView.{step_text, text_in, AreSpeltInFormat, SendsSteps}
 use Rattle.sat_solver.specs.proof.ProofView.{IsAtWidth, Target, Closed, Open, Broken as Faulty, is_open, Carried, TargetTakes, TargetFails, Flushed, TakesAll, GivesWriter, target_of, steps_of, has_asked, EmitsExactly, EmitsChecked, FailsToEmit, FailsCheck, Complains, is_checked, is_lost, EmitsAsAnswered, Drains, FlushesAndNotifies, FlushesOrFails, ClosesTarget, ClosesOne, ReturnsTarget}
 use Rattle.sat_solver.specs.proof.Complaints.{IsComplaint}
@@ -175,7 +175,7 @@ closed_is_text f from given steps last t p q =
     }
 
 -- What a target that failed received since the opening of a proof: a prefix of the text. No later call was made.
-pub broken_is_front : BrokenIsFront
+pub broken_is_front : BrokenIsPrefix
 broken_is_front f from given steps t p g =
     let q = subst (λ (z : Target). GivesWriter z (Some given)) p.1 g in
     let same : p.0 ≡ given = cc in

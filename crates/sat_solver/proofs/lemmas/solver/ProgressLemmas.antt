@@ -11,11 +11,11 @@ use Rattle.sat_parts.specs.declared.parts.Parts.{Parts}
 use Rattle.sat_solver.specs.variables.Counting.{count_to}
 use Rattle.sat_solver.proofs.lemmas.variables.Counts.{count_suc}
 use Rattle.sat_parts.specs.parts.Whole.{PartsInvariant}
-use Rattle.sat_solver.specs.solver.Progressing.{is_open_at, live_count_of_tier, GoesOnIn}
+use Rattle.sat_solver.specs.solver.Progressing.{is_open_at, live_count_of_tier, IsOngoing}
 use Rattle.sat_solver.specs.solver.Whole.{StateSays}
 
 -- if the search continues, its parts satisfy their invariant
-pub parts_hold : {W L : Type 0} {G : Ghosts L} (s : Solver W L G) → GoesOnIn s → PartsInvariant s.core.search.parts
+pub parts_hold : {W L : Type 0} {G : Ghosts L} (s : Solver W L G) → IsOngoing s → PartsInvariant s.core.search.parts
 parts_hold s h = go s.state refl (h.solver h.going).says
   where
     go : (st : State) → s.state ≡ st → StateSays st s.core s.names s.asked s.assumed.items s.reported.failed_core.items → PartsInvariant s.core.search.parts

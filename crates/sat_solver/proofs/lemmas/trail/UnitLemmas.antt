@@ -73,8 +73,8 @@ module _ (s : Session) (l : ℕ) where
       go false false = record { live = record { once = h.live.once; counted = h.live.counted }; hash = h.hash }
 
 -- no literal is both true and false
-model_excludes_core : (values : List (Option Bool)) (l : ℕ) → IsTrueLit values l → IsTrueLit values (negated l) → ⊥
-model_excludes_core values l a b =
+not_both : (values : List (Option Bool)) (l : ℕ) → IsTrueLit values l → IsTrueLit values (negated l) → ⊥
+not_both values l a b =
     let half : variable (negated l) ≡ variable l = omega arith in
     let same : Some (is_positive l) ≡ Some (is_positive (negated l)) = sym a ∙ sym (ap (value_of values) half) ∙ b in
     elim (eq-zero-or-pos (l % 2)) [
@@ -121,7 +121,7 @@ module _ (words live : List ℕ) (implied : List (List ℕ)) (st : State) (globa
       let l : ℕ = lit_at st i in
       let half : variable (negated l) ≡ variable l = omega arith in
       false_from_ne_true (s.units (negated (with_var global l))) (λ u.
-      model_excludes_core st.values l (agrees.holds i j) (n.fits.sound (negated l) (ap (λ v. s.solver_names (global v)) half ∙ n.fits.named i j ∙ ap (λ v. Some v) (sym half)) (subst (λ x. s.units x ≡ true) (sym (negated_mapped global l)) u)))
+      not_both st.values l (agrees.holds i j) (n.fits.sound (negated l) (ap (λ v. s.solver_names (global v)) half ∙ n.fits.named i j ∙ ap (λ v. Some v) (sym half)) (subst (λ x. s.units x ≡ true) (sym (negated_mapped global l)) u)))
 
   with_it : (s : Session) (i : ℕ) → i < length st.trail.lits → Now s i → Now (with_fact (with_var global (lit_at st i)) s) (i + 1)
   with_it s i j n =

@@ -2,7 +2,7 @@ use Rattle.std.proofs.Common.{ℕ, ◌<◌, ◌≤◌, ◌∙◌, List, MatchOpt
 use Rattle.std.specs.Prelude.{get_or}
 use Rattle.std.specs.Char.{is_ascii_digit}
 use Rattle.certify.specs.program.Calls.{IsRoundCount}
-use Rattle.certify.proofs.lemmas.program.Words.{all_digits, no_digit, one_more_digit, steps_parsed}
+use Rattle.certify.proofs.lemmas.program.Words.{all_digits, no_digit, one_more_digit, rounds_parsed}
 use Rattle.certify.proofs.program.call.rounds_of.Goals as goal
 
 pub returns-then-not-is_ascii_digit : goal.returns-then-not-is_ascii_digit
@@ -25,4 +25,4 @@ pub returns : goal.returns
 returns c =
     let word = c.args.word.now in
     let digits = all_digits word c.loop-byte.byte-index (subst (λ (bs : List ℕ). length bs ≤ c.loop-byte.byte-index) c.loop-byte.invariant.0 c.loop-byte-test.false) c.loop-byte.invariant.1 in
-    subst (λ (r : Option ℕ). MatchOption r ((n : ℕ) → IsRoundCount word n → ⊥) (IsRoundCount word)) (sym c.ok.ensures.value) (steps_parsed word c.parse.result c.parse.ensures.value.0 digits)
+    subst (λ (r : Option ℕ). MatchOption r ((n : ℕ) → IsRoundCount word n → ⊥) (IsRoundCount word)) (sym c.ok.ensures.value) (rounds_parsed word c.parse.result c.parse.ensures.value.0 digits)

@@ -1,7 +1,7 @@
 use Rattle.std.proofs.Common.{Option, Ok, subst}
 use Rattle.sat_solver.specs.solver.Proving.{ClosesProof}
 use Rattle.certify.proofs.lemmas.run.Ended.{closing_caused, closing_fails}
-use Rattle.certify.proofs.lemmas.run.ProofFronts.{front_after, front_closed}
+use Rattle.certify.proofs.lemmas.run.ProofPrefixes.{front_after, front_closed}
 use Rattle.certify.proofs.run.end.close_certificate.Goals as goal
 
 pub returns-in-Ok-Some-clause-front : goal.returns-in-Ok-Some-clause-front

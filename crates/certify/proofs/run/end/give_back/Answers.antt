@@ -1,4 +1,4 @@
-use Rattle.certify.proofs.lemmas.run.ProofFronts.{returned_prefix}
+use Rattle.certify.proofs.lemmas.run.ProofPrefixes.{returned_prefix}
 use Rattle.certify.proofs.run.end.give_back.Goals as goal
 
 pub returns-clause-front : goal.returns-clause-front

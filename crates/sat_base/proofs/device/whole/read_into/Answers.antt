@@ -1,7 +1,7 @@
 use Rattle.std.proofs.Common.{ℕ, ◌+◌, ◌++◌, inl, inr, ap, refl, ◌∙◌, take, rules, arith}
 use Rattle.std.proofs.lemmas.Result.{err_from_is_err_and}
 use Rattle.sat_base.proofs.lemmas.device.Given.{gave_more, end_after, few_after, few_before, some_given, no_less, gave_still, calls_after, calls_within, calls_upto}
-use Rattle.sat_base.proofs.lemmas.device.WholeAnswers.{one_more, if_err, ok_is_no_err, want_is_no_failure, failed_is_no_want, failure_is_no_want}
+use Rattle.sat_base.proofs.lemmas.device.WholeAnswers.{one_more, if_err, ok_is_no_err, memory_is_no_failure, failed_is_not_memory, failure_is_not_memory}
 use Rattle.sat_base.proofs.lemmas.dimacs.Parsed.{piece_given}
 use Rattle.sat_base.proofs.device.whole.read_into.Goals as goal
 
@@ -43,7 +43,7 @@ pub returns-in_err-feed-in-Ok-clause-kept : goal.returns-in_err-feed-in-Ok-claus
 returns-in_err-feed-in-Ok-clause-kept g c = let p = err_from_is_err_and c.from_residual.result c.from_residual.ensures.1 in if_err _ p.0 _ p.1
 
 pub returns-in_err-feed-in-Ok-clause-failed : goal.returns-in_err-feed-in-Ok-clause-failed
-returns-in_err-feed-in-Ok-clause-failed g c = let p = err_from_is_err_and c.from_residual.result c.from_residual.ensures.1 in λ h. want_is_no_failure _ _ p.1 p.2 h
+returns-in_err-feed-in-Ok-clause-failed g c = let p = err_from_is_err_and c.from_residual.result c.from_residual.ensures.1 in λ h. memory_is_no_failure _ _ p.1 p.2 h
 
 pub returns-in_err-feed-in-Ok-clause-reads : goal.returns-in_err-feed-in-Ok-clause-reads
 returns-in_err-feed-in-Ok-clause-reads g c = calls_within _ _ _ c.loop.counter c.in-Ok.ensures.once.calls c.loop.invariant.calls c.loop-test.true
@@ -84,10 +84,10 @@ pub returns-clause-kept : goal.returns-clause-kept
 returns-clause-kept g c = tt
 
 pub returns-clause-memory : goal.returns-clause-memory
-returns-clause-memory g c = λ h. failure_is_no_want h
+returns-clause-memory g c = λ h. failure_is_not_memory h
 
 pub returns-clause-some : goal.returns-clause-some
-returns-clause-some g c = λ h. failure_is_no_want h
+returns-clause-some g c = λ h. failure_is_not_memory h
 
 pub returns-clause-reads : goal.returns-clause-reads
 returns-clause-reads g c = calls_upto _ _ c.loop.counter c.loop.invariant.calls c.loop.auto.counter-end
@@ -101,10 +101,10 @@ pub returns-in-Err-clause-kept : goal.returns-in-Err-clause-kept
 returns-in-Err-clause-kept g c = tt
 
 pub returns-in-Err-clause-memory : goal.returns-in-Err-clause-memory
-returns-in-Err-clause-memory g c = λ h. failed_is_no_want _ c.in-Err.ensures.failed h
+returns-in-Err-clause-memory g c = λ h. failed_is_not_memory _ c.in-Err.ensures.failed h
 
 pub returns-in-Err-clause-some : goal.returns-in-Err-clause-some
-returns-in-Err-clause-some g c = λ h. failed_is_no_want _ c.in-Err.ensures.failed h
+returns-in-Err-clause-some g c = λ h. failed_is_not_memory _ c.in-Err.ensures.failed h
 
 pub returns-in-Err-clause-front : goal.returns-in-Err-clause-front
 returns-in-Err-clause-front g c =

@@ -1,4 +1,4 @@
-use Rattle.sat_solver.proofs.lemmas.solver.FrontLemmas.{returns_accepted_prefix}
+use Rattle.sat_solver.proofs.lemmas.solver.PrefixLemmas.{returns_accepted_prefix}
 use Rattle.sat_solver.proofs.solver.Solver.into_target.Goals as goal
 
 pub returns-clause-front : goal.returns-clause-front

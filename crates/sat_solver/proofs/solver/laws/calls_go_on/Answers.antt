@@ -1,4 +1,4 @@
-use Rattle.sat_solver.proofs.lemmas.solver.FrontLemmas.{calls_go_on}
+use Rattle.sat_solver.proofs.lemmas.solver.PrefixLemmas.{calls_go_on}
 use Rattle.sat_solver.proofs.solver.laws.calls_go_on.Goals as goal
 
 pub returns : goal.returns

@@ -1,4 +1,4 @@
-use Rattle.sat_solver.proofs.lemmas.solver.FrontLemmas.{flushed_is_text}
+use Rattle.sat_solver.proofs.lemmas.solver.PrefixLemmas.{flushed_is_text}
 use Rattle.sat_solver.proofs.solver.laws.flushed_targets_took_texts.Goals as goal
 
 pub returns : goal.returns

@@ -6,7 +6,7 @@ use Rattle.sat_base.specs.steps.Steps.{Step}
 use Rattle.sat_checker.specs.declared.processing.ProofProcessor.{Ghosts}
 use Rattle.sat_solver.specs.proof.Checked.{has_begun}
 use Rattle.sat_solver.specs.proof.Counting.{nothing_counted}
-use Rattle.sat_solver.specs.proof.Fronts.{FrontSince, GoesOnFrom}
+use Rattle.sat_solver.specs.proof.Prefixes.{PrefixSince, MakesSteps}
 use Rattle.sat_solver.specs.proof.ProofTexts.{TookText}
 use Rattle.sat_solver.specs.proof.ProofView.{Target, Open, TargetTakes, GivesWriter}
 use Rattle.sat_solver.specs.solver.Adding.{AddsClause, AssumesOrRefuses}
@@ -24,7 +24,7 @@ use Rattle.sat_solver.specs.declared.solver.Solver.{Solver}
 
 -- that the solver made steps, and a call may have failed
 abbrev pub ReachesBySteps : {W L : Type 0} {G : Ghosts L} → (W → Writer) → Solver W L G → Solver W L G → Type 0
-ReachesBySteps seen old new = GoesOnFrom seen (proof_in old) (proof_in new)
+ReachesBySteps seen old new = MakesSteps seen (proof_in old) (proof_in new)
 
 -- that `ReachesBySteps` holds for a call, whatever its result is; only calls that open a proof or return the target are excepted
 pub record CallsGoOn {W L : Type 0} {G : Ghosts L} (seen : W → Writer) (old new : Solver W L G) : Type 0 where
@@ -50,7 +50,7 @@ pub record CallsGoOn {W L : Type 0} {G : Ghosts L} (seen : W → Writer) (old ne
 abbrev pub ReturnsAcceptedPrefix : {W L : Type 0} {G : Ghosts L} → (W → Writer) → Option W → Solver W L G → Type 0
 ReturnsAcceptedPrefix {W} {L} {G} seen returned s = (opened : Solver W L G) (f : ProofFormat) (from : Writer) (given : W) → returned ≡ Some given
     → target_in seen opened ≡ Open f nothing_counted (empty_sink from) → has_begun (steps_in opened) ≡ false → ReachesBySteps seen opened s
-    → ∥ FrontSince f from (seen given) (steps_in opened) (steps_in s) ∥₁
+    → ∥ PrefixSince f from (seen given) (steps_in opened) (steps_in s) ∥₁
 
 -- that a target has received the complete text if all its calls succeeded and the last one was a flush
 abbrev pub FlushedIsText : Type 0

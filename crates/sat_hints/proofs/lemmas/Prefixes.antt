@@ -5,11 +5,11 @@ use Rattle.sat_base.specs.values.Literals.{var_limit, is_positive}
 use Rattle.sat_base.specs.dimacs.DimacsText.{number_text}
 use Rattle.sat_hints.specs.Lines.{HasNoEnd, id_text, id_words, literal_words}
 use Rattle.sat_hints.specs.inner.LineReading.{IsNumberUpTo, IsLiteralCode, NoDigit, number_digits_so_far}
-use Rattle.sat_hints.specs.inner.Fronts.{limit_of, next_of, zero_place, sign_place, Numbered, IsPartOfLine, IsRestOfLine, IsLeftIf, LeadsToPlace}
-use Rattle.sat_hints.specs.declared.fronts.Part.{Part}
-use Rattle.sat_hints.specs.declared.fronts.Part.TheVariants.{Clause, Lists, Ids, End}
-use Rattle.sat_hints.specs.declared.fronts.Place.{Place}
-use Rattle.sat_hints.specs.declared.fronts.Place.TheVariants.{Item, Digits}
+use Rattle.sat_hints.specs.inner.Prefixes.{limit_of, next_of, zero_place, sign_place, Numbered, IsPartOfLine, IsRestOfLine, IsLeftIf, LeadsToPlace}
+use Rattle.sat_hints.specs.declared.prefixes.Part.{Part}
+use Rattle.sat_hints.specs.declared.prefixes.Part.TheVariants.{Clause, Lists, Ids, End}
+use Rattle.sat_hints.specs.declared.prefixes.Place.{Place}
+use Rattle.sat_hints.specs.declared.prefixes.Place.TheVariants.{Item, Digits}
 use Rattle.sat_hints.proofs.lemmas.Digits.{number_goes_on, plain_number, plain_so_far, so_far}
 use Rattle.sat_hints.proofs.lemmas.Words.{at_space, id_first, no_sign}
 

@@ -1,9 +1,9 @@
 use Rattle.std.proofs.Common.{◌≡◌, ◌≢◌, ◌≤◌, ◌⊎◌, ℕ, inl, inr, [], ◌∷◌, Some, subst, sym, arith}
-use Rattle.sat_hints.specs.inner.Fronts.{limit_of, LeadsToPlace}
+use Rattle.sat_hints.specs.inner.Prefixes.{limit_of, LeadsToPlace}
 use Rattle.sat_hints.specs.inner.LineReading.{NoDigit}
-use Rattle.sat_hints.specs.declared.fronts.Place.TheVariants.{Digits, Item}
-use Rattle.sat_hints.proofs.lemmas.Fronts.{number_ends, number_goes, number_stops}
-use Rattle.sat_hints.proofs.fronts.in_number.Goals as goal
+use Rattle.sat_hints.specs.declared.prefixes.Place.TheVariants.{Digits, Item}
+use Rattle.sat_hints.proofs.lemmas.Prefixes.{number_ends, number_goes, number_stops}
+use Rattle.sat_hints.proofs.prefixes.in_number.Goals as goal
 
 at_zero : (b number : ℕ) → ((b ≡ 32) × (number ≤ 0)) ⊎ (b ≢ 32) → b ≡ 32 → number ≡ 0
 at_zero b number (inl h) e = omega arith

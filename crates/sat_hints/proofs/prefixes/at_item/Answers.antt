@@ -1,8 +1,8 @@
 use Rattle.std.proofs.Common.{◌∷◌, [], subst, sym}
-use Rattle.sat_hints.specs.inner.Fronts.{LeadsToPlace}
-use Rattle.sat_hints.specs.declared.fronts.Place.TheVariants.{Item}
-use Rattle.sat_hints.proofs.lemmas.Fronts.{leads_zero, leads_sign, leads_digit}
-use Rattle.sat_hints.proofs.fronts.at_item.Goals as goal
+use Rattle.sat_hints.specs.inner.Prefixes.{LeadsToPlace}
+use Rattle.sat_hints.specs.declared.prefixes.Place.TheVariants.{Item}
+use Rattle.sat_hints.proofs.lemmas.Prefixes.{leads_zero, leads_sign, leads_digit}
+use Rattle.sat_hints.proofs.prefixes.at_item.Goals as goal
 
 pub returns-then-byte-eq48 : goal.returns-then-byte-eq48
 returns-then-byte-eq48 c = subst (λ b. LeadsToPlace (Item c.args.part) (b ∷ []) c.after_zero.result) (sym c.if-byte-eq48.true) (rw c.after_zero.ensures (leads_zero c.args.part))

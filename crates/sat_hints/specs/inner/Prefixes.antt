@@ -3,10 +3,10 @@ use Rattle.std.specs.Prelude.{ℕ, ◌-◌, ◌^◌, ◌==◌, ◌≡◌, Option
 use Rattle.sat_base.specs.values.Literals.{var_limit}
 use Rattle.sat_hints.specs.Lines.{Line, AreIds, id_words, SpellsLine}
 use Rattle.sat_hints.specs.inner.LineReading.{IsNumberUpTo, IsOne, IsBoth, number_digits_so_far}
-use Rattle.sat_hints.specs.declared.fronts.Part.{Part}
-use Rattle.sat_hints.specs.declared.fronts.Part.TheVariants.{InputId, DerivedId, GoneId, FreshVar, Clause, Lists, Ids, End}
-use Rattle.sat_hints.specs.declared.fronts.Place.{Place}
-use Rattle.sat_hints.specs.declared.fronts.Place.TheVariants.{Letter, Space, Item, Digits, Over}
+use Rattle.sat_hints.specs.declared.prefixes.Part.{Part}
+use Rattle.sat_hints.specs.declared.prefixes.Part.TheVariants.{InputId, DerivedId, GoneId, FreshVar, Clause, Lists, Ids, End}
+use Rattle.sat_hints.specs.declared.prefixes.Place.{Place}
+use Rattle.sat_hints.specs.declared.prefixes.Place.TheVariants.{Letter, Space, Item, Digits, Over}
 
 -- the largest number with which a part may begin; `0` begins with none
 abbrev pub limit_of : Part → ℕ

@@ -8,7 +8,7 @@ use Rattle.sat_base.specs.steps.Steps.{Step, SolverVarName, UserVarName, DeleteV
 use Rattle.sat_checker.specs.declared.processing.ProofProcessor.{Ghosts}
 use Rattle.sat_solver.specs.proof.Checked.{has_begun}
 use Rattle.sat_solver.specs.proof.Counting.{nothing_counted}
-use Rattle.sat_solver.specs.proof.Fronts.{FrontText, TargetTakesFront, GoesOnFrom, FrontsAreAccepted}
+use Rattle.sat_solver.specs.proof.Prefixes.{PrefixText, TargetTakesPrefix, MakesSteps, PrefixesAreAccepted}
 use Rattle.sat_solver.specs.proof.ProofView.{Target, Closed, Open, Broken as Faulty, TargetTakes, TargetFails, GivesWriter, target_of, steps_of, EmitsExactly, FailsToEmit}
 use Rattle.sat_solver.specs.session.Session.{nothing, IsAllowedStep, AreAllowedSteps, after, session_after}
 use Rattle.sat_solver.specs.declared.proof.format.ProofFormat.{ProofFormat}
@@ -55,7 +55,7 @@ may_first (step ∷ later) first m = may_first later first m.0
 
 module _ (f : ProofFormat) (from given : Writer) where
   -- the target received the text of these steps
-  carried_front : (steps : List Step) (now : Target) → AreAllowedSteps steps → TargetTakes (Open f nothing_counted (empty_sink from)) steps now → GivesWriter now (Some given) → FrontText f from given steps
+  carried_front : (steps : List Step) (now : Target) → AreAllowedSteps steps → TargetTakes (Open f nothing_counted (empty_sink from)) steps now → GivesWriter now (Some given) → PrefixText f from given steps
   carried_front steps now m h g =
       let q : Some given ≡ Some h.1.writer = subst (λ (z : Target). GivesWriter z (Some given)) h.2 g in
       let same : h.1.writer ≡ given = cc in
@@ -74,7 +74,7 @@ module _ (f : ProofFormat) (from given : Writer) where
       }
 
   -- a call failed while their text was written
-  stopped_front : (steps : List Step) (now : Target) → AreAllowedSteps steps → TargetFails (Open f nothing_counted (empty_sink from)) steps now → GivesWriter now (Some given) → FrontText f from given steps
+  stopped_front : (steps : List Step) (now : Target) → AreAllowedSteps steps → TargetFails (Open f nothing_counted (empty_sink from)) steps now → GivesWriter now (Some given) → PrefixText f from given steps
   stopped_front steps now m h g =
       let q : Some given ≡ Some h.0 = subst (λ (z : Target). GivesWriter z (Some given)) h.1 g in
       let same : h.0 ≡ given = cc in
@@ -92,7 +92,7 @@ module _ (f : ProofFormat) (from given : Writer) where
         known_bytes = subst (λ (z : Writer). Appends from.contents z.contents h.2.breaks.front) same h.2.breaks.known_bytes;
       }
 
-pub fronts_are_accepted : FrontsAreAccepted
+pub fronts_are_accepted : PrefixesAreAccepted
 fronts_are_accepted f from given before steps now b m follows g =
     let may = may_alone before steps b m in
     elim follows [
@@ -108,11 +108,11 @@ fronts_are_accepted f from given before steps now b m follows g =
 -- FROM STEP TO STEP
 
 -- a target that failed receives nothing more
-broken_follows : (w : Writer) (ys : List Step) (c : Target) → TargetTakesFront (Faulty w) ys c → c ≡ Faulty w
+broken_follows : (w : Writer) (ys : List Step) (c : Target) → TargetTakesPrefix (Faulty w) ys c → c ≡ Faulty w
 broken_follows w ys c h = elim h [ inl k ↦ k | inr k ↦ absurd k.3 ]
 
 -- steps, and then later ones
-pub follows_more : (a b c : Target) (xs ys : List Step) → TargetTakesFront a xs b → TargetTakesFront b ys c → TargetTakesFront a (ys ++ xs) c
+pub follows_more : (a b c : Target) (xs ys : List Step) → TargetTakesPrefix a xs b → TargetTakesPrefix b ys c → TargetTakesPrefix a (ys ++ xs) c
 follows_more a b c xs ys p q = elim p [
   | inl k ↦ elim q [
     | inl l ↦ inl (carries_more a b c xs ys k l)
@@ -121,18 +121,18 @@ follows_more a b c xs ys p q = elim p [
   | inr k ↦ inr (ys ++ k.0, k.1, ap (λ (z : List Step). ys ++ z) k.2 ∙ sym (append_assoc ys k.0 k.1), stays a k.1 k.3 q)
 ]
   where
-    stays : (t : Target) (first : List Step) → TargetFails t first b → TargetTakesFront b ys c → TargetFails t first c
+    stays : (t : Target) (first : List Step) → TargetFails t first b → TargetTakesPrefix b ys c → TargetFails t first c
     stays Closed first s n = absurd s
     stays (Open f n z) first s r =
-        let e : c ≡ Faulty s.0 = broken_follows s.0 ys c (subst (λ (z : Target). TargetTakesFront z ys c) s.1 r) in
+        let e : c ≡ Faulty s.0 = broken_follows s.0 ys c (subst (λ (z : Target). TargetTakesPrefix z ys c) s.1 r) in
         (s.0, e, s.2)
     stays (Faulty w) first s n = absurd s
 
 -- a flush writes no step
-pub went_none : {W L : Type 0} {G : Ghosts L} (seen : W → Writer) (p : Proof W L G) → GoesOnFrom seen p p
+pub went_none : {W L : Type 0} {G : Ghosts L} (seen : W → Writer) (p : Proof W L G) → MakesSteps seen p p
 went_none seen p = record { steps = []; history = refl; target = inl (carries_none (target_of seen p)) }
 
-pub went_more : {W L : Type 0} {G : Ghosts L} (seen : W → Writer) (a b c : Proof W L G) → GoesOnFrom seen a b → GoesOnFrom seen b c → GoesOnFrom seen a c
+pub went_more : {W L : Type 0} {G : Ghosts L} (seen : W → Writer) (a b c : Proof W L G) → MakesSteps seen a b → MakesSteps seen b c → MakesSteps seen a c
 went_more seen a b c p q = record {
   steps = q.steps ++ p.steps;
   history = q.history ∙ ap (λ z. q.steps ++ z) p.history ∙ sym (append_assoc q.steps p.steps (steps_of a));
@@ -140,9 +140,9 @@ went_more seen a b c p q = record {
 }
 
 -- steps were made, and their text was written
-pub went_added : {W L : Type 0} {G : Ghosts L} (seen : W → Writer) (steps : List Step) (a b : Proof W L G) → EmitsExactly seen steps a b → GoesOnFrom seen a b
+pub went_added : {W L : Type 0} {G : Ghosts L} (seen : W → Writer) (steps : List Step) (a b : Proof W L G) → EmitsExactly seen steps a b → MakesSteps seen a b
 went_added seen steps a b h = record { steps = steps; history = h.history; target = inl h.target }
 
 -- steps were made, and a call failed while their text was written
-pub went_failed : {W L : Type 0} {G : Ghosts L} (seen : W → Writer) (steps : List Step) (a b : Proof W L G) → FailsToEmit seen steps a b → GoesOnFrom seen a b
+pub went_failed : {W L : Type 0} {G : Ghosts L} (seen : W → Writer) (steps : List Step) (a b : Proof W L G) → FailsToEmit seen steps a b → MakesSteps seen a b
 went_failed seen steps a b h = record { steps = steps; history = h.history; target = inr ([], steps, refl, h.target) }

@@ -9,7 +9,7 @@ use Rattle.sat_base.specs.script.ScriptState.{ScriptState}
 use Rattle.sat_checker.specs.declared.processing.ProofProcessor.{Ghosts}
 use Rattle.sat_checker.specs.matching.Expected.{Expected, Unknown}
 use Rattle.sat_solver.specs.cdcl.Going as going
-use Rattle.sat_solver.specs.proof.Fronts.{FrontSince, TargetTakesFront, GoesOnFrom}
+use Rattle.sat_solver.specs.proof.Prefixes.{PrefixSince, TargetTakesPrefix, MakesSteps}
 use Rattle.sat_solver.specs.proof.OutputView.{text_in, AreSpeltInFormat}
 use Rattle.sat_solver.specs.session.Making.{ComesBySteps}
 use Rattle.sat_solver.specs.proof.ProofView.{Target, FailsCheck, TargetTakes, GivesWriter, target_of, steps_of, returned_writer}
@@ -19,7 +19,7 @@ use Rattle.sat_solver.specs.solver.Answering.{BreaksCall}
 use Rattle.sat_solver.specs.solver.Calls.{Refuses, Solves, IsFlushed}
 use Rattle.sat_solver.specs.solver.Configuring.{Configures}
 use Rattle.sat_solver.specs.solver.Formulas.{AddsAll, StopsAtClause, AddsFormula, AddsText, TextFails, ClauseFails}
-use Rattle.sat_solver.specs.solver.Fronts.{ReachesBySteps, CallsGoOn, ReturnsAcceptedPrefix, FlushedIsText}
+use Rattle.sat_solver.specs.solver.Prefixes.{ReachesBySteps, CallsGoOn, ReturnsAcceptedPrefix, FlushedIsText}
 use Rattle.sat_solver.specs.solver.Naming.{ChangesMode, NamesNew, NamesFail}
 use Rattle.sat_solver.specs.solver.Proving.{AddsProcessor, ClosesProof, Enables}
 use Rattle.sat_solver.specs.solver.Taking.{BreaksNamesOr}
@@ -32,24 +32,24 @@ use Rattle.sat_solver.specs.declared.proof.format.ProofFormat.{ProofFormat}
 use Rattle.sat_solver.specs.declared.proof.made.CheckFault.{CheckFault}
 use Rattle.sat_solver.specs.declared.proof.Proof.{Proof}
 use Rattle.sat_solver.specs.declared.solver.Solver.{Solver}
-use Rattle.sat_solver.proofs.lemmas.session.FrontLemmas.{fronts_are_accepted, went_none, went_more, went_added, went_failed}
+use Rattle.sat_solver.proofs.lemmas.session.PrefixLemmas.{fronts_are_accepted, went_none, went_more, went_added, went_failed}
 use Rattle.sat_solver.proofs.lemmas.session.ProofLemmas.{carries_none, text_spells}
 
 module _ {W L : Type 0} {G : Ghosts L} (seen : W → Writer) where
   -- PROOFS
 
-  took : (a b : Proof W L G) → ComesBySteps seen a b → GoesOnFrom seen a b
+  took : (a b : Proof W L G) → ComesBySteps seen a b → MakesSteps seen a b
   took a b t = went_added seen t.0 a b t.1
 
   -- no step was made, and the target is unchanged
-  stood : (a b : Proof W L G) → steps_of b ≡ steps_of a → target_of seen b ≡ target_of seen a → GoesOnFrom seen a b
+  stood : (a b : Proof W L G) → steps_of b ≡ steps_of a → target_of seen b ≡ target_of seen a → MakesSteps seen a b
   stood a b h t = record { steps = []; history = h; target = inl (subst (TargetTakes (target_of seen a) []) (sym t) (carries_none (target_of seen a))) }
 
-  checked : {fault : CheckFault} (steps : List Step) (a b : Proof W L G) → FailsCheck seen fault steps a b → GoesOnFrom seen a b
+  checked : {fault : CheckFault} (steps : List Step) (a b : Proof W L G) → FailsCheck seen fault steps a b → MakesSteps seen a b
   checked steps a b h = went_added seen steps a b h.adds
 
   -- steps were made by a call that failed
-  failed : (e : SolverError) (steps : List Step) (a b : Proof W L G) → going.EmitsUpToFault {A = Unit {0}} seen (Err e) steps a b → GoesOnFrom seen a b
+  failed : (e : SolverError) (steps : List Step) (a b : Proof W L G) → going.EmitsUpToFault {A = Unit {0}} seen (Err e) steps a b → MakesSteps seen a b
   failed (errors.ProofProcessorError cause) steps a b h = checked steps a b h
   failed (errors.ProofIoError cause) steps a b h = went_failed seen steps a b h
   failed errors.CounterEnd steps a b h = checked steps a b h
@@ -60,10 +60,10 @@ module _ {W L : Type 0} {G : Ghosts L} (seen : W → Writer) where
   same : (a b : Solver W L G) (why : Type 0) → Refuses a b why → ReachesBySteps seen a b
   same a b why h = subst (λ (x : Solver W L G). ReachesBySteps seen a x) (sym h.same) (went_none seen a.core.proof)
 
-  names_broke : (full : Type 0) (e : SolverError) (a b : Core W L G) → BreaksNamesOr full seen e a b → GoesOnFrom seen a.proof b.proof
+  names_broke : (full : Type 0) (e : SolverError) (a b : Core W L G) → BreaksNamesOr full seen e a b → MakesSteps seen a.proof b.proof
   names_broke full e a b h = failed e h.steps a.proof b.proof h.went
 
-  broke : (e : SolverError) (a b : Core W L G) → BreaksCall seen e a b → GoesOnFrom seen a.proof b.proof
+  broke : (e : SolverError) (a b : Core W L G) → BreaksCall seen e a b → MakesSteps seen a.proof b.proof
   broke e a b h = failed e h.steps a.proof b.proof h.went
 
   added : (a b : Solver W L G) (user : List ℕ) → Added seen a b user → ReachesBySteps seen a b
@@ -133,7 +133,7 @@ module _ {W L : Type 0} {G : Ghosts L} (seen : W → Writer) where
   solved a b (Err e) h = broke e a.core b.core h.breaks
 
   configured : (a b : Solver W L G) (r : Result (Unit {0}) SolverError) (u : SolverConfigUpdate) → Configures r u a b → ReachesBySteps seen a b
-  configured a b (Ok x) u h = subst (GoesOnFrom seen a.core.proof) (sym h.same.proof) (went_none seen a.core.proof)
+  configured a b (Ok x) u h = subst (MakesSteps seen a.core.proof) (sym h.same.proof) (went_none seen a.core.proof)
   configured a b (Err errors.HasFailed) u h = same a b _ h
   configured a b (Err errors.OutOfRange) u h = same a b _ h
   configured a b (Err e) u h = absurd h
@@ -184,11 +184,11 @@ module _ {W L : Type 0} {G : Ghosts L} (seen : W → Writer) where
 
   pub returns_accepted_prefix : (s : Solver W L G) (returned : Option W) → GivesWriter (target_of seen s.core.proof) (returned_writer seen returned) → ReturnsAcceptedPrefix seen returned s
   returns_accepted_prefix s returned g opened f from given is open_then begun went =
-      let follows = subst (λ (t : Target). TargetTakesFront t went.steps (target_of seen s.core.proof)) open_then went.target in
+      let follows = subst (λ (t : Target). TargetTakesPrefix t went.steps (target_of seen s.core.proof)) open_then went.target in
       let gives = subst (λ (o : Option W). GivesWriter (target_of seen s.core.proof) (returned_writer seen o)) is g in
       ∥∥₁_elim s.core.proof.made.may ∥∥₁_prop (λ may.
       let front = fronts_are_accepted f from (seen given) (steps_in opened) went.steps (target_of seen s.core.proof) begun (subst AreAllowedSteps went.history may) follows gives in
-      ∣ subst (FrontSince f from (seen given) (steps_in opened)) (sym went.history) front ∣₁)
+      ∣ subst (PrefixSince f from (seen given) (steps_in opened)) (sym went.history) front ∣₁)
 
 pub flushed_is_text : FlushedIsText
 flushed_is_text f from given steps now h flushed g =

@@ -1,8 +1,8 @@
 //! Tests, byte by byte, whether bytes can begin a line.
 ghost use Rattle.std.specs.Prelude.{◌≡◌, ◌≤◌, ◌∷◌, []};
 ghost use Rattle.sat_hints.specs.Lines.{HasNoEnd};
-ghost use Rattle.sat_hints.specs.inner.Fronts.{letter_place, limit_of, next_of, sign_place, zero_place, LeadsToPlace};
-ghost use Rattle.sat_hints.specs.declared.fronts.Place.TheVariants.{Digits, Item};
+ghost use Rattle.sat_hints.specs.inner.Prefixes.{letter_place, limit_of, next_of, sign_place, zero_place, LeadsToPlace};
+ghost use Rattle.sat_hints.specs.declared.prefixes.Place.TheVariants.{Digits, Item};
 
 use crate::numbers::with_digit;
 use sat_base::Var;

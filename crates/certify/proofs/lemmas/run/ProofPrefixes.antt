@@ -8,20 +8,20 @@ use Rattle.sat_base.specs.steps.Steps.{Step, End}
 use Rattle.sat_solver.specs.declared.error.SolverError.{SolverError}
 use Rattle.sat_solver.specs.declared.proof.format.ProofFormat.TheVariants.{Varisat}
 use Rattle.sat_solver.specs.proof.Checked.{has_begun}
-use Rattle.sat_solver.specs.proof.Fronts.{FrontText, TargetTakesFront}
+use Rattle.sat_solver.specs.proof.Prefixes.{PrefixText, TargetTakesPrefix}
 use Rattle.sat_solver.specs.session.Making.{ComesBySteps, BreaksEmitting}
 use Rattle.sat_solver.specs.proof.OutputView.{text_in}
 use Rattle.sat_solver.specs.proof.ProofTexts.{TookAcceptedSteps}
 use Rattle.sat_solver.specs.proof.ProofView.{Open, Target, TargetTakes, TakesAll, GivesWriter, target_of}
 use Rattle.sat_solver.specs.proof.Counting.{nothing_counted as uncounted}
 use Rattle.sat_solver.specs.session.Session.{AreAllowedSteps}
-use Rattle.sat_solver.specs.solver.Fronts.{ReachesBySteps, ReturnsAcceptedPrefix}
+use Rattle.sat_solver.specs.solver.Prefixes.{ReachesBySteps, ReturnsAcceptedPrefix}
 use Rattle.sat_solver.specs.solver.Proving.{ClosesProof}
 use Rattle.sat_solver.specs.solver.Whole.{steps_in}
 use Rattle.sat_solver.proofs.lemmas.session.CutsLemmas.{cuts_are_free}
 use Rattle.sat_solver.proofs.lemmas.session.StepLemmas.{sessions_are_accepted}
-use Rattle.sat_solver.proofs.lemmas.session.FrontLemmas.{went_added, went_failed, went_more}
-use Rattle.sat_solver.proofs.lemmas.solver.FrontLemmas.{calls_go_on}
+use Rattle.sat_solver.proofs.lemmas.session.PrefixLemmas.{went_added, went_failed, went_more}
+use Rattle.sat_solver.proofs.lemmas.solver.PrefixLemmas.{calls_go_on}
 use Rattle.certify.specs.run.Unfinished.{StepsFront}
 use Rattle.sat_solver.specs.solver.View.{proof_in}
 use Rattle.certify.specs.run.Ending.{GivesFront}
@@ -29,7 +29,7 @@ use Rattle.certify.specs.run.Quiet.{Solver}
 
 -- PREFIXES
 
-front_of : (from given : Writer) (made : List Step) → FrontText Varisat from given made → StepsFront from given
+front_of : (from given : Writer) (made : List Step) → PrefixText Varisat from given made → StepsFront from given
 front_of from given made h = record {
   made = made;
   steps = h.written;
@@ -110,7 +110,7 @@ module _ {C : Type 0} (seen : C → Writer) where
   front_closed s new given h = record {
     front = λ opened from open_then none went.
         let now = target_of seen (proof_in s) in
-        let follows = subst (λ (t : Target). TargetTakesFront t went.steps now) open_then went.target in
+        let follows = subst (λ (t : Target). TargetTakesPrefix t went.steps now) open_then went.target in
         elim follows [
           | inl k ↦ ∣ whole_of from (seen given) (steps_in new) (h.certificate Varisat from [] refl (record { steps = went.steps; following = went.history ∙ ap (λ (xs : List Step). went.steps ++ xs) none; target = k })) ∣₁
           | inr k ↦ absurd (subst (λ (t : Target). TakesAll t (End ∷ []) (seen given)) k.3.1 h.closes.takes)
