@@ -1,9 +1,7 @@
 -- Two results that are both `Ok` or both `Err`: one of them has its error stored elsewhere.
-use Rattle.std.proofs.Common.{◌≡◌, ℕ, List, Result, Ok, Err, sym, ap, ◌∙◌}
-use Rattle.std.specs.Prelude.{OnOk, is_ok}
-use Rattle.sat_base.specs.declared.device.output.Output.{Output}
+use Rattle.std.proofs.Common.{◌≡◌, ℕ, List, Result, Ok, Err}
+use Rattle.std.specs.Prelude.{is_ok}
 use Rattle.sat_base.specs.device.Device.{Writer, FlushesOnce, WritesText}
-use Rattle.sat_base.specs.device.Sink.{Sink, SendsText, sink_of}
 
 -- the effect is the same under both results
 pub puts_alike : {E F : Type 0} (q : Result (Unit {0}) F) (r : Result (Unit {0}) E) (text : List ℕ) (v w : Writer) → is_ok q ≡ is_ok r → WritesText text r v w → WritesText text q v w

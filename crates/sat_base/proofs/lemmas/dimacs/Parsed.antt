@@ -10,7 +10,7 @@ use Rattle.sat_base.specs.declared.dimacs.error.IncrementalError.{IncrementalErr
 use Rattle.sat_base.specs.declared.dimacs.error.IncrementalError.TheVariants as parts
 use Rattle.sat_base.specs.dimacs.Dimacs.{Clean, Dimacs, Ending, Limit, Malformed, dimacs}
 use Rattle.sat_base.specs.dimacs.Parsing.{Calls, EndsWell, FallsShort, EndsAtFault, FeedsPiece, Finishes, GoesWell, HasReadCleanly, IsSoundText, IsWholeText, KeepsText, Parses, Progress, at_its_end, no_progress, with_fed}
-use Rattle.sat_base.specs.device.Device.{Reader, GaveAll, GaveFront}
+use Rattle.sat_base.specs.device.Device.{Reader, GaveFront}
 use Rattle.sat_base.specs.text.Text.{dimacs_header, scan, tokens_of, lines}
 
 -- a text with a fault ends with this fault, however it continues

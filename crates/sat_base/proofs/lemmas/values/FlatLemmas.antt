@@ -1,7 +1,6 @@
 -- Lists in one buffer: appending a list, and the list at an index.
 use Rattle.std.proofs.Common.{ℕ, zero, suc, max, ◌≡◌, ◌+◌, ◌-◌, ◌<◌, ◌≤◌, List, [], ◌∷◌, ◌++◌, length, get_or, take, drop, refl, sym, ◌∙◌, ap, arith}
-use Rattle.std.specs.List.{between, slice_index}
-use Rattle.std.proofs.lemmas.Grind.{common_steps}
+use Rattle.std.specs.List.{between}
 use Rattle.std.proofs.lemmas.List.{drop_at, take_all, take-append-le, length-append}
 use Rattle.std.proofs.lemmas.Slice.{between_is}
 use Rattle.std.proofs.Math.Seq.{drop-cons}

@@ -1,12 +1,10 @@
 -- Values of tables under a function; a place with a value other than the default has room.
-use Rattle.std.proofs.Common.{ℕ, ◌≡◌, ◌≢◌, ◌≤◌, ◌∙◌, Bool, true, false, cond, eqb, Option, Some, None, ltb, refl, sym, ap, subst, inl, inr}
+use Rattle.std.proofs.Common.{ℕ, ◌≡◌, ◌≢◌, ◌∙◌, Bool, true, false, cond, eqb, Option, Some, None, ltb, refl, ap, subst, inl, inr}
 use Rattle.std.specs.Option.{IsSome}
 use Rattle.std.specs.Ordering.{nat_cmp}
-use Rattle.std.specs.BTreeMap.{get, is_at, btree_map_len}
-use Rattle.std.specs.Map.{lookup}
+use Rattle.std.specs.BTreeMap.{get}
 use Rattle.std.specs.Prelude.{slice_index_or}
-use Rattle.std.proofs.lemmas.Bool.{ltb-true, le-ltb}
-use Rattle.std.proofs.lemmas.List.{nil_from_length}
+use Rattle.std.proofs.lemmas.Bool.{ltb-true}
 use Rattle.sat_base.specs.declared.table.Table.{Table}
 use Rattle.sat_base.specs.values.Tables.{near_count, value_or, value_at, HasPlaceFor}
 

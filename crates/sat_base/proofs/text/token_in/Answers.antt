@@ -1,3 +1,4 @@
+use Rattle.std.proofs.lemmas.Grind.{common_steps}
 use Rattle.std.proofs.Common.{arith}
 use Rattle.sat_base.proofs.lemmas.text.Places.{says_minus, says_bad, says_letter, says_zero, says_number}
 use Rattle.sat_base.proofs.text.token_in.Goals as goal
@@ -16,8 +17,4 @@ pub returns-then-value-eq0 : goal.returns-then-value-eq0
 returns-then-value-eq0 c = rw (c.in-Digits.is, c.if-negative.true) (says_zero c.in-Digits.value c.if-value-eq0.true)
 
 pub returns-else-negative : goal.returns-else-negative
-returns-else-negative c =
-    elim c.else-negative.branch [
-      | else-negative-via-then-negative+else-value-eq0 w ↦ rw c.in-Digits.is (says_number c.in-Digits.negative c.in-Digits.value (λ e. omega arith))
-      | else-negative-via-else-negative w ↦ rw c.in-Digits.is (says_number c.in-Digits.negative c.in-Digits.value (λ e. absurd (let f = w.if-negative.false in cc)))
-    ]
+returns-else-negative c = grind (arith, common_steps, says_number, else-negative-via-then-negative+else-value-eq0, else-negative-via-else-negative)

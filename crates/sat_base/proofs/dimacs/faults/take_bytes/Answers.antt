@@ -1,18 +1,7 @@
-use Rattle.std.proofs.Common.{◌++◌, take, arith, sym, subst}
-use Rattle.std.proofs.lemmas.List.{append-nil}
+use Rattle.std.proofs.Common.{◌++◌, take, arith}
 use Rattle.std.proofs.lemmas.Result.{err_from_is_err_and}
-use Rattle.sat_base.specs.dimacs.Faults.{HasTakenSoundly}
-use Rattle.sat_base.proofs.lemmas.dimacs.FaultsFound.{found_within, taken_more}
+use Rattle.sat_base.proofs.lemmas.dimacs.FaultsFound.{found_within}
 use Rattle.sat_base.proofs.dimacs.faults.take_bytes.Goals as goal
-
-pub loop-byte-init : goal.loop-byte-init
-loop-byte-init c text h = subst (λ z. HasTakenSoundly z c.args.tokenizer.now) (sym (append-nil text)) h
-
-pub loop-byte-preserved : goal.loop-byte-preserved
-loop-byte-preserved c text h =
-    let i = c.loop-byte.byte-index in
-    let xs = c.args.bytes.now in
-    taken_more text xs i _ (omega arith) (c.in_ok-take_byte.ensures (text ++ take i xs) (c.loop-byte.invariant text h))
 
 pub returns-in_err-take_byte : goal.returns-in_err-take_byte
 returns-in_err-take_byte c text h =

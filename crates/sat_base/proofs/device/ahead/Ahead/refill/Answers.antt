@@ -1,6 +1,6 @@
 use Rattle.std.proofs.Common.{arith}
 use Rattle.sat_base.specs.device.Reading.{source, with_borrows}
-use Rattle.sat_base.proofs.lemmas.device.ReadLemmas.{faults_now, faults_spent, none_waits, refilled}
+use Rattle.sat_base.proofs.lemmas.device.ReadLemmas.{faults_now, faults_spent, none_waits}
 use Rattle.sat_base.proofs.device.ahead.Ahead.refill.Goals as goal
 
 pub returns-then-self-ge-MAX_READS-clause-bytes : goal.returns-then-self-ge-MAX_READS-clause-bytes
@@ -11,14 +11,3 @@ pub returns-in-Err-clause-bytes : goal.returns-in-Err-clause-bytes
 returns-in-Err-clause-bytes g c names =
     let a = c.args.self.now in
     faults_now _ (g.R.CountedRead.seen c.args.reader.now) (g.R.CountedRead.seen c.read_counted.new.self) _ _ c.read_counted.new.buf names a.reads c.in-Err.ensures.once (none_waits a.at a.end a.piece c.requires) (none_waits 0 0 c.read_counted.new.buf (omega arith))
-
-pub returns-in-Ok-clause-bytes : goal.returns-in-Ok-clause-bytes
-returns-in-Ok-clause-bytes g c names =
-    let a = c.args.self.now in
-    refilled c.in-Ok.count (g.R.CountedRead.seen c.args.reader.now) (g.R.CountedRead.seen c.read_counted.new.self) _ c.read_counted.new.buf names a.reads c.in-Ok.ensures.once c.in-Ok.ensures.bound.0 (omega (arith, c.read_counted.auto.buf)) (none_waits a.at a.end a.piece c.requires)
-
-pub invariant_of-self : goal.invariant_of-self
-invariant_of-self g c = record { within = omega (arith, c.in-Ok.ensures.bound.0, c.read_counted.auto.buf); bounded = omega (arith, c.if-self-ge-MAX_READS.false) }
-
-pub invariant_of-self-in-Err : goal.invariant_of-self-in-Err
-invariant_of-self-in-Err g c = record { within = omega arith; bounded = omega (arith, c.if-self-ge-MAX_READS.false) }

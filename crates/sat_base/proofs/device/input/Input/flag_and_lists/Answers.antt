@@ -1,3 +1,5 @@
+use Rattle.std.proofs.Common.{arith}
+use Rattle.std.proofs.lemmas.Grind.{common_steps}
 use Rattle.std.proofs.Common.{Ok, Err}
 use Rattle.std.proofs.lemmas.Result.{err_from_is_err_and}
 use Rattle.sat_base.specs.steps.Formats.{Both}
@@ -8,10 +10,7 @@ use Rattle.sat_base.proofs.lemmas.steps.StepReads.{one_flag, some_lists}
 use Rattle.sat_base.proofs.device.input.Input.flag_and_lists.Goals as goal
 
 pub returns-in_err-flag : goal.returns-in_err-flag
-returns-in_err-flag g c =
-    let S = source_of g.R.CountedRead.seen in
-    let p = err_from_is_err_and c.from_residual.result c.from_residual.ensures.1 in
-    rw (p.1, p.2) (first_fails IsFlag (λ _. Both AreLiterals AreHashes) one_flag (λ _. some_lists) c.in_err-flag.field-0.0 (S c.args.self.now) (S c.flag.new.self) c.in_err-flag.ensures)
+returns-in_err-flag g c = grind (arith, common_steps, err_from_is_err_and, first_fails, one_flag, some_lists)
 
 pub returns-in_err-both_lists : goal.returns-in_err-both_lists
 returns-in_err-both_lists g c =

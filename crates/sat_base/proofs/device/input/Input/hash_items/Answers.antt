@@ -1,14 +1,12 @@
+use Rattle.std.proofs.lemmas.Grind.{common_steps}
 use Rattle.std.proofs.Common.{◌-◌, ◌^◌, ℕ, List, ◌∷◌, [], arith}
 use Rattle.std.proofs.lemmas.Result.{err_from_is_err_and}
 use Rattle.sat_base.specs.device.Reading.{source_of}
 use Rattle.sat_base.specs.steps.StepText.{IsHash}
 use Rattle.sat_base.proofs.lemmas.steps.Numbers.{one_below, some_below}
-use Rattle.sat_base.proofs.lemmas.steps.FormatReads.{counted_start, counted_more, counted_fails, counted_no_room, counted_all}
+use Rattle.sat_base.proofs.lemmas.steps.FormatReads.{counted_more, counted_fails, counted_no_room, counted_all}
 use Rattle.sat_base.proofs.lemmas.steps.TakenItems.{counted_taken, counted_full}
 use Rattle.sat_base.proofs.device.input.Input.hash_items.Goals as goal
-
-pub loop-left-init : goal.loop-left-init
-loop-left-init g c = counted_start IsHash c.args.count c.args.count c.args.hashes.now.items (source_of g.R.CountedRead.seen c.args.self.now) (omega arith) c.requires
 
 pub loop-left-preserved-then-taken-gt0 : goal.loop-left-preserved-then-taken-gt0
 loop-left-preserved-then-taken-gt0 g c =
@@ -18,10 +16,7 @@ loop-left-preserved-then-taken-gt0 g c =
     counted_taken IsHash (one_below (2 ^ 64)) c.args.count c.loop-left.left c.in_ok-taken.taken c.loop-left.hashes.items c.take_hashes.new.hashes.items (S c.args.self.now) (g.R.CountedRead.seen i.reader.now) names i.ahead.now c.take_hashes.new.self c.in_ok-taken.ensures c.loop-left.invariant
 
 pub returns-in_err-taken : goal.returns-in_err-taken
-returns-in_err-taken g c =
-    let S = source_of g.R.CountedRead.seen in
-    let p = err_from_is_err_and c.from_residual.result c.from_residual.ensures.1 in
-    rw (p.1, p.2, c.in_err-taken.ensures.0, c.in_err-taken.ensures.1) (counted_full IsHash (some_below (2 ^ 64) (omega arith)) c.args.count c.loop-left.left c.loop-left.hashes.items (S c.args.self.now) (S c.loop-left.self) c.loop-left.invariant)
+returns-in_err-taken g c = grind (arith, common_steps, err_from_is_err_and, some_below, counted_full)
 
 pub returns-in_err-hash : goal.returns-in_err-hash
 returns-in_err-hash g c =
@@ -50,6 +45,4 @@ loop-left-preserved g c =
     rw c.in_ok-push.ensures.items (counted_more IsHash (one_below (2 ^ 64)) c.args.count (c.loop-left.left - c.in_ok-taken.taken) ((c.loop-left.left - c.in_ok-taken.taken) - 1) c.take_hashes.new.hashes.items c.in_ok-hash.hash (S c.args.self.now) _ (S c.number.new.self) (omega (arith, c.if-taken-gt0.false, c.loop-left-test.true)) c.in_ok-hash.ensures k)
 
 pub returns : goal.returns
-returns g c =
-    let S = source_of g.R.CountedRead.seen in
-    counted_all IsHash c.args.count c.loop-left.left c.loop-left.hashes.items (S c.args.self.now) (S c.loop-left.self) (omega arith) c.loop-left.invariant
+returns g c = grind (arith, common_steps, counted_all)

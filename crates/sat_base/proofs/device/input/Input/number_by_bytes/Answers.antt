@@ -41,24 +41,3 @@ loop-byte-preserved g c =
     }
 
 -- WHERE NO SUM OR PRODUCT WRAPS
-
-pub overflow_mul-result : goal.overflow_mul-result
-overflow_mul-result g c = omega (arith, in_room c.args.largest c.loop-byte.value c.loop-byte.place c.loop-byte.room c.in_ok-byte.byte c.loop-byte.invariant.low (omega arith))
-
-pub overflow_add-result : goal.overflow_add-result
-overflow_add-result g c = omega (arith, in_room c.args.largest c.loop-byte.value c.loop-byte.place c.loop-byte.room c.in_ok-byte.byte c.loop-byte.invariant.low (omega arith))
-
-pub overflow_mul-value : goal.overflow_mul-value
-overflow_mul-value g c = omega (arith, room_small c.args.largest c.loop-byte.value c.loop-byte.place c.loop-byte.room c.in_ok-byte.byte c.loop-byte.invariant.low c.if-byte-lt128.false (omega arith))
-
-pub overflow_add-value : goal.overflow_add-value
-overflow_add-value g c = omega (arith, room_small c.args.largest c.loop-byte.value c.loop-byte.place c.loop-byte.room c.in_ok-byte.byte c.loop-byte.invariant.low c.if-byte-lt128.false (omega arith))
-
-pub overflow_mul-place : goal.overflow_mul-place
-overflow_mul-place g c = omega (arith, room_small c.args.largest c.loop-byte.value c.loop-byte.place c.loop-byte.room c.in_ok-byte.byte c.loop-byte.invariant.low c.if-byte-lt128.false (omega arith))
-
-pub overflow_sub-room : goal.overflow_sub-room
-overflow_sub-room g c = omega arith
-
-pub loop-byte-smaller : goal.loop-byte-smaller
-loop-byte-smaller g c = omega arith

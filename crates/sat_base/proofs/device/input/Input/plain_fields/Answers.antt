@@ -1,3 +1,4 @@
+use Rattle.std.proofs.lemmas.Grind.{common_steps}
 use Rattle.std.proofs.Common.{◌≡◌, ℕ, Bool, true, false, Result, Ok, Err, nat_eq, refl, sym, rules, arith}
 use Rattle.std.proofs.lemmas.Bool.Decides.{nat_tests}
 use Rattle.std.proofs.lemmas.Result.{err_from_is_err_and}
@@ -10,7 +11,7 @@ use Rattle.sat_base.specs.device.Reading.{Source, ReadsValue, FieldsAfter, sourc
 use Rattle.sat_base.proofs.lemmas.steps.FormatReads.{first_fails, second_gives}
 use Rattle.sat_base.proofs.lemmas.steps.Numbers.{one_below}
 use Rattle.sat_base.proofs.lemmas.steps.StepReads.{some_flag, some_optional}
-use Rattle.sat_base.proofs.lemmas.steps.TagForms.{stops_following, solver_form, user_form, variable_form, mode_form, width_form, end_read}
+use Rattle.sat_base.proofs.lemmas.steps.TagForms.{stops_following, solver_form, user_form, variable_form, mode_form, width_form}
 use Rattle.sat_base.proofs.device.input.Input.plain_fields.Goals as goal
 
 -- after a tag with a variable and one that may be none
@@ -32,11 +33,7 @@ variable_stops tag false false t f other g r d e old new p q h =
     names_stop tag _ refl (other t f) g r d e old new p q (first_fails IsVariable (λ _. IsOptionalVariable) (one_below var_limit) (λ _. some_optional) e old new h)
 
 pub returns-in_err-var : goal.returns-in_err-var
-returns-in_err-var g c =
-    let S = source_of g.R.CountedRead.seen in
-    let p = err_from_is_err_and c.from_residual.result c.from_residual.ensures.1 in
-    let other : nat_eq c.args.tag 3 ≡ false → nat_eq c.args.tag 4 ≡ false → nat_eq c.args.tag 1 ≡ false → 2 ≡ c.args.tag = λ t f o. grind rules in
-    λ literals hashes units. variable_stops c.args.tag _ _ refl refl other _ c.from_residual.result _ c.in_err-var.field-0.0 (S c.args.self.now) (S c.variable.new.self) p.1 p.2 c.in_err-var.ensures
+returns-in_err-var g c = grind (arith, common_steps, err_from_is_err_and, variable_stops)
 
 pub returns-in_err-sample : goal.returns-in_err-sample
 returns-in_err-sample g c =
@@ -58,15 +55,9 @@ returns-in_err-named g c =
     λ literals hashes units. names_stop c.args.tag _ refl other _ c.from_residual-in_err-named.result _ e (S c.args.self.now) (S c.optional.new.self) p.1 p.2 h
 
 pub returns-in_err-bits : goal.returns-in_err-bits
-returns-in_err-bits g c =
-    let S = source_of g.R.CountedRead.seen in
-    let p = err_from_is_err_and c.from_residual-in_err-bits.result c.from_residual-in_err-bits.ensures.1 in
-    λ literals hashes units. stops_following 9 c.args.tag _ _ width_form _ c.from_residual-in_err-bits.result _ c.in_err-bits.field-0.0 (S c.args.self.now) (S c.width.new.self) p.1 p.2 c.if-tag-eq9.true c.in_err-bits.ensures
+returns-in_err-bits g c = grind (arith, common_steps, err_from_is_err_and, stops_following, width_form)
 
 -- WHERE ALL WAS READ
-
-pub returns-then-tag-eq3 : goal.returns-then-tag-eq3
-returns-then-tag-eq3 g c = λ literals hashes units. let e = c.in_ok-var.ensures in (e.0, e.1, (sym c.if-tag-eq3.true, e.2))
 
 pub returns-in_ok-sample : goal.returns-in_ok-sample
 returns-in_ok-sample g c =
@@ -89,11 +80,3 @@ returns-else-tag-eq1 g c =
     let i : 2 ≡ c.args.tag = grind rules in
     let e = second_gives IsVariable (λ _. IsOptionalVariable) (one_below var_limit) c.in_ok-var.var k.0 (S c.args.self.now) (S c.variable.new.self) (S c.optional.new.self) k.2 k.1 (Ok c.in_ok-named.named) c.in_ok-named.ensures in
     λ literals hashes units. (e.0, e.1, (i, e.2))
-
-pub returns-in_ok-bits : goal.returns-in_ok-bits
-returns-in_ok-bits g c = λ literals hashes units. let e = c.in_ok-bits.ensures in (e.0, e.1, (sym c.if-tag-eq9.true, e.2))
-
-pub returns-else-tag-eq9 : goal.returns-else-tag-eq9
-returns-else-tag-eq9 g c =
-    let i : 13 ≡ c.args.tag = grind rules in
-    λ literals hashes units. end_read c.args.tag (source_of g.R.CountedRead.seen c.args.self.now) i

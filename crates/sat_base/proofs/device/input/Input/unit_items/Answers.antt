@@ -1,14 +1,12 @@
+use Rattle.std.proofs.lemmas.Grind.{common_steps}
 use Rattle.std.proofs.Common.{◌+◌, ◌-◌, arith}
 use Rattle.std.proofs.lemmas.Result.{err_from_is_err_and}
 use Rattle.sat_base.specs.device.Reading.{source_of}
 use Rattle.sat_base.specs.steps.Formats.{Both}
 use Rattle.sat_base.specs.steps.StepText.{IsLiteral, IsHash}
 use Rattle.sat_base.proofs.lemmas.steps.StepReads.{one_unit, some_unit}
-use Rattle.sat_base.proofs.lemmas.steps.FormatReads.{counted_start, counted_more, counted_fails, counted_no_room, counted_all}
+use Rattle.sat_base.proofs.lemmas.steps.FormatReads.{counted_more, counted_fails, counted_no_room, counted_all}
 use Rattle.sat_base.proofs.device.input.Input.unit_items.Goals as goal
-
-pub loop-init : goal.loop-init
-loop-init g c = counted_start (Both IsLiteral IsHash) c.args.count (c.args.count - 0) c.args.units.now.items (source_of g.R.CountedRead.seen c.args.self.now) (omega arith) c.requires
 
 pub returns-in_err-unit : goal.returns-in_err-unit
 returns-in_err-unit g c =
@@ -28,6 +26,4 @@ loop-preserved g c =
     rw c.in_ok-push.ensures.items (counted_more (Both IsLiteral IsHash) one_unit c.args.count (c.args.count - c.loop.counter) (c.args.count - (c.loop.counter + 1)) c.loop.units.items c.in_ok-unit.unit (S c.args.self.now) (S c.loop.self) (S c.unit.new.self) (omega arith) c.in_ok-unit.ensures c.loop.invariant)
 
 pub returns : goal.returns
-returns g c =
-    let S = source_of g.R.CountedRead.seen in
-    counted_all (Both IsLiteral IsHash) c.args.count (c.args.count - c.loop.counter) c.loop.units.items (S c.args.self.now) (S c.loop.self) (omega arith) c.loop.invariant
+returns g c = grind (arith, common_steps, counted_all)

@@ -1,7 +1,8 @@
+use Rattle.std.proofs.Common.{arith}
+use Rattle.std.proofs.lemmas.Grind.{common_steps}
 use Rattle.std.proofs.lemmas.Result.{err_from_is_err_and}
 use Rattle.sat_base.specs.device.Sink.{sink_of}
 use Rattle.sat_base.specs.steps.StepBytes.{list_bytes}
-use Rattle.sat_base.specs.steps.StepText.{AreLiterals, AreHashes}
 use Rattle.sat_base.proofs.lemmas.steps.NumberBytes.{both_written}
 use Rattle.sat_base.proofs.lemmas.device.Sending.{sends_stops}
 use Rattle.sat_base.proofs.device.output.Output.put_both_lists.Goals as goal
@@ -13,7 +14,4 @@ returns-in_err-put_literals g c =
     rw p.1 (sends_stops (sink_of S g.P.Room.waiting c.args.self.now) (sink_of S g.P.Room.waiting c.put_literals.new.self) (list_bytes c.args.lits.now) (list_bytes c.args.hashes.now) c.in_err-put_literals.ensures)
 
 pub returns : goal.returns
-returns g c =
-    let S = g.W.CountedWrite.seen in
-    let p = c.in_ok-put_literals.ensures in
-    both_written AreLiterals AreHashes c.args.lits.now c.args.hashes.now (list_bytes c.args.lits.now) (list_bytes c.args.hashes.now) (sink_of S g.P.Room.waiting c.args.self.now) (sink_of S g.P.Room.waiting c.put_literals.new.self) (sink_of S g.P.Room.waiting c.put_hashes.new.self) c.put_hashes.result p.0 p.1 c.put_hashes.ensures
+returns g c = grind (arith, common_steps, both_written)

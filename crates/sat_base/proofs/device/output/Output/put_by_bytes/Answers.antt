@@ -1,3 +1,4 @@
+use Rattle.std.proofs.lemmas.Grind.{common_steps}
 use Rattle.std.proofs.Common.{◌%◌, ◌+◌, refl, arith}
 use Rattle.std.proofs.lemmas.Result.{err_from_is_err_and}
 use Rattle.sat_base.specs.device.Sink.{sink_of}
@@ -8,9 +9,7 @@ pub loop-rest-init : goal.loop-rest-init
 loop-rest-init g c = groups_none c.args.number _ (omega arith)
 
 pub loop-rest-preserved : goal.loop-rest-preserved
-loop-rest-preserved g c =
-    let S = g.W.CountedWrite.seen in
-    groups_more c.args.number c.loop-rest.rest (c.loop-rest.rest % 128 + 128) (sink_of S g.P.Room.waiting c.args.self.now) (sink_of S g.P.Room.waiting c.loop-rest.self) (sink_of S g.P.Room.waiting c.put.new.self) c.loop-rest-test.true refl c.loop-rest.invariant c.in_ok-put.ensures
+loop-rest-preserved g c = grind (arith, common_steps, groups_more)
 
 pub returns-in_err-put : goal.returns-in_err-put
 returns-in_err-put g c =

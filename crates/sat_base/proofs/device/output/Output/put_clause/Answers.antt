@@ -1,12 +1,9 @@
 use Rattle.std.proofs.Common.{[], ◌∷◌, ◌+◌, drop}
 use Rattle.std.proofs.lemmas.Result.{err_from_is_err_and}
 use Rattle.sat_base.specs.dimacs.DimacsText.{clause_line, number_text}
-use Rattle.sat_base.proofs.lemmas.device.Sending.{of_none, of_more, of_same, of_break, of_end}
+use Rattle.sat_base.proofs.lemmas.device.Sending.{of_more, of_same, of_break, of_end}
 use Rattle.sat_base.proofs.lemmas.dimacs.TextWrites.{next_literal, last_literal}
 use Rattle.sat_base.proofs.device.output.Output.put_clause.Goals as goal
-
-pub loop-lit-init : goal.loop-lit-init
-loop-lit-init g c = of_none (clause_line c.args.lits.now) _
 
 pub loop-lit-preserved : goal.loop-lit-preserved
 loop-lit-preserved g c =

@@ -1,8 +1,9 @@
+use Rattle.std.proofs.Common.{arith}
+use Rattle.std.proofs.lemmas.Grind.{common_steps}
 use Rattle.std.proofs.lemmas.Result.{err_from_is_err_and}
 use Rattle.sat_base.specs.device.Sink.{sink_of}
 use Rattle.sat_base.specs.steps.StepBytes.{list_bytes, deletion_bytes}
 use Rattle.sat_base.specs.steps.StepViews.{deletion_of}
-use Rattle.sat_base.specs.steps.StepText.{AreLiterals, IsDeletion}
 use Rattle.sat_base.proofs.lemmas.steps.NumberBytes.{both_written}
 use Rattle.sat_base.proofs.lemmas.device.Sending.{sends_stops}
 use Rattle.sat_base.proofs.device.output.Output.put_deleted.Goals as goal
@@ -14,7 +15,4 @@ returns-in_err-put_literals g c =
     rw p.1 (sends_stops (sink_of S g.P.Room.waiting c.args.self.now) (sink_of S g.P.Room.waiting c.put_literals.new.self) (list_bytes c.args.clause.now) (deletion_bytes (deletion_of c.args.proof)) c.in_err-put_literals.ensures)
 
 pub returns : goal.returns
-returns g c =
-    let S = g.W.CountedWrite.seen in
-    let p = c.in_ok-put_literals.ensures in
-    both_written AreLiterals IsDeletion c.args.clause.now (deletion_of c.args.proof) (list_bytes c.args.clause.now) (deletion_bytes (deletion_of c.args.proof)) (sink_of S g.P.Room.waiting c.args.self.now) (sink_of S g.P.Room.waiting c.put_literals.new.self) (sink_of S g.P.Room.waiting c.put_deletion.new.self) c.put_deletion.result p.0 p.1 c.put_deletion.ensures
+returns g c = grind (arith, common_steps, both_written)

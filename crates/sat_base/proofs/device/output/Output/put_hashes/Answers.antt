@@ -1,8 +1,9 @@
-use Rattle.std.proofs.Common.{◌^◌, arith, rules, ◌+◌, drop, length, get_or, refl}
+use Rattle.std.proofs.lemmas.Grind.{common_steps}
+use Rattle.std.proofs.Common.{arith, ◌+◌, drop, length, get_or, refl}
 use Rattle.std.proofs.lemmas.Result.{err_from_is_err_and}
 use Rattle.sat_base.specs.device.Sink.{sink_of}
 use Rattle.sat_base.specs.steps.StepBytes.{number_bytes, list_bytes, numbers_bytes}
-use Rattle.sat_base.proofs.lemmas.device.Sending.{of_none, of_more, of_same, of_break, of_all, sends_stops}
+use Rattle.sat_base.proofs.lemmas.device.Sending.{of_more, of_same, of_break, of_all, sends_stops}
 use Rattle.sat_base.proofs.lemmas.steps.ListBytes.{spells_list, next_number, last_number}
 use Rattle.sat_base.proofs.device.output.Output.put_hashes.Goals as goal
 
@@ -12,21 +13,8 @@ returns-in_err-put_number g c =
     let p = err_from_is_err_and c.from_residual.result c.from_residual.ensures.1 in
     rw p.1 (sends_stops (sink_of S g.P.Room.waiting c.args.self.now) (sink_of S g.P.Room.waiting c.put_number.new.self) (number_bytes (length c.args.hashes.now)) (numbers_bytes c.args.hashes.now) c.in_err-put_number.ensures)
 
-pub loop-hash-init : goal.loop-hash-init
-loop-hash-init g c =
-    let S = g.W.CountedWrite.seen in
-    let xs = c.args.hashes.now in
-    of_more (list_bytes xs) (number_bytes (length xs)) (numbers_bytes xs) (sink_of S g.P.Room.waiting c.args.self.now) (sink_of S g.P.Room.waiting c.args.self.now) (sink_of S g.P.Room.waiting c.put_number.new.self) (of_none _ _) c.in_ok-put_number.ensures
-
 pub loop-hash-preserved : goal.loop-hash-preserved
-loop-hash-preserved g c =
-    let S = g.W.CountedWrite.seen in
-    let xs = c.args.hashes.now in
-    let x = get_or xs c.loop-hash.hash-index 0 in
-    let old = sink_of S g.P.Room.waiting c.args.self.now in
-    let mid = sink_of S g.P.Room.waiting c.loop-hash.self in
-    of_more (list_bytes xs) (number_bytes x) (numbers_bytes (drop (c.loop-hash.hash-index + 1) xs)) old mid (sink_of S g.P.Room.waiting c.put_number-in-loop-hash.new.self)
-    (of_same (list_bytes xs) _ _ old mid (next_number xs c.loop-hash.hash-index x 0 c.loop-hash-test.true refl) c.loop-hash.invariant) c.in_ok-put_number-2.ensures
+loop-hash-preserved g c = grind (arith, common_steps, of_more, of_same, next_number)
 
 pub returns-in_err-put_number-2 : goal.returns-in_err-put_number-2
 returns-in_err-put_number-2 g c =
@@ -40,8 +28,4 @@ returns-in_err-put_number-2 g c =
     (of_same (list_bytes xs) _ _ old mid (next_number xs c.loop-hash.hash-index x 0 c.loop-hash-test.true refl) c.loop-hash.invariant) c.in_err-put_number-2.ensures)
 
 pub returns : goal.returns
-returns g c =
-    let S = g.W.CountedWrite.seen in (
-      of_all _ _ (sink_of S g.P.Room.waiting c.args.self.now) (sink_of S g.P.Room.waiting c.loop-hash.self) (last_number c.args.hashes.now c.loop-hash.hash-index c.loop-hash-test.false) c.loop-hash.invariant,
-      spells_list (2 ^ 64) c.args.hashes.now (omega arith) (search rules) (λ k h. omega (arith, c.type_inv.hashes k)),
-    )
+returns g c = grind (arith, common_steps, of_all, spells_list, last_number)

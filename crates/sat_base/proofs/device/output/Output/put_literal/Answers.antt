@@ -1,3 +1,5 @@
+use Rattle.std.proofs.Common.{arith}
+use Rattle.std.proofs.lemmas.Grind.{common_steps}
 use Rattle.std.proofs.Common.{[], ◌∷◌, ◌+◌, decimal, ap, ◌∙◌, ℕ}
 use Rattle.std.proofs.lemmas.Result.{err_from_is_err_and}
 use Rattle.sat_base.specs.device.Sink.{sink_of}
@@ -13,7 +15,4 @@ returns-in_err-put g c =
     rw p.1 (stops_same (sink_of S g.P.Room.waiting c.args.self.now) (sink_of S g.P.Room.waiting c.put.new.self) (45 ∷ []) (decimal (c.index.result + 1)) (number_text c.args.lit) (ap (λ (n : ℕ). 45 ∷ decimal (n + 1)) c.index.ensures.value ∙ negative_text c.args.lit c.is_positive.result c.is_positive.ensures c.if-is_positive.false) c.in_err-put.ensures)
 
 pub returns : goal.returns
-returns g c =
-    let S = g.W.CountedWrite.seen in
-    sends_same (sink_of S g.P.Room.waiting c.args.self.now) (sink_of S g.P.Room.waiting c.put_decimal-2.new.self) _ (number_text c.args.lit) c.put_decimal-2.result (ap (λ (n : ℕ). 45 ∷ decimal (n + 1)) c.index.ensures.value ∙ negative_text c.args.lit c.is_positive.result c.is_positive.ensures c.if-is_positive.false)
-    (sends_more (sink_of S g.P.Room.waiting c.args.self.now) (sink_of S g.P.Room.waiting c.put.new.self) (sink_of S g.P.Room.waiting c.put_decimal-2.new.self) (45 ∷ []) (decimal (c.index.result + 1)) c.put_decimal-2.result c.in_ok-put.ensures c.put_decimal-2.ensures)
+returns g c = grind (arith, common_steps, sends_same, sends_more, negative_text)

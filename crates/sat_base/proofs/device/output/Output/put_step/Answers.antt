@@ -1,3 +1,5 @@
+use Rattle.std.proofs.Common.{arith}
+use Rattle.std.proofs.lemmas.Grind.{common_steps}
 use Rattle.std.proofs.Common.{ℕ, [], ◌∷◌, ap}
 use Rattle.std.proofs.lemmas.Result.{err_from_is_err_and}
 use Rattle.sat_base.specs.device.Sink.{sink_of}
@@ -15,6 +17,4 @@ returns-in_err-put g c =
     rw p.1 (stops_same (sink_of S g.P.Room.waiting c.args.self.now) (sink_of S g.P.Room.waiting c.put.new.self) (c.tag.result ∷ []) (fields_bytes step) (step_bytes step) (ap (λ (n : ℕ). n ∷ fields_bytes step) c.tag.ensures) c.in_err-put.ensures)
 
 pub returns : goal.returns
-returns g c =
-    let S = g.W.CountedWrite.seen in
-    step_writes (step_of c.args.step.now) c.tag.result (sink_of S g.P.Room.waiting c.args.self.now) (sink_of S g.P.Room.waiting c.put.new.self) (sink_of S g.P.Room.waiting c.put_fields.new.self) c.put_fields.result c.tag.ensures c.in_ok-put.ensures c.put_fields.ensures
+returns g c = grind (arith, common_steps, step_writes)

@@ -1,4 +1,6 @@
-use Rattle.std.proofs.Common.{ℕ, ◌++◌, ap, rules}
+use Rattle.std.proofs.Common.{arith}
+use Rattle.std.proofs.lemmas.Grind.{common_steps}
+use Rattle.std.proofs.Common.{ℕ, ◌++◌, ap}
 use Rattle.std.proofs.lemmas.Result.{err_from_is_err_and}
 use Rattle.sat_base.specs.device.Sink.{sink_of}
 use Rattle.sat_base.specs.steps.StepBytes.{number_bytes}
@@ -14,6 +16,4 @@ returns-in_err-put_number g c =
     rw p.1 (stops_same (sink_of S g.P.Room.waiting c.args.self.now) (sink_of S g.P.Room.waiting c.put_number.new.self) (number_bytes c.code.result) hash (number_bytes c.args.unit.0 ++ hash) (ap (λ (n : ℕ). number_bytes n ++ hash) c.code.ensures.value) c.in_err-put_number.ensures)
 
 pub returns : goal.returns
-returns g c =
-    let S = g.W.CountedWrite.seen in
-    unit_writes c.args.unit c.code.result (sink_of S g.P.Room.waiting c.args.self.now) (sink_of S g.P.Room.waiting c.put_number.new.self) (sink_of S g.P.Room.waiting c.put_number-2.new.self) c.put_number-2.result c.code.ensures.value c.code.ensures.bound (search rules) c.in_ok-put_number.ensures c.put_number-2.ensures
+returns g c = grind (arith, common_steps, unit_writes)

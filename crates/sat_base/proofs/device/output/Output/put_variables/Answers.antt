@@ -1,7 +1,8 @@
+use Rattle.std.proofs.Common.{arith}
+use Rattle.std.proofs.lemmas.Grind.{common_steps}
 use Rattle.std.proofs.lemmas.Result.{err_from_is_err_and}
 use Rattle.sat_base.specs.device.Sink.{sink_of}
 use Rattle.sat_base.specs.steps.StepBytes.{number_bytes, optional_bytes}
-use Rattle.sat_base.specs.steps.StepText.{IsVariable, IsOptionalVariable}
 use Rattle.sat_base.proofs.lemmas.steps.NumberBytes.{both_written}
 use Rattle.sat_base.proofs.lemmas.device.Sending.{sends_stops}
 use Rattle.sat_base.proofs.device.output.Output.put_variables.Goals as goal
@@ -13,7 +14,4 @@ returns-in_err-put_variable g c =
     rw p.1 (sends_stops (sink_of S g.P.Room.waiting c.args.self.now) (sink_of S g.P.Room.waiting c.put_variable.new.self) (number_bytes c.args.first) (optional_bytes c.args.second) c.in_err-put_variable.ensures)
 
 pub returns : goal.returns
-returns g c =
-    let S = g.W.CountedWrite.seen in
-    let p = c.in_ok-put_variable.ensures in
-    both_written IsVariable IsOptionalVariable c.args.first c.args.second (number_bytes c.args.first) (optional_bytes c.args.second) (sink_of S g.P.Room.waiting c.args.self.now) (sink_of S g.P.Room.waiting c.put_variable.new.self) (sink_of S g.P.Room.waiting c.put_optional.new.self) c.put_optional.result p.0 p.1 c.put_optional.ensures
+returns g c = grind (arith, common_steps, both_written)

@@ -1,9 +1,7 @@
+use Rattle.std.proofs.lemmas.Grind.{common_steps}
 use Rattle.std.proofs.Common.{arith}
-use Rattle.sat_base.specs.device.Sink.{sink_of}
 use Rattle.sat_base.proofs.lemmas.steps.NumberBytes.{number_writes}
 use Rattle.sat_base.proofs.device.output.Output.put_width.Goals as goal
 
 pub returns : goal.returns
-returns g c =
-    let S = g.W.CountedWrite.seen in
-    number_writes 65 c.get.result c.args.bits (sink_of S g.P.Room.waiting c.args.self.now) (sink_of S g.P.Room.waiting c.put_number.new.self) c.put_number.result c.get.ensures.value (omega (arith, c.get.ensures.value, c.get.ensures.bound)) (omega arith) c.put_number.ensures
+returns g c = grind (arith, common_steps, number_writes)

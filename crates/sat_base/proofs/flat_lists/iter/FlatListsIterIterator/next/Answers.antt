@@ -1,5 +1,5 @@
-use Rattle.std.proofs.Common.{ℕ, List, sym, ap, ◌∙◌, subst, arith}
-use Rattle.sat_base.specs.values.Flat.{pieces, AreEnds}
+use Rattle.std.proofs.Common.{ℕ, List, subst, arith}
+use Rattle.sat_base.specs.values.Flat.{AreEnds}
 use Rattle.sat_base.proofs.lemmas.values.FlatLemmas.{AreEnds-le}
 use Rattle.sat_base.proofs.flat_lists.iter.FlatListsIterIterator.next.Goals as goal
 
