@@ -1,4 +1,4 @@
--- What an answer to a hint text means.
+-- When a line of a hint text is at fault, and what a verdict means.
 use Rattle.std.specs.Prelude.{ℕ, ◌+◌, ◌≡◌, ◌⊎◌, Bool, false, None, Some, List, [], ◌∷◌, ◌++◌, length}
 use Rattle.sat_base.specs.text.Tokenizing.{held}
 use Rattle.sat_checker.specs.LiteralSets.{is_tautology}
@@ -10,20 +10,21 @@ use Rattle.sat_hints.specs.declared.answer.HintWhy.TheVariants.{Syntax, IdOrder,
 use Rattle.sat_hints.specs.declared.answer.HintVerdict.{HintVerdict}
 use Rattle.sat_hints.specs.declared.answer.HintVerdict.TheVariants.{Proved, Bad}
 
--- a clause before the last is not unit in its turn
+-- that the clauses are unit in turn up to some clause before the last, which is not unit
 abbrev pub SomeIsNotUnit : List ℕ → List (List ℕ) → Type 0
 SomeIsNotUnit assumed [] = ⊥
 SomeIsNotUnit assumed (clause ∷ []) = ⊥
 SomeIsNotUnit assumed (clause ∷ next ∷ rest) =
     ((l : ℕ) → IsUnit assumed clause l → ⊥) ⊎ ((l : ℕ) × IsUnit assumed clause l × SomeIsNotUnit (l ∷ assumed) (next ∷ rest))
 
--- those before the last are unit in turn, and the last is not falsified; or there is none
+-- that there are no clauses, or those before the last are unit in turn, and the last is not falsified
 abbrev pub LastIsNotFalsified : List ℕ → List (List ℕ) → Type 0
 LastIsNotFalsified assumed [] = Unit {0}
 LastIsNotFalsified assumed (clause ∷ []) = IsFalsified assumed clause → ⊥
 LastIsNotFalsified assumed (clause ∷ next ∷ rest) = (l : ℕ) × IsUnit assumed clause l × LastIsNotFalsified (l ∷ assumed) (next ∷ rest)
 
--- a line that is in order, whose clauses are all present, and which does not assume both signs of a variable
+-- That a line is in order and derives a clause or a core, the clauses that it names are present, and it assumes no
+-- variable with both signs. `Fails` holds of the assumed literals and these clauses.
 pub record TriesLine (earlier : List Line) (line : Line) (Fails : List ℕ → List (List ℕ) → Type 0) : Type 0 where
   pub in_order : IsInOrder earlier line
   pub clauses : List (List ℕ)
@@ -33,24 +34,25 @@ pub record TriesLine (earlier : List Line) (line : Line) (Fails : List ℕ → L
   pub consistent : is_tautology assumed ≡ false
   pub fails : Fails assumed clauses
 
--- Why a line is at fault after earlier ones, the first reason of these: its id is not above all earlier ones,
+-- Why a line is at fault after earlier lines, the first reason of these: its id is not above the last clause's id,
 abbrev pub IsFaultOf : List Line → Line → HintWhy → Type 0
 IsFaultOf earlier line IdOrder = IsInOrder earlier line → ⊥
 -- a clause that it names is not present,
 IsFaultOf earlier line UnknownId = IsInOrder earlier line × (clauses_under (named_ids line) earlier ≡ None)
--- these do not lead to a conflict,
+-- the clauses that it names do not lead to a conflict,
 IsFaultOf earlier line NotUnit = TriesLine earlier line SomeIsNotUnit
 IsFaultOf earlier line NotFalsified = TriesLine earlier line LastIsNotFalsified
 -- or the variable that it makes new is in use.
 IsFaultOf earlier line VarInUse = UsesVariable earlier line
 IsFaultOf earlier line Syntax = ⊥
 
--- why bytes are at fault: before all these reasons, they are not a line
+-- why the bytes of a line are at fault: `Syntax` if they spell no line, otherwise the fault of the line that they spell
 abbrev pub IsAtFault : List Line → List ℕ → HintWhy → Type 0
 IsAtFault earlier bytes Syntax = (line : Line) → SpellsLine bytes line → ⊥
 IsAtFault earlier bytes why = (line : Line) × SpellsLine bytes line × IsFaultOf earlier line why
 
--- a line at fault, after a derivation
+-- That a line of the text is at fault for this reason, and the lines before it are a derivation. Its number is counted
+-- from 1 and capped at 2^64-1.
 pub record IsBadAt (text : List ℕ) (line : ℕ) (why : HintWhy) : Type 0 where
   pub earlier : List Line
   pub bytes : List ℕ
@@ -62,7 +64,7 @@ pub record IsBadAt (text : List ℕ) (line : ℕ) (why : HintWhy) : Type 0 where
   pub fault : IsAtFault earlier bytes why
   pub number : line ≡ held (length earlier + 1)
 
--- the text of a derivation
+-- that the text is that of a derivation, with these counts, capped at 2^64-1, and this value of `empty`
 pub record IsProof (text : List ℕ) (empty : Bool) (cores lines : ℕ) : Type 0 where
   pub all : List Line
   pub whole : text ≡ text_of all

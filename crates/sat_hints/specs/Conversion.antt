@@ -1,4 +1,4 @@
--- Which lines the steps of a certificate give, in the order in which they are announced.
+-- The lines of a hint text for the steps of a certificate, in the order of their announcements.
 use Rattle.std.specs.Prelude.{ℕ, true, false, Bool, Option, None, Some, List, [], ◌∷◌, length}
 use Rattle.sat_base.specs.steps.Steps.{Step}
 use Rattle.sat_checker.specs.announcements.Announcements.{Announcement, Notice, all_notices_after}
@@ -9,7 +9,7 @@ use Rattle.sat_hints.specs.Hints.{derives_empty, count_of_cores}
 use Rattle.sat_hints.specs.declared.answer.HintVerdict.{HintVerdict}
 use Rattle.sat_hints.specs.declared.answer.HintVerdict.TheVariants.{Proved}
 
--- a clause that is kept is not removed
+-- the line that removes the clause, or `None` if the clause is kept
 abbrev pub gone_unless : Bool → ℕ → Option Line
 gone_unless true id = None
 gone_unless false id = Some (Gone id)
@@ -30,24 +30,24 @@ announced_line (notices.Model assignment) = None
 announced_line (notices.Assumptions assumptions) = None
 announced_line (notices.FailedAssumptions core ids) = Some (Core core ids)
 
--- a line before these, if there is one
+-- the lines, with this line, if there is one, as the newest
 abbrev pub with_line : Option Line → List Line → List Line
 with_line None lines = lines
 with_line (Some line) lines = line ∷ lines
 
--- the lines of announcements, the oldest first, after earlier lines, the newest first
+-- The earlier lines and those of the announcements. The announcements have the oldest first, all lines the newest.
 abbrev pub announced_lines : List Notice → List Line → List Line
 announced_lines [] earlier = earlier
 announced_lines (t ∷ ts) earlier = announced_lines ts (with_line (announced_line t.announcement) earlier)
 
--- the lines of accepted steps, both with the newest first
+-- the lines of accepted steps; both lists have the newest first
 abbrev pub lines_of : List Step → List Line
 lines_of steps = announced_lines (all_notices_after steps) []
 
--- the text of those lines
+-- the text of the lines of accepted steps
 abbrev pub hint_text : List Step → List ℕ
 hint_text steps = text_of (lines_of steps)
 
--- the verdict on it
+-- the verdict `Proved` for the lines of accepted steps, with counts capped at 2^64-1
 abbrev pub hint_verdict : List Step → HintVerdict
 hint_verdict steps = let lines : List Line = lines_of steps in Proved (derives_empty lines) (held (count_of_cores lines)) (held (length lines))

@@ -1,4 +1,4 @@
--- What an answer means when a certificate is turned into a hint text.
+-- What the result of converting a certificate into a hint text means.
 use Rattle.std.specs.Prelude.{ℕ, ◌≡◌, ◌≢◌, ◌⊎◌, List, [], ◌∷◌, ◌++◌, Result, Ok, Err}
 use Rattle.std.specs.List.{AllByRecursion}
 use Rattle.sat_base.specs.device.Device.{Reader, Writer, IsOver, ReadFails, WriterTakes, WriterBreaks}
@@ -14,66 +14,70 @@ use Rattle.sat_hints.specs.Checks.{Judges}
 use Rattle.sat_hints.specs.declared.error.HintError.{HintError}
 use Rattle.sat_hints.specs.declared.error.HintError.TheVariants.{Refused, HasDeleteVar, Read, Write, OutOfMemory}
 
--- A reader gave the text of steps that are accepted, in the order in which they were taken, then that of one more or none, and then these bytes.
+-- That the reader gave the text of the steps `passed` and `last`, and then the bytes `rest`. The steps `passed` are
+-- accepted in this order, and none of them is an end.
 pub record GaveAcceptedSteps (from to : Reader) (passed last : List Step) (rest : List ℕ) : Type 0 where
   pub steps : GaveSteps from to (passed ++ last) rest
   pub unended : AllByRecursion (λ step. step ≢ End) passed
   pub accepted : AcceptsAll (taken_after passed [])
 
--- a writer took a prefix of a text, and no write failed
+-- that the writer accepted a prefix of the text, and no call failed
 pub record WritesFrontOf (old new : Writer) (text : List ℕ) : Type 0 where
   pub front : List ℕ
   pub following : List ℕ
   pub whole : text ≡ front ++ following
   pub takes : WriterTakes old new front
 
--- a write failed, the last, of the lines of accepted steps, or of theirs and those of the step after them, which is accepted, too
+-- that only the last call of the writer failed, after a prefix of the hint text of the steps, or of these steps and one
+-- more accepted step
 abbrev pub BreaksAfter : Writer → Writer → Step → List Step → Type 0
 BreaksAfter old new step steps = WriterBreaks old new (hint_text steps) ⊎ (Accepts (ready_after steps) step × WriterBreaks old new (hint_text (step ∷ steps)))
 
--- after the steps that passed one was begun, of which a byte was given, or it was read and would be accepted
+-- that after the accepted steps, the reader gave bytes that begin with a step, complete or cut off, or gave one more
+-- step, which is accepted
 abbrev pub GaveUpTo : Reader → Reader → List Step → List ℕ → Type 0
 GaveUpTo from to passed rest = (GaveAcceptedSteps from to passed [] rest × BeginsWithStep rest)
     ⊎ ((step : Step) × GaveAcceptedSteps from to passed (step ∷ []) rest × Accepts (ready_after (taken_after passed [])) step)
 
--- the certificate was read and accepted to its end
+-- that the reader gave accepted steps and an end, which is accepted too, and no read failed
 pub record IsAccepted (from to : Reader) (passed : List Step) (rest : List ℕ) : Type 0 where
   pub gave : GaveAcceptedSteps from to passed (End ∷ []) rest
   pub none_failed : NoReadFailed from to
   pub ends : Accepts (ready_after (taken_after passed [])) End
 
--- why the checker refuses it
+-- Why the checker rejects the certificate after the accepted steps:
 abbrev pub RefusesBy : CheckerError → Reader → Reader → List Step → Type 0
 -- a step is not accepted,
 RefusesBy errors.CheckFailed from to passed = (step : Step) × (rest : List ℕ) × GaveAcceptedSteps from to passed (step ∷ []) rest × (Accepts (ready_after (taken_after passed [])) step → ⊥)
 -- the text has ended before an end,
 RefusesBy errors.ProofIncomplete from to passed = (rest : List ℕ) × GaveAcceptedSteps from to passed [] rest × IsOver to × IsProperFront SpellsStep rest
--- or no step can follow a byte
+-- or no step can continue after a byte.
 RefusesBy errors.ParseError from to passed = (rest : List ℕ) × GaveAcceptedSteps from to passed [] rest × IsFirstBadByte SpellsStep rest
--- the bytes that a reader provides do not exhaust ids or counts
+-- No other error is a rejection. The bytes that a reader gives can't exhaust ids or counts.
 RefusesBy errors.CounterEnd from to passed = ⊥
 RefusesBy errors.IoError from to passed = ⊥
 RefusesBy errors.OutOfMemory from to passed = ⊥
 RefusesBy errors.HasFailed from to passed = ⊥
 RefusesBy (errors.ProofProcessorError cause) from to passed = ⊥
 
--- What an answer means, from what the certificate's reader and the text's writer were before to what they are then.
+-- What a result means for the certificate's reader and the text's writer, given their states before and after:
 abbrev pub Converts : Result (Unit {0}) HintError → Reader → Reader → Writer → Writer → Type 0
--- the text is that of the lines of all steps, and is proved,
+-- all steps are accepted up to an end, and their hint text is proved and completely written,
 Converts (Ok x) from to old new = (passed : List Step) × (rest : List ℕ) × IsAccepted from to passed rest
     × Judges (hint_verdict (End ∷ taken_after passed [])) (hint_text (End ∷ taken_after passed []))
     × WriterTakes old new (hint_text (End ∷ taken_after passed []))
--- this is never returned,
+-- this error is never returned,
 Converts (Err HasDeleteVar) from to old new = ⊥
--- the checker refuses a step, a byte or the end,
+-- the checker rejects a step, a byte or the end of the text,
 Converts (Err (Refused e)) from to old new = (passed : List Step) × NoReadFailed from to × RefusesBy e from to passed
     × WritesFrontOf old new (hint_text (taken_after passed []))
--- exactly one read failed, the last, or 2^48 were made and none did,
+-- exactly one read failed, the last, or 2^48 reads were made and none failed,
 Converts (Err Read) from to old new = (passed : List Step) × (rest : List ℕ) × ReadFails from to × GaveAcceptedSteps from to passed [] rest × IsProperFront SpellsStep rest
     × WritesFrontOf old new (hint_text (taken_after passed []))
--- a write of the lines failed, the last, as the last step read was checked or announced,
+-- only the last write failed, after one more step was read and a prefix of the lines of accepted steps was written,
 Converts (Err Write) from to old new = (passed : List Step) × (step : Step) × (rest : List ℕ) × NoReadFailed from to × GaveAcceptedSteps from to passed (step ∷ []) rest
     × BreaksAfter old new step (taken_after passed [])
--- or memory ran out as a step was read, or as an accepted one was checked or announced; no read found the end
+-- or memory ran out while a step was read, or while an accepted step was checked or announced; no read failed or found
+-- the end.
 Converts (Err OutOfMemory) from to old new = (passed : List Step) × (rest : List ℕ) × NoReadFailed from to × FoundNoEnd from to × GaveUpTo from to passed rest
     × WritesFrontOf old new (hint_text (taken_after passed []))

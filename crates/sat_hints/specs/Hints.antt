@@ -11,12 +11,12 @@ is_unit_over v [] = false
 is_unit_over v (l ∷ []) = variable l == v
 is_unit_over v (l ∷ m ∷ ls) = false
 
--- the clause, or none if it is a unit over the variable
+-- the clause, if there is one and it is not a unit over the variable
 abbrev pub unless_unit_over : ℕ → Option (List ℕ) → Option (List ℕ)
 unless_unit_over v None = None
 unless_unit_over v (Some clause) = if is_unit_over v clause then None else Some clause
 
--- The clause under an id, a sorted set of literals: none if no line added one, or if it is removed.
+-- The clause under an id, as a sorted set of literals, or `None` if no line added it or a later line removed it.
 abbrev pub clause_under : ℕ → List Line → Option (List ℕ)
 clause_under id [] = None
 clause_under id (Input i clause ∷ earlier) = if id == i then Some (canonical clause) else clause_under id earlier
@@ -25,18 +25,18 @@ clause_under id (Gone i ∷ earlier) = if id == i then None else clause_under id
 clause_under id (Core core ids ∷ earlier) = clause_under id earlier
 clause_under id (Fresh v ∷ earlier) = unless_unit_over v (clause_under id earlier)
 
--- the clause before the clauses, if all of them are present
+-- the clause and then the other clauses, if all are present
 abbrev pub and_clauses : Option (List ℕ) → Option (List (List ℕ)) → Option (List (List ℕ))
 and_clauses None cs = None
 and_clauses (Some c) None = None
 and_clauses (Some c) (Some cs) = Some (c ∷ cs)
 
--- the clauses under these ids, in their order, if each is present
+-- the clauses under these ids, in their order, if all are present
 abbrev pub clauses_under : List ℕ → List Line → Option (List (List ℕ))
 clauses_under [] earlier = Some []
 clauses_under (id ∷ ids) earlier = and_clauses (clause_under id earlier) (clauses_under ids earlier)
 
--- the least id that the next clause may have: one more than that of the last one added
+-- the least id that the next clause may have: one more than the id of the last clause added, or 0 for the first clause
 abbrev pub least_id : List Line → ℕ
 least_id [] = 0
 least_id (Input id clause ∷ earlier) = id + 1
@@ -45,7 +45,7 @@ least_id (Gone id ∷ earlier) = least_id earlier
 least_id (Core core ids ∷ earlier) = least_id earlier
 least_id (Fresh v ∷ earlier) = least_id earlier
 
--- ids of clauses increase
+-- that the line adds no clause, or the clause's id is above that of the last clause added
 abbrev pub IsInOrder : List Line → Line → Type 0
 IsInOrder earlier (Input id clause) = least_id earlier ≤ id
 IsInOrder earlier (Derived id clause ids) = least_id earlier ≤ id
@@ -53,7 +53,7 @@ IsInOrder earlier (Gone id) = Unit {0}
 IsInOrder earlier (Core core ids) = Unit {0}
 IsInOrder earlier (Fresh v) = Unit {0}
 
--- the ids that a line names
+-- the ids of the earlier clauses that a line names
 abbrev pub named_ids : Line → List ℕ
 named_ids (Input id clause) = []
 named_ids (Derived id clause ids) = ids
@@ -61,7 +61,7 @@ named_ids (Gone id) = id ∷ []
 named_ids (Core core ids) = ids
 named_ids (Fresh v) = []
 
--- what is assumed if clauses have to lead to a conflict: a clause's negation, or a core
+-- the literals under which the named clauses must conflict: a derived clause's negation, or a core; otherwise `None`
 abbrev pub assumed_by : Line → Option (List ℕ)
 assumed_by (Input id clause) = None
 assumed_by (Derived id clause ids) = Some (map negated clause)
@@ -69,22 +69,22 @@ assumed_by (Gone id) = None
 assumed_by (Core core ids) = Some core
 assumed_by (Fresh v) = None
 
--- both signs of a variable are assumed, or the clauses are unit in turn, the last falsified
+-- that both signs of a variable are assumed, or the clauses are unit in turn and the last is falsified
 abbrev pub Conflicts : List ℕ → List (List ℕ) → Type 0
 Conflicts assumed clauses = (is_tautology assumed ≡ true) ⊎ UnitInTurn assumed clauses
 
--- the same, if something is assumed
+-- that the assumed literals, possibly no literals, and the clauses conflict; nothing is required for `None`
 abbrev pub ConflictsIf : Option (List ℕ) → List (List ℕ) → Type 0
 ConflictsIf None clauses = Unit {0}
 ConflictsIf (Some assumed) clauses = Conflicts assumed clauses
 
--- whether there are two literals or more
+-- whether the clause has two or more literals
 abbrev pub is_long : List ℕ → Bool
 is_long [] = false
 is_long (l ∷ []) = false
 is_long (l ∷ m ∷ ls) = true
 
--- the variable is in a clause of two literals or more that is present
+-- that a present clause of two or more literals contains the variable
 pub record IsInNonUnitClause (v : ℕ) (earlier : List Line) : Type 0 where
   pub id : ℕ
   pub clause : List ℕ
@@ -92,7 +92,7 @@ pub record IsInNonUnitClause (v : ℕ) (earlier : List Line) : Type 0 where
   pub long : is_long clause ≡ true
   pub within : mentions clause v ≡ true
 
--- the variable that the line makes new is in use
+-- that the line makes a variable new, and a present clause of two or more literals contains this variable
 abbrev pub UsesVariable : List Line → Line → Type 0
 UsesVariable earlier (Input id clause) = ⊥
 UsesVariable earlier (Derived id clause ids) = ⊥
@@ -100,7 +100,9 @@ UsesVariable earlier (Gone id) = ⊥
 UsesVariable earlier (Core core ids) = ⊥
 UsesVariable earlier (Fresh v) = IsInNonUnitClause v earlier
 
--- A line may follow earlier ones: its id is in order, each clause that it names is present, these conflict with what it assumes, and the variable that it makes new is in no clause but units.
+-- That a line may follow earlier lines. Its id is in order, and the clauses that it names are present. For a derived
+-- clause or a core, they conflict with the literals that the line assumes. If the line makes a variable new, no present
+-- clause of two or more literals contains this variable.
 pub record FollowsLines (earlier : List Line) (line : Line) : Type 0 where
   pub in_order : IsInOrder earlier line
   pub clauses : List (List ℕ)
@@ -108,7 +110,7 @@ pub record FollowsLines (earlier : List Line) (line : Line) : Type 0 where
   pub conflict : ConflictsIf (assumed_by line) clauses
   pub unused : UsesVariable earlier line → ⊥
 
--- each line follows those before it
+-- that every line may follow the lines before it
 abbrev pub IsHintDerivation : List Line → Type 0
 IsHintDerivation [] = Unit {0}
 IsHintDerivation (line ∷ earlier) = IsHintDerivation earlier × FollowsLines earlier line
@@ -127,7 +129,7 @@ derives_empty (Gone id ∷ earlier) = derives_empty earlier
 derives_empty (Core core ids ∷ earlier) = derives_empty earlier
 derives_empty (Fresh v ∷ earlier) = derives_empty earlier
 
--- how many cores there are
+-- the number of lines with a core
 abbrev pub count_of_cores : List Line → ℕ
 count_of_cores [] = 0
 count_of_cores (Input id clause ∷ earlier) = count_of_cores earlier

@@ -1,4 +1,4 @@
--- What a derivation shows.
+-- What a derivation shows, and laws about conversions and verdicts.
 use Rattle.std.specs.Prelude.{◌≡◌, ◌≢◌, ◌↔◌, ◌<◌, ◌^◌, Bool, true, ℕ, Some, List, [], ◌∷◌, ◌++◌, Result, Ok, Err, IfOk}
 use Rattle.std.specs.List.{AllByRecursion}
 use Rattle.sat_base.specs.values.Clauses.{Valuation, clause_true, EachTrue, EachHolds}
@@ -22,7 +22,8 @@ use Rattle.sat_hints.specs.declared.answer.HintWhy.{HintWhy}
 use Rattle.sat_hints.specs.declared.error.HintError.{HintError}
 use Rattle.sat_hints.specs.declared.error.HintError.TheVariants.{Refused, HasDeleteVar, Read, Write, OutOfMemory}
 
--- the lines as steps: a clause of the formula is added, a variable that is new was deleted, and all others change no valuation
+-- Proof steps with the same effect on valuations as the lines. A clause of the formula is added, and a variable that
+-- becomes new is deleted. Other lines have no effect.
 abbrev pub steps_of_lines : List Line → List Step
 steps_of_lines [] = []
 steps_of_lines (Input id clause ∷ earlier) = AddClause clause ∷ steps_of_lines earlier
@@ -31,11 +32,11 @@ steps_of_lines (Gone id ∷ earlier) = steps_of_lines earlier
 steps_of_lines (Core core ids ∷ earlier) = steps_of_lines earlier
 steps_of_lines (Fresh v ∷ earlier) = DeleteVar v ∷ steps_of_lines earlier
 
--- the valuations that the lines leave
+-- that the lines leave the valuation
 abbrev pub IsLeftByLines : List Line → Valuation → Type 0
 IsLeftByLines lines = Holds (steps_of_lines lines)
 
--- each derived clause holds in every valuation that the lines before it leave
+-- that every derived clause holds in every valuation that the lines before it leave
 abbrev pub EachDerivedHolds : List Line → Type 0
 EachDerivedHolds [] = Unit {0}
 EachDerivedHolds (Input id clause ∷ earlier) = EachDerivedHolds earlier
@@ -44,7 +45,7 @@ EachDerivedHolds (Gone id ∷ earlier) = EachDerivedHolds earlier
 EachDerivedHolds (Core core ids ∷ earlier) = EachDerivedHolds earlier
 EachDerivedHolds (Fresh v ∷ earlier) = EachDerivedHolds earlier
 
--- no core has only true literals in a valuation that the lines before it leave
+-- that no valuation that the lines before a core leave satisfies all literals of the core
 abbrev pub EachCoreFails : List Line → Type 0
 EachCoreFails [] = Unit {0}
 EachCoreFails (Input id clause ∷ earlier) = EachCoreFails earlier
@@ -53,23 +54,24 @@ EachCoreFails (Gone id ∷ earlier) = EachCoreFails earlier
 EachCoreFails (Core core ids ∷ earlier) = EachCoreFails earlier × ((a : Valuation) → IsLeftByLines earlier a → EachTrue a core → ⊥)
 EachCoreFails (Fresh v ∷ earlier) = EachCoreFails earlier
 
--- what a derivation derives holds in every valuation that is left so far
+-- every clause that a derivation derives holds in every valuation that the lines before it leave
 abbrev pub DerivedFollow : Type 0
 DerivedFollow = (lines : List Line) → IsHintDerivation lines → EachDerivedHolds lines
 
--- and no core of it has only true literals in such a valuation
+-- no valuation that the lines of a derivation before a core leave satisfies all literals of the core
 abbrev pub HintCoresFail : Type 0
 HintCoresFail = (lines : List Line) → IsHintDerivation lines → EachCoreFails lines
 
--- each clause that is present holds in every valuation that the lines leave, though a variable may have become new since it came
+-- after a derivation, every present clause holds in every valuation that the lines leave, even if one of its variables
+-- became new after the clause was added
 abbrev pub PresentHold : Type 0
 PresentHold = (lines : List Line) (a : Valuation) (id : ℕ) (clause : List ℕ) → IsHintDerivation lines → IsLeftByLines lines a → clause_under id lines ≡ Some clause → clause_true a clause ≡ true
 
--- a derivation of the empty clause says that its lines leave no valuation
+-- if a derivation derives the empty clause, its lines leave no valuation
 abbrev pub EmptyMeansNone : Type 0
 EmptyMeansNone = (lines : List Line) (a : Valuation) → IsHintDerivation lines → derives_empty lines ≡ true → IsLeftByLines lines a → ⊥
 
--- a line that makes no variable new
+-- that the line makes no variable new
 abbrev pub MakesNoVarNew : Line → Type 0
 MakesNoVarNew (Input id clause) = Unit {0}
 MakesNoVarNew (Derived id clause ids) = Unit {0}
@@ -86,34 +88,35 @@ inputs_of (Gone id ∷ earlier) = inputs_of earlier
 inputs_of (Core core ids ∷ earlier) = inputs_of earlier
 inputs_of (Fresh v ∷ earlier) = inputs_of earlier
 
--- a valuation in which the clauses of the formula hold is left, whatever becomes new
+-- lines leave every valuation that satisfies the clauses of the formula, whichever variables become new
 abbrev pub FormulaIsLeft : Type 0
 FormulaIsLeft = (lines : List Line) (a : Valuation) → EachHolds a (inputs_of lines) → IsLeftByLines lines a
 
--- if no variable becomes new, lines leave the valuations in which the clauses of the formula hold
+-- if no variable becomes new, lines leave exactly the valuations that satisfy the clauses of the formula
 abbrev pub FormulaLeaves : Type 0
 FormulaLeaves = (lines : List Line) (a : Valuation) → AllByRecursion MakesNoVarNew lines → IsLeftByLines lines a ↔ EachHolds a (inputs_of lines)
 
--- the lines of what accepted steps announce are a derivation
+-- the lines of accepted steps are a derivation
 abbrev pub AnnouncedDerive : Type 0
 AnnouncedDerive = (steps : List Step) → AcceptsAll steps → IsHintDerivation (lines_of steps)
 
--- steps that were read are within their limits
+-- the literals and variables of steps that some bytes spell are within their limits
 abbrev pub ReadStepsFit : Type 0
 ReadStepsFit = (steps : List Step) (bytes : List ℕ) → SpellsSteps steps bytes → AllByRecursion FitsStep steps
 
--- so the text of those lines is proved, if as many ids were given as there are
+-- the hint text of accepted steps is proved, if the steps are within their limits and the next id is below 2^64
 abbrev pub AnnouncedAreProved : Type 0
 AnnouncedAreProved = (steps : List Step) → AcceptsAll steps → AllByRecursion FitsStep steps → (ready_after steps).next_id < 2 ^ 64 →
     Judges (hint_verdict steps) (hint_text steps)
 
--- The bytes of a certificate: accepted steps, none of them an end, and an end.
+-- That the bytes are a certificate of these steps and an end. All are accepted, and none of the steps is an end.
 pub record IsCertificate (steps : List Step) (text : List ℕ) : Type 0 where
   pub spelt : SpellsSteps (steps ++ End ∷ []) text
   pub unended : AllByRecursion (λ step. step ≢ End) steps
   pub accepted : AcceptsAll (End ∷ taken_after steps [])
 
--- what is answered to accepted steps, the oldest first: their hint text was written, or there was a fault
+-- that the result for accepted steps, the oldest first, is `Ok` and their hint text was written, or the result is
+-- `Read`, `Write` or `OutOfMemory`
 abbrev pub IsTextOrFault : Result (Unit {0}) HintError → List Step → Writer → Writer → Type 0
 IsTextOrFault (Ok x) steps old new = WriterTakes old new (hint_text (End ∷ taken_after steps []))
 IsTextOrFault (Err HasDeleteVar) steps old new = ⊥
@@ -122,20 +125,21 @@ IsTextOrFault (Err Read) steps old new = Unit {0}
 IsTextOrFault (Err Write) steps old new = Unit {0}
 IsTextOrFault (Err OutOfMemory) steps old new = Unit {0}
 
--- `convert` answers that to a certificate, if its reader's bytes are known
+-- if a reader's bytes are known and begin with a certificate, `convert` writes its hint text or returns `Read`, `Write`
+-- or `OutOfMemory`
 abbrev pub AcceptedConverts : Type 0
 AcceptedConverts = (steps : List Step) (text more : List ℕ) (result : Result (Unit {0}) HintError) (from to : Reader) (old new : Writer) → IsCertificate steps text → from.to_come ≡ Some (text ++ more)
     → Converts result from to old new → IsTextOrFault result steps old new
 
--- a text that is proved is at fault on no line
+-- no line of a proved text is at fault
 abbrev pub ProvedIsNotBad : Type 0
 ProvedIsNotBad = (text : List ℕ) (empty : Bool) (cores lines line : ℕ) (why : HintWhy) → IsProof text empty cores lines → IsBadAt text line why → ⊥
 
--- and a text has one verdict at most
+-- a text has at most one verdict
 abbrev pub OneVerdict : Type 0
 OneVerdict = (text : List ℕ) (v w : HintVerdict) → Judges v text → Judges w text → v ≡ w
 
--- `check` answers just that to a text that is proved, if its reader's bytes are known, or there is a fault
+-- if a reader's bytes are known and are a proved text, `check` returns `Proved` with its counts, or a fault
 abbrev pub ProofIsProved : Type 0
 ProofIsProved = (text : List ℕ) (empty : Bool) (cores lines : ℕ) (result : Result HintVerdict HintFault) (from to : Reader) → IsProof text empty cores lines → from.to_come ≡ Some text
     → GaveEnough from to (IsRightIfVerdict result) → IfOk result (λ verdict. verdict ≡ Proved empty cores lines)

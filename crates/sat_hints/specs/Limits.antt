@@ -1,11 +1,12 @@
--- Steps whose literals and variables are within their limits, as those of a certificate that is read are.
+-- Steps whose literals and variables are within their limits. All steps that are read from bytes are.
 use Rattle.std.specs.Prelude.{◌*◌, ◌<◌}
 use Rattle.std.specs.List.{AllByRecursion}
 use Rattle.sat_base.specs.values.Literals.{var_limit}
 use Rattle.sat_base.specs.steps.Steps.{Step, DeleteVar, AddClause, AtClause, UnitClauses, FailedAssumptions}
 use Rattle.sat_hints.specs.Lines.{AreLiteralCodes}
 
--- the deleted variable, or the literals of the clause added or derived, the units or the core, are within their limits; of other steps nothing is asked
+-- That the deleted variable, or the literals of the added or derived clause, the units or the core, are within their
+-- limits. Nothing is required of other steps.
 abbrev pub FitsStep : Step → Type 0
 FitsStep (DeleteVar v) = v < var_limit
 FitsStep (AddClause clause) = AreLiteralCodes clause

@@ -4,7 +4,7 @@ use Rattle.std.specs.List.{AllByRecursion}
 use Rattle.sat_base.specs.values.Literals.{var_limit}
 use Rattle.sat_base.specs.dimacs.DimacsText.{number_text}
 
--- A clause has an id, and a literal is its code.
+-- A line of a hint text. Every clause has an id, and literals are codes.
 pub data Line : Type 0 where
   Input : ℕ → List ℕ → Line  -- a clause of the formula, under this id
   Derived : ℕ → List ℕ → List ℕ → Line  -- a clause under this id, and the ids of those that it follows from
@@ -12,19 +12,19 @@ pub data Line : Type 0 where
   Core : List ℕ → List ℕ → Line  -- literals that fail together, and the ids of the clauses by which they do
   Fresh : ℕ → Line  -- a variable is new: its units are removed, and it may have another value than before
 
--- an id is below 2^64-1
+-- that every id is below 2^64-1
 abbrev pub AreIds : List ℕ → Type 0
 AreIds = AllByRecursion (λ id. id < 2 ^ 64 - 1)
 
--- variables are indices, within the limit
+-- that every variable is an index below the limit
 abbrev pub AreVariables : List ℕ → Type 0
 AreVariables = AllByRecursion (λ v. v < var_limit)
 
--- literals are codes, of variables within the limit
+-- that every literal is a code whose variable is below the limit
 abbrev pub AreLiteralCodes : List ℕ → Type 0
 AreLiteralCodes = AllByRecursion (λ l. l < 2 * var_limit)
 
--- its ids, literals and variable are within their limits
+-- that the ids, the literals and the variable of a line are within their limits
 abbrev pub IsLine : Line → Type 0
 IsLine (Input id clause) = AreIds (id ∷ []) × AreLiteralCodes clause
 IsLine (Derived id clause ids) = AreIds (id ∷ []) × AreLiteralCodes clause × AreIds ids
@@ -32,32 +32,32 @@ IsLine (Gone id) = AreIds (id ∷ [])
 IsLine (Core core ids) = AreLiteralCodes core × AreIds ids
 IsLine (Fresh v) = AreVariables (v ∷ [])
 
--- all ids, literals and variables of these lines are within their limits
+-- that all ids, literals and variables of these lines are within their limits
 abbrev pub AreLines : List Line → Type 0
 AreLines = AllByRecursion IsLine
 
--- the word of each item, and a space after it
+-- the words of the items, each followed by a space
 abbrev pub spaced_words : (ℕ → List ℕ) → List ℕ → List ℕ
 spaced_words word [] = []
 spaced_words word (x ∷ xs) = word x ++ (32 ∷ spaced_words word xs)
 
--- an id in a text is one more, in decimal, so that `0` can end a list
+-- the text of an id: the id plus 1, in decimal, so that `0` can end a list
 abbrev pub id_text : ℕ → List ℕ
 id_text id = decimal (id + 1)
 
--- ids, each with a space after it
+-- the texts of ids, each followed by a space
 abbrev pub id_words : List ℕ → List ℕ
 id_words = spaced_words id_text
 
--- a variable is its number in DIMACS, in the same form
+-- the DIMACS numbers of variables, which are their indices plus 1, each followed by a space
 abbrev pub variable_words : List ℕ → List ℕ
 variable_words = spaced_words id_text
 
--- a literal is its number in DIMACS
+-- the DIMACS numbers of literals, each followed by a space
 abbrev pub literal_words : List ℕ → List ℕ
 literal_words = spaced_words number_text
 
--- `i ID LITS 0`, `d ID LITS 0 IDS 0`, `x ID 0`, `f LITS 0 IDS 0` or `e VAR 0`, with LF
+-- the text of a line: `i ID LITS 0`, `d ID LITS 0 IDS 0`, `x ID 0`, `f LITS 0 IDS 0` or `e VAR 0`, and LF
 abbrev pub line_text : Line → List ℕ
 line_text (Input id clause) = codes "i " ++ (id_words (id ∷ []) ++ (literal_words clause ++ codes "0\n"))
 line_text (Derived id clause ids) = codes "d " ++ (id_words (id ∷ []) ++ (literal_words clause ++ (codes "0 " ++ (id_words ids ++ codes "0\n"))))
@@ -70,15 +70,16 @@ abbrev pub text_of : List Line → List ℕ
 text_of [] = []
 text_of (line ∷ earlier) = text_of earlier ++ line_text line
 
--- the bytes are those of this line
+-- that the bytes are the text of this line, and its ids, literals and variable are within their limits
 abbrev pub SpellsLine : List ℕ → Line → Type 0
 SpellsLine bytes line = IsLine line × (bytes ≡ line_text line)
 
--- no LF is among them
+-- that no byte is LF
 abbrev pub HasNoEnd : List ℕ → Type 0
 HasNoEnd = AllByRecursion (λ b. b ≡ 10 → ⊥)
 
--- A text begins with this line, whatever the line says, with the LF that ends it; or all of the text that is left, which has none.
+-- That `bytes` is the first line of a text, and `rest` follows it. The line has any content, and LF ends it. Only the
+-- last line of a text may lack the LF, if it is not empty.
 pub data BeginsWithLine (bytes rest : List ℕ) : Type 0 where
   ended : (front : List ℕ) → HasNoEnd front → bytes ≡ front ++ (10 ∷ []) → BeginsWithLine bytes rest
   cut_off : HasNoEnd bytes → (bytes ≡ [] → ⊥) → rest ≡ [] → BeginsWithLine bytes rest

@@ -1,4 +1,4 @@
--- The clauses that are kept, by their ids.
+-- The stored clauses, by their ids.
 use Rattle.std.specs.Prelude.{ℕ, ◌+◌, ◌==◌, ◌≡◌, ◌<◌, Bool, Option, None, Some, List, [], ◌∷◌, length, slice_index, slice_index_or, if◌then◌else◌}
 use Rattle.std.specs.List.{AllByRecursion}
 use Rattle.sat_checker.specs.SortedSets.{IsIncreasing}
@@ -6,14 +6,14 @@ use Rattle.sat_checker.specs.inner.OccurrenceView.{times_in}
 use Rattle.sat_hints.specs.Hints.{is_long}
 use Rattle.sat_hints.specs.declared.present.Present.{Present}
 
--- the clause under an id in lists of ids, of clauses and of whether these are removed
+-- the clause under an id in lists of ids, of their clauses and of flags for removed clauses; `None` if it is removed
 abbrev pub listed_clause : ℕ → List ℕ → List (List ℕ) → List Bool → Option (List ℕ)
 listed_clause id [] cs gs = None
 listed_clause id (i ∷ is) [] gs = None
 listed_clause id (i ∷ is) (c ∷ cs) [] = None
 listed_clause id (i ∷ is) (c ∷ cs) (g ∷ gs) = if id == i then (if g then None else Some c) else listed_clause id is cs gs
 
--- the clause that is kept under an id, none if it is removed
+-- the clause under an id, or `None` if none was stored or it is removed
 abbrev pub clause_in : Present → ℕ → Option (List ℕ)
 clause_in p id = listed_clause id p.ids.items p.clauses p.gone.items
 
@@ -21,38 +21,38 @@ clause_in p id = listed_clause id p.ids.items p.clauses p.gone.items
 abbrev pub present_clause_at : Present → ℕ → List ℕ
 present_clause_at p place = slice_index_or p.clauses place []
 
--- how often a literal is in a clause of two or more
+-- how often a literal occurs in the clause, if the clause has two or more literals, otherwise 0
 abbrev pub times_long : ℕ → List ℕ → ℕ
 times_long l clause = if is_long clause then times_in l clause else 0
 
--- and how often in those that are not removed
+-- how often a literal occurs in the clauses of two or more literals that are not removed, by their flags
 abbrev pub times_kept : ℕ → List (List ℕ) → List Bool → ℕ
 times_kept l [] gs = 0
 times_kept l (c ∷ cs) [] = 0
 times_kept l (c ∷ cs) (g ∷ gs) = (if g then 0 else times_long l c) + times_kept l cs gs
 
--- how often a literal is in the clauses of two or more that are kept
+-- how often a literal occurs in the clauses of two or more literals that are not removed
 abbrev pub occurrences_of : Present → ℕ → ℕ
 occurrences_of p l = times_kept l p.clauses p.gone.items
 
--- all ids are below this
+-- that all ids are below the bound
 abbrev pub AllBelow : List ℕ → ℕ → Type 0
 AllBelow ids bound = (i : ℕ) → i < length ids → slice_index ids i < bound
 
--- each id has a clause, which is a sorted set, and the ids increase
+-- that every id has a flag and a clause, which is a sorted set, and the ids increase
 pub record IsStore (p : Present) : Type 0 where
   pub clauses : length p.clauses ≡ length p.ids.items
   pub gone : length p.gone.items ≡ length p.ids.items
   pub rises : (i j : ℕ) → i < j → j < length p.ids.items → slice_index p.ids.items i < slice_index p.ids.items j
   pub sets : AllByRecursion IsIncreasing p.clauses
 
--- it is at this place
+-- that the clause under this id is present and at this place
 pub record FindsPresentClause (p : Present) (id place : ℕ) : Type 0 where
   pub within : place < length p.clauses
   pub named : slice_index p.ids.items place ≡ id
   pub clause : clause_in p id ≡ Some (present_clause_at p place)
 
--- one more clause, with an id above all others
+-- that a clause was added under an id above all others
 pub record AddsPresentClause (old new : Present) (id : ℕ) (clause : List ℕ) : Type 0 where
   pub store : IsStore new
   pub below : (k : ℕ) → id < k → AllBelow new.ids.items k
@@ -60,14 +60,14 @@ pub record AddsPresentClause (old new : Present) (id : ℕ) (clause : List ℕ) 
   pub times : (l : ℕ) → occurrences_of new l ≡ occurrences_of old l + times_long l clause
   pub longer : length new.ids.items ≡ length old.ids.items + 1
 
--- one less
+-- that no clause is left under this id, and the other clauses are the same
 pub record Loses (old new : Present) (id : ℕ) : Type 0 where
   pub store : IsStore new
   pub below : (k : ℕ) → AllBelow old.ids.items k → AllBelow new.ids.items k
   pub clauses : (j : ℕ) → clause_in new j ≡ (if j == id then None else clause_in old j)
   pub times : (c : List ℕ) → clause_in old id ≡ Some c → (l : ℕ) → occurrences_of new l + times_long l c ≡ occurrences_of old l
 
--- the same clauses
+-- that the clauses that are not removed are the same
 pub record SamePresentClauses (old new : Present) : Type 0 where
   pub store : IsStore new
   pub below : (k : ℕ) → AllBelow old.ids.items k → AllBelow new.ids.items k

@@ -1,33 +1,33 @@
--- How clauses run, in turn, under assumed literals.
+-- Whether clauses lead to a conflict under assumed literals, one clause after another.
 use Rattle.std.specs.Prelude.{ℕ, ◌≡◌, ◌⊎◌, true, false, Option, None, Some, List, [], ◌∷◌}
 use Rattle.sat_checker.specs.LiteralSets.{is_among, is_tautology}
 use Rattle.sat_checker.specs.Verdicts.{Verdict, falsified, opens, rests, verdict}
 use Rattle.sat_hints.specs.declared.answer.HintWhy.{HintWhy}
 use Rattle.sat_hints.specs.declared.answer.HintWhy.TheVariants.{NotUnit, NotFalsified}
 
--- the last clause has to be falsified
+-- the failure of the last clause, which must be falsified
 abbrev pub falsified_failure : Verdict → Option HintWhy
 falsified_failure falsified = None
 falsified_failure (opens l) = Some NotFalsified
 falsified_failure rests = Some NotFalsified
 
--- one before it has to be unit
+-- the failure of a clause before the last, which must be unit, or of the clauses after it
 abbrev pub unit_failure : Verdict → (ℕ → Option HintWhy) → Option HintWhy
 unit_failure falsified more = Some NotUnit
 unit_failure (opens l) more = more l
 unit_failure rests more = Some NotUnit
 
--- why clauses do not lead to a conflict, if they do not
+-- why the clauses do not lead to a conflict, or `None` if they do
 abbrev pub refutation_failure : List ℕ → List (List ℕ) → Option HintWhy
 refutation_failure assumed [] = Some NotFalsified
 refutation_failure assumed (c ∷ []) = falsified_failure (verdict assumed c)
 refutation_failure assumed (c ∷ d ∷ cs) = unit_failure (verdict assumed c) (λ l. refutation_failure (l ∷ assumed) (d ∷ cs))
 
--- just these are assumed
+-- that exactly the literals `ls` are assumed
 abbrev pub AreJustAssumed : List ℕ → List ℕ → Type 0
 AreJustAssumed ls assumed = (l : ℕ) → is_among assumed l ≡ is_among ls l
 
--- why literals, or their negations, and clauses do not lead to a conflict, if they do not
+-- that `why` is the reason why the assumed literals and the clauses do not conflict, or `None` if they do
 abbrev pub WhyNoConflict : List ℕ → List (List ℕ) → Option HintWhy → Type 0
 WhyNoConflict assumed clauses why =
     ((is_tautology assumed ≡ true) × (why ≡ None)) ⊎ ((is_tautology assumed ≡ false) × (why ≡ refutation_failure assumed clauses))

@@ -1,4 +1,4 @@
--- The state of a judge after lines.
+-- The state of a judge after the lines that it has accepted.
 use Rattle.std.specs.Prelude.{ℕ, ◌≡◌, ◌⊎◌, ◌+◌, Option, None, Some, List, [], ◌∷◌, length}
 use Rattle.sat_base.specs.text.Tokenizing.{held}
 use Rattle.sat_checker.specs.LiteralSets.{canonical}
@@ -14,7 +14,8 @@ use Rattle.sat_hints.specs.declared.answer.HintWhy.TheVariants.{UnknownId}
 use Rattle.sat_hints.specs.declared.standing.Standing.{Standing}
 use Rattle.sat_hints.specs.declared.judging.Judge.{Judge}
 
--- it can continue
+-- That the judge can check the next line. Its clauses are in order, with ids below the least id. It assumes no
+-- literals, and has room for those of every present clause.
 pub record IsReadyJudge (j : Judge) : Type 0 where
   pub standing : StandingInvariant j.standing
   pub below : AllBelow j.standing.present.ids.items j.least_id
@@ -22,7 +23,7 @@ pub record IsReadyJudge (j : Judge) : Type 0 where
   pub nothing : j.assumed.literals ≡ []
   pub room : HasRoomForPresent j.assumed.room j.standing
 
--- it has accepted these lines
+-- that the state of the judge is that after these lines: its clauses, its least id, its counts and `empty`
 pub record HasTakenLines (j : Judge) (lines : List Line) : Type 0 where
   pub clauses : (id : ℕ) → standing_clause j.standing id ≡ clause_under id lines
   pub least : j.least_id ≡ least_id lines
@@ -30,7 +31,7 @@ pub record HasTakenLines (j : Judge) (lines : List Line) : Type 0 where
   pub counts_cores : j.cores ≡ held (count_of_cores lines)
   pub counts_lines : j.lines ≡ held (length lines)
 
--- what it keeps from line to line is the same, except for more room
+-- that the judge is unchanged and assumes no literals, but may have more room for them
 pub record IsSame (old new : Judge) : Type 0 where
   pub standing : new.standing ≡ old.standing
   pub nothing : new.assumed.literals ≡ []
@@ -40,17 +41,18 @@ pub record IsSame (old new : Judge) : Type 0 where
   pub cores : new.cores ≡ old.cores
   pub lines : new.lines ≡ old.lines
 
--- why assumed literals and the clauses under these ids do not lead to a conflict, if they do not
+-- that `why` is the reason why the assumed literals and the clauses under these ids do not conflict, or `None` if they
+-- do
 abbrev pub WhyNotRefuted : Standing → List ℕ → List ℕ → Option HintWhy → Type 0
 WhyNotRefuted s assumed ids why =
     ((standing_clauses s ids ≡ None) × (why ≡ Some UnknownId)) ⊎ ((clauses : List (List ℕ)) × (standing_clauses s ids ≡ Some clauses) × WhyNoConflict assumed clauses why)
 
--- why the clauses that were looked up do not lead to a conflict under assumed literals, if they do not
+-- why the clauses, if all are present, do not lead to a conflict under the assumed literals; `UnknownId` if not all are
 abbrev pub refutation_failure_of : List ℕ → Option (List (List ℕ)) → Option HintWhy
 refutation_failure_of assumed None = Some UnknownId
 refutation_failure_of assumed (Some clauses) = refutation_failure assumed clauses
 
--- a clause is stored under an id
+-- that the clause was stored under the id, as a sorted set, and the counts are unchanged
 pub record StoresClause (old new : Judge) (id : ℕ) (clause : List ℕ) : Type 0 where
   pub adds : AddsStandingClause old.standing new.standing id (canonical clause)
   pub nothing : new.assumed.literals ≡ []
@@ -60,11 +62,11 @@ pub record StoresClause (old new : Judge) (id : ℕ) (clause : List ℕ) : Type 
   pub cores : new.cores ≡ old.cores
   pub lines : new.lines ≡ old.lines
 
--- whatever lines were accepted, this one may follow them
+-- that this line may follow the lines that the judge has accepted, whatever they are
 abbrev pub MayFollow : Judge → Line → Type 0
 MayFollow old line = (lines : List Line) → HasTakenLines old lines → FollowsLines lines line
 
--- the line was accepted, but not counted
+-- that the judge has accepted the line after these lines, but has not counted it yet
 pub record HasTakenOne (old new : Judge) (lines : List Line) (line : Line) : Type 0 where
   pub follows : FollowsLines lines line
   pub clauses : (id : ℕ) → standing_clause new.standing id ≡ clause_under id (line ∷ lines)
@@ -72,16 +74,17 @@ pub record HasTakenOne (old new : Judge) (lines : List Line) (line : Line) : Typ
   pub says_empty : new.empty ≡ derives_empty (line ∷ lines)
   pub counts_cores : new.cores ≡ held (count_of_cores (line ∷ lines))
 
--- one line was accepted, but not counted, or is at fault for this reason
+-- that the judge has accepted the line, but has not counted it yet, or the line is at fault for this reason
 abbrev pub TakesOne : Option HintWhy → Judge → Judge → Line → Type 0
 TakesOne None old new line = IsReadyJudge new × (new.lines ≡ old.lines) × ((lines : List Line) → HasTakenLines old lines → HasTakenOne old new lines line)
 TakesOne (Some why) old new line = (new.lines ≡ old.lines) × ((lines : List Line) → HasTakenLines old lines → IsFaultOf lines line why)
 
--- What an answer to a line means, if it was after these: none is that it follows them.
+-- What the result for a line means, after these lines. `None`: the line may follow them, and the judge has accepted it.
+-- Otherwise the line is at fault for this reason.
 abbrev pub TakesLine : Option HintWhy → Judge → Judge → List Line → Line → Type 0
 TakesLine None old new lines line = FollowsLines lines line × HasTakenLines new (line ∷ lines)
 TakesLine (Some why) old new lines line = IsFaultOf lines line why × (new.lines ≡ old.lines)
 
--- after any lines
+-- what the result for a line means, after whatever lines the judge has accepted
 abbrev pub TakesNext : Option HintWhy → Judge → Judge → Line → Type 0
 TakesNext why old new line = (lines : List Line) → HasTakenLines old lines → TakesLine why old new lines line

@@ -1,4 +1,4 @@
--- What a line's bytes begin with, and when they begin with nothing.
+-- When bytes begin with numbers, with lists or with a line.
 use Rattle.std.specs.Prelude.{ℕ, zero, suc, ◌*◌, ◌-◌, ◌^◌, ◌<◌, ◌≤◌, ◌≡◌, ◌⊎◌, List, [], ◌∷◌, ◌++◌, decimal, codes}
 use Rattle.std.specs.List.{AllByRecursion}
 use Rattle.sat_base.specs.values.Literals.{var_limit}
@@ -8,66 +8,66 @@ use Rattle.sat_hints.specs.declared.line.HintLine.TheVariants as code
 use Rattle.sat_hints.specs.declared.reading.Head.{Head}
 use Rattle.sat_hints.specs.declared.reading.Head.TheVariants as head
 
--- numbers are counted from 1 up to a limit
+-- that the number is between 1 and the limit
 abbrev pub IsNumberUpTo : ℕ → ℕ → Type 0
 IsNumberUpTo limit n = (1 ≤ n) × (n ≤ limit)
 
--- an id is below 2^64-1, so that its number is below 2^64
+-- that an id is below 2^64-1, so that its number in a text is below 2^64
 abbrev pub IsId : ℕ → Type 0
 IsId id = id < 2 ^ 64 - 1
 
--- a variable is its index, which is below the limit
+-- that a variable is an index below the limit
 abbrev pub IsVariableIndex : ℕ → Type 0
 IsVariableIndex v = v < var_limit
 
--- a literal is its code, and its variable is within the limit
+-- that a literal is a code whose variable is below the limit
 abbrev pub IsLiteralCode : ℕ → Type 0
 IsLiteralCode l = l < 2 * var_limit
 
--- the digits of a number that has begun; 0 if none has been read
+-- the digits of an unfinished number; none if its value so far is 0
 abbrev pub number_digits_so_far : ℕ → List ℕ
 number_digits_so_far zero = []
 number_digits_so_far (suc n) = decimal (suc n)
 
--- no number continues with this byte
+-- that no number up to the limit begins with the digits so far and this byte
 abbrev pub NoDigit : ℕ → ℕ → ℕ → Type 0
 NoDigit limit number byte = (n : ℕ) (more : List ℕ) → IsNumberUpTo limit n → decimal n ≡ number_digits_so_far number ++ (byte ∷ more) → ⊥
 
--- the byte is not a space, or no number up to the limit has ended before it
+-- that the byte is not a space, or the number before it is 0 or above the limit
 abbrev pub EndsNone : ℕ → ℕ → ℕ → Type 0
 EndsNone number byte limit = byte ≡ 32 → (number ≡ 0) ⊎ (limit < number)
 
--- the bytes do not begin with a word and a space
+-- that the bytes do not begin with a word and a space
 abbrev pub NoWord : (ℕ → List ℕ) → (ℕ → Type 0) → List ℕ → Type 0
 NoWord word P bytes = (x : ℕ) (tail : List ℕ) → P x → bytes ≡ word x ++ (32 ∷ tail) → ⊥
 
--- they begin with this word and a space
+-- that the bytes begin with this word and a space
 abbrev pub BeginsWithWord : (ℕ → List ℕ) → (ℕ → Type 0) → List ℕ → ℕ → List ℕ → Type 0
 BeginsWithWord word P bytes x rest = P x × (bytes ≡ word x ++ (32 ∷ rest))
 
--- words, each with a space after it, as many as there are
+-- that the bytes begin with these words, each followed by a space, and no further word follows
 pub record BeginsWithWords (word : ℕ → List ℕ) (P : ℕ → Type 0) (bytes xs rest : List ℕ) : Type 0 where
   pub are : AllByRecursion P xs
   pub whole : bytes ≡ spaced_words word xs ++ rest
   pub no_more : NoWord word P rest
 
--- `LITS 0` and LF
+-- that the bytes are `LITS 0` and LF
 abbrev pub IsOne : List ℕ → List ℕ → Type 0
 IsOne bytes ls = AreLiteralCodes ls × (bytes ≡ literal_words ls ++ codes "0\n")
 
--- `LITS 0 IDS 0` and LF
+-- that the bytes are `LITS 0 IDS 0` and LF
 abbrev pub IsBoth : List ℕ → List ℕ → List ℕ → Type 0
 IsBoth bytes ls ids = AreLiteralCodes ls × AreIds ids × (bytes ≡ literal_words ls ++ (codes "0 " ++ (id_words ids ++ codes "0\n")))
 
--- the bytes begin with `LITS 0` and LF
+-- that the bytes begin with `LITS 0` and LF
 abbrev pub BeginsWithOne : List ℕ → List ℕ → List ℕ → Type 0
 BeginsWithOne bytes ls rest = AreLiteralCodes ls × (bytes ≡ literal_words ls ++ (codes "0\n" ++ rest))
 
--- they begin with `LITS 0 IDS 0` and LF
+-- that the bytes begin with `LITS 0 IDS 0` and LF
 abbrev pub BeginsWithBoth : List ℕ → List ℕ → List ℕ → List ℕ → Type 0
 BeginsWithBoth bytes ls ids rest = AreLiteralCodes ls × AreIds ids × (bytes ≡ literal_words ls ++ (codes "0 " ++ (id_words ids ++ (codes "0\n" ++ rest))))
 
--- a line without where its lists lie in memory
+-- the line that a line of the code represents, with the contents of its slices as lists
 abbrev pub line_of_view : HintLine → Line
 line_of_view (code.Input id clause) = Input id clause.now
 line_of_view (code.Derived id clause ids) = Derived id clause.now ids.now
@@ -75,7 +75,7 @@ line_of_view (code.Gone id) = Gone id
 line_of_view (code.Core core ids) = Core core.now ids.now
 line_of_view (code.Fresh var) = Fresh var
 
--- the line of this head that has these lists
+-- the line with this head and these lists
 abbrev pub line_with : Head → List ℕ → List ℕ → Line
 line_with (head.Input id) ls ids = Input id ls
 line_with (head.Derived id) ls ids = Derived id ls ids
@@ -83,10 +83,10 @@ line_with (head.Gone id) ls ids = Gone id
 line_with head.Core ls ids = Core ls ids
 line_with (head.Fresh var) ls ids = Fresh var
 
--- the bytes begin with this line
+-- that the bytes begin with this line
 abbrev pub BeginsWithHintLine : List ℕ → Line → List ℕ → Type 0
 BeginsWithHintLine bytes line rest = IsLine line × (bytes ≡ line_text line ++ rest)
 
--- they do not begin with a line
+-- that the bytes do not begin with a line
 abbrev pub BeginsWithNoLine : List ℕ → Type 0
 BeginsWithNoLine bytes = (line : Line) (rest : List ℕ) → BeginsWithHintLine bytes line rest → ⊥

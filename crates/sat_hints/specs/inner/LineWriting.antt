@@ -1,4 +1,4 @@
--- How lines are written through pending bytes.
+-- How lines are appended to pending bytes.
 use Rattle.std.specs.Prelude.{ℕ, ◌≡◌, ◌++◌, Bool, true, false, List, [], take, codes, if◌then◌else◌}
 use Rattle.sat_base.specs.values.Literals.{is_positive}
 use Rattle.sat_base.specs.device.Device.{Writer}
@@ -11,21 +11,21 @@ pub record Outlet : Type 0 where
   pub sink : Sink
   pub failed : Bool
 
--- a writer of lines, whose pending bytes are the first of its buffer
+-- the outlet of a line writer, whose first `len` buffered bytes are pending
 abbrev pub outlet : {W : Type 0} → (W → Writer) → LineWriter W → Outlet
 outlet seen w = record { sink = record { writer = seen w.writer; waiting = take w.len w.bytes }; failed = w.failed }
 
--- a text was appended to the pending bytes, or a write has failed so far
+-- that the text was appended to the pending bytes; if the flag is true, a write failed instead
 abbrev pub PutBy : Bool → List ℕ → Sink → Sink → Type 0
 PutBy false text old new = AddsToSink old new text
 PutBy true text old new = SinkFails old new text
 
--- once one has failed nothing is done
+-- that nothing changed if a write had failed before; otherwise the text was appended, or a write failed
 abbrev pub PutFrom : Bool → List ℕ → Outlet → Outlet → Type 0
 PutFrom true text old new = new ≡ old
 PutFrom false text old new = PutBy new.failed text old.sink new.sink
 
--- what comes before the digits of a literal's number
+-- the sign of a literal's number: `-` if it is negative
 abbrev pub sign_text : ℕ → List ℕ
 sign_text l = if is_positive l then [] else codes "-"
 
@@ -33,6 +33,6 @@ sign_text l = if is_positive l then [] else codes "-"
 abbrev pub both_words : List ℕ → List ℕ → List ℕ
 both_words literals ids = literal_words literals ++ (codes "0 " ++ (id_words ids ++ codes "0\n"))
 
--- a text was appended to the pending bytes, unless a write had failed before
+-- that the text was appended to the pending bytes, or a write failed, now or before
 abbrev pub PutsText : List ℕ → Outlet → Outlet → Type 0
 PutsText text old new = PutFrom old.failed text old new

@@ -1,4 +1,4 @@
--- What an answer means where the lines of a certificate are written through pending bytes.
+-- What the result means when the lines of a certificate are appended to pending bytes.
 use Rattle.std.specs.Prelude.{ℕ, ◌≡◌, ◌⊎◌, false, List, [], ◌∷◌, ◌++◌, Result, Ok, Err}
 use Rattle.sat_base.specs.device.Device.{Reader, ReadFails}
 use Rattle.sat_base.specs.device.Sink.{AddsToSink, SinkFails}
@@ -16,7 +16,7 @@ use Rattle.sat_hints.specs.declared.error.HintError.{HintError}
 use Rattle.sat_hints.specs.declared.error.HintError.TheVariants.{Refused, HasDeleteVar, Read, Write, OutOfMemory}
 use Rattle.sat_hints.specs.inner.LineWriting.{Outlet}
 
--- the error for an error of the checker
+-- the error of a conversion for an error of its checker
 abbrev pub hint_of : CheckerError → HintError
 hint_of errors.IoError = Read
 hint_of errors.OutOfMemory = OutOfMemory
@@ -27,23 +27,23 @@ hint_of errors.CheckFailed = Refused errors.CheckFailed
 hint_of errors.CounterEnd = Refused errors.CounterEnd
 hint_of errors.HasFailed = Refused errors.HasFailed
 
--- a text was put, and no write failed
+-- that the text was appended to the pending bytes, and no write failed
 pub record SentAll (old new : Outlet) (text : List ℕ) : Type 0 where
   pub well : new.failed ≡ false
   pub sent : AddsToSink old.sink new.sink text
 
--- or a prefix of it
+-- that a prefix of the text was appended to the pending bytes, and no write failed
 pub record SentFront (old new : Outlet) (text : List ℕ) : Type 0 where
   pub front : List ℕ
   pub following : List ℕ
   pub whole : text ≡ front ++ following
   pub sent : SentAll old new front
 
--- a write failed of the lines of accepted steps, or of theirs and those of the step after them, which is accepted, too
+-- that a write of the hint text of the steps failed, or of the text of these steps and one more accepted step
 abbrev pub BrokenAfter : Outlet → Outlet → Step → List Step → Type 0
 BrokenAfter old new step steps = SinkFails old.sink new.sink (hint_text steps) ⊎ (Accepts (ready_after steps) step × SinkFails old.sink new.sink (hint_text (step ∷ steps)))
 
--- what an answer to a certificate means, whose lines are put after the pending bytes
+-- what the result for a certificate means, as in `Converts`, when its lines are appended to the pending bytes
 abbrev pub WritesLines : Result (Unit {0}) HintError → Reader → Reader → Outlet → Outlet → Type 0
 WritesLines (Ok x) from to old new = (passed : List Step) × (rest : List ℕ) × IsAccepted from to passed rest
     × Judges (hint_verdict (End ∷ taken_after passed [])) (hint_text (End ∷ taken_after passed []))

@@ -1,4 +1,4 @@
--- What may still follow in a line whose prefix was read.
+-- What may follow a prefix of a line.
 use Rattle.std.specs.Prelude.{ℕ, ◌-◌, ◌^◌, ◌==◌, ◌≡◌, Option, None, Some, List, ◌∷◌, ◌++◌, decimal, codes, if◌then◌else◌}
 use Rattle.sat_base.specs.values.Literals.{var_limit}
 use Rattle.sat_hints.specs.Lines.{Line, AreIds, id_words, SpellsLine}
@@ -8,7 +8,7 @@ use Rattle.sat_hints.specs.declared.prefixes.Part.TheVariants.{InputId, DerivedI
 use Rattle.sat_hints.specs.declared.prefixes.Place.{Place}
 use Rattle.sat_hints.specs.declared.prefixes.Place.TheVariants.{Letter, Space, Item, Digits, Over}
 
--- the largest number with which a part may begin; `0` begins with none
+-- the largest number with which a part may begin; not used for `End`, which is `0`
 abbrev pub limit_of : Part → ℕ
 limit_of InputId = 2 ^ 64 - 1
 limit_of DerivedId = 2 ^ 64 - 1
@@ -19,7 +19,7 @@ limit_of Lists = var_limit
 limit_of Ids = 2 ^ 64 - 1
 limit_of End = 2 ^ 64 - 1
 
--- what comes after such a number
+-- the part after a number at the start of this part; not used for `End`
 abbrev pub next_of : Part → Part
 next_of InputId = Clause
 next_of DerivedId = Lists
@@ -30,7 +30,7 @@ next_of Lists = Lists
 next_of Ids = Ids
 next_of End = End
 
--- after the digits so far, the bytes are a number, a space and such a rest
+-- that the digits so far and the bytes are a number up to the limit, a space, and a text of which `Rest` holds
 pub record Numbered (limit : ℕ) (Rest : List ℕ → Type 0) (number : ℕ) (bytes : List ℕ) : Type 0 where
   pub value : ℕ
   pub rest : List ℕ
@@ -38,7 +38,7 @@ pub record Numbered (limit : ℕ) (Rest : List ℕ → Type 0) (number : ℕ) (b
   pub whole : number_digits_so_far number ++ bytes ≡ decimal value ++ (32 ∷ rest)
   pub following : Rest rest
 
--- the bytes are this part of a line
+-- that the bytes are this part of a line and its LF
 abbrev pub IsPartOfLine : Part → List ℕ → Type 0
 IsPartOfLine InputId bytes = Numbered (2 ^ 64 - 1) (λ rest. (ls : List ℕ) × IsOne rest ls) 0 bytes
 IsPartOfLine DerivedId bytes = Numbered (2 ^ 64 - 1) (λ rest. (ls : List ℕ) × (ids : List ℕ) × IsBoth rest ls ids) 0 bytes
@@ -49,7 +49,7 @@ IsPartOfLine Lists bytes = (ls : List ℕ) × (ids : List ℕ) × IsBoth bytes l
 IsPartOfLine Ids bytes = (ids : List ℕ) × AreIds ids × (bytes ≡ id_words ids ++ codes "0\n")
 IsPartOfLine End bytes = bytes ≡ codes "0\n"
 
--- the bytes are the rest of a line from this place
+-- that the bytes are the rest of a line from this place
 abbrev pub IsRestOfLine : Place → List ℕ → Type 0
 IsRestOfLine Letter bytes = (line : Line) × SpellsLine bytes line
 IsRestOfLine (Space part) bytes = (rest : List ℕ) × (bytes ≡ 32 ∷ rest) × IsPartOfLine part rest
@@ -57,17 +57,17 @@ IsRestOfLine (Item part) bytes = IsPartOfLine part bytes
 IsRestOfLine (Digits part number) bytes = Numbered (limit_of part) (IsPartOfLine (next_of part)) number bytes
 IsRestOfLine Over bytes = bytes ≡ codes "\n"
 
--- there is such a place, and the bytes are the rest of a line from it
+-- that there is a place, and the bytes are the rest of a line from it
 abbrev pub IsLeftIf : Option Place → List ℕ → Type 0
 IsLeftIf None bytes = ⊥
 IsLeftIf (Some place) bytes = IsRestOfLine place bytes
 
--- the place after a line's letter
+-- the place after a line's letter, or `None` if no line begins with this byte
 abbrev pub letter_place : ℕ → Option Place
 letter_place b =
     if b == 100 then Some (Space DerivedId) else if b == 120 then Some (Space GoneId) else if b == 105 then Some (Space InputId) else if b == 102 then Some (Space Lists) else if b == 101 then Some (Space FreshVar) else None
 
--- after a `0` with which a part begins
+-- the place after a `0` at the start of a part, or `None` if the part can't begin with `0`
 abbrev pub zero_place : Part → Option Place
 zero_place InputId = None
 zero_place DerivedId = None
@@ -78,7 +78,7 @@ zero_place Lists = Some (Space Ids)
 zero_place Ids = Some Over
 zero_place End = Some Over
 
--- and after a `-`
+-- the place after a `-` at the start of a part, or `None` if the part can't begin with `-`
 abbrev pub sign_place : Part → Option Place
 sign_place InputId = None
 sign_place DerivedId = None
@@ -89,6 +89,7 @@ sign_place Lists = Some (Digits Lists 0)
 sign_place Ids = None
 sign_place End = None
 
--- bytes lead from one place to another; to none if no line continues with them
+-- That the bytes lead from one place to another: whatever completes a line after them completes it from the other
+-- place. If the other place is `None`, no line continues with the bytes.
 abbrev pub LeadsToPlace : Place → List ℕ → Option Place → Type 0
 LeadsToPlace from bytes to = (more : List ℕ) → IsRestOfLine from (bytes ++ more) → IsLeftIf to more

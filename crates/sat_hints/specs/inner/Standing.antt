@@ -1,4 +1,4 @@
--- The clauses that are present, but for units over variables that became new since they came.
+-- The present clauses: those stored, except units whose variable became new after they were added.
 use Rattle.std.specs.Prelude.{ℕ, ◌≡◌, ◌≤◌, ◌<◌, ◌==◌, Bool, true, false, Option, None, Some, List, [], ◌∷◌, length, nat_lt, slice_index, if◌then◌else◌}
 use Rattle.sat_base.specs.values.Literals.{variable}
 use Rattle.sat_base.specs.values.Tables.{value_at}
@@ -10,18 +10,19 @@ use Rattle.sat_hints.specs.inner.Clauses.{present_clause_at, clause_in, occurren
 use Rattle.sat_hints.specs.inner.UsesView.{if_counting, uses_at}
 use Rattle.sat_hints.specs.declared.standing.Standing.{Standing}
 
--- is it a unit that came before its variable became new? All under ids below this did.
+-- whether the clause is stale: a unit whose id is below the bound of its variable, so that the variable became new
+-- after the unit was added
 abbrev pub is_stale : Table ℕ → ℕ → List ℕ → Bool
 is_stale since id [] = false
 is_stale since id (l ∷ []) = nat_lt id (value_at 0 since (variable l))
 is_stale since id (l ∷ m ∷ ls) = false
 
--- the clause, unless it is a stale unit
+-- the clause, if there is one and it is not a stale unit
 abbrev pub unless_stale : Table ℕ → ℕ → Option (List ℕ) → Option (List ℕ)
 unless_stale since id None = None
 unless_stale since id (Some c) = if is_stale since id c then None else Some c
 
--- the clause under an id: none if it is removed, or a unit that is stale
+-- the present clause under an id, or `None` if none was stored, it is removed, or it is a stale unit
 abbrev pub standing_clause : Standing → ℕ → Option (List ℕ)
 standing_clause s id = unless_stale s.since id (clause_in s.present id)
 
@@ -30,37 +31,38 @@ abbrev pub standing_clauses : Standing → List ℕ → Option (List (List ℕ))
 standing_clauses s [] = Some []
 standing_clauses s (id ∷ ids) = and_clauses (standing_clause s id) (standing_clauses s ids)
 
--- no variable became new from this id on
+-- that the bound of every variable is at most this id
 abbrev pub SinceWithin : Standing → ℕ → Type 0
 SinceWithin s bound = (v : ℕ) → value_at 0 s.since v ≤ bound
 
--- once counting has begun, the counts are those of the clauses of two literals or more
+-- That the store is in order. Once counting has begun, the counts are those of the literals in clauses of two or more
+-- literals; before, they are 0.
 pub record StandingInvariant (s : Standing) : Type 0 where
   pub store : IsStore s.present
   pub counted : (l : ℕ) → uses_at s.uses l ≡ if_counting s.uses.counting (occurrences_of s.present l)
 
--- it is at this place
+-- that the clause under this id is present and at this place
 pub record FindsClause (s : Standing) (id place : ℕ) : Type 0 where
   pub within : place < length s.present.clauses
   pub named : slice_index s.present.ids.items place ≡ id
   pub stored : clause_in s.present id ≡ Some (present_clause_at s.present place)
   pub clause : standing_clause s id ≡ Some (present_clause_at s.present place)
 
--- one more clause
+-- that a clause was added under this id
 pub record AddsStandingClause (old new : Standing) (id : ℕ) (clause : List ℕ) : Type 0 where
   pub standing : StandingInvariant new
   pub below : (k : ℕ) → id < k → AllBelow new.present.ids.items k
   pub since : new.since ≡ old.since
   pub clauses : (j : ℕ) → standing_clause new j ≡ (if j == id then Some clause else standing_clause old j)
 
--- one less
+-- that no clause is present under this id, and the other present clauses are the same
 pub record DropsClause (old new : Standing) (id : ℕ) : Type 0 where
   pub standing : StandingInvariant new
   pub below : (k : ℕ) → AllBelow old.present.ids.items k → AllBelow new.present.ids.items k
   pub since : new.since ≡ old.since
   pub clauses : (j : ℕ) → standing_clause new j ≡ (if j == id then None else standing_clause old j)
 
--- a variable is in a clause of two literals or more
+-- that a present clause of two or more literals contains the variable
 pub record IsUsed (s : Standing) (v : ℕ) : Type 0 where
   pub id : ℕ
   pub clause : List ℕ
@@ -68,13 +70,13 @@ pub record IsUsed (s : Standing) (v : ℕ) : Type 0 where
   pub long : is_long clause ≡ true
   pub within : mentions clause v ≡ true
 
--- a variable becomes new, and its units are forgotten
+-- that a variable became new, its units are no longer present, and the other present clauses are the same
 pub record RenewsVariable (old new : Standing) (v bound : ℕ) : Type 0 where
   pub standing : StandingInvariant new
   pub present : new.present ≡ old.present
   pub since : SinceWithin new bound
   pub clauses : (j : ℕ) → standing_clause new j ≡ unless_unit_over v (standing_clause old j)
 
--- there is room for the literals of each clause that is present, and for their negations
+-- that there is room for the literals of every present clause, and for their negations
 abbrev pub HasRoomForPresent : List ℕ → Standing → Type 0
 HasRoomForPresent room s = (id : ℕ) (clause : List ℕ) → standing_clause s id ≡ Some clause → HasClauseRoom room clause
