@@ -5,36 +5,37 @@ use Rattle.sat_base.specs.declared.device.tally.Tally.{Tally}
 use Rattle.sat_base.specs.device.Device.{Reader, Writer}
 
 -- WHAT A CALL ADDS TO A TALLY
+-- the tally before the first call
 abbrev pub no_calls : Tally
 no_calls = record { calls = 0; failures = 0; given = []; taken = []; ended = false; flushed = false; failed = false; flushes = 0 }
 
--- a call that did not fail, did not flush and did not find the end
+-- the tally after a call that did not fail, did not flush and did not find the end
 abbrev pub after_call : Tally → Tally
 after_call t = record t { calls = t.calls + 1; ended = false; flushed = false; failed = false }
 
--- a read that gave these bytes
+-- the tally after a read that gave these bytes
 abbrev pub after_read : List ℕ → Tally → Tally
 after_read bytes t = record (after_call t) { given = t.given ++ bytes }
 
--- a read that found the end
+-- the tally after a read that found the end
 abbrev pub after_end : Tally → Tally
 after_end t = record (after_call t) { ended = true }
 
--- a write that accepted these bytes
+-- the tally after a write that accepted these bytes
 abbrev pub after_write : List ℕ → Tally → Tally
 after_write bytes t = record (after_call t) { taken = t.taken ++ bytes }
 
--- a flush that did not fail
+-- the tally after a flush that did not fail
 abbrev pub after_flush : Tally → Tally
 after_flush t = record (after_call t) { flushed = true; flushes = t.flushes + 1 }
 
--- a call that failed
+-- the tally after a call that failed
 abbrev pub after_failure : Tally → Tally
 after_failure t = record (after_call t) { failures = t.failures + 1; failed = true }
 
 -- WHAT CONTRACTS SEE
 
--- the device inside
+-- the device whose calls are counted
 abbrev pub device_of : {D : Type 0} → Counted D → D
 device_of c = c.device
 

@@ -12,7 +12,7 @@ pub record Reader : Type 0 where
   pub calls : ℕ
   pub loans : List ℕ  -- the chain of borrows through which the reader was passed, latest first
 
--- what contracts see of a writer
+-- the state of a writer, as contracts describe it
 pub record Writer : Type 0 where
   pub contents : Option (List ℕ)  -- what it holds, if that is known
   pub taken : List ℕ  -- all bytes that it has accepted, from any caller
@@ -41,7 +41,8 @@ CountsErr r old new failed = MatchResult r (λ _. (new ≡ old) × (failed ≡ f
 abbrev pub takes_none : ℕ → List ℕ → Bool
 takes_none n piece = nat_eq n 0 && nat_lt 0 (length piece)
 
--- such a write is a failed call, and so is every `Err`
+-- that the number of failed calls rises by 1 exactly when the write returns an `Err` or accepts no byte of a nonempty
+-- piece; `failed` says whether it does
 abbrev pub CountsWrite : {E : Type 0} → Result ℕ E → List ℕ → ℕ → ℕ → Bool → Type 0
 CountsWrite r piece old new failed = MatchResult r
     (λ n. (new ≡ (if takes_none n piece then old + 1 else old)) × (failed ≡ takes_none n piece))
@@ -65,7 +66,7 @@ pub record ReadsOnce {E : Type 0} (r : Result ℕ E) (room : List ℕ) (old new 
   pub calls : new.calls ≡ old.calls + 1
   pub loans : new.loans ≡ old.loans
 
--- one write of a piece
+-- the effect of one write of a piece
 pub record WritesOnce {E : Type 0} (r : Result ℕ E) (piece : List ℕ) (old new : Writer) : Type 0 where
   pub known_bytes : WriteAppends old.contents new.contents r piece
   pub taken : AppendsFront r piece old.taken new.taken
@@ -75,11 +76,11 @@ pub record WritesOnce {E : Type 0} (r : Result ℕ E) (piece : List ℕ) (old ne
   pub calls : new.calls ≡ old.calls + 1
   pub loans : new.loans ≡ old.loans
 
--- a flush counts if it did not fail
+-- that the number of flushes rises by 1 exactly when the flush did not fail
 abbrev pub CountsFlush : {T E : Type 0} → Result T E → ℕ → ℕ → Type 0
 CountsFlush r old new = MatchResult r (λ _. new ≡ old + 1) (λ _. new ≡ old)
 
--- one flush
+-- the effect of one flush
 pub record FlushesOnce {E : Type 0} (r : Result (Unit {0}) E) (old new : Writer) : Type 0 where
   pub known_bytes : Keeps old.contents new.contents
   pub taken : new.taken ≡ old.taken
@@ -101,12 +102,12 @@ pub record GaveFront (old new : Reader) (text : List ℕ) : Type 0 where
 abbrev pub FewReads : Reader → Reader → Type 0
 FewReads old new = new.calls + length old.given ≤ old.calls + length new.given + 1
 
--- it is at its end
+-- that the last read found the end; if the bytes still to come are known, there are none
 pub record IsOver (r : Reader) : Type 0 where
   pub ends : r.ended ≡ true
   pub over : IsAtEnd r.to_come
 
--- it gave this text, to its end
+-- that the reader gave `text` between `old` and `new`, in at least one read, and the last read found the end
 pub record GaveAll (old new : Reader) (text : List ℕ) : Type 0 where
   pub gave : new.given ≡ old.given ++ text
   pub ends : new.ended ≡ true
@@ -156,7 +157,8 @@ ReadFails old new = (LastCallFails old new ⊎ ReadsAreExhausted old new) × Few
 
 -- WHAT A WRITER ACCEPTED
 
--- It accepted this text, and no call failed. Every write accepted at least one byte.
+-- That the writer accepted `text` between `old` and `new`, and no call failed. Apart from flushes, there were at most
+-- as many calls as bytes.
 pub record WriterTakes (old new : Writer) (text : List ℕ) : Type 0 where
   pub taken : new.taken ≡ old.taken ++ text
   pub known_bytes : Appends old.contents new.contents text
@@ -165,7 +167,8 @@ pub record WriterTakes (old new : Writer) (text : List ℕ) : Type 0 where
   pub few : new.calls + old.flushes ≤ old.calls + new.flushes + length text
   pub loans : new.loans ≡ old.loans
 
--- It accepted a prefix of this text, and only the last call failed. Every write before it accepted at least one byte.
+-- That the writer accepted a prefix of `text` between `old` and `new`, and the last call is the only one that failed.
+-- Apart from successful flushes, there was at most one more call than bytes accepted.
 pub record WriterBreaks (old new : Writer) (text : List ℕ) : Type 0 where
   pub front : List ℕ
   pub following : List ℕ
@@ -178,6 +181,6 @@ pub record WriterBreaks (old new : Writer) (text : List ℕ) : Type 0 where
   pub few : new.calls + old.flushes ≤ old.calls + new.flushes + length front + 1
   pub loans : new.loans ≡ old.loans
 
--- a text was written; or a call failed, and a prefix was written
+-- that the text was written, or only the last call failed and a prefix was written
 abbrev pub WritesText : {E : Type 0} → List ℕ → Result (Unit {0}) E → Writer → Writer → Type 0
 WritesText text r old new = MatchResult r (λ _. WriterTakes old new text) (λ _. WriterBreaks old new text)

@@ -2,7 +2,7 @@
 use Rattle.std.specs.Prelude.{◌≡◌, ℕ, ◌+◌, ◌≤◌, List, length}
 use Rattle.sat_base.specs.device.Device.{Reader, GaveFront}
 
--- this number of reads was made, every one gave at least one byte, and all these bytes were fed
+-- that this number of reads was made and none failed, they gave at least as many bytes, and all these bytes were fed
 pub record FeedsReads (old new : Reader) (times : ℕ) (WasFed : List ℕ → Type 0) : Type 0 where
   pub text : List ℕ
   pub front : GaveFront old new text

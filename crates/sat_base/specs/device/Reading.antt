@@ -1,4 +1,4 @@
--- Reading a value in a format, from a reader that is read ahead.
+-- The results of reading values in a format, through a buffer that is read ahead.
 use Rattle.std.specs.Prelude.{◌≡◌, ℕ, true, length, ◌+◌, ◌*◌, ◌<◌, ◌≤◌, ◌⊎◌, List, [], ◌∷◌, ◌++◌, Option, None, Some, Result, Ok, Err, nat_eq, if◌then◌else◌}
 use Rattle.std.specs.Io.KnownBytes.{Consumes, IsAtEnd, prepend_known}
 use Rattle.sat_base.specs.declared.device.ahead.Ahead.{Ahead}
@@ -18,11 +18,11 @@ pub record Source : Type 0 where
   pub reads : ℕ  -- the reads by this reader of steps
   pub names : List ℕ  -- the borrows that hold it
 
--- the bytes still to come, if they are known
+-- the bytes still to be consumed, if they are known: those read ahead, and those that the reader has still to give
 abbrev pub to_come : Source → Option (List ℕ)
 to_come s = prepend_known s.waiting s.reader.to_come
 
--- before the first read
+-- the source of a reader before the first read
 abbrev pub unread : Reader → Source
 unread r = record { reader = r; waiting = []; reads = 0; names = [] }
 
@@ -30,7 +30,7 @@ unread r = record { reader = r; waiting = []; reads = 0; names = [] }
 abbrev pub source : {R : Type 0} → (R → Reader) → R → Ahead → Source
 source seen r a = record { reader = seen r; waiting = waiting a; reads = a.reads; names = [] }
 
--- held by these borrows
+-- the source, held by these borrows
 abbrev pub with_borrows : List ℕ → Source → Source
 with_borrows names s = record s { names = names }
 
@@ -38,12 +38,13 @@ with_borrows names s = record s { names = names }
 abbrev pub source_of : {R : Type 0} → (R → Reader) → Input R → Source
 source_of seen i = with_borrows (i.reader.ghost_name ∷ i.ahead.ghost_name ∷ []) (source seen i.reader.now i.ahead.now)
 
--- its reader was read for it, and the last read found the end
+-- that a read was made for the source, and the reader's last read found the end
 abbrev pub AtEnd : Source → Type 0
 AtEnd s = (0 < s.reads) × (s.reader.ended ≡ true)
 
--- These bytes were consumed, and no call failed. The bytes that were pending and those given since are those consumed and those pending
--- now. A read gave at most 4,096 bytes. There were at most `more` more reads than bytes given; if `more` is 0, none found the end.
+-- That these bytes were consumed, and no read failed. The bytes that were pending and those given since are the bytes
+-- consumed and those pending now. The reads gave at most 4,096 bytes each, on average. There were at most `more`
+-- more reads than bytes given. If `more` is 0, the source is at its end only if it was before.
 pub record ConsumesWithReads (more : ℕ) (old new : Source) (text : List ℕ) : Type 0 where
   pub fresh : List ℕ
   pub gave : new.reader.given ≡ old.reader.given ++ fresh
@@ -57,18 +58,18 @@ pub record ConsumesWithReads (more : ℕ) (old new : Source) (text : List ℕ) :
   pub names : new.names ≡ old.names
   pub going : more ≡ 0 → AtEnd new → AtEnd old
 
--- the same, with at most one read for every byte given
+-- that these bytes were consumed, with at most one read for every byte given
 abbrev pub ConsumesBytes : Source → Source → List ℕ → Type 0
 ConsumesBytes old new text = ConsumesWithReads 0 old new text
 
--- all bytes are consumed: the last read found the end of the reader, and none is pending
+-- that all bytes are consumed: the last read found the end of the reader, and no bytes are pending
 pub record AllTaken (s : Source) : Type 0 where
   pub read : 0 < s.reads
   pub ended : s.reader.ended ≡ true
   pub waiting : s.waiting ≡ []
   pub over : IsAtEnd (to_come s)
 
--- these bytes were consumed, and then one read found the end
+-- that these bytes were consumed, none remain, and there was at most one more read than bytes given
 abbrev pub ConsumesToEnd : Source → Source → List ℕ → Type 0
 ConsumesToEnd old new text = ConsumesWithReads 1 old new text × AllTaken new
 
@@ -76,11 +77,12 @@ ConsumesToEnd old new text = ConsumesWithReads 1 old new text × AllTaken new
 abbrev pub LastReadFails : Source → Source → Type 0
 LastReadFails old new = (new.reader.failures ≡ old.reader.failures + 1) × (new.reader.failed ≡ true)
 
--- no read failed, and the largest number of them was made
+-- that no read failed, and at least 2^48 reads were made for the source
 abbrev pub SourceReadsAreExhausted : Source → Source → Type 0
 SourceReadsAreExhausted old new = (new.reader.failures ≡ old.reader.failures) × (most_reads ≤ new.reads)
 
--- These bytes, which are all that were given, were consumed. Only the last read failed, or none failed and 2^48 were made.
+-- That these bytes were consumed: all that were pending, and all that were given since. Only the last read failed, or
+-- none failed and at least 2^48 were made.
 pub record ConsumesAndFails (old new : Source) (text : List ℕ) : Type 0 where
   pub fresh : List ℕ
   pub gave : new.reader.given ≡ old.reader.given ++ fresh
@@ -98,7 +100,7 @@ pub record ConsumesAndFails (old new : Source) (text : List ℕ) : Type 0 where
 abbrev pub none_given : ℕ → ℕ
 none_given n = if nat_eq n 0 then 1 else 0
 
--- the next n bytes were read; n is 0 only at the end
+-- the result of reading the next n bytes, without consuming any; n is 0 only at the end
 abbrev pub Refills : Result (Unit {0}) StepError → ℕ → Source → Source → Type 0
 Refills (Ok u) n old new = ConsumesWithReads (none_given n) old new [] × (n ≡ 0 → AllTaken new)
 Refills (Err errors.Read) n old new = ConsumesAndFails old new []
@@ -109,14 +111,14 @@ abbrev pub RefillsAlone : {R : Type 0} → (R → Reader) → Result (Unit {0}) 
 RefillsAlone seen result r a s b =
     (names : List ℕ) → Refills result b.end (with_borrows names (source seen r a)) (with_borrows names (source seen s b))
 
--- the next byte, or none at the end
+-- the result of reading the next byte: the byte, `None` at the end, or a failed read
 abbrev pub NextByte : Result (Option ℕ) StepError → Source → Source → Type 0
 NextByte (Ok (Some byte)) old new = ConsumesBytes old new (byte ∷ [])
 NextByte (Ok None) old new = ConsumesToEnd old new []
 NextByte (Err errors.Read) old new = ConsumesAndFails old new []
 NextByte (Err e) old new = ⊥
 
--- the next byte of a text that is not complete
+-- the result of reading the next byte within a text: the byte, `Cut` at the end, or a failed read
 abbrev pub ByteWithin : Result ℕ StepError → Source → Source → Type 0
 ByteWithin (Ok byte) old new = ConsumesBytes old new (byte ∷ [])
 ByteWithin (Err errors.Cut) old new = ConsumesToEnd old new []
@@ -135,11 +137,11 @@ ReadsValue F (Err errors.OutOfMemory) old new = (text : List ℕ) × ConsumesByt
 ReadsValue F (Err errors.Ends) old new = ⊥
 ReadsValue F (Err errors.HasFailed) old new = ⊥
 
--- a value was read through an input
+-- the result of reading a value through an input
 abbrev pub ReadsFromInput : {A R : Type 0} → Format A → Result A StepError → (R → Reader) → Input R → Input R → Type 0
 ReadsFromInput F r seen old new = ReadsValue F r (source_of seen old) (source_of seen new)
 
--- the result with the value that was read, if that is stored elsewhere
+-- the result with this value, for a read that stores the value elsewhere
 abbrev pub giving : {A : Type 0} → A → Result (Unit {0}) StepError → Result A StepError
 giving x (Ok u) = Ok x
 giving x (Err e) = Err e
@@ -149,12 +151,12 @@ abbrev pub valued : {A B : Type 0} → (A → B) → Result A StepError → Resu
 valued f (Ok x) = Ok (f x)
 valued f (Err e) = Err e
 
--- the fields after a tag
+-- the format of the fields after this tag
 abbrev pub FieldsAfter : ℕ → Format Step
 FieldsAfter tag step bytes = (tag_of step ≡ tag) × SpellsFields step bytes
 
--- The results of a reader of steps are those of any format, with `Ends` if the bytes end between steps: `Cut` is an end within a step.
--- Memory runs out within a step or at its end, so the bytes so far are a prefix of its text, or all of it.
+-- The results of reading a step are those of any format, and `Ends` if the bytes end between steps. So `Cut` is an end
+-- within a step. On `OutOfMemory`, at least one byte of a step was consumed, and possibly all.
 abbrev pub AnswersStepRead : Result Step StepError → Source → Source → Type 0
 AnswersStepRead (Ok step) old new = (text : List ℕ) × ConsumesBytes old new text × SpellsStep step text
 AnswersStepRead (Err errors.Ends) old new = ConsumesToEnd old new []

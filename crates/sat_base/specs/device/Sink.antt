@@ -32,7 +32,7 @@ pub record SinkFails (old new : Sink) (text : List ℕ) : Type 0 where
 abbrev pub SendsText : {E : Type 0} → List ℕ → Result (Unit {0}) E → Sink → Sink → Type 0
 SendsText text r old new = MatchResult r (λ _. AddsToSink old new text) (λ _. SinkFails old new text)
 
--- a value's text was sent
+-- the text of a value was sent, or one call failed
 abbrev pub Writes : {A E : Type 0} → Format A → A → List ℕ → Result (Unit {0}) E → Sink → Sink → Type 0
 Writes F x text r old new = MatchResult r (λ _. AddsToSink old new text × F x text) (λ _. SinkFails old new text)
 

@@ -11,7 +11,7 @@ use Rattle.sat_base.specs.values.Formulas.{with_formula_clause}
 use Rattle.sat_base.specs.dimacs.Dimacs.{Malformed, Limit, Hand, Turn, GoesOn, Ends, Fails, literals_in, turn}
 use Rattle.sat_base.specs.values.Literals.{var_limit}
 
--- a token as the code represents it, with its capped value
+-- the token that a token of the code represents; its numbers are those of the code, which are capped
 abbrev pub token_of : CodeToken → Token
 token_of (code.Number negative value) = Number negative value
 token_of (code.Letter b) = Letter b

@@ -217,7 +217,7 @@ KeepsText calls f = (ps : List (MutBor Progress)) → KeepsEach calls f ps
 abbrev pub HasReadCleanly : Progress → List ℕ → Type 0
 HasReadCleanly p text = (p.fed ≡ text) × (p.stopped ≡ true) × (p.ended ≡ true) × ((dimacs text).ending ≡ Clean)
 
--- That no bytes that could follow this text change its meaning: it ends where its reader does, or at a line that begins with `%`.
+-- That no bytes that could follow this text change its clauses, its ending or its header.
 abbrev pub IsWholeText : Reader → Reader → List ℕ → Type 0
 IsWholeText old new text = (rest : List ℕ) → CanFollow old new rest
     → (dimacs (text ++ rest) ≡ dimacs text) × (dimacs_header (text ++ rest) ≡ dimacs_header text)

@@ -13,7 +13,7 @@ BeginsText {A} F bytes = (x : A) × (more : List ℕ) × F x (bytes ++ more)
 abbrev pub IsProperFront : {A : Type 0} → Format A → List ℕ → Type 0
 IsProperFront {A} F bytes = (x : A) × (b : ℕ) × (more : List ℕ) × F x (bytes ++ b ∷ more)
 
--- the first byte after which no text can follow
+-- that some prefix of the bytes is a proper prefix of a text, but no text begins with this prefix and the next byte
 pub record IsFirstBadByte {A : Type 0} (F : Format A) (bytes : List ℕ) : Type 0 where
   pub front : List ℕ
   pub byte : ℕ

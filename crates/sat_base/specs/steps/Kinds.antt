@@ -1,4 +1,4 @@
--- Steps whose lists are stored elsewhere.
+-- Steps as a kind and separate lists.
 use Rattle.std.specs.Prelude.{ℕ, ◌==◌, ◌||◌, ◌&&◌, Bool, List, nat_lt}
 use Rattle.sat_base.specs.declared.steps.kind.Kind.{Kind}
 use Rattle.sat_base.specs.declared.steps.step_lists.Lists.{Lists}
@@ -22,18 +22,18 @@ step_with code.Assumptions literals hashes units = Assumptions literals
 step_with code.FailedAssumptions literals hashes units = FailedAssumptions literals hashes
 step_with code.End literals hashes units = End
 
--- and these lists
+-- the step of a kind with the lists that `Lists` holds
 abbrev pub step_held : Lists → Kind → Step
 step_held l k = step_with k l.literals.items l.hashes.items l.units.items
 
--- a list of literals, and one of hashes
+-- the list of literals and the list of hashes that `Lists` holds
 abbrev pub both_held : Lists → List ℕ × List ℕ
 both_held l = (l.literals.items, l.hashes.items)
 
--- the tags of steps
+-- whether the number is a tag of a step, from 1 to 13
 abbrev pub is_tag : ℕ → Bool
 is_tag tag = nat_lt 0 tag && nat_lt tag 14
 
--- those of steps with lists
+-- whether steps with this tag have lists
 abbrev pub has_lists : ℕ → Bool
 has_lists tag = tag == 5 || tag == 6 || tag == 7 || tag == 8 || tag == 10 || tag == 11 || tag == 12

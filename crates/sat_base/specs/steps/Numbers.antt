@@ -2,8 +2,8 @@
 use Rattle.std.specs.Prelude.{◌≡◌, ℕ, ◌+◌, ◌*◌, ◌<◌, ◌≤◌, List, [], ◌∷◌}
 use Rattle.sat_base.specs.steps.Formats.{Format}
 
--- A byte below 128 is the last one, and is the value itself. A byte of 128 or more has the low seven bits, and the bytes after it have the
--- rest, which is not 0. So every number has exactly one form.
+-- That the bytes spell the number. A byte below 128 is the last, and is the value itself. A byte of 128 or more has the
+-- low seven bits, and the bytes after it spell the rest, which is not 0. So every number has exactly one spelling.
 abbrev pub IsNumber : ℕ → List ℕ → Type 0
 IsNumber n [] = ⊥
 IsNumber n (b ∷ []) = (b < 128) × (n ≡ b)

@@ -17,7 +17,7 @@ pub record Spelling (A : Type 0) : Type 1 where
 abbrev pub a_variable : Spelling ℕ
 a_variable = record { format = IsVariable; bytes = number_bytes }
 
--- the index of a solver's variable or of a user's name, or none
+-- the index of a solver's variable or of a user's name, or `None`
 abbrev pub an_optional_variable : Spelling (Option ℕ)
 an_optional_variable = record { format = IsOptionalVariable; bytes = optional_bytes }
 
@@ -41,27 +41,27 @@ a_literal = record { format = IsLiteral; bytes = number_bytes }
 abbrev pub a_hash : Spelling ℕ
 a_hash = record { format = IsHash; bytes = number_bytes }
 
--- a count of literals, and then each of them
+-- a count, and then this number of literals
 abbrev pub literals : Spelling (List ℕ)
 literals = record { format = AreLiterals; bytes = list_bytes }
 
--- a count of hashes, and then each of them
+-- a count, and then this number of hashes
 abbrev pub hashes : Spelling (List ℕ)
 hashes = record { format = AreHashes; bytes = list_bytes }
 
--- a count of units, and then each with the hash of the clause that it follows from
+-- a count, and then this number of units, each with the hash of the clause that it follows from
 abbrev pub units : Spelling (List (ℕ × ℕ))
 units = record { format = AreHashedLiterals; bytes = units_bytes }
 
--- one and then another
+-- one value, and then another
 abbrev pub both : {A B : Type 0} → Spelling A → Spelling B → Spelling (A × B)
 both s t = record { format = Both s.format t.format; bytes = λ x. s.bytes x.0 ++ t.bytes x.1 }
 
--- a variable, and one that may be none
+-- a variable, and then an optional index
 abbrev pub variables : Spelling (ℕ × Option ℕ)
 variables = both a_variable an_optional_variable
 
--- a variable, and whether it is sampled
+-- a variable, and then whether it is sampled
 abbrev pub a_mode : Spelling (ℕ × Bool)
 a_mode = both a_variable a_flag
 
@@ -73,7 +73,7 @@ both_lists = both literals hashes
 abbrev pub a_derived : Spelling (Bool × (List ℕ × List ℕ))
 a_derived = both a_flag both_lists
 
--- a deleted clause, and why it may be
+-- a deleted clause, and then the reason for which it is deleted
 abbrev pub a_deleted : Spelling (List ℕ × Deletion)
 a_deleted = both literals a_deletion
 
@@ -85,11 +85,11 @@ fields = record { format = SpellsFields; bytes = fields_bytes }
 abbrev pub a_step : Spelling Step
 a_step = record { format = SpellsStep; bytes = step_bytes }
 
--- a value's spelling was sent through an output
+-- a value's spelling was sent through an output, or one call failed
 abbrev pub SendsSpelling : {A E W P : Type 0} → Spelling A → A → Result (Unit {0}) E → (W → Writer) → (P → List ℕ)
     → Output W P → Output W P → Type 0
 SendsSpelling s x r seen waiting old new = Writes s.format x (s.bytes x) r (sink_of seen waiting old) (sink_of seen waiting new)
 
--- a value's spelling is pending after the bytes that were
+-- a value's spelling was put after the pending bytes of an output, and no call failed
 abbrev pub Pushes : {A W P : Type 0} → Spelling A → A → (W → Writer) → (P → List ℕ) → Output W P → Output W P → Type 0
 Pushes s x seen waiting old new = AddsToSink (sink_of seen waiting old) (sink_of seen waiting new) (s.bytes x) × s.format x (s.bytes x)

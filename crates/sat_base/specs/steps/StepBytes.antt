@@ -1,4 +1,4 @@
--- The bytes of a proof step, as they are written. That they spell the step, and are its one spelling, is a law.
+-- The bytes of a proof step, as they are written. A law states that they are the only spelling of the step.
 use Rattle.std.specs.Prelude.{ℕ, suc, zero, ◌+◌, ◌/◌, ◌%◌, Bool, true, false, Option, None, Some, List, [], ◌∷◌, ◌++◌, length, nat_lt, if◌then◌else◌}
 use Rattle.sat_base.specs.steps.Steps.{Deletion, Redundant, Simplified, Satisfied, Step, SolverVarName, UserVarName, DeleteVar, ChangeSamplingMode, AddClause, AtClause, UnitClauses, DeleteClause, ChangeHashBits, Model, Assumptions, FailedAssumptions, End}
 use Rattle.sat_base.specs.steps.StepText.{tag_of}
@@ -8,11 +8,11 @@ unfoldable pub groups : ℕ → ℕ → List ℕ
 groups zero n = n ∷ []
 groups (suc k) n = if nat_lt n 128 then n ∷ [] else (n % 128 + 128) ∷ groups k (n / 128)
 
--- 64 bits are ten groups
+-- the bytes of a number of at most 64 bits: at most ten groups
 abbrev pub number_bytes : ℕ → List ℕ
 number_bytes n = groups 9 n
 
--- 0 for `None`, else one more than the index
+-- the bytes of an optional index: 0 for `None`, otherwise the index plus 1
 abbrev pub optional_bytes : Option ℕ → List ℕ
 optional_bytes None = number_bytes 0
 optional_bytes (Some v) = number_bytes (v + 1)

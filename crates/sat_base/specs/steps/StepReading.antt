@@ -1,4 +1,4 @@
--- What a reader of steps does.
+-- The results of a reader of steps.
 use Rattle.std.specs.Prelude.{◌≡◌, ◌≤◌, ℕ, Bool, true, false, Result, Ok, Err}
 use Rattle.sat_base.specs.declared.steps.reader.StepReader.{StepReader}
 use Rattle.sat_base.specs.declared.steps.reader.Buffers.{Buffers}
@@ -9,15 +9,15 @@ use Rattle.sat_base.specs.device.Reading.{Source, AnswersStepRead, source}
 use Rattle.sat_base.specs.steps.Steps.{Step}
 use Rattle.sat_base.specs.steps.Kinds.{step_with}
 
--- its reader, with the bytes read ahead
+-- the source of a reader of steps: the reader of its bytes, and the bytes read ahead
 abbrev pub reader_source : {R : Type 0} → (R → Reader) → StepReader R Buffers → Source
 reader_source seen s = source seen s.reader.now s.buffers.ahead
 
--- whether it only returns `HasFailed` from now on
+-- whether the reader of steps returns only `HasFailed` from now on
 abbrev pub has_reader_failed : {R : Type 0} → StepReader R Buffers → Bool
 has_reader_failed s = s.buffers.failed
 
--- the borrow through which it holds its reader
+-- the borrow through which the reader of steps holds the reader of its bytes
 abbrev pub reader_name : {R : Type 0} → StepReader R Buffers → ℕ
 reader_name s = s.reader.ghost_name
 
@@ -25,7 +25,7 @@ reader_name s = s.reader.ghost_name
 abbrev pub step_in : {R : Type 0} → StepReader R Buffers → Step
 step_in s = step_with s.buffers.kind s.buffers.lists.literals.items s.buffers.lists.hashes.items s.buffers.lists.units.items
 
--- whether the error stops a reader of steps: every error does but `Ends`
+-- whether the error stops a reader of steps; every error except `Ends` does
 abbrev pub is_stop : StepError → Bool
 is_stop errors.Ends = false
 is_stop errors.Cut = true
@@ -53,7 +53,7 @@ abbrev pub repeated : Result Step StepError → Bool
 repeated (Ok step) = false
 repeated (Err e) = is_repeat e
 
--- the result of a call, which changes nothing if the reader was stopped before
+-- what the result of a call means; with `HasFailed`, nothing has changed
 abbrev pub AnswersUnlessFailed : Result Step StepError → Source → Source → Type 0
 AnswersUnlessFailed (Ok step) old new = AnswersStepRead (Ok step) old new
 AnswersUnlessFailed (Err errors.Ends) old new = AnswersStepRead (Err errors.Ends) old new

@@ -9,7 +9,7 @@ use Rattle.sat_base.specs.steps.Steps.{Deletion, Redundant, Simplified, Satisfie
 abbrev pub IsVariable : Format ℕ
 IsVariable = IsBelow var_limit
 
--- 0 for `None`, else one more than the index
+-- the index of a variable or of a name, within the limit, plus 1; 0 for `None`
 abbrev pub IsOptionalVariable : Format (Option ℕ)
 IsOptionalVariable None bytes = IsBelow (var_limit + 1) 0 bytes
 IsOptionalVariable (Some v) bytes = IsBelow (var_limit + 1) (v + 1) bytes
@@ -18,7 +18,7 @@ IsOptionalVariable (Some v) bytes = IsBelow (var_limit + 1) (v + 1) bytes
 abbrev pub IsLiteral : Format ℕ
 IsLiteral = IsBelow (2 * var_limit)
 
--- a hash, of 64 bits at most
+-- a hash, of at most 64 bits
 abbrev pub IsHash : Format ℕ
 IsHash = IsBelow (2 ^ 64)
 
@@ -27,7 +27,7 @@ abbrev pub IsFlag : Format Bool
 IsFlag false bytes = IsBelow 2 0 bytes
 IsFlag true bytes = IsBelow 2 1 bytes
 
--- 0 to 64
+-- a width, from 0 to 64
 abbrev pub IsWidth : Format ℕ
 IsWidth = IsBelow 65
 
@@ -37,7 +37,7 @@ IsDeletion Redundant bytes = IsBelow 3 0 bytes
 IsDeletion Simplified bytes = IsBelow 3 1 bytes
 IsDeletion Satisfied bytes = IsBelow 3 2 bytes
 
--- a list's count is below 2^64
+-- a list of literals, whose count is below 2^64
 abbrev pub AreLiterals : Format (List ℕ)
 AreLiterals = ListOf (IsBelow (2 ^ 64)) IsLiteral
 
@@ -45,11 +45,11 @@ AreLiterals = ListOf (IsBelow (2 ^ 64)) IsLiteral
 abbrev pub AreHashes : Format (List ℕ)
 AreHashes = ListOf (IsBelow (2 ^ 64)) IsHash
 
--- literals, each with a hash
+-- a list of literals, each with a hash, whose count is below 2^64
 abbrev pub AreHashedLiterals : Format (List (ℕ × ℕ))
 AreHashedLiterals = ListOf (IsBelow (2 ^ 64)) (Both IsLiteral IsHash)
 
--- the byte with which a step begins, which shows its kind
+-- the first byte of a step, which determines its kind
 abbrev pub tag_of : Step → ℕ
 tag_of (SolverVarName global solver) = 1
 tag_of (UserVarName global user) = 2

@@ -1,17 +1,17 @@
--- What a proof step of the code says.
+-- The steps that the steps of the code represent.
 use Rattle.sat_base.specs.declared.steps.step.DeleteClauseProof.{DeleteClauseProof}
 use Rattle.sat_base.specs.declared.steps.step.DeleteClauseProof.TheVariants as proofs
 use Rattle.sat_base.specs.declared.steps.step.ProofStep.{ProofStep}
 use Rattle.sat_base.specs.declared.steps.step.ProofStep.TheVariants as code
 use Rattle.sat_base.specs.steps.Steps.{Deletion, Redundant, Simplified, Satisfied, Step, SolverVarName, UserVarName, DeleteVar, ChangeSamplingMode, AddClause, AtClause, UnitClauses, DeleteClause, ChangeHashBits, Model, Assumptions, FailedAssumptions, End}
 
--- the reason for which a clause is deleted, as the code represents it
+-- the reason for a deletion that a reason of the code represents
 abbrev pub deletion_of : DeleteClauseProof → Deletion
 deletion_of proofs.Redundant = Redundant
 deletion_of proofs.Simplified = Simplified
 deletion_of proofs.Satisfied = Satisfied
 
--- the step without its place in memory
+-- the step that a step of the code represents, with the contents of its slices as lists
 abbrev pub step_of : ProofStep → Step
 step_of (code.SolverVarName global solver) = SolverVarName global solver
 step_of (code.UserVarName global user) = UserVarName global user

@@ -20,12 +20,12 @@ pub data Stage : Type 0 where
   Vars : ℕ → Stage
   Both : ℕ → ℕ → Stage
 
--- with a number that a word spells
+-- the stage with the number that a word spells, or `None` if the word spells no number
 abbrev pub with_value : (ℕ → Stage) → Option ℕ → Option Stage
 with_value stage None = None
 with_value stage (Some n) = Some (stage n)
 
--- the stage after one more word, if that is allowed there
+-- the stage after one more word, or `None` if the word is not allowed there
 abbrev pub stage_after : Stage → List ℕ → Option Stage
 stage_after Begun w = if same_bytes w (codes "p") then Some Named else None
 stage_after Named w = if same_bytes w (codes "cnf") then Some Format else None
@@ -38,7 +38,7 @@ abbrev pub stage_end : Stage → Token
 stage_end (Both v c) = Header v c
 stage_end stage = Wrong
 
--- a word that is not allowed there spoils the line
+-- the token of a header line after a word: `Wrong` if the word is not allowed there, otherwise given by `more`
 abbrev pub after_word : Option Stage → (Stage → Token) → Token
 after_word None more = Wrong
 after_word (Some stage) more = more stage
@@ -48,8 +48,9 @@ unfoldable pub stage_token : Stage → List (List ℕ) → Token
 stage_token stage [] = stage_end stage
 stage_token stage (w ∷ ws) = after_word (stage_after stage w) (λ s. stage_token s ws)
 
--- At the start of a line, after blanks at its start, or in a comment, each with whether a header may still come; between words, or in a
--- word of these bytes; between words of a header line, in such a word, or in one that is not allowed there; after `%`.
+-- A position in a text: at the start of a line, after blanks at its start, or in a comment, each with whether a header
+-- is still allowed; between words, or in a word with these bytes so far; in a header line between words, in a word, or
+-- in a word that is not allowed there; or after `%`.
 pub data Position : Type 0 where
   Fresh : Bool → Position
   Leading : Bool → Position
@@ -61,12 +62,12 @@ pub data Position : Type 0 where
   Spoilt : Position
   Over : Position
 
--- none of these bytes is a blank
+-- that none of these bytes is a blank
 abbrev pub HasNoBlank : List ℕ → Type 0
 HasNoBlank [] = Unit {0}
 HasNoBlank (b ∷ bs) = (is_blank b ≡ false) × HasNoBlank bs
 
--- an unfinished word has no blanks
+-- that the unfinished word, if there is one, contains no blank
 abbrev pub IsPosition : Position → Type 0
 IsPosition (Within x w) = HasNoBlank (x ∷ w)
 IsPosition (HeaderWithin stage x w) = HasNoBlank (x ∷ w)
@@ -85,18 +86,18 @@ tokens_left (HeaderWithin stage x w) n ls =
 tokens_left Spoilt n ls = (n + 1, Wrong) ∷ tokens_of false (n + 1) (later_lines ls)
 tokens_left Over n ls = []
 
--- the last line, from a position after n ended lines
+-- the number of the last line, from a position after n ended lines
 abbrev pub last_left : Position → ℕ → List (List ℕ) → ℕ
 last_left (Fresh may) n ls = last_line n ls
 last_left (Leading may) n ls = last_line n (first_line ls ∷ later_lines ls)
 last_left Over n ls = n + 1
 last_left spot n ls = last_line (n + 1) (later_lines ls)
 
--- what is still to be read
+-- what is still to be read, from a position after n ended lines, if these are the bytes to come
 unfoldable pub left : Position → ℕ → List ℕ → Scan
 left spot n bytes = record { tokens = tokens_left spot n (lines bytes); last = last_left spot n (lines bytes) }
 
--- the unfinished word or header line, when the line ends
+-- the token of the unfinished word or header line if the line ends here, or no token
 abbrev pub in_hand : Position → ℕ → List (ℕ × Token)
 in_hand (Within x w) n = (n + 1, token (x ∷ w)) ∷ []
 in_hand (HeaderBetween stage) n = (n + 1, stage_end stage) ∷ []
@@ -104,24 +105,24 @@ in_hand (HeaderWithin stage x w) n = (n + 1, after_word (stage_after stage (x �
 in_hand Spoilt n = (n + 1, Wrong) ∷ []
 in_hand spot n = []
 
--- whether a header may come on the lines below
+-- whether a header is still allowed on the next lines
 abbrev pub may_after : Position → Bool
 may_after (Fresh may) = may
 may_after (Leading may) = may
 may_after (Comment may) = may
 may_after spot = false
 
--- the position after LF; after `%` it stays
+-- the position after LF; LF does not change the position after `%`
 abbrev pub after_LF : Position → Position
 after_LF Over = Over
 after_LF spot = Fresh (may_after spot)
 
--- the number of ended lines after LF, if n had ended before it; after `%` LF ends none
+-- the number of ended lines after LF, if n lines had ended before; after `%`, LF ends no line
 abbrev pub lines_after : Position → ℕ → ℕ
 lines_after Over n = n
 lines_after spot n = n + 1
 
--- after a word of a header line that a blank ends
+-- the position after a blank that ends a word of a header line, given the stage after that word
 abbrev pub after_header_word : Option Stage → Position
 after_header_word None = Comment false
 after_header_word (Some stage) = HeaderBetween stage
@@ -138,12 +139,12 @@ following_blank (HeaderWithin stage x w) = after_header_word (stage_after stage 
 following_blank Spoilt = Comment false
 following_blank Over = Over
 
--- a word of a header line that is not allowed there
+-- the token `Wrong` if a word is not allowed in a header line, otherwise no token
 abbrev pub spoils : Option Stage → ℕ → List (ℕ × Token)
 spoils None n = (n + 1, Wrong) ∷ []
 spoils (Some stage) n = []
 
--- the token that such a blank ends, if there is one
+-- the token that a blank within a line completes, if there is one
 abbrev pub ended_by_blank : Position → ℕ → List (ℕ × Token)
 ended_by_blank (Within x w) n = (n + 1, token (x ∷ w)) ∷ []
 ended_by_blank (HeaderWithin stage x w) n = spoils (stage_after stage (x ∷ w)) n
@@ -155,6 +156,6 @@ abbrev pub line_at : Position → ℕ → ℕ
 line_at (Fresh may) n = n
 line_at spot n = n + 1
 
--- these tokens, and then what is still to be read
+-- the scan with these tokens before its own
 abbrev pub onto : List (ℕ × Token) → Scan → Scan
 onto ts rest = record { tokens = ts ++ rest.tokens; last = rest.last }

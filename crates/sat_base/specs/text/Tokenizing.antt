@@ -39,14 +39,14 @@ BeginsWrong w = (more : List ℕ) → token (w ++ more) ≡ Wrong
 abbrev pub BeginsSpoilt : Stage → List ℕ → Type 0
 BeginsSpoilt s w = (more : List ℕ) → stage_after s (w ++ more) ≡ None
 
--- the finished words of a header line, as the code represents them, with their values capped
+-- that a stage of the code represents this stage, with its numbers capped
 abbrev pub IsStage : CodeStage → Stage → Type 0
 IsStage stage.Named s = s ≡ Named
 IsStage stage.Format s = s ≡ Format
 IsStage (stage.Vars vars) s = (v : ℕ) × (vars ≡ held v) × (s ≡ Vars v)
 IsStage (stage.Both vars clauses) s = (v : ℕ) × (c : ℕ) × (vars ≡ held v) × (clauses ≡ held c) × (s ≡ Both v c)
 
--- the positions that a place in a header line can be
+-- the positions that a place in a header line can represent
 abbrev pub IsAtHeader : HeaderPlace → Position → Type 0
 IsAtHeader (header.Between ended) spot = (s : Stage) × IsStage ended s × (spot ≡ HeaderBetween s)
 IsAtHeader header.P spot = spot ≡ HeaderWithin Begun 112 []
@@ -76,69 +76,69 @@ IsAt (at.Header place) spot = IsAtHeader place spot
 IsAt at.Spoilt spot = spot ≡ Spoilt
 IsAt at.Over spot = spot ≡ Over
 
--- a byte leads from one position to another
+-- that a byte leads from one position to another, and completes no token and no line
 abbrev pub MovesPosition : Position → ℕ → Position → Type 0
 MovesPosition old byte new = (n : ℕ) (rest : List ℕ) → left old n (byte ∷ rest) ≡ left new n rest
 
--- a nonblank byte leads from one place to another
+-- that a byte leads from one place to another, and completes no token and no line
 abbrev pub MovesPlace : Place → ℕ → Place → Type 0
 MovesPlace old byte new = (spot : Position) → IsAt old spot → (next : Position) × IsAt new next × MovesPosition spot byte next
 
--- bytes lead from one place to another
+-- that bytes lead from one place to another, and complete no token and no line
 abbrev pub MovesBy : Place → List ℕ → Place → Type 0
 MovesBy old bytes new = (spot : Position) → IsAt old spot
     → (next : Position) × IsAt new next × ((n : ℕ) (rest : List ℕ) → left spot n (bytes ++ rest) ≡ left next n rest)
 
--- a word may begin here
+-- that a word may begin at this place, which is not in a header line
 abbrev pub BeginsWord : Place → Type 0
 BeginsWord (at.Fresh may) = Unit {0}
 BeginsWord (at.Leading may) = Unit {0}
 BeginsWord at.Between = Unit {0}
 BeginsWord place = ⊥
 
--- the same in a header line, or `None` if the unfinished word is then not allowed
+-- that a byte leads from a place in a header line to another; `None`: the unfinished word is then not allowed
 abbrev pub MovesHeader : HeaderPlace → ℕ → Option HeaderPlace → Type 0
 MovesHeader old byte None = (spot : Position) → IsAtHeader old spot → MovesPosition spot byte Spoilt
 MovesHeader old byte (Some new) = (spot : Position) → IsAtHeader old spot → (next : Position) × IsAtHeader new next × MovesPosition spot byte next
 
--- a place in a word of only this byte
+-- that the place is in a word that has only this byte so far
 abbrev pub Began : ℕ → Place → Type 0
 Began byte place = IsAt place (Within byte [])
 
--- the same in a header line after the words of a stage
+-- that the place is in such a word, in a header line after the words of a stage; `None`: no such word is allowed
 abbrev pub BeganHeader : CodeStage → ℕ → Option HeaderPlace → Type 0
 BeganHeader ended byte None = (s : Stage) → IsStage ended s → BeginsSpoilt s (byte ∷ [])
 BeganHeader ended byte (Some place) = (s : Stage) → IsStage ended s → IsAtHeader place (HeaderWithin s byte [])
 
--- the token that is completed when a line or a word ends, if there is one
+-- that after n ended lines there is one token, on the next line, which the code represents so; `None`: there is none
 abbrev pub IsHeldToken : Option CodeToken → (ℕ → List (ℕ × Token)) → Type 0
 IsHeldToken None tokens = (n : ℕ) → tokens n ≡ []
 IsHeldToken (Some t) tokens = (given : Token) × (t ≡ held_token given) × ((n : ℕ) → tokens n ≡ (n + 1, given) ∷ [])
 
--- if the line ends at this place, it completes this token, or none
+-- that the end of the line at this place completes this token, or none
 abbrev pub SaysInHand : Option CodeToken → Place → Type 0
 SaysInHand given place = (spot : Position) → IsAt place spot → IsHeldToken given (in_hand spot)
 
--- a blank within a line ends this token at this place, or none
+-- that a blank within a line at this place completes this token, or none
 abbrev pub SaysAtBlank : Option CodeToken → Place → Type 0
 SaysAtBlank given place = (spot : Position) → IsAt place spot → IsHeldToken given (ended_by_blank spot)
 
--- the finished words of a header line once the unfinished one ends
+-- the stage of a header line once its unfinished word ends; `None` elsewhere, or if the word is not allowed there
 abbrev pub ended_stage : Position → Option Stage
 ended_stage (HeaderBetween s) = Some s
 ended_stage (HeaderWithin s x w) = stage_after s (x ∷ w)
 ended_stage spot = None
 
--- the finished words of a header line, as the code represents them, or none in both
+-- that a stage of the code represents this stage, or both are `None`
 abbrev pub IsStageIf : Option CodeStage → Option Stage → Type 0
 IsStageIf None given = given ≡ None
 IsStageIf (Some ended) given = (s : Stage) × IsStage ended s × (given ≡ Some s)
 
--- the place after a blank that does not end a line
+-- that a blank that does not end a line leads from one place to another
 abbrev pub LeadsAfter : Place → Place → Type 0
 LeadsAfter old new = (spot : Position) → IsAt old spot → IsAt new (following_blank spot)
 
--- no word is unfinished
+-- that no word is unfinished, and the place is not at the start of a line
 abbrev pub IsQuiet : Place → Type 0
 IsQuiet (at.Leading may) = Unit {0}
 IsQuiet (at.Comment may) = Unit {0}
@@ -147,56 +147,57 @@ IsQuiet (at.Header (header.Between ended)) = Unit {0}
 IsQuiet at.Over = Unit {0}
 IsQuiet place = ⊥
 
--- whether a header may come on the lines below
+-- whether a header is still allowed on the next lines
 abbrev pub may_come : Place → Bool
 may_come (at.Fresh may) = may
 may_come (at.Leading may) = may
 may_come (at.Comment may) = may
 may_come place = false
 
--- the place after LF
+-- that LF leads from one place to another
 abbrev pub LeadsBelow : Place → Place → Type 0
 LeadsBelow old new = (spot : Position) → IsAt old spot → IsAt new (after_LF spot)
 
--- the machine is at a place of a text: `left_of` says what is still to be read, whatever bytes come
+-- that the tokenizer is at a position from which `left_of` gives what is still to be read, for any bytes to come
 unfoldable pub IsPositionedBefore : Tokenizer → (List ℕ → Scan) → Type 0
 IsPositionedBefore machine left_of = (spot : Position) × (n : ℕ) × IsAt machine.place spot × (machine.lines ≡ held n)
     × ((rest : List ℕ) → left_of rest ≡ left spot n rest)
 
--- the token that a byte ended, on the line of this byte, or none
+-- that the byte completes this token, on the line of the byte, or none
 abbrev pub GivesToken : Option CodeToken → ℕ → (List ℕ → Scan) → (List ℕ → Scan) → Type 0
 GivesToken None byte old new = (rest : List ℕ) → old (byte ∷ rest) ≡ new rest
 GivesToken (Some t) byte old new = (given : Token) × (t ≡ held_token given)
     × ((rest : List ℕ) → old (byte ∷ rest) ≡ onto (((new []).last, given) ∷ []) (new rest))
 
--- A byte is received: what was to be read before it is the token that it ended, and then what is to be read after it.
+-- That the tokenizer receives a byte, which completes this token, or none. What was still to be read is this token, and
+-- then what is still to be read after the byte.
 abbrev pub TakesByte : Tokenizer → ℕ → Option CodeToken → Tokenizer → Type 0
 TakesByte old byte given new = (before : List ℕ → Scan) → IsPositionedBefore old before
     → (after : List ℕ → Scan) × IsPositionedBefore new after × GivesToken given byte before after
 
--- the same for several bytes, of which only the last may end a token
+-- that the bytes complete this token, on the line of the last byte, or none
 abbrev pub GivesAfter : Option CodeToken → List ℕ → (List ℕ → Scan) → (List ℕ → Scan) → Type 0
 GivesAfter None bytes old new = (rest : List ℕ) → old (bytes ++ rest) ≡ new rest
 GivesAfter (Some t) bytes old new = (given : Token) × (t ≡ held_token given)
     × ((rest : List ℕ) → old (bytes ++ rest) ≡ onto (((new []).last, given) ∷ []) (new rest))
 
--- several bytes are received, of which only the last may end a token
+-- that the tokenizer receives these bytes, which complete this token, or none
 abbrev pub TakesFront : Tokenizer → List ℕ → Option CodeToken → Tokenizer → Type 0
 TakesFront old bytes given new = (before : List ℕ → Scan) → IsPositionedBefore old before
     → (after : List ℕ → Scan) × IsPositionedBefore new after × GivesAfter given bytes before after
 
--- a header, or a word that is wrong
+-- that the token is a header or `Wrong`
 abbrev pub IsOfHeader : Token → Type 0
 IsOfHeader (Number negative value) = ⊥
 IsOfHeader (Letter b) = ⊥
 IsOfHeader (Header v c) = Unit {0}
 IsOfHeader Wrong = Unit {0}
 
--- no word is unfinished, though a header line may be
+-- that the scan has no token, or only a header or `Wrong`, so neither a number nor a letter
 abbrev pub HoldsNoWord : Scan → Type 0
 HoldsNoWord s = (s.tokens ≡ []) ⊎ ((line : ℕ) × (t : Token) × IsOfHeader t × (s.tokens ≡ (line, t) ∷ []))
 
--- what remains when the text ends: the token that the end completes, on the last line, or none
+-- that the end of the text completes this token, on the last line, or none, and nothing else is left
 abbrev pub GivesLast : Option CodeToken → Scan → Type 0
 GivesLast None rest = rest.tokens ≡ []
 GivesLast (Some t) rest = (given : Token) × (t ≡ held_token given) × (rest.tokens ≡ (rest.last, given) ∷ [])

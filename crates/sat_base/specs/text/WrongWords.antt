@@ -3,14 +3,14 @@ use Rattle.std.specs.Prelude.{◌≡◌, ℕ, List, [], ◌∷◌}
 use Rattle.std.specs.List.{AllByRecursion}
 use Rattle.sat_base.specs.text.Text.{Token, Wrong, Scan}
 
--- no word or header line of these is wrong
+-- that none of these tokens is `Wrong`
 abbrev pub HaveNoWrongWord : List (ℕ × Token) → Type 0
 HaveNoWrongWord ts = AllByRecursion (λ t. t.1 ≡ Wrong → ⊥) ts
 
--- Whatever follows, the next word or header line is wrong, on the line of the last byte.
+-- that the next token is `Wrong`, on the line of the last byte, whatever bytes follow
 abbrev pub HasNoValidContinuation : (List ℕ → Scan) → Type 0
 HasNoValidContinuation left_of = (rest : List ℕ) → (more : List (ℕ × Token)) × ((left_of rest).tokens ≡ ((left_of []).last, Wrong) ∷ more)
 
--- some continuation has no wrong word
+-- that the text has a continuation without wrong words
 abbrev pub HasValidContinuation : (List ℕ → Scan) → Type 0
 HasValidContinuation left_of = (rest : List ℕ) × HaveNoWrongWord (left_of rest).tokens

@@ -6,7 +6,7 @@ abbrev pub pieces : {A : Type 0} → ℕ → List ℕ → List A → List (List 
 pieces from [] xs = []
 pieces from (end ∷ ends) xs = slice_range xs from end ∷ pieces end ends xs
 
--- the places ascend, and the last is the list's end
+-- that the places ascend, starting at `from`, and the last is the length of the list
 abbrev pub AreEnds : {A : Type 0} → ℕ → List ℕ → List A → Type 0
 AreEnds from [] xs = length xs ≡ from
 AreEnds from (end ∷ ends) xs = (from ≤ end) × AreEnds end ends xs

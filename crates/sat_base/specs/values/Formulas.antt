@@ -21,14 +21,14 @@ abbrev pub vars_of : List (List ℕ) → ℕ
 vars_of [] = 0
 vars_of (c ∷ cs) = max (vars_in c) (vars_of cs)
 
--- with one more clause, whose variables are covered
+-- the formula with one more clause, and at least as many variables as this clause needs
 abbrev pub with_formula_clause : List ℕ → Formula → Formula
 with_formula_clause clause f = record { var_count = max f.var_count (vars_in clause); clauses = f.clauses ++ clause ∷ [] }
 
--- with at least this number of variables
+-- the formula with at least this number of variables
 abbrev pub with_at_least_vars : ℕ → Formula → Formula
 with_at_least_vars count f = record f { var_count = max f.var_count count }
 
--- with one more variable, whose index is the old count
+-- the formula with one more variable, whose index is the old count
 abbrev pub with_next_variable : Formula → Formula
 with_next_variable f = record f { var_count = f.var_count + 1 }

@@ -9,7 +9,7 @@ use Rattle.sat_base.specs.declared.table.Table.{Table}
 abbrev pub near_count : {T : Type 0} → Table T → ℕ
 near_count t = length t.near.items
 
--- the value that is there, or else this one
+-- the value, if there is one, otherwise the default
 abbrev pub value_or : {T : Type 0} → Option T → T → T
 value_or (Some x) y = x
 value_or None y = y
@@ -18,7 +18,7 @@ value_or None y = y
 abbrev pub value_at : {T : Type 0} → T → Table T → ℕ → T
 value_at missing t v = if nat_lt v (near_count t) then slice_index_or t.near.items v missing else value_or (get nat_cmp t.far v) missing
 
--- the value at this place can be set without allocating
+-- that the value at this place can be set without allocating: it is in the list or in the tree
 abbrev pub HasPlaceFor : {T : Type 0} → Table T → ℕ → Type 0
 HasPlaceFor t v = (v < near_count t) ⊎ IsSome (get nat_cmp t.far v)
 
