@@ -26,7 +26,7 @@ swapped ls i j = set (set ls i (get_or ls j 0)) j (get_or ls i 0)
 unfoldable pub HaveNoCommonWord : List ℕ → ℕ → ℕ → Type 0
 HaveNoCommonWord words o p = (o + 3 + get_or words (o + 2) 0 ≤ p) ⊎ (p + 3 + get_or words (p + 2) 0 ≤ o)
 
--- every one of these offsets is a clause, and no two of them share words
+-- that a clause is at every one of these offsets, and no two of these clauses share a word
 pub record HoldsClauses (words : List ℕ) (live : List ℕ) : Type 0 where
   pub clauses : (o : ℕ) → Contains live o → IsClause words o
   pub apart : (o p : ℕ) → Contains live o → Contains live p → o ≢ p → HaveNoCommonWord words o p
@@ -37,7 +37,7 @@ pub record SameClauseAt (old new : List ℕ) (p : ℕ) : Type 0 where
   pub header : header_at new p ≡ header_at old p
   pub lits : lits_at new p ≡ lits_at old p
 
--- a clause without its buffer
+-- a clause as its header and its literals, without a buffer
 pub record HeadedClause : Type 0 where
   pub header : Header
   pub lits : List ℕ

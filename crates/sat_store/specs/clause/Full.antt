@@ -1,8 +1,8 @@
--- What holds when the clause buffer is full.
+-- What holds when a result is `StoreFull`.
 use Rattle.std.specs.Prelude.{◌≡◌, Result, Err}
 use Rattle.sat_store.specs.declared.clause.alloc.StoreError.{StoreError}
 use Rattle.sat_store.specs.declared.clause.alloc.StoreError.TheVariants.{StoreFull}
 
--- if the result is `StoreFull`, this holds
+-- that the proposition holds if the result is `StoreFull`
 abbrev pub OnFull : {T : Type 0} → Result T StoreError → Type 0 → Type 0
 OnFull r p = r ≡ Err StoreFull → p

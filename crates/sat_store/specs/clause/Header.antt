@@ -3,7 +3,7 @@ use Rattle.std.specs.Prelude.{ℕ, ◌+◌, ◌*◌, ◌/◌, ◌%◌, ◌==◌,
 use Rattle.sat_store.specs.declared.clause.tier.Tier.{Tier}
 use Rattle.sat_store.specs.declared.clause.tier.Tier.TheVariants.{Irred, Core, Mid, Local}
 
--- how useful a clause was, how long it is kept, its flags, and its number of literals
+-- the header of a clause: its activity, its tier, its flags, its glue and its number of literals
 pub record Header : Type 0 where
   pub activity : ℕ
   pub tier : Tier
@@ -51,6 +51,6 @@ header_of activity flags len = record {
 abbrev pub flags_of : Header → ℕ
 flags_of h = index_of h.tier + 4 * bit h.deleted + 8 * bit h.mark + 16 * h.glue + 1024 * bit h.active
 
--- the header of a new clause
+-- the header whose three words are 0
 abbrev pub no_header : Header
 no_header = header_of 0 0 0

@@ -3,7 +3,7 @@ use Rattle.std.specs.Prelude.{◌≡◌, ◌≢◌, ℕ, ◌+◌, ◌-◌, ◌*�
 use Rattle.sat_base.specs.values.Literals.{var_limit}
 use Rattle.sat_store.specs.declared.vsids.heap.Entry.{Entry}
 
--- what is read past the end of the list
+-- the default for positions past the end of the list
 abbrev pub no_entry : Entry
 no_entry = record { key = 0; var = 0 }
 
@@ -11,7 +11,7 @@ no_entry = record { key = 0; var = 0 }
 abbrev pub var_at : List Entry → ℕ → ℕ
 var_at heap k = (get_or heap k no_entry).var
 
--- every entry of the list is that of a variable
+-- that the variable of every entry is within the limit
 abbrev pub HoldsVariables : List Entry → Type 0
 HoldsVariables heap = (k : ℕ) → k < length heap → var_at heap k < var_limit
 
@@ -27,7 +27,7 @@ pub record Placed (heap : List Entry) (positions : List ℕ) : Type 0 where
   pub placed : (v : ℕ) → v < length heap → get_or positions v 0 < length heap
   pub variable : (v : ℕ) → v < length heap → var_at heap (get_or positions v 0) ≡ v
 
--- the order of variables: by activity, and for equal activities the lower index is greater
+-- the rank of an entry, by activity; for equal activities, the variable with the lower index ranks higher
 abbrev pub rank : Entry → ℕ
 rank e = e.key * var_limit + (var_limit - 1 - e.var)
 
@@ -39,21 +39,22 @@ rank_at heap k = rank (get_or heap k no_entry)
 abbrev pub parent : ℕ → ℕ
 parent k = (k - 1) / 4
 
--- of the first m, no entry ranks above its parent, if the parent is at `low` or later
+-- that none of the first m entries ranks above its parent, if the parent is at `low` or later
 abbrev pub Ordered : (ℕ → ℕ) → ℕ → ℕ → Type 0
 Ordered r m low = (k : ℕ) → 0 < k → k < m → low ≤ parent k → r k ≤ r (parent k)
 
--- the same from position 0 on, except for the entry at `hole`, which may rank above its parent
+-- that none of the first m entries except the entry at `hole` ranks above its parent, and the children of `hole` do not
+-- rank above the parent of `hole`
 pub record UpFrom (r : ℕ → ℕ) (m hole : ℕ) : Type 0 where
   pub others : (k : ℕ) → 0 < k → k < m → k ≢ hole → r k ≤ r (parent k)
   pub across : 0 < hole → (k : ℕ) → 0 < k → k < m → parent k ≡ hole → r k ≤ r (parent hole)
 
--- the same, except for the entry at `hole`, which may rank below its children
+-- that `Ordered` holds, except that children of `hole` may rank above `hole`, but not above the parent of `hole`
 pub record DownFrom (r : ℕ → ℕ) (m low hole : ℕ) : Type 0 where
   pub others : (k : ℕ) → 0 < k → k < m → low ≤ parent k → parent k ≢ hole → r k ≤ r (parent k)
   pub across : 0 < hole → low ≤ parent hole → (k : ℕ) → 0 < k → k < m → parent k ≡ hole → r k ≤ r (parent hole)
 
--- no child of position `at` ranks above this child
+-- that no child of position `at` ranks above the entry at position `child`
 abbrev pub IsFirstChild : (r : ℕ → ℕ) (m at child : ℕ) → Type 0
 IsFirstChild r m at child = (k : ℕ) → 0 < k → k < m → parent k ≡ at → r k ≤ r child
 
@@ -61,7 +62,7 @@ IsFirstChild r m at child = (k : ℕ) → 0 < k → k < m → parent k ≡ at �
 abbrev pub NoneAbove : (heap : List Entry) (m : ℕ) (entry : Entry) (at : ℕ) → Type 0
 NoneAbove heap m entry at = (k : ℕ) → 0 < k → k < m → parent k ≡ at → rank_at heap k ≤ rank entry
 
--- this child of position `at` ranks first among the children, and above this entry
+-- that `child` is a child of position `at`, no other child of `at` ranks above it, and it ranks above this entry
 pub record FirstAbove (heap : List Entry) (m : ℕ) (entry : Entry) (at child : ℕ) : Type 0 where
   pub under : parent child ≡ at
   pub some : 0 < child
@@ -90,7 +91,7 @@ pub record Transposes (old new : List ℕ) (i j : ℕ) : Type 0 where
 abbrev pub flags : ℕ → List ℕ → List Bool
 flags m positions = map (λ p. nat_lt p m) positions
 
--- the activities, by variable
+-- the activities, indexed by variable
 abbrev pub keys : List Entry → List ℕ → List ℕ
 keys heap positions = map (λ p. key_at heap p) positions
 
@@ -102,7 +103,7 @@ pub record Exchanged (heap : List Entry) (positions : List ℕ) (heap' : List En
   pub places : Transposes positions positions' i j
   pub keys : keys heap' positions' ≡ keys heap positions
 
--- the first m entries are a permutation of the first m before, and so are the others
+-- that the first m entries were permuted, and so were the other entries
 pub record Rearranged (m : ℕ) (heap : List Entry) (positions : List ℕ) (heap' : List Entry) (positions' : List ℕ) : Type 0 where
   pub placed : Placed heap' positions'
   pub count : length heap' ≡ length heap

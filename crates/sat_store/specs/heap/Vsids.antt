@@ -1,7 +1,7 @@
 -- A queue of variables by activity.
 use Rattle.std.specs.Prelude.{◌≡◌, ℕ, ◌+◌, ◌-◌, ◌*◌, ◌/◌, ◌^◌, ◌<◌, ◌≤◌, ◌⊎◌, Bool, true, false, nat_lt, if◌then◌else◌, Option, MatchOption, List, [], ◌++◌, length, map, max, replicate, slice_index_or as get_or, slice_set as set}
 
--- for every variable whether it may be picked, and its activity; what a bump adds; the decay, in thousandths
+-- for every variable whether it may be picked, and its activity; the amount that a bump adds; the decay, in thousandths
 pub record Queue : Type 0 where
   pub available : List Bool
   pub activities : List ℕ
@@ -16,11 +16,11 @@ may_pick q v = get_or q.available v false
 abbrev pub activity_of : Queue → ℕ → ℕ
 activity_of q v = get_or q.activities v 0
 
--- no variables
+-- the queue without variables, with the default bump and decay
 abbrev pub no_variables : Queue
 no_variables = record { available = []; activities = []; bump = 2 ^ 20; decay = 950 }
 
--- the queue with new variables, which may not be picked and have activity 0
+-- the queue with new variables up to this count, which may not be picked and have activity 0
 abbrev pub with_variables : ℕ → Queue → Queue
 with_variables count q = record q {
   available = q.available ++ replicate (count - length q.available) false;
@@ -37,7 +37,7 @@ pub record GrowsQueue (count : ℕ) (old new : Queue) : Type 0 where
   pub bump : new.bump ≡ old.bump
   pub decay : new.decay ≡ old.decay
 
--- all activities and the bump, 40 bits smaller; the bump is at least 1
+-- the queue with all activities and the bump divided by 2 ^ 40; the bump is at least 1
 abbrev pub rescaled : Queue → Queue
 rescaled q = record q { activities = map (λ a. a / 2 ^ 40) q.activities; bump = max (q.bump / 2 ^ 40) 1 }
 
@@ -51,17 +51,18 @@ bumped v q =
 abbrev pub quotient_up : ℕ → ℕ → ℕ
 quotient_up a b = (a + b - 1) / b
 
--- the queue with a larger bump, and rescaled if the bump reaches 2 ^ 60
+-- the queue with the bump divided by the decay, and rescaled if the bump reaches 2 ^ 60
 abbrev pub decayed : Queue → Queue
 decayed q =
     let later = record q { bump = quotient_up (q.bump * 1000) q.decay } in
     if nat_lt later.bump (2 ^ 60) then later else rescaled later
 
--- the queue in which a variable may be picked, or may not
+-- the queue in which the flag says whether the variable may be picked
 abbrev pub with_available : ℕ → Bool → Queue → Queue
 with_available v flag q = record q { available = set q.available v flag }
 
--- the variable may be picked, and no other one that may has a higher activity, or the same and a lower index
+-- that the variable may be picked, and every other variable that may be picked has a lower activity, or the same
+-- activity and a higher index
 pub record IsFirst (q : Queue) (v : ℕ) : Type 0 where
   pub available : may_pick q v ≡ true
   pub first : (u : ℕ) → may_pick q u ≡ true → (activity_of q u < activity_of q v) ⊎ ((activity_of q u ≡ activity_of q v) × (v ≤ u))
@@ -70,6 +71,6 @@ pub record IsFirst (q : Queue) (v : ℕ) : Type 0 where
 abbrev pub NonePickable : Queue → Type 0
 NonePickable q = (v : ℕ) → may_pick q v ≡ false
 
--- a call of `next` returns the first variable, which may not be picked from then on; or none if no variable may be picked
+-- the result of `next`: the first variable, which may then not be picked, or `None` if no variable may be picked
 abbrev pub Picks : Queue → Option ℕ → Queue → Type 0
 Picks q result after = MatchOption result (NonePickable q × (after ≡ q)) (λ v. IsFirst q v × (after ≡ with_available v false q))

@@ -1,15 +1,16 @@
 -- Maps between variables, as the list of the targets by index. Its length is one more than the largest index that was ever mapped.
 use Rattle.std.specs.Prelude.{ℕ, ◌+◌, ◌==◌, ◌≡◌, ◌≢◌, ◌≤◌, max, if◌then◌else◌, Option, Some, None, List, length, slice_index_or}
 
--- the target of a variable, or none
+-- the target of a variable, or `None`
 abbrev pub target : List (Option ℕ) → ℕ → Option ℕ
 target map from = slice_index_or map from None
 
--- one variable now has this target, and every other keeps its own
+-- that the variable `from` now has the target `into`, or none, and every other variable keeps its target
 abbrev pub PutsTarget : List (Option ℕ) → List (Option ℕ) → ℕ → Option ℕ → Type 0
 PutsTarget old new from into = (v : ℕ) → target new v ≡ (if v == from then into else target old v)
 
--- one variable now has this target. Every other keeps its own; those that the map did not reach before have none
+-- That the variable `from` now has the target `into`, and every other variable keeps its target. Variables that the map
+-- did not reach before have none. The length is one more than the largest index that was ever mapped.
 pub record GrowsMap (old new : List (Option ℕ)) (from into : ℕ) : Type 0 where
   pub there : target new from ≡ Some into
   pub kept : (v : ℕ) → v ≢ from → target new v ≡ target old v
