@@ -18,7 +18,8 @@ pub record MayGetName (f : Stored) (v name : ℕ) : Type 0 where
   pub nameless : name_of v f ≡ None
   pub not_hidden : mode_of v f ≢ Hide
 
--- whether a variable may be deleted: it is known, has no name, and is neither in a stored clause of two literals or more nor assumed
+-- That a variable may be deleted: it is known and has no name. It is in no stored clause of two or more literals, and
+-- it is not assumed.
 pub record MayBeDeleted (f : Stored) (v : ℕ) : Type 0 where
   pub known : is_known v f ≡ true
   pub nameless : name_of v f ≡ None
@@ -29,12 +30,12 @@ pub record MayBeDeleted (f : Stored) (v : ℕ) : Type 0 where
 abbrev pub MayBeAdded : Stored → List ℕ → Type 0
 MayBeAdded f clause = (f.unsat ≡ true) ⊎ AllByRecursion (λ l. mode_of (variable l) f ≡ Sample) clause
 
--- that every literal, as a clause of its own, passes the check under its hash, with the literals before it as units
+-- that every literal, as a unit clause, passes the check under its hash, once the literals before it are added as units
 abbrev pub PassInTurn : Stored → List (ℕ × ℕ) → Type 0
 PassInTurn f [] = Unit {0}
 PassInTurn f (u ∷ us) = PassesByHashes f (u.0 ∷ []) (u.1 ∷ []) × PassInTurn (with_unit u.0 f) us
 
--- that there is a list, and it contains some but not all literals of the clause
+-- that there is a list, all its literals are in the clause, and some literal of the clause is not in the list
 abbrev pub IsStrictSubset : Option (List ℕ) → List ℕ → Type 0
 IsStrictSubset None clause = ⊥
 IsStrictSubset (Some ls) clause = (is_part ls clause ≡ true) × (is_part clause ls ≡ false)
@@ -44,8 +45,8 @@ abbrev pub VariablesApart : List ℕ → Type 0
 VariablesApart [] = Unit {0}
 VariablesApart (l ∷ ls) = (mentions ls (variable l) ≡ false) × VariablesApart ls
 
--- that unsat is not recorded, no variable occurs twice, no unit is contradicted, and every clause with an irredundant count has a literal of
--- the model
+-- That a model fits what is stored: unsat is not recorded, and no variable occurs twice in the model. The model
+-- contradicts no unit, and it has a literal of every clause with an irredundant count.
 pub record FitsModel (f : Stored) (ls : List ℕ) : Type 0 where
   pub consistent : f.unsat ≡ false
   pub apart : VariablesApart ls
@@ -70,7 +71,7 @@ Accepts f (DeleteClause clause Simplified) =
 Accepts f (ChangeHashBits bits) = Unit {0}
 Accepts f (Model ls) = FitsModel f ls
 Accepts f (Assumptions ls) = Unit {0}
--- the core is among the assumptions and its negation passes the check, as it does if it has both signs of a variable
+-- the core is part of the assumptions, and the clause of its negated literals passes the check (a tautology does)
 Accepts f (FailedAssumptions core hashes) = (is_part core f.assumed ≡ true) × PassesByHashes f (map negated core) hashes
 Accepts f End = Unit {0}
 

@@ -1,4 +1,5 @@
--- What contracts see of a checker: the steps that it accepted, which include its input clauses, whether it has failed, and what its listeners have heard.
+-- What contracts see of a checker: the accepted steps (input clauses included), whether it has failed, and what its
+-- listeners received.
 use Rattle.std.specs.Prelude.{ℕ, ◌≡◌, ◌⊎◌, Bool, true, false, List, ◌∷◌, Result, Ok, Err, IfErr}
 use Rattle.sat_base.specs.steps.Steps.{Step, AddClause}
 use Rattle.sat_checker.specs.Spent.{IsSpent, SpentBy}
@@ -44,19 +45,20 @@ has_failed c = c.kernel.failed
 abbrev pub looks_of : {L : Type 0} → CheckerView L → ℕ
 looks_of c = c.kernel.looks
 
--- that no unit conflict is waiting for the id of its empty clause
+-- that no unit conflict is pending
 abbrev pub IsSettled : {L : Type 0} → CheckerView L → Type 0
 IsSettled c = kernels.KernelIsSettled c.kernel
 
--- If the result is a listener's fault, a listener that was added returned it.
+-- that the result is a listener's fault only if a listener was added
 abbrev pub FaultIsFromListener : {P T : Type 0} → Result Unit CheckerError → Checker P T → Type 0
 FaultIsFromListener result old = (steps : List Step) → kernels.HasAccepted (kernel_of old) steps → IfErr result (IsListenerFault old.processing)
 
--- that a checker that has failed only returns `fault` and does not change
+-- that the call returns `fault` and does not change the checker, if the checker had failed
 abbrev pub FailsAgain : {E P T : Type 0} → E → Result Unit E → Checker P T → Checker P T → Type 0
 FailsAgain fault result old new = kernels.kernel_has_failed (kernel_of old) ≡ true → (result ≡ Err fault) × (new ≡ old)
 
--- the result of adding a listener: the listeners are then the earlier listeners and the new one
+-- The result of adding a listener. If it is `Ok`, the listeners are `more`. After an error, the listeners are
+-- unchanged; if memory ran out, the checker has failed.
 abbrev pub AddsListener : {L : Type 0} → Result Unit CheckerError → Kernel → Kernel → L → L → L → Type 0
 AddsListener (Ok x) old new listened listen more = (kernels.kernel_has_failed old ≡ false) × (new ≡ old) × (listen ≡ more)
 AddsListener (Err errors.OutOfMemory) old new listened listen more = (kernels.kernel_has_failed old ≡ false) × (new ≡ record old { failed = true }) × (listen ≡ listened)
@@ -68,52 +70,53 @@ AddsListener (Err errors.ProofIncomplete) old new listened listen more = ⊥
 AddsListener (Err errors.IoError) old new listened listen more = ⊥
 AddsListener (Err errors.ParseError) old new listened listen more = ⊥
 
--- How listeners change when they hear something, what was announced earlier, and what the listeners were then.
+-- `Hears` is how listeners receive an announcement. The listeners were `begun` after the announcements `before`.
 module _ {L : Type 0} (Hears : L → Notice → Result Unit ProcessingError → L → Type 0) (before : List Notice) (begun : L) where
-  -- That the checker has accepted these steps, the newest first, and stores what is stored after them unless it has failed. The listeners have
-  -- received all announcements of these steps after those made earlier.
+  -- That the checker has accepted these steps, the newest first. Unless it has failed, it stores what is stored after
+  -- them, and since `begun` its listeners received their announcements beyond `before`.
   pub record HasAccepted (checker : CheckerView L) (steps : List Step) : Type 0 where
     pub kernel : kernels.HasAccepted checker.kernel steps
     pub heard : has_failed checker ≡ false → HearsSince Hears before (notices_by checker.kernel.state.formula.status.conflict steps) begun checker.listeners
 
-  -- that the checker only returns `HasFailed` from now on; its state did not change
+  -- that the checker has accepted these steps and has failed, so it only returns `HasFailed` from now on
   pub record Fails (new : CheckerView L) (steps : List Step) : Type 0 where
     pub valid : HasAccepted new steps
     pub failed : has_failed new ≡ true
 
-  -- that the checker failed, and has announced only what was pending
+  -- that the checker has failed, and its listeners received all announcements of these steps, including a pending one
   pub record FailsRefusing (new : CheckerView L) (steps : List Step) : Type 0 where
     pub fails : Fails new steps
     pub heard : HearsSince Hears before (all_notices_after steps) begun new.listeners
 
-  -- that the checker failed, and has announced nothing more, or only what was pending
+  -- that the checker has failed, and its listeners received these steps' announcements, with or without a pending one
   pub record FailsBeforeStep (new : CheckerView L) (steps : List Step) : Type 0 where
     pub fails : Fails new steps
     pub heard : HearsSince Hears before (notices_after steps) begun new.listeners ⊎ HearsSince Hears before (all_notices_after steps) begun new.listeners
 
-  -- that a listener returned a fault for some of these announcements
+  -- that the checker has failed, and its listeners received these announcements up to one that returned this fault
   pub record FailsAtListener (e : ProcessingError) (reported : List Notice) (new : CheckerView L) (steps : List Step) : Type 0 where
     pub fails : Fails new steps
     pub heard : HearsSinceUpTo Hears e before reported begun new.listeners
 
-  -- that a listener returned a fault for a pending unit conflict, or for an announcement of an accepted step, which then counts
+  -- that announcing a pending unit conflict or the accepted step returned this fault; in the second case, the step
+  -- counts as accepted
   abbrev pub BreaksAt : ProcessingError → CheckerView L → Step → List Step → Type 0
   BreaksAt e new step steps =
       (kernels.LeavesConflict steps × FailsAtListener e (all_notices_after steps) new steps)
       ⊎ (Accepts (ready_after steps) step × FailsAtListener e (notices_after (step ∷ steps)) new (step ∷ steps))
 
-  -- That memory ran out for the step, which would be accepted, or during an announcement.
+  -- That memory ran out, either for the step, which would be accepted, or during an announcement.
   abbrev pub RunsOutOfMemoryAt : CheckerView L → Step → List Step → Type 0
   RunsOutOfMemoryAt new step steps = (Accepts (ready_after steps) step × FailsBeforeStep new steps) ⊎ BreaksAt faults.OutOfMemory new step steps
 
-  -- that the step was accepted, in agreement with the definition
+  -- that the definition accepts the step, and the checker has accepted it and has not failed
   pub record Takes (new : CheckerView L) (step : Step) (steps : List Step) : Type 0 where
     pub accepts : Accepts (ready_after steps) step
     pub valid : HasAccepted new (step ∷ steps)
     pub goes_on : has_failed new ≡ false
 
-  -- What the result for a step means after these accepted steps. A refused step is one that the definition refuses; `CounterEnd` is returned only if
-  -- the last id or count was used.
+  -- What the result for a step means, after these accepted steps. A step is refused only if the definition refuses it.
+  -- `CounterEnd` is returned only if an id or a count does not fit in 64 bits.
   abbrev pub AnswersStep : Result Unit CheckerError → CheckerView L → Step → CheckerView L → List Step → Type 0
   AnswersStep (Ok x) old step new steps = (has_failed old ≡ false) × Takes new step steps
   AnswersStep (Err errors.CheckFailed) old step new steps = (has_failed old ≡ false) × (Accepts (ready_after steps) step → ⊥) × FailsRefusing new steps
@@ -125,7 +128,8 @@ module _ {L : Type 0} (Hears : L → Notice → Result Unit ProcessingError → 
   AnswersStep (Err errors.IoError) old step new steps = ⊥
   AnswersStep (Err errors.ParseError) old step new steps = ⊥
 
-  -- What the result means when a pending unit conflict is settled after these steps. The empty clause gets no id only if the last one was assigned.
+  -- What the result of settling a pending unit conflict means, after these accepted steps. `CounterEnd` is returned
+  -- only if an id or a count does not fit in 64 bits.
   abbrev pub AnswersDelayed : Result Unit CheckerError → CheckerView L → CheckerView L → List Step → Type 0
   AnswersDelayed (Ok x) old new steps = (has_failed old ≡ false) × (looks_of new ≡ looks_of old) × HasAccepted new steps × (has_failed new ≡ false) × IsSettled new
   AnswersDelayed (Err errors.CounterEnd) old new steps = (has_failed old ≡ false) × (looks_of new ≡ looks_of old) × IsSpent (ready_after steps) × FailsBeforeStep new steps
@@ -139,7 +143,8 @@ module _ {L : Type 0} (Hears : L → Notice → Result Unit ProcessingError → 
   AnswersDelayed (Err errors.IoError) old new steps = ⊥
   AnswersDelayed (Err errors.ParseError) old new steps = ⊥
 
-  -- The result of adding a clause of the formula. A refused clause does not change the checker.
+  -- What the result of adding a clause of the formula means, after these accepted steps. A refused clause does not
+  -- change the checker.
   abbrev pub AnswersClause : Result Unit CheckerError → CheckerView L → List ℕ → CheckerView L → List Step → Type 0
   AnswersClause (Ok x) old clause new steps = AnswersStep (Ok x) old (AddClause clause) new steps
   AnswersClause (Err errors.CheckFailed) old clause new steps = (has_failed old ≡ false) × (Accepts (ready_after steps) (AddClause clause) → ⊥) × (new ≡ old)

@@ -11,24 +11,25 @@ use Rattle.sat_checker.specs.declared.error.CheckerError.TheVariants as errors
 use Rattle.sat_checker.specs.declared.processing.ProcessingError.{ProcessingError}
 use Rattle.sat_checker.specs.declared.processing.ProcessingError.TheVariants as faults
 
--- clauses as steps
+-- the steps that add these clauses
 abbrev pub additions : List (List ℕ) → List Step
 additions = map AddClause
 
--- That the first of the clauses were added, and the clauses in `tried` were tried.
+-- That `clauses` begins with `added` and then `tried`. The checker had not failed before, and its looks rose at most by
+-- the bound for these clauses.
 pub record AddsFirstClauses {L : Type 0} (old new : CheckerView L) (clauses added tried : List (List ℕ)) (earlier : List Step) : Type 0 where
   pub well : has_failed old ≡ false
   pub left : List (List ℕ)
   pub split : clauses ≡ (added ++ tried) ++ left
   pub looks : looks_of new ≤ looks_of old + most_looks_after (additions (added ++ tried)) earlier
 
--- the accepted steps after clauses were added, given the earlier steps
+-- all accepted steps, the newest first, once these clauses were added after the earlier steps
 abbrev pub after_additions : List (List ℕ) → List Step → List Step
 after_additions clauses earlier = taken_after (additions clauses) earlier
 
 module _ {L : Type 0} (Hears : L → Notice → Result Unit ProcessingError → L → Type 0) (before : List Notice) (begun : L) where
-  -- The result of adding clauses: they are added as if by one call for each, up to the first that is not accepted. A refused clause does not
-  -- change the checker.
+  -- What the result of adding clauses means, after these accepted steps. The clauses are added one by one, up to the
+  -- first that is not accepted. A refused clause does not make the checker fail.
   abbrev pub AnswersClauses : Result Unit CheckerError → CheckerView L → CheckerView L → List (List ℕ) → List Step → Type 0
   AnswersClauses (Ok x) old new clauses earlier = AddsFirstClauses old new clauses clauses [] earlier × HasAcceptedUnfailed Hears before begun new (after_additions clauses earlier)
   AnswersClauses (Err errors.CheckFailed) old new clauses earlier =

@@ -1,4 +1,5 @@
--- What is stored, without ids, the order of clauses and a pending unit conflict, and how every step changes that.
+-- What is stored, apart from ids, the order of clauses, the last irredundant clause and a pending unit conflict; and
+-- how every step changes it.
 use Rattle.std.specs.Prelude.{ℕ, ◌+◌, ◌-◌, ◌==◌, Bool, true, false, not, ◌&&◌, ◌||◌, Option, None, Some, List, [], ◌∷◌, map, if◌then◌else◌}
 use Rattle.sat_base.specs.values.Literals.{variable, negated}
 use Rattle.sat_base.specs.steps.Steps.{Redundant, Step, SolverVarName, UserVarName, DeleteVar, ChangeSamplingMode, AddClause, AtClause, UnitClauses, DeleteClause, ChangeHashBits, Model, Assumptions, FailedAssumptions, End}
@@ -15,7 +16,7 @@ count_in false c = irredundant_count c
 abbrev pub count_of : Bool → List ℕ → List StoredClause → ℕ
 count_of redundant set clauses = count_in redundant (clause_with set clauses)
 
--- what steps say about clauses, units, variables, names, the width of hashes and assumptions: no ids, no order, no pending unit conflict
+-- the stored clauses, units, variables, names, width of hashes and assumptions, without ids, order and unit conflict
 pub record ProofState : Type 0 where
   pub counts : Bool → List ℕ → ℕ  -- the redundant (true) or irredundant count of each set of literals
   pub units : ℕ → Bool

@@ -20,11 +20,11 @@ use Rattle.sat_checker.specs.declared.error.CheckerError.TheVariants as errors
 use Rattle.sat_checker.specs.declared.error.CheckerDimacsError.{CheckerDimacsError}
 use Rattle.sat_checker.specs.declared.error.CheckerDimacsError.TheVariants as refused
 
--- that these are the clauses of the words that have ended in a prefix of the text
+-- that these are the clauses of some prefix of the text, up to the prefix's last blank
 abbrev pub AreOfFront : List ℕ → List (List ℕ) → Type 0
 AreOfFront text clauses = (front : List ℕ) × (left : List ℕ) × (text ≡ front ++ left) × (clauses ≡ (dimacs (up_to_last_blank front)).clauses)
 
--- that these are the clauses that were read: those of the words that have ended, or all clauses of the text
+-- that these are the clauses that were read: those of a prefix of the text, up to a blank, or all clauses of the text
 abbrev pub AreRead : List ℕ → List (List ℕ) → Type 0
 AreRead text clauses = AreOfFront text clauses ⊎ (clauses ≡ (dimacs text).clauses)
 
@@ -32,7 +32,7 @@ AreRead text clauses = AreOfFront text clauses ⊎ (clauses ≡ (dimacs text).cl
 abbrev pub AreFirst : List (List ℕ) → List ℕ → Type 0
 AreFirst clauses text = (following : List (List ℕ)) × ((dimacs text).clauses ≡ clauses ++ following)
 
--- that the text has these clauses before a fault, or memory ran out after them
+-- that the text has these clauses and then this fault, or that memory ran out and these are the clauses of a prefix
 abbrev pub FaultAfter : DimacsError → List ℕ → List (List ℕ) → Type 0
 FaultAfter (texts.Malformed line) text clauses = (n : ℕ) × (line ≡ held n) × IsDimacs text clauses (Malformed n)
 FaultAfter (texts.Limit line) text clauses = (n : ℕ) × (line ≡ held n) × IsDimacs text clauses (Limit n)
@@ -40,18 +40,21 @@ FaultAfter texts.OutOfMemory text clauses = ParsesShort text × AreOfFront text 
 FaultAfter texts.Read text clauses = ⊥
 FaultAfter texts.HasFailed text clauses = ⊥
 
--- That a text was read up to its fault, or to a read that failed, whatever bytes could follow.
+-- That reading a text ended with this error after these clauses. If no read failed, `FaultAfter` holds for every text
+-- that the reader could then give.
 abbrev pub FailsAfter : DimacsError → Reader → Reader → List (List ℕ) → Type 0
 FailsAfter texts.Read from to clauses = ReadFails from to × (text : List ℕ) × GaveFront from to text × IsSoundText text × (clauses ≡ (dimacs (up_to_last_blank text)).clauses)
 FailsAfter error from to clauses = NoReadFailed from to × GaveEnough from to (λ text. FaultAfter error text clauses)
 
 module _ {L : Type 0} (Hears : L → Notice → Result Unit ProcessingError → L → Type 0) (before : List Notice) (begun : L) where
-  -- that the checker continues, unless memory ran out
+  -- that the checker has not failed, unless memory ran out; then it has
   abbrev pub ContinuesAfter : DimacsError → CheckerView L → List Step → Type 0
   ContinuesAfter texts.OutOfMemory new steps = FailsBeforeStep Hears before begun new steps
   ContinuesAfter error new steps = HasAcceptedUnfailed Hears before begun new steps
 
-  -- What the result for a text means after these accepted steps. It is `Ok` if all clauses of the text were added. If the text has a fault, those before the fault were added; if a clause isn't accepted, those before it.
+  -- What the result of adding a text means, after these accepted steps. `Ok` means that all clauses of the text were
+  -- added. After a fault of the text or a failed read, the clauses read before it were added. After an error of the
+  -- checker, the clauses before the clause that caused it were added.
   abbrev pub AnswersDimacs : Result Unit CheckerDimacsError → CheckerView L → CheckerView L → Reader → Reader → List Step → Type 0
   AnswersDimacs (Ok x) old new from to earlier =
       NoReadFailed from to × (clauses : List (List ℕ)) × GaveEnough from to (λ text. IsDimacs text clauses Clean) × AnswersClauses Hears before begun (Ok tt) old new clauses earlier
@@ -66,7 +69,7 @@ module _ {L : Type 0} (Hears : L → Notice → Result Unit ProcessingError → 
   abbrev pub AddsDimacs : Result Unit CheckerDimacsError → CheckerView L → CheckerView L → Reader → Reader → Type 0
   AddsDimacs result old new from to = (before : List Notice) (begun : L) (steps : List Step) → HasAccepted Hears before begun old steps → AnswersDimacs Hears before begun result old new from to steps
 
--- that a listener that was added returned the fault, if the result is a listener's fault
+-- that the error is a listener's fault only if a listener was added
 abbrev pub DimacsFaultIsFromListener : {P T : Type 0} → Processing P T → CheckerDimacsError → Type 0
 DimacsFaultIsFromListener old (refused.Checker error) = IsListenerFault old error
 DimacsFaultIsFromListener old (refused.Dimacs error) = Unit {0}
@@ -75,10 +78,10 @@ DimacsFaultIsFromListener old (refused.Dimacs error) = Unit {0}
 abbrev pub DimacsFaultNeedsListener : {P T : Type 0} → Result Unit CheckerDimacsError → Checker P T → Type 0
 DimacsFaultNeedsListener result old = (steps : List Step) → kernels.HasAccepted (kernel_of old) steps → IfErr result (DimacsFaultIsFromListener old.processing)
 
--- that the clauses of the words that have ended in a text stay the first, whatever bytes follow
+-- that every text that continues this one begins with the clauses of this one up to its last blank
 abbrev pub EndedStayFirst : Type 0
 EndedStayFirst = (text rest : List ℕ) → AreFirst (dimacs (up_to_last_blank text)).clauses (text ++ rest)
 
--- that the clauses that are read from a text stay the first, whatever bytes follow
+-- that a text begins with the clauses that were read from it, in the sense of `AreRead`
 abbrev pub ReadAreFirst : Type 0
 ReadAreFirst = (text : List ℕ) (clauses : List (List ℕ)) → AreRead text clauses → AreFirst clauses text

@@ -10,7 +10,7 @@ use Rattle.sat_checker.specs.Spent.{SpentBy}
 abbrev pub IdsWithinBytes : Type 0
 IdsWithinBytes = (steps : List Step) (text : List ℕ) → SpellsSteps steps text → (ready_after (taken_after steps [])).next_id ≤ length text
 
--- that no steps that a reader can provide exhaust the ids or counts
+-- that steps of at most `most_bytes` bytes never exhaust the ids or counts
 abbrev pub NoneIsSpent : Type 0
 NoneIsSpent = (steps : List Step) (step : Step) (text : List ℕ) → SpellsSteps (steps ++ step ∷ []) text → length text ≤ most_bytes
     → SpentBy step (stored_after (taken_after steps [])) → ⊥

@@ -36,7 +36,7 @@ pub record IsProper (literals : List ℕ) : Type 0 where
 abbrev pub AllKnown : Stored → List ℕ → Type 0
 AllKnown f = AllByRecursion (λ l. is_known (variable l) f ≡ true)
 
--- the invariant of clauses, their counts and ids, and of units; the variables of clauses, units and assumptions are known
+-- the invariant of clauses, counts, ids and units; the variables of clauses, units and assumptions are known
 pub record IsTidy (f : Stored) : Type 0 where
   pub proper : AllByRecursion IsProper (long_clauses f)
   pub once : EachOnce f.clauses
@@ -51,7 +51,7 @@ pub record IsTidy (f : Stored) : Type 0 where
 abbrev pub AlwaysTidy : Type 0
 AlwaysTidy = (steps : List Step) → AcceptsAll steps → IsTidy (ready_after steps)
 
--- that unsat stays recorded once it is
+-- that unsat, once recorded, stays recorded
 abbrev pub UnsatStays : Type 0
 UnsatStays = (f : Stored) (step : Step) → f.unsat ≡ true → (effect step f).unsat ≡ true
 
@@ -63,7 +63,7 @@ PendingChangesNothing = (f : Stored) (step : Step) → Accepts f step ↔ Accept
 abbrev pub AllClausesHold : Type 0
 AllClausesHold = (steps : List Step) (a : Valuation) → AcceptsAll steps → Holds steps a → EachHolds a (long_clauses (ready_after steps))
 
--- that every step changes the contents as `contents_after` says
+-- that every step changes the contents as `contents_after` says, if no set of literals is stored twice
 abbrev pub ContentsFollow : Type 0
 ContentsFollow = (f : Stored) (step : Step) → EachOnce f.clauses → contents (effect step f) ≡ contents_after step (contents f)
 
@@ -71,11 +71,11 @@ ContentsFollow = (f : Stored) (step : Step) → EachOnce f.clauses → contents 
 abbrev pub ContentsAreSettled : Type 0
 ContentsAreSettled = (f : Stored) → contents (settled f) ≡ contents f
 
--- that the contents after accepted steps are the initial contents, changed by the steps one by one
+-- that `contents_of` gives the contents after any steps
 abbrev pub ContentsOfSteps : Type 0
 ContentsOfSteps = (steps : List Step) → contents (ready_after steps) ≡ contents_of steps
 
--- that removing a count affects only the count of this set on this side
+-- that removing one count of a set lowers that count by 1, unless it is 0, and changes no other count
 abbrev pub TakingCounts : Type 0
 TakingCounts = (redundant side : Bool) (set other : List ℕ) (cs : List StoredClause) → EachOnce cs →
     count_of side other (without_clause redundant set cs) ≡ less_if (same_side redundant side && same_literals set other) (count_of side other cs)
@@ -84,7 +84,8 @@ TakingCounts = (redundant side : Bool) (set other : List ℕ) (cs : List StoredC
 abbrev pub CountedIsStored : Type 0
 CountedIsStored = (set : List ℕ) (cs : List StoredClause) → EachCounted cs → (clause_with set cs ≡ None) ↔ (count_of false set cs + count_of true set cs ≡ 0)
 
--- that an irredundant derived clause of two or more literals is then the last irredundant clause stored
+-- that a derived irredundant clause of two or more literals, unless it is a tautology, is the last irredundant clause
+-- stored after its step
 abbrev pub DerivedIsLast : Type 0
 DerivedIsLast = (steps : List Step) (clause hashes : List ℕ) → AcceptsAll (AtClause false clause hashes ∷ steps) → is_tautology clause ≡ false → 2 ≤ length (canonical clause) →
     last_literals (ready_after (AtClause false clause hashes ∷ steps)).last (ready_after (AtClause false clause hashes ∷ steps)) ≡ Some (canonical clause)
@@ -113,14 +114,15 @@ LastIsSettled = (f : Stored) → last_literals (settled f).last (settled f) ≡ 
 abbrev pub Supported : List ℕ → List StoredClause → List ℕ → Type 0
 Supported us cs ls = (list_any (is_among us) ls ≡ true) ⊎ (0 < irredundant_count (clause_with ls cs))
 
--- what is known about the last irredundant clause stored, if it is still stored
+-- that unsat is recorded if the last irredundant clause is empty, and that a long one that is still stored is
+-- `Supported`
 abbrev pub LastHolds : Last → Bool → List ℕ → List StoredClause → Type 0
 LastHolds NoneYet unsat us cs = Unit {0}
 LastHolds (Empty id) unsat us cs = unsat ≡ true
 LastHolds (UnitClause id) unsat us cs = Unit {0}
 LastHolds (LongClause id) unsat us cs = (ls : List ℕ) → clause_numbered id cs ≡ Some ls → Supported us cs ls
 
--- that the id of the last irredundant clause stored was assigned
+-- that the id of the last irredundant clause stored was assigned, unless the clause is a unit
 abbrev pub LastBelow : ℕ → Last → Type 0
 LastBelow n NoneYet = Unit {0}
 LastBelow n (Empty id) = id < n
@@ -138,7 +140,7 @@ pub record Orderly (f : Stored) : Type 0 where
 abbrev pub AlwaysOrderly : Type 0
 AlwaysOrderly = (steps : List Step) → AcceptsAll steps → Orderly (ready_after steps)
 
--- that both have the same variables and the same assumptions
+-- that both have the same variables, the same record of deleted variables, and the same assumptions
 pub record SameVariables (f g : Stored) : Type 0 where
   pub variables : g.variables ≡ f.variables
   pub deleted : g.var_deleted ≡ f.var_deleted

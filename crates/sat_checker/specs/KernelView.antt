@@ -1,4 +1,5 @@
--- What contracts see of the part of a checker that judges steps: the steps that it accepted, which include input clauses, and whether it has failed. Listeners are left out.
+-- What contracts see of the kernel, the part of a checker that judges steps: the accepted steps (input clauses
+-- included), and whether it has failed. Listeners are left out.
 use Rattle.std.specs.Prelude.{ℕ, ◌≡◌, ◌≢◌, ◌⊎◌, ◌+◌, ◌≤◌, Bool, true, false, None, List, ◌∷◌, Result, Ok, Err}
 use Rattle.sat_base.specs.steps.Steps.{Step}
 use Rattle.sat_checker.specs.Stored.{Stored}
@@ -22,48 +23,49 @@ kernel_has_failed k = k.failed
 abbrev pub kernel_looks : Kernel → ℕ
 kernel_looks k = k.looks
 
--- that no unit conflict is waiting for the id of its empty clause
+-- that no unit conflict is pending
 abbrev pub KernelIsSettled : Kernel → Type 0
 KernelIsSettled k = k.state.formula.status.conflict ≡ None
 
--- That the kernel stores what is stored after these steps. A unit conflict that was then pending may have been settled since.
+-- That the state represents what is stored after these steps. A unit conflict that was pending then may be settled.
 pub record KeepsAfter (state : State) (steps : List Step) : Type 0 where
   pub formula : Stored
   pub keeps : RepresentsStored state formula
   pub left : (formula ≡ stored_after steps) ⊎ (formula ≡ ready_after steps)
 
--- the records of what is stored, which can still be returned after a later step has failed
+-- the records of what is stored, which remain available after a later step has failed
 abbrev pub records_of : Stored → Records
 records_of f = record { unsat = f.unsat; ended = f.ended; var_deleted = f.var_deleted }
 
--- That the kernel has accepted these steps, the newest first, and stores what is stored after them unless it has failed.
+-- That the kernel has accepted these steps, the newest first, and stores what is stored after them, unless it failed.
 pub record HasAccepted (kernel : Kernel) (steps : List Step) : Type 0 where
   pub accepted : AcceptsAll steps
   pub records : kernel.records ≡ records_of (stored_after steps)
   pub kept : kernel.failed ≡ false → KeepsAfter kernel.state steps
 
--- that the kernel only returns `HasFailed` from now on; its state did not change
+-- that the kernel has accepted these steps and has failed, so it only returns `HasFailed` from now on
 pub record Fails (new : Kernel) (steps : List Step) : Type 0 where
   pub valid : HasAccepted new steps
   pub failed : kernel_has_failed new ≡ true
 
--- that a unit conflict is pending after these steps, and is announced before the next step is judged
+-- that a unit conflict is pending after these steps
 abbrev pub LeavesConflict : List Step → Type 0
 LeavesConflict steps = (stored_after steps).conflict ≢ None
 
--- that the step was accepted, in agreement with the definition
+-- that the definition accepts the step, and the kernel has accepted it and has not failed
 pub record AcceptsStep (new : Kernel) (step : Step) (steps : List Step) : Type 0 where
   pub accepts : Accepts (ready_after steps) step
   pub valid : HasAccepted new (step ∷ steps)
   pub goes_on : kernel_has_failed new ≡ false
 
--- What the result for a step means after these accepted steps. A refused step is one that the definition refuses; `CounterEnd` is returned only if
--- the last id or count was used.
+-- What the result for a step means, after these accepted steps. A step is refused only if the definition refuses it.
+-- `CounterEnd` is returned only if an id or a count does not fit in 64 bits.
 abbrev pub AnswersStep : Result Unit CheckerError → Kernel → Step → Kernel → List Step → Type 0
 AnswersStep (Ok x) old step new steps = (kernel_has_failed old ≡ false) × AcceptsStep new step steps
 AnswersStep (Err errors.CheckFailed) old step new steps = (kernel_has_failed old ≡ false) × (Accepts (ready_after steps) step → ⊥) × Fails new steps
 AnswersStep (Err errors.CounterEnd) old step new steps = (kernel_has_failed old ≡ false) × SpentBy step (stored_after steps) × Fails new steps
--- memory ran out for the step, which would be accepted; while a pending conflict was announced; or while the step was, which then counts as accepted
+-- Memory ran out for a step that would be accepted, while a pending conflict was announced, or while the step was
+-- announced. In the last case, the step counts as accepted.
 AnswersStep (Err errors.OutOfMemory) old step new steps =
     (kernel_has_failed old ≡ false)
     × ((Accepts (ready_after steps) step × Fails new steps)
@@ -73,7 +75,7 @@ AnswersStep (Err errors.HasFailed) old step new steps = (kernel_has_failed old �
 AnswersStep (Err errors.ProofIncomplete) old step new steps = ⊥
 AnswersStep (Err errors.IoError) old step new steps = ⊥
 AnswersStep (Err errors.ParseError) old step new steps = ⊥
--- a listener returned a fault, for a pending conflict or for the step
+-- a listener returned a fault, for a pending conflict or for the step; in the second case, the step counts as accepted
 AnswersStep (Err (errors.ProofProcessorError cause)) old step new steps =
     (kernel_has_failed old ≡ false) × ((LeavesConflict steps × Fails new steps) ⊎ (Accepts (ready_after steps) step × Fails new (step ∷ steps)))
 
@@ -97,7 +99,8 @@ ChecksStep result old step new = (steps : List Step) → HasAccepted old steps �
 abbrev pub LooksAtMost : Kernel → Step → Kernel → Type 0
 LooksAtMost old step new = (steps : List Step) → HasAccepted old steps → kernel_looks new ≤ kernel_looks old + most_looks (ready_after steps) step
 
--- What the result means when a pending unit conflict is settled after these steps. The empty clause gets no id only if the last one was assigned.
+-- What the result of settling a pending unit conflict means, after these accepted steps. `CounterEnd` is returned only
+-- if an id or a count does not fit in 64 bits.
 abbrev pub AnswersDelayed : Result Unit CheckerError → Kernel → Kernel → List Step → Type 0
 AnswersDelayed (Ok x) old new steps = (kernel_has_failed old ≡ false) × (kernel_looks new ≡ kernel_looks old) × HasAccepted new steps × (kernel_has_failed new ≡ false) × KernelIsSettled new
 AnswersDelayed (Err errors.CounterEnd) old new steps = (kernel_has_failed old ≡ false) × (kernel_looks new ≡ kernel_looks old) × IsSpent (ready_after steps) × Fails new steps

@@ -18,7 +18,7 @@ FormulaIsFold = (steps : List Step) (a : Valuation) → AcceptsAll steps → Sat
 abbrev pub UnsatMeansNone : Type 0
 UnsatMeansNone = (steps : List Step) (a : Valuation) → AcceptsAll steps → (ready_after steps).unsat ≡ true → Holds steps a → ⊥
 
--- that accepted steps allow every valuation that agrees with an accepted model and with the units, and there is one
+-- that the accepted steps allow every valuation that satisfies an accepted model and the units, and that there is one
 abbrev pub ModelsExtend : Type 0
 ModelsExtend = (steps : List Step) (ls : List ℕ) → AcceptsAll steps → Accepts (ready_after steps) (Model ls) →
     ((a : Valuation) → EachTrue a ls → EachTrue a (unit_literals (ready_after steps)) → Holds steps a)
@@ -62,7 +62,7 @@ has_delete_var (step ∷ earlier) = has_delete_var earlier
 abbrev pub DeletionIsSeen : Type 0
 DeletionIsSeen = (steps : List Step) → (ready_after steps).var_deleted ≡ has_delete_var steps
 
--- that the id of an empty clause was assigned, if that is the last irredundant clause stored
+-- that an empty clause that is the last irredundant clause stored has an id that was assigned
 abbrev pub EmptyIsGiven : Type 0
 EmptyIsGiven = (steps : List Step) (id : ℕ) → AcceptsAll steps → (ready_after steps).last ≡ Empty id → id < (ready_after steps).next_id
 

@@ -1,4 +1,5 @@
--- How stored clauses that hashes name lead to a conflict. Their literals are in any order, and other clauses of a bucket do not matter.
+-- When stored clauses with given hashes lead to a conflict. Their literals may be in any order, and other clauses in
+-- their buckets do not matter.
 use Rattle.std.specs.Prelude.{ℕ, ◌≡◌, ◌⊎◌, ◌==◌, ◌||◌, Bool, true, Option, is_some, List, [], ◌∷◌, map}
 use Rattle.std.specs.List.{AllByRecursion}
 use Rattle.sat_base.specs.values.Literals.{negated}
@@ -10,15 +11,15 @@ use Rattle.sat_checker.specs.Stored.{Stored, is_unit, hash_by}
 use Rattle.sat_checker.specs.Storing.{clause_with}
 use Rattle.sat_checker.specs.Accepts.{PassesByHashes}
 
--- That in every clause but the last, all literals but one are false so far, and that literal is true from then on. All literals of the last
--- clause are false. The one literal may already be true or false.
+-- That in every clause but the last, all literals but one are false so far, and that literal is true from then on. All
+-- literals of the last clause are false. The one literal may already be true or false.
 abbrev pub LeadsToConflict : (ℕ → Bool) → List (List ℕ) → Type 0
 LeadsToConflict holds [] = ⊥
 LeadsToConflict holds (c ∷ []) = AllByRecursion (λ l. holds (negated l) ≡ true) c
 LeadsToConflict holds (c ∷ d ∷ cs) =
     (open_literal : ℕ) × AllByRecursion (λ l. (l ≡ open_literal) ⊎ (holds (negated l) ≡ true)) c × (is_among c open_literal ≡ true) × LeadsToConflict (λ l. open_literal == l || holds l) (d ∷ cs)
 
--- that a clause, its literals in any order, is stored and has this hash
+-- that a clause, given in any order without repeats, is stored and has this hash
 pub record IsStoredByHash (f : Stored) (clause : List ℕ) (name : ℕ) : Type 0 where
   pub once : NoRepeats clause
   pub stored : is_some (clause_with (canonical clause) f.clauses) ≡ true
@@ -31,11 +32,11 @@ AreStoredByHash f [] (h ∷ hs) = ⊥
 AreStoredByHash f (c ∷ cs) [] = ⊥
 AreStoredByHash f (c ∷ cs) (h ∷ hs) = IsStoredByHash f c h × AreStoredByHash f cs hs
 
--- whether a literal is assumed at the start of the check of a clause: the clause's literals are false, and units are true
+-- whether a literal is assumed at the start of a clause's check: the clause's literals are false, and units are true
 abbrev pub denied : Stored → List ℕ → ℕ → Bool
 denied f clause l = is_among (map negated clause) l || is_unit f l
 
--- that a clause passes the check if stored clauses whose hashes are given lead to a conflict
+-- that a clause passes the check under hashes if stored clauses with these hashes lead to a conflict
 abbrev pub LeadingPasses : Type 0
 LeadingPasses = (f : Stored) (clause hashes : List ℕ) (named : List (List ℕ)) → AreStoredByHash f named hashes → LeadsToConflict (denied f clause) named → PassesByHashes f clause hashes
 

@@ -1,5 +1,5 @@
--- The largest number of looks at literals that a step needs. Literals of a clause of two or more are read from the store only by one call,
--- which adds the clause's length to the looks.
+-- A bound on the looks at literals that a step needs. The store lends the literals of a clause only through one
+-- function, which adds the clause's length to the looks.
 use Rattle.std.specs.Prelude.{ℕ, ◌+◌, ◌*◌, List, [], ◌∷◌, length}
 use Rattle.sat_base.specs.steps.Steps.{Step, AtClause, UnitClauses, FailedAssumptions}
 use Rattle.sat_checker.specs.Stored.{Stored, long_clauses}
@@ -21,11 +21,11 @@ hashes_named (UnitClauses us) = length us
 hashes_named (FailedAssumptions core hashes) = length hashes
 hashes_named step = 0
 
--- the largest number of looks that a step needs: five passes over all literals, and two more for every hash of the step
+-- the bound on the looks of a step: five passes over all stored literals, and two more for every hash in the step
 abbrev pub most_looks : Stored → Step → ℕ
 most_looks f step = (5 + 2 * hashes_named step) * literal_count f
 
--- the largest number of looks that a list of steps needs, the newest first
+-- the bound on the looks of a list of steps, the newest first
 abbrev pub most_looks_of : List Step → ℕ
 most_looks_of [] = 0
 most_looks_of (step ∷ earlier) = most_looks_of earlier + most_looks (ready_after earlier) step

@@ -1,4 +1,4 @@
--- Worked examples of what steps mean, of what is satisfied, and of looks.
+-- Worked examples of `Holds`, of `Satisfies`, and of the bound on looks.
 use Rattle.std.specs.Prelude.{ℕ, ◌==◌, ◌≡◌, true, false, List, [], ◌∷◌, map}
 use Rattle.sat_base.specs.values.Clauses.{Valuation}
 use Rattle.sat_base.specs.steps.Steps.{Redundant, Step, DeleteVar, AddClause, AtClause, UnitClauses, DeleteClause, FailedAssumptions, End}
@@ -19,7 +19,7 @@ none_true v = false
 abbrev pub HoldsAfter : List Step → Valuation → Type 0
 HoldsAfter steps = Holds (following steps [])
 
--- the clause [1, 2] is true by either literal, and false if neither is true
+-- the clause [1, 2] holds if only 1 or only 2 is true, and doesn't hold if neither is
 abbrev pub EitherHolds : Type 0
 EitherHolds =
     HoldsAfter (AddClause (0 ∷ 2 ∷ []) ∷ []) (only 0) × HoldsAfter (AddClause (0 ∷ 2 ∷ []) ∷ []) (only 1)
@@ -29,17 +29,17 @@ EitherHolds =
 abbrev pub FourHaveNone : Type 0
 FourHaveNone = (a : Valuation) → HoldsAfter four_clauses a → ⊥
 
--- after the clause [1], its variable is deleted: the variable may then be false, even if [2] is added
+-- [1] is added and its variable is deleted: the variable may then be false; [2], which is added later, must be true
 abbrev pub DeletedIsFree : Type 0
 DeletedIsFree =
     HoldsAfter (AddClause (0 ∷ []) ∷ DeleteVar 0 ∷ []) none_true × HoldsAfter (AddClause (0 ∷ []) ∷ DeleteVar 0 ∷ AddClause (2 ∷ []) ∷ []) (only 1)
     × (HoldsAfter (AddClause (0 ∷ []) ∷ DeleteVar 0 ∷ AddClause (2 ∷ []) ∷ []) none_true → ⊥)
 
--- derived clauses and deleted clauses require nothing
+-- derived clauses and deletions of clauses require nothing of a valuation
 abbrev pub OnlyAddedAsk : Type 0
 OnlyAddedAsk = HoldsAfter (AtClause false (0 ∷ []) [] ∷ AddClause (2 ∷ []) ∷ DeleteClause (2 ∷ []) Redundant ∷ []) (only 1)
 
--- a stored clause requires a true literal, a redundant clause requires nothing, and a unit requires itself
+-- an irredundant clause and a unit must be true; a redundant clause need not be
 abbrev pub StoredAsk : Type 0
 StoredAsk =
     Satisfies (ready_by (AddClause (0 ∷ 2 ∷ []) ∷ [])) (only 0)
@@ -47,7 +47,7 @@ StoredAsk =
     × Satisfies (ready_by (AtClause true (0 ∷ 2 ∷ []) [] ∷ [])) none_true
     × (Satisfies (ready_by (AddClause (0 ∷ []) ∷ [])) none_true → ⊥)
 
--- recorded unsat allows no valuation
+-- once unsat is recorded, no valuation satisfies what is stored
 abbrev pub UnsatAsks : Type 0
 UnsatAsks = (a : Valuation) → Satisfies (ready_by (AddClause [] ∷ [])) a → ⊥
 

@@ -15,12 +15,12 @@ use Rattle.sat_checker.specs.declared.error.CheckerError.TheVariants as errors
 use Rattle.sat_checker.specs.declared.processing.ProcessingError.{ProcessingError}
 use Rattle.sat_checker.specs.declared.processing.ProcessingError.TheVariants as faults
 
--- the accepted steps after `steps`, in the order in which they were accepted, follow the earlier ones; the newest comes first
+-- all accepted steps, the newest first, once `steps`, the oldest first, follow the earlier steps
 abbrev pub taken_after : List Step → List Step → List Step
 taken_after [] earlier = earlier
 taken_after (step ∷ steps) earlier = taken_after steps (step ∷ earlier)
 
--- the largest number of looks that these steps need after the earlier steps
+-- the bound on the looks of these steps, after the earlier steps
 abbrev pub most_looks_after : List Step → List Step → ℕ
 most_looks_after [] earlier = 0
 most_looks_after (step ∷ steps) earlier = most_looks (ready_after earlier) step + most_looks_after steps (step ∷ earlier)
@@ -46,7 +46,8 @@ pub record BeginsWithStep (bytes : List ℕ) : Type 0 where
   pub whole : bytes ≡ (tag ∷ more) ++ following
   pub begins : BeginsText SpellsStep (tag ∷ more)
 
--- A proof was read so far: steps that were accepted, none of them an end, then the last step read or none, and the bytes after them.
+-- That a checker that had not failed read the steps `passed`, none of them an end, then the steps `last`, and then the
+-- bytes `rest`. Its looks rose at most by the bound for these steps.
 pub record ReadsProofPart {L : Type 0} (old new : CheckerView L) (from to : Reader) (earlier passed last : List Step) (rest : List ℕ) : Type 0 where
   pub well : has_failed old ≡ false
   pub steps : GaveSteps from to (passed ++ last) rest
@@ -66,7 +67,8 @@ module _ {L : Type 0} (Hears : L → Notice → Result Unit ProcessingError → 
   abbrev pub HasAcceptedUnfailed : CheckerView L → List Step → Type 0
   HasAcceptedUnfailed new steps = HasAccepted Hears before begun new steps × (has_failed new ≡ false)
 
-  -- What the result for a proof means after these accepted steps. It is `Ok` exactly when what was read are accepted steps up to the first end; nothing after that is looked at.
+  -- What the result for a proof means, after these accepted steps. `Ok` means that the steps up to the first end were
+  -- accepted. Bytes after the end do not matter.
   abbrev pub AnswersProof : Result Unit CheckerError → CheckerView L → CheckerView L → Reader → Reader → List Step → Type 0
   AnswersProof (Ok x) old new from to earlier =
       (passed : List Step) × (rest : List ℕ) × ReadsProofPart old new from to earlier passed (End ∷ []) rest × NoReadFailed from to × HasAcceptedUnfailed new (End ∷ taken_after passed earlier) × IsSettled new
@@ -74,24 +76,24 @@ module _ {L : Type 0} (Hears : L → Notice → Result Unit ProcessingError → 
   AnswersProof (Err errors.CheckFailed) old new from to earlier =
       (passed : List Step) × (step : Step) × (rest : List ℕ) × ReadsProofPart old new from to earlier passed (step ∷ []) rest × NoReadFailed from to
       × (Accepts (ready_after (taken_after passed earlier)) step → ⊥) × FailsRefusing Hears before begun new (taken_after passed earlier)
-  -- the text has ended before an end, between steps or within one
+  -- the text ended before an `End` step, between steps or within one
   AnswersProof (Err errors.ProofIncomplete) old new from to earlier =
       (passed : List Step) × (rest : List ℕ) × ReadsProofPart old new from to earlier passed [] rest × NoReadFailed from to
       × IsOver to × IsProperFront SpellsStep rest × HasAcceptedUnfailed new (taken_after passed earlier)
-  -- no step can continue after a byte
+  -- a byte was read after which no step can continue
   AnswersProof (Err errors.ParseError) old new from to earlier =
       (passed : List Step) × (rest : List ℕ) × ReadsProofPart old new from to earlier passed [] rest × NoReadFailed from to
       × IsFirstBadByte SpellsStep rest × HasAcceptedUnfailed new (taken_after passed earlier)
-  -- exactly one read failed, the last, or the limit of reads was reached and none failed
+  -- only the last read failed, or none failed and the limit of reads was reached
   AnswersProof (Err errors.IoError) old new from to earlier =
       (passed : List Step) × (rest : List ℕ) × ReadsProofPart old new from to earlier passed [] rest × ReadFails from to
       × IsProperFront SpellsStep rest × HasAcceptedUnfailed new (taken_after passed earlier)
-  -- memory ran out while a step was read, after one of its bytes, or while it was checked or announced
+  -- memory ran out while a step was read, after at least one byte of it, or while the step was checked or announced
   AnswersProof (Err errors.OutOfMemory) old new from to earlier =
       (passed : List Step) × (rest : List ℕ) × NoReadFailed from to
       × ((ReadsProofPart old new from to earlier passed [] rest × BeginsWithStep rest × FailsBeforeStep Hears before begun new (taken_after passed earlier))
       ⊎ ((step : Step) × ReadsProofPart old new from to earlier passed (step ∷ []) rest × RunsOutOfMemoryAt Hears before begun new step (taken_after passed earlier)))
-  -- the last id or count was already used
+  -- an id or a count does not fit in 64 bits
   AnswersProof (Err errors.CounterEnd) old new from to earlier =
       (passed : List Step) × (step : Step) × (rest : List ℕ) × ReadsProofPart old new from to earlier passed (step ∷ []) rest × NoReadFailed from to
       × SpentBy step (stored_after (taken_after passed earlier)) × FailsBeforeStep Hears before begun new (taken_after passed earlier)

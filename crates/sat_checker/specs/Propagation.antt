@@ -15,7 +15,8 @@ pub record IsUnit (assumed clause : List ℕ) (open_literal : ℕ) : Type 0 wher
   pub not_false : is_among assumed (negated open_literal) ≡ false
   pub others : AllByRecursion (λ l. (l ≡ open_literal) ⊎ (is_among assumed (negated l) ≡ true)) clause
 
--- that every clause but the last is unit once the literals of the clauses before it are assumed, and the last clause is falsified
+-- that every clause but the last is unit once the open literals of earlier clauses are assumed, and that the last
+-- clause is then falsified
 abbrev pub UnitInTurn : List ℕ → List (List ℕ) → Type 0
 UnitInTurn assumed [] = ⊥
 UnitInTurn assumed (clause ∷ []) = IsFalsified assumed clause
@@ -33,7 +34,7 @@ abbrev pub clauses_in : List (List (List ℕ)) → List (List ℕ)
 clauses_in [] = []
 clauses_in (b ∷ bs) = b ++ clauses_in bs
 
--- that some of the clauses of the first buckets, none of which is empty, are unit in turn, and the last of them is falsified
+-- that some clauses of the first buckets, none of which is empty, are unit in turn, and the last of them is falsified
 pub record LeadToConflict (assumed : List ℕ) (buckets : List (List (List ℕ))) : Type 0 where
   pub first : List (List (List ℕ))
   pub rest : List (List (List ℕ))
@@ -43,8 +44,8 @@ pub record LeadToConflict (assumed : List ℕ) (buckets : List (List (List ℕ))
   pub chosen : IsSubsequence picked (clauses_in first)
   pub conflict : UnitInTurn assumed picked
 
--- That a clause passes the check under stored units and the buckets of a step: it has both signs of a variable, a unit satisfies it, or the
--- buckets lead to a conflict.
+-- That a clause passes the check under stored units and the buckets of a step. It has both signs of a variable, or a
+-- unit satisfies it, or the buckets lead to a conflict.
 pub data PassesCheck (units clause : List ℕ) (buckets : List (List (List ℕ))) : Type 0 where
   tautology : is_tautology clause ≡ true → PassesCheck units clause buckets
   unit_true : list_any (is_among units) clause ≡ true → PassesCheck units clause buckets

@@ -1,4 +1,4 @@
--- Lists of literals without repeats.
+-- Lists of literals without repeats, and sorted lists.
 use Rattle.std.specs.Prelude.{ℕ, ◌≡◌, ◌<◌, false, List, [], ◌∷◌}
 use Rattle.std.specs.List.{AllByRecursion}
 use Rattle.sat_checker.specs.LiteralSets.{is_among}

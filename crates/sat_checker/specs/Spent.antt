@@ -10,10 +10,10 @@ pub record CountSpent (f : Stored) : Type 0 where
   pub literals : List ℕ
   pub past : (2 ^ 64 ≤ irredundant_count (clause_with literals f.clauses)) ⊎ (2 ^ 64 ≤ redundant_count (clause_with literals f.clauses))
 
--- that an id after the last one, 2^64-2, would be needed, or a count does not fit in 64 bits
+-- that the next id or a count does not fit in 64 bits; so the last id is 2^64-2
 abbrev pub IsSpent : Stored → Type 0
 IsSpent f = (2 ^ 64 ≤ f.next_id) ⊎ CountSpent f
 
--- a number does not fit in 64 bits once a pending unit conflict is settled, or in what the step, which would be accepted, leaves
+-- that a number does not fit in 64 bits: once a pending unit conflict is settled, or after the step, if it is accepted
 abbrev pub SpentBy : Step → Stored → Type 0
 SpentBy step f = IsSpent (settled f) ⊎ (Accepts (settled f) step × IsSpent (effect step (settled f)))

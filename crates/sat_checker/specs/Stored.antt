@@ -1,4 +1,4 @@
--- What the checker stores. A clause is a list of codes, a variable and a name are their indices.
+-- What the checker stores. A clause is a list of literal codes. Variables and names are given by their indices.
 use Rattle.std.specs.Prelude.{ℕ, ◌+◌, ◌-◌, ◌*◌, ◌/◌, ◌%◌, ◌^◌, ◌==◌, ◌≡◌, ◌⊎◌, Bool, true, false, Option, None, unwrap_or, List, [], map, filter}
 use Rattle.std.specs.List.{AllByRecursion}
 use Rattle.sat_base.specs.values.Literals.{variable}
@@ -6,7 +6,8 @@ use Rattle.sat_base.specs.values.Clauses.{Valuation, clause_true, EachTrue}
 use Rattle.sat_base.specs.values.Hashes.{hash_of}
 use Rattle.sat_checker.specs.LiteralSets.{is_among}
 
--- a clause of two literals or more, sorted, without repeats, not a tautology, and how often it is stored as irredundant and as redundant
+-- A clause of two or more literals, its id, and how often it is stored as irredundant and as redundant. The literals
+-- are sorted, without repeats, and no tautology.
 pub record StoredClause : Type 0 where
   pub id : ℕ
   pub literals : List ℕ
@@ -30,11 +31,11 @@ pub record Variable : Type 0 where
   pub mode : Mode
   pub name : Option ℕ
 
--- the initial data of every variable, whose mode counts as sample
+-- the initial data of every variable: not known, with mode sample, and without a name
 abbrev pub unknown : Variable
 unknown = record { known = false; mode = Sample; name = None }
 
--- the last irredundant clause stored: none yet, or an empty one, a unit or a longer one by its id
+-- the last irredundant clause stored: none yet, or the id of an empty clause, a unit or a longer clause
 pub data Last : Type 0 where
   NoneYet : Last
   Empty : ℕ → Last
@@ -97,7 +98,7 @@ is_unit f = is_among (unit_literals f)
 abbrev pub solver_literal : (ℕ → Option ℕ) → ℕ → ℕ
 solver_literal names l = 2 * unwrap_or (names (variable l)) (variable l) + l % 2
 
--- the hash of a clause with solver names, of whose 64 bits only the top `width` are kept
+-- the top `width` bits of a clause's 64-bit hash, computed with solver names
 abbrev pub hash_by : (ℕ → Option ℕ) → ℕ → List ℕ → ℕ
 hash_by names width clause = hash_of (map (solver_literal names) clause) / 2 ^ (64 - width)
 

@@ -15,7 +15,8 @@ pub record UserVariable : Type 0 where
   pub sampling : Bool  -- false is witness
   pub is_new : Bool
 
--- Clauses and cores are sorted sets. Clauses that follow name those that they follow from by ids, the propagations.
+-- An announcement. Clauses and cores are sorted sets. Propagations are the ids of the units and clauses from which a
+-- clause follows.
 pub data Announcement : Type 0 where
   UserVar : ℕ → Option UserVariable → Announcement  -- a variable, and its name or none
   DeleteVar : ℕ → Announcement  -- its unit is forgotten
@@ -52,13 +53,13 @@ abbrev pub renaming : ℕ → Option ℕ → Variable → List Announcement
 renaming v (Some name) x = naming v name x
 renaming v None x = UserVar v None ∷ []
 
--- the announcement that a variable that has a name gets another mode
+-- the announcement that a variable's mode changes, if the variable has a name
 abbrev pub mode_change : ℕ → Bool → Mode → Option ℕ → List Announcement
 mode_change v sampling mode None = []
 mode_change v sampling mode (Some name) =
     if (if sampling then is_sample mode else has_witness_mode mode) then [] else UserVar v (Some (record { name = name; sampling = sampling; is_new = false })) ∷ []
 
--- the id of a clause that was found
+-- the id of a clause that was found, or `None`
 abbrev pub id_of : Option StoredClause → Option ℕ
 id_of None = None
 id_of (Some c) = Some c.id
@@ -89,7 +90,7 @@ abbrev pub derived_set : Bool → List ℕ → List ℕ → Stored → Option �
 derived_set redundant literals ids f None = AtClause f.next_id redundant literals ids ∷ []
 derived_set redundant literals ids f (Some id) = if not redundant && redundant_alone (clause_with literals f.clauses) then MakeIrredundant id literals ∷ [] else []
 
--- the announcement of a derived clause; a tautology is not stored
+-- the announcement of a derived clause; nothing is announced for a tautology
 abbrev pub derived : Bool → List ℕ → List ℕ → Stored → List Announcement
 derived redundant clause hashes f =
     let literals : List ℕ = canonical clause in if is_tautology clause then [] else derived_set redundant literals (propagations f clause hashes) f (id_of_set literals f)
@@ -99,12 +100,12 @@ abbrev pub derived_units : List (ℕ × ℕ) → Stored → List Announcement
 derived_units [] f = []
 derived_units (u ∷ us) f = derived false (u.0 ∷ []) (u.1 ∷ []) f ++ derived_units us (with_unit u.0 f)
 
--- the announcement that one redundant count is removed, if the clause is then removed
+-- the announcement that a redundant count is removed, made only if no count is left
 abbrev pub redundant_deleted : Option StoredClause → List Announcement
 redundant_deleted None = []
 redundant_deleted (Some c) = if c.irredundant == 0 && c.redundant == 1 then DeleteClause c.id c.literals ∷ [] else []
 
--- the announcement that one irredundant count is removed, if it was the last one
+-- the announcement that an irredundant count is removed, made only if no irredundant count is left
 abbrev pub irredundant_deleted : List ℕ → Option StoredClause → List Announcement
 irredundant_deleted ids None = []
 irredundant_deleted ids (Some c) = if c.irredundant == 1 then DeleteAtClause c.id (nat_lt 0 c.redundant) c.literals ids ∷ [] else []
@@ -140,12 +141,12 @@ announced f (steps.Assumptions ls) = Assumptions ls ∷ []
 announced f (steps.FailedAssumptions core hashes) = FailedAssumptions (canonical core) (propagations f (map negated core) hashes) ∷ []
 announced f steps.End = []
 
--- the empty clause of a pending unit conflict, under the next id
+-- the announcement of the empty clause of this unit conflict, if any, under this id
 abbrev pub delayed_by : ℕ → Option (ℕ × ℕ) → List Announcement
 delayed_by id None = []
 delayed_by id (Some units) = AtClause id false [] (units.0 ∷ units.1 ∷ []) ∷ []
 
--- the empty clause of a unit conflict that is still pending
+-- the announcement of the empty clause of a pending unit conflict
 abbrev pub delayed : Stored → List Announcement
 delayed f = delayed_by f.next_id f.conflict
 
@@ -163,6 +164,6 @@ abbrev pub notices_after : List Step → List Notice
 notices_after [] = []
 notices_after (step ∷ earlier) = notices_after earlier ++ notices_over (stored_after earlier) (delayed (stored_after earlier)) ++ notices_over (ready_after earlier) (announced (ready_after earlier) step)
 
--- all announcements once nothing is delayed any more; a refused step announces nothing else
+-- all announcements of these steps, including the empty clause of a pending unit conflict
 abbrev pub all_notices_after : List Step → List Notice
 all_notices_after steps = notices_after steps ++ notices_over (stored_after steps) (delayed (stored_after steps))

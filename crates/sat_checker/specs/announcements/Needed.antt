@@ -6,7 +6,8 @@ use Rattle.sat_checker.specs.Stored.{StoredClause, StoredUnit, Stored, unit_lite
 use Rattle.sat_checker.specs.Storing.{unit_id}
 use Rattle.sat_checker.specs.inner.Walk.{Verdict, falsified, opens, rests, verdict}
 
--- What a conflict rests on, followed backwards: true literals, and the clauses needed, in the order visited, the falsified clause last.
+-- What a conflict rests on, followed backwards: literals that are true, and the needed clauses in the order visited,
+-- the falsified clause last.
 pub record ConflictCauses : Type 0 where
   pub literals : List ℕ
   pub clauses : List StoredClause
@@ -20,8 +21,8 @@ abbrev pub with_cause : ℕ → StoredClause → ConflictCauses → ConflictCaus
 with_cause l c g =
     if is_among g.literals l then record { literals = others_denied l c.literals ++ g.literals; clauses = c ∷ g.clauses } else g
 
--- the causes, given the verdict on a clause: a falsified clause is the conflict, and the open literal of a unit clause is true for the clauses
--- after it
+-- The causes, given the verdict on a clause. A falsified clause is the conflict. The open literal of a unit clause is
+-- true for the clauses after it.
 abbrev pub causes_by : Verdict → StoredClause → List ℕ → (List ℕ → ConflictCauses) → ConflictCauses
 causes_by falsified c assumed following = record { literals = map negated c.literals; clauses = c ∷ [] }
 causes_by (opens l) c assumed following = with_cause l c (following (l ∷ assumed))
@@ -50,7 +51,7 @@ abbrev pub or_else : {A : Type 0} → Option A → Option A → Option A
 or_else None y = y
 or_else (Some x) y = Some x
 
--- the id of the stored unit that satisfies the clause, that of the first literal if there are several
+-- the id of a unit that satisfies the clause, or `None`; it is the unit of the first literal that is stored as a unit
 abbrev pub true_unit : List ℕ → List StoredUnit → Option ℕ
 true_unit [] units = None
 true_unit (l ∷ ls) units = or_else (unit_id l units) (true_unit ls units)
@@ -60,9 +61,9 @@ abbrev pub unit_alone : Option ℕ → List ℕ → List ℕ
 unit_alone (Some id) ids = id ∷ []
 unit_alone None ids = ids
 
--- For a clause that passed the check under the hashes, the ids that it rests on: none if it has both signs of a variable; the unit that satisfies it,
--- of the lowest literal; or the units that are needed, by increasing id, and then the clauses that are needed, in the order of the walk, the
--- falsified one last.
+-- The ids that a clause rests on, if it passes the check under these hashes. A tautology rests on nothing. A clause
+-- that units satisfy rests on the unit of its lowest such literal. Any other clause rests on the needed units, by
+-- increasing id, and then on the needed clauses, in the order visited.
 abbrev pub propagations : Stored → List ℕ → List ℕ → List ℕ
 propagations f clause hashes =
     let denied : List ℕ = map negated clause in

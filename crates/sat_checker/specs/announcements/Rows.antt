@@ -9,7 +9,7 @@ use Rattle.sat_checker.specs.announcements.Announcements as announcements
 use Rattle.sat_checker.specs.announcements.Transcripts.{Transcribed, transcripts}
 use Rattle.sat_checker.specs.announcements.Transcripts as transcript
 
--- without the variables that can be looked up
+-- the announcements, without the variables that can be looked up
 abbrev pub announcements_of : List Notice → List Announcement
 announcements_of = map (λ t. t.announcement)
 
@@ -17,23 +17,23 @@ announcements_of = map (λ t. t.announcement)
 abbrev pub announcements_by : List Step → List Announcement
 announcements_by ss = announcements_of (notices_after (following ss []))
 
--- what is announced once delayed announcements were made
+-- what is announced by the end of these steps, including the empty clause of a pending unit conflict
 abbrev pub all_announcements_by : List Step → List Announcement
 all_announcements_by ss = announcements_of (all_notices_after (following ss []))
 
--- the transcript, once delayed ones were announced
+-- the transcript of these steps, including the empty clause of a pending unit conflict
 abbrev pub transcribed_by : List Step → List Transcribed
 transcribed_by ss = transcripts (all_notices_after (following ss []))
 
--- what the last step announces, if it and those before it are accepted
+-- that all steps are accepted, and the last step announces this
 abbrev pub LastAnnounces : List Step → Step → List Announcement → Type 0
 LastAnnounces before last reported = AllAccepted (before ++ last ∷ []) × (announcements_by (before ++ last ∷ []) ≡ announcements_by before ++ reported)
 
--- what the transcript says about the last step
+-- that all steps are accepted, and the last step adds this to the transcript
 abbrev pub LastReads : List Step → Step → List Transcribed → Type 0
 LastReads before last read = AllAccepted (before ++ last ∷ []) × (transcripts (notices_after (following (before ++ last ∷ []) [])) ≡ transcripts (notices_after (following before [])) ++ read)
 
--- [1, 2], [1, -2], [-1, 2], [-1, -2]
+-- the announcements of [1, 2], [1, -2], [-1, 2] and [-1, -2]
 abbrev pub four_announced : List Announcement
 four_announced = AddClause 0 (0 ∷ 2 ∷ []) ∷ AddClause 1 (0 ∷ 3 ∷ []) ∷ AddClause 2 (1 ∷ 2 ∷ []) ∷ AddClause 3 (1 ∷ 3 ∷ []) ∷ []
 
@@ -46,7 +46,7 @@ abbrev pub RefutedAtZeroAnnounced : Type 0
 RefutedAtZeroAnnounced = announcements_by (four_clauses ++ ChangeHashBits 0 ∷ steps.AtClause false (0 ∷ []) (0 ∷ []) ∷ steps.AtClause false [] (0 ∷ []) ∷ [])
     ≡ four_announced ++ AtClause 4 false (0 ∷ []) (0 ∷ 1 ∷ []) ∷ AtClause 5 false [] (4 ∷ 2 ∷ 3 ∷ []) ∷ []
 
--- the one bucket is passed twice: [1, 2], then [-2, -4], then [-2, 3, 4] is falsified
+-- the only bucket is visited twice: [1, 2] and [-2, -4] are unit, and then [-2, 3, 4] is falsified
 abbrev pub NamedTwiceAnnounced : Type 0
 NamedTwiceAnnounced = announcements_by named_twice
     ≡ AddClause 0 (3 ∷ 4 ∷ 6 ∷ []) ∷ AddClause 1 (0 ∷ 2 ∷ []) ∷ AddClause 2 (3 ∷ 7 ∷ []) ∷ AtClause 3 false (0 ∷ 4 ∷ []) (1 ∷ 2 ∷ 0 ∷ []) ∷ []
@@ -57,32 +57,32 @@ CollidingAnnounced = announcements_by colliding
     ≡ UserVar 0 (Some (record { name = 0; sampling = true; is_new = true })) ∷ UserVar 1 (Some (record { name = 1; sampling = true; is_new = true })) ∷ four_announced
     ++ Assumptions [] ∷ AtClause 4 false (0 ∷ []) (0 ∷ 1 ∷ []) ∷ AtClause 5 false (2 ∷ []) (4 ∷ 2 ∷ []) ∷ AtClause 6 false [] (4 ∷ 5 ∷ 3 ∷ []) ∷ Assumptions [] ∷ []
 
--- a name for an unknown variable, and two clauses whose units contradict each other: the empty clause is announced once delayed steps are
+-- an unknown variable gets a name, and two units contradict each other
 abbrev pub contradicting : List Step
 contradicting = UserVarName 0 (Some 0) ∷ steps.AddClause (0 ∷ []) ∷ steps.AddClause (1 ∷ []) ∷ []
 
--- the name, and the two clauses
+-- the announcements of the name and of the two units
 abbrev pub contradiction_announced : List Announcement
 contradiction_announced = UserVar 0 (Some (record { name = 0; sampling = true; is_new = true })) ∷ AddClause 0 (0 ∷ []) ∷ AddClause 1 (1 ∷ []) ∷ []
 
--- the empty clause, by their two units
+-- the announcement of the empty clause, which rests on the two units
 abbrev pub empty_announced : List Announcement
 empty_announced = AtClause 2 false [] (0 ∷ 1 ∷ []) ∷ []
 
--- it's announced before the next step, or once delayed ones are, and is read as unsat
+-- the empty clause is announced before the next step, or as the last of all announcements; the transcript says `Unsat`
 abbrev pub Contradiction : Type 0
 Contradiction = AllAccepted contradicting × (announcements_by contradicting ≡ contradiction_announced) × (all_announcements_by contradicting ≡ contradiction_announced ++ empty_announced)
     × (announcements_by (contradicting ++ steps.Assumptions [] ∷ []) ≡ contradiction_announced ++ empty_announced ++ Assumptions [] ∷ [])
     × (all_announcements_by (contradicting ++ End ∷ []) ≡ contradiction_announced ++ empty_announced)
     × (transcribed_by contradicting ≡ transcript.AddClause (0 ∷ []) ∷ transcript.AddClause (1 ∷ []) ∷ transcript.Unsat ∷ [])
 
--- [1], [-1, 2] and [-1, -2] in one bucket, then the units -1, -1 and 3 in one step: the empty clause comes after all of them
+-- [1], and [-1, 2] and [-1, -2] in one bucket, then the units -1, -1 and 3 in one step: the empty clause comes last
 abbrev pub ConflictAndUnitAnnounced : Type 0
 ConflictAndUnitAnnounced = all_announcements_by conflict_and_unit
     ≡ AddClause 0 (0 ∷ []) ∷ AddClause 1 (1 ∷ 2 ∷ []) ∷ AddClause 2 (1 ∷ 3 ∷ []) ∷ AtClause 3 false (1 ∷ []) (1 ∷ 2 ∷ []) ∷ AtClause 4 false (1 ∷ []) (1 ∷ 2 ∷ [])
     ∷ AtClause 5 false (4 ∷ []) (0 ∷ 1 ∷ 2 ∷ []) ∷ AtClause 6 false [] (0 ∷ 3 ∷ []) ∷ []
 
--- the four ways of [1, 2] as an input clause: new, stored before (even if only as redundant), and a tautology; and one more once unsat is recorded
+-- a new input clause is announced as a sorted set
 abbrev pub InputNew : Type 0
 InputNew = LastAnnounces [] (steps.AddClause (2 ∷ 0 ∷ 0 ∷ [])) (AddClause 0 (0 ∷ 2 ∷ []) ∷ [])
 
@@ -94,7 +94,7 @@ InputDuplicate = LastAnnounces (steps.AddClause (0 ∷ 2 ∷ []) ∷ []) (steps.
 abbrev pub as_redundant : List Step
 as_redundant = steps.AddClause (0 ∷ []) ∷ steps.AtClause true (0 ∷ 2 ∷ []) [] ∷ []
 
--- stored before only as redundant, which is announced as a duplicate, too
+-- [1, 2] was stored before only as redundant; it is announced as a duplicate, too
 abbrev pub InputRedundant : Type 0
 InputRedundant = LastAnnounces as_redundant (steps.AddClause (0 ∷ 2 ∷ [])) (DuplicatedClause 2 1 (0 ∷ 2 ∷ []) ∷ [])
 
@@ -102,7 +102,7 @@ InputRedundant = LastAnnounces as_redundant (steps.AddClause (0 ∷ 2 ∷ [])) (
 abbrev pub InputUnitAgain : Type 0
 InputUnitAgain = LastAnnounces (steps.AddClause (0 ∷ []) ∷ []) (steps.AddClause (0 ∷ 0 ∷ [])) (DuplicatedClause 1 0 (0 ∷ []) ∷ [])
 
--- a tautology, which is announced as one
+-- a tautology is announced as one
 abbrev pub InputTautology : Type 0
 InputTautology = LastAnnounces [] (steps.AddClause (2 ∷ 1 ∷ 0 ∷ [])) (TautologicalClause 0 (0 ∷ 1 ∷ 2 ∷ []) ∷ [])
 
@@ -110,12 +110,11 @@ InputTautology = LastAnnounces [] (steps.AddClause (2 ∷ 1 ∷ 0 ∷ [])) (Taut
 abbrev pub InputAfterUnsat : Type 0
 InputAfterUnsat = LastAnnounces (steps.AddClause [] ∷ []) (steps.AddClause (0 ∷ 1 ∷ [])) []
 
--- a derived clause that is new, one that becomes irredundant, and those for which nothing is announced: a clause or unit stored before, and
--- a tautology
+-- a new derived clause is announced; it rests on the unit that satisfies it
 abbrev pub DerivedNew : Type 0
 DerivedNew = LastAnnounces (steps.AddClause (0 ∷ []) ∷ []) (steps.AtClause true (2 ∷ 0 ∷ []) []) (AtClause 1 true (0 ∷ 2 ∷ []) (0 ∷ []) ∷ [])
 
--- derived as irredundant, and only redundant before
+-- a clause that is stored only as redundant is derived as irredundant
 abbrev pub DerivedIrredundant : Type 0
 DerivedIrredundant = LastAnnounces as_redundant (steps.AtClause false (2 ∷ 0 ∷ []) []) (MakeIrredundant 1 (0 ∷ 2 ∷ []) ∷ [])
 
@@ -135,19 +134,19 @@ DerivedUnitAgain = LastAnnounces (steps.AddClause (0 ∷ []) ∷ []) (steps.AtCl
 abbrev pub DerivedTautology : Type 0
 DerivedTautology = LastAnnounces [] (steps.AtClause false (0 ∷ 1 ∷ []) []) []
 
--- a redundant count is removed: the last of all, or one besides an irredundant one
+-- the only count of a clause, a redundant one, is removed
 abbrev pub RedundantGone : Type 0
 RedundantGone = LastAnnounces as_redundant (steps.DeleteClause (2 ∷ 0 ∷ []) Redundant) (DeleteClause 1 (0 ∷ 2 ∷ []) ∷ [])
 
--- one besides an irredundant one: nothing is announced
+-- a redundant count is removed and an irredundant one is left: nothing is announced
 abbrev pub RedundantStays : Type 0
 RedundantStays = LastAnnounces (as_redundant ++ steps.AtClause false (0 ∷ 2 ∷ []) [] ∷ []) (steps.DeleteClause (0 ∷ 2 ∷ []) Redundant) []
 
--- an irredundant count is removed: the last one, with or without redundant ones, or one of two
+-- the only count of a clause, an irredundant one, is removed, since a unit satisfies the clause
 abbrev pub SatisfiedGone : Type 0
 SatisfiedGone = LastAnnounces (steps.AddClause (2 ∷ []) ∷ steps.AddClause (0 ∷ []) ∷ steps.AddClause (2 ∷ 0 ∷ []) ∷ []) (steps.DeleteClause (2 ∷ 0 ∷ []) Satisfied) (DeleteAtClause 2 false (0 ∷ 2 ∷ []) (1 ∷ []) ∷ [])
 
--- the last one, if a redundant one is left: the clause stays as redundant
+-- the only irredundant count is removed and a redundant one is left: the clause is kept as redundant
 abbrev pub SatisfiedKept : Type 0
 SatisfiedKept = LastAnnounces (as_redundant ++ steps.AtClause false (0 ∷ 2 ∷ []) [] ∷ []) (steps.DeleteClause (0 ∷ 2 ∷ []) Satisfied) (DeleteAtClause 1 true (0 ∷ 2 ∷ []) (0 ∷ []) ∷ [])
 
@@ -155,28 +154,28 @@ SatisfiedKept = LastAnnounces (as_redundant ++ steps.AtClause false (0 ∷ 2 ∷
 abbrev pub SimplifiedGone : Type 0
 SimplifiedGone = LastAnnounces (steps.AddClause (0 ∷ 2 ∷ 4 ∷ []) ∷ steps.AddClause (0 ∷ 2 ∷ []) ∷ []) (steps.DeleteClause (4 ∷ 2 ∷ 0 ∷ []) Simplified) (DeleteAtClause 0 false (0 ∷ 2 ∷ 4 ∷ []) (1 ∷ []) ∷ [])
 
--- an empty clause is the last irredundant one, too: an input clause with id 1, or a derived one with id 5
+-- an empty clause can be the last irredundant clause, too: an input clause with id 1, or a derived one with id 5
 abbrev pub SimplifiedByEmpty : Type 0
 SimplifiedByEmpty = LastAnnounces (steps.AddClause (0 ∷ 2 ∷ []) ∷ steps.AddClause [] ∷ []) (steps.DeleteClause (2 ∷ 0 ∷ []) Simplified) (DeleteAtClause 0 false (0 ∷ 2 ∷ []) (1 ∷ []) ∷ [])
     × LastAnnounces refuted (steps.DeleteClause (0 ∷ 3 ∷ []) Simplified) (DeleteAtClause 1 false (0 ∷ 3 ∷ []) (5 ∷ []) ∷ [])
 
--- one of two: nothing is announced
+-- one of two irredundant counts is removed: nothing is announced
 abbrev pub SatisfiedStays : Type 0
 SatisfiedStays = LastAnnounces (steps.AddClause (0 ∷ []) ∷ steps.AddClause (0 ∷ 2 ∷ []) ∷ steps.AddClause (0 ∷ 2 ∷ []) ∷ []) (steps.DeleteClause (0 ∷ 2 ∷ []) Satisfied) []
 
--- names: given to an unknown variable, given to a known one, and removed; and a solver's name
+-- an unknown variable gets a name: it is new
 abbrev pub NameNew : Type 0
 NameNew = LastAnnounces [] (UserVarName 0 (Some 7)) (UserVar 0 (Some (record { name = 7; sampling = true; is_new = true })) ∷ [])
 
--- 1 is known, and a witness variable without a name
+-- variable 1 is known, has mode witness, and has no name
 abbrev pub as_witness : List Step
 as_witness = steps.Assumptions (0 ∷ []) ∷ ChangeSamplingMode 0 false ∷ []
 
--- 1 has the name with index 7
+-- variable 1 has the name with index 7
 abbrev pub named_seven : List Step
 named_seven = UserVarName 0 (Some 7) ∷ []
 
--- a name for 1, a known witness variable: it isn't new
+-- variable 1, a known witness, gets a name: it isn't new
 abbrev pub NameOfKnown : Type 0
 NameOfKnown = LastAnnounces (as_witness) (UserVarName 0 (Some 7)) (UserVar 0 (Some (record { name = 7; sampling = false; is_new = false })) ∷ [])
 
@@ -188,27 +187,27 @@ NameRemoved = LastAnnounces named_seven (UserVarName 0 None) (UserVar 0 None ∷
 abbrev pub SolverNameSet : Type 0
 SolverNameSet = LastAnnounces [] (SolverVarName 0 (Some 7)) []
 
--- modes: for a variable that has a name, the same mode again, and for a variable that has none
+-- the mode of a variable that has a name changes
 abbrev pub ModeChanged : Type 0
 ModeChanged = LastAnnounces named_seven (ChangeSamplingMode 0 false) (UserVar 0 (Some (record { name = 7; sampling = false; is_new = false })) ∷ [])
 
--- the mode that it has already: nothing is announced
+-- the mode is set to what it is already: nothing is announced
 abbrev pub ModeLeft : Type 0
 ModeLeft = LastAnnounces named_seven (ChangeSamplingMode 0 true) []
 
--- the mode of a variable that has no name: nothing is announced
+-- the mode of a variable that has no name changes: nothing is announced
 abbrev pub ModeOfNameless : Type 0
 ModeOfNameless = LastAnnounces (steps.Assumptions (0 ∷ []) ∷ []) (ChangeSamplingMode 0 false) []
 
--- models, assumptions and cores; a core is the sorted set, and one with both signs of a variable rests on nothing
+-- a model is announced with the literals of the step
 abbrev pub ModelAnnounced : Type 0
 ModelAnnounced = LastAnnounces (steps.AddClause (0 ∷ 2 ∷ []) ∷ []) (steps.Model (2 ∷ 1 ∷ [])) (Model (2 ∷ 1 ∷ []) ∷ [])
 
--- assumptions, as the step has them
+-- assumptions are announced with the literals of the step
 abbrev pub AssumedAnnounced : Type 0
 AssumedAnnounced = LastAnnounces [] (steps.Assumptions (2 ∷ 0 ∷ 2 ∷ [])) (Assumptions (2 ∷ 0 ∷ 2 ∷ []) ∷ [])
 
--- a core, which rests on the clause that it falsifies
+-- a core is announced as a sorted set; it rests on the clause that it falsifies
 abbrev pub CoreFailed : Type 0
 CoreFailed = LastAnnounces (steps.AddClause (1 ∷ 3 ∷ []) ∷ steps.Assumptions (2 ∷ 0 ∷ []) ∷ []) (steps.FailedAssumptions (2 ∷ 0 ∷ 2 ∷ []) (hash_of (1 ∷ 3 ∷ []) ∷ [])) (FailedAssumptions (0 ∷ 2 ∷ []) (0 ∷ []) ∷ [])
 
@@ -216,7 +215,7 @@ CoreFailed = LastAnnounces (steps.AddClause (1 ∷ 3 ∷ []) ∷ steps.Assumptio
 abbrev pub CoreOfBothSigns : Type 0
 CoreOfBothSigns = LastAnnounces (steps.AddClause (1 ∷ []) ∷ steps.Assumptions (0 ∷ 1 ∷ []) ∷ []) (steps.FailedAssumptions (1 ∷ 0 ∷ []) []) (FailedAssumptions (0 ∷ 1 ∷ []) [] ∷ [])
 
--- other steps
+-- a change of the width and the end announce nothing; the deletion of a variable is announced
 abbrev pub OthersAnnounce : Type 0
 OthersAnnounce = LastAnnounces [] (ChangeHashBits 8) [] × LastAnnounces [] End [] × LastAnnounces (steps.AddClause (0 ∷ []) ∷ []) (DeleteVar 0) (announcements.DeleteVar 0 ∷ [])
 
@@ -224,23 +223,23 @@ OthersAnnounce = LastAnnounces [] (ChangeHashBits 8) [] × LastAnnounces [] End 
 abbrev pub units_and_clauses : List Step
 units_and_clauses = steps.AddClause (0 ∷ []) ∷ steps.AddClause (2 ∷ []) ∷ steps.AddClause (3 ∷ 4 ∷ 8 ∷ []) ∷ steps.AddClause (1 ∷ 6 ∷ []) ∷ steps.AddClause (10 ∷ 12 ∷ []) ∷ steps.AddClause (5 ∷ 7 ∷ 8 ∷ []) ∷ ChangeHashBits 0 ∷ []
 
--- the units first, by increasing id, whatever the order in which the clauses need them
+-- the needed units come first, by increasing id, in whatever order the clauses need them
 abbrev pub UnitsFirst : Type 0
 UnitsFirst = LastAnnounces units_and_clauses (steps.AtClause true (8 ∷ 14 ∷ []) (0 ∷ [])) (AtClause 6 true (8 ∷ 14 ∷ []) (0 ∷ 1 ∷ 2 ∷ 3 ∷ 5 ∷ []) ∷ [])
 
--- the negated clause holds 1 and 2 itself, so that their units aren't needed
+-- the negated clause contains 1 and 2 itself, so their units aren't needed
 abbrev pub UnitsHeld : Type 0
 UnitsHeld = LastAnnounces units_and_clauses (steps.AtClause true (8 ∷ 1 ∷ 3 ∷ []) (0 ∷ [])) (AtClause 6 true (1 ∷ 3 ∷ 8 ∷ []) (2 ∷ 3 ∷ 5 ∷ []) ∷ [])
 
--- a clause that is passed over, [6, 7] under not 6, isn't needed
+-- [6, 7] implies 7 under the negated clause, but the conflict does not need it
 abbrev pub PassedNotNeeded : Type 0
 PassedNotNeeded = LastAnnounces units_and_clauses (steps.AtClause true (8 ∷ 10 ∷ []) (0 ∷ [])) (AtClause 6 true (8 ∷ 10 ∷ []) (0 ∷ 1 ∷ 2 ∷ 3 ∷ 5 ∷ []) ∷ [])
 
--- a unit that satisfies the clause, of several that of the lowest literal
+-- a clause that two units satisfy rests only on the unit of the lower literal
 abbrev pub UnitAlone : Type 0
 UnitAlone = LastAnnounces (steps.AddClause (2 ∷ []) ∷ steps.AddClause (0 ∷ []) ∷ steps.AddClause (1 ∷ 3 ∷ []) ∷ []) (steps.AtClause true (4 ∷ 2 ∷ 0 ∷ []) (hash_of (1 ∷ 3 ∷ []) ∷ [])) (AtClause 3 true (0 ∷ 2 ∷ 4 ∷ []) (1 ∷ []) ∷ [])
 
--- transcripts of names and modes
+-- an unknown variable gets a name: the transcript says nothing
 abbrev pub NameNewRead : Type 0
 NameNewRead = LastReads [] (UserVarName 0 (Some 7)) []
 
@@ -257,14 +256,14 @@ abbrev pub ModesRead : Type 0
 ModesRead = LastReads named_seven (ChangeSamplingMode 0 false) (transcript.WitnessVar 7 ∷ [])
     × LastReads (named_seven ++ ChangeSamplingMode 0 false ∷ []) (ChangeSamplingMode 0 true) (transcript.SampleVar 7 ∷ [])
 
--- transcripts of clauses: every input clause, the empty derived one, and no other derived or deleted one
+-- every input clause is in the transcript: new, stored before, tautological or empty
 abbrev pub InputsRead : Type 0
 InputsRead = LastReads [] (steps.AddClause (2 ∷ 0 ∷ 0 ∷ [])) (transcript.AddClause (0 ∷ 2 ∷ []) ∷ [])
     × LastReads (steps.AddClause (0 ∷ 2 ∷ []) ∷ []) (steps.AddClause (2 ∷ 0 ∷ 0 ∷ [])) (transcript.AddClause (0 ∷ 2 ∷ []) ∷ [])
     × LastReads [] (steps.AddClause (2 ∷ 1 ∷ 0 ∷ [])) (transcript.AddClause (0 ∷ 1 ∷ 2 ∷ []) ∷ [])
     × LastReads [] (steps.AddClause []) (transcript.AddClause [] ∷ [])
 
--- the four clauses, and the empty one that is derived
+-- the four clauses, and `Unsat` for the derived empty clause
 abbrev pub RefutedRead : Type 0
 RefutedRead = transcribed_by refuted ≡ transcript.AddClause (0 ∷ 2 ∷ []) ∷ transcript.AddClause (0 ∷ 3 ∷ []) ∷ transcript.AddClause (1 ∷ 2 ∷ []) ∷ transcript.AddClause (1 ∷ 3 ∷ []) ∷ transcript.Unsat ∷ []
 
@@ -274,11 +273,12 @@ OthersRead = LastReads as_redundant (steps.AtClause false (2 ∷ 0 ∷ []) []) [
     × LastReads (as_redundant ++ steps.AtClause false (0 ∷ 2 ∷ []) [] ∷ []) (steps.DeleteClause (0 ∷ 2 ∷ []) Satisfied) []
     × LastReads (steps.AddClause (0 ∷ []) ∷ []) (DeleteVar 0) []
 
--- in user's names: the explicit one, or a sampling variable's own; a literal of a witness variable without a name is dropped
+-- variable 1 gets the name with index 7, and variable 2 is a witness without a name
 abbrev pub one_name : List Step
 one_name = UserVarName 0 (Some 7) ∷ steps.Assumptions (2 ∷ []) ∷ ChangeSamplingMode 1 false ∷ []
 
--- a model, assumptions and a core in these names
+-- Literals of the witness without a name are dropped from a model, assumptions and a core. A sampling variable without
+-- a name keeps its own index.
 abbrev pub AnswersRead : Type 0
 AnswersRead = LastReads one_name (steps.Model (1 ∷ 3 ∷ 5 ∷ [])) (transcript.Model (15 ∷ 5 ∷ []) ∷ [])
     × LastReads one_name (steps.Assumptions (4 ∷ 2 ∷ 0 ∷ [])) (transcript.Assume (4 ∷ 14 ∷ []) ∷ [])

@@ -17,7 +17,7 @@ pub data Transcribed : Type 0 where
   Assume : List ℕ → Transcribed
   FailedAssumptions : List ℕ → Transcribed
 
--- the explicit name, or the variable itself if it is a sampling one
+-- the explicit name, or the variable's own index if its mode is sample
 abbrev pub name_or_itself : ℕ → Mode → Option ℕ → Option ℕ
 name_or_itself v mode (Some name) = Some name
 name_or_itself v mode None = if is_sample mode then Some v else None
@@ -26,7 +26,7 @@ name_or_itself v mode None = if is_sample mode then Some v else None
 abbrev pub user_from_proof_var : (ℕ → Variable) → ℕ → Option ℕ
 user_from_proof_var variables v = name_or_itself v (variables v).mode (variables v).name
 
--- the literals with the literal of `name` before them, with the sign of literal `l`, if there is a name
+-- the list and, before it, the name's literal with the sign of `l`, if there is a name
 abbrev pub onto_named : ℕ → Option ℕ → List ℕ → List ℕ
 onto_named l None ls = ls
 onto_named l (Some name) ls = (2 * name + l % 2) ∷ ls
@@ -36,22 +36,22 @@ abbrev pub in_user_names : (ℕ → Variable) → List ℕ → List ℕ
 in_user_names variables [] = []
 in_user_names variables (l ∷ ls) = onto_named l (user_from_proof_var variables (variable l)) (in_user_names variables ls)
 
--- the transcript of the removal of the name that the variable had, if any
+-- the transcript step for the removal of a variable's name, if it had one
 abbrev pub name_was_removed : Option ℕ → Option Transcribed
 name_was_removed None = None
 name_was_removed (Some name) = Some (HideVar name)
 
--- A name was set if the variable had none before; otherwise its mode was changed.
+-- the transcript step for a name: if the variable had none before, it was set; otherwise, the mode was changed
 abbrev pub naming_transcript : UserVariable → Option ℕ → Option Transcribed
 naming_transcript u None = if u.is_new then None else Some (ObserveInternalVar u.name)
 naming_transcript u (Some name) = Some (if u.sampling then SampleVar u.name else WitnessVar u.name)
 
--- the empty clause was derived
+-- the transcript step for a derived clause: `Unsat` if it is empty, otherwise none
 abbrev pub deriving_of : List ℕ → Option Transcribed
 deriving_of [] = Some Unsat
 deriving_of (l ∷ ls) = None
 
--- the transcript of an announcement, given the variables before the step
+-- the transcript step for an announcement, if any, given the variables before the step
 abbrev pub transcript : (ℕ → Variable) → Announcement → Option Transcribed
 transcript variables (UserVar v None) = name_was_removed (variables v).name
 transcript variables (UserVar v (Some u)) = naming_transcript u (variables v).name
@@ -68,7 +68,7 @@ transcript variables (announcements.Model ls) = Some (Model (in_user_names varia
 transcript variables (Assumptions ls) = Some (Assume (in_user_names variables ls))
 transcript variables (announcements.FailedAssumptions core ids) = Some (FailedAssumptions (in_user_names variables core))
 
--- the steps of a transcript with one step before them, if there is one
+-- the transcript steps with this step before them, if there is one
 abbrev pub with_transcript : Option Transcribed → List Transcribed → List Transcribed
 with_transcript None ts = ts
 with_transcript (Some t) ts = t ∷ ts

@@ -14,7 +14,7 @@ pub record LiteralsAndRoom : Type 0 where
 abbrev pub with_room : ℕ → List ℕ → List ℕ
 with_room l room = if is_among room l then room else l ∷ negated l ∷ room
 
--- that the literal is assumed, unless it already was
+-- that the literal is assumed, with room for it and its negation, unless it already was assumed
 abbrev pub AssumesOnce : ℕ → LiteralsAndRoom → LiteralsAndRoom → Type 0
 AssumesOnce l old new = MatchBool (is_among old.literals l) (new ≡ old) (new ≡ record { literals = l ∷ old.literals; room = with_room l old.room })
 
@@ -38,11 +38,12 @@ HasStoredRoom room = AllByRecursion (λ c. HasClauseRoom room c.literals)
 abbrev pub AgreesOn : List ℕ → List ℕ → List ℕ → Type 0
 AgreesOn room xs ys = (l : ℕ) → is_among room l ≡ true → is_among xs l ≡ is_among ys l
 
--- the clause of these literals or, if the flag is false, of their negations
+-- the literals or, if the flag is true, their negations
 abbrev pub signed : Bool → List ℕ → List ℕ
 signed negate literals = if negate then map negated literals else literals
 
--- that the negations of a clause's literals are assumed as far as there is room for them, and the clause does not pass by itself
+-- That the negations of a clause's literals are assumed as far as there is room for them. The clause is no tautology,
+-- and none of its literals was assumed before.
 pub record DeniedInRoom (old : LiteralsAndRoom) (clause : List ℕ) (new : LiteralsAndRoom) : Type 0 where
   pub agrees : AgreesOn old.room new.literals (map negated clause ++ old.literals)
   pub no_unit : list_any (is_among old.literals) clause ≡ false

@@ -1,4 +1,4 @@
--- One chunk of a formula's text that was read, and its clauses added.
+-- How one chunk of a formula's text is read and its clauses are added.
 use Rattle.std.specs.Prelude.{ℕ, ◌≡◌, ◌++◌, Bool, true, false, List, Result, Ok, Err}
 use Rattle.sat_base.specs.dimacs.Parsing.{Progress, clauses_read}
 use Rattle.sat_base.specs.declared.dimacs.error.DimacsError.{DimacsError}
@@ -23,13 +23,14 @@ abbrev pub with_flag : {L : Type 0} → Bool → CheckerView L → CheckerView L
 with_flag b c = record c { kernel = record c.kernel { failed = b } }
 
 module _ {L : Type 0} (Hears : L → Notice → Result Unit ProcessingError → L → Type 0) where
-  -- the result if these clauses were added
+  -- What the result means, if these are the clauses to add. The parser's result `answer` is returned only if all of
+  -- them were added.
   abbrev pub AnswersRead : Result Unit CheckerDimacsError → Result Unit DimacsError → CheckerView L → CheckerView L → List (List ℕ) → Type 0
   AnswersRead (Ok x) answer old new clauses = (answer ≡ Ok tt) × AddsClauses Hears (Ok tt) old new clauses
   AnswersRead (Err (refused.Dimacs error)) answer old new clauses =
       (answer ≡ Err error) × (mid : CheckerView L) × AddsClauses Hears (Ok tt) old mid clauses × (new ≡ with_flag (is_out_of_memory error) mid)
   AnswersRead (Err (refused.Checker error)) answer old new clauses = AddsClauses Hears (Err error) old new clauses
 
-  -- the pending clauses are added, and the parser's result is passed on
+  -- that the clauses that the parser has read and not yet returned are added, and then its result is returned
   abbrev pub AddsRead : Result Unit CheckerDimacsError → Result Unit DimacsError → Progress → CheckerView L → CheckerView L → Type 0
   AddsRead result answer parser old new = (clauses : List (List ℕ)) × (clauses_read parser ≡ parser.taken ++ clauses) × AnswersRead result answer old new clauses

@@ -1,4 +1,4 @@
--- What an entry of the store means over its buffer.
+-- What an entry of the store represents, given its buffer.
 use Rattle.std.specs.Prelude.{ℕ, List}
 use Rattle.sat_checker.specs.inner.Marks.{IsIncreasing}
 use Rattle.sat_checker.specs.inner.SlotView.{lits_in, LitsWithin, Slot}

@@ -26,7 +26,7 @@ pub record RestOfStored : Type 0 where
   pub ended : Bool
   pub var_deleted : Bool
 
--- what is recorded about the definition's stored formula
+-- what the definition's state records besides clauses, units and variables
 abbrev pub standing_of : Stored → RestOfStored
 standing_of f = record { unsat = f.unsat; conflict = f.conflict; last = f.last; next_id = f.next_id; ended = f.ended; var_deleted = f.var_deleted }
 
@@ -41,24 +41,25 @@ last_in (code.Long id) = LongClause id
 abbrev pub standing_in : Status → RestOfStored
 standing_in s = record { unsat = s.unsat; conflict = s.conflict; last = last_in s.last; next_id = s.next_id; ended = s.ended; var_deleted = s.var_deleted }
 
--- That no unit of another literal has this id, and a unit of this literal that was stored later has a higher id.
+-- That a unit with this id has this literal, and a unit with this literal has this id or a higher one.
 abbrev pub IsIdOfUnit : ℕ → ℕ → StoredUnit → Type 0
 IsIdOfUnit id l u = (u.id ≡ id → u.literal ≡ l) × (u.literal ≡ l → id ≤ u.id)
 
--- if the last irredundant clause stored is a unit, its literal was stored under its id, though it may have been removed since
+-- that, if the last irredundant clause is a unit, its id was assigned, and `IsIdOfUnit` holds for it and all units
 abbrev pub LastUnitIsPut : LastClause → List StoredUnit → ℕ → Type 0
 LastUnitIsPut code.NoneYet units next_id = Unit {0}
 LastUnitIsPut (code.Empty id) units next_id = Unit {0}
 LastUnitIsPut (code.Single id l) units next_id = (id < next_id) × AllByRecursion (IsIdOfUnit id l) units
 LastUnitIsPut (code.Long id) units next_id = Unit {0}
 
--- what is known about ids: those of the clauses by place, those of the units, and the last irredundant clause's
+-- the invariant of ids: of clauses by place, of units, and of the last irredundant clause if it is a unit
 pub record AreNumbered (ids : List ℕ) (units : List StoredUnit) (last : LastClause) (next_id : ℕ) : Type 0 where
   pub of_clauses : AreIdsInOrder ids next_id
   pub of_units : AreIdsInOrder (map (λ u. u.id) units) next_id
   pub put : LastUnitIsPut last units next_id
 
--- it has these clauses, hashed by these names and of this width, these units, and this is recorded; there is room for the clauses' literals among what is assumed and among the marks
+-- That the formula has these clauses, hashed with these solver names at this width, these units, and these records.
+-- Both the units and the marks have room for all literals of the clauses.
 pub record KeepsParts (formula : Formula) (kept : List StoredClause) (solver_names : ℕ → Option ℕ) (bits : ℕ) (stored : List StoredUnit) (standing : RestOfStored) : Type 0 where
   pub clauses : KeepsHashed formula.store kept solver_names bits
   pub units : formula.units.units ≡ stored
@@ -75,7 +76,7 @@ RepresentsFormula formula f = KeepsParts formula f.clauses f.solver_names f.widt
 abbrev pub refiled_in : Formula → Formula
 refiled_in formula = record formula { store = refiled formula.store }
 
--- the result of a change: `Ok` means that the changed formula is stored, and `CounterEnd` that a number does not fit in 64 bits
+-- The result of a change: `Ok` means that it is stored, and `CounterEnd` that a number does not fit in 64 bits.
 abbrev pub KeepsOrSpends : {T : Type 0} → Result T StoreError → Type 0 → Stored → Type 0
 KeepsOrSpends (Ok x) kept g = kept
 KeepsOrSpends (Err OutOfMemory) kept g = Unit {0}
@@ -91,13 +92,14 @@ FormulaEffectIf (Ok accepted) accepts kept g = MatchBool accepted (accepts × ke
 FormulaEffectIf (Err OutOfMemory) accepts kept g = accepts
 FormulaEffectIf (Err CounterEnd) accepts kept g = accepts × IsSpent g
 
--- That the formula has these clauses and units, with any ids, and room for the clauses' literals. A propagation check needs nothing else.
+-- That the formula has these clauses, the literals of these units under any ids, and room for the clauses' literals. A
+-- propagation check needs nothing else.
 pub record ChecksAs (formula : Formula) (f : Stored) : Type 0 where
   pub clauses : RepresentsClauses formula.store f
   pub units : map (λ u. u.literal) formula.units.units ≡ unit_literals f
   pub room : HasStoredRoom formula.units.room f.clauses
 
--- that only notes, marks and room differ
+-- that only notes, marks and room may differ, and no literal has lost its room
 pub record ChecksBeside (old new : Formula) : Type 0 where
   pub store : new.store ≡ old.store
   pub status : new.status ≡ old.status

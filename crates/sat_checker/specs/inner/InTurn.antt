@@ -11,18 +11,18 @@ use Rattle.sat_checker.specs.inner.AssumedRoom.{LiteralsAndRoom, AgreesOn}
 abbrev pub with_assumed : ℕ → LiteralsAndRoom → List ℕ
 with_assumed l t = if is_among t.room l && not (is_among t.literals l) && not (is_among t.literals (negated l)) then l ∷ t.literals else t.literals
 
--- whether the first of the literals that has the variable of `l` is `l` itself
+-- whether `l` is the first literal of its variable in the list
 abbrev pub stands_first : List ℕ → ℕ → Bool
 stands_first [] l = false
 stands_first (m ∷ ms) l = if m == l then true else if m == negated l then false else stands_first ms l
 
--- Units are assumed as far as there is room. A literal without room is a unit if it is the first of its variable
--- among those that were added.
+-- That units are assumed as far as there is room. A literal without room is a unit if it is the first of its variable
+-- in `before`.
 pub record AssumesUnits (trail : LiteralsAndRoom) (before : List ℕ) (f : Stored) : Type 0 where
   pub agrees : AgreesOn trail.room trail.literals (unit_literals f)
   pub others : (l : ℕ) → is_among trail.room l ≡ false → is_unit f l ≡ stands_first before l
 
--- that the units after the first unit pass one after another, once the first is added
+-- that all units but the first pass in turn, once the first is added
 abbrev pub PassAfter : Stored → List (ℕ × ℕ) → Type 0
 PassAfter f [] = Unit {0}
 PassAfter f (u ∷ us) = PassInTurn (with_unit u.0 f) us

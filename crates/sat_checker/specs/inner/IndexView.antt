@@ -18,7 +18,7 @@ pairs_from place (s ∷ ss) = if is_gone s then pairs_from (place + 1) ss else (
 abbrev pub pairs_of : List Slot → List Pair
 pairs_of slots = pairs_from 0 slots
 
--- that the clauses that are not removed are found by their mixed hashes, and every slot has its place
+-- that the index finds the clauses that are not removed by their mixed hashes, and has a place for every slot
 pub record IndexesSlots (index : Indexed) (slots : List Slot) : Type 0 where
   pub filed : (hash : ℕ) → places_in (mixed hash) index.pairs ≡ places_of hash slots
   pub places : index.places ≡ length slots

@@ -1,4 +1,4 @@
--- Pairs that are linked by their places: heads, and links by place.
+-- Pairs that are linked in chains: a head for every chain, and a link at every place.
 use Rattle.std.specs.Prelude.{All, ℕ, zero, suc, ◌≡◌, ◌≤◌, ◌<◌, ◌==◌, ◌-◌, ◌/◌, ◌^◌, min, nat_le, nat_lt, List, [], ◌∷◌, ◌++◌, length, filter, slice_index_or, Option, None, Some, if◌then◌else◌}
 use Rattle.std.specs.List.{AllByRecursion, IsDistinct}
 use Rattle.sat_checker.specs.inner.PairView.{AreInOrder, same_place}
@@ -36,20 +36,20 @@ abbrev pub LinksPairs : List Link → ℕ → List Pair → Type 0
 LinksPairs links at [] = at ≡ nowhere
 LinksPairs links at (p ∷ ps) = IsPairAt links at p × LinksPairs links (link_at links at).next ps
 
--- the first lists, up to this number, joined in order
+-- the first `n` lists, joined in order
 abbrev pub joined : (ℕ → List Pair) → ℕ → List Pair
 joined parts zero = []
 joined parts (suc n) = joined parts n ++ parts n
 
--- the top bits of a hash, given the number of heads
+-- the top of a hash: its bits above the low `shift`, limited to `count - 1`
 abbrev pub top_of : ℕ → ℕ → ℕ → ℕ
 top_of shift count hash = min (hash / 2 ^ shift) (count - 1)
 
--- the place of the first pair of a top
+-- the place of the first pair with this top
 abbrev pub head_at : List ℕ → ℕ → ℕ
 head_at heads top = slice_index_or heads top 0
 
--- the pairs of a top, starting at its head
+-- the pairs with this top, starting at its head
 abbrev pub part_at : List ℕ → List Link → ℕ → List Pair
 part_at heads links top = rest links (head_at heads top)
 
@@ -70,7 +70,7 @@ pub record IsPairChain (links : List Link) (shift count top at : ℕ) (ps : List
   pub in_order : AreInOrder ps
   pub tops : AllByRecursion (λ p. top_of shift count p.hash ≡ top) ps
 
--- that the pairs of every head are linked
+-- that the pairs of every head are linked, and there are no more pairs than links
 pub record AreLinked (heads : List ℕ) (links : List Link) (shift : ℕ) : Type 0 where
   pub few : length links ≤ nowhere
   pub count : length (listed_pairs heads links) ≤ length links

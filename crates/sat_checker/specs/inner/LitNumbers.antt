@@ -1,4 +1,4 @@
--- The number of a literal.
+-- The numbers of literals, such as ids and places.
 use Rattle.std.specs.Prelude.{ℕ, ◌≡◌, ◌<◌, ◌==◌, ◌-◌, ◌^◌, List, length, get_or, Option, None, Some, if◌then◌else◌}
 use Rattle.sat_base.specs.values.Tables.{value_at}
 use Rattle.sat_checker.specs.declared.units.lit_numbers.LitNumbers.{LitNumbers}

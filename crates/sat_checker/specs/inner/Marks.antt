@@ -1,4 +1,4 @@
--- Marks of literals by number.
+-- Marks of literals, by literal code.
 use Rattle.std.specs.Prelude.{ℕ, ◌≡◌, ◌<◌, ◌≤◌, ◌+◌, ◌-◌, ◌==◌, Bool, true, false, List, length, get_or, slice_index_or, if◌then◌else◌}
 use Rattle.sat_base.specs.declared.table.Table.{Table}
 use Rattle.sat_base.specs.values.Literals.{negated}
@@ -26,11 +26,12 @@ is_assumed mark.Assumed = true
 is_assumed mark.Room = false
 is_assumed mark.NoRoom = false
 
--- that these are the marks of the literals with small codes, in order of codes
+-- that these marks, by literal code, say exactly which of the literals with small codes are assumed
 abbrev pub AreNear : List Mark → List ℕ → Type 0
 AreNear near literals = (l : ℕ) → l < length near → is_assumed (slice_index_or near l mark.NoRoom) ≡ is_among literals l
 
--- the literals are marked as assumed, others by whether there is room for them, and none of the literals occurs twice or without room
+-- That the literals are marked as assumed, and others by whether there is room for them. The literals are distinct, and
+-- there is room for all of them.
 pub record AreMarks (marks : Table Mark) (literals room : List ℕ) : Type 0 where
   pub each : (l : ℕ) → mark_at marks l ≡ mark_for (is_among literals l) (is_among room l)
   pub once : NoRepeats literals

@@ -1,4 +1,4 @@
--- What a list of literals says about clauses, as a test.
+-- Whether a list of literals satisfies clauses, as a test.
 use Rattle.std.specs.Prelude.{ℕ, ◌+◌, ◌==◌, Bool, true, ◌||◌, ◌&&◌, List, [], ◌∷◌, length, if◌then◌else◌}
 use Rattle.std.specs.List.{list_any}
 use Rattle.sat_checker.specs.LiteralSets.{is_among}

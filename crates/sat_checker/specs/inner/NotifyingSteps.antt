@@ -20,7 +20,7 @@ use Rattle.sat_checker.specs.declared.announce.announcement.Was.{Was}
 abbrev pub announced_by : (ℕ → Variable) → List Announcement → List Notice
 announced_by variables = map (λ a. record { announcement = a; variables = variables })
 
--- a variable, and its data
+-- a variable and its earlier data, if any, as the code represents them
 abbrev pub was_of : Option Was → Option (ℕ × Variable)
 was_of None = None
 was_of (Some was) = Some (was.var, variable_of_data was.data)
@@ -30,19 +30,19 @@ abbrev pub put_back : Option (ℕ × Variable) → (ℕ → Variable) → ℕ �
 put_back None variables = variables
 put_back (Some was) variables = λ v. if v == was.0 then was.1 else variables v
 
--- the variable whose name or mode a step may change
+-- the variable that a step may rename, change or delete, with its data
 abbrev pub changed_by : (ℕ → Variable) → Step → Option (ℕ × Variable)
 changed_by variables (UserVarName v name) = Some (v, variables v)
 changed_by variables (DeleteVar v) = Some (v, variables v)
 changed_by variables (ChangeSamplingMode v sample) = Some (v, variables v)
 changed_by variables step = None
 
--- the error if not all listeners were notified
+-- the checker's error for a fault of an announcement
 abbrev pub fault_of : ProcessingError → CheckerError
 fault_of faults.OutOfMemory = errors.OutOfMemory
 fault_of (faults.ProofProcessorError cause) = errors.ProofProcessorError cause
 
--- the error if a step could not be stored
+-- the checker's error if a step could not be stored
 abbrev pub failure_of : StoreError → CheckerError
 failure_of stores.OutOfMemory = errors.OutOfMemory
 failure_of stores.CounterEnd = errors.CounterEnd
@@ -51,21 +51,22 @@ failure_of stores.CounterEnd = errors.CounterEnd
 abbrev pub records_in : Status → Records
 records_in s = record { unsat = s.unsat; ended = s.ended; var_deleted = s.var_deleted }
 
--- neither the state nor the looks changed
+-- that neither the state nor the looks changed
 pub record SameStateAndLooks {L : Type 0} (old new : CheckerView L) : Type 0 where
   pub state : new.kernel.state ≡ old.kernel.state
   pub looks : looks_of new ≡ looks_of old
 
--- a listener that accepts everything without a fault, and does not change
+-- that the listener can accept every announcement without a fault and without a change
 abbrev pub IsUnmovedByNotices : {L : Type 0} → (L → Notice → Result Unit ProcessingError → L → Type 0) → L → Type 0
 IsUnmovedByNotices Hears l = (t : Notice) → Hears l t (Ok tt) l
 
 module _ {L : Type 0} (Hears : L → Notice → Result Unit ProcessingError → L → Type 0) (reported : List Notice) where
-  -- all was announced, or up to a fault, and this is recorded
+  -- What the result of these announcements means: all were made, or those up to a fault, and then the checker has
+  -- failed. The checker's records are those of its state.
   abbrev pub TakenIn : Result Unit CheckerError → CheckerView L → CheckerView L → Type 0
   TakenIn (Ok x) old new = (has_failed new ≡ false) × (new.kernel.records ≡ records_in new.kernel.state.formula.status) × HearsAll Hears reported old.listeners new.listeners
   TakenIn (Err e) old new = (has_failed new ≡ true) × (new.kernel.records ≡ records_in new.kernel.state.formula.status) × (f : ProcessingError) × (e ≡ fault_of f) × HearsUpTo Hears f reported old.listeners new.listeners
 
-  -- the same, and neither the state nor the looks changed
+  -- that `TakenIn` holds, and neither the state nor the looks changed
   abbrev pub NotifiesAndKeepsState : Result Unit CheckerError → CheckerView L → CheckerView L → Type 0
   NotifiesAndKeepsState result old new = SameStateAndLooks old new × TakenIn result old new

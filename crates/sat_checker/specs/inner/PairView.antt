@@ -3,7 +3,8 @@ use Rattle.std.specs.Prelude.{ℕ, ◌+◌, ◌*◌, ◌/◌, ◌%◌, ◌^◌, 
 use Rattle.std.specs.List.{AllByRecursion}
 use Rattle.sat_checker.specs.declared.store.links.Pair.{Pair}
 
--- the hash by which the index files another: no two are mixed to one, and what does not fit in 64 bits stays
+-- The hash under which the index files a hash. The low 64 bits are multiplied by an odd number, so different hashes
+-- have different mixed hashes.
 unfoldable pub mixed : ℕ → ℕ
 mixed hash = hash * 0xBF58476D1CE4E5B9 % 2 ^ 64 + hash / 2 ^ 64 * 2 ^ 64
 
@@ -57,7 +58,7 @@ from_on (Some place) places = filter (nat_le place) places
 abbrev pub same_place : Pair → Pair → Bool
 same_place p q = p.place == q.place
 
--- what contracts see of an index: its pairs, and how many places were assigned
+-- what contracts see of an index: its pairs, and the number of places
 pub record Indexed : Type 0 where
   pub pairs : List Pair
   pub places : ℕ

@@ -20,7 +20,7 @@ use Rattle.sat_checker.specs.declared.error.CheckerError.TheVariants as errors
 use Rattle.sat_checker.specs.declared.processing.ProcessingError.{ProcessingError}
 use Rattle.sat_checker.specs.declared.processing.ProcessingError.TheVariants as faults
 
--- the error if no step was read
+-- the checker's error if no step was read
 abbrev pub read_error : StepError → CheckerError
 read_error unread.Ends = errors.ProofIncomplete
 read_error unread.Cut = errors.ProofIncomplete
@@ -42,7 +42,7 @@ is_final unread.HasFailed = false
 abbrev pub bytes_left : Source → ℕ
 bytes_left s = piece_size * (most_reads - s.reads) + length s.waiting
 
--- that the calls of the reader are the reads of the source
+-- that the reader was called as often as the source counts reads
 abbrev pub CountsReads : Source → Source → Type 0
 CountsReads old new = new.reader.calls + old.reads ≡ old.reader.calls + new.reads
 
@@ -55,14 +55,14 @@ pub record CheckerAtSource (L : Type 0) : Type 0 where
 abbrev pub at_source : {L : Type 0} → CheckerView L → Source → CheckerAtSource L
 at_source c s = record { checker = c; source = s }
 
--- that this step was read and checked
+-- that the bytes of this step were consumed, and the looks rose at most by the bound for the step
 pub record TriesStep {L : Type 0} (a b : CheckerAtSource L) (earlier : List Step) (step : Step) : Type 0 where
   pub text : List ℕ
   pub passes : ConsumesBytes a.source b.source text
   pub spelt : SpellsStep step text
   pub looks : looks_of b.checker ≤ looks_of a.checker + most_looks (ready_after earlier) step
 
--- that no step was read because memory ran out
+-- that at least one byte was consumed, the bytes begin a step, and no looks were added
 pub record Starves {L : Type 0} (a b : CheckerAtSource L) : Type 0 where
   pub tag : ℕ
   pub more : List ℕ
@@ -71,12 +71,12 @@ pub record Starves {L : Type 0} (a b : CheckerAtSource L) : Type 0 where
   pub looks : looks_of b.checker ≡ looks_of a.checker
 
 module _ {L : Type 0} (Hears : L → Notice → Result Unit ProcessingError → L → Type 0) (before : List Notice) (begun : L) where
-  -- no step was read, and nothing is changed
+  -- that no more steps were accepted, the checker has not failed, and no looks were added
   pub record Waits (a b : CheckerAtSource L) (earlier : List Step) : Type 0 where
     pub goes_on : HasAcceptedUnfailed Hears before begun b.checker earlier
     pub looks : looks_of b.checker ≡ looks_of a.checker
 
-  -- The next step is read and checked. The result is whether it is the end.
+  -- What the result means if the next step is read and checked. `Ok` says whether the step is the end.
   abbrev pub StepsOn : Result Bool CheckerError → CheckerAtSource L → CheckerAtSource L → List Step → Type 0
   StepsOn (Ok ended) a b earlier = (step : Step) × TriesStep a b earlier step × MatchBool ended (step ≡ End) (step ≢ End) × HasAcceptedUnfailed Hears before begun b.checker (step ∷ earlier)
   StepsOn (Err errors.CheckFailed) a b earlier = (step : Step) × TriesStep a b earlier step × (Accepts (ready_after earlier) step → ⊥) × FailsRefusing Hears before begun b.checker earlier
@@ -93,7 +93,7 @@ module _ {L : Type 0} (Hears : L → Notice → Result Unit ProcessingError → 
   StepsOn (Err errors.IoError) a b earlier = (text : List ℕ) × ConsumesAndFails a.source b.source text × IsProperFront SpellsStep text × Waits a b earlier
   StepsOn (Err errors.HasFailed) a b earlier = ⊥
 
-  -- These steps were accepted, none of them the end.
+  -- That these steps, none of them the end, were read and accepted.
   pub record TakesStepsBeforeEnd (a b : CheckerAtSource L) (earlier passed : List Step) : Type 0 where
     pub text : List ℕ
     pub passes : ConsumesBytes a.source b.source text
@@ -103,6 +103,6 @@ module _ {L : Type 0} (Hears : L → Notice → Result Unit ProcessingError → 
     pub looks : looks_of b.checker ≤ looks_of a.checker + most_looks_after passed earlier
 
 module _ {L : Type 0} (Hears : L → Notice → Result Unit ProcessingError → L → Type 0) where
-  -- the result for the next step means this, whatever was accepted and announced earlier
+  -- the result of reading and checking the next step, whatever was accepted and announced earlier
   abbrev pub TurnsOn : Result Bool CheckerError → CheckerAtSource L → CheckerAtSource L → Type 0
   TurnsOn result a b = (before : List Notice) (begun : L) (earlier : List Step) → HasAccepted Hears before begun a.checker earlier → StepsOn Hears before begun result a b earlier

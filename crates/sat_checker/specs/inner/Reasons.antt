@@ -1,4 +1,4 @@
--- What a walk notes of the clauses that it passes, and how that leads to what its conflict rests on.
+-- What a walk notes about the clauses that it visits, and how the notes give what its conflict rests on.
 use Rattle.std.specs.Prelude.{ℕ, ◌≡◌, ◌+◌, ◌<◌, Bool, true, false, List, [], ◌∷◌, ◌++◌, map, filter, Option, None, Some, length}
 use Rattle.std.specs.List.{AllByRecursion, list_any}
 use Rattle.sat_base.specs.values.Literals.{negated}
@@ -27,7 +27,7 @@ abbrev pub named : List ℕ → List Slot → List StoredClause
 named [] slots = []
 named (hash ∷ hashes) slots = filed hash slots ++ named hashes slots
 
--- a note of a place and a literal, as the clause there that implied the literal
+-- a note of the code as a reason: the clause at the place, and the literal that it implied
 abbrev pub reason_in : List Slot → noted.Reason → Reason
 reason_in slots r = record { clause = clause_at slots r.place; literal = r.lit }
 
@@ -35,7 +35,7 @@ reason_in slots r = record { clause = clause_at slots r.place; literal = r.lit }
 abbrev pub reasons_in : List Slot → WalkNotes → List Reason
 reasons_in slots passed = map (reason_in slots) passed.reasons
 
--- what the falsified clause by itself rests on
+-- the causes of a conflict before any reason is followed: the falsified clause and the negations of its literals
 abbrev pub conflict_at : List Slot → Option ℕ → ConflictCauses
 conflict_at slots None = record { literals = []; clauses = [] }
 conflict_at slots (Some place) = record { literals = map negated (clause_at slots place).literals; clauses = clause_at slots place ∷ [] }
@@ -54,11 +54,12 @@ abbrev pub conflict_length : List Slot → Option ℕ → ℕ
 conflict_length slots None = 0
 conflict_length slots (Some place) = length (literals_at slots place)
 
--- the number of literals of the clauses that were noted: those that implied a literal, and the falsified one
+-- the number of literals of all noted clauses: the reasons and the falsified clause
 abbrev pub noted_length : List Slot → WalkNotes → ℕ
 noted_length slots passed = total_length (map (λ r. literals_at slots r.place) passed.reasons) + conflict_length slots passed.conflict
 
--- From the old notes, under the assumed literals and before these clauses, the walk came to the new notes, under more literals and before those that are left: what the conflict rests on is the same.
+-- That going from the old notes, `assumed` and `clauses` to the new notes, `more` and `left` does not change what a
+-- conflict rests on. All noted places still exist.
 pub record KeepsGround (slots : List Slot) (old : WalkNotes) (assumed : List ℕ) (clauses : List StoredClause) (new : WalkNotes) (more : List ℕ) (left : List StoredClause) : Type 0 where
   pub same : (rest : List StoredClause) →
       followed_back (reasons_in slots old) (conflict_causes assumed (clauses ++ rest)) ≡ followed_back (reasons_in slots new) (conflict_causes more (left ++ rest))

@@ -12,23 +12,24 @@ use Rattle.sat_checker.specs.inner.VariablesView.{KeepsVariables}
 use Rattle.sat_checker.specs.declared.state.State.{State}
 use Rattle.sat_checker.specs.declared.store.StoreError.{StoreError}
 
--- that the state represents this, once all clauses are filed by their current hashes
+-- that the state represents what is stored, once all clauses are filed by their current hashes
 pub record RepresentsStored (state : State) (f : Stored) : Type 0 where
   pub formula : RepresentsFormula (refiled_in state.formula) f
   pub variables : KeepsVariables state.variables f.variables
   pub assumed : state.assumed ≡ canonical f.assumed
 
--- that the state represents this, and all clauses are filed by their current hashes
+-- that the state represents what is stored, and all clauses are filed by their current hashes
 pub record KeepsFiled (state : State) (f : Stored) : Type 0 where
   pub formula : RepresentsFormula state.formula f
   pub variables : KeepsVariables state.variables f.variables
   pub assumed : state.assumed ≡ canonical f.assumed
 
--- Whatever was stored, a step is accepted only if the definition accepts it, and then what the step leaves is stored. A step is refused only if the definition refuses it, and an error is returned only for one that the definition accepts.
+-- That a step is accepted only if the definition accepts it, and the new state then represents its effect. A step is
+-- refused only if the definition refuses it, and an error is returned only if the definition accepts it.
 abbrev pub DecidesStep : Result Bool StoreError → State → Step → State → Type 0
 DecidesStep result old step new = (f : Stored) → RepresentsStored old f → FormulaEffectIf result (Accepts f step) (RepresentsStored new (effect step f)) (effect step f)
 
--- the result of changing the state in this way, if all its clauses are filed
+-- the result of changing the state in this way, if all its clauses are filed by their current hashes
 abbrev pub ChangesStored : {T : Type 0} → Result T StoreError → State → (Stored → Stored) → State → Type 0
 ChangesStored result old change new = (f : Stored) → KeepsFiled old f → KeepsOrSpends result (RepresentsStored new (change f)) (change f)
 

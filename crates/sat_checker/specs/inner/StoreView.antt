@@ -38,7 +38,7 @@ store_count_in redundant c = if redundant then redundant_count c else irredundan
 abbrev pub with_less : Bool → List ℕ → Stored → Stored
 with_less redundant literals f = record f { clauses = without_clause redundant literals f.clauses }
 
--- that these literals lose one count and the rest is stored, or that they have none
+-- that these literals had a count and `kept` holds, or that they had none
 abbrev pub TakesCount : Bool → Bool → List ℕ → Stored → Type 0 → Type 0
 TakesCount taken redundant literals f kept = MatchBool taken ((0 < store_count_in redundant (clause_with literals f.clauses)) × kept) (0 < store_count_in redundant (clause_with literals f.clauses) → ⊥)
 
@@ -47,12 +47,12 @@ abbrev pub found_in : List ℕ → Option Found → Option StoredClause
 found_in literals None = None
 found_in literals (Some c) = Some (record { id = c.id; literals = literals; irredundant = c.irredundant; redundant = c.redundant })
 
--- the id of the stored clause, or that of a new one
+-- the id of the clause that was found, or the given id if there is none
 abbrev pub id_in : Option StoredClause → ℕ → ℕ
 id_in None id = id
 id_in (Some c) id = c.id
 
--- the effect of storing a clause, and what is returned
+-- the effect of storing a clause, and the results: the clause's id, and whether the clause is new
 pub record StoreEffect (store : Store) (f : Stored) (id : ℕ) (redundant : Bool) (literals : List ℕ) (stored_id : ℕ) (is_new : Bool) : Type 0 where
   pub stored : RepresentsClauses store (record f { clauses = with_stored_clause redundant id literals f.clauses })
   pub id_is : stored_id ≡ id_in (clause_with literals f.clauses) id

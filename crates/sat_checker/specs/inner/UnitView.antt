@@ -1,4 +1,4 @@
--- What the store's units mean.
+-- The stored units, as the code represents them.
 use Rattle.std.specs.Prelude.{ℕ, ◌≡◌, List, map, reverse}
 use Rattle.sat_checker.specs.LiteralSets.{is_among}
 use Rattle.sat_checker.specs.SortedSets.{NoRepeats}
@@ -12,7 +12,7 @@ pub record UnitsAndRoom : Type 0 where
   pub units : List StoredUnit
   pub room : List ℕ
 
--- that exactly the units are assumed, in any order; every literal has its unit's id and, if it is assumed, its place on the trail
+-- That exactly the units are assumed, in any order. Every literal has its unit's id and, if assumed, its trail place.
 pub record UnitsInvariant (units : List StoredUnit) (ids places : LitNumbers) (assigned : List ℕ) : Type 0 where
   pub assumed : (l : ℕ) → is_among assigned l ≡ is_among (map (λ u. u.literal) units) l
   pub once : NoRepeats (map (λ u. u.literal) units)

@@ -53,6 +53,6 @@ VariablesAnswer old step new accepted =
 abbrev pub VariablesAllow : Variables → Step → Type 0
 VariablesAllow vs step = (f : Stored) → KeepsVariables vs f.variables → Accepts f step
 
--- that no variable of the literals is hidden or a witness
+-- that every variable of the literals has mode sample
 abbrev pub AreSampling : Variables → List ℕ → Type 0
 AreSampling vs = AllByRecursion (λ l. (variable_at vs (variable l)).mode ≡ stored.Sample)

@@ -1,10 +1,10 @@
--- What a greedy walk over clauses does. The rule itself is in Propagation.
+-- What a walk does if it uses every unit clause that it visits. The rule of the check is in `Propagation`.
 use Rattle.std.specs.Prelude.{ℕ, Bool, true, false, List, [], ◌∷◌, Option, None, Some, if◌then◌else◌}
 use Rattle.sat_base.specs.values.Literals.{negated}
 use Rattle.sat_checker.specs.LiteralSets.{is_among}
 pub use Rattle.sat_checker.specs.Verdicts.{Verdict, falsified, opens, rests, not_false, verdict_of_open, verdict}
 
--- The assumed literals after a clause, or `None` if it is falsified. The walk uses every clause that is unit when it is visited.
+-- The assumed literals after a clause, or `None` if it is falsified. Every clause that is unit when visited is used.
 abbrev pub walk_on : Verdict → List ℕ → Option (List ℕ)
 walk_on falsified assumed = None
 walk_on (opens l) assumed = Some (l ∷ assumed)

@@ -1,4 +1,4 @@
--- What an announcement of the code says, and the variables that may be looked up during it.
+-- What an announcement of the code represents, and the variables that may be looked up during it.
 use Rattle.std.specs.Prelude.{ℕ, ◌==◌, Bool, true, false, Option, None, Some, if◌then◌else◌}
 use Rattle.std.specs.Borrow.{Bor}
 use Rattle.std.specs.Option.{option_map}
@@ -22,7 +22,7 @@ is_sampling modes.Witness = false
 abbrev pub announced_user : CheckedUserVar → UserVariable
 announced_user u = record { name = u.user_var; sampling = is_sampling u.sampling_mode; is_new = u.new_var }
 
--- the announcement without its place in memory
+-- the announcement that the code's announcement represents
 abbrev pub announcement_of : CheckedProofStep → Announcement
 announcement_of (code.UserVar var user) = UserVar var (option_map announced_user user)
 announcement_of (code.DeleteVar var) = DeleteVar var

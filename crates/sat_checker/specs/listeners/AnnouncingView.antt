@@ -1,4 +1,4 @@
--- What a step will announce, by what is stored before it.
+-- What a step will announce, given what is stored before it.
 use Rattle.std.specs.Prelude.{ℕ, ◌≡◌, Bool, List, [], ◌∷◌, None, ◌==◌, if◌then◌else◌}
 use Rattle.sat_checker.specs.Stored.{Stored}
 use Rattle.sat_checker.specs.Storing.{clause_with}
@@ -9,7 +9,7 @@ use Rattle.sat_checker.specs.declared.announce.announcing.Change.{Change}
 use Rattle.sat_checker.specs.declared.announce.announcing.Change.TheVariants as changes
 use Rattle.sat_checker.specs.declared.announce.announcing.Deletion.{Deletion}
 
--- a derived clause that changes what is stored in this way
+-- the announcement of a derived clause, given the change that it makes to what is stored
 abbrev pub stored_as : Change → ℕ → Bool → List ℕ → List ℕ → List Announcement
 stored_as changes.New id redundant literals ids = AtClause id redundant literals ids ∷ []
 stored_as (changes.Irredundant same) id redundant literals ids = MakeIrredundant same literals ∷ []
@@ -19,10 +19,10 @@ stored_as changes.Neither id redundant literals ids = []
 abbrev pub change_in : Bool → Placed → Change
 change_in redundant p = if p.is_new then changes.New else if redundant then changes.Neither else if p.irredundant == 0 then changes.Irredundant p.id else changes.Neither
 
--- a clause with these literals, which was stored in this way, is deleted
+-- the announcement that a clause with these literals is deleted, given how it was stored
 abbrev pub deletion_announced : List ℕ → Deletion → List Announcement
 deletion_announced literals d = if d.redundant then redundant_deleted (found_in literals d.stored) else irredundant_deleted (one d.from) (found_in literals d.stored)
 
--- no clause of one literal is among those of two literals or more
+-- that no unit is stored among the clauses of two or more literals
 abbrev pub AreLong : Stored → Type 0
 AreLong f = (l : ℕ) → clause_with (l ∷ []) f.clauses ≡ None

@@ -13,25 +13,25 @@ pub record SameNotice (t u : Notice) : Type 0 where
   pub modes : (v : ℕ) → (t.variables v).mode ≡ (u.variables v).mode
 
 module _ {L : Type 0} (Hears : L → Notice → Result Unit ProcessingError → L → Type 0) where
-  -- the listeners heard this, and returned this result
+  -- that the listeners received this notice, or one that says the same, with this result
   abbrev pub HearsSame : L → Notice → Result Unit ProcessingError → L → Type 0
   HearsSame old t result new = (u : Notice) × SameNotice u t × Hears old u result new
 
-  -- all are heard once, in order, without a fault
+  -- that the listeners received all notices, in order, without a fault
   abbrev pub HearsAll : List Notice → L → L → Type 0
   HearsAll [] old new = new ≡ old
   HearsAll (t ∷ ts) old new = (mid : L) × HearsSame old t (Ok tt) mid × HearsAll ts mid new
 
-  -- all are heard once, in order, up to one for which this fault is returned; those after it are not announced
+  -- that the listeners received the notices in order, up to one that returned this fault; later ones were not announced
   abbrev pub HearsUpTo : ProcessingError → List Notice → L → L → Type 0
   HearsUpTo e [] old new = ⊥
   HearsUpTo e (t ∷ ts) old new = HearsSame old t (Err e) new ⊎ ((mid : L) × HearsSame old t (Ok tt) mid × HearsUpTo e ts mid new)
 
-  -- All this was announced, and they have heard what follows its first part, which was announced earlier.
+  -- That `reported` begins with `before`, and the listeners received the rest without a fault.
   abbrev pub HearsSince : List Notice → List Notice → L → L → Type 0
   HearsSince before reported old new = (since : List Notice) × (reported ≡ before ++ since) × HearsAll since old new
 
-  -- All this was announced up to this fault.
+  -- That `reported` begins with `before`, and the listeners received the rest up to this fault.
   abbrev pub HearsSinceUpTo : ProcessingError → List Notice → List Notice → L → L → Type 0
   HearsSinceUpTo e before reported old new = (since : List Notice) × (reported ≡ before ++ since) × HearsUpTo e since old new
 
@@ -49,10 +49,10 @@ pub record Hearers (V L : Type 0) : Type 0 where
 abbrev pub hearers : {V L : Type 0} → V → L → Hearers V L
 hearers own others = record { own = own; others = others }
 
--- a listener that accepts everything, and does not change
+-- that a listener accepts everything, and does not change
 abbrev pub takes_all : {V : Type 0} → V → Notice → Result Unit Error → V → Type 0
 takes_all old t result new = (result ≡ Ok tt) × (new ≡ old)
 
--- the first listener is notified, and then the others, unless it returns a fault
+-- that the first listener is notified, and then the others, unless the first returns a fault
 abbrev pub HearsFirst : {V L : Type 0} → (V → Notice → Result Unit Error → V → Type 0) → (L → Notice → Result Unit ProcessingError → L → Type 0) → Hearers V L → Notice → Result Unit ProcessingError → Hearers V L → Type 0
 HearsFirst Takes Hears old t result new = NotifiesFirst (λ answer own. Takes old.own t answer own) (Hears old.others t result new.others) result new.own old.others new.others

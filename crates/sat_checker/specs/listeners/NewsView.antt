@@ -22,11 +22,11 @@ announcement_with kinds.Model literals ids = Model literals
 announcement_with kinds.Assumptions literals ids = Assumptions literals
 announcement_with kinds.FailedAssumptions literals ids = FailedAssumptions literals ids
 
--- an announcement with the lists at its places
+-- the announcement of an item, with the literals and ids at its places
 abbrev pub announcement_at : List (List ℕ) → List (List ℕ) → Item → Announcement
 announcement_at literals ids i = announcement_with i.kind (slice_index_or literals i.literals []) (slice_index_or ids i.ids [])
 
--- the lists of an item are there
+-- that there are literals and ids at the item's places
 pub record IsItem (literals ids : List (List ℕ)) (i : Item) : Type 0 where
   pub literals_within : i.literals < length literals
   pub ids_within : i.ids < length ids

@@ -12,14 +12,14 @@ use Rattle.sat_checker.specs.declared.announce.notes.Notes.{Notes}
 use Rattle.sat_checker.specs.declared.store.StoreError.{StoreError}
 use Rattle.sat_checker.specs.declared.state.State.{State}
 
--- if there is a listener, this was noted after what was noted before
+-- that these announcements were appended to the notes, if there is a listener
 abbrev pub AppendsNews : Notes → List Announcement → Notes → Type 0
 AppendsNews before reported after = IsTrue before.hears → after.news ≡ before.news ++ reported
 
--- if the step is accepted, what it announces is noted
+-- that the announcements of an accepted step were appended to the notes, if there is a listener
 abbrev pub Announces : Result Bool StoreError → State → Step → Notes → Notes → Type 0
 Announces result old step before after = IfOk result (λ accepted. IsTrue accepted → (f : Stored) → RepresentsStored old f → AreLong f → AppendsNews before (announced f step) after)
 
--- what storing these sorted literals changed, and what deriving them announces, agree
+-- that the change of storing a sorted set gives the announcement that the definition makes for the derived set
 abbrev pub ChangesSet : Result Change StoreError → Bool → List ℕ → Formula → Type 0
 ChangesSet result redundant literals old = IfOk result (λ change. (f : Stored) → RepresentsFormula old f → AreLong f → (ids : List ℕ) → stored_as change f.next_id redundant literals ids ≡ derived_set redundant literals ids f (id_of_set literals f))

@@ -37,18 +37,19 @@ abbrev pub SomeRead : {C : Type 0} → (Transcribed → Result Unit Error → C 
 SomeRead Reads None cause before after = ⊥
 SomeRead Reads (Some step) cause before after = SomeNotified (Reads step) cause before after
 
--- What the result says about the transcripts, for which this is the step. Memory is needed only if there is a transcript.
+-- What the result means for the transcripts, which receive this step, if any. Memory runs out only if there is a
+-- transcript.
 abbrev pub Transcribes : {C : Type 0} → (Transcribed → Result Unit Error → C → C → Type 0) → Option Transcribed → Result Unit ProcessingError → List C → List C → Type 0
 Transcribes Reads said (Ok x) before after = AllRead Reads said before after
 Transcribes Reads said (Err OutOfMemory) before after = (0 < length before) × (after ≡ before)
 Transcribes Reads said (Err (ProofProcessorError cause)) before after = SomeRead Reads said cause before after
 
--- What the result of an announcement says: the processors were notified, and then the transcripts, up to the first fault.
+-- What the result of an announcement means: the processors were notified, then the transcripts, up to the first fault.
 pub data Notifies {B C : Type 0} (Takes : Result Unit Error → B → B → Type 0) (Reads : Transcribed → Result Unit Error → C → C → Type 0) (said : Option Transcribed) (result : Result Unit ProcessingError) (old new : Listeners B C) : Type 0 where
   all_processors : AllNotified Takes old.processors new.processors → Transcribes Reads said result old.transcripts new.transcripts → Notifies Takes Reads said result old new
   some_processors : (cause : Error) → result ≡ Err (ProofProcessorError cause) → SomeNotified Takes cause old.processors new.processors → new.transcripts ≡ old.transcripts → Notifies Takes Reads said result old new
 
--- one that is notified before all others returned a fault, and so these weren't notified
+-- that the listener that is notified first returned a fault, so the others did not change
 pub record FailsFirst {V L : Type 0} (Called : Result Unit Error → V → Type 0) (result : Result Unit ProcessingError) (own : V) (old new : L) : Type 0 where
   pub cause : Error
   pub answered : result ≡ Err (ProofProcessorError cause)

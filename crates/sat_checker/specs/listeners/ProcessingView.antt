@@ -14,7 +14,7 @@ use Rattle.sat_checker.specs.declared.processing.ProcessingError.{ProcessingErro
 abbrev pub listeners_of : {P T : Type 0} → Processing P T → Listeners P T
 listeners_of p = record { processors = p.processors.items; transcripts = p.transcripts.items }
 
--- That every processor receives this announcement, and every transcript receives its transcript.
+-- That every processor receives this announcement, and every transcript its transcript step, up to the first fault.
 abbrev pub HearsEach : {P T : Type 0} → (P → Notice → Result Unit Error → P → Type 0) → (T → Transcribed → Result Unit Error → T → Type 0) → Processing P T → Notice → Result Unit ProcessingError → Processing P T → Type 0
 HearsEach Takes Reads old t result new = Notifies (λ r b d. Takes b t r d) (λ said r b d. Reads b said r d) (transcript t.variables t.announcement) result (listeners_of old) (listeners_of new)
 
@@ -22,7 +22,7 @@ HearsEach Takes Reads old t result new = Notifies (λ r b d. Takes b t r d) (λ 
 abbrev pub NoListenerNoFault : {P T : Type 0} → (P → Notice → Result Unit Error → P → Type 0) → (T → Transcribed → Result Unit Error → T → Type 0) → Type 0
 NoListenerNoFault {P = P} {T = T} Takes Reads = (e : ProcessingError) (reported : List Notice) (old new : Processing P T) → listeners_of old ≡ record { processors = []; transcripts = [] } → HearsUpTo (HearsEach Takes Reads) e reported old new → ⊥
 
--- that a listener returned the fault
+-- that the error is a listener's fault only if a listener was added
 abbrev pub IsListenerFault : {P T : Type 0} → Processing P T → CheckerError → Type 0
 IsListenerFault old (errors.ProofProcessorError cause) = listeners_of old ≡ record { processors = []; transcripts = [] } → ⊥
 IsListenerFault old error = Unit {0}

@@ -1,9 +1,9 @@
--- What a transcript's step of the code says.
+-- What a transcript step of the code represents.
 use Rattle.sat_checker.specs.announcements.Transcripts.{Transcribed, WitnessVar, SampleVar, HideVar, ObserveInternalVar, AddClause, Unsat, Model, Assume, FailedAssumptions}
 use Rattle.sat_checker.specs.declared.announce.transcript.ProofTranscriptStep.{ProofTranscriptStep}
 use Rattle.sat_checker.specs.declared.announce.transcript.ProofTranscriptStep.TheVariants as code
 
--- the step without its place in memory
+-- the transcript step that the code's step represents
 abbrev pub transcribed_of : ProofTranscriptStep → Transcribed
 transcribed_of (code.WitnessVar var) = WitnessVar var
 transcribed_of (code.SampleVar var) = SampleVar var

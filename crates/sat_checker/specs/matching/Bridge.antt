@@ -26,7 +26,7 @@ AreDistinctVariables (p ∷ ps) = AllByRecursion (λ q. q.0 ≡ p.0 → ⊥) ps 
 abbrev pub HasAcceptedModel : ScriptState → Live → Valuation → Type 0
 HasAcceptedModel j live a = (b : Valuation) × AgreesOnLive live a b × EachHolds b j.clauses
 
--- the relation between the names in use and what the steps mean
+-- the relation between a script state and accepted steps: their names and variables, and the valuations that they allow
 pub record IsBridge (k : CheckerRules) (j : ScriptState) (earlier : List Step) (live : Live) : Type 0 where
   pub accepted : Accepted k earlier
   pub once : AreDistinctVariables live
@@ -35,7 +35,7 @@ pub record IsBridge (k : CheckerRules) (j : ScriptState) (earlier : List Step) (
   pub clauses_below : AllByRecursion (AllByRecursion (λ l. variable l < j.identity_count)) j.clauses
   -- a name's variable is live, with the name's identity
   pub named : (name v : ℕ) → variable_of earlier name ≡ Some v → (i : ℕ) × (identity_of j name ≡ Some i) × Among (v, i) live
-  -- every name in use has one
+  -- every name in use has a variable, which is live with the name's identity
   pub in_use : (name i : ℕ) → identity_of j name ≡ Some i → (v : ℕ) × (variable_of earlier name ≡ Some v) × Among (v, i) live
   pub distinct : (m n v : ℕ) → variable_of earlier m ≡ Some v → variable_of earlier n ≡ Some v → m ≡ n
   pub to : (a : Valuation) → Holds earlier a → HasAcceptedModel j live a

@@ -1,10 +1,11 @@
--- Which ordered steps are between two places of a proof, whatever others come between. Lists of steps have the newest first.
+-- Which ordered steps are between two places of a proof, whatever other steps are there. Lists have the newest first.
 use Rattle.std.specs.Prelude.{◌≡◌, false, List, [], ◌∷◌}
 use Rattle.sat_base.specs.steps.Steps.{Step}
 use Rattle.sat_checker.specs.matching.Checking.{CheckerRules, is_ordered}
 use Rattle.sat_checker.specs.matching.Expected.{Expected, Fits}
 
--- From these steps to those, the ordered ones are what is expected, the first one first: every one fits after the steps before it.
+-- That the ordered steps between two lists of steps are the expected ones, in order. Every one of them fits after the
+-- steps before it.
 pub data HasTrace (k : CheckerRules) : List Step → List Step → List Expected → Type 0 where
   no_step : {s : List Step} → HasTrace k s s []
   silent : {s t : List Step} {step : Step} {es : List Expected} → is_ordered step ≡ false → HasTrace k (step ∷ s) t es → HasTrace k s t es
