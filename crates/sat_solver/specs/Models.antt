@@ -22,7 +22,7 @@ value_in n values v = value_by (solver_of n v) values (data_at n v).unit
 abbrev pub literal_in : Variables → List (Option Bool) → ℕ → List ℕ
 literal_in n values v = if (data_at n v).deleted then [] else coded v (value_in n values v) ∷ []
 
--- the literals of the first n variables that are in use, in order
+-- the literals of all variables below n that are in use, in order
 unfoldable pub model_to : Variables → List (Option Bool) → ℕ → List ℕ
 model_to n values zero = []
 model_to n values (suc v) = model_to n values v ++ literal_in n values v
@@ -32,7 +32,7 @@ abbrev pub name_literal : Variables → List (Option Bool) → ℕ → Option �
 name_literal n values u None = []
 name_literal n values u (Some v) = coded u (value_in n values v) ∷ []
 
--- the literals of the first n names that are in use, in order
+-- the literals of all names below n that are in use, in order
 unfoldable pub named_to : Variables → List (Option Bool) → ℕ → List ℕ
 named_to n values zero = []
 named_to n values (suc u) = named_to n values u ++ name_literal n values u (global_of n u)

@@ -17,7 +17,7 @@ use Rattle.sat_solver.specs.analyze_conflict.Marks.{AsksBelow}
 abbrev pub IsPair : List (List ℕ) → ℕ → ℕ → Type 0
 IsPair implied a b = (a ≢ b) × Contains (implied_by implied (negated b)) a × Contains (implied_by implied (negated a)) b
 
--- the clause is a live long clause or has two literals
+-- the clause is a live long clause or a stored binary clause
 pub data IsStored (words live : List ℕ) (implied : List (List ℕ)) (c : List ℕ) : Type 0 where
   stored_long : (o : ℕ) → Contains live o → c ≡ lits_at words o → IsStored words live implied c
   stored_pair : (a b : ℕ) → IsPair implied a b → c ≡ a ∷ b ∷ [] → IsStored words live implied c
@@ -27,14 +27,14 @@ abbrev pub LeadTo : (assumed : List ℕ) (picked : List (List ℕ)) (reached : L
 LeadTo assumed [] reached = reached ≡ assumed
 LeadTo assumed (c ∷ cs) reached = (o : ℕ) × IsUnit assumed c o × LeadTo (o ∷ assumed) cs reached
 
--- the first literal of the learned clause is neither assigned nor contradicted, and no stored clause is falsified
+-- the reached literals neither satisfy nor falsify the literal, and falsify no stored clause
 pub record StaysOpen (words live : List ℕ) (implied : List (List ℕ)) (l : ℕ) (reached : List ℕ) : Type 0 where
   pub not_true : is_among reached l ≡ false
   pub not_false : is_among reached (negated l) ≡ false
   pub no_conflict : (c : List ℕ) → IsStored words live implied c → IsFalsified reached c → ⊥
 
--- the first literal of a learned clause stays open, and no stored clause is falsified, whichever stored clauses are unit in turn under the units and
--- the negations of its other literals
+-- Let stored clauses be unit in turn under the units and the negations of a learned clause's other literals. Then
+-- its first literal stays open, and no stored clause is falsified.
 abbrev pub LearnedAdvances : Type 0
 LearnedAdvances =
     (words refs : List ℕ) (watching : Watching) (implied : List (List ℕ)) (s : State) (conflict : List ℕ) (w : Work) (back : ℕ) (units : List ℕ) (picked : List (List ℕ)) (reached : List ℕ) →

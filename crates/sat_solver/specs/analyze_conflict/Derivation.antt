@@ -24,18 +24,19 @@ pub record AreLevelZeroLits (s : State) (units : List ℕ) : Type 0 where
   pub all : (l : ℕ) → IsTrueLit s.values l → level s l ≡ 0 → is_among units l ≡ true
   pub only : (l : ℕ) → is_among units l ≡ true → IsTrueLit s.values l × (level s l ≡ 0)
 
--- how a false literal is explained: it is of level 0, in the clause, or falsified by one of the used clauses
+-- how a false literal is explained: it is of level 0, in the learned clause, or the negation of a used literal
 pub data HasKnownCause (s : State) (learned used : List ℕ) (r : ℕ) : Type 0 where
   grounded_unit : level s r ≡ 0 → HasKnownCause s learned used r
   grounded_clause : Contains learned r → HasKnownCause s learned used r
   grounded_reason : Contains used (negated r) → HasKnownCause s learned used r
 
--- all these false literals are explained this way
+-- all these literals are explained this way
 abbrev pub HaveKnownCauses : State → (learned used rs : List ℕ) → Type 0
 HaveKnownCauses s learned used rs = (k : ℕ) → k < length rs → HasKnownCause s learned used (get_or rs k 0)
 
--- the parts of a derivation in any order: every used literal has a clause as its reason whose other literals are explained, and so are the
--- literals of the falsified clause
+-- A derivation in any order. Every used literal has a clause as its reason. The other literals of these reasons, and
+-- the literals of the falsified clause, are explained. No used literal occurs twice, or is the negation of a learned
+-- one.
 pub record IsUnorderedDerivation (words : List ℕ) (s : State) (conflict learned used : List ℕ) : Type 0 where
   pub reasons : (l : ℕ) → Contains used l → IsReasoned s 0 l
   pub causes : (l : ℕ) → Contains used l → HaveKnownCauses s learned used (causes_at words s l)
@@ -43,22 +44,23 @@ pub record IsUnorderedDerivation (words : List ℕ) (s : State) (conflict learne
   pub apart : (l : ℕ) → Contains used l → Contains learned (negated l) → ⊥
   pub distinct : AreDistinct used
 
--- the clause learned from a conflict has such a derivation
+-- the clause learned from a conflict has such a derivation, by its used literals
 abbrev pub HasUnorderedDerivation : (words : List ℕ) (s : State) (e : Conflict) (w : Work) → Type 0
 HasUnorderedDerivation words s e w = IsUnorderedDerivation words s (falsified words e) w.clause w.used
 
--- the parts of a derivation in trail order
+-- such a derivation, with the used literals in trail order
 pub record IsDerivation (words : List ℕ) (s : State) (conflict learned used : List ℕ) : Type 0 where
   pub grounds : IsUnorderedDerivation words s conflict learned used
   pub rising : (j k : ℕ) → j < k → k < length used → depth s (get_or used j 0) < depth s (get_or used k 0)
 
--- the checker accepts it: under the negated clause and the units, the used clauses are unit in turn, and the conflict clause is falsified
+-- the checker accepts the derivation: under the negated clause and the units, the used clauses are unit in turn, and
+-- the conflict clause is falsified
 abbrev pub IsAcceptable : (words : List ℕ) (s : State) (conflict learned used : List ℕ) → Type 0
 IsAcceptable words s conflict learned used =
     (units : List ℕ) → AreLevelZeroLits s units → UnitInTurn (map negated learned ++ units) (map (clause_of words s) used ++ conflict ∷ [])
 
--- the shape of a learned clause: only its first literal is of the current level, the others are of lower levels above 0; all are false,
--- none occurs twice
+-- The shape of a learned clause: its first literal is of the current level, the others are of lower levels above 0.
+-- All literals are false, and none occurs twice.
 pub record IsAsserting (s : State) (learned : List ℕ) : Type 0 where
   pub some : 0 < length learned
   pub fails : (k : ℕ) → k < length learned → IsFalseLit s.values (get_or learned k 0)
@@ -66,7 +68,7 @@ pub record IsAsserting (s : State) (learned : List ℕ) : Type 0 where
   pub lower : (k : ℕ) → 0 < k → k < length learned → (0 < level s (get_or learned k 0)) × (level s (get_or learned k 0) < current_level s)
   pub distinct : AreDistinct learned
 
--- exactly the variables of the clause are flagged
+-- only variables of the clause are flagged
 abbrev pub OnlyFlags : List Bool → List ℕ → Type 0
 OnlyFlags flags ls = (v : ℕ) → get_or flags v false ≡ true → HasVariable ls v
 
@@ -74,7 +76,8 @@ OnlyFlags flags ls = (v : ℕ) → get_or flags v false ≡ true → HasVariable
 abbrev pub FlagsAmong : Work → Type 0
 FlagsAmong w = (v : ℕ) → get_or w.flags v false ≡ true → HasVariable w.clause v ⊎ HasVariable w.used v
 
--- the result of resolution: the learned clause, whose first literal is last on the trail, and the parts of its derivation, deepest first
+-- The result of resolution: an asserting clause and its derivation. The used literals are of the current level, the
+-- last on the trail first. Only variables of the clause are flagged, and all of them except possibly the first.
 pub record ResolutionResult (words : List ℕ) (s : State) (conflict : List ℕ) (w : Work) : Type 0 where
   pub size : length w.flags ≡ length s.values
   pub asserting : IsAsserting s w.clause
@@ -88,7 +91,8 @@ pub record ResolutionResult (words : List ℕ) (s : State) (conflict : List ℕ)
 abbrev pub IsUipClause : (words : List ℕ) (s : State) (e : Conflict) (w : Work) → Type 0
 IsUipClause words s e w = ResolutionResult words s (falsified words e) w
 
--- the clause with a literal of the highest level among the others in second position, and this level, or 0 if there is no other literal
+-- The clause was reordered: its first literal stays, and its second has the highest level among the others. `level`
+-- is that level, or 0 if the clause has no second literal.
 pub record PutsSecond (nodes : List ImplNode) (clause clause' : List ℕ) (level : ℕ) : Type 0 where
   pub lits : IsReordering clause clause'
   pub first : get_or clause' 0 0 ≡ get_or clause 0 0

@@ -1,4 +1,4 @@
--- What resolution has met, for the activities of variables and clauses.
+-- The variables and clauses that resolution has met, whose activities are bumped.
 use Rattle.std.specs.Prelude.{ℕ, ◌≡◌, ◌<◌, ◌≤◌, ◌⊎◌, Bool, true, false, List, [], ◌∷◌, ◌++◌, take, length, slice_index_or as get_or}
 use Rattle.std.specs.List.{Contains}
 use Rattle.sat_base.specs.values.Literals.{variable}
@@ -23,25 +23,26 @@ abbrev pub longs_of : State → List ℕ → List ℕ
 longs_of s [] = []
 longs_of s (l ∷ ls) = long_of (node s l).reason ++ longs_of s ls
 
--- the list has what was met while the used literals were resolved
+-- the list has exactly the variables that were met while the used literals were resolved
 pub record AreMet (words : List ℕ) (s : State) (conflict used met : List ℕ) : Type 0 where
   pub only : (v : ℕ) → Contains met v → IsMetVariable words s conflict used v
   pub all : (v : ℕ) → IsMetVariable words s conflict used v → Contains met v
 
--- Another literal of the current level was met so far that is earlier on the trail than this one. So this one must be resolved: the
--- conflict does not follow from it and literals of lower levels only.
+-- Resolution has met another literal of the current level that is earlier on the trail than this one. So this one
+-- must be resolved: the conflict does not follow from it and literals of lower levels only.
 pub record HasOther (words : List ℕ) (s : State) (conflict resolved : List ℕ) (l : ℕ) : Type 0 where
   pub other : ℕ
   pub met : IsMetVariable words s conflict resolved (variable other)
   pub top : level s other ≡ current_level s
   pub before : depth s other < depth s l
 
--- a literal is resolved only while two of the current level are left: resolution stops at the first unique implication point
+-- a literal is resolved only while two literals of the current level are left: resolution stops at the first unique
+-- implication point
 abbrev pub AreNeeded : (words : List ℕ) (s : State) (conflict resolved : List ℕ) → Type 0
 AreNeeded words s conflict resolved = (k : ℕ) → k < length resolved → HasOther words s conflict (take k resolved) (get_or resolved k 0)
 
--- The resolved literals are the used ones of the current level, going backwards from the end of the trail. Every variable that was met is listed
--- once. Long clauses that took part are listed, the falsified one first.
+-- The resolved literals are the used ones of the current level, going backwards from the end of the trail. Every
+-- variable that was met is listed once. The long clauses that took part are listed, the falsified one first.
 pub record IsResolution (words : List ℕ) (s : State) (e : Conflict) (w : Work) : Type 0 where
   pub resolved : List ℕ
   pub falling : (j k : ℕ) → j < k → k < length resolved → depth s (get_or resolved k 0) < depth s (get_or resolved j 0)
@@ -60,7 +61,7 @@ pub record IsPassed (s : State) (at v : ℕ) : Type 0 where
   pub within : place < length s.trail.lits
   pub there : variable (lit_at s place) ≡ v
 
--- every variable that was met is listed once: it is flagged or was passed
+-- no variable is listed twice; every flagged one is listed, and every listed one is flagged or was passed
 pub record AreListed (s : State) (met : List ℕ) (flags : List Bool) (at : ℕ) : Type 0 where
   pub distinct : AreDistinct met
   pub within : (v : ℕ) → Contains met v → v < length s.values
@@ -74,11 +75,11 @@ pub record CollectionInvariant (words : List ℕ) (s : State) (e : Conflict) (w 
   pub needed : AreNeeded words s (falsified words e) w.used
   pub involved : w.involved ≡ long_falsified e ++ longs_of s w.used
 
--- no literal was resolved yet
+-- the invariant at the end of the trail, before any literal is resolved
 abbrev pub BeginsCollecting : (words : List ℕ) (s : State) (e : Conflict) (w : Work) → Type 0
 BeginsCollecting words s e w = CollectionInvariant words s e w (length s.trail.lits)
 
--- the state after the last resolution
+-- what holds of the lists after the last resolution
 pub record CollectionResult (words : List ℕ) (s : State) (e : Conflict) (w : Work) : Type 0 where
   pub distinct : AreDistinct w.met
   pub within : (v : ℕ) → Contains w.met v → v < length s.values
@@ -86,14 +87,14 @@ pub record CollectionResult (words : List ℕ) (s : State) (e : Conflict) (w : W
   pub needed : AreNeeded words s (falsified words e) w.used
   pub involved : w.involved ≡ long_falsified e ++ longs_of s w.used
 
--- the lists only grow: what was resolved stays a prefix
+-- the lists of met variables and long clauses are unchanged, and the used literals stay a prefix of their list
 pub record KeepsFront (w w' : Work) : Type 0 where
   pub met : w'.met ≡ w.met
   pub involved : w'.involved ≡ w.involved
   pub longer : length w.used ≤ length w'.used
   pub front : take (length w.used) w'.used ≡ w.used
 
--- the literals that are used after it are of lower levels
+-- the same, and the used literals that were appended are of lower levels
 pub record KeepsResolved (s : State) (w w' : Work) : Type 0 where
   pub front : KeepsFront w w'
   pub rest : (k : ℕ) → length w.used ≤ k → k < length w'.used → level s (get_or w'.used k 0) < current_level s

@@ -17,12 +17,13 @@ use Rattle.sat_parts.specs.clause.Db.{live_refs}
 use Rattle.sat_parts.specs.prop.WatchLists.{Watching}
 use Rattle.sat_parts.specs.prop.Asks.{PropagationInvariant}
 
--- the false literals of the reason at a position of the trail
+-- the false literals of the reason of a literal
 abbrev pub causes_at : List ℕ → State → ℕ → List ℕ
 causes_at words s l = causes words (node s l).reason
 
--- what analysis requires: values, nodes and trail agree, every level begins with a decision, and the literals of reasons above level 0 were
--- false before the literal that they imply
+-- What analysis requires: values, nodes and trail agree, a level is open, and every level begins with a decision.
+-- Above level 0, the other literals of a reason were false before the literal that it implies, and a long reason is
+-- a stored clause.
 pub record CanAnalyze (words : List ℕ) (s : State) : Type 0 where
   pub agrees : StateIsConsistent s
   pub levelled : IsLevelled s
@@ -31,7 +32,7 @@ pub record CanAnalyze (words : List ℕ) (s : State) : Type 0 where
       IsFalseBefore s p (get_or (causes_at words s (lit_at s p)) k 0)
   pub valid : (p o : ℕ) → get_or s.trail.starts 0 0 ≤ p → p < length s.trail.lits → (node s (lit_at s p)).reason ≡ Long o → IsClause words o × (0 < length (lits_at words o))
 
--- what propagation leaves when it has found a conflict: its own requirement, for the literals of lower levels
+-- what holds after propagation has found a conflict: its invariant, for literals below the current level
 abbrev pub AsksBelow : (words refs : List ℕ) (w : Watching) (implied : List (List ℕ)) (s : State) → Type 0
 AsksBelow words refs w implied s = PropagationInvariant words refs w implied s (current_level s)
 
@@ -39,7 +40,7 @@ AsksBelow words refs w implied s = PropagationInvariant words refs w implied s (
 abbrev pub AreInTurnAbove : (words refs : List ℕ) (implied : List (List ℕ)) (s : State) → Type 0
 AreInTurnAbove words refs implied s = AreUnitInTurn words (live_refs words refs) implied s (get_or s.trail.starts 0 0)
 
--- whether a true literal is flagged and of level `top` or above, so that it is to be resolved
+-- whether a true literal is flagged and of level `top` or above, and so must be resolved
 abbrev pub is_open_flagged : State → ℕ → List Bool → ℕ → Bool
 is_open_flagged s top flags l = get_or flags (variable l) false && not (nat_lt (level s l) top)
 
@@ -59,14 +60,15 @@ pub record IsOpenAt (s : State) (top at v : ℕ) : Type 0 where
   pub there : variable (lit_at s place) ≡ v
   pub high : top ≤ level s (lit_at s place)
 
--- a literal of the clause: false, flagged, and of a level between 0 and this one
+-- a false, flagged literal of a level between 0 and `top`
 pub record IsLower (s : State) (top : ℕ) (flags : List Bool) (r : ℕ) : Type 0 where
   pub fails : IsFalseLit s.values r
   pub above : 0 < level s r
   pub below : level s r < top
   pub flagged : get_or flags (variable r) false ≡ true
 
--- the flagged variables are those of the clause and those of counted literals: at level `top` or above, before this position
+-- Every flagged variable is in the clause, or has a literal of level `top` or above before this position; `pending`
+-- counts the latter. The literals of the clause are different, false, flagged, and of levels between 0 and `top`.
 pub record AreFlagsAt (s : State) (top : ℕ) (clause : List ℕ) (flags : List Bool) (pending at : ℕ) : Type 0 where
   pub size : length flags ≡ length s.values
   pub within : at ≤ length s.trail.lits
@@ -85,8 +87,8 @@ pub record IsWaiting (s : State) (top : ℕ) (flags : List Bool) (at r : ℕ) : 
   pub high : top ≤ level s r
   pub before : IsBefore s at (negated r)
 
--- how a false literal of a clause is explained: it is of level 0, in the learned clause, falsified by a used clause, the negation of a core
--- literal, or still to be resolved
+-- How a false literal is explained: it is of level 0, in the learned clause, or still to be resolved. Or its
+-- negation is a used literal or a core literal.
 pub data IsCovered (s : State) (top : ℕ) (w : Work) (at r : ℕ) : Type 0 where
   covered_unit : level s r ≡ 0 → IsCovered s top w at r
   covered_clause : Contains w.clause r → IsCovered s top w at r
@@ -94,7 +96,7 @@ pub data IsCovered (s : State) (top : ℕ) (w : Work) (at r : ℕ) : Type 0 wher
   covered_core : Contains w.core (negated r) → IsCovered s top w at r
   covered_open : IsWaiting s top w.flags at r → IsCovered s top w at r
 
--- all these false literals are explained this way
+-- all these literals are explained this way
 abbrev pub AreCovered : State → ℕ → Work → ℕ → List ℕ → Type 0
 AreCovered s top w at rs = (k : ℕ) → k < length rs → IsCovered s top w at (get_or rs k 0)
 
@@ -111,13 +113,14 @@ pub record IsReasoned (s : State) (at l : ℕ) : Type 0 where
 abbrev pub depth : State → ℕ → ℕ
 depth s l = (node s l).depth
 
--- the used literals are at this position or later, the last of the trail first, and the other literals of their reasons are explained
+-- The used literals are at this position or later, of level `top` or above, and the last on the trail comes first.
+-- The other literals of their reasons are explained.
 pub record AreUsed (words : List ℕ) (s : State) (top : ℕ) (w : Work) (at : ℕ) : Type 0 where
   pub reasons : (k : ℕ) → k < length w.used → IsReasoned s at (get_or w.used k 0) × (top ≤ level s (get_or w.used k 0))
   pub falling : (j k : ℕ) → j < k → k < length w.used → depth s (get_or w.used k 0) < depth s (get_or w.used j 0)
   pub causes : (k : ℕ) → k < length w.used → AreCovered s top w at (causes_at words s (get_or w.used k 0))
 
--- the invariant of resolution of a clause with used reasons
+-- the invariant while a clause is resolved with the reasons of used literals
 pub record ResolutionInvariant (words : List ℕ) (s : State) (ls : List ℕ) (w : Work) (at : ℕ) : Type 0 where
   pub marks : MarksWork s (current_level s) w at
   pub some : 0 < w.pending

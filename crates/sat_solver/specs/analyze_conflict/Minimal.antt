@@ -12,23 +12,25 @@ use Rattle.sat_solver.specs.analyze_conflict.Marks.{causes_at, IsReasoned, IsLow
 use Rattle.sat_parts.specs.declared.prop.graph.Conflict.{Conflict}
 use Rattle.sat_parts.specs.prop.Causes.{falsified}
 
--- how a false literal is explained: it is of level 0, the first of the clause, of a flagged variable, or falsified by a used clause
+-- how a false literal is explained: it is of level 0, the first of the clause, or flagged, or its negation is a used
+-- literal
 pub data IsMarked (s : State) (first : ℕ) (w : Work) (r : ℕ) : Type 0 where
   marked_unit : level s r ≡ 0 → IsMarked s first w r
   marked_first : first ≡ r → IsMarked s first w r
   marked_flag : get_or w.flags (variable r) false ≡ true → IsMarked s first w r
   marked_reason : Contains w.used (negated r) → IsMarked s first w r
 
--- all these false literals are explained this way
+-- all these literals are explained this way
 abbrev pub AreMarked : State → ℕ → Work → List ℕ → Type 0
 AreMarked s first w rs = (k : ℕ) → k < length rs → IsMarked s first w (get_or rs k 0)
 
--- a used literal: one of the current level whose reason was resolved, or a flagged one of a lower level
+-- the used literal at position k: of the current level if k is below `low`, otherwise flagged and of a lower level
 pub data IsUse (s : State) (low : ℕ) (flags : List Bool) (k l : ℕ) : Type 0 where
   use_top : k < low → level s l ≡ current_level s → IsUse s low flags k l
   use_low : low ≤ k → level s l < current_level s → get_or flags (variable l) false ≡ true → IsUse s low flags k l
 
--- the reasons of the used literals before position `at` are explained
+-- Every used literal has a clause as its reason. The reasons of those before position `at`, and the falsified
+-- clause, are explained.
 pub record MinimizationInvariant (words : List ℕ) (s : State) (conflict : List ℕ) (first low : ℕ) (w : Work) (at : ℕ) : Type 0 where
   pub size : length w.flags ≡ length s.values
   pub within : at ≤ length w.used
@@ -64,12 +66,11 @@ pub record MarksMore (w w' : Work) : Type 0 where
 abbrev pub marked : ℕ → Work → Work
 marked r w = record w { flags = set w.flags (variable r) true; used = w.used ++ negated r ∷ [] }
 
--- a true literal is appended to the used ones; no flag is set
+-- appends a true literal to the used ones; sets no flag
 abbrev pub used_up : ℕ → Work → Work
 used_up l w = record w { used = w.used ++ l ∷ [] }
 
--- how far the literals of a reason were marked: up to one that cannot follow from the clause, which is a decision or of a level that the
--- filter excludes
+-- the result of marking the literals of a reason: the new state, and whether all of them could be marked
 pub record Followed : Type 0 where
   pub work : Work
   pub whole : Bool
@@ -82,17 +83,17 @@ can_follow nodes filter r = not (is_unit_reason (node_of nodes (variable r)).rea
 abbrev pub is_settled : (nodes : List ImplNode) (r : ℕ) → Work → Bool
 is_settled nodes r w = (node_of nodes (variable r)).level == 0 || get_or w.flags (variable r) false
 
--- marks these literals one after another, and stops at the first that is neither settled nor able to follow; `whole` says that
--- there was none
+-- Marks these literals one after another, and stops at the first that is neither settled nor able to follow. `whole`
+-- says whether there was none.
 abbrev pub followed : (nodes : List ImplNode) (filter : ℕ) → List ℕ → Work → Followed
 followed nodes filter [] w = record { work = w; whole = true }
 followed nodes filter (r ∷ rs) w =
     if is_settled nodes r w then followed nodes filter rs w
     else (if can_follow nodes filter r then followed nodes filter rs (marked r w) else record { work = w; whole = false })
 
--- The invariant while the clause is minimized: its first literal is of the current level, every other literal is false, flagged, and
--- of a level between 0 and that one. Flagged variables are in the clause or used, and no used literal is the negation of a literal
--- of the clause.
+-- The invariant while the clause is minimized: its first literal is of the current level. Every other literal is
+-- false, flagged, and of a level between 0 and that one. Flagged variables are in the clause or used, and no used
+-- literal is the negation of a literal of the clause.
 pub record Minimal (words : List ℕ) (s : State) (conflict : List ℕ) (first low : ℕ) (rest : List ℕ) (w : Work) : Type 0 where
   pub searching : MinimizationInvariant words s conflict first low w (length w.used)
   pub distinct : AreDistinct rest
@@ -154,11 +155,13 @@ pub record FallsBefore (nodes : List ImplNode) (ls : List ℕ) (resolved : ℕ) 
   pub falling : (j k : ℕ) → j ≤ k → k < resolved → depth_in nodes (get_or ls k 0) ≤ depth_in nodes (get_or ls j 0)
   pub lower : (j k : ℕ) → j < resolved → resolved ≤ k → k < length ls → depth_in nodes (get_or ls k 0) ≤ depth_in nodes (get_or ls j 0)
 
--- the reasons of all used literals are explained in the search for literals that follow from the others of the clause
+-- the reasons of all used literals are explained after a search for literals that follow from the others of the
+-- clause
 abbrev pub MinimizationIsDone : (words : List ℕ) (s : State) (e : Conflict) (low : ℕ) (w : Work) → Type 0
 MinimizationIsDone words s e low w = MinimizationInvariant words s (falsified words e) (get_or w.clause 0 0) low w (length w.used)
 
--- whether a literal follows from the others: then its negation is used, with everything that it follows from; otherwise nothing has changed
+-- Whether a literal follows from the others. If so, its negation is used, and so are the literals that it follows
+-- from; otherwise nothing has changed.
 abbrev pub MinimizationResult : (words : List ℕ) (s : State) (e : Conflict) (low r : ℕ) (w w' : Work) → Bool → Type 0
 MinimizationResult words s e low r w w' b = MatchBool b
     (MarksMore (used_up (negated r) w) w' × MinimizationInvariant words s (falsified words e) (get_or w.clause 0 0) low w' (length w'.used))

@@ -39,7 +39,7 @@ pub record AreFailed (assumed : List ℕ) (failed : ℕ) (core : List ℕ) : Typ
   pub first : get_or core 0 0 ≡ failed
   pub among : (k : ℕ) → k < length core → Contains assumed (get_or core k 0)
 
--- one step wrote a core
+-- exactly one step was made, which wrote the core; the parts are unchanged
 pub record CoreWasWritten (steps : List Step) (s : Session) (c c' : Search) : Type 0 where
   pub is : steps ≡ FailedAssumptions (map (with_var (global_in c)) c'.analysis.core) (causes_hashes c.parts c'.analysis.used) ∷ []
   pub failed : AreFailed c.assumptions.lits.items c.failed c'.analysis.core
@@ -47,7 +47,7 @@ pub record CoreWasWritten (steps : List Step) (s : Session) (c c' : Search) : Ty
   pub moved : SameVarsAndAssumptions c c'
   pub same : c'.parts ≡ c.parts
 
--- the step of a core was made, or the call failed
+-- the step of a core was written, or the call failed
 pub record WritesCoreStep {W L : Type 0} {G : Ghosts L} (seen : W → Writer) (result : Result (Unit {0}) SolverError) (old new : Proof W L G) (c c' : Search) : Type 0 where
   pub steps : List Step
   pub went : EmitsUpToFault seen result steps old new

@@ -10,7 +10,8 @@ use Rattle.sat_solver.specs.analyze_conflict.Work.{Work}
 use Rattle.sat_solver.specs.analyze_conflict.Marks.{depth, MarksWork, AreUsed}
 use Rattle.sat_solver.specs.analyze_conflict.Derivation.{clause_of, AreLevelZeroLits, IsUnorderedDerivation, IsDerivation}
 
--- a true literal of the trail, above level 0, at this position or later, that has no clause as its reason: a decision or an assumption
+-- A true literal of the trail, above level 0, at this position or later, whose reason is not a clause. It is a
+-- decision or an assumption.
 pub record IsChosen (s : State) (at l : ℕ) : Type 0 where
   pub place : ℕ
   pub from : at ≤ place
@@ -19,20 +20,22 @@ pub record IsChosen (s : State) (at l : ℕ) : Type 0 where
   pub above : 0 < level s l
   pub free : is_unit_reason (node s l).reason ≡ true
 
--- the assumption that failed, and then chosen literals starting at this position of the trail, the last first
+-- the assumption that failed, and then chosen literals at this position of the trail or later, the last on the trail
+-- first
 pub record IsCoreFrom (s : State) (failed : ℕ) (core : List ℕ) (at : ℕ) : Type 0 where
   pub some : 0 < length core
   pub first : get_or core 0 0 ≡ failed
   pub chosen : (k : ℕ) → 0 < k → k < length core → IsChosen s at (get_or core k 0)
   pub falling : (j k : ℕ) → 0 < j → j < k → k < length core → depth s (get_or core k 0) < depth s (get_or core j 0)
 
--- the same for the complete trail, with no literal twice
+-- the same for the complete trail, and no literal occurs twice
 pub record IsDistinctCore (s : State) (failed : ℕ) (core : List ℕ) : Type 0 where
   pub lits : IsCoreFrom s failed core 0
   pub distinct : AreDistinct core
 
--- The reasons of the used literals, in trail order, derive the clause of the negated core; the last of them falsifies the assumption. The
--- checker accepts this: under the core and the units, they are unit in turn, and the last one is falsified.
+-- The reasons of the used literals, in trail order, derive the negation of the core; the last of them falsifies the
+-- assumption. The checker accepts this: under the core and the units, they are unit in turn, and the last one is
+-- falsified.
 pub record IsRefutation (words : List ℕ) (s : State) (failed : ℕ) (core used : List ℕ) : Type 0 where
   pub lits : IsDistinctCore s failed core
   pub derivation : IsDerivation words s (clause_of words s (negated failed)) (map negated core) used
@@ -54,7 +57,7 @@ pub record TraceInvariant (words : List ℕ) (s : State) (failed : ℕ) (w : Wor
   pub some : 0 < length w.used
   pub head : get_or w.used 0 0 ≡ negated failed
 
--- the state when no literal is flagged any more
+-- what holds when no literal is flagged any more
 pub record TraceResult (words : List ℕ) (s : State) (failed : ℕ) (w : Work) : Type 0 where
   pub size : length w.flags ≡ length s.values
   pub clear : AreClear w.flags

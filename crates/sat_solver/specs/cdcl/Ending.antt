@@ -17,14 +17,14 @@ use Rattle.sat_solver.specs.unit_simplify.Freed.{KeepsAsked}
 use Rattle.sat_parts.specs.parts.Full.{IsFull}
 use Rattle.sat_solver.specs.unit_simplify.Passes.{PassFailsOr}
 
--- names and search share their indices, unless unsat is recorded
+-- names and search share their indices, unless the outcome is that unsat was recorded
 abbrev pub RoundShares : Outcome → Variables → Search → Type 0
 RoundShares outcomes.Learned n c = SharesIndices n c
 RoundShares outcomes.Model n c = SharesIndices n c
 RoundShares outcomes.Unsat n c = Unit {0}
 RoundShares outcomes.Failed n c = SharesIndices n c
 
--- the outcome of a round, and what it leaves of names and proof; the judge's state is unchanged
+-- The outcome of a round, and how the round changed names, proof and search. The judge's state is unchanged.
 pub record RoundEnds {W L : Type 0} {G : Ghosts L} (seen : W → Writer) (outcome : Outcome) (n n' : Variables) (p p' : Proof W L G) (c c' : Search) : Type 0 where
   pub steps : List Step
   pub adds : EmitsChecked seen steps p p'

@@ -9,7 +9,7 @@ use Rattle.sat_solver.specs.declared.cdcl.fault.Kind.TheVariants as kinds
 use Rattle.sat_solver.specs.declared.error.SolverError.{SolverError}
 use Rattle.sat_solver.specs.declared.error.SolverError.TheVariants as errors
 
--- the error that is reported for a fault of this kind
+-- the error that the solver reports for a fault of this kind
 abbrev pub reported_error : Kind → SolverError
 reported_error (kinds.Write cause) = errors.ProofIoError cause
 reported_error (kinds.Processor cause) = errors.ProofProcessorError cause
@@ -24,8 +24,8 @@ IsKept (errors.ProofIoError cause) p = p.cause ≡ Some cause
 IsKept (errors.ProofProcessorError cause) p = p.made.complaint ≡ Some cause
 IsKept e p = Unit {0}
 
--- If the checker has missed a step that was made, that is because the target or the checker failed at it, and this error says so. On an allocation
--- failure it has missed none, unless the checker itself ran out of memory.
+-- The checker misses further steps only if this error reports a failed call of the target or of the checker. When
+-- memory runs out, it misses none, unless the checker itself ran out of memory.
 abbrev pub NamesLoss : {W L : Type 0} {G : Ghosts L} → SolverError → Proof W L G → Proof W L G → Type 0
 NamesLoss (errors.ProofIoError cause) old new = Unit {0}
 NamesLoss (errors.ProofProcessorError cause) old new = Unit {0}

@@ -27,7 +27,7 @@ is_searched step = false
 abbrev pub HaveSolverNames : (ℕ → Option ℕ) → List ℕ → Type 0
 HaveSolverNames names = AllByRecursion (λ l. (x : ℕ) × (names (variable l) ≡ Some x))
 
--- a step that the search makes by itself, over variables that have indices
+-- a step that the search makes by itself; derived clauses and units are over variables that have indices
 abbrev pub IsSearched : (ℕ → Option ℕ) → Step → Type 0
 IsSearched names (AtClause redundant clause hashes) = HaveSolverNames names clause
 IsSearched names (UnitClauses units) = HaveSolverNames names (map (λ u. u.0) units)
@@ -50,7 +50,7 @@ proof_fault (Write cause) = errors.ProofIoError cause
 proof_fault OutOfMemory = errors.OutOfMemory
 proof_fault (Check fault) = check_fault_of fault
 
--- the errors of a search; `StoreFull` only if this holds
+-- the errors of a search; `StoreFull` only if `full` holds
 abbrev pub IsFaultOr : (full : Type 0) → SolverError → Type 0
 IsFaultOr full errors.OutOfMemory = Unit {0}
 IsFaultOr full errors.StoreFull = full
@@ -63,8 +63,8 @@ IsFaultOr full e = ⊥
 abbrev pub IsFault : SolverError → Type 0
 IsFault = IsFaultOr ⊥
 
--- these steps were made; if a call of the target failed, it failed while their text was written. `CounterEnd` and a listener's fault come only from
--- the solver's own checker
+-- These steps were made. If a call of the target failed, it failed while their text was written. `CounterEnd` and a
+-- listener's fault come only from the solver's own checker.
 abbrev pub EmitsUpToFault : {A W L : Type 0} {G : Ghosts L} → (W → Writer) → Result A SolverError → List Step → Proof W L G → Proof W L G → Type 0
 EmitsUpToFault seen (Ok x) steps old new = EmitsChecked seen steps old new
 EmitsUpToFault seen (Err (errors.ProofIoError cause)) steps old new = FailsToEmit seen steps old new
@@ -72,12 +72,13 @@ EmitsUpToFault seen (Err (errors.ProofProcessorError cause)) steps old new = Fai
 EmitsUpToFault seen (Err errors.CounterEnd) steps old new = FailsCheck seen checks.CounterEnd steps old new
 EmitsUpToFault seen (Err e) steps old new = EmitsExactly seen steps old new
 
--- nothing was learned, unless the flag permits it
+-- all these steps are quiet, unless the flag is set
 abbrev pub AreQuietUnless : Bool → List Step → Type 0
 AreQuietUnless true steps = Unit {0}
 AreQuietUnless false steps = AreQuiet steps
 
--- the steps of a search were made, and its answer satisfies the relation, or it failed; `StoreFull` only if `full` holds
+-- The steps of a search were made, and its answer satisfies `Answers`, or the call failed. `StoreFull` occurs only
+-- if `full` holds. Unless `learns` is set, no step learns anything.
 pub record EmitsStepsWith {A W L : Type 0} {G : Ghosts L} (full : Type 0) (learns : Bool) (seen : W → Writer) (result : Result A SolverError) (old new : Proof W L G) (Answers : A → List Step → Type 0) : Type 0 where
   pub steps : List Step
   pub went : EmitsUpToFault seen result steps old new

@@ -19,7 +19,7 @@ global_in c = global_of_index c.globals.items
 abbrev pub assumed_indices : Search → List ℕ
 assumed_indices c = variables_of_lits c.assumptions.lits.items
 
--- every index has a proof variable, and analysis may begin
+-- every variable of the search has a proof variable, and no flag is set
 pub record IsFree (c : Search) : Type 0 where
   pub names : length c.parts.assignment.current ≤ length c.globals.items
   pub size : length c.analysis.flags ≡ length c.parts.assignment.current
@@ -40,7 +40,7 @@ pub record SameAssumedAndNames (s t : Session) : Type 0 where
 abbrev pub AreNamedOrIdle : Session → Search → Type 0
 AreNamedOrIdle s c = (v : ℕ) → v < length c.parts.assignment.current → (s.solver_names (global_in c v) ≡ Some v) ⊎ IsIdle (assumed_indices c) (state c.parts) c.parts.vsids v
 
--- the invariant of everything but parts and clauses
+-- the invariant of everything besides the parts: flags, assumptions and indices
 pub record IsReadySearch (s : Session) (c : Search) : Type 0 where
   pub free : IsFree c
   pub placed : ArePlaced c.assumptions (state c.parts)

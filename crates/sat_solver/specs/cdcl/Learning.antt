@@ -29,7 +29,7 @@ use Rattle.sat_solver.specs.clause.Assessed.{graded, levels_in, BumpsClauses}
 use Rattle.sat_solver.specs.cdcl.Joint.{IsSearch, SameVarsAndAssumptions}
 use Rattle.sat_solver.specs.unit_simplify.Left.{SameSize}
 
--- the newest of these steps derives a clause that advances after the others; by the others nothing is learned
+-- the newest of these steps derives a clause that advances after all earlier steps; the others learn nothing
 pub record LastAdvances (earlier steps : List Step) : Type 0 where
   pub redundant : Bool
   pub clause : List ℕ
@@ -50,11 +50,11 @@ pub record LearnsAndRises (earlier steps : List Step) (s : Session) (c c' : Sear
 abbrev pub LearnsClause : {W L : Type 0} {G : Ghosts L} → (W → Writer) → Result (Unit {0}) SolverError → Proof W L G → Proof W L G → Search → Search → Type 0
 LearnsClause seen r p p' c c' = EmitsStepsOr (IsFull c'.parts) seen r p p' (λ _ steps. LearnsAndRises (steps_of p) steps (session_of p') c c')
 
--- the hashes of the clauses from which it follows, the falsified one last
+-- the hashes of the clauses from which the learned clause follows, the falsified one last
 abbrev pub learned_hashes : Parts → Work → Conflict → List ℕ
 learned_hashes p w e = named_hashes p.clauses (state p) w.used e
 
--- the levels above `level` were undone, and the learned clause was stored
+-- the levels above `level` were undone, and the learned clause was stored with this header
 pub record UndoesAndLearns (p p' : Parts) (header : Header) (ls : List ℕ) (level : ℕ) : Type 0 where
   pub holds : PartsInvariant p'
   pub fits : FitsAfterLearning p p' header ls
@@ -63,8 +63,8 @@ pub record UndoesAndLearns (p p' : Parts) (header : Header) (ls : List ℕ) (lev
   pub keeps : KeepsTo level (state p) (state p')
   pub starts : length p'.trail.starts ≡ level
 
--- The activity of every long clause that took part was bumped, the falsified one first, with its glue improved by the levels before
--- backtracking; then activities decayed. Then a clause with this header was stored, at activity 0.
+-- The activity of every long clause that took part was bumped, the falsified one first, and its glue improved by the
+-- levels before backtracking. Then activities decayed, and a clause with this header was stored, at activity 0.
 pub record BumpsInvolved (p : Parts) (s : Scale) (w : Work) (header : Header) (p' : Parts) (s' : Scale) : Type 0 where
   pub between : Parts
   pub take : BumpsClauses (levels_in p) p.db.refs w.involved p.clauses s between.clauses s'
@@ -75,7 +75,7 @@ pub record BumpsInvolved (p : Parts) (s : Scale) (w : Work) (header : Header) (p
 abbrev pub SearchBumpsInvolved : Search → Search → Type 0
 SearchBumpsInvolved c c' = BumpsInvolved c.parts c.activity c'.analysis (graded (different (levels_of c.parts.graph c'.analysis.clause))) c'.parts c'.activity
 
--- afterwards every variable that was met was bumped once, and activities decayed; clauses are unchanged
+-- then every variable that was met was bumped, and activities decayed; clauses are unchanged
 pub record BumpsMetVars (c c' : Search) : Type 0 where
   pub following : Search
   pub rated : SearchBumpsInvolved c following

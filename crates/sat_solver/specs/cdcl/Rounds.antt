@@ -25,13 +25,13 @@ pub record RoundLearns (earlier steps : List Step) (s : Session) (c c' : Search)
   pub rises : TrailWordRisesFor (assumed_indices c) c.parts c'.parts
   pub last : LastAdvances earlier steps
 
--- an assumption failed
+-- an assumption is false, and only assumptions were decided
 pub record RoundFails (s : Session) (c c' : Search) : Type 0 where
   pub search : IsSearch s c'
   pub moved : SameVarsAndAssumptions c c'
   pub failing : IsFailing c'.assumptions.lits.items c'.parts c'.failed
 
--- no variable of a clause is open
+-- every variable of a clause has a value, and the assumptions are true
 pub record RoundShows (s : Session) (c c' : Search) : Type 0 where
   pub search : IsSearch s c'
   pub moved : SameVarsAndAssumptions c c'

@@ -21,26 +21,27 @@ use Rattle.sat_solver.specs.cdcl.Joint.{global_in, assumed_indices, IsReadySearc
 abbrev pub AllTrue : List ℕ → Parts → Type 0
 AllTrue ls p = (k : ℕ) → k < length ls → IsTrueLit p.assignment.current (get_or ls k 0)
 
--- no variable of a clause is open, and the assumptions are true
+-- nothing is left to propagate, every variable of a clause has a value, and the assumptions are true
 pub record IsComplete (ls : List ℕ) (p : Parts) : Type 0 where
   pub done : IsFullyPropagated p
   pub all : AllAssigned p
   pub assumed : AllTrue ls p
 
--- an assumption is false, and only assumptions were decided
+-- the assumption l is false, and only assumptions were decided
 pub record IsFailing (ls : List ℕ) (p : Parts) (l : ℕ) : Type 0 where
   pub among : Contains ls l
   pub fails : IsFalseLit p.assignment.current l
   pub decided : AreDecided ls (state p)
 
--- what is left after propagation without a conflict: a new level, or the search stops
+-- how a turn ends if propagation finds no conflict: a level was opened, or the search stops
 abbrev pub OpensLevelOrStops : Option FoundConflict → List ℕ → Parts → Parts → Type 0
 OpensLevelOrStops None ls p p' = length p'.trail.starts ≡ length p.trail.starts + 1
 OpensLevelOrStops (Some (Falsified e)) ls p p' = ⊥
 OpensLevelOrStops (Some Complete) ls p p' = IsComplete ls p'
 OpensLevelOrStops (Some (Failed l)) ls p p' = IsFailing ls p' l
 
--- an assumption or an open variable began a level, or there was none
+-- the effect of a turn after propagation: a level was opened, or the search stops; clauses and assumptions are
+-- unchanged, and no unit is new
 pub record GoesDeeper (found : Option FoundConflict) (a a' : Assumptions) (p p' : Parts) : Type 0 where
   pub holds : PartsInvariant p'
   pub lits : a'.lits ≡ a.lits

@@ -8,7 +8,7 @@ use Rattle.sat_solver.specs.session.Session.{Session}
 use Rattle.sat_solver.specs.declared.context.Search.{Search}
 use Rattle.sat_solver.specs.cdcl.Joint.{IsSearch, SameVarsAndAssumptions}
 
--- all these variables are below a number
+-- all these variables are below n
 abbrev pub AreBelow : List ℕ → ℕ → Type 0
 AreBelow vars n = (v : ℕ) → Contains vars v → v < n
 
@@ -16,12 +16,13 @@ AreBelow vars n = (v : ℕ) → Contains vars v → v < n
 abbrev pub AreDecays : SolverConfig → Type 0
 AreDecays c = (500 ≤ c.vsids_decay) × (c.vsids_decay ≤ 999) × (500 ≤ c.clause_activity_decay) × (c.clause_activity_decay ≤ 999)
 
--- the variables were bumped one after another
+-- the queue after the variables were bumped one after another
 abbrev pub all_bumped : List ℕ → Queue → Queue
 all_bumped [] q = q
 all_bumped (v ∷ vs) q = all_bumped vs (bumped v q)
 
--- everything but activities is the same, and the word of the trail is unchanged or extended
+-- the invariant of the search holds, variables and assumptions are unchanged, and the word of the trail is unchanged
+-- or extended
 pub record BumpEffect (s : Session) (c c' : Search) : Type 0 where
   pub search : IsSearch s c'
   pub moved : SameVarsAndAssumptions c c'

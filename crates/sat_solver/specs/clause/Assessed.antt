@@ -17,7 +17,7 @@ use Rattle.sat_parts.specs.parts.Words.{TrailWordExtends}
 abbrev pub tier_for : ℕ → Tier
 tier_for glue = if nat_le glue 2 then Core else (if nat_le glue 6 then Mid else Local)
 
--- the header with this glue, at most 63, and the tier for it
+-- the header with this glue, at most 63, and with its tier
 abbrev pub with_glue : ℕ → Header → Header
 with_glue glue h = record h { glue = min glue 63; tier = tier_for glue }
 
@@ -25,8 +25,8 @@ with_glue glue h = record h { glue = min glue 63; tier = tier_for glue }
 abbrev pub graded : ℕ → Header
 graded levels = with_glue (levels - 1) no_header
 
--- the header of a clause that took part: it is active, and a learned one whose literals have fewer levels than its glue says gets the
--- smaller glue and the tier for it
+-- The header of a clause that took part: it is active. A learned clause whose literals have fewer levels than its
+-- glue also gets a smaller glue, and the tier for it.
 abbrev pub improved : ℕ → Header → Header
 improved levels h = if is_learned h.tier && nat_lt levels h.glue then with_glue levels (record h { active = true }) else record h { active = true }
 
@@ -41,7 +41,7 @@ pub record BumpsClause (levels : ℕ) (words words' refs : List ℕ) (o : ℕ) (
   pub all : BumpsPast words raised refs o s s'
   pub improves : PutsHeader raised words' refs o (improved levels (header_at raised o))
 
--- activities decayed
+-- the bump grew by a decay; if it reached 2^30, all activities were rescaled
 pub record DecaysActivities (words words' refs : List ℕ) (s s' : Scale) : Type 0 where
   pub later : later_bump s < 2 ^ 30 → (s' ≡ later_scale s) × (words' ≡ words)
   pub rescaled : 2 ^ 30 ≤ later_bump s → DecaysAll words words' refs s s'
@@ -58,7 +58,7 @@ pub record ChangesOnlyHeaders (p p' : Parts) : Type 0 where
   pub refs : p'.db.refs ≡ p.db.refs
   pub word : TrailWordExtends p p'
 
--- the clauses are live, and there is a flag for the level of each of their literals
+-- the clauses are live, there is a flag for the level of each of their literals, and no flag is set
 pub record AreInvolved (p : Parts) (flags : List Bool) (os : List ℕ) : Type 0 where
   pub live : (o : ℕ) → Contains os o → Contains (live_refs p.clauses p.db.refs) o
   pub levels : (o : ℕ) → Contains os o → HaveFlags p.graph flags (lits_at p.clauses o)

@@ -32,12 +32,12 @@ pub record IsLearnedLong (p : Parts) (o : ℕ) : Type 0 where
 abbrev pub IsReason : Parts → ℕ → Type 0
 IsReason p o = IsLockedClause p.clauses p.assignment.current p.graph o
 
--- the clause at o was deleted, unless it is a reason; then nothing changed
+-- the clause at o was deleted, and was not a reason; or it is a reason, and nothing changed
 abbrev pub DeletesUnlessReason : (deleted : Bool) (o : ℕ) → Parts → Parts → Type 0
 DeletesUnlessReason true o p p' = (IsReason p o → ⊥) × DropsLongClause p p' o
 DeletesUnlessReason false o p p' = IsReason p o × (p' ≡ p)
 
--- the clause at o was deleted, or nothing changed
+-- the clause at o was deleted, or nothing changed; the invariant of the search holds
 pub record DeletesIf (deleted : Bool) (o : ℕ) (s : Session) (c c' : Search) : Type 0 where
   pub search : IsSearch s c'
   pub moved : SameVarsAndAssumptions c c'
@@ -45,13 +45,14 @@ pub record DeletesIf (deleted : Bool) (o : ℕ) (s : Session) (c c' : Search) : 
   pub others : (p : ℕ) → p ≢ o → IsLearnedLong c.parts p → IsLearnedLong c'.parts p
   pub tried : DeletesUnlessReason deleted o c.parts c'.parts
 
--- the search is the same except for its clauses, and the word of the trail is unchanged or extended
+-- the invariant of the search holds, variables and assumptions are unchanged, and the word of the trail is unchanged
+-- or extended
 pub record ReductionEffect (s : Session) (c c' : Search) : Type 0 where
   pub search : IsSearch s c'
   pub moved : SameVarsAndAssumptions c c'
   pub word : TrailWordExtendsFor (assumed_indices c) c.parts c'.parts
 
--- the same by proof steps, for this kind of change
+-- a change of this kind was made by proof steps, with this effect
 abbrev pub ReductionBySteps : {W L : Type 0} {G : Ghosts L} → (Changes : Parts → Parts → Type 0) → (W → Writer) → Result (Unit {0}) SolverError → Proof W L G → Proof W L G → Search → Search → Type 0
 ReductionBySteps Changes seen r p p' c c' = EmitsSteps seen r p p' (λ _ _. ReductionEffect (session_of p') c c' × Changes c.parts c'.parts)
 
@@ -71,8 +72,8 @@ pub record DeletesJustThese (p p' : Parts) (gone : List ℕ) : Type 0 where
   pub stay : (o : ℕ) → Contains (live_refs p'.clauses p'.db.refs) o → Contains (live_refs p.clauses p.db.refs) o × SameClauseAt p.clauses p'.clauses o
   pub same : SameSearch p p'
 
--- half of the live clauses of tier Local, rounded down, were deleted: those of lowest activity, the earlier one first among equals, but
--- none that is a reason
+-- Live clauses of tier Local were deleted: those of lowest activity, the earlier one first among equals, but none
+-- that is a reason. Their number is half of these clauses, rounded down, or less if fewer of them are not reasons.
 pub record HalvesLocals (p p' : Parts) : Type 0 where
   pub locals : List ℕ
   pub all : IsPermutation (filter (is_live_of p.clauses Local) p.db.refs) locals
@@ -81,7 +82,7 @@ pub record HalvesLocals (p p' : Parts) : Type 0 where
   pub first : AreFirstFree p locals (length locals / 2) gone
   pub deletes : DeletesJustThese p p' gone
 
--- the same if a reduction of this tier is due
+-- the reduction of tier Local, if it is due
 abbrev pub ReducesLocals : Bool → Parts → Parts → Type 0
 ReducesLocals true p p' = HalvesLocals p p'
 ReducesLocals false p p' = p' ≡ p
@@ -93,21 +94,22 @@ pub record MovesMids (p p' : Parts) : Type 0 where
   pub headers : PutsHeaders p.clauses p'.clauses p.db.refs (λ o. reduced (header_at p.clauses o))
   pub headed : ChangesHeaders p p'
 
--- the same if a reduction of this tier is due
+-- the reduction of tier Mid, if it is due
 abbrev pub ReducesMids : Bool → Parts → Parts → Type 0
 ReducesMids true p p' = MovesMids p p'
 ReducesMids false p p' = p' ≡ p
 
 -- COLLECTION
 
--- if deleted clauses take up more than half of the buffer, the live ones were moved together, in order, and no room is lost any more
+-- if deleted clauses take up more than half of the buffer, the live ones were moved together, in order, and no
+-- garbage is left
 pub record CollectsWhereDue (p p' : Parts) : Type 0 where
   pub due : length p.clauses / 2 < p.db.garbage → MovesLongClauses p p' × (p'.db.garbage ≡ 0)
   pub not_due : p.db.garbage ≤ length p.clauses / 2 → p' ≡ p
 
 -- ALL OF THESE
 
--- the reductions before the round with this number
+-- the reductions that are due before the round with this number
 pub record Reduces (config : SolverConfig) (round : ℕ) (p p' : Parts) : Type 0 where
   pub after_locals : Parts
   pub after_mids : Parts

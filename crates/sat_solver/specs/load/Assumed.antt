@@ -18,16 +18,16 @@ use Rattle.sat_solver.specs.variables.Coming.{MayTake}
 use Rattle.sat_solver.specs.declared.variables.Variables.{Variables}
 use Rattle.sat_solver.specs.declared.load.literals.Taken.{Taken}
 
--- marked as assumed, or not, if the first flag is set
+-- the data with its mark set to the second flag, if the first flag is set
 abbrev pub marked_if : Bool → Bool → VarData → VarData
 marked_if true assumed d = record d { assumed = assumed }
 marked_if false assumed d = d
 
--- the variables of these literals are marked as assumed, or not; the others are unchanged
+-- the marks of these literals' variables are set to the flag; other variables are unchanged
 pub record MarksAssumed (old new : ℕ → VarData) (ls : List ℕ) (assumed : Bool) : Type 0 where
   pub each : (v : ℕ) → new v ≡ marked_if (mentions ls v) assumed (old v)
 
--- exactly the variables of these literals are marked
+-- exactly the variables of these literals are marked; nothing else has changed
 pub record PutsMarks (old new : Variables) (ls : List ℕ) : Type 0 where
   pub users : new.global_from_user ≡ old.global_from_user
   pub solvers : new.solver_from_global ≡ old.solver_from_global
@@ -40,15 +40,15 @@ pub record PutsMarks (old new : Variables) (ls : List ℕ) : Type 0 where
   pub free_globals : new.free_globals ≡ old.free_globals
   pub free_solvers : new.free_solvers ≡ old.free_solvers
 
--- the names of the literals were introduced, their variables have indices, and they are the assumptions from now on, whatever
--- the ask answers
+-- The names of the literals were introduced, their variables have indices, and the last step makes the literals the
+-- assumptions. This holds for any outcome of the ask.
 pub record BringsAssumptions (old new : Variables) (from to : List Step) (user : List ℕ) (t : Taken) : Type 0 where
   pub does : (o : Outcome) → NamesEffect old new from to (bring_all (names_in user)) (λ j. bringing (names_in user) j ++ (Opens (map user_literal user) o ∷ []))
   pub extends : ExtendsNames old new
   pub images : Images new user t.order.items
   pub globals : t.globals.items ≡ map (with_var (global_with_index new)) t.order.items
   pub gives : GivesIndices old new (session_after from) t.given.items
-  -- the earlier steps of the call, which the search does not see
+  -- all steps before the last one; the search sees no change by those since `from`
   pub between : List Step
   pub written : to ≡ Assumptions t.globals.items ∷ between
   pub search : KeepsSearch (session_after from) (session_after between)

@@ -15,7 +15,7 @@ use Rattle.sat_solver.specs.variables.Coming.{IsDue, MayTake}
 use Rattle.sat_solver.specs.declared.variables.Variables.{Variables}
 use Rattle.sat_solver.specs.declared.load.literals.Taken.{Taken}
 
--- its names were introduced, their variables have indices, and it was written
+-- the names of the clause were introduced, their variables have indices, and the last step adds the clause
 pub record BringsClause (old new : Variables) (from to : List Step) (user : List ℕ) (t : Taken) (both_signs : Bool) : Type 0 where
   pub does : NamesEffect old new from to (λ j. with_clause (map user_literal user) (bring_all (names_in user) j)) (λ j. bringing (names_in user) j ++ (Adds (map user_literal user) ∷ []))
   pub signs : both_signs ≡ is_tautology t.order.items
@@ -23,14 +23,14 @@ pub record BringsClause (old new : Variables) (from to : List Step) (user : List
   pub images : Images new user t.order.items
   pub clause : MapsClause new t
   pub gives : GivesIndices old new (session_after from) t.given.items
-  -- the steps before the clause's own, which the search does not see
+  -- all steps before the last one; the search sees no change by those since `from`
   pub between : List Step
   pub since : OnlyAllowedSteps (MayTake (names_in user)) from between
   pub written : to ≡ AddClause t.globals.items ∷ between
   pub search : KeepsSearch (session_after from) (session_after between)
   pub comes : OnlyAllowedSteps (MayTake (names_in user)) from to
 
--- its names were introduced, and it was not written, since the clauses are known to be unsatisfiable
+-- the names of the clause were introduced; no step adds the clause, since the clauses are known to be unsatisfiable
 pub record LeavesOut (old new : Variables) (from to : List Step) (user : List ℕ) : Type 0 where
   pub does : NamesEffect old new from to (λ j. with_clause (map user_literal user) (bring_all (names_in user) j)) (bringing (names_in user))
   pub extends : ExtendsNames old new

@@ -5,7 +5,7 @@ use Rattle.sat_solver.specs.declared.error.SolverError.{SolverError}
 use Rattle.sat_solver.specs.declared.error.SolverError.TheVariants as errors
 use Rattle.sat_solver.specs.cdcl.Going.{check_fault_of}
 
--- the solver's error for an error of its names
+-- the solver's error for a failed call over names
 abbrev pub reported_as : NameError → SolverError
 reported_as names.VariableLimit = errors.VariableLimit
 reported_as names.OutOfMemory = errors.OutOfMemory

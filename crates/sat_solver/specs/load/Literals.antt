@@ -33,7 +33,8 @@ pub record IsProofLiteralOf (n : Variables) (l code : ℕ) : Type 0 where
   pub sampled : (data_at n variable_is).sampling_mode ≡ kept.Sample
   pub is : code ≡ coded variable_is (is_positive l)
 
--- the same set of literals, in any order and with any repetitions
+-- the clause over proof variables represents exactly these literals over names, in any order and with any
+-- repetitions
 pub record SameLiterals (n : Variables) (user clause : List ℕ) : Type 0 where
   pub there : AllByRecursion (λ l. (code : ℕ) × IsProofLiteralOf n l code × Among code clause) user
   pub only : AllByRecursion (λ code. (l : ℕ) × IsProofLiteralOf n l code × Among l user) clause
@@ -77,7 +78,8 @@ pub record BringsLiterals (old new : Variables) (from to : List Step) (user : Li
   pub search : KeepsSearch (session_after from) (session_after to)
   pub comes : OnlyAllowedSteps (MayTake (names_in user)) from to
 
--- the clause over proof variables has the same set of literals, in the order of the search's codes
+-- the literals of the search in order of their codes and without repetitions, and the same literals over proof
+-- variables
 pub record MapsClause (new : Variables) (t : Taken) : Type 0 where
   pub lits : t.lits.items ≡ canonical t.order.items
   pub globals : t.globals.items ≡ map (with_var (global_with_index new)) t.lits.items

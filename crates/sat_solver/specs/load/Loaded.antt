@@ -15,7 +15,7 @@ use Rattle.sat_solver.specs.cdcl.Going.{EmitsSteps, EmitsStepsOr}
 use Rattle.sat_solver.specs.cdcl.Joint.{global_in, IsSearch, SameVarsAndAssumptions}
 use Rattle.sat_solver.specs.declared.context.Search.{Search}
 
--- a clause that may be loaded at level 0: different literals of existing variables
+-- a clause that may be loaded at level 0: its literals are over different variables that exist
 pub record MayLoad (c : Search) (ls : List ℕ) : Type 0 where
   pub bottom : c.parts.trail.starts ≡ []
   pub differ : AreDistinct ls
@@ -29,12 +29,12 @@ pub record IsAdded (steps : List Step) (c : Search) (ls : List ℕ) : Type 0 whe
   pub search : IsSearch (session_after earlier) c
   pub named : AreMapped (global_in c) (session_after earlier).solver_names ls
 
--- the invariant of the search, or unsat is recorded
+-- the invariant of the search holds or, if the flag is false, unsat is recorded
 abbrev pub SearchGoesOn : Bool → Session → Search → Type 0
 SearchGoesOn true s c = IsSearch s c
 SearchGoesOn false s c = s.unsat ≡ true
 
--- a clause was loaded; variables and assumptions are unchanged
+-- a clause was loaded, and the search is at level 0; variables and assumptions are unchanged
 pub record IsLoaded (left : Bool) (s : Session) (c c' : Search) : Type 0 where
   pub goes_on : SearchGoesOn left s c'
   pub moved : SameVarsAndAssumptions c c'
@@ -44,11 +44,11 @@ pub record IsLoaded (left : Bool) (s : Session) (c c' : Search) : Type 0 where
 abbrev pub satisfied_step : (global : ℕ → ℕ) → List ℕ → Step
 satisfied_step global ls = DeleteClause (map (with_var global) ls) Satisfied
 
--- this step was made
+-- exactly this step was made, or the call failed
 abbrev pub DeletesSatisfied : {W L : Type 0} {G : Ghosts L} → (W → Writer) → Result (Unit {0}) SolverError → Proof W L G → Proof W L G → (global : ℕ → ℕ) → List ℕ → Type 0
 DeletesSatisfied seen r p p' global ls = EmitsSteps seen r p p' (λ _ _. steps_of p' ≡ satisfied_step global ls ∷ steps_of p)
 
--- this step was made, and the formula may still be satisfiable
+-- the same, and the result is that the formula may still be satisfiable
 abbrev pub DeletesTrue : {W L : Type 0} {G : Ghosts L} → (W → Writer) → Result Bool SolverError → Proof W L G → Proof W L G → (global : ℕ → ℕ) → List ℕ → Type 0
 DeletesTrue seen r p p' global ls = EmitsSteps seen r p p' (λ left _. (left ≡ true) × (steps_of p' ≡ satisfied_step global ls ∷ steps_of p))
 

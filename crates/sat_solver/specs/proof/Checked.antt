@@ -35,8 +35,8 @@ abbrev pub has_begun : List Step → Bool
 has_begun [] = false
 has_begun (step ∷ earlier) = not (is_end step) || has_begun earlier
 
--- What the checker receives for these steps, and the width of the last of them. Every step is written at a width of its own, which is set
--- before the step if it has changed. For the end of a proof the checker receives only the width.
+-- What the checker receives for these steps, and the width of the last of them. Every step is written at its own
+-- width, which is set before the step if it has changed. For the end of a proof the checker receives only the width.
 pub data AreGiven : List Step → List Step → ℕ → Type 0 where
   none_given : AreGiven [] [] 64
   one_given : {steps given : List Step} {before : ℕ} (step : Step) (now : ℕ) → is_end step ≡ false → KeepsWidth step → AreGiven steps given before → AreGiven (step ∷ steps) (written_for before now step ++ given) now
@@ -53,8 +53,8 @@ pub record AreGivenAndWidth (steps given : List Step) (now : ℕ) : Type 0 where
 abbrev pub who_listens : {L : Type 0} → Checked L → Processing L Nobody
 who_listens own = (seen_of own.checker).listeners
 
--- of these steps the checker has received all but some of the newest, at the widths that were set, and this was heard since these
--- processors were added
+-- The checker has received these steps except for some of the newest, at the widths that were set. Since these
+-- processors were added, its listeners have heard what `Heard` says.
 pub record Listened {L : Type 0} (added : List L) (steps : List Step) (Heard : Processing L Nobody → List Step → Type 0) : Type 0 where
   pub later : List Step
   pub taken : List Step
@@ -77,19 +77,20 @@ IsCause errors.ProofIncomplete = ⊥
 IsCause errors.IoError = ⊥
 IsCause errors.ParseError = ⊥
 
--- the same as the solver reports it; no other error occurs
+-- the fault that the solver reports for such an error; no other error occurs
 abbrev pub cause_in : CheckerError → CheckFault
 cause_in errors.CounterEnd = checks.CounterEnd
 cause_in (errors.ProofProcessorError cause) = checks.Processor cause
 cause_in e = checks.OutOfMemory
 
--- what an answer of the checker says: on `Ok` the first holds; an error is such a fault, and the second holds of it
+-- The result of a call of the checker. On `Ok`, the first statement holds. An error is such a cause, and the second
+-- statement holds for its fault.
 abbrev pub OkOrCause : Result (Unit {0}) CheckerError → Type 0 → (CheckFault → Type 0) → Type 0
 OkOrCause (Ok x) Fed FailsWhileHeard = Fed
 OkOrCause (Err e) Fed FailsWhileHeard = IsCause e × FailsWhileHeard (cause_in e)
 
 module _ {L : Type 0} (takes : L → Notice → Result Unit Error → L → Type 0) where
-  -- the checker has accepted what it received, has not failed, and has notified its listeners of it since they were added
+  -- the checker has accepted all that it received, has not failed, and has notified the added processors of it
   pub record IsFedBy (Given : List Step → ℕ → Type 0) (own : Checked L) (added : List L) : Type 0 where
     pub written : List Step
     pub cut : Given written own.bits
@@ -98,48 +99,49 @@ module _ {L : Type 0} (takes : L → Notice → Result Unit Error → L → Type
     pub valid : HasAccepted (Hears takes) [] begun (seen_of own.checker) written
     pub going : kernel_has_failed (kernel_of own.checker) ≡ false
 
-  -- the checker received these steps, each at its width
+  -- the checker has received and accepted these steps, each at its width
   abbrev pub IsFed : Checked L → List L → List Step → Type 0
   IsFed own added steps = IsFedBy (AreGiven steps) own added
 
-  -- the processors that were added have heard what the checker announced, and are in this state
+  -- the added processors have heard what the checker announced, possibly up to a fault, and are in this state
   abbrev pub Heard : (added : List L) (now : Listeners L Nobody) → List Step → Type 0
   Heard added now steps = Listened added steps (λ begun written. (end : Processing L Nobody) × (listeners_of end ≡ now) × HasHeard takes begun end written)
 
-  -- the processors that were added have heard everything that the checker announced of all steps, and are in this state
+  -- the added processors have heard everything that the checker announced of all these steps, and are in this state
   abbrev pub HeardWhole : (added : List L) (now : Listeners L Nobody) → List Step → Type 0
   HeardWhole added now steps = (h : Listened added steps (λ begun written. (end : Processing L Nobody) × (listeners_of end ≡ now) × HeardAll takes begun end written)) × (h.later ≡ [])
 
-  -- the checker failed with this fault
+  -- the checker failed with this fault, and the added processors, which heard what it announced, are in this state
   abbrev pub FailsWhileHeard : (added : List L) (now : Listeners L Nobody) → List Step → CheckFault → Type 0
   FailsWhileHeard added now steps fault = Listened added steps (λ begun written. (end : Processing L Nobody) × (listeners_of end ≡ now) × FailedOf takes begun end written fault)
 
-  -- a step that may be made is accepted; an error is never about the step
+  -- an allowed step is accepted; an error never means that the step is wrong
   abbrev pub TakesStep : Result (Unit {0}) CheckerError → Checked L → Step → Checked L → Type 0
   TakesStep result old step new = (added : List L) (steps : List Step) → AreAllowedSteps (step ∷ steps) → IsFed old added steps
       → OkOrCause result (IsFed new added (step ∷ steps)) (FailsWhileHeard added (listeners_of (who_listens new)) (step ∷ steps))
 
-  -- the checker is notified of the width of the next step
+  -- the checker receives the width of the next step, or fails
   abbrev pub TakesWidth : Result (Unit {0}) CheckerError → Checked L → Checked L → Type 0
   TakesWidth result old new = (added : List L) (steps : List Step) → AreAllowedSteps steps → IsFed old added steps → OkOrCause result (IsFedBy (AreGivenAndWidth steps) new added) (FailsWhileHeard added (listeners_of (who_listens new)) steps)
 
-  -- no unit conflict is waiting for its id any more
+  -- after `Ok`, the checker has no pending unit conflict
   abbrev pub TakesDelayed : Result (Unit {0}) CheckerError → Checked L → Checked L → Type 0
   TakesDelayed result old new = (added : List L) (steps : List Step) → IsFed old added steps
       → OkOrCause result (IsFed new added steps × KernelIsSettled (kernel_of new.checker)) (FailsWhileHeard added (listeners_of (who_listens new)) steps)
 
-  -- a step that may be written is never rejected
+  -- a step that may be written is never rejected, but the checker may fail at it
   abbrev pub FeedsOwnChecker : Result (Unit {0}) CheckerError → CheckerView (Processing L Nobody) → Step → CheckerView (Processing L Nobody) → Type 0
   FeedsOwnChecker result old step new =
       (begun : Processing L Nobody) (written : List Step) → HasAccepted (Hears takes) [] begun old written → kernel_has_failed old.kernel ≡ false → AreAllowedSteps (step ∷ written)
       → OkOrCause result (HasAccepted (Hears takes) [] begun new (step ∷ written) × (kernel_has_failed new.kernel ≡ false)) (λ fault. FailedOf takes begun new.listeners written fault ⊎ FailedOf takes begun new.listeners (step ∷ written) fault)
 
-  -- unless a step was lost, the checker received all steps
+  -- Without a checker, no processor was added. A checker that has missed no step has received all steps, and the added
+  -- processors have heard what it announced.
   abbrev pub FedUnless : Bool → Option (Checked L) → (added : List L) → List Step → Type 0
   FedUnless lost None added steps = added ≡ []
   FedUnless lost (Some own) added steps = (lost ≡ false → IsFed own added steps) × Heard added (listeners_of (who_listens own)) steps
 
-  -- without listeners, no processor returns a fault
+  -- without listeners, the checker never fails with a processor's error
   abbrev pub NeverFailsWithoutListeners : Type 0
   NeverFailsWithoutListeners = (now : Listeners L Nobody) (steps : List Step) (cause : Error) → FailsWhileHeard [] now steps (checks.Processor cause) → ⊥
 

@@ -4,7 +4,7 @@ use Rattle.anyhow.specs.declared.error.Error.{Error}
 use Rattle.sat_solver.specs.declared.proof.made.CheckFault.{CheckFault}
 use Rattle.sat_solver.specs.declared.proof.made.CheckFault.TheVariants as checks
 
--- a processor's error is the one that is stored
+-- if the fault is a processor's error, this error is stored
 abbrev pub IsComplaint : CheckFault → Option Error → Type 0
 IsComplaint checks.OutOfMemory complaint = Unit {0}
 IsComplaint checks.CounterEnd complaint = Unit {0}

@@ -1,4 +1,5 @@
--- The number of hash bits that are written. It follows the number of clauses with two or more literals, so that few of them share a hash.
+-- The number of hash bits that are written. It depends on the number of clauses with two or more literals, so that
+-- few of them share a hash.
 use Rattle.std.specs.Prelude.{ℕ, zero, suc, ◌+◌, ◌-◌, ◌*◌, ◌/◌, ◌^◌, ◌&&◌, Bool, true, false, List, [], ◌∷◌, ◌++◌, min, nat_lt, nat_eq, if◌then◌else◌}
 use Rattle.sat_base.specs.steps.Steps.{Step, AddClause, AtClause, DeleteClause, ChangeHashBits}
 use Rattle.sat_solver.specs.proof.Widths.{narrowed, KeepsWidth}
@@ -27,15 +28,15 @@ count_after (AtClause redundant clause hashes) n = one_more_if clause n
 count_after (DeleteClause clause proof) n = one_less_if clause n
 count_after step n = n
 
--- whether this many clauses are more than the square root of the number of hashes
+-- whether the width is below 64, and n is above the square root of the number of hashes
 abbrev pub too_short : ℕ → ℕ → Bool
 too_short n bits = nat_lt bits 64 && nat_lt (2 ^ (bits / 2)) n
 
--- whether four times as many clauses are fewer than that
+-- whether the width is above 6, and 4n is below the square root of the number of hashes
 abbrev pub too_long : ℕ → ℕ → Bool
 too_long n bits = nat_lt 6 bits && nat_lt (4 * n) (2 ^ (bits / 2))
 
--- the width plus 2, repeated while it is too short. 32 times are enough for any two widths
+-- the width plus 2, repeated while it is too short; 32 times are enough for any two widths
 unfoldable pub widened_bits : ℕ → ℕ → ℕ → ℕ
 widened_bits zero n bits = bits
 widened_bits (suc k) n bits = if too_short n bits then widened_bits k n (min (bits + 2) 64) else bits
@@ -45,7 +46,7 @@ unfoldable pub shortened : ℕ → ℕ → ℕ → ℕ
 shortened zero n bits = bits
 shortened (suc k) n bits = if too_long n bits then shortened k n (bits - 2) else bits
 
--- the width for this many clauses, from the width before; it only becomes shorter after the first ask has begun
+-- the width for this many clauses, from the width before; it shrinks only after the first ask has begun
 abbrev pub fitting : Bool → ℕ → ℕ → ℕ
 fitting false n bits = widened_bits 32 n bits
 fitting true n bits = shortened 32 n (widened_bits 32 n bits)
@@ -54,7 +55,7 @@ fitting true n bits = shortened 32 n (widened_bits 32 n bits)
 abbrev pub counted : Step → Counting → Counting
 counted step c = let n : ℕ = count_after step c.clauses in record c { clauses = n; bits = fitting c.solving n c.bits }
 
--- the step that changes the width, if it has changed
+-- the step that sets the width to `now`, if it was another one before
 abbrev pub width_change : ℕ → ℕ → List Step
 width_change before now = if nat_eq before now then [] else ChangeHashBits now ∷ []
 

@@ -46,17 +46,18 @@ pub record RefutesByUnits (cs : List (List ℕ)) (assumed : List ℕ) : Type 0 w
   pub are_present : AllByRecursion (λ c. 0 < times c cs) named
   pub turns : UnitInTurn assumed named
 
--- whether a line is right: a derived clause follows by unit propagation from its negated literals, and a deleted one is present
+-- whether a line is correct: unit propagation refutes the negation of a derived clause, and a deleted clause is
+-- present
 abbrev pub DratLineIsRight : DratLine → List (List ℕ) → Type 0
 DratLineIsRight (Derives clause) cs = RefutesByUnits cs (map negated clause)
 DratLineIsRight (Deletes clause) cs = 0 < times (canonical clause) cs
 
--- all lines are right, each after the lines before it
+-- all lines are correct, each after the lines before it
 abbrev pub DratLinesAreRight : List DratLine → List (List ℕ) → Type 0
 DratLinesAreRight [] cs = Unit {0}
 DratLinesAreRight (x ∷ xs) cs = DratLineIsRight x cs × DratLinesAreRight xs (after_line x cs)
 
--- the lines of every step are right after the steps before it
+-- the lines of every step are correct after the steps before it
 abbrev pub IsDratDerivation : List Step → Type 0
 IsDratDerivation [] = Unit {0}
 IsDratDerivation (step ∷ earlier) = IsDratDerivation earlier × DratLinesAreRight (drat_lines step) (present earlier)

@@ -21,27 +21,27 @@ drat_lines (UnitClauses us) = unit_lines us
 drat_lines (DeleteClause clause proof) = Deletes clause ∷ []
 drat_lines step = []
 
--- IN WORDS: `d ` before a deleted clause; each literal's number and a space; `0` and LF.
--- IN BYTES: `a` or `d`; each literal's code and two, in groups of seven bits, low group first; a byte of zero.
+-- DECIMAL: `d ` before a deleted clause; each literal's number and a space; `0` and LF.
+-- BINARY: `a` or `d`; each literal's code plus 2, in groups of seven bits, low group first; a zero byte.
 
 -- a clause in binary, with the zero that ends it
 abbrev pub bytes_line : List ℕ → List ℕ
 bytes_line [] = 0 ∷ []
 bytes_line (l ∷ ls) = number_bytes (l + 2) ++ bytes_line ls
 
--- what comes before a clause: in the decimal format, nothing before a derived one
+-- the prefix of a line; in the decimal format, a derived clause has none
 abbrev pub mark : (binary deleted : Bool) → List ℕ
 mark false false = []
 mark false true = codes "d "
 mark true false = codes "a"
 mark true true = codes "d"
 
--- a clause's literals, and what ends them
+-- the literals of a clause, and the end of its line
 abbrev pub clause_text : (binary : Bool) → List ℕ → List ℕ
 clause_text false clause = clause_line clause
 clause_text true clause = bytes_line clause
 
--- a line: its mark and its clause
+-- the text of a line: its prefix and its clause
 abbrev pub drat_line_text : (binary : Bool) → DratLine → List ℕ
 drat_line_text binary (Derives clause) = mark binary false ++ clause_text binary clause
 drat_line_text binary (Deletes clause) = mark binary true ++ clause_text binary clause

@@ -15,16 +15,16 @@ use Rattle.sat_checker.specs.declared.processing.ProcessingError.TheVariants as 
 use Rattle.sat_solver.specs.declared.proof.made.CheckFault.{CheckFault}
 use Rattle.sat_solver.specs.declared.proof.made.CheckFault.TheVariants as checks
 
--- there are no transcripts
+-- the relation for transcripts of type `Nobody`, which accept everything
 abbrev pub reads_nothing : Nobody → Transcribed → Result Unit Error → Nobody → Type 0
 reads_nothing old said result new = (result ≡ Ok tt) × (new ≡ old)
 
--- these are the listeners, and there are no others
+-- these are the processors, and there are no transcripts
 abbrev pub AreJustListeners : {L : Type 0} → List L → Processing L Nobody → Type 0
 AreJustListeners listed who = listeners_of who ≡ record { processors = listed; transcripts = [] }
 
 module _ {L : Type 0} (takes : L → Notice → Result Unit Error → L → Type 0) where
-  -- every listener hears every announcement, as its relation says
+  -- every processor hears the announcement, as its relation `takes` says
   abbrev pub Hears : Processing L Nobody → Notice → Result Unit ProcessingError → Processing L Nobody → Type 0
   Hears = HearsEach takes reads_nothing
 
@@ -37,12 +37,12 @@ module _ {L : Type 0} (takes : L → Notice → Result Unit Error → L → Type
     abbrev pub HeardUpTo : ProcessingError → Type 0
     HeardUpTo e = HearsSinceUpTo Hears e [] (notices_after written) begun now ⊎ HearsSinceUpTo Hears e [] (all_notices_after written) begun now
 
-    -- all announcements were heard, or all up to some fault
+    -- all announcements were heard, or all those up to some fault
     abbrev pub HasHeard : Type 0
     HasHeard = HeardAll ⊎ ((e : ProcessingError) × HeardUpTo e)
 
-    -- Why the checker failed after these steps: memory, ids or a counter ran out, or a listener returned the fault. On an allocation
-    -- failure no listener did, unless this was its answer.
+    -- Why the checker failed after these steps. `OutOfMemory`: memory ran out in the checker, or a listener returned
+    -- this fault. `CounterEnd`: ids or a counter are exhausted. `Processor`: a listener returned this error.
     abbrev pub FailedOf : CheckFault → Type 0
     FailedOf checks.OutOfMemory = HeardAll ⊎ HeardUpTo faults.OutOfMemory
     FailedOf checks.CounterEnd = (((step : Step) × SpentBy step (stored_after written)) ⊎ IsSpent (ready_after written)) × HeardAll

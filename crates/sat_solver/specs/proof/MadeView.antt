@@ -21,7 +21,7 @@ abbrev pub listed_in : {L : Type 0} → Option (Checked L) → List L → Option
 listed_in None added = None
 listed_in (Some own) added = Some added
 
--- the checker's listeners, each as it was added, in order; or `None`
+-- the checker's listeners, each as it was added, in order; `None` without a checker
 abbrev pub made_audience : {L : Type 0} {G : Ghosts L} → Made L G → Option (List L)
 made_audience m = listed_in m.own m.roll.items
 
@@ -63,29 +63,29 @@ module _ {L : Type 0} (takes : L → Notice → Result Unit Error → L → Type
   CheckerComplains fault None added steps = ⊥
   CheckerComplains fault (Some own) added steps = ∥ FailsWhileHeard takes added (listeners_of (who_listens own)) steps fault ∥₁ × HasListeners fault (Some added)
 
-  -- these processors were returned: those that were added, after what they have heard; none without a checker
+  -- the returned processors are the added ones, in the state after what they have heard
   pub record AddedAfterHearing (added given : List L) (steps : List Step) : Type 0 where
     pub now : Listeners L Nobody
     pub are : now.processors ≡ given
     pub heard : Heard takes added now steps
 
-  -- the same, after everything that was announced of all steps
+  -- the same, and they have heard everything that was announced of all steps
   pub record AddedAfterHearingAll (added given : List L) (steps : List Step) : Type 0 where
     pub now : Listeners L Nobody
     pub are : now.processors ≡ given
     pub heard : HeardWhole takes added now steps
 
-  -- these processors are returned after everything that was announced; none without a checker
+  -- the added processors are returned after they have heard everything; without a checker, none are returned
   abbrev pub ReturnsNotifiedIfChecked : Option (List L) → (given : List L) → List Step → Type 0
   ReturnsNotifiedIfChecked None given steps = given ≡ []
   ReturnsNotifiedIfChecked (Some added) given steps = ∥ AddedAfterHearingAll added given steps ∥₁
 
-  -- these processors are returned after what they have heard; none without a checker
+  -- the added processors are returned after what they have heard; without a checker, none are returned
   abbrev pub ReturnsIfChecked : Option (List L) → (given : List L) → List Step → Type 0
   ReturnsIfChecked None given steps = given ≡ []
   ReturnsIfChecked (Some added) given steps = ∥ AddedAfterHearing added given steps ∥₁
 
--- its checker failed with this fault; a listener's fault was returned by one of the listeners
+-- the checker failed with this fault; a listener's fault was returned by one of the listeners
 abbrev pub MadeComplains : {L : Type 0} {G : Ghosts L} → CheckFault → Made L G → Type 0
 MadeComplains {G = G} fault m = CheckerComplains G.takes fault m.own m.roll.items m.history.steps
 
@@ -97,16 +97,17 @@ MadeReturnsListeners {G = G} m given = ReturnsIfChecked G.takes (made_audience m
 abbrev pub MadeReturnsNotifiedListeners : {L : Type 0} {G : Ghosts L} → Made L G → (given : List L) → Type 0
 MadeReturnsNotifiedListeners {G = G} m given = m.lost ≡ false → ReturnsNotifiedIfChecked G.takes (made_audience m) given m.history.steps
 
--- what an answer of the checker says: the error is stored
+-- the result of a call of the checker: on an error, the checker failed with this fault, and a processor's error is
+-- stored
 abbrev pub OkOrComplains : {L : Type 0} {G : Ghosts L} → Result (Unit {0}) CheckFault → Made L G → Type 0
 OkOrComplains (Ok x) m = Unit {0}
 OkOrComplains (Err fault) m = MadeComplains fault m × IsComplaint fault m.complaint
 
--- the same, or the checker had failed before
+-- the checker failed with this fault, and a processor's error is stored; or it had missed a step, and memory ran out
 abbrev pub ComplainsOrWasLost : {L : Type 0} {G : Ghosts L} → (lost : Bool) → CheckFault → Made L G → Type 0
 ComplainsOrWasLost lost fault m = (MadeComplains fault m × IsComplaint fault m.complaint) ⊎ ((lost ≡ true) × (fault ≡ checks.OutOfMemory))
 
--- what an answer says about a checker that may have failed before
+-- the result of a call of a checker that may have missed a step
 abbrev pub OkOrComplainsOrWasLost : {L : Type 0} {G : Ghosts L} → (lost : Bool) → Result (Unit {0}) CheckFault → Made L G → Type 0
 OkOrComplainsOrWasLost lost (Ok x) m = Unit {0}
 OkOrComplainsOrWasLost lost (Err fault) m = ComplainsOrWasLost lost fault m
@@ -115,18 +116,19 @@ OkOrComplainsOrWasLost lost (Err fault) m = ComplainsOrWasLost lost fault m
 abbrev pub cleared_complaint : {L : Type 0} {G : Ghosts L} → Made L G → Made L G
 cleared_complaint m = record m { complaint = None }
 
--- the step was made
+-- the step was made, and the listeners are the same
 pub record MadeEffect {L : Type 0} {G : Ghosts L} (step : Step) (old new : Made L G) : Type 0 where
   pub steps : new.history.steps ≡ step ∷ old.history.steps
   pub listening : made_audience new ≡ made_audience old
 
--- the listeners when checking begins: the earlier ones, each as it was added; or as it was returned, if a step was lost
+-- the listeners when checking begins: the earlier ones, as they were added or, if a step was missed, as they are
+-- returned
 abbrev pub MadeListenersAtRestart : {L : Type 0} {G : Ghosts L} → Bool → Made L G → Option (List L) → List L → Type 0
 MadeListenersAtRestart lost m None begun = begun ≡ []
 MadeListenersAtRestart false m (Some added) begun = begun ≡ added
 MadeListenersAtRestart true m (Some added) begun = MadeReturnsListeners m begun
 
--- there is a checker, and it has missed no step
+-- there is a checker that has missed no step; no step was made
 pub record MadeHasChecker {L : Type 0} {G : Ghosts L} (old new : Made L G) : Type 0 where
   pub steps : new.history.steps ≡ old.history.steps
   pub begun : List L
@@ -134,14 +136,14 @@ pub record MadeHasChecker {L : Type 0} {G : Ghosts L} (old new : Made L G) : Typ
   pub listed : MadeListenersAtRestart old.lost old (made_audience old) begun
   pub taking : made_is_lost new ≡ false
 
--- one more listener
+-- the checker, which has missed no step, has one more listener
 pub record MadeHasOneMoreListener {L : Type 0} {G : Ghosts L} (processor : L) (old new : Made L G) : Type 0 where
   pub before : List L
   pub listened : made_audience old ≡ Some before
   pub listening : made_audience new ≡ Some (before ++ processor ∷ [])
   pub taking : made_is_lost new ≡ false
 
--- the result of adding a listener
+-- the result of adding a listener; memory may run out
 abbrev pub MadeAddListenerResult : {L : Type 0} {G : Ghosts L} → Result (Unit {0}) CheckFault → L → Made L G → Made L G → Type 0
 MadeAddListenerResult (Ok x) processor old new = MadeHasOneMoreListener processor old new
 MadeAddListenerResult (Err checks.OutOfMemory) processor old new = made_audience new ≡ made_audience old

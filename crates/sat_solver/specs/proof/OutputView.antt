@@ -23,18 +23,18 @@ step_text Varisat step = step_bytes step
 step_text Drat step = drat_text false step
 step_text BinaryDrat step = drat_text true step
 
--- in bytes, the text is the step's spelling
+-- in the byte format, the text spells the step
 abbrev pub SpellsIn : ProofFormat → Step → Type 0
 SpellsIn Varisat step = SpellsStep step (step_bytes step)
 SpellsIn Drat step = Unit {0}
 SpellsIn BinaryDrat step = Unit {0}
 
--- the text of steps
+-- the text of steps, the oldest first
 abbrev pub text_in : ProofFormat → List Step → List ℕ
 text_in f [] = []
 text_in f (step ∷ earlier) = text_in f earlier ++ step_text f step
 
--- in bytes, the text spells all these steps
+-- in the byte format, the text of each of these steps spells it
 abbrev pub AreSpeltInFormat : ProofFormat → List Step → Type 0
 AreSpeltInFormat f = AllByRecursion (SpellsIn f)
 

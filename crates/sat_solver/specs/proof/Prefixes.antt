@@ -15,7 +15,8 @@ use Rattle.sat_solver.specs.declared.proof.hash_bits.Counting.{Counting}
 use Rattle.sat_solver.specs.declared.proof.format.ProofFormat.{ProofFormat}
 use Rattle.sat_solver.specs.declared.proof.Proof.{Proof}
 
--- it received a prefix of the text that was written for these steps, all of which are allowed, so that a checker accepts them
+-- The target received a prefix of the text that was written for these steps. All written steps are allowed, and a
+-- checker accepts them.
 pub record PrefixText (f : ProofFormat) (from given : Writer) (steps : List Step) : Type 0 where
   pub written : List Step
   pub counting : Counting
@@ -28,25 +29,27 @@ pub record PrefixText (f : ProofFormat) (from given : Writer) (steps : List Step
   pub taken : given.taken ≡ from.taken ++ front
   pub known_bytes : Appends from.contents given.contents front
 
--- since it was opened after the steps `before`, the target received a prefix of the text of the steps made since, apart from those made
--- after one of its calls failed
+-- Of the steps made after `before`, the target received a prefix of the text of the oldest ones. The others are not
+-- constrained.
 pub record PrefixSince (f : ProofFormat) (from given : Writer) (before now : List Step) : Type 0 where
   pub later : List Step
   pub steps : List Step
   pub following : now ≡ later ++ (steps ++ before)
   pub front : PrefixText f from given steps
 
--- these steps were made, and the target received their text, or a call of it failed while writing the text of the first of them
+-- these steps were made, and the target received their text, or a call of it failed while writing the text of the
+-- oldest ones
 abbrev pub TargetTakesPrefix : Target → List Step → Target → Type 0
 TargetTakesPrefix old steps new = TargetTakes old steps new ⊎ ((later : List Step) × (first : List Step) × (steps ≡ later ++ first) × TargetFails old first new)
 
--- steps were made, and a call may have failed
+-- steps were made, and a call of the target may have failed
 pub record MakesSteps {W L : Type 0} {G : Ghosts L} (seen : W → Writer) (old new : Proof W L G) : Type 0 where
   pub steps : List Step
   pub history : steps_of new ≡ steps ++ steps_of old
   pub target : TargetTakesPrefix (target_of seen old) steps (target_of seen new)
 
--- if a target was opened before anything else and is returned after these steps, it has received a prefix of the text of accepted steps
+-- Let a target be opened before any step other than ends of proofs, and be returned after allowed steps. Then it has
+-- received a prefix of the text of accepted steps.
 abbrev pub PrefixesAreAccepted : Type 0
 PrefixesAreAccepted = (f : ProofFormat) (from given : Writer) (before steps : List Step) (now : Target) → has_begun before ≡ false → AreAllowedSteps (steps ++ before)
     → TargetTakesPrefix (Open f nothing_counted (empty_sink from)) steps now → GivesWriter now (Some given) → PrefixSince f from given before (steps ++ before)

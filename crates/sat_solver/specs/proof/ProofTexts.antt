@@ -1,4 +1,4 @@
--- What the target of a proof has received from its opening to its end.
+-- What the target of a proof has received until it was closed.
 use Rattle.std.specs.Prelude.{◌≡◌, true, reverse, Some, List, [], ◌∷◌, ◌++◌}
 use Rattle.sat_base.specs.device.Device.{Writer, WriterTakes, WriterBreaks}
 use Rattle.sat_base.specs.device.Sink.{empty_sink}
@@ -16,7 +16,8 @@ use Rattle.sat_solver.specs.declared.proof.format.ProofFormat.{ProofFormat}
 use Rattle.sat_solver.specs.declared.proof.format.ProofFormat.TheVariants.{Varisat}
 use Rattle.sat_solver.specs.declared.proof.Proof.{Proof}
 
--- It received the text that was written for the steps, and was flushed. In bytes, the text spells them, the oldest first.
+-- The target received the text that was written for the steps, and was flushed. In the byte format, the text spells
+-- them, the oldest first.
 pub record TookText (f : ProofFormat) (from given : Writer) (steps : List Step) : Type 0 where
   pub written : List Step
   pub counting : Counting
@@ -25,7 +26,7 @@ pub record TookText (f : ProofFormat) (from given : Writer) (steps : List Step) 
   pub takes : WriterTakes from given (text_in f written)
   pub flushed : given.flushed ≡ true
 
--- it received a prefix of that text, and its last call failed
+-- the target received a prefix of that text, and its last call failed
 pub record BrokeText (f : ProofFormat) (from given : Writer) (steps : List Step) : Type 0 where
   pub written : List Step
   pub counting : Counting
@@ -36,23 +37,23 @@ pub record BrokeText (f : ProofFormat) (from given : Writer) (steps : List Step)
 abbrev pub ClosedIsText : Type 0
 ClosedIsText = (f : ProofFormat) (from given : Writer) (steps : List Step) (last : Step) (t : Target) → TargetTakes (Open f nothing_counted (empty_sink from)) steps t → TakesAll t (last ∷ []) given → TookText f from given (last ∷ steps)
 
--- a target that is returned after one of its calls failed while writing the text of these steps has received a prefix of it, and that call was
--- the last
+-- Let a call of an opened target fail while the text of these steps is written. Then the returned target has
+-- received a prefix of this text, and no call followed the failed one.
 abbrev pub BrokenIsPrefix : Type 0
 BrokenIsPrefix = (f : ProofFormat) (from given : Writer) (steps : List Step) (t : Target) → TargetFails (Open f nothing_counted (empty_sink from)) steps t → GivesWriter t (Some given) → BrokeText f from given steps
 
--- what is written for allowed steps is allowed, at any widths
+-- what is written for allowed steps is allowed, at any widths, and has the same effect except for the width
 abbrev pub TruncationsAreAllowed : Type 0
 TruncationsAreAllowed = (made written : List Step) (c : Counting) → TruncatesHashes nothing_counted made written c → AreAllowedSteps made → MayAt made written c.bits
 
--- since the target was opened with this writer and these steps were made, what it received and what is pending is the text of the steps
--- made since
+-- The target was opened with this writer after the steps `before`. What it has received and what is pending is the
+-- text of all later steps.
 pub record WroteSince {W L : Type 0} {G : Ghosts L} (seen : W → Writer) (f : ProofFormat) (from : Writer) (before : List Step) (p : Proof W L G) : Type 0 where
   pub steps : List Step
   pub following : steps_of p ≡ steps ++ before
   pub target : TargetTakes (Open f nothing_counted (empty_sink from)) steps (target_of seen p)
 
--- a target that is returned has received the text of all steps since it was opened
+-- the returned target has received the text of all steps made after `before`
 pub record TookSince (f : ProofFormat) (from given : Writer) (before now : List Step) : Type 0 where
   pub steps : List Step
   pub following : now ≡ steps ++ before

@@ -24,12 +24,12 @@ pub data Target : Type 0 where
   Open : ProofFormat → Counting → Sink → Target
   Broken : Writer → Target  -- a call of it failed, and it is not used again
 
--- an open target, or a broken one after one of its calls failed; then only its writer is left
+-- an open target or, if a call of it failed, a broken one, of which only the writer is left
 abbrev pub with_fault : Bool → ProofFormat → Counting → Sink → Target
 with_fault false f c s = Open f c s
 with_fault true f c s = Broken s.writer
 
--- the target of an output, by whether a call of it failed, and the count that determines its width
+-- the target of an output, given whether a call of it failed, and the count that determines its width
 abbrev pub target_in : {W : Type 0} → (W → Writer) → Option (Output W) → Bool → Counting → Target
 target_in seen None broken c = Closed
 target_in seen (Some o) broken c = with_fault broken (output_format o) c (output_sink seen o)
@@ -38,13 +38,13 @@ target_in seen (Some o) broken c = with_fault broken (output_format o) c (output
 abbrev pub target_of : {W L : Type 0} {G : Ghosts L} → (W → Writer) → Proof W L G → Target
 target_of seen p = target_in seen p.output p.broken p.counting
 
--- whether steps are written to it
+-- whether the target is open: steps are written to it
 abbrev pub is_open : Target → Bool
 is_open Closed = false
 is_open (Open f c s) = true
 is_open (Broken w) = false
 
--- whether they are written as DRAT lines
+-- whether steps are written to the target as DRAT lines
 abbrev pub is_drat : Target → Bool
 is_drat Closed = false
 is_drat (Open f c s) = is_lines f
@@ -66,7 +66,7 @@ steps_of p = p.made.history.steps
 abbrev pub is_checked : {W L : Type 0} {G : Ghosts L} → Proof W L G → Bool
 is_checked p = mades.made_is_checked p.made
 
--- the checker's listeners, each as it was added, in order; or `None`
+-- the checker's listeners, each as it was added, in order; `None` without a checker
 abbrev pub audience : {W L : Type 0} {G : Ghosts L} → Proof W L G → Option (List L)
 audience p = mades.made_audience p.made
 
@@ -78,15 +78,15 @@ is_lost p = mades.made_is_lost p.made
 abbrev pub AllStepsReported : {W L : Type 0} {G : Ghosts L} → Proof W L G → Type 0
 AllStepsReported p = mades.MadeIsReported p.made
 
--- the checker, if there is one, is at the width of the target's text
+-- the checker, if there is one that has missed no step, is at the width of the target's text
 abbrev pub IsAtWidth : {W L : Type 0} {G : Ghosts L} → Proof W L G → Type 0
 IsAtWidth p = mades.LastWidthIs p.counting.bits p.made
 
--- its checker failed with this fault; a listener's fault was returned by one of the listeners
+-- the checker failed with this fault; a listener's fault was returned by one of the listeners
 abbrev pub Complains : {W L : Type 0} {G : Ghosts L} → CheckFault → Proof W L G → Type 0
 Complains fault p = mades.MadeComplains fault p.made
 
--- after a call of the target failed, the underlying error is stored
+-- if a call of the target failed, its error is stored
 abbrev pub HasCause : {W L : Type 0} {G : Ghosts L} → ProofError → Proof W L G → Type 0
 HasCause (Write cause) p = p.cause ≡ Some cause
 HasCause OutOfMemory p = Unit {0}
@@ -104,7 +104,7 @@ ReturnsListeners p given = mades.MadeReturnsListeners p.made given
 abbrev pub ReturnsNotifiedListeners : {W L : Type 0} {G : Ghosts L} → Proof W L G → (given : List L) → Type 0
 ReturnsNotifiedListeners p given = mades.MadeReturnsNotifiedListeners p.made given
 
--- there is a checker, and it has missed no step
+-- there is a checker that has missed no step; no step was made
 abbrev pub HasFullChecker : {W L : Type 0} {G : Ghosts L} → Proof W L G → Proof W L G → Type 0
 HasFullChecker old new = mades.MadeHasChecker old.made new.made
 
@@ -120,19 +120,20 @@ session_of p = session_after (steps_of p)
 abbrev pub HasAllowedSteps : {W L : Type 0} {G : Ghosts L} → Proof W L G → Type 0
 HasAllowedSteps p = AreAllowedSteps (steps_of p)
 
--- an open target received the text that was written for the steps
+-- an open target received the text that was written for the steps, or it is pending
 pub record Carried (f : ProofFormat) (c : Counting) (s : Sink) (steps : List Step) (d : Counting) (t : Sink) : Type 0 where
   pub written : List Step
   pub cuts : TruncatesHashes c steps written d
   pub wrote : SendsSteps f written s t
 
--- an open target received the text of these steps, another one nothing
+-- an open target receives the text of these steps, as above; a closed or broken one is unchanged
 abbrev pub TargetTakes : Target → List Step → Target → Type 0
 TargetTakes Closed steps new = new ≡ Closed
 TargetTakes (Open f c s) steps new = (d : Counting) × (t : Sink) × (new ≡ Open f d t) × Carried f c s steps d t
 TargetTakes (Broken w) steps new = new ≡ Broken w
 
--- One call of the target failed, the last, while this text was written. The target has received a prefix of the pending bytes and the text.
+-- A call of the target failed while this text was written, and no call followed. The target received a prefix of the
+-- pending bytes and the text.
 pub record SinkFailsAt (f : ProofFormat) (c : Counting) (s : Sink) (steps : List Step) (w : Writer) : Type 0 where
   pub written : List Step
   pub counting : Counting
@@ -145,7 +146,7 @@ TargetFails Closed steps new = ⊥
 TargetFails (Open f c s) steps new = (w : Writer) × (new ≡ Broken w) × SinkFailsAt f c s steps w
 TargetFails (Broken w) steps new = ⊥
 
--- these steps were made and written
+-- these steps were made, and an open target received their text
 pub record EmitsExactly {W L : Type 0} {G : Ghosts L} (seen : W → Writer) (steps : List Step) (old new : Proof W L G) : Type 0 where
   pub history : steps_of new ≡ steps ++ steps_of old
   pub listening : audience new ≡ audience old
@@ -157,12 +158,13 @@ pub record FailsToEmit {W L : Type 0} {G : Ghosts L} (seen : W → Writer) (step
   pub listening : audience new ≡ audience old
   pub target : TargetFails (target_of seen old) steps (target_of seen new)
 
--- these steps were made and written, and then the checker failed with this fault
+-- these steps were made, an open target received their text, and then the checker failed with this fault
 pub record FailsCheck {W L : Type 0} {G : Ghosts L} (seen : W → Writer) (fault : CheckFault) (steps : List Step) (old new : Proof W L G) : Type 0 where
   pub adds : EmitsExactly seen steps old new
   pub why : Complains fault new
 
--- the same, and the checker, if there is one, accepted them at the widths of the target's text; no ask began
+-- These steps were made, and an open target received their text. The checker received them, unless it had missed a
+-- step before, and no ask began. If there was a step, the checker is at the width of the target's text.
 pub record EmitsChecked {W L : Type 0} {G : Ghosts L} (seen : W → Writer) (steps : List Step) (old new : Proof W L G) : Type 0 where
   pub history : steps_of new ≡ steps ++ steps_of old
   pub listening : audience new ≡ audience old
@@ -178,40 +180,40 @@ PutsOn (Err (Write e)) steps old new = TargetFails old steps new
 PutsOn (Err OutOfMemory) steps old new = TargetTakes old [] new
 PutsOn (Err (Check fault)) steps old new = ⊥
 
--- only the checker failed
+-- on an error, only the checker failed, with this fault, and a processor's error is stored
 abbrev pub FailsOnlyInChecker : {W L : Type 0} {G : Ghosts L} → Result (Unit {0}) ProofError → Proof W L G → Type 0
 FailsOnlyInChecker (Ok x) new = Unit {0}
 FailsOnlyInChecker (Err (Write e)) new = ⊥
 FailsOnlyInChecker (Err OutOfMemory) new = ⊥
 FailsOnlyInChecker (Err (Check fault)) new = Complains fault new × IsComplaint fault new.made.complaint
 
--- the same, if it may have failed before
+-- the same, for a checker that may have missed a step before
 abbrev pub FailsOnlyInCheckerOrWasLost : {W L : Type 0} {G : Ghosts L} → (lost : Bool) → Result (Unit {0}) ProofError → Proof W L G → Type 0
 FailsOnlyInCheckerOrWasLost lost (Ok x) new = Unit {0}
 FailsOnlyInCheckerOrWasLost lost (Err (Write e)) new = ⊥
 FailsOnlyInCheckerOrWasLost lost (Err OutOfMemory) new = ⊥
 FailsOnlyInCheckerOrWasLost lost (Err (Check fault)) new = mades.ComplainsOrWasLost lost fault new.made
 
--- the result of making these steps: none is made if the memory for its hashes cannot be allocated
+-- the result of making these steps: if memory runs out, none was made
 abbrev pub EmitsAsAnswered : {T W L : Type 0} {G : Ghosts L} → (W → Writer) → Result T ProofError → List Step → Proof W L G → Proof W L G → Type 0
 EmitsAsAnswered seen (Ok x) steps old new = EmitsChecked seen steps old new
 EmitsAsAnswered seen (Err (Write e)) steps old new = FailsToEmit seen steps old new × (new.cause ≡ Some e)
 EmitsAsAnswered seen (Err OutOfMemory) steps old new = EmitsChecked seen [] old new
 EmitsAsAnswered seen (Err (Check fault)) steps old new = FailsCheck seen fault steps old new × IsComplaint fault new.made.complaint
 
--- nothing is pending for an open target, which was flushed
+-- an open target was flushed, and nothing is pending for it; a closed or broken one is unchanged
 abbrev pub Flushed : Target → Target → Type 0
 Flushed Closed new = new ≡ Closed
 Flushed (Open f c s) new = (t : Sink) × (new ≡ Open f c t) × SinkIsFlushed s t
 Flushed (Broken w) new = new ≡ Broken w
 
--- the target was flushed, whatever the checker has announced
+-- the target was flushed, and no step was made
 pub record Drains {W L : Type 0} {G : Ghosts L} (seen : W → Writer) (old new : Proof W L G) : Type 0 where
   pub history : steps_of new ≡ steps_of old
   pub listening : audience new ≡ audience old
   pub target : Flushed (target_of seen old) (target_of seen new)
 
--- and the checker has announced what was pending
+-- the same, and the checker has received every step and announced what was pending
 pub record FlushesAndNotifies {W L : Type 0} {G : Ghosts L} (seen : W → Writer) (old new : Proof W L G) : Type 0 where
   pub history : steps_of new ≡ steps_of old
   pub listening : audience new ≡ audience old
@@ -244,7 +246,7 @@ pub record TookAll (f : ProofFormat) (c : Counting) (s : Sink) (steps : List Ste
   pub takes : WriterTakes s.writer given (s.waiting ++ text_in f written)
   pub flushed : given.flushed ≡ true
 
--- the same for a target, which must be open
+-- the same for any target; only an open one can be returned so
 abbrev pub TakesAll : Target → List Step → Writer → Type 0
 TakesAll Closed steps given = ⊥
 TakesAll (Open f c s) steps given = TookAll f c s steps given
@@ -259,7 +261,8 @@ pub record ClosesNone {W L : Type 0} {G : Ghosts L} (seen : W → Writer) (old n
   pub shut : is_open (target_of seen old) ≡ false
   pub target : target_of seen new ≡ target_of seen old
 
--- the last step was made, and the open target is returned with all of its text; none is open any more
+-- The last step was made, and the open target is returned with all of its text. The checker has received every step,
+-- and nothing is pending in it.
 pub record ClosesOne {W L : Type 0} {G : Ghosts L} (seen : W → Writer) (given : W) (old new : Proof W L G) : Type 0 where
   pub history : steps_of new ≡ End ∷ steps_of old
   pub listening : audience new ≡ audience old
@@ -269,7 +272,8 @@ pub record ClosesOne {W L : Type 0} {G : Ghosts L} (seen : W → Writer) (given 
   pub target : target_of seen new ≡ Closed
   pub reported : AllStepsReported new
 
--- the result of closing a proof: an error occurs while writing the text of the last step, or what was pending
+-- the result of closing a proof: none was open, or the target is returned, or the target, memory or the checker
+-- failed
 abbrev pub ClosesTarget : {W L : Type 0} {G : Ghosts L} → (W → Writer) → Result (Option W) ProofError → Proof W L G → Proof W L G → Type 0
 ClosesTarget seen (Ok None) old new = ClosesNone seen old new
 ClosesTarget seen (Ok (Some given)) old new = ClosesOne seen given old new
@@ -277,7 +281,7 @@ ClosesTarget seen (Err (Write e)) old new = FailsToEmit seen (End ∷ []) old ne
 ClosesTarget seen (Err OutOfMemory) old new = EmitsChecked seen [] old new
 ClosesTarget seen (Err (Check fault)) old new = EmitsExactly seen (End ∷ []) old new × mades.ComplainsOrWasLost (is_lost old) fault new.made
 
--- the writer of a target; what is pending is lost
+-- the writer of a returned target, if there is one; pending bytes are lost
 abbrev pub GivesWriter : Target → Option Writer → Type 0
 GivesWriter Closed given = given ≡ None
 GivesWriter (Open f c s) given = given ≡ Some s.writer
@@ -288,7 +292,7 @@ abbrev pub returned_writer : {W : Type 0} → (W → Writer) → Option W → Op
 returned_writer seen None = None
 returned_writer seen (Some w) = Some (seen w)
 
--- the target is returned as it is
+-- the target is returned, and no step was made; pending bytes are lost
 pub record ReturnsTarget {W L : Type 0} {G : Ghosts L} (seen : W → Writer) (given : Option W) (old new : Proof W L G) : Type 0 where
   pub history : steps_of new ≡ steps_of old
   pub made : new.made ≡ old.made
@@ -296,7 +300,7 @@ pub record ReturnsTarget {W L : Type 0} {G : Ghosts L} (seen : W → Writer) (gi
   pub gives : GivesWriter (target_of seen old) (returned_writer seen given)
   pub target : target_of seen new ≡ Closed
 
--- one more listener
+-- the checker, which has missed no step, has one more listener
 pub record HasOneMoreListener {W L : Type 0} {G : Ghosts L} (processor : L) (old new : Proof W L G) : Type 0 where
   pub before : List L
   pub listened : audience old ≡ Some before

@@ -7,20 +7,20 @@ use Rattle.sat_solver.specs.session.Session.{AreAllowedSteps, session_after}
 abbrev pub kept_bits : ℕ → ℕ → ℕ
 kept_bits width hash = hash / 2 ^ (64 - width)
 
--- a step whose hashes have only this many top bits
+-- the step with only this many top bits of its hashes
 abbrev pub narrowed : ℕ → Step → Step
 narrowed width (AtClause redundant clause hashes) = AtClause redundant clause (map (kept_bits width) hashes)
 narrowed width (UnitClauses us) = UnitClauses (map (λ u. (u.0, kept_bits width u.1)) us)
 narrowed width (FailedAssumptions core hashes) = FailedAssumptions core (map (kept_bits width) hashes)
 narrowed width step = step
 
--- no change of the width
+-- the step does not change the width
 abbrev pub KeepsWidth : Step → Type 0
 KeepsWidth (ChangeHashBits bits) = ⊥
 KeepsWidth step = Unit {0}
 
--- Steps with complete hashes, what is written for them, and the last width: the width may change before any step. Lists have the newest
--- step first.
+-- Steps with complete hashes, what is written for them, and the last width. The width may change before any step.
+-- Lists have the newest step first.
 pub data IsNarrowedTo : List Step → List Step → ℕ → Type 0 where
   none_yet : IsNarrowedTo [] [] 64
   width_changes : {wide written : List Step} {width : ℕ} (bits : ℕ) → IsNarrowedTo wide written width → IsNarrowedTo wide (ChangeHashBits bits ∷ written) bits
@@ -31,6 +31,6 @@ pub record MayAt (wide written : List Step) (width : ℕ) : Type 0 where
   pub may : AreAllowedSteps written
   pub session : session_after written ≡ record (session_after wide) { width = width }
 
--- the same at any widths
+-- at whatever widths allowed steps are written, what is written is allowed
 abbrev pub WidthsAreFree : Type 0
 WidthsAreFree = (wide written : List Step) (width : ℕ) → IsNarrowedTo wide written width → AreAllowedSteps wide → MayAt wide written width

@@ -1,11 +1,12 @@
 -- The number of rounds.
 use Rattle.std.specs.Prelude.{ℕ, ◌≡◌, ◌+◌, ◌-◌, ◌*◌, ◌<◌, ◌≤◌, ◌^◌, min, Option, None, Result, IfOk}
 
--- the rounds that a call may make: the smaller of its budget and what is left of the count of all rounds, which ends at 2^64-1
+-- The number of rounds that a call may make: its budget, or the rounds that are left if these are fewer. All rounds
+-- together are at most 2^64-1.
 abbrev pub round_allowance : (budget before : ℕ) → ℕ
 round_allowance budget before = min budget (2 ^ 64 - 1 - before)
 
--- more rounds were made, but no more than the call may make, and fewer than 2^(2n+3) over n variables
+-- the number of rounds did not fall; the call made no more than it may, and fewer than 2^(2n+3) over n variables
 pub record CountsOn (n budget before now : ℕ) : Type 0 where
   pub more : before ≤ now
   pub within : now ≤ before + round_allowance budget before
@@ -15,10 +16,10 @@ pub record CountsOn (n budget before now : ℕ) : Type 0 where
 abbrev pub TakesRound : {T E : Type 0} → Result (Option T) E → (before now : ℕ) → Type 0
 TakesRound r before now = IfOk r (λ o. (o ≡ None → ⊥) → before < now)
 
--- without an answer, all these rounds were made
+-- without an answer, the call made all of its rounds
 abbrev pub SpendsRounds : {T E : Type 0} → Result (Option T) E → (rounds before now : ℕ) → Type 0
 SpendsRounds r rounds before now = IfOk r (λ o. o ≡ None → now ≡ before + rounds)
 
--- there is an answer if the call may make as many rounds as an ask over this many variables takes at most
+-- there is an answer if `rounds` is at least 2^(2n+3) for some n that is at least `most`
 abbrev pub AnswersWithin : {T E : Type 0} → Result (Option T) E → (most rounds : ℕ) → Type 0
 AnswersWithin r most rounds = (n : ℕ) → most ≤ n → 2 ^ (2 * n + 3) ≤ rounds → IfOk r (λ o. o ≡ None → ⊥)

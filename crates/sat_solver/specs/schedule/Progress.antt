@@ -5,19 +5,22 @@ use Rattle.sat_store.specs.schedule.Luby.{luby}
 use Rattle.sat_solver.specs.schedule.Ranks.{word_rank}
 use Rattle.sat_solver.specs.schedule.Gaps.{given_after}
 
--- a long gap is still to come, at most this many terms later
+-- After `ahead` more terms, the sequence has a term of at least 2^(n+1). Up to this term, the ask has fewer than
+-- 2^(n+2) gaps.
 pub record IsComing (n gaps given : ℕ) : Type 0 where
   pub ahead : ℕ
   pub few : gaps + ahead + 2 ≤ 2 ^ (n + 2)
   pub long : 2 ^ (n + 1) ≤ luby (given_after ahead given + 1)
 
--- the gap that began before this round is a long one, or lasts until the count of rounds is exhausted
+-- the gap that began before round `base` has at least 2^(n+1) rounds, or lasts until the count of rounds is
+-- exhausted
 pub record IsLong (n gaps base next : ℕ) : Type 0 where
   pub few : gaps + 1 ≤ 2 ^ (n + 2)
   pub long : (base + 2 ^ (n + 1) ≤ next) ⊎ (next ≡ 2 ^ 64 - 1)
 
--- an ask over n variables that began before round `start` has reached this round with this word: it restarted `gaps` times, each time after
--- fewer rounds than there are words, and the word has risen in every round since round `base`
+-- An ask over n variables that began before round `start` has reached this round with this word. It restarted `gaps`
+-- times, on average after at most 2^(n+1)-2 rounds. The rank of its word is at least the number of rounds since
+-- `base`.
 pub record AskProgress (n start round next given : ℕ) (w : List Letter) : Type 0 where
   pub gaps : ℕ
   pub base : ℕ

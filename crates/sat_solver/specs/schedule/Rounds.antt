@@ -6,7 +6,7 @@ use Rattle.sat_solver.specs.declared.schedule.restarts.Restarts.{Restarts}
 use Rattle.sat_solver.specs.declared.schedule.Outcome.{Outcome}
 use Rattle.sat_solver.specs.declared.schedule.Outcome.TheVariants as outcomes
 
--- a gap begins before this round, as long as the next term of the sequence times the scale, and is counted
+-- a gap begins before this round: its length is the next term of the sequence times the scale, and it is counted
 pub record BeginsGap (round : ℕ) (old new : Restarts) : Type 0 where
   pub given : new.sequence ≡ wrapped_number (old.sequence + 1)
   pub scale : new.scale ≡ old.scale
@@ -17,7 +17,7 @@ pub record BeginsGap (round : ℕ) (old new : Restarts) : Type 0 where
 abbrev pub RestartsWhereDue : {A : Type 0} (restarted : A → A → Type 0) → (round : ℕ) → A → Restarts → A → Restarts → Type 0
 RestartsWhereDue restarted round a r b s = ((round < r.next) × (b ≡ a) × (s ≡ r)) ⊎ ((r.next ≤ round) × restarted a b × BeginsGap round r s)
 
--- the round with this number, and its outcome
+-- the round with this number and its outcome: a restart if one is due, a reduction, and then the search
 pub record IsRound {A N : Type 0} (restarted : A → A → Type 0) (reduced : A → ℕ → A → Type 0) (rounded : A → N → Outcome → A → N → Type 0) (round : ℕ) (outcome : Outcome) (a : A) (n : N) (r : Restarts) (b : A) (m : N) (s : Restarts) : Type 0 where
   pub after_restart : A
   pub due : RestartsWhereDue restarted round a r after_restart s
@@ -25,12 +25,12 @@ pub record IsRound {A N : Type 0} (restarted : A → A → Type 0) (reduced : A 
   pub reduction : reduced after_restart round after_reduction
   pub ends : rounded after_reduction n outcome b m
 
--- rounds that ended in a conflict
+-- rounds one after another, each of which learned a clause
 pub data AreRounds {A N : Type 0} (restarted : A → A → Type 0) (reduced : A → ℕ → A → Type 0) (rounded : A → N → Outcome → A → N → Type 0) : A → N → Restarts → ℕ → A → N → Restarts → ℕ → Type 0 where
   no_round : {a : A} {n : N} {r : Restarts} {k : ℕ} → AreRounds restarted reduced rounded a n r k a n r k
   one_more : {a b c : A} {n m l : N} {r s t : Restarts} {k j : ℕ} → AreRounds restarted reduced rounded a n r k b m s j → IsRound restarted reduced rounded j outcomes.Learned b m s c l t → AreRounds restarted reduced rounded a n r k c l t (j + 1)
 
--- the last of these rounds had this outcome, or there is no answer
+-- rounds that each learned a clause and, if there is an outcome, one more round with this outcome
 abbrev pub LastRoundAnswers : {A N : Type 0} (restarted : A → A → Type 0) (reduced : A → ℕ → A → Type 0) (rounded : A → N → Outcome → A → N → Type 0) → Option Outcome → A → N → Restarts → ℕ → A → N → Restarts → ℕ → Type 0
 LastRoundAnswers restarted reduced rounded None a n r k b m s j = AreRounds restarted reduced rounded a n r k b m s j
 LastRoundAnswers {A} {N} restarted reduced rounded (Some o) a n r k b m s j =

@@ -1,4 +1,4 @@
--- The result of one round after another.
+-- The result of successive rounds.
 use Rattle.std.specs.Prelude.{ℕ, ◌≡◌, ◌+◌, ◌-◌, ◌<◌, ◌⊎◌, true, Option, MatchOption, List, [], ◌∷◌, ◌++◌, length}
 use Rattle.sat_base.specs.device.Device.{Writer}
 use Rattle.sat_base.specs.steps.Steps.{Step, AtClause}
@@ -32,7 +32,7 @@ abbrev pub IsAdvancing : Session → Step → Type 0
 IsAdvancing s (AtClause redundant clause hashes) = Advances s clause
 IsAdvancing s step = ⊥
 
--- the step derives no clause that advances, whichever of its literals is taken; its form shows this
+-- the step derives no clause that advances by any of its literals, and its form is that of a quiet step
 pub record NeverAdvancesByForm (s : Session) (step : Step) : Type 0 where
   pub quiet : is_quiet step ≡ true
   pub never : NeverAdvances s step
@@ -43,7 +43,7 @@ AdvanceTimes earlier [] k = k ≡ 0
 AdvanceTimes earlier (step ∷ steps) k = (AdvanceTimes earlier steps k × NeverAdvancesByForm (session_after (steps ++ earlier)) step)
     ⊎ ((j : ℕ) × (k ≡ j + 1) × IsAdvancing (session_after (steps ++ earlier)) step × AdvanceTimes earlier steps j)
 
--- the same for all steps since these
+-- the same for the steps made after `from`
 pub record AdvancesIn (from to : List Step) (k : ℕ) : Type 0 where
   pub steps : List Step
   pub following : to ≡ steps ++ from
@@ -60,11 +60,12 @@ pub record CoreInvariant {W L : Type 0} {G : Ghosts L} (c : Core W L G) : Type 0
 abbrev pub words_in : {W L : Type 0} {G : Ghosts L} → Core W L G → List Letter → Type 0
 words_in c w = Words (assumed_indices c.search) c.search.parts w
 
--- the number of variables
+-- the number of variables of the search
 abbrev pub values_in : {W L : Type 0} {G : Ghosts L} → Core W L G → ℕ
 values_in c = length c.search.parts.assignment.current
 
--- This many rounds ended in a conflict: each of them made one step that advances, and there are no others. The judge's state is unchanged.
+-- The effect of k rounds that ended in a conflict: exactly k of the steps derive a clause that advances. The judge's
+-- state, assumptions and parameters are unchanged.
 pub record ComesByRounds {W L : Type 0} {G : Ghosts L} (seen : W → Writer) (a : Core W L G) (n : Variables) (k : ℕ) (b : Core W L G) (m : Variables) : Type 0 where
   pub steps : List Step
   pub adds : EmitsChecked seen steps a.proof b.proof
@@ -74,7 +75,7 @@ pub record ComesByRounds {W L : Type 0} {G : Ghosts L} (seen : W → Writer) (a 
   pub config : b.config ≡ a.config
   pub times : AdvanceTimes (steps_of a.proof) steps k
 
--- whatever was reached by this many rounds is still reached by as many, with the same names
+-- if k rounds lead to `b`, as many lead to `c`, with the same names
 abbrev pub TakesNoRounds : {W L : Type 0} {G : Ghosts L} → (W → Writer) → Core W L G → Core W L G → Type 0
 TakesNoRounds {W} {L} {G} seen b c = (a : Core W L G) (n m : Variables) (k : ℕ) → ComesByRounds seen a n k b m → ComesByRounds seen a n k c m
 
@@ -85,7 +86,8 @@ EndSays outcomes.Model s m c c' = RoundShows s c c' × SharesIndices m c'
 EndSays outcomes.Unsat s m c c' = s.unsat ≡ true
 EndSays outcomes.Failed s m c c' = RoundFails s c c' × SharesIndices m c'
 
--- this answer was found after this many rounds that ended in a conflict
+-- an ask found this answer after k rounds that ended in a conflict: exactly k of the steps derive a clause that
+-- advances
 pub record Ended {W L : Type 0} {G : Ghosts L} (seen : W → Writer) (a : Core W L G) (n : Variables) (k : ℕ) (outcome : Outcome) (b : Core W L G) (m : Variables) : Type 0 where
   pub steps : List Step
   pub adds : EmitsChecked seen steps a.proof b.proof
@@ -97,7 +99,7 @@ pub record Ended {W L : Type 0} {G : Ghosts L} (seen : W → Writer) (a : Core W
   pub says : EndSays outcome (session_of b.proof) m a.search b.search
   pub times : AdvanceTimes (steps_of a.proof) steps k
 
--- if there is an answer, the last of these rounds gave it
+-- if there is an answer, the last of these rounds gave it, and all others ended in a conflict
 abbrev pub EndedBy : {W L : Type 0} {G : Ghosts L} → (W → Writer) → (rounds : ℕ) → Option Outcome → Core W L G → Variables → Core W L G → Variables → Type 0
 EndedBy seen rounds answer a n b m = MatchOption answer (Unit {0}) (λ o. Ended seen a n (rounds - 1) o b m)
 
@@ -105,7 +107,7 @@ EndedBy seen rounds answer a n b m = MatchOption answer (Unit {0}) (λ o. Ended 
 abbrev pub BreaksRounds : {W L : Type 0} {G : Ghosts L} → (W → Writer) → Core W L G → SolverError → Core W L G → Type 0
 BreaksRounds seen a e b = PassFailsOr (IsFull b.search.parts) seen e a.proof b.proof
 
--- decisions were undone, down to the levels of assumptions, and nothing else changed
+-- decisions were undone, down to the levels of assumptions; clauses, and everything besides the parts, are unchanged
 pub record Restarted {W L : Type 0} {G : Ghosts L} (a b : Core W L G) : Type 0 where
   pub levels : length b.search.parts.trail.starts ≡ length a.search.assumptions.below.items
   pub clauses : SameClauses a.search.parts b.search.parts

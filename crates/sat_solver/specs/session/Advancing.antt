@@ -1,4 +1,4 @@
--- A derived clause that advances: its first literal is new, whichever live clauses of the session are used.
+-- A derived clause that advances: no live clauses of the session assign its first literal.
 use Rattle.std.specs.Prelude.{ℕ, ◌≡◌, ◌<◌, ◌⊎◌, ◌==◌, ◌||◌, Bool, true, false, List, [], ◌∷◌, map, drop, length, slice_index_or as get_or}
 use Rattle.std.specs.List.{AllByRecursion}
 use Rattle.sat_base.specs.values.Literals.{negated}
@@ -13,7 +13,8 @@ use Rattle.sat_parts.specs.declared.parts.Parts.{Parts}
 use Rattle.sat_parts.specs.parts.Whole.{state, IsRefuted}
 use Rattle.sat_solver.specs.session.Fits.{SessionMatchesParts, TrueLitsHaveNames}
 
--- live clauses, each of which has at most one literal that is not false so far, and the literals that hold after them
+-- Each of these live clauses has at most one literal that is not false so far, which holds from then on. All reached
+-- literals hold after these clauses.
 abbrev pub LeadsOn : Session → (ℕ → Bool) → List (List ℕ) → (ℕ → Bool) → Type 0
 LeadsOn s holds [] reached = (l : ℕ) → reached l ≡ true → holds l ≡ true
 LeadsOn s holds (c ∷ cs) reached = IsLive s c × ((o : ℕ) × AllByRecursion (λ l. (l ≡ o) ⊎ (holds (negated l) ≡ true)) c × (is_among c o ≡ true) × LeadsOn s (λ l. (o == l) || holds l) cs reached)
@@ -35,7 +36,7 @@ pub record Advances (s : Session) (clause : List ℕ) : Type 0 where
   pub agree : AreConsistent (denied_in s (drop 1 clause))
   pub stays : (picked : List (List ℕ)) (reached : ℕ → Bool) → LeadsOn s (denied_in s (drop 1 clause)) picked reached → StaysNew s (get_or clause 0 0) reached
 
--- a learned clause advances in the session
+-- whichever live clauses of the session are used, the first literal of a learned clause stays new
 abbrev pub LearnedAdvancesIn : Type 0
 LearnedAdvancesIn =
     (p : Parts) (e : Conflict) (w : Work) (back : ℕ) (s : Session) (global : ℕ → ℕ) (picked : List (List ℕ)) (reached : ℕ → Bool) → IsRefuted p e → SessionMatchesParts p s global → TrueLitsHaveNames p.assignment.current s global → Learns p.clauses (state p) (falsified p.clauses e) w back →

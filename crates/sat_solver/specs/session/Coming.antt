@@ -1,15 +1,15 @@
--- Which steps a call makes, whatever it has to write. Lists of steps have the newest first.
+-- Which steps a call may make. Lists of steps have the newest first.
 use Rattle.std.specs.Prelude.{ℕ, ◌≡◌, Bool, true, false, List, [], ◌∷◌, ◌++◌}
 use Rattle.sat_base.specs.steps.Steps.{Satisfied, Step, AddClause, DeleteClause, ChangeHashBits}
 use Rattle.sat_checker.specs.LiteralSets.{canonical}
 use Rattle.sat_solver.specs.session.Session.{session_after}
 
--- each of these steps is allowed after those before it
+-- every step is allowed by this predicate, given the steps before it
 abbrev pub EachIsAllowed : (List Step → Step → Type 0) → (earlier steps : List Step) → Type 0
 EachIsAllowed IsAllowedStep earlier [] = Unit {0}
 EachIsAllowed IsAllowedStep earlier (step ∷ steps) = EachIsAllowed IsAllowedStep earlier steps × IsAllowedStep (steps ++ earlier) step
 
--- the same for all steps since these
+-- the same for the steps made after `from`
 pub record OnlyAllowedSteps (IsAllowedStep : List Step → Step → Type 0) (from to : List Step) : Type 0 where
   pub steps : List Step
   pub following : to ≡ steps ++ from
@@ -20,7 +20,7 @@ abbrev pub sets_width : Step → Bool
 sets_width (ChangeHashBits bits) = true
 sets_width step = false
 
--- only changes of the width after recorded unsat
+-- if unsat is recorded, the step changes the width
 abbrev pub EndsAtUnsat : List Step → Step → Type 0
 EndsAtUnsat earlier step = (session_after earlier).unsat ≡ true → sets_width step ≡ true
 
@@ -31,7 +31,7 @@ pub record IsLastAdded (earlier : List Step) (clause : List ℕ) : Type 0 where
   pub last : earlier ≡ AddClause added ∷ before
   pub same : canonical clause ≡ canonical added
 
--- the clause that the last step added is deleted, because one of its literals is already true; not after recorded unsat
+-- the step deletes the clause that the last step added, since one of its literals is true; unsat is not recorded
 abbrev pub DeletesAdded : List Step → Step → Type 0
 DeletesAdded earlier (DeleteClause clause Satisfied) = IsLastAdded earlier clause × ((session_after earlier).unsat ≡ false)
 DeletesAdded earlier step = ⊥

@@ -4,7 +4,7 @@ use Rattle.sat_base.specs.steps.Steps.{Step, FailedAssumptions}
 use Rattle.sat_checker.specs.matching.Checking.{is_ordered}
 use Rattle.sat_solver.specs.proof.Widths.{IsNarrowedTo}
 
--- the steps, and this one if the test says so
+-- the steps, with this one added if the flag is set
 abbrev pub kept_if : Bool → Step → List Step → List Step
 kept_if true step steps = step ∷ steps
 kept_if false step steps = steps
@@ -19,6 +19,6 @@ abbrev pub without_hashes : Step → Step
 without_hashes (FailedAssumptions core hashes) = FailedAssumptions core []
 without_hashes step = step
 
--- whatever widths are chosen, what is written for steps has the same ordered steps, except for the hashes of cores
+-- at whatever widths steps are written, their ordered steps are the same, except for the hashes of cores
 abbrev pub WidthsKeepOrder : Type 0
 WidthsKeepOrder = (wide written : List Step) (width : ℕ) → IsNarrowedTo wide written width → map without_hashes (ordered_of written) ≡ map without_hashes (ordered_of wide)

@@ -25,15 +25,16 @@ use Rattle.sat_parts.specs.parts.Whole.{state, PartsInvariant, AllAssigned, IsMo
 use Rattle.sat_solver.specs.session.Units.{AreTrueLits}
 use Rattle.sat_solver.specs.session.Fits.{SessionMatches, SessionMatchesParts, TrueLitsHaveNames}
 
--- the clauses that an analysis names: those that were used, in order, and the falsified one
+-- the clauses that the step of a learned clause names: the reasons of the used literals, in order, and the falsified
+-- clause
 abbrev pub named_clauses : List ℕ → State → List ℕ → Conflict → List (List ℕ)
 named_clauses words st used e = map (clause_of words st) used ++ falsified words e ∷ []
 
--- their hashes, over search variables and complete
+-- their complete hashes, over search variables
 abbrev pub named_hashes : List ℕ → State → List ℕ → Conflict → List ℕ
 named_hashes words st used e = map (λ l. hash_of (clause_of words st l)) used ++ hash_of (falsified words e) ∷ []
 
--- a learned clause may be written
+-- a learned clause may be derived with these hashes
 abbrev pub LearnedMay : Type 0
 LearnedMay =
     (words live : List ℕ) (implied : List (List ℕ)) (st : State) (s : Session) (global : ℕ → ℕ) (e : Conflict) (w : Work) (back : ℕ) →
@@ -41,19 +42,20 @@ LearnedMay =
     IsConflict words live implied st.values e → Learns words st (falsified words e) w back →
     MayDerive s (map (with_var global) w.clause) (named_hashes words st w.used e)
 
--- if all clauses are in the session and all variables are assigned, the true literals may be written as a model, in any order
+-- if parts and session match and every variable of a clause is assigned, the true literals may be written as a
+-- model, in any order
 abbrev pub ModelMay : Type 0
 ModelMay =
     (p : Parts) (s : Session) (global : ℕ → ℕ) (ls : List ℕ) → SessionMatchesParts p s global → TrueLitsHaveNames p.assignment.current s global → PartsInvariant p → AreTrueLits p.assignment.current ls → AllAssigned p → IsModelled p → IsAllowedStep s (Model (map (with_var global) ls))
 
--- after a conflict above level 0: under the units and the negations of the learned clause's other literals, no stored clauses that are unit
--- in turn assign its first literal, and none is falsified
+-- After a conflict above level 0, let stored clauses be unit in turn under the units and the negations of the
+-- learned clause's other literals. Then its first literal stays open, and no stored clause is falsified.
 abbrev pub LearnedIsNew : Type 0
 LearnedIsNew =
     (p : Parts) (e : Conflict) (w : Work) (back : ℕ) (units : List ℕ) (picked : List (List ℕ)) (reached : List ℕ) → IsRefuted p e → Learns p.clauses (state p) (falsified p.clauses e) w back → AreLevelZeroLits (state p) units →
     AllByRecursion (IsStored p.clauses (live_refs p.clauses p.db.refs) p.binary.implied) picked → LeadTo (map negated (drop 1 w.clause) ++ units) picked reached →
     StaysOpen p.clauses (live_refs p.clauses p.db.refs) p.binary.implied (get_or w.clause 0 0) reached
 
--- empty parts match the empty session
+-- a search without variables and clauses matches the empty session
 abbrev pub NothingFits : Type 0
 NothingFits = (words : List ℕ) (st : State) (global : ℕ → ℕ) → st.values ≡ [] → st.trail.lits ≡ [] → SessionMatches words [] [] st nothing global

@@ -24,8 +24,9 @@ pub record ArePaired (implied : List (List ℕ)) : Type 0 where
 abbrev pub is_redundant : List ℕ → ℕ → Bool
 is_redundant words o = is_learned (header_at words o).tier
 
--- The live clauses of the search are those of the session, and its units are the literals of level 0 that no clause implies. This holds at
--- all times: literals of level 0 that propagation implied are not yet units of the session.
+-- The live clauses of the search are those of the session. Every unit of the search is a unit of the session, and
+-- units of the session are true at level 0. Literals that propagation implied at level 0 need not be units of the
+-- session yet.
 pub record SessionMatches (words live : List ℕ) (implied : List (List ℕ)) (st : State) (s : Session) (global : ℕ → ℕ) : Type 0 where
   pub clauses : AreOf s global (solver_clauses (is_redundant words) words live implied)
   pub paired : ArePaired implied
@@ -38,16 +39,16 @@ pub record SessionMatches (words live : List ℕ) (implied : List (List ℕ)) (s
 abbrev pub TrueLitsHaveNames : List (Option Bool) → Session → (ℕ → ℕ) → Type 0
 TrueLitsHaveNames values s global = (l : ℕ) → IsTrueLit values l → s.solver_names (global (variable l)) ≡ Some (variable l)
 
--- the same for the struct of parts
+-- the parts of a search match the session
 abbrev pub SessionMatchesParts : Parts → Session → (ℕ → ℕ) → Type 0
 SessionMatchesParts p s global = SessionMatches p.clauses (live_refs p.clauses p.db.refs) p.binary.implied (state p) s global
 
--- the invariant between rounds
+-- the invariant of the parts holds, and they match the session
 pub record PartsSessionInvariant (p : Parts) (s : Session) (global : ℕ → ℕ) : Type 0 where
   pub holds : PartsInvariant p
   pub fits : SessionMatchesParts p s global
 
--- whether a step calls the clause redundant: for a long clause as its header says, for a binary one never
+-- the flag of a step fits the clause: a long clause is redundant if its header says so, a binary one never
 pub record FlagFits (flag : Bool) (header : Header) (ls : List ℕ) : Type 0 where
   pub long : 3 ≤ length ls → flag ≡ is_learned header.tier
   pub binary : length ls ≡ 2 → flag ≡ false

@@ -1,4 +1,4 @@
--- What naming units requires of the parts.
+-- What writing units requires of the parts.
 use Rattle.std.specs.Prelude.{length}
 use Rattle.sat_parts.specs.clause.Db.{live_refs}
 use Rattle.sat_parts.specs.clause.Stored.{AreClauses}

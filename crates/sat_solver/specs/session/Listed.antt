@@ -1,4 +1,4 @@
--- A session and a list of live clauses, while steps are written that the parts do not reflect yet.
+-- A session and a list of live clauses, while steps are written that do not change the parts yet.
 use Rattle.std.specs.Prelude.{ℕ, ◌≡◌, ◌<◌, Bool, true, false, Some, List, ◌++◌}
 use Rattle.sat_base.specs.values.Literals.{variable}
 use Rattle.sat_base.specs.steps.Steps.{Step, UserVarName, ChangeSamplingMode, Model, Assumptions, FailedAssumptions, End}
@@ -14,7 +14,8 @@ use Rattle.sat_parts.specs.parts.Whole.{state}
 use Rattle.sat_parts.specs.parts.Frame.{IsUnitLit}
 use Rattle.sat_solver.specs.session.Fits.{is_redundant}
 
--- the live clauses of the session are these, and its units are literals of level 0, among them those that no clause of the trail implies
+-- The live clauses of the session are these. Every unit of the search is a unit of the session, and units of the
+-- session are true at level 0.
 pub record FitsList (cs : List LiveClause) (st : State) (s : Session) (global : ℕ → ℕ) : Type 0 where
   pub clauses : AreOf s global cs
   pub known : (l : ℕ) → IsUnitLit st l → s.units (with_var global l) ≡ true
@@ -22,7 +23,7 @@ pub record FitsList (cs : List LiveClause) (st : State) (s : Session) (global : 
   pub consistent : s.unsat ≡ false
   pub width : s.width ≡ 64
 
--- the two sessions have the same units, indices and width
+-- the two sessions have the same units, indices, unsat flag and width
 pub record SameFacts (s t : Session) : Type 0 where
   pub names : (v : ℕ) → t.solver_names v ≡ s.solver_names v
   pub units : (l : ℕ) → t.units l ≡ s.units l
@@ -33,7 +34,8 @@ pub record SameFacts (s t : Session) : Type 0 where
 abbrev pub ArePlain : Session → Type 0
 ArePlain s = (r : Bool) (set : List ℕ) → 0 < s.live r set → is_tautology set ≡ false
 
--- a step that leaves clauses, units, indices and width unchanged: names, modes, assumptions and answers
+-- a step that leaves clauses, units, indices and width unchanged: it is about names, modes, assumptions, answers or
+-- the end
 abbrev pub ChangesNoClause : Step → Type 0
 ChangesNoClause (UserVarName v name) = Unit {0}
 ChangesNoClause (ChangeSamplingMode v sample) = Unit {0}
@@ -43,7 +45,7 @@ ChangesNoClause (FailedAssumptions core hashes) = Unit {0}
 ChangesNoClause End = Unit {0}
 ChangesNoClause step = ⊥
 
--- the parts match, except for binary clauses with an assigned variable: these are removed from the session as far as the first k literals
--- of list l, and all lists before it, were visited
+-- The parts match the session, except for binary clauses with an assigned variable that were removed from the
+-- session. All lists before list l, and the first k literals of list l, were visited.
 abbrev pub LeftParts : Parts → Session → (ℕ → ℕ) → (l k : ℕ) → Type 0
 LeftParts p s global l k = FitsList (binaries_left p.assignment.current p.binary.implied l k ++ longs (is_redundant p.clauses) p.clauses (live_refs p.clauses p.db.refs)) (state p) s global

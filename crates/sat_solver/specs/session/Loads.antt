@@ -8,8 +8,8 @@ use Rattle.sat_parts.specs.declared.parts.load.Loaded.{Loaded}
 use Rattle.sat_parts.specs.declared.parts.load.Loaded.TheVariants.{Stored, Unit as One, Satisfied, Falsified}
 use Rattle.sat_solver.specs.session.Fits.{SessionMatchesParts}
 
--- The step adds the clause as it was given. A clause with a true literal is deleted at once, with its literals in the order `ls`, unless it
--- has only one literal; after a clause that is empty, or whose only literal is false, unsat is recorded.
+-- The step adds the clause as it was given. A clause with a true literal is then deleted, with its literals in the
+-- order `ls`, unless it has only one literal. The step of a falsified clause records unsat.
 abbrev pub LoadFits : Loaded → Parts → Session → (ℕ → ℕ) → (given ls : List ℕ) → Type 0
 LoadFits Stored p s global given ls = SessionMatchesParts p (after (AddClause (map (with_var global) given)) s) global
 LoadFits One p s global given ls = SessionMatchesParts p (after (AddClause (map (with_var global) given)) s) global

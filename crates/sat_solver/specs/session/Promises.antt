@@ -8,11 +8,12 @@ use Rattle.sat_checker.specs.Accepts.{Accepts, AcceptsAll, ready_after}
 use Rattle.sat_solver.specs.session.Session.{Session, IsAllowedStep, AreAllowedSteps, session_after}
 use Rattle.sat_solver.specs.session.Agrees.{MatchesStored}
 
--- the checker accepts what a session may write
+-- a checker that matches a session accepts every step that the session allows
 abbrev pub MayIsAccepted : Type 0
 MayIsAccepted = (s : Session) (f : Stored) (step : Step) → MatchesStored s f → IsAllowedStep s step → Accepts f step
 
--- steps that are allowed one after another are accepted one after another, and session and checker agree after them
+-- if every step is allowed after those before it, the checker accepts all of them, and session and checker agree
+-- afterwards
 abbrev pub SessionsAreAccepted : Type 0
 SessionsAreAccepted = (steps : List Step) → AreAllowedSteps steps → AcceptsAll steps × MatchesStored (session_after steps) (ready_after steps)
 
@@ -26,10 +27,10 @@ added (step ∷ earlier) = added earlier
 abbrev pub CoresAreRight : Type 0
 CoresAreRight = (steps : List Step) (core hashes : List ℕ) (a : Valuation) → AreAllowedSteps (FailedAssumptions core hashes ∷ steps) → EachHolds a (added steps) → EachTrue a core → ⊥
 
--- no valuation satisfies them once unsat is recorded
+-- no valuation satisfies the added clauses once unsat is recorded
 abbrev pub UnsatIsRight : Type 0
 UnsatIsRight = (steps : List Step) (a : Valuation) → AreAllowedSteps steps → (session_after steps).unsat ≡ true → EachHolds a (added steps) → ⊥
 
--- every completion of a model that may be written, with the values of the units, extends to a valuation that the steps admit
+-- if a model may be written, the steps admit every valuation that satisfies the model and the units
 abbrev pub ModelsAreRight : Type 0
 ModelsAreRight = (steps : List Step) (ls : List ℕ) (a : Valuation) → AreAllowedSteps (Model ls ∷ steps) → EachTrue a ls → ((l : ℕ) → (session_after steps).units l ≡ true → literal_true a l ≡ true) → Holds steps a

@@ -1,4 +1,4 @@
--- Steps by which nothing is learned.
+-- Steps that learn nothing.
 use Rattle.std.specs.Prelude.{ℕ, ◌≡◌, ◌==◌, Bool, true, false, List, [], ◌∷◌, if◌then◌else◌}
 use Rattle.std.specs.List.{AllByRecursion}
 use Rattle.sat_base.specs.steps.Steps.{Step, AtClause}
@@ -19,31 +19,31 @@ pub record LeavesLiteralOpen (s : Session) (clause : List ℕ) (l : ℕ) : Type 
   pub agree : AreConsistent (denied_in s (others_of l clause))
   pub stays : (picked : List (List ℕ)) (reached : ℕ → Bool) → LeadsOn s (denied_in s (others_of l clause)) picked reached → StaysNew s l reached
 
--- the step derives no clause that advances, by any of its literals
+-- the step derives no clause of which a literal is left open in this way
 abbrev pub NeverAdvances : Session → Step → Type 0
 NeverAdvances s (AtClause redundant clause hashes) = (l : ℕ) → LeavesLiteralOpen s clause l → ⊥
 NeverAdvances s step = Unit {0}
 
--- at most one
+-- whether the list has at most one element
 abbrev pub are_few : List ℕ → Bool
 are_few [] = true
 are_few (h ∷ []) = true
 are_few (h ∷ g ∷ hs) = false
 
--- by its form: the step derives no clause, or the empty one, or one that follows from a unit or a single clause
+-- whether the step is quiet by its form: it derives no clause, the empty clause, or a clause with at most one hash
 abbrev pub is_quiet : Step → Bool
 is_quiet (AtClause redundant [] hashes) = true
 is_quiet (AtClause redundant (l ∷ ls) hashes) = are_few hashes
 is_quiet step = true
 
--- nothing is learned by any of these steps, as their forms show
+-- all these steps are quiet
 abbrev pub AreQuiet : List Step → Type 0
 AreQuiet = AllByRecursion (λ step. is_quiet step ≡ true)
 
--- the same for all steps since these
+-- the same for the steps made after `from`
 abbrev pub ComesQuietly : (from to : List Step) → Type 0
 ComesQuietly = OnlyAllowedSteps (λ earlier step. is_quiet step ≡ true)
 
--- a step that is quiet by its form, and allowed, never advances
+-- a quiet step that is allowed never advances
 abbrev pub QuietNeverAdvances : Type 0
 QuietNeverAdvances = (s : Session) (step : Step) → IsAllowedStep s step → is_quiet step ≡ true → NeverAdvances s step

@@ -7,16 +7,16 @@ use Rattle.sat_parts.specs.prop.Values.{is_unset}
 use Rattle.sat_parts.specs.prop.Binaries.{implied_by}
 use Rattle.sat_solver.specs.session.LiveClauses.{LiveClause}
 
--- The literals of a binary clause, the lower one first. All of these are irredundant.
+-- the binary clause of these literals; binary clauses are irredundant
 abbrev pub pair : ℕ → ℕ → LiveClause
 pair a b = record { redundant = false; literals = a ∷ b ∷ [] }
 
--- the binary clauses whose lower literal is a, whose negation implies these
+-- the binary clauses of literal a and those of the listed literals that have a higher code
 abbrev pub binaries_of : ℕ → List ℕ → List LiveClause
 binaries_of a [] = []
 binaries_of a (m ∷ ms) = if nat_lt a m then pair a m ∷ binaries_of a ms else binaries_of a ms
 
--- the binary clauses of the lists of implied literals, starting with this literal
+-- the binary clauses of lists of implied literals, each clause once; the first list is that of literal l
 abbrev pub binaries_from : ℕ → List (List ℕ) → List LiveClause
 binaries_from l [] = []
 binaries_from l (ms ∷ rest) = binaries_of (negated l) ms ++ binaries_from (l + 1) rest
@@ -25,7 +25,7 @@ binaries_from l (ms ∷ rest) = binaries_of (negated l) ms ++ binaries_from (l +
 abbrev pub binaries : List (List ℕ) → List LiveClause
 binaries = binaries_from 0
 
--- the long clauses; the test says which of them are redundant
+-- the long clauses; the predicate says which of them are redundant
 abbrev pub longs : (ℕ → Bool) → List ℕ → List ℕ → List LiveClause
 longs redundant words [] = []
 longs redundant words (o ∷ os) = record { redundant = redundant o; literals = lits_at words o } ∷ longs redundant words os
@@ -45,8 +45,8 @@ pub record InsertsClause (old new : List LiveClause) (c : LiveClause) : Type 0 w
 abbrev pub is_open_clause : List (Option Bool) → LiveClause → Bool
 is_open_clause values c = list_all (λ l. is_unset values (variable l)) c.literals
 
--- the binary clauses while those with an assigned variable are removed, in the order of the lists: the first k literals of list l, and all
--- lists before it, were visited
+-- The binary clauses while those with an assigned variable are removed. All lists before list l, and the first k
+-- literals of list l, were visited.
 abbrev pub binaries_left : List (Option Bool) → List (List ℕ) → (l k : ℕ) → List LiveClause
 binaries_left values implied l k =
     let ms : List ℕ = implied_by implied l in

@@ -36,7 +36,7 @@ pub record UnitsFit (words : List ℕ) (st : State) (s : Session) (global : ℕ 
   pub removed : (l : ℕ) → IsRemoved st l → s.units (with_var global l) ≡ true
   pub sound : (l : ℕ) → HasOwnSolverName s global l → s.units (with_var global l) ≡ true → IsTrueLit st.values l
 
--- the units may be written in trail order
+-- the units of the trail may be written in trail order
 abbrev pub TrailUnitsMay : Type 0
 TrailUnitsMay =
     (words live : List ℕ) (implied : List (List ℕ)) (st : State) (s : Session) (global : ℕ → ℕ) → ((o : ℕ) → Contains live o → 0 < size_of words o) → StateIsConsistent st → AreUnitInTurn words live implied st 0

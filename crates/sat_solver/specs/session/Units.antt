@@ -14,7 +14,7 @@ abbrev pub written_lits : State → List ℕ → List ℕ
 written_lits st [] = []
 written_lits st (l ∷ ls) = if is_unit_reason (node st l).reason then written_lits st ls else l ∷ written_lits st ls
 
--- every literal of level 0 is a unit of the session
+-- the session matches, and has every literal that is true at level 0 as a unit
 pub record FitsAll (words live : List ℕ) (implied : List (List ℕ)) (st : State) (s : Session) (global : ℕ → ℕ) : Type 0 where
   pub fits : SessionMatches words live implied st s global
   pub all : (l : ℕ) → IsTrueLit st.values l → level st l ≡ 0 → s.units (with_var global l) ≡ true

@@ -82,8 +82,8 @@ IsBeforeDrat seen s = IsPastDrat seen s → ⊥
 abbrev pub LacksRoomForNames : {W L : Type 0} {G : Ghosts L} → Solver W L G → List ℕ → Type 0
 LacksRoomForNames s user = (has_failed s ≡ false) × AreSampled s user × (HasVariablesFor (known_names s) (user_vars_in user) → ⊥)
 
--- The steps of a clause: only such as may occur with one, by increasing index. Once the clauses are known to be unsatisfiable, they only
--- introduce names. No ask began.
+-- The steps of adding a clause: only those that such a call may make; the clause has its literals by increasing
+-- index. Once the clauses are known to be unsatisfiable, the steps only introduce names. No ask began.
 pub record StepsOfClause {W L : Type 0} {G : Ghosts L} (old new : Solver W L G) (user : List ℕ) : Type 0 where
   pub comes : OnlyAllowedSteps (MayAdd (names_in user)) (steps_in old) (steps_in new)
   pub order : (answer_in old ≡ states.Unsat → ⊥) → AddsInOrder (steps_in old) (steps_in new)

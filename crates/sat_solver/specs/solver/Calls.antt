@@ -42,8 +42,8 @@ pub record CallEffect {W L : Type 0} {G : Ghosts L} (seen : W → Writer) (old n
 abbrev pub rounds_left : {W L : Type 0} {G : Ghosts L} → Solver W L G → ℕ
 rounds_left s = round_allowance (parameters_in s).max_steps (rounds_in s)
 
--- that the number of rounds rose by at most the rounds that the call may make, and by fewer than 2^(2n+3), where n is the number of identities
--- of any script state that names and steps agree with
+-- that the number of rounds did not fall, and rose by at most the rounds that the call may make. It also rose by
+-- fewer than 2^(2n+3), where n is the number of identities of any script state that names and steps agree with.
 pub record RoundsOn (n : Variables) (steps : List Step) (budget before now : ℕ) : Type 0 where
   pub more : before ≤ now
   pub within : now ≤ before + round_allowance budget before
@@ -53,8 +53,8 @@ pub record RoundsOn (n : Variables) (steps : List Step) (budget before now : ℕ
 abbrev pub CountsRounds : {W L : Type 0} {G : Ghosts L} → Solver W L G → Solver W L G → Type 0
 CountsRounds old new = RoundsOn (known_names old) (steps_in old) (parameters_in old).max_steps (rounds_in old) (rounds_in new)
 
--- a call failed for a reason that the input does not determine, and so does every later call; if the answer was known, only a flush or the
--- solver's own checker failed
+-- A call failed for a reason that the input does not determine, and so does every later call. If the answer was
+-- known, only a flush or the solver's own checker failed.
 pub record EndsInFailure {W L : Type 0} {G : Ghosts L} (seen : W → Writer) (e : SolverError) (old new : Solver W L G) : Type 0 where
   pub going : has_failed old ≡ false
   pub failed : has_failed new ≡ true
@@ -79,8 +79,8 @@ due_between_states before now line asked core = []
 abbrev pub due_for_answer : {W L : Type 0} {G : Ghosts L} → State → Solver W L G → List Expected
 due_for_answer before s = due_between_states before (answer_in s) (line_in s) (assumptions_in s) (reported_core s)
 
--- the number of rounds made: at least one for a new answer, all that are allowed if there is no answer, and an answer whenever 2^(2n+3)
--- rounds are allowed
+-- The number of rounds made: at least one for a new answer, and all that are allowed if there is no answer. There is
+-- an answer if 2^(2n+3) rounds are allowed, for the number n of identities.
 pub record Counts {W L : Type 0} {G : Ghosts L} (old new : Solver W L G) : Type 0 where
   pub on : CountsRounds old new
   pub round : answer_in old ≡ states.Unknown → (answer_in new ≡ states.Unknown → ⊥) → rounds_in old < rounds_in new
@@ -101,11 +101,12 @@ IsFlushed Closed = Unit {0}
 IsFlushed (Open f c s) = (s.waiting ≡ []) × (s.writer.flushed ≡ true)
 IsFlushed (Broken w) = Unit {0}
 
--- that it is recorded that an ask has begun, if steps are written
+-- that, if the target is open, the proof records that an ask has begun
 abbrev pub NotesAsk : {W L : Type 0} {G : Ghosts L} → (W → Writer) → Proof W L G → Type 0
 NotesAsk seen p = is_open (target_of seen p) ≡ true → has_asked p ≡ true
 
--- that a known answer is given again: nothing has changed except that pending bytes were written to the target
+-- that a known answer is given again: no step was made, the solver is marked as used, and at most its proof has
+-- changed otherwise
 pub record AnswersAgain {W L : Type 0} {G : Ghosts L} (old new : Solver W L G) : Type 0 where
   pub steps : steps_in new ≡ steps_in old
   pub same : OnlyProofDiffers (used_now old) new
@@ -117,8 +118,8 @@ pub record MakesRounds {W L : Type 0} {G : Ghosts L} (seen : W → Writer) (old 
   pub searched : SearchedBy seen (answer_in new) (schedule_in old) (schedule_in new) (known_names old) (known_names new) (record (inside old) { proof = asking (proof_in old) }) (record (inside new) { proof = following }) (reported_core new)
   pub flushes : FlushesAndNotifies seen following (proof_in new)
 
--- The steps of an ask: only such as may occur in one. Every round except the answering one derived a clause that advances; no other step
--- did. Names keep their variables.
+-- The steps of an ask; after unsat is recorded, they only change the width. Every round except the answering one
+-- derived a clause that advances; no other step did. Names keep their variables.
 pub record StepsOfAsk {W L : Type 0} {G : Ghosts L} (seen : W → Writer) (old new : Solver W L G) : Type 0 where
   pub comes : OnlyAllowedSteps EndsAtUnsat (steps_in old) (steps_in new)
   pub times : AdvancesIn (steps_in old) (steps_in new) (learned_of (answer_in new) (rounds_in new - rounds_in old))

@@ -16,7 +16,8 @@ use Rattle.sat_solver.specs.declared.state.State.TheVariants as states
 use Rattle.sat_solver.specs.solver.Calls.{Refuses}
 use Rattle.sat_solver.specs.solver.View.{answer_in, assumed_in, has_failed, inside, is_used, known_names, parameters_in, proof_in, schedule_in, reported_in}
 
--- that the search has the decays of the parameters, and nothing else changed
+-- that the search got the decay of variables from the parameters; besides it, only the scale of clause activities
+-- may have changed
 pub record SetsDecays {W L : Type 0} {G : Ghosts L} (a b : Core W L G) : Type 0 where
   pub bumped : (s : Session) → IsSearch s a.search → BumpEffect s a.search b.search
   pub parts : b.search.parts ≡ record a.search.parts { vsids = record a.search.parts.vsids { decay = a.config.vsids_decay } }

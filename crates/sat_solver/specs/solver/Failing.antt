@@ -4,6 +4,6 @@ use Rattle.sat_checker.specs.declared.processing.ProofProcessor.{Ghosts}
 use Rattle.sat_solver.specs.proof.ProofView.{without_complaint}
 use Rattle.sat_solver.specs.declared.solver.Solver.{Solver}
 
--- the solver, marked as failed
+-- the solver, marked as failed, without the stored error of a listener
 abbrev pub failed_with : {W L : Type 0} {G : Ghosts L} → Solver W L G → Solver W L G
 failed_with s = record s { failed = true; core = record s.core { proof = without_complaint s.core.proof } }

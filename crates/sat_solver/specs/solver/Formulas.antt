@@ -59,7 +59,7 @@ is_solver_out_of_memory texts.HasFailed = false
 abbrev pub with_failed : {W L : Type 0} {G : Ghosts L} → Bool → Solver W L G → Solver W L G
 with_failed b s = record s { failed = b }
 
--- that the text is malformed or a read failed, and the clauses before the fault were added
+-- that the text has a fault, a read failed or memory ran out, and the clauses before the fault were added
 pub record TextFails {W L : Type 0} {G : Ghosts L} (seen : W → Writer) (e : SolverError) (old new : Solver W L G) (from to : Reader) : Type 0 where
   pub going : has_failed old ≡ false
   pub fault : DimacsError

@@ -23,7 +23,7 @@ pub record FoundModel {W L : Type 0} {G : Ghosts L} (seen : W → Writer) (round
   pub ended : Ended seen a n (rounds - 1) outcomes.Model mid m
   pub shown : Shown seen m mid b
 
--- that assumptions that contradict the clauses were found and written
+-- that a failed core was found in the last of these rounds, and written
 pub record FoundCore {W L : Type 0} {G : Ghosts L} (seen : W → Writer) (rounds : ℕ) (n m : Variables) (a b : Core W L G) (core : List ℕ) : Type 0 where
   pub mid : Core W L G
   pub ended : Ended seen a n (rounds - 1) outcomes.Failed mid m
@@ -79,8 +79,8 @@ ReportsLast seen None states.Unknown n a b core = b ≡ a
 ReportsLast seen None state n a b core = ⊥
 ReportsLast seen (Some outcome) state n a b core = ReportSays seen (Some state) outcome n a b core
 
--- Rounds were made. A restart and a reduction came exactly before the rounds before which they are due, by the schedule and the parameters;
--- the state represents the outcome of the last round.
+-- Rounds were made. Restarts and reductions came exactly before the rounds for which they are due, by the schedule
+-- and the parameters. The state represents the outcome of the last round.
 pub record SearchedBy {W L : Type 0} {G : Ghosts L} (seen : W → Writer) (state : State) (before now : Clock) (n m : Variables) (a b : Core W L G) (core : List ℕ) : Type 0 where
   pub outcome : Option Outcome
   pub found : Core W L G

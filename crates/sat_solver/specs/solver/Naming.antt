@@ -29,7 +29,7 @@ use Rattle.sat_solver.specs.solver.View.{IsInState, answer_in, assumed_in, assum
 abbrev pub IsAsked : {W L : Type 0} {G : Ghosts L} → Solver W L G → ℕ → Type 0
 IsAsked s user = (l : ℕ) × Among l (assumptions_in s) × (variable l ≡ user)
 
--- the value of a proof variable in the search, or `None`
+-- the value of a proof variable, or `None` if there is no variable; a variable without a value is false
 abbrev pub variable_value : {W L : Type 0} {G : Ghosts L} → Solver W L G → Option ℕ → Option Bool
 variable_value s None = None
 variable_value s (Some v) = Some (value_in s.names s.core.search.parts.assignment.current v)
@@ -45,7 +45,8 @@ IsKeptOrFalse (Some a) None = Unit {0}
 IsKeptOrFalse None (Some b) = b ≡ false
 IsKeptOrFalse (Some a) (Some b) = b ≡ a
 
--- a call over names was carried out, by steps that may occur in it, and the answer is unchanged: in a model, new names are false
+-- a call over names was carried out, by steps that it may make; the answer is unchanged, and in a model, new names
+-- are false
 pub record Renamed {W L : Type 0} {G : Ghosts L} (seen : W → Writer) (old new : Solver W L G) (judge : ScriptState → ScriptState) (due : ScriptState → List Expected) (IsAllowedStep : List Step → Step → Type 0) : Type 0 where
   pub did : CallEffect seen old new judge due
   pub comes : OnlyAllowedSteps IsAllowedStep (steps_in old) (steps_in new)
@@ -112,8 +113,8 @@ pub record StepsOfNames {W L : Type 0} {G : Ghosts L} (seen : W → Writer) (old
   pub took : ComesBySteps seen (proof_in old) (proof_in new)
   pub width : (steps_in new ≡ steps_in old → ⊥) → IsAtWidth (proof_in new)
 
--- Every hidden variable got the next name and mode witness, by increasing variable; the answer is unchanged. If there is none, a proof may
--- still be opened.
+-- Every hidden variable got the next name and mode witness, by increasing variable; the answer is unchanged. If no
+-- variable was hidden, the call does not count as a use of the solver.
 pub record Observed {W L : Type 0} {G : Ghosts L} (seen : W → Writer) (old new : Solver W L G) (users : List ℕ) : Type 0 where
   pub going : has_failed old ≡ false
   pub failed : has_failed new ≡ false

@@ -45,8 +45,8 @@ pub record CallsGoOn {W L : Type 0} {G : Ghosts L} (seen : W → Writer) (old ne
   pub closes_none : ClosesProof seen (Ok None) old new → ReachesBySteps seen old new
   pub closing_fails : (e : SolverError) → ClosesProof seen (Err e) old new → ReachesBySteps seen old new
 
--- if a proof was opened before any step other than ends of proofs, and the solver has made steps since, possibly with a failure, the target
--- that it returns has received a prefix of the text of accepted steps
+-- Let a proof be opened before any step other than ends of proofs, and the solver make steps since, possibly with a
+-- failure. Then the target that it returns has received a prefix of the text of accepted steps.
 abbrev pub ReturnsAcceptedPrefix : {W L : Type 0} {G : Ghosts L} → (W → Writer) → Option W → Solver W L G → Type 0
 ReturnsAcceptedPrefix {W} {L} {G} seen returned s = (opened : Solver W L G) (f : ProofFormat) (from : Writer) (given : W) → returned ≡ Some given
     → target_in seen opened ≡ Open f nothing_counted (empty_sink from) → has_begun (steps_in opened) ≡ false → ReachesBySteps seen opened s

@@ -24,12 +24,12 @@ use Rattle.sat_solver.specs.solver.Calls.{Refuses}
 use Rattle.sat_solver.specs.solver.Whole.{SolverInvariant, steps_in}
 use Rattle.sat_solver.specs.solver.View.{OnlyProofDiffers, answer_in, has_failed, is_used, known_names, proof_in, schedule_in, target_in}
 
--- that the solver's own checker, if any, is unchanged
+-- that the solver's own checker, if any, has the same listeners, and has missed a step exactly if it had before
 pub record KeepsChecker {W L : Type 0} {G : Ghosts L} (old new : Solver W L G) : Type 0 where
   pub listening : audience (proof_in new) ≡ audience (proof_in old)
   pub taking : is_lost (proof_in new) ≡ is_lost (proof_in old)
 
--- that a target was opened, before anything else
+-- that a target was opened by an unused solver that had no open one
 pub record Opened {W L : Type 0} {G : Ghosts L} (seen : W → Writer) (format : ProofFormat) (target : W) (old new : Solver W L G) : Type 0 where
   pub going : has_failed old ≡ false
   pub first : is_used old ≡ false

@@ -1,4 +1,4 @@
--- What answers are based on.
+-- Models and cores of a solver, and why they are correct.
 use Rattle.std.specs.Prelude.{ℕ, ◌≡◌, ◌⊎◌, true, false, List, [], map}
 use Rattle.sat_base.specs.script.ScriptState.{ScriptState, IsRightModel}
 use Rattle.sat_checker.specs.declared.processing.ProofProcessor.{Ghosts}

@@ -46,7 +46,7 @@ pub record TookClause {W L : Type 0} {G : Ghosts L} (seen : W → Writer) (n n' 
   pub config : b.config ≡ a.config
   pub assumed : (session_of b.proof).assumed ≡ (session_of a.proof).assumed
 
--- that the error is one after which the solver has failed, in a call over names
+-- that the error is one that a call over names may return when it fails: a fault of a search, or `VariableLimit`
 abbrev pub IsNameFaultOr : (full : Type 0) → SolverError → Type 0
 IsNameFaultOr full e = IsFaultOr full e ⊎ (e ≡ errors.VariableLimit)
 

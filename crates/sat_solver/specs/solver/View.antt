@@ -29,7 +29,7 @@ has_failed s = s.failed
 abbrev pub is_used : {W L : Type 0} {G : Ghosts L} → Solver W L G → Bool
 is_used s = s.used
 
--- what is known about an answer
+-- what the solver knows about the answer
 abbrev pub answer_in : {W L : Type 0} {G : Ghosts L} → Solver W L G → State
 answer_in s = s.state
 
@@ -139,7 +139,7 @@ empty_view = record {
   asked = false;
 }
 
--- that no call was made yet
+-- that the solver is in its initial state
 pub record IsEmpty {W L : Type 0} {G : Ghosts L} (seen : W → Writer) (s : Solver W L G) : Type 0 where
   pub view : view_of seen s ≡ empty_view
   pub state : IsInState s start []

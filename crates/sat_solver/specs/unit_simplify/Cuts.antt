@@ -1,4 +1,4 @@
--- The steps that delete a long clause, or replace it with what is left of it.
+-- The steps that delete a long clause, or replace it with a strengthened one.
 use Rattle.std.specs.Prelude.{ℕ, ◌≡◌, Bool, ◌&&◌, nat_lt, List, ◌∷◌, length, Result, if◌then◌else◌}
 use Rattle.sat_base.specs.device.Device.{Writer}
 use Rattle.sat_base.specs.steps.Steps.{Deletion, Redundant, Simplified, Step, AtClause, DeleteClause}
@@ -9,7 +9,7 @@ use Rattle.sat_solver.specs.declared.proof.Proof.{Proof}
 use Rattle.sat_solver.specs.declared.error.SolverError.{SolverError}
 use Rattle.sat_solver.specs.cdcl.Going.{EmitsSteps}
 
--- why a long clause may be deleted: it is redundant, or otherwise this reason
+-- why a long clause may be deleted: because it is redundant, or otherwise for this reason
 abbrev pub deletion : Bool → Deletion → Deletion
 deletion redundant other = if redundant then Redundant else other
 
@@ -17,16 +17,16 @@ deletion redundant other = if redundant then Redundant else other
 abbrev pub deleted_step : Bool → Deletion → List ℕ → Step
 deleted_step redundant other clause = DeleteClause clause (deletion redundant other)
 
--- the step that derives what is left of a clause; it is redundant if the clause was, unless it is binary
+-- the step that derives a strengthened clause, which is redundant if the original one was, unless it is binary
 abbrev pub derived_step : Bool → (part hashes : List ℕ) → Step
 derived_step redundant part hashes = AtClause (redundant && nat_lt 2 (length part)) part hashes
 
--- what is left of a clause may be derived, and then the clause may be deleted
+-- the strengthened clause may be derived, and then the original one may be deleted
 pub record MayCut (s : Session) (redundant : Bool) (part hashes clause : List ℕ) : Type 0 where
   pub derive : IsAllowedStep s (derived_step redundant part hashes)
   pub delete : IsAllowedStep (after (derived_step redundant part hashes) s) (deleted_step redundant Simplified clause)
 
--- these two steps were made
+-- exactly these two steps were made, or the call failed
 abbrev pub WritesCut : {W L : Type 0} {G : Ghosts L} → (W → Writer) → Result (Unit {0}) SolverError → Proof W L G → Proof W L G → (redundant : Bool) (part hashes clause : List ℕ) → Type 0
 WritesCut seen r p p' redundant part hashes clause =
     EmitsSteps seen r p p' (λ _ _. steps_of p' ≡ deleted_step redundant Simplified clause ∷ derived_step redundant part hashes ∷ steps_of p)

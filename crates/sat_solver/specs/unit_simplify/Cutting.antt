@@ -12,8 +12,8 @@ use Rattle.sat_parts.specs.parts.Words.{TrailWordExtends}
 use Rattle.sat_solver.specs.declared.context.Search.{Search}
 use Rattle.sat_solver.specs.cdcl.Joint.{global_in}
 
--- the literals of the clause at o were reordered: open ones come before position `kept`, false ones from there up to `next`, and the rest
--- is unchanged
+-- The literals of the clause at o were reordered: open ones come before position `kept`, and false ones from there
+-- up to `next`. The rest is unchanged.
 pub record Gathers (p p' : Parts) (o kept next : ℕ) : Type 0 where
   pub holds : PartsInvariant p'
   pub moved : ReordersLits p p'
@@ -24,12 +24,13 @@ pub record Gathers (p p' : Parts) (o kept next : ℕ) : Type 0 where
   pub cut : (k : ℕ) → kept ≤ k → k < next → IsFalseLit p.assignment.current (lit_of p'.clauses o k)
   pub rest : (k : ℕ) → next ≤ k → lit_of p'.clauses o k ≡ lit_of p.clauses o k
 
--- the first literals of the clause at o are what is left of it: as a long clause, or as a binary one that replaces it
+-- the clause at o was strengthened to its first `len` literals: as a long clause, or as a binary one that replaces
+-- it
 pub data PutsPart (p p' : Parts) (o len : ℕ) : Type 0 where
   puts_long : 3 ≤ len → ShortensLongClause p p' o len → PutsPart p p' o len
   puts_pair : len ≡ 2 → (mid : Parts) → AddsOriginalClause p mid (lit_of p.clauses o 0 ∷ lit_of p.clauses o 1 ∷ []) → DropsLongClause mid p' o → PutsPart p p' o len
 
--- nothing else changed
+-- the same; values, trail and the list of long clauses are unchanged, and the invariant of the parts holds
 pub record Replaces (p p' : Parts) (o len : ℕ) : Type 0 where
   pub holds : PartsInvariant p'
   pub state : SameState p p'
@@ -37,8 +38,8 @@ pub record Replaces (p p' : Parts) (o len : ℕ) : Type 0 where
   pub refs : p'.db.refs ≡ p.db.refs
   pub puts : PutsPart p p' o len
 
--- the open literals of the clause at o, `len` of them, were moved to its beginning, and its steps were prepared: the clause as it was, its
--- hash, and what is left
+-- The `len` open literals of the clause at o were moved to its beginning. Its steps were prepared: the clause as it
+-- was, its hash, and the strengthened clause.
 pub record NamesCut (c c' : Search) (left : List ℕ) (o len : ℕ) : Type 0 where
   pub gathers : Gathers c.parts c'.parts o len (size_of c.parts.clauses o)
   pub some : 2 ≤ len

@@ -24,19 +24,20 @@ pub record HasEmptyTrail (p : Parts) : Type 0 where
   pub bottom : p.trail.starts ≡ []
   pub empty : p.trail.lits ≡ []
 
--- binary clauses may be removed with their steps
+-- what is required before binary clauses are removed with their steps
 pub record MayRemove (c : Search) : Type 0 where
   pub holds : PartsInvariant c.parts
   pub flat : HasEmptyTrail c.parts
   pub paired : ArePaired c.parts.binary.implied
   pub names : length c.parts.assignment.current ≤ length c.globals.items
 
--- the match is preserved with fewer binary clauses: the first k literals of list l, and all lists before it, were visited
+-- the session matches while binary clauses are removed: all lists before list l, and the first k literals of list l,
+-- were visited
 abbrev pub LeavesPairs : Session → Search → (l k : ℕ) → Type 0
 LeavesPairs s c l k = LeftParts c.parts s (global_in c) l k
 
--- clauses were removed or strengthened: values and variables are unchanged, and so is the list of long clauses, in which
--- removed ones remain
+-- Clauses were removed or strengthened. Values and variables are unchanged, and so is the list of long clauses, in
+-- which removed ones remain.
 pub record IsStrengthened (s : Session) (c c' : Search) : Type 0 where
   pub search : IsSearch s c'
   pub moved : SameVarsAndAssumptions c c'
@@ -44,17 +45,18 @@ pub record IsStrengthened (s : Session) (c c' : Search) : Type 0 where
   pub state : SameState c.parts c'.parts
   pub refs : c'.parts.db.refs ≡ c.parts.db.refs
 
--- the same by steps: the binary clauses with an assigned variable were removed
+-- the binary clauses with an assigned variable were removed by steps, with this effect, or the call failed
 abbrev pub RemovesPairs : {W L : Type 0} {G : Ghosts L} → (W → Writer) → Result (Unit {0}) SolverError → Proof W L G → Proof W L G → Search → Search → Type 0
 RemovesPairs seen r p p' c c' = EmitsSteps seen r p p' (λ _ _. IsStrengthened (session_of p') c c' × RemovesBinaries c.parts c'.parts)
 
--- one long clause was removed or strengthened: what is left of it has no assigned literal, and other clauses are unchanged up to order
+-- The long clause at o was removed or strengthened: if it is live, none of its literals is assigned. Every other
+-- live long clause was live before, and is without assigned literals if it was so before.
 pub record StrengthensClause (s : Session) (c c' : Search) (o : ℕ) : Type 0 where
   pub strengthened : IsStrengthened s c c'
   pub left : Contains (live_refs c'.parts.clauses c'.parts.db.refs) o → IsOpenClause c'.parts o
   pub others : (p : ℕ) → p ≢ o → Contains (live_refs c'.parts.clauses c'.parts.db.refs) p → Contains (live_refs c.parts.clauses c.parts.db.refs) p × (IsOpenClause c.parts p → IsOpenClause c'.parts p)
 
--- the same by its steps
+-- this was done by steps, or the call failed
 abbrev pub StrengthensOrFails : {W L : Type 0} {G : Ghosts L} → (W → Writer) → Result (Unit {0}) SolverError → Proof W L G → Proof W L G → Search → Search → (o : ℕ) → Type 0
 StrengthensOrFails seen r p p' c c' o = EmitsSteps seen r p p' (λ _ _. StrengthensClause (session_of p') c c' o)
 
@@ -62,7 +64,7 @@ StrengthensOrFails seen r p p' c c' o = EmitsSteps seen r p p' (λ _ _. Strength
 abbrev pub AreOpenTo : Search → Search → ℕ → Type 0
 AreOpenTo c c' at = (k : ℕ) → k < at → Contains (live_refs c'.parts.clauses c'.parts.db.refs) (get_or c.parts.db.refs k 0) → IsOpenClause c'.parts (get_or c.parts.db.refs k 0)
 
--- the same for all long clauses: none has an assigned literal
+-- long clauses were removed or strengthened: no live one has an assigned literal
 pub record StrengthensAll (s : Session) (c c' : Search) : Type 0 where
   pub strengthened : IsStrengthened s c c'
   pub left : (o : ℕ) → Contains (live_refs c'.parts.clauses c'.parts.db.refs) o → IsOpenClause c'.parts o

@@ -43,14 +43,14 @@ pub record MayFree (n : Variables) (steps : List Step) (c : Search) : Type 0 whe
   pub shares : SharesIndices n c
   pub flat : HasEmptyTrail c.parts
 
--- names keep their variables, and the assumptions are unchanged and have indices
+-- names keep their variables, and the assumptions are unchanged and keep their indices
 pub record KeepsAsked (old new : Variables) (s t : Session) : Type 0 where
   pub users : new.global_from_user ≡ old.global_from_user
   pub assumed : t.assumed ≡ s.assumed
   pub indices : (v x : ℕ) → mentions s.assumed v ≡ true → solver_of old v ≡ Some x → solver_of new v ≡ Some x
 
--- some indices were released: no step is visible to the judge, or learns anything; clauses and assumptions are unchanged, and the word of
--- the trail is unchanged or extended
+-- Some indices were released. No step is visible to the judge or learns anything. Clauses and assumptions are
+-- unchanged, and the word of the trail is unchanged or extended.
 pub record FreesSome (old new : Variables) (from to : List Step) (c c' : Search) : Type 0 where
   pub does : DoesNothing old new from to
   pub quiet : ComesQuietly from to
@@ -64,11 +64,11 @@ pub record FreesSome (old new : Variables) (from to : List Step) (c c' : Search)
   pub unset : (v : ℕ) → value_of c.parts.assignment.current v ≡ None → value_of c'.parts.assignment.current v ≡ None
   pub fewer : (x v : ℕ) → global_at new x ≡ Some v → global_at old x ≡ Some v
 
--- a variable that still has this index is assumed
+-- the variable that has this index, if any, is assumed
 abbrev pub IsIndexOfAssumed : Variables → Session → ℕ → Type 0
 IsIndexOfAssumed n s x = (v : ℕ) → global_at n x ≡ Some v → mentions s.assumed v ≡ true
 
--- every one of the first `at` indices is that of a variable that a clause has or that is assumed
+-- each of the first `at` indices is in a clause, or its variable, if any, is assumed
 abbrev pub AreLeft : Variables → Session → Parts → ℕ → Type 0
 AreLeft n s p at = (x : ℕ) → x < at → InNoClause p x → IsIndexOfAssumed n s x
 

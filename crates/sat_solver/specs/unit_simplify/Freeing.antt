@@ -1,15 +1,15 @@
--- Variables without a mark are freed.
+-- Variables without a mark lose their values.
 use Rattle.std.specs.Prelude.{ℕ, zero, suc, ◌≡◌, ◌≢◌, Bool, false, None, List, length, slice_index_or as get_or, if◌then◌else◌}
 use Rattle.sat_store.specs.heap.Vsids.{with_available}
 use Rattle.sat_parts.specs.prop.Values.{assigned}
 use Rattle.sat_parts.specs.declared.parts.Parts.{Parts}
 use Rattle.sat_solver.specs.declared.context.Search.{Search}
 
--- a variable loses its value, and may not be picked
+-- the parts after a variable has lost its value and can no longer be picked
 abbrev pub without_var : ℕ → Parts → Parts
 without_var v p = record p { assignment = assigned v None p.assignment; vsids = with_available v false p.vsids }
 
--- all unmarked variables below this index were freed this way
+-- the parts after all unmarked variables below this index were freed in this way
 unfoldable pub freed_below : List Bool → ℕ → Parts → Parts
 freed_below used zero p = p
 freed_below used (suc k) p = if get_or used k false then freed_below used k p else without_var k (freed_below used k p)
@@ -18,7 +18,7 @@ freed_below used (suc k) p = if get_or used k false then freed_below used k p el
 abbrev pub freed_search : List Bool → ℕ → Search → Search
 freed_search used at c = record c { parts = freed_below used at c.parts }
 
--- at most this one mark is new
+-- only this mark may be new, and none was removed
 pub record MarksAtMost (index : ℕ) (old new : List Bool) : Type 0 where
   pub size : length new ≡ length old
   pub others : (v : ℕ) → v ≢ index → get_or new v false ≡ get_or old v false

@@ -1,4 +1,4 @@
--- What is left of the parts of a search.
+-- The parts of a search after units were taken off the trail.
 use Rattle.std.specs.Prelude.{ℕ, ◌≡◌, [], length}
 use Rattle.sat_parts.specs.clause.Db.{live_refs}
 use Rattle.sat_parts.specs.declared.parts.Parts.{Parts}
@@ -18,7 +18,7 @@ AllUnits p s global = FitsAll p.clauses (live_refs p.clauses p.db.refs) p.binary
 abbrev pub SameSize : Parts → Parts → Type 0
 SameSize p p' = length p'.assignment.current ≡ length p.assignment.current
 
--- nothing is left to propagate, and the trail has nothing at level 0
+-- nothing is left to propagate and, if no level is open, the trail is empty
 pub record TakesUnitsOff (p p' : Parts) (s : Session) (global : ℕ → ℕ) : Type 0 where
   pub valid : PartsSessionInvariant p' s global
   pub done : IsFullyPropagated p'

@@ -6,19 +6,19 @@ use Rattle.sat_parts.specs.declared.parts.Parts.{Parts}
 use Rattle.sat_solver.specs.declared.unit_simplify.looks.Looks.{Looks}
 use Rattle.sat_solver.specs.declared.unit_simplify.looks.Looks.TheVariants.{Satisfied, Whole, Shorter}
 
--- one of its literals is true
+-- a literal of the clause at o is true
 abbrev pub HasTrue : Parts → ℕ → Type 0
 HasTrue p o = (k : ℕ) × ((k < size_of p.clauses o) × IsTrueLit p.assignment.current (lit_of p.clauses o k))
 
--- one of its literals is false
+-- a literal of the clause at o is false
 abbrev pub HasFalse : Parts → ℕ → Type 0
 HasFalse p o = (k : ℕ) × ((k < size_of p.clauses o) × IsFalseLit p.assignment.current (lit_of p.clauses o k))
 
--- none of its literals has a value
+-- no literal of the clause at o has a value
 abbrev pub IsOpenClause : Parts → ℕ → Type 0
 IsOpenClause p o = (k : ℕ) → k < size_of p.clauses o → IsOpenLit p.assignment.current (lit_of p.clauses o k)
 
--- the clause has this status under the current values, which are those of level 0
+-- the clause at o has this status under the current values
 abbrev pub LooksSo : Looks → Parts → ℕ → Type 0
 LooksSo Satisfied p o = HasTrue p o
 LooksSo Whole p o = IsOpenClause p o

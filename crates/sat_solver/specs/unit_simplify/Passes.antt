@@ -39,8 +39,8 @@ pub record MaySettle {W L : Type 0} {G : Ghosts L} (n : Variables) (p : Proof W 
   pub propagated : IsPropagated (session_of p) c
   pub bottom : c.parts.trail.starts ≡ []
 
--- the invariants still hold together: the steps made are invisible to the judge and learn nothing, assumptions are unchanged, and the word
--- of the trail is unchanged or extended
+-- The invariants still hold together. The steps made are invisible to the judge and learn nothing, assumptions are
+-- unchanged, and the word of the trail is unchanged or extended.
 pub record PassesQuietly {W L : Type 0} {G : Ghosts L} (seen : W → Writer) (n n' : Variables) (p p' : Proof W L G) (c c' : Search) : Type 0 where
   pub together : JointInvariant n' p' c'
   pub took : ComesByCheckedSteps seen p p'
@@ -63,7 +63,8 @@ pub record PassFailsOr {W L : Type 0} {G : Ghosts L} (full : Type 0) (seen : W �
 abbrev pub PassFails : {W L : Type 0} {G : Ghosts L} → (W → Writer) → SolverError → Proof W L G → Proof W L G → Type 0
 PassFails seen e p p' = PassFailsOr ⊥ seen e p p'
 
--- the trail is empty, no literal of a long clause is assigned, and every variable that has an index is in a clause or assumed
+-- The trail is empty, and no literal of a long clause is assigned. Every index that a variable has is in a clause,
+-- or the variable is assumed.
 pub record IsSimplifiedPass {W L : Type 0} {G : Ghosts L} (seen : W → Writer) (n n' : Variables) (p p' : Proof W L G) (c c' : Search) : Type 0 where
   pub passes : PassesQuietly seen n n' p p' c c'
   pub flat : HasEmptyTrail c'.parts
@@ -83,7 +84,7 @@ pub record FindsFalseClause {W L : Type 0} {G : Ghosts L} (n n' : Variables) (p 
   pub moved : SameVarsAndAssumptions c c'
   pub word : TrailWordExtendsFor (assumed_indices c) c.parts c'.parts
 
--- a round may continue from here, or a clause is already falsified
+-- the round may go on, or a clause is already falsified
 abbrev pub BeginSays : {W L : Type 0} {G : Ghosts L} → (W → Writer) → Option Conflict → Variables → Variables → Proof W L G → Proof W L G → Search → Search → Type 0
 BeginSays seen None n n' p p' c c' = PassesQuietly seen n n' p p' c c'
 BeginSays seen (Some e) n n' p p' c c' = FindsFalseClause n n' p p' c c' e

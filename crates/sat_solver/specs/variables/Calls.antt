@@ -21,7 +21,7 @@ pub record NamesInvariant (n : Variables) (steps : List Step) : Type 0 where
   pub tidy : AreTidy n
   pub said : NamesMatchSteps n (session_after steps)
   pub may : AreAllowedSteps steps
-  -- the names as matching reads them from the steps
+  -- by the steps, every name has the variable that is stored for it
   pub read : (u : ℕ) → variable_of steps (u + 1) ≡ global_of n u
 
 -- names and steps match this state of the judge
@@ -33,7 +33,7 @@ pub record NamesAgree (n : Variables) (steps : List Step) (j : ScriptState) (liv
 abbrev pub HasScriptState : Variables → List Step → Type 0
 HasScriptState n steps = (j : ScriptState) × (live : Live) × NamesAgree n steps j live
 
--- the judge's state is this one from now on, and the ordered steps are the expected ones
+-- names and steps match this state of the judge, and the ordered steps made since `from` are the expected ones
 pub record ReachesScriptState (new : Variables) (from to : List Step) (j : ScriptState) (es : List Expected) : Type 0 where
   pub live : Live
   pub agree : NamesAgree new to j live
@@ -69,7 +69,7 @@ pub record NamesEffect (old new : Variables) (from to : List Step) (judge : Scri
 abbrev pub BringsIn : Variables → Variables → List Step → List Step → ℕ → Type 0
 BringsIn old new from to user = NamesEffect old new from to (bring_in (user + 1)) (λ j. map NewName (new_names (user + 1) j))
 
--- the same; the search does not see it
+-- the same, without a change that the search sees
 pub record BringsInUnseen (old new : Variables) (from to : List Step) (user : ℕ) : Type 0 where
   pub brings : BringsIn old new from to user
   pub extends : ExtendsNames old new
@@ -77,6 +77,6 @@ pub record BringsInUnseen (old new : Variables) (from to : List Step) (user : �
   pub comes : OnlyAllowedSteps IsDue from to
   pub room : LeavesRoom old new user
 
--- the judge's state is unchanged
+-- the judge's state is unchanged, and no ordered step was made
 abbrev pub DoesNothing : Variables → Variables → List Step → List Step → Type 0
 DoesNothing old new from to = NamesEffect old new from to (λ j. j) (λ j. [])

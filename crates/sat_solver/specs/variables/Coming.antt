@@ -1,4 +1,4 @@
--- Which steps a call over names makes. Lists of steps have the newest first.
+-- Which steps a call over names may make. Lists of steps have the newest first.
 use Rattle.std.specs.Prelude.{ℕ, ◌≡◌, ◌≢◌, ◌<◌, ◌⊎◌, Bool, true, false, Option, None, Some, List, ◌∷◌}
 use Rattle.sat_base.specs.script.Script.{Among}
 use Rattle.sat_base.specs.steps.Steps.{Step, SolverVarName, UserVarName, DeleteVar, ChangeSamplingMode, DeleteClause, ChangeHashBits}
@@ -9,27 +9,28 @@ use Rattle.sat_checker.specs.matching.Checking.{is_ordered, variable_of}
 use Rattle.sat_solver.specs.variables.Variables.{data_at, solver_of}
 use Rattle.sat_solver.specs.declared.variables.Variables.{Variables}
 
--- the variable for a new name: the one with the name's own number unless that is in use, otherwise the lowest one not in use
+-- the variable for a new name: the one with the name's own number if that is free, otherwise the lowest free one
 abbrev pub IsNextVariable : Session → ℕ → ℕ → Type 0
 IsNextVariable s user v = ((s.variables user).known ≡ false → v ≡ user) × ((s.variables user).known ≡ true → ((s.variables v).known ≡ false) × ((w : ℕ) → w < v → (s.variables w).known ≡ true))
 
--- an index: the lowest that no variable has
+-- the index is the lowest one that no variable has
 abbrev pub IsNextSolver : Session → Option ℕ → Type 0
 IsNextSolver s None = ⊥
 IsNextSolver s (Some x) = ((v : ℕ) → s.solver_names v ≡ Some x → ⊥) × ((y : ℕ) → y < x → (v : ℕ) × (s.solver_names v ≡ Some y))
 
--- an ordered step
+-- an ordered step; a step that gives a name gives it to the next variable
 abbrev pub IsDue : List Step → Step → Type 0
 IsDue earlier (UserVarName v (Some user)) = IsNextVariable (session_after earlier) user v
 IsDue earlier step = is_ordered step ≡ true
 
--- besides ordered steps and widths: an index for a variable of one of these names that has none
+-- such a step, a change of the width, or a step that gives the next index to the variable of one of these names,
+-- which has none
 abbrev pub MayTake : List ℕ → List Step → Step → Type 0
 MayTake names earlier (SolverVarName v index) = IsNextSolver (session_after earlier) index × ((session_after earlier).solver_names v ≡ None) × ((name : ℕ) × Among name names × (variable_of earlier name ≡ Some v))
 MayTake names earlier (ChangeHashBits bits) = Unit {0}
 MayTake names earlier step = IsDue earlier step
 
--- the same, or the clause itself is deleted directly after its step because one of its literals is already true
+-- the same, or the clause that the last step added is deleted, since one of its literals is true
 abbrev pub MayAdd : List ℕ → List Step → Step → Type 0
 MayAdd names earlier (DeleteClause clause proof) = DeletesAdded earlier (DeleteClause clause proof)
 MayAdd names earlier step = MayTake names earlier step
@@ -40,16 +41,16 @@ pub record IsHiddenLast (earlier : List Step) (v : ℕ) : Type 0 where
   pub last : earlier ≡ UserVarName v None ∷ before
   pub without : (session_after earlier).solver_names v ≡ None
 
--- besides ordered steps: a variable without an index is deleted after the step that removes its name
+-- an ordered step, or the deletion of a variable without an index right after the step that removes its name
 abbrev pub MayHide : List Step → Step → Type 0
 MayHide earlier (DeleteVar v) = IsHiddenLast earlier v
 MayHide earlier step = IsDue earlier step
 
--- no such variable is left: it is deleted directly after the step that removes its name
+-- the last step did not remove the name of a variable that has no index: such a variable is deleted at once
 abbrev pub LeavesNoneIdle : List Step → Type 0
 LeavesNoneIdle steps = (v : ℕ) → IsHiddenLast steps v → ⊥
 
--- the mode of a variable as a step says it
+-- the mode that a step sets by its flag
 abbrev pub mode_said : Bool → Mode
 mode_said true = Sample
 mode_said false = Witness
@@ -58,15 +59,15 @@ mode_said false = Witness
 abbrev pub TurnsMode : Session → ℕ → Bool → Type 0
 TurnsMode s v sample = (s.variables v).mode ≢ mode_said sample
 
--- Besides ordered steps: this mode for the variable of this name if it has another one. So there is no step if it has this mode, and never
--- a second one.
+-- An ordered step, or a step that sets this mode for the variable of this name if the variable has another one. So
+-- there is no step if it has this mode, and never a second one.
 abbrev pub MaySet : ℕ → Bool → List Step → Step → Type 0
 MaySet name sample earlier (ChangeSamplingMode v mode) = (variable_of earlier name ≡ Some v) × (mode ≡ sample) × TurnsMode (session_after earlier) v mode
 MaySet name sample earlier step = IsDue earlier step
 
 -- INSIDE
 
--- a hidden variable that has no index and is not assumed was deleted, and no other one
+-- the variable, which has no index, was deleted; or no step was made, and the variable is assumed or has an index
 abbrev pub ForgetsIdle : Variables → List Step → List Step → ℕ → Type 0
 ForgetsIdle n from to v =
     ((to ≡ DeleteVar v ∷ from) × (solver_of n v ≡ None)) ⊎ ((to ≡ from) × (((data_at n v).assumed ≡ true) ⊎ (solver_of n v ≢ None)))

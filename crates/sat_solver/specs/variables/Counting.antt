@@ -1,13 +1,13 @@
--- How many of the first numbers pass a test.
+-- How many of the first numbers satisfy a predicate.
 use Rattle.std.specs.Prelude.{ℕ, zero, suc, ◌+◌, ◌≡◌, Bool, is_some, List, Option, length, if◌then◌else◌}
 use Rattle.sat_store.specs.variables.Maps.{MapAndInverse, target}
 
--- the number of numbers below a bound that pass
+-- how many numbers below a bound satisfy the predicate
 unfoldable pub count_to : ℕ → (ℕ → Bool) → ℕ
 count_to zero f = 0
 count_to (suc n) f = count_to n f + (if f n then 1 else 0)
 
--- the number of keys that are mapped
+-- the number of keys that have a value
 abbrev pub mapped_count : List (Option ℕ) → ℕ
 mapped_count map = count_to (length map) (λ v. is_some (target map v))
 

@@ -12,7 +12,7 @@ tree_node_at nodes q = get_or nodes q false
 abbrev pub is_free : FreeIndices → ℕ → Bool
 is_free f i = tree_node_at f.nodes.items (f.room + i)
 
--- the number of leaves below this many levels: a power of two
+-- 2^h, the number of leaves of a complete tree of height h
 unfoldable pub doubled : ℕ → ℕ
 doubled zero = 1
 doubled (suc h) = 2 * doubled h
@@ -26,7 +26,7 @@ pub data Powers (f : FreeIndices) : Type 0 where
 abbrev pub IsCounted : FreeIndices → Type 0
 IsCounted f = f.count ≡ count_to f.room (is_free f)
 
--- a complete tree over this many leaves, and the count of free indices
+-- the nodes form a complete binary tree over `room` leaves, and the count of free indices is correct
 pub record IsTree (f : FreeIndices) : Type 0 where
   pub size : length f.nodes.items ≡ 2 * f.room
   pub powers : Powers f
@@ -34,7 +34,7 @@ pub record IsTree (f : FreeIndices) : Type 0 where
   -- an inner node is set if one of its children is
   pub inner : (q : ℕ) → 0 < q → q < f.room → tree_node_at f.nodes.items q ≡ (tree_node_at f.nodes.items (2 * q) || tree_node_at f.nodes.items (2 * q + 1))
 
--- a set of indices below this count
+-- such a tree, with at least this many leaves
 pub record Spans (f : FreeIndices) (count : ℕ) : Type 0 where
   pub tree : IsTree f
   pub room : count ≤ f.room
@@ -44,7 +44,7 @@ pub record Refreshes (old new : List Bool) (at : ℕ) : Type 0 where
   pub size : length new ≡ length old
   pub nodes : (q : ℕ) → tree_node_at new q ≡ (if q == at then tree_node_at old (2 * at) || tree_node_at old (2 * at + 1) else tree_node_at old q)
 
--- the lower child that has a free index
+-- the lower child of this node that has a free index at or below it
 pub record IsChild (nodes : List Bool) (at child : ℕ) : Type 0 where
   pub holds : tree_node_at nodes child ≡ true
   pub is : (child ≡ 2 * at) ⊎ ((child ≡ 2 * at + 1) × (tree_node_at nodes (2 * at) ≡ false))
@@ -54,7 +54,7 @@ pub record IsLowest (f : FreeIndices) (i : ℕ) : Type 0 where
   pub free : is_free f i ≡ true
   pub lowest : (k : ℕ) → k < i → is_free f k ≡ false
 
--- the leaves of a tree of `room` leaves are those of a tree of twice as many
+-- the leaves of a tree were copied to their places in a tree of twice as many leaves; its other leaves are unchanged
 pub record CopiesLeaves (old new : List Bool) (room : ℕ) : Type 0 where
   pub size : length new ≡ length old
   pub there : (i : ℕ) → i < room → tree_node_at new (2 * room + i) ≡ tree_node_at old (room + i)

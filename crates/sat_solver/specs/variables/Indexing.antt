@@ -9,7 +9,8 @@ use Rattle.sat_solver.specs.variables.Search.{KeepsSearch, GivesIndices}
 use Rattle.sat_solver.specs.declared.variables.solver_vars.Given.{Given}
 use Rattle.sat_solver.specs.declared.variables.Variables.{Variables}
 
--- the variable has the index; if it was given just now, it is the last in the list of those given
+-- the variable has the index: either it had it before, or one step gave it the next index, which was appended to the
+-- list
 pub record Indexes (old new : Variables) (from to : List Step) (before after : List Given) (v x : ℕ) : Type 0 where
   pub does : DoesNothing old new from to
   pub has : solver_of new v ≡ Some x
@@ -21,7 +22,7 @@ pub record Indexes (old new : Variables) (from to : List Step) (before after : L
   pub gives : GivesIndices old new (session_after from) fresh
   pub step : (to ≡ from) ⊎ ((to ≡ SolverVarName v (Some x) ∷ from) × (solver_of old v ≡ None) × IsNextIndex old x)
 
--- the variable has no index from now on
+-- one step took its index from the variable
 pub record Unindexes (old new : Variables) (from to : List Step) (v x : ℕ) : Type 0 where
   pub does : DoesNothing old new from to
   pub step : to ≡ SolverVarName v None ∷ from

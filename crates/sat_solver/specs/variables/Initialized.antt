@@ -21,7 +21,7 @@ abbrev pub GivesLit : List Given → ℕ → Type 0
 GivesLit [] l = ⊥
 GivesLit (g ∷ gs) l = ((g.solver ≡ variable l) × (g.unit ≡ Some (is_positive l))) ⊎ GivesLit gs l
 
--- no variable of the search uses the index: it has no value, may not be picked, and is below the count
+-- no variable of the search uses the index, which is below the count: it has no value and may not be picked
 pub record IsVacant (p : Parts) (count : ℕ) (g : Given) : Type 0 where
   pub below : g.solver < count
   pub open_value : value_of p.assignment.current g.solver ≡ None
@@ -45,20 +45,20 @@ pub record ActivatesIndices (gs : List Given) (p p' : Parts) : Type 0 where
   pub kept : (l : ℕ) → IsTrueLit p.assignment.current l → level (state p) l ≡ 0 → IsTrueLit p'.assignment.current l × (level (state p') l ≡ 0)
   pub its : (l : ℕ) → GivesLit gs l → IsTrueLit p'.assignment.current l × (level (state p') l ≡ 0)
 
--- the variables of these indices are those of the other list, and the rest is unchanged
+-- the new list has the variables of `globals` at these indices, and is unchanged elsewhere
 pub record Renames (gs : List Given) (globals old new : List ℕ) : Type 0 where
   pub size : length new ≡ length old
   pub named : (v : ℕ) → HasGiven gs v → get_or new v 0 ≡ get_or globals v 0
   pub others : (v : ℕ) → (HasGiven gs v → ⊥) → get_or new v 0 ≡ get_or old v 0
 
--- the proof variable got this index, which no other one had, and this is its unit
+-- the proof variable, which had no index, got this one, which no variable had; this is its unit
 pub record IsGivenTo (globals : List ℕ) (s t : Session) (g : Given) : Type 0 where
   pub without : s.solver_names (global_of_index globals g.solver) ≡ None
   pub free : (v : ℕ) → s.solver_names v ≢ Some g.solver
   pub named : t.solver_names (global_of_index globals g.solver) ≡ Some g.solver
   pub unit : (b : Bool) → s.units (coded (global_of_index globals g.solver) b) ≡ says_unit g.unit b
 
--- between these sessions proof variables got the indices, and a search sees no other change
+-- between these sessions, proof variables got these indices; a search sees no other change
 pub record GivesNames (globals : List ℕ) (gs : List Given) (count : ℕ) (s t : Session) : Type 0 where
   pub keeps : KeepsSearch s t
   pub each : AllByRecursion (IsGivenTo globals s t) gs

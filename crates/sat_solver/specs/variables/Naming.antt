@@ -1,4 +1,4 @@
--- What calls over names change and write.
+-- What calls over names change in the stored names.
 use Rattle.std.specs.Prelude.{ℕ, ◌+◌, ◌<◌, ◌≤◌, ◌==◌, ◌≡◌, ◌≢◌, max, Bool, true, false, not, Option, None, Some, length, get_or, ◌&&◌, get_or, ◌&&◌, if◌then◌else◌}
 use Rattle.sat_base.specs.values.Literals.{var_limit}
 use Rattle.sat_base.specs.script.ScriptState.{ScriptState, identity_of}
@@ -10,7 +10,7 @@ use Rattle.sat_solver.specs.variables.Free.{is_free, Spans}
 use Rattle.sat_solver.specs.variables.Variables.{data_at, global_of, names_used, variables_used, solver_of, global_at, indices_used, is_witness_kept}
 use Rattle.sat_solver.specs.declared.variables.Variables.{Variables}
 
--- the variable for the name: the one with its own number if neither a name in use nor a hidden one has it, otherwise the lowest free one
+-- the variable for a new name: the one with the name's own number if that is free, otherwise the lowest free one
 pub record IsRoom (n : Variables) (user v : ℕ) : Type 0 where
   pub unused : (data_at n v).deleted ≡ true
   pub within : v ≤ variables_used n
@@ -21,7 +21,7 @@ pub record IsRoom (n : Variables) (user v : ℕ) : Type 0 where
 abbrev pub NoneLeft : Variables → Type 0
 NoneLeft n = (v : ℕ) → v < var_limit → (data_at n v).deleted ≡ false
 
--- every name is in use
+-- every name up to the limit is in use
 pub record NamesFull (n : Variables) : Type 0 where
   pub used : names_used n ≡ var_limit
   pub all : (u : ℕ) → u < names_used n → global_of n u ≡ None → ⊥
@@ -75,7 +75,7 @@ pub record PutsHidden (old new : Variables) (user v : ℕ) : Type 0 where
   pub free_solvers : new.free_solvers ≡ old.free_solvers
   pub spans_users : Spans new.free_users (names_used new)
 
--- a variable has another mode
+-- the mode of a variable was set
 pub record PutsMode (old new : Variables) (v : ℕ) (mode : SamplingMode) : Type 0 where
   pub users : new.global_from_user ≡ old.global_from_user
   pub solvers : new.solver_from_global ≡ old.solver_from_global
@@ -110,7 +110,7 @@ pub record ExtendsNames (old new : Variables) : Type 0 where
   pub fresh : (u v : ℕ) → global_of old u ≡ None → global_of new u ≡ Some v → (data_at old v).deleted ≡ true
   pub lives : (v : ℕ) → (data_at old v).deleted ≡ false → (data_at new v).deleted ≡ false
 
--- every name in use has its earlier variable, or one that was not in use
+-- every name that was in use and still is has the same variable; every new name has a variable that was not in use
 pub record VariablesAreKeptOrNew (old new : Variables) : Type 0 where
   pub same : (u v w : ℕ) → global_of old u ≡ Some v → global_of new u ≡ Some w → w ≡ v
   pub fresh : (u v : ℕ) → global_of old u ≡ None → global_of new u ≡ Some v → (data_at old v).deleted ≡ true

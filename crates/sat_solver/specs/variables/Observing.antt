@@ -21,7 +21,8 @@ observed name identity j = record {
   clauses = j.clauses;
 }
 
--- every hidden variable in turn, starting with this one and by increasing variable, gets the next name: first its mode is written, then its name
+-- Hidden variables got the next names, by increasing variable starting with this one. For each of them, its mode was
+-- written, and then its name.
 pub data Observes : ℕ → List Step → ScriptState → Live → List Step → ScriptState → List ℕ → Type 0 where
   all_named : {low : ℕ} {s : List Step} {j : ScriptState} {live : Live} → Observes low s j live s j []
   one_more : {low : ℕ} {s t : List Step} {j k : ScriptState} {live : Live} {users : List ℕ} (v i user : ℕ) → low ≤ v → given live v ≡ Some i → ((name : ℕ) → variable_of s name ≡ Some v → ⊥) → IsLowestUnused j (user + 1)

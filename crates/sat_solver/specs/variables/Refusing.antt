@@ -5,7 +5,7 @@ use Rattle.sat_solver.specs.variables.Variables.{data_at, global_of}
 use Rattle.sat_solver.specs.declared.variables.Variables.{Variables}
 use Rattle.sat_base.specs.script.ScriptState.{Refusal, WitnessName}
 
--- the names of literals
+-- the names of literals, counted from 1
 abbrev pub names_in : List ℕ → List ℕ
 names_in = map (λ l. variable l + 1)
 

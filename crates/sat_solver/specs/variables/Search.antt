@@ -19,7 +19,7 @@ pub record KeepsSearch (s t : Session) : Type 0 where
   pub width : t.width ≡ s.width
   pub assumed : t.assumed ≡ s.assumed
 
--- the same, except that a variable's units are forgotten
+-- the same, except that the units of a variable are forgotten
 pub record ForgetsUnits (s t : Session) (v : ℕ) : Type 0 where
   pub live : t.live ≡ s.live
   pub units : (l : ℕ) → t.units l ≡ (s.units l && not (variable l == v))
@@ -64,12 +64,12 @@ pub record GivesIndices (old new : Variables) (s : Session) (gs : List Given) : 
 abbrev pub KeepsUnits : Variables → List Step → List Step → Type 0
 KeepsUnits new from to = (u v : ℕ) (b : Bool) → global_of new u ≡ Some v → (session_after to).units (coded v b) ≡ (session_after from).units (coded v b)
 
--- the steps admit some valuation with the same values for the variables of these literals
+-- the steps admit some valuation with the same values as this one for the variables of these literals
 abbrev pub IsLeftOn : List Step → List ℕ → Valuation → Type 0
 IsLeftOn steps ls a = (b : Valuation) × Holds steps b × ((v : ℕ) → mentions ls v ≡ true → b v ≡ a v)
 
--- Everything that the search can see is unchanged; only units of variables without an index may be forgotten. Whatever an admitted valuation says
--- about the assumptions, an earlier one says, too.
+-- Everything that the search can see is unchanged; only units of variables without an index may be forgotten. For
+-- every valuation that is admitted now, an earlier one has the same values for the assumptions.
 pub record IsAlike (old new : Variables) (from to : List Step) : Type 0 where
   pub solvers : new.solver_from_global ≡ old.solver_from_global
   pub globals : new.globals ≡ old.globals

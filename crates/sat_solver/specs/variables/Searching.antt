@@ -26,11 +26,11 @@ IsOfSearch n (FailedAssumptions core hashes) = Unit {0}
 IsOfSearch n End = Unit {0}
 IsOfSearch n step = ⊥
 
--- such a step preserves the invariant of names
+-- such a step, if allowed, preserves the invariant of names
 abbrev pub SearchesPreserveNames : Type 0
 SearchesPreserveNames = (n : Variables) (steps : List Step) (step : Step) → NamesInvariant n steps → IsAllowedStep (session_after steps) step → IsOfSearch n step → NamesInvariant n (step ∷ steps)
 
--- such a step leaves the judge's state unchanged
+-- such a step, if allowed, leaves the judge's state unchanged
 abbrev pub SearchesAgree : Type 0
 SearchesAgree = (n : Variables) (steps : List Step) (step : Step) → NamesInvariant n steps → IsAllowedStep (session_after steps) step → IsOfSearch n step → (j : ScriptState) (live : Live) → NamesAgree n steps j live → NamesAgree n (step ∷ steps) j live
 

@@ -10,8 +10,8 @@ use Rattle.sat_solver.specs.session.Making.{BreaksEmitting}
 use Rattle.sat_solver.specs.proof.ProofView.{FailsCheck}
 use Rattle.sat_solver.specs.declared.proof.Proof.{Proof}
 
--- a call of the target failed while writing the text of the last of these steps, or the checker failed at the step, and the underlying error
--- is stored
+-- A call of the target failed while writing the text of the last of these steps, or the checker failed at the step.
+-- The underlying error is stored.
 abbrev pub NotTaken : {W L : Type 0} {G : Ghosts L} → (W → Writer) → Proof W L G → NameError → Proof W L G → Type 0
 NotTaken seen old (errors.Write cause) new = BreaksEmitting seen old new × (new.cause ≡ Some cause)
 NotTaken seen old (errors.Check fault) new = (steps : List Step) × FailsCheck seen fault steps old new × IsComplaint fault new.made.complaint

@@ -1,4 +1,4 @@
--- Whether there is a variable for every name that is introduced.
+-- Whether there is a variable for every new name.
 use Rattle.std.specs.Prelude.{ℕ, ◌+◌, ◌-◌, ◌≤◌, ◌==◌, max, not, ◌&&◌, Bool, true, false, is_some, List, [], ◌∷◌, drop, map}
 use Rattle.std.specs.List.{list_any}
 use Rattle.sat_base.specs.values.Literals.{var_limit, variable}
@@ -18,16 +18,16 @@ live_count n = count_to (variables_used n) (λ v. not (data_at n v).deleted)
 abbrev pub is_listed : List ℕ → ℕ → Bool
 is_listed users u = list_any (λ w. w == u) users
 
--- the first name above these and those that were used
+-- the lowest number above all names ever used and these names
 abbrev pub reach : ℕ → List ℕ → ℕ
 reach used [] = used
 reach used (u ∷ us) = reach (max used (u + 1)) us
 
--- whether it is one of these names, and was hidden
+-- whether the name is one of these and is not in use
 abbrev pub is_hidden_name : Variables → List ℕ → ℕ → Bool
 is_hidden_name n users u = not (is_some (global_of n u)) && is_listed users u
 
--- how many of these were hidden
+-- how many of these names were used before and are hidden
 abbrev pub hidden_count : Variables → List ℕ → ℕ
 hidden_count n users = count_to (names_used n) (is_hidden_name n users)
 
@@ -35,7 +35,8 @@ hidden_count n users = count_to (names_used n) (is_hidden_name n users)
 abbrev pub hidden_after : Variables → List ℕ → (at : ℕ) → ℕ
 hidden_after n ls at = hidden_count n (user_vars_in (drop at ls))
 
--- how many names are introduced with these: all those never used up to the highest of them, and the hidden ones among them
+-- how many names are introduced with these: those never used up to the highest of them, and the hidden ones among
+-- them
 abbrev pub coming : Variables → List ℕ → ℕ
 coming n users = reach (names_used n) users - names_used n + hidden_count n users
 
@@ -43,7 +44,7 @@ coming n users = reach (names_used n) users - names_used n + hidden_count n user
 abbrev pub HasVariablesFor : Variables → List ℕ → Type 0
 HasVariablesFor n users = live_count n + coming n users ≤ var_limit
 
--- whether there are enough variables, as a flag
+-- the flag says whether there are enough variables
 abbrev pub SaysRoom : Bool → Variables → List ℕ → Type 0
 SaysRoom true n users = HasVariablesFor n users
 SaysRoom false n users = HasVariablesFor n users → ⊥

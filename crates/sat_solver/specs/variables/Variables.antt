@@ -57,7 +57,7 @@ is_witness_kept kept.Sample = false
 is_witness_kept kept.Witness = true
 is_witness_kept kept.Hide = false
 
--- the maps are consistent
+-- the maps, the data of variables and the sets of free numbers are consistent
 pub record AreTidy (n : Variables) : Type 0 where
   pub users : AreInverse n.global_from_user
   pub solvers : AreInverse n.solver_from_global
@@ -71,12 +71,12 @@ pub record AreTidy (n : Variables) : Type 0 where
   pub gone : (v : ℕ) → (data_at n v).deleted ≡ true → data_at n v ≡ unused_variable
   -- no variable is of mode witness unless the flag says that one may be
   pub plain : n.witnessed ≡ false → (v : ℕ) → is_witness_kept (data_at n v).sampling_mode ≡ false
-  -- if the flag says so, every name ever used has the variable with its own index
+  -- if the flag says so, every name ever used has the variable with the same number
   pub own : n.own_names ≡ true → (u : ℕ) → u < names_used n → global_of n u ≡ Some u
-  -- the list of the variable of every index
+  -- the variable of every index is also in a list
   pub globals_count : length n.globals.items ≡ indices_used n
   pub globals : (x v : ℕ) → global_at n x ≡ Some v → get_or n.globals.items x 0 ≡ v
-  -- as many variables have names, and indices, as there are of these
+  -- as many variables have names as names have variables, and likewise for indices
   pub even_users : IsEven n.global_from_user
   pub even_solvers : IsEven n.solver_from_global
   pub spans_users : Spans n.free_users (names_used n)
@@ -95,7 +95,7 @@ checker_mode kept.Sample = Sample
 checker_mode kept.Witness = Witness
 checker_mode kept.Hide = Hide
 
--- what the proof says about the variable
+-- the state of the variable in the checker
 abbrev pub checker_variable_at : Variables → ℕ → Variable
 checker_variable_at n v =
     if (data_at n v).deleted then unknown
@@ -107,7 +107,7 @@ says_unit None b = false
 says_unit (Some value) true = value
 says_unit (Some value) false = not value
 
--- the variable's unit is that of the proof
+-- the stored unit of the variable is that of the session
 abbrev pub IsUnitOf : Variables → Session → ℕ → Type 0
 IsUnitOf n s v = (b : Bool) → s.units (coded v b) ≡ says_unit (data_at n v).unit b
 
@@ -124,7 +124,7 @@ pub record NamesMatchSteps (n : Variables) (s : Session) : Type 0 where
   pub unused : (v : ℕ) → solver_of n v ≡ None → IsInNoNonUnitClause s v
   pub marked : (v : ℕ) → mentions s.assumed v ≡ (data_at n v).assumed
 
--- the mode of an identity whose variable has this one; the mode of a hidden one does not matter
+-- the mode of an identity matches the stored mode of its variable; if the variable is hidden, every mode does
 abbrev pub IsModeOf : SamplingMode → judged.NameMode → Type 0
 IsModeOf kept.Sample m = m ≡ Sampled
 IsModeOf kept.Witness m = m ≡ Witnessed
@@ -139,7 +139,7 @@ pub record NamesMatchState (n : Variables) (j : ScriptState) (live : Live) : Typ
   pub in_use : (v : ℕ) → is_some (given live v) ≡ not (data_at n v).deleted
   pub below : AllByRecursion (λ p. p.1 < j.identity_count) live
   pub distinct : (v w i : ℕ) → given live v ≡ Some i → given live w ≡ Some i → v ≡ w
-  -- every variable was new with an identity
+  -- there are at least as many identities as variables ever used
   pub identities : variables_used n ≤ j.identity_count
   pub modes_count : length j.modes ≡ j.identity_count
   pub increasing : NamesIncrease j.in_use
