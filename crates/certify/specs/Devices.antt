@@ -1,19 +1,19 @@
--- Readers and writers before and after, and calls of a writer that failed.
+-- The states of readers and writers before and after a call, and failed calls of writers.
 use Rattle.std.specs.Prelude.{◌+◌, ◌≡◌, true}
 use Rattle.sat_base.specs.device.Device.{Reader, Writer}
 
--- the reader of a device, before and after
+-- the state of a reader, before and after a call
 abbrev pub gave : {D : Type 0} → (D → Reader) → D → D → Reader × Reader
 gave seen old new = (seen old, seen new)
 
--- the writer of a device, before and after
+-- the state of a writer, before and after a call
 abbrev pub took : {D : Type 0} → (D → Writer) → D → D → Writer × Writer
 took seen old new = (seen old, seen new)
 
--- that no call of the writer failed
+-- that no call of the writer failed; it is lent through the same borrows
 abbrev pub NoneFailed : Writer → Writer → Type 0
 NoneFailed old new = (new.failures ≡ old.failures) × (new.loans ≡ old.loans)
 
--- that exactly one call of the writer failed, and it was the last
+-- that exactly one call of the writer failed, and it was the last; the writer is lent through the same borrows
 abbrev pub OneFailed : Writer → Writer → Type 0
 OneFailed old new = (new.failures ≡ old.failures + 1) × (new.failed ≡ true) × (new.loans ≡ old.loans)

@@ -1,15 +1,15 @@
--- How literals represent literals of names, and which outcomes an answer may print.
+-- Literal codes as literals of names, and the outcomes that an answer may print.
 use Rattle.std.specs.Prelude.{ℕ, ◌+◌, ◌<◌, ◌≤◌, List, [], ◌∷◌, map}
 use Rattle.std.specs.List.{AllByRecursion}
 use Rattle.sat_base.specs.values.Literals.{var_limit, variable, is_positive}
 use Rattle.sat_base.specs.script.Script.{Literal, names_of, InOrder}
 use Rattle.sat_checker.specs.matching.Expected.{Outcome, Sat, Unsat, Unknown}
 
--- the literal whose name is the number of its variable, counted from 1
+-- the literal for a literal code: its name is its variable's index plus 1
 abbrev pub named_literal : ℕ → Literal
 named_literal l = record { name = variable l + 1; positive = is_positive l }
 
--- the literals with the names of `named_literal`, in order
+-- the literals for these literal codes, in order
 abbrev pub named_literals : List ℕ → List Literal
 named_literals = map named_literal
 
@@ -17,7 +17,7 @@ named_literals = map named_literal
 abbrev pub IsName : ℕ → Type 0
 IsName n = (1 ≤ n) × (n ≤ var_limit)
 
--- that the name of every literal is one that a script may contain
+-- that the name of every literal is allowed in scripts
 abbrev pub HaveNames : List Literal → Type 0
 HaveNames = AllByRecursion (λ l. IsName l.name)
 
@@ -39,6 +39,6 @@ IsOrdered (Sat line) = NamesRise (names_of line)
 IsOrdered (Unsat core) = InOrder core
 IsOrdered Unknown = Unit {0}
 
--- that an answer may print the outcome: its names are allowed and its literals are in order
+-- that an answer may print the outcome: its names are allowed, and its literals are in order
 abbrev pub IsInForm : Outcome → Type 0
 IsInForm o = HaveNames (literals_of o) × IsOrdered o

@@ -1,4 +1,4 @@
--- What is read from the bytes of an answer, and why nothing is read from other bytes.
+-- How an answer is read from bytes, and why no answer can be read.
 use Rattle.std.specs.Prelude.{ℕ, zero, suc, ◌≡◌, ◌≢◌, ◌⊎◌, List, [], ◌∷◌, ◌++◌, decimal}
 use Rattle.sat_base.specs.values.Literals.{variable}
 use Rattle.sat_base.specs.script.Script.{Literal}
@@ -44,12 +44,12 @@ abbrev pub literal_place : AnswerKind → ℕ → ℕ
 literal_place kind.Sat l = variable l
 literal_place k l = l
 
--- the digits of a name that has begun, or none if the name is 0
+-- the decimal digits of this number, or no digits for 0: those of a name that were read so far
 abbrev pub digits_so_far : ℕ → List ℕ
 digits_so_far zero = []
 digits_so_far (suc n) = decimal (suc n)
 
--- that no name continues with this byte
+-- that no name begins with the digits read so far and then this byte
 abbrev pub NoNameDigit : ℕ → ℕ → Type 0
 NoNameDigit name byte = (n : ℕ) (more : List ℕ) → IsName n → decimal n ≡ digits_so_far name ++ (byte ∷ more) → ⊥
 
@@ -69,35 +69,35 @@ StartsNoName bytes = (more : List ℕ) → NoName (bytes ++ more)
 abbrev pub StartsNoLiteral : List ℕ → Type 0
 StartsNoLiteral bytes = (more : List ℕ) → NoLiteral (bytes ++ more)
 
--- that the bytes begin with this text, without the `0` and LF at its end
+-- that the bytes begin with this text without its final `0` and LF
 abbrev pub BeginWithWordsOf : List ℕ → List ℕ → Type 0
 BeginWithWordsOf text bytes = (front : List ℕ) × (tail : List ℕ) × ((text ≡ front ++ (48 ∷ 10 ∷ [])) × (bytes ≡ front ++ tail))
 
--- that memory is needed for a literal that was read, and the line up to that literal is in form
+-- that the bytes begin with at least one literal of a line in form; only then can memory be needed
 abbrev pub WantsRoom : AnswerKind → (List Literal → List ℕ) → List ℕ → Type 0
 WantsRoom k text bytes = HasLine k
     × ((ls : List Literal) × (l : Literal) × (IsInForm (outcome_of k (ls ++ (l ∷ []))) × BeginWithWordsOf (text (ls ++ (l ∷ []))) bytes))
 
--- why no literals of a line of this kind are read
+-- why the literals of a line of this kind cannot be read
 abbrev pub NoLiterals : AnswerKind → List ℕ → AnswerFault → Type 0
 NoLiterals k bytes Missing = ⊥
 NoLiterals k bytes Text = (ls : List Literal) (tail : List ℕ) → IsInForm (outcome_of k ls) → bytes ≡ literals_text ls ++ tail → ⊥
 NoLiterals k bytes OutOfMemory = WantsRoom k literals_text bytes
 
--- why no first line is read
+-- why the first line cannot be read
 abbrev pub NoKind : List ℕ → AnswerFault → Type 0
 NoKind bytes Missing = bytes ≡ []
 NoKind bytes Text = (bytes ≢ []) × ((k : AnswerKind) (tail : List ℕ) → bytes ≡ first_answer_line k ++ tail → ⊥)
 NoKind bytes OutOfMemory = ⊥
 
--- why no second line is read
+-- why the second line of an answer of this kind cannot be read
 abbrev pub NoLine : AnswerKind → List ℕ → AnswerFault → Type 0
 NoLine k bytes Missing = HasLine k × (bytes ≡ [])
 NoLine k bytes Text = (bytes ≢ [])
     × ((ls : List Literal) (tail : List ℕ) → IsInForm (outcome_of k ls) → bytes ≡ second_line (outcome_of k ls) ++ tail → ⊥)
 NoLine k bytes OutOfMemory = WantsRoom k (λ ls. second_line (outcome_of k ls)) bytes
 
--- that the bytes are not a prefix of literals in form, with their `0` and LF
+-- that the bytes are not a prefix of literals in form with their `0` and LF
 abbrev pub StartsNoLiterals : AnswerKind → List ℕ → Type 0
 StartsNoLiterals k bytes = (ls : List Literal) (more : List ℕ) → IsInForm (outcome_of k ls) → literals_text ls ≡ bytes ++ more → ⊥
 
@@ -117,26 +117,26 @@ IsCutShort bytes = (bytes ≡ []) ⊎ ((bytes ≡ s_satisfiable) ⊎ (bytes ≡ 
 abbrev pub BeginsNoOutcome : List ℕ → Type 0
 BeginsNoOutcome bytes = (o : Outcome) (tail : List ℕ) → IsInForm o → bytes ≡ outcome_text o ++ tail → ⊥
 
--- why no answer is read
+-- why no answer can be read
 abbrev pub NoOutcome : List ℕ → AnswerFault → Type 0
 NoOutcome bytes Missing = IsCutShort bytes × BeginsNoOutcome bytes
 NoOutcome bytes Text = (IsCutShort bytes → ⊥) × BeginsNoOutcome bytes
 NoOutcome bytes OutOfMemory = (k : AnswerKind) × (rest : List ℕ) × ((bytes ≡ first_answer_line k ++ rest) × NoLine k rest OutOfMemory)
 
--- that the bytes begin with a literal and the space after it
+-- that the bytes are the literal with code `l`, a space, and then `rest`
 abbrev pub BeginsWithLiteral : List ℕ → ℕ → List ℕ → Type 0
 BeginsWithLiteral bytes l rest = IsName (named_literal l).name × (bytes ≡ word_of (named_literal l) ++ (32 ∷ rest))
 
--- that the bytes begin with the literals of a line of this kind, which is in form
+-- that the bytes are the literals of `line`, in form for this kind, and then `rest`
 abbrev pub BeginsWithLiterals : AnswerKind → List ℕ → List ℕ → List ℕ → Type 0
 BeginsWithLiterals k bytes line rest = IsInForm (outcome_of k (named_literals line)) × (bytes ≡ literals_text (named_literals line) ++ rest)
 
--- that the bytes begin with the second line of an answer of this kind, if there is one
+-- that the bytes are the second line of an answer of this kind, with the literals of `line` in form, and then `rest`
 abbrev pub BeginsWithSecondLine : AnswerKind → List ℕ → List ℕ → List ℕ → Type 0
 BeginsWithSecondLine k bytes line rest = IsInForm (outcome_of k (named_literals line))
     × (bytes ≡ second_line (outcome_of k (named_literals line)) ++ rest)
 
--- that the bytes begin with an answer of this kind
+-- that the bytes are an answer of this kind, with the literals of `line` in form, and then `rest`
 abbrev pub BeginsWithAnswer : AnswerKind → List ℕ → List ℕ → List ℕ → Type 0
 BeginsWithAnswer k bytes line rest = IsInForm (outcome_of k (named_literals line))
     × (bytes ≡ outcome_text (outcome_of k (named_literals line)) ++ rest)

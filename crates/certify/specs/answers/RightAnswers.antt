@@ -1,4 +1,4 @@
--- When answers are correct, over all valuations. No trail, hash or step is mentioned.
+-- When answers are correct, in terms of valuations only. No trail, hash or step is mentioned.
 use Rattle.std.specs.Prelude.{List, [], ◌∷◌}
 use Rattle.sat_base.specs.script.Script.{Literal, Command, Clause, Ask, Hide, Witness, Sample}
 use Rattle.sat_base.specs.script.ScriptState.{ScriptState, IsRightModel, IsRightCore, accepted, start, accepted_of}
@@ -21,6 +21,6 @@ AreRight j (Hide names ∷ commands) os = AreRight (accepted (Hide names) j) com
 AreRight j (Witness names ∷ commands) os = AreRight (accepted (Witness names) j) commands os
 AreRight j (Sample names ∷ commands) os = AreRight (accepted (Sample names) j) commands os
 
--- one outcome for each accepted ask of the script, each right
+-- that there is one outcome for each accepted ask of the script, in order, and each outcome is correct
 abbrev pub AnswersAreRight : List Command → List Outcome → Type 0
 AnswersAreRight commands outcomes = AreRight start (accepted_of start commands) outcomes

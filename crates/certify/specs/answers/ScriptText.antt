@@ -40,7 +40,8 @@ begun_by b =
     else (if nat_eq b 119 then Some (Witness [])
     else (if nat_eq b 115 then Some (Sample []) else None)))
 
--- The command with literal `l` appended. `Hide`, `Witness` and `Sample` get only its name, and the result is `None` if `l` is negative.
+-- The command with literal `l` appended. `Hide`, `Witness` and `Sample` get only its name, and give `None` if `l` is
+-- negative.
 abbrev pub command_with_literal : Literal → Command → Option Command
 command_with_literal l (Clause ls) = Some (Clause (ls ++ l ∷ []))
 command_with_literal l (Ask ls) = Some (Ask (ls ++ l ∷ []))
@@ -53,9 +54,10 @@ abbrev pub going_on : Option Command → (Option Command → Reading) → Readin
 going_on None more = ([], Malformed)
 going_on (Some command) more = more (Some command)
 
--- The commands that tokens spell, and how the text ends. `hand` is the command that has begun and has no zero yet, or `None`. A zero ends the
--- command; if there is none, a zero is the empty clause. Headers are skipped. The text is malformed at a wrong token, at an unknown letter, and
--- at a letter or the end of the text within a command. It is also malformed at a negative name after `h`, `w` or `s`.
+-- The commands that tokens spell, and how the text ends. `hand` is the command that has begun and has no zero yet, or
+-- `None`. A zero ends the command. If there is none, a zero is the empty clause, and any other number begins a
+-- clause. Headers are skipped. The text is malformed at a wrong token, at an unknown letter, and at a letter or the
+-- end of the text within a command. It is also malformed at a negative name after `h`, `w` or `s`.
 unfoldable pub spelled : Option Command → List Token → Reading
 spelled None [] = ([], Clean)
 spelled (Some command) [] = ([], Malformed)

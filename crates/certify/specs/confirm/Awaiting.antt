@@ -1,5 +1,5 @@
--- The steps of a certificate up to the next ordered step, and whether that step is the expected one. The variables of names are a separate
--- argument.
+-- The steps of a certificate up to the next ordered step, and whether that step is the expected step. The variables
+-- of names are a separate argument.
 use Rattle.std.specs.Prelude.{◌≡◌, true, false, Option, Some, None, Result, Ok, Err, List, [], ◌∷◌}
 use Rattle.sat_base.specs.script.Script.{Literal}
 use Rattle.sat_base.specs.steps.Steps.{Step}
@@ -18,7 +18,7 @@ use Rattle.certify.specs.declared.confirm.stop.Stop.TheVariants as stop
 use Rattle.certify.specs.declared.confirm.variables.NamedVars.{NamedVars}
 use Rattle.certify.specs.declared.verdict.Why.{Why}
 
--- that the checker was fed these steps, after which the names refer to these variables
+-- that the checker accepted these steps and has not failed; after them, the names have these variables
 pub record CheckerIsAt (checker : Kernel) (names : NamedVars) (earlier : List Step) : Type 0 where
   pub taken : HasTaken checker earlier
   pub stand : AreVariablesOfNames names earlier
@@ -43,7 +43,8 @@ pub record StepWasPassed (names : NamedVars) (old : CertificateState) (earlier :
   pub valid : CheckerIsAt new.checker names later
   pub skips : SkipsUnordered earlier old.rest later new.rest
 
--- the result of awaiting an ordered step: what was found, or why no expected step can follow
+-- the result of awaiting an ordered step: the step, recorded unsat or, with an error, that no expected step can be
+-- met
 abbrev pub AwaitsNext : NamedVars → CertificateState → CertificateState → Result Awaited Why → Type 0
 AwaitsNext names old new (Ok awaited.Step) = (earlier : List Step) → CheckerIsAt old.checker names earlier → StepIsReady names old earlier new
 AwaitsNext names old new (Ok awaited.Cut) = (earlier : List Step) → CheckerIsAt old.checker names earlier → UnsatIsRecorded names old earlier new
@@ -59,7 +60,7 @@ StepsOnce names old new (Err why) = AwaitsNext names old new (Err why)
 abbrev pub PassesUnordered : NamedVars → CertificateState → CertificateState → Result (Unit {0}) Why → Type 0
 PassesUnordered names old new r = (earlier : List Step) → CheckerIsAt old.checker names earlier → StepWasPassed names old earlier new
 
--- that exactly what is expected is met
+-- That exactly the expected step is met. Once unsat is recorded, this requires that `MayStayUnmet` holds.
 pub record IsDueMet (due : Due) (after : NamedVars) (old : CertificateState) (earlier : List Step) (new : CertificateState) : Type 0 where
   pub later : List Step
   pub valid : CheckerIsAt new.checker after later
@@ -68,13 +69,13 @@ pub record IsDueMet (due : Due) (after : NamedVars) (old : CertificateState) (ea
   pub alone : (o : Outcome) (ask : List Literal) (es : List Expected)
       → CanMeet earlier (due o ask ∷ es) old.rest → (ready_after later).unsat ≡ true → MayStayUnmet (due o ask)
 
--- that what is expected is met or, with an error, cannot be met
+-- that the expected step is met or, with an error, cannot be met
 abbrev pub MeetsDue : Due → NamedVars → NamedVars → CertificateState → CertificateState → Result (Unit {0}) Why → Type 0
 MeetsDue due before after old new (Ok x) = (earlier : List Step) → CheckerIsAt old.checker before earlier → IsDueMet due after old earlier new
 MeetsDue due before after old new (Err why) = (earlier : List Step) → CheckerIsAt old.checker before earlier
     → (o : Outcome) (ask : List Literal) → MeetsNoneOf earlier old.rest (due o ask ∷ [])
 
--- the result if what is expected stays unmet once unsat is recorded
+-- the result for an expected step that stays unmet because unsat is recorded
 abbrev pub SaysUnmet : Due → Result (Unit {0}) Stop → Type 0
 SaysUnmet due (Ok x) = ExcusesDue due None
 SaysUnmet due (Err (stop.No why)) = ExcusesDue due (Some why)

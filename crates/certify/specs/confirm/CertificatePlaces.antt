@@ -1,4 +1,4 @@
--- What is known about a certificate between two of its places.
+-- Which expected steps a certificate meets between two of its places.
 use Rattle.std.specs.Prelude.{ℕ, List, ◌∷◌, ◌++◌}
 use Rattle.sat_base.specs.steps.Steps.{Step}
 use Rattle.sat_checker.specs.Accepts.{Accepts, ready_after}
@@ -20,7 +20,8 @@ pub record MeetsExactly (earlier : List Step) (certificate : List ℕ) (pending 
 pub record MeetsNoneOf (earlier : List Step) (certificate : List ℕ) (pending : List Expected) : Type 0 where
   pub none : (es : List Expected) → CanMeet earlier (pending ++ es) certificate → ⊥
 
--- that there are only unordered steps between two places
+-- That the same expected steps are met from both places, if at least one step is expected. It is as if only unordered
+-- steps were between them.
 pub record SkipsUnordered (earlier : List Step) (certificate : List ℕ) (later : List Step) (rest : List ℕ) : Type 0 where
   pub on : (e : Expected) (es : List Expected) → CanMeet earlier (e ∷ es) certificate → CanMeet later (e ∷ es) rest
   pub back : (e : Expected) (es : List Expected) → CanMeet later (e ∷ es) rest → CanMeet earlier (e ∷ es) certificate

@@ -1,4 +1,4 @@
--- What a step is compared with.
+-- How a step is compared with the expected step.
 use Rattle.std.specs.Prelude.{ℕ, ◌+◌, ◌≡◌, false, Option, Some, None, List, []}
 use Rattle.sat_base.specs.script.Script.{Literal}
 use Rattle.sat_base.specs.steps.Steps.{Step, Model}
@@ -16,11 +16,11 @@ use Rattle.certify.specs.declared.confirm.expect.Expected.TheVariants as code
 use Rattle.certify.specs.declared.confirm.expect.Known.{Known}
 use Rattle.certify.specs.declared.verdict.Why.{Why}
 
--- the expected step, given the outcome and the literals of an ask
+-- an expected step, which may depend on the outcome and the literals of an ask
 abbrev pub Due : Type 0
 Due = Outcome → List Literal → Expected
 
--- the expected step, from the variables and literal codes that the code stores
+-- the expected step that the code's value represents
 abbrev pub due_of : CodeExpected → Due
 due_of (code.NewName v) = λ o ask. NewName (v + 1)
 due_of (code.NoName v) = λ o ask. NoName (v + 1)
@@ -31,20 +31,20 @@ due_of (code.Core core) = λ o ask. Fails ask (named_literals core.now)
 due_of code.Close = λ o ask. Closes
 due_of code.End = λ o ask. Finish
 
--- that the names have the variables that are known after these steps, which the checker accepted
+-- that the checker accepted these steps and has not failed; after them, the names have the variables of the table
 pub record AreKnown (known : Known) (earlier : List Step) : Type 0 where
   pub valid : HasAccepted (kernel_of known.checker.now) earlier
   pub goes_on : kernel_has_failed (kernel_of known.checker.now) ≡ false
   pub named : variable_of earlier ≡ variable_in known.variables.now
 
--- that the step is the expected step, for any outcome and ask, or, with a reason, is not
+-- that the step fits the expected step for every outcome and ask or, with a reason, for none
 abbrev pub Compares : Due → Known → Step → Option Why → Type 0
 Compares due known step None = (earlier : List Step) → AreKnown known earlier
     → (o : Outcome) (ask : List Literal) → Fits (checker_rules.knows earlier) earlier (due o ask) step
 Compares due known step (Some why) = (earlier : List Step) → AreKnown known earlier
     → (o : Outcome) (ask : List Literal) → Fits (checker_rules.knows earlier) earlier (due o ask) step → ⊥
 
--- that the step is a model that has the literals of a line or, with a reason, is not
+-- that the step is a model that contains the literals of a line or, with a reason, is not
 abbrev pub ComparesLine : Known → List ℕ → Step → Option Why → Type 0
 ComparesLine known line step None = (codes : List ℕ) × (step ≡ Model codes)
     × EachSpelt (variable_in known.variables.now) (named_literals line) codes

@@ -1,4 +1,4 @@
--- The effect on answers and certificate of the calls that confirm a command.
+-- The effect of calls that confirm a command on the answers and the certificate.
 use Rattle.std.specs.Prelude.{ℕ, ◌≡◌, ◌≤◌, Bool, List, Result, OnOk}
 use Rattle.sat_base.specs.declared.steps.reader.Buffers.{Buffers}
 use Rattle.sat_base.specs.declared.steps.reader.StepReader.{StepReader}
@@ -23,8 +23,9 @@ answers_in seen answers s = answers_source seen answers s.answers
 abbrev pub stream_in : {C : Type 0} → (C → Reader) → StepReader C Buffers → Matching → Stream
 stream_in seen steps m = stream_of seen steps (kernel_of m.certificate.checker)
 
--- The effect of a call that confirms. The certificate's reader stays the same borrow and can be read further if the call succeeds. P says what
--- the result means for answers and certificate. M holds if there are too many commands.
+-- The effect of a call that confirms a command. The certificate's reader stays the same borrow and can be read
+-- further if the call succeeds. P says what the result means for answers and certificate. M holds if there are too
+-- many commands.
 pub record ConfirmsBoth {A C T : Type 0} (M : Type 0) (goes : Bool) (result : Result T Stop)
     (seen : A → Reader) (steps_seen : C → Reader) (old_answers new_answers : A)
     (old new : StepReader C Buffers) (before after : ConfirmState) (P : List ℕ → List ℕ → CertificateState → CertificateState → Result T Why → Type 0) : Type 0 where

@@ -21,7 +21,8 @@ use Rattle.certify.specs.declared.verdict.ConfirmFault.TheVariants as fault
 use Rattle.certify.specs.declared.verdict.Verdict.{Verdict}
 use Rattle.certify.specs.declared.verdict.Verdict.TheVariants.{Yes, No}
 
--- The state between two commands: script, answers and certificate as they are read, the number of the next command, and the names.
+-- The state between two commands: how far script, answers and certificate were read, the number of the next command,
+-- and the names.
 pub record ConfirmPlace : Type 0 where
   pub script : Source
   pub answers : Source
@@ -33,7 +34,7 @@ pub record ConfirmPlace : Type 0 where
 abbrev pub script_source : {S : Type 0} → (S → Reader) → S → Confirmation → Source
 script_source seen script c = source_in seen script c.script.ahead
 
--- the place that the three readers and the state of the code are at
+-- the state between two commands, given the three readers and the state of the code
 abbrev pub confirm_place : {S A C : Type 0} → (S → Reader) → (A → Reader) → (C → Reader) → S → A → StepReader C Buffers → Confirmation → ConfirmPlace
 confirm_place script_seen seen steps_seen script answers steps c = record {
   script = script_source script_seen script c;
@@ -53,16 +54,17 @@ pub record ConfirmsThrough (text : List ℕ → Reading) (old new : ConfirmPlace
   pub joins : (total : List ℕ) → Covers new.script total → Joins ⊥ true (Ok tt) old.answers new.answers old.certificate new.certificate
       (Through old.number (text (rest_in total old.script)) old.table new.number (left (rest_in total new.script)) new.table)
 
--- that the complete script is confirmed or, with an error, cannot be
+-- that the script is confirmed to its end or, with `No`, cannot be; other errors mean the same as in `Joins`
 abbrev pub JoinsWhole : Result (Unit {0}) Stop → Reading → ConfirmPlace → ConfirmPlace → Type 0
 JoinsWhole r script old new = Joins ⊥ false r old.answers new.answers old.certificate new.certificate
     (λ before following u v. ConfirmsLast old.number script old.table before u)
 
--- the effect on answers and certificate if the result says nothing about the script
+-- the effect on answers and certificate of a call that stopped for a reason that lies in neither of them
 abbrev pub Unsaid : ConfirmPlace → ConfirmPlace → Type 0
 Unsaid old new = NoReadFailedAhead old.answers new.answers × Confirms {A = Unit {0}} (Err stop.OutOfMemory) old.certificate new.certificate Any
 
--- That the script is confirmed to its end, or cannot be; or a text cannot be read, memory or numbers run out, or there are too many commands.
+-- That the script is confirmed to its end, or cannot be. Otherwise a text cannot be read, memory runs out, a number
+-- does not fit into 64 bits, or there are too many commands.
 abbrev pub ConfirmsScript : (List ℕ → Reading) → Result (Unit {0}) Stop → ConfirmPlace → ConfirmPlace → Type 0
 ConfirmsScript text (Ok x) old new = TakesSome false old.script new.script
     × ((total : List ℕ) → Covers new.script total → JoinsWhole (Ok x) (text (rest_in total old.script)) old new)

@@ -17,7 +17,7 @@ use Rattle.certify.specs.declared.confirm.variables.NamedVars.{NamedVars}
 use Rattle.certify.specs.declared.confirm.names.Matching.{Matching}
 use Rattle.certify.specs.declared.verdict.Why.{Why}
 
--- what is known of names: which are in use, their modes, and their variables
+-- the names in use, their modes, and their variables
 pub record Table : Type 0 where
   pub names : Names
   pub variables : NamedVars
@@ -26,7 +26,8 @@ pub record Table : Type 0 where
 abbrev pub table_of : Matching → Table
 table_of m = record { names = m.names; variables = m.certificate.names }
 
--- That names and modes are those of the script state. The checker accepted these steps, after which the names refer to their variables.
+-- That names and modes are those of the script state. The checker accepted these steps, after which the names have
+-- the table's variables.
 pub record HoldsAt (t : Table) (u : CertificateState) (j : ScriptState) (earlier : List Step) : Type 0 where
   pub judged : NamesHaveState t.names j
   pub kept : ScriptStateInvariant j
@@ -60,7 +61,8 @@ pub record MeetsCommandNames (kind : Kind) (ls : List Literal) (t next : Table) 
   pub met : (j : ScriptState) → NamesHaveState t.names j → MeetsAll (naming_all kind (names_of ls) j) t.variables next.variables old new (Ok tt)
   pub changes : Changes t.names next.names (taken_by kind (names_of ls))
 
--- that what a command of this kind adds or asks after its names is met or, with an error, cannot be
+-- That the clause or the assumptions of a command of this kind are met or, with an error, cannot be. Commands of
+-- other kinds expect no further step.
 abbrev pub MeetsContent : Kind → List Literal → NamedVars → NamedVars → CertificateState → CertificateState → Result (Unit {0}) Why → Type 0
 MeetsContent OfClause ls before after old new r = MeetsAll (Adds ls ∷ []) before after old new r
 MeetsContent OfAsk ls before after old new r = MeetsDue (λ o ask. Opens ls o) before after old new r
@@ -73,7 +75,7 @@ abbrev pub ConfirmsContent : ℕ → Kind → List Literal → Table → Table �
 ConfirmsContent n kind ls named next before following old new r =
     (t : Table) (u : CertificateState) → MeetsCommandNames kind ls t named u old → ConfirmsNext n (command_of kind ls) t next before following u new r
 
--- that an ask is confirmed by the answer after its assumptions or, with an error, cannot be
+-- that an ask whose assumptions are met is confirmed by the rest or, with an error, cannot be
 abbrev pub ConfirmsAnswer : ℕ → List Literal → Table → Table → List ℕ → List ℕ → CertificateState → CertificateState → Result (Unit {0}) Why → Type 0
 ConfirmsAnswer n ask asked next before following old new r =
     (t named : Table) (u v : CertificateState) → MeetsCommandNames OfAsk ask t named u v → named.names ≡ asked.names
@@ -106,7 +108,7 @@ pub record IsThrough (old new : CertificateState) (j : ScriptState) (earlier : L
   pub on : ToConfirm j n earlier script.0 script.1 before old.rest → ToConfirm judge m later left.0 left.1 following new.rest
   pub back : ToConfirm judge m later left.0 left.1 following new.rest → ToConfirm j n earlier script.0 script.1 before old.rest
 
--- that `IsThrough` holds for every script state and all steps for which the table holds
+-- that `IsThrough` holds for every script state and all steps for which `HoldsAt` holds
 abbrev pub Through : ℕ → Reading → Table → ℕ → Reading → Table → List ℕ → List ℕ → CertificateState → CertificateState → Result (Unit {0}) Why → Type 0
 Through n script t m left next before following old new r =
     (j : ScriptState) (earlier : List Step) → HoldsAt t old j earlier → IsThrough old new j earlier n script before m left next following

@@ -16,7 +16,8 @@ pub record HasTaken (checker : Kernel) (steps : List Step) : Type 0 where
   pub valid : HasAccepted checker steps
   pub goes_on : kernel_has_failed checker ≡ false
 
--- What is returned if a step is not accepted. A checker that has not failed can only refuse the step, run out of memory, or run out of numbers.
+-- The error of a call if a step is not accepted. A checker that has not failed can only refuse the step, run out of
+-- memory, or reach the end of a counter.
 abbrev pub stop_by : CheckerError → Stop
 stop_by errors.CheckFailed = stop.No StepRefused
 stop_by errors.OutOfMemory = stop.OutOfMemory
@@ -25,7 +26,7 @@ stop_by errors.HasFailed = stop.No StepRefused
 stop_by errors.ProofIncomplete = stop.No StepRefused
 stop_by errors.IoError = stop.No StepRefused
 stop_by errors.ParseError = stop.No StepRefused
--- there is no listener
+-- cannot occur, because there is no listener
 stop_by (errors.ProofProcessorError cause) = stop.OutOfMemory
 
 -- That the step is accepted after the earlier steps; or, with an error, that it is refused, memory runs out, or a number does not fit into 64
@@ -40,8 +41,8 @@ FeedsStep (Err stop.ScriptRead) old step new = ⊥
 FeedsStep (Err stop.AnswersRead) old step new = ⊥
 FeedsStep (Err stop.TooMany) old step new = ⊥
 
--- That a pending unit conflict is settled; or, with an error, that no id is left for it or memory runs out. No step is added, and there are no
--- further looks.
+-- That a pending unit conflict is settled; or, with an error, that a number does not fit into 64 bits or memory runs
+-- out. No step is added, and there are no further looks.
 abbrev pub SettlesConflict : Result (Unit {0}) Stop → Kernel → Kernel → Type 0
 SettlesConflict (Ok x) old new = (steps : List Step) → HasTaken old steps → HasTaken new steps × (kernel_looks new ≡ kernel_looks old)
 SettlesConflict (Err (stop.No why)) old new = (steps : List Step) → HasTaken old steps → ⊥

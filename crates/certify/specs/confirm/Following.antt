@@ -11,7 +11,8 @@ use Rattle.certify.specs.confirm.Comparing.{Due}
 use Rattle.certify.specs.confirm.Variables.{variable_in}
 use Rattle.certify.specs.declared.confirm.variables.NamedVars.{NamedVars}
 
--- that after these accepted steps the names have these variables: no two names share a variable, and every variable is known
+-- That after these accepted steps the names have these variables. No two names share a variable, every variable is
+-- known, and no name with a variable is past the limit.
 pub record AreVariablesOfNames (variables : NamedVars) (earlier : List Step) : Type 0 where
   pub accepted : Accepted checker_rules earlier
   pub named : variable_of earlier ≡ variable_in variables

@@ -1,4 +1,4 @@
--- What remains to be matched at some place: the invariant of the loops that confirm.
+-- What remains to be matched, as the invariant of the loops that confirm a script.
 use Rattle.std.specs.Prelude.{ℕ, ◌≡◌, List, [], ◌∷◌, ◌++◌}
 use Rattle.std.specs.List.{AllByRecursion}
 use Rattle.sat_base.specs.script.Script.{Literal, Command, ScriptEnding}
@@ -10,7 +10,7 @@ use Rattle.sat_checker.specs.matching.Expected.{Outcome, Expected, Opens, Closes
 use Rattle.sat_checker.specs.matching.Checking.{CheckerRules}
 use Rattle.certify.specs.confirm.Matches.{OneEach, InForm, Meets}
 
--- that the rest of the certificate begins with the steps that are expected after the earlier steps
+-- that the rest of the certificate begins with steps that meet the expected steps `es`, after the earlier steps
 pub record CertificateMeets (k : CheckerRules) (earlier : List Step) (es : List Expected) (certificate : List ℕ) : Type 0 where
   pub steps : List Step
   pub text : List ℕ
@@ -19,7 +19,8 @@ pub record CertificateMeets (k : CheckerRules) (earlier : List Step) (es : List 
   pub spelt : SpellsSteps steps text
   pub meets : Meets k earlier steps es
 
--- That the rest of the script matches from command `n` on, in state `j`. What is pending belongs to earlier commands.
+-- That the rest of the script matches from command `n` on, in state `j`. The expected steps in `pending` belong to
+-- earlier commands.
 pub record Left (k : CheckerRules) (j : ScriptState) (n : ℕ) (earlier : List Step) (pending : List Expected)
     (commands : List Command) (ending : ScriptEnding) (answers certificate : List ℕ) : Type 0 where
   pub outcomes : List Outcome

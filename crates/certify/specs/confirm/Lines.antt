@@ -44,13 +44,13 @@ abbrev pub EndsPart : Bool → List ℕ → List ℕ → Type 0
 EndsPart true text left = IsOneLine text
 EndsPart false text left = HasNoLf text × (left ≡ [])
 
--- that bytes that were read ahead were moved to the line being read
+-- that bytes read ahead were moved to the line being read, up to LF if there is one; with an error, none were moved
 abbrev pub MovesFront : {E : Type 0} → Result Bool E → LastPiece → LastPiece → List ℕ → List ℕ → Type 0
 MovesFront (Ok whole) old new before after = (text : List ℕ) × (waiting_bytes old ≡ text ++ waiting_bytes new) × (new.reads ≡ old.reads)
     × (after ≡ before ++ text) × EndsPart whole text (waiting_bytes new)
 MovesFront (Err e) old new before after = new ≡ old
 
--- that the line is one that is expected next
+-- that the line is one of the lines that are expected next
 abbrev pub IsWantedLine : Wanted → List ℕ → List ℕ → Type 0
 IsWantedLine wanted.Due due line = line ≡ due
 IsWantedLine wanted.First due line = (k : AnswerKind) × (line ≡ first_answer_line k)
@@ -65,7 +65,7 @@ StartsNone P bytes = (more : List ℕ) → P (bytes ++ more) → ⊥
 abbrev pub IsWrong : (List ℕ → Type 0) → List ℕ → Type 0
 IsWrong P bytes = StartsNone P bytes × (bytes ≡ [] → ⊥)
 
--- that a line was read, or the rest of the text without an LF, or bytes without an LF with which no line that satisfies P begins
+-- that a line was read, or the rest of the text without LF, or bytes without LF that begin no line that satisfies P
 abbrev pub IsNextLine : (List ℕ → Type 0) → Source → Source → List ℕ → Type 0
 IsNextLine P a b line = (ConsumesBytes a b line × IsOneLine line) ⊎ ((ConsumesToEnd a b line × HasNoLf line) ⊎ ((ConsumesBytes a b line × HasNoLf line) × IsWrong P line))
 
@@ -95,7 +95,7 @@ abbrev pub TakesDueLine : List ℕ → List ℕ → List ℕ → Result (Unit {0
 TakesDueLine old new line (Ok x) = old ≡ line ++ new
 TakesDueLine old new line (Err why) = (tail : List ℕ) → old ≡ line ++ tail → ⊥
 
--- what a call returns if no answer was read
+-- the error of a call if no answer can be read
 abbrev pub stop_after : AnswerFault → Stop
 stop_after unread.Missing = stop.No AnswerMissing
 stop_after unread.Text = stop.No AnswerText
@@ -116,8 +116,8 @@ ReadsSecond kind line before following (Err why) =
 abbrev pub outcome_in : Reply → Outcome
 outcome_in r = outcome_of r.kind (named_literals r.lits.items)
 
--- That an answer was read, which is the empty core if unsat is recorded (`settled`); or, with an error, that the bytes begin with no such
--- answer.
+-- That an answer in form was read, which is the empty core if unsat is recorded (`settled`); or, with an error, that
+-- the bytes begin with no such answer.
 abbrev pub IsReply : List ℕ → List ℕ → Outcome → Bool → Result (Unit {0}) Why → Type 0
 IsReply before following reply settled (Ok x) = (before ≡ outcome_text reply ++ following) × IsInForm reply × (settled ≡ true → reply ≡ Unsat [])
 IsReply before following reply settled (Err why) =

@@ -26,15 +26,16 @@ InForm (Sat line) = Unit {0}
 InForm (Unsat core) = InOrder core
 InForm Unknown = Unit {0}
 
--- that an expected step may be unmet once unsat is recorded: any step but a model, a core that is not empty, or an ask whose outcome is not the
--- empty core
+-- that an expected step may be unmet once unsat is recorded: any step except a model, a core that is not empty, or an
+-- ask whose outcome is not the empty core
 abbrev pub MayBeUnmet : Expected → Type 0
 MayBeUnmet (Opens ls o) = o ≡ Unsat []
 MayBeUnmet (Shows names ask line) = ⊥
 MayBeUnmet (Fails ask core) = core ≡ []
 MayBeUnmet e = Unit {0}
 
--- that after the earlier steps, these steps are accepted one by one, and the ordered steps among them are those that are expected
+-- That these steps are accepted one by one after the earlier steps, and the ordered steps among them are the expected
+-- steps. Once unsat is recorded, the steps end, and all expected steps that are left satisfy `MayBeUnmet`.
 pub data Meets (k : CheckerRules) : List Step → List Step → List Expected → Type 0 where
   met : {earlier : List Step} → k.unsat earlier ≡ false → Meets k earlier [] []
   cut : {earlier : List Step} {es : List Expected} → k.unsat earlier ≡ true → AllByRecursion MayBeUnmet es → Meets k earlier [] es
@@ -45,7 +46,7 @@ pub data Meets (k : CheckerRules) : List Step → List Step → List Expected �
       → k.unsat earlier ≡ false → Fits (k.knows earlier) earlier e step → k.Accepts earlier step → Meets k (step ∷ earlier) steps es
       → Meets k earlier (step ∷ steps) (e ∷ es)
 
--- that the steps are those of the script's commands and these outcomes
+-- that the steps match the script's commands and these outcomes, as `Meets` says, and every core is in form
 pub record StepsMatch (k : CheckerRules) (commands : List Command) (outcomes : List Outcome) (steps : List Step) : Type 0 where
   pub one_each : OneEach (accepted_of start commands) outcomes
   pub in_form : AllByRecursion InForm outcomes
@@ -67,9 +68,10 @@ pub record MatchesCommands (k : CheckerRules) (commands : List Command) (ending 
 abbrev pub Matches : CheckerRules → (List ℕ → List Command × ScriptEnding) → List ℕ → List ℕ → List ℕ → Type 0
 Matches k reading script answers certificate = MatchesCommands k (reading script).0 (reading script).1 answers certificate
 
--- That the three texts match. The answers are the lines of these outcomes. The certificate begins with the text of these steps, and the checker
--- accepts each of them after the earlier ones. The ordered steps are those of the script's commands and these outcomes. Any bytes may follow
--- the steps.
+-- That the three texts match. The answers are the lines of these outcomes. The certificate begins with the text of
+-- these steps, and the checker accepts each of them after the earlier ones. The ordered steps are those of the
+-- script's commands and these outcomes. Once unsat is recorded, the steps end, and `MayBeUnmet` says which expected
+-- steps may be missing. Any bytes may follow the steps.
 pub record TextsMatch (script answers certificate : List ℕ) : Type 0 where
   pub outcomes : List Outcome
   pub steps : List Step

@@ -54,8 +54,8 @@ abbrev pub taken_by : Kind → List ℕ → ScriptState → ScriptState
 taken_by kind [] j = j
 taken_by kind (name ∷ names) j = taken_by kind names (taken kind name j)
 
--- that `naming_all` gives the steps that each kind of command expects, and `taken_by` gives the state after the command, or, for a clause or an
--- ask, after its names are introduced
+-- That `naming_all` gives the steps that each kind of command expects. `taken_by` gives the state after the command;
+-- for a clause or an ask, that is the state after its names are introduced.
 pub record NamesAreExpected : Type 0 where
   pub clauses : (names : List ℕ) (j : ScriptState) → naming_all OfClause names j ≡ bringing names j
   pub asks : (names : List ℕ) (j : ScriptState) → naming_all OfAsk names j ≡ bringing names j

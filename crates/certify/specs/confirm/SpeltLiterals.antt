@@ -5,7 +5,7 @@ use Rattle.std.specs.List.{AllByRecursion}
 use Rattle.sat_base.specs.script.Script.{Literal, Among}
 use Rattle.sat_checker.specs.matching.Expected.{Spells, EachSpelt}
 
--- that each of the literals is among the others
+-- that every literal of the first list is in the second
 abbrev pub AllAmong : List ℕ → List ℕ → Type 0
 AllAmong ls others = AllByRecursion (λ l. Among l others) ls
 
@@ -16,7 +16,7 @@ AreSpelt names [] (c ∷ cs) = ⊥
 AreSpelt names (l ∷ ls) [] = ⊥
 AreSpelt names (l ∷ ls) (c ∷ cs) = Spells names l c × AreSpelt names ls cs
 
--- that the answer says whether `IsSo` holds
+-- that the flag says whether `IsSo` holds
 abbrev pub AnswersWhether : Bool → Type 0 → Type 0
 AnswersWhether answer IsSo = MatchBool answer IsSo (IsSo → ⊥)
 
@@ -24,6 +24,6 @@ AnswersWhether answer IsSo = MatchBool answer IsSo (IsSo → ⊥)
 abbrev pub HasEach : List Literal → List Literal → Type 0
 HasEach line ask = AllByRecursion (λ l. Among l line) ask
 
--- that these codes spell the literals or, if the answer is false, that no codes spell each literal
+-- that these codes spell the literals or, if the flag is false, that no codes spell all of them
 abbrev pub SpellsAll : Bool → (ℕ → Option ℕ) → List Literal → List ℕ → Type 0
 SpellsAll answer names ls spelt = MatchBool answer (AreSpelt names ls spelt) ((codes : List ℕ) → EachSpelt names ls codes → ⊥)

@@ -10,7 +10,7 @@ use Rattle.certify.specs.declared.verdict.Why.{Why}
 abbrev pub is_ordered_tag : ℕ → Bool
 is_ordered_tag tag = tag == 2 || tag == 5 || tag == 10 || tag == 11 || tag == 12 || tag == 13
 
--- whether the checker was fed all steps read so far
+-- whether the checker was fed all steps read so far, given what was found
 abbrev pub is_fed : Awaited → Bool
 is_fed awaited.Step = false
 is_fed awaited.Cut = true

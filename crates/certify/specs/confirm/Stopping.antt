@@ -1,4 +1,4 @@
--- What calls return that read answers, or answers and a certificate, whatever bytes could follow in either text.
+-- The results of calls that read answers, or answers and a certificate, whatever bytes could follow in either text.
 use Rattle.std.specs.Prelude.{ℕ, Bool, false, List, Result, Ok, Err}
 use Rattle.sat_base.specs.device.Reading.{Source}
 use Rattle.sat_base.specs.declared.device.whole.ReadError.{ReadError}
@@ -10,12 +10,12 @@ use Rattle.certify.specs.declared.confirm.stop.Stop.TheVariants as stop
 use Rattle.certify.specs.declared.confirm.stop.Stop.{Stop}
 use Rattle.certify.specs.declared.verdict.Why.{Why}
 
--- what a call returns if the answers cannot be read
+-- the error of a call if the answers cannot be read
 abbrev pub answers_stop : ReadError → Stop
 answers_stop errors.Failed = stop.AnswersRead
 answers_stop errors.OutOfMemory = stop.OutOfMemory
 
--- what a call returns if the script cannot be read
+-- the error of a call if the script cannot be read
 abbrev pub script_stop : ReadError → Stop
 script_stop errors.Failed = stop.ScriptRead
 script_stop errors.OutOfMemory = stop.OutOfMemory

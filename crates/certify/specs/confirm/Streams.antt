@@ -27,7 +27,8 @@ pub record Stream : Type 0 where
 abbrev pub stream_of : {R : Type 0} → (R → Reader) → StepReader R Buffers → Kernel → Stream
 stream_of seen r checker = record { source = reader_source seen r; checker = checker; step = step_in r }
 
--- that a reader of steps can be read further: it has not failed, and is not at its end
+-- that a reader of steps can be read further: it has not failed, is not at its end, and was read at most `most_reads`
+-- times
 pub record StepsGoOn {R : Type 0} (seen : R → Reader) (r : StepReader R Buffers) : Type 0 where
   pub well : has_reader_failed r ≡ false
   pub open_yet : AtEnd (reader_source seen r) → ⊥
@@ -67,11 +68,11 @@ pub record Covers (s : Source) (total : List ℕ) : Type 0 where
 abbrev pub HoldsWhateverFollows : Stream → Stream → (CertificateState → CertificateState → Type 0) → Type 0
 HoldsWhateverFollows old new P = (total : List ℕ) → Covers new.source total → P (seen_in total old) (seen_in total new)
 
--- that some bytes were read
+-- that some bytes were consumed, possibly none
 abbrev pub TakesStreamBytes : Stream → Stream → Type 0
 TakesStreamBytes old new = (text : List ℕ) × ConsumesBytes old.source new.source text
 
--- that some bytes were read, and then possibly the end was found
+-- that some bytes were consumed, possibly none, and then the end may have been found
 abbrev pub TakesBytesOrEnds : Stream → Stream → Type 0
 TakesBytesOrEnds old new = ((text : List ℕ) × ConsumesWithReads 1 old.source new.source text) × (AtEnd new.source → IsAtEnd new.source.reader.to_come)
 
@@ -111,7 +112,7 @@ SaysAlone (Err stop.ScriptRead) P = ⊥
 SaysAlone (Err stop.AnswersRead) P = ⊥
 SaysAlone (Err stop.TooMany) P = ⊥
 
--- what a call returns if no step was read
+-- the error of a call if no step can be read
 abbrev pub stop_of : StepError → Stop
 stop_of errors.Ends = stop.No CertificateEnds
 stop_of errors.Cut = stop.No CertificateEnds

@@ -1,4 +1,4 @@
--- The variables of names, some of which have none.
+-- The variables of names. A name may have none.
 use Rattle.std.specs.Prelude.{ℕ, zero, suc, ◌==◌, ◌≡◌, Option, None, if◌then◌else◌}
 use Rattle.sat_base.specs.values.Tables.{value_at}
 use Rattle.certify.specs.declared.confirm.variables.NamedVars.{NamedVars}

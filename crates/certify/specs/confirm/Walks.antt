@@ -32,8 +32,8 @@ pub data ReachesCounterEnd : List Step → List ℕ → Type 0 where
       → bytes ≡ text ++ rest → SpellsStep step text → Accepts (ready_after earlier) step → ReachesCounterEnd (step ∷ earlier) rest
       → ReachesCounterEnd earlier bytes
 
--- That the checker was fed steps from the beginning of the bytes, and `rest` remains. So what can be reached from there can be reached from the
--- beginning.
+-- That the checker was fed steps from the beginning of the bytes, and `rest` remains. If `LooksReach` or
+-- `ReachesCounterEnd` holds from there on, it holds from the beginning.
 pub record IsFedFront (old : Kernel) (bytes : List ℕ) (new : Kernel) (rest : List ℕ) (earlier : List Step) : Type 0 where
   pub later : List Step
   pub taken : HasTaken new later
@@ -58,6 +58,6 @@ walks_if false old new = WalksBefore old new
 abbrev pub FeedsSomeSteps : CertificateState → CertificateState → Type 0
 FeedsSomeSteps old new = (earlier : List Step) → HasTaken old.checker earlier → LooksReach earlier old.rest (kernel_looks old.checker) (kernel_looks new.checker)
 
--- that a number no longer fits into 64 bits
+-- that steps from the beginning of the bytes lead to a number that does not fit into 64 bits
 abbrev pub RunsOut : CertificateState → CertificateState → Type 0
 RunsOut old new = (earlier : List Step) → HasTaken old.checker earlier → ReachesCounterEnd earlier old.rest

@@ -16,7 +16,7 @@ use Rattle.certify.specs.declared.judge.Refusal.{Refusal as CodeRefusal}
 use Rattle.certify.specs.declared.judge.Refusal.TheVariants as code
 use Rattle.certify.specs.declared.judge.names.Names.{Names}
 
--- the state of a name, in a list that begins with name 1
+-- the state of a name, in a list that begins with name 1; a name that is not in the list is hidden
 abbrev pub state_in : List NameState → ℕ → NameState
 state_in states zero = state.Hidden
 state_in states (suc index) = get_or states index state.Hidden
@@ -137,7 +137,7 @@ is_of_literals OfHide = false
 is_of_literals OfWitness = false
 is_of_literals OfSample = false
 
--- that none of these names is introduced, and a command of this kind does nothing else with names
+-- that a command of this kind would only introduce names, and none of these names is new
 pub record BringsNothing (kind : Kind) (list : List ℕ) (names : Names) : Type 0 where
   pub of_literals : is_of_literals kind ≡ true
   pub known : (j : ScriptState) → NamesHaveState names j → AllByRecursion (λ name. new_names name j ≡ []) list

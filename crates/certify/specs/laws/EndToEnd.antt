@@ -24,7 +24,7 @@ FinishedIsConfirmed =
     → CanBe script text → CanBe answers answered → CanBe certificate certified
     → CertificateGuarantee text budget summary answered certified → Exact script answers certificate v → v ≡ Yes
 
--- OVER TEXTS IN MEMORY
+-- FOR TEXTS IN MEMORY
 
 -- the guarantee for a verdict on three texts: it is `Yes` exactly when they match, and then the answers are correct
 pub record VerdictSays (script answers certificate : List ℕ) (v : Verdict) : Type 0 where

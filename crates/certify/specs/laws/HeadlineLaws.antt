@@ -19,7 +19,7 @@ use Rattle.certify.specs.laws.Headline.{Headline}
 use Rattle.certify.specs.declared.summary.Summary.{Summary}
 use Rattle.certify.specs.declared.verdict.Verdict.{Verdict}
 
--- that both definitions give a text the same meaning
+-- that both definitions read every text alike
 abbrev pub SaysTheSame : Type 0
 SaysTheSame = (text : List ℕ) → script_in text ≡ reading text
 

@@ -10,7 +10,7 @@ use Rattle.sat_hints.specs.declared.error.HintError.TheVariants.{Refused, HasDel
 use Rattle.certify.specs.run.FinishedRun.{CertificateGuarantee}
 use Rattle.certify.specs.declared.summary.Summary.{Summary}
 
--- that the text is a proof, for some values of its fields
+-- that the text is a proof, for some flag `empty` and some numbers of cores and lines
 pub record IsProved (text : List ℕ) : Type 0 where
   pub empty : Bool
   pub cores : ℕ
@@ -26,7 +26,8 @@ HasHints (Err Read) steps old new = Unit {0}
 HasHints (Err Write) steps old new = Unit {0}
 HasHints (Err OutOfMemory) steps old new = Unit {0}
 
--- that `HasHints` holds for what `convert` returns for the certificate of any finished run, if the bytes are known, whatever follows them
+-- that `HasHints` holds when `convert` reads the certificate of a finished run, if the reader's bytes are known; any
+-- bytes may follow it
 abbrev pub RunsHaveHints : Type 0
 RunsHaveHints = (budget : ℕ) (summary : Summary) (text answered certified more : List ℕ) (result : Result (Unit {0}) HintError) (from to : Reader) (old new : Writer)
     → (b : CertificateGuarantee text budget summary answered certified) → from.to_come ≡ Some (certified ++ more)

@@ -44,7 +44,8 @@ HasPrintableNames (Sat line) = AllByRecursion (λ l. l.name ≤ var_limit) line
 HasPrintableNames (Unsat core) = AllByRecursion (λ l. l.name ≤ var_limit) core
 HasPrintableNames Unknown = Unit {0}
 
--- that different lists of outcomes give different answers, if each has one outcome for every accepted ask
+-- that different lists of outcomes give different answers, if each has one outcome for every accepted ask and no name
+-- past the limit
 abbrev pub TextsDetermineOutcomes : Type 0
 TextsDetermineOutcomes =
     (commands : List Command) (ending : ScriptEnding) (vs ws : List Outcome)

@@ -20,7 +20,7 @@ pos n = record { name = n; positive = true }
 abbrev pub neg : ℕ → Literal
 neg n = record { name = n; positive = false }
 
--- the answers to `a 0`
+-- the answers to `a 0`, if the outcome is the empty model
 abbrev pub AskAloneText : Type 0
 AskAloneText = answers_text (Ask [] ∷ []) Clean (Sat [] ∷ [])
     ≡ 115 ∷ 32 ∷ 83 ∷ 65 ∷ 84 ∷ 73 ∷ 83 ∷ 70 ∷ 73 ∷ 65 ∷ 66 ∷ 76 ∷ 69 ∷ 10 ∷ 118 ∷ 32 ∷ 48 ∷ 10 ∷ []
@@ -43,15 +43,15 @@ ClauseAndAskExpected = expected start clause_and_ask (Sat (neg 1 ∷ pos 2 ∷ [
     ≡ NewName 1 ∷ NewName 2 ∷ Adds (pos 1 ∷ pos 2 ∷ []) ∷ Opens [] (Sat (neg 1 ∷ pos 2 ∷ []))
     ∷ Shows (1 ∷ 2 ∷ []) [] (neg 1 ∷ pos 2 ∷ []) ∷ Closes ∷ Finish ∷ []
 
--- this model is correct
+-- the model `-1 2` is correct for this script
 abbrev pub ClauseAndAskRight : Type 0
 ClauseAndAskRight = AnswersAreRight clause_and_ask (Sat (neg 1 ∷ pos 2 ∷ []) ∷ [])
 
--- the script `1 0`, `-1 0`, `a 0`: the second clause records unsat, and the steps end there
+-- the script `1 0`, `-1 0`, `a 0`, whose second clause records unsat
 abbrev pub two_unit_commands : List Command
 two_unit_commands = Clause (pos 1 ∷ []) ∷ Clause (neg 1 ∷ []) ∷ Ask [] ∷ []
 
--- the empty core is correct
+-- the empty core is correct for this script
 abbrev pub TwoUnitsRight : Type 0
 TwoUnitsRight = AnswersAreRight two_unit_commands (Unsat [] ∷ [])
 
@@ -75,7 +75,7 @@ HiddenAndBackExpected = expected start hidden_and_back (Sat (neg 1 ∷ []) ∷ [
     ≡ NewName 1 ∷ Adds (pos 1 ∷ []) ∷ NoName 1 ∷ NewName 1 ∷ Adds (neg 1 ∷ []) ∷ Opens [] (Sat (neg 1 ∷ []))
     ∷ Shows (1 ∷ []) [] (neg 1 ∷ []) ∷ Closes ∷ Finish ∷ []
 
--- the script `h 2 0`, `a 0`: name 1 is introduced along with name 2
+-- the state after the script `h 2 0`, `a 0`: name 1 was introduced along with name 2
 abbrev pub HiddenAtOnceState : Type 0
 HiddenAtOnceState = after_script (Hide (2 ∷ []) ∷ Ask [] ∷ []) start ≡ record {
   first_unused = 3;
@@ -91,7 +91,7 @@ WitnessRefusedText = answers_text (Witness (1 ∷ []) ∷ Clause (pos 1 ∷ []) 
     ≡ 99 ∷ 32 ∷ 114 ∷ 101 ∷ 102 ∷ 117 ∷ 115 ∷ 101 ∷ 100 ∷ 32 ∷ 50 ∷ 32 ∷ 119 ∷ 105 ∷ 116 ∷ 110 ∷ 101 ∷ 115 ∷ 115 ∷ 32 ∷ 49 ∷ 10
     ∷ 115 ∷ 32 ∷ 83 ∷ 65 ∷ 84 ∷ 73 ∷ 83 ∷ 70 ∷ 73 ∷ 65 ∷ 66 ∷ 76 ∷ 69 ∷ 10 ∷ 118 ∷ 32 ∷ 45 ∷ 49 ∷ 32 ∷ 48 ∷ 10 ∷ []
 
--- the leftmost literal determines the reason of a refusal
+-- the leftmost refused literal determines the reason for a refusal
 abbrev pub LeftmostRefuses : Type 0
 LeftmostRefuses = refusal_of (after_script (Witness (1 ∷ []) ∷ []) start) (Clause (pos 268435457 ∷ pos 1 ∷ [])) ≡ Some PastLimit
 
@@ -99,7 +99,7 @@ LeftmostRefuses = refusal_of (after_script (Witness (1 ∷ []) ∷ []) start) (C
 abbrev pub WitnessRefusesAsk : Type 0
 WitnessRefusesAsk = refusal_of (after_script (Witness (1 ∷ []) ∷ []) start) (Ask (pos 1 ∷ [])) ≡ Some (WitnessName 1)
 
--- the text `1 2`, cut off: `c malformed 1`
+-- the answer to the text `1 2`, which is cut off: `c malformed 1`
 abbrev pub MalformedText : Type 0
 MalformedText = answers_text [] Malformed [] ≡ 99 ∷ 32 ∷ 109 ∷ 97 ∷ 108 ∷ 102 ∷ 111 ∷ 114 ∷ 109 ∷ 101 ∷ 100 ∷ 32 ∷ 49 ∷ 10 ∷ []
 
@@ -116,13 +116,15 @@ ClauseAndAskSteps = StepsMatch checker_rules clause_and_ask (Sat (neg 1 ∷ pos 
 abbrev pub TwoUnitsSteps : Type 0
 TwoUnitsSteps = StepsMatch checker_rules two_unit_commands (Unsat [] ∷ []) (UserVarName 0 (Some 0) ∷ AddClause (0 ∷ []) ∷ AddClause (1 ∷ []) ∷ [])
 
--- These steps as bytes: name steps, clause, assumptions, model, assumptions, end. The bytes after the end do not matter.
+-- The steps of `ClauseAndAskSteps` as bytes: name steps, clause, assumptions, model, assumptions, end. The bytes
+-- after the end do not matter.
 abbrev pub ClauseAndAskMatches : Type 0
 ClauseAndAskMatches = (rest : List ℕ)
     → MatchesCommands checker_rules clause_and_ask Clean clause_and_ask_text
     (2 ∷ 0 ∷ 1 ∷ 2 ∷ 1 ∷ 2 ∷ 5 ∷ 2 ∷ 0 ∷ 2 ∷ 11 ∷ 0 ∷ 10 ∷ 2 ∷ 1 ∷ 2 ∷ 11 ∷ 0 ∷ 13 ∷ rest)
 
--- these steps as bytes, with the answers `s UNSATISFIABLE`, `f 0`; the bytes of the certificate after the second clause do not matter
+-- the steps of `TwoUnitsSteps` as bytes, with the answers `s UNSATISFIABLE`, `f 0`; the bytes of the certificate
+-- after the second clause do not matter
 abbrev pub TwoUnitsMatches : Type 0
 TwoUnitsMatches = (rest : List ℕ)
     → MatchesCommands checker_rules two_unit_commands Clean
@@ -133,8 +135,8 @@ TwoUnitsMatches = (rest : List ℕ)
 abbrev pub EmptyMatches : Type 0
 EmptyMatches = (rest : List ℕ) → MatchesCommands checker_rules [] Clean [] (13 ∷ rest)
 
--- If a hidden name is given to its old variable again, nothing matches, whatever the answers are and whatever a checker accepts, as long as
--- that checker knows named variables.
+-- A certificate that gives a hidden name to its old variable again does not match. This holds whatever the outcomes
+-- are, and whatever a checker accepts or records.
 abbrev pub NameOnOldVariable : Type 0
 NameOnOldVariable = (accepts : List Step → Step → Bool) (unsat : List Step → Bool) (outcomes : List Outcome)
     → StepsMatch (record {
@@ -146,15 +148,15 @@ NameOnOldVariable = (accepts : List Step → Step → Bool) (unsat : List Step �
     ∷ UserVarName 0 (Some 0) ∷ AddClause (1 ∷ []) ∷ End ∷ [])
     → ⊥
 
--- for `1 0`, `a 0`, no answers match a certificate with only `End`
+-- for `1 0`, `a 0`, a certificate with only `End` matches no outcomes
 abbrev pub EndAloneMatches : Type 0
 EndAloneMatches = (outcomes : List Outcome) → StepsMatch checker_rules (Clause (pos 1 ∷ []) ∷ Ask [] ∷ []) outcomes (End ∷ []) → ⊥
 
--- empty answers match with no certificate
+-- no certificate matches empty answers to `1 2 0`, `a 0`
 abbrev pub NoAnswers : Type 0
 NoAnswers = (certificate : List ℕ) → MatchesCommands checker_rules clause_and_ask Clean [] certificate → ⊥
 
--- the correct answers, written twice, match with no certificate
+-- no certificate matches the correct answers written twice
 abbrev pub AnswersTwice : Type 0
 AnswersTwice = (certificate : List ℕ) → MatchesCommands checker_rules clause_and_ask Clean (clause_and_ask_text ++ clause_and_ask_text) certificate → ⊥
 
@@ -164,8 +166,8 @@ ClauseAndAskCertified = Certifies checker_rules
     (End ∷ Assumptions [] ∷ Model (1 ∷ 2 ∷ []) ∷ Assumptions [] ∷ AddClause (0 ∷ 2 ∷ []) ∷ UserVarName 1 (Some 1) ∷ UserVarName 0 (Some 0) ∷ [])
     None [] (expected start clause_and_ask (Sat (neg 1 ∷ pos 2 ∷ []) ∷ [])) (1 ∷ [])
 
--- The script `1 0`, `-1 0`, `2 0`, `a 0`. The second clause records unsat, so the steps of the third clause and of the core are left out, but
--- not the step of the name.
+-- The script `1 0`, `-1 0`, `2 0`, `a 0`. The second clause records unsat. So the steps of the third clause and of
+-- the core are left out, but not the step of the name.
 abbrev pub units_and_ask : List Command
 units_and_ask = Clause (pos 1 ∷ []) ∷ Clause (neg 1 ∷ []) ∷ Clause (pos 2 ∷ []) ∷ Ask [] ∷ []
 
@@ -178,7 +180,7 @@ units_and_ask_steps = End ∷ Assumptions [] ∷ Assumptions [] ∷ UserVarName 
 abbrev pub LeftOutCertified : Type 0
 LeftOutCertified = Certifies checker_rules units_and_ask_steps None [] (expected start units_and_ask (Unsat [] ∷ [])) (0 ∷ [])
 
--- the ask took no round, and has no other outcome
+-- with these steps, the ask took no round, and its outcome is the empty core
 abbrev pub KnownWithoutRounds : Type 0
 KnownWithoutRounds = (o : Outcome) (n : ℕ)
     → Certifies checker_rules units_and_ask_steps None [] (expected start units_and_ask (o ∷ [])) (n ∷ []) → (o ≡ Unsat []) × (n ≡ 0)
@@ -204,34 +206,35 @@ UnknownUncertified = (hashes counts : List ℕ)
     → Certifies checker_rules (End ∷ Assumptions [] ∷ AtClause false [] hashes ∷ Assumptions [] ∷ chain_steps) None []
     (expected start chain_and_ask (Unknown ∷ [])) counts → ⊥
 
--- the step of the fourth clause is missing
+-- steps that a run may not write: the step of the fourth clause is missing
 abbrev pub EarlyUncertified : Type 0
 EarlyUncertified = (counts : List ℕ) → Certifies checker_rules
     (End ∷ Assumptions [] ∷ Assumptions [] ∷ UserVarName 2 (Some 2) ∷ AddClause (3 ∷ []) ∷ AddClause (1 ∷ 2 ∷ [])
     ∷ UserVarName 1 (Some 1) ∷ AddClause (0 ∷ []) ∷ UserVarName 0 (Some 0) ∷ [])
     None [] (expected start chain_and_ask (Unsat [] ∷ [])) counts → ⊥
 
--- the script `1 0`, `-1 0`, `a 1 0` with a core that is not empty, with or without its step
+-- Steps that a run may not write, for the script `1 0`, `-1 0`, `a 1 0` and a core that is not empty. Any steps may
+-- follow the assumptions.
 abbrev pub CoreUncertified : Type 0
 CoreUncertified = (shown : List Step) (counts : List ℕ)
     → Certifies checker_rules (shown ++ Assumptions (0 ∷ []) ∷ AddClause (1 ∷ []) ∷ AddClause (0 ∷ []) ∷ UserVarName 0 (Some 0) ∷ []) None []
     (expected start (Clause (pos 1 ∷ []) ∷ Clause (neg 1 ∷ []) ∷ Ask (pos 1 ∷ []) ∷ []) (Unsat (pos 1 ∷ []) ∷ [])) counts → ⊥
 
--- the script `1 0`, `a 0` with only `End`
+-- steps that a run may not write: only `End`, for the script `1 0`, `a 0`
 abbrev pub EndAloneUncertified : Type 0
 EndAloneUncertified = (outcomes : List Outcome) (counts : List ℕ)
     → Certifies checker_rules (End ∷ []) None [] (expected start (Clause (pos 1 ∷ []) ∷ Ask [] ∷ []) outcomes) counts → ⊥
 
--- the script `1 0` without the step of its clause
+-- steps that a run may not write, for the script `1 0`: the step of its clause is missing
 abbrev pub ClauseUncertified : Type 0
 ClauseUncertified = (counts : List ℕ)
     → Certifies checker_rules (End ∷ UserVarName 0 (Some 0) ∷ []) None [] (expected start (Clause (pos 1 ∷ []) ∷ []) []) counts → ⊥
 
--- the script `a 0`, which is satisfiable, without the step of its model
+-- steps that a run may not write, for the satisfiable script `a 0`: the step of its model is missing
 abbrev pub ModelUncertified : Type 0
 ModelUncertified = (counts : List ℕ)
     → Certifies checker_rules (End ∷ Assumptions [] ∷ Assumptions [] ∷ []) None [] (expected start (Ask [] ∷ []) (Sat [] ∷ [])) counts → ⊥
 
--- an empty script with a step after `End`
+-- steps that a run may not write, for an empty script: a step follows `End`
 abbrev pub AfterEndUncertified : Type 0
 AfterEndUncertified = (step : Step) (counts : List ℕ) → Certifies checker_rules (step ∷ End ∷ []) None [] (expected start [] []) counts → ⊥

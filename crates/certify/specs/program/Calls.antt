@@ -1,4 +1,4 @@
--- What the arguments of a call ask for, and the status of a call.
+-- The requests that arguments make, and the status of a call.
 use Rattle.std.specs.Prelude.{ℕ, ◌≡◌, ◌≤◌, ◌<◌, ◌⊎◌, true, Option, MatchOption, List, [], ◌∷◌, length, codes, Result, IfOk}
 use Rattle.std.specs.Str.{all_ascii_digits}
 use Rattle.std.specs.Str.Parse.{digits_value}
@@ -7,7 +7,7 @@ use Rattle.certify.specs.declared.program.call.Call.{Call}
 use Rattle.certify.specs.declared.program.call.Call.TheVariants as call
 use Rattle.certify.specs.declared.program.call.RunFiles.{RunFiles}
 
--- What a call over files asks for. Each file is given by its argument.
+-- The request of a call over files. Each file is given by its argument.
 pub data Request : Type 0 where
   Run : (script answers certificate : List ℕ) (budget : ℕ) → Request
   Confirm : (script answers certificate : List ℕ) → Request
@@ -44,7 +44,7 @@ AsksFor words request = IsUsage words request × KeepsInput request
 abbrev pub AsksNothing : List (List ℕ) → Type 0
 AsksNothing words = (request : Request) → AsksFor words request → ⊥
 
--- that there are arguments, and they are not a call
+-- that there are arguments, and they are not such a call
 abbrev pub IsMisuse : List (List ℕ) → Type 0
 IsMisuse words = (words ≡ [] → ⊥) × AsksNothing words
 
@@ -59,7 +59,8 @@ WritesFiles (Check h) = ⊥
 abbrev pub MayOverlap : List (List ℕ) → Type 0
 MayOverlap words = (request : Request) × AsksFor words request × WritesFiles request
 
--- That the status is 2 if the arguments are not a call. For other arguments it is 2 only if the call writes files.
+-- That the status is 2 if there are arguments and they are not a call. Otherwise it is 2 only if the call writes
+-- files.
 pub record ReportsUsage (words : List (List ℕ)) (status : ℕ) : Type 0 where
   pub misused : IsMisuse words → status ≡ 2
   pub only : status ≡ 2 → IsMisuse words ⊎ MayOverlap words

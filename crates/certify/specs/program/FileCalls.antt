@@ -61,8 +61,8 @@ pub record ChecksFile {F : Type 0} (remaining : F → Option (List ℕ)) (status
   pub small : status ≤ 1
   pub printed : PrintsHintVerdict status (reader_of remaining hints.old, reader_of remaining hints.new) output
 
--- The effect of a call that ended with this status: it did what was asked for. With status 2, nothing was overwritten or printed; only a call
--- that writes files can have status 2.
+-- The effect of a call that ended with this status. A call that only reads files carried out its request. A call that
+-- writes files printed nothing, and carried out its request unless the status is 2.
 abbrev pub CallDone : {F : Type 0} → (remaining contents : F → Option (List ℕ)) → Request → ℕ → Writer × Writer → Type 0
 CallDone remaining contents (Run s a c budget) status output =
     (output.1 ≡ output.0) × ((status ≡ 2) ⊎ RunsFiles remaining contents status budget)
@@ -70,7 +70,7 @@ CallDone remaining contents (Confirm s a c) status output = ConfirmsFiles remain
 CallDone remaining contents (Hints c h) status output = (output.1 ≡ output.0) × ((status ≡ 2) ⊎ HintsFiles remaining contents status)
 CallDone remaining contents (Check h) status output = ChecksFile remaining status output
 
--- that `CallDone` holds for the request of these arguments, if there was no fault
+-- that `CallDone` holds for the request of these arguments, if the status is at most 2
 abbrev pub DoneOverFiles : {F : Type 0} → (remaining contents : F → Option (List ℕ)) → List (List ℕ) → ℕ → Writer × Writer → Type 0
 DoneOverFiles remaining contents words status output =
     (request : Request) → AsksFor words request → status ≤ 2 → CallDone remaining contents request status output

@@ -34,7 +34,7 @@ proved_text empty cores lines =
 abbrev pub bad_text : ℕ → HintWhy → List ℕ
 bad_text line cause = codes "bad " ++ decimal line ++ 32 ∷ [] ++ hint_why_text cause ++ 10 ∷ []
 
--- the line for a hint text: what it derives, or its first faulty line and why
+-- the line for the verdict on a hint text
 abbrev pub hint_verdict_text : HintVerdict → List ℕ
 hint_verdict_text (Proved empty cores lines) = proved_text empty cores lines
 hint_verdict_text (Bad line cause) = bad_text line cause
@@ -60,7 +60,7 @@ status_after (Err error.Read) = None
 status_after (Err error.Write) = None
 status_after (Err error.OutOfMemory) = None
 
--- That a certificate was read and its hint text was written and flushed, or there is none.
+-- That a certificate was read, and its hint text was written and flushed or, with status 1, there is none.
 pub record WritesHints (status : ℕ) (certificate : Reader × Reader) (hints : Writer × Writer) : Type 0 where
   pub answer : Result (Unit {0}) HintError
   pub converts : Converts answer certificate.0 certificate.1 hints.0 hints.1

@@ -104,7 +104,7 @@ pub record Prints (status : ℕ) (text : List ℕ) (old new : Writer) : Type 0 w
 abbrev pub PrintsVerdict : ℕ → Reader × Reader → Writer × Writer → Type 0
 PrintsVerdict status input output = GaveEnough input.0 input.1 (λ text. Prints status text output.0 output.1)
 
--- That a prefix of correct answers to a text, followed by `c confirmed`, was printed.
+-- That a prefix of correct answers to a text and of the line `c confirmed` after them was printed.
 pub record PrintsPrefix (text : List ℕ) (old new : Writer) : Type 0 where
   pub answers : List ℕ
   pub answered : IsAnswered text answers

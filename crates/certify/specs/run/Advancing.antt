@@ -1,5 +1,5 @@
--- When a derived clause advances, given what the checker of a certificate has stored, and how often that happens between two places. Lists of
--- steps have the newest first.
+-- When a derived clause advances, given what the checker of a certificate stores, and how often that happens between
+-- two places. Lists of steps have the newest first.
 use Rattle.std.specs.Prelude.{ℕ, ◌+◌, ◌≡◌, ◌⊎◌, true, false, List, [], ◌∷◌, ◌++◌, map}
 use Rattle.std.specs.List.{AllByRecursion}
 use Rattle.sat_base.specs.values.Literals.{negated}
@@ -28,8 +28,8 @@ pub record IsOpenStill (f : Stored) (literal : ℕ) (reached : List ℕ) : Type 
   pub not_false : is_among reached (negated literal) ≡ false
   pub no_conflict : (clause : List ℕ) → Among clause (long_clauses f) → IsFalsified reached clause → ⊥
 
--- That the literals in `supposed` do not contradict each other and leave `literal` unassigned. No unit propagation from them over stored
--- clauses assigns `literal` or falsifies a clause.
+-- That the literals of `start_literals` do not contradict each other and leave `literal` unassigned. No unit
+-- propagation from them over stored clauses assigns `literal` or falsifies a clause.
 pub record LeavesOpen (f : Stored) (others : List ℕ) (literal : ℕ) : Type 0 where
   pub agree : (l : ℕ) → is_among (start_literals f others) l ≡ true → is_among (start_literals f others) (negated l) ≡ false
   pub open_still : (reached : List ℕ) → PropagatesTo f (start_literals f others) reached → IsOpenStill f literal reached

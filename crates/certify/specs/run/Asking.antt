@@ -8,7 +8,8 @@ use Rattle.certify.specs.run.SolverCalls.{Searched}
 use Rattle.certify.specs.run.Reporting.{IsReportedRight, outcome_for}
 use Rattle.certify.specs.run.Quiet.{Solver}
 
--- That the literals of an ask were assumed and an answer was searched. The answer is correct, and `text` is its text.
+-- That the literals of an ask were assumed, and a search led to the reported answer. The answer is correct, and
+-- `text` is its text.
 pub record AskEffect {C : Type 0} (seen : C → Writer) (budget : ℕ) (report : AskReport) (user text : List ℕ) (old new : Solver C) : Type 0 where
   pub mid : Solver C
   pub opened : ReplacesAssumptions seen old mid user

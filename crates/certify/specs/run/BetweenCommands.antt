@@ -25,7 +25,7 @@ use Rattle.certify.specs.run.SolverCalls.{FaultSays, IsCaused, IsReadySolver, La
 use Rattle.certify.specs.run.Serving.{RunPlace, Serves}
 use Rattle.certify.specs.run.Quiet.{Solver}
 
--- that the script state of the solver is `j`, which satisfies the invariant
+-- that the script state of the solver is `j`, which satisfies the invariant of script states
 pub record AgreesWithState {C : Type 0} (s : Solver C) (j : ScriptState) (live : Live) : Type 0 where
   pub agree : NamesAgree s.names (steps_in s) j live
   pub kept : ScriptStateInvariant j
@@ -36,7 +36,7 @@ pub record HasStateBetweenCommands {C : Type 0} (s : RunState C) (j : ScriptStat
   pub means : AgreesWithState s.solver j live
   pub names : NamesHaveState s.names j
 
--- that a run is between commands, without assumptions
+-- that a run is between commands, and its solver is ready and has no assumptions
 pub record RunGoesOn {C : Type 0} (s : RunState C) : Type 0 where
   pub ready : IsReadySolver s.solver
   pub free : s.solver.assumed.items ≡ []
@@ -52,7 +52,7 @@ place_in s j = record { judge = j; number = s.commands + 1; steps = steps_in s.s
 abbrev pub last_place : {C : Type 0} → RunState C → ScriptState → RunPlace
 last_place s j = record { judge = j; number = s.commands; steps = steps_in s.solver; rounds = s.solver.clock.rounds }
 
--- the command that is passed, if no name is past the limit
+-- the command that the code's value represents, if no name is past the limit
 abbrev pub spelled_by : Lent → Command
 spelled_by lent = command_of (kind_of lent.kind) (named_literals lent.literals.now)
 
@@ -101,27 +101,31 @@ pub record ServedNext {C : Type 0} (seen : C → Writer) (old new : RunState C) 
   pub serves : (j : ScriptState) → HasStateBetweenCommands old j
       → HasStateBetweenCommands new (after_command c j) × Serves old.budget (place_in old j) (place_in new (after_command c j)) (c ∷ []) text reports refused
 
--- That if the latest command, which is not refused, was not carried out, a prefix of correct answers to it and to the rest was written.
+-- That, if the result is a fault, a prefix of correct answers to the latest command and to the rest was written. The
+-- command is not refused.
 abbrev pub StopsCarrying : {T C : Type 0} → Result T RunFault → RunState C → Command → Reading → Writer → Writer → Type 0
 StopsCarrying r old c left before after =
     OnErr r ((j : ScriptState) (live : Live) → AgreesWithState old.solver j live → refusal_of j c ≡ None
     → TookAnswersFront old.budget old.solver.clock.rounds old.commands j (onto_commands (c ∷ []) left) before after)
 
--- that if a script was not served from here on, a prefix of correct answers to it was written
+-- that, if the result is a fault, a prefix of correct answers to the rest of the script was written
 abbrev pub StopsOver : {T C : Type 0} → Result T RunFault → RunState C → Reading → Writer → Writer → Type 0
 StopsOver r old script before after =
     OnErr r ((j : ScriptState) → HasStateBetweenCommands old j → TookAnswersFront old.budget old.solver.clock.rounds (old.commands + 1) j script before after)
 
--- why the latest command, which is not refused, was not carried out, except for device and allocation failures
+-- that `StoreFull` is only returned if the store is full, and `CounterEnd` only if the command lacks variables for
+-- its names
 abbrev pub CausedBy : {T C : Type 0} → Result T RunFault → RunState C → RunState C → Command → Type 0
 CausedBy r old new c = IfErr r (λ e. IsCaused e (HasFullStore new.solver) (LacksFor old.solver new.solver c))
 
--- why a script was not served from here on, except for device and allocation failures
+-- that `StoreFull` is only returned if the store is full, and `CounterEnd` only if the rest of the script exceeds a
+-- limit (`Exceeds`)
 abbrev pub CausedOver : {T C : Type 0} → Result T RunFault → RunState C → RunState C → Reading → Type 0
 CausedOver r old new script =
     IfErr r (λ e. IsCaused e (HasFullStore new.solver) ((j : ScriptState) → HasStateBetweenCommands old j → Exceeds old.commands j script (steps_in new.solver)))
 
--- the effect of a part of a run on the answers' writer and on the certificate: one call of one of these writers may have failed
+-- The effect of a part of a run on the answers' writer and on the certificate. If the fault names one of them, a call
+-- of its writer failed.
 abbrev pub WritesBoth : {T C : Type 0} → Result T RunFault → (C → Writer) → Writer → Writer → Solver C → Solver C → Type 0
 WritesBoth r seen before after old new = MatchResult r
     (λ _. NoneFailed before after × ComesBySteps seen (proof_in old) (proof_in new))

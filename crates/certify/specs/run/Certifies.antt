@@ -32,8 +32,9 @@ pub record IsKnown (o : Outcome) (n : ℕ) : Type 0 where
   pub outcome : o ≡ Unsat []
   pub rounds : n ≡ 0
 
--- That the steps after `earlier`, up to `all`, contain what is expected, in order and content, among other steps. No step follows the last
--- expected step. `counts` are the rounds of the asks. The `Option` is the outcome of the ask that is open at first, if any.
+-- That the steps after `earlier`, up to `all`, contain the expected steps in order, among unordered steps; `MayLack`
+-- says which may be left out. No step follows the last expected step. `counts` are the rounds of the asks. The
+-- `Option` is the outcome of the ask that is open at first, if any.
 pub data Certifies (k : CheckerRules) (all : List Step) : Option Outcome → List Step → List Expected → List ℕ → Type 0 where
   complete : Certifies k all None all [] []
   left_out : {current : Option Outcome} {earlier : List Step} {e : Expected} {es : List Expected} {counts : List ℕ}

@@ -27,12 +27,12 @@ HasTarget seen s = target_of seen (proof_in s) ≡ Closed → ⊥
 abbrev pub HasOpenTarget : {C : Type 0} → (C → Writer) → Solver C → Type 0
 HasOpenTarget seen s = is_open (target_of seen (proof_in s)) ≡ true
 
--- that the last step was written, and the writer is returned
+-- that the step `End` was written, and the writer is returned
 pub record ClosedBy {C : Type 0} (seen : C → Writer) (s : Solver C) (given : C) : Type 0 where
   pub takes : TakesAll (target_of seen (proof_in s)) (End ∷ []) (seen given)
   pub may : AreAllowedSteps (End ∷ steps_in s)
 
--- that the writer is returned as it is after further steps
+-- that `Goes` leads to some proof, and the writer of that proof is returned
 pub record GivenBack {C : Type 0} (seen : C → Writer) (Goes : (C → Writer) → Proof C → Proof C → Type 0) (s : Solver C) (given : C) : Type 0 where
   pub proof : Proof C
   pub goes : Goes seen (proof_in s) proof
@@ -48,7 +48,8 @@ abbrev pub EndsCertificate : {C : Type 0} → (C → Writer) → Result (Unit {0
 EndsCertificate seen (Ok x) s given = ClosedBy seen s given
 EndsCertificate seen (Err e) s given = FaultSays e ⊥ (GivenBack seen BreaksEmitting s given) (GivenBack seen ComesBySteps s given) × IsCaused e ⊥ ⊥
 
--- that the certificate was ended, and then the answers' writer was flushed without receiving more bytes
+-- that the certificate was ended, and then the answers' writer was flushed without receiving more bytes; or, with a
+-- fault, that this failed
 abbrev pub FinishesRun : {C : Type 0} → (C → Writer) → Result (Unit {0}) RunFault → Solver C → C → Writer → Writer → Type 0
 FinishesRun seen (Ok x) s given before after = ClosedBy seen s given × WriterTakes before after [] × (after.flushed ≡ true)
 FinishesRun seen (Err e) s given before after = FaultSays e
@@ -65,7 +66,7 @@ pub record SumsUp {C : Type 0} (at : Option ℕ) (s : RunState C) (summary : Sum
   pub ends : summary.malformed ≡ at
   pub asks : summary.asks ≡ s.asks
 
--- How a run ends whose script was served. After a fault nothing more is written.
+-- The end of a run, given the result of serving its script. If serving failed, nothing more is written.
 abbrev pub EndsRun : {C : Type 0} → (C → Writer) → Result (Option ℕ) RunFault → Result Summary RunFault → RunState C → C → Writer → Writer → Type 0
 EndsRun seen (Ok at) (Ok summary) s given before after = FinishesRun seen (Ok tt) s.solver given before after × SumsUp at s summary
 EndsRun seen (Ok at) (Err e) s given before after = FinishesRun seen (Err e) s.solver given before after

@@ -1,4 +1,4 @@
--- What a finished run guarantees, and when a device failed.
+-- The guarantees of a finished run, and failed calls of a writer.
 use Rattle.std.specs.Prelude.{ℕ, ◌+◌, ◌*◌, ◌^◌, ◌<◌, ◌≡◌, ◌≤◌, true, false, Option, Some, None, is_some, List, [], ◌∷◌, map, length, reverse, Result, IfOk, if◌then◌else◌}
 use Rattle.std.specs.List.{AllByRecursion}
 use Rattle.sat_base.specs.device.Device.{Reader, Writer, GaveEnough, WriterTakes}
@@ -68,7 +68,7 @@ identities_given j (Hide names ∷ commands) = identities_given (accepted (Hide 
 identities_given j (Witness names ∷ commands) = identities_given (accepted (Witness names) j) commands
 identities_given j (Sample names ∷ commands) = identities_given (accepted (Sample names) j) commands
 
--- the number of variables at the start of each of these asks
+-- the number of identities at each of these asks, once its names were introduced
 abbrev pub variables_at : List Asked → List ℕ
 variables_at asks = map (λ a. a.state.identity_count) asks
 
@@ -76,7 +76,8 @@ variables_at asks = map (λ a. a.state.identity_count) asks
 abbrev pub rounds_of_asks : List AskReport → List ℕ
 rounds_of_asks reports = map (λ r. r.steps) reports
 
--- that the rounds of every ask are within its bounds, given the number of identities at each ask and the rounds of the asks before these
+-- that the rounds of every ask are within its bounds; `given` are the numbers of identities at the asks, and `before` is
+-- the number of rounds of earlier asks
 abbrev pub AreWithinBudget : (budget before : ℕ) → (given : List ℕ) → List AskReport → Type 0
 AreWithinBudget budget before [] [] = Unit {0}
 AreWithinBudget budget before [] (report ∷ reports) = ⊥
@@ -97,7 +98,8 @@ pub record AnswersRightly (text : List ℕ) (budget : ℕ) (summary : Summary) (
   pub kinds : map (λ r. r.answer) summary.asks.items ≡ map answer_kind outcomes
   pub spent : AreWithinBudget budget 0 (identities_given start (accepted_of start (reading text).0)) summary.asks.items
 
--- That the summary and the answers of a finished run are correct, by the short definitions, in which the asks are a list of their own.
+-- That the summary and the answers of a finished run are correct, by the short definitions. There the asks are a list
+-- of their own.
 pub record ReportsRightly (text : List ℕ) (budget : ℕ) (summary : Summary) (answered : List ℕ) : Type 0 where
   pub outcomes : List Outcome
   pub right : EachIsRight (asks_of start (script_in text).0) outcomes
@@ -130,7 +132,7 @@ pub record CertificateGuarantee (text : List ℕ) (budget : ℕ) (summary : Summ
   -- if no accepted command hides a name, no variable is deleted
   pub keeps : AllByRecursion HidesNothing (accepted_of start (reading text).0) → has_delete_var steps ≡ false
 
--- WHAT THREE DEVICES SHOW OF IT
+-- FOR THREE DEVICES
 
 -- that the answers' writer received the answers to the text that the reader gave, whatever bytes could follow
 abbrev pub WritesAnswers : ℕ → Summary → Reader × Reader → Writer × Writer → Type 0
@@ -138,7 +140,7 @@ WritesAnswers budget summary script answers =
     GaveEnough script.0 script.1 (λ text. (answered : List ℕ)
     × WriterTakes answers.0 answers.1 answered × ReportsRightly text budget summary answered)
 
--- that the answers' writer received the answers, and the certificate's writer the certificate
+-- that the answers' writer received the answers, and the certificate's writer a certificate with its guarantee
 abbrev pub TookCertificate : ℕ → Summary → Reader × Reader → Writer × Writer → Writer × Writer → Type 0
 TookCertificate budget summary script answers certificate = GaveEnough script.0 script.1 (λ text. (answered : List ℕ) × (certified : List ℕ)
     × WriterTakes answers.0 answers.1 answered × WriterTakes certificate.0 certificate.1 certified × CertificateGuarantee text budget summary answered certified)

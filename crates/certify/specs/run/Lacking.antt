@@ -36,7 +36,7 @@ CommandLacks j (Hide names) steps = NextLacks Hide names j steps
 CommandLacks j (Witness names) steps = NextLacks Witness names j steps
 CommandLacks j (Sample names) steps = NextLacks Sample names j steps
 
--- that one of these commands lacks variables for its names, after the commands before it; it is not refused
+-- that one of these commands is not refused and lacks variables for its names, after the commands before it
 pub record OneLacks (j : ScriptState) (commands : List Command) (steps : List Step) : Type 0 where
   pub before : List Command
   pub command : Command

@@ -6,7 +6,7 @@ use Rattle.sat_checker.specs.matching.ProofChecking.{checker_rules}
 use Rattle.certify.specs.run.Advancing.{AdvanceTimesStored, AreUnordered}
 use Rattle.certify.specs.run.Stretches.{LearnsEachRound}
 
--- how often assumptions were set: twice for each ask, to its literals and, at its end, to none
+-- the number of steps that set assumptions: each ask has two, one for its literals and one, at its end, for none
 abbrev pub assumed_times : List Step → ℕ
 assumed_times [] = 0
 assumed_times (Assumptions ls ∷ earlier) = assumed_times earlier + 1

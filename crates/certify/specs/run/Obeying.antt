@@ -1,4 +1,4 @@
--- Commands that a run's solver carries out by itself: clauses, and those that hide names or set their mode.
+-- Commands that are not asks, as a run's solver carries them out: clauses, and commands that hide names or set modes.
 use Rattle.std.specs.Prelude.{ℕ, ◌+◌, ◌≡◌, true, false, List, [], ◌∷◌, Result}
 use Rattle.sat_base.specs.device.Device.{Writer}
 use Rattle.sat_base.specs.script.Script.{Command, Hide, Witness, Sample}
@@ -32,7 +32,7 @@ due_to state.Hidden names = hiding names
 due_to state.Sampled names = setting Sampled names
 due_to state.Witnessed names = setting Witnessed names
 
--- which steps are allowed for one name that gets this state
+-- that a step is allowed for a name that gets this state
 abbrev pub may_to : NameState → ℕ → List Step → Step → Type 0
 may_to state.Hidden name = MayHide
 may_to state.Sampled name = MaySet name true

@@ -1,4 +1,4 @@
--- What a run reports of what its solver found.
+-- The outcome that a run reports for its solver's answer.
 use Rattle.sat_checker.specs.LiteralSets.{canonical}
 use Rattle.sat_checker.specs.matching.Expected.{Outcome, Sat, Unsat, Unknown}
 use Rattle.sat_solver.specs.solver.Resting.{IsRightLine, IsRightCoreOf, core_for}
@@ -8,7 +8,7 @@ use Rattle.certify.specs.declared.summary.Answer.{Answer}
 use Rattle.certify.specs.declared.summary.Answer.TheVariants as kind
 use Rattle.certify.specs.run.Quiet.{Solver}
 
--- the outcome for what the solver found: a model of the names in use, or a core, whose literals are sorted
+-- the outcome for this answer: a model of the names in use, or a core with its literals sorted
 abbrev pub outcome_for : {C : Type 0} → Answer → Solver C → Outcome
 outcome_for kind.Sat s = Sat (named_literals (line_in s))
 outcome_for kind.Unsat s = Unsat (named_literals (canonical (core_for s.state s)))

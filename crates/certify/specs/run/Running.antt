@@ -7,7 +7,7 @@ use Rattle.certify.specs.declared.summary.Summary.{Summary}
 use Rattle.certify.specs.run.FinishedRun.{CertificateGuarantee}
 use Rattle.certify.specs.run.ServedScript.{RunFaultSays}
 
--- what a run wrote for a text: the answers, and the certificate
+-- that a run wrote the answers to a text and a certificate with its guarantee
 pub record WritesRun (text : List ℕ) (budget : ℕ) (summary : Summary) (answers certificate : Writer × Writer) : Type 0 where
   pub answered : List ℕ
   pub certified : List ℕ

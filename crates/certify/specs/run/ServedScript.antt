@@ -1,4 +1,5 @@
--- How a script is served whose commands are read as they are needed, whatever bytes could follow. Lists of steps have the newest first.
+-- How a script is served while its commands are read, whatever bytes could follow. Lists of steps have the newest
+-- first.
 use Rattle.std.specs.Prelude.{ℕ, ◌+◌, ◌≡◌, true, false, Option, List, ◌++◌, map, length, Result, Ok, Err}
 use Rattle.sat_base.specs.declared.device.whole.ReadError.{ReadError}
 use Rattle.sat_base.specs.declared.device.whole.ReadError.TheVariants as errors
@@ -74,8 +75,8 @@ pub record ServesWhole {C : Type 0} (seen : C → Writer) (j : ScriptState) (scr
   pub refusals : new.refused ≡ old.refused + refused
   pub serves : ServesTo old.budget (place_in old j) script (steps_in new.solver) text reports refused
 
--- That these commands were served between two places. After them, `left` gives the reading of the rest of the script, and `plain` gives the
--- commands of the rest of the text.
+-- That these commands were served between two places. After them, `left` gives the reading of the rest of the script.
+-- `plain` gives the same without the ask that a header may add.
 pub record ServesThrough {C : Type 0} (seen : C → Writer) (j : ScriptState) (text counted : List ℕ → Reading) (a b : Source)
     (reader : ScriptReader) (old new : RunState C) (before after : Writer) : Type 0 where
   pub commands : List Command
@@ -95,7 +96,7 @@ abbrev pub run_fault : ReadError → RunFault
 run_fault errors.Failed = fault.ScriptRead
 run_fault errors.OutOfMemory = fault.OutOfMemory
 
--- the statement that belongs to a fault: `script`, `answers` or `certificate` if that device failed, otherwise `rest`
+-- the statement for a fault: `script`, `answers` or `certificate` if that device failed, otherwise `rest`
 abbrev pub RunFaultSays : RunFault → Type 0 → Type 0 → Type 0 → Type 0 → Type 0
 RunFaultSays fault.ScriptRead script answers certificate rest = script
 RunFaultSays fault.AnswersWrite script answers certificate rest = answers

@@ -10,7 +10,7 @@ use Rattle.certify.specs.run.FinishedRun.{refused_count, answer_kind, AreWithinB
 use Rattle.certify.specs.run.Stretches.{ServesCommands}
 use Rattle.certify.specs.declared.summary.AskReport.{AskReport}
 
--- the place of a run: the script state, the number of the next command, the steps made so far, and the rounds
+-- the place of a run: the script state, the number of the next command, and the steps and rounds made so far
 pub record RunPlace : Type 0 where
   pub judge : ScriptState
   pub number : ℕ

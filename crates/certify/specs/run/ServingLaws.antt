@@ -26,7 +26,7 @@ abbrev pub RefusalServes : Type 0
 RefusalServes = (budget : ℕ) (a : RunPlace) (c : Command) (r : Refusal) → refusal_of a.judge c ≡ Some r
     → Serves budget a (record a { number = a.number + 1 }) (c ∷ []) (refused_line a.number r) [] 1
 
--- that an accepted command that is not an ask has no answer, if the steps due for it were made
+-- that an accepted command that is not an ask has no answer, if the steps expected for it were made
 abbrev pub PlainServes : Type 0
 PlainServes = (budget : ℕ) (a : RunPlace) (c : Command) (steps : List Step) → IsNoAsk c → refusal_of a.judge c ≡ None
     → Stretch (MayFor c) a.steps steps (due_for (checker_rules.unsat a.steps) c a.judge)

@@ -43,8 +43,8 @@ abbrev pub is_interrupted : SolverError → Bool
 is_interrupted errors.Interrupted = true
 is_interrupted e = false
 
--- the statement that belongs to a fault: `answers` or `certificate` if a write of that text failed, otherwise `rest`; the script is not read
--- here
+-- the statement for a fault: `answers` or `certificate` if a write of that text failed, otherwise `rest`; the script
+-- is not read here
 abbrev pub FaultSays : RunFault → Type 0 → Type 0 → Type 0 → Type 0
 FaultSays fault.ScriptRead answers certificate rest = ⊥
 FaultSays fault.AnswersWrite answers certificate rest = answers
@@ -53,7 +53,7 @@ FaultSays fault.OutOfMemory answers certificate rest = rest
 FaultSays fault.StoreFull answers certificate rest = rest
 FaultSays fault.CounterEnd answers certificate rest = rest
 
--- the reason for a fault that is neither a device's nor an allocation failure: the clause buffer is full, or a name lacks a variable
+-- that `full` holds if the fault is `StoreFull`, and `lacks` holds if it is `CounterEnd`
 abbrev pub IsCaused : RunFault → (full lacks : Type 0) → Type 0
 IsCaused fault.ScriptRead full lacks = Unit {0}
 IsCaused fault.AnswersWrite full lacks = Unit {0}
@@ -70,18 +70,18 @@ FailsSolver seen e old new = FaultSays e ⊥ (BreaksEmitting seen (proof_in old)
 abbrev pub FailsIf : {T C : Type 0} → Result T RunFault → (C → Writer) → Solver C → Solver C → Type 0
 FailsIf r seen old new = IfErr r (λ e. FailsSolver seen e old new)
 
--- that no lines of DRAT are written
+-- that the proof is not written as DRAT
 abbrev pub HasNoLines : {C : Type 0} → Proof C → Type 0
 HasNoLines {C} p = (seen : C → Writer) → is_drat (target_of seen p) ≡ false
 
--- that a solver has not failed, and has no checker of its own; its asks may have assumptions
+-- that a solver has not failed, does not write DRAT, and has no checker of its own; it may have assumptions
 pub record IsReadySolver {C : Type 0} (s : Solver C) : Type 0 where
   pub solver : IsSolver s
   pub going : s.failed ≡ false
   pub no_lines : HasNoLines (proof_in s)
   pub unchecked : is_checked (proof_in s) ≡ false
 
--- that none of the names is refused, in a script state that the solver agrees with
+-- that none of the names is refused, in some script state that the solver agrees with
 abbrev pub IsAllowed : {C : Type 0} → Solver C → List ℕ → Type 0
 IsAllowed s user = (j : ScriptState) × (live : Live) × NamesAgree s.names (steps_in s) j live × (refused_literal j (names_in user) ≡ None)
 
@@ -89,7 +89,7 @@ IsAllowed s user = (j : ScriptState) × (live : Live) × NamesAgree s.names (ste
 abbrev pub LacksRoom : {C : Type 0} → Solver C → (users : List ℕ) → Type 0
 LacksRoom s users = HasVariablesFor s.names users → ⊥
 
--- that the names were refused because there are not enough variables for them
+-- that the names were refused because there are not enough variables for them, and the solver is unchanged
 abbrev pub RefusedForRoom : {C : Type 0} → Solver C → Solver C → (users : List ℕ) → Type 0
 RefusedForRoom old new users = LacksRoom old users × (new ≡ old)
 
@@ -99,7 +99,7 @@ abbrev pub LacksFor : {C : Type 0} → Solver C → Solver C → Command → Typ
 LacksFor old new c = (j : ScriptState) (live : Live) → NamesAgree old.names (steps_in old) j live
     → (var_limit < (accepted c j).identity_count) × CommandLacks j c (steps_in new)
 
--- that a search makes at most `budget` rounds from now on
+-- that only the limit of rounds changed: a search makes at most `budget` rounds from now on
 pub record Limited {C : Type 0} (budget : ℕ) (old new : Solver C) : Type 0 where
   pub ready : IsReadySolver new
   pub limit : new.core.config.max_steps ≡ budget
@@ -109,7 +109,7 @@ pub record Limited {C : Type 0} (budget : ℕ) (old new : Solver C) : Type 0 whe
   pub assumed : new.assumed ≡ old.assumed
   pub rounds : new.clock.rounds ≡ old.clock.rounds
 
--- that the answer is what the solver's state says
+-- that the answer is the one for this state of the solver
 abbrev pub AnswerIs : State → Answer → Type 0
 AnswerIs states.Unknown answer = answer ≡ kind.Unknown
 AnswerIs states.Sat answer = answer ≡ kind.Sat

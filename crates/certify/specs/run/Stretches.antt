@@ -1,4 +1,5 @@
--- Which steps a run's solver makes for each command, with hashes at full width. Lists of steps have the newest first.
+-- The steps that a run's solver makes for each command, with hashes at full width. Lists of steps have the newest
+-- first.
 use Rattle.std.specs.Prelude.{ℕ, ◌+◌, ◌≡◌, Bool, true, false, List, [], ◌∷◌, ◌++◌, if◌then◌else◌}
 use Rattle.sat_base.specs.script.Script.{Literal, Command, Clause, Ask, Hide, Witness, Sample, Among, names_of}
 use Rattle.sat_base.specs.script.ScriptState.{ScriptState, Sampled, Witnessed, accepted}
@@ -16,7 +17,7 @@ pub record Stretch (IsAllowedStep : List Step → Step → Type 0) (from to : Li
   pub due : HasTrace checker_rules from to es
   pub comes : OnlyAllowedSteps IsAllowedStep from to
 
--- A COMMAND THAT IS NO ASK
+-- COMMANDS OTHER THAN ASKS
 
 -- that the command is not an ask: it is a clause, or a command about names
 abbrev pub IsNoAsk : Command → Type 0
@@ -31,12 +32,13 @@ due_for unsat (Hide names) j = hiding names j
 due_for unsat (Witness names) j = setting Witnessed names j
 due_for unsat (Sample names) j = setting Sampled names j
 
--- that the step sets the variable of one of these names to this mode
+-- that the step is an ordered step at its place, or sets the variable of one of these names to this mode
 abbrev pub MaySetOne : List ℕ → Bool → List Step → Step → Type 0
 MaySetOne names sample earlier step = (name : ℕ) × Among name names × MaySet name sample earlier step
 
--- The steps that are allowed for a command, besides those expected. A clause may give its names indices, and be deleted right after its step. A
--- hidden variable without an index may be deleted right after its name is removed. The modes of names may be set.
+-- The steps that are allowed for a command: ordered steps at their places, and some others. A clause and an ask may
+-- give their names indices and change the width. A clause may be deleted right after its step. A hidden variable
+-- without an index may be deleted right after its name is removed. `w` and `s` may change the mode of their names.
 abbrev pub MayFor : Command → List Step → Step → Type 0
 MayFor (Clause ls) = MayAdd (names_of ls)
 MayFor (Ask ls) = MayTake (names_of ls)
@@ -63,8 +65,9 @@ pub record LearnsBetween (unsat : Bool) (o : Outcome) (rounds : ℕ) (opened sho
   pub times : AdvancesIn opened shown learned
   pub counts : LearnsEachRound unsat o rounds learned
 
--- The steps of an ask. First its names are introduced, with indices, and it is opened. Then the search may make any other steps, none of them
--- after unsat is recorded, and the outcome is shown. Finally the ask is closed.
+-- The steps of an ask. First its names are introduced, with indices, and it is opened. Then the search may make any
+-- unordered steps (only changes of the width once unsat is recorded), and the outcome is shown. Finally the ask is
+-- closed.
 pub record AskStretches (j : ScriptState) (ls : List Literal) (o : Outcome) (rounds : ℕ) (from to : List Step) : Type 0 where
   pub opened : List Step
   pub shown : List Step

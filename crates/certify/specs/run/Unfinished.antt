@@ -76,8 +76,8 @@ pub record StepsFront (old new : Writer) : Type 0 where
 abbrev pub TookSteps : Writer × Writer → Type 0
 TookSteps certificate = ∥ StepsFront certificate.0 certificate.1 ∥₁
 
--- That after `count` commands, there are more commands than can be counted, or one of them lacks variables for its names after these steps. In
--- the latter case there are more identities than there can be variables.
+-- That there are at least 2^64-1 commands, with `count` earlier ones, or one of these commands lacks variables for
+-- its names after these steps. In the latter case there are more identities than there can be variables.
 abbrev pub Exceeds : (count : ℕ) → ScriptState → Reading → List Step → Type 0
 Exceeds count j script steps =
     (2 ^ 64 - 1 ≤ count + length script.0) ⊎ ((var_limit < (after_script script.0 j).identity_count) × OneLacks j script.0 steps)

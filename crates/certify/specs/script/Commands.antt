@@ -1,4 +1,4 @@
--- The place of a reader of scripts in a text, and the effect of tokens and bytes.
+-- The position of a reader of scripts in a text, and the effect of tokens and bytes.
 use Rattle.std.specs.Prelude.{ℕ, ◌≡◌, ◌<◌, ◌*◌, Bool, true, false, not, ◌&&◌, ◌||◌, Option, Some, None, List, [], ◌∷◌, ◌++◌}
 use Rattle.std.specs.List.{AllByRecursion}
 use Rattle.sat_base.specs.values.Literals.{var_limit}
@@ -41,28 +41,28 @@ is_ask_kind OfHide = false
 is_ask_kind OfWitness = false
 is_ask_kind OfSample = false
 
--- that the literals begin with one past the limit or, if the flag is false, that there are none
+-- that the first literal is past the limit or, if the flag is false, that there are no literals
 abbrev pub BeginsPast : Bool → List Literal → Type 0
 BeginsPast false ls = ls ≡ []
 BeginsPast true [] = ⊥
 BeginsPast true (l ∷ ls) = var_limit < l.name
 
--- that the codes are those of the literals before the first one past the limit
+-- that the codes are those of the literals before the first literal past the limit; `past` says whether there is one
 pub record IsFront (codes : List ℕ) (past : Bool) (ls : List Literal) : Type 0 where
   pub within : AllByRecursion (λ code. code < 2 * var_limit) codes
   pub following : List Literal
   pub whole : ls ≡ named_literals codes ++ following
   pub limit : BeginsPast past following
 
--- that the command `c` is passed, with its literals before the first one past the limit
+-- that the code's value represents the command `c`: it has the literals of `c` before the first one past the limit
 abbrev pub IsLent : Lent → Command → Type 0
 IsLent lent c = (ls : List Literal) × IsFront lent.literals.now lent.past_limit ls × (c ≡ command_of (kind_of lent.kind) ls)
 
--- that some command is passed
+-- that the code's value represents some command
 abbrev pub IsSomeLent : Lent → Type 0
 IsSomeLent lent = (c : Command) × IsLent lent c
 
--- that the draft of the reader is the complete command `c`, with its literals before the first one past the limit
+-- that the reader's draft is the complete command `c`: it has the literals of `c` before the first one past the limit
 abbrev pub IsWholeCommand : Draft → Command → Type 0
 IsWholeCommand draft c = (ls : List Literal) × IsFront draft.literals.items draft.past_limit ls × (c ≡ command_of (kind_of draft.kind) ls)
 
@@ -71,12 +71,12 @@ abbrev pub HoldsHand : Draft → CommandHand → Type 0
 HoldsHand draft Nothing = draft.is_open ≡ false
 HoldsHand draft (Within k ls) = (draft.is_open ≡ true) × (k ≡ kind_of draft.kind) × IsFront draft.literals.items draft.past_limit ls
 
--- the unfinished command after a literal: without one, a literal begins a clause
+-- the unfinished command or, if there is none, an empty clause, to which a literal is then added
 abbrev pub opened : CommandHand → CommandHand
 opened Nothing = Within OfClause []
 opened (Within kind ls) = Within kind ls
 
--- that the literal has this number, capped at 2^64-1, and this sign
+-- that `name` is the name of the literal, capped at 2^64-1, and `positive` is its sign
 pub record IsNumbered (l : Literal) (name : ℕ) (positive : Bool) : Type 0 where
   pub number : name ≡ held l.name
   pub sign : positive ≡ l.positive
@@ -120,15 +120,15 @@ pub record MeansIf (asks : Bool) (reader : ScriptReader) (left_of : List ℕ →
 abbrev pub ReaderMeans : ScriptReader → (List ℕ → Reading) → Type 0
 ReaderMeans = MeansIf true
 
--- that the unfinished word can still become a valid one, so the text may continue
+-- that the text can continue without a wrong word
 abbrev pub MayGoOn : ScriptReader → Type 0
 MayGoOn reader = (scan_of : List ℕ → Scan) → IsPositionedBefore reader.tokenizer scan_of → HasValidContinuation scan_of
 
--- that no line has begun with `%`, so the bytes that follow count
+-- that the bytes that follow matter: no line has begun with `%`
 abbrev pub LooksOn : ScriptReader → Type 0
 LooksOn reader = (scan_of : List ℕ → Scan) → IsPositionedBefore reader.tokenizer scan_of → IgnoresRest scan_of → ⊥
 
--- that a command was read, and is ready to be passed
+-- that the reader's draft is the complete command `c`
 pub record HasWhole (reader : ScriptReader) (c : Command) : Type 0 where
   pub whole : IsWholeCommand reader.commands.draft c
 
@@ -161,7 +161,7 @@ end_if false ends.Clean = ([], Clean)
 end_if false ends.Asked = ([], Clean)
 end_if false ends.Malformed = ([], Malformed)
 
--- that a line has begun with `%`, and the script has this end, whatever bytes follow
+-- that the script has this end whatever bytes follow, because a line has begun with `%`
 abbrev pub EndsWhateverFollows : ScriptReader → ScriptEnd → Type 0
 EndsWhateverFollows reader e = (asks : Bool) (before : List ℕ → Reading) → MeansIf asks reader before → (rest : List ℕ) → before rest ≡ end_if asks e
 

@@ -25,16 +25,16 @@ RefillsAhead (Err errors.OutOfMemory) old new = ⊥
 abbrev pub IsNotAtEnd : Source → Type 0
 IsNotAtEnd s = AtEnd s → ⊥
 
--- That some bytes were consumed. If the flag is false, the end may have been found.
+-- That some bytes were consumed, possibly none. If the flag is false, the end may have been found.
 abbrev pub TakesSome : Bool → Source → Source → Type 0
 TakesSome true old new = (text : List ℕ) × ConsumesBytes old new text
 TakesSome false old new = ((text : List ℕ) × ConsumesWithReads 1 old new text) × (AtEnd new → IsAtEnd new.reader.to_come)
 
--- that some bytes were consumed, and then the reader may have been read once more
+-- that some bytes were consumed, possibly none, and at most one read gave nothing
 abbrev pub TakesSomeOrEnds : Source → Source → Type 0
 TakesSomeOrEnds old new = (text : List ℕ) × ConsumesWithReads 1 old new text
 
--- that no read failed, and every call is counted
+-- that no read failed, and the calls of the reader are those counted in `reads`
 abbrev pub NoReadFailedAhead : Source → Source → Type 0
 NoReadFailedAhead old new = (new.reader.failures ≡ old.reader.failures) × (new.reader.calls + old.reads ≡ old.reader.calls + new.reads)
 

@@ -17,7 +17,8 @@ use Rattle.certify.specs.declared.script.stream.CommandStream.{CommandStream}
 use Rattle.certify.specs.declared.script.stream.Next.{Next}
 use Rattle.certify.specs.declared.script.stream.Next.TheVariants as next
 
--- That bytes that were read ahead were consumed, at least one if there were any. The result is the effect of these bytes.
+-- That bytes that were read ahead were consumed, at least one if there were any; the result says what they led to.
+-- With an error, none were consumed.
 abbrev pub TakesWaiting : {E : Type 0} → Result Reached E → CommandStream → CommandStream → Type 0
 TakesWaiting (Ok r) old new = (text : List ℕ) × (waiting_bytes old.ahead ≡ text ++ waiting_bytes new.ahead) × (new.ahead.reads ≡ old.ahead.reads)
     × (0 < length (waiting_bytes old.ahead) → 0 < length text) × TakesBytes r old.reader text new.reader
@@ -29,7 +30,8 @@ FinishesText next.Command old new = ⊥
 FinishesText (next.Last e) old new = (asks : Bool) (before : List ℕ → Reading) → MeansIf asks old before → EndsLast asks true e new (before [])
 FinishesText (next.End e) old new = (asks : Bool) (before : List ℕ → Reading) → MeansIf asks old before → EndsLast asks false e new (before [])
 
--- That a command was read and the text continues, or the last command was read, or no command is left and the text has this end.
+-- That a command was read and the text continues, or the last command was read, or no command is left and the script
+-- has this end.
 abbrev pub Arrives : Next → Source → Source → ScriptReader → ScriptReader → Type 0
 Arrives next.Command a b old new = (text : List ℕ) × ConsumesBytes a b text × (0 < length text) × TakesBytes reached.Command old text new
 Arrives (next.Last e) a b old new =
