@@ -21,7 +21,7 @@ pub record PutsFirst (words words' refs : List ℕ) (f : ℕ → Header) (n : �
   pub rest : (k : ℕ) → n ≤ k → k < length refs → header_at words' (get_or refs k 0) ≡ header_at words (get_or refs k 0)
   pub lits : (k : ℕ) → k < length refs → lits_at words' (get_or refs k 0) ≡ lits_at words (get_or refs k 0)
 
--- what a bump adds, and the decay in thousandths
+-- the amount that a bump adds to an activity, and the decay in thousandths
 pub record Scale : Type 0 where
   pub bump : ℕ
   pub decay : ℕ
@@ -34,7 +34,7 @@ first_scale = record { bump = 1024; decay = 999 }
 abbrev pub rescaled_bump : ℕ → ℕ
 rescaled_bump bump = max (bump / 2 ^ 16) 1
 
--- what a bump adds after a decay, before any rescaling
+-- the amount that a bump adds after a decay, before any rescaling
 abbrev pub later_bump : Scale → ℕ
 later_bump s = quotient_up (s.bump * 1000) s.decay
 
@@ -46,15 +46,15 @@ with_activity h a = record h { activity = a }
 abbrev pub shifted : List ℕ → ℕ → Header
 shifted words p = with_activity (header_at words p) ((header_at words p).activity / 2 ^ 16)
 
--- the activity of the clause at o plus this much; it saturates at 2^32 - 1
+-- the activity of the clause at o plus the bump; it saturates at 2^32 - 1
 abbrev pub raised : List ℕ → (o bump : ℕ) → ℕ
 raised words o bump = min ((header_at words o).activity + bump) (2 ^ 32 - 1)
 
--- a bump of the clause at o stays below 2^30
+-- the activity of the clause at o stays below 2^30 after a bump
 abbrev pub StaysBelow : List ℕ → ℕ → Scale → Type 0
 StaysBelow words o s = raised words o s.bump < 2 ^ 30
 
--- a bump of the clause at o reaches 2^30
+-- the activity of the clause at o reaches 2^30 with a bump
 abbrev pub ReachesRescale : List ℕ → ℕ → Scale → Type 0
 ReachesRescale words o s = 2 ^ 30 ≤ raised words o s.bump
 
@@ -70,11 +70,11 @@ BumpsOne words words' refs o s s' = (s' ≡ s) × PutsHeader words words' refs o
 abbrev pub BumpsAll : (words words' refs : List ℕ) (o : ℕ) (s s' : Scale) → Type 0
 BumpsAll words words' refs o s s' = (s' ≡ record s { bump = rescaled_bump s.bump }) × PutsHeaders words words' refs (bumped_shifted words o s.bump)
 
--- if the bump stays below 2^30, only the clause at o was bumped
+-- if the activity stays below 2^30, only the clause at o was bumped
 abbrev pub BumpsBelow : (words words' refs : List ℕ) (o : ℕ) (s s' : Scale) → Type 0
 BumpsBelow words words' refs o s s' = StaysBelow words o s → BumpsOne words words' refs o s s'
 
--- if the bump reaches 2^30, all activities were rescaled
+-- if the activity reaches 2^30, the clause at o was bumped and all activities were rescaled
 abbrev pub BumpsPast : (words words' refs : List ℕ) (o : ℕ) (s s' : Scale) → Type 0
 BumpsPast words words' refs o s s' = ReachesRescale words o s → BumpsAll words words' refs o s s'
 
@@ -82,6 +82,6 @@ BumpsPast words words' refs o s s' = ReachesRescale words o s → BumpsAll words
 abbrev pub later_scale : Scale → Scale
 later_scale s = record s { bump = later_bump s }
 
--- the bump grew by a decay, and all activities were rescaled
+-- the bump grew by a decay, and then the bump and all activities were rescaled
 abbrev pub DecaysAll : (words words' refs : List ℕ) (s s' : Scale) → Type 0
 DecaysAll words words' refs s s' = (s' ≡ record s { bump = rescaled_bump (later_bump s) }) × PutsHeaders words words' refs (shifted words)

@@ -34,13 +34,13 @@ pub record CopyInvariant (words refs words' refs' : List ℕ) (i : ℕ) : Type 0
 abbrev pub CopiesOne : (words : List ℕ) (o : ℕ) (to refs to' refs' : List ℕ) → Type 0
 CopiesOne words o to refs to' refs' = (c : ℕ) × ((AppendsClause to to' c (header_at words o) (lits_at words o)) × (refs' ≡ refs ++ c ∷ []))
 
--- the second reason names the copy of the clause that the first one names
+-- the second reason is the first or, if that is a long clause, the copy of this clause
 abbrev pub FollowsClause : (live refs' : List ℕ) → Reason → Reason → Type 0
 FollowsClause live refs' NoCause r = r ≡ NoCause
 FollowsClause live refs' (Binary ls) r = r ≡ Binary ls
 FollowsClause live refs' (Long o) r = (k : ℕ) × ((k < length live) × (get_or live k 0 ≡ o) × (r ≡ Long (get_or refs' k 0)))
 
--- the same if only the first n clauses of the list were replaced by their copies
+-- the second reason is the first or, if that is one of the first n clauses of the list, the copy of this clause
 abbrev pub FollowsFirst : (live refs' : List ℕ) (n : ℕ) → Reason → Reason → Type 0
 FollowsFirst live refs' n NoCause r = r ≡ NoCause
 FollowsFirst live refs' n (Binary ls) r = r ≡ Binary ls

@@ -10,17 +10,18 @@ use Rattle.sat_parts.specs.declared.prop.graph.Reason.TheVariants.{Long}
 use Rattle.sat_parts.specs.prop.Values.{IsTrueLit}
 use Rattle.sat_parts.specs.prop.Graphs.{node_of}
 
--- the references in the order in which they were added, the number of clauses of every tier, and the number of words of deleted clauses
+-- the list of long clauses: their references in order of addition, the number of live clauses of every tier, and the
+-- number of words of deleted clauses
 pub record Db : Type 0 where
   pub refs : List ℕ
   pub counts : List ℕ
   pub garbage : ℕ
 
--- the empty list, with a number for each of the four tiers
+-- the empty list, with the number 0 for each of the four tiers
 abbrev pub no_clauses : Db
 no_clauses = record { refs = []; counts = 0 ∷ 0 ∷ 0 ∷ 0 ∷ []; garbage = 0 }
 
--- whether the clause at o is live: it was not deleted
+-- whether the clause at o is live, that is, not deleted
 abbrev pub is_live : List ℕ → ℕ → Bool
 is_live words o = not (header_at words o).deleted
 
@@ -44,8 +45,9 @@ garbage_of words o = if is_live words o then 0 else length (lits_at words o) + 3
 abbrev pub AreRising : List ℕ → Type 0
 AreRising xs = (j k : ℕ) → j < k → k < length xs → get_or xs j 0 < get_or xs k 0
 
--- the list has the clauses of the buffer: every one has three or more literals, no two share words, and offsets increase; the numbers
--- count the live clauses by tier, and the garbage the words of deleted ones (it saturates at 2^64 - 1)
+-- The list has the clauses of the buffer. Every clause has three or more literals, no two clauses share words, and
+-- offsets increase. `counts` are the numbers of live clauses by tier. `garbage` is the number of words of deleted
+-- clauses (it saturates at 2^64 - 1).
 pub record DbMatchesBuffer (words : List ℕ) (db : Db) : Type 0 where
   pub holds_clauses : HoldsClauses words db.refs
   pub rising : AreRising db.refs
@@ -55,11 +57,11 @@ pub record DbMatchesBuffer (words : List ℕ) (db : Db) : Type 0 where
   pub few : length db.refs < 2 ^ 64
   pub long : (o : ℕ) → Contains db.refs o → 3 ≤ length (lits_at words o)
 
--- the numbers with one more clause of this tier
+-- the numbers of clauses by tier, with one more clause of this tier
 abbrev pub tier_count_more : Tier → List ℕ → List ℕ
 tier_count_more tier counts = set counts (index_of tier) (get_or counts (index_of tier) 0 + 1)
 
--- the numbers with one fewer clause of this tier
+-- the numbers of clauses by tier, with one fewer clause of this tier
 abbrev pub tier_count_less : Tier → List ℕ → List ℕ
 tier_count_less tier counts = set counts (index_of tier) (get_or counts (index_of tier) 0 - 1)
 
@@ -82,7 +84,7 @@ pub record PutsHeader (words words' refs : List ℕ) (o : ℕ) (header : Header)
   pub lits_there : lits_at words' o ≡ lits_at words o
   pub others : (p : ℕ) → Contains refs p → p ≢ o → SameClauseAt words words' p
 
--- the clause at o is no longer live, and no other clause changed
+-- the clause at o was marked as deleted, and no other clause changed
 pub record DeletesClause (words : List ℕ) (db : Db) (words' : List ℕ) (db' : Db) (o : ℕ) : Type 0 where
   pub put : PutsHeader words words' db.refs o (record (header_at words o) { deleted = true })
   pub holds : DbMatchesBuffer words' db'

@@ -1,4 +1,4 @@
--- Deletion of the live clauses that fail a test: what it requires of the test, and what it leaves.
+-- Deletion of the live clauses that fail a test: what it requires of the test, and which clauses it deletes.
 use Rattle.std.specs.Prelude.{ℕ, ◌≡◌, ◌<◌, ◌≤◌, Bool, true, List, length, take, slice_index_or as get_or}
 use Rattle.std.specs.Borrow.{Bor}
 use Rattle.std.specs.Fn.{Called, Mut, Takes}
@@ -21,8 +21,8 @@ pub record AnswersAt {F : Type 0} (g : Mut F (Bor (List ℕ) × (ℕ × Unit {0}
 abbrev pub SameClausesAt : (old new live : List ℕ) → Type 0
 SameClausesAt old new live = (o : ℕ) → Contains live o → SameClauseAt old new o
 
--- the invariant of the pass: the test R, at first in state f, was called for the live ones of the first `at` clauses; those for which
--- it returned false are deleted, and the others are unchanged
+-- The invariant of the pass. The test R, at first in state f, was called for every live clause among the first `at`
+-- clauses. A clause was deleted if the test returned false for it. All other clauses are unchanged.
 pub record FilterInvariant {F : Type 0} (R : F → ℕ → Bool → F → Type 0) (f : F) (old new refs : List ℕ) (at : ℕ) (f' : F) : Type 0 where
   pub answers : List Bool
   pub size : length answers ≡ length (live_refs old (take at refs))

@@ -1,4 +1,4 @@
--- Clauses of which only the order of literals changed.
+-- Clauses that changed only in the order of their literals.
 use Rattle.std.specs.Prelude.{ℕ, ◌≡◌, ◌≢◌, ◌<◌, List, length, slice_index_or as get_or}
 use Rattle.std.specs.List.{Contains}
 use Rattle.std.specs.List.Sorted.{IsPermutation}
@@ -8,7 +8,7 @@ use Rattle.sat_store.specs.clause.Buffer.{IsClause, HoldsClauses, SameClauseAt, 
 abbrev pub AreDistinct : List ℕ → Type 0
 AreDistinct ls = (j k : ℕ) → j < length ls → k < length ls → get_or ls j 0 ≡ get_or ls k 0 → j ≡ k
 
--- the same literals, possibly in another order
+-- the lists have the same literals, possibly in another order
 pub record IsReordering (ls ms : List ℕ) : Type 0 where
   pub order : IsPermutation ls ms
   pub size : length ms ≡ length ls
@@ -31,7 +31,7 @@ pub record SameUpToOrder (old new refs : List ℕ) : Type 0 where
   pub headers : (o : ℕ) → Contains refs o → header_at new o ≡ header_at old o
   pub lits : (o : ℕ) → Contains refs o → IsReordering (lits_at old o) (lits_at new o)
 
--- in every list of clauses that contains the live ones, nothing changed except possibly the order of literals
+-- in every list of clauses that contains the live clauses, nothing changed except possibly the order of literals
 pub record PermutesClauses (old new live : List ℕ) : Type 0 where
   pub size : length new ≡ length old
   pub all : (refs : List ℕ) → ((o : ℕ) → Contains live o → Contains refs o) → HoldsClauses old refs → SameUpToOrder old new refs

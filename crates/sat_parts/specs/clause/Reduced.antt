@@ -4,10 +4,11 @@ use Rattle.sat_store.specs.clause.Header.{Header, index_of}
 use Rattle.sat_store.specs.declared.clause.tier.Tier.{Tier}
 use Rattle.sat_store.specs.declared.clause.tier.Tier.TheVariants.{Local}
 
--- for tier Mid: an active clause becomes inactive, and an inactive one moves to tier Local
+-- the header after a reduction: in tier Mid, an active live clause becomes inactive, and an inactive live clause
+-- moves to tier Local
 abbrev pub reduced : Header → Header
 reduced h = if not h.deleted && (index_of h.tier == 2) then (if h.active then record h { active = false } else record h { tier = Local }) else h
 
--- the header marked if the clause is live and in this tier
+-- the header, with a mark if the clause is live and in this tier
 abbrev pub with_mark : Tier → Header → Header
 with_mark tier h = if not h.deleted && (index_of h.tier == index_of tier) then record h { mark = true } else h

@@ -1,4 +1,4 @@
--- What holds for the live clauses in any order of their literals.
+-- Live clauses and their literals.
 use Rattle.std.specs.Prelude.{ℕ, ◌*◌, ◌<◌, ◌≤◌, List, length, slice_index_or as get_or}
 use Rattle.std.specs.List.{Contains}
 use Rattle.sat_store.specs.clause.Buffer.{HoldsClauses, lits_at}
@@ -12,7 +12,7 @@ lit_of words o k = get_or (lits_at words o) k 0
 abbrev pub size_of : List ℕ → ℕ → ℕ
 size_of words o = length (lits_at words o)
 
--- no two live clauses share words, and each has three or more different literals, of variables below `count`
+-- no two live clauses share words, and each has three or more different literals with variables below `count`
 pub record AreClauses (words live : List ℕ) (count : ℕ) : Type 0 where
   pub holds_clauses : HoldsClauses words live
   pub long : (o : ℕ) → Contains live o → 3 ≤ size_of words o

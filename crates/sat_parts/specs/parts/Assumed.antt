@@ -21,8 +21,9 @@ variables_of_lits ls = map (λ l. variable l) ls
 abbrev pub HaveVariablesIn : List ℕ → Parts → Type 0
 HaveVariablesIn ls p = VariablesBelow ls (length p.assignment.current)
 
--- which assumptions were considered: at level 0 and at every level that an assumption began, those before its place are true at that
--- level or a lower one. Other levels begin only after all assumptions were considered
+-- Which assumptions were considered: those before `place`. They are true at level 0 or at the levels that assumptions
+-- began. For every level j before the last of these, `below` has the place reached there; the assumptions before that
+-- place are true at level j or lower. Other levels begin only after all assumptions were considered.
 pub record IsPlaced (ls below : List ℕ) (place : ℕ) (s : State) : Type 0 where
   pub levels : length below ≤ length s.trail.starts
   pub within : place ≤ length ls
@@ -32,11 +33,12 @@ pub record IsPlaced (ls below : List ℕ) (place : ℕ) (s : State) : Type 0 whe
   pub begun : (j : ℕ) → j < length below → Contains ls (lit_at s (get_or s.trail.starts j 0))
   pub all : length below < length s.trail.starts → place ≡ length ls
 
--- the places that the assumptions record are right in this state
+-- the places that the assumptions record are right in this state (`IsPlaced`)
 abbrev pub ArePlaced : Assumptions → State → Type 0
 ArePlaced a s = IsPlaced a.lits.items a.below.items a.place s
 
--- the places are right again when the levels above this one were undone
+-- the places of a' are right in every state that results from undoing the levels above this level, if those of a were
+-- right before
 abbrev pub AreCutTo : (level : ℕ) (a a' : Assumptions) → Type 0
 AreCutTo level a a' = (s s' : State) → ArePlaced a s → level ≤ length s.trail.starts → KeepsTo level s s' → length s'.trail.starts ≡ level → ArePlaced a' s'
 
@@ -48,7 +50,7 @@ AreTrueFromTo p ls from to = (k : ℕ) → from ≤ k → k < to → IsTrueLit p
 abbrev pub IsUntrueAt : Parts → List ℕ → (at l : ℕ) → Type 0
 IsUntrueAt p ls at l = (at < length ls) × (get_or ls at 0 ≡ l) × (IsTrueLit p.assignment.current l → ⊥)
 
--- every literal on the trail above level 0 that has no clause as its reason is among these
+-- every literal on the trail above level 0 that has no clause as its reason is among these literals
 abbrev pub AreDecided : List ℕ → State → Type 0
 AreDecided ls s = (i : ℕ) → i < length s.trail.lits → 0 < level s (lit_at s i) → is_unit_reason (node s (lit_at s i)).reason ≡ true → Contains ls (lit_at s i)
 

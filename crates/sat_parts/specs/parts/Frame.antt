@@ -1,22 +1,24 @@
--- What other parts of a solver see of a step: the clauses, and the literals of level 0. The contracts use these words:
---   propagate_all: Reordered, AddsNoUnit, KeepsLevels
+-- The effect of a call on the clauses and on the literals of level 0, as other parts of a solver see it.
+-- The contracts use these definitions:
+--   propagate_all: ReordersLits, AddsNoUnit, KeepsLevels
 --   make_decision, assume, enqueue_assumption: AddsNothing, KeepsLevels
 --   undo: SameClauses, AddsNoUnit, KeepsTo (the level that remains)
 --   restart, full_restart: SameClauses, AddsNoUnit
---   learn: AddsLearnedClause
---   clear_units: SameClauses, Clears
+--   learn: AddsLearnedClause, EnqueuesFirst
+--   clear_units: SameClauses, TakesOffUnits
 --   put_back: SameClauses, AddsNoUnit
 --   grow: AddsVars
---   use_variable: SameContents, and which variables may be picked
---   use_with_unit: SameClauses, GainsUnit (and Freed for variables that the solver frees)
+--   use_variable, reset_activity: SameContents
+--   use_with_unit: SameClauses, GainsUnit
 --   load_unit: SameClauses, GainsUnit
 --   load_binary, load_long: AddsOriginalClause
 --   load: LoadEffect (Loading), which selects one of these by the result
---   drop_clause: Dropped if it deletes, otherwise nothing changes
---   put_header, set_tier, reduce_middle, bump_clause, decay_clauses: Headed, besides the word of the trail
+--   drop_clause: DropsLongClause if it deletes, otherwise nothing changes; delete_long: DropsLongClause
+--   put_header, set_tier, reduce_middle, bump_clause, decay_clauses: ChangesHeaders
 --   bump_variable, decay_variables: SameContents
---   swap_unwatched: Swapped; shorten: Shortened; remove_binary: Removed; collect: Copied
--- At level 0, KeepsTo 0 follows from AddsNoUnit, which in turn follows from SameState or SameSearch (carries_same).
+--   swap_unwatched: SwapsLits; shorten: ShortensLongClause; remove_binary: RemovesBinaries; collect: MovesLongClauses
+-- FreesVar describes how the solver frees a variable. At level 0, KeepsTo 0 follows from AddsNoUnit, which in turn
+-- follows from SameState or SameSearch (carries_same).
 use Rattle.std.specs.Prelude.{ℕ, ◌≡◌, ◌≢◌, ◌+◌, ◌*◌, ◌<◌, ◌≤◌, ◌⊎◌, true, false, None, List, length, slice_index_or as get_or}
 use Rattle.std.specs.List.{Contains}
 use Rattle.sat_base.specs.values.Literals.{variable}
@@ -47,13 +49,14 @@ pub record IsBare (s : State) (l : ℕ) : Type 0 where
 abbrev pub IsUnitLit : State → ℕ → Type 0
 IsUnitLit s l = IsRemoved s l ⊎ IsBare s l
 
--- no unit is new, and the literals of level 0 stay
+-- no unit is new, and literals of level 0 stay true at level 0
 pub record AddsNoUnit (s s' : State) : Type 0 where
   pub size : length s'.values ≡ length s.values
   pub units : (l : ℕ) → IsUnitLit s' l → IsUnitLit s l
   pub bottom : (l : ℕ) → IsTrueLit s.values l → level s l ≡ 0 → IsTrueLit s'.values l × (level s' l ≡ 0)
 
--- units were taken off the trail: each of them was a literal of level 0, and the literals of level 0 stay
+-- units were taken off the trail: every unit was a literal of level 0 before, and literals of level 0 stay true at
+-- level 0
 pub record TakesOffUnits (s s' : State) : Type 0 where
   pub size : length s'.values ≡ length s.values
   pub units : (l : ℕ) → IsUnitLit s' l → IsTrueLit s.values l × (level s l ≡ 0)
@@ -77,7 +80,8 @@ pub data AddsLearnedClause (p p' : Parts) (header : Header) (ls : List ℕ) : Ty
   learnt_long : 3 ≤ length ls → (o : ℕ) → AddsLongClause p.clauses p.db p'.clauses p'.db o header ls → p'.binary ≡ p.binary →
       (r : Reason) → is_unit_reason r ≡ false → state p' ≡ enqueued (get_or ls 0 0) r (state p) → AddsLearnedClause p p' header ls
 
--- literals that are true at a level up to this one stay true at that level, and these levels begin with the same literals
+-- literals that are true at level `top` or lower stay true at their levels, and these levels begin with the same
+-- literals
 pub record KeepsTo (top : ℕ) (s s' : State) : Type 0 where
   pub low : (l : ℕ) → IsTrueLit s.values l → level s l ≤ top → IsTrueLit s'.values l × (level s' l ≡ level s l)
   pub begun : (j : ℕ) → j < top → j < length s.trail.starts → (j < length s'.trail.starts) × (lit_at s' (get_or s'.trail.starts j 0) ≡ lit_at s (get_or s.trail.starts j 0))
@@ -94,11 +98,11 @@ SameContents p p' = SameClauses p p' × SameState p p'
 abbrev pub SameQueues : Parts → Parts → Type 0
 SameQueues p p' = (p'.vsids ≡ p.vsids) × (p'.trail ≡ p.trail)
 
--- the clauses are unchanged, no unit is new, and the literals of level 0 stay
+-- the clauses are unchanged, no unit is new, and literals of level 0 stay true at level 0
 abbrev pub AddsNothing : Parts → Parts → Type 0
 AddsNothing p p' = SameClauses p p' × AddsNoUnit (state p) (state p')
 
--- true literals stay true, each at its level
+-- true literals stay true at their levels, and the levels before begin with the same literals
 abbrev pub KeepsLevels : Parts → Parts → Type 0
 KeepsLevels p p' = (top : ℕ) → KeepsTo top (state p) (state p')
 
@@ -114,7 +118,7 @@ EnqueuesFirst ls p p' = p'.trail ≡ with_lit (get_or ls 0 0) p.trail
 abbrev pub SameSearch : Parts → Parts → Type 0
 SameSearch p p' = SameState p p' × (p'.binary ≡ p.binary) × (p'.vsids ≡ p.vsids)
 
--- only headers of long clauses changed, and no clause became or ceased to be a learned one
+-- only headers of long clauses changed, and every clause stays original or learned
 pub record ChangesHeaders (p p' : Parts) : Type 0 where
   pub live : live_refs p'.clauses p'.db.refs ≡ live_refs p.clauses p.db.refs
   pub lits : (o : ℕ) → Contains (live_refs p.clauses p.db.refs) o → lits_at p'.clauses o ≡ lits_at p.clauses o
@@ -156,7 +160,8 @@ pub record RemovesBinaries (p p' : Parts) : Type 0 where
   pub state : SameState p p'
   pub queue : p'.vsids ≡ p.vsids
 
--- there are `count` variables, at the same level; the new ones are unassigned, may not be picked, and are in no clause
+-- there are now `count` variables; new variables are unassigned, may not be picked, and are in no clause; the levels
+-- are unchanged
 pub record AddsVars (p p' : Parts) (count : ℕ) : Type 0 where
   pub size : length p'.assignment.current ≡ count
   pub values : (v : ℕ) → value_of p'.assignment.current v ≡ value_of p.assignment.current v
@@ -178,7 +183,7 @@ pub record FreesVar (p p' : Parts) (v : ℕ) : Type 0 where
   pub units : (l : ℕ) → IsUnitLit (state p') l → IsUnitLit (state p) l × (variable l ≢ v)
   pub bottom : (l : ℕ) → variable l ≢ v → IsTrueLit p.assignment.current l → level (state p) l ≡ 0 → IsTrueLit p'.assignment.current l × (level (state p') l ≡ 0)
 
--- a literal became true at level 0; no other unit is new, and the literals of level 0 stay
+-- a literal became true at level 0; no other unit is new, and literals of level 0 stay true at level 0
 pub record GainsUnit (l : ℕ) (s s' : State) : Type 0 where
   pub size : length s'.values ≡ length s.values
   pub units : (m : ℕ) → IsUnitLit s' m → IsUnitLit s m ⊎ (m ≡ l)

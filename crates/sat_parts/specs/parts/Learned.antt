@@ -7,8 +7,8 @@ use Rattle.sat_parts.specs.prop.Values.{IsFalseLit, IsOpenLit}
 use Rattle.sat_parts.specs.prop.State.{State, level, current_level}
 use Rattle.sat_parts.specs.prop.Ready.{AreAllFalse}
 
--- the result of conflict analysis: all literals are false and above level 0; only the first is at the current level, and the second is at
--- the highest level of the others, to which the search backtracks
+-- The result of conflict analysis. All literals are false and above level 0. Only the first is at the current level.
+-- The second is at level `to`, the highest level of the others, to which the search backtracks.
 pub record IsAnalyzedClause (s : State) (ls : List ℕ) (to : ℕ) : Type 0 where
   pub some : 1 ≤ length ls
   pub fits : length ls < 2 ^ 32
@@ -21,7 +21,8 @@ pub record IsAnalyzedClause (s : State) (ls : List ℕ) (to : ℕ) : Type 0 wher
   pub second : 1 < length ls → level s (get_or ls 1 0) ≡ to
   pub unit : length ls ≡ 1 → to ≡ 0
 
--- the same after backtracking: the first literal is unassigned, and the others are false, the second at the current level
+-- The learned clause after backtracking. The first literal is unassigned, and its variable may be picked. The others
+-- are false, and the second is at the current level.
 pub record IsPending (s : State) (q : Queue) (ls : List ℕ) : Type 0 where
   pub some : 1 ≤ length ls
   pub fits : length ls < 2 ^ 32

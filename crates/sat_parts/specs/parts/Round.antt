@@ -17,12 +17,12 @@ use Rattle.sat_parts.specs.prop.Ready.{state_of}
 use Rattle.sat_parts.specs.prop.Asks.{PropagationInvariant}
 use Rattle.sat_parts.specs.prop.TrailWord.{IsLevelled}
 
--- no clause has the variable
+-- no clause contains the variable
 pub record IsUnused (words live : List ℕ) (implied : List (List ℕ)) (v : ℕ) : Type 0 where
   pub long : (o k : ℕ) → Contains live o → k < size_of words o → variable (lit_of words o k) ≢ v
   pub binary : (l k : ℕ) → k < length (implied_by implied l) → (variable l ≢ v) × (variable (get_or (implied_by implied l) k 0) ≢ v)
 
--- every unassigned variable may be picked, unless no clause has it
+-- every unassigned variable may be picked, unless no clause contains it
 abbrev pub AreReady : (words live : List ℕ) (implied : List (List ℕ)) (values : List (Option Bool)) (q : Queue) → Type 0
 AreReady words live implied values q = (v : ℕ) → v < length values → value_of values v ≡ None → (may_pick q v ≡ true) ⊎ IsUnused words live implied v
 
@@ -34,7 +34,7 @@ KeepsPicks values q q' v = (u : ℕ) → u ≢ v → value_of values u ≡ None 
 abbrev pub UnitsHaveNoReason : State → Type 0
 UnitsHaveNoReason s = (i : ℕ) → i < length s.trail.lits → level s (lit_at s i) ≡ 0 → (node s (lit_at s i)).reason ≡ NoCause
 
--- the invariant of all parts, where propagation is complete for the literals at levels below `top`
+-- the invariant of all parts, with complete propagation for the literals at levels below `top`
 pub record IsSoundBelow (words : List ℕ) (db : Db) (w : Watching) (b : Binaries) (a : Values) (g : List ImplNode) (t : Trailed) (q : Queue) (top : ℕ) : Type 0 where
   pub held : DbMatchesBuffer words db
   pub asks : PropagationInvariant words db.refs w b.implied (state_of a g t) top
@@ -43,7 +43,8 @@ pub record IsSoundBelow (words : List ℕ) (db : Db) (w : Watching) (b : Binarie
   pub queue : length q.available ≡ length a.current
   pub ready : AreReady words (live_refs words db.refs) b.implied a.current q
 
--- above level 0 the trail has no literals of level 0; at level 0 all literals on the trail are in the queue
+-- If the current level is above 0, the trail has no literals of level 0. Otherwise all literals on the trail are in
+-- the queue.
 pub record IsBased (t : Trailed) : Type 0 where
   pub above : 0 < length t.starts → get_or t.starts 0 0 ≡ 0
   pub bottom : length t.starts ≡ 0 → t.head ≡ 0

@@ -5,7 +5,7 @@ use Rattle.sat_parts.specs.clause.Db.{is_live}
 use Rattle.sat_parts.specs.clause.Stored.{lit_of, size_of}
 use Rattle.sat_parts.specs.prop.Binaries.{implied_by}
 
--- exactly the variables with P were marked, besides those already marked
+-- exactly the variables for which P holds were marked, besides those already marked
 pub record MarksJustWhere (old new : List Bool) (P : ℕ → Type 0) : Type 0 where
   pub size : length new ≡ length old
   pub kept : (v : ℕ) → get_or old v false ≡ true → get_or new v false ≡ true
@@ -24,6 +24,6 @@ HasVar words o n v = (k : ℕ) × ((k < n) × (variable (lit_of words o k) ≡ v
 abbrev pub InLong : (words refs : List ℕ) (n v : ℕ) → Type 0
 InLong words refs n v = (j : ℕ) × ((j < n) × (is_live words (get_or refs j 0) ≡ true) × HasVar words (get_or refs j 0) (size_of words (get_or refs j 0)) v)
 
--- the variable occurs in a binary clause of one of the first n literals
+-- the variable occurs in a binary clause that is listed for one of the first n literals
 abbrev pub InBinary : List (List ℕ) → (n v : ℕ) → Type 0
 InBinary implied n v = (l : ℕ) × ((l < n) × (0 < length (implied_by implied l)) × ((variable l ≡ v) ⊎ IsAmong (implied_by implied l) (length (implied_by implied l)) v))

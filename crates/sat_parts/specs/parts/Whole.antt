@@ -1,4 +1,4 @@
--- The invariant of the struct of parts, and what callers see of it.
+-- The invariant of the struct of parts, and properties of the parts that callers use.
 use Rattle.std.specs.Prelude.{ℕ, ◌≡◌, ◌<◌, None, List, length, slice_index_or as get_or}
 use Rattle.std.specs.List.{Contains}
 use Rattle.sat_parts.specs.clause.Stored.{lit_of, size_of}
@@ -33,11 +33,11 @@ InNoClause p v = IsUnused p.clauses (live_refs p.clauses p.db.refs) p.binary.imp
 abbrev pub PartsInvariant : Parts → Type 0
 PartsInvariant p = RoundInvariant p.clauses p.db p.watchlists p.binary p.assignment p.graph p.trail p.vsids
 
--- the same with another queue of variables
+-- the invariant of the parts between rounds, with another queue of variables
 abbrev pub PartsInvariantWith : Queue → Parts → Type 0
 PartsInvariantWith q p = RoundInvariant p.clauses p.db p.watchlists p.binary p.assignment p.graph p.trail q
 
--- the same except for an unassigned variable, which was just picked
+-- the invariant of the parts between rounds, except that the unassigned variable v was just picked
 pub record IsPicked (p : Parts) (v : ℕ) : Type 0 where
   pub before : Queue
   pub holds : PartsInvariantWith before p
@@ -46,7 +46,7 @@ pub record IsPicked (p : Parts) (v : ℕ) : Type 0 where
   pub there : v < length p.assignment.current
   pub unset : value_of p.assignment.current v ≡ None
 
--- the invariant, where propagation is complete for the literals at levels below `top`
+-- the invariant of the parts, with complete propagation for the literals at levels below `top`
 abbrev pub HoldsBelow : ℕ → Parts → Type 0
 HoldsBelow top p = IsSoundBelow p.clauses p.db p.watchlists p.binary p.assignment p.graph p.trail p.vsids top
 
@@ -65,7 +65,7 @@ IsRefuted p e =
     × IsConflict p.clauses (live_refs p.clauses p.db.refs) p.binary.implied p.assignment.current e
     × (0 < length p.trail.starts → UnitsHaveNoReason (state p) × IsBased p.trail)
 
--- every live clause has a true literal, and every literal that a true one implies is true
+-- every live long clause has a true literal, and every literal that a true literal implies is true
 pub record IsModelled (p : Parts) : Type 0 where
   pub long : (o : ℕ) → Contains (live_refs p.clauses p.db.refs) o → (k : ℕ) × ((k < size_of p.clauses o) × IsTrueLit p.assignment.current (lit_of p.clauses o k))
   pub binary : (l k : ℕ) → k < length (implied_by p.binary.implied l) → IsTrueLit p.assignment.current l → IsTrueLit p.assignment.current (get_or (implied_by p.binary.implied l) k 0)

@@ -31,50 +31,50 @@ IsAwaited assumed q v = (may_pick q v ≡ true) ⊎ Contains assumed v
 abbrev pub IsGone : List ℕ → State → Queue → ℕ → Type 0
 IsGone assumed s q v = (v < length s.values) × (((l : ℕ) × ((variable l ≡ v) × IsRemoved s l)) ⊎ IsIdle assumed s q v)
 
--- variables that are gone or idle stay so, and the number of variables is unchanged
+-- variables that are gone stay gone, idle variables stay idle, and the number of variables is unchanged
 pub record GoneAndIdleStay (assumed : List ℕ) (s : State) (q : Queue) (s' : State) (q' : Queue) : Type 0 where
   pub size : length s'.values ≡ length s.values
   pub gone : (v : ℕ) → IsGone assumed s q v → IsGone assumed s' q' v
   pub idle : (v : ℕ) → IsIdle assumed s q v → IsIdle assumed s' q' v
 
--- a word of the trail since an ask with these assumed variables began: a P for each of some variables that are gone (the units taken
--- off since then), and the letters of the trail
+-- w is a word of the trail since an ask with these assumed variables began. It has a P for each of some variables
+-- that are gone (units taken off since then), and then the letters of the trail.
 pub record IsWord (assumed : List ℕ) (s : State) (q : Queue) (w : List Letter) : Type 0 where
   pub gone : List ℕ
   pub distinct : AreDistinct gone
   pub each : (k : ℕ) → k < length gone → IsGone assumed s q (get_or gone k 0)
   pub is : w ≡ replicate (length gone) P ++ trail_letters s.trail
 
--- every word before is a prefix of a word after
+-- every word of the old trail is a prefix of a word of the new trail, and gone and idle variables stay so
 abbrev pub WordExtends : (assumed : List ℕ) (s : State) (q : Queue) (s' : State) (q' : Queue) → Type 0
 WordExtends assumed s q s' q' =
     GoneAndIdleStay assumed s q s' q' × ((w : List Letter) → IsWord assumed s q w → (v : List Letter) × (IsWord assumed s' q' v × Begins w v))
 
--- every word before is lower than a word after
+-- every word of the old trail is lower than a word of the new trail, and gone and idle variables stay so
 abbrev pub WordRises : (assumed : List ℕ) (s : State) (q : Queue) (s' : State) (q' : Queue) → Type 0
 WordRises assumed s q s' q' =
     GoneAndIdleStay assumed s q s' q' × ((w : List Letter) → IsWord assumed s q w → (v : List Letter) × (IsWord assumed s' q' v × IsLowerWord w v))
 
--- the words of the parts
+-- w is a word of the trail of these parts
 abbrev pub Words : List ℕ → Parts → List Letter → Type 0
 Words assumed p w = IsWord assumed (state p) p.vsids w
 
--- with these assumed, every word before is a prefix of a word after
+-- with these assumed variables, every word of the old trail is a prefix of a word of the new trail
 abbrev pub TrailWordExtendsFor : List ℕ → Parts → Parts → Type 0
 TrailWordExtendsFor assumed p p' = WordExtends assumed (state p) p.vsids (state p') p'.vsids
 
--- whatever is assumed, variables that are gone or idle stay so
+-- whatever variables are assumed, gone and idle variables stay so
 abbrev pub TrailWordStays : Parts → Parts → Type 0
 TrailWordStays p p' = (assumed : List ℕ) → GoneAndIdleStay assumed (state p) p.vsids (state p') p'.vsids
 
--- whatever is assumed, every word before is a prefix of a word after
+-- whatever variables are assumed, every word of the old trail is a prefix of a word of the new trail
 abbrev pub TrailWordExtends : Parts → Parts → Type 0
 TrailWordExtends p p' = (assumed : List ℕ) → TrailWordExtendsFor assumed p p'
 
--- with these assumed, every word before is lower than a word after
+-- with these assumed variables, every word of the old trail is lower than a word of the new trail
 abbrev pub TrailWordRisesFor : List ℕ → Parts → Parts → Type 0
 TrailWordRisesFor assumed p p' = WordRises assumed (state p) p.vsids (state p') p'.vsids
 
--- whatever is assumed, every word before is lower than a word after
+-- whatever variables are assumed, every word of the old trail is lower than a word of the new trail
 abbrev pub TrailWordRises : Parts → Parts → Type 0
 TrailWordRises p p' = (assumed : List ℕ) → TrailWordRisesFor assumed p p'

@@ -1,4 +1,4 @@
--- What propagation requires of all parts together, and ensures again.
+-- The precondition and the result of propagation, for all parts together.
 use Rattle.std.specs.Prelude.{ℕ, ◌≡◌, ◌+◌, ◌*◌, ◌<◌, ◌≤◌, ◌⊎◌, true, List, length, slice_index_or as get_or, Result, MatchResult}
 use Rattle.std.specs.List.{Contains}
 use Rattle.sat_base.specs.values.Literals.{negated}
@@ -15,10 +15,12 @@ use Rattle.sat_parts.specs.prop.State.{State, level, current_level, HasLeftQueue
 use Rattle.sat_parts.specs.prop.Reasons.{HaveFirsts, PropagatesOn}
 use Rattle.sat_parts.specs.prop.Ready.{AreWatched, AreSettled, AreImplied, AreLists, IsUnitFixpoint, IsConflict}
 
--- no two clauses share words, and the live ones are over the variables; enabled watch lists watch their first two literals (disabled ones
--- may have anything); values, nodes and trail agree; literals in the queue are at the current level; long reasons have their literals
--- first; and a clause with a watched literal that is false by a literal that has left the queue, at a level below `top`, has a true literal
--- at the same level or lower
+-- The invariant of propagation. No two clauses share words, and the live clauses contain only existing variables.
+-- Enabled watch lists watch the first two literals of every live clause; disabled watch lists may have any content.
+-- Values, nodes and trail agree, and literals in the queue are at the current level. A long clause that is a reason
+-- has its literal first. Assume that one of the first two literals of a live clause is false by a literal that has
+-- left the queue, at a level below `top`. Then the clause has a true literal at the same level or lower. Binary
+-- clauses are propagated in the same way.
 pub record PropagationInvariant (words refs : List ℕ) (w : Watching) (implied : List (List ℕ)) (s : State) (top : ℕ) : Type 0 where
   pub holds_clauses : HoldsClauses words refs
   pub clauses : AreClauses words (live_refs words refs) (length s.values)
@@ -43,8 +45,8 @@ IsOwnBinary NoCause lit l m = ⊥
 IsOwnBinary (Binary ls) lit l m = (m ≡ lit) × (negated (get_or ls 0 0) ≡ l)
 IsOwnBinary (Long o) lit l m = ⊥
 
--- the same before an unassigned literal becomes true by its reason: the clause of the reason may have been just added, and not yet
--- propagated, if its false watched literals are at the current level
+-- The invariant of propagation before the unassigned literal `lit` becomes true by `reason`. The clause of the reason
+-- may be new and not propagated yet, if its false watched literals are at the current level.
 pub record EnqueuePrecondition (lit : ℕ) (reason : Reason) (words refs : List ℕ) (w : Watching) (implied : List (List ℕ)) (s : State) (top : ℕ) : Type 0 where
   pub holds_clauses : HoldsClauses words refs
   pub clauses : AreClauses words (live_refs words refs) (length s.values)
@@ -61,12 +63,13 @@ pub record EnqueuePrecondition (lit : ℕ) (reason : Reason) (words refs : List 
       (IsTrueLit s.values (get_or (implied_by implied l) k 0) × (level s (get_or (implied_by implied l) k 0) ≤ level s l))
       ⊎ (IsOwnBinary reason lit l (get_or (implied_by implied l) k 0) × (current_level s ≤ level s l))
 
--- what propagation requires
+-- the precondition of propagation: the invariant for literals of all levels
 abbrev pub PropagationPrecondition : (words refs : List ℕ) (w : Watching) (implied : List (List ℕ)) (s : State) → Type 0
 PropagationPrecondition words refs w implied s = PropagationInvariant words refs w implied s (current_level s + 1)
 
--- What propagation ensures: the literals that it assigned have reasons. Without a conflict, the invariant holds, with an empty queue and no
--- unit or falsified clause. After a conflict, a clause is falsified, and the invariant holds once the current level is undone.
+-- The result of propagation. The literals that it assigned have reasons. Without a conflict, the invariant holds,
+-- with an empty queue and no unit or falsified clause. After a conflict, a clause is falsified, and the invariant
+-- holds once the current level is undone.
 pub record PropagationResult (refs : List ℕ) (implied : List (List ℕ)) (words : List ℕ) (s : State) (words' : List ℕ) (s' : State) (w : Watching) (r : Result (Unit {0}) Conflict) : Type 0 where
   pub moves : PropagatesOn (live_refs words refs) implied words s words' s'
   pub live : live_refs words' refs ≡ live_refs words refs

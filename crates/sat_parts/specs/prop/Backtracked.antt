@@ -1,4 +1,4 @@
--- What is preserved when literals become true, levels begin or levels are undone.
+-- Properties that are preserved when literals become true, levels begin or levels are undone.
 use Rattle.std.specs.Prelude.{ℕ, ◌≡◌, ◌<◌, ◌≤◌, List, length}
 use Rattle.std.specs.List.{Contains}
 use Rattle.sat_parts.specs.declared.prop.graph.Reason.{Reason}
@@ -14,21 +14,21 @@ use Rattle.sat_parts.specs.prop.Reasons.{AreUnitInTurn}
 use Rattle.sat_parts.specs.prop.Ready.{state_of}
 use Rattle.sat_parts.specs.prop.Asks.{PropagationInvariant, EnqueuePrecondition, PropagationPrecondition}
 
--- undoing the levels above this one gives what propagation requires, if its invariant held for the literals at levels below a higher `top`:
--- after complete propagation, and after a conflict once its level is undone
+-- undoing the levels above this level establishes the precondition of propagation, if the invariant held for the
+-- literals at levels below a higher `top`
 abbrev pub BacktrackPreservesInvariant : (level : ℕ) (a : Values) (t : Trailed) (a' : Values) (t' : Trailed) → Type 0
 BacktrackPreservesInvariant level a t a' t' =
     (words refs : List ℕ) (w : Watching) (implied : List (List ℕ)) (nodes : List ImplNode) (top : ℕ) → level < top →
     PropagationInvariant words refs w implied (state_of a nodes t) top → PropagationPrecondition words refs w implied (state_of a' nodes t')
 
--- the reasons of the trail stay unit in the order of the trail
+-- the reasons of the literals on the trail stay unit in the order of the trail
 abbrev pub KeepsTurns : (a : Values) (t : Trailed) (a' : Values) (t' : Trailed) → Type 0
 KeepsTurns a t a' t' =
     (words live : List ℕ) (implied : List (List ℕ)) (nodes : List ImplNode) (from : ℕ) → StateIsConsistent (state_of a nodes t) →
     AreUnitInTurn words live implied (state_of a nodes t) from → AreUnitInTurn words live implied (state_of a' nodes t') from
 
--- the invariant of propagation holds after an unassigned literal became true, if a long clause as its reason is live and has it first;
--- before, that clause may not yet be propagated
+-- The invariant of propagation holds after `lit` became true by `reason`, if `EnqueuePrecondition` held before. If
+-- the reason is a long clause, it must be live and have `lit` first.
 abbrev pub EnqueuePreservesInvariant : (lit : ℕ) (reason : Reason) (a : Values) (nodes : List ImplNode) (t : Trailed) (a' : Values) (nodes' : List ImplNode) (t' : Trailed) → Type 0
 EnqueuePreservesInvariant lit reason a nodes t a' nodes' t' =
     (words refs : List ℕ) (w : Watching) (implied : List (List ℕ)) (top : ℕ) →
@@ -41,8 +41,8 @@ NewLevelPreservesInvariant t t' =
     (a : Values) (words refs : List ℕ) (w : Watching) (implied : List (List ℕ)) (nodes : List ImplNode) → t.head ≡ length t.lits →
     PropagationPrecondition words refs w implied (state_of a nodes t) → PropagationPrecondition words refs w implied (state_of a nodes t')
 
--- what remains when the levels above `top` are undone: exactly the literals that were true at that level or lower, those on the trail at
--- their positions; the others are unassigned
+-- The effect of undoing the levels above `top`. Exactly the literals that were true at `top` or lower stay true,
+-- those on the trail at their positions. The others are unassigned.
 pub record KeepsLow (top : ℕ) (s s' : State) : Type 0 where
   pub agrees : StateIsConsistent s'
   pub low_kept : (l : ℕ) → IsTrueLit s.values l → level s l ≤ top → IsTrueLit s'.values l
@@ -55,6 +55,6 @@ pub record KeepsLow (top : ℕ) (s s' : State) : Type 0 where
   pub places : (i : ℕ) → i < length s'.trail.lits → lit_at s' i ≡ lit_at s i
   pub low_places : (i : ℕ) → i < length s.trail.lits → level s (lit_at s i) ≤ top → i < length s'.trail.lits
 
--- the same for values and a trail, for any nodes that agree with them
+-- `KeepsLow` for these values and this trail, with any nodes that agree with them
 abbrev pub KeepsBelow : (top : ℕ) (a : Values) (t : Trailed) (a' : Values) (t' : Trailed) → Type 0
 KeepsBelow top a t a' t' = (nodes : List ImplNode) → StateIsConsistent (state_of a nodes t) → KeepsLow top (state_of a nodes t) (state_of a' nodes t')

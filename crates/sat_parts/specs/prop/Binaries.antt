@@ -4,7 +4,7 @@ use Rattle.std.specs.List.{filter, sum_by}
 use Rattle.sat_base.specs.values.Literals.{negated, variable}
 use Rattle.sat_parts.specs.prop.Values.{is_unset}
 
--- the lists by literal code, and the number of clauses (it saturates at 2^64 - 1)
+-- the lists of implied literals, indexed by literal code, and the number of binary clauses (it saturates at 2^64 - 1)
 pub record Binaries : Type 0 where
   pub implied : List (List ℕ)
   pub count : ℕ
@@ -13,7 +13,7 @@ pub record Binaries : Type 0 where
 abbrev pub implied_by : List (List ℕ) → ℕ → List ℕ
 implied_by implied l = get_or implied l []
 
--- the lists in which l implies m, too
+-- the lists, with m added to the literals that l implies
 abbrev pub with_implied : ℕ → ℕ → List (List ℕ) → List (List ℕ)
 with_implied l m implied = set implied l (implied_by implied l ++ m ∷ [])
 
@@ -21,18 +21,18 @@ with_implied l m implied = set implied l (implied_by implied l ++ m ∷ [])
 abbrev pub without_last_implied : ℕ → List (List ℕ) → List (List ℕ)
 without_last_implied l implied = set implied l (take (length (implied_by implied l) - 1) (implied_by implied l))
 
--- the clauses and one more: if one of its literals is false, the other is implied
+-- the binary clauses with one more clause: the negation of each of its literals implies the other literal
 abbrev pub with_binary : ℕ → ℕ → Binaries → Binaries
 with_binary a b x = record {
   implied = with_implied (negated b) a (with_implied (negated a) b x.implied);
   count = min (x.count + 1) (2 ^ 64 - 1);
 }
 
--- the clauses with lists for `count` literals
+-- the binary clauses with exactly `count` lists
 abbrev pub with_binary_lists : ℕ → Binaries → Binaries
 with_binary_lists count x = record x { implied = take count x.implied ++ replicate (count - length x.implied) [] }
 
--- the unassigned ones of these literals, or none of them if the variable v is assigned
+-- the unassigned literals among these, or none if the variable v is assigned
 abbrev pub open_among : List (Option Bool) → (v : ℕ) → List ℕ → List ℕ
 open_among values v ls = if is_unset values v then filter (λ l. is_unset values (variable l)) ls else []
 

@@ -12,7 +12,7 @@ use Rattle.sat_parts.specs.prop.Ready.{IsSoundWatch, HasWatch, AreWatched}
 abbrev pub WatchesLive : (words refs : List ℕ) (lists : List (List Watch)) (count : ℕ) → Type 0
 WatchesLive words refs lists count = AreWatched words (live_refs words refs) lists count
 
--- the lists watch the first two literals of the live clauses among the first k
+-- all watches are on live clauses, and the lists watch the first two literals of the live clauses among the first k
 pub record AreBuilt (words refs : List ℕ) (lists : List (List Watch)) (count k : ℕ) : Type 0 where
   pub room : length lists ≡ 2 * count
   pub good : (l p : ℕ) → p < length (watches_of lists l) → IsSoundWatch words (live_refs words refs) (get_or (watches_of lists l) p no_watch)

@@ -15,7 +15,7 @@ is_unit_reason (Long _) = false
 abbrev pub new_node : ImplNode
 new_node = record { reason = NoCause; level = 0; depth = 0 }
 
--- the node of a variable, or a new one if there is none
+-- the node of a variable, or a new node if it has none
 abbrev pub node_of : List ImplNode → ℕ → ImplNode
 node_of nodes v = get_or nodes v new_node
 
@@ -31,7 +31,7 @@ with_node v node nodes = set nodes v node
 abbrev pub with_reason : ℕ → Reason → List ImplNode → List ImplNode
 with_reason v reason nodes = with_node v (record (node_of nodes v) { reason = reason }) nodes
 
--- the nodes of `count` variables
+-- the nodes of `count` variables: nodes are cut off or new nodes are added
 abbrev pub with_nodes : ℕ → List ImplNode → List ImplNode
 with_nodes count nodes = take count nodes ++ replicate (count - length nodes) new_node
 
@@ -39,6 +39,6 @@ with_nodes count nodes = take count nodes ++ replicate (count - length nodes) ne
 abbrev pub removed_node : ImplNode
 removed_node = record { reason = NoCause; level = 0; depth = 4294967295 }
 
--- the clause at o is the reason of the variable's literal
+-- the clause at o is the reason for the variable's value
 abbrev pub HasReason : List ImplNode → (v o : ℕ) → Type 0
 HasReason nodes v o = (node_of nodes v).reason ≡ Long o

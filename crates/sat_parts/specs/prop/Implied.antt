@@ -1,4 +1,4 @@
--- What follows from clauses, units and decisions.
+-- Literals that follow from clauses, units and decisions.
 use Rattle.std.specs.Prelude.{ℕ, ◌≡◌, ◌<◌, Bool, true, List, length, slice_index_or as get_or}
 use Rattle.std.specs.List.{Contains}
 use Rattle.sat_base.specs.values.Clauses.{literal_true}
@@ -16,7 +16,8 @@ pub record IsModelOf (words live : List ℕ) (implied : List (List ℕ)) (s : St
   pub given : (i : ℕ) → i < length s.trail.lits → (node s (lit_at s i)).reason ≡ NoCause → literal_true v (lit_at s i) ≡ true
   pub removed : (l : ℕ) → IsRemoved s l → literal_true v l ≡ true
 
--- if reasons are unit in the order of the trail, every true literal holds in every such valuation
+-- if reasons are unit in the order of the trail, every true literal is true in every valuation that satisfies
+-- `IsModelOf`
 abbrev pub AssignedIsImplied : Type 0
 AssignedIsImplied =
     (words live : List ℕ) (implied : List (List ℕ)) (s : State) (v : ℕ → Bool) → StateIsConsistent s → AreUnitInTurn words live implied s 0 → IsModelOf words live implied s v →

@@ -16,10 +16,10 @@ pub record MirrorsValues (values : List (Option Bool)) (codes : List LitValue) :
   pub count : length codes ≡ 2 * length values
   pub each : (l : ℕ) → l < 2 * length values → get_or codes l Open ≡ signed_value (value_of values (variable l)) (is_positive l)
 
--- the values with both literals of a variable set
+-- the values, with those of both literals of a variable set
 abbrev pub with_lit_value : ℕ → Option Bool → List LitValue → List LitValue
 with_lit_value v value codes = set (set codes (2 * v) (signed_value value true)) (2 * v + 1) (signed_value value false)
 
--- the values of `count` literals, of which new ones are unassigned
+-- the values of `count` literals; new literals are unassigned
 abbrev pub with_lit_count : ℕ → List LitValue → List LitValue
 with_lit_count count codes = take count codes ++ replicate (count - length codes) Open

@@ -1,4 +1,5 @@
--- Lists of literals as parts of one list. Every list has a room, and uses its first positions.
+-- Lists of literals as parts of one list. Each of them has a room in that list, and uses the first positions of its
+-- room.
 use Rattle.std.specs.Prelude.{ℕ, ◌≡◌, ◌≢◌, ◌+◌, ◌≤◌, ◌<◌, ◌⊎◌, List, map, take, drop, length, slice_index, slice_index_or}
 use Rattle.sat_parts.specs.declared.binary.Place.{Place}
 

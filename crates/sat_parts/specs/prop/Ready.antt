@@ -23,7 +23,7 @@ state_of a g t = record { values = a.current; nodes = g; trail = t }
 abbrev pub HasLit : List ℕ → ℕ → ℕ → Type 0
 HasLit words o l = (k : ℕ) × ((k < size_of words o) × (lit_of words o k ≡ l))
 
--- the watch is on a live clause, and its blocking literal is one of the clause
+-- the watch is on a live clause, and its blocking literal is a literal of that clause
 abbrev pub IsSoundWatch : List ℕ → List ℕ → Watch → Type 0
 IsSoundWatch words live x = Contains live x.cref × HasLit words x.cref x.blocking
 
@@ -31,20 +31,20 @@ IsSoundWatch words live x = Contains live x.cref × HasLit words x.cref x.blocki
 abbrev pub HasWatch : List Watch → ℕ → Type 0
 HasWatch xs o = (p : ℕ) × ((p < length xs) × ((get_or xs p no_watch).cref ≡ o))
 
--- every live clause watches its first two literals, and there are no watches on other clauses
+-- the lists watch the first two literals of every live clause, and have no watches on other clauses
 pub record AreWatched (words live : List ℕ) (lists : List (List Watch)) (count : ℕ) : Type 0 where
   pub room : length lists ≡ 2 * count
   pub good : (l p : ℕ) → p < length (watches_of lists l) → IsSoundWatch words live (get_or (watches_of lists l) p no_watch)
   pub both : (o i : ℕ) → Contains live o → i < 2 → HasWatch (watches_of lists (negated (lit_of words o i))) o
 
--- if one of the first two literals of a live clause is false by a due literal that has left the queue, the clause has a true literal at the
--- same level or lower
+-- Assume that one of the first two literals of a live clause is false by a due literal that has left the queue. Then
+-- the clause has a true literal at the same level or lower.
 abbrev pub AreSettled : (words live : List ℕ) (s : State) (due : ℕ → Type 0) → Type 0
 AreSettled words live s due =
     (o i : ℕ) → Contains live o → i < 2 → HasLeftQueue s (negated (lit_of words o i)) → due (negated (lit_of words o i)) →
     IsSatisfied s (lits_at words o) (level s (negated (lit_of words o i)))
 
--- every literal that a due literal implies, if it has left the queue, is true at the same level or lower
+-- every literal that is implied by a due literal that has left the queue is true at the same level or lower
 abbrev pub AreImplied : (implied : List (List ℕ)) (s : State) (due : ℕ → Type 0) → Type 0
 AreImplied implied s due =
     (l k : ℕ) → HasLeftQueue s l → due l → k < length (implied_by implied l) →
@@ -58,20 +58,20 @@ pub record LongReady (words live : List ℕ) (lists : List (List Watch)) (s : St
   pub queue : IsQueueCurrent s
   pub settled : AreSettled words live s due
 
--- there is a list of implied literals for every literal, and all of them are in range
+-- there is a list of implied literals for every literal, and all implied literals are in range
 pub record AreLists (implied : List (List ℕ)) (count : ℕ) : Type 0 where
   pub room : length implied ≡ 2 * count
   pub below : (l k : ℕ) → k < length (implied_by implied l) → get_or (implied_by implied l) k 0 < 2 * count
 
--- what propagation requires, for the literals at levels below `top`: one more than the current level to go on, the current level to go on
--- once that level is undone
+-- The precondition of propagation for the literals at levels below `top`. If `top` is one more than the current
+-- level, propagation can continue. If it is the current level, propagation can continue once that level is undone.
 pub record ReadyBelow (words live : List ℕ) (lists : List (List Watch)) (implied : List (List ℕ)) (s : State) (top : ℕ) : Type 0 where
   pub long : LongReady words live lists s (λ l. level s l < top)
   pub ranges : AreLists implied (length s.values)
   pub binary : AreImplied implied s (λ l. level s l < top)
   pub firsts : HaveFirsts words live s
 
--- what propagation requires
+-- the precondition of propagation, for literals of all levels
 abbrev pub IsReadyToPropagate : (words live : List ℕ) (lists : List (List Watch)) (implied : List (List ℕ)) (s : State) → Type 0
 IsReadyToPropagate words live lists implied s = ReadyBelow words live lists implied s (current_level s + 1)
 
@@ -97,8 +97,9 @@ IsConflict words live implied values (Binary ls) =
     × IsFalseLit values (get_or ls 1 0)
 IsConflict words live implied values (Long o) = Contains live o × AreAllFalse values (lits_at words o)
 
--- What propagation ensures: the literals that it assigned have reasons. Without a conflict, the state is ready again, with an empty queue
--- and no unit or falsified clause. After a conflict, a clause is falsified, and the state is ready once its level is undone.
+-- The result of propagation. The literals that it assigned have reasons. Without a conflict, its precondition holds
+-- again, with an empty queue and no unit or falsified clause. After a conflict, a clause is falsified, and the
+-- precondition holds once the current level is undone.
 pub record Propagated (live : List ℕ) (implied : List (List ℕ)) (words : List ℕ) (s : State) (words' : List ℕ) (s' : State) (lists : List (List Watch)) (r : Result (Unit {0}) Conflict) : Type 0 where
   pub moves : PropagatesOn live implied words s words' s'
   pub outcome : MatchResult r

@@ -36,8 +36,8 @@ HaveFirsts words live s = (i o : ℕ) → i < length s.trail.lits → (node s (l
 abbrev pub HasClauseReason : State → ℕ → Type 0
 HasClauseReason s i = IsTrueLit s.values (lit_at s i) × (is_unit_reason (node s (lit_at s i)).reason ≡ false)
 
--- a stretch of propagation: every literal that became true has a clause as its reason, reasons are unit in the order of the trail,
--- and clauses changed only in the order of their literals; a true first literal stays first
+-- The effect of some propagation. Every literal that became true has a clause as its reason, and reasons stay unit in
+-- the order of the trail. Clauses changed only in the order of their literals; a true first literal stays first.
 pub record PropagatesOn (live : List ℕ) (implied : List (List ℕ)) (words : List ℕ) (s : State) (words' : List ℕ) (s' : State) : Type 0 where
   pub grows : TrailGrows s s'
   pub reorders : PermutesClauses words words' live

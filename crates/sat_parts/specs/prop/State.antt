@@ -7,7 +7,7 @@ use Rattle.sat_parts.specs.prop.Values.{IsTrueLit}
 use Rattle.sat_parts.specs.prop.Trails.{Trailed, IsTrail, LevelIs, with_lit}
 use Rattle.sat_parts.specs.prop.Graphs.{node_of, node_at, with_node}
 
--- which literals are true, why, and in which order they became true
+-- the state of a search: which literals are true, why, and in which order they became true
 pub record State : Type 0 where
   pub values : List (Option Bool)
   pub nodes : List ImplNode
@@ -46,8 +46,8 @@ pub record IsBefore (s : State) (bound l : ℕ) : Type 0 where
 abbrev pub HasLeftQueue : State → ℕ → Type 0
 HasLeftQueue s l = IsBefore s s.trail.head l ⊎ IsRemoved s l
 
--- values, nodes and trail agree: the literals on the trail are true, their nodes have their positions and levels, and every other true
--- literal was taken off the trail as a unit
+-- Values, nodes and trail agree. The literals on the trail are true, and their nodes have their positions and levels.
+-- Every other true literal was taken off the trail as a unit.
 pub record StateIsConsistent (s : State) : Type 0 where
   pub trail : IsTrail s.trail
   pub nodes : length s.nodes ≡ length s.values
@@ -81,7 +81,7 @@ pub record TrailGrows (old new : State) : Type 0 where
   pub nodes : (l : ℕ) → IsTrueLit old.values l → node new l ≡ node old l
   pub removed : (l : ℕ) → IsRemoved new l → IsRemoved old l
 
--- one of these literals is true at this level or lower
+-- some literal of the list is true at this level or lower
 pub record IsSatisfied (s : State) (ls : List ℕ) (bound : ℕ) : Type 0 where
   pub place : ℕ
   pub within : place < length ls

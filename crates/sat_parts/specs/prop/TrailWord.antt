@@ -31,7 +31,7 @@ abbrev pub letters : (starts lits : List ℕ) (at : ℕ) → List Letter
 letters starts [] at = []
 letters starts (l ∷ ls) at = letter starts at ∷ letters starts ls (at + 1)
 
--- the letters of the units that were taken off the trail, then those of its literals
+-- the letters of the units that were taken off the trail, then the letters of the literals on the trail
 abbrev pub trail_word : Trailed → List Letter
 trail_word t = replicate t.cleared P ++ letters t.starts t.lits 0
 
@@ -49,8 +49,8 @@ IsLowerWord (P ∷ u) (P ∷ v) = IsLowerWord u v
 abbrev pub BeginsNoLevel : List ℕ → ℕ → Type 0
 BeginsNoLevel starts i = (k : ℕ) → k < length starts → get_or starts k 0 ≢ i
 
--- every level begins with a literal of its own, after those of the levels before. That literal has no clause as its reason, and every
--- other literal above level 0 has one
+-- Every level begins with a literal, after the literal that begins the level before. The literal that begins a level
+-- has no clause as its reason, and every other literal above level 0 has a clause as its reason.
 pub record IsLevelled (s : State) : Type 0 where
   pub strict : (j k : ℕ) → j < k → k < length s.trail.starts → get_or s.trail.starts j 0 < get_or s.trail.starts k 0
   pub begun : (k : ℕ) → k < length s.trail.starts → get_or s.trail.starts k 0 < length s.trail.lits
@@ -62,7 +62,8 @@ pub record IsLevelled (s : State) : Type 0 where
 abbrev pub decided_on : ℕ → State → State
 decided_on l s = enqueued l NoCause (record s { trail = with_level s.trail })
 
--- this is preserved when a literal is decided, becomes true by a clause or at level 0, in propagation, and when levels are undone
+-- `IsLevelled` holds without levels above 0. It is preserved when a literal is decided or becomes true by a clause,
+-- in propagation, and when levels are undone.
 pub record LevelsStay : Type 0 where
   pub none : (s : State) → s.trail.starts ≡ [] → IsLevelled s
   pub decides : (s : State) (l : ℕ) → StateIsConsistent s → IsOpenLit s.values l → variable l < length s.values → IsLevelled s → IsLevelled (decided_on l s)

@@ -2,8 +2,9 @@
 use Rattle.std.specs.Prelude.{ℕ, ◌≡◌, Some, slice_get, ◌+◌, ◌-◌, ◌^◌, ◌<◌, ◌≤◌, List, [], ◌∷◌, ◌++◌, min, take, length, slice_index_or as get_or}
 use Rattle.sat_base.specs.values.Literals.{var_limit}
 
--- the literals, how many of them have left the queue, the position at which each level from 1 on begins, how many literals were
--- cleared (it saturates at 2^64 - 1), and for how many there is capacity
+-- The literals on the trail, how many of them have left the queue, and the position at which each level from 1 on
+-- begins. `cleared` is the number of literals that were cleared (it saturates at 2^64 - 1). `room` is the number of
+-- literals for which there is capacity.
 pub record Trailed : Type 0 where
   pub lits : List ℕ
   pub head : ℕ
@@ -54,10 +55,10 @@ with_lit l t = record t { lits = t.lits ++ l ∷ [] }
 abbrev pub with_level : Trailed → Trailed
 with_level t = record t { starts = t.starts ++ length t.lits ∷ [] }
 
--- the trail without its literals, which still count
+-- the trail without its literals, which are counted as cleared
 abbrev pub with_cleared : Trailed → Trailed
 with_cleared t = record t { lits = []; head = 0; cleared = min (t.cleared + length t.lits) (2 ^ 64 - 1) }
 
--- the trail without the levels above this one, which must be lower than the current one, and with an empty queue
+-- the trail without the levels above this level, which is lower than the current level; the queue is empty
 abbrev pub cut_to : ℕ → Trailed → Trailed
 cut_to level t = let len = get_or t.starts level 0 in record t { lits = take len t.lits; head = len; starts = take level t.starts }

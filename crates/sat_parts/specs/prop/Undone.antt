@@ -10,11 +10,11 @@ abbrev pub was_true : Option Bool → Bool
 was_true None = false
 was_true (Some b) = b
 
--- the values after a literal's variable lost its value, which is stored as the last one
+-- the values after a literal's variable lost its value, which is kept as its last value
 abbrev pub lost : ℕ → Values → Values
 lost l a = record { current = set a.current (variable l) None; last = set a.last (variable l) (was_true (value_of a.current (variable l))) }
 
--- the same for all these literals, one after the other
+-- the values after the variables of these literals lost their values
 abbrev pub undone : List ℕ → Values → Values
 undone [] a = a
 undone (l ∷ ls) a = undone ls (lost l a)
@@ -23,7 +23,7 @@ undone (l ∷ ls) a = undone ls (lost l a)
 abbrev pub undone_lits : ℕ → Trailed → List ℕ
 undone_lits level t = drop (get_or t.starts level 0) t.lits
 
--- the queue in which the variables of these literals may be picked
+-- the queue, with the variables of these literals available for picking
 abbrev pub all_available : List ℕ → Queue → Queue
 all_available [] q = q
 all_available (l ∷ ls) q = all_available ls (with_available (variable l) true q)

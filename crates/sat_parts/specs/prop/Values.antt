@@ -2,12 +2,12 @@
 use Rattle.std.specs.Prelude.{ℕ, ◌≡◌, ◌-◌, Bool, false, not, Option, None, Some, is_none, List, ◌++◌, take, replicate, length, if◌then◌else◌, slice_index_or as get_or, slice_set as set}
 use Rattle.sat_base.specs.values.Literals.{variable, is_positive}
 
--- for every variable its value, or none, and the value that it lost last
+-- for every variable its value, or `None`, and the value that it lost last
 pub record Values : Type 0 where
   pub current : List (Option Bool)
   pub last : List Bool
 
--- the value of a variable, or none if it is unassigned or does not exist
+-- the value of a variable, or `None` if it is unassigned or does not exist
 abbrev pub value_of : List (Option Bool) → ℕ → Option Bool
 value_of values v = get_or values v None
 
@@ -32,7 +32,7 @@ abbrev pub seen_from : Bool → Option Bool → Option Bool
 seen_from positive None = None
 seen_from positive (Some b) = Some (if positive then b else not b)
 
--- the values with that of a variable set or removed
+-- the values, with the value of one variable set or removed
 abbrev pub assigned : ℕ → Option Bool → Values → Values
 assigned v value a = record a { current = set a.current v value }
 
@@ -40,7 +40,7 @@ assigned v value a = record a { current = set a.current v value }
 abbrev pub made_true : ℕ → Values → Values
 made_true l a = assigned (variable l) (Some (is_positive l)) a
 
--- the values of `count` variables; new ones have none, and were false last
+-- the values of `count` variables; new variables are unassigned, and their last value is false
 abbrev pub with_var_count : ℕ → Values → Values
 with_var_count count a = record {
   current = take count a.current ++ replicate (count - length a.current) None;

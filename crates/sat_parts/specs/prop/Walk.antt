@@ -16,16 +16,16 @@ use Rattle.sat_parts.specs.prop.State.{State, level, current_level, HasLeftQueue
 use Rattle.sat_parts.specs.prop.Reasons.{PropagatesOn}
 use Rattle.sat_parts.specs.prop.Ready.{IsSoundWatch, HasWatch, LongReady, AreAllFalse, IsConflict}
 
--- one of the first `kept` watches, or of those from `at` on, is on the clause at o
+-- a watch before position `kept`, or from position `at` on, is on the clause at o
 abbrev pub HasWatchOutside : List Watch → ℕ → ℕ → ℕ → Type 0
 HasWatchOutside xs kept at o = (p : ℕ) × ((p < length xs) × ((p < kept) ⊎ (at ≤ p)) × ((get_or xs p no_watch).cref ≡ o))
 
--- one of the watches from `at` on is on the clause at o
+-- a watch from position `at` on is on the clause at o
 abbrev pub HasWatchFrom : List Watch → ℕ → ℕ → Type 0
 HasWatchFrom xs at o = (p : ℕ) × ((p < length xs) × (at ≤ p) × ((get_or xs p no_watch).cref ≡ o))
 
--- the watches during the walk through those of lit, which were taken out as a list: those from `at` on are still to visit, and the
--- first `kept` stay
+-- The watches during the walk through those of `lit`, which were taken out as `list`. Watches from position `at` on
+-- are still to be visited, and the first `kept` watches stay.
 pub record AreWalked (words live : List ℕ) (lists : List (List Watch)) (list : List Watch) (lit kept at count : ℕ) : Type 0 where
   pub room : length lists ≡ 2 * count
   pub good : (l p : ℕ) → p < length (watches_of lists l) → IsSoundWatch words live (get_or (watches_of lists l) p no_watch)
@@ -48,11 +48,11 @@ pub record WalkInvariant (words live : List ℕ) (s : State) (lists : List (List
       IsSatisfied s (lits_at words o) (level s (negated (lit_of words o i)))
       ⊎ ((negated (lit_of words o i) ≡ lit) × HasWatchFrom list at o)
 
--- fl was one of the first two literals of the clause at o, and the other one is now first
+-- fl was one of the first two literals of the clause at o, and the other of these is now first
 abbrev pub IsOther : List ℕ → List ℕ → ℕ → ℕ → Type 0
 IsOther w v o fl = ((lit_of w o 1 ≡ fl) × (lit_of v o 0 ≡ lit_of w o 0)) ⊎ ((lit_of w o 0 ≡ fl) × (lit_of v o 0 ≡ lit_of w o 1))
 
--- the same, and fl is now second
+-- fl was one of the first two literals of the clause at o; the other of these is now first, and fl is second
 pub record WalkInvariantAtClause (w v : List ℕ) (o fl : ℕ) : Type 0 where
   pub other : IsOther w v o fl
   pub second : lit_of v o 1 ≡ fl
@@ -77,22 +77,22 @@ Visited w v a lists lists' o fl (Falsified n) =
     × (lists' ≡ lists)
     × ((k : ℕ) → k < size_of v o → IsFalseLit a (lit_of v o k))
 
--- the same for an assignment and watch lists
+-- the effect of visiting a clause, for an assignment and watch lists
 abbrev pub VisitedIn : (w v : List ℕ) (a : Values) (lists lists' : Watching) (o fl : ℕ) → Visit → Type 0
 VisitedIn w v a lists lists' o fl r = Visited w v a.current lists.lists lists'.lists o fl r
 
--- the due literals after a walk: all of them, or those below the current level if a clause was falsified
+-- the literal is due after a walk: any literal or, if a clause was falsified, a literal below the current level
 abbrev pub due_after : Option ℕ → State → ℕ → Type 0
 due_after found s l = MatchOption found (Unit {0}) (λ _. level s l < current_level s)
 
--- the effect of a walk on words and state, and on the lists once the walked one is put back
+-- the effect of a walk on words and state, and on the lists once the walked list is put back
 pub record WatchWalkEffect (live : List ℕ) (words : List ℕ) (s : State) (words' : List ℕ) (s' : State) (lists : List (List Watch)) (found : Option ℕ) : Type 0 where
   pub moves : (implied : List (List ℕ)) → PropagatesOn live implied words s words' s'
   pub head : s'.trail.head ≡ s.trail.head
   pub ready : LongReady words' live lists s' (due_after found s')
   pub conflict : MatchOption found (Unit {0}) (λ o. Contains live o × AreAllFalse s'.values (lits_at words' o))
 
--- the same, with the falsified clause as a conflict
+-- the effect of a walk over long clauses, with a falsified clause as a conflict
 abbrev pub LongWalkEffect : (live : List ℕ) (words : List ℕ) (s : State) (words' : List ℕ) (s' : State) (lists : List (List Watch)) → Result (Unit {0}) Conflict → Type 0
 LongWalkEffect live words s words' s' lists r =
     MatchResult r (λ _. WatchWalkEffect live words s words' s' lists None) (λ e. (o : ℕ) × ((e ≡ Long o) × WatchWalkEffect live words s words' s' lists (Some o)))

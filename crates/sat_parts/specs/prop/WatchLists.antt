@@ -3,7 +3,7 @@ use Rattle.std.specs.Prelude.{ℕ, ◌≤◌, ◌-◌, Bool, if◌then◌else◌
 use Rattle.sat_base.specs.values.Literals.{negated}
 use Rattle.sat_parts.specs.declared.prop.watch.Watch.{Watch}
 
--- the lists by literal code, and whether they are enabled
+-- the watch lists, indexed by literal code, and whether they are enabled
 pub record Watching : Type 0 where
   pub lists : List (List Watch)
   pub enabled : Bool
@@ -12,7 +12,7 @@ pub record Watching : Type 0 where
 abbrev pub watch_on : ℕ → ℕ → Watch
 watch_on o l = record { cref = o; blocking = l }
 
--- what is read past the end of a list of watches
+-- the default for a watch past the end of a list
 abbrev pub no_watch : Watch
 no_watch = watch_on 0 0
 
@@ -36,15 +36,15 @@ without_last_watch l lists = set lists l (take (length (watches_of lists l) - 1)
 abbrev pub with_clause_watches : ℕ → ℕ → ℕ → Watching → Watching
 with_clause_watches o a b w = if w.enabled then with_watch (negated b) (watch_on o a) (with_watch (negated a) (watch_on o b) w) else w
 
--- the same for the first two literals of a clause
+-- the watch lists with two more watches, for the first two literals of a clause, if they are enabled
 abbrev pub with_firsts : ℕ → List ℕ → Watching → Watching
 with_firsts o ls w = with_clause_watches o (get_or ls 0 0) (get_or ls 1 0) w
 
--- the lists of `count` literals
+-- the watch lists of `count` literals: lists are cut off or empty lists are added
 abbrev pub with_lists : ℕ → Watching → Watching
 with_lists count w = record w { lists = take count w.lists ++ replicate (count - length w.lists) [] }
 
--- the lists of `count` literals, of which the last ones are empty and not yet created
+-- the watch lists, with empty lists added for up to `count` literals
 abbrev pub widened : ℕ → List (List Watch) → List (List Watch)
 widened count lists = lists ++ replicate (count - length lists) []
 
