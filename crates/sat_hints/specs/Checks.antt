@@ -75,6 +75,6 @@ pub record IsProof (text : List ℕ) (empty : Bool) (cores lines : ℕ) : Type 0
   pub counts_lines : lines ≡ held (length all)
 
 -- what a verdict says about a text
-abbrev pub Judges : HintVerdict → List ℕ → Type 0
-Judges (Proved empty cores lines) text = IsProof text empty cores lines
-Judges (Bad line why) text = IsBadAt text line why
+abbrev pub VerdictHolds : HintVerdict → List ℕ → Type 0
+VerdictHolds (Proved empty cores lines) text = IsProof text empty cores lines
+VerdictHolds (Bad line why) text = IsBadAt text line why

@@ -10,7 +10,7 @@ use Rattle.sat_checker.specs.ProofView.{GaveSteps, BeginsWithStep, taken_after, 
 use Rattle.sat_checker.specs.declared.error.CheckerError.{CheckerError}
 use Rattle.sat_checker.specs.declared.error.CheckerError.TheVariants as errors
 use Rattle.sat_hints.specs.Conversion.{hint_text, hint_verdict}
-use Rattle.sat_hints.specs.Checks.{Judges}
+use Rattle.sat_hints.specs.Checks.{VerdictHolds}
 use Rattle.sat_hints.specs.declared.error.HintError.{HintError}
 use Rattle.sat_hints.specs.declared.error.HintError.TheVariants.{Refused, HasDeleteVar, Read, Write, OutOfMemory}
 
@@ -64,7 +64,7 @@ RefusesBy (errors.ProofProcessorError cause) from to passed = ⊥
 abbrev pub Converts : Result (Unit {0}) HintError → Reader → Reader → Writer → Writer → Type 0
 -- all steps are accepted up to an end, and their hint text is proved and completely written,
 Converts (Ok x) from to old new = (passed : List Step) × (rest : List ℕ) × IsAccepted from to passed rest
-    × Judges (hint_verdict (End ∷ taken_after passed [])) (hint_text (End ∷ taken_after passed []))
+    × VerdictHolds (hint_verdict (End ∷ taken_after passed [])) (hint_text (End ∷ taken_after passed []))
     × WriterTakes old new (hint_text (End ∷ taken_after passed []))
 -- this error is never returned,
 Converts (Err HasDeleteVar) from to old new = ⊥

@@ -12,7 +12,7 @@ use Rattle.sat_hints.specs.Lines.{Line, Input, Derived, Gone, Core, Fresh}
 use Rattle.sat_hints.specs.Hints.{IsHintDerivation, clause_under, derives_empty}
 use Rattle.sat_hints.specs.Conversion.{lines_of, hint_text, hint_verdict}
 use Rattle.sat_hints.specs.Limits.{FitsStep}
-use Rattle.sat_hints.specs.Checks.{IsBadAt, IsProof, Judges}
+use Rattle.sat_hints.specs.Checks.{IsBadAt, IsProof, VerdictHolds}
 use Rattle.sat_hints.specs.Converts.{Converts}
 use Rattle.sat_hints.specs.inner.Holding.{IsRightIfVerdict}
 use Rattle.sat_hints.specs.declared.answer.HintFault.{HintFault}
@@ -107,7 +107,7 @@ ReadStepsFit = (steps : List Step) (bytes : List ℕ) → SpellsSteps steps byte
 -- the hint text of accepted steps is proved, if the steps are within their limits and the next id is below 2^64
 abbrev pub AnnouncedAreProved : Type 0
 AnnouncedAreProved = (steps : List Step) → AcceptsAll steps → AllByRecursion FitsStep steps → (ready_after steps).next_id < 2 ^ 64 →
-    Judges (hint_verdict steps) (hint_text steps)
+    VerdictHolds (hint_verdict steps) (hint_text steps)
 
 -- That the bytes are a certificate of these steps and an end. All are accepted, and none of the steps is an end.
 pub record IsCertificate (steps : List Step) (text : List ℕ) : Type 0 where
@@ -137,7 +137,7 @@ ProvedIsNotBad = (text : List ℕ) (empty : Bool) (cores lines line : ℕ) (why 
 
 -- a text has at most one verdict
 abbrev pub OneVerdict : Type 0
-OneVerdict = (text : List ℕ) (v w : HintVerdict) → Judges v text → Judges w text → v ≡ w
+OneVerdict = (text : List ℕ) (v w : HintVerdict) → VerdictHolds v text → VerdictHolds w text → v ≡ w
 
 -- if a reader's bytes are known and are a proved text, `check` returns `Proved` with its counts, or a fault
 abbrev pub ProofIsProved : Type 0

@@ -4,7 +4,7 @@ pub mod Clauses
 pub mod UsesView
 pub mod Standing
 pub mod Course
-pub mod Judging
+pub mod LineChecking
 pub mod Holding
 pub mod LineWriting
 pub mod AnnouncedLines

@@ -3,14 +3,14 @@ ghost use Rattle.std.specs.Prelude.{◌≡◌, ◌<◌, ◌≤◌, ◌+◌, ◌�
 ghost use Rattle.std.specs.Prelude.{MatchOption};
 ghost use Rattle.sat_base.specs.device.Device.{GaveEnough, ReadFails, most_reads};
 ghost use Rattle.sat_hints.specs.Lines.{Line, HasNoEnd};
-ghost use Rattle.sat_hints.specs.Checks.{Judges};
-ghost use Rattle.sat_hints.specs.inner.Judging.{HasTakenLines, IsReadyJudge};
+ghost use Rattle.sat_hints.specs.Checks.{VerdictHolds};
+ghost use Rattle.sat_hints.specs.inner.LineChecking.{HasTakenLines, IsReadyChecker};
 ghost use Rattle.sat_hints.specs.inner.LineReading.{BeginsWithNoLine};
 ghost use Rattle.sat_hints.specs.inner.Holding.{HasRead, IsReadyIf, IsWholeLine, ReadsFurther, IsRightIfVerdict};
-ghost use Rattle.sat_hints.specs.inner.Holding.{JudgesLineBytes, TakesPiece};
+ghost use Rattle.sat_hints.specs.inner.Holding.{ChecksLineBytes, TakesPiece};
 
 use crate::answer::{HintFault, HintVerdict, HintWhy};
-use crate::judging::Judge;
+use crate::line_checking::LineChecker;
 use crate::prefixes::{Place, following};
 use crate::reading::Lists;
 use sat_base::CountedRead;
@@ -30,7 +30,7 @@ struct Checking {
     /// The place in the line after the bytes in `held`.
     place: Place,
     lists: Lists,
-    judge: Judge,
+    checker: LineChecker,
 }
 
 /// Returns the length of the first line, including its LF, or `None` if there is no LF among the bytes.
@@ -50,16 +50,16 @@ fn line_end(bytes: &[u8]) -> Option<usize>
 /// Reads and judges a line, given as bytes. Returns why the line is faulty, if it is.
 fn take_line(
     lists: &mut Lists,
-    judge: &mut Judge,
+    checker: &mut LineChecker,
     bytes: &[u8],
 ) -> Result<Option<HintWhy>, AllocError>
-    requires { IsReadyJudge judge.old }
-    ensures ready { IfOk result (λ why. IsReadyIf why judge.new) }
-    ensures takes { IfOk result (λ why. IsWholeLine bytes.now → (lines : List Line) → HasTakenLines judge.old lines
-        → JudgesLineBytes why judge.old judge.new lines bytes.now) }
+    requires { IsReadyChecker checker.old }
+    ensures ready { IfOk result (λ why. IsReadyIf why checker.new) }
+    ensures takes { IfOk result (λ why. IsWholeLine bytes.now → (lines : List Line) → HasTakenLines checker.old lines
+        → ChecksLineBytes why checker.old checker.new lines bytes.now) }
 {
     match lists.read_line(bytes) {
-        Ok(Some((head, _))) => judge.take(&lists.line(head)),
+        Ok(Some((head, _))) => checker.take(&lists.line(head)),
         Ok(None) => Ok(Some(HintWhy::Syntax)),
         Err(error) => Err(error),
     }
@@ -68,28 +68,28 @@ fn take_line(
 impl Checking {
     /// Returns a checker that has read nothing. Does not allocate.
     fn new(alloc: Global) -> Checking
-        ensures ready { IsReadyJudge result.judge }
+        ensures ready { IsReadyChecker result.checker }
         ensures read { HasRead result [] }
     {
         Checking {
             held: Vec::new(alloc),
             place: Place::Letter,
             lists: Lists::new(alloc),
-            judge: Judge::new(alloc),
+            checker: LineChecker::new(alloc),
         }
     }
 
-    /// Judges the line that consists of the held bytes and `bytes`, which must end with the line's LF. Returns why the
+    /// VerdictHolds the line that consists of the held bytes and `bytes`, which must end with the line's LF. Returns why the
     /// line is at fault, if it is.
     fn end_line(&mut self, bytes: &[u8]) -> Result<Option<HintWhy>, AllocError>
-        requires ready { IsReadyJudge self.old.judge }
+        requires ready { IsReadyChecker self.old.checker }
         requires ends { IsWholeLine bytes.now }
-        ensures ready { IfOk result (λ why. IsReadyIf why self.new.judge) }
+        ensures ready { IfOk result (λ why. IsReadyIf why self.new.checker) }
         ensures empty { IfOk result (λ why. self.new.held.items ≡ []) }
         ensures reads { IfOk result (λ why. ReadsFurther why self.old bytes.now self.new) }
     {
         self.held.extend_from_slice(bytes)?;
-        let why = take_line(&mut self.lists, &mut self.judge, &self.held)?;
+        let why = take_line(&mut self.lists, &mut self.checker, &self.held)?;
         self.held.clear();
         self.place = Place::Letter;
         Ok(why)
@@ -98,9 +98,9 @@ impl Checking {
     /// Holds further bytes of a line. These bytes must not contain an LF. Returns a fault if no line can continue
     /// with them.
     fn hold(&mut self, bytes: &[u8]) -> Result<Option<HintWhy>, AllocError>
-        requires ready { IsReadyJudge self.old.judge }
+        requires ready { IsReadyChecker self.old.checker }
         requires inside { HasNoEnd bytes.now }
-        ensures ready { IfOk result (λ why. IsReadyIf why self.new.judge) }
+        ensures ready { IfOk result (λ why. IsReadyIf why self.new.checker) }
         ensures reads { IfOk result (λ why. ReadsFurther why self.old bytes.now self.new) }
     {
         let Some(place) = following(self.place, bytes) else {
@@ -114,10 +114,10 @@ impl Checking {
     /// Holds the bytes after the last line that was read in place. `bytes` must not begin with a line, so an LF among
     /// these bytes is a fault.
     fn hold_rest(&mut self, bytes: &[u8]) -> Result<Option<HintWhy>, AllocError>
-        requires ready { IsReadyJudge self.old.judge }
+        requires ready { IsReadyChecker self.old.checker }
         requires empty { self.old.held.items ≡ [] }
         requires none { BeginsWithNoLine bytes.now }
-        ensures ready { IfOk result (λ why. IsReadyIf why self.new.judge) }
+        ensures ready { IfOk result (λ why. IsReadyIf why self.new.checker) }
         ensures reads { IfOk result (λ why. ReadsFurther why self.old bytes.now self.new) }
     {
         match line_end(bytes) {
@@ -128,16 +128,16 @@ impl Checking {
 
     /// Does what `feed` does if no bytes are held. Lines are read in place, without being copied.
     fn feed_in_place(&mut self, piece: &[u8]) -> Result<Option<HintWhy>, AllocError>
-        requires ready { IsReadyJudge self.old.judge }
+        requires ready { IsReadyChecker self.old.checker }
         requires empty { self.old.held.items ≡ [] }
-        ensures ready { IfOk result (λ why. IsReadyIf why self.new.judge) }
+        ensures ready { IfOk result (λ why. IsReadyIf why self.new.checker) }
         ensures reads { IfOk result (λ why. ReadsFurther why self.old piece.now self.new) }
     {
         let mut rest = piece;
         loop {
             match self.lists.read_line(rest) {
                 Ok(Some((head, following))) => {
-                    match self.judge.take(&self.lists.line(head))? {
+                    match self.checker.take(&self.lists.line(head))? {
                         Some(why) => return Ok(Some(why)),
                         None => {}
                     }
@@ -151,8 +151,8 @@ impl Checking {
 
     /// Checks the next bytes of the text. Returns the reason for the first fault, if there is one.
     fn feed(&mut self, piece: &[u8]) -> Result<Option<HintWhy>, AllocError>
-        requires { IsReadyJudge self.old.judge }
-        ensures ready { IfOk result (λ why. IsReadyIf why self.new.judge) }
+        requires { IsReadyChecker self.old.checker }
+        ensures ready { IfOk result (λ why. IsReadyIf why self.new.checker) }
         ensures reads { IfOk result (λ why. ReadsFurther why self.old piece.now self.new) }
     {
         if self.held.is_empty() {
@@ -170,29 +170,29 @@ impl Checking {
 
     /// Does what `feed` does, but returns a verdict if a line is at fault.
     fn take_piece(&mut self, piece: &[u8]) -> Result<Option<HintVerdict>, HintFault>
-        requires { IsReadyJudge self.old.judge }
+        requires { IsReadyChecker self.old.checker }
         ensures memory { IfErr result (λ e. e ≡ HintFault.OutOfMemory) }
         ensures takes { IfOk result (λ verdict. TakesPiece verdict self.old piece.now self.new) }
     {
         match self.feed(piece)? {
-            Some(why) => Ok(Some(self.judge.bad(why))),
+            Some(why) => Ok(Some(self.checker.bad(why))),
             None => Ok(None),
         }
     }
 
     /// Returns the verdict on the text, which must end after the bytes that have been read so far.
     fn finish(&self) -> HintVerdict
-        ensures { (text : List ℕ) → HasRead self.now text → Judges result text }
+        ensures { (text : List ℕ) → HasRead self.now text → VerdictHolds result text }
     {
         if self.held.is_empty() {
-            return self.judge.proved();
+            return self.checker.proved();
         }
-        self.judge.bad(HintWhy::Syntax)
+        self.checker.bad(HintWhy::Syntax)
     }
 
     /// Reads and checks a text, up to the first line at fault. Returns the verdict on the text.
     fn check_text<R: CountedRead>(&mut self, text: &mut R) -> Result<HintVerdict, HintFault>
-        requires ready { IsReadyJudge self.old.judge }
+        requires ready { IsReadyChecker self.old.checker }
         requires fresh { HasRead self.old [] }
         ensures given { GaveEnough (R.seen text.old) (R.seen text.new) (IsRightIfVerdict result) }
         ensures kept { IsErrOf result HintFault.Read ⊎ ((R.seen text.new).failures ≡ (R.seen text.old).failures) }

@@ -3,7 +3,7 @@
 ghost use Rattle.std.specs.Prelude.{◌≡◌, ◌≢◌, ◌⊎◌, [], true, false, None, MatchBool};
 ghost use Rattle.sat_checker.specs.LiteralSets.{is_among, is_tautology};
 ghost use Rattle.sat_checker.specs.inner.AssumedRoom.{AgreesOn, RoomStays, signed};
-ghost use Rattle.sat_hints.specs.inner.Judging.{refutation_failure_of, WhyNotRefuted};
+ghost use Rattle.sat_hints.specs.inner.LineChecking.{refutation_failure_of, WhyNotRefuted};
 ghost use Rattle.sat_hints.specs.inner.Standing.{standing_clauses, HasRoomForPresent, StandingInvariant};
 
 use crate::answer::HintWhy;

@@ -9,7 +9,7 @@ ghost use Rattle.sat_solver.specs.session.Session.{IsAllowedStep, AreAllowedStep
 ghost use Rattle.sat_solver.specs.proof.Widths.{narrowed, KeepsWidth};
 ghost use Rattle.sat_solver.specs.proof.ProofView.{Closed, IsAtWidth, Open, asking, audience, is_open, is_drat};
 ghost use Rattle.sat_solver.specs.proof.ProofView.{has_asked};
-ghost use Rattle.sat_solver.specs.proof.ProofView.{target_of, steps_of, session_of, is_checked, is_lost, HasFullChecker};
+ghost use Rattle.sat_solver.specs.proof.ProofView.{target_of, steps_of, session_of, is_checked, is_lost, StartsChecker};
 ghost use Rattle.sat_solver.specs.proof.ProofView.{AllStepsReported, HasAllowedSteps, EmitsExactly, EmitsAsAnswered, PutsOn, TargetTakes};
 ghost use Rattle.sat_solver.specs.proof.ProofView.{FailsOnlyInChecker, FailsOnlyInCheckerOrWasLost, FlushesTarget, FlushesOrFails};
 ghost use Rattle.sat_solver.specs.proof.ProofView.{ClosesTarget, ReturnsListeners, ReturnsNotifiedListeners, ReturnsTarget, HasCause, AddListenerEffect};
@@ -138,7 +138,7 @@ impl<W: CountedWrite + Drop, P: ProofProcessor> Proof<W, P> {
     /// No step other than the end of a proof may have been made. Never allocates.
     pub fn begin_checking(&mut self, alloc: Global)
         requires { has_begun (steps_of self.old) ≡ false }
-        ensures checks { HasFullChecker self.old self.new }
+        ensures checks { StartsChecker self.old self.new }
         ensures asked { has_asked self.new ≡ has_asked self.old }
         ensures target { target_of W.seen self.new ≡ target_of W.seen self.old }
     {

@@ -3,7 +3,7 @@ ghost use Rattle.std.specs.Prelude.{◌≡◌, ◌+◌, ◌-◌, ◌^◌, ◌<�
 ghost use Rattle.sat_solver.specs.schedule.Climbing.{KeepsProgress};
 ghost use Rattle.sat_solver.specs.schedule.Counting.{AnswersWithin, CountsOn, SpendsRounds, TakesRound, round_allowance};
 ghost use Rattle.sat_solver.specs.schedule.Rounds.{LastRoundAnswers, RestartsWhereDue};
-ghost use Rattle.sat_solver.specs.schedule.Solving.{words_in, values_in, CoreInvariant, TakesNoRounds, EndedBy};
+ghost use Rattle.sat_solver.specs.schedule.Solving.{words_in, values_in, CoreInvariant, ReachedByAsManyRounds, EndedBy};
 ghost use Rattle.sat_solver.specs.schedule.Solving.{BreaksRounds};
 ghost use Rattle.sat_solver.specs.schedule.Solving.{Restarted, ReducedAt, RoundOf};
 ghost use Rattle.sat_solver.specs.solver.Found.{FoundNone};
@@ -62,7 +62,7 @@ fn restart_where_due<W: CountedWrite + Drop, P: ProofProcessor>(
     ensures most { values_in core.new ≡ values_in core.old }
     ensures come { KeepsProgress words_in round core.old restarts.old.next restarts.old.sequence
         core.new restarts.new.next restarts.new.sequence }
-    ensures goes { TakesNoRounds W.seen core.old core.new }
+    ensures goes { ReachedByAsManyRounds W.seen core.old core.new }
     ensures due { RestartsWhereDue Restarted round core.old restarts.old core.new restarts.new }
 {
     if round < restarts.next {

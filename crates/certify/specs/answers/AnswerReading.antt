@@ -74,15 +74,15 @@ abbrev pub BeginWithWordsOf : List ℕ → List ℕ → Type 0
 BeginWithWordsOf text bytes = (front : List ℕ) × (tail : List ℕ) × ((text ≡ front ++ (48 ∷ 10 ∷ [])) × (bytes ≡ front ++ tail))
 
 -- that the bytes begin with at least one literal of a line in form; only then can memory be needed
-abbrev pub WantsRoom : AnswerKind → (List Literal → List ℕ) → List ℕ → Type 0
-WantsRoom k text bytes = HasLine k
+abbrev pub HasFirstLiteral : AnswerKind → (List Literal → List ℕ) → List ℕ → Type 0
+HasFirstLiteral k text bytes = HasLine k
     × ((ls : List Literal) × (l : Literal) × (IsInForm (outcome_of k (ls ++ (l ∷ []))) × BeginWithWordsOf (text (ls ++ (l ∷ []))) bytes))
 
 -- why the literals of a line of this kind cannot be read
 abbrev pub NoLiterals : AnswerKind → List ℕ → AnswerFault → Type 0
 NoLiterals k bytes Missing = ⊥
 NoLiterals k bytes Text = (ls : List Literal) (tail : List ℕ) → IsInForm (outcome_of k ls) → bytes ≡ literals_text ls ++ tail → ⊥
-NoLiterals k bytes OutOfMemory = WantsRoom k literals_text bytes
+NoLiterals k bytes OutOfMemory = HasFirstLiteral k literals_text bytes
 
 -- why the first line cannot be read
 abbrev pub NoKind : List ℕ → AnswerFault → Type 0
@@ -95,7 +95,7 @@ abbrev pub NoLine : AnswerKind → List ℕ → AnswerFault → Type 0
 NoLine k bytes Missing = HasLine k × (bytes ≡ [])
 NoLine k bytes Text = (bytes ≢ [])
     × ((ls : List Literal) (tail : List ℕ) → IsInForm (outcome_of k ls) → bytes ≡ second_line (outcome_of k ls) ++ tail → ⊥)
-NoLine k bytes OutOfMemory = WantsRoom k (λ ls. second_line (outcome_of k ls)) bytes
+NoLine k bytes OutOfMemory = HasFirstLiteral k (λ ls. second_line (outcome_of k ls)) bytes
 
 -- that the bytes are not a prefix of literals in form with their `0` and LF
 abbrev pub StartsNoLiterals : AnswerKind → List ℕ → Type 0

@@ -6,10 +6,10 @@ use Rattle.sat_base.specs.steps.Steps.{Step}
 use Rattle.sat_checker.specs.Accepts.{ready_after}
 use Rattle.sat_checker.specs.declared.kernel.Kernel.{Kernel}
 use Rattle.sat_checker.specs.matching.Expected.{Outcome, Expected}
-use Rattle.certify.specs.confirm.CertificatePlaces.{CanMeet, MeetsExactly, MeetsNoneOf, SkipsUnordered, MeetsNothing, NextIsOrdered}
+use Rattle.certify.specs.confirm.CertificatePlaces.{CanMeet, MeetsExactly, MeetsNoneOf, MeetsSameSteps, MeetsNothing, NextIsOrdered}
 use Rattle.certify.specs.confirm.Feeding.{HasTaken}
 use Rattle.certify.specs.confirm.CertificateStates.{CertificateState}
-use Rattle.certify.specs.confirm.Comparing.{MayStayUnmet, Due, ExcusesDue}
+use Rattle.certify.specs.confirm.Comparing.{OpenedCoreIsEmpty, Due, ExcusesDue}
 use Rattle.certify.specs.confirm.Following.{AreVariablesOfNames}
 use Rattle.certify.specs.declared.confirm.ordered.Awaited.{Awaited}
 use Rattle.certify.specs.declared.confirm.ordered.Awaited.TheVariants as awaited
@@ -35,13 +35,13 @@ pub record UnsatIsRecorded (names : NamedVars) (old : CertificateState) (earlier
   pub later : List Step
   pub valid : CheckerIsAt new.checker names later
   pub closed : (ready_after later).unsat ≡ true
-  pub skips : SkipsUnordered earlier old.rest later new.rest
+  pub skips : MeetsSameSteps earlier old.rest later new.rest
 
 -- that only unordered steps were accepted
 pub record StepWasPassed (names : NamedVars) (old : CertificateState) (earlier : List Step) (new : CertificateState) : Type 0 where
   pub later : List Step
   pub valid : CheckerIsAt new.checker names later
-  pub skips : SkipsUnordered earlier old.rest later new.rest
+  pub skips : MeetsSameSteps earlier old.rest later new.rest
 
 -- the result of awaiting an ordered step: the step, recorded unsat or, with an error, that no expected step can be
 -- met
@@ -60,14 +60,14 @@ StepsOnce names old new (Err why) = AwaitsNext names old new (Err why)
 abbrev pub PassesUnordered : NamedVars → CertificateState → CertificateState → Result (Unit {0}) Why → Type 0
 PassesUnordered names old new r = (earlier : List Step) → CheckerIsAt old.checker names earlier → StepWasPassed names old earlier new
 
--- That exactly the expected step is met. Once unsat is recorded, this requires that `MayStayUnmet` holds.
+-- That exactly the expected step is met. Once unsat is recorded, this requires that `OpenedCoreIsEmpty` holds.
 pub record IsDueMet (due : Due) (after : NamedVars) (old : CertificateState) (earlier : List Step) (new : CertificateState) : Type 0 where
   pub later : List Step
   pub valid : CheckerIsAt new.checker after later
   pub leads : (o : Outcome) (ask : List Literal)
-      → ((ready_after later).unsat ≡ true → MayStayUnmet (due o ask)) → MeetsExactly earlier old.rest (due o ask ∷ []) later new.rest
+      → ((ready_after later).unsat ≡ true → OpenedCoreIsEmpty (due o ask)) → MeetsExactly earlier old.rest (due o ask ∷ []) later new.rest
   pub alone : (o : Outcome) (ask : List Literal) (es : List Expected)
-      → CanMeet earlier (due o ask ∷ es) old.rest → (ready_after later).unsat ≡ true → MayStayUnmet (due o ask)
+      → CanMeet earlier (due o ask ∷ es) old.rest → (ready_after later).unsat ≡ true → OpenedCoreIsEmpty (due o ask)
 
 -- that the expected step is met or, with an error, cannot be met
 abbrev pub MeetsDue : Due → NamedVars → NamedVars → CertificateState → CertificateState → Result (Unit {0}) Why → Type 0

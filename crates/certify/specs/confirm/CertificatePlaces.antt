@@ -22,7 +22,7 @@ pub record MeetsNoneOf (earlier : List Step) (certificate : List ℕ) (pending :
 
 -- That the same expected steps are met from both places, if at least one step is expected. It is as if only unordered
 -- steps were between them.
-pub record SkipsUnordered (earlier : List Step) (certificate : List ℕ) (later : List Step) (rest : List ℕ) : Type 0 where
+pub record MeetsSameSteps (earlier : List Step) (certificate : List ℕ) (later : List Step) (rest : List ℕ) : Type 0 where
   pub on : (e : Expected) (es : List Expected) → CanMeet earlier (e ∷ es) certificate → CanMeet later (e ∷ es) rest
   pub back : (e : Expected) (es : List Expected) → CanMeet later (e ∷ es) rest → CanMeet earlier (e ∷ es) certificate
 

@@ -52,17 +52,17 @@ ComparesLine known line step (Some why) = (codes : List ℕ) → step ≡ Model 
     → EachSpelt (variable_in known.variables.now) (named_literals line) codes → ⊥
 
 -- that the expected step does not open an ask, or opens an ask whose outcome is the empty core
-abbrev pub MayStayUnmet : Expected → Type 0
-MayStayUnmet (NewName name) = Unit {0}
-MayStayUnmet (NoName name) = Unit {0}
-MayStayUnmet (Adds ls) = Unit {0}
-MayStayUnmet (Opens ls o) = o ≡ Unsat []
-MayStayUnmet (Shows names ask line) = Unit {0}
-MayStayUnmet (Fails ask core) = Unit {0}
-MayStayUnmet Closes = Unit {0}
-MayStayUnmet Finish = Unit {0}
+abbrev pub OpenedCoreIsEmpty : Expected → Type 0
+OpenedCoreIsEmpty (NewName name) = Unit {0}
+OpenedCoreIsEmpty (NoName name) = Unit {0}
+OpenedCoreIsEmpty (Adds ls) = Unit {0}
+OpenedCoreIsEmpty (Opens ls o) = o ≡ Unsat []
+OpenedCoreIsEmpty (Shows names ask line) = Unit {0}
+OpenedCoreIsEmpty (Fails ask core) = Unit {0}
+OpenedCoreIsEmpty Closes = Unit {0}
+OpenedCoreIsEmpty Finish = Unit {0}
 
--- That the expected step may be unmet once unsat is recorded, provided that `MayStayUnmet` holds. With a reason: that it may never be unmet.
+-- That the expected step may be unmet once unsat is recorded, provided that `OpenedCoreIsEmpty` holds. With a reason: that it may never be unmet.
 abbrev pub ExcusesDue : Due → Option Why → Type 0
-ExcusesDue due None = (o : Outcome) (ask : List Literal) → MayStayUnmet (due o ask) → MayBeUnmet (due o ask)
+ExcusesDue due None = (o : Outcome) (ask : List Literal) → OpenedCoreIsEmpty (due o ask) → MayBeUnmet (due o ask)
 ExcusesDue due (Some why) = (o : Outcome) (ask : List Literal) → MayBeUnmet (due o ask) → ⊥

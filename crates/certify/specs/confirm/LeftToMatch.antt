@@ -8,7 +8,7 @@ use Rattle.sat_base.specs.steps.StepText.{SpellsSteps}
 use Rattle.certify.specs.answers.Answers.{outcome_text, answers_from}
 use Rattle.sat_checker.specs.matching.Expected.{Outcome, Expected, Opens, Closes, showing, expected}
 use Rattle.sat_checker.specs.matching.Checking.{CheckerRules}
-use Rattle.certify.specs.confirm.Matches.{OneEach, InForm, Meets}
+use Rattle.certify.specs.confirm.Matches.{OneEach, CoreIsInOrder, Meets}
 
 -- that the rest of the certificate begins with steps that meet the expected steps `es`, after the earlier steps
 pub record CertificateMeets (k : CheckerRules) (earlier : List Step) (es : List Expected) (certificate : List ℕ) : Type 0 where
@@ -26,7 +26,7 @@ pub record Left (k : CheckerRules) (j : ScriptState) (n : ℕ) (earlier : List S
   pub outcomes : List Outcome
   pub answered : answers ≡ answers_from n j commands ending outcomes
   pub one_each : OneEach (accepted_of j commands) outcomes
-  pub in_form : AllByRecursion InForm outcomes
+  pub in_form : AllByRecursion CoreIsInOrder outcomes
   pub certified : CertificateMeets k earlier (pending ++ expected j (accepted_of j commands) outcomes) certificate
 
 -- That the rest matches from the answer to an ask on. `j` is the state after the names of the ask were introduced. First the steps in `pending`
@@ -36,5 +36,5 @@ pub record LeftOfAsk (k : CheckerRules) (j : ScriptState) (n : ℕ) (earlier : L
   pub outcome : Outcome
   pub tail : List ℕ
   pub answered : answers ≡ outcome_text outcome ++ tail
-  pub in_form : InForm outcome
+  pub in_form : CoreIsInOrder outcome
   pub left : Left k j n earlier (pending ++ (Opens ask outcome ∷ (showing j ask outcome ++ (Closes ∷ [])))) commands ending tail certificate

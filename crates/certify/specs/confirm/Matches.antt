@@ -21,10 +21,10 @@ OneEach (Ask ls ∷ commands) (o ∷ os) = OneEach commands os
 OneEach (command ∷ commands) outcomes = OneEach commands outcomes
 
 -- that a core is sorted as in `InOrder`, without repeats; a model need not be sorted
-abbrev pub InForm : Outcome → Type 0
-InForm (Sat line) = Unit {0}
-InForm (Unsat core) = InOrder core
-InForm Unknown = Unit {0}
+abbrev pub CoreIsInOrder : Outcome → Type 0
+CoreIsInOrder (Sat line) = Unit {0}
+CoreIsInOrder (Unsat core) = InOrder core
+CoreIsInOrder Unknown = Unit {0}
 
 -- that an expected step may be unmet once unsat is recorded: any step except a model, a core that is not empty, or an
 -- ask whose outcome is not the empty core
@@ -49,7 +49,7 @@ pub data Meets (k : CheckerRules) : List Step → List Step → List Expected �
 -- that the steps match the script's commands and these outcomes, as `Meets` says, and every core is in form
 pub record StepsMatch (k : CheckerRules) (commands : List Command) (outcomes : List Outcome) (steps : List Step) : Type 0 where
   pub one_each : OneEach (accepted_of start commands) outcomes
-  pub in_form : AllByRecursion InForm outcomes
+  pub in_form : AllByRecursion CoreIsInOrder outcomes
   pub meets : Meets k [] steps (expected start (accepted_of start commands) outcomes)
 
 -- That the answers and the certificate match these commands and this ending of a script. The certificate may continue with any bytes after the

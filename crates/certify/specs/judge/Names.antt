@@ -8,7 +8,7 @@ use Rattle.sat_base.specs.script.Script.{Command, names_of}
 use Rattle.certify.specs.answers.AnswerForms.{named_literals}
 use Rattle.sat_base.specs.script.ScriptState.{ScriptState, NameMode, Sampled, Witnessed, identity_of, bring_in, new_names, without_name, with_mode, Refusal, PastLimit, WitnessName, refusal_of}
 use Rattle.sat_base.specs.script.Language.{Kind, OfClause, OfAsk, OfHide, OfWitness, OfSample}
-use Rattle.certify.specs.script.Commands.{IsLent}
+use Rattle.certify.specs.script.Commands.{RepresentsCommand}
 use Rattle.certify.specs.declared.script.Command.{Command as Lent}
 use Rattle.certify.specs.declared.judge.NameState.{NameState}
 use Rattle.certify.specs.declared.judge.NameState.TheVariants as state
@@ -86,7 +86,7 @@ refusal_said (Some refusal) = Some (refusal_in refusal)
 
 -- that `refusal` says why the command is refused, or is `None` if it is accepted
 abbrev pub ReportsRefusal : Option CodeRefusal → Names → Lent → Type 0
-ReportsRefusal refusal names lent = (j : ScriptState) (c : Command) → NamesHaveState names j → IsLent lent c → refusal_said refusal ≡ refusal_of j c
+ReportsRefusal refusal names lent = (j : ScriptState) (c : Command) → NamesHaveState names j → RepresentsCommand lent c → refusal_said refusal ≡ refusal_of j c
 
 -- the refusal of a command, given whether one of its names is past the limit
 abbrev pub limit_refusal : Bool → Option CodeRefusal

@@ -1,7 +1,7 @@
 -- What the program prints of hint texts.
 use Rattle.std.specs.Prelude.{ℕ, ◌≡◌, true, Bool, false, Option, None, Some, Result, Ok, Err, List, [], ◌∷◌, ◌++◌, codes, decimal}
 use Rattle.sat_base.specs.device.Device.{Reader, Writer, GaveEnough}
-use Rattle.sat_hints.specs.Checks.{Judges}
+use Rattle.sat_hints.specs.Checks.{VerdictHolds}
 use Rattle.sat_hints.specs.Converts.{Converts}
 use Rattle.sat_hints.specs.declared.error.HintError.{HintError}
 use Rattle.sat_hints.specs.declared.error.HintError.TheVariants as error
@@ -48,7 +48,7 @@ is_proved (Bad line cause) = false
 -- text is a proof.
 pub record PrintsHintVerdict (status : ℕ) (input : Reader × Reader) (output : Writer × Writer) : Type 0 where
   pub verdict : HintVerdict
-  pub judges : GaveEnough input.0 input.1 (Judges verdict)
+  pub judges : GaveEnough input.0 input.1 (VerdictHolds verdict)
   pub printed : PrintsLine status (hint_verdict_text verdict) (is_proved verdict ≡ true) output.0 output.1
 
 -- the status for a result of `convert`, or `None` for a device or allocation failure

@@ -53,8 +53,8 @@ abbrev pub last_place : {C : Type 0} → RunState C → ScriptState → RunPlace
 last_place s j = record { judge = j; number = s.commands; steps = steps_in s.solver; rounds = s.solver.clock.rounds }
 
 -- the command that the code's value represents, if no name is past the limit
-abbrev pub spelled_by : Lent → Command
-spelled_by lent = command_of (kind_of lent.kind) (named_literals lent.literals.now)
+abbrev pub represented_by : Lent → Command
+represented_by lent = command_of (kind_of lent.kind) (named_literals lent.literals.now)
 
 -- that the command is not refused in any script state that has these names
 abbrev pub NamesAllow : Names → Command → Type 0

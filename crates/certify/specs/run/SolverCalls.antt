@@ -15,7 +15,7 @@ use Rattle.sat_solver.specs.variables.VariableRoom.{HasVariablesFor}
 use Rattle.sat_solver.specs.session.Making.{ComesBySteps, BreaksEmitting}
 use Rattle.sat_solver.specs.proof.ProofView.{is_checked, is_drat, target_of}
 use Rattle.sat_solver.specs.solver.Calls.{Answered}
-use Rattle.sat_solver.specs.solver.Taking.{IsNameFaultOr}
+use Rattle.sat_solver.specs.solver.Taking.{IsNameErrorOr}
 use Rattle.sat_solver.specs.solver.View.{proof_in}
 use Rattle.sat_solver.specs.solver.Whole.{IsSolver, steps_in}
 use Rattle.certify.specs.declared.fault.RunFault.{RunFault}
@@ -29,7 +29,7 @@ use Rattle.certify.specs.run.Quiet.{Proof, Solver}
 
 -- that the error can be returned by a solver that has not failed before, for a call that it does not refuse
 abbrev pub IsSolverFault : SolverError → Type 0
-IsSolverFault = IsNameFaultOr (Unit {0})
+IsSolverFault = IsNameErrorOr (Unit {0})
 
 -- the fault of a run for this error of its solver
 abbrev pub fault_for : SolverError → RunFault

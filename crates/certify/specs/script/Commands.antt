@@ -55,12 +55,12 @@ pub record IsFront (codes : List ℕ) (past : Bool) (ls : List Literal) : Type 0
   pub limit : BeginsPast past following
 
 -- that the code's value represents the command `c`: it has the literals of `c` before the first one past the limit
-abbrev pub IsLent : Lent → Command → Type 0
-IsLent lent c = (ls : List Literal) × IsFront lent.literals.now lent.past_limit ls × (c ≡ command_of (kind_of lent.kind) ls)
+abbrev pub RepresentsCommand : Lent → Command → Type 0
+RepresentsCommand lent c = (ls : List Literal) × IsFront lent.literals.now lent.past_limit ls × (c ≡ command_of (kind_of lent.kind) ls)
 
 -- that the code's value represents some command
-abbrev pub IsSomeLent : Lent → Type 0
-IsSomeLent lent = (c : Command) × IsLent lent c
+abbrev pub RepresentsSomeCommand : Lent → Type 0
+RepresentsSomeCommand lent = (c : Command) × RepresentsCommand lent c
 
 -- that the reader's draft is the complete command `c`: it has the literals of `c` before the first one past the limit
 abbrev pub IsWholeCommand : Draft → Command → Type 0

@@ -13,7 +13,7 @@ ghost use Rattle.certify.specs.confirm.Confirming.{HoldsAt, MeetsContent, MeetsO
 ghost use Rattle.certify.specs.confirm.Lines.{outcome_in};
 ghost use Rattle.certify.specs.confirm.ConfirmStates.{ConfirmsBoth, answers_in, stream_in};
 ghost use Rattle.certify.specs.script.LastPiece.{IsNotAtEnd, waiting_bytes};
-ghost use Rattle.certify.specs.script.Commands.{IsLent, end_reading, kind_of};
+ghost use Rattle.certify.specs.script.Commands.{RepresentsCommand, end_reading, kind_of};
 
 use crate::answers::read::AnswerKind;
 use crate::confirm::answers::{Answers, Reply};
@@ -186,7 +186,7 @@ impl ConfirmState {
         requires goes_on { StepsGoOn C.seen steps.old }
         requires open_yet { IsNotAtEnd (answers_in A.seen answers.old self.old) }
         ensures number { self.new.number ≡ self.old.number }
-        ensures confirms { (c : Spelled) → IsLent command.entry c
+        ensures confirms { (c : Spelled) → RepresentsCommand command.entry c
             → ConfirmsBoth ⊥ true result A.seen C.seen answers.old answers.new steps.old steps.new self.old self.new
             (ConfirmsNext self.old.number c (table_of self.old.matching) (table_of self.new.matching)) }
     {

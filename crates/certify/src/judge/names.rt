@@ -4,7 +4,7 @@ ghost use Rattle.std.specs.Bool.{MatchBool};
 ghost use Rattle.sat_base.specs.values.Literals.{var_limit};
 ghost use Rattle.sat_base.specs.script.Script.{Command as Spelled, Literal, names_of};
 ghost use Rattle.sat_base.specs.script.ScriptState.{ScriptState, accepted, bring_in, names_from, new_names, refused_literal, start};
-ghost use Rattle.certify.specs.script.Commands.{IsFront, IsLent, kind_of};
+ghost use Rattle.certify.specs.script.Commands.{IsFront, RepresentsCommand, kind_of};
 ghost use Rattle.certify.specs.answers.AnswerForms.{named_literals};
 ghost use Rattle.certify.specs.judge.Names.{BringsNothing, Changes, ComesInUse, IsInUse, ListsUsed, NamesHaveState, ReportsRefusal};
 ghost use Rattle.certify.specs.judge.Names.{changed_state, changed_to, is_of_literals, is_witnessed, limit_refusal, refusal_said};
@@ -257,7 +257,7 @@ impl Names {
     /// Applies an accepted command to all of its names.
     pub fn accept(&mut self, command: Command<'_>) -> Result<(), AllocError>
         requires { command.past_limit ≡ false }
-        ensures { OnOk result ((j : ScriptState) (c : Spelled) → NamesHaveState self.old j → IsLent command.entry c
+        ensures { OnOk result ((j : ScriptState) (c : Spelled) → NamesHaveState self.old j → RepresentsCommand command.entry c
             → NamesHaveState self.new (accepted c j)) }
     {
         if self.are_known(command.kind, command.literals) {

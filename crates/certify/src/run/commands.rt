@@ -4,9 +4,9 @@ ghost use Rattle.sat_base.specs.script.Language.{Reading, onto_commands};
 ghost use Rattle.sat_base.specs.script.Script.{Command as Spelled};
 ghost use Rattle.sat_base.specs.script.ScriptState.{ScriptState, accepted};
 ghost use Rattle.certify.specs.judge.Names.{NamesHaveState};
-ghost use Rattle.certify.specs.script.Commands.{IsLent, IsSomeLent};
+ghost use Rattle.certify.specs.script.Commands.{RepresentsCommand, RepresentsSomeCommand};
 ghost use Rattle.certify.specs.run.BetweenCommands.{NamesAllow, CarriedOut, CausedBy, CausedOver, RunGoesOn, ServedNext};
-ghost use Rattle.certify.specs.run.BetweenCommands.{StopsCarrying, StopsOver, WritesBoth, spelled_by};
+ghost use Rattle.certify.specs.run.BetweenCommands.{StopsCarrying, StopsOver, WritesBoth, represented_by};
 
 use super::ask::answer_ask;
 use super::names::set_names;
@@ -25,12 +25,12 @@ fn carry_out<A: CountedWrite, C: CountedWrite + Drop>(
     command: Command<'_>,
 ) -> Result<(), RunFault>
     requires goes_on { RunGoesOn session.old }
-    requires allowed { NamesAllow session.old.names (spelled_by command) }
-    ensures carried { OnOk result (CarriedOut C.seen session.old session.new (spelled_by command.entry)
+    requires allowed { NamesAllow session.old.names (represented_by command) }
+    ensures carried { OnOk result (CarriedOut C.seen session.old session.new (represented_by command.entry)
         (A.seen answers.old) (A.seen answers.new)) }
     ensures stops { (left : Reading)
-        → StopsCarrying result session.old (spelled_by command.entry) left (A.seen answers.old) (A.seen answers.new) }
-    ensures cause { CausedBy result session.old session.new (spelled_by command.entry) }
+        → StopsCarrying result session.old (represented_by command.entry) left (A.seen answers.old) (A.seen answers.new) }
+    ensures cause { CausedBy result session.old session.new (represented_by command.entry) }
     ensures names { session.new.names ≡ session.old.names }
     ensures written { WritesBoth result C.seen (A.seen answers.old) (A.seen answers.new) session.old.solver
         session.new.solver }
@@ -53,14 +53,14 @@ fn take_allowed<A: CountedWrite, C: CountedWrite + Drop>(
     command: Command<'_>,
 ) -> Result<(), RunFault>
     requires goes_on { RunGoesOn session.old }
-    requires allowed { NamesAllow session.old.names (spelled_by command) }
+    requires allowed { NamesAllow session.old.names (represented_by command) }
     requires within { command.past_limit ≡ false }
-    ensures carried { OnOk result (CarriedOut C.seen session.old session.new (spelled_by command.entry)
+    ensures carried { OnOk result (CarriedOut C.seen session.old session.new (represented_by command.entry)
         (A.seen answers.old) (A.seen answers.new)) }
     ensures stops { (left : Reading)
-        → StopsCarrying result session.old (spelled_by command.entry) left (A.seen answers.old) (A.seen answers.new) }
-    ensures cause { CausedBy result session.old session.new (spelled_by command.entry) }
-    ensures names { OnOk result ((j : ScriptState) (c : Spelled) → NamesHaveState session.old.names j → IsLent command.entry c
+        → StopsCarrying result session.old (represented_by command.entry) left (A.seen answers.old) (A.seen answers.new) }
+    ensures cause { CausedBy result session.old session.new (represented_by command.entry) }
+    ensures names { OnOk result ((j : ScriptState) (c : Spelled) → NamesHaveState session.old.names j → RepresentsCommand command.entry c
         → NamesHaveState session.new.names (accepted c j)) }
     ensures written { WritesBoth result C.seen (A.seen answers.old) (A.seen answers.new) session.old.solver
         session.new.solver }
@@ -78,12 +78,12 @@ pub fn take_command<A: CountedWrite, C: CountedWrite + Drop>(
 ) -> Result<(), RunFault>
     requires goes_on { RunGoesOn session.old }
     requires few { session.old.commands < 2 ^ 64 - 1 }
-    requires whole { IsSomeLent command }
-    ensures served { (c : Spelled) → IsLent command.entry c
+    requires whole { RepresentsSomeCommand command }
+    ensures served { (c : Spelled) → RepresentsCommand command.entry c
         → OnOk result (ServedNext C.seen session.old session.new c (A.seen answers.old) (A.seen answers.new)) }
-    ensures stops { (c : Spelled) → IsLent command.entry c → (left : Reading)
+    ensures stops { (c : Spelled) → RepresentsCommand command.entry c → (left : Reading)
         → StopsOver result session.old (onto_commands (c ∷ []) left) (A.seen answers.old) (A.seen answers.new) }
-    ensures cause { (c : Spelled) → IsLent command.entry c → (left : Reading)
+    ensures cause { (c : Spelled) → RepresentsCommand command.entry c → (left : Reading)
         → CausedOver result session.old session.new (onto_commands (c ∷ []) left) }
     ensures written { WritesBoth result C.seen (A.seen answers.old) (A.seen answers.new) session.old.solver
         session.new.solver }

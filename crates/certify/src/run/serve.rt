@@ -5,7 +5,7 @@ ghost use Rattle.sat_base.specs.script.ScriptState.{ScriptState, start};
 ghost use Rattle.sat_base.specs.script.Script.{Command as Spelled, Malformed};
 ghost use Rattle.certify.specs.answers.Answers.{malformed_line};
 ghost use Rattle.certify.specs.script.LastPiece.{IsNotAtEnd, source_in};
-ghost use Rattle.certify.specs.script.Commands.{IsLent, IsSomeLent, ReaderMeans, MeansIf, end_reading};
+ghost use Rattle.certify.specs.script.Commands.{RepresentsCommand, RepresentsSomeCommand, ReaderMeans, MeansIf, end_reading};
 ghost use Rattle.sat_base.specs.script.Language.{Reading, onto_commands, reading, written};
 ghost use Rattle.certify.specs.run.Unfinished.{TookAnswersFront};
 ghost use Rattle.certify.specs.run.SolverCalls.{IsCaused, IsReadySolver};
@@ -39,12 +39,12 @@ fn serve_next<A: CountedWrite, C: CountedWrite + Drop>(
     command: Command<'_>,
 ) -> Result<(), RunFault>
     requires goes_on { RunGoesOn session.old }
-    requires whole { IsSomeLent command }
-    ensures served { (c : Spelled) → IsLent command.entry c
+    requires whole { RepresentsSomeCommand command }
+    ensures served { (c : Spelled) → RepresentsCommand command.entry c
         → OnOk result (ServedNext C.seen session.old session.new c (A.seen answers.old) (A.seen answers.new)) }
-    ensures stops { (c : Spelled) → IsLent command.entry c → (left : Reading)
+    ensures stops { (c : Spelled) → RepresentsCommand command.entry c → (left : Reading)
         → StopsOver result session.old (onto_commands (c ∷ []) left) (A.seen answers.old) (A.seen answers.new) }
-    ensures cause { (c : Spelled) → IsLent command.entry c → (left : Reading)
+    ensures cause { (c : Spelled) → RepresentsCommand command.entry c → (left : Reading)
         → CausedOver result session.old session.new (onto_commands (c ∷ []) left) }
     ensures written { WritesBoth result C.seen (A.seen answers.old) (A.seen answers.new) session.old.solver
         session.new.solver }
@@ -116,14 +116,14 @@ fn serve_last<A: CountedWrite, C: CountedWrite + Drop>(
     end: ScriptEnd,
 ) -> Result<Option<u64>, RunFault>
     requires goes_on { RunGoesOn session.old }
-    requires whole { IsSomeLent command }
-    ensures serves { (c : Spelled) → IsLent command.entry c → (j : ScriptState) → HasStateBetweenCommands session.old j
+    requires whole { RepresentsSomeCommand command }
+    ensures serves { (c : Spelled) → RepresentsCommand command.entry c → (j : ScriptState) → HasStateBetweenCommands session.old j
         → IfOk result (λ at. ServesWhole C.seen j (onto_commands (c ∷ []) (end_reading end)) 1 at session.old
         session.new (A.seen answers.old) (A.seen answers.new)) }
-    ensures stops { (c : Spelled) → IsLent command.entry c
+    ensures stops { (c : Spelled) → RepresentsCommand command.entry c
         → StopsOver result session.old (onto_commands (c ∷ []) (end_reading end)) (A.seen answers.old)
         (A.seen answers.new) }
-    ensures cause { (c : Spelled) → IsLent command.entry c
+    ensures cause { (c : Spelled) → RepresentsCommand command.entry c
         → CausedOver result session.old session.new (onto_commands (c ∷ []) (end_reading end)) }
     ensures ready { OnOk result (IsReadySolver session.new.solver) }
     ensures written { WritesBoth result C.seen (A.seen answers.old) (A.seen answers.new) session.old.solver

@@ -5,7 +5,7 @@ ghost use Rattle.sat_base.specs.script.Language.{Reading, reading, written};
 ghost use Rattle.sat_base.specs.text.Text.{Scan};
 ghost use Rattle.sat_base.specs.text.Tokenizing.{IsPositionedBefore, TakesFront};
 ghost use Rattle.sat_base.specs.text.WrongWords.{HasValidContinuation};
-ghost use Rattle.certify.specs.script.Commands.{EndsLast, EndsWhateverFollows, HasWhole, IsLent, LooksOn, MayGoOn};
+ghost use Rattle.certify.specs.script.Commands.{EndsLast, EndsWhateverFollows, HasWhole, RepresentsCommand, LooksOn, MayGoOn};
 ghost use Rattle.certify.specs.script.Commands.{MeansIf, ReaderMeans, TakesBytes};
 
 use super::commands::Commands;
@@ -53,7 +53,7 @@ impl ScriptReader {
 
     /// Returns the command that was completed last.
     pub fn command(&self) -> Command<'_>
-        ensures { (c : SpelledCommand) → HasWhole self.now c → IsLent result c }
+        ensures { (c : SpelledCommand) → HasWhole self.now c → RepresentsCommand result c }
     {
         Command {
             kind: self.commands.draft.kind,

@@ -2,7 +2,7 @@
 ghost use Rattle.std.specs.Prelude.{◌≡◌, [], false};
 ghost use Rattle.sat_base.specs.script.Script.{Command as SpelledCommand};
 ghost use Rattle.certify.specs.script.LastPiece.{IsNotAtEnd, source_in, waiting_bytes};
-ghost use Rattle.certify.specs.script.Commands.{HasWhole, IsLent, LooksOn, MeansIf, ReaderMeans};
+ghost use Rattle.certify.specs.script.Commands.{HasWhole, RepresentsCommand, LooksOn, MeansIf, ReaderMeans};
 ghost use Rattle.sat_base.specs.script.Language.{reading, written};
 ghost use Rattle.certify.specs.script.Streaming.{Brings, NextComes, LeavesFewerTurns, FinishesText, TakesWaiting};
 
@@ -46,7 +46,7 @@ impl CommandStream {
 
     /// Returns the command that was completed last.
     pub fn command(&self) -> Command<'_>
-        ensures { (c : SpelledCommand) → HasWhole self.now.reader c → IsLent result c }
+        ensures { (c : SpelledCommand) → HasWhole self.now.reader c → RepresentsCommand result c }
     {
         self.reader.command()
     }

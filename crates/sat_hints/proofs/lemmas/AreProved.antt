@@ -8,7 +8,7 @@ use Rattle.sat_checker.specs.ProofView.{taken_after}
 use Rattle.sat_checker.proofs.lemmas.invariants.Stored.{always_tidy}
 use Rattle.sat_checker.proofs.lemmas.announcements.Exact.{in_turn}
 use Rattle.sat_checker.proofs.lemmas.announcements.Rests.{tautologies}
-use Rattle.sat_hints.specs.Checks.{Judges}
+use Rattle.sat_hints.specs.Checks.{VerdictHolds}
 use Rattle.sat_hints.specs.Conversion.{lines_of, hint_text, hint_verdict}
 use Rattle.sat_hints.specs.Limits.{FitsStep}
 use Rattle.sat_hints.specs.Laws.{AnnouncedDerive, AnnouncedAreProved}
@@ -40,6 +40,6 @@ taken_each : (P : Step → Type 0) (passed earlier : List Step) → AllByRecursi
 taken_each P [] earlier h k = k
 taken_each P (x ∷ passed) earlier h k = taken_each P passed (x ∷ earlier) h.1 (h.0, k)
 
-pub read_proved : (passed : List Step) (bytes : List ℕ) → SpellsSteps (passed ++ End ∷ []) bytes → AcceptsAll (End ∷ taken_after passed []) → (ready_after (End ∷ taken_after passed [])).next_id < 2 ^ 64 → Judges (hint_verdict (End ∷ taken_after passed [])) (hint_text (End ∷ taken_after passed []))
+pub read_proved : (passed : List Step) (bytes : List ℕ) → SpellsSteps (passed ++ End ∷ []) bytes → AcceptsAll (End ∷ taken_after passed []) → (ready_after (End ∷ taken_after passed [])).next_id < 2 ^ 64 → VerdictHolds (hint_verdict (End ∷ taken_after passed [])) (hint_text (End ∷ taken_after passed []))
 read_proved passed bytes spelt ok ids =
     are_proved (End ∷ taken_after passed []) ok (tt, taken_each FitsStep passed [] (first_each FitsStep passed (End ∷ []) (read_fit (passed ++ End ∷ []) bytes spelt)) tt) ids

@@ -11,7 +11,7 @@ use Rattle.sat_hints.specs.declared.answer.HintWhy.{HintWhy}
 use Rattle.sat_hints.specs.declared.answer.HintWhy.TheVariants.{UnknownId, NotUnit}
 use Rattle.sat_hints.specs.declared.standing.Standing.{Standing}
 use Rattle.sat_hints.specs.inner.Course.{unit_failure, refutation_failure}
-use Rattle.sat_hints.specs.inner.Judging.{refutation_failure_of, WhyNotRefuted}
+use Rattle.sat_hints.specs.inner.LineChecking.{refutation_failure_of, WhyNotRefuted}
 use Rattle.sat_hints.specs.inner.Standing.{standing_clause, standing_clauses, HasRoomForPresent}
 use Rattle.sat_hints.proofs.lemmas.Courses.{same_course, is_unit, room_in}
 

@@ -5,12 +5,12 @@ use Rattle.std.proofs.lemmas.List.{take-append-drop, take_more, take_all}
 use Rattle.sat_base.specs.text.Tokenizing.{held}
 use Rattle.sat_hints.specs.Lines.{Line, AreLines, Input, Derived, Gone, Core, Fresh, text_of, line_text, id_words, literal_words, SpellsLine, HasNoEnd, BeginsWithLine, ended, cut_off}
 use Rattle.sat_hints.specs.Hints.{FollowsLines, IsHintDerivation}
-use Rattle.sat_hints.specs.Checks.{IsAtFault, IsBadAt, Judges}
+use Rattle.sat_hints.specs.Checks.{IsAtFault, IsBadAt, VerdictHolds}
 use Rattle.sat_hints.specs.inner.Prefixes.{IsRestOfLine, LeadsToPlace}
 use Rattle.sat_hints.specs.declared.prefixes.Place.{Place}
 use Rattle.sat_hints.specs.declared.prefixes.Place.TheVariants.{Letter}
-use Rattle.sat_hints.specs.inner.Judging.{HasTakenLines}
-use Rattle.sat_hints.specs.inner.Holding.{IsWholeLine, JudgesLineBytes, HasRead, HasFault, HasReadOrFault, ReadsFurther}
+use Rattle.sat_hints.specs.inner.LineChecking.{HasTakenLines}
+use Rattle.sat_hints.specs.inner.Holding.{IsWholeLine, ChecksLineBytes, HasRead, HasFault, HasReadOrFault, ReadsFurther}
 use Rattle.sat_hints.specs.declared.answer.HintWhy.{HintWhy}
 use Rattle.sat_hints.specs.declared.answer.HintWhy.TheVariants.{Syntax}
 use Rattle.sat_hints.specs.declared.answer.HintVerdict.{HintVerdict}
@@ -28,7 +28,7 @@ whole_with held bytes h w = record { front = held ++ w.front; inside = no_end_bo
 
 -- the end of a line
 module _ (old new : Checking) (bytes : List ℕ) (w : IsWholeLine bytes) where
-  line_follows : (text : List ℕ) (r : HasRead old text) (line : Line) → SpellsLine (old.held.items ++ bytes) line → FollowsLines r.lines line → HasTakenLines new.judge (line ∷ r.lines) → new.held.items ≡ [] → LeadsToPlace Letter new.held.items (Some new.place) → HasRead new (text ++ bytes)
+  line_follows : (text : List ℕ) (r : HasRead old text) (line : Line) → SpellsLine (old.held.items ++ bytes) line → FollowsLines r.lines line → HasTakenLines new.checker (line ∷ r.lines) → new.held.items ≡ [] → LeadsToPlace Letter new.held.items (Some new.place) → HasRead new (text ++ bytes)
   line_follows text r line s f t e fits = record {
     lines = line ∷ r.lines;
     whole = ap (λ x. x ++ bytes) r.whole ∙ append_assoc (text_of r.lines) old.held.items bytes ∙ ap (λ x. text_of r.lines ++ x) s.1 ∙ sym (append-nil (text_of (line ∷ r.lines))) ∙ ap (λ x. text_of (line ∷ r.lines) ++ x) (sym e);
@@ -39,7 +39,7 @@ module _ (old new : Checking) (bytes : List ℕ) (w : IsWholeLine bytes) where
     taken = t;
   }
 
-  pub line_faulty : (text : List ℕ) (r : HasRead old text) (why : HintWhy) → IsAtFault r.lines (old.held.items ++ bytes) why → new.judge.lines ≡ old.judge.lines → HasFault new (text ++ bytes) why
+  pub line_faulty : (text : List ℕ) (r : HasRead old text) (why : HintWhy) → IsAtFault r.lines (old.held.items ++ bytes) why → new.checker.lines ≡ old.checker.lines → HasFault new (text ++ bytes) why
   line_faulty text r why f e = record {
     count = length r.lines;
     number = e ∙ r.taken.counts_lines;
@@ -56,27 +56,27 @@ module _ (old new : Checking) (bytes : List ℕ) (w : IsWholeLine bytes) where
     };
   }
 
-  line_goes : (why : Option HintWhy) (text : List ℕ) (r : HasRead old text) → JudgesLineBytes why old.judge new.judge r.lines (old.held.items ++ bytes) → new.held.items ≡ [] → LeadsToPlace Letter new.held.items (Some new.place) → HasReadOrFault why new (text ++ bytes)
+  line_goes : (why : Option HintWhy) (text : List ℕ) (r : HasRead old text) → ChecksLineBytes why old.checker new.checker r.lines (old.held.items ++ bytes) → new.held.items ≡ [] → LeadsToPlace Letter new.held.items (Some new.place) → HasReadOrFault why new (text ++ bytes)
   line_goes None text r t e fits = line_follows text r t.0 t.1 t.2 t.3 e fits
   line_goes (Some why) text r t e fits = line_faulty text r why t.0 t.1
 
   -- the start of the line was held
-  pub line_ends : (why : Option HintWhy) (all : List ℕ) → all ≡ old.held.items ++ bytes → (IsWholeLine all → (lines : List Line) → HasTakenLines old.judge lines → JudgesLineBytes why old.judge new.judge lines all) → new.held.items ≡ [] → new.place ≡ Letter → ReadsFurther why old bytes new
+  pub line_ends : (why : Option HintWhy) (all : List ℕ) → all ≡ old.held.items ++ bytes → (IsWholeLine all → (lines : List Line) → HasTakenLines old.checker lines → ChecksLineBytes why old.checker new.checker lines all) → new.held.items ≡ [] → new.place ≡ Letter → ReadsFurther why old bytes new
   line_ends why all a h e at text r =
       let whole : IsWholeLine all = subst IsWholeLine (sym a) (whole_with old.held.items bytes r.inside w) in
-      line_goes why text r (subst (JudgesLineBytes why old.judge new.judge r.lines) a (h whole r.lines r.taken)) e (rw (e, at) (λ more h. h))
+      line_goes why text r (subst (ChecksLineBytes why old.checker new.checker r.lines) a (h whole r.lines r.taken)) e (rw (e, at) (λ more h. h))
 
   -- nothing of the line was held
-  pub line_passes : (why : Option HintWhy) → old.held.items ≡ [] → new.held.items ≡ old.held.items → new.place ≡ old.place → ((lines : List Line) → HasTakenLines old.judge lines → JudgesLineBytes why old.judge new.judge lines bytes) → ReadsFurther why old bytes new
+  pub line_passes : (why : Option HintWhy) → old.held.items ≡ [] → new.held.items ≡ old.held.items → new.place ≡ old.place → ((lines : List Line) → HasTakenLines old.checker lines → ChecksLineBytes why old.checker new.checker lines bytes) → ReadsFurther why old bytes new
   line_passes why none e at h text r =
       let fits : LeadsToPlace Letter new.held.items (Some new.place) = rw (e, at) r.fits in
-      line_goes why text r (subst (JudgesLineBytes why old.judge new.judge r.lines) (sym (ap (λ b. b ++ bytes) none)) (h r.lines r.taken)) (e ∙ none) fits
+      line_goes why text r (subst (ChecksLineBytes why old.checker new.checker r.lines) (sym (ap (λ b. b ++ bytes) none)) (h r.lines r.taken)) (e ∙ none) fits
 
 leads_on : (held bytes : List ℕ) (here : Place) (to : Option Place) → LeadsToPlace Letter held (Some here) → LeadsToPlace here bytes to → LeadsToPlace Letter (held ++ bytes) to
 leads_on held bytes here to h k more l = k more (h (bytes ++ more) (subst (IsRestOfLine Letter) (append_assoc held bytes more) l))
 
 -- more bytes of an unfinished line
-pub held_more : (old new : Checking) (bytes : List ℕ) → HasNoEnd bytes → new.judge ≡ old.judge → new.held.items ≡ old.held.items ++ bytes → LeadsToPlace old.place bytes (Some new.place) → ReadsFurther None old bytes new
+pub held_more : (old new : Checking) (bytes : List ℕ) → HasNoEnd bytes → new.checker ≡ old.checker → new.held.items ≡ old.held.items ++ bytes → LeadsToPlace old.place bytes (Some new.place) → ReadsFurther None old bytes new
 held_more old new bytes h e f leads text r = record {
   lines = r.lines;
   whole = ap (λ x. x ++ bytes) r.whole ∙ append_assoc (text_of r.lines) old.held.items bytes ∙ ap (λ x. text_of r.lines ++ x) (sym f);
@@ -154,7 +154,7 @@ reads_after why a b xs ys h text r =
     record {
       count = f.count;
       number = f.number;
-      bad = λ rest. subst (Judges (Bad (held (f.count + 1)) why)) (append_assoc text xs (ys ++ rest) ∙ ap (λ x. text ++ x) (sym (append_assoc xs ys rest)) ∙ sym (append_assoc text (xs ++ ys) rest)) (f.bad (ys ++ rest));
+      bad = λ rest. subst (VerdictHolds (Bad (held (f.count + 1)) why)) (append_assoc text xs (ys ++ rest) ∙ ap (λ x. text ++ x) (sym (append_assoc xs ys rest)) ∙ sym (append_assoc text (xs ++ ys) rest)) (f.bad (ys ++ rest));
     }
 
 pub reads_none : (c : Checking) → ReadsFurther None c [] c
@@ -176,8 +176,8 @@ line_has_end (Gone id) h = ends (no_end_second (id_words (id ∷ [])) (48 ∷ 10
 line_has_end (Core ls ids) h = ends (no_end_second (id_words ids) (48 ∷ 10 ∷ []) (no_end_second (literal_words ls) (48 ∷ 32 ∷ (id_words ids ++ (48 ∷ 10 ∷ []))) h.1.1).1.1)
 line_has_end (Fresh v) h = ends (no_end_second (id_words (v ∷ [])) (48 ∷ 10 ∷ []) h.1.1)
 
-pub ends_badly : (c : Checking) (text : List ℕ) (v : HintVerdict) → ((count : ℕ) → c.judge.lines ≡ held count → v ≡ Bad (held (count + 1)) Syntax) → (c.held.items ≡ [] → ⊥) → HasRead c text → Judges v text
-ends_badly c text v is some r = subst (λ v. Judges v text) (sym (is (length r.lines) r.taken.counts_lines)) (record {
+pub ends_badly : (c : Checking) (text : List ℕ) (v : HintVerdict) → ((count : ℕ) → c.checker.lines ≡ held count → v ≡ Bad (held (count + 1)) Syntax) → (c.held.items ≡ [] → ⊥) → HasRead c text → VerdictHolds v text
+ends_badly c text v is some r = subst (λ v. VerdictHolds v text) (sym (is (length r.lines) r.taken.counts_lines)) (record {
   earlier = r.lines;
   bytes = c.held.items;
   rest = [];
@@ -190,8 +190,8 @@ ends_badly c text v is some r = subst (λ v. Judges v text) (sym (is (length r.l
 })
 
 -- the verdict on a fault
-pub says_fault : (c : Checking) (text : List ℕ) (why : HintWhy) (v : HintVerdict) → ((count : ℕ) → c.judge.lines ≡ held count → v ≡ Bad (held (count + 1)) why) → HasFault c text why → (rest : List ℕ) → Judges v (text ++ rest)
-says_fault c text why v is f rest = subst (λ v. Judges v (text ++ rest)) (sym (is f.count f.number)) (f.bad rest)
+pub says_fault : (c : Checking) (text : List ℕ) (why : HintWhy) (v : HintVerdict) → ((count : ℕ) → c.checker.lines ≡ held count → v ≡ Bad (held (count + 1)) why) → HasFault c text why → (rest : List ℕ) → VerdictHolds v (text ++ rest)
+says_fault c text why v is f rest = subst (λ v. VerdictHolds v (text ++ rest)) (sym (is f.count f.number)) (f.bad rest)
 
 pub goes_on : (bytes : List ℕ) (i : ℕ) → i < length bytes → (get_or bytes i 0 ≡ 10 → ⊥) → HasNoEnd (take i bytes) → HasNoEnd (take (i + 1) bytes)
 goes_on bytes i h other k = rw (take_more bytes i 0 h) (no_end_both (take i bytes) (get_or bytes i 0 ∷ []) k (other, tt))

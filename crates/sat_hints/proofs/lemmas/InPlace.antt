@@ -9,11 +9,11 @@ use Rattle.sat_base.specs.dimacs.DimacsText.{number_text}
 use Rattle.sat_hints.specs.Lines.{Line, Input, Derived, Gone, Core, Fresh, IsLine, spaced_words, id_text, id_words, literal_words, line_text, HasNoEnd, SpellsLine}
 use Rattle.sat_hints.specs.Checks.{IsFaultOf, IsAtFault}
 use Rattle.sat_hints.specs.inner.LineReading.{IsId, IsLiteralCode, BeginsWithHintLine, BeginsWithNoLine}
-use Rattle.sat_hints.specs.inner.Judging.{HasTakenLines, TakesLine, TakesNext}
-use Rattle.sat_hints.specs.inner.Holding.{IsWholeLine, JudgesLineBytes, ReadsFurther}
+use Rattle.sat_hints.specs.inner.LineChecking.{HasTakenLines, TakesLine, TakesNext}
+use Rattle.sat_hints.specs.inner.Holding.{IsWholeLine, ChecksLineBytes, ReadsFurther}
 use Rattle.sat_hints.specs.declared.answer.HintWhy.{HintWhy}
 use Rattle.sat_hints.specs.declared.answer.HintWhy.TheVariants.{Syntax}
-use Rattle.sat_hints.specs.declared.judging.Judge.{Judge}
+use Rattle.sat_hints.specs.declared.line_checking.LineChecker.{LineChecker}
 use Rattle.sat_hints.specs.declared.checking.Checking.{Checking}
 use Rattle.sat_hints.proofs.lemmas.Digits.{are_digits}
 use Rattle.sat_hints.proofs.lemmas.Holding.{no_end_both, whole_with, line_has_end, held_more, line_passes, line_faulty, reads_more, reads_after}
@@ -85,17 +85,17 @@ at_fault : (why : HintWhy) (lines : List Line) (bytes : List ℕ) (line : Line) 
 at_fault Syntax lines bytes line s f = absurd f
 at_fault e lines bytes line s f = (line, s, f)
 
-judged : (why : Option HintWhy) (old new : Judge) (lines : List Line) (bytes : List ℕ) (line : Line) → SpellsLine bytes line → TakesLine why old new lines line → JudgesLineBytes why old new lines bytes
+judged : (why : Option HintWhy) (old new : LineChecker) (lines : List Line) (bytes : List ℕ) (line : Line) → SpellsLine bytes line → TakesLine why old new lines line → ChecksLineBytes why old new lines bytes
 judged None old new lines bytes line s t = (line, s, t.0, t.1)
 judged (Some why) old new lines bytes line s t = (at_fault why lines bytes line s t.0, t.1)
 
-pub taken_whole : {E : Type 0} (r : Result (Option HintWhy) E) (old new : Judge) (bytes rest : List ℕ) (line : Line) → BeginsWithHintLine bytes line rest → IfOk r (λ why. TakesNext why old new line)
-    → IfOk r (λ why. IsWholeLine bytes → (lines : List Line) → HasTakenLines old lines → JudgesLineBytes why old new lines bytes)
+pub taken_whole : {E : Type 0} (r : Result (Option HintWhy) E) (old new : LineChecker) (bytes rest : List ℕ) (line : Line) → BeginsWithHintLine bytes line rest → IfOk r (λ why. TakesNext why old new line)
+    → IfOk r (λ why. IsWholeLine bytes → (lines : List Line) → HasTakenLines old lines → ChecksLineBytes why old new lines bytes)
 taken_whole (Ok why) old new bytes rest line read t = λ w lines taken. judged why old new lines bytes line (spells_whole bytes rest line w read) (t lines taken)
 taken_whole (Err e) old new bytes rest line read t = tt
 
-pub reads_line : (why : Option HintWhy) (old new : Checking) (bytes rest : List ℕ) (line : Line) → old.held.items ≡ [] → new.held.items ≡ old.held.items → new.place ≡ old.place → BeginsWithHintLine bytes line rest → TakesNext why old.judge new.judge line → ReadsFurther why old (line_text line) new
-reads_line why old new bytes rest line none e at r t = line_passes old new (line_text line) (line_is_whole line r.0) why none e at (λ lines taken. judged why old.judge new.judge lines (line_text line) line (r.0, refl) (t lines taken))
+pub reads_line : (why : Option HintWhy) (old new : Checking) (bytes rest : List ℕ) (line : Line) → old.held.items ≡ [] → new.held.items ≡ old.held.items → new.place ≡ old.place → BeginsWithHintLine bytes line rest → TakesNext why old.checker new.checker line → ReadsFurther why old (line_text line) new
+reads_line why old new bytes rest line none e at r t = line_passes old new (line_text line) (line_is_whole line r.0) why none e at (λ lines taken. judged why old.checker new.checker lines (line_text line) line (r.0, refl) (t lines taken))
 
 -- PIECES
 -- a line is split off the start of a piece
@@ -112,7 +112,7 @@ reads_then (Ok why) a b c all xs ys e h k = subst (λ t. ReadsFurther why a t c)
 reads_then (Err x) a b c all xs ys e h k = tt
 
 -- bytes without a fault, and then nothing
-pub reads_still : (a b c : Checking) (xs : List ℕ) → ReadsFurther None a xs b → c.judge ≡ b.judge → c.held.items ≡ b.held.items → c.place ≡ b.place → ReadsFurther None a xs c
+pub reads_still : (a b c : Checking) (xs : List ℕ) → ReadsFurther None a xs b → c.checker ≡ b.checker → c.held.items ≡ b.held.items → c.place ≡ b.place → ReadsFurther None a xs c
 reads_still a b c xs h j e p = subst (λ t. ReadsFurther None a t c) (append-nil xs) (reads_more None a b c xs [] h (held_more b c [] tt j (e ∙ sym (append-nil b.held.items)) (rw p (λ more k. k))))
 
 -- a line that ends with LF and is no hint line

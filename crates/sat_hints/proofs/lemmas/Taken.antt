@@ -1,4 +1,4 @@
--- What it means that a judge accepted a line.
+-- What it means that a checker accepted a line.
 use Rattle.std.proofs.Common.{ℕ, ◌+◌, ◌-◌, ◌^◌, ◌≤◌, ◌≡◌, ◌≢◌, Bool, true, false, cond, eqb, ◌||◌, List, [], ◌∷◌, length, min, map, Option, None, Some, refl, sym, ◌∙◌, ap, subst, arith, inl, inr}
 use Rattle.std.proofs.lemmas.Bool.{eqb-true}
 use Rattle.std.specs.List.{AllByRecursion}
@@ -16,17 +16,17 @@ use Rattle.sat_hints.specs.Checks.{IsFaultOf}
 use Rattle.sat_hints.specs.inner.Clauses.{AllBelow}
 use Rattle.sat_hints.specs.inner.Standing.{standing_clause, standing_clauses, AddsStandingClause, DropsClause, HasRoomForPresent, StandingInvariant, IsUsed, SinceWithin}
 use Rattle.sat_hints.specs.inner.Course.{refutation_failure, WhyNoConflict}
-use Rattle.sat_hints.specs.inner.Judging.{IsReadyJudge, HasTakenLines, IsSame, MayFollow, WhyNotRefuted, StoresClause, TakesOne}
+use Rattle.sat_hints.specs.inner.LineChecking.{IsReadyChecker, HasTakenLines, IsSame, MayFollow, WhyNotRefuted, StoresClause, TakesOne}
 use Rattle.sat_hints.specs.declared.answer.HintWhy.{HintWhy}
 use Rattle.sat_hints.specs.declared.answer.HintWhy.TheVariants.{NotUnit, NotFalsified, VarInUse}
-use Rattle.sat_hints.specs.declared.judging.Judge.{Judge}
+use Rattle.sat_hints.specs.declared.line_checking.LineChecker.{LineChecker}
 use Rattle.sat_hints.specs.declared.standing.Standing.{Standing}
 use Rattle.sat_hints.proofs.lemmas.Courses.{Says, course_says}
 use Rattle.sat_hints.proofs.lemmas.Finding.{room_still}
 use Rattle.sat_hints.proofs.lemmas.Sound.{still}
 use Rattle.sat_hints.proofs.lemmas.Unused.{unused_assuming}
 
--- the judge finds the same clauses under ids
+-- the checker finds the same clauses under ids
 clauses_same : (p : Standing) (lines : List Line) → ((id : ℕ) → standing_clause p id ≡ clause_under id lines) → (ids : List ℕ) → standing_clauses p ids ≡ clauses_under ids lines
 clauses_same p lines h [] = refl
 clauses_same p lines h (id ∷ ids) = ap (λ c. and_clauses c (standing_clauses p ids)) (h id) ∙ ap (and_clauses (clause_under id lines)) (clauses_same p lines h ids)
@@ -91,7 +91,7 @@ module _ (lines : List Line) (line : Line) (assumed : List ℕ) (in_order : IsIn
       go (inl r) = subst (λ w. Says_of w lines line) (sym r.1) (record { in_order = in_order; clauses = h.0; present = present; conflict = conflict_of (assumed_by line) assumed h.0 assumes (inl r.0); unused = unused_assuming lines line assumed assumes })
       go (inr r) = subst (λ w. Says_of w lines line) (sym r.1) (by_course h.0 present r.0 (refutation_failure assumed h.0) (course_says h.0 assumed (sets_once (named_ids line) lines h.0 present)))
 
-stored_ready : (old new : Judge) (id : ℕ) (clause : List ℕ) → SinceWithin old.standing id → StoresClause old new id clause → IsReadyJudge new
+stored_ready : (old new : LineChecker) (id : ℕ) (clause : List ℕ) → SinceWithin old.standing id → StoresClause old new id clause → IsReadyChecker new
 stored_ready old new id clause w s = record {
   standing = s.adds.standing;
   below = subst (AllBelow new.standing.present.ids.items) (sym s.least) (s.adds.below (id + 1) (omega arith));
@@ -100,8 +100,8 @@ stored_ready old new id clause w s = record {
   room = s.room;
 }
 
--- a judge is still ready after a call that kept its state
-pub same_ready : (old new : Judge) → IsReadyJudge old → IsSame old new → IsReadyJudge new
+-- a checker is still ready after a call that kept its state
+pub same_ready : (old new : LineChecker) → IsReadyChecker old → IsSame old new → IsReadyChecker new
 same_ready old new r m = record {
   standing = subst StandingInvariant (sym m.standing) r.standing;
   below = subst (λ p. AllBelow p.present.ids.items new.least_id) (sym m.standing) (subst (AllBelow old.standing.present.ids.items) (sym m.least) r.below);
@@ -110,14 +110,14 @@ same_ready old new r m = record {
   room = subst (HasRoomForPresent new.assumed.room) (sym m.standing) (room_still old.standing old.assumed.room new.assumed.room m.room r.room);
 }
 
-since_later : (old : Judge) (id : ℕ) → IsReadyJudge old → old.least_id ≤ id → SinceWithin old.standing id
+since_later : (old : LineChecker) (id : ℕ) → IsReadyChecker old → old.least_id ≤ id → SinceWithin old.standing id
 since_later old id r l = λ v. let k = r.since v in omega (arith, k, l)
 
-derived_refuted : (old : Judge) (id : ℕ) (clause ids : List ℕ) (why : Option HintWhy) → old.least_id ≤ id → WhyNotRefuted old.standing (signed true clause) ids why → (lines : List Line) → HasTakenLines old lines → Says_of why lines (Derived id clause ids)
+derived_refuted : (old : LineChecker) (id : ℕ) (clause ids : List ℕ) (why : Option HintWhy) → old.least_id ≤ id → WhyNotRefuted old.standing (signed true clause) ids why → (lines : List Line) → HasTakenLines old lines → Says_of why lines (Derived id clause ids)
 derived_refuted old id clause ids why l r lines t =
     refuted lines (Derived id clause ids) (map negated clause) (subst (λ n. n ≤ id) t.least l) refl old.standing why t.clauses r
 
-pub derived_may : (old : Judge) (id : ℕ) (clause ids : List ℕ) → old.least_id ≤ id → WhyNotRefuted old.standing (signed true clause) ids None → MayFollow old (Derived id clause ids)
+pub derived_may : (old : LineChecker) (id : ℕ) (clause ids : List ℕ) → old.least_id ≤ id → WhyNotRefuted old.standing (signed true clause) ids None → MayFollow old (Derived id clause ids)
 derived_may old id clause ids l r lines t = derived_refuted old id clause ids None l r lines t
 
 -- there is room for the literals of one more clause
@@ -128,7 +128,7 @@ room_stored old new id clause xs ys a h k m j c e = go (eqb j id) (sym (a.clause
     go true f = let g : clause ≡ c = cc in subst (HasClauseRoom ys) g m
     go false f = room_still old xs ys k h j c f
 
-pub derived_faulty : (old new : Judge) (id : ℕ) (clause ids : List ℕ) (why : HintWhy) → old.least_id ≤ id → WhyNotRefuted old.standing (signed true clause) ids (Some why) → IsSame old new → TakesOne (Some why) old new (Derived id clause ids)
+pub derived_faulty : (old new : LineChecker) (id : ℕ) (clause ids : List ℕ) (why : HintWhy) → old.least_id ≤ id → WhyNotRefuted old.standing (signed true clause) ids (Some why) → IsSame old new → TakesOne (Some why) old new (Derived id clause ids)
 derived_faulty old new id clause ids why l r s = (s.lines, derived_refuted old id clause ids (Some why) l r)
 
 empty_length : (ls : List ℕ) → is_empty ls ≡ eqb (length ls) 0
@@ -139,9 +139,9 @@ empty_length (l ∷ ls) = sym (never (eqb (length (l ∷ ls)) 0) refl)
     never true e = absurd (let f : length (l ∷ ls) ≡ 0 = eqb-true (length (l ∷ ls)) 0 e in omega arith)
     never false e = e
 
-pub derived_taken : (old mid last new : Judge) (id : ℕ) (clause ids : List ℕ) (e : Bool) → IsReadyJudge old → old.least_id ≤ id → WhyNotRefuted old.standing (signed true clause) ids None → IsSame old mid → StoresClause mid last id clause → e ≡ (eqb (length clause) 0 || last.empty) → new ≡ record last { empty = e } → TakesOne None old new (Derived id clause ids)
+pub derived_taken : (old mid last new : LineChecker) (id : ℕ) (clause ids : List ℕ) (e : Bool) → IsReadyChecker old → old.least_id ≤ id → WhyNotRefuted old.standing (signed true clause) ids None → IsSame old mid → StoresClause mid last id clause → e ≡ (eqb (length clause) 0 || last.empty) → new ≡ record last { empty = e } → TakesOne None old new (Derived id clause ids)
 derived_taken old mid last new id clause ids e y l r m s f n = (
-  subst IsReadyJudge (sym n) (let k = stored_ready mid last id clause (subst (λ x. SinceWithin x id) (sym m.standing) (since_later old id y l)) s in record { standing = k.standing; below = k.below; since = k.since; nothing = k.nothing; room = k.room }),
+  subst IsReadyChecker (sym n) (let k = stored_ready mid last id clause (subst (λ x. SinceWithin x id) (sym m.standing) (since_later old id y l)) s in record { standing = k.standing; below = k.below; since = k.since; nothing = k.nothing; room = k.room }),
   ap (λ j. j.lines) n ∙ s.lines ∙ m.lines,
   λ lines t. record {
     follows = derived_refuted old id clause ids None l r lines t;
@@ -162,7 +162,7 @@ gone_follows s id lines same h =
     let c = some_clause (standing_clause s id) h in
     record { in_order = tt; clauses = c.0 ∷ []; present = ap (λ o. and_clauses o (Some [])) (sym (same id) ∙ c.1); conflict = tt; unused = λ u. u }
 
-pub gone_may : (old : Judge) (id : ℕ) → standing_clause old.standing id ≢ None → MayFollow old (Gone id)
+pub gone_may : (old : LineChecker) (id : ℕ) → standing_clause old.standing id ≢ None → MayFollow old (Gone id)
 gone_may old id h lines t = gone_follows old.standing id lines t.clauses h
 
 room_less : (s p : Standing) (id : ℕ) (room : List ℕ) → ((j : ℕ) → standing_clause p j ≡ cond (eqb j id) None (standing_clause s j)) → HasRoomForPresent room s → HasRoomForPresent room p
@@ -172,9 +172,9 @@ room_less s p id room same h j c e = go (eqb j id) (sym (same j) ∙ e)
     go true f = absurd cc
     go false f = h j c f
 
-pub gone_taken : (old new : Judge) (id : ℕ) (p : Standing) → IsReadyJudge old → standing_clause old.standing id ≢ None → DropsClause old.standing p id → new ≡ record old { standing = p } → TakesOne None old new (Gone id)
+pub gone_taken : (old new : LineChecker) (id : ℕ) (p : Standing) → IsReadyChecker old → standing_clause old.standing id ≢ None → DropsClause old.standing p id → new ≡ record old { standing = p } → TakesOne None old new (Gone id)
 gone_taken old new id p r h l n = (
-  subst IsReadyJudge (sym n) (record { standing = l.standing; below = l.below old.least_id r.below; since = λ v. subst (λ x. value_at 0 x v ≤ old.least_id) (sym l.since) (r.since v); nothing = r.nothing; room = room_less old.standing p id old.assumed.room l.clauses r.room }),
+  subst IsReadyChecker (sym n) (record { standing = l.standing; below = l.below old.least_id r.below; since = λ v. subst (λ x. value_at 0 x v ≤ old.least_id) (sym l.since) (r.since v); nothing = r.nothing; room = room_less old.standing p id old.assumed.room l.clauses r.room }),
   ap (λ j. j.lines) n,
   λ lines t. record {
     follows = gone_follows old.standing id lines t.clauses h;
@@ -186,18 +186,18 @@ gone_taken old new id p r h l n = (
 )
 
 -- CORES
-core_refuted : (old : Judge) (core ids : List ℕ) (why : Option HintWhy) → WhyNotRefuted old.standing (signed false core) ids why → (lines : List Line) → HasTakenLines old lines → Says_of why lines (Core core ids)
+core_refuted : (old : LineChecker) (core ids : List ℕ) (why : Option HintWhy) → WhyNotRefuted old.standing (signed false core) ids why → (lines : List Line) → HasTakenLines old lines → Says_of why lines (Core core ids)
 core_refuted old core ids why r lines t = refuted lines (Core core ids) core tt refl old.standing why t.clauses r
 
-pub core_faulty : (old new : Judge) (core ids : List ℕ) (why : HintWhy) → WhyNotRefuted old.standing (signed false core) ids (Some why) → IsSame old new → TakesOne (Some why) old new (Core core ids)
+pub core_faulty : (old new : LineChecker) (core ids : List ℕ) (why : HintWhy) → WhyNotRefuted old.standing (signed false core) ids (Some why) → IsSame old new → TakesOne (Some why) old new (Core core ids)
 core_faulty old new core ids why r s = (s.lines, core_refuted old core ids (Some why) r)
 
 one_more : (n count m : ℕ) → n ≡ held count → m ≡ min (n + 1) (2 ^ 64 - 1) → m ≡ held (1 + count)
 one_more n count m e f = omega arith
 
-pub core_taken : (old mid new : Judge) (core ids : List ℕ) (n : ℕ) → IsReadyJudge old → WhyNotRefuted old.standing (signed false core) ids None → IsSame old mid → n ≡ min (mid.cores + 1) (2 ^ 64 - 1) → new ≡ record mid { cores = n } → TakesOne None old new (Core core ids)
+pub core_taken : (old mid new : LineChecker) (core ids : List ℕ) (n : ℕ) → IsReadyChecker old → WhyNotRefuted old.standing (signed false core) ids None → IsSame old mid → n ≡ min (mid.cores + 1) (2 ^ 64 - 1) → new ≡ record mid { cores = n } → TakesOne None old new (Core core ids)
 core_taken old mid new core ids n r h m f e = (
-  subst IsReadyJudge (sym e) (let k = same_ready old mid r m in record { standing = k.standing; below = k.below; since = k.since; nothing = k.nothing; room = k.room }),
+  subst IsReadyChecker (sym e) (let k = same_ready old mid r m in record { standing = k.standing; below = k.below; since = k.since; nothing = k.nothing; room = k.room }),
   ap (λ j. j.lines) e ∙ m.lines,
   λ lines t. record {
     follows = core_refuted old core ids None h lines t;
@@ -208,5 +208,5 @@ core_taken old mid new core ids n r h m f e = (
   },
 )
 
-pub fresh_faulty : (old new : Judge) (v : ℕ) → IsUsed old.standing v → new.lines ≡ old.lines → TakesOne (Some VarInUse) old new (Fresh v)
+pub fresh_faulty : (old new : LineChecker) (v : ℕ) → IsUsed old.standing v → new.lines ≡ old.lines → TakesOne (Some VarInUse) old new (Fresh v)
 fresh_faulty old new v u n = (n, λ lines t. record { id = u.id; clause = u.clause; present = sym (t.clauses u.id) ∙ u.present; long = u.long; within = u.within })

@@ -10,7 +10,7 @@ use Rattle.sat_checker.specs.ProofView.{taken_after, NoReadFailed, FoundNoEnd}
 use Rattle.sat_checker.specs.declared.error.CheckerError.{CheckerError}
 use Rattle.sat_checker.specs.declared.error.CheckerError.TheVariants as errors
 use Rattle.sat_hints.specs.Conversion.{hint_text, hint_verdict}
-use Rattle.sat_hints.specs.Checks.{Judges}
+use Rattle.sat_hints.specs.Checks.{VerdictHolds}
 use Rattle.sat_hints.specs.Converts.{GaveAcceptedSteps, GaveUpTo, IsAccepted, RefusesBy}
 use Rattle.sat_hints.specs.declared.error.HintError.{HintError}
 use Rattle.sat_hints.specs.declared.error.HintError.TheVariants.{Refused, HasDeleteVar, Read, Write, OutOfMemory}
@@ -46,7 +46,7 @@ BrokenAfter old new step steps = SinkFails old.sink new.sink (hint_text steps) �
 -- what the result for a certificate means, as in `Converts`, when its lines are appended to the pending bytes
 abbrev pub WritesLines : Result (Unit {0}) HintError → Reader → Reader → Outlet → Outlet → Type 0
 WritesLines (Ok x) from to old new = (passed : List Step) × (rest : List ℕ) × IsAccepted from to passed rest
-    × Judges (hint_verdict (End ∷ taken_after passed [])) (hint_text (End ∷ taken_after passed []))
+    × VerdictHolds (hint_verdict (End ∷ taken_after passed [])) (hint_text (End ∷ taken_after passed []))
     × SentAll old new (hint_text (End ∷ taken_after passed []))
 WritesLines (Err HasDeleteVar) from to old new = ⊥
 WritesLines (Err (Refused e)) from to old new = (passed : List Step) × NoReadFailed from to × RefusesBy e from to passed

@@ -8,7 +8,7 @@ use Rattle.sat_solver.specs.declared.proof.Proof.{Proof}
 use Rattle.sat_solver.specs.declared.schedule.Outcome.{Outcome}
 use Rattle.sat_solver.specs.declared.schedule.Outcome.TheVariants as outcomes
 use Rattle.sat_solver.specs.declared.error.SolverError.{SolverError}
-use Rattle.sat_solver.specs.variables.Calls.{DoesNothing}
+use Rattle.sat_solver.specs.variables.Calls.{KeepsScriptState}
 use Rattle.sat_solver.specs.declared.variables.Variables.{Variables}
 use Rattle.sat_solver.specs.declared.context.Search.{Search}
 use Rattle.sat_solver.specs.cdcl.Rounds.{RoundSays}
@@ -29,7 +29,7 @@ pub record RoundEnds {W L : Type 0} {G : Ghosts L} (seen : W → Writer) (outcom
   pub steps : List Step
   pub adds : EmitsChecked seen steps p p'
   pub keeps : HasAllowedSteps p'
-  pub does : DoesNothing n n' (steps_of p) (steps_of p')
+  pub does : KeepsScriptState n n' (steps_of p) (steps_of p')
   pub asked : KeepsAsked n n' (session_of p) (session_of p')
   pub says : RoundSays outcome (steps_of p) steps (session_of p') c c'
   pub shares : RoundShares outcome n' c'

@@ -129,7 +129,7 @@ MadeListenersAtRestart false m (Some added) begun = begun ≡ added
 MadeListenersAtRestart true m (Some added) begun = MadeReturnsListeners m begun
 
 -- there is a checker that has missed no step; no step was made
-pub record MadeHasChecker {L : Type 0} {G : Ghosts L} (old new : Made L G) : Type 0 where
+pub record MadeStartsChecker {L : Type 0} {G : Ghosts L} (old new : Made L G) : Type 0 where
   pub steps : new.history.steps ≡ old.history.steps
   pub begun : List L
   pub listening : made_audience new ≡ Some begun

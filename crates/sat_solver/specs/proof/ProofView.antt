@@ -105,8 +105,8 @@ abbrev pub ReturnsNotifiedListeners : {W L : Type 0} {G : Ghosts L} → Proof W 
 ReturnsNotifiedListeners p given = mades.MadeReturnsNotifiedListeners p.made given
 
 -- there is a checker that has missed no step; no step was made
-abbrev pub HasFullChecker : {W L : Type 0} {G : Ghosts L} → Proof W L G → Proof W L G → Type 0
-HasFullChecker old new = mades.MadeHasChecker old.made new.made
+abbrev pub StartsChecker : {W L : Type 0} {G : Ghosts L} → Proof W L G → Proof W L G → Type 0
+StartsChecker old new = mades.MadeStartsChecker old.made new.made
 
 -- the listeners when checking begins
 abbrev pub ListenersAtRestart : {W L : Type 0} {G : Ghosts L} → Proof W L G → List L → Type 0

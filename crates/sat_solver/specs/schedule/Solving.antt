@@ -20,7 +20,7 @@ use Rattle.sat_solver.specs.cdcl.Joint.{assumed_indices, IsSearch, SameVarsAndAs
 use Rattle.sat_solver.specs.cdcl.Ending.{RoundEnds}
 use Rattle.sat_solver.specs.clause.Reduced.{Reduces}
 use Rattle.sat_solver.specs.cdcl.Rounds.{RoundFails, RoundShows}
-use Rattle.sat_solver.specs.variables.Calls.{DoesNothing}
+use Rattle.sat_solver.specs.variables.Calls.{KeepsScriptState}
 use Rattle.sat_solver.specs.declared.variables.Variables.{Variables}
 use Rattle.sat_solver.specs.variables.Shared.{SharesIndices}
 use Rattle.sat_solver.specs.unit_simplify.Freed.{KeepsAsked}
@@ -69,15 +69,15 @@ values_in c = length c.search.parts.assignment.current
 pub record ComesByRounds {W L : Type 0} {G : Ghosts L} (seen : W → Writer) (a : Core W L G) (n : Variables) (k : ℕ) (b : Core W L G) (m : Variables) : Type 0 where
   pub steps : List Step
   pub adds : EmitsChecked seen steps a.proof b.proof
-  pub does : DoesNothing n m (steps_of a.proof) (steps_of b.proof)
+  pub does : KeepsScriptState n m (steps_of a.proof) (steps_of b.proof)
   pub asked : KeepsAsked n m (session_of a.proof) (session_of b.proof)
   pub moved : SameVarsAndAssumptions a.search b.search
   pub config : b.config ≡ a.config
   pub times : AdvanceTimes (steps_of a.proof) steps k
 
 -- if k rounds lead to `b`, as many lead to `c`, with the same names
-abbrev pub TakesNoRounds : {W L : Type 0} {G : Ghosts L} → (W → Writer) → Core W L G → Core W L G → Type 0
-TakesNoRounds {W} {L} {G} seen b c = (a : Core W L G) (n m : Variables) (k : ℕ) → ComesByRounds seen a n k b m → ComesByRounds seen a n k c m
+abbrev pub ReachedByAsManyRounds : {W L : Type 0} {G : Ghosts L} → (W → Writer) → Core W L G → Core W L G → Type 0
+ReachedByAsManyRounds {W} {L} {G} seen b c = (a : Core W L G) (n m : Variables) (k : ℕ) → ComesByRounds seen a n k b m → ComesByRounds seen a n k c m
 
 -- what holds of the names and the search after an outcome
 abbrev pub EndSays : Outcome → Session → Variables → Search → Search → Type 0
@@ -91,7 +91,7 @@ EndSays outcomes.Failed s m c c' = RoundFails s c c' × SharesIndices m c'
 pub record Ended {W L : Type 0} {G : Ghosts L} (seen : W → Writer) (a : Core W L G) (n : Variables) (k : ℕ) (outcome : Outcome) (b : Core W L G) (m : Variables) : Type 0 where
   pub steps : List Step
   pub adds : EmitsChecked seen steps a.proof b.proof
-  pub does : DoesNothing n m (steps_of a.proof) (steps_of b.proof)
+  pub does : KeepsScriptState n m (steps_of a.proof) (steps_of b.proof)
   pub asked : KeepsAsked n m (session_of a.proof) (session_of b.proof)
   pub keeps : HasAllowedSteps b.proof
   pub config : b.config ≡ a.config

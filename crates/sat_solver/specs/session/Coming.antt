@@ -6,14 +6,14 @@ use Rattle.sat_solver.specs.session.Session.{session_after}
 
 -- every step is allowed by this predicate, given the steps before it
 abbrev pub EachIsAllowed : (List Step → Step → Type 0) → (earlier steps : List Step) → Type 0
-EachIsAllowed IsAllowedStep earlier [] = Unit {0}
-EachIsAllowed IsAllowedStep earlier (step ∷ steps) = EachIsAllowed IsAllowedStep earlier steps × IsAllowedStep (steps ++ earlier) step
+EachIsAllowed Allows earlier [] = Unit {0}
+EachIsAllowed Allows earlier (step ∷ steps) = EachIsAllowed Allows earlier steps × Allows (steps ++ earlier) step
 
 -- the same for the steps made after `from`
-pub record OnlyAllowedSteps (IsAllowedStep : List Step → Step → Type 0) (from to : List Step) : Type 0 where
+pub record OnlyAllowedSteps (Allows : List Step → Step → Type 0) (from to : List Step) : Type 0 where
   pub steps : List Step
   pub following : to ≡ steps ++ from
-  pub each : EachIsAllowed IsAllowedStep from steps
+  pub each : EachIsAllowed Allows from steps
 
 -- whether the step changes the width of hashes
 abbrev pub sets_width : Step → Bool

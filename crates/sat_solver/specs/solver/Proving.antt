@@ -25,7 +25,7 @@ use Rattle.sat_solver.specs.solver.Whole.{SolverInvariant, steps_in}
 use Rattle.sat_solver.specs.solver.View.{OnlyProofDiffers, answer_in, has_failed, is_used, known_names, proof_in, schedule_in, target_in}
 
 -- that the solver's own checker, if any, has the same listeners, and has missed a step exactly if it had before
-pub record KeepsChecker {W L : Type 0} {G : Ghosts L} (old new : Solver W L G) : Type 0 where
+pub record KeepsListeners {W L : Type 0} {G : Ghosts L} (old new : Solver W L G) : Type 0 where
   pub listening : audience (proof_in new) ≡ audience (proof_in old)
   pub taking : is_lost (proof_in new) ≡ is_lost (proof_in old)
 
@@ -35,7 +35,7 @@ pub record Opened {W L : Type 0} {G : Ghosts L} (seen : W → Writer) (format : 
   pub first : is_used old ≡ false
   pub shut : is_open (target_in seen old) ≡ false
   pub steps : steps_in new ≡ steps_in old
-  pub checker : KeepsChecker old new
+  pub checker : KeepsListeners old new
   pub asked : has_asked (proof_in new) ≡ false
   pub target_is : target_in seen new ≡ Open format nothing_counted (empty_sink (seen target))
   pub same : OnlyProofDiffers old new
@@ -53,7 +53,7 @@ pub record StartsChecking {W L : Type 0} {G : Ghosts L} (seen : W → Writer) (o
   pub first : is_used old ≡ false
   pub begun : has_begun (steps_in old) ≡ false
   pub target : target_in seen new ≡ target_in seen old
-  pub checks : proofs.HasFullChecker (proof_in old) (proof_in new)
+  pub checks : proofs.StartsChecker (proof_in old) (proof_in new)
   pub asked : has_asked (proof_in new) ≡ has_asked (proof_in old)
   pub same : OnlyProofDiffers old new
 

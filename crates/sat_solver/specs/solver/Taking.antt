@@ -47,12 +47,12 @@ pub record TookClause {W L : Type 0} {G : Ghosts L} (seen : W → Writer) (n n' 
   pub assumed : (session_of b.proof).assumed ≡ (session_of a.proof).assumed
 
 -- that the error is one that a call over names may return when it fails: a fault of a search, or `VariableLimit`
-abbrev pub IsNameFaultOr : (full : Type 0) → SolverError → Type 0
-IsNameFaultOr full e = IsFaultOr full e ⊎ (e ≡ errors.VariableLimit)
+abbrev pub IsNameErrorOr : (full : Type 0) → SolverError → Type 0
+IsNameErrorOr full e = IsFaultOr full e ⊎ (e ≡ errors.VariableLimit)
 
 -- that a call over names failed after these steps; `StoreFull` is returned only if `full` holds
 pub record BreaksNamesOr {W L : Type 0} {G : Ghosts L} (full : Type 0) (seen : W → Writer) (e : SolverError) (a b : Core W L G) : Type 0 where
-  pub fault : IsNameFaultOr full e
+  pub fault : IsNameErrorOr full e
   pub steps : List Step
   pub went : EmitsUpToFault {A = Unit {0}} seen (Err e) steps a.proof b.proof
   pub loss : NamesLoss e a.proof b.proof

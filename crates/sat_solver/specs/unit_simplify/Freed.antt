@@ -5,7 +5,7 @@ use Rattle.sat_base.specs.steps.Steps.{Step}
 use Rattle.sat_checker.specs.LiteralSets.{mentions}
 use Rattle.sat_parts.specs.prop.Values.{value_of}
 use Rattle.sat_solver.specs.session.Session.{Session, session_after}
-use Rattle.sat_solver.specs.variables.Calls.{NamesInvariant, DoesNothing}
+use Rattle.sat_solver.specs.variables.Calls.{NamesInvariant, KeepsScriptState}
 use Rattle.sat_solver.specs.variables.Variables.{solver_of, global_at, indices_used}
 use Rattle.sat_solver.specs.declared.variables.Variables.{Variables}
 use Rattle.sat_parts.specs.declared.parts.Parts.{Parts}
@@ -29,7 +29,7 @@ pub record LosesIndex (s t : Session) (v : ℕ) : Type 0 where
 
 -- the same for names; the judge's state is unchanged
 pub record FreesIndex (old new : Variables) (from to : List Step) (v : ℕ) : Type 0 where
-  pub does : DoesNothing old new from to
+  pub does : KeepsScriptState old new from to
   pub solvers : (w : ℕ) → solver_of new w ≡ (if w == v then None else solver_of old w)
   pub users : new.global_from_user ≡ old.global_from_user
   pub used : indices_used new ≡ indices_used old
@@ -52,7 +52,7 @@ pub record KeepsAsked (old new : Variables) (s t : Session) : Type 0 where
 -- Some indices were released. No step is visible to the judge or learns anything. Clauses and assumptions are
 -- unchanged, and the word of the trail is unchanged or extended.
 pub record FreesSome (old new : Variables) (from to : List Step) (c c' : Search) : Type 0 where
-  pub does : DoesNothing old new from to
+  pub does : KeepsScriptState old new from to
   pub quiet : ComesQuietly from to
   pub search : IsSearch (session_after to) c'
   pub shares : SharesIndices new c'

@@ -10,7 +10,7 @@ use Rattle.sat_solver.specs.session.Making.{ComesByCheckedSteps}
 use Rattle.sat_solver.specs.proof.ProofView.{HasAllowedSteps, steps_of, session_of}
 use Rattle.sat_solver.specs.declared.proof.Proof.{Proof}
 use Rattle.sat_solver.specs.declared.error.SolverError.{SolverError}
-use Rattle.sat_solver.specs.variables.Calls.{NamesInvariant, DoesNothing}
+use Rattle.sat_solver.specs.variables.Calls.{NamesInvariant, KeepsScriptState}
 use Rattle.sat_solver.specs.declared.variables.Variables.{Variables}
 use Rattle.sat_solver.specs.session.Quiet.{ComesQuietly}
 use Rattle.sat_parts.specs.parts.Words.{TrailWordExtendsFor}
@@ -45,7 +45,7 @@ pub record PassesQuietly {W L : Type 0} {G : Ghosts L} (seen : W → Writer) (n 
   pub together : JointInvariant n' p' c'
   pub took : ComesByCheckedSteps seen p p'
   pub quiet : ComesQuietly (steps_of p) (steps_of p')
-  pub does : DoesNothing n n' (steps_of p) (steps_of p')
+  pub does : KeepsScriptState n n' (steps_of p) (steps_of p')
   pub asked : KeepsAsked n n' (session_of p) (session_of p')
   pub moved : SameVarsAndAssumptions c c'
   pub word : TrailWordExtendsFor (assumed_indices c) c.parts c'.parts

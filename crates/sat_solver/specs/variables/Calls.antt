@@ -78,5 +78,5 @@ pub record BringsInUnseen (old new : Variables) (from to : List Step) (user : �
   pub room : LeavesRoom old new user
 
 -- the judge's state is unchanged, and no ordered step was made
-abbrev pub DoesNothing : Variables → Variables → List Step → List Step → Type 0
-DoesNothing old new from to = NamesEffect old new from to (λ j. j) (λ j. [])
+abbrev pub KeepsScriptState : Variables → Variables → List Step → List Step → Type 0
+KeepsScriptState old new from to = NamesEffect old new from to (λ j. j) (λ j. [])

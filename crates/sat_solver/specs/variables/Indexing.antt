@@ -4,7 +4,7 @@ use Rattle.sat_base.specs.steps.Steps.{Step, SolverVarName}
 use Rattle.sat_solver.specs.session.Session.{session_after}
 use Rattle.sat_solver.specs.variables.Variables.{solver_of, indices_used}
 use Rattle.sat_solver.specs.variables.Naming.{IsNextIndex}
-use Rattle.sat_solver.specs.variables.Calls.{DoesNothing}
+use Rattle.sat_solver.specs.variables.Calls.{KeepsScriptState}
 use Rattle.sat_solver.specs.variables.Search.{KeepsSearch, GivesIndices}
 use Rattle.sat_solver.specs.declared.variables.solver_vars.Given.{Given}
 use Rattle.sat_solver.specs.declared.variables.Variables.{Variables}
@@ -12,7 +12,7 @@ use Rattle.sat_solver.specs.declared.variables.Variables.{Variables}
 -- the variable has the index: either it had it before, or one step gave it the next index, which was appended to the
 -- list
 pub record Indexes (old new : Variables) (from to : List Step) (before after : List Given) (v x : ℕ) : Type 0 where
-  pub does : DoesNothing old new from to
+  pub does : KeepsScriptState old new from to
   pub has : solver_of new v ≡ Some x
   pub users : new.global_from_user ≡ old.global_from_user
   pub kept : new.var_data ≡ old.var_data
@@ -24,7 +24,7 @@ pub record Indexes (old new : Variables) (from to : List Step) (before after : L
 
 -- one step took its index from the variable
 pub record Unindexes (old new : Variables) (from to : List Step) (v x : ℕ) : Type 0 where
-  pub does : DoesNothing old new from to
+  pub does : KeepsScriptState old new from to
   pub step : to ≡ SolverVarName v None ∷ from
   pub solvers : (w : ℕ) → solver_of new w ≡ (if w == v then None else solver_of old w)
   pub globals : new.globals ≡ old.globals

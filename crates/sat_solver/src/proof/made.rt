@@ -65,7 +65,7 @@ pub struct Made<P: ProofProcessor = Nobody> {
 }
 
 impl<P: ProofProcessor> Made<P> {
-    ghost use Rattle.sat_solver.specs.proof.MadeView.{made_audience, made_is_checked, made_is_lost, MadeHasChecker, MadeReturnsListeners, MadeReturnsNotifiedListeners};
+    ghost use Rattle.sat_solver.specs.proof.MadeView.{made_audience, made_is_checked, made_is_lost, MadeStartsChecker, MadeReturnsListeners, MadeReturnsNotifiedListeners};
     ghost use Rattle.sat_solver.specs.proof.MadeView.{MadeIsReported, LastWidthIs, MadeEffect, OkOrComplains, OkOrComplainsOrWasLost};
     ghost use Rattle.sat_solver.specs.proof.MadeView.{MadeAddListenerResult, cleared_complaint};
 
@@ -103,7 +103,7 @@ impl<P: ProofProcessor> Made<P> {
     /// may have been made. Never allocates.
     pub fn check(&mut self, alloc: Global)
         requires { has_begun self.old.history.steps ≡ false }
-        ensures { MadeHasChecker self.old self.new }
+        ensures { MadeStartsChecker self.old self.new }
     {
         let Some(own) = &mut self.own else {
             self.own = Some(Checked::new(alloc));

@@ -8,7 +8,7 @@ ghost use Rattle.sat_solver.specs.session.Coming.{OnlyAllowedSteps};
 ghost use Rattle.sat_solver.specs.variables.Coming.{ForgetsIdle, LeavesNoneIdle, MayHide, MaySet, TurnsMode};
 ghost use Rattle.sat_checker.specs.matching.Expected.{NewName, NoName};
 ghost use Rattle.sat_solver.specs.variables.Naming.{VariablesAreKeptOrNew, KeepsOthers};
-ghost use Rattle.sat_solver.specs.variables.Calls.{NamesInvariant, NamesEffect, DoesNothing};
+ghost use Rattle.sat_solver.specs.variables.Calls.{NamesInvariant, NamesEffect, KeepsScriptState};
 ghost use Rattle.sat_solver.specs.variables.Search.{IsUnseen, IsAlike, ForgetsUnits, KeepsUnits};
 ghost use Rattle.sat_solver.specs.variables.Refusing.{IsAssumed};
 ghost use Rattle.sat_solver.specs.variables.Failing.{IsFailure, EmitsOrFails, FailsOnlyByFault};
@@ -59,7 +59,7 @@ pub fn delete_var<W: StepLog>(
     requires nameless { user_of variables.old global ≡ None }
     requires without { solver_of variables.old global ≡ None }
     requires unmarked { (data_at variables.old global).assumed ≡ false }
-    ensures does { OnOk result (DoesNothing variables.old variables.new (W.steps writer.old) (W.steps writer.new)) }
+    ensures does { OnOk result (KeepsScriptState variables.old variables.new (W.steps writer.old) (W.steps writer.new)) }
     ensures step { OnOk result (W.steps writer.new ≡ DeleteVar global ∷ W.steps writer.old) }
     ensures solvers { OnOk result (variables.new.solver_from_global ≡ variables.old.solver_from_global) }
     ensures globals { OnOk result (variables.new.globals ≡ variables.old.globals) }
@@ -85,7 +85,7 @@ pub(crate) fn forget_idle<W: StepLog>(
     requires keeps { W.keeps writer.old }
     requires live { (data_at variables.old global).deleted ≡ false }
     requires nameless { user_of variables.old global ≡ None }
-    ensures does { OnOk result (DoesNothing variables.old variables.new (W.steps writer.old) (W.steps writer.new)) }
+    ensures does { OnOk result (KeepsScriptState variables.old variables.new (W.steps writer.old) (W.steps writer.new)) }
     ensures units { OnOk result (KeepsUnits variables.new (W.steps writer.old) (W.steps writer.new)) }
     ensures alike { OnOk result (IsAlike variables.old variables.new (W.steps writer.old) (W.steps writer.new)) }
     ensures goes { OnOk result (ForgetsIdle variables.old (W.steps writer.old) (W.steps writer.new) global) }

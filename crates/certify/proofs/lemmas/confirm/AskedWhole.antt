@@ -10,7 +10,7 @@ use Rattle.sat_checker.specs.matching.Expected.{Outcome, Sat, Unsat, Unknown, Ex
 use Rattle.certify.specs.answers.AnswerForms.{IsName, HaveNames, NamesRise, IsInForm}
 use Rattle.certify.specs.answers.Answers.{outcome_text}
 use Rattle.certify.specs.confirm.CertificatePlaces.{CanMeet, MeetsExactly, MeetsNoneOf}
-use Rattle.certify.specs.confirm.Matches.{InForm}
+use Rattle.certify.specs.confirm.Matches.{CoreIsInOrder}
 use Rattle.certify.specs.judge.Names.{NamesHaveState}
 use Rattle.sat_base.specs.script.ScriptStateLaws.{NamesIncrease}
 use Rattle.certify.specs.confirm.Following.{AreVariablesOfNames}
@@ -51,12 +51,12 @@ core_form : (ask core : List Literal) (earlier : List Step) (certificate : List 
 core_form ask core earlier certificate es named m = elim (met_fails earlier ask core es certificate m) [ inl e ↦ subst HaveNames (sym e) tt | inr h ↦ variables_named earlier core named h ]
 
 -- an outcome whose steps can be met is in form
-shown_form : (j : ScriptState) (ask : List Literal) (o : Outcome) (earlier : List Step) (certificate : List ℕ) (es : List Expected) → Listed j → Within earlier → InForm o → CanMeet earlier (showing j ask o ++ es) certificate → IsInForm o
+shown_form : (j : ScriptState) (ask : List Literal) (o : Outcome) (earlier : List Step) (certificate : List ℕ) (es : List Expected) → Listed j → Within earlier → CoreIsInOrder o → CanMeet earlier (showing j ask o ++ es) certificate → IsInForm o
 shown_form j ask (Sat line) earlier certificate es listed named form m = listed line (met_shows earlier (map (λ n. n.name) j.in_use) ask line es certificate m)
 shown_form j ask (Unsat core) earlier certificate es listed named form m = (core_form ask core earlier certificate es named m, form)
 shown_form j ask Unknown earlier certificate es listed named form m = (tt, tt)
 
-form_of : (o : Outcome) → IsInForm o → InForm o
+form_of : (o : Outcome) → IsInForm o → CoreIsInOrder o
 form_of (Sat line) h = tt
 form_of (Unsat core) h = h.1
 form_of Unknown h = tt

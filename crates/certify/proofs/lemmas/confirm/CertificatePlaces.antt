@@ -11,7 +11,7 @@ use Rattle.sat_checker.specs.matching.Checking.{is_ordered}
 use Rattle.certify.specs.confirm.Matches.{Meets, MayBeUnmet, met, cut, other, ordered}
 use Rattle.sat_checker.specs.matching.Expected.{Expected, Fits}
 use Rattle.sat_checker.specs.matching.ProofChecking.{checker_rules}
-use Rattle.certify.specs.confirm.CertificatePlaces.{CanMeet, MeetsExactly, MeetsNoneOf, SkipsUnordered, MeetsNothing, NextIsOrdered}
+use Rattle.certify.specs.confirm.CertificatePlaces.{CanMeet, MeetsExactly, MeetsNoneOf, MeetsSameSteps, MeetsNothing, NextIsOrdered}
 use Rattle.certify.proofs.lemmas.confirm.NextStep.{taken, skipped}
 
 pub leads_nowhere : (earlier : List Step) (certificate : List ℕ) → MeetsExactly earlier certificate [] earlier certificate
@@ -103,7 +103,7 @@ begun one earlier step bytes text more e es u b s m = go m.steps m.text m.begins
         }
 
 pub skips_step : IsUniquelyDecodable SpellsStep → (earlier : List Step) (step : Step) (bytes text more : List ℕ) → (ready_after earlier).unsat ≡ false → bytes ≡ text ++ more → SpellsStep step text → is_ordered step ≡ false
-    → Accepts (ready_after earlier) step → SkipsUnordered earlier bytes (step ∷ earlier) more
+    → Accepts (ready_after earlier) step → MeetsSameSteps earlier bytes (step ∷ earlier) more
 skips_step one earlier step bytes text more u b s o a = record {
   on = λ e es m. let g = begun one earlier step bytes text more e es u b s m in record { steps = g.steps; text = g.text; rest = g.rest; begins = g.begins; spelt = g.spelt; meets = (skipped checker_rules o g.meets).1 };
   back = λ e es m. record {
@@ -138,16 +138,16 @@ offers_step one earlier step bytes text more u b s o = record {
   };
 }
 
-pub skips_none : (earlier : List Step) (bytes : List ℕ) → SkipsUnordered earlier bytes earlier bytes
+pub skips_none : (earlier : List Step) (bytes : List ℕ) → MeetsSameSteps earlier bytes earlier bytes
 skips_none earlier bytes = record { on = λ e es m. m; back = λ e es m. m }
 
-pub skips_on : {earlier mid later : List Step} {bytes between rest : List ℕ} → SkipsUnordered earlier bytes mid between → SkipsUnordered mid between later rest → SkipsUnordered earlier bytes later rest
+pub skips_on : {earlier mid later : List Step} {bytes between rest : List ℕ} → MeetsSameSteps earlier bytes mid between → MeetsSameSteps mid between later rest → MeetsSameSteps earlier bytes later rest
 skips_on s t = record { on = λ e es m. t.on e es (s.on e es m); back = λ e es m. s.back e es (t.back e es m) }
 
-pub skips_stop : {earlier mid : List Step} {bytes between : List ℕ} → SkipsUnordered earlier bytes mid between → MeetsNothing mid between → MeetsNothing earlier bytes
+pub skips_stop : {earlier mid : List Step} {bytes between : List ℕ} → MeetsSameSteps earlier bytes mid between → MeetsNothing mid between → MeetsNothing earlier bytes
 skips_stop s t = record { none = λ e es m. t.none e es (s.on e es m) }
 
-pub skips_offer : {earlier mid later : List Step} {bytes between rest : List ℕ} {step : Step} → SkipsUnordered earlier bytes mid between → NextIsOrdered mid between later step rest → NextIsOrdered earlier bytes later step rest
+pub skips_offer : {earlier mid later : List Step} {bytes between rest : List ℕ} {step : Step} → MeetsSameSteps earlier bytes mid between → NextIsOrdered mid between later step rest → NextIsOrdered earlier bytes later step rest
 skips_offer s o = record { on = λ e es m. o.on e es (s.on e es m); back = λ e es f a m. s.back e es (o.back e es f a m) }
 
 -- the next ordered step meets the expected step if it fits and is accepted
@@ -164,11 +164,11 @@ pub bars_stop : {earlier : List Step} {bytes : List ℕ} (e : Expected) → Meet
 bars_stop e s = record { none = λ es m. s.none e es m }
 
 -- an expected step that may be unmet counts as met if unsat is recorded before the next ordered step
-pub leads_skip : {earlier later : List Step} {bytes rest : List ℕ} (e : Expected) → SkipsUnordered earlier bytes later rest → (ready_after later).unsat ≡ true → MayBeUnmet e → MeetsExactly earlier bytes (e ∷ []) later rest
+pub leads_skip : {earlier later : List Step} {bytes rest : List ℕ} (e : Expected) → MeetsSameSteps earlier bytes later rest → (ready_after later).unsat ≡ true → MayBeUnmet e → MeetsExactly earlier bytes (e ∷ []) later rest
 leads_skip {earlier} {later} {bytes} {rest} e s u x =
     let l = leads_cut later rest (e ∷ []) u (x, tt) in record { on = λ es m. l.on es (s.on e es m); back = λ es m. s.back e es (l.back es m) }
 
-pub bars_skip : {earlier later : List Step} {bytes rest : List ℕ} (e : Expected) → SkipsUnordered earlier bytes later rest → (ready_after later).unsat ≡ true → (MayBeUnmet e → ⊥) → MeetsNoneOf earlier bytes (e ∷ [])
+pub bars_skip : {earlier later : List Step} {bytes rest : List ℕ} (e : Expected) → MeetsSameSteps earlier bytes later rest → (ready_after later).unsat ≡ true → (MayBeUnmet e → ⊥) → MeetsNoneOf earlier bytes (e ∷ [])
 bars_skip {earlier} {later} {bytes} {rest} e s u x = record { none = λ es m. (bars_cut later rest (e ∷ []) u (λ h. x h.0)).none es (s.on e es m) }
 
 -- any certificate meets what is expected if nothing is expected

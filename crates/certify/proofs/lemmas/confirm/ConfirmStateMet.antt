@@ -15,12 +15,12 @@ use Rattle.certify.specs.confirm.Streams.{Stream, Confirms, seen_in}
 use Rattle.certify.specs.confirm.CertificateStates.{CertificateState}
 use Rattle.certify.specs.judge.Names.{states_of, Changes, ReportsRefusal, NamesHaveState, refusal_in, used_in}
 use Rattle.certify.specs.confirm.Awaiting.{MeetsDue}
-use Rattle.certify.specs.confirm.Comparing.{MayStayUnmet, Due}
+use Rattle.certify.specs.confirm.Comparing.{OpenedCoreIsEmpty, Due}
 use Rattle.certify.specs.confirm.Confirming.{ConfirmsAnswer, ConfirmsContent, ConfirmsLast, ConfirmsNext, MeetsCommandNames, MeetsContent, MeetsOutcome, MeetsShown, Table, ToConfirm}
 use Rattle.certify.specs.confirm.Stopping.{Joins, Replies, SaysSo}
 use Rattle.certify.specs.confirm.Lines.{IsReply}
 use Rattle.certify.specs.confirm.Naming.{MeetsAll, MeetsNames, taken_by}
-use Rattle.certify.specs.script.Commands.{BeginsPast, IsLent, kind_of}
+use Rattle.certify.specs.script.Commands.{BeginsPast, RepresentsCommand, kind_of}
 use Rattle.sat_base.specs.script.Language.{Reading, Kind, OfAsk, command_of}
 use Rattle.certify.specs.declared.confirm.stop.Stop.{Stop}
 use Rattle.certify.specs.declared.judge.Refusal.{Refusal as CodeRefusal}
@@ -38,11 +38,11 @@ use Rattle.certify.proofs.lemmas.confirm.UsedNames.{used_names}
 
 -- ONE EXPECTED STEP
 
-at_ask : (due : Due) (o : Outcome) (ask : List Literal) → MayStayUnmet (due o ask) → (before after : NamedVars) (u v : CertificateState) (y : Result (Unit {0}) Why) → MeetsDue due before after u v y → MeetsAll (due o ask ∷ []) before after u v y
+at_ask : (due : Due) (o : Outcome) (ask : List Literal) → OpenedCoreIsEmpty (due o ask) → (before after : NamedVars) (u v : CertificateState) (y : Result (Unit {0}) Why) → MeetsDue due before after u v y → MeetsAll (due o ask ∷ []) before after u v y
 at_ask due o ask free before after u v (Ok x) m = λ earlier s. let k = m earlier s in record { later = k.later; valid = k.valid; leads = k.leads o ask (λ closed. free) }
 at_ask due o ask free before after u v (Err why) m = λ earlier s. m earlier s o ask
 
-pub expects_one : (due : Due) (o : Outcome) (ask : List Literal) → MayStayUnmet (due o ask) → (before after : NamedVars) (r : Result (Unit {0}) Stop) (s t : Stream) → Confirms r s t (MeetsDue due before after) → Confirms r s t (MeetsAll (due o ask ∷ []) before after)
+pub expects_one : (due : Due) (o : Outcome) (ask : List Literal) → OpenedCoreIsEmpty (due o ask) → (before after : NamedVars) (r : Result (Unit {0}) Stop) (s t : Stream) → Confirms r s t (MeetsDue due before after) → Confirms r s t (MeetsAll (due o ask ∷ []) before after)
 expects_one due o ask free before after r s t p = confirms_so r s t (MeetsDue due before after) (MeetsAll (due o ask ∷ []) before after) (λ total y m. at_ask due o ask free before after (seen_in total s) (seen_in total t) y m) p
 
 -- WHAT SHOWS AN OUTCOME
@@ -117,7 +117,7 @@ content_asked n ls named asked next a b s t u r here open_yet same p h = joins_t
 -- A COMMAND
 
 -- a command without a name past the limit is passed with all its literals
-pub lent_whole : (lent : Lent) (c : Command) → lent.past_limit ≡ false → IsLent lent c → c ≡ command_of (kind_of lent.kind) (named_literals lent.literals.now)
+pub lent_whole : (lent : Lent) (c : Command) → lent.past_limit ≡ false → RepresentsCommand lent c → c ≡ command_of (kind_of lent.kind) (named_literals lent.literals.now)
 lent_whole lent c none (ls, f, e) = e ∙ ap (command_of (kind_of lent.kind)) (f.whole ∙ ap (λ (bs : List Literal). named_literals lent.literals.now ++ bs) (go lent.past_limit none f.following f.limit) ∙ append-nil (named_literals lent.literals.now))
   where
     go : (b : Bool) → b ≡ false → (bs : List Literal) → BeginsPast b bs → bs ≡ []
@@ -125,7 +125,7 @@ lent_whole lent c none (ls, f, e) = e ∙ ap (command_of (kind_of lent.kind)) (f
     go true x bs h = absurd (cc)
 
 -- a command is accepted if the names report no refusal
-pub allowed_by : (names : Names) (lent : Lent) (c whole : Command) → c ≡ whole → IsLent lent c → ReportsRefusal None names lent → (j : ScriptState) → NamesHaveState names j → refusal_of j whole ≡ None
+pub allowed_by : (names : Names) (lent : Lent) (c whole : Command) → c ≡ whole → RepresentsCommand lent c → ReportsRefusal None names lent → (j : ScriptState) → NamesHaveState names j → refusal_of j whole ≡ None
 allowed_by names lent c whole e is judges j h = sym (subst (λ (w : Command). None ≡ refusal_of j w) e (judges j c h is))
 
 pub not_ask : (k : CommandKind) → (k ≡ kinds.Ask → ⊥) → kind_of k ≡ OfAsk → ⊥
@@ -136,7 +136,7 @@ pub if_ok : {T E P : Type 0} (r : Result T E) → P → OnOk r P
 if_ok (Ok x) h = h
 if_ok (Err e) h = tt
 
-module _ (n : ℕ) (lent : Lent) (c : Command) (is : IsLent lent c) (t next : Table) (a b : Source) (s : Stream) where
+module _ (n : ℕ) (lent : Lent) (c : Command) (is : RepresentsCommand lent c) (t next : Table) (a b : Source) (s : Stream) where
   pub refused : (refusal : CodeRefusal) (r : Result (Unit {0}) Stop) → (AtEnd s.source → ⊥) → ReportsRefusal (Some refusal) t.names lent → next ≡ t → Replies {A = Unit {0}} true r a b (λ before following. TakesDueLine before following (refused_line n (refusal_in refusal)))
       → Joins {A = Unit {0}} ⊥ true r a b s s (ConfirmsNext n c t next)
   refused refusal r open_yet judges same h = subst (λ (x : Table). Joins {A = Unit {0}} ⊥ true r a b s s (ConfirmsNext n c t x)) (sym same)

@@ -7,7 +7,7 @@ use Rattle.sat_base.specs.steps.Steps.{Step}
 use Rattle.certify.specs.answers.Answers.{answers_from, refused_line, outcome_text, outcomes_left, piece, ending_text}
 use Rattle.sat_checker.specs.matching.Expected.{Outcome, EachSpelt, Expected, Opens, Shows, Fails, Closes, Finish, bringing, showing, expected, shows, fails}
 use Rattle.sat_checker.specs.matching.Checking.{variable_of}
-use Rattle.certify.specs.confirm.Matches.{OneEach, InForm, Meets, cut, other, ordered, MatchesCommands}
+use Rattle.certify.specs.confirm.Matches.{OneEach, CoreIsInOrder, Meets, cut, other, ordered, MatchesCommands}
 use Rattle.certify.specs.confirm.LeftToMatch.{Left, LeftOfAsk}
 use Rattle.sat_checker.specs.matching.ProofChecking.{checker_rules}
 use Rattle.certify.specs.confirm.CertificatePlaces.{CanMeet, MeetsExactly, MeetsNoneOf}
@@ -41,7 +41,7 @@ module _ (j : ScriptState) (n : ℕ) (earlier : List Step) (ls : List Literal) (
   same v vs = append_assoc (bringing (names_of ls) j) (Opens ls v ∷ (showing (accepted (Ask ls) j) ls v ++ (Closes ∷ []))) (expected (accepted (Ask ls) j) (accepted_of (accepted (Ask ls) j) cs) vs)
       ∙ ap (λ es. bringing (names_of ls) j ++ (Opens ls v ∷ es)) (append_assoc (showing (accepted (Ask ls) j) ls v) (Closes ∷ []) (expected (accepted (Ask ls) j) (accepted_of (accepted (Ask ls) j) cs) vs))
 
-  to : (vs : List Outcome) → OneEach (Ask ls ∷ accepted_of (accepted (Ask ls) j) cs) vs → AllByRecursion InForm vs
+  to : (vs : List Outcome) → OneEach (Ask ls ∷ accepted_of (accepted (Ask ls) j) cs) vs → AllByRecursion CoreIsInOrder vs
       → answers ≡ piece n None (Ask ls) vs ++ answers_from (n + 1) (accepted (Ask ls) j) cs ending (outcomes_left None (Ask ls) vs)
       → CanMeet earlier (expected j (Ask ls ∷ accepted_of (accepted (Ask ls) j) cs) vs) certificate
       → LeftOfAsk checker_rules (accepted (Ask ls) j) (n + 1) earlier (bringing (names_of ls) j) ls cs ending answers certificate

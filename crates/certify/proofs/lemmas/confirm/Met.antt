@@ -16,7 +16,7 @@ use Rattle.certify.specs.confirm.Stepping.{is_fed}
 use Rattle.certify.specs.confirm.Streams.{Stream, seen_in, GoesOrStops, Confirms}
 use Rattle.certify.specs.confirm.CertificateStates.{CertificateState}
 use Rattle.certify.specs.confirm.Awaiting.{CheckerIsAt, AwaitsNext, MeetsDue, SaysUnmet}
-use Rattle.certify.specs.confirm.Comparing.{MayStayUnmet, AreKnown, Compares, Due, ExcusesDue}
+use Rattle.certify.specs.confirm.Comparing.{OpenedCoreIsEmpty, AreKnown, Compares, Due, ExcusesDue}
 use Rattle.certify.specs.confirm.Following.{NamesFollow}
 use Rattle.certify.specs.confirm.Variables.{variable_in}
 use Rattle.certify.specs.declared.confirm.ordered.Awaited.{Awaited}
@@ -30,12 +30,12 @@ use Rattle.certify.proofs.lemmas.confirm.CertificatePlaces.{when_cut, leads_skip
 use Rattle.certify.proofs.lemmas.confirm.Settled.{settled_unsat}
 use Rattle.certify.proofs.lemmas.confirm.Streams.{confirms_stop, says_stop, feeds_on, feeds_stop}
 
-allowed : (e : Expected) → MayBeUnmet e → MayStayUnmet e
+allowed : (e : Expected) → MayBeUnmet e → OpenedCoreIsEmpty e
 allowed (Opens ls o) h = h
 allowed e h = tt
 
 -- if a step records unsat, the expected step that it fits may stay unmet
-still_allowed : (earlier : List Step) (e : Expected) (step : Step) → Fits (checker_rules.knows earlier) earlier e step → (ready_after earlier).unsat ≡ false → (ready_after (step ∷ earlier)).unsat ≡ true → MayStayUnmet e
+still_allowed : (earlier : List Step) (e : Expected) (step : Step) → Fits (checker_rules.knows earlier) earlier e step → (ready_after earlier).unsat ≡ false → (ready_after (step ∷ earlier)).unsat ≡ true → OpenedCoreIsEmpty e
 still_allowed earlier e step (opens {c = c} same) u v = absurd (true≢false (sym v ∙ settled_unsat (effect (Assumptions c) (ready_after earlier)) ∙ u))
 still_allowed earlier e step (new_name is unknown) u v = tt
 still_allowed earlier e step (no_name at) u v = tt

@@ -10,7 +10,7 @@ use Rattle.certify.specs.confirm.Streams.{Stream, seen_in, Confirms}
 use Rattle.certify.specs.confirm.CertificateStates.{CertificateState}
 use Rattle.certify.specs.judge.Names.{NamesHaveState}
 use Rattle.certify.specs.confirm.Awaiting.{MeetsDue}
-use Rattle.certify.specs.confirm.Comparing.{MayStayUnmet, Due}
+use Rattle.certify.specs.confirm.Comparing.{OpenedCoreIsEmpty, Due}
 use Rattle.certify.specs.confirm.Naming.{MeetsAll, MeetsName, hidden_by}
 use Rattle.sat_base.specs.script.Language.{Kind}
 use Rattle.certify.specs.declared.confirm.stop.Stop.{Stop}
@@ -29,13 +29,13 @@ pub all_none : (names : NamedVars) (a : Stream) → Confirms (Ok tt) a a (MeetsA
 all_none names a = confirms_none tt a (MeetsAll [] names names) (λ total earlier s. record { later = earlier; valid = s; leads = leads_nowhere earlier (seen_in total a).rest })
 
 -- one expected step that is the same for any outcome and ask
-pub one : (due : Due) (e : Expected) → ((o : Outcome) (ask : List Literal) → due o ask ≡ e) → MayStayUnmet e → (before after : NamedVars) (u v : CertificateState) (y : Result (Unit {0}) Why) → MeetsDue due before after u v y → MeetsAll (e ∷ []) before after u v y
+pub one : (due : Due) (e : Expected) → ((o : Outcome) (ask : List Literal) → due o ask ≡ e) → OpenedCoreIsEmpty e → (before after : NamedVars) (u v : CertificateState) (y : Result (Unit {0}) Why) → MeetsDue due before after u v y → MeetsAll (e ∷ []) before after u v y
 one due e is free before after u v (Ok x) m = λ earlier s.
     let k = m earlier s in
     record {
       later = k.later;
       valid = k.valid;
-      leads = subst (λ (d : Expected). MeetsExactly earlier u.rest (d ∷ []) k.later v.rest) (is Unknown []) (k.leads Unknown [] (λ closed. subst MayStayUnmet (sym (is Unknown [])) free));
+      leads = subst (λ (d : Expected). MeetsExactly earlier u.rest (d ∷ []) k.later v.rest) (is Unknown []) (k.leads Unknown [] (λ closed. subst OpenedCoreIsEmpty (sym (is Unknown [])) free));
     }
 one due e is free before after u v (Err why) m = λ earlier s. subst (λ (d : Expected). MeetsNoneOf earlier u.rest (d ∷ [])) (is Unknown []) (m earlier s Unknown [])
 
@@ -51,7 +51,7 @@ both p q first mid last u v w (Err why) f g = λ earlier s. let k = f earlier s 
 pub first_barred : (p q : List Expected) (before after end : NamedVars) (u v : CertificateState) (why : Why) → MeetsAll p before after u v (Err why) → MeetsAll (p ++ q) before end u v (Err why)
 first_barred p q before after end u v why f earlier s = bars_more q (f earlier s)
 
-pub meets_one : (due : Due) (e : Expected) → ((o : Outcome) (ask : List Literal) → due o ask ≡ e) → MayStayUnmet e → (before after : NamedVars) (r : Result (Unit {0}) Stop) (a b : Stream) → Confirms r a b (MeetsDue due before after) → Confirms r a b (MeetsAll (e ∷ []) before after)
+pub meets_one : (due : Due) (e : Expected) → ((o : Outcome) (ask : List Literal) → due o ask ≡ e) → OpenedCoreIsEmpty e → (before after : NamedVars) (r : Result (Unit {0}) Stop) (a b : Stream) → Confirms r a b (MeetsDue due before after) → Confirms r a b (MeetsAll (e ∷ []) before after)
 meets_one due e is free before after r a b p = confirms_so r a b (MeetsDue due before after) (MeetsAll (e ∷ []) before after) (λ total y m. one due e is free before after (seen_in total a) (seen_in total b) y m) p
 
 pub meets_both : (p q : List Expected) (first mid last : NamedVars) (r : Result (Unit {0}) Stop) (a b c : Stream) → (AtEnd a.source → ⊥) → Confirms (Ok tt) a b (MeetsAll p first mid) → Confirms r b c (MeetsAll q mid last) → Confirms r a c (MeetsAll (p ++ q) first last)

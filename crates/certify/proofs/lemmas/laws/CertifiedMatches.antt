@@ -15,7 +15,7 @@ use Rattle.sat_checker.specs.matching.Expected.{Outcome, Sat, Unsat, Unknown, Ex
 use Rattle.sat_checker.specs.matching.ProofChecking.{checker_rules}
 use Rattle.certify.specs.answers.Answers.{answers_text}
 use Rattle.certify.specs.answers.RightAnswers.{AreRight, AnswersAreRight}
-use Rattle.certify.specs.confirm.Matches.{OneEach, InForm, MayBeUnmet, Meets, met, cut, other, ordered, Matches}
+use Rattle.certify.specs.confirm.Matches.{OneEach, CoreIsInOrder, MayBeUnmet, Meets, met, cut, other, ordered, Matches}
 use Rattle.certify.specs.run.Certifies as by
 use Rattle.certify.specs.run.Certifies.{Certifies, MayLack, MayOccur}
 use Rattle.certify.proofs.lemmas.confirm.Settled.{settled_unsat}
@@ -125,7 +125,7 @@ one_each j (Hide names ∷ commands) os h = one_each (accepted (Hide names) j) c
 one_each j (Witness names ∷ commands) os h = one_each (accepted (Witness names) j) commands os h
 one_each j (Sample names ∷ commands) os h = one_each (accepted (Sample names) j) commands os h
 
-in_form : (j : ScriptState) (commands : List Command) (outcomes : List Outcome) → AreRight j commands outcomes → AllByRecursion InForm outcomes
+in_form : (j : ScriptState) (commands : List Command) (outcomes : List Outcome) → AreRight j commands outcomes → AllByRecursion CoreIsInOrder outcomes
 in_form j commands [] h = tt
 in_form j [] (o ∷ os) h = absurd h
 in_form j (Ask ls ∷ commands) (Sat line ∷ os) h = (tt, in_form (accepted (Ask ls) j) commands os h.1)

@@ -7,7 +7,7 @@ use Rattle.sat_base.specs.steps.Steps.{Step}
 use Rattle.sat_checker.specs.matching.Expected.{Outcome, Sat, Unsat, Unknown, Expected, NewName, NoName, Adds, Opens, Shows, Fails, Closes, Finish, bringing, hiding, setting, showing, expected}
 use Rattle.certify.specs.answers.RightAnswers.{IsRight, AreRight, AnswersAreRight}
 use Rattle.sat_checker.specs.matching.Checking.{CheckerRules, IsSound}
-use Rattle.certify.specs.confirm.Matches.{OneEach, InForm, StepsMatch}
+use Rattle.certify.specs.confirm.Matches.{OneEach, CoreIsInOrder, StepsMatch}
 use Rattle.sat_checker.proofs.lemmas.matching.Bridge.{begun}
 use Rattle.certify.proofs.lemmas.laws.MatchingSteps.{RightFor, right_for}
 
@@ -51,12 +51,12 @@ set_to mode (name ∷ names) q j es h =
     let p = named (new_names name j) q j (setting mode names next ++ es) (subst (RightFor q j) (append_assoc (map NewName (new_names name j)) (setting mode names next) es) h) in
     set_to mode names p.0 next es (modes_aside (setting mode names next ++ es) p.0 (bring_in name j) next.modes p.1)
 
-answered : (v : Outcome) (ask : List Literal) (j : ScriptState) (es : List Expected) → InForm v → RightFor (Some ask) j (showing j ask v ++ (Closes ∷ es)) → IsRight j ask v × RightFor None j es
+answered : (v : Outcome) (ask : List Literal) (j : ScriptState) (es : List Expected) → CoreIsInOrder v → RightFor (Some ask) j (showing j ask v ++ (Closes ∷ es)) → IsRight j ask v × RightFor None j es
 answered (Sat line) ask j es f h = (h.0 refl, h.1)
 answered (Unsat core) ask j es f h = let r = h.0 refl in (record { order = f; among = r.among; none = r.none }, h.1)
 answered Unknown ask j es f h = (tt, h)
 
-rights : (commands : List Command) (vs : List Outcome) (q : Option (List Literal)) (j : ScriptState) → OneEach commands vs → AllByRecursion InForm vs → RightFor q j (expected j commands vs) → AreRight j commands vs
+rights : (commands : List Command) (vs : List Outcome) (q : Option (List Literal)) (j : ScriptState) → OneEach commands vs → AllByRecursion CoreIsInOrder vs → RightFor q j (expected j commands vs) → AreRight j commands vs
 rights [] [] q j o f h = tt
 rights [] (v ∷ vs) q j o f h = o
 rights (Ask ls ∷ commands) [] q j o f h = o

@@ -18,13 +18,13 @@ use Rattle.certify.specs.declared.script.Command.{Command as Lent}
 use Rattle.certify.specs.declared.script.CommandKind.TheVariants as kind
 use Rattle.certify.specs.declared.run.session.RunState.{RunState}
 use Rattle.certify.specs.judge.Names.{ReportsRefusal}
-use Rattle.certify.specs.script.Commands.{IsLent}
+use Rattle.certify.specs.script.Commands.{RepresentsCommand}
 use Rattle.certify.specs.run.Unfinished.{Exceeds}
 use Rattle.certify.specs.run.Lacking.{CommandLacks}
 use Rattle.certify.specs.run.SolverCalls.{IsCaused, LacksFor, RefusedForRoom}
 use Rattle.certify.specs.run.Obeying.{Obeyed, command_to}
 use Rattle.certify.specs.run.Quiet.{Solver}
-use Rattle.certify.specs.run.BetweenCommands.{CausedBy, CausedOver, HasStateBetweenCommands, ServedNext, spelled_by}
+use Rattle.certify.specs.run.BetweenCommands.{CausedBy, CausedOver, HasStateBetweenCommands, ServedNext, represented_by}
 use Rattle.certify.proofs.lemmas.run.CallFaults.{caused_map}
 use Rattle.certify.proofs.lemmas.run.Lent.{lent_is, spelled_as}
 use Rattle.certify.proofs.lemmas.run.Needing.{clause_needs, names_need_more, script_grows}
@@ -70,15 +70,15 @@ names_caused seen st codes k code user a b c e lt is at done h =
 -- COMMANDS
 
 module _ {C : Type 0} (lent : Lent) (old : RunState C) (r : Result (Unit {0}) RunFault) (new : Solver C) where
-  pub clause_caused_by : lent.kind ≡ kind.Clause → IfErr r (λ e. IsCaused e (HasFullStore new) (RefusedForRoom old.solver new (user_vars_in lent.literals.now))) → CausedBy r old (record old { solver = new }) (spelled_by lent)
+  pub clause_caused_by : lent.kind ≡ kind.Clause → IfErr r (λ e. IsCaused e (HasFullStore new) (RefusedForRoom old.solver new (user_vars_in lent.literals.now))) → CausedBy r old (record old { solver = new }) (represented_by lent)
   clause_caused_by e h = subst (λ c. CausedBy r old (record old { solver = new }) c) (sym (spelled_as lent kind.Clause e))
       (caused_if r (HasFullStore new) (RefusedForRoom old.solver new (user_vars_in lent.literals.now)) (HasFullStore new) (LacksFor old.solver new (Clause (named_literals lent.literals.now))) (λ x. x) (clause_needs old.solver new lent.literals.now) h)
 
-  pub names_caused_by : (c : Command) → spelled_by lent ≡ c → IfErr r (λ e. IsCaused e ⊥ (LacksFor old.solver new c)) → CausedBy r old (record old { solver = new }) (spelled_by lent)
+  pub names_caused_by : (c : Command) → represented_by lent ≡ c → IfErr r (λ e. IsCaused e ⊥ (LacksFor old.solver new c)) → CausedBy r old (record old { solver = new }) (represented_by lent)
   names_caused_by c e h = subst (λ d. CausedBy r old (record old { solver = new }) d) (sym e)
       (caused_if r ⊥ (LacksFor old.solver new c) (HasFullStore new) (LacksFor old.solver new c) (λ x. absurd x) (λ x. x) h)
 
-pub ask_caused_by : {C : Type 0} (lent : Lent) (old new : RunState C) (r : Result (Unit {0}) RunFault) → lent.kind ≡ kind.Ask → CausedBy r old new (Ask (named_literals lent.literals.now)) → CausedBy r old new (spelled_by lent)
+pub ask_caused_by : {C : Type 0} (lent : Lent) (old new : RunState C) (r : Result (Unit {0}) RunFault) → lent.kind ≡ kind.Ask → CausedBy r old new (Ask (named_literals lent.literals.now)) → CausedBy r old new (represented_by lent)
 ask_caused_by lent old new r e h = subst (λ c. CausedBy r old new c) (sym (spelled_as lent kind.Ask e)) h
 
 -- WHAT IS LEFT OF A SCRIPT
@@ -96,9 +96,9 @@ needs_exceed old new c left j at free needs =
     )
 
 module _ {C : Type 0} (old mid new : RunState C) (lent : Lent) (r : Result (Unit {0}) RunFault) where
-  pub taken_caused : lent.past_limit ≡ false → ReportsRefusal None old.names lent → mid.solver ≡ old.solver → CausedBy r mid new (spelled_by lent) → (c : Command) → IsLent lent c → (left : Reading) → CausedOver r old new (onto_commands (c ∷ []) left)
+  pub taken_caused : lent.past_limit ≡ false → ReportsRefusal None old.names lent → mid.solver ≡ old.solver → CausedBy r mid new (represented_by lent) → (c : Command) → RepresentsCommand lent c → (left : Reading) → CausedOver r old new (onto_commands (c ∷ []) left)
   taken_caused within judges same h c l left =
-      caused_if r (HasFullStore new.solver) (LacksFor mid.solver new.solver (spelled_by lent)) (HasFullStore new.solver) ((j : ScriptState) → HasStateBetweenCommands old j → Exceeds old.commands j (onto_commands (c ∷ []) left) (steps_in new.solver)) (λ x. x)
+      caused_if r (HasFullStore new.solver) (LacksFor mid.solver new.solver (represented_by lent)) (HasFullStore new.solver) ((j : ScriptState) → HasStateBetweenCommands old j → Exceeds old.commands j (onto_commands (c ∷ []) left) (steps_in new.solver)) (λ x. x)
       (λ needs j at. needs_exceed old new.solver c left j at (sym (judges j c at.names l)) (subst (λ s. LacksFor s new.solver c) same (subst (LacksFor mid.solver new.solver) (sym (lent_is lent c l within)) needs))) h
 
 -- a fault that is caused by neither a full store nor a counter

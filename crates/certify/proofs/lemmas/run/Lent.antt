@@ -16,11 +16,11 @@ use Rattle.certify.specs.declared.script.CommandKind.{CommandKind}
 use Rattle.certify.specs.declared.script.CommandKind.TheVariants as kind
 use Rattle.certify.specs.declared.run.session.RunState.{RunState}
 use Rattle.certify.specs.judge.Names.{ReportsRefusal}
-use Rattle.certify.specs.script.Commands.{BeginsPast, IsLent, kind_of}
+use Rattle.certify.specs.script.Commands.{BeginsPast, RepresentsCommand, kind_of}
 use Rattle.sat_base.specs.script.Language.{Reading, command_of}
 use Rattle.certify.specs.run.SolverCalls.{FailsSolver, IsAllowed}
 use Rattle.certify.specs.run.Obeying.{Obeyed, command_to}
-use Rattle.certify.specs.run.BetweenCommands.{NamesAllow, CarriedOut, RunGoesOn, StopsCarrying, WritesBoth, spelled_by}
+use Rattle.certify.specs.run.BetweenCommands.{NamesAllow, CarriedOut, RunGoesOn, StopsCarrying, WritesBoth, represented_by}
 use Rattle.certify.proofs.lemmas.run.Carried.{obeyed_carried}
 use Rattle.certify.proofs.lemmas.run.NamesIn.{names_same}
 use Rattle.certify.proofs.lemmas.run.Obeys.{clause_obeyed, names_ask_nothing}
@@ -32,31 +32,31 @@ on_ok (Ok x) f h = f h
 on_ok (Err e) f h = h
 
 -- a command without a name past the limit is passed with all its literals
-pub lent_is : (lent : Lent) (c : Command) → IsLent lent c → lent.past_limit ≡ false → c ≡ spelled_by lent
+pub lent_is : (lent : Lent) (c : Command) → RepresentsCommand lent c → lent.past_limit ≡ false → c ≡ represented_by lent
 lent_is lent c (ls, f, e) within =
     let none : f.following ≡ [] = subst (λ b. BeginsPast b f.following) within f.limit in
     let whole : ls ≡ named_literals lent.literals.now = f.whole ∙ ap (λ ks. named_literals lent.literals.now ++ ks) none ∙ append-nil (named_literals lent.literals.now) in
     e ∙ ap (command_of (kind_of lent.kind)) whole
 
 -- a command is accepted if the names report no refusal
-pub lent_allowed : (names : Names) (lent : Lent) → (c : Command) × IsLent lent c → lent.past_limit ≡ false → ReportsRefusal None names lent → NamesAllow names (spelled_by lent)
+pub lent_allowed : (names : Names) (lent : Lent) → (c : Command) × RepresentsCommand lent c → lent.past_limit ≡ false → ReportsRefusal None names lent → NamesAllow names (represented_by lent)
 lent_allowed names lent h within judges j valid =
-    sym (judges j (spelled_by lent) valid (subst (IsLent lent) (lent_is lent h.0 h.1 within) h.1))
+    sym (judges j (represented_by lent) valid (subst (RepresentsCommand lent) (lent_is lent h.0 h.1 within) h.1))
 
 module _ (lent : Lent) where
-  pub spelled_as : (k : CommandKind) → lent.kind ≡ k → spelled_by lent ≡ command_of (kind_of k) (named_literals lent.literals.now)
+  pub spelled_as : (k : CommandKind) → lent.kind ≡ k → represented_by lent ≡ command_of (kind_of k) (named_literals lent.literals.now)
   spelled_as k e = ap (λ x. command_of (kind_of x) (named_literals lent.literals.now)) e
 
-  pub lent_hides : lent.kind ≡ kind.Hide → spelled_by lent ≡ command_to state.Hidden (names_in lent.literals.now)
+  pub lent_hides : lent.kind ≡ kind.Hide → represented_by lent ≡ command_to state.Hidden (names_in lent.literals.now)
   lent_hides e = spelled_as kind.Hide e ∙ ap Hide (names_same lent.literals.now)
 
-  pub lent_witnesses : lent.kind ≡ kind.Witness → spelled_by lent ≡ command_to state.Witnessed (names_in lent.literals.now)
+  pub lent_witnesses : lent.kind ≡ kind.Witness → represented_by lent ≡ command_to state.Witnessed (names_in lent.literals.now)
   lent_witnesses e = spelled_as kind.Witness e ∙ ap Witness (names_same lent.literals.now)
 
-  pub lent_samples : lent.kind ≡ kind.Sample → spelled_by lent ≡ command_to state.Sampled (names_in lent.literals.now)
+  pub lent_samples : lent.kind ≡ kind.Sample → represented_by lent ≡ command_to state.Sampled (names_in lent.literals.now)
   lent_samples e = spelled_as kind.Sample e ∙ ap Sample (names_same lent.literals.now)
 
-  module _ {C : Type 0} (old : RunState C) (on : RunGoesOn old) (allowed : NamesAllow old.names (spelled_by lent)) where
+  module _ {C : Type 0} (old : RunState C) (on : RunGoesOn old) (allowed : NamesAllow old.names (represented_by lent)) where
     pub clause_allowed : lent.kind ≡ kind.Clause → IsAllowed old.solver lent.literals.now
     clause_allowed e = (
       on.judge,
@@ -74,14 +74,14 @@ module _ (lent : Lent) where
     )
 
   module _ {C : Type 0} (seen : C → Writer) (old : RunState C) (on : RunGoesOn old) where
-    pub ask_carried : (r : Result (Unit {0}) RunFault) (new : RunState C) (a b : Writer) → lent.kind ≡ kind.Ask → OnOk r (CarriedOut seen old new (Ask (named_literals lent.literals.now)) a b) → OnOk r (CarriedOut seen old new (spelled_by lent) a b)
+    pub ask_carried : (r : Result (Unit {0}) RunFault) (new : RunState C) (a b : Writer) → lent.kind ≡ kind.Ask → OnOk r (CarriedOut seen old new (Ask (named_literals lent.literals.now)) a b) → OnOk r (CarriedOut seen old new (represented_by lent) a b)
     ask_carried r new a b e h = subst (λ c. OnOk r (CarriedOut seen old new c a b)) (sym (spelled_as kind.Ask e)) h
 
-    pub ask_stops : (r : Result (Unit {0}) RunFault) (left : Reading) (a b : Writer) → lent.kind ≡ kind.Ask → StopsCarrying r old (Ask (named_literals lent.literals.now)) left a b → StopsCarrying r old (spelled_by lent) left a b
+    pub ask_stops : (r : Result (Unit {0}) RunFault) (left : Reading) (a b : Writer) → lent.kind ≡ kind.Ask → StopsCarrying r old (Ask (named_literals lent.literals.now)) left a b → StopsCarrying r old (represented_by lent) left a b
     ask_stops r left a b e h = subst (λ c. StopsCarrying r old c left a b) (sym (spelled_as kind.Ask e)) h
 
     module _ (r : Result (Unit {0}) RunFault) (s : Solver C) (w : Writer) where
-      pub clause_carried : lent.kind ≡ kind.Clause → OnOk r (Added seen old.solver s lent.literals.now) → OnOk r (CarriedOut seen old (record old { solver = s }) (spelled_by lent) w w)
+      pub clause_carried : lent.kind ≡ kind.Clause → OnOk r (Added seen old.solver s lent.literals.now) → OnOk r (CarriedOut seen old (record old { solver = s }) (represented_by lent) w w)
       clause_carried e h =
           subst (λ c. OnOk r (CarriedOut seen old (record old { solver = s }) c w w)) (sym (spelled_as kind.Clause e))
           (on_ok r (λ (a : Added seen old.solver s lent.literals.now). obeyed_carried seen old s (Clause (named_literals lent.literals.now)) w tt on.free (clause_obeyed seen lent.literals.now old.solver s on.ready (did_ready seen old.solver s _ _ on.ready a.did) a)) h)
@@ -90,7 +90,7 @@ module _ (lent : Lent) where
       clause_writes h f = solver_writes seen r w old.solver s (on_ok r (λ (a : Added seen old.solver s lent.literals.now). a.did.took) h) f
 
       module _ (st : NameState) (names : List ℕ) (h : OnOk r (Obeyed seen (command_to st names) old.solver s)) where
-        pub names_carried : spelled_by lent ≡ command_to st names → OnOk r (CarriedOut seen old (record old { solver = s }) (spelled_by lent) w w)
+        pub names_carried : represented_by lent ≡ command_to st names → OnOk r (CarriedOut seen old (record old { solver = s }) (represented_by lent) w w)
         names_carried e =
             subst (λ c. OnOk r (CarriedOut seen old (record old { solver = s }) c w w)) (sym e)
             (on_ok r (λ o. obeyed_carried seen old s (command_to st names) w (names_ask_nothing st names) on.free o) h)

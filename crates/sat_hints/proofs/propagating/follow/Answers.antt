@@ -1,7 +1,7 @@
 use Rattle.std.proofs.lemmas.Grind.{common_steps}
 use Rattle.std.proofs.Common.{◌<◌, ◌+◌, ◌≡◌, Some, drop, length, sym, ap, ◌∙◌, arith, inl, inr}
 use Rattle.sat_base.proofs.lemmas.device.Known.{rest_is}
-use Rattle.sat_hints.specs.inner.Judging.{refutation_failure_of}
+use Rattle.sat_hints.specs.inner.LineChecking.{refutation_failure_of}
 use Rattle.sat_hints.specs.inner.Standing.{standing_clauses}
 use Rattle.sat_hints.proofs.lemmas.Finding.{opens_in_room, lost, missed, no_turn}
 use Rattle.sat_hints.proofs.lemmas.Signs.{same_default}

@@ -1,5 +1,5 @@
 use Rattle.std.proofs.Common.{◌≡◌, drop}
-use Rattle.sat_hints.specs.inner.Judging.{refutation_failure_of}
+use Rattle.sat_hints.specs.inner.LineChecking.{refutation_failure_of}
 use Rattle.sat_hints.specs.inner.Standing.{standing_clauses}
 use Rattle.sat_hints.proofs.propagating.follow.Given as goal
 

@@ -4,7 +4,7 @@ use Rattle.sat_base.specs.device.Device.{Writer}
 use Rattle.sat_base.specs.steps.Steps.{Step, End}
 use Rattle.sat_checker.specs.ProofView.{taken_after}
 use Rattle.sat_checker.specs.declared.error.CheckerError.{CheckerError}
-use Rattle.sat_hints.specs.Checks.{Judges}
+use Rattle.sat_hints.specs.Checks.{VerdictHolds}
 use Rattle.sat_hints.specs.Conversion.{hint_text, hint_verdict}
 use Rattle.sat_hints.specs.Laws.{IsTextOrFault}
 use Rattle.sat_hints.specs.declared.answer.HintVerdict.{HintVerdict}
@@ -27,7 +27,7 @@ returns-in-Ok-clause-proved g c =
     let none : c.new-out.result.device.items ≡ [] = rw c.new-out.ensures.device c.new.ensures.items in
     let same : c.into_inner-text.result.items ≡ c.convert.new.out.device.items = rw c.into_inner-text.ensures refl in
     let text : c.deref.result.now ≡ hint_text steps = c.deref.ensures.value ∙ same ∙ k.4.known_bytes ∙ ap (λ xs. xs ++ hint_text steps) none in
-    of_steps c.verdict_on.result steps (c.verdict_on.ensures _ _ _ (subst (λ t. Judges (hint_verdict steps) t) (sym text) k.3))
+    of_steps c.verdict_on.result steps (c.verdict_on.ensures _ _ _ (subst (λ t. VerdictHolds (hint_verdict steps) t) (sym text) k.3))
 
 pub returns-in-Err-clause-accepted : goal.returns-in-Err-clause-accepted
 returns-in-Err-clause-accepted g c = λ steps text more certificate text_is e is.

@@ -12,7 +12,7 @@ use Rattle.sat_solver.proofs.lemmas.session.ProofLemmas.{gains_none, gains_more}
 use Rattle.sat_solver.specs.declared.schedule.Outcome.{Outcome}
 use Rattle.sat_solver.specs.declared.schedule.Outcome.TheVariants as outcomes
 use Rattle.sat_solver.specs.declared.error.SolverError.{SolverError}
-use Rattle.sat_solver.specs.variables.Calls.{DoesNothing}
+use Rattle.sat_solver.specs.variables.Calls.{KeepsScriptState}
 use Rattle.sat_solver.specs.declared.variables.Variables.{Variables}
 use Rattle.sat_solver.proofs.lemmas.variables.Doing.{does_none, does_both}
 use Rattle.sat_solver.specs.session.Quiet.{ComesQuietly}
@@ -39,7 +39,7 @@ use Rattle.sat_solver.proofs.lemmas.unit_simplify.PassesLemmas.{falls_goes, fall
 record Reaches {W L : Type 0} {G : Ghosts L} (seen : W → Writer) (n m : Variables) (p q : Proof W L G) (c d : Search) : Type 0 where
   took : ComesByCheckedSteps seen p q
   quiet : ComesQuietly (steps_of p) (steps_of q)
-  does : DoesNothing n m (steps_of p) (steps_of q)
+  does : KeepsScriptState n m (steps_of p) (steps_of q)
   asked : KeepsAsked n m (session_of p) (session_of q)
   shares : SharesIndices m d
   moved : SameVarsAndAssumptions c d
@@ -55,7 +55,7 @@ module _ {W L : Type 0} {G : Ghosts L} (seen : W → Writer) (n m : Variables) (
   ends_after : Reaches seen n m p q c d → (r : Result Outcome SolverError) (z : Proof W L G) (e : Search) → EmitsStepsOr (IsFull e.parts) seen r q z (λ o steps. RoundSays o (steps_of q) steps (session_of z) d e) → EndsRound seen r n m p z c e
   ends_after b (Ok o) z e g =
       let may : AreAllowedSteps (g.steps ++ steps_of q) = subst AreAllowedSteps g.went.history g.keeps in
-      let quiet : DoesNothing m m (steps_of q) (steps_of z) = subst (DoesNothing m m (steps_of q)) (sym g.went.history) (nothing_after m (steps_of q) g.steps b.does.valid may g.searched) in
+      let quiet : KeepsScriptState m m (steps_of q) (steps_of z) = subst (KeepsScriptState m m (steps_of q)) (sym g.went.history) (nothing_after m (steps_of q) g.steps b.does.valid may g.searched) in
       record {
         steps = g.steps ++ b.took.0;
         adds = gains_more seen b.took.0 g.steps p q z b.took.1 g.went;

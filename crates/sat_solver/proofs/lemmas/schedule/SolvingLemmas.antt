@@ -23,7 +23,7 @@ use Rattle.sat_solver.specs.declared.schedule.Outcome.TheVariants as outcomes
 use Rattle.sat_solver.specs.declared.error.SolverError.{SolverError}
 use Rattle.sat_solver.specs.declared.config.SolverConfig.{SolverConfig}
 use Rattle.sat_solver.specs.declared.context.Core.{Core}
-use Rattle.sat_solver.specs.variables.Calls.{NamesInvariant, DoesNothing}
+use Rattle.sat_solver.specs.variables.Calls.{NamesInvariant, KeepsScriptState}
 use Rattle.sat_solver.specs.declared.variables.Variables.{Variables}
 use Rattle.sat_solver.proofs.lemmas.variables.Doing.{does_none, does_both}
 use Rattle.sat_solver.specs.cdcl.Ending.{RoundShares, EndsRound}
@@ -40,7 +40,7 @@ use Rattle.sat_solver.specs.cdcl.Joint.{assumed_indices, SameVarsAndAssumptions,
 use Rattle.sat_solver.specs.cdcl.Learning.{LastAdvances}
 use Rattle.sat_solver.specs.clause.Reduced.{ReductionEffect, Reduces, ReductionBySteps}
 use Rattle.sat_solver.specs.cdcl.Rounds.{RoundLearns, RoundSays}
-use Rattle.sat_solver.specs.schedule.Solving.{AdvanceTimes, NeverAdvancesByForm, words_in, values_in, ComesByRounds, TakesNoRounds, EndSays, Ended, BreaksRounds, ReducedAt}
+use Rattle.sat_solver.specs.schedule.Solving.{AdvanceTimes, NeverAdvancesByForm, words_in, values_in, ComesByRounds, ReachedByAsManyRounds, EndSays, Ended, BreaksRounds, ReducedAt}
 use Rattle.sat_solver.proofs.lemmas.cdcl.TurnLemmas.{moved_refl, moved_trans, ready_moved, free_moved, leaves_refl}
 use Rattle.sat_parts.specs.parts.Frame.{SameClauses, AddsNoUnit}
 use Rattle.sat_solver.proofs.lemmas.fits.LearnedLemmas.{fits_undone}
@@ -106,7 +106,7 @@ module _ {W L : Type 0} {G : Ghosts L} (seen : W → Writer) where
   }
 
   module _ (a b : Core W L G) (na nb : Variables) (config : b.config ≡ a.config) where
-    gone_on : (ys : List Step) → EmitsChecked seen ys a.proof b.proof → DoesNothing na nb (steps_of a.proof) (steps_of b.proof) → KeepsAsked na nb (session_of a.proof) (session_of b.proof) → SameVarsAndAssumptions a.search b.search →
+    gone_on : (ys : List Step) → EmitsChecked seen ys a.proof b.proof → KeepsScriptState na nb (steps_of a.proof) (steps_of b.proof) → KeepsAsked na nb (session_of a.proof) (session_of b.proof) → SameVarsAndAssumptions a.search b.search →
         (s : Core W L G) (n : Variables) (j k : ℕ) → (g : ComesByRounds seen s n k a na) → AdvanceTimes (steps_of s.proof) (ys ++ g.steps) j → ComesByRounds seen s n j b nb
     gone_on ys adds does asked moved s n j k g times = record {
       steps = ys ++ g.steps;
@@ -141,7 +141,7 @@ module _ {W L : Type 0} {G : Ghosts L} (seen : W → Writer) where
       shares = shares_moved n a.search undone.search h.shares (record { globals = refl; lits = refl; size = carries.size });
     }
 
-    pub undone_goes : TakesNoRounds seen a undone
+    pub undone_goes : ReachedByAsManyRounds seen a undone
     undone_goes s n m k g = record {
       steps = g.steps;
       adds = g.adds;

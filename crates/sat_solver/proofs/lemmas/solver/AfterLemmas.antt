@@ -12,7 +12,7 @@ use Rattle.sat_checker.specs.matching.Checking.{is_ordered}
 use Rattle.sat_checker.specs.matching.Expected.{Expected}
 use Rattle.sat_checker.specs.matching.ProofChecking.{checker_rules}
 use Rattle.sat_checker.specs.matching.Traces.{HasTrace, no_step, silent}
-use Rattle.sat_solver.specs.variables.Calls.{NamesInvariant, NamesAgree, NamesEffect, DoesNothing}
+use Rattle.sat_solver.specs.variables.Calls.{NamesInvariant, NamesAgree, NamesEffect, KeepsScriptState}
 use Rattle.sat_solver.specs.variables.Searching.{AreIndexed, IsOfSearch}
 use Rattle.sat_solver.specs.declared.variables.Variables.{Variables}
 use Rattle.sat_checker.proofs.lemmas.matching.Traces.{traces_both}
@@ -54,7 +54,7 @@ quiet_writes names earlier [] h = no_step
 quiet_writes names earlier (step ∷ steps) h = traces_both (quiet_writes names earlier steps h.1) (silent (unordered names step h.0) no_step)
 
 -- the judge does not see these steps
-pub nothing_after : (n : Variables) (earlier steps : List Step) → NamesInvariant n earlier → AreAllowedSteps (steps ++ earlier) → AllByRecursion (IsSearched (session_after earlier).solver_names) steps → DoesNothing n n earlier (steps ++ earlier)
+pub nothing_after : (n : Variables) (earlier steps : List Step) → NamesInvariant n earlier → AreAllowedSteps (steps ++ earlier) → AllByRecursion (IsSearched (session_after earlier).solver_names) steps → KeepsScriptState n n earlier (steps ++ earlier)
 nothing_after n earlier steps valid may h = record {
   valid = stands_after n earlier steps valid may h;
   kept = λ j live a. record { live = live; agree = agree_after n earlier steps valid may h j live a; trace = quiet_writes (session_after earlier).solver_names earlier steps h };

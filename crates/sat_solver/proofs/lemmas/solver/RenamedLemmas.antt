@@ -42,7 +42,7 @@ use Rattle.sat_solver.specs.declared.solver.Solver.{Solver}
 use Rattle.sat_solver.specs.declared.state.State.{State}
 use Rattle.sat_solver.specs.declared.state.State.TheVariants as states
 use Rattle.sat_solver.specs.solver.Naming.{IsAsked, IsKeptOrFalse, variable_value, name_value, IsNextName, Renamed, Observed, ChangesMode, NewFails, NamesFail}
-use Rattle.sat_solver.specs.solver.Taking.{IsNameFaultOr, BreaksNames}
+use Rattle.sat_solver.specs.solver.Taking.{IsNameErrorOr, BreaksNames}
 use Rattle.sat_solver.specs.cdcl.Going.{IsFault}
 use Rattle.sat_solver.specs.declared.context.Core.{Core}
 use Rattle.sat_solver.specs.solver.Whole.{SolverInvariant, IsWholeOf, StateSays, AskGoesOn, HasCore, steps_in, session_in}
@@ -333,7 +333,7 @@ one_left names.VariableLimit old new from to n h = absurd (n refl)
 one_left e old new from to n h = h
 
 -- an error of a call over names is a fault, unless the limit was reached
-pub fault_left : (e : SolverError) → IsNameFaultOr ⊥ e → (e ≡ errors.VariableLimit → ⊥) → IsFault e
+pub fault_left : (e : SolverError) → IsNameErrorOr ⊥ e → (e ≡ errors.VariableLimit → ⊥) → IsFault e
 fault_left e h n = elim h [ inl x ↦ x | inr q ↦ absurd (n q) ]
 
 -- the limit is reported for this error only

@@ -34,7 +34,7 @@ use Rattle.sat_solver.proofs.lemmas.fits.QuietLemmas.{quiet_comes}
 use Rattle.sat_solver.proofs.lemmas.session.ComingLemmas.{comes_both}
 use Rattle.sat_solver.specs.variables.Coming.{ForgetsIdle}
 use Rattle.sat_checker.specs.matching.Traces.{no_step}
-use Rattle.sat_solver.specs.variables.Calls.{NamesInvariant, DoesNothing}
+use Rattle.sat_solver.specs.variables.Calls.{NamesInvariant, KeepsScriptState}
 use Rattle.sat_solver.specs.variables.Naming.{PutsUnit}
 use Rattle.sat_solver.proofs.lemmas.variables.Units.{unit_stands, unit_agrees}
 use Rattle.sat_solver.specs.variables.Indexing.{Unindexes}
@@ -90,7 +90,7 @@ module _ (old mid : Variables) (from mids : List Step) (v x : ℕ) (valid : Name
   }
 
   -- then the variable may be deleted
-  pub gives_up_both : (new : Variables) (to : List Step) → DoesNothing mid new mids to → IsAlike mid new mids to → ForgetsIdle mid mids to v → new.global_from_user ≡ mid.global_from_user → FreesIndex old new from to v
+  pub gives_up_both : (new : Variables) (to : List Step) → KeepsScriptState mid new mids to → IsAlike mid new mids to → ForgetsIdle mid mids to v → new.global_from_user ≡ mid.global_from_user → FreesIndex old new from to v
   gives_up_both new to does a idle users = record {
     quiet = comes_both (λ earlier step. is_quiet step ≡ true) from mids to quiet_mid
         (elim idle [ inl h ↦ quiet_comes mids to (DeleteVar v ∷ []) h.0 (refl, tt) | inr h ↦ quiet_comes mids to [] h.0 tt ]);
@@ -343,7 +343,7 @@ module _ (n : Variables) (steps : List Step) (c : Search) (may : MayFree n steps
       pub noted_unused : IsInNoNonUnitClause now v
       noted_unused = session_unused now c v x may.search may.flat own at unused
 
-      noted_does : DoesNothing n n1 steps steps
+      noted_does : KeepsScriptState n n1 steps steps
       noted_does = record {
         valid = noted_stands;
         kept = λ j live a. record { live = live; agree = unit_agrees n n1 steps v x (value_of c.parts.assignment.current x) may.valid indexed put j live a; trace = no_step };

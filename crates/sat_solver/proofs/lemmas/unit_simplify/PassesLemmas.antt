@@ -21,7 +21,7 @@ use Rattle.sat_solver.proofs.lemmas.fits.QuietLemmas.{quiet_comes}
 use Rattle.sat_solver.proofs.lemmas.cdcl.GoingLemmas.{check_loss, complaint_kept, loss_later, went_after, went_checked, fault_checked, fault_or}
 use Rattle.sat_solver.specs.declared.error.SolverError.{SolverError}
 use Rattle.sat_solver.specs.declared.error.SolverError.TheVariants as errors
-use Rattle.sat_solver.specs.variables.Calls.{NamesInvariant, DoesNothing}
+use Rattle.sat_solver.specs.variables.Calls.{NamesInvariant, KeepsScriptState}
 use Rattle.sat_solver.specs.variables.Failing.{IsFailure, EmitsUpTo}
 use Rattle.sat_solver.specs.declared.variables.error.NameError.{NameError}
 use Rattle.sat_solver.specs.declared.variables.error.NameError.TheVariants as names
@@ -84,7 +84,7 @@ module _ {W L : Type 0} {G : Ghosts L} (seen : W → Writer) where
   pub passes_goes : {A : Type 0} (v : A) (n : Variables) (p q : Proof W L G) (c d : Search) (P : A → List Step → Type 0) → NamesInvariant n (steps_of p) → SharesIndices n c → EmitsSteps seen (Ok v) p q P → IsSearch (session_of q) d → SameVarsAndAssumptions c d → TrailWordExtendsFor (assumed_indices c) c.parts d.parts → PassesQuietly seen n n p q c d
   passes_goes v n p q c d P valid shares g search moved word =
       let may : AreAllowedSteps (g.steps ++ steps_of p) = subst AreAllowedSteps g.went.history g.keeps in
-      let does : DoesNothing n n (steps_of p) (steps_of q) = subst (DoesNothing n n (steps_of p)) (sym g.went.history) (nothing_after n (steps_of p) g.steps valid may g.searched) in
+      let does : KeepsScriptState n n (steps_of p) (steps_of q) = subst (KeepsScriptState n n (steps_of p)) (sym g.went.history) (nothing_after n (steps_of p) g.steps valid may g.searched) in
       record {
         together = record { keeps = g.keeps; valid = does.valid; search = search; shares = shares_moved n c d shares moved };
         took = (g.steps, g.went);

@@ -20,7 +20,7 @@ use Rattle.sat_solver.specs.variables.Naming.{PutsDeleted}
 use Rattle.sat_checker.specs.matching.Checking.{variable_of}
 use Rattle.sat_checker.specs.matching.ProofChecking.{checker_rules}
 use Rattle.sat_checker.specs.matching.Traces.{no_step, silent}
-use Rattle.sat_solver.specs.variables.Calls.{NamesInvariant, ReachesScriptState, DoesNothing}
+use Rattle.sat_solver.specs.variables.Calls.{NamesInvariant, ReachesScriptState, KeepsScriptState}
 use Rattle.sat_solver.specs.variables.Search.{ForgetsUnits}
 use Rattle.sat_solver.specs.declared.variables.Variables.{Variables}
 use Rattle.sat_solver.proofs.lemmas.variables.NewName.{shape, and_false}
@@ -222,7 +222,7 @@ may_delete old v s tidy said alive nameless noindex unmarked = record {
     at = said.variables v ∙ ap (λ b. cond b unknown (record { known = true; mode = checker_mode (data_at old v).sampling_mode; name = user_of old v })) alive
 
 pub var_deleted : (old new : Variables) (from to : List Step) (v : ℕ) → NamesInvariant old from → (data_at old v).deleted ≡ false → user_of old v ≡ None → solver_of old v ≡ None → (data_at old v).assumed ≡ false → PutsDeleted old new v
-    → to ≡ DeleteVar v ∷ from → DoesNothing old new from to
+    → to ≡ DeleteVar v ∷ from → KeepsScriptState old new from to
 var_deleted old new from to v valid alive nameless noindex unmarked put e = record {
   valid = record {
     tidy = tidy_deleted old new v valid.tidy alive nameless noindex put;

@@ -7,10 +7,10 @@ use Rattle.sat_checker.specs.matching.Expected.{Expected}
 use Rattle.sat_checker.specs.matching.Traces.{HasTrace, no_step}
 use Rattle.sat_checker.specs.matching.ProofChecking.{checker_rules}
 use Rattle.sat_checker.proofs.lemmas.matching.Traces.{traces_both}
-use Rattle.sat_solver.specs.variables.Calls.{NamesInvariant, NamesEffect, DoesNothing, HasScriptState}
+use Rattle.sat_solver.specs.variables.Calls.{NamesInvariant, NamesEffect, KeepsScriptState, HasScriptState}
 use Rattle.sat_solver.specs.declared.variables.Variables.{Variables}
 
-pub does_none : (n : Variables) (log : List Step) → NamesInvariant n log → DoesNothing n n log log
+pub does_none : (n : Variables) (log : List Step) → NamesInvariant n log → KeepsScriptState n n log log
 does_none n log valid = record { valid = valid; kept = λ j live a. record { live = live; agree = a; trace = no_step } }
 
 -- if names and steps match a state of the judge before a call, they match one after it
@@ -32,7 +32,7 @@ ok_both (Ok x) old mid new from mids to f g es fs one two = does_both old mid ne
 ok_both (Err e) old mid new from mids to f g es fs one two = tt
 
 -- a call that changes no state of the judge, after another one
-pub ok_after : {E : Type 0} (r : Result Unit E) (old mid new : Variables) (from mids to : List Step) (f : ScriptState → ScriptState) (es : ScriptState → List Expected) → NamesEffect old mid from mids f es → OnOk r (DoesNothing mid new mids to) → OnOk r (NamesEffect old new from to f es)
+pub ok_after : {E : Type 0} (r : Result Unit E) (old mid new : Variables) (from mids to : List Step) (f : ScriptState → ScriptState) (es : ScriptState → List Expected) → NamesEffect old mid from mids f es → OnOk r (KeepsScriptState mid new mids to) → OnOk r (NamesEffect old new from to f es)
 ok_after (Ok x) old mid new from mids to f es one two = let both = does_both old mid new from mids to f (λ j. j) es (λ j. []) one two in record {
   valid = both.valid;
   kept = λ j live a. let k = both.kept j live a in record { live = k.live; agree = k.agree; trace = subst (HasTrace checker_rules from to) (append-nil (es j)) k.trace };

@@ -22,7 +22,7 @@ use Rattle.sat_solver.specs.variables.Indexing.{Indexes, Unindexes}
 use Rattle.sat_solver.specs.declared.variables.solver_vars.Given.{Given}
 use Rattle.sat_checker.specs.matching.ProofChecking.{checker_rules}
 use Rattle.sat_checker.specs.matching.Traces.{no_step, silent}
-use Rattle.sat_solver.specs.variables.Calls.{NamesInvariant, ReachesScriptState, DoesNothing}
+use Rattle.sat_solver.specs.variables.Calls.{NamesInvariant, ReachesScriptState, KeepsScriptState}
 use Rattle.sat_checker.specs.matching.Checking.{variable_of}
 use Rattle.sat_solver.specs.declared.variables.Variables.{Variables}
 use Rattle.sat_solver.proofs.lemmas.variables.ScriptStateLemmas.{same_below}
@@ -217,7 +217,7 @@ index_search from to v name e = subst (λ steps. KeepsSearch (session_after from
     go (Some x) = record { live = refl; units = refl; unsat = refl; width = refl; assumed = refl }
 
 pub index_put : (old new : Variables) (from to : List Step) (v x : ℕ) (there : Bool) → NamesInvariant old from → (data_at old v).deleted ≡ false → (there ≡ true → x ≤ indices_used old) → (there ≡ false → solver_of old v ≡ Some x) → (there ≡ true → (solver_of old v ≡ None) × (global_at old x ≡ None)) → (there ≡ true → x < variables_used old) → (there ≡ false → IsUnitOf old (session_after from) v) → (there ≡ false → IsInNoNonUnitClause (session_after from) v) → PutsIndex old new v x there
-    → to ≡ SolverVarName v (cond there (Some x) None) ∷ from → DoesNothing old new from to
+    → to ≡ SolverVarName v (cond there (Some x) None) ∷ from → KeepsScriptState old new from to
 index_put old new from to v x there valid alive low had fresh room its_unit its_unused put e = record {
   valid = record {
     tidy = tidy_index old new v x there valid.tidy alive low had fresh room put;

@@ -1,7 +1,7 @@
 use Rattle.sat_solver.specs.variables.Refusing.{names_in}
 use Rattle.certify.specs.declared.judge.NameState.TheVariants as state
 use Rattle.certify.proofs.lemmas.run.Lent.{ask_allowed, ask_carried, ask_stops, clause_allowed, clause_carried, clause_writes, lent_hides, lent_samples, lent_witnesses, names_carried, names_write}
-use Rattle.certify.specs.run.BetweenCommands.{spelled_by}
+use Rattle.certify.specs.run.BetweenCommands.{represented_by}
 use Rattle.certify.proofs.lemmas.run.RunStateCalls.{nothing_stops}
 use Rattle.certify.specs.run.Obeying.{command_to}
 use Rattle.certify.proofs.lemmas.run.Caused.{ask_caused_by, clause_caused_by, names_caused_by}
@@ -62,20 +62,20 @@ returns-in-Sample-clause-written g c =
     names_write c.args.command g.C.CountedWrite.seen c.args.session.now c.requires.goes_on c.set_names-in-Sample.result c.set_names-in-Sample.new.solver (g.A.CountedWrite.seen c.args.answers.now) state.Sampled (names_in c.args.command.literals.now) c.set_names-in-Sample.ensures.obeyed c.set_names-in-Sample.ensures.fails
 
 pub returns-in-Clause-clause-stops : goal.returns-in-Clause-clause-stops
-returns-in-Clause-clause-stops g c left = nothing_stops c.add_clause.result c.args.session.now (spelled_by c.args.command) left (g.A.CountedWrite.seen c.args.answers.now)
+returns-in-Clause-clause-stops g c left = nothing_stops c.add_clause.result c.args.session.now (represented_by c.args.command) left (g.A.CountedWrite.seen c.args.answers.now)
 
 pub returns-in-Ask-clause-stops : goal.returns-in-Ask-clause-stops
 returns-in-Ask-clause-stops g c left =
     ask_stops c.args.command g.C.CountedWrite.seen c.args.session.now c.requires.goes_on c.answer_ask.result left (g.A.CountedWrite.seen c.args.answers.now) (g.A.CountedWrite.seen c.answer_ask.new.answers) c.in-Ask.is (c.answer_ask.ensures.stops left)
 
 pub returns-in-Hide-clause-stops : goal.returns-in-Hide-clause-stops
-returns-in-Hide-clause-stops g c left = nothing_stops c.set_names.result c.args.session.now (spelled_by c.args.command) left (g.A.CountedWrite.seen c.args.answers.now)
+returns-in-Hide-clause-stops g c left = nothing_stops c.set_names.result c.args.session.now (represented_by c.args.command) left (g.A.CountedWrite.seen c.args.answers.now)
 
 pub returns-in-Witness-clause-stops : goal.returns-in-Witness-clause-stops
-returns-in-Witness-clause-stops g c left = nothing_stops c.set_names-in-Witness.result c.args.session.now (spelled_by c.args.command) left (g.A.CountedWrite.seen c.args.answers.now)
+returns-in-Witness-clause-stops g c left = nothing_stops c.set_names-in-Witness.result c.args.session.now (represented_by c.args.command) left (g.A.CountedWrite.seen c.args.answers.now)
 
 pub returns-in-Sample-clause-stops : goal.returns-in-Sample-clause-stops
-returns-in-Sample-clause-stops g c left = nothing_stops c.set_names-in-Sample.result c.args.session.now (spelled_by c.args.command) left (g.A.CountedWrite.seen c.args.answers.now)
+returns-in-Sample-clause-stops g c left = nothing_stops c.set_names-in-Sample.result c.args.session.now (represented_by c.args.command) left (g.A.CountedWrite.seen c.args.answers.now)
 
 pub returns-in-Clause-clause-cause : goal.returns-in-Clause-clause-cause
 returns-in-Clause-clause-cause g c = clause_caused_by c.args.command c.args.session.now c.add_clause.result c.add_clause.new.solver c.in-Clause.is c.add_clause.ensures.cause

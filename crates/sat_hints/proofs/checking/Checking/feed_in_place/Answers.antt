@@ -1,7 +1,7 @@
 use Rattle.std.proofs.Common.{◌++◌, None, Some, refl, sym, subst}
 use Rattle.sat_hints.specs.Lines.{line_text}
 use Rattle.sat_hints.specs.declared.checking.Checking.{Checking}
-use Rattle.sat_hints.specs.inner.Judging.{TakesNext}
+use Rattle.sat_hints.specs.inner.LineChecking.{TakesNext}
 use Rattle.sat_hints.specs.inner.LineReading.{line_of_view, BeginsWithHintLine}
 use Rattle.sat_hints.proofs.lemmas.Holding.{reads_more}
 use Rattle.sat_hints.proofs.lemmas.InPlace.{line_off, reads_line, reads_fault, reads_then, reads_still}
@@ -12,8 +12,8 @@ returns-in-Some-clause-reads c =
     let d = c.loop-head.invariant.done in
     let line = line_of_view c.line.result in
     let read : BeginsWithHintLine c.loop-head.rest.now line c.in-Ok-Some.following.now = subst (λ l. BeginsWithHintLine c.loop-head.rest.now l c.in-Ok-Some.following.now) (sym c.line.ensures) (rw c.in-Ok-Some.field-0-is at c.in-Ok-Some.ensures) in
-    let new : Checking = record c.loop-head.self { lists = c.read_line.new.self; judge = c.take.new.self } in
-    let t : TakesNext (Some c.in-Some.why) c.loop-head.self.judge c.take.new.self line = rw c.in-Some.is at c.in_ok-why-in-Ok-Some.ensures.takes in
+    let new : Checking = record c.loop-head.self { lists = c.read_line.new.self; checker = c.take.new.self } in
+    let t : TakesNext (Some c.in-Some.why) c.loop-head.self.checker c.take.new.self line = rw c.in-Some.is at c.in_ok-why-in-Ok-Some.ensures.takes in
     let h = reads_line (Some c.in-Some.why) c.loop-head.self new c.loop-head.rest.now c.in-Ok-Some.following.now line c.loop-head.invariant.empty refl refl read t in
     reads_fault c.in-Some.why c.args.self.now c.loop-head.self new c.args.piece.now d.0 (line_text line) c.in-Ok-Some.following.now (line_off c.args.piece.now d.0 c.loop-head.rest.now (line_text line) c.in-Ok-Some.following.now d.1 read.1) d.2 h
 
@@ -22,8 +22,8 @@ loop-head-preserved c =
     let d = c.loop-head.invariant.done in
     let line = line_of_view c.line.result in
     let read : BeginsWithHintLine c.loop-head.rest.now line c.in-Ok-Some.following.now = subst (λ l. BeginsWithHintLine c.loop-head.rest.now l c.in-Ok-Some.following.now) (sym c.line.ensures) (rw c.in-Ok-Some.field-0-is at c.in-Ok-Some.ensures) in
-    let new : Checking = record c.loop-head.self { lists = c.read_line.new.self; judge = c.take.new.self } in
-    let t : TakesNext None c.loop-head.self.judge c.take.new.self line = rw c.in-None.is at c.in_ok-why-in-Ok-Some.ensures.takes in
+    let new : Checking = record c.loop-head.self { lists = c.read_line.new.self; checker = c.take.new.self } in
+    let t : TakesNext None c.loop-head.self.checker c.take.new.self line = rw c.in-None.is at c.in_ok-why-in-Ok-Some.ensures.takes in
     let h = reads_line None c.loop-head.self new c.loop-head.rest.now c.in-Ok-Some.following.now line c.loop-head.invariant.empty refl refl read t in
     record {
       ready = c.in_ok-why-in-Ok-Some.ensures.ready c.in-None.is;

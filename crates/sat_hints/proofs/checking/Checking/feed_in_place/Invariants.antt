@@ -1,12 +1,12 @@
 use Rattle.std.proofs.Common.{ℕ, ◌≡◌, ◌++◌, List, [], None, length}
-use Rattle.sat_hints.specs.inner.Judging.{IsReadyJudge}
+use Rattle.sat_hints.specs.inner.LineChecking.{IsReadyChecker}
 use Rattle.sat_hints.specs.inner.Holding.{ReadsFurther}
 use Rattle.sat_hints.proofs.checking.Checking.feed_in_place.Given as goal
 
 -- the lines of a prefix of the piece were read
 abbrev pub invariant-loop-head : goal.invariant-loop-head
 invariant-loop-head l = record {
-  ready : IsReadyJudge l.self.judge;
+  ready : IsReadyChecker l.self.checker;
   empty : l.self.held.items ≡ [];
   done : (front : List ℕ) × (l.piece ≡ front ++ l.rest) × ReadsFurther None l.fn.self front l.self;
 }

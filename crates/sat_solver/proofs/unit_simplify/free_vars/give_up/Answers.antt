@@ -1,5 +1,5 @@
 use Rattle.std.proofs.Common.{◌≡◌}
-use Rattle.sat_solver.specs.variables.Calls.{DoesNothing}
+use Rattle.sat_solver.specs.variables.Calls.{KeepsScriptState}
 use Rattle.sat_solver.specs.variables.Coming.{ForgetsIdle}
 use Rattle.sat_solver.specs.variables.Search.{IsAlike}
 use Rattle.sat_solver.specs.unit_simplify.Freed.{FreesIndex}
@@ -14,7 +14,7 @@ returns-clause-gone g c =
     let from = g.S.StepLog.steps c.args.writer.now in
     let mids = g.S.StepLog.steps c.remove_solver_var.new.writer in
     let to = g.S.StepLog.steps c.forget_idle.new.writer in
-    on_ok_four c.forget_idle.result (DoesNothing mid new mids to) (IsAlike mid new mids to) (ForgetsIdle mid mids to c.args.global) (new.global_from_user ≡ mid.global_from_user) (FreesIndex old new from to c.args.global)
+    on_ok_four c.forget_idle.result (KeepsScriptState mid new mids to) (IsAlike mid new mids to) (ForgetsIdle mid mids to c.args.global) (new.global_from_user ≡ mid.global_from_user) (FreesIndex old new from to c.args.global)
     (gives_up_both old mid from mids c.args.global c.args.index c.requires.valid c.in_ok-remove_solver_var.ensures.gone new to) c.forget_idle.ensures.does c.forget_idle.ensures.alike c.forget_idle.ensures.goes c.forget_idle.ensures.users
 
 pub returns-then-is_some-clause-gone : goal.returns-then-is_some-clause-gone

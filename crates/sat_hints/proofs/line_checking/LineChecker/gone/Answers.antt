@@ -1,7 +1,7 @@
 use Rattle.std.proofs.Common.{refl}
 use Rattle.sat_checker.proofs.lemmas.store.Entries.{on_err}
 use Rattle.sat_hints.proofs.lemmas.Taken.{gone_taken, gone_may}
-use Rattle.sat_hints.proofs.judging.Judge.gone.Goals as goal
+use Rattle.sat_hints.proofs.line_checking.LineChecker.gone.Goals as goal
 
 pub returns-then-branch-clause-takes : goal.returns-then-branch-clause-takes
 returns-then-branch-clause-takes c =

@@ -5,7 +5,7 @@ use Rattle.sat_checker.specs.inner.AssumedRoom.{LiteralsAndRoom, HasClauseRoom, 
 use Rattle.sat_checker.proofs.lemmas.sets.Canonical.{canonical_increasing}
 use Rattle.sat_hints.specs.inner.Standing.{AddsStandingClause}
 use Rattle.sat_hints.proofs.lemmas.Taken.{room_stored}
-use Rattle.sat_hints.proofs.judging.Judge.store.Goals as goal
+use Rattle.sat_hints.proofs.line_checking.LineChecker.store.Goals as goal
 
 pub push-requires-clause-increasing : goal.push-requires-clause-increasing
 push-requires-clause-increasing c = subst IsIncreasing (sym c.in_ok-set.ensures) (canonical_increasing c.args.clause.now)

@@ -1,4 +1,4 @@
--- The state of a judge after the lines that it has accepted.
+-- The state of a checker after the lines that it has accepted.
 use Rattle.std.specs.Prelude.{ℕ, ◌≡◌, ◌⊎◌, ◌+◌, Option, None, Some, List, [], ◌∷◌, length}
 use Rattle.sat_base.specs.text.Tokenizing.{held}
 use Rattle.sat_checker.specs.LiteralSets.{canonical}
@@ -12,27 +12,27 @@ use Rattle.sat_hints.specs.inner.Course.{refutation_failure, WhyNoConflict}
 use Rattle.sat_hints.specs.declared.answer.HintWhy.{HintWhy}
 use Rattle.sat_hints.specs.declared.answer.HintWhy.TheVariants.{UnknownId}
 use Rattle.sat_hints.specs.declared.standing.Standing.{Standing}
-use Rattle.sat_hints.specs.declared.judging.Judge.{Judge}
+use Rattle.sat_hints.specs.declared.line_checking.LineChecker.{LineChecker}
 
--- That the judge can check the next line. Its clauses are in order, with ids below the least id. It assumes no
+-- That the checker can check the next line. Its clauses are in order, with ids below the least id. It assumes no
 -- literals, and has room for those of every present clause.
-pub record IsReadyJudge (j : Judge) : Type 0 where
+pub record IsReadyChecker (j : LineChecker) : Type 0 where
   pub standing : StandingInvariant j.standing
   pub below : AllBelow j.standing.present.ids.items j.least_id
   pub since : SinceWithin j.standing j.least_id
   pub nothing : j.assumed.literals ≡ []
   pub room : HasRoomForPresent j.assumed.room j.standing
 
--- that the state of the judge is that after these lines: its clauses, its least id, its counts and `empty`
-pub record HasTakenLines (j : Judge) (lines : List Line) : Type 0 where
+-- that the state of the checker is that after these lines: its clauses, its least id, its counts and `empty`
+pub record HasTakenLines (j : LineChecker) (lines : List Line) : Type 0 where
   pub clauses : (id : ℕ) → standing_clause j.standing id ≡ clause_under id lines
   pub least : j.least_id ≡ least_id lines
   pub says_empty : j.empty ≡ derives_empty lines
   pub counts_cores : j.cores ≡ held (count_of_cores lines)
   pub counts_lines : j.lines ≡ held (length lines)
 
--- that the judge is unchanged and assumes no literals, but may have more room for them
-pub record IsSame (old new : Judge) : Type 0 where
+-- that the checker is unchanged and assumes no literals, but may have more room for them
+pub record IsSame (old new : LineChecker) : Type 0 where
   pub standing : new.standing ≡ old.standing
   pub nothing : new.assumed.literals ≡ []
   pub room : RoomStays old.assumed.room new.assumed.room
@@ -53,7 +53,7 @@ refutation_failure_of assumed None = Some UnknownId
 refutation_failure_of assumed (Some clauses) = refutation_failure assumed clauses
 
 -- that the clause was stored under the id, as a sorted set, and the counts are unchanged
-pub record StoresClause (old new : Judge) (id : ℕ) (clause : List ℕ) : Type 0 where
+pub record StoresClause (old new : LineChecker) (id : ℕ) (clause : List ℕ) : Type 0 where
   pub adds : AddsStandingClause old.standing new.standing id (canonical clause)
   pub nothing : new.assumed.literals ≡ []
   pub room : HasRoomForPresent new.assumed.room new.standing
@@ -62,29 +62,29 @@ pub record StoresClause (old new : Judge) (id : ℕ) (clause : List ℕ) : Type 
   pub cores : new.cores ≡ old.cores
   pub lines : new.lines ≡ old.lines
 
--- that this line may follow the lines that the judge has accepted, whatever they are
-abbrev pub MayFollow : Judge → Line → Type 0
+-- that this line may follow the lines that the checker has accepted, whatever they are
+abbrev pub MayFollow : LineChecker → Line → Type 0
 MayFollow old line = (lines : List Line) → HasTakenLines old lines → FollowsLines lines line
 
--- that the judge has accepted the line after these lines, but has not counted it yet
-pub record HasTakenOne (old new : Judge) (lines : List Line) (line : Line) : Type 0 where
+-- that the checker has accepted the line after these lines, but has not counted it yet
+pub record HasTakenOne (old new : LineChecker) (lines : List Line) (line : Line) : Type 0 where
   pub follows : FollowsLines lines line
   pub clauses : (id : ℕ) → standing_clause new.standing id ≡ clause_under id (line ∷ lines)
   pub least : new.least_id ≡ least_id (line ∷ lines)
   pub says_empty : new.empty ≡ derives_empty (line ∷ lines)
   pub counts_cores : new.cores ≡ held (count_of_cores (line ∷ lines))
 
--- that the judge has accepted the line, but has not counted it yet, or the line is at fault for this reason
-abbrev pub TakesOne : Option HintWhy → Judge → Judge → Line → Type 0
-TakesOne None old new line = IsReadyJudge new × (new.lines ≡ old.lines) × ((lines : List Line) → HasTakenLines old lines → HasTakenOne old new lines line)
+-- that the checker has accepted the line, but has not counted it yet, or the line is at fault for this reason
+abbrev pub TakesOne : Option HintWhy → LineChecker → LineChecker → Line → Type 0
+TakesOne None old new line = IsReadyChecker new × (new.lines ≡ old.lines) × ((lines : List Line) → HasTakenLines old lines → HasTakenOne old new lines line)
 TakesOne (Some why) old new line = (new.lines ≡ old.lines) × ((lines : List Line) → HasTakenLines old lines → IsFaultOf lines line why)
 
--- What the result for a line means, after these lines. `None`: the line may follow them, and the judge has accepted it.
+-- What the result for a line means, after these lines. `None`: the line may follow them, and the checker has accepted it.
 -- Otherwise the line is at fault for this reason.
-abbrev pub TakesLine : Option HintWhy → Judge → Judge → List Line → Line → Type 0
+abbrev pub TakesLine : Option HintWhy → LineChecker → LineChecker → List Line → Line → Type 0
 TakesLine None old new lines line = FollowsLines lines line × HasTakenLines new (line ∷ lines)
 TakesLine (Some why) old new lines line = IsFaultOf lines line why × (new.lines ≡ old.lines)
 
--- what the result for a line means, after whatever lines the judge has accepted
-abbrev pub TakesNext : Option HintWhy → Judge → Judge → Line → Type 0
+-- what the result for a line means, after whatever lines the checker has accepted
+abbrev pub TakesNext : Option HintWhy → LineChecker → LineChecker → Line → Type 0
 TakesNext why old new line = (lines : List Line) → HasTakenLines old lines → TakesLine why old new lines line

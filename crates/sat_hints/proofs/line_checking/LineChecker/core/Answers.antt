@@ -1,6 +1,6 @@
 use Rattle.std.proofs.Common.{refl}
 use Rattle.sat_hints.proofs.lemmas.Taken.{core_taken, core_faulty}
-use Rattle.sat_hints.proofs.judging.Judge.core.Goals as goal
+use Rattle.sat_hints.proofs.line_checking.LineChecker.core.Goals as goal
 
 pub returns-in-Some : goal.returns-in-Some
 returns-in-Some c = core_faulty c.args.self.now c.refute.new.self c.args.core.now c.args.ids.now c.in-Some.why (rw c.in-Some.is at c.refute.ensures.refutes) c.refute.ensures.same

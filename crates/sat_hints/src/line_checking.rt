@@ -1,12 +1,12 @@
-//! Judging the lines of a hint text, one after another.
+//! Checking the lines of a hint text, one after another.
 ghost use Rattle.std.specs.Prelude.{◌≡◌, ◌≤◌, ◌+◌, ◌^◌, ◌-◌, ◌<◌, ℕ, [], None, Some, IfOk, OnErr, OnOk};
 ghost use Rattle.sat_base.specs.text.Tokenizing.{held};
 ghost use Rattle.sat_checker.specs.LiteralSets.{canonical};
 ghost use Rattle.sat_hints.specs.Lines.{Input, Derived, Gone, Core, Fresh, IsLine};
 ghost use Rattle.sat_hints.specs.inner.LineReading.{line_of_view, IsId};
 ghost use Rattle.sat_checker.specs.inner.AssumedRoom.{signed};
-ghost use Rattle.sat_hints.specs.inner.Judging.{HasTakenLines, IsReadyJudge, IsSame, MayFollow, WhyNotRefuted};
-ghost use Rattle.sat_hints.specs.inner.Judging.{StoresClause, TakesNext, TakesOne};
+ghost use Rattle.sat_hints.specs.inner.LineChecking.{HasTakenLines, IsReadyChecker, IsSame, MayFollow, WhyNotRefuted};
+ghost use Rattle.sat_hints.specs.inner.LineChecking.{StoresClause, TakesNext, TakesOne};
 
 use crate::answer::{HintVerdict, HintWhy};
 use crate::line::HintLine;
@@ -19,7 +19,7 @@ use std::alloc::{AllocError, Global};
 
 /// The state after the lines so far, and buffers that are reused.
 #[derive(Drop)]
-pub(crate) struct Judge {
+pub(crate) struct LineChecker {
     standing: Standing,
     /// The assumed literals. There is room for the literals of present clauses, and for their negations.
     assumed: Assigned,
@@ -44,13 +44,13 @@ fn sorted_set<'a>(buffer: &'a mut Vec<Lit>, literals: &'a [Lit]) -> Result<&'a [
     }
 }
 
-impl Judge {
-    /// Returns a judge that has read no line. Does not allocate.
-    pub(crate) fn new(alloc: Global) -> Judge
-        ensures ready { IsReadyJudge result }
+impl LineChecker {
+    /// Returns a checker that has read no line. Does not allocate.
+    pub(crate) fn new(alloc: Global) -> LineChecker
+        ensures ready { IsReadyChecker result }
         ensures taken { HasTakenLines result [] }
     {
-        Judge {
+        LineChecker {
             standing: Standing::new(alloc),
             assumed: Assigned::new(alloc),
             set: Vec::new(alloc),
@@ -63,7 +63,7 @@ impl Judge {
 
     /// Stores a clause under the id `id`, which must be above all earlier ids.
     fn store(&mut self, id: u64, clause: &[Lit]) -> Result<(), AllocError>
-        requires ready { IsReadyJudge self.old }
+        requires ready { IsReadyChecker self.old }
         requires in_order { self.old.least_id ≤ id }
         requires within { IsId id }
         ensures { OnOk result (StoresClause self.old self.new id clause.now) }
@@ -80,16 +80,16 @@ impl Judge {
     /// negations if `negate` is true. Returns `None` if they do, or if the literals include both signs of a variable
     /// and all clauses are present.
     fn refute(&mut self, literals: &[Lit], negate: bool, ids: &[u64]) -> Option<HintWhy>
-        requires { IsReadyJudge self.old }
+        requires { IsReadyChecker self.old }
         ensures same { IsSame self.old self.new }
         ensures refutes { WhyNotRefuted self.old.standing (signed negate literals.now) ids.now result }
     {
         conflict(&self.standing, ids, literals, negate, &mut self.assumed)
     }
 
-    /// Judges an `i` line. Returns why the line is at fault, if it is.
+    /// VerdictHolds an `i` line. Returns why the line is at fault, if it is.
     fn input(&mut self, id: u64, clause: &[Lit]) -> Result<Option<HintWhy>, AllocError>
-        requires ready { IsReadyJudge self.old }
+        requires ready { IsReadyChecker self.old }
         requires within { IsId id }
         ensures takes { IfOk result (λ why. TakesOne why self.old self.new (Input id clause.now)) }
         ensures judged { OnErr result (MayFollow self.old (Input id clause.now)) }
@@ -101,14 +101,14 @@ impl Judge {
         Ok(None)
     }
 
-    /// Judges a `d` line. Returns why the line is at fault, if it is.
+    /// VerdictHolds a `d` line. Returns why the line is at fault, if it is.
     fn derived(
         &mut self,
         id: u64,
         clause: &[Lit],
         ids: &[u64],
     ) -> Result<Option<HintWhy>, AllocError>
-        requires ready { IsReadyJudge self.old }
+        requires ready { IsReadyChecker self.old }
         requires within { IsId id }
         ensures takes { IfOk result (λ why. TakesOne why self.old self.new (Derived id clause.now ids.now)) }
         ensures judged { OnErr result (MayFollow self.old (Derived id clause.now ids.now)) }
@@ -125,9 +125,9 @@ impl Judge {
         Ok(None)
     }
 
-    /// Judges an `x` line. Returns why the line is at fault, if it is.
+    /// VerdictHolds an `x` line. Returns why the line is at fault, if it is.
     fn gone(&mut self, id: u64) -> Result<Option<HintWhy>, AllocError>
-        requires { IsReadyJudge self.old }
+        requires { IsReadyChecker self.old }
         ensures takes { IfOk result (λ why. TakesOne why self.old self.new (Gone id)) }
         ensures judged { OnErr result (MayFollow self.old (Gone id)) }
     {
@@ -137,9 +137,9 @@ impl Judge {
         Ok(Some(HintWhy::UnknownId))
     }
 
-    /// Judges an `f` line. Returns why the line is at fault, if it is.
+    /// VerdictHolds an `f` line. Returns why the line is at fault, if it is.
     fn core(&mut self, core: &[Lit], ids: &[u64]) -> Option<HintWhy>
-        requires { IsReadyJudge self.old }
+        requires { IsReadyChecker self.old }
         ensures { TakesOne result self.old self.new (Core core.now ids.now) }
     {
         match self.refute(core, false, ids) {
@@ -150,9 +150,9 @@ impl Judge {
         None
     }
 
-    /// Judges an `e` line. Returns why the line is at fault, if it is.
+    /// VerdictHolds an `e` line. Returns why the line is at fault, if it is.
     fn fresh(&mut self, var: Var) -> Result<Option<HintWhy>, AllocError>
-        requires { IsReadyJudge self.old }
+        requires { IsReadyChecker self.old }
         ensures takes { IfOk result (λ why. TakesOne why self.old self.new (Fresh var)) }
         ensures judged { OnErr result (MayFollow self.old (Fresh var)) }
     {
@@ -163,9 +163,9 @@ impl Judge {
         Ok(None)
     }
 
-    /// Judges the next line, without counting it. Returns why the line is at fault, if it is.
+    /// VerdictHolds the next line, without counting it. Returns why the line is at fault, if it is.
     fn take_unnumbered(&mut self, line: &HintLine<'_>) -> Result<Option<HintWhy>, AllocError>
-        requires ready { IsReadyJudge self.old }
+        requires ready { IsReadyChecker self.old }
         requires within { IsLine (line_of_view line.now) }
         ensures takes { IfOk result (λ why. TakesOne why self.old self.new (line_of_view line.now)) }
         ensures judged { OnErr result (MayFollow self.old (line_of_view line.now)) }
@@ -179,12 +179,12 @@ impl Judge {
         }
     }
 
-    /// Judges the next line. Returns why the line is at fault, if it is. Runs out of memory only if the line is not
+    /// VerdictHolds the next line. Returns why the line is at fault, if it is. Runs out of memory only if the line is not
     /// at fault.
     pub(crate) fn take(&mut self, line: &HintLine<'_>) -> Result<Option<HintWhy>, AllocError>
-        requires ready { IsReadyJudge self.old }
+        requires ready { IsReadyChecker self.old }
         requires within { IsLine (line_of_view line.now) }
-        ensures ready { IfOk result (λ why. why ≡ None → IsReadyJudge self.new) }
+        ensures ready { IfOk result (λ why. why ≡ None → IsReadyChecker self.new) }
         ensures takes { IfOk result (λ why. TakesNext why self.old self.new (line_of_view line.now)) }
         ensures judged { OnErr result (MayFollow self.old (line_of_view line.now)) }
     {

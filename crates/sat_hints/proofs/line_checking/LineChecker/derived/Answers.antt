@@ -1,8 +1,8 @@
 use Rattle.std.proofs.Common.{◌≡◌, ◌||◌, eqb, length, refl, sym, ap, ◌∙◌}
 use Rattle.sat_checker.proofs.lemmas.store.Entries.{on_err}
 use Rattle.sat_hints.proofs.lemmas.Taken.{derived_taken, derived_faulty, derived_may, same_ready}
-use Rattle.sat_hints.proofs.judging.Judge.derived.Goals as goal
-use Rattle.sat_hints.proofs.judging.Judge.derived.Goals.{then-is_empty, else-is_empty}
+use Rattle.sat_hints.proofs.line_checking.LineChecker.derived.Goals as goal
+use Rattle.sat_hints.proofs.line_checking.LineChecker.derived.Goals.{then-is_empty, else-is_empty}
 
 pub returns-in-Some-clause-takes : goal.returns-in-Some-clause-takes
 returns-in-Some-clause-takes c =
