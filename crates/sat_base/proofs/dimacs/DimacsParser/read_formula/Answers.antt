@@ -111,14 +111,6 @@ returns-in-Err-clause-given g c =
 pub returns-clause-given : goal.returns-clause-given
 returns-clause-given g c = let b = c.loop.invariant.bytes in enough_front _ _ _ b.0 b.2 (c.loop.invariant.open_yet (omega arith)) (omega (arith, c.loop.invariant.calls, b.3)) (λ rest. tt)
 
--- WHAT WAS GIVEN BEFORE A READ FAILED
-
--- WHERE THE ANSWER IS NO FAILED READ
-
--- WHERE THE PARSER HAD NOT STOPPED
-
--- HOW OFTEN IT WAS READ
-
 -- WHERE IT STOPPED
 
 pub returns-in_err-feed_or_find_fault-in-Ok-clause-stops : goal.returns-in_err-feed_or_find_fault-in-Ok-clause-stops

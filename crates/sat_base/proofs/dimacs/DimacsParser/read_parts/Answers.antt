@@ -163,5 +163,3 @@ returns-in-Err-clause-given g c k =
 
 pub returns-clause-given : goal.returns-clause-given
 returns-clause-given g c k = let v = c.loop.invariant.visited in enough_front _ _ _ (concat v.0) v.2 (c.loop.invariant.open_yet (omega arith)) (calls_few_yet _ _ c.loop.counter _ c.loop.invariant.calls v.5) (λ rest. tt)
-
--- HOW OFTEN IT WAS READ

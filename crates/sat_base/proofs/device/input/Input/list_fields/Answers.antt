@@ -33,5 +33,3 @@ returns-in_err-proof g c = grind (arith, common_steps, err_from_is_err_and, stop
 
 pub returns-in_err-both_lists : goal.returns-in_err-both_lists
 returns-in_err-both_lists g c = grind (arith, common_steps, err_from_is_err_and, stops_following, failed_form)
-
--- WHERE ALL WAS READ

@@ -39,5 +39,3 @@ loop-byte-preserved g c =
       low = room_low n v p r b i.low c.if-byte-lt128.false (omega arith);
       high = room_high n v p r b i.high c.if-byte-lt128.false (omega arith);
     }
-
--- WHERE NO SUM OR PRODUCT WRAPS
