@@ -19,6 +19,3 @@ returns-clause-short c =
 
 pub returns-clause-same : goal.returns-clause-same
 returns-clause-same c = λ roomy. c.walk_hashes-found.ensures.same (stored_further c.args.assigned.now.room c.deny_in_room.new.assigned.room (live c.args.clauses.now) c.deny_in_room.ensures.extends.room roomy) ∙ c.deny_in_room.ensures.same
-
-pub returns-then-deny_in_room-clause-same : goal.returns-then-deny_in_room-clause-same
-returns-then-deny_in_room-clause-same c = λ roomy. c.deny_in_room.ensures.same

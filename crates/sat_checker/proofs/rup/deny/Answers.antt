@@ -1,13 +1,7 @@
 use Rattle.std.proofs.Common.{refl, sym, ap, ◌∙◌}
 use Rattle.sat_base.specs.values.Literals.{negated_if}
-use Rattle.sat_checker.proofs.lemmas.propagation.Denied.{denied-true, denied_once}
+use Rattle.sat_checker.proofs.lemmas.propagation.Denied.{denied_once}
 use Rattle.sat_checker.proofs.rup.deny.Goals as goal
-
-pub returns-then-is_true-clause-denied : goal.returns-then-is_true-clause-denied
-returns-then-is_true-clause-denied c =
-    let is = c.bitxor-lit.ensures ∙ ap (negated_if c.args.negate) c.literal-item.is in
-    c.loop-literal.invariant.denied_so_far
-    ∙ denied-true c.args.negate c.args.literals.now c.loop-literal.literal-index c.literal-item.result c.bitxor-lit.result c.loop-literal-test.true is c.loop-literal.assigned.literals (sym c.is_true.ensures ∙ c.if-is_true.true)
 
 pub loop-literal-preserved : goal.loop-literal-preserved
 loop-literal-preserved c =

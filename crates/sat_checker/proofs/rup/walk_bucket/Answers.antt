@@ -1,5 +1,5 @@
-use Rattle.std.proofs.Common.{ℕ, List, Option, ◌≡◌, ◌+◌, ◌<◌, ◌≤◌, ◌∷◌, suc, length, map, true, None, Some, ◌∙◌, refl, ap, sym, subst, arith}
-use Rattle.std.proofs.lemmas.Result.{IfOk-from_err, err_from_is_err_and}
+use Rattle.std.proofs.Common.{ℕ, List, Option, ◌≡◌, ◌+◌, ◌<◌, ◌≤◌, ◌∷◌, suc, length, map, true, Some, ◌∙◌, refl, ap, sym, subst, arith}
+use Rattle.std.proofs.lemmas.Result.{err_from_is_err_and}
 use Rattle.std.specs.Option.{IfSome}
 use Rattle.sat_checker.specs.LiteralSets.{is_among}
 use Rattle.sat_checker.specs.Looks.{total_length}
@@ -17,9 +17,6 @@ use Rattle.sat_checker.proofs.lemmas.announcements.Noting.{leads_itself, filed_a
 use Rattle.std.proofs.lemmas.Grind.{common_steps}
 use Rattle.sat_checker.proofs.rup.walk_bucket.Goals as goal
 use Rattle.sat_checker.proofs.rup.walk_bucket.Goals.{After-meet}
-
-no_less : (a b : ℕ) → a ≤ a + b
-no_less a b = omega arith
 
 as_much : (a : ℕ) → a ≤ a
 as_much a = omega arith
@@ -74,20 +71,8 @@ module _ (c : After-meet) where
     most = looks_ended (literals_at (ss c)) rest 0 (omega arith) _ c.loop-next.looks c.meet.new.looks (looks c _ refl) c.meet.ensures.looks;
   }
 
-pub returns-in_default-clause-looks : goal.returns-in_default-clause-looks
-returns-in_default-clause-looks c = record { rise = grind (arith, common_steps); most = no_less c.args.looks.now _ }
-
-pub returns-in_default-clause-noted : goal.returns-in_default-clause-noted
-returns-in_default-clause-noted c = tt
-
-pub returns-in_default-clause-read : goal.returns-in_default-clause-read
-returns-in_default-clause-read c = as_much _
-
 pub returns-in_default-clause-says : goal.returns-in_default-clause-says
 returns-in_default-clause-says c = (is_empty c.args.hash c.args.clauses.now c.in_default.ensures, refl)
-
-pub returns-in_default-clause-extends : goal.returns-in_default-clause-extends
-returns-in_default-clause-extends c = Extends-itself c.args.assigned.now
 
 pub loop-next-init : goal.loop-next-init
 loop-next-init c =
@@ -110,29 +95,14 @@ pub meet-requires : goal.meet-requires
 meet-requires c =
     place_inside c.args.hash c.args.clauses.now c.in-Some-next.place (subst (λ o. IfSome o (λ p. is_among (places_of c.args.hash c.args.clauses.now) p ≡ true)) c.in-Some-next.is c.loop-next.invariant.among)
 
-pub returns-in_err-meet-clause-says : goal.returns-in_err-meet-clause-says
-returns-in_err-meet-clause-says c = IfOk-from_err c.from_residual.result _ c.from_residual.ensures.0
-
 pub returns-in_err-meet-clause-short : goal.returns-in_err-meet-clause-short
 returns-in_err-meet-clause-short c = rw ((err_from_is_err_and c.from_residual.result c.from_residual.ensures.1).1) (λ h. c.in_err-meet.ensures.short (roomy (goal.at.returns-in_err-meet-clause-short c).After-meet h))
-
-pub returns-in_err-meet-clause-noted : goal.returns-in_err-meet-clause-noted
-returns-in_err-meet-clause-noted c = IfOk-from_err c.from_residual.result _ c.from_residual.ensures.0
-
-pub returns-in_err-meet-clause-read : goal.returns-in_err-meet-clause-read
-returns-in_err-meet-clause-read c = IfOk-from_err c.from_residual.result _ c.from_residual.ensures.0
-
-pub returns-in_err-meet-clause-extends : goal.returns-in_err-meet-clause-extends
-returns-in_err-meet-clause-extends c = extends (goal.at.returns-in_err-meet-clause-extends c).After-meet
 
 pub returns-in_err-meet-clause-looks : goal.returns-in_err-meet-clause-looks
 returns-in_err-meet-clause-looks c = looked (goal.at.returns-in_err-meet-clause-looks c).After-meet
 
 pub returns-then-branch-clause-looks : goal.returns-then-branch-clause-looks
 returns-then-branch-clause-looks c = looked (goal.at.returns-then-branch-clause-looks c).After-meet
-
-pub returns-then-branch-clause-extends : goal.returns-then-branch-clause-extends
-returns-then-branch-clause-extends c = extends (goal.at.returns-then-branch-clause-extends c).After-meet
 
 pub returns-then-branch-clause-says : goal.returns-then-branch-clause-says
 returns-then-branch-clause-says c =
@@ -146,9 +116,6 @@ returns-then-branch-clause-noted c =
     let x = (goal.at.returns-then-branch-clause-noted c).After-meet in
     ends_next (ss x) c.args.passed.now c.loop-next.passed c.meet.new.passed c.args.assigned.now.literals c.loop-next.assigned.literals c.meet.new.assigned.literals (rest x) 0 (omega arith) _
     (leads x _ refl) (rw c.if-branch.true at c.in_ok-meet.ensures.noted)
-
-pub returns-then-branch-clause-read : goal.returns-then-branch-clause-read
-returns-then-branch-clause-read c = read_further _ _ _ c.args.looks.now c.loop-next.looks c.meet.new.looks _ c.loop-next.invariant.read c.meet.ensures.looks c.in_ok-meet.ensures.read
 
 pub loop-next-smaller : goal.loop-next-smaller
 loop-next-smaller c =
@@ -175,17 +142,10 @@ loop-next-preserved c =
     }
 
 pub returns-clause-says : goal.returns-clause-says
-returns-clause-says c =
-    let over : c.loop-next.next ≡ None = cc in (
-      is_full c.args.hash c.args.clauses.now c.in-Some.first c.in-Some.ensures,
-      c.loop-next.invariant.walked ∙ ap (λ o. walk c.loop-next.assigned.literals (map (literals_at c.args.clauses.now) (from_on o (places_of c.args.hash c.args.clauses.now)))) over,
-    )
+returns-clause-says c = grind (arith, common_steps, is_full)
 
 pub returns-in_err-meet-clause-same : goal.returns-in_err-meet-clause-same
 returns-in_err-meet-clause-same c = same (goal.at.returns-in_err-meet-clause-same c).After-meet
 
 pub returns-then-branch-clause-same : goal.returns-then-branch-clause-same
 returns-then-branch-clause-same c = same (goal.at.returns-then-branch-clause-same c).After-meet
-
-pub returns-clause-same : goal.returns-clause-same
-returns-clause-same c = c.loop-next.invariant.same

@@ -1,16 +1,13 @@
-use Rattle.std.proofs.Common.{ℕ, ◌≡◌, ◌*◌, length, get_or, map, sym, ap, ◌∙◌, arith}
-use Rattle.std.proofs.lemmas.List.{drop_all}
+use Rattle.std.proofs.Common.{ℕ, ◌≡◌, ◌*◌, length, get_or, ◌∙◌, arith}
 use Rattle.std.proofs.lemmas.Result.{err_from_is_err_and}
 use Rattle.sat_checker.specs.inner.SlotView.{bucket_in, bucket_of, live, live_length}
 use Rattle.sat_checker.specs.inner.AssumedRoom.{HasClausesRoom, HasStoredRoom}
 use Rattle.sat_checker.specs.inner.Look.{AssumesMore}
 use Rattle.sat_checker.specs.inner.Looking.{LooksUpTo}
-use Rattle.sat_checker.specs.inner.Walk.{walk_buckets}
 use Rattle.sat_checker.specs.inner.Reasons.{named}
-use Rattle.sat_checker.proofs.lemmas.propagation.Walking.{Extends-further, buckets-open, buckets-conflict, buckets-empty}
-use Rattle.sat_checker.proofs.lemmas.store.Buckets.{bucket_roomy, stored_further, walked_more, walked_within, walked_all}
-use Rattle.sat_checker.proofs.lemmas.announcements.Noting.{leads_hash, ends_hash}
-use Rattle.std.proofs.lemmas.Grind.{common_steps}
+use Rattle.sat_checker.proofs.lemmas.propagation.Walking.{Extends-further, buckets-open}
+use Rattle.sat_checker.proofs.lemmas.store.Buckets.{bucket_roomy, stored_further, walked_more, walked_within}
+use Rattle.sat_checker.proofs.lemmas.announcements.Noting.{leads_hash}
 use Rattle.sat_checker.proofs.rup.walk_hashes.Goals as goal
 use Rattle.sat_checker.proofs.rup.walk_hashes.Goals.{After-walk_bucket}
 
@@ -43,11 +40,6 @@ returns-in_err-walk_bucket-clause-short c = rw ((err_from_is_err_and c.from_resi
 pub returns-in-Conflict-clause-looks : goal.returns-in-Conflict-clause-looks
 returns-in-Conflict-clause-looks c = looked (goal.at.returns-in-Conflict-clause-looks c).After-walk_bucket
 
-pub returns-in-Conflict-clause-noted : goal.returns-in-Conflict-clause-noted
-returns-in-Conflict-clause-noted c = λ _.
-    ends_hash c.args.clauses.now c.args.passed.now c.loop-hash.passed c.walk_bucket.new.passed c.args.assigned.now.literals c.loop-hash.assigned.literals c.walk_bucket.new.assigned.literals c.args.hashes.now c.loop-hash.hash-index c.loop-hash-test.true
-    (named c.args.hashes.now c.args.clauses.now) c.loop-hash.invariant.leads (rw c.in-Conflict.is at c.in_ok-walk_bucket.ensures.noted)
-
 pub loop-hash-preserved : goal.loop-hash-preserved
 loop-hash-preserved c =
     let x = (goal.at.loop-hash-preserved c).After-walk_bucket in
@@ -64,45 +56,8 @@ loop-hash-preserved c =
       rise = omega (arith, c.loop-hash.invariant.rise, c.walk_bucket.ensures.looks.rise);
     }
 
-pub returns-in_err-walk_bucket-clause-extends : goal.returns-in_err-walk_bucket-clause-extends
-returns-in_err-walk_bucket-clause-extends c = extends (goal.at.returns-in_err-walk_bucket-clause-extends c).After-walk_bucket
-
-pub returns-in-Empty-clause-found : goal.returns-in-Empty-clause-found
-returns-in-Empty-clause-found c =
-    let says = rw c.in-Empty.is at c.in_ok-walk_bucket.ensures.says in
-    sym (c.loop-hash.invariant.walked ∙ buckets-empty (bucket_of c.args.clauses.now) c.args.hashes.now c.loop-hash.hash-index c.loop-hash-test.true c.loop-hash.assigned.literals c.loop-hash.assigned.literals says.0)
-
-pub returns-in-Empty-clause-extends : goal.returns-in-Empty-clause-extends
-returns-in-Empty-clause-extends c = extends (goal.at.returns-in-Empty-clause-extends c).After-walk_bucket
-
-pub returns-in-Empty-clause-looks : goal.returns-in-Empty-clause-looks
-returns-in-Empty-clause-looks c = looked (goal.at.returns-in-Empty-clause-looks c).After-walk_bucket
-
-pub returns-in-Conflict-clause-found : goal.returns-in-Conflict-clause-found
-returns-in-Conflict-clause-found c =
-    let says = rw c.in-Conflict.is at c.in_ok-walk_bucket.ensures.says in
-    sym (c.loop-hash.invariant.walked ∙ buckets-conflict (bucket_of c.args.clauses.now) c.args.hashes.now c.loop-hash.hash-index c.loop-hash-test.true c.loop-hash.assigned.literals c.loop-hash.assigned.literals says.1)
-
-pub returns-in-Conflict-clause-extends : goal.returns-in-Conflict-clause-extends
-returns-in-Conflict-clause-extends c = extends (goal.at.returns-in-Conflict-clause-extends c).After-walk_bucket
-
-pub returns-clause-found : goal.returns-clause-found
-returns-clause-found c = sym (c.loop-hash.invariant.walked ∙ ap (λ hs. walk_buckets c.loop-hash.assigned.literals (map (bucket_of c.args.clauses.now) hs)) (drop_all c.loop-hash.hash-index c.args.hashes.now c.loop-hash-test.false))
-
-pub returns-clause-looks : goal.returns-clause-looks
-returns-clause-looks c = record {
-  rise = grind (arith, common_steps);
-  most = walked_all c.args.looks.now c.loop-hash.looks c.loop-hash.hash-index (length c.args.hashes.now) c.args.clauses.now c.loop-hash.invariant.looks c.loop-hash.auto.hash-index-end;
-}
-
 pub returns-in_err-walk_bucket-clause-same : goal.returns-in_err-walk_bucket-clause-same
 returns-in_err-walk_bucket-clause-same c = same (goal.at.returns-in_err-walk_bucket-clause-same c).After-walk_bucket
 
-pub returns-in-Empty-clause-same : goal.returns-in-Empty-clause-same
-returns-in-Empty-clause-same c = same (goal.at.returns-in-Empty-clause-same c).After-walk_bucket
-
 pub returns-in-Conflict-clause-same : goal.returns-in-Conflict-clause-same
 returns-in-Conflict-clause-same c = same (goal.at.returns-in-Conflict-clause-same c).After-walk_bucket
-
-pub returns-clause-same : goal.returns-clause-same
-returns-clause-same c = c.loop-hash.invariant.same

@@ -1,8 +1,8 @@
+use Rattle.std.proofs.lemmas.Grind.{common_steps}
 use Rattle.std.proofs.Common.{ℕ, ◌-◌, ◌<◌, ◌≡◌, ◌∙◌, false, cond, eqb, length, get_or, reverse, Option, Some, None, sym, ap, subst, arith}
 use Rattle.std.proofs.lemmas.Grind.{get_or_default_zero}
 use Rattle.std.proofs.lemmas.List.{length-reverse}
 use Rattle.sat_checker.specs.LiteralSets.{is_among}
-use Rattle.sat_checker.specs.inner.LitNumbers.{number_at}
 use Rattle.sat_checker.proofs.lemmas.sets.Order.{among-reverse}
 use Rattle.sat_checker.proofs.lemmas.sets.Trails.{number_has_room, valid, stands_at, placed_without}
 use Rattle.sat_checker.proofs.units.take_out.Goals as goal
@@ -22,14 +22,7 @@ returns c =
     }
 
 pub put-requires-clause-room : goal.put-requires-clause-room
-put-requires-clause-room c =
-    let trail = reverse c.args.assigned.now.literals in
-    let there = stands_at c.args.places.now trail c.args.lit c.in-Some.place c.requires.placed (among-reverse c.args.assigned.now.literals c.args.lit ∙ c.requires.assumed) (sym c.get.ensures ∙ c.in-Some.is) in
-    let lent = c.literals-trail.ensures.lent in
-    let long = ap length lent in
-    let newest : c.index-trail-trail.result ≡ get_or trail (length trail - 1) 0 =
-    c.index-trail-trail.is ∙ get_or_default_zero c.literals-trail.result.now (length c.literals-trail.result.now - 1) c.index-trail-trail.result (omega (arith, there.0, long)) ∙ ap (λ xs. get_or xs (length xs - 1) 0) lent in
-    number_has_room c.args.places.now c.index-trail-trail.result (length trail - 1) (ap (number_at c.args.places.now) newest ∙ c.requires.placed (length trail - 1) (omega (arith, there.0)))
+put-requires-clause-room c = grind (arith, common_steps, get_or_default_zero, among-reverse, number_has_room, stands_at)
 
 pub forget_at-requires : goal.forget_at-requires
 forget_at-requires c =

@@ -1,7 +1,7 @@
-use Rattle.std.proofs.Common.{◌+◌, ℕ, [], ◌++◌, inl, inr, refl, ap, sym, subst, ◌∙◌, take, length-append, rules, arith}
+use Rattle.std.proofs.lemmas.Grind.{common_steps}
+use Rattle.std.proofs.Common.{◌+◌, ℕ, ◌++◌, inl, inr, ap, ◌∙◌, take, length-append, rules, arith}
 use Rattle.std.proofs.lemmas.Result.{err_from_is_err_and}
-use Rattle.sat_base.specs.dimacs.Parsing.{Progress, IsSoundSoFar}
-use Rattle.sat_base.proofs.lemmas.device.Given.{gave_none, gave_more, gave_still, gave_to_end, not_ended, few_front, calls_within, calls_upto}
+use Rattle.sat_base.proofs.lemmas.device.Given.{gave_none, gave_more, gave_still, gave_to_end, not_ended, few_front}
 use Rattle.sat_base.proofs.lemmas.dimacs.Parsed.{stands_of, piece_given, sound_none}
 use Rattle.sat_checker.specs.CheckerView.{seen_of}
 use Rattle.sat_checker.specs.listeners.ProcessingView.{HearsEach}
@@ -9,16 +9,7 @@ use Rattle.sat_checker.proofs.lemmas.checker.Texts.{start, no_clauses, piece_add
 use Rattle.sat_checker.proofs.checker.Checker.add_text.Goals as goal
 
 pub loop-init : goal.loop-init
-loop-init g c = record {
-  well = c.requires.well;
-  bytes = ([], stands_of [] c.args.parser.now c.requires.fresh, gave_none _, omega arith, ap (λ (z : Progress). z.taken) c.requires.fresh ∙ sym no_clauses);
-  sound = subst IsSoundSoFar (sym c.requires.fresh) sound_none;
-  open_yet = λ h. absurd (omega arith);
-  failures = refl;
-  calls = omega arith;
-  rise = omega arith;
-  added = start (HearsEach g.P.ProofProcessor.takes g.T.ProofTranscriptProcessor.reads) (seen_of c.args.self.now) c.args.parser.now c.requires.well c.requires.fresh;
-}
+loop-init g c = grind (arith, common_steps, gave_none, stands_of, sound_none, start, no_clauses)
 
 pub loop-preserved : goal.loop-preserved
 loop-preserved g c =
@@ -74,15 +65,3 @@ returns-clause-adds g c =
     read_answers (HearsEach g.P.ProofProcessor.takes g.T.ProofTranscriptProcessor.reads) (seen_of c.args.self.now) (seen_of c.loop.self) _ _ b.0 c.loop.parser b.1
     (inr (c.loop.invariant.failures, omega (arith, c.loop.invariant.calls)), few_front _ _ b.0 b.2 (omega (arith, c.loop.invariant.calls, b.3)))
     b.2 c.loop.invariant.sound b.4 c.loop.invariant.added
-
-pub returns-in-Ok-eq0-clause-reads : goal.returns-in-Ok-eq0-clause-reads
-returns-in-Ok-eq0-clause-reads g c = calls_within _ _ _ c.loop.counter c.in-Ok-eq0.ensures.once.calls c.loop.invariant.calls c.loop-test.true
-
-pub returns-in_err-add_read-in-Ok-clause-reads : goal.returns-in_err-add_read-in-Ok-clause-reads
-returns-in_err-add_read-in-Ok-clause-reads g c = calls_within _ _ _ c.loop.counter c.in-Ok.ensures.once.calls c.loop.invariant.calls c.loop-test.true
-
-pub returns-in-Err-clause-reads : goal.returns-in-Err-clause-reads
-returns-in-Err-clause-reads g c = calls_within _ _ _ c.loop.counter c.in-Err.ensures.once.calls c.loop.invariant.calls c.loop-test.true
-
-pub returns-clause-reads : goal.returns-clause-reads
-returns-clause-reads g c = calls_upto _ _ c.loop.counter c.loop.invariant.calls c.loop.auto.counter-end

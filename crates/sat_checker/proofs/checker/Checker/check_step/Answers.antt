@@ -10,8 +10,5 @@ pub returns-clause-notifies : goal.returns-clause-notifies
 returns-clause-notifies g c = λ before begun steps s.
     step_down (HearsEach g.P.ProofProcessor.takes g.T.ProofTranscriptProcessor.reads) _ before begun c.check_step.result _ (step_of c.args.step.now) _ steps (c.check_step.ensures.notifies before (hearers _ begun) steps (stands_up (HearsEach g.P.ProofProcessor.takes g.T.ProofTranscriptProcessor.reads) _ before begun c.args.self.now.kernel c.args.self.now.processing steps s))
 
-pub returns-clause-rise : goal.returns-clause-rise
-returns-clause-rise g c = c.check_step.ensures.rise
-
 pub returns-clause-faults : goal.returns-clause-faults
 returns-clause-faults g c = λ steps s. step_faults g.P.ProofProcessor.takes g.T.ProofTranscriptProcessor.reads (seen_of c.args.self.now) _ steps s c.check_step.result (step_of c.args.step.now) (returns-clause-notifies g c)

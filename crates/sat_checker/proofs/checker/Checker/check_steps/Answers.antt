@@ -6,8 +6,7 @@ use Rattle.sat_checker.specs.listeners.Hearing.{HearsFirst}
 use Rattle.sat_checker.specs.listeners.ProcessingView.{HearsEach}
 use Rattle.sat_checker.specs.inner.ProofSteps.{at_source}
 use Rattle.sat_checker.specs.ProofView.{taken_after}
-use Rattle.sat_checker.specs.declared.error.CheckerError.TheVariants.{OutOfMemory}
-use Rattle.sat_checker.proofs.lemmas.checker.Proofs.{passed_none, passed_one, stops, finishes, none_read, fresh_counts, fresh_unended, counts_more, none_found, same_error, ended, not_ended}
+use Rattle.sat_checker.proofs.lemmas.checker.Proofs.{passed_none, passed_one, stops, finishes, none_read, fresh_counts, fresh_unended, counts_more, ended, not_ended}
 use Rattle.sat_checker.proofs.checker.Checker.check_steps.Goals as goal
 
 pub loop-init : goal.loop-init
@@ -32,20 +31,6 @@ returns-in_err-check_next-clause-proof g c = λ before begun earlier valid.
     rw (p.1, p.2) (stops (HearsFirst g.O.ProofProcessor.takes (HearsEach g.P.ProofProcessor.takes g.T.ProofTranscriptProcessor.reads)) before begun (at_source (seen_with c.args.own.now c.args.self.now) (reader_source S c.args.steps.now)) (at_source (seen_with c.loop.own c.loop.self) (reader_source S c.loop.steps)) (at_source (seen_with c.check_next.new.own c.check_next.new.self) (reader_source S c.check_next.new.steps))
     c.in_err-check_next.field-0.0 earlier passed.0 c.requires.fresh c.requires.well c.check_next.ensures.bound passed.1
     (c.in_err-check_next.ensures.steps_on before begun (taken_after passed.0 earlier) passed.1.goes_on.0))
-
-pub returns-in_err-check_next-clause-unended : goal.returns-in_err-check_next-clause-unended
-returns-in_err-check_next-clause-unended g c = λ h.
-    let S = g.R.CountedRead.seen in
-    let p = err_from_is_err_and c.from_residual.result c.from_residual.ensures.1 in
-    none_found (reader_source S c.args.steps.now) (reader_source S c.check_next.new.steps) c.requires.fresh
-    (counts_more (reader_source S c.args.steps.now) (reader_source S c.loop.steps) (reader_source S c.check_next.new.steps) c.loop.invariant.calls c.check_next.ensures.calls)
-    (λ e. c.loop.invariant.unended (c.in_err-check_next.ensures.starved (same_error c.from_residual.result p.0 c.in_err-check_next.field-0.0 OutOfMemory p.1 p.2 h) e))
-
-pub returns-in_err-check_next-clause-rise : goal.returns-in_err-check_next-clause-rise
-returns-in_err-check_next-clause-rise g c = omega (arith, c.loop.invariant.rise, c.check_next.ensures.rise)
-
-pub returns-then-branch-clause-rise : goal.returns-then-branch-clause-rise
-returns-then-branch-clause-rise g c = omega (arith, c.loop.invariant.rise, c.check_next.ensures.rise)
 
 pub returns-then-branch-clause-proof : goal.returns-then-branch-clause-proof
 returns-then-branch-clause-proof g c = λ before begun earlier valid.

@@ -1,9 +1,8 @@
-use Rattle.std.proofs.Common.{◌<◌, sym, subst, false}
-use Rattle.std.specs.Bool.{MatchBool}
-use Rattle.sat_checker.specs.Storing.{clause_with, without_clause, last_literals}
+use Rattle.std.proofs.Common.{arith}
+use Rattle.std.proofs.lemmas.Grind.{common_steps}
+use Rattle.std.proofs.Common.{sym, subst}
+use Rattle.sat_checker.specs.Storing.{last_literals}
 use Rattle.sat_checker.specs.inner.Marks.{IsIncreasing}
-use Rattle.sat_checker.specs.inner.StoreView.{store_count_in}
-use Rattle.sat_checker.specs.inner.FormulaView.{RepresentsFormula}
 use Rattle.sat_checker.proofs.lemmas.sets.Canonical.{canonical_increasing}
 use Rattle.sat_checker.proofs.lemmas.state.Keeping.{strict_on, strict_back}
 use Rattle.sat_checker.proofs.lemmas.state.Units.{match_on}
@@ -18,10 +17,4 @@ returns-then-not-has_last_within-clause-decides c = λ f k q.
     match_false _ _ _ (c.has_last_within.ensures.part f k) c.if-not-has_last_within.true (strict_on (last_literals f.last f) c.args.clause.now c.args.literals.now c.requires q.1)
 
 pub returns-clause-decides : goal.returns-clause-decides
-returns-clause-decides c = λ f k.
-    match_on c.take_count.result _ _ _ _
-    (λ p. ((p.0, strict_back (last_literals f.last f) c.args.clause.now c.args.literals.now c.requires (match_true _ _ _ (c.has_last_within.ensures.part f k) c.if-not-has_last_within.false)), p.1)) (λ n q. n q.0)
-    (subst
-    (λ ls.
-    MatchBool c.take_count.result ((0 < store_count_in false (clause_with ls f.clauses)) × RepresentsFormula c.take_count.new.self (record f { clauses = without_clause false ls f.clauses })) (0 < store_count_in false (clause_with ls f.clauses) → ⊥)) c.requires
-    (c.take_count.ensures.decides f k))
+returns-clause-decides c = grind (arith, common_steps, strict_back, match_on, match_true)

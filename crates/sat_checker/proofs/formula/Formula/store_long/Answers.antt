@@ -1,14 +1,8 @@
 use Rattle.std.proofs.Common.{◌∙◌, ap, Ok, Err}
-use Rattle.std.proofs.lemmas.Result.{err_from_is_err_and, IfOk-from_err}
-use Rattle.sat_checker.specs.listeners.AnnouncingView.{stored_as}
-use Rattle.sat_checker.specs.declared.announce.announcing.Change.{Change}
-use Rattle.sat_checker.proofs.lemmas.formula.Changes.{long_change}
+use Rattle.std.proofs.lemmas.Result.{err_from_is_err_and}
 use Rattle.sat_checker.proofs.lemmas.formula.Storing.{long_stored, long_refused}
 use Rattle.sat_checker.proofs.lemmas.state.Checks.{kept_beside}
 use Rattle.sat_checker.proofs.formula.Formula.store_long.Goals as goal
-
-pub returns-in_err-make_room-clause-stored : goal.returns-in_err-make_room-clause-stored
-returns-in_err-make_room-clause-stored c = let p = err_from_is_err_and c.from_residual.result c.from_residual.ensures.1 in rw (p.1, p.2) (λ f k. tt)
 
 pub returns-in_err-placed-clause-stored : goal.returns-in_err-placed-clause-stored
 returns-in_err-placed-clause-stored c = λ f k.
@@ -21,21 +15,3 @@ returns-in-Ok-clause-stored c = λ f k.
     let kept = kept_beside c.args.self.now c.make_room.new.self f c.make_room.ensures.rest k in
     long_stored {T = Unit} (Ok tt) c.make_room.new.self c.store_clause.new.self c.note_last.new.self c.take_id_if.new.self f c.args.redundant c.args.literals.now c.in_ok-placed.placed c.requires.long kept c.in_ok-make_room.ensures.room (c.in_ok-placed.ensures.ok f kept.clauses) c.in_ok-placed.ensures.placed
     c.note_last.ensures c.in-Ok.ensures
-
-pub returns-in-Err-clause-stored : goal.returns-in-Err-clause-stored
-returns-in-Err-clause-stored c = λ f k.
-    let kept = kept_beside c.args.self.now c.make_room.new.self f c.make_room.ensures.rest k in
-    long_stored {T = Change} (Err c.in-Err.error) c.make_room.new.self c.store_clause.new.self c.note_last.new.self c.take_id_if.new.self f c.args.redundant c.args.literals.now c.in_ok-placed.placed c.requires.long kept c.in_ok-make_room.ensures.room (c.in_ok-placed.ensures.ok f kept.clauses) c.in_ok-placed.ensures.placed
-    c.note_last.ensures c.in-Err.ensures
-
-pub returns-in-Ok-clause-change : goal.returns-in-Ok-clause-change
-returns-in-Ok-clause-change c = λ f k long ids.
-    let kept = kept_beside c.args.self.now c.make_room.new.self f c.make_room.ensures.rest k in
-    ap (λ d. stored_as d f.next_id c.args.redundant c.args.literals.now ids) c.change_of.ensures
-    ∙ long_change c.store_clause.new.self f c.make_room.new.self.status.next_id c.args.redundant c.args.literals.now ids c.in_ok-placed.placed c.requires.long (c.in_ok-placed.ensures.ok f kept.clauses) (c.in_ok-placed.ensures.counted f kept.clauses)
-
-pub returns-in_err-make_room-clause-change : goal.returns-in_err-make_room-clause-change
-returns-in_err-make_room-clause-change c = IfOk-from_err c.from_residual.result _ c.from_residual.ensures.0
-
-pub returns-in_err-placed-clause-change : goal.returns-in_err-placed-clause-change
-returns-in_err-placed-clause-change c = IfOk-from_err c.from_residual-in_err-placed.result _ c.from_residual-in_err-placed.ensures.0

@@ -1,5 +1,4 @@
 use Rattle.std.proofs.Common.{◌∙◌, sym}
-use Rattle.std.proofs.lemmas.Result.{IfOk-from_err}
 use Rattle.sat_checker.proofs.lemmas.formula.Storing.{single_noted, single_passed}
 use Rattle.sat_checker.proofs.formula.Formula.store_single.Goals as goal
 
@@ -8,15 +7,3 @@ returns-in-Some-clause-stored c = λ f k. single_noted c.store_unit.new.self c.a
 
 pub returns-in_default-clause-stored : goal.returns-in_default-clause-stored
 returns-in_default-clause-stored c = λ f k. single_passed c.store_unit.new.self c.args.redundant c.args.lit f c.if-redundant.false (c.in_ok-store_unit.ensures.stored f k) (sym c.id.ensures ∙ c.in_default.is)
-
-pub returns-then-redundant-clause-change : goal.returns-then-redundant-clause-change
-returns-then-redundant-clause-change c = λ f k long ids. c.unit_change-change.ensures f k long c.args.redundant ids
-
-pub returns-in-Some-clause-change : goal.returns-in-Some-clause-change
-returns-in-Some-clause-change c = λ f k long ids. c.unit_change-change.ensures f k long c.args.redundant ids
-
-pub returns-in_default-clause-change : goal.returns-in_default-clause-change
-returns-in_default-clause-change c = λ f k long ids. c.unit_change-change.ensures f k long c.args.redundant ids
-
-pub returns-in_err-store_unit-clause-change : goal.returns-in_err-store_unit-clause-change
-returns-in_err-store_unit-clause-change c = IfOk-from_err c.from_residual.result _ c.from_residual.ensures.0

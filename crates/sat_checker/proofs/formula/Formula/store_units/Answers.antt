@@ -3,10 +3,10 @@ use Rattle.sat_checker.specs.Looks.{literal_count}
 use Rattle.sat_checker.specs.Accepts.{PassesByHashes, PassInTurn}
 use Rattle.sat_checker.specs.Storing.{with_unit}
 use Rattle.sat_checker.specs.inner.InTurn.{PassAfter}
-use Rattle.sat_checker.proofs.lemmas.variables.Keeping.{match_true, match_false}
-use Rattle.sat_checker.proofs.lemmas.state.Units.{passed, stopped, spent_then, finished, failed, accepted_after, back_after}
+use Rattle.sat_checker.proofs.lemmas.variables.Keeping.{match_true}
+use Rattle.sat_checker.proofs.lemmas.state.Units.{passed, spent_then, finished, failed, accepted_after, back_after}
 use Rattle.sat_checker.proofs.lemmas.state.Checks.{checks_as}
-use Rattle.sat_checker.proofs.lemmas.listeners.NotedUnits.{noted_more, noted_all, none_noted, twice_then, twice_end, twice_rest}
+use Rattle.sat_checker.proofs.lemmas.listeners.NotedUnits.{noted_more, twice_then, twice_rest}
 use Rattle.std.proofs.lemmas.Grind.{common_steps}
 use Rattle.sat_checker.proofs.formula.Formula.store_units.Goals as goal
 
@@ -35,23 +35,6 @@ returns-in-Err-clause-looks c = record {
       (c.loop-place.invariant.looks f k) (c.store_checked.ensures.looks.most left.now left.kept) (c.fail_unless_refused.ensures.looks.most left.now kept);
 }
 
-pub returns-in-Err-clause-noted : goal.returns-in-Err-clause-noted
-returns-in-Err-clause-noted c = none_noted c.fail_unless_refused.result _ c.fail_unless_refused.ensures.never
-
-pub returns-in-Ok-false-clause-decides : goal.returns-in-Ok-false-clause-decides
-returns-in-Ok-false-clause-decides c = λ f k.
-    let left = c.loop-place.invariant.left f k in
-    stopped c.loop-place.self f c.args.units.now c.loop-place.place c.index-units-place.result c.loop-place-test.true c.index-units-place.is left
-    (match_false _ _ _ (c.in-Ok-false.ensures.decides left.now left.kept) c.in-Ok-false.field-0-test)
-
-pub returns-in-Ok-false-clause-looks : goal.returns-in-Ok-false-clause-looks
-returns-in-Ok-false-clause-looks c = record {
-  rise = grind (arith, common_steps);
-  most = λ f k.
-      let left = c.loop-place.invariant.left f k in
-      twice_end c.args.looks.now c.loop-place.looks c.store_checked.new.looks c.args.units.now c.loop-place.place c.loop-place-test.true (literal_count f) (literal_count left.now) left.count (c.loop-place.invariant.looks f k) (c.store_checked.ensures.looks.most left.now left.kept);
-}
-
 pub loop-place-preserved : goal.loop-place-preserved
 loop-place-preserved c = record {
   left = λ f k.
@@ -71,6 +54,3 @@ loop-place-preserved c = record {
 
 pub returns-clause-decides : goal.returns-clause-decides
 returns-clause-decides c = λ f k. finished c.loop-place.self f c.args.units.now c.loop-place.place (omega arith) (c.loop-place.invariant.left f k)
-
-pub returns-clause-noted : goal.returns-clause-noted
-returns-clause-noted c = λ _ f k a. noted_all c.loop-place.self f c.args.units.now c.loop-place.place c.args.notes.now c.loop-place.notes (omega arith) (c.loop-place.invariant.noted f k a)

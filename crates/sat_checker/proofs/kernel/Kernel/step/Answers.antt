@@ -1,3 +1,5 @@
+use Rattle.std.proofs.Common.{arith}
+use Rattle.std.proofs.lemmas.Grind.{common_steps}
 use Rattle.std.proofs.Common.{◌+◌, ◌≤◌, refl, sym, subst, rules}
 use Rattle.sat_base.specs.steps.StepViews.{step_of}
 use Rattle.sat_checker.specs.Accepts.{ready_after}
@@ -9,15 +11,9 @@ use Rattle.sat_checker.specs.inner.VariablesView.{variable_at}
 use Rattle.sat_checker.specs.listeners.Hearing.{hearers, HearsFirst}
 use Rattle.sat_checker.specs.listeners.ProcessingView.{HearsEach}
 use Rattle.sat_checker.proofs.lemmas.announcements.Long.{after_any}
-use Rattle.sat_checker.proofs.lemmas.variables.Keeping.{match_true, match_false}
-use Rattle.sat_checker.proofs.lemmas.listeners.Taken.{ready_kept, noted_reported, taken_on, refused_judges, refused_notifies, short_judges, short_notifies, taken_judges, taken_notifies}
+use Rattle.sat_checker.proofs.lemmas.variables.Keeping.{match_true}
+use Rattle.sat_checker.proofs.lemmas.listeners.Taken.{ready_kept, noted_reported, taken_on, short_judges, short_notifies, taken_judges, taken_notifies}
 use Rattle.sat_checker.proofs.kernel.Kernel.step.Goals as goal
-
-pub take_in-requires-clause-well : goal.take_in-requires-clause-well
-take_in-requires-clause-well g c = c.requires.well
-
-pub take_in-requires-clause-quiet : goal.take_in-requires-clause-quiet
-take_in-requires-clause-quiet g c = c.requires.quiet
 
 pub returns-in-Ok-true-clause-judges : goal.returns-in-Ok-true-clause-judges
 returns-in-Ok-true-clause-judges g c = λ steps s.
@@ -42,31 +38,10 @@ returns-in-Ok-true-clause-goes_on g c =
     taken_on (HearsFirst g.O.ProofProcessor.takes (HearsEach g.P.ProofProcessor.takes g.T.ProofTranscriptProcessor.reads)) _ _ (hearers c.args.own.now c.args.others.now) c.take_in.new.self (hearers c.take_in.new.own c.take_in.new.others) c.take_in.result (c.take_in.ensures _ (λ h. refl))
 
 pub returns-in-Err-clause-judges : goal.returns-in-Err-clause-judges
-returns-in-Err-clause-judges g c = λ steps s.
-    let k = ready_kept c.args.self.now steps s c.requires.well c.requires.settled in
-    rw c.from.ensures (short_judges c.args.self.now steps s c.requires.well c.requires.settled (step_of c.args.step.now) _ c.in-Err.error (c.in-Err.ensures.decides (ready_after steps) k) refl refl)
+returns-in-Err-clause-judges g c = grind (arith, common_steps, ready_kept, short_judges)
 
 pub returns-in-Err-clause-notifies : goal.returns-in-Err-clause-notifies
-returns-in-Err-clause-notifies g c = λ before begun steps s.
-    let k = ready_kept c.args.self.now steps s.kernel c.requires.well c.requires.settled in
-    rw c.from.ensures (short_notifies c.args.self.now steps s.kernel c.requires.well c.requires.settled (step_of c.args.step.now) (HearsFirst g.O.ProofProcessor.takes (HearsEach g.P.ProofProcessor.takes g.T.ProofTranscriptProcessor.reads)) before begun (hearers c.args.own.now c.args.others.now) (s.heard c.requires.well) _ c.in-Err.error (c.in-Err.ensures.decides (ready_after steps) k) refl refl)
-
-pub returns-in-Ok-false-clause-judges : goal.returns-in-Ok-false-clause-judges
-returns-in-Ok-false-clause-judges g c = λ steps s.
-    let k = ready_kept c.args.self.now steps s c.requires.well c.requires.settled in
-    refused_judges c.args.self.now steps s c.requires.well c.requires.settled (step_of c.args.step.now) _ (match_false c.in-Ok-false.field-0 _ _ (c.in-Ok-false.ensures.decides (ready_after steps) k) (search rules)) refl refl
-
-pub returns-in-Ok-false-clause-notifies : goal.returns-in-Ok-false-clause-notifies
-returns-in-Ok-false-clause-notifies g c = λ before begun steps s.
-    let k = ready_kept c.args.self.now steps s.kernel c.requires.well c.requires.settled in
-    refused_notifies c.args.self.now steps s.kernel c.requires.well c.requires.settled (step_of c.args.step.now) (HearsFirst g.O.ProofProcessor.takes (HearsEach g.P.ProofProcessor.takes g.T.ProofTranscriptProcessor.reads)) before begun (hearers c.args.own.now c.args.others.now) (s.heard c.requires.well)
-    _ (match_false c.in-Ok-false.field-0 _ _ (c.in-Ok-false.ensures.decides (ready_after steps) k) (search rules)) refl refl
-
-pub returns-in-Ok-false-clause-looks : goal.returns-in-Ok-false-clause-looks
-returns-in-Ok-false-clause-looks g c = λ steps s. c.step.ensures.looks.most (ready_after steps) (ready_kept c.args.self.now steps s c.requires.well c.requires.settled)
-
-pub returns-in-Err-clause-looks : goal.returns-in-Err-clause-looks
-returns-in-Err-clause-looks g c = λ steps s. c.step.ensures.looks.most (ready_after steps) (ready_kept c.args.self.now steps s c.requires.well c.requires.settled)
+returns-in-Err-clause-notifies g c = grind (arith, common_steps, ready_kept, short_notifies)
 
 pub returns-in-Ok-true-clause-looks : goal.returns-in-Ok-true-clause-looks
 returns-in-Ok-true-clause-looks g c = λ steps s.
@@ -74,9 +49,3 @@ returns-in-Ok-true-clause-looks g c = λ steps s.
 
 pub returns-in-Ok-true-clause-rise : goal.returns-in-Ok-true-clause-rise
 returns-in-Ok-true-clause-rise g c = subst (λ n. kernel_looks c.args.self.now ≤ n) (sym (c.take_in.ensures _ (λ h. refl)).0.looks) c.step.ensures.looks.rise
-
-pub returns-in-Ok-false-clause-rise : goal.returns-in-Ok-false-clause-rise
-returns-in-Ok-false-clause-rise g c = c.step.ensures.looks.rise
-
-pub returns-in-Err-clause-rise : goal.returns-in-Err-clause-rise
-returns-in-Err-clause-rise g c = c.step.ensures.looks.rise

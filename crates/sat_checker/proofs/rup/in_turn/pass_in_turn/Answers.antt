@@ -2,21 +2,10 @@ use Rattle.std.proofs.Common.{◌+◌, ◌-◌, ◌≡◌, ◌∙◌, refl, sym,
 use Rattle.std.proofs.lemmas.Bool.{true≢false, both_ways}
 use Rattle.sat_checker.specs.Looks.{literal_count}
 use Rattle.sat_checker.specs.inner.AssumedRoom.{LiteralsAndRoom, HasStoredRoom}
-use Rattle.sat_checker.proofs.lemmas.propagation.Walking.{Extends-itself, Extends-further}
-use Rattle.sat_checker.proofs.lemmas.state.InTurn.{assumed_more, passing_none, after_judged, after_passing, following_refused, passing_all, looks_then, looks_end}
+use Rattle.sat_checker.proofs.lemmas.propagation.Walking.{Extends-further}
+use Rattle.sat_checker.proofs.lemmas.state.InTurn.{assumed_more, after_judged, after_passing, following_refused, passing_all, looks_then}
 use Rattle.sat_checker.proofs.lemmas.store.Entries.{on_err}
 use Rattle.sat_checker.proofs.rup.in_turn.pass_in_turn.Goals as goal
-
-pub loop-place-init : goal.loop-place-init
-loop-place-init c = record {
-  some = omega arith;
-  within = omega arith;
-  passing = λ f k is h. passing_none c.args.store.now c.args.assigned.now f c.args.units.now c.are_in_room.ensures.stand k is h;
-  same = λ f k h. refl;
-  extends = Extends-itself c.args.assigned.now;
-  looks = λ f k. omega arith;
-  rise = omega arith;
-}
 
 pub returns-in_err-passes-clause-short : goal.returns-in_err-passes-clause-short
 returns-in_err-passes-clause-short c = on_err c.from_residual.result _ (λ f k h.
@@ -25,13 +14,6 @@ returns-in_err-passes-clause-short c = on_err c.from_residual.result _ (λ f k h
 
 pub returns-in_err-passes-clause-extends : goal.returns-in_err-passes-clause-extends
 returns-in_err-passes-clause-extends c = Extends-further c.args.assigned.now c.assume.new.assigned c.passes.new.assigned (assumed_more c.args.assigned.now c.loop-place.assigned c.assume.new.assigned _ c.loop-place.invariant.extends c.assume.ensures) c.passes.ensures.extends
-
-pub returns-in_err-passes-clause-looks : goal.returns-in_err-passes-clause-looks
-returns-in_err-passes-clause-looks c = record {
-  rise = omega (arith, c.loop-place.invariant.rise, c.passes.ensures.looks.rise);
-  most = λ f k. looks_end c.args.looks.now c.passes.new.looks (c.loop-place.place + 1) _ (literal_count f) (omega (arith, c.loop-place-test.true))
-      (looks_then c.args.looks.now c.loop-place.looks c.passes.new.looks c.loop-place.place (literal_count f) c.loop-place.invariant.some (c.loop-place.invariant.looks f k) (c.passes.ensures.looks.most f k));
-}
 
 pub returns-then-not-branch-clause-exact : goal.returns-then-not-branch-clause-exact
 returns-then-not-branch-clause-exact c = λ f k is h.
@@ -49,13 +31,6 @@ returns-then-not-branch-clause-exact c = λ f k is h.
 
 pub returns-then-not-branch-clause-extends : goal.returns-then-not-branch-clause-extends
 returns-then-not-branch-clause-extends c = Extends-further c.args.assigned.now c.assume.new.assigned c.passes.new.assigned (assumed_more c.args.assigned.now c.loop-place.assigned c.assume.new.assigned _ c.loop-place.invariant.extends c.assume.ensures) c.passes.ensures.extends
-
-pub returns-then-not-branch-clause-looks : goal.returns-then-not-branch-clause-looks
-returns-then-not-branch-clause-looks c = record {
-  rise = omega (arith, c.loop-place.invariant.rise, c.passes.ensures.looks.rise);
-  most = λ f k. looks_end c.args.looks.now c.passes.new.looks (c.loop-place.place + 1) _ (literal_count f) (omega (arith, c.loop-place-test.true))
-      (looks_then c.args.looks.now c.loop-place.looks c.passes.new.looks c.loop-place.place (literal_count f) c.loop-place.invariant.some (c.loop-place.invariant.looks f k) (c.passes.ensures.looks.most f k));
-}
 
 pub loop-place-preserved : goal.loop-place-preserved
 loop-place-preserved c = record {
@@ -86,12 +61,3 @@ returns-clause-exact c = λ f k is h. (
   (λ t. passing_all c.args.store.now c.args.assigned.now.room f c.args.units.now (c.loop-place.place - 1) c.loop-place.assigned (omega (arith, c.loop-place.invariant.some)) (c.loop-place.invariant.passing f k is h)),
   (λ p. refl),
 )
-
-pub returns-clause-extends : goal.returns-clause-extends
-returns-clause-extends c = c.loop-place.invariant.extends
-
-pub returns-clause-looks : goal.returns-clause-looks
-returns-clause-looks c = record {
-  rise = c.loop-place.invariant.rise;
-  most = λ f k. looks_end c.args.looks.now c.loop-place.looks c.loop-place.place _ (literal_count f) c.loop-place.invariant.within (c.loop-place.invariant.looks f k);
-}

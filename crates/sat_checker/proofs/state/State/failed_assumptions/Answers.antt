@@ -1,38 +1,26 @@
-use Rattle.std.proofs.Common.{sym, subst, ◌∙◌, arith, length}
+use Rattle.std.proofs.Common.{sym, subst, ◌∙◌, arith}
 use Rattle.std.proofs.lemmas.Bool.{true≢false}
-use Rattle.std.proofs.lemmas.Result.{err_from_is_err_and, IfOk-from_err}
-use Rattle.sat_checker.specs.Looks.{literal_count}
+use Rattle.std.proofs.lemmas.Result.{err_from_is_err_and}
 use Rattle.sat_checker.specs.inner.FormulaView.{Explained}
-use Rattle.sat_checker.specs.inner.Reasons.{noted_length}
 use Rattle.sat_checker.proofs.lemmas.state.Refiled.{loosened}
 use Rattle.sat_checker.proofs.lemmas.state.Checks.{checks_as, kept_beside}
 use Rattle.sat_checker.proofs.lemmas.state.Keeping.{within_assumed}
-use Rattle.sat_checker.proofs.lemmas.listeners.Noting.{looks_judged, looks_followed}
 use Rattle.std.proofs.lemmas.Grind.{common_steps}
 use Rattle.sat_checker.proofs.state.State.failed_assumptions.Goals as goal
-
-pub note_core-requires-clause-denied : goal.note_core-requires-clause-denied
-note_core-requires-clause-denied c = c.deref.ensures.value ∙ c.in_ok-copy_negated.ensures
 
 pub note_core-requires-clause-explained : goal.note_core-requires-clause-explained
 note_core-requires-clause-explained c = λ whole.
     (c.args.hashes.now, subst (λ ls. Explained c.check.new.self ls c.args.hashes.now) (sym (c.deref.ensures.value ∙ c.in_ok-copy_negated.ensures)) (c.in_ok-check.ensures.explained c.if-not-branch.false whole))
 
 pub returns-then-not-has_all-clause-decides : goal.returns-then-not-has_all-clause-decides
-returns-then-not-has_all-clause-decides c = λ f k p.
-    let w = within_assumed c.has_all.result c.args.core.now f.assumed c.args.self.now.assumed k.assumed c.has_all.ensures in
-    true≢false (sym p.0 ∙ sym w ∙ c.if-not-has_all.true)
+returns-then-not-has_all-clause-decides c = grind (arith, common_steps, true≢false, within_assumed)
 
 pub returns-then-not-branch-clause-decides : goal.returns-then-not-branch-clause-decides
 returns-then-not-branch-clause-decides c = λ f k p.
     true≢false (sym ((c.in_ok-check.ensures.exact f (checks_as c.file.new.self f (c.file.ensures.kept f k.formula))).1 p.1) ∙ c.if-not-branch.true)
 
 pub returns-clause-decides : goal.returns-clause-decides
-returns-clause-decides c = λ f k.
-    let w = within_assumed c.has_all.result c.args.core.now f.assumed c.args.self.now.assumed k.assumed c.has_all.ensures in (
-      (sym w ∙ c.if-not-has_all.false, (c.in_ok-check.ensures.exact f (checks_as c.file.new.self f (c.file.ensures.kept f k.formula))).0 c.if-not-branch.false),
-      record { formula = loosened c.check.new.self f (kept_beside c.file.new.self c.check.new.self f c.check.ensures.rest (c.file.ensures.kept f k.formula)); variables = k.variables; assumed = k.assumed },
-    )
+returns-clause-decides c = grind (arith, common_steps, loosened, checks_as, kept_beside, within_assumed)
 
 pub returns-in_err-check-clause-decides : goal.returns-in_err-check-clause-decides
 returns-in_err-check-clause-decides c =
@@ -43,54 +31,6 @@ returns-in_err-copy_negated-clause-decides c = let p = err_from_is_err_and c.fro
 
 pub returns-in_err-note_core-clause-decides : goal.returns-in_err-note_core-clause-decides
 returns-in_err-note_core-clause-decides c = let p = err_from_is_err_and c.from_residual-in_err-note_core.result c.from_residual-in_err-note_core.ensures.1 in rw (p.1, p.2) (λ f k. (sym (within_assumed c.has_all.result c.args.core.now f.assumed c.args.self.now.assumed k.assumed c.has_all.ensures) ∙ c.if-not-has_all.false, (c.in_ok-check.ensures.exact f (checks_as c.file.new.self f (c.file.ensures.kept f k.formula))).0 c.if-not-branch.false))
-
-pub returns-then-not-has_all-clause-looks : goal.returns-then-not-has_all-clause-looks
-returns-then-not-has_all-clause-looks c = record { rise = grind (arith, common_steps); most = λ f k. omega arith }
-
-pub returns-in_err-copy_negated-clause-looks : goal.returns-in_err-copy_negated-clause-looks
-returns-in_err-copy_negated-clause-looks c = record {
-  rise = grind (arith, common_steps);
-  most = λ f k. looks_judged c.args.looks.now c.file.new.looks c.check.new.looks (length c.args.hashes.now) (literal_count f) (c.file.ensures.looks.most f k.formula) (c.check.ensures.looks.most f (checks_as c.file.new.self f (c.file.ensures.kept f k.formula)));
-}
-
-pub returns-in_err-check-clause-looks : goal.returns-in_err-check-clause-looks
-returns-in_err-check-clause-looks c = record {
-  rise = grind (arith, common_steps);
-  most = λ f k. looks_judged c.args.looks.now c.file.new.looks c.check.new.looks (length c.args.hashes.now) (literal_count f) (c.file.ensures.looks.most f k.formula) (c.check.ensures.looks.most f (checks_as c.file.new.self f (c.file.ensures.kept f k.formula)));
-}
-
-pub returns-then-not-branch-clause-looks : goal.returns-then-not-branch-clause-looks
-returns-then-not-branch-clause-looks c = record {
-  rise = grind (arith, common_steps);
-  most = λ f k. looks_judged c.args.looks.now c.file.new.looks c.check.new.looks (length c.args.hashes.now) (literal_count f) (c.file.ensures.looks.most f k.formula) (c.check.ensures.looks.most f (checks_as c.file.new.self f (c.file.ensures.kept f k.formula)));
-}
-
-pub returns-in_err-note_core-clause-looks : goal.returns-in_err-note_core-clause-looks
-returns-in_err-note_core-clause-looks c = record {
-  rise = grind (arith, common_steps);
-  most = λ f k. looks_followed c.args.looks.now c.file.new.looks c.check.new.looks c.note_core.new.looks (noted_length c.check.new.self.store.clauses c.check.new.self.passed) (length c.args.hashes.now) (literal_count f) (c.file.ensures.looks.most f k.formula) (c.check.ensures.looks.most f (checks_as c.file.new.self f (c.file.ensures.kept f k.formula))) c.in_ok-check.ensures.read c.note_core.ensures.looks.most;
-}
-
-pub returns-clause-looks : goal.returns-clause-looks
-returns-clause-looks c = record {
-  rise = grind (arith, common_steps);
-  most = λ f k. looks_followed c.args.looks.now c.file.new.looks c.check.new.looks c.note_core.new.looks (noted_length c.check.new.self.store.clauses c.check.new.self.passed) (length c.args.hashes.now) (literal_count f) (c.file.ensures.looks.most f k.formula) (c.check.ensures.looks.most f (checks_as c.file.new.self f (c.file.ensures.kept f k.formula))) c.in_ok-check.ensures.read c.note_core.ensures.looks.most;
-}
-
-pub returns-in_err-copy_negated-clause-noted : goal.returns-in_err-copy_negated-clause-noted
-returns-in_err-copy_negated-clause-noted c = IfOk-from_err c.from_residual-in_err-copy_negated.result _ c.from_residual-in_err-copy_negated.ensures.0
-
-pub returns-in_err-check-clause-noted : goal.returns-in_err-check-clause-noted
-returns-in_err-check-clause-noted c = IfOk-from_err c.from_residual.result _ c.from_residual.ensures.0
-
-pub returns-in_err-note_core-clause-noted : goal.returns-in_err-note_core-clause-noted
-returns-in_err-note_core-clause-noted c = IfOk-from_err c.from_residual-in_err-note_core.result _ c.from_residual-in_err-note_core.ensures.0
-
-pub returns-then-not-has_all-clause-noted : goal.returns-then-not-has_all-clause-noted
-returns-then-not-has_all-clause-noted c = λ t. absurd (true≢false (sym t))
-
-pub returns-then-not-branch-clause-noted : goal.returns-then-not-branch-clause-noted
-returns-then-not-branch-clause-noted c = λ t. absurd (true≢false (sym t))
 
 pub returns-clause-noted : goal.returns-clause-noted
 returns-clause-noted c = λ t f k long. c.in_ok-note_core.ensures.noted f c.args.hashes.now (kept_beside c.file.new.self c.check.new.self f c.check.ensures.rest (c.file.ensures.kept f k.formula))

@@ -1,4 +1,4 @@
-use Rattle.std.proofs.Common.{ℕ, ◌≡◌, Bool, true, false, MatchBool, List, [], ◌∷◌, inl, inr, sym, ap, subst, ◌∙◌}
+use Rattle.std.proofs.Common.{ℕ, ◌≡◌, Bool, true, false, MatchBool, List, [], ◌∷◌, inl, inr, sym, ap, ◌∙◌}
 use Rattle.std.proofs.lemmas.Bool.{true≢false}
 use Rattle.std.specs.List.{AllByRecursion}
 use Rattle.sat_base.specs.values.Literals.{variable}
@@ -18,9 +18,6 @@ sampling_back vs f (l ∷ ls) k h = (ap (λ (x : Variable). x.mode) (k.each (var
 added_or : (vs : Variables) (f : Stored) (ls : List ℕ) (b : Bool) → KeepsVariables vs f.variables → f.unsat ≡ false → MatchBool b (AreSampling vs ls) (AreSampling vs ls → ⊥) → MatchBool b (MayBeAdded f ls) (MayBeAdded f ls → ⊥)
 added_or vs f ls true k u h = inr (sampling_kept vs f ls k h)
 added_or vs f ls false k u h = λ may. elim may [ inl e ↦ true≢false (sym e ∙ u) | inr s ↦ h (sampling_back vs f ls k s) ]
-
-pub returns-then-self : goal.returns-then-self
-returns-then-self c = λ f k. subst (λ b. MatchBool b (MayBeAdded f c.args.clause.now) (MayBeAdded f c.args.clause.now → ⊥)) (sym c.if-self.true) (inl (sym (ap (λ (s : RestOfStored). s.unsat) k.formula.status) ∙ c.if-self.true))
 
 pub returns-else-self : goal.returns-else-self
 returns-else-self c = λ f k. added_or c.args.self.now.variables f c.args.clause.now c.are_sampling.result k.variables (sym (ap (λ (s : RestOfStored). s.unsat) k.formula.status) ∙ c.if-self.false) c.are_sampling.ensures

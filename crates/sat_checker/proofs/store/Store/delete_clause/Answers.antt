@@ -1,4 +1,4 @@
-use Rattle.std.proofs.Common.{arith, ap, ◌∙◌, refl}
+use Rattle.std.proofs.Common.{arith, ap, ◌∙◌}
 use Rattle.sat_checker.proofs.lemmas.store.Storing.{is_there, looks_one, count_there, count_none, deleted_one}
 use Rattle.sat_checker.specs.inner.SlotView.{slot_ids, places_of}
 use Rattle.sat_checker.proofs.lemmas.store.Looking.{literals_there}
@@ -7,9 +7,7 @@ use Rattle.std.proofs.lemmas.Grind.{common_steps}
 use Rattle.sat_checker.proofs.store.Store.delete_clause.Goals as goal
 
 pub returns-in_default-clause-deleted : goal.returns-in_default-clause-deleted
-returns-in_default-clause-deleted c = λ f k n.
-    let z = count_none c.args.self.now f k c.args.literals.now c.clause_hash-hash.result c.clause_hash-hash.ensures c.in_default.ensures.found c.args.redundant in
-    omega (arith, z, n)
+returns-in_default-clause-deleted c = grind (arith, common_steps, count_none)
 
 pub returns-in_default-clause-looks : goal.returns-in_default-clause-looks
 returns-in_default-clause-looks c = record {
@@ -21,9 +19,7 @@ pub count-requires : goal.count-requires
 count-requires c = (is_there c.args.self.now.clauses c.args.literals.now c.clause_hash-hash.result c.in-Some.place c.in-Some.ensures.found).inside
 
 pub returns-then-count-eq0-clause-deleted : goal.returns-then-count-eq0-clause-deleted
-returns-then-count-eq0-clause-deleted c = λ f k n.
-    let z = count_there c.args.self.now f k c.args.literals.now c.clause_hash-hash.result c.clause_hash-hash.ensures c.in-Some.place c.in-Some.ensures.found c.args.redundant in
-    omega (arith, z, n, c.count.ensures, c.if-count-eq0.true)
+returns-then-count-eq0-clause-deleted c = grind (arith, common_steps, count_there)
 
 pub returns-then-count-eq0-clause-looks : goal.returns-then-count-eq0-clause-looks
 returns-then-count-eq0-clause-looks c = record {
@@ -32,9 +28,7 @@ returns-then-count-eq0-clause-looks c = record {
 }
 
 pub returns-clause-deleted : goal.returns-clause-deleted
-returns-clause-deleted c = λ f k.
-    let z = count_there c.args.self.now f k c.args.literals.now c.clause_hash-hash.result c.clause_hash-hash.ensures c.in-Some.place c.in-Some.ensures.found c.args.redundant in
-    (omega (arith, z, c.count.ensures, c.if-count-eq0.false), deleted_one c.args.self.now f k c.args.literals.now c.clause_hash-hash.result c.clause_hash-hash.ensures c.in-Some.place c.in-Some.ensures.found c.args.redundant c.take_count.new.self c.take_count.ensures)
+returns-clause-deleted c = grind (arith, common_steps, count_there, deleted_one)
 
 pub returns-clause-ids : goal.returns-clause-ids
 returns-clause-ids c = ap slot_ids c.take_count.ensures ∙ ids_taken c.args.redundant c.in-Some.place c.args.self.now.clauses
@@ -44,18 +38,6 @@ returns-clause-looks c = record {
   rise = grind (arith, common_steps);
   most = looks_one c.args.self.now c.clause_hash-hash.result c.args.looks.now c.find.new.looks c.find.ensures.looks.most;
 }
-
-pub returns-in_default-clause-ids : goal.returns-in_default-clause-ids
-returns-in_default-clause-ids c = refl
-
-pub returns-then-count-eq0-clause-ids : goal.returns-then-count-eq0-clause-ids
-returns-then-count-eq0-clause-ids c = refl
-
-pub take_count-requires-clause-inside : goal.take_count-requires-clause-inside
-take_count-requires-clause-inside c = (is_there c.args.self.now.clauses c.args.literals.now c.clause_hash-hash.result c.in-Some.place c.in-Some.ensures.found).inside
-
-pub take_count-requires-clause-some : goal.take_count-requires-clause-some
-take_count-requires-clause-some c = omega (arith, c.count.ensures, c.if-count-eq0.false)
 
 pub take_count-requires-clause-literals : goal.take_count-requires-clause-literals
 take_count-requires-clause-literals c = literals_there c.args.self.now.clauses c.args.literals.now c.in-Some.place (places_of c.clause_hash-hash.result c.args.self.now.clauses) c.in-Some.ensures.found

@@ -1,9 +1,10 @@
+use Rattle.std.proofs.lemmas.Grind.{common_steps}
 use Rattle.std.proofs.Common.{false, sym, ◌∙◌, arith}
 use Rattle.sat_checker.specs.Looks.{literal_count}
 use Rattle.sat_checker.specs.inner.Looking.{LooksOver}
 use Rattle.sat_checker.specs.inner.StoreView.{RepresentsClauses}
 use Rattle.sat_checker.proofs.lemmas.store.Storing.{IsThere, is_there, inside_more, looks_one, count_there, count_none, stored_again, stored_new}
-use Rattle.sat_checker.proofs.lemmas.store.Ids.{placed_new, placed_again}
+use Rattle.sat_checker.proofs.lemmas.store.Ids.{placed_again}
 use Rattle.sat_checker.proofs.store.Store.store_clause.Goals as goal
 use Rattle.sat_checker.proofs.store.Store.store_clause.Goals.{After-find, In-Some}
 
@@ -22,10 +23,6 @@ pub returns-in_default-clause-ok : goal.returns-in_default-clause-ok
 returns-in_default-clause-ok c = λ f k.
     stored_new c.args.self.now f k c.args.literals.now c.clause_hash-hash.result c.clause_hash-hash.ensures c.in_default.ensures.found c.args.redundant c.args.id c.push.new.self c.in_ok-push.ensures
 
-pub returns-in_default-clause-placed : goal.returns-in_default-clause-placed
-returns-in_default-clause-placed c =
-    placed_new c.args.self.now.clauses c.push.new.self c.args.redundant c.args.id c.clause_hash-hash.result c.args.literals.now c.in_ok-push.ensures
-
 pub returns-in_default-clause-looks : goal.returns-in_default-clause-looks
 returns-in_default-clause-looks c = looked (goal.at.returns-in_default-clause-looks c).After-find
 
@@ -33,9 +30,7 @@ pub count-requires : goal.count-requires
 count-requires c = (found (goal.at.count-requires c).In-Some).inside
 
 pub returns-then-count-clause-full : goal.returns-then-count-clause-full
-returns-then-count-clause-full c = λ e f k.
-    let z = count_there c.args.self.now f k c.args.literals.now c.clause_hash-hash.result c.clause_hash-hash.ensures c.in-Some.place c.in-Some.ensures.found c.args.redundant in
-    omega (arith, z, c.count.ensures, c.if-count.true)
+returns-then-count-clause-full c = grind (arith, common_steps, count_there)
 
 pub returns-then-count-clause-looks : goal.returns-then-count-clause-looks
 returns-then-count-clause-looks c = looked (goal.at.returns-then-count-clause-looks c).After-find

@@ -1,3 +1,4 @@
+use Rattle.std.proofs.lemmas.Grind.{common_steps}
 use Rattle.std.proofs.Common.{◌≡◌, ◌+◌, ◌-◌, [], ◌∷◌, ◌++◌, length, ap, ◌∙◌, arith}
 use Rattle.sat_checker.specs.inner.PairView.{inserted}
 use Rattle.sat_checker.specs.inner.SlotView.{unstored}
@@ -5,12 +6,6 @@ use Rattle.sat_checker.proofs.lemmas.store.Counting.{few_more, last_place}
 use Rattle.sat_checker.proofs.lemmas.store.Kept.{kept_stored}
 use Rattle.sat_checker.proofs.lemmas.store.Places.{stored_last}
 use Rattle.sat_checker.proofs.store.clauses.add.Goals as goal
-
-pub overflow_sub-count : goal.overflow_sub-count
-overflow_sub-count c = let n = last_place c.args.slots.now c.push.new.self _ c.len-count.result c.len-count.ensures.count c.in_ok-push.ensures.ok in omega (arith, n)
-
-pub add_count-requires-clause-inside : goal.add_count-requires-clause-inside
-add_count-requires-clause-inside c = let n = last_place c.args.slots.now c.push.new.self _ c.len-count.result c.len-count.ensures.count c.in_ok-push.ensures.ok in omega (arith, n, c.len-count.ensures.count)
 
 pub add-requires-clause-few : goal.add-requires-clause-few
 add-requires-clause-few c = λ l.
@@ -26,8 +21,4 @@ returns-clause-kept c =
     (c.in_ok-push-2.ensures.ok ∙ ap (λ h. record { pairs = inserted (record { hash = h; place = c.args.index.now.places }) c.args.index.now.pairs; places = c.args.index.now.places + 1 }) c.mixed.ensures) pushed c.add_count.ensures c.add.ensures
 
 pub returns-clause-slots : goal.returns-clause-slots
-returns-clause-slots c =
-    let n = last_place c.args.slots.now c.push.new.self _ c.len-count.result c.len-count.ensures.count c.in_ok-push.ensures.ok in
-    let place : c.len-count.result - 1 ≡ length c.args.slots.now = omega (arith, n) in
-    let pushed = c.in_ok-push.ensures.ok ∙ ap (λ h. c.args.slots.now ++ unstored c.args.id h c.args.literals.now ∷ []) c.new.ensures in
-    stored_last c.args.redundant c.args.id c.args.hash (c.len-count.result - 1) c.args.literals.now c.args.slots.now c.push.new.self c.add_count.new.self place pushed c.add_count.ensures
+returns-clause-slots c = grind (arith, common_steps, last_place, stored_last)

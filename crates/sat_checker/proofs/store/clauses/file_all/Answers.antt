@@ -1,6 +1,5 @@
 use Rattle.std.proofs.Common.{ℕ, suc, ◌+◌, ◌-◌, ◌<◌, ◌≡◌, drop, length, sym, ap, subst, ◌∙◌, arith}
 use Rattle.std.specs.List.{AllByRecursion}
-use Rattle.std.proofs.lemmas.List.{drop_all}
 use Rattle.sat_checker.specs.HasherView.{solver_name_of, width_of}
 use Rattle.sat_checker.specs.Stored.{hash_by}
 use Rattle.sat_checker.specs.inner.PairView.{Indexed, inserted, mixed}
@@ -8,39 +7,8 @@ use Rattle.sat_checker.specs.inner.SlotView.{Slot, all_hashed_by, is_gone, live_
 use Rattle.sat_checker.proofs.lemmas.pairs.Order.{length_inserted}
 use Rattle.sat_checker.proofs.lemmas.store.Filing.{filed_above, files_all}
 use Rattle.sat_checker.proofs.lemmas.store.Kept.{count_hashed}
-use Rattle.sat_checker.proofs.lemmas.store.Rehashing.{hashed_from, hashed_none, filed_none, filed_from, hashed_next, hashed_skip, slot_same, filed_next, filed_skip, left_gone, left_there, length_left}
+use Rattle.sat_checker.proofs.lemmas.store.Rehashing.{hashed_from, filed_from, hashed_next, hashed_skip, slot_same, filed_next, filed_skip, left_gone, left_there}
 use Rattle.sat_checker.proofs.store.clauses.file_all.Goals as goal
-
-no_more : (a : ℕ) → a ≡ a + 0
-no_more a = omega arith
-
-pub loop-done-init : goal.loop-done-init
-loop-done-init c =
-    let ss = c.args.slots.now in
-    let names = solver_name_of c.args.hasher.now in
-    let width = width_of c.args.hasher.now in
-    let n : c.len-count.result - 0 ≡ length ss = omega (arith, c.len-count.ensures.count) in
-    let pairs = ap (λ (x : Indexed). x.pairs) c.clear.ensures in
-    let places = ap (λ (x : Indexed). x.places) c.clear.ensures in
-    record {
-      hashed = sym (ap (λ k. hashed_from names width k ss) n ∙ hashed_none names width ss);
-      filed = pairs ∙ sym (ap (λ k. filed_from names width k ss) n ∙ filed_none names width ss);
-      places = places;
-      room = omega (arith, n, ap length pairs, places, c.requires.places);
-      looks = no_more c.args.looks.now ∙ ap (λ xs. c.args.looks.now + live_length xs) (sym (drop_all (c.len-count.result - 0) ss (omega (arith, n))));
-    }
-
-pub is_gone-requires : goal.is_gone-requires
-is_gone-requires c =
-    omega (arith, c.loop-done-test.true, c.len-count.ensures.count, ap length c.loop-done.invariant.hashed, length_left (solver_name_of c.args.hasher.now) (width_of c.args.hasher.now) (c.args.slots.now) (c.len-count.result - c.loop-done.done))
-
-pub literals-requires : goal.literals-requires
-literals-requires c =
-    omega (arith, c.loop-done-test.true, c.len-count.ensures.count, ap length c.loop-done.invariant.hashed, length_left (solver_name_of c.args.hasher.now) (width_of c.args.hasher.now) (c.args.slots.now) (c.len-count.result - c.loop-done.done))
-
-pub set_hash-requires : goal.set_hash-requires
-set_hash-requires c =
-    omega (arith, c.loop-done-test.true, c.len-count.ensures.count, ap length c.loop-done.invariant.hashed, length_left (solver_name_of c.args.hasher.now) (width_of c.args.hasher.now) (c.args.slots.now) (c.len-count.result - c.loop-done.done))
 
 pub loop-done-preserved-then-is_gone : goal.loop-done-preserved-then-is_gone
 loop-done-preserved-then-is_gone c =
@@ -63,18 +31,12 @@ loop-done-preserved-then-is_gone c =
       looks = c.loop-done.invariant.looks ∙ ap (λ k. c.args.looks.now + live_length (drop k ss)) (sym from) ∙ ap (λ n. c.args.looks.now + n) (sym (left_gone ss i inside gone)) ∙ ap (λ k. c.args.looks.now + live_length (drop k ss)) (sym to);
     }
 
-pub file_before-requires-clause-inside : goal.file_before-requires-clause-inside
-file_before-requires-clause-inside c = omega (arith, c.loop-done-test.true, c.len-count.ensures.count, c.requires.places, c.loop-done.invariant.places)
-
 pub file_before-requires-clause-above : goal.file_before-requires-clause-above
 file_before-requires-clause-above c =
     let names = solver_name_of c.args.hasher.now in
     let i : ℕ = c.len-count.result - 1 - c.loop-done.done in
     let from : i + 1 ≡ c.len-count.result - c.loop-done.done = omega (arith, c.loop-done-test.true) in
     subst (AllByRecursion (λ q. i < q.place)) (sym (c.loop-done.invariant.filed ∙ ap (λ k. filed_from names (width_of c.args.hasher.now) k c.args.slots.now) (sym from))) (filed_above i (i + 1) (all_hashed_by names (width_of c.args.hasher.now) (drop (i + 1) c.args.slots.now)) (omega arith))
-
-pub file_before-requires-clause-room : goal.file_before-requires-clause-room
-file_before-requires-clause-room c = omega (arith, c.loop-done-test.true, c.loop-done.invariant.room)
 
 pub loop-done-preserved : goal.loop-done-preserved
 loop-done-preserved c =
@@ -106,11 +68,6 @@ loop-done-preserved c =
       looks = looked ∙ ap (λ k. c.args.looks.now + live_length (drop k ss)) (sym to);
     }
 
-pub returns-clause-hashed : goal.returns-clause-hashed
-returns-clause-hashed c =
-    let none : c.len-count.result - c.loop-done.done ≡ 0 = omega (arith, c.loop-done-test.false) in
-    c.loop-done.invariant.hashed ∙ ap (λ k. hashed_from (solver_name_of c.args.hasher.now) (width_of c.args.hasher.now) k c.args.slots.now) none
-
 pub returns-clause-filed : goal.returns-clause-filed
 returns-clause-filed c =
     let names = solver_name_of c.args.hasher.now in
@@ -120,9 +77,3 @@ returns-clause-filed c =
     let places = c.loop-done.invariant.places ∙ c.requires.places ∙ sym (count_hashed names width c.args.slots.now) in
     files_all (all_hashed_by names width c.args.slots.now) c.loop-done.index
     (ap (λ ps. record { pairs = ps; places = c.loop-done.index.places }) pairs ∙ ap (λ n. record { pairs = filed_from names width 0 c.args.slots.now; places = n }) places)
-
-pub returns-clause-looks : goal.returns-clause-looks
-returns-clause-looks c =
-    let none : c.len-count.result - c.loop-done.done ≡ 0 = omega (arith, c.loop-done-test.false) in
-    let whole = c.loop-done.invariant.looks ∙ ap (λ k. c.args.looks.now + live_length (drop k c.args.slots.now)) none in
-    record { rise = omega (arith, whole); most = omega (arith, whole) }

@@ -1,12 +1,11 @@
+use Rattle.std.proofs.lemmas.Grind.{common_steps}
 use Rattle.std.proofs.Common.{◌≡◌, ◌≤◌, [], length, ap, ◌∙◌, arith}
 use Rattle.sat_checker.specs.inner.LinkView.{nowhere}
 use Rattle.sat_checker.proofs.lemmas.pairs.Changing.{kept_none, lists_none}
 use Rattle.sat_checker.proofs.store.sorted_pairs.with_places.Goals as goal
 
 pub invariant_of-result : goal.invariant_of-result
-invariant_of-result c =
-    let few : length c.resize.new.self.items ≤ nowhere = omega (arith, c.in_ok-resize.ensures.len, c.resize.new.self.ok.0, c.if-places.false) in
-    kept_none c.in_ok-heads.heads.items c.resize.new.self.items c.shift_for-shift.result few c.in_ok-heads.ensures.none (λ _. c.in_ok-heads.ensures.some) c.shift_for-shift.ensures.few c.shift_for-shift.ensures.below
+invariant_of-result c = grind (arith, common_steps, kept_none)
 
 pub returns : goal.returns
 returns c =

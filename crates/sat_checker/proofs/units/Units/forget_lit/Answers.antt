@@ -1,12 +1,10 @@
+use Rattle.std.proofs.Common.{arith}
+use Rattle.std.proofs.lemmas.Grind.{common_steps}
 use Rattle.std.proofs.Common.{◌∙◌, sym, ap, subst, filter, not, eqb}
 use Rattle.sat_checker.specs.Stored.{StoredUnit}
-use Rattle.sat_checker.specs.inner.UnitView.{UnitsAndRoom, UnitsInvariant}
+use Rattle.sat_checker.specs.inner.UnitView.{UnitsInvariant}
 use Rattle.sat_checker.proofs.lemmas.state.Forgetting.{unit_taken, none_taken}
-use Rattle.sat_checker.proofs.lemmas.store.Units.{among_units}
 use Rattle.sat_checker.proofs.units.Units.forget_lit.Goals as goal
-
-pub take_out-requires-clause-assumed : goal.take_out-requires-clause-assumed
-take_out-requires-clause-assumed c = among_units c.self.inside.order.units c.args.self.now.units c.self.inside.ids c.self.inside.places c.self.inside.assigned.literals (ap (λ (w : UnitsAndRoom). w.units) c.self.view_is) c.self.invariant c.args.lit ∙ sym c.is_unit.ensures ∙ c.if-not-is_unit.false
 
 pub invariant_of-self : goal.invariant_of-self
 invariant_of-self c =
@@ -16,11 +14,7 @@ invariant_of-self c =
     c.self.invariant c.take_out.ensures.assumed c.forget.ensures c.take_out.ensures.placed)
 
 pub returns : goal.returns
-returns c =
-    ap (λ us. record { units = us; room = c.take_out.new.assigned.room })
-    (c.without-self-inside.ensures ∙ ap (λ x. filter (λ (u : StoredUnit). not (eqb u.literal x)) c.self.inside.order.units) c.code.ensures.value)
-    ∙ ap (λ r. record { units = filter (λ (u : StoredUnit). not (eqb u.literal c.args.lit)) c.self.inside.order.units; room = r }) c.take_out.ensures.room
-    ∙ ap (λ (w : UnitsAndRoom). record w { units = filter (λ (u : StoredUnit). not (eqb u.literal c.args.lit)) w.units }) c.self.view_is
+returns c = grind (arith, common_steps)
 
 pub returns-then-not-is_unit : goal.returns-then-not-is_unit
 returns-then-not-is_unit c = ap (λ us. record c.args.self.now { units = us }) (none_taken c.args.lit c.args.self.now.units (sym c.is_unit.ensures ∙ c.if-not-is_unit.true))

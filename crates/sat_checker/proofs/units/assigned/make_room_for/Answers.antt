@@ -1,12 +1,9 @@
 use Rattle.std.proofs.Common.{◌+◌, ◌≡◌, ◌∙◌, true, ◌∷◌, drop, sym, ap, subst}
-use Rattle.std.proofs.lemmas.Bool.{both_ways}
-use Rattle.std.proofs.lemmas.Result.{err_from_is_err_and}
 use Rattle.std.proofs.lemmas.List.{drop_more, drop_all}
 use Rattle.sat_base.specs.values.Literals.{negated}
 use Rattle.sat_checker.specs.LiteralSets.{is_among}
 use Rattle.sat_checker.specs.inner.AssumedRoom.{LiteralsAndRoom, HasClauseRoom, RoomStays}
 use Rattle.sat_checker.proofs.lemmas.sets.Rooms.{room_stays, room_there, stays_further}
-use Rattle.sat_checker.proofs.lemmas.state.Rooms.{roomy_item}
 use Rattle.sat_checker.proofs.units.assigned.make_room_for.Goals as goal
 
 pub loop-lit-preserved : goal.loop-lit-preserved
@@ -30,10 +27,3 @@ pub returns-clause-room : goal.returns-clause-room
 returns-clause-room c =
     let room = c.loop-lit.assigned.room in
     c.loop-lit.invariant.room room (λ l h. h) (subst (HasClauseRoom room) (sym (drop_all c.loop-lit.lit-index c.args.clause.now c.loop-lit-test.false)) tt)
-
-pub returns-in_err-make_room-clause-short : goal.returns-in_err-make_room-clause-short
-returns-in_err-make_room-clause-short c =
-    let x = c.lit-item.result in
-    rw (err_from_is_err_and c.from_residual.result c.from_residual.ensures.1).1 (λ h.
-    both_ways (is_among c.loop-lit.assigned.room x) c.in_err-make_room.ensures.short
-    (c.loop-lit.invariant.stays x (roomy_item c.args.assigned.now.room c.args.clause.now c.loop-lit.lit-index x c.loop-lit-test.true c.lit-item.is h)))

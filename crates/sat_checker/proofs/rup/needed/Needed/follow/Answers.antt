@@ -3,7 +3,6 @@ use Rattle.sat_checker.specs.LiteralSets.{is_among}
 use Rattle.sat_checker.specs.announcements.Needed.{others_denied}
 use Rattle.sat_checker.specs.inner.Reasons.{clause_at}
 use Rattle.sat_checker.proofs.lemmas.announcements.Marking.{is_needed}
-use Rattle.std.proofs.lemmas.Result.{IfOk-from_err}
 use Rattle.sat_checker.proofs.rup.needed.Needed.follow.Goals as goal
 
 pub returns-clause-followed : goal.returns-clause-followed
@@ -11,9 +10,3 @@ returns-clause-followed c = λ g f.
     is_needed c.args.self.now (record { marked = c.mark_others.new.marked; ids = c.push.new.self }) (clause_at c.args.clauses.now c.args.reason.place) c.args.reason.lit g f (search rules)
     (subst (λ ls. (m : ℕ) → is_among c.mark_others.new.marked.literals m ≡ (is_among (others_denied c.args.reason.lit ls) m || is_among c.args.self.now.marked.literals m)) c.literals.ensures.lent c.in_ok-mark_others.ensures.marked)
     (c.in_ok-push.ensures.items ∙ ap (λ i. c.args.self.now.ids.items ++ i ∷ []) c.id.ensures)
-
-pub returns-in_err-mark_others-clause-followed : goal.returns-in_err-mark_others-clause-followed
-returns-in_err-mark_others-clause-followed c = IfOk-from_err c.from_residual.result _ c.from_residual.ensures.0
-
-pub returns-in_err-push-clause-followed : goal.returns-in_err-push-clause-followed
-returns-in_err-push-clause-followed c = IfOk-from_err c.from_residual-in_err-push.result _ c.from_residual-in_err-push.ensures.0

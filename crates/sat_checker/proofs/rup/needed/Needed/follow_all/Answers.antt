@@ -1,9 +1,8 @@
-use Rattle.std.proofs.Common.{ℕ, ◌+◌, ◌-◌, ◌<◌, ◌≡◌, length, get_or, map, drop, sym, ◌∙◌, ap, arith, Some, subst}
+use Rattle.std.proofs.Common.{ℕ, ◌+◌, ◌-◌, ◌<◌, ◌≡◌, length, get_or, map, drop, sym, ◌∙◌, ap, arith, Some}
 use Rattle.sat_checker.specs.announcements.Following.{followed_back}
-use Rattle.sat_checker.specs.inner.Reasons.{reason_in, conflict_at, IsConflictPlace}
+use Rattle.sat_checker.specs.inner.Reasons.{reason_in, conflict_at}
 use Rattle.sat_checker.specs.inner.SlotView.{literals_at}
-use Rattle.sat_checker.proofs.lemmas.announcements.Marking.{back_next, read_next, within_notes, there_at}
-use Rattle.std.proofs.lemmas.Result.{IfOk-from_err}
+use Rattle.sat_checker.proofs.lemmas.announcements.Marking.{back_next, read_next, within_notes}
 use Rattle.std.proofs.lemmas.Grind.{common_steps}
 use Rattle.sat_checker.proofs.rup.needed.Needed.follow_all.Goals as goal
 use Rattle.sat_checker.proofs.rup.needed.Needed.follow_all.Goals.{After-index-reasons-count}
@@ -44,23 +43,3 @@ loop-done-preserved c =
       looks = read_next c.args.clauses.now rs (k x) (n x) r (omega arith) (inside x) (there x) c.args.looks.now c.loop-done.looks c.follow.new.looks (length (literals_at c.args.clauses.now c.in-Some.place)) c.loop-done.invariant.looks c.follow.ensures.looks.most;
       rise = omega (arith, c.loop-done.invariant.rise, c.follow.ensures.looks.rise);
     }
-
-pub begin-requires : goal.begin-requires
-begin-requires c = subst (IsConflictPlace c.args.clauses.now) (sym c.conflict.ensures ∙ c.in-Some.is) c.requires.met
-
-pub returns-in_err-begin-clause-followed : goal.returns-in_err-begin-clause-followed
-returns-in_err-begin-clause-followed c = IfOk-from_err c.from_residual.result _ c.from_residual.ensures.0
-
-pub returns-in_err-follow-clause-followed : goal.returns-in_err-follow-clause-followed
-returns-in_err-follow-clause-followed c = IfOk-from_err c.from_residual-in_err-follow.result _ c.from_residual-in_err-follow.ensures.0
-
-pub follow-requires : goal.follow-requires
-follow-requires c =
-    let x = (goal.at.follow-requires c).After-index-reasons-count in
-    there_at c.args.clauses.now c.args.passed.now.reasons (k x) (n x) c.index-reasons-count.result (omega arith) (inside x) (there x) c.requires.there
-
-pub returns-clause-looks : goal.returns-clause-looks
-returns-clause-looks c = record {
-  rise = grind (arith, common_steps);
-  most = within_notes c.args.clauses.now c.args.passed.now c.in-Some.place (length c.reasons-reasons.result.now - c.loop-done.done) c.args.looks.now c.loop-done.looks (sym c.conflict.ensures ∙ c.in-Some.is) c.loop-done.invariant.looks;
-}

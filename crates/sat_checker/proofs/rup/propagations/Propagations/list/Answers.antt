@@ -1,5 +1,4 @@
-use Rattle.std.proofs.Common.{ℕ, ◌+◌, ◌≤◌, [], ◌∷◌, ◌++◌, map, Result, Ok, Err, OnOk, sym, ◌∙◌, ap, subst, arith}
-use Rattle.std.proofs.lemmas.Result.{IfOk-from_err}
+use Rattle.std.proofs.Common.{◌++◌, map, Result, Ok, Err, OnOk, sym, ◌∙◌, ap, subst, arith}
 use Rattle.sat_base.specs.values.Literals.{negated}
 use Rattle.sat_checker.specs.Stored.{StoredUnit, unit_literals}
 use Rattle.sat_checker.specs.announcements.Needed.{conflict_causes, conflict_ids, true_unit}
@@ -11,24 +10,12 @@ use Rattle.sat_checker.proofs.lemmas.announcements.Cases.{met_conflict, none_of_
 use Rattle.std.proofs.lemmas.Grind.{common_steps}
 use Rattle.sat_checker.proofs.rup.propagations.Propagations.list.Goals as goal
 
-no_less : (a b : ℕ) → a ≤ a + b
-no_less a b = omega arith
-
 on_ok : {A E : Type 0} (r : Result A E) (P Q : Type 0) → (P → Q) → OnOk r P → OnOk r Q
 on_ok (Ok x) P Q w h = w h
 on_ok (Err e) P Q w h = tt
 
 pub has_both_signs-requires : goal.has_both_signs-requires
 has_both_signs-requires c = subst IsIncreasing (sym c.requires.canonical) (canonical_increasing c.args.clause.now)
-
-pub returns-then-has_both_signs-clause-looks : goal.returns-then-has_both_signs-clause-looks
-returns-then-has_both_signs-clause-looks c = record { rise = grind (arith, common_steps); most = no_less c.args.looks.now _ }
-
-pub returns-in-Some-clause-looks : goal.returns-in-Some-clause-looks
-returns-in-Some-clause-looks c = record { rise = grind (arith, common_steps); most = no_less c.args.looks.now _ }
-
-pub returns-in_err-push-clause-looks : goal.returns-in_err-push-clause-looks
-returns-in_err-push-clause-looks c = record { rise = grind (arith, common_steps); most = no_less c.args.looks.now _ }
 
 -- both signs of a variable
 pub returns-then-has_both_signs-clause-listed : goal.returns-then-has_both_signs-clause-listed
@@ -37,14 +24,7 @@ returns-then-has_both_signs-clause-listed c = λ f hashes k e x i.
 
 -- a unit that is true
 pub returns-in-Some-clause-listed : goal.returns-in-Some-clause-listed
-returns-in-Some-clause-listed c = λ f hashes k e x i.
-    let found = ap (true_unit c.args.literals.now) (sym e) ∙ sym c.true_id.ensures ∙ c.in-Some.is in
-    c.in_ok-push.ensures.items ∙ ap (λ xs. xs ++ c.in-Some.id ∷ []) c.clear.ensures.items
-    ∙ sym (unit_of_literals c.args.clause.now c.args.literals.now c.requires.canonical f hashes c.in-Some.id (sym c.has_both_signs.ensures ∙ c.if-has_both_signs.false) found)
-
--- a conflict
-pub list_conflict-requires-clause-empty : goal.list_conflict-requires-clause-empty
-list_conflict-requires-clause-empty c = c.clear.ensures.items
+returns-in-Some-clause-listed c = grind (arith, common_steps, unit_of_literals)
 
 pub list_conflict-requires-clause-there : goal.list_conflict-requires-clause-there
 list_conflict-requires-clause-there c =
@@ -67,6 +47,3 @@ returns-clause-listed c = on_ok c.list_conflict.result _ _
     ∙ ap (λ cs. conflict_ids denied (conflict_causes (denied ++ unit_literals f) cs) f.units) (named_same c.args.store.now f k hashes)
     ∙ sym (ids_of_conflict c.args.clause.now c.args.literals.now c.requires.canonical f hashes (sym c.has_both_signs.ensures ∙ c.if-has_both_signs.false) (ap (true_unit c.args.literals.now) (sym e) ∙ none)))
     c.list_conflict.ensures.listed
-
-pub returns-in_err-push-clause-listed : goal.returns-in_err-push-clause-listed
-returns-in_err-push-clause-listed c = IfOk-from_err c.from_residual.result _ c.from_residual.ensures.0

@@ -1,4 +1,5 @@
-use Rattle.std.proofs.Common.{◌≡◌, ◌∙◌, ap, sym, arith}
+use Rattle.std.proofs.lemmas.Grind.{common_steps}
+use Rattle.std.proofs.Common.{◌∙◌, ap, sym, arith}
 use Rattle.sat_checker.specs.inner.SlotView.{gone_count}
 use Rattle.sat_checker.proofs.lemmas.store.Dropping.{kept_standing, none_gone}
 use Rattle.sat_checker.proofs.store.clauses.Clauses.compact.Goals as goal
@@ -10,6 +11,4 @@ invariant_of-self-2 c = (
 )
 
 pub returns-clause-few : goal.returns-clause-few
-returns-clause-few c =
-    let none : gone_count c.drop_gone.new.slots ≡ 0 = ap gone_count c.in_ok-drop_gone.ensures.left ∙ none_gone c.self.inside.slots in
-    omega (arith, none)
+returns-clause-few c = grind (arith, common_steps, none_gone)

@@ -1,4 +1,4 @@
-use Rattle.std.proofs.Common.{◌≡◌, ◌+◌, ◌<◌, ◌∷◌, suc, length, map, true, ◌∙◌, refl, ap, sym, subst, arith}
+use Rattle.std.proofs.Common.{◌≡◌, ◌+◌, ◌∷◌, map, true, ◌∙◌, refl, ap, sym, subst, arith}
 use Rattle.std.specs.Option.{IfSome}
 use Rattle.sat_checker.specs.LiteralSets.{is_among}
 use Rattle.sat_checker.specs.Looks.{total_length}
@@ -11,15 +11,7 @@ use Rattle.std.proofs.lemmas.Grind.{common_steps}
 use Rattle.sat_checker.proofs.store.clauses.Clauses.find.Goals as goal
 
 pub loop-next-init : goal.loop-next-init
-loop-next-init c =
-    let ps = places_of c.args.hash c.args.self.now in
-    let all = from_first ps (increasing_places 0 c.args.hash c.args.self.now) c.first-next.result c.first-next.ensures in
-    record {
-      among = first_ok ps c.first-next.result c.first-next.ensures;
-      found = ap (found_among c.args.self.now c.args.literals.now) (sym all);
-      looks = ap (λ qs. c.args.looks.now + total_length (map (literals_at c.args.self.now) qs)) all ∙ ap (λ ls. c.args.looks.now + total_length ls) (bucket_literals c.args.hash c.args.self.now);
-      rise = omega arith;
-    }
+loop-next-init c = grind (arith, common_steps, first_ok, from_first, increasing_places, bucket_literals)
 
 pub is_same-requires : goal.is_same-requires
 is_same-requires c =
@@ -45,10 +37,7 @@ returns-then-is_same-clause-looks c = record {
 }
 
 pub loop-next-smaller : goal.loop-next-smaller
-loop-next-smaller c =
-    let ps = places_of c.args.hash c.args.self.now in
-    let e : length (from_on c.loop-next.next ps) ≡ suc (length (from_on c.next-next.result ps)) = ap length (left_step c.args.hash c.args.self.now c.loop-next.next c.in-Some.place c.in-Some.is c.loop-next.invariant.among c.next-next.result c.next-next.ensures) in
-    let l : length (from_on c.next-next.result ps) < length (from_on c.loop-next.next ps) = omega arith in l
+loop-next-smaller c = grind (arith, common_steps, left_step)
 
 pub loop-next-preserved : goal.loop-next-preserved
 loop-next-preserved c =

@@ -1,7 +1,7 @@
-use Rattle.std.proofs.Common.{◌+◌, length, ◌∙◌, sym, ap, arith}
+use Rattle.std.proofs.lemmas.Grind.{common_steps}
+use Rattle.std.proofs.Common.{◌+◌, ◌∙◌, sym, ap, arith}
 use Rattle.sat_checker.proofs.lemmas.store.Dropping.{gone_left, gone_removed, gone_fewer}
 use Rattle.sat_checker.proofs.lemmas.store.Places.{gone_not}
-use Rattle.sat_checker.specs.inner.SlotView.{slot_at, gone_count}
 use Rattle.sat_checker.proofs.lemmas.store.Kept.{kept_left, kept_removed, were_counted}
 use Rattle.sat_checker.proofs.store.clauses.Clauses.take_count.Goals as goal
 
@@ -9,9 +9,6 @@ pub take-requires : goal.take-requires
 take-requires c =
     were_counted c.self.inside.slots c.args.self.now c.take_count.new.self c.self.inside.index c.self.inside.occurrences c.args.redundant c.args.place c.self.view_is c.requires.inside c.requires.some c.self.invariant.0 c.take_count.ensures
     c.args.literals.now c.requires.literals (sym c.is_gone.ensures ∙ c.if-is_gone.true)
-
-pub remove-requires : goal.remove-requires
-remove-requires c = omega (arith, c.self.invariant.0.files.places, ap length c.self.view_is, c.requires.inside)
 
 pub invariant_of-self : goal.invariant_of-self
 invariant_of-self c =
@@ -35,7 +32,4 @@ invariant_of-self-else-is_gone c =
     )
 
 pub overflow_add-self : goal.overflow_add-self
-overflow_add-self c =
-    let fewer = gone_fewer c.args.self.now c.args.place c.requires.inside (gone_not (slot_at c.args.self.now c.args.place) c.args.redundant c.requires.some) in
-    let same = ap gone_count c.self.view_is in
-    omega (arith, fewer, same, c.self.invariant.1, c.len-count.ensures.count, ap length c.self.view_is, c.len-count.type_inv)
+overflow_add-self c = grind (arith, common_steps, gone_fewer, gone_not)

@@ -8,9 +8,6 @@ use Rattle.sat_checker.proofs.lemmas.pairs.Links.{all_there}
 use Rattle.sat_checker.proofs.lemmas.pairs.Walks.{hash_of_pair}
 use Rattle.sat_checker.proofs.store.sorted_pairs.SortedPairs.hash.Goals as goal
 
-pub index-requires : goal.index-requires
-index-requires c = let count = ap (λ (x : Indexed). x.places) c.self.view_is in omega (arith, count, c.requires, c.self.inside.links.ok.0)
-
 pub returns : goal.returns
 returns c = λ h m.
     let count = ap (λ (x : Indexed). x.places) c.self.view_is in

@@ -1,13 +1,12 @@
 use Rattle.std.proofs.Common.{◌≤◌, ◌≡◌, ◌∙◌, true, false, [], ◌∷◌, length, reverse, refl, sym, ap, subst, arith}
 use Rattle.std.proofs.lemmas.List.{reverse-append, length-reverse}
-use Rattle.sat_base.specs.values.Tables.{HasPlaceFor}
 use Rattle.sat_base.proofs.lemmas.values.TableLemmas.{value_set}
 use Rattle.sat_checker.specs.LiteralSets.{is_among}
 use Rattle.sat_checker.specs.inner.Marks.{AreMarks, HoldsRoom}
 use Rattle.sat_checker.specs.inner.AssumedRoom.{LiteralsAndRoom}
 use Rattle.sat_checker.specs.declared.units.assigned.Mark.{Mark}
 use Rattle.sat_checker.specs.declared.units.assigned.Mark.TheVariants as mark
-use Rattle.sat_checker.proofs.lemmas.sets.Rooms.{few, has_place, within_more, newly_assumed}
+use Rattle.sat_checker.proofs.lemmas.sets.Rooms.{few, within_more, newly_assumed}
 use Rattle.sat_checker.proofs.units.assigned.Assigned.assume_in_room.Goals as goal
 
 pub push_reserved-requires : goal.push_reserved-requires
@@ -20,11 +19,6 @@ push_reserved-requires c =
     let most : length (c.args.lit ∷ ls) ≤ length room = few (c.args.lit ∷ ls) room (fresh, are.once) (within_more ls room c.args.lit are.within there) in
     omega (arith, most, length-reverse c.self.inside.trail.items, c.self.inside.trail.ok.0, c.self.invariant.1.exact, c.self.invariant.1.enough)
 
-pub put-requires : goal.put-requires
-put-requires c =
-    let there = subst (λ (t : LiteralsAndRoom). is_among t.room c.args.lit ≡ true) (sym c.self.view_is) c.requires.room in
-    subst (HasPlaceFor c.self.inside.marks) (sym c.code.ensures.value) (has_place c.self.inside.marks (reverse c.self.inside.trail.items) c.self.inside.room.literals c.args.lit c.self.invariant.0 there)
-
 pub invariant_of-self : goal.invariant_of-self
 invariant_of-self c =
     let ls = reverse c.self.inside.trail.items in
@@ -36,9 +30,3 @@ invariant_of-self c =
       subst (λ xs. AreMarks c.put.new.self xs room) (sym (ap reverse c.push_reserved.ensures.items ∙ reverse-append c.self.inside.trail.items (c.args.lit ∷ []))) are,
       subst (λ n. HoldsRoom c.self.inside.count n room) (sym c.push_reserved.ensures.capacity) c.self.invariant.1,
     )
-
-pub returns : goal.returns
-returns c =
-    let room = c.self.inside.room.literals in
-    let newest = ap reverse c.push_reserved.ensures.items ∙ reverse-append c.self.inside.trail.items (c.args.lit ∷ []) in
-    ap (λ ls. record { literals = ls; room = room }) newest ∙ ap (λ (t : LiteralsAndRoom). record t { literals = c.args.lit ∷ t.literals }) c.self.view_is

@@ -1,3 +1,4 @@
+use Rattle.std.proofs.lemmas.Grind.{common_steps}
 use Rattle.std.proofs.Common.{ℕ, ◌+◌, ◌≡◌, ◌∙◌, false, cond, eqb, ◌∷◌, reverse, vec_capacity, refl, sym, ap, subst, arith}
 use Rattle.std.proofs.lemmas.Bool.{ne_eqb, or_from}
 use Rattle.std.proofs.lemmas.List.{length-reverse}
@@ -12,10 +13,7 @@ use Rattle.sat_checker.proofs.lemmas.sets.Rooms.{few, newly_roomy, paired_more}
 use Rattle.sat_checker.proofs.units.assigned.Assigned.make_new_room.Goals as goal
 
 pub overflow_sub-self-inside : goal.overflow_sub-self-inside
-overflow_sub-self-inside c =
-    let are = c.self.invariant.0 in
-    let most = few (reverse c.self.inside.trail.items) c.self.inside.room.literals are.once are.within in
-    omega (arith, most, length-reverse c.self.inside.trail.items, c.len.ensures, c.self.inside.trail.ok.0, c.self.invariant.1.exact)
+overflow_sub-self-inside c = grind (arith, common_steps, length-reverse, few)
 
 -- no literal is its own negation
 other : (l : ℕ) → negated l ≡ l → ⊥

@@ -1,3 +1,5 @@
+use Rattle.std.proofs.Common.{arith}
+use Rattle.std.proofs.lemmas.Grind.{common_steps}
 use Rattle.std.proofs.Common.{ℕ, ◌≡◌, ◌∙◌, cond, drop, reverse, ap, sym, subst}
 use Rattle.std.proofs.lemmas.List.{take_rest}
 use Rattle.sat_checker.specs.LiteralSets.{is_among}
@@ -8,11 +10,7 @@ use Rattle.sat_checker.proofs.lemmas.sets.Unmarking.{among_after, marks_left, un
 use Rattle.sat_checker.proofs.units.assigned.Assigned.undo_to.Goals as goal
 
 pub unmark_all-requires : goal.unmark_all-requires
-unmark_all-requires c = λ l h.
-    let t = c.self.inside.trail.items in
-    let are = c.self.invariant.0 in
-    let there = ap (λ xs. is_among xs l) (sym (take_rest c.deref.result.now c.args.left ∙ ap (drop c.args.left) c.deref.ensures.value)) ∙ h in
-    has_place c.self.inside.marks (reverse t) c.self.inside.room.literals l are (are.within l (among_after t c.args.left l there))
+unmark_all-requires c = grind (arith, common_steps, take_rest, has_place, among_after)
 
 pub invariant_of-self : goal.invariant_of-self
 invariant_of-self c =
