@@ -1,6 +1,7 @@
+use Rattle.std.proofs.Common.{arith}
+use Rattle.std.proofs.lemmas.Grind.{common_steps}
 use Rattle.std.proofs.Common.{Ok, Err, subst}
 use Rattle.std.proofs.lemmas.Result.{err_from_is_err_and}
-use Rattle.sat_parts.specs.parts.Full.{IsFull}
 use Rattle.sat_solver.specs.proof.ProofView.{steps_of, session_of}
 use Rattle.sat_solver.specs.declared.schedule.Outcome.TheVariants as outcomes
 use Rattle.sat_solver.specs.declared.cdcl.find_conflict.FoundConflict.TheVariants.{Falsified, Complete, Failed}
@@ -9,18 +10,10 @@ use Rattle.sat_solver.specs.cdcl.Rounds.{RoundSays}
 use Rattle.sat_solver.proofs.lemmas.cdcl.EndingLemmas.{ends_refuted, ends_on}
 use Rattle.sat_solver.proofs.lemmas.cdcl.GoingLemmas.{goes_after, goes_failing, goes_or, goes_quietly}
 use Rattle.sat_solver.proofs.lemmas.cdcl.RoundLemmas.{round_from, search_failed}
-use Rattle.sat_solver.proofs.lemmas.unit_simplify.PassesLemmas.{falls_or}
 use Rattle.sat_solver.proofs.cdcl.conflict_step.Goals as goal
 
-pub returns-in_err-begun : goal.returns-in_err-begun
-returns-in_err-begun g c =
-    let r = err_from_is_err_and c.from_residual.result c.from_residual.ensures.1 in
-    rw (r.1, r.2) (falls_or g.W.CountedWrite.seen (IsFull c.begin_round.new.search.parts) c.in_err-begun.field-0.0 c.args.proof.now c.begin_round.new.proof c.in_err-begun.ensures)
-
 pub returns-in-Some : goal.returns-in-Some
-returns-in-Some g c =
-    ends_refuted g.W.CountedWrite.seen c.args.names.now c.begin_round.new.names c.args.proof.now c.begin_round.new.proof c.args.search.now c.begin_round.new.search c.requires.together c.in-Some.conflict (rw c.in-Some.is at c.in_ok-begun.ensures)
-    c.resolve.result c.resolve.new.proof c.resolve.new.search c.resolve.ensures
+returns-in-Some g c = grind (arith, common_steps, ends_refuted)
 
 pub returns-in_err-stop : goal.returns-in_err-stop
 returns-in_err-stop g c =

@@ -1,4 +1,6 @@
-use Rattle.std.proofs.Common.{◌≡◌, ◌∙◌, ap, refl, sym, subst, length, [], false, Ok}
+use Rattle.std.proofs.Common.{arith}
+use Rattle.std.proofs.lemmas.Grind.{common_steps}
+use Rattle.std.proofs.Common.{◌≡◌, ◌∙◌, ap, refl, sym, subst, [], false, Ok}
 use Rattle.std.proofs.lemmas.Result.{err_from_is_err_and}
 use Rattle.sat_base.specs.steps.Steps.{Step, AtClause}
 use Rattle.sat_parts.specs.clause.Db.{live_refs}
@@ -8,25 +10,14 @@ use Rattle.sat_parts.specs.parts.Whole.{state}
 use Rattle.sat_solver.specs.session.Naming.{global_of_index}
 use Rattle.sat_solver.specs.session.FitLaws.{named_hashes}
 use Rattle.sat_solver.proofs.lemmas.fits.UnitLemmas.{empty_may}
-use Rattle.sat_solver.proofs.lemmas.fits.StepLemmas.{orderly_from, conflict_clause}
 use Rattle.sat_solver.specs.cdcl.Going.{proof_fault}
 use Rattle.sat_solver.proofs.lemmas.cdcl.GoingLemmas.{goes_starved, goes_step, goes_broken, goes_after, goes_then_fails}
 use Rattle.sat_solver.proofs.lemmas.cdcl.RoundLemmas.{refutes_later}
 use Rattle.sat_solver.specs.cdcl.Rounds.{LastRefutes}
-use Rattle.sat_solver.specs.declared.error.SolverError.TheVariants as errors
 use Rattle.sat_solver.proofs.cdcl.refute.Goals as goal
 
-pub write_units-requires-clause-orderly : goal.write_units-requires-clause-orderly
-write_units-requires-clause-orderly g c = orderly_from c.args.parts.now (length c.args.parts.now.trail.starts) c.requires.refuted.0
-
-pub name_clauses-requires-clause-conflict : goal.name_clauses-requires-clause-conflict
-name_clauses-requires-clause-conflict g c = conflict_clause c.args.parts.now c.args.conflict.now c.requires.refuted
-
 pub returns-in_err-name_clauses : goal.returns-in_err-name_clauses
-returns-in_err-name_clauses g c =
-    let p = err_from_is_err_and c.from_residual-in_err-name_clauses.result c.from_residual-in_err-name_clauses.ensures.1 in
-    rw (p.1, p.2) (goes_then_fails g.W.CountedWrite.seen c.in_ok-write_units.field-0 errors.OutOfMemory c.args.proof.now c.write_units.new.proof c.write_units.new.proof _ (λ (_ : Unit {0}) _. Unit {0}) _ c.in_ok-write_units.ensures
-    (goes_starved g.W.CountedWrite.seen c.write_units.new.proof _ c.in_ok-write_units.ensures.keeps))
+returns-in_err-name_clauses g c = grind (arith, common_steps, err_from_is_err_and, goes_starved, goes_then_fails)
 
 pub step-requires-clause-may : goal.step-requires-clause-may
 step-requires-clause-may g c =

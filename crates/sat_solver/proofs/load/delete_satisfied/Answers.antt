@@ -1,3 +1,5 @@
+use Rattle.std.proofs.Common.{arith}
+use Rattle.std.proofs.lemmas.Grind.{common_steps}
 use Rattle.std.proofs.Common.{◌≡◌, ◌∙◌, List, ◌∷◌, ℕ, map, refl, ap}
 use Rattle.std.proofs.lemmas.Result.{err_from_is_err_and}
 use Rattle.sat_base.specs.steps.Steps.{DeleteClause, Satisfied}
@@ -8,9 +10,7 @@ use Rattle.sat_solver.proofs.lemmas.cdcl.GoingLemmas.{goes_starved, goes_step, g
 use Rattle.sat_solver.proofs.load.delete_satisfied.Goals as goal
 
 pub returns-in_err-map_lits : goal.returns-in_err-map_lits
-returns-in_err-map_lits g c =
-    let p = err_from_is_err_and c.from_residual.result c.from_residual.ensures.1 in
-    rw (p.1, p.2) (goes_starved g.W.CountedWrite.seen c.args.proof.now _ c.requires.keeps)
+returns-in_err-map_lits g c = grind (arith, common_steps, err_from_is_err_and, goes_starved)
 
 pub returns : goal.returns
 returns g c =

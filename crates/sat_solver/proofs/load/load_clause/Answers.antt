@@ -4,8 +4,6 @@ use Rattle.sat_solver.specs.proof.ProofView.{steps_of, session_of}
 use Rattle.sat_parts.specs.parts.Loadable.{false_last}
 use Rattle.sat_solver.proofs.lemmas.cdcl.GoingLemmas.{goes_none, goes_map, goes_or}
 use Rattle.sat_solver.specs.load.Loaded.{IsLoaded}
-use Rattle.sat_solver.specs.session.Coming.{DeletesAdded}
-use Rattle.sat_solver.proofs.lemmas.session.ComingLemmas.{comes_none}
 use Rattle.sat_solver.proofs.lemmas.load.LoadingLemmas.{few_lits, goes_unstored, loaded_stored, loaded_unit, loaded_false, loaded_true, loaded_names, loaded_may, loaded_after, loaded_last}
 use Rattle.sat_solver.proofs.lemmas.load.DeletedLemmas.{comes_true}
 use Rattle.sat_solver.proofs.load.load_clause.Goals as goal
@@ -65,18 +63,6 @@ returns-else-len-lt2-clause-goes g c =
     (λ left steps h. loaded_after c.args.search.now c.args.lits.now (steps_of c.args.proof.now) c.requires.added c.requires.may c.make_ready.new.parts c.make_ready.ensures.holds c.make_ready.ensures.same c.make_ready.ensures.others c.load.new.parts c.in_ok-loaded.ensures.holds c.in_ok-loaded.ensures.kept
     (rw c.in-Satisfied.is at c.in_ok-loaded.ensures.says) (omega (arith, size, c.if-len-lt2.false)) c.deref.result.now same (steps_of c.delete_true.new.proof) h.1 left h.0 c.delete_true.new.search c.delete_true.ensures.same)
     c.delete_true.ensures.deletes)
-
-pub returns-in-Stored-clause-comes : goal.returns-in-Stored-clause-comes
-returns-in-Stored-clause-comes g c = comes_none DeletesAdded (steps_of c.args.proof.now)
-
-pub returns-in-Unit-clause-comes : goal.returns-in-Unit-clause-comes
-returns-in-Unit-clause-comes g c = comes_none DeletesAdded (steps_of c.args.proof.now)
-
-pub returns-in-Falsified-clause-comes : goal.returns-in-Falsified-clause-comes
-returns-in-Falsified-clause-comes g c = comes_none DeletesAdded (steps_of c.args.proof.now)
-
-pub returns-then-len-lt2-clause-comes : goal.returns-then-len-lt2-clause-comes
-returns-then-len-lt2-clause-comes g c = comes_none DeletesAdded (steps_of c.args.proof.now)
 
 pub returns-else-len-lt2-clause-comes : goal.returns-else-len-lt2-clause-comes
 returns-else-len-lt2-clause-comes g c =

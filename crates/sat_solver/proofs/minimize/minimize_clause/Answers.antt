@@ -8,10 +8,9 @@ use Rattle.sat_parts.specs.prop.Causes.{falsified}
 use Rattle.sat_parts.specs.prop.Ready.{state_of}
 use Rattle.sat_parts.specs.prop.State.{State, node}
 use Rattle.sat_solver.specs.analyze_conflict.Work.{Work}
-use Rattle.sat_solver.specs.analyze_conflict.Involved.{KeepsResolved}
 use Rattle.sat_solver.specs.analyze_conflict.Minimal.{MinimizationInvariant, MarksMore, SameWork, used_up, MayStart}
 use Rattle.sat_solver.proofs.lemmas.analyze_conflict.Minimized.{minimal_start, may_start, minimal_grounds, false_variable}
-use Rattle.sat_solver.proofs.lemmas.analyze_conflict.Loops.{HasAccepted, Goes, split, in_rest, not_first, lower_here, same_itself, goes_kept, goes_dropped, front_refl, lower_rest, minimal_asserting, minimal_among, minimal_cut}
+use Rattle.sat_solver.proofs.lemmas.analyze_conflict.Loops.{HasAccepted, Goes, split, in_rest, not_first, lower_here, same_itself, goes_kept, goes_dropped, front_refl, minimal_asserting, minimal_among, minimal_cut}
 use Rattle.sat_solver.proofs.minimize.minimize_clause.Goals as goal
 use Rattle.sat_solver.proofs.minimize.minimize_clause.Goals.{After-var, then-is_unit, then-is_unit-via-then-is_unit, then-is_unit-via-else-is_unit+in_ok-is_implied+then-not-branch, else-is_unit+in_ok-is_implied+else-not-branch}
 
@@ -123,13 +122,3 @@ returns-clause-among c =
     let w : Work = c.loop-at.analysis in
     let m = minimal_cut _ _ _ _ _ c.loop-at.kept c.loop-at.at w.clause w (omega (arith, c.loop-at-test.false, ap (λ (xs : List ℕ). length xs) c.clause-at-end.ensures, c.loop-at.invariant.size)) c.loop-at.invariant.minimal in
     minimal_among _ _ _ _ _ _ w c.cut.new.self m (ap (λ (x : Work). x.clause) c.cut.ensures) (ap (λ (x : Work). x.used) c.cut.ensures) (ap (λ (x : Work). x.flags) c.cut.ensures)
-
-pub returns-clause-kept : goal.returns-clause-kept
-returns-clause-kept c =
-    let w : Work = c.loop-at.analysis in
-    let m = minimal_cut _ _ _ _ _ c.loop-at.kept c.loop-at.at w.clause w (omega (arith, c.loop-at-test.false, ap (λ (xs : List ℕ). length xs) c.clause-at-end.ensures, c.loop-at.invariant.size)) c.loop-at.invariant.minimal in
-    let s = state_of c.args.assignment.now c.args.graph.now c.args.trail.now in
-    subst (λ (x : Work). KeepsResolved s c.args.analysis.now x) (sym c.cut.ensures) (record {
-      front = record { met = c.loop-at.invariant.front.met; involved = c.loop-at.invariant.front.involved; longer = c.loop-at.invariant.front.longer; front = c.loop-at.invariant.front.front };
-      rest = λ k b lt. lower_rest _ _ _ _ _ _ w m k (omega (arith, b, ap (λ (xs : List ℕ). length xs) c.used-low.ensures)) lt;
-    })

@@ -35,18 +35,6 @@ loop-rounds-init g c =
       rounds = no_round;
     }
 
-pub restart_where_due-requires : goal.restart_where_due-requires
-restart_where_due-requires g c = record {
-  core = c.loop-rounds.invariant.joined.sound;
-  scale = c.loop-rounds.invariant.scale;
-  counts = omega (arith, c.loop-rounds-test.true, c.saturating_add-end.ensures);
-}
-
-pub reduce-requires : goal.reduce-requires
-reduce-requires g c =
-    let b = c.restart_where_due.ensures.joined c.loop-rounds.names c.loop-rounds.invariant.joined in
-    record { keeps = b.sound.keeps; search = b.sound.search; locals = b.sound.locals; mids = b.sound.mids }
-
 pub conflict_step-requires : goal.conflict_step-requires
 conflict_step-requires g c =
     let b = c.restart_where_due.new.core in
@@ -104,9 +92,6 @@ returns-then-not-is_learned-clause-counts g c = record {
   few = few_rounds words_in c.loop-rounds.core (values_in c.args.core.now) c.args.rounds.now c.loop-rounds.rounds c.loop-rounds.restarts.next c.loop-rounds.restarts.sequence
       (omega (arith, c.loop-rounds-test.true, c.saturating_add-end.ensures)) c.loop-rounds.invariant.come;
 }
-
-pub returns-then-not-is_learned-clause-round : goal.returns-then-not-is_learned-clause-round
-returns-then-not-is_learned-clause-round g c = λ k. omega (arith, c.loop-rounds.invariant.before)
 
 pub returns-then-not-is_learned-clause-ends : goal.returns-then-not-is_learned-clause-ends
 returns-then-not-is_learned-clause-ends g c =

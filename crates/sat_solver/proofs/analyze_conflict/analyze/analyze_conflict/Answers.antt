@@ -1,6 +1,6 @@
-use Rattle.std.proofs.Common.{ℕ, ◌≡◌, ◌<◌, List, Bool, length, get_or, sym, ap, ◌∙◌, subst, arith}
+use Rattle.std.proofs.lemmas.Grind.{common_steps}
+use Rattle.std.proofs.Common.{ℕ, List, Bool, length, get_or, sym, ap, ◌∙◌, subst, arith}
 use Rattle.std.specs.List.Sorted.{IsPermutation}
-use Rattle.sat_base.specs.values.Literals.{variable}
 use Rattle.sat_parts.specs.clause.Glue.{AreClear}
 use Rattle.sat_parts.specs.prop.Ready.{state_of}
 use Rattle.sat_parts.specs.prop.State.{State}
@@ -31,15 +31,7 @@ returns-clause-learns c =
     (subst (λ (fs : List Bool). AreClear fs) (sym flags) c.clear_flags.ensures.clear)
 
 pub returns-clause-resolution : goal.returns-clause-resolution
-returns-clause-resolution c =
-    let w : Work = c.minimize_clause.new.analysis in
-    let w' : Work = c.put_second.new.self in
-    let before = ap (λ (x : Work). x.used) c.clear_flags.ensures.same in
-    let used = ap (λ (x : Work). x.used) c.put_second.ensures.same in
-    let order = subst (IsPermutation w.used) (sym used) (subst (λ (us : List ℕ). IsPermutation us c.order_used.new.self.used) before c.in_ok-order_used.ensures.permutation) in
-    let met = ap (λ (x : Work). x.met) c.put_second.ensures.same ∙ ap (λ (x : Work). x.met) c.order_used.ensures.same ∙ ap (λ (x : Work). x.met) c.clear_flags.ensures.same in
-    let involved = ap (λ (x : Work). x.involved) c.put_second.ensures.same ∙ ap (λ (x : Work). x.involved) c.order_used.ensures.same ∙ ap (λ (x : Work). x.involved) c.clear_flags.ensures.same in
-    is_resolution _ _ _ c.finish_conflict.new.analysis w w' c.in_ok-finish_conflict.ensures.resolved c.in_ok-finish_conflict.ensures.collected c.in_ok-minimize_clause.ensures.kept order met involved
+returns-clause-resolution c = grind (arith, common_steps, is_resolution)
 
 pub order_used-requires : goal.order_used-requires
 order_used-requires c =
@@ -59,11 +51,4 @@ clear_flags-requires-clause-used c = λ k lt.
     omega (arith, reasoned_variable s l c.requires.can.agrees (c.in_ok-minimize_clause.ensures.grounds.reasons l (place_in w.used k lt)), c.in_ok-minimize_clause.ensures.size, c.in_ok-finish_conflict.ensures.resolved.size)
 
 pub put_second-requires : goal.put_second-requires
-put_second-requires c = record {
-  nodes = λ k lt.
-      let s : State = state_of c.args.assignment.now c.args.graph.now c.args.trail.now in
-      let w : Work = c.minimize_clause.new.analysis in
-      let clause : c.order_used.new.self.clause ≡ w.clause = ap (λ (x : Work). x.clause) c.order_used.ensures.same ∙ ap (λ (x : Work). x.clause) c.clear_flags.ensures.same in
-      let b : k < length w.clause = subst (λ (xs : List ℕ). k < length xs) clause lt in
-      omega (arith, false_variable s (get_or w.clause k 0) (c.in_ok-minimize_clause.ensures.asserting.fails k b), c.requires.can.agrees.nodes, ap (λ (xs : List ℕ). variable (get_or xs k 0)) clause);
-}
+put_second-requires c = grind (arith, common_steps, false_variable)

@@ -50,14 +50,6 @@ last_flagged-place-requires-clause-some c =
     let s : State = state_of c.args.assignment.now c.args.graph.now c.args.trail.now in
     some_flagged s (current_level s) c.args.analysis.now c.args.before c.trail-lits.result.now c.trail-lits.ensures.lits c.requires.resolving.marks c.requires.resolving.some
 
-pub reason-reason-requires : goal.reason-reason-requires
-reason-reason-requires c =
-    let x = (goal.at.reason-reason-requires c).After-var in
-    omega (arith, here x, c.requires.resolving.marks.size, c.requires.can.agrees.nodes, c.var.ensures, ap (λ l. variable l) (lit_is x))
-
-pub take_up-requires : goal.take_up-requires
-take_up-requires c = record { flag = let x = (goal.at.take_up-requires c).After-var in omega (arith, here x, ap (λ l. variable l) (lit_is x)) }
-
 pub lits-requires-clause-clause : goal.lits-requires-clause-clause
 lits-requires-clause-clause c = λ o is.
     let r = (goal.at.lits-requires-clause-clause c).After-reason-reason in

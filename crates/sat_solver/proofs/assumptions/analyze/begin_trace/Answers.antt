@@ -7,14 +7,8 @@ use Rattle.sat_parts.specs.prop.Ready.{state_of}
 use Rattle.sat_parts.specs.prop.State.{State}
 use Rattle.sat_solver.specs.analyze_conflict.Marks.{depth}
 use Rattle.sat_solver.proofs.lemmas.analyze_conflict.Codes.{taken_stands, before_nodes}
-use Rattle.sat_solver.proofs.lemmas.analyze_conflict.Minimized.{false_variable}
 use Rattle.sat_solver.proofs.lemmas.analyze_conflict.Tracing.{found, traced_first}
 use Rattle.sat_solver.proofs.assumptions.analyze.begin_trace.Goals as goal
-
-pub reason-reason-requires : goal.reason-reason-requires
-reason-reason-requires c =
-    let s : State = state_of c.args.assignment.now c.args.graph.now c.args.trail.now in
-    omega (arith, false_variable s c.args.failed c.requires.fails, c.requires.can.agrees.nodes, c.var.ensures)
 
 pub lits-requires-clause-clause : goal.lits-requires-clause-clause
 lits-requires-clause-clause c = λ o is.

@@ -1,12 +1,10 @@
-use Rattle.std.proofs.Common.{length}
+use Rattle.std.proofs.Common.{arith}
+use Rattle.std.proofs.lemmas.Grind.{common_steps}
 use Rattle.sat_solver.proofs.lemmas.assumptions.FailingLemmas.{core_below, cause_there, cause_clause, cause_some}
 use Rattle.sat_solver.proofs.assumptions.failed_core.name_core.Goals as goal
 
 pub map_lits-requires : goal.map_lits-requires
-map_lits-requires c =
-    let s = c.args.search.now in
-    rw (c.core.ensures, c.deref.ensures.value)
-    (core_below s.parts s.assumptions.lits.items s.failed c.requires.holds c.requires.failing s.analysis.core s.analysis.used (length s.globals.items) c.requires.there c.requires.names c.requires.fails)
+map_lits-requires c = grind (arith, common_steps, core_below)
 
 pub name_reasons-requires-clause-there : goal.name_reasons-requires-clause-there
 name_reasons-requires-clause-there c =

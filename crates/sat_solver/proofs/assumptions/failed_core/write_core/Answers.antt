@@ -1,3 +1,5 @@
+use Rattle.std.proofs.Common.{arith}
+use Rattle.std.proofs.lemmas.Grind.{common_steps}
 use Rattle.std.proofs.Common.{ℕ, ◌≡◌, ◌∙◌, List, map, sym, ap, subst}
 use Rattle.std.proofs.lemmas.Result.{err_from_is_err_and}
 use Rattle.sat_base.specs.steps.Steps.{FailedAssumptions}
@@ -12,9 +14,7 @@ use Rattle.sat_solver.proofs.lemmas.assumptions.FailingLemmas.{reports_starved, 
 use Rattle.sat_solver.proofs.assumptions.failed_core.write_core.Goals as goal
 
 pub returns-in_err-find_core : goal.returns-in_err-find_core
-returns-in_err-find_core g c =
-    let p = err_from_is_err_and c.from_residual.result c.from_residual.ensures.1 in
-    rw (p.1, p.2) (reports_starved g.W.CountedWrite.seen c.args.proof.now c.args.proof.now c.args.search.now c.find_core.new.search c.requires.keeps)
+returns-in_err-find_core g c = grind (arith, common_steps, err_from_is_err_and, reports_starved)
 
 pub step-requires-clause-may : goal.step-requires-clause-may
 step-requires-clause-may g c =
@@ -37,7 +37,4 @@ returns g c =
     (ap (λ (s : Search). s.parts) x.same) (ap (λ (s : Search). s.globals) x.same) (ap (λ (s : Search). s.assumptions) x.same)
 
 pub returns-in_err-step : goal.returns-in_err-step
-returns-in_err-step g c =
-    let p = err_from_is_err_and c.from_residual-in_err-step.result c.from_residual-in_err-step.ensures.1 in
-    rw (p.1, p.2)
-    (reports_broken g.W.CountedWrite.seen c.args.proof.now c.step.new.self c.args.search.now c.find_core.new.search c.in_err-step.field-0.0 c.deref.result.now c.deref-2.result.now c.in_err-step.ensures.keeps c.in_err-step.ensures.records)
+returns-in_err-step g c = grind (arith, common_steps, err_from_is_err_and, reports_broken)

@@ -1,3 +1,4 @@
+use Rattle.std.proofs.lemmas.Grind.{common_steps}
 use Rattle.std.proofs.Common.{ℕ, ◌+◌, ◌≡◌, ◌≤◌, List, [], ◌∷◌, length, Ok, Err, refl, arith}
 use Rattle.std.proofs.lemmas.Result.{err_from_is_err_and}
 use Rattle.sat_parts.specs.clause.Db.{live_refs}
@@ -91,9 +92,7 @@ returns-in-Err g c =
     }
 
 pub returns-in_err-settle : goal.returns-in_err-settle
-returns-in_err-settle g c =
-    let p = err_from_is_err_and c.from_residual-in_err-settle.result c.from_residual-in_err-settle.ensures.1 in
-    rw (p.1, p.2) (falls_goes g.W.CountedWrite.seen _ c.args.proof.now c.settle.new.proof _ c.in_err-settle.ensures)
+returns-in_err-settle g c = grind (arith, common_steps, err_from_is_err_and, falls_goes)
 
 pub returns-in_err-unit_simplify : goal.returns-in_err-unit_simplify
 returns-in_err-unit_simplify g c =

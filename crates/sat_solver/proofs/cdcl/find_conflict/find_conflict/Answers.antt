@@ -1,3 +1,4 @@
+use Rattle.std.proofs.lemmas.Grind.{common_steps}
 use Rattle.std.proofs.Common.{◌+◌, length, Ok, refl, arith}
 use Rattle.std.proofs.lemmas.Result.{err_from_is_err_and}
 use Rattle.sat_parts.specs.clause.Db.{live_refs}
@@ -40,12 +41,7 @@ module _ (g : Over) (c : In_ok-found g) where
       turned g.W.CountedWrite.seen c.turns.proof c.settle.new.proof c.turns.search (d g x) e c.settle.new.parts (went g x) c.deref.result.now c.deref.ensures.value c.in_ok-settle.ensures refl refl refl c.in_ok-found.found c.in_ok-found.ensures
 
 pub turns-init : goal.turns-init
-turns-init g c = record {
-  came = goes_none g.W.CountedWrite.seen tt c.args.proof.now _ c.requires.keeps tt;
-  search = c.requires.search;
-  moved = moved_refl c.args.search.now;
-  word = extends_refl c.args.search.now.parts (assumed_indices c.args.search.now);
-}
+turns-init g c = grind (arith, common_steps, extends_refl, goes_none, moved_refl)
 
 pub settle-requires : goal.settle-requires
 settle-requires g c =
@@ -70,11 +66,6 @@ assume_or_decide-requires g c =
       there = rw settled.size ready.there;
       placed = settled.placed c.turns.search.assumptions ready.placed;
     }
-
-pub returns-in_err-propagated : goal.returns-in_err-propagated
-returns-in_err-propagated g c =
-    let p = err_from_is_err_and c.from_residual.result c.from_residual.ensures.1 in
-    rw (p.1, p.2) (goes_then_fails g.W.CountedWrite.seen tt errors.OutOfMemory c.args.proof.now c.turns.proof c.turns.proof _ _ _ c.turns.invariant.came (goes_starved g.W.CountedWrite.seen c.turns.proof (λ (_ : Unit {0}) _. Unit {0}) c.turns.invariant.came.keeps))
 
 pub returns-in-Err : goal.returns-in-Err
 returns-in-Err g c =
@@ -114,10 +105,7 @@ turns-preserved g c =
     }
 
 pub turns-smaller : goal.turns-smaller
-turns-smaller g c =
-    let x = (goal.at.turns-smaller g c).In_ok-found in
-    let t = rw c.in-None.is at (turn g x) in
-    omega (arith, t.says.1, t.moved.size, starts_few (e g x).parts t.says.0.valid.holds)
+turns-smaller g c = grind (arith, common_steps, starts_few)
 
 pub returns-in-Some : goal.returns-in-Some
 returns-in-Some g c =

@@ -12,10 +12,6 @@ assess-header-requires-clause-levels c =
 pub returns-clause-met : goal.returns-clause-met
 returns-clause-met c = rw (ap (λ (s : Search). s.analysis) c.in_ok-name_learned.ensures.same) c.in_ok-level.ensures.resolution.within
 
-pub returns-clause-header : goal.returns-clause-header
-returns-clause-header c =
-    rw (ap (λ (s : Search). s.analysis) c.in_ok-name_learned.ensures.same) (rw c.clause.ensures at c.assess-header.ensures.header)
-
 pub returns-clause-involved : goal.returns-clause-involved
 returns-clause-involved c =
     let same = c.in_ok-name_learned.ensures.same in

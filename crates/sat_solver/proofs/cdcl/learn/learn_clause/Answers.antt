@@ -1,4 +1,4 @@
-use Rattle.std.proofs.Common.{◌≡◌, ◌<◌, ◌∙◌, Err, length, refl, sym, ap, arith}
+use Rattle.std.proofs.Common.{◌≡◌, ◌<◌, ◌∙◌, Err, length, refl, ap, arith}
 use Rattle.sat_parts.specs.declared.parts.Parts.{Parts}
 use Rattle.std.proofs.lemmas.Result.{err_from_is_err_and}
 use Rattle.sat_base.specs.steps.Steps.{AtClause}
@@ -13,7 +13,6 @@ use Rattle.sat_solver.specs.declared.context.Search.{Search}
 use Rattle.sat_solver.specs.cdcl.Joint.{global_in, SameVarsAndAssumptions}
 use Rattle.sat_solver.specs.cdcl.Learning.{UndoesAndLearns}
 use Rattle.sat_solver.proofs.lemmas.cdcl.TakingLemmas.{free_taken}
-use Rattle.sat_store.specs.clause.Header.{Header}
 use Rattle.sat_solver.proofs.lemmas.cdcl.GoingLemmas.{goes_starved, goes_learned, goes_broken, goes_refused}
 use Rattle.sat_solver.proofs.lemmas.cdcl.LearningLemmas.{learned_allowed, learned_stands, learned_last, learned_whole}
 use Rattle.sat_solver.proofs.lemmas.cdcl.NamedLemmas.{learned_named}
@@ -47,12 +46,6 @@ take_in-requires-clause-learned g c =
     let p = c.args.search.now.parts in
     let same : c.analyze.new.search.parts ≡ c.args.search.now.parts = ap (λ (s : Search). s.parts) c.in_ok-level.ensures.same in
     rw same (is_learned_clause p.clauses (state p) (falsified p.clauses c.args.conflict.now) c.analyze.new.search.analysis c.in_ok-level.level c.requires.stopped.refuted.0.asks.agrees c.in_ok-level.ensures.learns)
-
-pub take_in-requires-clause-live : goal.take_in-requires-clause-live
-take_in-requires-clause-live g c = ap (λ (h : Header). h.deleted) c.in_ok-level.ensures.header
-
-pub take_in-requires-clause-involved : goal.take_in-requires-clause-involved
-take_in-requires-clause-involved g c = rw (ap (λ (s : Search). s.parts) c.in_ok-level.ensures.same) c.in_ok-level.ensures.involved
 
 pub returns-in_err-take_in : goal.returns-in_err-take_in
 returns-in_err-take_in g c =
@@ -100,9 +93,3 @@ returns-clause-met g c =
     let same : c.analyze.new.search.parts ≡ c.args.search.now.parts = ap (λ (s : Search). s.parts) x.same in
     let size : length c.take_in.new.search.parts.assignment.current ≡ length c.args.search.now.parts.assignment.current = y.taken.size ∙ ap (λ (p : Parts). length p.assignment.current) same in
     rw (ap (λ (s : Search). s.analysis) y.same) (λ v k. (let b : v < length c.args.search.now.parts.assignment.current = x.met v k in omega (arith, b, size)))
-
-pub returns-clause-rated : goal.returns-clause-rated
-returns-clause-rated g c =
-    let x = c.in_ok-level.ensures in
-    let y = c.in_ok-take_in.ensures in
-    rw (ap (λ (s : Search). s.analysis) y.same, sym x.header) (rw (ap (λ (s : Search). s.parts) x.same, ap (λ (s : Search). s.activity) x.same) at y.rated)

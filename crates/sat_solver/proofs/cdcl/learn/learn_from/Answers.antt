@@ -9,8 +9,3 @@ returns-clause-learned g c =
     goes_on g.W.CountedWrite.seen tt tt c.args.proof.now c.learn_clause.new.proof _ _
     (λ steps x. learned_on (steps_of c.args.proof.now) steps s c.args.search.now c.learn_clause.new.search c.bump_met.new.search x (c.bump_met.ensures.bumped s x.search))
     c.in_ok-learn_clause.ensures.learned
-
-pub returns-clause-raised : goal.returns-clause-raised
-returns-clause-raised g c =
-    let e = c.bump_met.ensures in
-    record { following = c.learn_clause.new.search; rated = c.in_ok-learn_clause.ensures.rated; rest = e.rest; clauses = e.clauses; queue = e.queue }

@@ -1,3 +1,5 @@
+use Rattle.std.proofs.Common.{arith}
+use Rattle.std.proofs.lemmas.Grind.{common_steps}
 use Rattle.sat_solver.proofs.lemmas.cdcl.TakingLemmas.{still_pending, taken_ok, involved_undone, rated_ok}
 use Rattle.sat_solver.proofs.cdcl.learn.take_in.Goals as goal
 
@@ -21,8 +23,4 @@ returns-clause-taken c =
     c.learn.result n.holds (rw c.clause.ensures at n.trail) (rw c.clause.ensures at n.learnt) n.stay
 
 pub returns-clause-rated : goal.returns-clause-rated
-returns-clause-rated c =
-    let u = c.undo.ensures in
-    let b = c.bump_clauses.ensures in
-    rated_ok c.args.search.now.parts c.undo.new.parts u.same u.graph c.bump_clauses.new.parts c.learn.new.parts c.args.search.now.activity c.bump_clauses.new.activity c.args.search.now.analysis c.args.header b.rates.refs
-    (rw c.involved.ensures at b.take) c.learn.result (rw c.clause.ensures at c.learn.ensures.learnt)
+returns-clause-rated c = grind (arith, common_steps, rated_ok)

@@ -1,14 +1,11 @@
-use Rattle.std.proofs.Common.{◌≡◌, ◌∙◌, refl, ap, get_or, arith}
+use Rattle.std.proofs.Common.{◌≡◌, ◌∙◌, ap, get_or, arith}
 use Rattle.std.proofs.lemmas.List.{get_or_read}
 use Rattle.std.specs.List.{Contains}
 use Rattle.sat_parts.proofs.lemmas.clause.ListLemmas.{place_in}
 use Rattle.sat_parts.specs.clause.Db.{live_refs, Db}
 use Rattle.sat_solver.specs.clause.Assessed.{levels_in, BumpsClause}
-use Rattle.sat_solver.proofs.lemmas.clause.GradingLemmas.{rates_refl, rates_trans, involved_kept, levels_kept, takes_next, takes_last}
+use Rattle.sat_solver.proofs.lemmas.clause.GradingLemmas.{rates_trans, involved_kept, levels_kept, takes_next, takes_last}
 use Rattle.sat_solver.proofs.clause.activity.bump_clauses.Goals as goal
-
-pub loop-cref-init : goal.loop-cref-init
-loop-cref-init c = record { rates = rates_refl c.args.parts.now c.requires.holds; flags = refl; take = λ words s h. h }
 
 pub bump_one-requires-clause-live : goal.bump_one-requires-clause-live
 bump_one-requires-clause-live c =
@@ -23,9 +20,6 @@ bump_one-requires-clause-levels c =
     let at : c.cref-item.result ≡ get_or c.args.crefs.now c.loop-cref.cref-index 0 = get_or_read c.args.crefs.now c.loop-cref.cref-index c.cref-item.result (omega arith) c.cref-item.is 0 in
     let y = involved_kept c.args.parts.now c.loop-cref.parts c.args.flags.now.flags.items c.args.crefs.now x.rates.headed c.requires.involved in
     rw (at, x.flags) (y.levels (get_or c.args.crefs.now c.loop-cref.cref-index 0) (place_in c.args.crefs.now c.loop-cref.cref-index (omega arith)))
-
-pub bump_one-requires-clause-clear : goal.bump_one-requires-clause-clear
-bump_one-requires-clause-clear c = rw c.loop-cref.invariant.flags c.requires.involved.clear
 
 pub loop-cref-preserved : goal.loop-cref-preserved
 loop-cref-preserved c =

@@ -1,13 +1,9 @@
-use Rattle.std.proofs.Common.{◌≡◌, ◌<◌, ◌∙◌, refl, sym, ap, length, get_or, arith}
+use Rattle.std.proofs.Common.{◌≡◌, ◌<◌, ◌∙◌, sym, ap, length, get_or, arith}
 use Rattle.std.proofs.lemmas.List.{get_or_read}
-use Rattle.sat_store.specs.heap.Vsids.{Queue, decayed}
 use Rattle.sat_parts.proofs.lemmas.clause.ListLemmas.{place_in}
-use Rattle.sat_parts.proofs.lemmas.parts.WordSteps.{extends_refl, extends_trans}
-use Rattle.sat_solver.proofs.lemmas.clause.BumpingLemmas.{bumped_next, bumped_last}
+use Rattle.sat_parts.proofs.lemmas.parts.WordSteps.{extends_trans}
+use Rattle.sat_solver.proofs.lemmas.clause.BumpingLemmas.{bumped_next}
 use Rattle.sat_solver.proofs.clause.activity.bump_variables.Goals as goal
-
-pub loop-var-init : goal.loop-var-init
-loop-var-init c = record { holds = c.requires.holds; clauses = (refl, refl, refl); states = (refl, refl, refl); word = extends_refl c.args.parts.now; queue = refl }
 
 pub bump_variable-requires-clause-there : goal.bump_variable-requires-clause-there
 bump_variable-requires-clause-there c =
@@ -30,14 +26,5 @@ loop-var-preserved c =
       queue = rw (e.queue, at) (sym (bumped_next c.args.vars.now c.loop-var.var-index c.loop-var.parts.vsids (omega arith))) ∙ x.queue;
     }
 
-pub returns-clause-same : goal.returns-clause-same
-returns-clause-same c =
-    let x = c.loop-var.invariant in
-    let e = c.decay_variables.ensures in
-    ((e.same.0.0 ∙ x.clauses.0, e.same.0.1 ∙ x.clauses.1, e.same.0.2 ∙ x.clauses.2), (e.same.1.0 ∙ x.states.0, e.same.1.1 ∙ x.states.1, e.same.1.2 ∙ x.states.2))
-
 pub returns-clause-word : goal.returns-clause-word
 returns-clause-word c = extends_trans c.args.parts.now c.loop-var.parts c.decay_variables.new.parts c.loop-var.invariant.word c.decay_variables.ensures.word
-
-pub returns-clause-queue : goal.returns-clause-queue
-returns-clause-queue c = c.decay_variables.ensures.queue ∙ ap (λ (q : Queue). decayed q) (sym (bumped_last c.args.vars.now c.loop-var.var-index c.loop-var.parts.vsids (omega arith)) ∙ c.loop-var.invariant.queue)

@@ -1,3 +1,5 @@
+use Rattle.std.proofs.Common.{arith}
+use Rattle.std.proofs.lemmas.Grind.{common_steps}
 use Rattle.std.proofs.Common.{◌∙◌, refl, ap, true, false}
 use Rattle.std.proofs.lemmas.Result.{err_from_is_err_and}
 use Rattle.sat_base.specs.steps.Steps.{DeleteClause, Redundant}
@@ -8,9 +10,7 @@ use Rattle.sat_solver.proofs.lemmas.clause.ReducingLemmas.{deleted_none, deleted
 use Rattle.sat_solver.proofs.clause.reduce.delete_learned.Goals as goal
 
 pub returns-in_err-map_clause : goal.returns-in_err-map_clause
-returns-in_err-map_clause g c =
-    let p = err_from_is_err_and c.from_residual.result c.from_residual.ensures.1 in
-    rw (p.1, p.2) (goes_starved g.W.CountedWrite.seen c.args.proof.now _ c.requires.keeps)
+returns-in_err-map_clause g c = grind (arith, common_steps, err_from_is_err_and, goes_starved)
 
 pub returns-then-not-drop_clause : goal.returns-then-not-drop_clause
 returns-then-not-drop_clause g c =

@@ -1,4 +1,5 @@
-use Rattle.std.proofs.Common.{◌≡◌, ◌∙◌, Bool, Ok, drop, get_or, refl, arith}
+use Rattle.std.proofs.lemmas.Grind.{common_steps}
+use Rattle.std.proofs.Common.{◌≡◌, ◌∙◌, Ok, drop, get_or, refl, arith}
 use Rattle.std.proofs.lemmas.Result.{err_from_is_err_and}
 use Rattle.sat_parts.proofs.lemmas.parts.WordSteps.{default_free}
 use Rattle.sat_solver.specs.proof.ProofView.{session_of}
@@ -15,9 +16,7 @@ returns-then-not-is_due g c =
     goes_none g.W.CountedWrite.seen tt c.args.proof.now _ c.requires.keeps (reduced_refl (session_of c.args.proof.now) c.args.search.now c.requires.search, rw c.if-not-is_due.true (refl {a = c.args.search.now.parts}))
 
 pub returns-in_err-list_locals : goal.returns-in_err-list_locals
-returns-in_err-list_locals g c =
-    let p = err_from_is_err_and c.from_residual.result c.from_residual.ensures.1 in
-    rw (p.1, p.2) (goes_starved g.W.CountedWrite.seen c.args.proof.now _ c.requires.keeps)
+returns-in_err-list_locals g c = grind (arith, common_steps, err_from_is_err_and, goes_starved)
 
 pub loop-at-init : goal.loop-at-init
 loop-at-init g c = record {
@@ -29,11 +28,7 @@ loop-at-init g c = record {
 }
 
 pub returns-in_err-deleted : goal.returns-in_err-deleted
-returns-in_err-deleted g c =
-    let p = err_from_is_err_and c.from_residual-in_err-deleted.result c.from_residual-in_err-deleted.ensures.1 in
-    rw (p.1, p.2)
-    (goes_then_fails g.W.CountedWrite.seen tt c.in_err-deleted.field-0.0 c.args.proof.now c.loop-at.proof c.delete_learned.new.proof _ (λ (b : Bool) _. DeletesIf b c.index.result.now (session_of c.delete_learned.new.proof) c.loop-at.search c.delete_learned.new.search) _
-    c.loop-at.invariant.came c.in_err-deleted.ensures)
+returns-in_err-deleted g c = grind (arith, common_steps, err_from_is_err_and, goes_then_fails)
 
 pub loop-at-preserved : goal.loop-at-preserved
 loop-at-preserved g c =

@@ -1,21 +1,8 @@
-use Rattle.std.proofs.Common.{ℕ, ◌≡◌, ◌∷◌, List, sym, ◌∙◌, ap}
+use Rattle.std.proofs.Common.{ℕ, ◌≡◌, ◌∷◌, List, ◌∙◌, ap}
 use Rattle.sat_base.specs.steps.Steps.{Assumptions}
-use Rattle.sat_checker.specs.LiteralSets.{mentions}
 use Rattle.sat_solver.proofs.lemmas.variables.Assumed.{assumptions_written}
 use Rattle.sat_solver.proofs.lemmas.variables.Added.{assumed_literals, assumptions_added}
 use Rattle.sat_solver.proofs.load.assume.assume.Goals as goal
-
-pub change_marks-requires-clause-tidy : goal.change_marks-requires-clause-tidy
-change_marks-requires-clause-tidy g c = c.in_ok-take_names.ensures.takes.does.valid.tidy
-
-pub change_marks-requires-clause-marked : goal.change_marks-requires-clause-marked
-change_marks-requires-clause-marked g c = λ v. ap (λ ls. mentions ls v) (ap (λ w. w.items) c.in_ok-take_names.ensures.globals ∙ c.requires.asked ∙ sym c.in_ok-take_names.ensures.takes.search.assumed) ∙ c.in_ok-take_names.ensures.takes.does.valid.said.marked v
-
-pub change_marks-requires-clause-images : goal.change_marks-requires-clause-images
-change_marks-requires-clause-images g c = c.in_ok-take_names.ensures.takes.images
-
-pub step-requires-clause-may : goal.step-requires-clause-may
-step-requires-clause-may g c = tt
 
 pub returns-clause-assumes : goal.returns-clause-assumes
 returns-clause-assumes g c =

@@ -1,7 +1,5 @@
-use Rattle.std.proofs.Common.{◌<◌, get_or, length, refl, ◌∙◌, subst, sym}
+use Rattle.std.proofs.Common.{◌<◌, get_or, length, subst, sym}
 use Rattle.sat_base.specs.values.Literals.{variable}
-use Rattle.sat_store.specs.variables.VarData.{unused_variable}
-use Rattle.sat_solver.proofs.lemmas.variables.Assumed.{remarked_lent}
 use Rattle.sat_solver.proofs.lemmas.variables.Added.{marks_within, order_within, mapped_within, list_within, maps_clause, lent_within}
 use Rattle.sat_solver.proofs.load.assume.change_marks.Goals as goal
 
@@ -18,21 +16,3 @@ mark_all-requires-2 c = record {
       (λ k lt. subst (λ n. variable (get_or c.map_lits.new.mapped.items k 0) < n) (sym c.mark_all.ensures.size)
       (mapped_within c.args.variables.now c.args._user.now c.args.asked.now.order.items c.map_lits.new.mapped.items c.requires.tidy c.requires.images (maps_clause c.map_lits.new.mapped.items c.deref-3.result.now c.args.asked.now.order.items c.deref-2.result.now c.args.variables.now.globals.items c.in_ok-map_lits.ensures c.deref-3.ensures.value c.deref-2.ensures.value) k lt));
 }
-
-pub returns-clause-puts : goal.returns-clause-puts
-returns-clause-puts c = record {
-  users = refl;
-  solvers = refl;
-  globals = refl;
-  witnessed = refl;
-  own = refl;
-  kept = remarked_lent (λ v. get_or c.args.variables.now.var_data.items v unused_variable) (λ v. get_or c.mark_all.new.list.items v unused_variable) (λ v. get_or c.mark_all-2.new.list.items v unused_variable) c.deref.result.now c.deref-4.result.now c.args.asked.now.globals.items c.map_lits.new.mapped.items
-      c.requires.marked c.mark_all.ensures.marks c.mark_all-2.ensures.marks c.deref.ensures.value c.deref-4.ensures.value;
-  count = c.mark_all-2.ensures.size ∙ c.mark_all.ensures.size;
-  free_users = refl;
-  free_globals = refl;
-  free_solvers = refl;
-}
-
-pub returns-clause-globals : goal.returns-clause-globals
-returns-clause-globals c = maps_clause c.map_lits.new.mapped.items c.deref-3.result.now c.args.asked.now.order.items c.deref-2.result.now c.args.variables.now.globals.items c.in_ok-map_lits.ensures c.deref-3.ensures.value c.deref-2.ensures.value

@@ -2,18 +2,7 @@ use Rattle.std.proofs.Common.{ℕ, ◌∷◌, List, sym, ◌∙◌, ap, subst}
 use Rattle.sat_base.specs.steps.Steps.{AddClause}
 use Rattle.sat_solver.specs.load.Literals.{SameLiterals}
 use Rattle.sat_solver.proofs.lemmas.variables.Added.{clause_literals, clause_added}
-use Rattle.sat_solver.specs.variables.Failing.{EmitsUpTo}
-use Rattle.sat_solver.proofs.lemmas.variables.CameLemmas.{came_on}
 use Rattle.sat_solver.proofs.load.clause.add_clause.Goals as goal
-
-pub map_clause-requires-clause-tidy : goal.map_clause-requires-clause-tidy
-map_clause-requires-clause-tidy g c = c.in_ok-take_names.ensures.takes.does.valid.tidy
-
-pub map_clause-requires-clause-images : goal.map_clause-requires-clause-images
-map_clause-requires-clause-images g c = c.in_ok-take_names.ensures.takes.images
-
-pub write_clause-requires-clause-valid : goal.write_clause-requires-clause-valid
-write_clause-requires-clause-valid g c = c.in_ok-take_names.ensures.takes.does.valid
 
 pub write_clause-requires-clause-literals : goal.write_clause-requires-clause-literals
 write_clause-requires-clause-literals g c = subst (SameLiterals c.take_names.new.variables c.args.lits.now) (sym c.deref.ensures.value)
@@ -25,8 +14,3 @@ pub returns-clause-adds : goal.returns-clause-adds
 returns-clause-adds g c = clause_added c.args.variables.now c.take_names.new.variables (g.W.StepLog.steps c.args.writer.now) (g.W.StepLog.steps c.take_names.new.writer) (g.W.StepLog.steps c.write_clause.new.writer) c.args.lits.now c.take_names.new.taken c.map_clause.new.taken c.in_ok-both_signs.both_signs
     c.in_ok-take_names.ensures.takes c.in_ok-both_signs.ensures.maps c.in_ok-both_signs.ensures.signs c.in_ok-both_signs.ensures.order c.in_ok-both_signs.ensures.given
     c.in_ok-write_clause.ensures.does (c.in_ok-write_clause.ensures.step ∙ ap (λ (ls : List ℕ). AddClause ls ∷ g.W.StepLog.steps c.take_names.new.writer) c.deref.ensures.value)
-
-pub returns-in_err-both_signs-clause-came : goal.returns-in_err-both_signs-clause-came
-returns-in_err-both_signs-clause-came g c =
-    came_on g.W.StepLog.took g.W.StepLog.broke c.from_residual-in_err-both_signs.result c.in_err-both_signs.field-0.0 c.args.writer.now c.take_names.new.writer c.from_residual-in_err-both_signs.ensures.1
-    (subst (λ e. (w : g.row.W.Denot) → g.W.StepLog.took w c.args.writer.now → EmitsUpTo g.W.StepLog.took g.W.StepLog.broke w e c.take_names.new.writer) (sym c.in_err-both_signs.ensures.memory) c.in_ok-take_names.ensures.came)

@@ -1,22 +1,15 @@
+use Rattle.std.proofs.Common.{arith}
+use Rattle.std.proofs.lemmas.Grind.{common_steps}
 use Rattle.std.proofs.Common.{◌≡◌, ◌+◌, drop, get_or, sym, ◌∙◌, ap, subst, refl}
 use Rattle.sat_base.specs.values.Literals.{variable}
 use Rattle.sat_solver.specs.variables.Calls.{BringsInUnseen}
 use Rattle.sat_solver.specs.variables.Variables.{global_of}
 use Rattle.sat_solver.proofs.lemmas.variables.TakenNames.{any_default}
-use Rattle.sat_solver.proofs.lemmas.variables.LeftOut.{bring_begins, bring_goes, brought_out}
+use Rattle.sat_solver.proofs.lemmas.variables.LeftOut.{bring_goes, brought_out}
 use Rattle.sat_solver.proofs.lemmas.variables.CameLemmas.{came_on}
 use Rattle.sat_solver.specs.variables.VariableRoom.{user_vars_in}
 use Rattle.sat_solver.proofs.lemmas.variables.RoomLemmas.{room_at, fails_on}
 use Rattle.sat_solver.proofs.load.clause.leave_out_clause.Goals as goal
-
-pub loop-lit-init : goal.loop-lit-init
-loop-lit-init g c = record { keeps = c.requires.keeps; room = λ h. h; came = λ w t. t; bringing = bring_begins c.args.variables.now (g.W.StepLog.steps c.args.writer.now) c.args.lits.now c.requires.valid }
-
-pub global_from_user-requires-clause-valid : goal.global_from_user-requires-clause-valid
-global_from_user-requires-clause-valid g c = c.loop-lit.invariant.bringing.valid
-
-pub global_from_user-requires-clause-keeps : goal.global_from_user-requires-clause-keeps
-global_from_user-requires-clause-keeps g c = c.loop-lit.invariant.keeps
 
 pub loop-lit-preserved : goal.loop-lit-preserved
 loop-lit-preserved g c =
@@ -34,18 +27,9 @@ loop-lit-preserved g c =
 pub returns-clause-leaves : goal.returns-clause-leaves
 returns-clause-leaves g c = brought_out c.args.variables.now c.loop-lit.variables (g.W.StepLog.steps c.args.writer.now) (g.W.StepLog.steps c.loop-lit.writer) c.args.lits.now c.loop-lit.lit-index c.loop-lit-test.false c.requires.unsat c.loop-lit.invariant.bringing
 
-pub returns-clause-keeps : goal.returns-clause-keeps
-returns-clause-keeps g c = c.loop-lit.invariant.keeps
-
 pub returns-in_err-global_from_user-clause-came : goal.returns-in_err-global_from_user-clause-came
 returns-in_err-global_from_user-clause-came g c =
     came_on g.W.StepLog.took g.W.StepLog.broke c.from_residual.result c.in_err-global_from_user.field-0.0 c.args.writer.now c.global_from_user.new.writer c.from_residual.ensures.1 (λ w t. c.in_err-global_from_user.ensures.came w (c.loop-lit.invariant.came w t))
 
-pub returns-clause-came : goal.returns-clause-came
-returns-clause-came g c = c.loop-lit.invariant.came
-
 pub returns-in_err-global_from_user-clause-room : goal.returns-in_err-global_from_user-clause-room
-returns-in_err-global_from_user-clause-room g c =
-    let user : c.var.result ≡ variable (get_or c.args.lits.now c.loop-lit.lit-index 0) = c.var.ensures ∙ ap variable (c.lit-item.is ∙ any_default c.args.lits.now c.loop-lit.lit-index c.lit-item.result 0 c.loop-lit-test.true) in
-    λ h. fails_on c.from_residual.result c.in_err-global_from_user.field-0.0 c.from_residual.ensures.1
-    (c.in_err-global_from_user.ensures.room (user_vars_in (drop (c.loop-lit.lit-index + 1) c.args.lits.now)) (room_at c.loop-lit.variables c.args.lits.now c.loop-lit.lit-index c.var.result c.loop-lit-test.true user (c.loop-lit.invariant.room h)))
+returns-in_err-global_from_user-clause-room g c = grind (arith, common_steps, any_default, room_at, fails_on)

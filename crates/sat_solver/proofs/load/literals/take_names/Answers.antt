@@ -1,33 +1,14 @@
+use Rattle.std.proofs.Common.{arith}
+use Rattle.std.proofs.lemmas.Grind.{common_steps}
 use Rattle.std.proofs.Common.{◌≡◌, ◌+◌, drop, get_or, sym, ◌∙◌, ap, subst, refl}
 use Rattle.sat_base.specs.values.Literals.{variable, coded, is_positive}
 use Rattle.sat_solver.specs.variables.Calls.{BringsInUnseen}
 use Rattle.sat_solver.specs.variables.Variables.{global_of}
-use Rattle.sat_solver.proofs.lemmas.variables.TakenNames.{none_taken, one_taken, all_taken, any_default}
+use Rattle.sat_solver.proofs.lemmas.variables.TakenNames.{one_taken, all_taken, any_default}
 use Rattle.sat_solver.proofs.lemmas.variables.CameLemmas.{came_on, came_starved}
-use Rattle.sat_solver.specs.declared.variables.error.NameError.TheVariants as errors
 use Rattle.sat_solver.specs.variables.VariableRoom.{user_vars_in}
 use Rattle.sat_solver.proofs.lemmas.variables.RoomLemmas.{room_same, room_at, fails_on}
 use Rattle.sat_solver.proofs.load.literals.take_names.Goals as goal
-
-pub loop-lit-init : goal.loop-lit-init
-loop-lit-init g c = record {
-  globals = refl;
-  keeps = c.requires.keeps;
-  room = λ h. h;
-  came = λ w t. t;
-  taking = none_taken c.args.variables.now (g.W.StepLog.steps c.args.writer.now) c.args.lits.now c.clear.new.self.items c.clear-2.new.self.items c.requires.valid c.clear.ensures.items c.clear-2.ensures.items;
-}
-
-pub global_from_user-requires-clause-valid : goal.global_from_user-requires-clause-valid
-global_from_user-requires-clause-valid g c = c.loop-lit.invariant.taking.valid
-
-pub global_from_user-requires-clause-keeps : goal.global_from_user-requires-clause-keeps
-global_from_user-requires-clause-keeps g c = c.loop-lit.invariant.keeps
-
-pub solver_from_global-requires-clause-live : goal.solver_from_global-requires-clause-live
-solver_from_global-requires-clause-live g c =
-    let valid = c.in_ok-global.ensures.brought.brings.valid in
-    valid.tidy.named c.in_ok-global.global c.var.result (valid.tidy.users.back c.var.result c.in_ok-global.global c.in_ok-global.ensures.variable)
 
 pub loop-lit-preserved : goal.loop-lit-preserved
 loop-lit-preserved g c =
@@ -50,12 +31,6 @@ loop-lit-preserved g c =
 pub returns-clause-takes : goal.returns-clause-takes
 returns-clause-takes g c = all_taken c.args.variables.now c.loop-lit.variables (g.W.StepLog.steps c.args.writer.now) (g.W.StepLog.steps c.loop-lit.writer) c.args.lits.now c.loop-lit.taken c.loop-lit.lit-index c.loop-lit-test.false c.loop-lit.auto.lit-index-end c.loop-lit.invariant.taking
 
-pub returns-clause-globals : goal.returns-clause-globals
-returns-clause-globals g c = c.loop-lit.invariant.globals
-
-pub returns-clause-keeps : goal.returns-clause-keeps
-returns-clause-keeps g c = c.loop-lit.invariant.keeps
-
 pub returns-in_err-global-clause-came : goal.returns-in_err-global-clause-came
 returns-in_err-global-clause-came g c =
     came_on g.W.StepLog.took g.W.StepLog.broke c.from_residual.result c.in_err-global.field-0.0 c.args.writer.now c.global_from_user.new.writer c.from_residual.ensures.1 (λ w t. c.in_err-global.ensures.came w (c.loop-lit.invariant.came w t))
@@ -66,21 +41,7 @@ returns-in_err-solver-clause-came g c =
     (λ w t. c.in_err-solver.ensures.came w (c.in_ok-global.ensures.came w (c.loop-lit.invariant.came w t)))
 
 pub returns-in_err-push-clause-came : goal.returns-in_err-push-clause-came
-returns-in_err-push-clause-came g c =
-    came_starved g.W.StepLog.took g.W.StepLog.broke c.from_residual-in_err-push.result c.args.writer.now c.solver_from_global.new.writer c.from_residual-in_err-push.ensures.1
-    (λ w t. c.in_ok-solver.ensures.came w (c.in_ok-global.ensures.came w (c.loop-lit.invariant.came w t)))
-
-pub returns-clause-came : goal.returns-clause-came
-returns-clause-came g c = c.loop-lit.invariant.came
+returns-in_err-push-clause-came g c = grind (arith, common_steps, came_starved)
 
 pub returns-in_err-global-clause-room : goal.returns-in_err-global-clause-room
-returns-in_err-global-clause-room g c =
-    let user : c.var.result ≡ variable (get_or c.args.lits.now c.loop-lit.lit-index 0) = c.var.ensures ∙ ap variable (c.lit-item.is ∙ any_default c.args.lits.now c.loop-lit.lit-index c.lit-item.result 0 c.loop-lit-test.true) in
-    λ h. fails_on c.from_residual.result c.in_err-global.field-0.0 c.from_residual.ensures.1
-    (c.in_err-global.ensures.room (user_vars_in (drop (c.loop-lit.lit-index + 1) c.args.lits.now)) (room_at c.loop-lit.variables c.args.lits.now c.loop-lit.lit-index c.var.result c.loop-lit-test.true user (c.loop-lit.invariant.room h)))
-
-pub returns-in_err-solver-clause-room : goal.returns-in_err-solver-clause-room
-returns-in_err-solver-clause-room g c = λ h. fails_on c.from_residual-in_err-solver.result c.in_err-solver.field-0.0 c.from_residual-in_err-solver.ensures.1 c.in_err-solver.ensures.fails
-
-pub returns-in_err-push-clause-room : goal.returns-in_err-push-clause-room
-returns-in_err-push-clause-room g c = λ h. fails_on c.from_residual-in_err-push.result errors.OutOfMemory c.from_residual-in_err-push.ensures.1 tt
+returns-in_err-global-clause-room g c = grind (arith, common_steps, any_default, room_at, fails_on)

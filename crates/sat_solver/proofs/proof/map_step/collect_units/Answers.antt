@@ -12,7 +12,7 @@ use Rattle.sat_parts.specs.parts.Whole.{state}
 use Rattle.sat_solver.specs.session.Naming.{global_of_index}
 use Rattle.sat_solver.proofs.lemmas.fits.CodeLemmas.{units_push}
 use Rattle.sat_solver.proofs.lemmas.fits.UsableLemmas.{reason_clauses}
-use Rattle.sat_solver.proofs.lemmas.fits.StepLemmas.{orderly_there, orderly_clause, orderly_some, orderly_below}
+use Rattle.sat_solver.proofs.lemmas.fits.StepLemmas.{orderly_there, orderly_clause, orderly_some}
 use Rattle.sat_solver.proofs.proof.map_step.collect_units.Goals as goal
 use Rattle.sat_solver.proofs.proof.map_step.collect_units.Goals.{After-lit-item}
 
@@ -38,16 +38,6 @@ pub unit_of-requires-clause-some : goal.unit_of-requires-clause-some
 unit_of-requires-clause-some c = λ o e.
     let x = (goal.at.unit_of-requires-clause-some c).After-lit-item in
     orderly_some c.args.parts.now c.requires.orderly c.loop-lit.lit-index (within x) o (ap (λ l. (node (state c.args.parts.now) l).reason) (sym (at x)) ∙ e)
-
-pub unit_of-requires-clause-there : goal.unit_of-requires-clause-there
-unit_of-requires-clause-there c =
-    let x = (goal.at.unit_of-requires-clause-there c).After-lit-item in
-    subst (λ l. variable l < length c.args.parts.now.graph) (sym (at x)) (orderly_there c.args.parts.now c.requires.orderly c.loop-lit.lit-index (within x))
-
-pub unit_of-requires-clause-name : goal.unit_of-requires-clause-name
-unit_of-requires-clause-name c =
-    let x = (goal.at.unit_of-requires-clause-name c).After-lit-item in
-    subst (λ l. variable l < length c.args.globals.now) (sym (at x)) (orderly_below c.args.parts.now c.requires.orderly (length c.args.globals.now) c.requires.names c.loop-lit.lit-index (within x))
 
 pub loop-lit-preserved : goal.loop-lit-preserved
 loop-lit-preserved c =

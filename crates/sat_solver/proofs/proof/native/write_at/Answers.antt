@@ -1,4 +1,5 @@
-use Rattle.std.proofs.Common.{[], ◌∷◌}
+use Rattle.std.proofs.Common.{arith}
+use Rattle.std.proofs.lemmas.Grind.{common_steps}
 use Rattle.std.proofs.lemmas.Result.{err_from_is_err_and}
 use Rattle.sat_base.specs.steps.StepViews.{step_of}
 use Rattle.sat_base.specs.steps.StepWriting.{steps_sink}
@@ -9,18 +10,10 @@ use Rattle.sat_solver.proofs.lemmas.session.PuttingLemmas.{wrote_one, puts_after
 use Rattle.sat_solver.proofs.proof.native.write_at.Goals as goal
 
 pub returns-in_err-write_width : goal.returns-in_err-write_width
-returns-in_err-write_width g c =
-    let p = err_from_is_err_and c.from_residual.result c.from_residual.ensures.1 in
-    let seen = g.W.CountedWrite.seen in
-    rw (p.1, p.2) (puts_short Varisat c.in_err-write_width.field-0.0 (step_of c.args.step.now) (width_change c.args.widths.0 c.args.widths.1) (steps_sink seen c.args.writer.now) (steps_sink seen c.write_width.new.writer) c.in_err-write_width.ensures)
+returns-in_err-write_width g c = grind (arith, common_steps, err_from_is_err_and, puts_short)
 
 pub returns : goal.returns
-returns g c =
-    let seen = g.W.CountedWrite.seen in
-    let mid = steps_sink seen c.write_width.new.writer in
-    let end = steps_sink seen c.write.new.self in
-    wrote_more Varisat (steps_sink seen c.args.writer.now) mid end (width_change c.args.widths.0 c.args.widths.1) (step_of c.args.step.now ∷ []) c.in_ok-write_width.ensures
-    (wrote_one Varisat (step_of c.args.step.now) mid end c.in_ok-write.ensures.sends c.in_ok-write.ensures.spells)
+returns g c = grind (arith, common_steps, wrote_more, wrote_one)
 
 pub returns-in_err-write : goal.returns-in_err-write
 returns-in_err-write g c =

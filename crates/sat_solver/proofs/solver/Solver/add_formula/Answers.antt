@@ -1,14 +1,6 @@
-use Rattle.std.proofs.Common.{rules}
 use Rattle.std.proofs.lemmas.Result.{err_from_is_err_and}
-use Rattle.sat_solver.proofs.lemmas.solver.FormulaLemmas.{so_none, so_one, so_stops, so_all}
+use Rattle.sat_solver.proofs.lemmas.solver.FormulaLemmas.{so_one, so_stops}
 use Rattle.sat_solver.proofs.solver.Solver.add_formula.Goals as goal
-
-pub loop-clause-init : goal.loop-clause-init
-loop-clause-init g c = record {
-  was = c.if-self.false;
-  solver = c.requires;
-  so = so_none g.W.CountedWrite.seen c.args.self.now c.args.formula.now.clauses _ (search rules);
-}
 
 pub loop-clause-preserved : goal.loop-clause-preserved
 loop-clause-preserved g c = record {
@@ -23,6 +15,3 @@ returns-in_err-add_clause-clause-adds g c =
     rw (q.1, q.2)
     (so_stops g.W.CountedWrite.seen c.in_err-add_clause.field-0.0 c.args.self.now c.loop-clause.self c.add_clause.new.self c.args.formula.now.clauses c.loop-clause.clause-iterator c.next.new.self c.in-Some.clause.now
     c.loop-clause.invariant.was c.in-Some.ensures.steps c.loop-clause.invariant.so c.in_err-add_clause.ensures.adds)
-
-pub returns-clause-adds : goal.returns-clause-adds
-returns-clause-adds g c = so_all g.W.CountedWrite.seen c.args.self.now c.loop-clause.self c.args.formula.now.clauses c.loop-clause.clause-iterator c.loop-clause.invariant.was (search rules) c.loop-clause.invariant.so

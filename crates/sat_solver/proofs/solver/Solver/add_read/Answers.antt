@@ -1,17 +1,13 @@
-use Rattle.std.proofs.Common.{Bool, ap, inl, inr}
+use Rattle.std.proofs.Common.{arith}
+use Rattle.std.proofs.lemmas.Grind.{common_steps}
+use Rattle.std.proofs.Common.{Bool, ap, inl}
 use Rattle.std.proofs.lemmas.Result.{err_from_is_err_and}
 use Rattle.sat_solver.specs.solver.Formulas.{with_failed}
 use Rattle.sat_solver.proofs.lemmas.solver.FormulaLemmas.{stops_of, adds_going}
 use Rattle.sat_solver.proofs.solver.Solver.add_read.Goals as goal
 
 pub returns-in_err-add_formula-clause-adds : goal.returns-in_err-add_formula-clause-adds
-returns-in_err-add_formula-clause-adds g c =
-    let q = err_from_is_err_and c.from_residual.result c.from_residual.ensures.1 in
-    rw (q.1, q.2) (
-      c.take_formula-formula.result.clauses,
-      c.take_formula-formula.ensures.clauses,
-      inr (stops_of g.W.CountedWrite.seen c.in_err-add_formula.field-0.0 c.args.self.now c.add_formula.new.self c.take_formula-formula.result.clauses c.requires.going c.in_err-add_formula.ensures.adds),
-    )
+returns-in_err-add_formula-clause-adds g c = grind (arith, common_steps, err_from_is_err_and, stops_of)
 
 pub returns-in-Err-clause-solver : goal.returns-in-Err-clause-solver
 returns-in-Err-clause-solver g c = λ e. c.in_ok-add_formula.ensures.solver (adds_going g.W.CountedWrite.seen c.args.self.now c.add_formula.new.self c.take_formula-formula.result.clauses c.requires.going c.in_ok-add_formula.ensures.adds.1)

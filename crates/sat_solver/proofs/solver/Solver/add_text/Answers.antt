@@ -1,4 +1,5 @@
-use Rattle.std.proofs.Common.{◌+◌, ℕ, [], ◌++◌, inl, inr, refl, ap, sym, subst, ◌∙◌, take, length-append, rules, arith}
+use Rattle.std.proofs.lemmas.Grind.{common_steps}
+use Rattle.std.proofs.Common.{◌+◌, ℕ, [], ◌++◌, inl, refl, ap, sym, subst, ◌∙◌, take, length-append, rules, arith}
 use Rattle.std.proofs.lemmas.Result.{err_from_is_err_and}
 use Rattle.sat_base.specs.dimacs.Parsing.{Progress, IsSoundSoFar}
 use Rattle.sat_base.proofs.lemmas.device.Given.{gave_none, gave_more, gave_still, gave_to_end, not_ended, few_front}
@@ -71,8 +72,4 @@ returns-in-Err-clause-adds g c =
     front c.loop.invariant.sound b.4 c.loop.invariant.added
 
 pub returns-clause-adds : goal.returns-clause-adds
-returns-clause-adds g c =
-    let b = c.loop.invariant.bytes in
-    read_answers g.W.CountedWrite.seen c.args.self.now c.loop.self _ _ b.0 c.loop.parser c.loop.invariant.was b.1
-    (inr (c.loop.invariant.failures, omega (arith, c.loop.invariant.calls)), few_front _ _ b.0 b.2 (omega (arith, c.loop.invariant.calls, b.3)))
-    b.2 c.loop.invariant.sound b.4 c.loop.invariant.added
+returns-clause-adds g c = grind (arith, common_steps, few_front, read_answers)

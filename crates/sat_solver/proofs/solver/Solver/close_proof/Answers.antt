@@ -1,5 +1,4 @@
 use Rattle.sat_solver.proofs.lemmas.solver.EndingLemmas.{closed_whole, closed_by}
-use Rattle.sat_solver.proofs.lemmas.solver.ReportedLemmas.{close_ends, close_kept}
 use Rattle.sat_solver.proofs.solver.Solver.close_proof.Goals as goal
 
 pub returns-in-Ok-clause-solver : goal.returns-in-Ok-clause-solver
@@ -7,11 +6,3 @@ returns-in-Ok-clause-solver g c = λ e. closed_whole g.W.CountedWrite.seen c.arg
 
 pub returns-in-Ok-clause-closes : goal.returns-in-Ok-clause-closes
 returns-in-Ok-clause-closes g c = closed_by g.W.CountedWrite.seen c.args.self.now (c.requires c.if-self.false) c.if-self.false c.close.new.self c.in-Ok.ensures.keeps c.in-Ok.target c.in-Ok.ensures.closes
-
-pub fail-requires : goal.fail-requires
-fail-requires g c = record {
-  kept = rw c.from.ensures (close_kept g.W.CountedWrite.seen c.args.self.now c.if-self.false (c.requires c.if-self.false).taking c.close.new.self c.in-Err.error c.in-Err.ensures.closes);
-}
-
-pub returns-in-Err-clause-closes : goal.returns-in-Err-clause-closes
-returns-in-Err-clause-closes g c = rw (c.fail.ensures.error, c.fail.ensures.fails, c.from.ensures) (close_ends g.W.CountedWrite.seen c.args.self.now c.if-self.false (c.requires c.if-self.false).taking c.close.new.self c.in-Err.error c.in-Err.ensures.closes)

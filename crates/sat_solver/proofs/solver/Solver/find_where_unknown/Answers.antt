@@ -1,9 +1,11 @@
-use Rattle.std.proofs.Common.{◌≡◌, Option, None, Some, subst, sym}
+use Rattle.std.proofs.Common.{arith}
+use Rattle.std.proofs.lemmas.Grind.{common_steps}
+use Rattle.std.proofs.Common.{◌≡◌, Option, None, Some, subst}
 use Rattle.std.specs.Prelude.{◌-◌}
 use Rattle.std.proofs.lemmas.Result.{err_from_is_err_and}
 use Rattle.sat_solver.specs.declared.state.State.{State}
 use Rattle.sat_solver.specs.declared.state.State.TheVariants as states
-use Rattle.sat_solver.specs.solver.Found.{FindsAnswer, SearchedBy, state_found}
+use Rattle.sat_solver.specs.solver.Found.{FindsAnswer}
 use Rattle.sat_solver.proofs.lemmas.solver.SettlingLemmas.{rounds_on, settled_known, settled_some, settled_without}
 use Rattle.sat_solver.proofs.solver.Solver.find_where_unknown.Goals as goal
 
@@ -35,10 +37,7 @@ none_some : (o : Option State) (st : State) → o ≡ None → o ≡ Some st →
 none_some o st e f = cc
 
 pub returns-in-Some-clause-answers : goal.returns-in-Some-clause-answers
-returns-in-Some-clause-answers g c =
-    let s = c.args.self.now in
-    settled_some g.W.CountedWrite.seen s c.requires.whole c.in-Unknown.is c.find_answer.new.core c.find_answer.new.names c.find_answer.new.reported c.find_answer.new.clock c.in_ok-found.ensures.scale c.in_ok-found.ensures.counts (c.in_ok-found.ensures.round (λ e. none_some c.in_ok-found.found c.in-Some.state e c.in-Some.is)) c.in-Some.state
-    (subst (λ (o : Option State). FindsAnswer g.W.CountedWrite.seen o (c.find_answer.new.clock.rounds - s.clock.rounds) s.names c.find_answer.new.names s.core c.find_answer.new.core c.find_answer.new.reported.failed_core.items) c.in-Some.is c.in_ok-found.ensures.finds)
+returns-in-Some-clause-answers g c = grind (arith, common_steps, settled_some, none_some)
 
 pub returns-in-None-clause-answers : goal.returns-in-None-clause-answers
 returns-in-None-clause-answers g c =
@@ -46,19 +45,6 @@ returns-in-None-clause-answers g c =
     settled_without g.W.CountedWrite.seen s c.requires.whole c.in-Unknown.is c.find_answer.new.core c.find_answer.new.names c.find_answer.new.reported c.find_answer.new.clock c.in_ok-found.ensures.scale c.in_ok-found.ensures.counts
     (c.in_ok-found.ensures.interrupted c.in-None.is) (λ n le fits. c.in_ok-found.ensures.answered n le fits c.in-None.is)
     (subst (λ (o : Option State). FindsAnswer g.W.CountedWrite.seen o (c.find_answer.new.clock.rounds - s.clock.rounds) s.names c.find_answer.new.names s.core c.find_answer.new.core c.find_answer.new.reported.failed_core.items) c.in-None.is c.in_ok-found.ensures.finds)
-
-pub returns-in-Some-clause-searched : goal.returns-in-Some-clause-searched
-returns-in-Some-clause-searched g c = λ u.
-    let s = c.args.self.now in
-    let now = c.find_answer.new in
-    subst (λ (o : Option State). SearchedBy g.W.CountedWrite.seen (state_found o) s.clock now.clock s.names now.names s.core now.core now.reported.failed_core.items) c.in-Some.is c.in_ok-found.ensures.searched
-
-pub returns-in-None-clause-searched : goal.returns-in-None-clause-searched
-returns-in-None-clause-searched g c = λ u.
-    let s = c.args.self.now in
-    let now = c.find_answer.new in
-    subst (λ st. SearchedBy g.W.CountedWrite.seen st s.clock now.clock s.names now.names s.core now.core now.reported.failed_core.items) (sym u)
-    (subst (λ (o : Option State). SearchedBy g.W.CountedWrite.seen (state_found o) s.clock now.clock s.names now.names s.core now.core now.reported.failed_core.items) c.in-None.is c.in_ok-found.ensures.searched)
 
 pub returns-in_err-found-clause-answers : goal.returns-in_err-found-clause-answers
 returns-in_err-found-clause-answers g c =

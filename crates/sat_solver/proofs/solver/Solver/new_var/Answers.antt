@@ -1,12 +1,11 @@
-use Rattle.std.proofs.Common.{refl, sym, ap, subst, true}
+use Rattle.std.proofs.Common.{refl, ap, true}
 use Rattle.sat_base.specs.values.Literals.{variable, coded}
 use Rattle.sat_solver.proofs.lemmas.variables.Extending.{are_fresh}
 use Rattle.sat_solver.proofs.lemmas.variables.Giving.{alike_unseen}
 use Rattle.sat_solver.proofs.lemmas.solver.TakingLemmas.{none_took, names_broke}
-use Rattle.sat_solver.specs.variables.Failing.{FailsForNoVariable, Limits}
-use Rattle.sat_solver.specs.solver.Whole.{IsSolver, steps_in}
+use Rattle.sat_solver.specs.solver.Whole.{steps_in}
 use Rattle.sat_solver.specs.proof.ProofView.{steps_of}
-use Rattle.sat_solver.proofs.lemmas.solver.RenamedLemmas.{next_name, renamed, new_fails, one_left, fault_left, reported_limit, same_solver}
+use Rattle.sat_solver.proofs.lemmas.solver.RenamedLemmas.{next_name, renamed, new_fails, one_left, fault_left, reported_limit}
 use Rattle.sat_solver.specs.solver.Failing.{failed_with}
 use Rattle.sat_solver.proofs.lemmas.solver.ReportedLemmas.{names_reported}
 use Rattle.sat_solver.proofs.solver.Solver.new_var.Goals as goal
@@ -25,18 +24,6 @@ returns-in-Ok-clause-names g c =
 
 pub returns-in-Ok-clause-solver : goal.returns-in-Ok-clause-solver
 returns-in-Ok-clause-solver g c = λ e. (returns-in-Ok-clause-names g c).1.did.whole
-
-pub returns-then-is_limit-clause-solver : goal.returns-then-is_limit-clause-solver
-returns-then-is_limit-clause-solver g c =
-    let s = c.args.self.now in
-    let full : FailsForNoVariable s.names c.new_user_var.new.variables s.core.proof c.new_user_var.new.writer = subst (λ e. Limits e s.names c.new_user_var.new.variables s.core.proof c.new_user_var.new.writer) (c.is_limit.ensures.limit c.if-is_limit.true) c.in-Err.ensures.limit in
-    subst (λ z. IsSolver z) (sym (same_solver s c.new_user_var.new.variables c.new_user_var.new.writer full.names full.steps)) c.requires
-
-pub returns-then-is_limit-clause-names : goal.returns-then-is_limit-clause-names
-returns-then-is_limit-clause-names g c =
-    let s = c.args.self.now in
-    let full : FailsForNoVariable s.names c.new_user_var.new.variables s.core.proof c.new_user_var.new.writer = subst (λ e. Limits e s.names c.new_user_var.new.variables s.core.proof c.new_user_var.new.writer) (c.is_limit.ensures.limit c.if-is_limit.true) c.in-Err.ensures.limit in
-    record { same = same_solver s c.new_user_var.new.variables c.new_user_var.new.writer full.names full.steps; cause = (c.if-self.false, full.none) }
 
 pub returns-else-is_limit-clause-names : goal.returns-else-is_limit-clause-names
 returns-else-is_limit-clause-names g c =

@@ -1,26 +1,11 @@
 use Rattle.std.proofs.Common.{refl, sym, subst, true, false}
 use Rattle.sat_solver.specs.solver.Calls.{is_answer}
-use Rattle.sat_solver.specs.declared.solver.Solver.{Solver}
-use Rattle.sat_solver.proofs.lemmas.solver.AskLemmas.{ask_ends, ask_breaks, ask_broken, ask_whole, ask_answered}
-use Rattle.sat_solver.proofs.lemmas.solver.BegunLemmas.{whole_begun}
+use Rattle.sat_solver.proofs.lemmas.solver.AskLemmas.{ask_ends, ask_broken, ask_whole, ask_answered}
 use Rattle.sat_solver.proofs.solver.Solver.solve.Goals as goal
-
-pub find_where_unknown-requires : goal.find_where_unknown-requires
-find_where_unknown-requires g c =
-    let used : Solver g.row.W.Denot g.row.P.Denot g.P.ProofProcessor = record c.args.self.now { used = true } in
-    record { whole = whole_begun g.W.CountedWrite.seen used c.begin_ask.new.self c.begin_ask.ensures.adds c.begin_ask.ensures.taking (c.requires c.if-self.false) }
-
-pub fail-requires : goal.fail-requires
-fail-requires g c = record { kept = c.in-Err.ensures.answers.0.1 }
 
 pub returns-in-Err-clause-solves : goal.returns-in-Err-clause-solves
 returns-in-Err-clause-solves g c =
     rw (c.fail.ensures.error, c.fail.ensures.fails) (ask_ends g.W.CountedWrite.seen c.args.self.now c.if-self.false c.begin_ask.new.self c.begin_ask.ensures.adds c.begin_ask.ensures.taking c.find_where_unknown.new.self c.in-Err.fault c.in-Err.ensures.answers)
-
-pub fail-requires-in-Err-flush : goal.fail-requires-in-Err-flush
-fail-requires-in-Err-flush g c =
-    let h = ask_breaks g.W.CountedWrite.seen c.args.self.now c.if-self.false c.begin_ask.new.self c.begin_ask.ensures.adds c.begin_ask.ensures.taking c.find_where_unknown.new.self c.in_default.ensures.answers c.flush.new.self c.in-Err-flush.error c.in-Err-flush.ensures.flushes in
-    record { kept = rw c.from.ensures h.0.1 }
 
 pub returns-in-Err-flush-clause-solves : goal.returns-in-Err-flush-clause-solves
 returns-in-Err-flush-clause-solves g c =
@@ -39,9 +24,6 @@ returns-in-UnsatUnderAssumptions-clause-solver g c = ask_whole g.W.CountedWrite.
 pub returns-in-UnsatUnderAssumptions-clause-solves : goal.returns-in-UnsatUnderAssumptions-clause-solves
 returns-in-UnsatUnderAssumptions-clause-solves g c =
     (ask_answered g.W.CountedWrite.seen c.args.self.now c.if-self.false c.begin_ask.new.self c.begin_ask.ensures.adds c.begin_ask.ensures.taking c.find_where_unknown.new.self c.in_default.ensures.answers c.flush.new.self c.begin_ask.ensures.same c.in_default.ensures.searched c.in_default-flush.ensures.flushes, subst (λ st. is_answer st false) (sym c.in-UnsatUnderAssumptions.is) refl)
-
-pub returns-in-Unsat-clause-solver : goal.returns-in-Unsat-clause-solver
-returns-in-Unsat-clause-solver g c = ask_whole g.W.CountedWrite.seen c.args.self.now c.if-self.false c.begin_ask.new.self c.begin_ask.ensures.adds c.begin_ask.ensures.taking c.find_where_unknown.new.self c.in_default.ensures.answers c.flush.new.self c.in_default-flush.ensures.flushes
 
 pub returns-in-Unsat-clause-solves : goal.returns-in-Unsat-clause-solves
 returns-in-Unsat-clause-solves g c =

@@ -3,11 +3,8 @@ use Rattle.std.specs.Prelude.{◌-◌, MatchOption}
 use Rattle.sat_solver.specs.declared.schedule.Outcome.{Outcome}
 use Rattle.sat_solver.specs.schedule.Rounds.{LastRoundAnswers}
 use Rattle.sat_solver.specs.schedule.Solving.{Ended, Restarted, ReducedAt, RoundOf}
-use Rattle.sat_solver.proofs.lemmas.solver.FindingLemmas.{comes_to, finds_by, breaks_by, searched_by}
+use Rattle.sat_solver.proofs.lemmas.solver.FindingLemmas.{finds_by, breaks_by, searched_by}
 use Rattle.sat_solver.proofs.solver.find.find_answer.Goals as goal
-
-pub report-requires : goal.report-requires
-report-requires g c = comes_to g.W.CountedWrite.seen c.args.names.now c.search.new.names c.args.core.now c.requires.joined c.in-Some.outcome c.search.new.core (subst (λ (o : Option Outcome). MatchOption o (Unit {0}) (λ x. Ended g.W.CountedWrite.seen c.args.core.now c.args.names.now (c.search.new.rounds - c.args.clock.now.rounds - 1) x c.search.new.core c.search.new.names)) c.in-Some.is c.in_ok-found.ensures.ends)
 
 pub returns-in-Some-clause-finds : goal.returns-in-Some-clause-finds
 returns-in-Some-clause-finds g c = finds_by g.W.CountedWrite.seen c.args.names.now c.search.new.names c.args.core.now c.in-Some.outcome c.report.result c.search.new.core c.report.new.core c.report.new.reported.failed_core.items (c.search.new.rounds - c.args.clock.now.rounds) (subst (λ (o : Option Outcome). MatchOption o (Unit {0}) (λ x. Ended g.W.CountedWrite.seen c.args.core.now c.args.names.now (c.search.new.rounds - c.args.clock.now.rounds - 1) x c.search.new.core c.search.new.names)) c.in-Some.is c.in_ok-found.ensures.ends) c.report.ensures

@@ -1,15 +1,15 @@
+use Rattle.std.proofs.Common.{arith}
+use Rattle.std.proofs.lemmas.Grind.{common_steps}
 use Rattle.std.proofs.Common.{ℕ, List, subst}
 use Rattle.sat_solver.specs.assumptions.Setting.{ReplacesAssumed}
 use Rattle.sat_solver.proofs.lemmas.load.GivenLemmas.{vacant_restarted, restarted_indexed}
 use Rattle.std.proofs.lemmas.Result.{err_from_is_err_and}
-use Rattle.sat_solver.proofs.lemmas.solver.TakingLemmas.{reported_fails, fault_on, asked_vacant, asked_there, asked_taken, none_took, names_broke, names_starved}
+use Rattle.sat_solver.proofs.lemmas.solver.TakingLemmas.{fault_on, asked_vacant, asked_there, asked_taken, none_took, names_broke, names_starved}
 use Rattle.sat_solver.specs.declared.error.SolverError.TheVariants as errors
 use Rattle.sat_solver.proofs.solver.load.take_assumptions.Goals as goal
 
 pub returns-in_err-assume-clause-takes : goal.returns-in_err-assume-clause-takes
-returns-in_err-assume-clause-takes g c =
-    let p = err_from_is_err_and c.from_residual.result c.from_residual.ensures.1 in
-    rw (p.1, p.2) (names_broke g.W.CountedWrite.seen c.args.core.now (record c.args.core.now { proof = c.assume.new.writer; search = c.full_restart.new.search }) c.in_err-assume.field-0.0 (c.in_err-assume.ensures.came c.args.core.now.proof (none_took g.W.CountedWrite.seen c.args.core.now.proof)))
+returns-in_err-assume-clause-takes g c = grind (arith, common_steps, err_from_is_err_and, none_took, names_broke)
 
 pub new_indices-requires-clause-vacant : goal.new_indices-requires-clause-vacant
 new_indices-requires-clause-vacant g c = rw (c.deref.ensures.value, c.deref-2.ensures.value)
@@ -33,11 +33,6 @@ pub returns-clause-takes : goal.returns-clause-takes
 returns-clause-takes g c = asked_taken g.W.CountedWrite.seen c.args.names.now c.assume.new.variables c.args.core.now c.requires.joined c.args.lits.now c.assume.new.asked c.assume.new.writer c.in_ok-assume.ensures.assumes (c.in_ok-assume.ensures.came c.args.core.now.proof (none_took g.W.CountedWrite.seen c.args.core.now.proof)) c.in_ok-assume.ensures.keeps c.new_indices.new.search
     (restarted_indexed _ _ _ _ c.args.core.now.search c.full_restart.new.search c.new_indices.new.search c.deref.ensures.value c.deref-2.ensures.value c.full_restart.ensures c.in_ok-new_indices.ensures)
     c.set_assumptions.new.search (subst (λ (ls : List ℕ). ReplacesAssumed ls c.new_indices.new.search c.set_assumptions.new.search) c.deref-3.ensures.value c.in_ok-set_assumptions.ensures)
-
-pub returns-in_err-assume-clause-room : goal.returns-in_err-assume-clause-room
-returns-in_err-assume-clause-room g c = λ h.
-    let p = err_from_is_err_and c.from_residual.result c.from_residual.ensures.1 in
-    rw (p.1, p.2) (reported_fails c.in_err-assume.field-0.0 (c.in_err-assume.ensures.room h))
 
 pub returns-in_err-new_indices-clause-room : goal.returns-in_err-new_indices-clause-room
 returns-in_err-new_indices-clause-room g c = λ h. fault_on _ c.from_residual-in_err-new_indices.result errors.OutOfMemory c.from_residual-in_err-new_indices.ensures.1 tt

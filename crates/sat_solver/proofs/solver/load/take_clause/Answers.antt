@@ -1,15 +1,12 @@
+use Rattle.std.proofs.Common.{arith}
+use Rattle.std.proofs.lemmas.Grind.{common_steps}
 use Rattle.std.proofs.lemmas.Result.{err_from_is_err_and}
 use Rattle.sat_solver.proofs.lemmas.load.GivenLemmas.{vacant_restarted, restarted_indexed}
-use Rattle.sat_solver.proofs.lemmas.solver.TakingLemmas.{reported_fails, fault_on, fault_ends, clause_vacant, clause_added, clause_may, clause_both, clause_result, none_took, names_broke, names_starved}
-use Rattle.sat_solver.specs.declared.error.SolverError.TheVariants as errors
-use Rattle.sat_solver.specs.load.Faults.{reported_as}
-use Rattle.sat_solver.proofs.lemmas.cdcl.GoingLemmas.{fault_or}
+use Rattle.sat_solver.proofs.lemmas.solver.TakingLemmas.{clause_vacant, clause_added, clause_may, clause_both, clause_result, none_took, names_broke, names_starved}
 use Rattle.sat_solver.proofs.solver.load.take_clause.Goals as goal
 
 pub returns-in_err-both_signs-clause-takes : goal.returns-in_err-both_signs-clause-takes
-returns-in_err-both_signs-clause-takes g c =
-    let p = err_from_is_err_and c.from_residual.result c.from_residual.ensures.1 in
-    rw (p.1, p.2) (names_broke g.W.CountedWrite.seen c.args.core.now (record c.args.core.now { proof = c.add_clause.new.writer; search = c.full_restart.new.search }) c.in_err-both_signs.field-0.0 (c.in_err-both_signs.ensures.came c.args.core.now.proof (none_took g.W.CountedWrite.seen c.args.core.now.proof)))
+returns-in_err-both_signs-clause-takes g c = grind (arith, common_steps, err_from_is_err_and, none_took, names_broke)
 
 pub new_indices-requires-clause-vacant : goal.new_indices-requires-clause-vacant
 new_indices-requires-clause-vacant g c = rw (c.deref.ensures.value, c.deref-2.ensures.value) (vacant_restarted c.args.core.now.search c.full_restart.new.search _ _ c.full_restart.ensures (clause_vacant g.W.CountedWrite.seen c.args.names.now c.add_clause.new.variables c.args.core.now c.requires.joined c.args.lits.now c.add_clause.new.taken c.in_ok-both_signs.both_signs c.add_clause.new.writer c.in_ok-both_signs.ensures.adds (c.in_ok-both_signs.ensures.came c.args.core.now.proof (none_took g.W.CountedWrite.seen c.args.core.now.proof)) c.in_ok-both_signs.ensures.keeps))
@@ -37,14 +34,3 @@ pub returns-clause-takes : goal.returns-clause-takes
 returns-clause-takes g c = clause_result g.W.CountedWrite.seen c.args.names.now c.add_clause.new.variables c.args.core.now c.requires.joined c.args.lits.now c.add_clause.new.taken c.in_ok-both_signs.both_signs c.add_clause.new.writer c.in_ok-both_signs.ensures.adds (c.in_ok-both_signs.ensures.came c.args.core.now.proof (none_took g.W.CountedWrite.seen c.args.core.now.proof)) c.in_ok-both_signs.ensures.keeps c.new_indices.new.search
     (restarted_indexed _ _ _ _ c.args.core.now.search c.full_restart.new.search c.new_indices.new.search c.deref.ensures.value c.deref-2.ensures.value c.full_restart.ensures c.in_ok-new_indices.ensures)
     c.load_clause.result c.load_clause.new.proof c.load_clause.new.search c.load_clause.ensures.goes c.load_clause.ensures.comes
-
-pub returns-in_err-both_signs-clause-room : goal.returns-in_err-both_signs-clause-room
-returns-in_err-both_signs-clause-room g c = λ h.
-    let p = err_from_is_err_and c.from_residual.result c.from_residual.ensures.1 in
-    rw (p.1, p.2) (fault_or _ (reported_as c.in_err-both_signs.field-0.0) (reported_fails c.in_err-both_signs.field-0.0 (c.in_err-both_signs.ensures.room h)))
-
-pub returns-in_err-new_indices-clause-room : goal.returns-in_err-new_indices-clause-room
-returns-in_err-new_indices-clause-room g c = λ h. fault_on _ c.from_residual-in_err-new_indices.result errors.OutOfMemory c.from_residual-in_err-new_indices.ensures.1 tt
-
-pub returns-clause-room : goal.returns-clause-room
-returns-clause-room g c = λ h. fault_ends g.W.CountedWrite.seen c.load_clause.result _ _ _ c.load_clause.ensures.goes

@@ -1,8 +1,8 @@
-use Rattle.std.proofs.Common.{◌≡◌, ◌∙◌, List, Option, Bool, sym, ap, subst}
+use Rattle.std.proofs.Common.{arith}
+use Rattle.std.proofs.lemmas.Grind.{common_steps}
+use Rattle.std.proofs.Common.{◌≡◌, ◌∙◌, List, Option, Bool, ap}
 use Rattle.std.proofs.lemmas.Result.{err_from_is_err_and}
 use Rattle.sat_base.specs.steps.Steps.{Model}
-use Rattle.sat_solver.specs.proof.ProofView.{session_of}
-use Rattle.sat_solver.specs.session.Session.{IsAllowedStep}
 use Rattle.sat_solver.specs.Models.{model_to}
 use Rattle.sat_solver.specs.variables.Variables.{variables_used}
 use Rattle.sat_solver.specs.solver.Answering.{model_of}
@@ -14,11 +14,7 @@ pub returns-in_err-model_lits : goal.returns-in_err-model_lits
 returns-in_err-model_lits g c = (let p = err_from_is_err_and c.from_residual.result c.from_residual.ensures.1 in rw (p.1, p.2) (starved g.W.CountedWrite.seen c.args.names.now c.args.core.now c.requires.joined))
 
 pub step-requires-clause-may : goal.step-requires-clause-may
-step-requires-clause-may g c =
-    let a = c.args.core.now in
-    let n = c.args.names.now in
-    let ls : c.deref.result.now ≡ model_of n a = c.deref.ensures.value ∙ c.in_ok-model_lits.ensures ∙ ap (λ (vs : List (Option Bool)). model_to n vs (variables_used n)) c.assignment-values.ensures.values in
-    subst (λ (ls : List _). IsAllowedStep (session_of a.proof) (Model ls)) (sym ls) (shown_may n (session_of a.proof) a.search c.requires.joined.valid.tidy c.requires.joined.valid.said c.requires.joined.sound.search c.requires.joined.shares c.requires.complete)
+step-requires-clause-may g c = grind (arith, common_steps, shown_may)
 
 pub returns : goal.returns
 returns g c =

@@ -1,4 +1,5 @@
-use Rattle.std.proofs.Common.{ℕ, ◌<◌, ◌∙◌, ◌+◌, List, [], ◌∷◌, map, length, get_or, sym, ap, subst, arith, inl, inr}
+use Rattle.std.proofs.lemmas.Grind.{common_steps}
+use Rattle.std.proofs.Common.{ℕ, ◌<◌, ◌∙◌, ◌+◌, List, [], ◌∷◌, map, length, get_or, sym, ap, subst, arith}
 use Rattle.std.proofs.lemmas.Bool.{le-ltb}
 use Rattle.std.proofs.lemmas.Grind.{get_or_default_zero}
 use Rattle.sat_base.specs.steps.Steps.{DeleteClause, Satisfied}
@@ -20,19 +21,14 @@ pair g c =
     record { first = c.not-first.ensures; second = c.index-implied-at.is ∙ read ∙ ap (λ ms. get_or ms c.args.at 0) c.implied.ensures }
 
 pub returns-then-code-clause-left : goal.returns-then-code-clause-left
-returns-then-code-clause-left g c =
-    goes_none g.W.CountedWrite.seen tt c.args.proof.now _ c.requires.keeps
-    (pair_passes (session_of c.args.proof.now) _ c.requires.may _ _ c.requires.within c.requires.left _ _ (pair g (goal.at.returns-then-code-clause-left g c).After-index-implied-at)
-    (inl (le-ltb c.not-first.result c.index-implied-at.result (omega (arith, c.if-code.true, c.code-2.ensures.value, c.code.ensures.value)))))
+returns-then-code-clause-left g c = grind (arith, common_steps, le-ltb, goes_none, pair_passes, pair)
 
 pub are_open-requires-clause-second : goal.are_open-requires-clause-second
 are_open-requires-clause-second g c =
     second_there (session_of c.args.proof.now) _ c.requires.may _ _ c.requires.within c.requires.left _ _ (pair g (goal.at.are_open-requires-clause-second g c).After-index-implied-at)
 
 pub returns-then-are_open-clause-left : goal.returns-then-are_open-clause-left
-returns-then-are_open-clause-left g c =
-    goes_none g.W.CountedWrite.seen tt c.args.proof.now _ c.requires.keeps
-    (pair_passes (session_of c.args.proof.now) _ c.requires.may _ _ c.requires.within c.requires.left _ _ (pair g (goal.at.returns-then-are_open-clause-left g c).After-index-implied-at) (inr (sym c.are_open.ensures ∙ c.if-are_open.true)))
+returns-then-are_open-clause-left g c = grind (arith, common_steps, goes_none, pair_passes, pair)
 
 pub delete_satisfied-requires-clause-names : goal.delete_satisfied-requires-clause-names
 delete_satisfied-requires-clause-names g c =

@@ -1,48 +1,21 @@
-use Rattle.std.proofs.Common.{◌≡◌, ◌<◌, ◌∙◌, ◌+◌, Ok, length, refl, sym, ap, subst, arith}
+use Rattle.std.proofs.lemmas.Grind.{common_steps}
+use Rattle.std.proofs.Common.{◌≡◌, ◌∙◌, ◌+◌, Ok, length, ap, subst, arith}
 use Rattle.std.proofs.lemmas.Result.{err_from_is_err_and}
 use Rattle.sat_solver.specs.proof.ProofView.{session_of}
 use Rattle.sat_solver.specs.declared.context.Search.{Search}
-use Rattle.sat_parts.specs.parts.Whole.{PartsInvariant}
 use Rattle.sat_parts.specs.parts.Frame.{RemovesBinaries}
 use Rattle.sat_parts.specs.parts.Words.{TrailWordExtends}
 use Rattle.sat_solver.specs.cdcl.Joint.{SameAssumedAndNames}
-use Rattle.sat_solver.specs.unit_simplify.Flat.{MayRemove, LeavesPairs, IsStrengthened}
+use Rattle.sat_solver.specs.unit_simplify.Flat.{LeavesPairs, IsStrengthened}
 use Rattle.sat_solver.proofs.lemmas.cdcl.GoingLemmas.{goes_none, goes_then, goes_then_fails, goes_on}
-use Rattle.sat_solver.proofs.lemmas.unit_simplify.StrengthenSearchLemmas.{pairs_begin, pairs_removed, may_remove, may_scratch, goes_leaves}
+use Rattle.sat_solver.proofs.lemmas.unit_simplify.StrengthenSearchLemmas.{pairs_begin, pairs_removed, may_remove, goes_leaves}
 use Rattle.sat_solver.proofs.unit_simplify.binary.simplify_binary.Goals as goal
 
 pub loop-code-init : goal.loop-code-init
-loop-code-init g c = record {
-  same = refl;
-  went = goes_none g.W.CountedWrite.seen tt c.args.proof.now _ c.requires.keeps
-      (pairs_begin (session_of c.args.proof.now) c.args.search.now (may_remove (session_of c.args.proof.now) c.args.search.now c.requires.search c.requires.flat) c.requires.search);
-}
-
-pub delete_pairs_of-requires-clause-keeps : goal.delete_pairs_of-requires-clause-keeps
-delete_pairs_of-requires-clause-keeps g c = c.loop-code.invariant.went.keeps
-
-pub delete_pairs_of-requires-clause-may : goal.delete_pairs_of-requires-clause-may
-delete_pairs_of-requires-clause-may g c =
-    subst (λ (s : Search). MayRemove s) (sym c.loop-code.invariant.same)
-    (may_scratch c.args.search.now c.loop-code.search.scratch (may_remove (session_of c.args.proof.now) c.args.search.now c.requires.search c.requires.flat))
-
-pub delete_pairs_of-requires-clause-left : goal.delete_pairs_of-requires-clause-left
-delete_pairs_of-requires-clause-left g c =
-    rw c.from_code.ensures (subst (λ (s : Search). LeavesPairs (session_of c.loop-code.proof) s c.loop-code.code 0) (sym c.loop-code.invariant.same) c.loop-code.invariant.went.ends)
-
-pub delete_pairs_of-requires-clause-there : goal.delete_pairs_of-requires-clause-there
-delete_pairs_of-requires-clause-there g c =
-    let room = c.requires.search.valid.holds.below.asks.ranges.room in
-    rw c.from_code.ensures
-    (subst (λ (s : Search). c.loop-code.code < length s.parts.binary.implied) (sym c.loop-code.invariant.same)
-    (omega (arith, room, c.loop-code-test.true, ap (λ xs. length xs) c.assignment.ensures.values)))
+loop-code-init g c = grind (arith, common_steps, goes_none, pairs_begin, may_remove)
 
 pub returns-in_err-delete_pairs_of : goal.returns-in_err-delete_pairs_of
-returns-in_err-delete_pairs_of g c =
-    let p = err_from_is_err_and c.from_residual.result c.from_residual.ensures.1 in
-    rw (p.1, p.2)
-    (goes_then_fails g.W.CountedWrite.seen tt c.in_err-delete_pairs_of.field-0.0 c.args.proof.now c.loop-code.proof c.delete_pairs_of.new.proof _ (λ (_ : Unit {0}) _. LeavesPairs (session_of c.delete_pairs_of.new.proof) c.loop-code.search (c.from_code.result + 1) 0) _
-    c.loop-code.invariant.went c.in_err-delete_pairs_of.ensures.left)
+returns-in_err-delete_pairs_of g c = grind (arith, common_steps, err_from_is_err_and, goes_then_fails)
 
 pub loop-code-preserved : goal.loop-code-preserved
 loop-code-preserved g c = record {
@@ -50,12 +23,6 @@ loop-code-preserved g c = record {
   went = goes_then g.W.CountedWrite.seen tt (Ok tt) c.args.proof.now c.loop-code.proof c.delete_pairs_of.new.proof _ (λ _ _. LeavesPairs (session_of c.delete_pairs_of.new.proof) c.loop-code.search (c.from_code.result + 1) 0) _ c.loop-code.invariant.went c.in_ok-delete_pairs_of.ensures.left
       (λ xs ys y a b. subst (λ k. LeavesPairs (session_of c.delete_pairs_of.new.proof) c.args.search.now (k + 1) 0) c.from_code.ensures (subst (λ (s : Search). LeavesPairs (session_of c.delete_pairs_of.new.proof) s (c.from_code.result + 1) 0) c.loop-code.invariant.same b));
 }
-
-pub remove_binary-requires-clause-holds : goal.remove_binary-requires-clause-holds
-remove_binary-requires-clause-holds g c = subst (λ (s : Search). PartsInvariant s.parts) (sym c.loop-code.invariant.same) c.requires.search.valid.holds
-
-pub remove_binary-requires-clause-empty : goal.remove_binary-requires-clause-empty
-remove_binary-requires-clause-empty g c = ap (λ (s : Search). s.parts.trail.lits) c.loop-code.invariant.same ∙ c.requires.flat.empty
 
 pub returns : goal.returns
 returns g c =

@@ -1,26 +1,18 @@
-use Rattle.std.proofs.Common.{◌≡◌, ◌∙◌, ◌+◌, Some, false, true, sym, subst, arith, length, get_or}
+use Rattle.std.proofs.lemmas.Grind.{common_steps}
+use Rattle.std.proofs.Common.{◌≡◌, ◌∙◌, ◌+◌, Some, false, true, sym, subst, arith, get_or}
 use Rattle.std.proofs.lemmas.Bool.{true≢false}
 use Rattle.sat_solver.specs.session.Session.{session_after}
 use Rattle.sat_solver.specs.variables.Variables.{global_at}
-use Rattle.sat_solver.specs.unit_simplify.Freed.{AreLeft, FreesSome}
+use Rattle.sat_solver.specs.unit_simplify.Freed.{FreesSome}
 use Rattle.sat_solver.specs.unit_simplify.Freeing.{freed_search, MarksAtMost}
 use Rattle.std.proofs.lemmas.List.{get_or_default}
 use Rattle.sat_solver.proofs.lemmas.unit_simplify.FreedLemmas.{frees_none, frees_both, may_free_on, left_none, left_used, left_more}
-use Rattle.sat_solver.proofs.lemmas.unit_simplify.FreeingLemmas.{none_freed, frees_skipped, frees_all, marks_fit}
+use Rattle.sat_solver.proofs.lemmas.unit_simplify.FreeingLemmas.{none_freed, frees_skipped}
 use Rattle.sat_solver.proofs.lemmas.variables.CameLemmas.{came_on}
 use Rattle.sat_solver.proofs.unit_simplify.free_vars.free_indices.Goals as goal
 
 pub loop-index-init : goal.loop-index-init
-loop-index-init g c = record {
-  keeps = c.requires.keeps;
-  came = λ w t. t;
-  frees = subst (λ k. FreesSome c.args.variables.now c.args.variables.now (g.S.StepLog.steps c.args.writer.now) (g.S.StepLog.steps c.args.writer.now) c.args.search.now k) (sym (none_freed c.mark_used.new.used.items c.args.search.now))
-      (frees_none c.args.variables.now (g.S.StepLog.steps c.args.writer.now) c.args.search.now c.requires.may);
-  size = c.in_ok-mark_used.ensures.size;
-  unused = c.in_ok-mark_used.ensures.unused;
-  others = λ v le none. c.in_ok-mark_used.ensures.others v none;
-  left = left_none c.args.variables.now (session_after (g.S.StepLog.steps c.args.writer.now)) c.args.search.now.parts;
-}
+loop-index-init g c = grind (arith, common_steps, frees_none, left_none, none_freed)
 
 pub loop-index-preserved-then-index : goal.loop-index-preserved-then-index
 loop-index-preserved-then-index g c =
@@ -36,24 +28,10 @@ loop-index-preserved-then-index g c =
       unused = c.loop-index.invariant.unused;
     }
 
-pub release_unused-requires-clause-keeps : goal.release_unused-requires-clause-keeps
-release_unused-requires-clause-keeps g c = c.loop-index.invariant.keeps
-
 pub release_unused-requires-clause-may : goal.release_unused-requires-clause-may
 release_unused-requires-clause-may g c =
     rw c.from_index.ensures
     (may_free_on c.args.variables.now c.loop-index.variables (g.S.StepLog.steps c.args.writer.now) (g.S.StepLog.steps c.loop-index.writer) c.args.search.now (freed_search c.loop-index.used.items c.loop-index.index c.args.search.now) c.loop-index.invariant.frees)
-
-pub release_unused-requires-clause-there : goal.release_unused-requires-clause-there
-release_unused-requires-clause-there g c = omega (arith, c.from_index.ensures, c.loop-index-test.true, c.len-index-end.ensures, c.in_ok-mark_used.ensures.size)
-
-pub release_unused-requires-clause-size : goal.release_unused-requires-clause-size
-release_unused-requires-clause-size g c = omega (arith, c.from_index.ensures, c.loop-index-test.true, c.len-index-end.ensures, c.in_ok-mark_used.ensures.size, c.loop-index.invariant.size)
-
-pub release_unused-requires-clause-unmarked : goal.release_unused-requires-clause-unmarked
-release_unused-requires-clause-unmarked g c =
-    rw c.from_index.ensures
-    (get_or_default c.loop-index.used.items c.loop-index.index false c.index.result.now (omega (arith, c.loop-index-test.true, c.len-index-end.ensures, c.loop-index.invariant.size, c.in_ok-mark_used.ensures.size)) ∙ sym c.index.ensures ∙ c.if-index.false)
 
 pub release_unused-requires-clause-unused : goal.release_unused-requires-clause-unused
 release_unused-requires-clause-unused g c =
@@ -77,31 +55,6 @@ loop-index-preserved g c =
       unused = λ v e. c.loop-index.invariant.unused v (marks.more v e);
     }
 
-pub free_unmarked-requires-clause-size : goal.free_unmarked-requires-clause-size
-free_unmarked-requires-clause-size g c = omega (arith, c.loop-index.invariant.size)
-
-pub free_unmarked-requires-clause-queue : goal.free_unmarked-requires-clause-queue
-free_unmarked-requires-clause-queue g c = omega (arith, c.loop-index.invariant.size, c.requires.may.search.valid.holds.below.queue)
-
-pub free_unmarked-requires-clause-few : goal.free_unmarked-requires-clause-few
-free_unmarked-requires-clause-few g c = omega (arith, c.loop-index.invariant.size, marks_fit c.args.variables.now (g.S.StepLog.steps c.args.writer.now) c.args.search.now c.requires.may)
-
-pub returns-clause-left : goal.returns-clause-left
-returns-clause-left g c =
-    let end : c.loop-index.index ≡ length c.args.search.now.parts.assignment.current = omega (arith, c.loop-index-test.false, c.loop-index.auto.index-end, c.len-index-end.ensures, c.in_ok-mark_used.ensures.size) in
-    subst (λ k. AreLeft c.loop-index.variables (session_after (g.S.StepLog.steps c.args.writer.now)) c.args.search.now.parts k) end c.loop-index.invariant.left
-
-pub returns-clause-frees : goal.returns-clause-frees
-returns-clause-frees g c =
-    frees_all c.args.variables.now c.loop-index.variables (g.S.StepLog.steps c.args.writer.now) (g.S.StepLog.steps c.loop-index.writer) c.args.search.now c.loop-index.used.items c.loop-index.index c.free_unmarked.new.parts
-    (omega (arith, c.loop-index-test.false, c.loop-index.auto.index-end, c.len-index-end.ensures, c.in_ok-mark_used.ensures.size, c.loop-index.invariant.size)) c.free_unmarked.ensures c.loop-index.invariant.frees
-
-pub returns-clause-keeps : goal.returns-clause-keeps
-returns-clause-keeps g c = c.loop-index.invariant.keeps
-
 pub returns-in_err-release_unused-clause-came : goal.returns-in_err-release_unused-clause-came
 returns-in_err-release_unused-clause-came g c =
     came_on g.S.StepLog.took g.S.StepLog.broke c.from_residual-in_err-release_unused.result c.in_err-release_unused.field-0.0 c.args.writer.now c.release_unused.new.writer c.from_residual-in_err-release_unused.ensures.1 (λ w t. c.in_err-release_unused.ensures.came w (c.loop-index.invariant.came w t))
-
-pub returns-clause-came : goal.returns-clause-came
-returns-clause-came g c = c.loop-index.invariant.came

@@ -1,28 +1,20 @@
-use Rattle.std.proofs.Common.{◌≡◌, ◌∙◌, Some, None, Option, Bool, true, cond, eqb, sym, ap, subst}
-use Rattle.sat_checker.specs.LiteralSets.{mentions}
-use Rattle.sat_solver.specs.session.Session.{session_after}
+use Rattle.std.proofs.Common.{◌≡◌, ◌∙◌, Some, None, Option, Bool, cond, eqb, sym, ap, subst}
 use Rattle.sat_store.specs.variables.Maps.{target}
 use Rattle.sat_solver.specs.unit_simplify.Freeing.{freed_search}
 use Rattle.sat_solver.specs.variables.Naming.{PutsUnit}
 use Rattle.sat_solver.specs.variables.Variables.{global_at}
-use Rattle.sat_solver.proofs.lemmas.unit_simplify.FreedLemmas.{within_free, noted_stands, noted_unit, noted_unused, global_gone, some_same}
-use Rattle.sat_solver.proofs.lemmas.unit_simplify.FreeingLemmas.{same_value, same_unused, same_there, frees_marked, frees_here, marks_one, marks_none}
+use Rattle.sat_solver.proofs.lemmas.unit_simplify.FreedLemmas.{within_free, noted_stands, noted_unit, noted_unused, global_gone}
+use Rattle.sat_solver.proofs.lemmas.unit_simplify.FreeingLemmas.{same_value, same_unused, same_there, frees_marked, frees_here}
 use Rattle.sat_solver.proofs.unit_simplify.free_vars.release_unused.Goals as goal
 
 pub returns-in_default-clause-frees : goal.returns-in_default-clause-frees
 returns-in_default-clause-frees g c = frees_marked c.args.used.now.items c.args.search.now c.args.index c.args.variables.now (g.S.StepLog.steps c.args.writer.now) c.mark.new.used.items c.requires.may c.requires.size c.mark.ensures
-
-pub returns-in_default-clause-marks : goal.returns-in_default-clause-marks
-returns-in_default-clause-marks g c = marks_one c.args.used.now.items c.mark.new.used.items c.args.index c.mark.ensures c.requires.size
 
 pub is_marked-requires : goal.is_marked-requires
 is_marked-requires g c = record { within = within_free c.args.variables.now (g.S.StepLog.steps c.args.writer.now) (freed_search c.args.used.now.items c.args.index c.args.search.now) c.requires.may c.args.index c.in-Some.global (ap (λ m. target m c.args.index) (sym c.bwd.ensures.map) ∙ sym c.get.ensures ∙ c.in-Some.is) }
 
 pub returns-then-is_marked-clause-frees : goal.returns-then-is_marked-clause-frees
 returns-then-is_marked-clause-frees g c = frees_marked c.args.used.now.items c.args.search.now c.args.index c.args.variables.now (g.S.StepLog.steps c.args.writer.now) c.mark-then-is_marked.new.used.items c.requires.may c.requires.size c.mark-then-is_marked.ensures
-
-pub returns-then-is_marked-clause-marks : goal.returns-then-is_marked-clause-marks
-returns-then-is_marked-clause-marks g c = marks_one c.args.used.now.items c.mark-then-is_marked.new.used.items c.args.index c.mark-then-is_marked.ensures c.requires.size
 
 pub set_unit-requires : goal.set_unit-requires
 set_unit-requires g c = record { within = within_free c.args.variables.now (g.S.StepLog.steps c.args.writer.now) (freed_search c.args.used.now.items c.args.index c.args.search.now) c.requires.may c.args.index c.in-Some.global (ap (λ m. target m c.args.index) (sym c.bwd.ensures.map) ∙ sym c.get.ensures ∙ c.in-Some.is) }
@@ -58,17 +50,6 @@ returns-clause-frees g c =
     (same_unused c.args.used.now.items c.args.search.now c.args.index c.requires.unused)
     c.give_up.new.variables (g.S.StepLog.steps c.give_up.new.writer) c.in_ok-give_up.ensures.gone (sym c.is_marked.ensures ∙ c.if-is_marked.false) c.requires.unmarked
     (same_there c.args.used.now.items c.args.search.now c.args.index c.requires.there)
-
-pub returns-clause-marks : goal.returns-clause-marks
-returns-clause-marks g c = marks_none c.args.used.now.items c.args.index
-
-pub returns-in_default-clause-left : goal.returns-in_default-clause-left
-returns-in_default-clause-left g c = λ v e. absurd (c.in_default.not-Some v (c.get.ensures ∙ ap (λ m. target m c.args.index) c.bwd.ensures.map ∙ e))
-
-pub returns-then-is_marked-clause-left : goal.returns-then-is_marked-clause-left
-returns-then-is_marked-clause-left g c = λ v e.
-    (let there : global_at c.args.variables.now c.args.index ≡ Some c.in-Some.global = ap (λ m. target m c.args.index) (sym c.bwd.ensures.map) ∙ sym c.get.ensures ∙ c.in-Some.is in
-    subst (λ w. mentions (session_after (g.S.StepLog.steps c.args.writer.now)).assumed w ≡ true) (some_same c.in-Some.global v (sym there ∙ e)) (c.requires.may.valid.said.marked c.in-Some.global ∙ sym c.is_marked.ensures ∙ c.if-is_marked.true))
 
 pub returns-clause-left : goal.returns-clause-left
 returns-clause-left g c = λ v e.

@@ -1,3 +1,5 @@
+use Rattle.std.proofs.Common.{arith}
+use Rattle.std.proofs.lemmas.Grind.{common_steps}
 use Rattle.std.proofs.Common.{◌≡◌, ◌∙◌, List, ℕ, map, refl, sym, ap, subst}
 use Rattle.std.proofs.lemmas.Result.{err_from_is_err_and}
 use Rattle.sat_base.specs.steps.Steps.{DeleteClause, Satisfied}
@@ -19,9 +21,7 @@ use Rattle.sat_solver.proofs.lemmas.unit_simplify.TrueLemmas.{true_goes, true_li
 use Rattle.sat_solver.proofs.unit_simplify.long.delete_true.Goals as goal
 
 pub returns-in_err-map_clause : goal.returns-in_err-map_clause
-returns-in_err-map_clause g c =
-    let p = err_from_is_err_and c.from_residual.result c.from_residual.ensures.1 in
-    rw (p.1, p.2) (goes_starved g.W.CountedWrite.seen c.args.proof.now _ c.requires.keeps)
+returns-in_err-map_clause g c = grind (arith, common_steps, err_from_is_err_and, goes_starved)
 
 pub step-requires-clause-may : goal.step-requires-clause-may
 step-requires-clause-may g c =

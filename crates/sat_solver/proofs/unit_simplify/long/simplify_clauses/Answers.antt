@@ -1,4 +1,5 @@
-use Rattle.std.proofs.Common.{◌≡◌, ◌∙◌, ◌<◌, true, false, not, Ok, List, ℕ, length, get_or, sym, ap, subst, arith}
+use Rattle.std.proofs.lemmas.Grind.{common_steps}
+use Rattle.std.proofs.Common.{◌≡◌, ◌∙◌, ◌<◌, true, not, Ok, List, ℕ, length, get_or, sym, ap, subst, arith}
 use Rattle.std.proofs.lemmas.Result.{err_from_is_err_and}
 use Rattle.std.specs.List.{Contains}
 use Rattle.sat_store.specs.clause.Header.{Header}
@@ -8,18 +9,12 @@ use Rattle.sat_solver.specs.proof.ProofView.{session_of}
 use Rattle.sat_parts.proofs.lemmas.parts.ReduceLemmas.{in_filter}
 use Rattle.sat_solver.proofs.lemmas.cdcl.GoingLemmas.{goes_none, goes_then, goes_then_fails, goes_on}
 use Rattle.sat_solver.specs.unit_simplify.Flat.{IsStrengthened, StrengthensClause, StrengthensAll, AreOpenTo}
-use Rattle.sat_solver.proofs.lemmas.unit_simplify.StrengthenSearchLemmas.{strengthened_refl, strengthened_trans, flat_on}
+use Rattle.sat_solver.proofs.lemmas.unit_simplify.StrengthenSearchLemmas.{strengthened_refl, strengthened_trans}
 use Rattle.sat_solver.proofs.lemmas.unit_simplify.WalkLemmas.{to_none, to_more, to_skip, to_all}
 use Rattle.sat_solver.proofs.unit_simplify.long.simplify_clauses.Goals as goal
 
 pub loop-at-init : goal.loop-at-init
-loop-at-init g c = record {
-  went = goes_none g.W.CountedWrite.seen tt c.args.proof.now _ c.requires.keeps (strengthened_refl (session_of c.args.proof.now) c.args.search.now c.requires.search);
-  left = to_none c.args.search.now c.args.search.now;
-}
-
-pub cref-cref-requires : goal.cref-cref-requires
-cref-cref-requires g c = (let e = ap (λ (xs : List ℕ). length xs) c.loop-at.invariant.went.ends.refs in omega (arith, e, c.loop-at-test.true, c.len-at-end.ensures))
+loop-at-init g c = grind (arith, common_steps, goes_none, strengthened_refl, to_none)
 
 pub header-requires : goal.header-requires
 header-requires g c =
@@ -29,21 +24,7 @@ header-requires g c =
     c.loop-at.invariant.went.ends.search.valid.holds.below.held.holds_clauses.clauses c.cref-cref.result (subst (λ z. Contains p.db.refs z) (sym c.cref-cref.ensures) (place_in p.db.refs c.loop-at.at lt))
 
 pub loop-at-preserved-then-deleted : goal.loop-at-preserved-then-deleted
-loop-at-preserved-then-deleted g c =
-    let dead : is_live c.loop-at.search.parts.clauses c.cref-cref.result ≡ false = ap (λ (h : Header). not h.deleted) (sym c.header.ensures.value) ∙ ap (λ b. not b) (sym c.deleted.ensures ∙ c.if-deleted.true) in
-    record {
-      went = c.loop-at.invariant.went;
-      left = to_skip c.args.search.now c.loop-at.search c.loop-at.at c.loop-at.invariant.left c.cref-cref.result (c.cref-cref.ensures ∙ ap (λ (xs : List ℕ). get_or xs c.loop-at.at 0) c.loop-at.invariant.went.ends.refs) dead;
-    }
-
-pub simplify_clause-requires-clause-keeps : goal.simplify_clause-requires-clause-keeps
-simplify_clause-requires-clause-keeps g c = c.loop-at.invariant.went.keeps
-
-pub simplify_clause-requires-clause-search : goal.simplify_clause-requires-clause-search
-simplify_clause-requires-clause-search g c = c.loop-at.invariant.went.ends.search
-
-pub simplify_clause-requires-clause-flat : goal.simplify_clause-requires-clause-flat
-simplify_clause-requires-clause-flat g c = flat_on c.args.search.now c.loop-at.search (session_of c.loop-at.proof) c.loop-at.invariant.went.ends c.requires.flat
+loop-at-preserved-then-deleted g c = grind (arith, common_steps, to_skip)
 
 pub simplify_clause-requires-clause-live : goal.simplify_clause-requires-clause-live
 simplify_clause-requires-clause-live g c =

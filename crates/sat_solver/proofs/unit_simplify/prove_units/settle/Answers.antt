@@ -1,22 +1,14 @@
-use Rattle.std.proofs.Common.{arith, length, ◌+◌}
+use Rattle.std.proofs.lemmas.Grind.{common_steps}
+use Rattle.std.proofs.Common.{arith}
 use Rattle.sat_solver.specs.proof.ProofView.{session_of}
 use Rattle.sat_solver.specs.session.Naming.{global_of_index}
-use Rattle.sat_solver.proofs.lemmas.fits.StepLemmas.{starts_none, orderly_from}
 use Rattle.sat_solver.specs.unit_simplify.Left.{AllUnits, TakesUnitsOff}
 use Rattle.sat_solver.proofs.lemmas.cdcl.GoingLemmas.{goes_none, goes_on}
 use Rattle.sat_solver.proofs.lemmas.cdcl.LeftLemmas.{settled_above, settled_bottom}
 use Rattle.sat_solver.proofs.unit_simplify.prove_units.settle.Goals as goal
 
-pub write_units-requires-clause-orderly : goal.write_units-requires-clause-orderly
-write_units-requires-clause-orderly g c = orderly_from c.args.parts.now (length c.args.parts.now.trail.starts + 1) c.requires.holds
-
-pub clear_units-requires-clause-bottom : goal.clear_units-requires-clause-bottom
-clear_units-requires-clause-bottom g c = starts_none c.args.parts.now (omega (arith, c.current_level.ensures))
-
 pub returns-then-current_level-gt0 : goal.returns-then-current_level-gt0
-returns-then-current_level-gt0 g c =
-    goes_none g.W.CountedWrite.seen tt c.args.proof.now (λ _ _. TakesUnitsOff c.args.parts.now c.args.parts.now (session_of c.args.proof.now) (global_of_index c.args.globals.now)) c.requires.keeps
-    (settled_above c.args.parts.now (session_of c.args.proof.now) (global_of_index c.args.globals.now) (omega (arith, c.current_level.ensures)) c.requires.holds c.requires.done (c.requires.units (omega (arith, c.current_level.ensures))) c.requires.fits)
+returns-then-current_level-gt0 g c = grind (arith, common_steps, goes_none, settled_above)
 
 pub returns : goal.returns
 returns g c =

@@ -1,4 +1,4 @@
-use Rattle.std.proofs.Common.{ℕ, ◌≡◌, ◌∙◌, sym, subst, refl, List, [], arith}
+use Rattle.std.proofs.Common.{ℕ, ◌≡◌, ◌∙◌, sym, subst, refl, List, arith}
 use Rattle.std.proofs.lemmas.Grind.{common_steps}
 use Rattle.std.proofs.lemmas.Result.{err_from_is_err_and}
 use Rattle.sat_base.specs.steps.Steps.{UnitClauses}
@@ -16,16 +16,10 @@ use Rattle.sat_solver.proofs.lemmas.cdcl.NamedLemmas.{units_named}
 use Rattle.sat_solver.proofs.unit_simplify.prove_units.write_units.Goals as goal
 
 pub returns-in_err-collect_units : goal.returns-in_err-collect_units
-returns-in_err-collect_units g c =
-    let p = err_from_is_err_and c.from_residual.result c.from_residual.ensures.1 in
-    rw (p.1, p.2) (goes_starved g.W.CountedWrite.seen c.args.proof.now (λ _ _. AllUnits c.args.parts.now (session_of c.args.proof.now) (global_of_index c.args.globals.now)) c.requires.keeps)
+returns-in_err-collect_units g c = grind (arith, common_steps, err_from_is_err_and, goes_starved)
 
 pub returns-then-is_empty : goal.returns-then-is_empty
-returns-then-is_empty g c =
-    let none : written_units c.args.parts.now.clauses (state c.args.parts.now) 64 (global_of_index c.args.globals.now) c.args.parts.now.trail.lits ≡ [] =
-    sym c.in_ok-collect_units.ensures ∙ none_left c.collect_units.new.units.items (grind (arith, common_steps, c.is_empty.ensures, c.if-is_empty.true)) in
-    goes_none g.W.CountedWrite.seen tt c.args.proof.now (λ _ _. AllUnits c.args.parts.now (session_of c.args.proof.now) (global_of_index c.args.globals.now)) c.requires.keeps
-    (units_none c.args.parts.now (session_of c.args.proof.now) (global_of_index c.args.globals.now) c.requires.orderly c.requires.bottom c.requires.fits c.requires.named none)
+returns-then-is_empty g c = grind (arith, common_steps, common_steps, goes_none, units_none, none_left)
 
 pub step-requires-clause-may : goal.step-requires-clause-may
 step-requires-clause-may g c =

@@ -1,16 +1,11 @@
-use Rattle.std.proofs.Common.{◌≡◌, ◌≤◌, List, [], arith, refl, length, sym, subst}
+use Rattle.std.proofs.Common.{◌≡◌, ◌≤◌, arith, refl, length}
 use Rattle.std.proofs.lemmas.Grind.{common_steps}
 use Rattle.std.proofs.lemmas.List.{nil_from_length}
-use Rattle.sat_solver.specs.variables.Initialized.{GivesSearchIndices}
-use Rattle.sat_solver.specs.declared.variables.solver_vars.Given.{Given}
 use Rattle.sat_solver.proofs.lemmas.load.GivenLemmas.{none_indexed, indexed, vacant_grown, below_all, front_kept}
 use Rattle.sat_solver.proofs.variables.initialize.new_indices.Goals as goal
 
 pub returns-then-is_empty : goal.returns-then-is_empty
-returns-then-is_empty c =
-    let none : c.args.given.now ≡ [] = nil_from_length c.args.given.now (grind (arith, common_steps, c.is_empty.ensures, c.if-is_empty.true)) in
-    subst (λ (gs : List Given). GivesSearchIndices c.args.globals.now gs c.args.search.now c.args.search.now) (sym none)
-    (none_indexed c.args.globals.now c.args.search.now c.requires.same c.requires.bottom c.requires.holds)
+returns-then-is_empty c = grind (arith, common_steps, common_steps, nil_from_length, none_indexed)
 
 pub rename-requires-clause-below : goal.rename-requires-clause-below
 rename-requires-clause-below c = below_all c.args.search.now.parts (length c.args.globals.now) c.args.given.now c.requires.vacant.each

@@ -1,10 +1,10 @@
-use Rattle.std.proofs.Common.{◌+◌, ◌≡◌, ◌<◌, ◌∷◌, ◌∙◌, [], List, drop, length, get_or, ap, sym, subst, arith}
+use Rattle.std.proofs.Common.{◌+◌, ◌≡◌, ◌<◌, ◌∷◌, ◌∙◌, List, drop, length, get_or, ap, sym, subst}
 use Rattle.std.proofs.lemmas.List.{get_or_read}
 use Rattle.std.specs.List.{AllByRecursion}
 use Rattle.sat_solver.specs.declared.variables.solver_vars.Given.{Given}
 use Rattle.sat_solver.specs.variables.Search.{GivenApart}
 use Rattle.sat_solver.specs.variables.Initialized.{Renames}
-use Rattle.sat_solver.proofs.lemmas.load.IndexLemmas.{renames_none, renames_cons, drop_next, drop_end, set_size}
+use Rattle.sat_solver.proofs.lemmas.load.IndexLemmas.{renames_cons, drop_next, set_size}
 use Rattle.sat_solver.proofs.variables.initialize.rename.Goals as goal
 
 pub loop-at-preserved : goal.loop-at-preserved
@@ -28,9 +28,3 @@ loop-at-preserved c =
       apart = apart.1;
       goes = λ ys h. i.goes ys (subst (λ ks. Renames ks c.args.globals.now c.loop-at.list.items ys) (sym e) (renames_cons g rest c.args.globals.now xs ys there.0 apart.0 (rw (val, at) at h)));
     }
-
-pub returns : goal.returns
-returns c =
-    let i = c.loop-at.invariant in
-    let none : drop c.loop-at.at c.args.given.now ≡ [] = drop_end c.args.given.now c.loop-at.at (omega arith) in
-    i.goes c.loop-at.list.items (subst (λ gs. Renames gs c.args.globals.now c.loop-at.list.items c.loop-at.list.items) (sym none) (renames_none c.args.globals.now c.loop-at.list.items))

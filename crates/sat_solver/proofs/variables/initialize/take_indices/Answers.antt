@@ -1,4 +1,5 @@
-use Rattle.std.proofs.Common.{◌+◌, ◌≡◌, ◌∷◌, ◌∙◌, [], List, drop, length, sym, subst, arith}
+use Rattle.std.proofs.lemmas.Grind.{common_steps}
+use Rattle.std.proofs.Common.{◌+◌, ◌≡◌, ◌∷◌, ◌∙◌, List, drop, length, sym, subst, arith}
 use Rattle.sat_solver.specs.declared.variables.solver_vars.Given.{Given}
 use Rattle.sat_solver.specs.variables.Initialized.{AreVacant, IsVacant, ActivatesIndices}
 use Rattle.std.specs.List.{AllByRecursion}
@@ -27,7 +28,4 @@ loop-at-preserved c =
     }
 
 pub returns : goal.returns
-returns c =
-    let i = c.loop-at.invariant in
-    let none : drop c.loop-at.at c.args.given.now ≡ [] = drop_end c.args.given.now c.loop-at.at (omega arith) in
-    i.goes c.loop-at.parts (subst (λ gs. ActivatesIndices gs c.loop-at.parts c.loop-at.parts) (sym none) (takes_none c.loop-at.parts i.holds i.bottom))
+returns c = grind (arith, common_steps, takes_none, drop_end)

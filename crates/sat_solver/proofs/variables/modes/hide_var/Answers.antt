@@ -1,3 +1,5 @@
+use Rattle.std.proofs.Common.{arith}
+use Rattle.std.proofs.lemmas.Grind.{common_steps}
 use Rattle.std.proofs.Common.{◌+◌, [], ◌∷◌, ◌++◌, map}
 use Rattle.sat_base.specs.script.ScriptState.{without_name, bring_in, new_names}
 use Rattle.sat_checker.specs.matching.Expected.{NewName, NoName}
@@ -5,13 +7,8 @@ use Rattle.sat_solver.proofs.lemmas.variables.Doing.{does_both, ok_after}
 use Rattle.sat_solver.proofs.lemmas.variables.Giving.{keeps_both, alike_unseen, alike_both, ok_alike, ok_others, ok_fresh, ok_units}
 use Rattle.sat_solver.proofs.lemmas.variables.CameLemmas.{came_then}
 use Rattle.sat_solver.proofs.lemmas.variables.Extending.{are_fresh, fresh_only}
-use Rattle.sat_solver.specs.session.Session.{session_after}
-use Rattle.sat_solver.proofs.lemmas.variables.RoomLemmas.{fails_on}
 use Rattle.sat_solver.proofs.lemmas.variables.ComingSteps.{comes_hidden, hidden_unmarked, leaves_none}
 use Rattle.sat_solver.proofs.variables.modes.hide_var.Goals as goal
-
-pub forget_idle-requires-clause-valid : goal.forget_idle-requires-clause-valid
-forget_idle-requires-clause-valid g c = c.in_ok-hide_global.ensures.does.valid
 
 pub returns-clause-does : goal.returns-clause-does
 returns-clause-does g c =
@@ -43,13 +40,7 @@ returns-clause-fresh g c =
     (fresh_only c.args.variables.now c.global_from_user.new.variables c.hide_global.new.variables (are_fresh c.args.variables.now c.global_from_user.new.variables c.in_ok-global.ensures.brought.extends) c.in_ok-hide_global.ensures.only) c.forget_idle.ensures.users
 
 pub returns-clause-units : goal.returns-clause-units
-returns-clause-units g c =
-    ok_units c.forget_idle.result c.forget_idle.new.variables (g.W.StepLog.steps c.args.writer.now) (g.W.StepLog.steps c.hide_global.new.writer) (g.W.StepLog.steps c.forget_idle.new.writer)
-    (keeps_both (session_after (g.W.StepLog.steps c.args.writer.now)) (session_after (g.W.StepLog.steps c.global_from_user.new.writer)) (session_after (g.W.StepLog.steps c.hide_global.new.writer)) c.in_ok-global.ensures.brought.unseen.search c.in_ok-hide_global.ensures.unseen.search)
-    c.forget_idle.ensures.units
-
-pub returns-in_err-global-clause-room : goal.returns-in_err-global-clause-room
-returns-in_err-global-clause-room g c = λ h. fails_on c.from_residual.result c.in_err-global.field-0.0 c.from_residual.ensures.1 (c.in_err-global.ensures.room [] h)
+returns-clause-units g c = grind (arith, common_steps, keeps_both, ok_units)
 
 pub returns-clause-comes : goal.returns-clause-comes
 returns-clause-comes g c = comes_hidden c.forget_idle.result c.hide_global.new.variables (g.W.StepLog.steps c.args.writer.now) (g.W.StepLog.steps c.global_from_user.new.writer) (g.W.StepLog.steps c.hide_global.new.writer) (g.W.StepLog.steps c.forget_idle.new.writer) c.in_ok-global.global

@@ -6,7 +6,6 @@ use Rattle.sat_solver.proofs.lemmas.variables.Doing.{ok_both}
 use Rattle.sat_solver.proofs.lemmas.variables.Giving.{ok_unseen, ok_others, ok_fresh}
 use Rattle.sat_solver.proofs.lemmas.variables.CameLemmas.{came_then}
 use Rattle.sat_solver.proofs.lemmas.variables.Extending.{are_fresh}
-use Rattle.sat_solver.proofs.lemmas.variables.RoomLemmas.{fails_on}
 use Rattle.sat_solver.proofs.lemmas.variables.ComingSteps.{comes_set}
 use Rattle.sat_solver.proofs.variables.modes.set_sampling_mode.Goals as goal
 
@@ -28,9 +27,6 @@ returns-clause-others g c =
 pub returns-clause-fresh : goal.returns-clause-fresh
 returns-clause-fresh g c =
     ok_fresh c.set_global_mode.result c.args.variables.now c.global_from_user.new.variables c.set_global_mode.new.variables (are_fresh c.args.variables.now c.global_from_user.new.variables c.in_ok-global.ensures.brought.extends) c.set_global_mode.ensures.users
-
-pub returns-in_err-global-clause-room : goal.returns-in_err-global-clause-room
-returns-in_err-global-clause-room g c = λ h. fails_on c.from_residual.result c.in_err-global.field-0.0 c.from_residual.ensures.1 (c.in_err-global.ensures.room [] h)
 
 pub returns-clause-comes : goal.returns-clause-comes
 returns-clause-comes g c = comes_set c.set_global_mode.result (g.W.StepLog.steps c.args.writer.now) (g.W.StepLog.steps c.global_from_user.new.writer) (g.W.StepLog.steps c.set_global_mode.new.writer) (c.args.user + 1) c.in_ok-global.global c.args.sample

@@ -1,15 +1,7 @@
 use Rattle.std.proofs.Common.{◌+◌, sym, subst, arith}
 use Rattle.sat_solver.specs.variables.Observing.{IsHidden, NamesHidden}
-use Rattle.sat_solver.proofs.lemmas.variables.ObservingLemmas.{Observing, observing_begins, observing_passes, observing_goes, observing_ends}
+use Rattle.sat_solver.proofs.lemmas.variables.ObservingLemmas.{Observing, observing_passes, observing_goes, observing_ends}
 use Rattle.sat_solver.proofs.variables.observe.observe_internal_vars.Goals as goal
-
-pub loop-index-init : goal.loop-index-init
-loop-index-init g c = (
-  subst (λ us. Observing c.args.variables.now c.args.variables.now (g.W.StepLog.steps c.args.writer.now) (g.W.StepLog.steps c.args.writer.now) us 0) (sym c.clear.ensures.items)
-      (observing_begins c.args.variables.now (g.W.StepLog.steps c.args.writer.now) c.requires.valid),
-  c.requires.keeps,
-  λ w t. t,
-)
 
 pub loop-index-preserved-then-not-is_hidden : goal.loop-index-preserved-then-not-is_hidden
 loop-index-preserved-then-not-is_hidden g c = (

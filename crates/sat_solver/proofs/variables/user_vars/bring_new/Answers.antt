@@ -1,15 +1,11 @@
-use Rattle.std.proofs.Common.{◌≡◌, ◌<◌, ◌+◌, ◌-◌, sym, ◌∙◌, subst, arith}
-use Rattle.sat_base.specs.script.ScriptState.{names_from}
-use Rattle.sat_solver.specs.variables.Variables.{names_used}
-use Rattle.sat_solver.specs.variables.Calls.{NamesOne, NamesAll}
-use Rattle.sat_solver.proofs.lemmas.variables.NamingSteps.{Coming, unused, one_came, last_came, last_room, room_left, on_one}
-use Rattle.sat_solver.proofs.lemmas.variables.CameLemmas.{came_then, came_on}
+use Rattle.std.proofs.lemmas.Grind.{common_steps}
+use Rattle.std.proofs.Common.{◌≡◌, ◌<◌, subst, arith}
+use Rattle.sat_solver.specs.variables.Calls.{NamesOne}
+use Rattle.sat_solver.proofs.lemmas.variables.NamingSteps.{Coming, one_came, last_came, last_room, room_left, on_one}
+use Rattle.sat_solver.proofs.lemmas.variables.CameLemmas.{came_then}
 use Rattle.sat_solver.specs.variables.VariableRoom.{LeavesRoom}
 use Rattle.sat_solver.proofs.lemmas.variables.RoomLemmas.{fails_on, limit_fails, if_limit_fails}
 use Rattle.sat_solver.proofs.variables.user_vars.bring_new.Goals as goal
-
-pub new_name-requires-clause-free : goal.new_name-requires-clause-free
-new_name-requires-clause-free g c = unused c.loop-index.variables c.from_index.result (c.loop-index.invariant.0.used ∙ sym c.from_index.ensures)
 
 pub loop-index-preserved : goal.loop-index-preserved
 loop-index-preserved g c = (
@@ -20,22 +16,8 @@ loop-index-preserved g c = (
   λ w t. c.in_ok-new_name.ensures.came w (c.loop-index.invariant.2 w t),
 )
 
-pub new_name-requires-2-clause-free : goal.new_name-requires-2-clause-free
-new_name-requires-2-clause-free g c =
-    let at : c.loop-index.index ≡ c.args.user = (let a = c.loop-index-test.false in let b = c.loop-index.invariant.0.low in let e = c.index-index-end.ensures.value in omega arith) in
-    unused c.loop-index.variables c.args.user (c.loop-index.invariant.0.used ∙ at)
-
 pub returns-clause-names : goal.returns-clause-names
-returns-clause-names g c =
-    let at : c.loop-index.index ≡ c.args.user = (let a = c.loop-index-test.false in let b = c.loop-index.invariant.0.low in let e = c.index-index-end.ensures.value in omega arith) in
-    let came : Coming c.args.variables.now c.loop-index.variables (g.W.StepLog.steps c.args.writer.now) (g.W.StepLog.steps c.loop-index.writer) c.args.user c.args.user = subst (Coming c.args.variables.now c.loop-index.variables (g.W.StepLog.steps c.args.writer.now) (g.W.StepLog.steps c.loop-index.writer) c.args.user) at c.loop-index.invariant.0 in
-    on_one c.new_name-2.result (λ v. NamesOne c.loop-index.variables c.new_name-2.new.variables (g.W.StepLog.steps c.loop-index.writer) (g.W.StepLog.steps c.new_name-2.new.writer) c.args.user v)
-    (NamesAll c.args.variables.now c.new_name-2.new.variables (g.W.StepLog.steps c.args.writer.now) (g.W.StepLog.steps c.new_name-2.new.writer) (names_from (c.args.user + 1 - names_used c.args.variables.now) (names_used c.args.variables.now + 1)))
-    c.new_name-2.ensures.names (λ v one. last_came c.args.variables.now c.loop-index.variables c.new_name-2.new.variables (g.W.StepLog.steps c.args.writer.now) (g.W.StepLog.steps c.loop-index.writer) (g.W.StepLog.steps c.new_name-2.new.writer) c.args.user v came one)
-
-pub returns-in_err-new_name-clause-came : goal.returns-in_err-new_name-clause-came
-returns-in_err-new_name-clause-came g c =
-    came_on g.W.StepLog.took g.W.StepLog.broke c.from_residual.result c.in_err-new_name.field-0.0 c.args.writer.now c.new_name.new.writer c.from_residual.ensures.1 (λ w t. c.in_err-new_name.ensures.came w (c.loop-index.invariant.2 w t))
+returns-clause-names g c = grind (arith, common_steps, last_came, on_one)
 
 pub returns-clause-came : goal.returns-clause-came
 returns-clause-came g c = came_then g.W.StepLog.took g.W.StepLog.broke c.new_name-2.result c.args.writer.now c.loop-index.writer c.new_name-2.new.writer c.loop-index.invariant.2 c.new_name-2.ensures.came

@@ -5,10 +5,6 @@ use Rattle.sat_solver.proofs.lemmas.variables.RoomLemmas.{room_less, if_limit_fa
 use Rattle.sat_solver.proofs.lemmas.variables.BroughtIn.{ok_again, brought_none}
 use Rattle.sat_solver.proofs.variables.user_vars.global_from_user.Goals as goal
 
-pub returns-then-variables-clause-variable : goal.returns-then-variables-clause-variable
-returns-then-variables-clause-variable g c =
-    c.requires.valid.tidy.own c.if-variables.true c.args.user (let a = c.if-index-watermark.false in let i = c.index.ensures.value in let w = c.watermark.ensures in let f = ap length c.fwd.ensures.map in omega arith)
-
 pub returns-then-variables-clause-brought : goal.returns-then-variables-clause-brought
 returns-then-variables-clause-brought g c =
     let below : c.args.user < names_used c.args.variables.now = (let a = c.if-index-watermark.false in let i = c.index.ensures.value in let w = c.watermark.ensures in let f = ap length c.fwd.ensures.map in omega arith) in

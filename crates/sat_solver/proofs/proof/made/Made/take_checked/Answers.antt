@@ -1,7 +1,4 @@
-use Rattle.std.proofs.Common.{◌∙◌, ap, subst, sym, is_some}
-use Rattle.std.proofs.lemmas.Bool.{true≢false}
 use Rattle.sat_base.specs.steps.StepViews.{step_of}
-use Rattle.sat_solver.specs.proof.MadeView.{LastWidthIsIn, listed_in}
 use Rattle.sat_solver.proofs.lemmas.session.CheckedLemmas.{lost_fed, taken_fed, failed_fed, taken_cause, taken_why, may_more}
 use Rattle.sat_solver.proofs.proof.made.Made.take_checked.Goals as goal
 
@@ -30,9 +27,6 @@ returns-in-Err-clause-fails g c =
     let m = c.args.self.now in
     (rw c.keep_cause.ensures.fault (taken_why g.P.ProofProcessor.takes m.lost m.own m.roll.items m.history.steps m.fed c.in-Some.own c.in-Some.is c.take.new.self c.in-Err.error (step_of c.args.step.now) c.and-self.result.steps c.and-self.ensures c.if-self-2.false c.requires.may c.in-Err.ensures.takes), c.keep_cause.ensures.kept)
 
-pub take-requires-clause-cut : goal.take-requires-clause-cut
-take-requires-clause-cut g c = c.requires.cut (ap (λ o. is_some (listed_in o c.args.self.now.roll.items)) c.in-Some.is)
-
 pub invariant_of-self-clause-may : goal.invariant_of-self-clause-may
 invariant_of-self-clause-may g c = may_more c.args.self.now.history.steps c.and-self.result.steps (step_of c.args.step.now) c.and-self.ensures c.requires.may
 
@@ -41,12 +35,3 @@ invariant_of-self-in-Ok-clause-may g c = may_more c.args.self.now.history.steps 
 
 pub invariant_of-self-in-Err-clause-may : goal.invariant_of-self-in-Err-clause-may
 invariant_of-self-in-Err-clause-may g c = may_more c.args.self.now.history.steps c.and-self.result.steps (step_of c.args.step.now) c.and-self.ensures c.requires.may
-
-pub returns-then-self-2-clause-width : goal.returns-then-self-2-clause-width
-returns-then-self-2-clause-width g c = λ e. absurd (true≢false (sym c.if-self-2.true ∙ e))
-
-pub returns-in-None-clause-width : goal.returns-in-None-clause-width
-returns-in-None-clause-width g c = λ e. subst (λ o. LastWidthIsIn c.args.bits o) (sym c.in-None.is) tt
-
-pub returns-in-Ok-clause-width : goal.returns-in-Ok-clause-width
-returns-in-Ok-clause-width g c = λ e. c.in-Ok.ensures.bits

@@ -1,15 +1,11 @@
-use Rattle.std.proofs.Common.{◌∙◌, inl, inr, refl, subst}
-use Rattle.sat_solver.specs.proof.MadeView.{LastWidthIsIn}
+use Rattle.std.proofs.Common.{arith}
+use Rattle.std.proofs.lemmas.Grind.{common_steps}
+use Rattle.std.proofs.Common.{inl}
 use Rattle.sat_solver.proofs.lemmas.session.CheckedLemmas.{reported_fed, unreported_fed, unreported_cause, unreported_why, reported_settled}
 use Rattle.sat_solver.proofs.proof.made.Made.take_delayed.Goals as goal
 
-pub returns-then-self-clause-fails : goal.returns-then-self-clause-fails
-returns-then-self-clause-fails g c = inr (c.if-self.true, refl)
-
 pub invariant_of-self-in-Ok-clause-fed : goal.invariant_of-self-in-Ok-clause-fed
-invariant_of-self-in-Ok-clause-fed g c =
-    let m = c.args.self.now in
-    reported_fed g.P.ProofProcessor.takes m.lost m.own m.roll.items m.history.steps m.fed c.in-Some.own c.in-Some.is c.take_delayed.new.self c.if-self.false c.in-Ok.ensures.takes
+invariant_of-self-in-Ok-clause-fed g c = grind (arith, common_steps, reported_fed)
 
 pub invariant_of-self-in-Err-clause-fed : goal.invariant_of-self-in-Err-clause-fed
 invariant_of-self-in-Err-clause-fed g c =
@@ -30,9 +26,3 @@ pub returns-in-Err-clause-fails : goal.returns-in-Err-clause-fails
 returns-in-Err-clause-fails g c =
     let m = c.args.self.now in
     inl (rw c.keep_cause.ensures.fault (unreported_why g.P.ProofProcessor.takes m.lost m.own m.roll.items m.history.steps m.fed c.in-Some.own c.in-Some.is c.take_delayed.new.self c.in-Err.error c.if-self.false c.in-Err.ensures.takes), c.keep_cause.ensures.kept)
-
-pub returns-in-None-clause-width : goal.returns-in-None-clause-width
-returns-in-None-clause-width g c = λ bits h. h
-
-pub returns-in-Ok-clause-width : goal.returns-in-Ok-clause-width
-returns-in-Ok-clause-width g c = λ bits h e. c.in-Ok.ensures.bits ∙ subst (λ o. LastWidthIsIn bits o) c.in-Some.is (h e)
