@@ -1,3 +1,5 @@
+use Rattle.std.proofs.Common.{arith}
+use Rattle.std.proofs.lemmas.Grind.{common_steps}
 use Rattle.std.proofs.Common.{ℕ, List, Some, Bor, ap}
 use Rattle.sat_base.specs.device.Device.{Reader}
 use Rattle.sat_base.specs.device.Counting.{reader_of}
@@ -5,12 +7,7 @@ use Rattle.certify.proofs.lemmas.laws.FinishedTexts.{looks_within, says}
 use Rattle.certify.proofs.headline.confirm_over.Goals as goal
 
 pub returns-clause-says : goal.returns-clause-says
-returns-clause-says c =
-    let remaining = λ (s : Bor (List ℕ)). Some s.now in
-    says c.confirm.result (reader_of remaining c.new-script.result) (reader_of remaining c.confirm.new.script) (reader_of remaining c.new-answers.result) (reader_of remaining c.confirm.new.answers)
-    (reader_of remaining c.new-certificate.result) (reader_of remaining c.confirm.new.certificate) c.args.script.now c.args.answers.now c.args.certificate.now
-    (ap (λ (r : Reader). r.to_come) (c.new-script.ensures.reader remaining)) (ap (λ (r : Reader). r.to_come) (c.new-answers.ensures.reader remaining)) (ap (λ (r : Reader). r.to_come) (c.new-certificate.ensures.reader remaining))
-    c.confirm.ensures.exact c.confirm.ensures.sound
+returns-clause-says c = grind (arith, common_steps, says)
 
 pub returns-clause-looks : goal.returns-clause-looks
 returns-clause-looks c =

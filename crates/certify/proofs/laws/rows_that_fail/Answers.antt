@@ -4,11 +4,5 @@ use Rattle.certify.proofs.laws.rows_that_fail.Goals as goal
 pub returns-clause-old_variable : goal.returns-clause-old_variable
 returns-clause-old_variable c = rows.name_on_old_variable
 
-pub returns-clause-end_alone : goal.returns-clause-end_alone
-returns-clause-end_alone c = rows.end_alone
-
-pub returns-clause-missing : goal.returns-clause-missing
-returns-clause-missing c = rows.no_answers
-
 pub returns-clause-extra : goal.returns-clause-extra
 returns-clause-extra c = rows.answers_twice

@@ -7,9 +7,6 @@ returns-clause-model c = rows.clause_and_ask_right
 pub returns-clause-model_steps : goal.returns-clause-model_steps
 returns-clause-model_steps c = rows.clause_and_ask_steps
 
-pub returns-clause-core : goal.returns-clause-core
-returns-clause-core c = rows.two_units_right
-
 pub returns-clause-core_steps : goal.returns-clause-core_steps
 returns-clause-core_steps c = rows.two_units_steps
 

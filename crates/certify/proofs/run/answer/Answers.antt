@@ -22,11 +22,6 @@ module _ (g : Over) (c : After-serve_all-served g) where
       subst (λ (a : Source). ServesScript g.C.CountedWrite.seen start reading written c.serve_all-served.result a left c.new-session.result c.serve_all-served.new.session (g.A.CountedWrite.seen c.args.answers.now) (g.A.CountedWrite.seen c.serve_all-served.new.answers))
       (fresh_source g.S.CountedRead.seen c.args.script.now c.new-stream.result.ahead c.new-stream.ensures.waiting c.new-stream.ensures.reads) c.serve_all-served.ensures
 
-pub end_run-requires-clause-ready : goal.end_run-requires-clause-ready
-end_run-requires-clause-ready g c =
-    let x = (goal.at.end_run-requires-clause-ready g c).After-serve_all-served in
-    is_ready g.C.CountedWrite.seen c.args.budget (g.C.CountedWrite.seen c.args.certificate) c.new-session.result c.serve_all-served.new.session (fresh g x) (g.S.CountedRead.seen c.args.script.now) (left g x) c.serve_all-served.new.stream.ahead.bounded c.args.certificate (g.A.CountedWrite.seen c.args.answers.now) (g.A.CountedWrite.seen c.serve_all-served.new.answers) (g.A.CountedWrite.seen c.serve_all-served.new.answers) c.serve_all-served.result (ends g x)
-
 pub end_run-requires-clause-target : goal.end_run-requires-clause-target
 end_run-requires-clause-target g c =
     let x = (goal.at.end_run-requires-clause-target g c).After-serve_all-served in
@@ -36,11 +31,6 @@ pub end_run-requires-clause-some : goal.end_run-requires-clause-some
 end_run-requires-clause-some g c =
     let x = (goal.at.end_run-requires-clause-some g c).After-serve_all-served in
     has_target g.C.CountedWrite.seen c.args.budget (g.C.CountedWrite.seen c.args.certificate) c.new-session.result c.serve_all-served.new.session (fresh g x) (g.S.CountedRead.seen c.args.script.now) (left g x) c.serve_all-served.new.stream.ahead.bounded c.args.certificate (g.A.CountedWrite.seen c.args.answers.now) (g.A.CountedWrite.seen c.serve_all-served.new.answers) (g.A.CountedWrite.seen c.serve_all-served.new.answers) c.serve_all-served.result (ends g x)
-
-pub returns-clause-reads : goal.returns-clause-reads
-returns-clause-reads g c =
-    let x = (goal.at.returns-clause-reads g c).After-serve_all-served in
-    reads_few g.C.CountedWrite.seen c.args.budget (g.C.CountedWrite.seen c.args.certificate) c.new-session.result c.serve_all-served.new.session (fresh g x) (g.S.CountedRead.seen c.args.script.now) (left g x) c.serve_all-served.new.stream.ahead.bounded c.args.certificate (g.A.CountedWrite.seen c.args.answers.now) (g.A.CountedWrite.seen c.serve_all-served.new.answers) (g.A.CountedWrite.seen c.serve_all-served.new.answers) c.serve_all-served.result (ends g x)
 
 pub returns-clause-runs : goal.returns-clause-runs
 returns-clause-runs g c =

@@ -1,8 +1,5 @@
 use Rattle.certify.proofs.lemmas.answers.LinesByKind.{starts_no_head, starts_no_list}
 use Rattle.certify.proofs.answers.read.begins_list.Goals as goal
 
-pub returns-in-Some : goal.returns-in-Some
-returns-in-Some c = λ no. starts_no_list c.args.kind c.args.head.now c.args.bytes.now c.in-Some.following.now c.requires c.in-Some.ensures (c.begins_literals.ensures no)
-
 pub returns-in-None : goal.returns-in-None
 returns-in-None c = λ no. starts_no_head c.args.kind c.args.head.now c.args.bytes.now c.requires (c.is_front.ensures c.if-is_front.false) c.in-None.ensures

@@ -1,3 +1,4 @@
+use Rattle.std.proofs.lemmas.Grind.{common_steps}
 use Rattle.std.proofs.Common.{◌<◌, ◌≤◌, inl, inr, ◌⊎◌, ℕ, arith}
 use Rattle.certify.proofs.lemmas.answers.NamesAndWords.{no_digit, no_zero, next_digit, past_limit}
 use Rattle.certify.proofs.answers.read.with_digit.Goals as goal
@@ -11,10 +12,7 @@ pub returns-then-byte-lt48 : goal.returns-then-byte-lt48
 returns-then-byte-lt48 c = no_digit c.args.name c.args.byte (outside c.args.byte c.then-byte-lt48.either)
 
 pub returns-then-more-eq0 : goal.returns-then-more-eq0
-returns-then-more-eq0 c = elim c.then-more-eq0.branch [
-  | then-more-eq0-via-then-more-eq0 w ↦ no_zero c.args.name c.args.byte c.if-byte-lt48.false (omega arith)
-  | then-more-eq0-via-else-more-eq0+then-more-max_count w ↦ past_limit c.args.name c.args.byte c.requires c.if-byte-lt48.false c.if-byte-gt57.false (omega arith)
-]
+returns-then-more-eq0 c = grind (arith, common_steps, no_zero, past_limit, then-more-eq0-via-then-more-eq0, then-more-eq0-via-else-more-eq0+then-more-max_count)
 
 pub returns : goal.returns
 returns c = let d = next_digit c.args.name c.args.byte c.requires c.if-byte-lt48.false c.if-byte-gt57.false (omega arith) in ((omega arith, omega arith), d)

@@ -1,3 +1,4 @@
+use Rattle.std.proofs.lemmas.Grind.{common_steps}
 use Rattle.std.proofs.Common.{◌≡◌, ◌+◌, ◌<◌, ◌≤◌, List, Some, None, length, sym, ◌∙◌, ap, subst, arith}
 use Rattle.std.proofs.lemmas.List.{take_all}
 use Rattle.sat_base.specs.values.Literals.{coded}
@@ -32,7 +33,4 @@ returns-in_default c = λ codes.
     (subst (λ n. variable_in c.args.variables.now (n + 1) ≡ None) c.var.ensures (sym c.get.ensures ∙ c.in_default.is))
 
 pub returns : goal.returns
-returns c =
-    let ls = named_literals c.args.literals.now in
-    let over : length ls ≤ c.loop-lit.lit-index = let n = named_length c.args.literals.now in omega arith in
-    subst (λ (ks : List Literal). AreSpelt (variable_in c.args.variables.now) ks c.loop-lit.spelt.items) (take_all c.loop-lit.lit-index ls over) c.loop-lit.invariant
+returns c = grind (arith, common_steps, take_all, named_length)

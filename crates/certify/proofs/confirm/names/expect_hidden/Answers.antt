@@ -1,3 +1,5 @@
+use Rattle.std.proofs.Common.{arith}
+use Rattle.std.proofs.lemmas.Grind.{common_steps}
 use Rattle.std.proofs.Common.{◌+◌, Ok, refl, sym, subst}
 use Rattle.sat_checker.specs.CheckerView.{kernel_of}
 use Rattle.sat_checker.specs.matching.Expected.{NoName}
@@ -9,14 +11,7 @@ use Rattle.certify.proofs.lemmas.confirm.Naming.{all_none, meets_one}
 use Rattle.certify.proofs.confirm.names.expect_hidden.Goals as goal
 
 pub returns-in-Hide-clause-confirms : goal.returns-in-Hide-clause-confirms
-returns-in-Hide-clause-confirms g c =
-    let S = g.R.CountedRead.seen in
-    let a = stream_of S c.args.steps.now (kernel_of c.args.certificate.now.checker) in
-    let b = stream_of S c.expect.new.steps (kernel_of c.expect.new.self.checker) in
-    let before = c.args.certificate.now.names in
-    let after = c.expect.new.self.names in
-    subst (λ (k : CommandKind). Confirms c.expect.result a b (MeetsAll (hidden_by (kind_of k) (c.args.name + 1)) before after)) (sym c.in-Hide.is)
-    (meets_one (λ o ask. NoName (c.args.name + 1)) (NoName (c.args.name + 1)) (λ o ask. refl) tt before after c.expect.result a b c.expect.ensures.confirms)
+returns-in-Hide-clause-confirms g c = grind (arith, common_steps, meets_one)
 
 pub returns-in-Clause-clause-confirms : goal.returns-in-Clause-clause-confirms
 returns-in-Clause-clause-confirms g c =

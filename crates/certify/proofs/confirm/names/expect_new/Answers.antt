@@ -6,9 +6,6 @@ use Rattle.certify.specs.confirm.Naming.{MeetsAll}
 use Rattle.certify.proofs.lemmas.confirm.Naming.{all_none, new_more, new_stop, news}
 use Rattle.certify.proofs.confirm.names.expect_new.Goals as goal
 
-pub loop-done-init : goal.loop-done-init
-loop-done-init g c = record { same = refl; goes_on = c.requires.goes_on; met = all_none c.args.certificate.now.names (stream_of g.R.CountedRead.seen c.args.steps.now (kernel_of c.args.certificate.now.checker)) }
-
 pub returns-in_err-expect-clause-confirms : goal.returns-in_err-expect-clause-confirms
 returns-in_err-expect-clause-confirms g c =
     let S = g.R.CountedRead.seen in

@@ -1,3 +1,5 @@
+use Rattle.std.proofs.Common.{arith}
+use Rattle.std.proofs.lemmas.Grind.{common_steps}
 use Rattle.std.proofs.Common.{refl, true, false}
 use Rattle.std.proofs.lemmas.Result.{err_from_is_err_and}
 use Rattle.sat_checker.specs.CheckerView.{kernel_of}
@@ -6,28 +8,8 @@ use Rattle.certify.proofs.lemmas.confirm.StepTags.{ordered_by_tag}
 use Rattle.certify.proofs.lemmas.confirm.Awaiting.{steps_cut, steps_none, steps_step, steps_passed, steps_refused}
 use Rattle.certify.proofs.confirm.ordered.advance.Goals as goal
 
-pub returns-then-unsat : goal.returns-then-unsat
-returns-then-unsat g c = record {
-  same = refl;
-  bound = c.requires.bound;
-  goes_on = c.requires;
-  takes = tt;
-  confirms = λ names. steps_cut names (stream_of g.R.CountedRead.seen c.args.steps.now (kernel_of c.args.checker.now)) c.unsat.result c.unsat.ensures c.if-unsat.true;
-}
-
 pub returns-in_err-read_next : goal.returns-in_err-read_next
-returns-in_err-read_next g c =
-    let S = g.R.CountedRead.seen in
-    let old = kernel_of c.args.checker.now in
-    let p = err_from_is_err_and c.from_residual.result c.from_residual.ensures.1 in
-    record {
-      same = c.read_next.ensures.same;
-      bound = c.read_next.ensures.bound;
-      goes_on = rw p.1 tt;
-      takes = rw p.1 tt;
-      confirms = λ names. rw (p.1, p.2) (steps_none names (stream_of S c.args.steps.now old) c.unsat.result c.unsat.ensures (stream_of S c.read_next.new.steps old) c.requires.open_yet c.if-unsat.false c.in_err-read_next.field-0.0
-          (c.in_err-read_next.ensures.reads old));
-    }
+returns-in_err-read_next g c = grind (arith, common_steps, err_from_is_err_and, steps_none)
 
 pub returns-then-is_ordered : goal.returns-then-is_ordered
 returns-then-is_ordered g c =

@@ -7,9 +7,6 @@ use Rattle.certify.specs.confirm.Streams.{GoesOrStops, stream_of}
 use Rattle.certify.proofs.lemmas.confirm.Awaiting.{passed_none, rounds_more, rounds_end, rounds_stop}
 use Rattle.certify.proofs.confirm.ordered.find_ordered.Goals as goal
 
-pub loop-awaited-init : goal.loop-awaited-init
-loop-awaited-init g c = record { same = refl; goes_on = c.requires; passed = λ names. passed_none names (stream_of g.R.CountedRead.seen c.args.steps.now (kernel_of c.args.checker.now)) }
-
 pub returns-in_err-awaited-clause-confirms : goal.returns-in_err-awaited-clause-confirms
 returns-in_err-awaited-clause-confirms g c names =
     let S = g.R.CountedRead.seen in

@@ -5,9 +5,6 @@ use Rattle.certify.proofs.laws.commands.commands_are_served.Goals as goal
 pub returns-clause-composes : goal.returns-clause-composes
 returns-clause-composes c = serves_then
 
-pub returns-clause-refused : goal.returns-clause-refused
-returns-clause-refused c = serves_refused
-
 pub returns-clause-plain : goal.returns-clause-plain
 returns-clause-plain c = serves_plain
 

@@ -12,10 +12,6 @@ returns-clause-printed g c =
     prints_given c.print_confirmed.result x y a b c.in_ok-script.script.items c.in_ok-script.ensures.gave
     (subst (λ (text : List ℕ). IfOk c.print_confirmed.result (λ s. Prints s text a b)) c.deref-2.ensures.value c.print_confirmed.ensures.printed)
 
-pub print_confirmed-requires : goal.print_confirmed-requires
-print_confirmed-requires g c =
-    subst (λ (text : List ℕ). IsWritten text c.in_ok-written.written) (c.deref.ensures.value ∙ sym c.deref-2.ensures.value) c.in_ok-written.ensures
-
 pub returns-clause-prefix : goal.returns-clause-prefix
 returns-clause-prefix g c =
     let x = g.I.CountedRead.seen c.args.input.now in
@@ -24,9 +20,3 @@ returns-clause-prefix g c =
     let b = g.O.CountedWrite.seen c.print_confirmed.new.output in
     prefix_given x y a b c.in_ok-script.script.items c.in_ok-script.ensures.gave
     (subst (λ (text : List ℕ). PrintsPrefix text a b) c.deref-2.ensures.value c.print_confirmed.ensures.prefix)
-
-pub returns-in_err-script-clause-prefix : goal.returns-in_err-script-clause-prefix
-returns-in_err-script-clause-prefix g c = prints_nothing (g.I.CountedRead.seen c.args.input.now, g.I.CountedRead.seen c.read_whole.new.reader) (g.O.CountedWrite.seen c.args.output.now)
-
-pub returns-in_err-written-clause-prefix : goal.returns-in_err-written-clause-prefix
-returns-in_err-written-clause-prefix g c = prints_nothing (g.I.CountedRead.seen c.args.input.now, g.I.CountedRead.seen c.read_whole.new.reader) (g.O.CountedWrite.seen c.args.output.now)

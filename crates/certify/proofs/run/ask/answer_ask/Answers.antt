@@ -1,3 +1,5 @@
+use Rattle.std.proofs.Common.{arith}
+use Rattle.std.proofs.lemmas.Grind.{common_steps}
 use Rattle.std.proofs.Common.{ℕ, List, [], refl, subst}
 use Rattle.std.proofs.lemmas.Result.{err_from_is_err_and}
 use Rattle.sat_base.specs.device.Device.{WriterBreaks, WriterTakes}
@@ -14,18 +16,10 @@ use Rattle.certify.proofs.lemmas.run.Needing.{none_needs}
 use Rattle.certify.proofs.run.ask.answer_ask.Goals as goal
 
 pub returns-in_err-write_answer-clause-written : goal.returns-in_err-write_answer-clause-written
-returns-in_err-write_answer-clause-written g c =
-    let p = err_from_is_err_and c.from_residual-in_err-write_answer.result c.from_residual-in_err-write_answer.ensures.1 in
-    let s = c.args.session.now in
-    rw (p.1, p.2) (answers_say g.C.CountedWrite.seen c.in_err-write_answer.field-0.0 (g.A.CountedWrite.seen c.args.answers.now) (g.A.CountedWrite.seen c.write_answer.new.answers) s.solver c.ask.new.solver c.in_err-write_answer.ensures.fails.0 c.in_err-write_answer.ensures.fails.1
-    (ask_writes g.C.CountedWrite.seen s.solver c.ask.new.solver c.args.literals.now c.ask.new.page.text.items s.budget c.in_ok-report.report c.in_ok-report.ensures.effect))
+returns-in_err-write_answer-clause-written g c = grind (arith, common_steps, err_from_is_err_and, answers_say, ask_writes)
 
 pub returns-in_err-assume-clause-written : goal.returns-in_err-assume-clause-written
-returns-in_err-assume-clause-written g c =
-    let p = err_from_is_err_and c.from_residual-in_err-assume.result c.from_residual-in_err-assume.ensures.1 in
-    let s = c.args.session.now in
-    rw (p.1, p.2) (solver_says g.C.CountedWrite.seen c.in_err-assume.field-0.0 (g.A.CountedWrite.seen c.args.answers.now) (g.A.CountedWrite.seen c.write_answer.new.answers) s.solver c.ask.new.solver c.assume.new.solver (takes_none (g.A.CountedWrite.seen c.args.answers.now) (g.A.CountedWrite.seen c.write_answer.new.answers) _ c.in_ok-write_answer.ensures.takes)
-    (ask_writes g.C.CountedWrite.seen s.solver c.ask.new.solver c.args.literals.now c.ask.new.page.text.items s.budget c.in_ok-report.report c.in_ok-report.ensures.effect) c.in_err-assume.ensures.fails)
+returns-in_err-assume-clause-written g c = grind (arith, common_steps, err_from_is_err_and, solver_says, ask_writes, takes_none)
 
 pub returns-in_err-push-clause-written : goal.returns-in_err-push-clause-written
 returns-in_err-push-clause-written g c =
@@ -74,11 +68,6 @@ returns-in_err-push-clause-stops g c left =
     let written = subst (λ (text : List ℕ). WriterTakes u v text) c.deref.ensures.value c.in_ok-write_answer.ensures.takes in
     rw p.1 (λ j live means free. ask_reported g.C.CountedWrite.seen c.args.session.now c.ask.new.solver c.args.literals.now c.ask.new.page.text.items c.in_ok-report.report u v c.in_ok-report.ensures.effect left j live means free written)
 
-pub returns-in_err-write_answer-clause-cause : goal.returns-in_err-write_answer-clause-cause
-returns-in_err-write_answer-clause-cause g c =
-    let p = err_from_is_err_and c.from_residual-in_err-write_answer.result c.from_residual-in_err-write_answer.ensures.1 in
-    rw (p.1, p.2) (unwritten_caused c.in_err-write_answer.field-0.0 (HasFullStore c.ask.new.solver) (LacksFor c.args.session.now.solver c.ask.new.solver (Ask (named_literals c.args.literals.now))) c.in_err-write_answer.ensures.fails.0)
-
 pub returns-in_err-assume-clause-cause : goal.returns-in_err-assume-clause-cause
 returns-in_err-assume-clause-cause g c =
     let p = err_from_is_err_and c.from_residual-in_err-assume.result c.from_residual-in_err-assume.ensures.1 in
@@ -90,6 +79,4 @@ returns-in_err-assume-clause-cause g c =
     (none_needs g.C.CountedWrite.seen s.solver effect.mid t c.assume.new.solver user s.budget c.in_ok-report.report effect.opened effect.searched) c.in_err-assume.ensures.cause)
 
 pub returns-in_err-push-clause-cause : goal.returns-in_err-push-clause-cause
-returns-in_err-push-clause-cause g c =
-    let p = err_from_is_err_and c.from_residual-in_err-push.result c.from_residual-in_err-push.ensures.1 in
-    rw p.1 (memory_caused _ (HasFullStore c.assume.new.solver) (LacksFor c.args.session.now.solver c.assume.new.solver (Ask (named_literals c.args.literals.now))) p.2)
+returns-in_err-push-clause-cause g c = grind (arith, common_steps, err_from_is_err_and, memory_caused)

@@ -22,10 +22,6 @@ returns-in_err-push_answer-clause-fails g c =
     rw (p.1, p.2) (memory_fails g.C.CountedWrite.seen c.in_err-push_answer.field-0.0 c.args.solver.now c.search.new.solver c.in_err-push_answer.ensures.memory
     (ask_took g.C.CountedWrite.seen c.args.solver.now c.assume.new.solver c.search.new.solver c.args.literals.now c.args.budget c.in_ok-report.report c.in_ok-assume.ensures.assumed c.in_ok-report.ensures.searched))
 
-pub returns-clause-allowed : goal.returns-clause-allowed
-returns-clause-allowed g c =
-    allowed_still g.C.CountedWrite.seen c.args.solver.now c.assume.new.solver c.search.new.solver c.args.literals.now c.args.budget c.in_ok-report.report c.requires.allowed c.in_ok-assume.ensures.assumed c.in_ok-report.ensures.searched
-
 pub returns-clause-ready : goal.returns-clause-ready
 returns-clause-ready g c = searched_ready g.C.CountedWrite.seen c.args.budget c.in_ok-report.report c.assume.new.solver c.search.new.solver c.in_ok-report.ensures.searched
 
@@ -41,13 +37,3 @@ returns-in_err-assume-clause-cause g c =
     let s = c.args.solver.now in
     let user = c.args.literals.now in
     rw (p.1, p.2) (caused_map c.in_err-assume.field-0.0 ⊥ (RefusedForRoom s c.assume.new.solver (user_vars_in user)) (HasFullStore c.assume.new.solver) (LacksFor s c.assume.new.solver (Ask (named_literals user))) (λ x. absurd x) (ask_needs s c.assume.new.solver user) c.in_err-assume.ensures.cause)
-
-pub returns-in_err-report-clause-cause : goal.returns-in_err-report-clause-cause
-returns-in_err-report-clause-cause g c =
-    let p = err_from_is_err_and c.from_residual-in_err-report.result c.from_residual-in_err-report.ensures.1 in
-    rw (p.1, p.2) (caused_map c.in_err-report.field-0.0 (HasFullStore c.search.new.solver) ⊥ (HasFullStore c.search.new.solver) (LacksFor c.args.solver.now c.search.new.solver (Ask (named_literals c.args.literals.now))) (λ x. x) (λ x. absurd x) c.in_err-report.ensures.cause)
-
-pub returns-in_err-push_answer-clause-cause : goal.returns-in_err-push_answer-clause-cause
-returns-in_err-push_answer-clause-cause g c =
-    let p = err_from_is_err_and c.from_residual-in_err-push_answer.result c.from_residual-in_err-push_answer.ensures.1 in
-    rw (p.1, p.2) (memory_caused c.in_err-push_answer.field-0.0 (HasFullStore c.search.new.solver) (LacksFor c.args.solver.now c.search.new.solver (Ask (named_literals c.args.literals.now))) c.in_err-push_answer.ensures.memory)

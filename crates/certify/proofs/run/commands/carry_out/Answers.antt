@@ -7,9 +7,6 @@ use Rattle.certify.specs.run.Obeying.{command_to}
 use Rattle.certify.proofs.lemmas.run.Caused.{ask_caused_by, clause_caused_by, names_caused_by}
 use Rattle.certify.proofs.run.commands.carry_out.Goals as goal
 
-pub add_clause-requires-clause-ready : goal.add_clause-requires-clause-ready
-add_clause-requires-clause-ready g c = c.requires.goes_on.ready
-
 pub add_clause-requires-clause-allowed : goal.add_clause-requires-clause-allowed
 add_clause-requires-clause-allowed g c = clause_allowed c.args.command c.args.session.now c.requires.goes_on c.requires.allowed c.in-Clause.is
 
@@ -21,52 +18,23 @@ pub returns-in-Clause-clause-written : goal.returns-in-Clause-clause-written
 returns-in-Clause-clause-written g c =
     clause_writes c.args.command g.C.CountedWrite.seen c.args.session.now c.requires.goes_on c.add_clause.result c.add_clause.new.solver (g.A.CountedWrite.seen c.args.answers.now) c.add_clause.ensures.added c.add_clause.ensures.fails
 
-pub answer_ask-requires-clause-ready : goal.answer_ask-requires-clause-ready
-answer_ask-requires-clause-ready g c = c.requires.goes_on.ready
-
 pub answer_ask-requires-clause-allowed : goal.answer_ask-requires-clause-allowed
 answer_ask-requires-clause-allowed g c = ask_allowed c.args.command c.args.session.now c.requires.goes_on c.requires.allowed c.in-Ask.is
-
-pub returns-in-Ask-clause-carried : goal.returns-in-Ask-clause-carried
-returns-in-Ask-clause-carried g c =
-    ask_carried c.args.command g.C.CountedWrite.seen c.args.session.now c.requires.goes_on c.answer_ask.result c.answer_ask.new.session (g.A.CountedWrite.seen c.args.answers.now) (g.A.CountedWrite.seen c.answer_ask.new.answers) c.in-Ask.is c.answer_ask.ensures.carried
 
 pub returns-in-Hide-clause-carried : goal.returns-in-Hide-clause-carried
 returns-in-Hide-clause-carried g c =
     names_carried c.args.command g.C.CountedWrite.seen c.args.session.now c.requires.goes_on c.set_names.result c.set_names.new.solver (g.A.CountedWrite.seen c.args.answers.now) state.Hidden (names_in c.args.command.literals.now) c.set_names.ensures.obeyed (lent_hides c.args.command c.in-Hide.is)
 
-pub returns-in-Hide-clause-written : goal.returns-in-Hide-clause-written
-returns-in-Hide-clause-written g c =
-    names_write c.args.command g.C.CountedWrite.seen c.args.session.now c.requires.goes_on c.set_names.result c.set_names.new.solver (g.A.CountedWrite.seen c.args.answers.now) state.Hidden (names_in c.args.command.literals.now) c.set_names.ensures.obeyed c.set_names.ensures.fails
-
-pub set_names-requires-clause-ready : goal.set_names-requires-clause-ready
-set_names-requires-clause-ready g c = c.requires.goes_on.ready
-
-pub set_names-requires-clause-free : goal.set_names-requires-clause-free
-set_names-requires-clause-free g c = c.requires.goes_on.free
-
 pub returns-in-Witness-clause-carried : goal.returns-in-Witness-clause-carried
 returns-in-Witness-clause-carried g c =
     names_carried c.args.command g.C.CountedWrite.seen c.args.session.now c.requires.goes_on c.set_names-in-Witness.result c.set_names-in-Witness.new.solver (g.A.CountedWrite.seen c.args.answers.now) state.Witnessed (names_in c.args.command.literals.now) c.set_names-in-Witness.ensures.obeyed (lent_witnesses c.args.command c.in-Witness.is)
-
-pub returns-in-Witness-clause-written : goal.returns-in-Witness-clause-written
-returns-in-Witness-clause-written g c =
-    names_write c.args.command g.C.CountedWrite.seen c.args.session.now c.requires.goes_on c.set_names-in-Witness.result c.set_names-in-Witness.new.solver (g.A.CountedWrite.seen c.args.answers.now) state.Witnessed (names_in c.args.command.literals.now) c.set_names-in-Witness.ensures.obeyed c.set_names-in-Witness.ensures.fails
 
 pub returns-in-Sample-clause-carried : goal.returns-in-Sample-clause-carried
 returns-in-Sample-clause-carried g c =
     names_carried c.args.command g.C.CountedWrite.seen c.args.session.now c.requires.goes_on c.set_names-in-Sample.result c.set_names-in-Sample.new.solver (g.A.CountedWrite.seen c.args.answers.now) state.Sampled (names_in c.args.command.literals.now) c.set_names-in-Sample.ensures.obeyed (lent_samples c.args.command c.in-Sample.is)
 
-pub returns-in-Sample-clause-written : goal.returns-in-Sample-clause-written
-returns-in-Sample-clause-written g c =
-    names_write c.args.command g.C.CountedWrite.seen c.args.session.now c.requires.goes_on c.set_names-in-Sample.result c.set_names-in-Sample.new.solver (g.A.CountedWrite.seen c.args.answers.now) state.Sampled (names_in c.args.command.literals.now) c.set_names-in-Sample.ensures.obeyed c.set_names-in-Sample.ensures.fails
-
 pub returns-in-Clause-clause-stops : goal.returns-in-Clause-clause-stops
 returns-in-Clause-clause-stops g c left = nothing_stops c.add_clause.result c.args.session.now (represented_by c.args.command) left (g.A.CountedWrite.seen c.args.answers.now)
-
-pub returns-in-Ask-clause-stops : goal.returns-in-Ask-clause-stops
-returns-in-Ask-clause-stops g c left =
-    ask_stops c.args.command g.C.CountedWrite.seen c.args.session.now c.requires.goes_on c.answer_ask.result left (g.A.CountedWrite.seen c.args.answers.now) (g.A.CountedWrite.seen c.answer_ask.new.answers) c.in-Ask.is (c.answer_ask.ensures.stops left)
 
 pub returns-in-Hide-clause-stops : goal.returns-in-Hide-clause-stops
 returns-in-Hide-clause-stops g c left = nothing_stops c.set_names.result c.args.session.now (represented_by c.args.command) left (g.A.CountedWrite.seen c.args.answers.now)
@@ -79,9 +47,6 @@ returns-in-Sample-clause-stops g c left = nothing_stops c.set_names-in-Sample.re
 
 pub returns-in-Clause-clause-cause : goal.returns-in-Clause-clause-cause
 returns-in-Clause-clause-cause g c = clause_caused_by c.args.command c.args.session.now c.add_clause.result c.add_clause.new.solver c.in-Clause.is c.add_clause.ensures.cause
-
-pub returns-in-Ask-clause-cause : goal.returns-in-Ask-clause-cause
-returns-in-Ask-clause-cause g c = ask_caused_by c.args.command c.args.session.now c.answer_ask.new.session c.answer_ask.result c.in-Ask.is c.answer_ask.ensures.cause
 
 pub returns-in-Hide-clause-cause : goal.returns-in-Hide-clause-cause
 returns-in-Hide-clause-cause g c =

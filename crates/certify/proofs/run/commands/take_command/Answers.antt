@@ -10,9 +10,6 @@ pub returns-in-Some-clause-served : goal.returns-in-Some-clause-served
 returns-in-Some-clause-served g c =
     refused_served g.C.CountedWrite.seen c.args.session.now c.refuse.new.session c.args.command (g.A.CountedWrite.seen c.args.answers.now) (g.A.CountedWrite.seen c.refuse.new.answers) c.requires.goes_on c.refuse.result c.in-Some.refusal c.in-Some.ensures.judges c.refuse.ensures.refused
 
-pub take_allowed-requires-clause-allowed : goal.take_allowed-requires-clause-allowed
-take_allowed-requires-clause-allowed g c = lent_allowed c.args.session.now.names c.args.command c.requires.whole (c.in-None.ensures.within refl) c.in-None.ensures.judges
-
 pub returns-in-None-clause-served : goal.returns-in-None-clause-served
 returns-in-None-clause-served g c =
     taken_served g.C.CountedWrite.seen c.args.session.now c.take_allowed.new.session c.args.command (g.A.CountedWrite.seen c.args.answers.now) (g.A.CountedWrite.seen c.take_allowed.new.answers) c.requires.goes_on c.take_allowed.result (c.in-None.ensures.within refl) c.in-None.ensures.judges c.take_allowed.ensures.carried c.take_allowed.ensures.names
@@ -24,9 +21,6 @@ returns-in-Some-clause-stops g c =
 pub returns-in-None-clause-stops : goal.returns-in-None-clause-stops
 returns-in-None-clause-stops g c =
     taken_stops g.C.CountedWrite.seen c.args.session.now c.take_allowed.new.session c.args.command (g.A.CountedWrite.seen c.args.answers.now) (g.A.CountedWrite.seen c.take_allowed.new.answers) c.requires.goes_on c.take_allowed.result (c.in-None.ensures.within refl) c.in-None.ensures.judges c.take_allowed.ensures.stops
-
-pub returns-in-Some-clause-cause : goal.returns-in-Some-clause-cause
-returns-in-Some-clause-cause g c = λ x is left. blameless c.refuse.result c.args.session.now c.refuse.new.session (onto_commands (x ∷ []) left) c.refuse.ensures.cause
 
 pub returns-in-None-clause-cause : goal.returns-in-None-clause-cause
 returns-in-None-clause-cause g c =

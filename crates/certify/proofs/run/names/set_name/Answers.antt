@@ -1,3 +1,5 @@
+use Rattle.std.proofs.Common.{arith}
+use Rattle.std.proofs.lemmas.Grind.{common_steps}
 use Rattle.std.proofs.Common.{◌+◌, [], ◌∷◌}
 use Rattle.sat_base.specs.script.ScriptState.{accepted}
 use Rattle.certify.specs.run.Obeying.{command_to, due_to, may_to}
@@ -6,11 +8,6 @@ use Rattle.certify.proofs.lemmas.run.Obeys.{name_obeyed}
 use Rattle.certify.proofs.lemmas.run.RunStateCalls.{did_ready}
 use Rattle.certify.proofs.run.names.set_name.Goals as goal
 
-pub fault_of-requires : goal.fault_of-requires
-fault_of-requires g c =
-    let names = (c.args.user + 1) ∷ [] in
-    name_fault g.C.CountedWrite.seen c.args.solver.now c.change_name.new.solver c.args.user (accepted (command_to c.args.state names)) (due_to c.args.state names) (may_to c.args.state (c.args.user + 1)) c.requires.ready c.requires.free c.in-Err.error c.in-Err.ensures
-
 pub returns-in-Ok-clause-obeyed : goal.returns-in-Ok-clause-obeyed
 returns-in-Ok-clause-obeyed g c =
     let names = (c.args.user + 1) ∷ [] in
@@ -18,11 +15,4 @@ returns-in-Ok-clause-obeyed g c =
     name_obeyed g.C.CountedWrite.seen c.args.state (c.args.user + 1) c.args.solver.now c.change_name.new.solver (did_ready g.C.CountedWrite.seen c.args.solver.now c.change_name.new.solver (accepted (command_to c.args.state names)) (due_to c.args.state names) c.requires.ready named.did) named
 
 pub returns-in-Err-clause-fails : goal.returns-in-Err-clause-fails
-returns-in-Err-clause-fails g c =
-    let names = (c.args.user + 1) ∷ [] in
-    rw c.fault_of.ensures (name_fails g.C.CountedWrite.seen c.args.solver.now c.change_name.new.solver c.args.user (accepted (command_to c.args.state names)) (due_to c.args.state names) (may_to c.args.state (c.args.user + 1)) c.requires.ready c.requires.free c.in-Err.error c.in-Err.ensures)
-
-pub returns-in-Err-clause-cause : goal.returns-in-Err-clause-cause
-returns-in-Err-clause-cause g c =
-    let names = (c.args.user + 1) ∷ [] in
-    rw c.fault_of.ensures (name_caused g.C.CountedWrite.seen c.args.solver.now c.change_name.new.solver c.args.user (accepted (command_to c.args.state names)) (due_to c.args.state names) (may_to c.args.state (c.args.user + 1)) c.requires.ready c.requires.free c.in-Err.error c.in-Err.ensures)
+returns-in-Err-clause-fails g c = grind (arith, common_steps, name_fails)

@@ -1,3 +1,4 @@
+use Rattle.std.proofs.lemmas.Grind.{common_steps}
 use Rattle.std.proofs.Common.{◌∙◌, ap, subst, take, [], ◌∷◌, ◌+◌, arith, List, ℕ}
 use Rattle.std.proofs.lemmas.List.{take_all}
 use Rattle.std.proofs.lemmas.Result.{err_from_is_err_and}
@@ -11,12 +12,6 @@ use Rattle.certify.proofs.run.names.set_names.Goals as goal
 pub loop-lit-init : goal.loop-lit-init
 loop-lit-init g c = none_obeyed g.C.CountedWrite.seen c.args.state c.args.solver.now c.requires.ready
 
-pub set_name-requires-clause-ready : goal.set_name-requires-clause-ready
-set_name-requires-clause-ready g c = c.loop-lit.invariant.ready
-
-pub set_name-requires-clause-free : goal.set_name-requires-clause-free
-set_name-requires-clause-free g c = ap (λ (v : _). v.items) c.loop-lit.invariant.assumed ∙ c.requires.free
-
 pub loop-lit-preserved : goal.loop-lit-preserved
 loop-lit-preserved g c =
     let codes = c.args.literals.now in
@@ -25,13 +20,7 @@ loop-lit-preserved g c =
     (names_obeyed g.C.CountedWrite.seen c.args.state (names_in (take k codes)) ((c.var.result + 1) ∷ []) c.args.solver.now c.loop-lit.solver c.set_name.new.solver c.loop-lit.invariant c.in_ok-set_name.ensures.obeyed)
 
 pub returns-in_err-set_name-clause-fails : goal.returns-in_err-set_name-clause-fails
-returns-in_err-set_name-clause-fails g c =
-    let p = err_from_is_err_and c.from_residual.result c.from_residual.ensures.1 in
-    rw (p.1, p.2) (fails_then g.C.CountedWrite.seen c.in_err-set_name.field-0.0 c.args.solver.now c.loop-lit.solver c.set_name.new.solver c.loop-lit.invariant.took c.in_err-set_name.ensures.fails)
-
-pub returns-clause-obeyed : goal.returns-clause-obeyed
-returns-clause-obeyed g c =
-    subst (λ (codes : List ℕ). Obeyed g.C.CountedWrite.seen (command_to c.args.state (names_in codes)) c.args.solver.now c.loop-lit.solver) (take_all c.loop-lit.lit-index c.args.literals.now (omega arith)) c.loop-lit.invariant
+returns-in_err-set_name-clause-fails g c = grind (arith, common_steps, err_from_is_err_and, fails_then)
 
 pub returns-in_err-set_name-clause-cause : goal.returns-in_err-set_name-clause-cause
 returns-in_err-set_name-clause-cause g c =

@@ -1,3 +1,5 @@
+use Rattle.std.proofs.Common.{arith}
+use Rattle.std.proofs.lemmas.Grind.{common_steps}
 use Rattle.std.proofs.Common.{◌≡◌, [], ◌∷◌, refl, subst, rules}
 use Rattle.sat_base.specs.device.Device.{WriterBreaks}
 use Rattle.sat_base.specs.script.Language.{onto_commands}
@@ -13,11 +15,7 @@ use Rattle.certify.proofs.lemmas.run.Caused.{memory_caused, unwritten_if}
 use Rattle.certify.proofs.run.refuse.refuse.Goals as goal
 
 pub returns-in_err-push_refused-clause-written : goal.returns-in_err-push_refused-clause-written
-returns-in_err-push_refused-clause-written g c =
-    let p = err_from_is_err_and c.from_residual.result c.from_residual.ensures.1 in
-    let s = c.args.session.now.solver in
-    let a = g.A.CountedWrite.seen c.args.answers.now in
-    rw p.1 (memory_says g.C.CountedWrite.seen _ a a s s p.2 (refl, refl) (took_none g.C.CountedWrite.seen (proof_in s)))
+returns-in_err-push_refused-clause-written g c = grind (arith, common_steps, err_from_is_err_and, memory_says, took_none)
 
 pub returns-clause-written : goal.returns-clause-written
 returns-clause-written g c =
@@ -27,20 +25,4 @@ pub returns-in_err-push_refused-clause-stops : goal.returns-in_err-push_refused-
 returns-in_err-push_refused-clause-stops g c j d left e = on_err _ _ (front_none c.args.session.now.budget c.args.session.now.solver.clock.rounds c.args.session.now.commands j (onto_commands (d ∷ []) left) (g.A.CountedWrite.seen c.args.answers.now))
 
 pub returns-clause-stops : goal.returns-clause-stops
-returns-clause-stops g c j d left e =
-    let u = g.A.CountedWrite.seen c.args.answers.now in
-    let v = g.A.CountedWrite.seen c.write_answer.new.answers in
-    let s = c.args.session.now in
-    let n = s.commands in
-    let why = refusal_in c.args.refusal in
-    let line : c.deref.result.now ≡ refused_line n why = search rules in
-    err_map c.write_answer.result (WriterBreaks u v c.deref.result.now) (TookAnswersFront s.budget s.solver.clock.rounds n j (onto_commands (d ∷ []) left) u v)
-    (λ b. front_refused s.budget s.solver.clock.rounds n j d why left u v e (subst (WriterBreaks u v) line b)) c.write_answer.ensures.breaks
-
-pub returns-in_err-push_refused-clause-cause : goal.returns-in_err-push_refused-clause-cause
-returns-in_err-push_refused-clause-cause g c =
-    let p = err_from_is_err_and c.from_residual.result c.from_residual.ensures.1 in
-    rw p.1 (memory_caused _ ⊥ ⊥ p.2)
-
-pub returns-clause-cause : goal.returns-clause-cause
-returns-clause-cause g c = unwritten_if c.write_answer.result (OneFailed (g.A.CountedWrite.seen c.args.answers.now) (g.A.CountedWrite.seen c.write_answer.new.answers)) c.write_answer.ensures.fails
+returns-clause-stops g c = grind (arith, common_steps, err_map, front_refused)

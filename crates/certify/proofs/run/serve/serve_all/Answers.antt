@@ -1,3 +1,5 @@
+use Rattle.std.proofs.Common.{arith}
+use Rattle.std.proofs.lemmas.Grind.{common_steps}
 use Rattle.std.proofs.Common.{true}
 use Rattle.std.proofs.lemmas.Result.{err_from_is_err_and}
 use Rattle.sat_base.specs.script.ScriptState.{start}
@@ -9,10 +11,7 @@ use Rattle.certify.proofs.lemmas.run.ServedThrough.{ends_last, ends_so, one_more
 use Rattle.certify.proofs.run.serve.serve_all.Goals as goal
 
 pub loop-next-init : goal.loop-next-init
-loop-next-init g c = record {
-  script_open = c.requires.open_yet;
-  through = through_none g.C.CountedWrite.seen start reading written (source_in g.S.CountedRead.seen c.args.script.now c.args.stream.now.ahead) c.args.stream.now.reader c.args.session.now (g.A.CountedWrite.seen c.args.answers.now) c.requires.means c.requires.counts c.requires.goes_on c.requires.at;
-}
+loop-next-init g c = grind (arith, common_steps, through_none)
 
 pub returns-in-Err : goal.returns-in-Err
 returns-in-Err g c =

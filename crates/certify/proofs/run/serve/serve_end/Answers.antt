@@ -1,3 +1,4 @@
+use Rattle.std.proofs.lemmas.Grind.{common_steps}
 use Rattle.std.proofs.lemmas.Result.{err_from_is_err_and}
 use Rattle.std.proofs.Common.{◌≡◌, ◌+◌, ◌-◌, ◌^◌, arith, inl, [], Err, refl, ap, subst, rules}
 use Rattle.certify.specs.script.Commands.{end_reading}
@@ -24,15 +25,7 @@ returns-in_ok-answer_ask-in-Asked-clause-serves g c j at =
     rw c.in-Asked.is (ends_asked g.C.CountedWrite.seen j c.args.session.now c.answer_ask.new.session (g.A.CountedWrite.seen c.args.answers.now) (g.A.CountedWrite.seen c.answer_ask.new.answers) at c.in_ok-answer_ask-in-Asked.ensures.carried)
 
 pub returns-in_ok-report_malformed-in-Malformed-clause-serves : goal.returns-in_ok-report_malformed-in-Malformed-clause-serves
-returns-in_ok-report_malformed-in-Malformed-clause-serves g c j at =
-    let s = c.args.session.now in
-    let t = c.report_malformed.new.session in
-    let a = g.A.CountedWrite.seen c.args.answers.now in
-    let b = g.A.CountedWrite.seen c.report_malformed.new.answers in
-    let same = c.in_ok-report_malformed-in-Malformed.ensures.same in
-    let number : c.in-Some.number ≡ s.commands + 1 = search rules in
-    rw c.in-Malformed.is
-    (ends_malformed g.C.CountedWrite.seen j s t a b c.in-Some.number number (ap (λ (x : _). x.solver) same) (ap (λ (x : _). x.commands) same) (ap (λ (x : _). x.refused) same) (ap (λ (x : _). x.asks) same) c.in_ok-report_malformed-in-Malformed.ensures.takes)
+returns-in_ok-report_malformed-in-Malformed-clause-serves g c = grind (arith, common_steps, ends_malformed)
 
 pub returns-in_default-clause-stops : goal.returns-in_default-clause-stops
 returns-in_default-clause-stops g c = λ j at. front_none c.args.session.now.budget c.args.session.now.solver.clock.rounds (c.args.session.now.commands + 1) j (end_reading c.args.end) (g.A.CountedWrite.seen c.args.answers.now)
@@ -44,24 +37,5 @@ returns-in_err-answer_ask-in-Asked-clause-stops g c =
     let v = g.A.CountedWrite.seen c.answer_ask.new.answers in
     rw (p.1, c.in-Asked.is) (asked_stops g.C.CountedWrite.seen {T = Unit {0}} (Err c.in_err-answer_ask-in-Asked.field-0.0) c.args.session.now u v (c.in_err-answer_ask-in-Asked.ensures.stops ([], Clean)))
 
-pub returns-in_err-report_malformed-in-Malformed-clause-stops : goal.returns-in_err-report_malformed-in-Malformed-clause-stops
-returns-in_err-report_malformed-in-Malformed-clause-stops g c =
-    let p = err_from_is_err_and c.from_residual-in_err-report_malformed-in-Malformed.result c.from_residual-in_err-report_malformed-in-Malformed.ensures.1 in
-    let s = c.args.session.now in
-    let u = g.A.CountedWrite.seen c.args.answers.now in
-    let v = g.A.CountedWrite.seen c.report_malformed.new.answers in
-    let number : c.in-Some.number ≡ s.commands + 1 = search rules in
-    rw (p.1, c.in-Malformed.is) (λ j at. subst (λ n. TookAnswersFront s.budget s.solver.clock.rounds n j ([], Malformed) u v) number (c.in_err-report_malformed-in-Malformed.ensures.stops j))
-
-pub returns-in_default-clause-cause : goal.returns-in_default-clause-cause
-returns-in_default-clause-cause g c = λ j at. inl (let full : c.args.session.now.commands ≡ 2 ^ 64 - 1 = search rules in omega arith)
-
 pub returns-in_err-answer_ask-in-Asked-clause-cause : goal.returns-in_err-answer_ask-in-Asked-clause-cause
-returns-in_err-answer_ask-in-Asked-clause-cause g c =
-    let p = err_from_is_err_and c.from_residual.result c.from_residual.ensures.1 in
-    rw (p.1, p.2, c.in-Asked.is) (asked_caused {T = Unit {0}} c.args.session.now c.answer_ask.new.session (Err c.in_err-answer_ask-in-Asked.field-0.0) c.in_err-answer_ask-in-Asked.ensures.cause)
-
-pub returns-in_err-report_malformed-in-Malformed-clause-cause : goal.returns-in_err-report_malformed-in-Malformed-clause-cause
-returns-in_err-report_malformed-in-Malformed-clause-cause g c =
-    let p = err_from_is_err_and c.from_residual-in_err-report_malformed-in-Malformed.result c.from_residual-in_err-report_malformed-in-Malformed.ensures.1 in
-    rw (p.1, p.2) (blameless {T = Unit {0}} (Err c.in_err-report_malformed-in-Malformed.field-0.0) c.args.session.now c.report_malformed.new.session (end_reading c.args.end) c.in_err-report_malformed-in-Malformed.ensures.cause)
+returns-in_err-answer_ask-in-Asked-clause-cause g c = grind (arith, common_steps, err_from_is_err_and, asked_caused)

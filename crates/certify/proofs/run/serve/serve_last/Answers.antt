@@ -1,3 +1,5 @@
+use Rattle.std.proofs.Common.{arith}
+use Rattle.std.proofs.lemmas.Grind.{common_steps}
 use Rattle.std.proofs.lemmas.Result.{err_from_is_err_and}
 use Rattle.certify.specs.script.Commands.{end_reading}
 use Rattle.certify.proofs.lemmas.run.ServedThrough.{both_then, served_last_if, stops_following}
@@ -12,25 +14,13 @@ returns-clause-serves g c x is j at =
     let A = g.A.CountedWrite.seen in
     served_last_if g.C.CountedWrite.seen j x (end_reading c.args.end) c.serve_end.result c.args.session.now c.serve_next.new.session c.serve_end.new.session (A c.args.answers.now) (A c.serve_next.new.answers) (A c.serve_end.new.answers) at (c.in_ok-serve_next.ensures.served x is) c.serve_end.ensures.serves
 
-pub returns-in_err-serve_next-clause-stops : goal.returns-in_err-serve_next-clause-stops
-returns-in_err-serve_next-clause-stops g c x is =
-    let p = err_from_is_err_and c.from_residual.result c.from_residual.ensures.1 in
-    rw p.1 (c.in_err-serve_next.ensures.stops x is (end_reading c.args.end))
-
 pub returns-clause-stops : goal.returns-clause-stops
 returns-clause-stops g c x is =
     let A = g.A.CountedWrite.seen in
     stops_following g.C.CountedWrite.seen c.serve_end.result x (end_reading c.args.end) c.args.session.now c.serve_next.new.session (A c.args.answers.now) (A c.serve_next.new.answers) (A c.serve_end.new.answers) (c.in_ok-serve_next.ensures.served x is) c.serve_end.ensures.stops
 
 pub returns-clause-written : goal.returns-clause-written
-returns-clause-written g c =
-    let A = g.A.CountedWrite.seen in
-    both_then g.C.CountedWrite.seen c.serve_end.result c.args.session.now.solver c.serve_next.new.session.solver c.serve_end.new.session.solver (A c.args.answers.now) (A c.serve_next.new.answers) (A c.serve_end.new.answers) c.in_ok-serve_next.ensures.written c.serve_end.ensures.written
-
-pub returns-in_err-serve_next-clause-cause : goal.returns-in_err-serve_next-clause-cause
-returns-in_err-serve_next-clause-cause g c x is =
-    let p = err_from_is_err_and c.from_residual.result c.from_residual.ensures.1 in
-    rw (p.1, p.2) (c.in_err-serve_next.ensures.cause x is (end_reading c.args.end))
+returns-clause-written g c = grind (arith, common_steps, both_then)
 
 pub returns-clause-cause : goal.returns-clause-cause
 returns-clause-cause g c x is =

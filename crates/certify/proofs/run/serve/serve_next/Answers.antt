@@ -10,6 +10,3 @@ returns-then-session-clause-written g c = ((refl, refl), took_none g.C.CountedWr
 
 pub returns-then-session-clause-stops : goal.returns-then-session-clause-stops
 returns-then-session-clause-stops g c = λ x is left j at. front_none c.args.session.now.budget c.args.session.now.solver.clock.rounds (c.args.session.now.commands + 1) j (onto_commands (x ∷ []) left) (g.A.CountedWrite.seen c.args.answers.now)
-
-pub returns-then-session-clause-cause : goal.returns-then-session-clause-cause
-returns-then-session-clause-cause g c = λ x is left j at. inl (omega arith)

@@ -16,29 +16,3 @@ returns-clause-ready g c =
       no_lines = none_yet g.C.CountedWrite.seen (proof_in c.write_proof.new.self) (ap is_drat opened.target_is);
       unchecked = ap is_some opened.checker.listening ∙ ap is_checked k.same.proof ∙ ap (λ v. is_some v.listeners) c.new-solver.ensures.view;
     }
-
-pub returns-clause-agree : goal.returns-clause-agree
-returns-clause-agree g c =
-    let opened = rw c.unwrap-2.ensures at c.write_proof.ensures.opens in
-    let k = rw c.unwrap.ensures at c.config.ensures.configures in
-    let names = ap (λ s. s.names) opened.same ∙ k.same.names in
-    subst (λ n. NamesAgree n [] start []) (sym names)
-    (subst (λ ss. NamesAgree c.new-solver.result.names ss start []) (ap (λ v. v.steps) c.new-solver.ensures.view) c.new-solver.ensures.state)
-
-pub returns-clause-steps : goal.returns-clause-steps
-returns-clause-steps g c =
-    let opened = rw c.unwrap-2.ensures at c.write_proof.ensures.opens in
-    let k = rw c.unwrap.ensures at c.config.ensures.configures in
-    opened.steps ∙ ap steps_of k.same.proof ∙ ap (λ v. v.steps) c.new-solver.ensures.view
-
-pub returns-clause-rounds : goal.returns-clause-rounds
-returns-clause-rounds g c =
-    let opened = rw c.unwrap-2.ensures at c.write_proof.ensures.opens in
-    let k = rw c.unwrap.ensures at c.config.ensures.configures in
-    ap (λ s. s.clock.rounds) opened.same ∙ ap (λ (t : _). t.rounds) k.clock ∙ ap (λ v. v.rounds) c.new-solver.ensures.view
-
-pub returns-clause-free : goal.returns-clause-free
-returns-clause-free g c =
-    let opened = rw c.unwrap-2.ensures at c.write_proof.ensures.opens in
-    let k = rw c.unwrap.ensures at c.config.ensures.configures in
-    ap (λ s. s.assumed.items) opened.same ∙ ap (λ (v : _). v.items) k.same.assumed ∙ ap (λ v. v.assumptions) c.new-solver.ensures.view

@@ -1,13 +1,6 @@
 use Rattle.certify.proofs.lemmas.run.CallFaults.{clause_caused, clause_fails, clause_fault}
 use Rattle.certify.proofs.run.solver.add_clause.Goals as goal
 
-pub fault_of-requires : goal.fault_of-requires
-fault_of-requires g c = clause_fault g.C.CountedWrite.seen c.args.solver.now c.add_clause.new.self c.args.literals.now c.requires.ready c.requires.allowed c.in-Err.error c.in-Err.ensures.adds
-
 pub returns-in-Err-clause-fails : goal.returns-in-Err-clause-fails
 returns-in-Err-clause-fails g c =
     rw c.fault_of.ensures (clause_fails g.C.CountedWrite.seen c.args.solver.now c.add_clause.new.self c.args.literals.now c.requires.ready c.requires.allowed c.in-Err.error c.in-Err.ensures.adds)
-
-pub returns-in-Err-clause-cause : goal.returns-in-Err-clause-cause
-returns-in-Err-clause-cause g c =
-    rw c.fault_of.ensures (clause_caused g.C.CountedWrite.seen c.args.solver.now c.add_clause.new.self c.args.literals.now c.requires.ready c.requires.allowed c.in-Err.error c.in-Err.ensures.adds)

@@ -1,3 +1,5 @@
+use Rattle.std.proofs.Common.{arith}
+use Rattle.std.proofs.lemmas.Grind.{common_steps}
 use Rattle.std.proofs.Common.{sym, ◌∙◌, ap}
 use Rattle.std.proofs.lemmas.Result.{err_from_is_err_and}
 use Rattle.certify.specs.answers.AnswerForms.{named_literals}
@@ -7,17 +9,10 @@ use Rattle.certify.proofs.lemmas.confirm.Lines.{reply_without_first, reply_other
 use Rattle.certify.proofs.confirm.answers.Answers.read.Goals as goal
 
 pub returns-in_err-kind : goal.returns-in_err-kind
-returns-in_err-kind g c =
-    let a = answers_source g.A.CountedRead.seen c.args.answers.now c.args.self.now in
-    let b = answers_source g.A.CountedRead.seen c.read_first.new.answers c.read_first.new.self in
-    let p = err_from_is_err_and c.from_residual.result c.from_residual.ensures.1 in
-    rw (p.1, p.2) (reply_without_first c.in_err-kind.field-0.0 a b (outcome_in c.read_first.new.self.reply) c.args.settled c.in_err-kind.ensures)
+returns-in_err-kind g c = grind (arith, common_steps, err_from_is_err_and, reply_without_first)
 
 pub returns-then-is_other : goal.returns-then-is_other
-returns-then-is_other g c =
-    let a = answers_source g.A.CountedRead.seen c.args.answers.now c.args.self.now in
-    let b = answers_source g.A.CountedRead.seen c.read_first.new.answers c.read_first.new.self in
-    reply_other c.in_ok-kind.kind a b c.args.settled c.requires.open_yet c.in_ok-kind.ensures AnswerDiffers (outcome_in c.read_first.new.self.reply) (rw c.if-is_other.true at c.is_other.ensures)
+returns-then-is_other g c = grind (arith, common_steps, reply_other)
 
 pub returns-in_err-read_second : goal.returns-in_err-read_second
 returns-in_err-read_second g c =

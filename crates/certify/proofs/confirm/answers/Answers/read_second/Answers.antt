@@ -7,17 +7,6 @@ use Rattle.certify.specs.confirm.Lines.{IsWantedLine, ReadsSecond, answers_sourc
 use Rattle.certify.proofs.lemmas.confirm.Lines.{has_line, second_read, second_differs, second_unknown, line_stops}
 use Rattle.certify.proofs.confirm.answers.Answers.read_second.Goals as goal
 
-pub returns-in-Unknown : goal.returns-in-Unknown
-returns-in-Unknown g c = second_unknown c.args.kind (answers_source g.A.CountedRead.seen c.args.answers.now c.args.self.now) (named_literals c.clear.new.self.items) c.in-Unknown.is
-
-pub returns-in_err-next_line : goal.returns-in_err-next_line
-returns-in_err-next_line g c =
-    let a = answers_source g.A.CountedRead.seen c.args.answers.now c.args.self.now in
-    let b = answers_source g.A.CountedRead.seen c.next_line.new.answers c.next_line.new.self in
-    let p = err_from_is_err_and c.from_residual.result c.from_residual.ensures.1 in
-    rw (p.1, p.2)
-    (line_stops (IsWantedLine (wanted.Second c.args.kind) c.args.self.now.due.items) true c.in_err-next_line.field-0.0 a b c.next_line.new.self.lines.line.items (ReadsSecond c.args.kind (named_literals c.next_line.new.self.reply.lits.items)) c.in_err-next_line.ensures.line)
-
 pub returns-in-Ok : goal.returns-in-Ok
 returns-in-Ok g c =
     let a = answers_source g.A.CountedRead.seen c.args.answers.now c.args.self.now in

@@ -6,9 +6,6 @@ use Rattle.certify.specs.judge.Names.{refusal_in}
 use Rattle.certify.specs.confirm.Lines.{IsOneLine, answers_source}
 use Rattle.certify.proofs.confirm.answers.Answers.refuse.Goals as goal
 
-pub take_due-requires-clause-line : goal.take_due-requires-clause-line
-take_due-requires-clause-line g c = subst IsOneLine (sym (c.in_ok-push_refused.ensures.text ∙ ap (λ (xs : List ℕ). xs ++ refused_line c.args.number (refusal_in c.args.refusal)) c.clear.ensures.items)) c.in_ok-push_refused.ensures.line
-
 pub returns : goal.returns
 returns g c =
     let A = g.A.CountedRead.seen in

@@ -1,3 +1,5 @@
+use Rattle.std.proofs.Common.{arith}
+use Rattle.std.proofs.lemmas.Grind.{common_steps}
 use Rattle.std.proofs.lemmas.Result.{err_from_is_err_and}
 use Rattle.sat_base.specs.steps.StepViews.{step_of}
 use Rattle.sat_checker.specs.CheckerView.{kernel_of}
@@ -17,11 +19,7 @@ module _ (g : Over) (c : After-await_ordered g) where
   new = stream_of g.R.CountedRead.seen c.await_ordered.new.steps (kernel_of c.await_ordered.new.checker)
 
 pub returns-in_err-await_ordered-clause-confirms : goal.returns-in_err-await_ordered-clause-confirms
-returns-in_err-await_ordered-clause-confirms g c =
-    let x = (goal.at.returns-in_err-await_ordered-clause-confirms g c).After-await_ordered in
-    let names = c.args.self.now.names in
-    let p = err_from_is_err_and c.from_residual.result c.from_residual.ensures.1 in
-    rw (p.1, p.2) (expects_stop (due_of c.args.expected.now) names names (old g x) (new g x) c.requires.open_yet c.in_err-await_ordered.field-0.0 (c.in_err-await_ordered.ensures.confirms names))
+returns-in_err-await_ordered-clause-confirms g c = grind (arith, common_steps, err_from_is_err_and, expects_stop)
 
 pub returns-in-Cut-clause-confirms : goal.returns-in-Cut-clause-confirms
 returns-in-Cut-clause-confirms g c =

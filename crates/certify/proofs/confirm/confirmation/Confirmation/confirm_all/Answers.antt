@@ -1,3 +1,5 @@
+use Rattle.std.proofs.Common.{arith}
+use Rattle.std.proofs.lemmas.Grind.{common_steps}
 use Rattle.std.proofs.Common.{◌+◌, ℕ, true, refl, ◌∙◌, ap}
 use Rattle.std.proofs.lemmas.Result.{err_from_is_err_and}
 use Rattle.certify.specs.confirm.ConfirmStates.{answers_in}
@@ -10,13 +12,7 @@ use Rattle.certify.proofs.lemmas.confirm.ConfirmedThrough.{through_none, unread,
 use Rattle.certify.proofs.confirm.confirmation.Confirmation.confirm_all.Goals as goal
 
 pub loop-next-init : goal.loop-next-init
-loop-next-init g c = record {
-  same = refl;
-  goes_on = c.requires.goes_on;
-  open_yet = c.requires.open_yet;
-  script_open = c.requires.script_open;
-  through = through_none reading (confirm_place g.S.CountedRead.seen g.A.CountedRead.seen g.C.CountedRead.seen c.args.script.now c.args.answers.now c.args.steps.now c.args.self.now) c.args.self.now.script.reader c.requires.reads;
-}
+loop-next-init g c = grind (arith, common_steps, through_none)
 
 pub returns-in-Err-clause-ends : goal.returns-in-Err-clause-ends
 returns-in-Err-clause-ends g c =
@@ -26,12 +22,6 @@ pub returns-in-End-clause-ends : goal.returns-in-End-clause-ends
 returns-in-End-clause-ends g c =
     let new = confirm_place g.S.CountedRead.seen g.A.CountedRead.seen g.C.CountedRead.seen c.next.new.script c.confirm_end.new.answers c.confirm_end.new.steps (record c.loop-next.self { script = c.next.new.self; session = c.confirm_end.new.self }) in
     ends_so _ _ _ _ c.next.new.self.reader c.loop-next.invariant.through c.requires.script_open c.requires.open_yet c.requires.goes_on.open_yet new c.in-End.end c.confirm_end.result (rw c.in-End.is at c.in-Ok.ensures) c.confirm_end.ensures.confirms.joins
-
-pub returns-in-End-clause-same : goal.returns-in-End-clause-same
-returns-in-End-clause-same g c = c.confirm_end.ensures.confirms.same ∙ c.loop-next.invariant.same
-
-pub returns-in-End-clause-bound : goal.returns-in-End-clause-bound
-returns-in-End-clause-bound g c = c.confirm_end.ensures.confirms.bound
 
 pub confirm_last-requires-clause-whole : goal.confirm_last-requires-clause-whole
 confirm_last-requires-clause-whole g c = let k = (rw c.in-Last.is at c.in-Ok.ensures).2 true c.loop-next.invariant.through.left c.loop-next.invariant.through.means in (k.0, k.1)
@@ -45,11 +35,6 @@ pub returns-in-Last-clause-same : goal.returns-in-Last-clause-same
 returns-in-Last-clause-same g c =
     let k = (rw c.in-Last.is at c.in-Ok.ensures).2 true c.loop-next.invariant.through.left c.loop-next.invariant.through.means in
     (c.confirm_last.ensures.confirms k.0 k.1).same ∙ c.loop-next.invariant.same
-
-pub returns-in-Last-clause-bound : goal.returns-in-Last-clause-bound
-returns-in-Last-clause-bound g c =
-    let k = (rw c.in-Last.is at c.in-Ok.ensures).2 true c.loop-next.invariant.through.left c.loop-next.invariant.through.means in
-    (c.confirm_last.ensures.confirms k.0 k.1).bound
 
 pub confirm_next-requires-clause-whole : goal.confirm_next-requires-clause-whole
 confirm_next-requires-clause-whole g c =
@@ -66,11 +51,6 @@ pub returns-in_err-confirm_next-in-Command-clause-same : goal.returns-in_err-con
 returns-in_err-confirm_next-in-Command-clause-same g c =
     let k = (rw c.in-Command.is at c.in-Ok.ensures).3 true c.loop-next.invariant.through.left c.loop-next.invariant.through.means in
     (c.in_err-confirm_next-in-Command.ensures.confirms k.command k.whole).same ∙ c.loop-next.invariant.same
-
-pub returns-in_err-confirm_next-in-Command-clause-bound : goal.returns-in_err-confirm_next-in-Command-clause-bound
-returns-in_err-confirm_next-in-Command-clause-bound g c =
-    let k = (rw c.in-Command.is at c.in-Ok.ensures).3 true c.loop-next.invariant.through.left c.loop-next.invariant.through.means in
-    (c.in_err-confirm_next-in-Command.ensures.confirms k.command k.whole).bound
 
 pub loop-next-preserved : goal.loop-next-preserved
 loop-next-preserved g c =
@@ -93,8 +73,4 @@ loop-next-preserved g c =
     }
 
 pub loop-next-smaller : goal.loop-next-smaller
-loop-next-smaller g c =
-    let a = script_source g.S.CountedRead.seen c.loop-next.script c.loop-next.self in
-    let b = source_in g.S.CountedRead.seen c.next.new.script c.next.new.self.ahead in
-    let came = rw c.in-Command.is at c.in-Ok.ensures in
-    rw c.in_ok-confirm_next-in-Command.ensures.script (passes_fewer a b came.0 c.next.new.self.ahead.bounded came.1 came.2)
+loop-next-smaller g c = grind (arith, common_steps, passes_fewer)

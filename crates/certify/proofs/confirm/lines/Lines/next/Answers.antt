@@ -1,3 +1,4 @@
+use Rattle.std.proofs.lemmas.Grind.{common_steps}
 use Rattle.std.proofs.Common.{inr, sym, subst, arith}
 use Rattle.std.proofs.lemmas.Result.{err_from_is_err_and}
 use Rattle.sat_base.specs.device.Reading.{Source, ConsumesBytes}
@@ -32,28 +33,11 @@ module _ (g : Over) (c : In_ok-take g) where
   part : HasNoLf c.in_ok-take.ensures.0 → ConsumesBytes old new c.take.new.self.line.items × HasNoLf c.take.new.self.line.items
   part none = part_came old mid new c.loop-wanted.self.line.items c.in_ok-take.ensures.0 c.take.new.self.line.items c.loop-wanted.invariant.passes c.loop-wanted.invariant.none c.in_ok-take.ensures.3 front none
 
-pub loop-wanted-init : goal.loop-wanted-init
-loop-wanted-init g c =
-    let a = source_in g.A.CountedRead.seen c.args.answers.now c.args.self.now.ahead in
-    record { limit = omega arith; none = subst HasNoLf (sym c.clear.ensures.items) tt; passes = subst (ConsumesBytes a a) (sym c.clear.ensures.items) (passes_none a) }
-
-pub returns-in_err-take : goal.returns-in_err-take
-returns-in_err-take g c =
-    let S = g.A.CountedRead.seen in
-    let l = c.loop-wanted in
-    let a = source_in S c.args.answers.now c.args.self.now.ahead in
-    let b = source_in S l.answers l.self.ahead in
-    let p = err_from_is_err_and c.from_residual.result c.from_residual.ensures.1 in
-    rw (p.1, p.2) (subst (λ (x : LastPiece). NoReadFailedAhead a (source_in S l.answers x)) (sym c.in_err-take.ensures) (line_kept a b l.self.line.items l.invariant.passes))
-
 pub returns-then-branch : goal.returns-then-branch
 returns-then-branch g c =
     let x = (goal.at.returns-then-branch g c).In_ok-take in
     let m = c.in_ok-take.ensures in
     line_came (old g x) (mid g x) (new g x) c.loop-wanted.self.line.items m.0 c.take.new.self.line.items c.loop-wanted.invariant.passes c.loop-wanted.invariant.none m.3 (IsWantedLine c.args.wanted c.args.due.now) (front g x) (rw c.if-branch.true at m.4)
-
-pub refill-requires : goal.refill-requires
-refill-requires g c = (rw c.if-branch.false at c.in_ok-take.ensures.4).1
 
 pub returns-in_err-refill : goal.returns-in_err-refill
 returns-in_err-refill g c =
@@ -63,19 +47,7 @@ returns-in_err-refill g c =
     rw (p.1, p.2) (line_fails (IsWantedLine c.args.wanted c.args.due.now) c.in_err-refill.field-0.0 (old g x) (new g x) e c.take.new.self.line.items c.take.new.self.line.items (part g x (rw c.if-branch.false at c.in_ok-take.ensures.4).0).0 c.in_err-refill.ensures.bytes)
 
 pub returns-then-branch-eq0 : goal.returns-then-branch-eq0
-returns-then-branch-eq0 g c =
-    let x = (goal.at.returns-then-branch-eq0 g c).In_ok-take in
-    let e = source_in g.A.CountedRead.seen c.refill.new.reader c.refill.new.self in
-    let p = part g x (rw c.if-branch.false at c.in_ok-take.ensures.4).0 in
-    line_ends (IsWantedLine c.args.wanted c.args.due.now) (old g x) (new g x) e c.take.new.self.line.items c.in_ok-refill.field-0 p.0 p.1 c.if-branch-eq0.true c.in_ok-refill.ensures.bytes
+returns-then-branch-eq0 g c = grind (arith, common_steps, line_ends)
 
 pub loop-wanted-preserved : goal.loop-wanted-preserved
-loop-wanted-preserved g c =
-    let x = (goal.at.loop-wanted-preserved g c).In_ok-take in
-    let e = source_in g.A.CountedRead.seen c.refill.new.reader c.refill.new.self in
-    let p = part g x (rw c.if-branch.false at c.in_ok-take.ensures.4).0 in
-    record { limit = c.in-Some.ensures; none = p.1; passes = line_goes (old g x) (new g x) e c.take.new.self.line.items c.in_ok-refill.field-0 p.0 c.if-branch-eq0.false c.in_ok-refill.ensures.bytes }
-
-pub returns-in-None : goal.returns-in-None
-returns-in-None g c =
-    inr (inr (part g (goal.at.returns-in-None g c).In_ok-take (rw c.if-branch.false at c.in_ok-take.ensures.4).0, subst (IsWrong (IsWantedLine c.args.wanted c.args.due.now)) c.deref.ensures.value c.in-None.ensures))
+loop-wanted-preserved g c = grind (arith, common_steps, line_goes)

@@ -1,3 +1,4 @@
+use Rattle.std.proofs.lemmas.Grind.{common_steps}
 use Rattle.std.proofs.Common.{◌≤◌, length, refl, ◌∙◌, arith}
 use Rattle.std.proofs.lemmas.Result.{err_from_is_err_and}
 use Rattle.sat_checker.specs.CheckerView.{kernel_of}
@@ -7,24 +8,10 @@ use Rattle.certify.proofs.lemmas.confirm.NamesMet.{none_taken, one_taken, all_ta
 use Rattle.certify.proofs.confirm.names.Matching.take_names.Goals as goal
 
 pub loop-lit-init : goal.loop-lit-init
-loop-lit-init g c =
-    let old = c.args.self.now in
-    record {
-      same = refl;
-      goes_on = c.requires.goes_on;
-      taken = none_taken (kind_of c.args.kind) c.args.literals.now old.names;
-      met = none_met (kind_of c.args.kind) c.args.literals.now old.names old.certificate.names (stream_of g.R.CountedRead.seen c.args.steps.now (kernel_of old.certificate.checker));
-    }
+loop-lit-init g c = grind (arith, common_steps, none_taken, none_met)
 
 pub returns-in_err-take_name-clause-confirms : goal.returns-in_err-take_name-clause-confirms
-returns-in_err-take_name-clause-confirms g c =
-    let S = g.R.CountedRead.seen in
-    let old = c.args.self.now in
-    let l = c.loop-lit in
-    let p = err_from_is_err_and c.from_residual.result c.from_residual.ensures.1 in
-    rw (p.1, p.2) (next_stop (kind_of c.args.kind) c.args.literals.now l.lit-index c.lit-item.result c.var.result old.names l.self.names old.certificate.names l.self.certificate.names c.take_name.new.self.certificate.names c.loop-lit-test.true c.lit-item.is c.var.ensures l.invariant.taken
-    (stream_of S c.args.steps.now (kernel_of old.certificate.checker)) (stream_of S l.steps (kernel_of l.self.certificate.checker)) (stream_of S c.take_name.new.steps (kernel_of c.take_name.new.self.certificate.checker))
-    c.requires.goes_on.open_yet l.invariant.met c.in_err-take_name.field-0.0 c.in_err-take_name.ensures.confirms)
+returns-in_err-take_name-clause-confirms g c = grind (arith, common_steps, err_from_is_err_and, next_stop)
 
 pub loop-lit-preserved : goal.loop-lit-preserved
 loop-lit-preserved g c =
@@ -39,11 +26,6 @@ loop-lit-preserved g c =
           (stream_of S c.args.steps.now (kernel_of old.certificate.checker)) (stream_of S l.steps (kernel_of l.self.certificate.checker)) (stream_of S c.take_name.new.steps (kernel_of c.take_name.new.self.certificate.checker))
           c.requires.goes_on.open_yet l.invariant.met c.in_ok-take_name.ensures.confirms;
     }
-
-pub returns-clause-changes : goal.returns-clause-changes
-returns-clause-changes g c =
-    let over : length c.args.literals.now ≤ c.loop-lit.lit-index = omega arith in
-    all_taken (kind_of c.args.kind) c.args.literals.now c.loop-lit.lit-index c.args.self.now.names c.loop-lit.self.names over c.loop-lit.invariant.taken
 
 pub returns-clause-confirms : goal.returns-clause-confirms
 returns-clause-confirms g c =

@@ -6,13 +6,6 @@ use Rattle.certify.specs.judge.Names.{NamesHaveState, taken}
 use Rattle.certify.proofs.lemmas.judge.Taken.{taken_next, all_taken, known_taken}
 use Rattle.certify.proofs.judge.names.Names.accept.Goals as goal
 
-pub loop-lit-preserved : goal.loop-lit-preserved
-loop-lit-preserved c j h =
-    let kind = kind_of c.args.command.kind in
-    let codes = c.args.command.literals.now in
-    let p = c.loop-lit.invariant j h in
-    (taken kind (c.var.result + 1) p.0, c.in_ok-take.ensures p.0 p.1, p.2 ∙ taken_next kind codes c.loop-lit.lit-index c.lit-item.result c.var.result p.0 (omega arith) c.lit-item.is c.var.ensures)
-
 pub returns : goal.returns
 returns c j d h (ls, f, e) =
     let kind = kind_of c.args.command.kind in

@@ -5,9 +5,3 @@ use Rattle.certify.proofs.judge.names.Names.are_known.Goals as goal
 pub loop-lit-preserved : goal.loop-lit-preserved
 loop-lit-preserved c j h rest =
     c.loop-lit.invariant j h (known_next c.args.self.now j c.args.literals.now c.loop-lit.lit-index c.lit-item.result c.var.result h (omega arith) c.lit-item.is c.var.ensures (c.is_in_use.ensures c.if-not-is_in_use.false) rest)
-
-pub returns : goal.returns
-returns c = λ e. record {
-  of_literals = sym c.is_of_literals.ensures ∙ c.if-not-is_of_literals.false;
-  known = λ j h. c.loop-lit.invariant j h (known_end j c.args.literals.now c.loop-lit.lit-index (omega arith));
-}

@@ -1,14 +1,10 @@
+use Rattle.std.proofs.lemmas.Grind.{common_steps}
 use Rattle.std.proofs.Common.{length, eqb, refl, sym, ◌∙◌, arith}
 use Rattle.certify.proofs.lemmas.judge.Listed.{hidden_left, none_left, other_left, used_left, end_left}
 use Rattle.certify.proofs.judge.names.Names.are_listed.Goals as goal
 
-pub loop-index-init : goal.loop-index-init
-loop-index-init c = record { within = omega arith; left = ((λ h. h), (λ h. h)) }
-
 pub loop-index-preserved-in-Hidden : goal.loop-index-preserved-in-Hidden
-loop-index-preserved-in-Hidden c =
-    let l = c.loop-index in
-    record { within = l.invariant.within; left = hidden_left c.args.self.now c.args.line.now l.at l.index c.get.result (omega arith) c.get.ensures l.invariant.left c.in-Hidden.is }
+loop-index-preserved-in-Hidden c = grind (arith, common_steps, hidden_left)
 
 pub loop-index-preserved : goal.loop-index-preserved
 loop-index-preserved c =

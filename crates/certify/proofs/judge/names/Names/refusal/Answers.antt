@@ -4,12 +4,6 @@ use Rattle.certify.specs.script.Commands.{kind_of}
 use Rattle.certify.proofs.lemmas.judge.Refusals.{says_literals, says_names}
 use Rattle.certify.proofs.judge.names.Names.refusal.Goals as goal
 
-pub returns-in-Clause-clause-judges : goal.returns-in-Clause-clause-judges
-returns-in-Clause-clause-judges c = says_literals c.args.self.now c.args.command c.literal_refusal.result (inl (ap kind_of c.in-Clause.is)) c.literal_refusal.ensures.judges
-
-pub returns-in-Ask-clause-judges : goal.returns-in-Ask-clause-judges
-returns-in-Ask-clause-judges c = says_literals c.args.self.now c.args.command c.literal_refusal-in-Ask.result (inr (ap kind_of c.in-Ask.is)) c.literal_refusal-in-Ask.ensures.judges
-
 pub returns-in-Hide-clause-judges : goal.returns-in-Hide-clause-judges
 returns-in-Hide-clause-judges c =
     let k : kind_of c.args.command.kind ≡ OfHide = ap kind_of c.in-Hide.is in

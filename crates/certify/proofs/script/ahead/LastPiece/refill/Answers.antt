@@ -11,8 +11,3 @@ pub returns-in-Err-clause-bytes : goal.returns-in-Err-clause-bytes
 returns-in-Err-clause-bytes g c =
     let S = g.R.CountedRead.seen in
     faults_now _ (S c.args.reader.now) (S c.read_counted.new.self) _ _ c.read_counted.new.buf [] c.args.self.now.reads c.in-Err.ensures.once c.requires refl
-
-pub returns-in-Ok-clause-bytes : goal.returns-in-Ok-clause-bytes
-returns-in-Ok-clause-bytes g c =
-    let S = g.R.CountedRead.seen in
-    refills_so c.in-Ok.count (S c.args.reader.now) (S c.read_counted.new.self) _ c.read_counted.new.buf c.args.self.now.reads c.in-Ok.ensures.once c.in-Ok.ensures.bound.0 (omega (arith, c.read_counted.auto.buf)) c.requires

@@ -1,3 +1,5 @@
+use Rattle.std.proofs.Common.{arith}
+use Rattle.std.proofs.lemmas.Grind.{common_steps}
 use Rattle.std.proofs.Common.{◌≡◌, ◌∷◌, ◌++◌, [], true, false, refl, sym, ◌∙◌}
 use Rattle.std.specs.Prelude.{not}
 use Rattle.sat_base.specs.text.Text.{Number}
@@ -8,11 +10,7 @@ use Rattle.certify.proofs.lemmas.script.Tokens.{fails, goes_on, turn_number, val
 use Rattle.certify.proofs.script.commands.Commands.add_literal.Goals as goal
 
 pub returns-then-not-may_stand : goal.returns-then-not-may_stand
-returns-then-not-may_stand c value e hand h =
-    let l : Literal = record { name = value; positive = not c.args.negative } in
-    let may : may_stand (kind_of c.open.new.self.kind) l.positive ≡ false = sym c.may_stand.ensures ∙ c.if-not-may_stand.true in
-    let t = turn_number hand c.args.negative value (held_some value c.args.name e c.requires) in
-    fails c.args.self.now hand (Number c.args.negative value) (t ∙ misplaced c.open.new.self hand l (c.open.ensures hand h) may)
+returns-then-not-may_stand c = grind (arith, common_steps, fails, turn_number, misplaced, held_some)
 
 pub returns : goal.returns
 returns c value e hand h =

@@ -1,3 +1,4 @@
+use Rattle.std.proofs.lemmas.Grind.{common_steps}
 use Rattle.std.proofs.Common.{◌≡◌, ◌<◌, [], ◌∷◌, true, sym, ◌∙◌, ap, refl, arith}
 use Rattle.sat_base.specs.text.Text.{Token, Number, Wrong}
 use Rattle.sat_base.specs.script.Language.{onto_commands, Nothing}
@@ -16,24 +17,13 @@ returns-then-value-eq0 c t e asks hand h =
     (k.0, k.1, ap (λ (u : Token). meaning asks old hand (u ∷ [])) same ∙ k.3 asks [] ∙ ap (onto_commands (k.0 ∷ [])) (sym ended))
 
 pub returns-else-value-eq0 : goal.returns-else-value-eq0
-returns-else-value-eq0 c t e asks hand h =
-    let old = c.args.self.now in
-    let n = number_is t c.in-Number.negative c.in-Number.value (sym c.in-Number.is ∙ e) in
-    let some : 0 < c.in-Number.value = omega arith in
-    ap (λ (u : Token). meaning asks old hand (u ∷ [])) n.1 ∙ sym (number_ends asks old hand c.in-Number.negative n.0 (held_some n.0 c.in-Number.value n.2 some))
+returns-else-value-eq0 c = grind (arith, common_steps, number_is, held_some, number_ends)
 
 pub returns-in-Header : goal.returns-in-Header
-returns-in-Header c t e asks hand h =
-    let old = c.args.self.now in
-    let n = header_is t c.in-Header.vars c.in-Header.clauses (sym c.in-Header.is ∙ e) in
-    ap (λ (u : Token). meaning asks old hand (u ∷ [])) n.2 ∙ header_ends asks old (record old { headed = true }) hand n.0 n.1 refl ∙ sym (c.ending-in-Header.ensures asks hand h)
+returns-in-Header c = grind (arith, common_steps, header_is, header_ends)
 
 pub returns-in-Letter : goal.returns-in-Letter
-returns-in-Letter c t e asks hand h =
-    let old = c.args.self.now in
-    ap (λ (u : Token). meaning asks old hand (u ∷ [])) (letter_is t c.in-Letter.field-0 (sym c.in-Letter.is ∙ e)) ∙ sym (letter_ends asks old hand c.in-Letter.field-0)
+returns-in-Letter c = grind (arith, common_steps, letter_is, letter_ends)
 
 pub returns-in-Wrong : goal.returns-in-Wrong
-returns-in-Wrong c t e asks hand h =
-    let old = c.args.self.now in
-    ap (λ (u : Token). meaning asks old hand (u ∷ [])) (wrong_is t (sym c.in-Wrong.is ∙ e)) ∙ sym (ends_wrong asks old hand Wrong refl)
+returns-in-Wrong c = grind (arith, common_steps, wrong_is, ends_wrong)

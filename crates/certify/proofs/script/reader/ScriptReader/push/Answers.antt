@@ -27,9 +27,6 @@ module _ (c : In_ok-take) where
       taken x r (reader c.take_token-count.new.tokenizer c.take.new.self)
       (bytes_take r c.loop-at.self (front x) c.in-Some.token c.take_token-count.new.tokenizer c.take.new.self (rw c.in-Some.is at c.take_token-count.ensures.takes) (λ given e. rw is at (c.in_ok-take.ensures given e)))
 
-pub loop-at-init : goal.loop-at-init
-loop-at-init c = record { within = omega arith; right = λ h. absurd (omega arith); taken = goes_nowhere c.args.self.now }
-
 pub loop-at-preserved-in_default : goal.loop-at-preserved-in_default
 loop-at-preserved-in_default c =
     let x = (goal.at.loop-at-preserved-in_default c).After-take_token-count in

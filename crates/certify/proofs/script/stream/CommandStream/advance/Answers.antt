@@ -1,3 +1,5 @@
+use Rattle.std.proofs.Common.{arith}
+use Rattle.std.proofs.lemmas.Grind.{common_steps}
 use Rattle.std.proofs.Common.{◌<◌, length, ◌∙◌}
 use Rattle.std.proofs.lemmas.Result.{err_from_is_err_and}
 use Rattle.certify.specs.declared.script.ScriptEnd.TheVariants as ends
@@ -13,22 +15,7 @@ some : (g : Over) (c : After-take g) → 0 < length (waiting_bytes c.args.self.n
 some g c = some_bytes (waiting_bytes c.args.self.now.ahead) (λ e. some_list c.waiting.result.now c.is_empty.result c.is_empty.ensures c.if-is_empty.false (c.waiting.ensures ∙ e))
 
 pub returns-in_err-take-clause-brings : goal.returns-in_err-take-clause-brings
-returns-in_err-take-clause-brings g c =
-    let p = err_from_is_err_and c.from_residual.result c.from_residual.ensures.1 in
-    rw p.1 (brings_none g.S.CountedRead.seen c.args.script.now c.args.self.now c.take.new.self _ p.2 c.in_err-take.ensures)
-
-pub returns-in-More-clause-brings : goal.returns-in-More-clause-brings
-returns-in-More-clause-brings g c =
-    brings_more g.S.CountedRead.seen c.args.script.now c.args.self.now c.take.new.self (some g (goal.at.returns-in-More-clause-brings g c).After-take) (rw c.in-More.is at c.in_ok-take.ensures)
-
-pub returns-in-More-clause-falls : goal.returns-in-More-clause-falls
-returns-in-More-clause-falls g c =
-    let t = c.in_ok-take.ensures in
-    taken_fewer c.args.self.now.ahead c.take.new.self.ahead t.0 t.1 t.2 (t.3 (some g (goal.at.returns-in-More-clause-falls g c).After-take))
-
-pub returns-in-Command-clause-brings : goal.returns-in-Command-clause-brings
-returns-in-Command-clause-brings g c =
-    brings_command g.S.CountedRead.seen c.args.script.now c.args.self.now c.take.new.self (some g (goal.at.returns-in-Command-clause-brings g c).After-take) (rw c.in-Command.is at c.in_ok-take.ensures)
+returns-in_err-take-clause-brings g c = grind (arith, common_steps, err_from_is_err_and, brings_none)
 
 pub returns-in-Malformed-clause-brings : goal.returns-in-Malformed-clause-brings
 returns-in-Malformed-clause-brings g c =

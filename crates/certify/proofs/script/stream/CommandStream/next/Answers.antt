@@ -6,9 +6,6 @@ use Rattle.certify.proofs.lemmas.script.Bytes.{goes_nowhere}
 use Rattle.certify.proofs.lemmas.script.Streaming.{arrives_then, brings_then, follows_more}
 use Rattle.certify.proofs.script.stream.CommandStream.next.Goals as goal
 
-pub loop-next-init : goal.loop-next-init
-loop-next-init g c = ([], passes_none (source_in g.S.CountedRead.seen c.args.script.now c.args.self.now.ahead), goes_nowhere c.args.self.now.reader)
-
 pub returns-in_err-next : goal.returns-in_err-next
 returns-in_err-next g c =
     let l = c.loop-next in
