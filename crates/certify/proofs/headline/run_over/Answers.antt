@@ -1,9 +1,5 @@
 use Rattle.std.proofs.Common.{arith}
 use Rattle.std.proofs.lemmas.Grind.{common_steps}
-use Rattle.std.proofs.Common.{ℕ, ◌∙◌, List, Some, Bor, ap, sym}
-use Rattle.std.specs.Global.{Vec}
-use Rattle.sat_base.specs.device.Device.{Reader, Writer}
-use Rattle.sat_base.specs.device.Counting.{reader_of, writer_of}
 use Rattle.certify.proofs.lemmas.laws.FinishedTexts.{run_finished}
 use Rattle.certify.proofs.headline.run_over.Goals as goal
 

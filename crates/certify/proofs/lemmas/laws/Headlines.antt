@@ -10,7 +10,7 @@ use Rattle.certify.specs.answers.RightAnswers.{AreRight, AnswersAreRight}
 use Rattle.certify.specs.answers.AnswersText.{lines_from}
 use Rattle.certify.specs.confirm.VerdictPromises.{AreRightAnswers}
 use Rattle.certify.specs.answers.Asks.{Asked, asks_of, EachIsRight}
-use Rattle.certify.specs.run.FinishedRun.{AnswersRightly, AreWithinBudget, ReportsRightly, answer_kind, identities_given, malformed_at, refused_count, rounds_of_asks, variables_at}
+use Rattle.certify.specs.run.FinishedRun.{AreWithinBudget, answer_kind, identities_given, malformed_at, refused_count, rounds_of_asks, variables_at}
 use Rattle.certify.specs.laws.Headline.{EachTookRounds}
 use Rattle.certify.specs.laws.HeadlineLaws.{CertifiedIsHeadline, RightByAsks, RightByOutcomes, SameReports}
 use Rattle.certify.specs.declared.summary.Answer.TheVariants as kind

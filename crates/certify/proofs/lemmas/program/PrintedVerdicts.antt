@@ -1,6 +1,6 @@
 -- What is printed for texts in memory.
 use Rattle.std.proofs.Common.{ℕ, ◌≡◌, List, ◌++◌, Result, Ok, Err, IfOk, OnOk, inl, inr, refl, sym, ◌∙◌, ap, append_assoc, append-nil, []}
-use Rattle.std.specs.Prelude.{◌+◌, is_ok, is_some, if◌then◌else◌}
+use Rattle.std.specs.Prelude.{is_ok, is_some, if◌then◌else◌}
 use Rattle.sat_base.specs.device.Device.{Reader, Writer, GaveAll, WriterBreaks, WriterTakes}
 use Rattle.sat_base.proofs.lemmas.device.Given.{enough_all}
 use Rattle.sat_base.specs.script.Script.{ScriptEnding, Clean, Malformed}

@@ -4,7 +4,7 @@ use Rattle.sat_base.specs.script.ScriptState.{start}
 use Rattle.certify.specs.script.LastPiece.{source_in}
 use Rattle.sat_base.specs.script.Language.{reading, written}
 use Rattle.certify.specs.run.ServedScript.{ServesScript}
-use Rattle.certify.proofs.lemmas.run.Runs.{IsNew, counter_so, fresh_source, has_target, is_open_yet, is_ready, reads_few, runs_so, steps_so, unfinished_so}
+use Rattle.certify.proofs.lemmas.run.Runs.{IsNew, counter_so, fresh_source, has_target, is_open_yet, runs_so, steps_so, unfinished_so}
 use Rattle.certify.proofs.run.answer.Given.{Over}
 use Rattle.certify.proofs.run.answer.Goals as goal
 use Rattle.certify.proofs.run.answer.Goals.{After-serve_all-served}

@@ -1,4 +1,4 @@
-use Rattle.certify.proofs.lemmas.answers.LinesByKind.{starts_no_head, starts_no_list}
+use Rattle.certify.proofs.lemmas.answers.LinesByKind.{starts_no_head}
 use Rattle.certify.proofs.answers.read.begins_list.Goals as goal
 
 pub returns-in-None : goal.returns-in-None

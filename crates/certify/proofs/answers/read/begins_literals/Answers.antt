@@ -1,6 +1,6 @@
 use Rattle.std.proofs.Common.{arith}
 use Rattle.std.proofs.lemmas.Grind.{common_steps}
-use Rattle.std.proofs.Common.{◌<◌, ◌≤◌, subst}
+use Rattle.std.proofs.Common.{◌<◌, subst}
 use Rattle.certify.proofs.lemmas.answers.LiteralsInOrder.{one_so_far, starts_neither, starts_out_of_order}
 use Rattle.certify.proofs.answers.read.begins_literals.Goals as goal
 

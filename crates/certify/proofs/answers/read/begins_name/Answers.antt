@@ -1,7 +1,6 @@
 use Rattle.std.proofs.lemmas.Grind.{common_steps}
-use Rattle.std.proofs.Common.{◌≡◌, ◌<◌, ◌++◌, ◌∷◌, length, drop, get_or, suc, ◌∙◌, ap, arith}
+use Rattle.std.proofs.Common.{arith}
 use Rattle.std.proofs.Math.Seq.{drop-cons}
-use Rattle.certify.specs.answers.AnswerReading.{digits_so_far}
 use Rattle.certify.proofs.lemmas.answers.NamesAndWords.{at_zero, starts_no_name}
 use Rattle.certify.proofs.answers.read.begins_name.Goals as goal
 

@@ -1,9 +1,5 @@
 use Rattle.std.proofs.lemmas.Grind.{common_steps}
-use Rattle.std.proofs.Common.{◌≡◌, ◌++◌, Ok, Err, Result, OnOk, sym, subst, arith}
-use Rattle.certify.specs.declared.judge.Refusal.TheVariants as code
-use Rattle.certify.specs.answers.Answers.{refused_line}
-use Rattle.certify.specs.judge.Names.{refusal_in}
-use Rattle.certify.specs.confirm.Lines.{IsOneLine}
+use Rattle.std.proofs.Common.{arith}
 use Rattle.certify.proofs.lemmas.confirm.Lines.{limit_is_line}
 use Rattle.certify.proofs.answers.refused.push_refused.Goals as goal
 

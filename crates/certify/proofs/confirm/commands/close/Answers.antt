@@ -1,9 +1,6 @@
 use Rattle.std.proofs.Common.{arith}
 use Rattle.std.proofs.lemmas.Grind.{common_steps}
 use Rattle.std.proofs.lemmas.Result.{err_from_is_err_and}
-use Rattle.certify.specs.answers.AnswerForms.{named_literals}
-use Rattle.certify.specs.confirm.Lines.{outcome_in}
-use Rattle.certify.specs.confirm.ConfirmStates.{stream_in}
 use Rattle.certify.proofs.lemmas.confirm.ConfirmStateMet.{unshown, shown_closes}
 use Rattle.certify.proofs.confirm.commands.close.Goals as goal
 

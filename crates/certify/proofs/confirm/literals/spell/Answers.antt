@@ -1,10 +1,9 @@
 use Rattle.std.proofs.lemmas.Grind.{common_steps}
-use Rattle.std.proofs.Common.{◌≡◌, ◌+◌, ◌<◌, ◌≤◌, List, Some, None, length, sym, ◌∙◌, ap, subst, arith}
+use Rattle.std.proofs.Common.{◌≡◌, ◌+◌, ◌<◌, Some, None, length, sym, ◌∙◌, ap, subst, arith}
 use Rattle.std.proofs.lemmas.List.{take_all}
 use Rattle.sat_base.specs.values.Literals.{coded}
 use Rattle.sat_base.specs.script.Script.{Literal, Among}
 use Rattle.certify.specs.answers.AnswerForms.{named_literal, named_literals}
-use Rattle.certify.specs.confirm.SpeltLiterals.{AreSpelt}
 use Rattle.certify.specs.confirm.Variables.{variable_in}
 use Rattle.certify.proofs.lemmas.confirm.LiteralSets.{spelt_loop, unspelt, among_got}
 use Rattle.certify.proofs.lemmas.confirm.Named.{named_at, named_length}

@@ -1,8 +1,7 @@
 use Rattle.std.proofs.Common.{arith}
 use Rattle.std.proofs.lemmas.Grind.{common_steps}
-use Rattle.std.proofs.Common.{◌+◌, Ok, refl, sym, subst}
+use Rattle.std.proofs.Common.{◌+◌, Ok, sym, subst}
 use Rattle.sat_checker.specs.CheckerView.{kernel_of}
-use Rattle.sat_checker.specs.matching.Expected.{NoName}
 use Rattle.certify.specs.confirm.Streams.{Confirms, stream_of}
 use Rattle.certify.specs.confirm.Naming.{MeetsAll, hidden_by}
 use Rattle.certify.specs.script.Commands.{kind_of}

@@ -1,9 +1,9 @@
-use Rattle.std.proofs.Common.{◌≡◌, ◌+◌, Ok, refl, subst, ◌∙◌, arith}
+use Rattle.std.proofs.Common.{◌≡◌, ◌+◌, Ok, subst, ◌∙◌, arith}
 use Rattle.std.proofs.lemmas.Result.{err_from_is_err_and}
 use Rattle.sat_checker.specs.CheckerView.{kernel_of}
 use Rattle.certify.specs.confirm.Streams.{Confirms, stream_of}
 use Rattle.certify.specs.confirm.Naming.{MeetsAll}
-use Rattle.certify.proofs.lemmas.confirm.Naming.{all_none, new_more, new_stop, news}
+use Rattle.certify.proofs.lemmas.confirm.Naming.{new_more, new_stop, news}
 use Rattle.certify.proofs.confirm.names.expect_new.Goals as goal
 
 pub returns-in_err-expect-clause-confirms : goal.returns-in_err-expect-clause-confirms

@@ -5,7 +5,7 @@ use Rattle.std.proofs.lemmas.Result.{err_from_is_err_and}
 use Rattle.sat_checker.specs.CheckerView.{kernel_of}
 use Rattle.certify.specs.confirm.Streams.{stream_of}
 use Rattle.certify.proofs.lemmas.confirm.StepTags.{ordered_by_tag}
-use Rattle.certify.proofs.lemmas.confirm.Awaiting.{steps_cut, steps_none, steps_step, steps_passed, steps_refused}
+use Rattle.certify.proofs.lemmas.confirm.Awaiting.{steps_none, steps_step, steps_passed, steps_refused}
 use Rattle.certify.proofs.confirm.ordered.advance.Goals as goal
 
 pub returns-in_err-read_next : goal.returns-in_err-read_next

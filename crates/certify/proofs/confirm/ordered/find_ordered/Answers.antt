@@ -1,10 +1,10 @@
-use Rattle.std.proofs.Common.{Ok, refl, ◌∙◌, subst}
+use Rattle.std.proofs.Common.{Ok, ◌∙◌, subst}
 use Rattle.std.proofs.lemmas.Result.{err_from_is_err_and}
 use Rattle.sat_checker.specs.CheckerView.{kernel_of}
 use Rattle.certify.specs.confirm.Stepping.{is_fed_so_far}
 use Rattle.certify.specs.confirm.Awaiting.{StepsOnce}
 use Rattle.certify.specs.confirm.Streams.{GoesOrStops, stream_of}
-use Rattle.certify.proofs.lemmas.confirm.Awaiting.{passed_none, rounds_more, rounds_end, rounds_stop}
+use Rattle.certify.proofs.lemmas.confirm.Awaiting.{rounds_more, rounds_end, rounds_stop}
 use Rattle.certify.proofs.confirm.ordered.find_ordered.Goals as goal
 
 pub returns-in_err-awaited-clause-confirms : goal.returns-in_err-awaited-clause-confirms

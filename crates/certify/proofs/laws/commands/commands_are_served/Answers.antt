@@ -1,5 +1,5 @@
 use Rattle.certify.proofs.lemmas.run.Served.{serves_then}
-use Rattle.certify.proofs.lemmas.run.ServedOnce.{serves_refused, serves_plain, serves_ask}
+use Rattle.certify.proofs.lemmas.run.ServedOnce.{serves_plain, serves_ask}
 use Rattle.certify.proofs.laws.commands.commands_are_served.Goals as goal
 
 pub returns-clause-composes : goal.returns-clause-composes

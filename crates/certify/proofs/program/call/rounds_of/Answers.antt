@@ -1,10 +1,6 @@
 use Rattle.std.proofs.Common.{arith}
 use Rattle.std.proofs.lemmas.Grind.{common_steps}
-use Rattle.std.proofs.Common.{ℕ, ◌<◌, ◌≤◌, ◌∙◌, List, MatchOption, Option, ap, sym, subst, length}
-use Rattle.std.specs.Prelude.{get_or}
-use Rattle.std.specs.Char.{is_ascii_digit}
-use Rattle.certify.specs.program.Calls.{IsRoundCount}
-use Rattle.certify.proofs.lemmas.program.Words.{all_digits, no_digit, one_more_digit, rounds_parsed}
+use Rattle.certify.proofs.lemmas.program.Words.{all_digits, no_digit, rounds_parsed}
 use Rattle.certify.proofs.program.call.rounds_of.Goals as goal
 
 pub returns-then-not-is_ascii_digit : goal.returns-then-not-is_ascii_digit

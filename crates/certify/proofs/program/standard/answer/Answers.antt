@@ -1,6 +1,6 @@
-use Rattle.std.proofs.Common.{ℕ, ◌∙◌, List, IfOk, sym, subst}
-use Rattle.certify.specs.program.Printing.{IsWritten, Prints, PrintsPrefix}
-use Rattle.certify.proofs.lemmas.program.PrintedVerdicts.{prefix_given, prints_given, prints_nothing}
+use Rattle.std.proofs.Common.{ℕ, List, IfOk, subst}
+use Rattle.certify.specs.program.Printing.{Prints, PrintsPrefix}
+use Rattle.certify.proofs.lemmas.program.PrintedVerdicts.{prefix_given, prints_given}
 use Rattle.certify.proofs.program.standard.answer.Goals as goal
 
 pub returns-clause-printed : goal.returns-clause-printed

@@ -11,7 +11,7 @@ use Rattle.sat_solver.specs.solver.View.{proof_in}
 use Rattle.sat_solver.specs.solver.Whole.{HasFullStore}
 use Rattle.certify.specs.run.SolverCalls.{LacksFor, RefusedForRoom}
 use Rattle.certify.proofs.lemmas.run.CallFaults.{caused_map}
-use Rattle.certify.proofs.lemmas.run.Caused.{memory_caused, unwritten_caused}
+use Rattle.certify.proofs.lemmas.run.Caused.{memory_caused}
 use Rattle.certify.proofs.lemmas.run.Needing.{none_needs}
 use Rattle.certify.proofs.run.ask.answer_ask.Goals as goal
 

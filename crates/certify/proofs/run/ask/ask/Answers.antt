@@ -1,13 +1,12 @@
 use Rattle.std.proofs.lemmas.Result.{err_from_is_err_and}
 use Rattle.sat_checker.specs.matching.Expected.{Unknown}
-use Rattle.certify.proofs.lemmas.run.RunStateCalls.{did_ready, fails_then, memory_fails, searched_ready, ask_took, allowed_still}
+use Rattle.certify.proofs.lemmas.run.RunStateCalls.{did_ready, fails_then, memory_fails, searched_ready, ask_took}
 use Rattle.sat_base.specs.script.Script.{Ask}
 use Rattle.sat_solver.specs.variables.VariableRoom.{user_vars_in}
 use Rattle.sat_solver.specs.solver.Whole.{HasFullStore}
 use Rattle.certify.specs.answers.AnswerForms.{named_literals}
 use Rattle.certify.specs.run.SolverCalls.{LacksFor, RefusedForRoom}
 use Rattle.certify.proofs.lemmas.run.CallFaults.{caused_map}
-use Rattle.certify.proofs.lemmas.run.Caused.{memory_caused}
 use Rattle.certify.proofs.lemmas.run.Needing.{ask_needs}
 use Rattle.certify.proofs.run.ask.ask.Goals as goal
 

@@ -1,10 +1,10 @@
 use Rattle.sat_solver.specs.variables.Refusing.{names_in}
 use Rattle.certify.specs.declared.judge.NameState.TheVariants as state
-use Rattle.certify.proofs.lemmas.run.Lent.{ask_allowed, ask_carried, ask_stops, clause_allowed, clause_carried, clause_writes, lent_hides, lent_samples, lent_witnesses, names_carried, names_write}
+use Rattle.certify.proofs.lemmas.run.Lent.{ask_allowed, clause_allowed, clause_carried, clause_writes, lent_hides, lent_samples, lent_witnesses, names_carried}
 use Rattle.certify.specs.run.BetweenCommands.{represented_by}
 use Rattle.certify.proofs.lemmas.run.RunStateCalls.{nothing_stops}
 use Rattle.certify.specs.run.Obeying.{command_to}
-use Rattle.certify.proofs.lemmas.run.Caused.{ask_caused_by, clause_caused_by, names_caused_by}
+use Rattle.certify.proofs.lemmas.run.Caused.{clause_caused_by, names_caused_by}
 use Rattle.certify.proofs.run.commands.carry_out.Goals as goal
 
 pub add_clause-requires-clause-allowed : goal.add_clause-requires-clause-allowed

@@ -1,12 +1,8 @@
 use Rattle.std.proofs.Common.{sym, subst}
-use Rattle.std.proofs.lemmas.Result.{err_from_is_err_and}
 use Rattle.certify.specs.declared.judge.names.Names.{Names}
 use Rattle.certify.specs.judge.Names.{NamesHaveState}
-use Rattle.certify.proofs.lemmas.run.RunStateCalls.{carried_stops, memory_says, on_err}
+use Rattle.certify.proofs.lemmas.run.RunStateCalls.{carried_stops, on_err}
 use Rattle.certify.specs.run.BetweenCommands.{represented_by}
-use Rattle.sat_solver.specs.solver.Whole.{HasFullStore}
-use Rattle.certify.specs.run.SolverCalls.{LacksFor}
-use Rattle.certify.proofs.lemmas.run.Caused.{memory_caused}
 use Rattle.certify.proofs.run.commands.take_allowed.Goals as goal
 
 pub returns-clause-names : goal.returns-clause-names

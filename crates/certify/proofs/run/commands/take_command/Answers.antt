@@ -1,8 +1,6 @@
-use Rattle.std.proofs.Common.{[], ◌∷◌, refl}
-use Rattle.certify.proofs.lemmas.run.Lent.{lent_allowed}
+use Rattle.std.proofs.Common.{refl}
 use Rattle.certify.proofs.lemmas.run.NextLent.{refused_served, refused_stops, taken_served, taken_stops}
-use Rattle.sat_base.specs.script.Language.{onto_commands}
-use Rattle.certify.proofs.lemmas.run.Caused.{blameless, taken_caused}
+use Rattle.certify.proofs.lemmas.run.Caused.{taken_caused}
 use Rattle.certify.proofs.lemmas.run.Next.{counted}
 use Rattle.certify.proofs.run.commands.take_command.Goals as goal
 

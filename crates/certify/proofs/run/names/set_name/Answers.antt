@@ -2,8 +2,8 @@ use Rattle.std.proofs.Common.{arith}
 use Rattle.std.proofs.lemmas.Grind.{common_steps}
 use Rattle.std.proofs.Common.{◌+◌, [], ◌∷◌}
 use Rattle.sat_base.specs.script.ScriptState.{accepted}
-use Rattle.certify.specs.run.Obeying.{command_to, due_to, may_to}
-use Rattle.certify.proofs.lemmas.run.CallFaults.{name_caused, name_fails, name_fault}
+use Rattle.certify.specs.run.Obeying.{command_to, due_to}
+use Rattle.certify.proofs.lemmas.run.CallFaults.{name_fails}
 use Rattle.certify.proofs.lemmas.run.Obeys.{name_obeyed}
 use Rattle.certify.proofs.lemmas.run.RunStateCalls.{did_ready}
 use Rattle.certify.proofs.run.names.set_name.Goals as goal

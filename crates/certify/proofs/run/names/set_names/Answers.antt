@@ -1,6 +1,5 @@
 use Rattle.std.proofs.lemmas.Grind.{common_steps}
-use Rattle.std.proofs.Common.{◌∙◌, ap, subst, take, [], ◌∷◌, ◌+◌, arith, List, ℕ}
-use Rattle.std.proofs.lemmas.List.{take_all}
+use Rattle.std.proofs.Common.{subst, take, [], ◌∷◌, ◌+◌, arith, List, ℕ}
 use Rattle.std.proofs.lemmas.Result.{err_from_is_err_and}
 use Rattle.sat_solver.specs.variables.Refusing.{names_in}
 use Rattle.certify.specs.run.Obeying.{Obeyed, command_to}

@@ -1,17 +1,10 @@
 use Rattle.std.proofs.Common.{arith}
 use Rattle.std.proofs.lemmas.Grind.{common_steps}
-use Rattle.std.proofs.Common.{◌≡◌, [], ◌∷◌, refl, subst, rules}
-use Rattle.sat_base.specs.device.Device.{WriterBreaks}
+use Rattle.std.proofs.Common.{[], ◌∷◌}
 use Rattle.sat_base.specs.script.Language.{onto_commands}
-use Rattle.certify.specs.answers.Answers.{refused_line}
-use Rattle.certify.specs.judge.Names.{refusal_in}
-use Rattle.certify.specs.run.Unfinished.{TookAnswersFront}
 use Rattle.std.proofs.lemmas.Result.{err_from_is_err_and}
-use Rattle.sat_solver.specs.solver.View.{proof_in}
 use Rattle.certify.proofs.lemmas.run.RunStateCalls.{err_map, memory_says, on_err, took_none, written_of}
 use Rattle.certify.proofs.lemmas.run.Stopping.{front_none, front_refused}
-use Rattle.certify.specs.Devices.{OneFailed}
-use Rattle.certify.proofs.lemmas.run.Caused.{memory_caused, unwritten_if}
 use Rattle.certify.proofs.run.refuse.refuse.Goals as goal
 
 pub returns-in_err-push_refused-clause-written : goal.returns-in_err-push_refused-clause-written

@@ -1,16 +1,10 @@
 use Rattle.std.proofs.Common.{arith}
 use Rattle.std.proofs.lemmas.Grind.{common_steps}
-use Rattle.std.proofs.Common.{◌≡◌, [], refl, subst, rules}
-use Rattle.sat_base.specs.device.Device.{WriterBreaks}
+use Rattle.std.proofs.Common.{[]}
 use Rattle.sat_base.specs.script.Script.{Malformed}
-use Rattle.certify.specs.answers.Answers.{malformed_line}
-use Rattle.certify.specs.run.Unfinished.{TookAnswersFront}
 use Rattle.std.proofs.lemmas.Result.{err_from_is_err_and}
-use Rattle.sat_solver.specs.solver.View.{proof_in}
 use Rattle.certify.proofs.lemmas.run.RunStateCalls.{err_map, memory_says, on_err, took_none, written_of}
 use Rattle.certify.proofs.lemmas.run.Stopping.{front_malformed, front_none}
-use Rattle.certify.specs.Devices.{OneFailed}
-use Rattle.certify.proofs.lemmas.run.Caused.{memory_caused, unwritten_if}
 use Rattle.certify.proofs.run.serve.report_malformed.Goals as goal
 
 pub returns-in_err-push_malformed-clause-written : goal.returns-in_err-push_malformed-clause-written

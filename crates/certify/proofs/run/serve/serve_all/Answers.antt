@@ -2,9 +2,7 @@ use Rattle.std.proofs.Common.{arith}
 use Rattle.std.proofs.lemmas.Grind.{common_steps}
 use Rattle.std.proofs.Common.{true}
 use Rattle.std.proofs.lemmas.Result.{err_from_is_err_and}
-use Rattle.sat_base.specs.script.ScriptState.{start}
 use Rattle.certify.specs.script.LastPiece.{source_in}
-use Rattle.sat_base.specs.script.Language.{reading, written}
 use Rattle.certify.proofs.lemmas.confirm.Streams.{passes_fewer}
 use Rattle.certify.proofs.lemmas.confirm.Joining.{took_open}
 use Rattle.certify.proofs.lemmas.run.ServedThrough.{ends_last, ends_so, one_more, stops, through_none, unread}

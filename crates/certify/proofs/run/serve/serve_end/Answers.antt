@@ -1,14 +1,13 @@
 use Rattle.std.proofs.lemmas.Grind.{common_steps}
 use Rattle.std.proofs.lemmas.Result.{err_from_is_err_and}
-use Rattle.std.proofs.Common.{◌≡◌, ◌+◌, ◌-◌, ◌^◌, arith, inl, [], Err, refl, ap, subst, rules}
+use Rattle.std.proofs.Common.{◌+◌, arith, [], Err, refl}
 use Rattle.certify.specs.script.Commands.{end_reading}
 use Rattle.sat_solver.specs.solver.View.{proof_in}
-use Rattle.sat_base.specs.script.Script.{Clean, Malformed}
-use Rattle.certify.specs.run.Unfinished.{TookAnswersFront}
+use Rattle.sat_base.specs.script.Script.{Clean}
 use Rattle.certify.proofs.lemmas.run.RunStateCalls.{took_none}
 use Rattle.certify.proofs.lemmas.run.ServedThrough.{asked_stops, ends_asked, ends_clean, ends_malformed}
 use Rattle.certify.proofs.lemmas.run.Stopping.{front_none}
-use Rattle.certify.proofs.lemmas.run.Caused.{asked_caused, blameless}
+use Rattle.certify.proofs.lemmas.run.Caused.{asked_caused}
 use Rattle.certify.proofs.run.serve.serve_end.Goals as goal
 
 pub returns-in_default-clause-written : goal.returns-in_default-clause-written

@@ -1,6 +1,5 @@
 use Rattle.std.proofs.Common.{arith}
 use Rattle.std.proofs.lemmas.Grind.{common_steps}
-use Rattle.std.proofs.lemmas.Result.{err_from_is_err_and}
 use Rattle.certify.specs.script.Commands.{end_reading}
 use Rattle.certify.proofs.lemmas.run.ServedThrough.{both_then, served_last_if, stops_following}
 use Rattle.certify.proofs.lemmas.run.Caused.{caused_after}

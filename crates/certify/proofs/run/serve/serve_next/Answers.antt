@@ -1,4 +1,4 @@
-use Rattle.std.proofs.Common.{◌+◌, [], ◌∷◌, arith, inl, refl}
+use Rattle.std.proofs.Common.{◌+◌, [], ◌∷◌, refl}
 use Rattle.sat_base.specs.script.Language.{onto_commands}
 use Rattle.sat_solver.specs.solver.View.{proof_in}
 use Rattle.certify.proofs.lemmas.run.RunStateCalls.{took_none}

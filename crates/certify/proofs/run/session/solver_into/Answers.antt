@@ -1,7 +1,5 @@
-use Rattle.std.proofs.Common.{◌∙◌, [], ap, is_some, subst, sym}
-use Rattle.sat_base.specs.script.ScriptState.{start}
-use Rattle.sat_solver.specs.proof.ProofView.{is_checked, is_drat, steps_of}
-use Rattle.sat_solver.specs.variables.Calls.{NamesAgree}
+use Rattle.std.proofs.Common.{◌∙◌, ap, is_some}
+use Rattle.sat_solver.specs.proof.ProofView.{is_checked, is_drat}
 use Rattle.sat_solver.specs.solver.View.{proof_in}
 use Rattle.certify.proofs.lemmas.run.NoLines.{none_yet}
 use Rattle.certify.proofs.run.session.solver_into.Goals as goal

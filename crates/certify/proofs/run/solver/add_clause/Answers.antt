@@ -1,4 +1,4 @@
-use Rattle.certify.proofs.lemmas.run.CallFaults.{clause_caused, clause_fails, clause_fault}
+use Rattle.certify.proofs.lemmas.run.CallFaults.{clause_fails}
 use Rattle.certify.proofs.run.solver.add_clause.Goals as goal
 
 pub returns-in-Err-clause-fails : goal.returns-in-Err-clause-fails

@@ -1,4 +1,4 @@
-use Rattle.certify.proofs.lemmas.run.CallFaults.{assume_caused, assume_fails, assume_fault}
+use Rattle.certify.proofs.lemmas.run.CallFaults.{assume_fails}
 use Rattle.certify.proofs.run.solver.assume.Goals as goal
 
 pub returns-in-Err-clause-fails : goal.returns-in-Err-clause-fails

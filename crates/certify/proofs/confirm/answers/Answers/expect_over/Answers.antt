@@ -1,11 +1,6 @@
 use Rattle.std.proofs.Common.{arith}
 use Rattle.std.proofs.lemmas.Grind.{common_steps}
-use Rattle.std.proofs.Common.{◌≡◌, [], false, sym, ◌∙◌}
 use Rattle.std.proofs.lemmas.Result.{err_from_is_err_and}
-use Rattle.certify.specs.declared.confirm.lines.Wanted.TheVariants as wanted
-use Rattle.certify.specs.declared.verdict.Why.TheVariants.{AnswerExtra}
-use Rattle.certify.specs.confirm.Stopping.{SaysSo}
-use Rattle.certify.specs.confirm.Lines.{IsWantedLine, answers_source}
 use Rattle.certify.proofs.lemmas.confirm.Lines.{over_here, more_here, line_stops}
 use Rattle.certify.proofs.confirm.answers.Answers.expect_over.Goals as goal
 

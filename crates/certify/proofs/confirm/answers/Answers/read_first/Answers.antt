@@ -1,9 +1,8 @@
-use Rattle.std.proofs.Common.{true, List, ℕ, refl, sym, ◌∙◌, subst}
-use Rattle.std.proofs.lemmas.Result.{err_from_is_err_and}
+use Rattle.std.proofs.Common.{List, ℕ, refl, sym, ◌∙◌, subst}
 use Rattle.certify.specs.answers.AnswerReading.{NoKind}
 use Rattle.certify.specs.declared.confirm.lines.Wanted.TheVariants as wanted
-use Rattle.certify.specs.confirm.Lines.{IsWantedLine, ReadsFirst, answers_source}
-use Rattle.certify.proofs.lemmas.confirm.Lines.{kind_read, kind_differs, line_stops}
+use Rattle.certify.specs.confirm.Lines.{IsWantedLine, answers_source}
+use Rattle.certify.proofs.lemmas.confirm.Lines.{kind_read, kind_differs}
 use Rattle.certify.proofs.confirm.answers.Answers.read_first.Goals as goal
 
 pub returns-in-Ok : goal.returns-in-Ok

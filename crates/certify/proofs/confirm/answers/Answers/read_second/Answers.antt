@@ -1,10 +1,9 @@
-use Rattle.std.proofs.Common.{true, List, ℕ, refl, sym, ◌∙◌, subst}
-use Rattle.std.proofs.lemmas.Result.{err_from_is_err_and}
+use Rattle.std.proofs.Common.{List, ℕ, refl, sym, ◌∙◌, subst}
 use Rattle.certify.specs.answers.AnswerForms.{named_literals}
 use Rattle.certify.specs.answers.AnswerReading.{NoLine}
 use Rattle.certify.specs.declared.confirm.lines.Wanted.TheVariants as wanted
-use Rattle.certify.specs.confirm.Lines.{IsWantedLine, ReadsSecond, answers_source}
-use Rattle.certify.proofs.lemmas.confirm.Lines.{has_line, second_read, second_differs, second_unknown, line_stops}
+use Rattle.certify.specs.confirm.Lines.{IsWantedLine, answers_source}
+use Rattle.certify.proofs.lemmas.confirm.Lines.{has_line, second_read, second_differs}
 use Rattle.certify.proofs.confirm.answers.Answers.read_second.Goals as goal
 
 pub returns-in-Ok : goal.returns-in-Ok

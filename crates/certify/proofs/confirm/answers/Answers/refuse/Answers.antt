@@ -1,9 +1,9 @@
-use Rattle.std.proofs.Common.{◌++◌, true, List, ℕ, sym, ◌∙◌, ap, subst}
+use Rattle.std.proofs.Common.{◌++◌, true, List, ℕ, ◌∙◌, ap, subst}
 use Rattle.certify.specs.answers.Answers.{refused_line}
 use Rattle.certify.specs.confirm.Lines.{TakesDueLine}
 use Rattle.certify.specs.confirm.Stopping.{Replies}
 use Rattle.certify.specs.judge.Names.{refusal_in}
-use Rattle.certify.specs.confirm.Lines.{IsOneLine, answers_source}
+use Rattle.certify.specs.confirm.Lines.{answers_source}
 use Rattle.certify.proofs.confirm.answers.Answers.refuse.Goals as goal
 
 pub returns : goal.returns

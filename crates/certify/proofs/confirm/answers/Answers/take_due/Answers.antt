@@ -1,10 +1,9 @@
 use Rattle.std.proofs.Common.{arith}
 use Rattle.std.proofs.lemmas.Grind.{common_steps}
-use Rattle.std.proofs.Common.{true, refl, sym, ◌∙◌}
+use Rattle.std.proofs.Common.{refl, sym, ◌∙◌}
 use Rattle.std.proofs.lemmas.Result.{err_from_is_err_and}
-use Rattle.certify.specs.confirm.Lines.{TakesDueLine}
 use Rattle.certify.specs.declared.confirm.lines.Wanted.TheVariants as wanted
-use Rattle.certify.specs.declared.verdict.Why.TheVariants.{AnswerMissing, AnswerText}
+use Rattle.certify.specs.declared.verdict.Why.TheVariants.{AnswerText}
 use Rattle.certify.specs.confirm.Lines.{IsWantedLine, answers_source}
 use Rattle.certify.proofs.lemmas.confirm.Lines.{due_taken, due_differs, line_stops}
 use Rattle.certify.proofs.confirm.answers.Answers.take_due.Goals as goal

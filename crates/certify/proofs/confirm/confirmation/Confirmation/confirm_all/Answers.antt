@@ -1,11 +1,10 @@
 use Rattle.std.proofs.Common.{arith}
 use Rattle.std.proofs.lemmas.Grind.{common_steps}
-use Rattle.std.proofs.Common.{◌+◌, ℕ, true, refl, ◌∙◌, ap}
+use Rattle.std.proofs.Common.{◌+◌, ℕ, true, ◌∙◌, ap}
 use Rattle.std.proofs.lemmas.Result.{err_from_is_err_and}
 use Rattle.certify.specs.confirm.ConfirmStates.{answers_in}
 use Rattle.certify.specs.confirm.ConfirmedScript.{script_source, confirm_place}
 use Rattle.certify.specs.script.LastPiece.{source_in}
-use Rattle.sat_base.specs.script.Language.{reading}
 use Rattle.certify.proofs.lemmas.confirm.Streams.{passes_fewer}
 use Rattle.certify.proofs.lemmas.confirm.Joining.{took_open}
 use Rattle.certify.proofs.lemmas.confirm.ConfirmedThrough.{through_none, unread, one_more, stops, ends_so, ends_last}

@@ -1,12 +1,10 @@
 use Rattle.std.proofs.lemmas.Grind.{common_steps}
-use Rattle.std.proofs.Common.{inr, sym, subst, arith}
+use Rattle.std.proofs.Common.{arith}
 use Rattle.std.proofs.lemmas.Result.{err_from_is_err_and}
 use Rattle.sat_base.specs.device.Reading.{Source, ConsumesBytes}
-use Rattle.sat_base.proofs.lemmas.device.ReadLemmas.{passes_none}
-use Rattle.certify.specs.confirm.Lines.{HasNoLf, IsWantedLine, IsWrong}
-use Rattle.certify.specs.script.LastPiece.{NoReadFailedAhead, source_in, waiting_bytes}
-use Rattle.certify.specs.declared.script.ahead.LastPiece.{LastPiece}
-use Rattle.certify.proofs.lemmas.confirm.Lines.{line_came, part_came, line_ends, line_goes, line_fails, line_kept}
+use Rattle.certify.specs.confirm.Lines.{HasNoLf, IsWantedLine}
+use Rattle.certify.specs.script.LastPiece.{source_in, waiting_bytes}
+use Rattle.certify.proofs.lemmas.confirm.Lines.{line_came, part_came, line_ends, line_goes, line_fails}
 use Rattle.certify.proofs.lemmas.script.LastPieces.{passes_front}
 use Rattle.certify.proofs.confirm.lines.Lines.next.Given.{Over}
 use Rattle.certify.proofs.confirm.lines.Lines.next.Goals as goal

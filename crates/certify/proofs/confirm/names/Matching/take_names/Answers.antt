@@ -1,10 +1,10 @@
 use Rattle.std.proofs.lemmas.Grind.{common_steps}
-use Rattle.std.proofs.Common.{◌≤◌, length, refl, ◌∙◌, arith}
+use Rattle.std.proofs.Common.{◌≤◌, length, ◌∙◌, arith}
 use Rattle.std.proofs.lemmas.Result.{err_from_is_err_and}
 use Rattle.sat_checker.specs.CheckerView.{kernel_of}
 use Rattle.certify.specs.confirm.Streams.{stream_of}
 use Rattle.certify.specs.script.Commands.{kind_of}
-use Rattle.certify.proofs.lemmas.confirm.NamesMet.{none_taken, one_taken, all_taken, none_met, next_met, next_stop, all_met, known_taken, known_met}
+use Rattle.certify.proofs.lemmas.confirm.NamesMet.{none_taken, one_taken, none_met, next_met, next_stop, all_met, known_taken, known_met}
 use Rattle.certify.proofs.confirm.names.Matching.take_names.Goals as goal
 
 pub loop-lit-init : goal.loop-lit-init

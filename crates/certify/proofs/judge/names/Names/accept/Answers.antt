@@ -1,9 +1,9 @@
-use Rattle.std.proofs.Common.{◌+◌, sym, subst, ◌∙◌, arith}
+use Rattle.std.proofs.Common.{sym, subst, arith}
 use Rattle.sat_base.specs.script.Script.{Command}
 use Rattle.sat_base.specs.script.ScriptState.{accepted}
 use Rattle.certify.specs.script.Commands.{kind_of}
-use Rattle.certify.specs.judge.Names.{NamesHaveState, taken}
-use Rattle.certify.proofs.lemmas.judge.Taken.{taken_next, all_taken, known_taken}
+use Rattle.certify.specs.judge.Names.{NamesHaveState}
+use Rattle.certify.proofs.lemmas.judge.Taken.{all_taken, known_taken}
 use Rattle.certify.proofs.judge.names.Names.accept.Goals as goal
 
 pub returns : goal.returns

@@ -1,5 +1,5 @@
-use Rattle.std.proofs.Common.{◌∙◌, sym, arith}
-use Rattle.certify.proofs.lemmas.judge.Taken.{known_next, known_end}
+use Rattle.std.proofs.Common.{arith}
+use Rattle.certify.proofs.lemmas.judge.Taken.{known_next}
 use Rattle.certify.proofs.judge.names.Names.are_known.Goals as goal
 
 pub loop-lit-preserved : goal.loop-lit-preserved

@@ -1,7 +1,7 @@
-use Rattle.std.proofs.Common.{◌≡◌, ap, sym, ◌∙◌, inl, inr}
+use Rattle.std.proofs.Common.{◌≡◌, ap, sym, ◌∙◌}
 use Rattle.sat_base.specs.script.Language.{OfClause, OfAsk, OfHide, OfWitness, OfSample}
 use Rattle.certify.specs.script.Commands.{kind_of}
-use Rattle.certify.proofs.lemmas.judge.Refusals.{says_literals, says_names}
+use Rattle.certify.proofs.lemmas.judge.Refusals.{says_names}
 use Rattle.certify.proofs.judge.names.Names.refusal.Goals as goal
 
 pub returns-in-Hide-clause-judges : goal.returns-in-Hide-clause-judges

@@ -1,7 +1,6 @@
-use Rattle.std.proofs.Common.{[], refl, arith}
+use Rattle.std.proofs.Common.{[], refl}
 use Rattle.sat_base.proofs.lemmas.device.ReadLemmas.{faults_now, faults_spent}
 use Rattle.certify.specs.script.LastPiece.{source_in}
-use Rattle.certify.proofs.lemmas.script.LastPieces.{refills_so}
 use Rattle.certify.proofs.script.ahead.LastPiece.refill.Goals as goal
 
 pub returns-then-self-ge-MAX_READS-clause-bytes : goal.returns-then-self-ge-MAX_READS-clause-bytes

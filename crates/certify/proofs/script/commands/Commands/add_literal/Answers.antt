@@ -1,6 +1,6 @@
 use Rattle.std.proofs.Common.{arith}
 use Rattle.std.proofs.lemmas.Grind.{common_steps}
-use Rattle.std.proofs.Common.{◌≡◌, ◌∷◌, ◌++◌, [], true, false, refl, sym, ◌∙◌}
+use Rattle.std.proofs.Common.{◌≡◌, ◌∷◌, ◌++◌, [], true, refl, sym, ◌∙◌}
 use Rattle.std.specs.Prelude.{not}
 use Rattle.sat_base.specs.text.Text.{Number}
 use Rattle.sat_base.specs.script.Script.{Literal}

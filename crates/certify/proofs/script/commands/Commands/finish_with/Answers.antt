@@ -1,6 +1,6 @@
 use Rattle.std.proofs.lemmas.Grind.{common_steps}
-use Rattle.std.proofs.Common.{◌≡◌, ◌<◌, [], ◌∷◌, true, sym, ◌∙◌, ap, refl, arith}
-use Rattle.sat_base.specs.text.Text.{Token, Number, Wrong}
+use Rattle.std.proofs.Common.{◌≡◌, [], ◌∷◌, sym, ◌∙◌, ap, arith}
+use Rattle.sat_base.specs.text.Text.{Token, Number}
 use Rattle.sat_base.specs.script.Language.{onto_commands, Nothing}
 use Rattle.certify.specs.script.Commands.{meaning}
 use Rattle.certify.proofs.lemmas.script.Tokens.{number_is, letter_is, header_is, wrong_is, held_zero, held_some, ends_wrong, number_ends, letter_ends, header_ends}

@@ -1,9 +1,9 @@
-use Rattle.std.proofs.Common.{◌≡◌, ◌+◌, ◌-◌, ◌≤◌, ℕ, List, take, drop, length, arith}
+use Rattle.std.proofs.Common.{◌≡◌, ◌+◌, ◌-◌, ◌≤◌, ℕ, List, take, drop, length}
 use Rattle.certify.specs.declared.script.Reached.{Reached}
 use Rattle.certify.specs.declared.script.Reached.TheVariants as reached
 use Rattle.certify.specs.declared.script.reader.ScriptReader.{ScriptReader}
 use Rattle.certify.specs.script.Commands.{TakesBytes}
-use Rattle.certify.proofs.lemmas.script.Bytes.{reader, bytes_go, bytes_take, bytes_wrong, followed_front, goes_nowhere, no_more}
+use Rattle.certify.proofs.lemmas.script.Bytes.{reader, bytes_go, bytes_take, bytes_wrong, followed_front, no_more}
 use Rattle.certify.proofs.script.reader.ScriptReader.push.Goals as goal
 use Rattle.certify.proofs.script.reader.ScriptReader.push.Goals.{After-take_token-count, In_ok-take}
 

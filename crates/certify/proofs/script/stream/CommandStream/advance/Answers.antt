@@ -5,7 +5,7 @@ use Rattle.std.proofs.lemmas.Result.{err_from_is_err_and}
 use Rattle.certify.specs.declared.script.ScriptEnd.TheVariants as ends
 use Rattle.certify.specs.script.LastPiece.{waiting_bytes}
 use Rattle.certify.proofs.lemmas.confirm.Compared.{some_list}
-use Rattle.certify.proofs.lemmas.script.Streaming.{brings_none, brings_more, brings_command, brings_malformed, some_bytes, taken_fewer}
+use Rattle.certify.proofs.lemmas.script.Streaming.{brings_none, brings_malformed, some_bytes}
 use Rattle.certify.proofs.lemmas.script.Tokens.{end_malformed}
 use Rattle.certify.proofs.script.stream.CommandStream.advance.Given.{Over}
 use Rattle.certify.proofs.script.stream.CommandStream.advance.Goals as goal

@@ -1,8 +1,5 @@
-use Rattle.std.proofs.Common.{[]}
 use Rattle.std.proofs.lemmas.Result.{err_from_is_err_and}
-use Rattle.sat_base.proofs.lemmas.device.ReadLemmas.{passes_none}
 use Rattle.certify.specs.script.LastPiece.{source_in}
-use Rattle.certify.proofs.lemmas.script.Bytes.{goes_nowhere}
 use Rattle.certify.proofs.lemmas.script.Streaming.{arrives_then, brings_then, follows_more}
 use Rattle.certify.proofs.script.stream.CommandStream.next.Goals as goal
 
