@@ -136,7 +136,7 @@ fn judge(names: &mut Names, command: Command<'_>, out: &mut Vec<u8>) -> Result<(
     names.accept(command)
 }
 
-/// VerdictHolds every command of a text.
+/// Judges every command of a text.
 fn judge_all(alloc: Global, text: &[u8]) -> Result<Vec<u8>, AllocError> {
     let mut out = Vec::new(alloc);
     let mut reader = ScriptReader::new(alloc);

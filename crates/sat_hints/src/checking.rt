@@ -47,7 +47,7 @@ fn line_end(bytes: &[u8]) -> Option<usize>
     None
 }
 
-/// Reads and judges a line, given as bytes. Returns why the line is faulty, if it is.
+/// Reads and checks a line, given as bytes. Returns why the line is faulty, if it is.
 fn take_line(
     lists: &mut Lists,
     checker: &mut LineChecker,
@@ -79,7 +79,7 @@ impl Checking {
         }
     }
 
-    /// VerdictHolds the line that consists of the held bytes and `bytes`, which must end with the line's LF. Returns why the
+    /// Checks the line that consists of the held bytes and `bytes`, which must end with the line's LF. Returns why the
     /// line is at fault, if it is.
     fn end_line(&mut self, bytes: &[u8]) -> Result<Option<HintWhy>, AllocError>
         requires ready { IsReadyChecker self.old.checker }

@@ -87,7 +87,7 @@ impl LineChecker {
         conflict(&self.standing, ids, literals, negate, &mut self.assumed)
     }
 
-    /// VerdictHolds an `i` line. Returns why the line is at fault, if it is.
+    /// Checks an `i` line. Returns why the line is at fault, if it is.
     fn input(&mut self, id: u64, clause: &[Lit]) -> Result<Option<HintWhy>, AllocError>
         requires ready { IsReadyChecker self.old }
         requires within { IsId id }
@@ -101,7 +101,7 @@ impl LineChecker {
         Ok(None)
     }
 
-    /// VerdictHolds a `d` line. Returns why the line is at fault, if it is.
+    /// Checks a `d` line. Returns why the line is at fault, if it is.
     fn derived(
         &mut self,
         id: u64,
@@ -125,7 +125,7 @@ impl LineChecker {
         Ok(None)
     }
 
-    /// VerdictHolds an `x` line. Returns why the line is at fault, if it is.
+    /// Checks an `x` line. Returns why the line is at fault, if it is.
     fn gone(&mut self, id: u64) -> Result<Option<HintWhy>, AllocError>
         requires { IsReadyChecker self.old }
         ensures takes { IfOk result (λ why. TakesOne why self.old self.new (Gone id)) }
@@ -137,7 +137,7 @@ impl LineChecker {
         Ok(Some(HintWhy::UnknownId))
     }
 
-    /// VerdictHolds an `f` line. Returns why the line is at fault, if it is.
+    /// Checks an `f` line. Returns why the line is at fault, if it is.
     fn core(&mut self, core: &[Lit], ids: &[u64]) -> Option<HintWhy>
         requires { IsReadyChecker self.old }
         ensures { TakesOne result self.old self.new (Core core.now ids.now) }
@@ -150,7 +150,7 @@ impl LineChecker {
         None
     }
 
-    /// VerdictHolds an `e` line. Returns why the line is at fault, if it is.
+    /// Checks an `e` line. Returns why the line is at fault, if it is.
     fn fresh(&mut self, var: Var) -> Result<Option<HintWhy>, AllocError>
         requires { IsReadyChecker self.old }
         ensures takes { IfOk result (λ why. TakesOne why self.old self.new (Fresh var)) }
@@ -163,7 +163,7 @@ impl LineChecker {
         Ok(None)
     }
 
-    /// VerdictHolds the next line, without counting it. Returns why the line is at fault, if it is.
+    /// Checks the next line, without counting it. Returns why the line is at fault, if it is.
     fn take_unnumbered(&mut self, line: &HintLine<'_>) -> Result<Option<HintWhy>, AllocError>
         requires ready { IsReadyChecker self.old }
         requires within { IsLine (line_of_view line.now) }
@@ -179,7 +179,7 @@ impl LineChecker {
         }
     }
 
-    /// VerdictHolds the next line. Returns why the line is at fault, if it is. Runs out of memory only if the line is not
+    /// Checks the next line. Returns why the line is at fault, if it is. Runs out of memory only if the line is not
     /// at fault.
     pub(crate) fn take(&mut self, line: &HintLine<'_>) -> Result<Option<HintWhy>, AllocError>
         requires ready { IsReadyChecker self.old }
