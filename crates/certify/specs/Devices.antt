@@ -3,12 +3,12 @@ use Rattle.std.specs.Prelude.{◌+◌, ◌≡◌, true}
 use Rattle.sat_base.specs.device.Device.{Reader, Writer}
 
 -- the state of a reader, before and after a call
-abbrev pub gave : {D : Type 0} → (D → Reader) → D → D → Reader × Reader
-gave seen old new = (seen old, seen new)
+abbrev pub reader_before_after : {D : Type 0} → (D → Reader) → D → D → Reader × Reader
+reader_before_after seen old new = (seen old, seen new)
 
 -- the state of a writer, before and after a call
-abbrev pub took : {D : Type 0} → (D → Writer) → D → D → Writer × Writer
-took seen old new = (seen old, seen new)
+abbrev pub writer_before_after : {D : Type 0} → (D → Writer) → D → D → Writer × Writer
+writer_before_after seen old new = (seen old, seen new)
 
 -- that no call of the writer failed; it is lent through the same borrows
 abbrev pub NoneFailed : Writer → Writer → Type 0

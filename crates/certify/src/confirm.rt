@@ -1,9 +1,10 @@
 //! Confirms that a script, answers and a certificate match.
 ghost use Rattle.std.specs.Prelude.{◌≡◌, ◌+◌, ◌≤◌, ◌⊎◌, IfOk, IsErrOf};
 ghost use Rattle.sat_base.specs.device.Device.{most_reads, ReadFails};
-ghost use Rattle.certify.specs.Devices.{gave};
-ghost use Rattle.certify.specs.confirm.VerdictPromises.{IsExact, IsSoundVerdict, Promised, ReadsKept, TakesLooks};
-ghost use Rattle.certify.specs.confirm.ConfirmedScript.{said_by};
+ghost use Rattle.certify.specs.Devices.{reader_before_after};
+ghost use Rattle.certify.specs.confirm.VerdictPromises.{IsExact, IsSoundVerdict, ConfirmGuarantee, ReadsKept};
+ghost use Rattle.certify.specs.confirm.VerdictPromises.{TakesLooks};
+ghost use Rattle.certify.specs.confirm.ConfirmedScript.{confirm_result};
 
 pub(crate) mod answers;
 pub(crate) mod certificate;
@@ -30,7 +31,7 @@ use stop::Stop;
 
 /// Returns the verdict of a confirmation that ended with `ended`, after `asks` completely confirmed asks.
 fn conclude(ended: Result<(), Stop>, asks: u64) -> Result<Verdict, ConfirmFault>
-    ensures { result ≡ said_by ended asks }
+    ensures { result ≡ confirm_result ended asks }
 {
     match ended {
         Ok(()) => Ok(Verdict::Yes),
@@ -55,8 +56,8 @@ fn compare<S: CountedRead, A: CountedRead, C: CountedRead>(
     certificate: &mut C,
     looks: &mut Looks,
 ) -> (Result<(), Stop>, u64)
-    ensures promised { Promised (said_by result.0 result.1) (gave S.seen script.old script.new)
-        (gave A.seen answers.old answers.new) (gave C.seen certificate.old certificate.new) }
+    ensures promised { ConfirmGuarantee (confirm_result result.0 result.1) (reader_before_after S.seen script.old script.new)
+        (reader_before_after A.seen answers.old answers.new) (reader_before_after C.seen certificate.old certificate.new) }
     ensures looks { TakesLooks (C.seen certificate.old) (C.seen certificate.new) looks.old looks.new }
 {
     let mut confirmation = Confirmation {
@@ -86,8 +87,8 @@ pub fn confirm<S: CountedRead, A: CountedRead, C: CountedRead>(
     ensures exact { IsExact result S.seen A.seen C.seen (script.old, answers.old, certificate.old)
         (script.new, answers.new, certificate.new) }
     // `Yes` means that the answers are correct, whoever wrote the answers and the certificate.
-    ensures sound { IfOk result (IsSoundVerdict (gave S.seen script.old script.new)
-        (gave A.seen answers.old answers.new)) }
+    ensures sound { IfOk result (IsSoundVerdict (reader_before_after S.seen script.old script.new)
+        (reader_before_after A.seen answers.old answers.new)) }
 
     // A reader's fault is returned only if exactly one of its reads failed, or none of 2^48 reads did.
     ensures script_read { IsErrOf result ConfirmFault.ScriptRead → ReadFails (S.seen script.old) (S.seen script.new) }

@@ -1,7 +1,7 @@
 //! The headline for texts in memory: runs a script, confirms what the run wrote, and confirms any other answers to
 //! the script.
 ghost use Rattle.std.specs.Prelude.{◌≤◌, ◌+◌, IfOk, OnOk};
-ghost use Rattle.certify.specs.laws.EndToEnd.{Certified, VerdictSays, most_looks_over};
+ghost use Rattle.certify.specs.laws.EndToEnd.{Certified, VerdictGuarantee, most_looks_over};
 ghost use Rattle.certify.specs.laws.Headline.{Headline};
 ghost use Rattle.certify.specs.run.FinishedRun.{CertificateGuarantee, rounds_of_asks};
 
@@ -67,7 +67,7 @@ pub(crate) fn confirm_over(
     certificate: &[u8],
     looks: &mut Looks,
 ) -> Result<Verdict, ConfirmFault>
-    ensures says { IfOk result (VerdictSays script.now answers.now certificate.now) }
+    ensures says { IfOk result (VerdictGuarantee script.now answers.now certificate.now) }
     ensures looks { looks.new ≤ looks.old + most_looks_over script.now answers.now certificate.now }
 {
     let mut script = Counted::new(script);
@@ -85,8 +85,8 @@ fn verdicts_over(
     shown: &[u8],
     looks: &mut Looks,
 ) -> Result<(Verdict, Verdict), ConfirmFault>
-    ensures own { IfOk result (λ v. VerdictSays script.now written.now.answers.items written.now.certificate.items v.0) }
-    ensures other { IfOk result (λ v. VerdictSays script.now claimed.now shown.now v.1) }
+    ensures own { IfOk result (λ v. VerdictGuarantee script.now written.now.answers.items written.now.certificate.items v.0) }
+    ensures other { IfOk result (λ v. VerdictGuarantee script.now claimed.now shown.now v.1) }
     ensures looks { OnOk result (looks.new ≤ looks.old
         + most_looks_over script.now written.now.answers.items written.now.certificate.items
         + most_looks_over script.now claimed.now shown.now) }
@@ -142,8 +142,8 @@ pub fn headline_over(
         v.written.answers.items v.written.certificate.items v.own claimed.now shown.now v.other looks.old looks.new) }
     // Both verdicts are those of `confirm`: `Yes` exactly when the three texts match.
     ensures verdicts { IfOk result (λ v.
-        VerdictSays script.now v.written.answers.items v.written.certificate.items v.own
-        × VerdictSays script.now claimed.now shown.now v.other) }
+        VerdictGuarantee script.now v.written.answers.items v.written.certificate.items v.own
+        × VerdictGuarantee script.now claimed.now shown.now v.other) }
 {
     certify_over(alloc, script, budget, claimed, shown, looks)
 }

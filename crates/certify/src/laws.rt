@@ -2,7 +2,7 @@
 ghost use Rattle.certify.specs.laws.Confirmed.{CertifiedMatches};
 ghost use Rattle.certify.specs.laws.EndToEnd.{FinishedIsConfirmed};
 ghost use Rattle.certify.specs.laws.HeadlineLaws.{CertifiedIsHeadline, RightByAsks, RightByOutcomes, SameAnswers};
-ghost use Rattle.certify.specs.laws.HeadlineLaws.{SameMatches, SameReports, SaysTheSame};
+ghost use Rattle.certify.specs.laws.HeadlineLaws.{SameMatches, SameReports, ReadingsAgree};
 ghost use Rattle.certify.specs.laws.HintTexts.{RunsHaveHints};
 ghost use Rattle.certify.specs.laws.Laws.{AskBindsNothing, AskLeavesNames, MatchingIsRight, NotBoth};
 ghost use Rattle.certify.specs.laws.Laws.{RepeatChangesNothing, TautologyChangesNothing, TextsDetermineOutcomes};
@@ -48,7 +48,7 @@ pub fn certified_is_headline()
 /// States that the short definitions in the contracts of `run` and `confirm` are equivalent to those that the proofs
 /// about matching and runs use.
 pub fn short_says_the_same()
-    ensures script { SaysTheSame }
+    ensures script { ReadingsAgree }
     ensures answers { SameAnswers }
     ensures asks { RightByAsks }
     ensures right { RightByOutcomes }

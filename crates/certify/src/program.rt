@@ -1,7 +1,7 @@
 //! What the program does with its arguments and its standard streams.
 ghost use Rattle.std.specs.Prelude.{◌≡◌, ◌≤◌, [], map, IfOk};
 ghost use Rattle.std.specs.String.{string_bytes};
-ghost use Rattle.certify.specs.Devices.{gave, took};
+ghost use Rattle.certify.specs.Devices.{reader_before_after, writer_before_after};
 ghost use Rattle.certify.specs.program.Calls.{ReportsUsage, request_of};
 ghost use Rattle.certify.specs.program.FileCalls.{CallDone, DoneOverFiles};
 ghost use Rattle.certify.specs.program.Printing.{PrintsAtMost, PrintsVerdict};
@@ -19,7 +19,7 @@ mod verdict_line;
 
 use crate::fault::RunFault;
 use crate::program::call::{Call, call_of};
-use crate::program::fault::Fault;
+use crate::program::fault::ProgramFault;
 use crate::program::files::{check_file, confirm_files, hint_files, run_files};
 use crate::program::printing::{failed, misused};
 use crate::program::standard::answer;
@@ -68,14 +68,14 @@ pub fn program<R: AllocGlobal + Files, I: CountedRead, O: CountedWrite, E: Count
     // Without arguments and with status 0 or 1, the output received correct answers to the script, each unknown only if
     // its rounds are exhausted, and then `c confirmed`. Status 0 means that the script is not malformed.
     ensures printed { IfOk arguments (λ words. words.items ≡ [] → result ≤ 1
-        → PrintsVerdict result (gave I.seen input.old input.new) (took O.seen output.old output.new)) }
+        → PrintsVerdict result (reader_before_after I.seen input.old input.new) (writer_before_after O.seen output.old output.new)) }
     // Without arguments and with any status, the output received a prefix of such a text, perhaps an empty one.
     ensures prefix { IfOk arguments (λ words. words.items ≡ []
-        → PrintsAtMost (gave I.seen input.old input.new) (took O.seen output.old output.new)) }
+        → PrintsAtMost (reader_before_after I.seen input.old input.new) (writer_before_after O.seen output.old output.new)) }
     // After a call that names files, with status 0 or 1, the files that were opened were read and written as the
     // call asks.
     ensures files { IfOk arguments (λ words. DoneOverFiles R.File.remaining R.File.contents
-        (map string_bytes words.items) result (took O.seen output.old output.new)) }
+        (map string_bytes words.items) result (writer_before_after O.seen output.old output.new)) }
 {
     match arguments {
         Ok(words) => obey(rt, &words, input, output, errors),
@@ -83,7 +83,7 @@ pub fn program<R: AllocGlobal + Files, I: CountedRead, O: CountedWrite, E: Count
             if e.kind() != io::ErrorKind::OutOfMemory {
                 return misused(errors);
             }
-            failed(errors, Fault::Run(RunFault::OutOfMemory))
+            failed(errors, ProgramFault::Run(RunFault::OutOfMemory))
         }
     }
 }
@@ -99,11 +99,11 @@ fn obey<R: AllocGlobal + Files, I: CountedRead, O: CountedWrite, E: CountedWrite
     ensures status { result ≤ 3 }
     ensures usage { ReportsUsage (map string_bytes words.now) result }
     ensures printed { words.now ≡ [] → result ≤ 1
-        → PrintsVerdict result (gave I.seen input.old input.new) (took O.seen output.old output.new) }
+        → PrintsVerdict result (reader_before_after I.seen input.old input.new) (writer_before_after O.seen output.old output.new) }
     ensures prefix { words.now ≡ []
-        → PrintsAtMost (gave I.seen input.old input.new) (took O.seen output.old output.new) }
+        → PrintsAtMost (reader_before_after I.seen input.old input.new) (writer_before_after O.seen output.old output.new) }
     ensures files { DoneOverFiles R.File.remaining R.File.contents (map string_bytes words.now) result
-        (took O.seen output.old output.new) }
+        (writer_before_after O.seen output.old output.new) }
 {
     if words.is_empty() {
         return match answer(rt.alloc(), input, output, errors) {
@@ -126,9 +126,9 @@ fn serve<R: AllocGlobal + Files, O: CountedWrite, E: CountedWrite>(
     call: &Call<'_>,
     output: &mut O,
     errors: &mut E,
-) -> Result<u8, Fault>
+) -> Result<u8, ProgramFault>
     ensures { IfOk result (λ s. CallDone R.File.remaining R.File.contents (request_of call.now) s
-        (took O.seen output.old output.new)) }
+        (writer_before_after O.seen output.old output.new)) }
 {
     match *call {
         Call::Run { files, budget } => run_files(rt, files, budget, errors),

@@ -1,7 +1,7 @@
 //! Answers a script while reading it, and writes a certificate.
 ghost use Rattle.std.specs.Prelude.{◌≡◌, ◌+◌, ◌≤◌, ◌⊎◌, true, IfOk, OnErr, OnOk, IsErrOf};
 ghost use Rattle.sat_base.specs.device.Device.{most_reads, ReadFails};
-ghost use Rattle.certify.specs.Devices.{gave, took};
+ghost use Rattle.certify.specs.Devices.{reader_before_after, writer_before_after};
 ghost use Rattle.certify.specs.run.FinishedRun.{WritesAnswers, CertificateIsGuaranteed, WriteFails, WritesKept};
 ghost use Rattle.certify.specs.run.Running.{ReadsFew, FinishesOrFaults};
 ghost use Rattle.certify.specs.run.Unfinished.{CounterEnds, TookSteps, Unfinished};
@@ -35,14 +35,14 @@ fn answer<S: CountedRead, A: CountedWrite, C: CountedWrite + Drop>(
     certificate: C,
     budget: u64,
 ) -> (C, Result<Summary, RunFault>)
-    ensures runs { FinishesOrFaults result.1 budget (gave S.seen script.old script.new)
-        (took A.seen answers.old answers.new) (C.seen certificate, C.seen result.0) }
+    ensures runs { FinishesOrFaults result.1 budget (reader_before_after S.seen script.old script.new)
+        (writer_before_after A.seen answers.old answers.new) (C.seen certificate, C.seen result.0) }
     ensures unfinished { OnErr result.1
-        (Unfinished budget (gave S.seen script.old script.new) (took A.seen answers.old answers.new)) }
+        (Unfinished budget (reader_before_after S.seen script.old script.new) (writer_before_after A.seen answers.old answers.new)) }
     ensures steps { TookSteps (C.seen certificate, C.seen result.0) }
-    ensures counter_end { IsErrOf result.1 RunFault.CounterEnd → CounterEnds (gave S.seen script.old script.new)
+    ensures counter_end { IsErrOf result.1 RunFault.CounterEnd → CounterEnds (reader_before_after S.seen script.old script.new)
         (C.seen certificate, C.seen result.0) }
-    ensures reads { ReadsFew (gave S.seen script.old script.new) }
+    ensures reads { ReadsFew (reader_before_after S.seen script.old script.new) }
 {
     let mut session = RunState::new(alloc, certificate, budget);
     let mut stream = CommandStream::new(alloc);
@@ -58,14 +58,14 @@ fn answer_into<S: CountedRead, A: CountedWrite, C: CountedWrite>(
     certificate: &mut C,
     budget: u64,
 ) -> Result<Summary, RunFault>
-    ensures runs { FinishesOrFaults result budget (gave S.seen script.old script.new)
-        (took A.seen answers.old answers.new) (took C.seen certificate.old certificate.new) }
+    ensures runs { FinishesOrFaults result budget (reader_before_after S.seen script.old script.new)
+        (writer_before_after A.seen answers.old answers.new) (writer_before_after C.seen certificate.old certificate.new) }
     ensures unfinished { OnErr result
-        (Unfinished budget (gave S.seen script.old script.new) (took A.seen answers.old answers.new)) }
-    ensures steps { TookSteps (took C.seen certificate.old certificate.new) }
-    ensures counter_end { IsErrOf result RunFault.CounterEnd → CounterEnds (gave S.seen script.old script.new)
-        (took C.seen certificate.old certificate.new) }
-    ensures reads { ReadsFew (gave S.seen script.old script.new) }
+        (Unfinished budget (reader_before_after S.seen script.old script.new) (writer_before_after A.seen answers.old answers.new)) }
+    ensures steps { TookSteps (writer_before_after C.seen certificate.old certificate.new) }
+    ensures counter_end { IsErrOf result RunFault.CounterEnd → CounterEnds (reader_before_after S.seen script.old script.new)
+        (writer_before_after C.seen certificate.old certificate.new) }
+    ensures reads { ReadsFew (reader_before_after S.seen script.old script.new) }
 {
     let (lent, result) = answer(alloc, script, answers, certificate, budget);
     let _certificate: &mut C = lent;
@@ -86,10 +86,10 @@ pub fn run<S: CountedRead, A: CountedWrite, C: CountedWrite>(
 ) -> Result<Summary, RunFault>
     // The answers' writer received correct answers to the bytes that were read, whatever bytes might follow them.
     ensures answered { IfOk result
-        (λ s. WritesAnswers budget s (gave S.seen script.old script.new) (took A.seen answers.old answers.new)) }
+        (λ s. WritesAnswers budget s (reader_before_after S.seen script.old script.new) (writer_before_after A.seen answers.old answers.new)) }
     // The certificate's writer received the steps of the accepted commands and of these answers, and a checker accepts
     // each step in order. Once the steps record that the clauses are unsatisfiable, every ask is answered `Unsat`
-    // without a round of search. In any other ask, every round derived a clause that advances, except the round that
+    // without a round of search. In any other ask, every round derived an empowering clause, except the round that
     // found the answer, and no other clause of the ask advances. A clause advances if it is new to unit propagation. If
     // no command hides a name, no variable is deleted.
     ensures guaranteed { CertificateIsGuaranteed result budget S.seen A.seen C.seen (script.old, answers.old, certificate.old)
@@ -98,10 +98,10 @@ pub fn run<S: CountedRead, A: CountedWrite, C: CountedWrite>(
     // If the run is not finished, the answers' writer received a prefix of correct answers to the bytes that were read,
     // whatever bytes might follow them. Every unknown answer among them has exhausted its rounds.
     ensures unfinished { OnErr result
-        (Unfinished budget (gave S.seen script.old script.new) (took A.seen answers.old answers.new)) }
+        (Unfinished budget (reader_before_after S.seen script.old script.new) (writer_before_after A.seen answers.old answers.new)) }
     // Whatever is returned, the certificate's writer received a prefix of the text of steps that a checker accepts, and
     // nothing else.
-    ensures steps { TookSteps (took C.seen certificate.old certificate.new) }
+    ensures steps { TookSteps (writer_before_after C.seen certificate.old certificate.new) }
 
     // A device's fault is returned only if exactly one call to the device failed, or none of 2^48 reads did.
     ensures script_read { IsErrOf result RunFault.ScriptRead → ReadFails (S.seen script.old) (S.seen script.new) }
@@ -112,8 +112,8 @@ pub fn run<S: CountedRead, A: CountedWrite, C: CountedWrite>(
     // `CounterEnd` is returned only if the bytes that were read contain 2^64-1 commands, or a command whose names
     // need more variables than are left after some steps. The certificate's writer received a prefix of the text of
     // these steps.
-    ensures counter_end { IsErrOf result RunFault.CounterEnd → CounterEnds (gave S.seen script.old script.new)
-        (took C.seen certificate.old certificate.new) }
+    ensures counter_end { IsErrOf result RunFault.CounterEnd → CounterEnds (reader_before_after S.seen script.old script.new)
+        (writer_before_after C.seen certificate.old certificate.new) }
     // A call to a device has failed only if the fault of that device is returned.
     ensures kept_script { IsErrOf result RunFault.ScriptRead
         ⊎ ((S.seen script.new).failures ≡ (S.seen script.old).failures) }

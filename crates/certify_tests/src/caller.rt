@@ -1,6 +1,6 @@
 //! A caller of `confirm` with a contract of its own, and calls of `headline_over`.
 ghost use Rattle.std.specs.Prelude.{◌≡◌, true};
-ghost use Rattle.certify.specs.Devices.{gave};
+ghost use Rattle.certify.specs.Devices.{reader_before_after};
 ghost use Rattle.certify.specs.confirm.VerdictPromises.{AreRightAnswers, GaveTextWith};
 
 use certify::confirm::confirm;
@@ -17,8 +17,8 @@ fn are_right<S: CountedRead, A: CountedRead, C: CountedRead>(
     answers: &mut A,
     certificate: &mut C,
 ) -> bool
-    ensures { result ≡ true → GaveTextWith (gave S.seen script.old script.new)
-        (λ s. GaveTextWith (gave A.seen answers.old answers.new) (AreRightAnswers s)) }
+    ensures { result ≡ true → GaveTextWith (reader_before_after S.seen script.old script.new)
+        (λ s. GaveTextWith (reader_before_after A.seen answers.old answers.new) (AreRightAnswers s)) }
 {
     let mut looks = Looks::new();
     match confirm(alloc, script, answers, certificate, &mut looks) {

@@ -186,7 +186,7 @@ fn brings(alloc: Global) -> Result<bool, AllocError> {
     let second = Var::from_index(1);
     let third = Var::from_index(2);
     let all = names.new_names(third) == NewNames { first: 0, count: 3 };
-    names.bring_in(third);
+    names.introduce(third);
     let none = names.new_names(second).count == 0;
     names.take(CommandKind::Hide, second)?;
     let one = names.new_names(second) == NewNames { first: 1, count: 1 };

@@ -4,12 +4,13 @@ ghost use Rattle.std.specs.Io.{ReadsAtMost};
 ghost use Rattle.sat_base.specs.device.Device.{most_reads, ReadFails, GaveEnough};
 ghost use Rattle.sat_base.specs.values.Literals.{var_limit};
 ghost use Rattle.sat_base.specs.text.Text.{dimacs_header};
-ghost use Rattle.sat_base.specs.text.Tokenizing.{held};
+ghost use Rattle.sat_base.specs.text.Tokenizing.{capped};
 ghost use Rattle.sat_base.specs.values.Formulas.{vars_of};
 ghost use Rattle.sat_base.specs.dimacs.ParserPlaces.{with_parser};
-ghost use Rattle.sat_base.specs.dimacs.Parsing.{no_progress, clauses_read, lines_read, held_numbers, all_taken};
-ghost use Rattle.sat_base.specs.dimacs.Parsing.{FeedsPiece, IsSoundSoFar, GaveSound, Finishes, Parses, KeepsText};
-ghost use Rattle.sat_base.specs.dimacs.Parsing.{ParsesInParts, RefusesPiece, SaysEnded, StopsReading, VisitsAll};
+ghost use Rattle.sat_base.specs.dimacs.Parsing.{no_progress, clauses_read, lines_read, capped_numbers, all_taken};
+ghost use Rattle.sat_base.specs.dimacs.Parsing.{FeedsPiece, IsSoundSoFar, GaveSound, Finishes, Parses};
+ghost use Rattle.sat_base.specs.dimacs.Parsing.{OnlyTakesClauses};
+ghost use Rattle.sat_base.specs.dimacs.Parsing.{ParsesInParts, RefusesPiece, ReportsEnded, StopsReading, VisitsAll};
 ghost use Rattle.sat_base.specs.dimacs.Faults.{ReadsNext};
 
 mod clauses;
@@ -117,7 +118,7 @@ impl DimacsParser {
 
     /// Returns the number of complete clauses of the text so far, capped at 2^64-1.
     pub fn clause_count(&self) -> u64
-        ensures { result ≡ held (length (clauses_read self.now)) }
+        ensures { result ≡ capped (length (clauses_read self.now)) }
     {
         self.parser.clauses.count
     }
@@ -125,7 +126,7 @@ impl DimacsParser {
     /// Returns the numbers of variables and of clauses in the header, if there is one. Both are capped at 2^64-1. They
     /// are not checked against the clauses.
     pub fn header(&self) -> Option<(u64, u64)>
-        ensures { result ≡ held_numbers (dimacs_header (lines_read self.now)) }
+        ensures { result ≡ capped_numbers (dimacs_header (lines_read self.now)) }
     {
         self.parser.clauses.header
     }
@@ -133,7 +134,7 @@ impl DimacsParser {
     /// Whether a line that begins with `%` has ended the text. If so, all later bytes are ignored, and only `finish`
     /// needs to be called.
     pub fn has_ended(&self) -> bool
-        ensures { SaysEnded result self.now }
+        ensures { ReportsEnded result self.now }
     {
         self.parser.has_ended()
     }
@@ -163,7 +164,7 @@ impl DimacsParser {
     fn read_next<R: CountedRead>(&self, reader: &mut R, room: &mut [u8]) -> io::Result<usize>
         ensures bound { ReadsAtMost result room.new }
         ensures reads { ReadsNext result room.new self.now.fed (R.seen reader.old) (R.seen reader.new) }
-        ensures goes_on { IfOk result (λ n. 0 < n → SaysEnded false self.now) }
+        ensures goes_on { IfOk result (λ n. 0 < n → ReportsEnded false self.now) }
     {
         if self.has_ended() {
             return Ok(0);
@@ -220,7 +221,7 @@ impl DimacsParser {
         // If no call to the closure does more than take clauses, the result is that for the bytes that were read,
         // whatever bytes might follow them. By the contract of `take_formula`, the clauses that were taken and those
         // that remain together make up the clauses of the text.
-        ensures given { KeepsText (λ f p r q g. F.step f p r q g) closure
+        ensures given { OnlyTakesClauses (λ f p r q g. F.step f p r q g) closure
             → ParsesInParts (R.seen reader.old) (R.seen reader.new) result }
         // Whatever the closure does, it was called with the parser after every chunk that the reader gave.
         ensures visited { VisitsAll (λ f p r q g. F.step f p r q g) closure (R.seen reader.old) (R.seen reader.new)
@@ -247,7 +248,7 @@ impl DimacsParser {
     ) -> Result<(), IncrementalError<E>>
         requires fresh { self.old ≡ no_progress }
         requires callable { F.IsAlwaysCallable closure }
-        ensures given { KeepsText (λ f p r q g. F.step f p r q g) closure
+        ensures given { OnlyTakesClauses (λ f p r q g. F.step f p r q g) closure
             → ParsesInParts (R.seen reader.old) (R.seen reader.new) (with_parser self.new result) }
         ensures visited { VisitsAll (λ f p r q g. F.step f p r q g) closure (R.seen reader.old) (R.seen reader.new)
             (with_parser self.new result) }

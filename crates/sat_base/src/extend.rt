@@ -1,6 +1,6 @@
 //! A trait for types that clauses and variables can be added to.
 ghost use Rattle.std.specs.Prelude.{◌≡◌, ℕ, List, true, MatchResult};
-ghost use Rattle.sat_base.specs.values.Literals.{coded};
+ghost use Rattle.sat_base.specs.values.Literals.{mk_lit};
 
 use crate::{Lit, Var};
 
@@ -43,7 +43,7 @@ pub trait ExtendFormula {
     fn new_lit(&mut self) -> Result<Lit, Self::Error>
         requires { ready self.old }
         ensures ready { ready self.new }
-        ensures makes { MatchResult result (λ l. (v : ℕ) × makes self.old v self.new × (l ≡ coded v true))
+        ensures makes { MatchResult result (λ l. (v : ℕ) × makes self.old v self.new × (l ≡ mk_lit v true))
             (λ e. refuses_variable self.old e self.new) }
     {
         match self.new_var() {

@@ -1,6 +1,6 @@
 //! Literals.
 ghost use Rattle.std.specs.Prelude.{ℕ, ◌≡◌, ◌*◌, ◌<◌, not, true, false, MatchOption};
-ghost use Rattle.sat_base.specs.values.Literals.{coded, var_limit, variable, is_positive, negated, negated_if};
+ghost use Rattle.sat_base.specs.values.Literals.{mk_lit, var_limit, variable, is_positive, negated, negated_if};
 ghost use Rattle.sat_base.specs.values.Numerals.{IsNoNumeral, numeral};
 
 use crate::Var;
@@ -30,21 +30,21 @@ impl Model for Lit {
 impl Lit {
     /// Returns the positive literal of `var` if `positive` is true, and the negative one otherwise.
     pub fn from_var(var: Var, positive: bool) -> Lit
-        ensures { result ≡ coded var positive }
+        ensures { result ≡ mk_lit var positive }
     {
         Lit::from_index(var.index(), positive)
     }
 
     /// Returns the positive literal of a variable.
     pub fn positive(var: Var) -> Lit
-        ensures { result ≡ coded var true }
+        ensures { result ≡ mk_lit var true }
     {
         Lit::from_var(var, true)
     }
 
     /// Returns the negative literal of a variable.
     pub fn negative(var: Var) -> Lit
-        ensures { result ≡ coded var false }
+        ensures { result ≡ mk_lit var false }
     {
         Lit::from_var(var, false)
     }
@@ -53,7 +53,7 @@ impl Lit {
     /// one otherwise.
     pub fn from_index(index: usize, positive: bool) -> Lit
         requires { index < var_limit }
-        ensures { result ≡ coded index positive }
+        ensures { result ≡ mk_lit index positive }
     {
         let sign = if positive { 0 } else { 1 };
         Lit {
@@ -126,7 +126,7 @@ impl Lit {
     /// Returns the literal with its variable replaced by the one that `f` returns.
     pub fn map_var<F: FnOnce(Var) -> Var>(self, f: F) -> Lit
         requires { F.pre f (variable self) }
-        ensures { (v : ℕ) × F.post f (variable self) v × (result ≡ coded v (is_positive self)) }
+        ensures { (v : ℕ) × F.post f (variable self) v × (result ≡ mk_lit v (is_positive self)) }
     {
         f(self.var()).lit(self.is_positive())
     }

@@ -4,9 +4,10 @@ ghost use Rattle.std.specs.Prelude.{length, take};
 ghost use Rattle.sat_base.specs.text.Text.{is_blank, is_digit, is_letter, Scan, scan};
 ghost use Rattle.sat_base.specs.text.Chunks.{Follows, IgnoresRest};
 ghost use Rattle.sat_base.specs.text.WrongWords.{HasValidContinuation, HasNoValidContinuation};
-ghost use Rattle.sat_base.specs.text.Tokenizing.{grown, held, may_come, Began, MovesPlace, MovesBy, BeginsWord};
-ghost use Rattle.sat_base.specs.text.Tokenizing.{SaysInHand, SaysAtBlank, LeadsAfter, IsQuiet, IsPositionedBefore};
-ghost use Rattle.sat_base.specs.text.Tokenizing.{TakesByte, TakesFront, HoldsNoWord, GivesLast};
+ghost use Rattle.sat_base.specs.text.Tokenizing.{with_digit, capped, may_come, Began, MovesPlace, MovesBy, BeginsWord};
+ghost use Rattle.sat_base.specs.text.Tokenizing.{SaysInHand, SaysAtBlank, LeadsAfter, IsBetweenWords};
+ghost use Rattle.sat_base.specs.text.Tokenizing.{IsPositionedBefore};
+ghost use Rattle.sat_base.specs.text.Tokenizing.{ReceivesByte, ReceivesPrefix, HasNoNumberOrLetter, GivesLast};
 
 mod header;
 
@@ -92,9 +93,9 @@ fn is_letter(byte: u8) -> bool
 }
 
 /// Returns the value of the number with `digit` appended, capped at 2^64-1.
-fn grown(value: u64, digit: u8) -> u64
+fn with_digit(value: u64, digit: u8) -> u64
     requires { is_digit digit ≡ true }
-    ensures { result ≡ grown value digit }
+    ensures { result ≡ with_digit value digit }
 {
     // Most numbers are far below the limit, and a multiplication without a check takes half as long.
     if value < 1 << 60 {
@@ -154,7 +155,7 @@ fn number_goes_on(negative: bool, value: u64, byte: u8) -> Place
     if is_digit(byte) {
         Place::Digits {
             negative,
-            value: grown(value, byte),
+            value: with_digit(value, byte),
         }
     } else {
         Place::Bad
@@ -173,7 +174,7 @@ fn digits_in(value: u64, bytes: &[u8]) -> (u64, usize)
         if !is_digit(*byte) {
             return (value, count);
         }
-        value = grown(value, *byte);
+        value = with_digit(value, *byte);
     }
     (value, bytes.len())
 }
@@ -320,7 +321,7 @@ fn token_at_blank(place: Place) -> Option<Token>
 #[inline(always)]
 fn after_blank(place: Place) -> Place
     ensures leads { LeadsAfter place result }
-    ensures quiet { IsQuiet result }
+    ensures quiet { IsBetweenWords result }
 {
     match place {
         Place::Digits { .. } => Place::Between,
@@ -376,7 +377,7 @@ impl Tokenizer {
     /// Receives an LF. Returns the token that the LF ends, if there is one.
     #[inline(always)]
     fn end_line(&mut self) -> Option<Token>
-        ensures takes { TakesByte self.old 10 result self.new }
+        ensures takes { ReceivesByte self.old 10 result self.new }
         ensures ended { (after : List ℕ → Scan) → IsPositionedBefore self.new after → (after []).tokens ≡ [] }
         ensures right { (after : List ℕ → Scan) → IsPositionedBefore self.new after → HasValidContinuation after }
     {
@@ -394,12 +395,12 @@ impl Tokenizer {
     /// a token.
     #[inline(always)]
     pub fn push(&mut self, byte: u8) -> Option<Token>
-        ensures takes { TakesByte self.old byte result self.new }
+        ensures takes { ReceivesByte self.old byte result self.new }
         // Only a blank ends a word.
         ensures inside { is_blank byte ≡ false → result ≡ None }
         // After a blank, no word is unfinished. After an LF, no header line is unfinished.
         ensures quiet { is_blank byte ≡ true → (after : List ℕ → Scan) → IsPositionedBefore self.new after
-            → HoldsNoWord (after []) }
+            → HasNoNumberOrLetter (after []) }
         ensures ended { byte ≡ 10 → (after : List ℕ → Scan) → IsPositionedBefore self.new after → (after []).tokens ≡ [] }
         // After a blank, the text can still be continued to a valid one.
         ensures right { is_blank byte ≡ true → (after : List ℕ → Scan) → IsPositionedBefore self.new after
@@ -449,7 +450,7 @@ impl Tokenizer {
         ensures within { IfSome result (λ r. (0 < r.0) × (r.0 ≤ length bytes.now)) }
         // The effect is as if the bytes were pushed one by one: the last one ends the number.
         ensures takes { IfSome result (λ r.
-            TakesFront self.old (take r.0 bytes.now) (Some (Token.Number r.1 r.2)) self.new) }
+            ReceivesPrefix self.old (take r.0 bytes.now) (Some (Token.Number r.1 r.2)) self.new) }
         ensures right { (result ≡ None → ⊥) → (after : List ℕ → Scan) → IsPositionedBefore self.new after
             → HasValidContinuation after }
     {
@@ -481,7 +482,7 @@ impl Tokenizer {
         requires { 0 < length bytes.now }
         ensures some { 0 < result.0 }
         ensures within { result.0 ≤ length bytes.now }
-        ensures takes { TakesFront self.old (take result.0 bytes.now) result.1 self.new }
+        ensures takes { ReceivesPrefix self.old (take result.0 bytes.now) result.1 self.new }
         ensures right { (result.1 ≡ None → ⊥) → (after : List ℕ → Scan) → IsPositionedBefore self.new after
             → HasValidContinuation after }
     {
@@ -534,7 +535,7 @@ impl Tokenizer {
     /// is capped at 2^64-1. After the `%` that ends the text, it is the line of the `%`. The token that the last byte
     /// ended is on this line, and so is the token that `finish` returns.
     pub fn line(&self) -> u64
-        ensures { (before : List ℕ → Scan) → IsPositionedBefore self.now before → result ≡ held (before []).last }
+        ensures { (before : List ℕ → Scan) → IsPositionedBefore self.now before → result ≡ capped (before []).last }
     {
         match self.place {
             Place::Fresh(_) => self.lines,

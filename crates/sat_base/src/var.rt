@@ -1,6 +1,6 @@
 //! Variables.
 ghost use Rattle.std.specs.Prelude.{◌≡◌, ◌+◌, ◌<◌, true, false, MatchOption, pos};
-ghost use Rattle.sat_base.specs.values.Literals.{coded, var_limit};
+ghost use Rattle.sat_base.specs.values.Literals.{mk_lit, var_limit};
 ghost use Rattle.sat_base.specs.values.Numerals.{IsNoVariable};
 
 use crate::Lit;
@@ -70,21 +70,21 @@ impl Var {
 
     /// Returns the positive literal of the variable if `positive` is true, and the negative one otherwise.
     pub fn lit(self, positive: bool) -> Lit
-        ensures { result ≡ coded self positive }
+        ensures { result ≡ mk_lit self positive }
     {
         Lit::from_var(self, positive)
     }
 
     /// Returns the positive literal of the variable.
     pub fn positive(self) -> Lit
-        ensures { result ≡ coded self true }
+        ensures { result ≡ mk_lit self true }
     {
         self.lit(true)
     }
 
     /// Returns the negative literal of the variable.
     pub fn negative(self) -> Lit
-        ensures { result ≡ coded self false }
+        ensures { result ≡ mk_lit self false }
     {
         self.lit(false)
     }

@@ -3,9 +3,9 @@
 //! The tests use a parser and a formula only through functions without `ensures` clauses, and keep few values, which
 //! makes them cheap to prove.
 ghost use Rattle.std.specs.Prelude.{◌≡◌, ◌<◌, ℕ, List, IfOk, length};
-ghost use Rattle.sat_base.specs.device.Device.{GaveFront};
-ghost use Rattle.sat_base.specs.dimacs.Parsing.{IsWholeText};
-ghost use Rattle.sat_base.specs.text.Tokenizing.{held};
+ghost use Rattle.sat_base.specs.device.Device.{GavePrefix};
+ghost use Rattle.sat_base.specs.dimacs.Parsing.{FormulaIsDetermined};
+ghost use Rattle.sat_base.specs.text.Tokenizing.{capped};
 ghost use Rattle.sat_base.specs.dimacs.Dimacs.{dimacs};
 
 use crate::caller::clause_count;
@@ -464,8 +464,8 @@ fn count_in_parts<R: CountedRead>(
     alloc: Global,
     reader: &mut R,
 ) -> Result<u64, IncrementalError<DimacsError>>
-    ensures { IfOk result (λ count. (text : List ℕ) × GaveFront (R.seen reader.old) (R.seen reader.new) text
-        × (count ≡ held (length (dimacs text).clauses)) × IsWholeText (R.seen reader.old) (R.seen reader.new) text) }
+    ensures { IfOk result (λ count. (text : List ℕ) × GavePrefix (R.seen reader.old) (R.seen reader.new) text
+        × (count ≡ capped (length (dimacs text).clauses)) × FormulaIsDetermined (R.seen reader.old) (R.seen reader.new) text) }
 {
     let parser = DimacsParser::parse_incremental(alloc, reader, |parser| {
         parser.take_formula();

@@ -2,7 +2,7 @@
 //!
 //! A function that owns a formula has no `?`, which would take long to prove.
 ghost use Rattle.std.specs.Prelude.{◌≡◌, ◌≤◌, ◌∷◌, [], ℕ, true, OnOk};
-ghost use Rattle.sat_base.specs.values.Literals.{coded, var_limit};
+ghost use Rattle.sat_base.specs.values.Literals.{mk_lit, var_limit};
 
 use sat_base::{CnfFormula, ExtendFormula, FormulaError, Lit, Var};
 use std::alloc::Global;
@@ -15,7 +15,7 @@ fn add_unit<F: ExtendFormula>(formula: &mut F) -> Result<Lit, F::Error>
     requires { F.ready formula.old }
     ensures ready { F.ready formula.new }
     ensures adds { OnOk result ((v : ℕ) × (between : F) × F.makes formula.old v between
-        × F.adds between (coded v true ∷ []) formula.new) }
+        × F.adds between (mk_lit v true ∷ []) formula.new) }
 {
     let lit = formula.new_lit()?;
     formula.add_clause(&[lit])?;

@@ -3,10 +3,10 @@ use Rattle.std.specs.Prelude.{ℕ, ◌<◌, ◌≡◌, ◌≢◌, ◌⊎◌, tru
 use Rattle.std.specs.List.{list_any, AllByRecursion}
 use Rattle.sat_base.specs.values.Literals.{variable, negated}
 use Rattle.sat_base.specs.steps.Steps.{Redundant, Simplified, Satisfied, Step, SolverVarName, UserVarName, DeleteVar, ChangeSamplingMode, AddClause, AtClause, UnitClauses, DeleteClause, ChangeHashBits, Model, Assumptions, FailedAssumptions, End}
-use Rattle.sat_checker.specs.LiteralSets.{is_among, mentions, is_part, canonical}
+use Rattle.sat_checker.specs.LiteralSets.{is_among, mentions, is_subset_of, canonical}
 use Rattle.sat_checker.specs.Propagation.{PassesCheck}
 use Rattle.sat_checker.specs.Stored.{Sample, Witness, Hide, Stored, nothing_stored, is_known, mode_of, name_of, is_unit, unit_literals, bucket}
-use Rattle.sat_checker.specs.Storing.{clause_with, irredundant_count, redundant_count, last_literals, with_stored, with_input, with_unit, with_units, settled, with_variable, with_known, with_literals_known, with_solver_name, without_variable, without_clause}
+use Rattle.sat_checker.specs.Storing.{clause_with, irredundant_count, redundant_count, last_literals, with_stored, with_input, with_unit, with_units, with_conflict_settled, with_variable, with_known, with_literals_known, with_solver_name, without_variable, without_clause}
 
 -- that a clause passes the propagation check under the hashes of a step
 abbrev pub PassesByHashes : Stored → List ℕ → List ℕ → Type 0
@@ -38,18 +38,18 @@ PassInTurn f (u ∷ us) = PassesByHashes f (u.0 ∷ []) (u.1 ∷ []) × PassInTu
 -- that there is a list, all its literals are in the clause, and some literal of the clause is not in the list
 abbrev pub IsStrictSubset : Option (List ℕ) → List ℕ → Type 0
 IsStrictSubset None clause = ⊥
-IsStrictSubset (Some ls) clause = (is_part ls clause ≡ true) × (is_part clause ls ≡ false)
+IsStrictSubset (Some ls) clause = (is_subset_of ls clause ≡ true) × (is_subset_of clause ls ≡ false)
 
 -- that no variable occurs twice
-abbrev pub VariablesApart : List ℕ → Type 0
-VariablesApart [] = Unit {0}
-VariablesApart (l ∷ ls) = (mentions ls (variable l) ≡ false) × VariablesApart ls
+abbrev pub VariablesDistinct : List ℕ → Type 0
+VariablesDistinct [] = Unit {0}
+VariablesDistinct (l ∷ ls) = (mentions ls (variable l) ≡ false) × VariablesDistinct ls
 
 -- That a model fits what is stored: unsat is not recorded, and no variable occurs twice in the model. The model
 -- contradicts no unit, and it has a literal of every clause with an irredundant count.
 pub record FitsModel (f : Stored) (ls : List ℕ) : Type 0 where
   pub consistent : f.unsat ≡ false
-  pub apart : VariablesApart ls
+  pub apart : VariablesDistinct ls
   pub units : AllByRecursion (λ u. is_among ls (negated u) ≡ false) (unit_literals f)
   pub clauses : AllByRecursion (λ c. (c.irredundant ≡ 0) ⊎ (list_any (is_among ls) c.literals ≡ true)) f.clauses
 
@@ -72,7 +72,7 @@ Accepts f (ChangeHashBits bits) = Unit {0}
 Accepts f (Model ls) = FitsModel f ls
 Accepts f (Assumptions ls) = Unit {0}
 -- the core is part of the assumptions, and the clause of its negated literals passes the check (a tautology does)
-Accepts f (FailedAssumptions core hashes) = (is_part core f.assumed ≡ true) × PassesByHashes f (map negated core) hashes
+Accepts f (FailedAssumptions core hashes) = (is_subset_of core f.assumed ≡ true) × PassesByHashes f (map negated core) hashes
 Accepts f End = Unit {0}
 
 -- what is stored after an accepted step, if no unit conflict was pending
@@ -98,11 +98,11 @@ effect End f = record f { ended = true }
 -- What is stored after accepted steps. A unit conflict is settled before the next step is judged.
 abbrev pub stored_after : List Step → Stored
 stored_after [] = nothing_stored
-stored_after (step ∷ earlier) = effect step (settled (stored_after earlier))
+stored_after (step ∷ earlier) = effect step (with_conflict_settled (stored_after earlier))
 
 -- what is stored when the next step is judged
 abbrev pub ready_after : List Step → Stored
-ready_after steps = settled (stored_after steps)
+ready_after steps = with_conflict_settled (stored_after steps)
 
 -- that every step is accepted after the steps before it
 abbrev pub AcceptsAll : List Step → Type 0

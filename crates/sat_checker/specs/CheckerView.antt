@@ -2,12 +2,12 @@
 -- listeners received.
 use Rattle.std.specs.Prelude.{ℕ, ◌≡◌, ◌⊎◌, Bool, true, false, List, ◌∷◌, Result, Ok, Err, IfErr}
 use Rattle.sat_base.specs.steps.Steps.{Step, AddClause}
-use Rattle.sat_checker.specs.Spent.{IsSpent, SpentBy}
+use Rattle.sat_checker.specs.Counters.{CountersExhausted, ExhaustsCounters}
 use Rattle.sat_checker.specs.Accepts.{Accepts, stored_after, ready_after}
 use Rattle.sat_checker.specs.KernelView as kernels
 use Rattle.sat_checker.specs.announcements.Announcements.{Notice, notices_after, all_notices_after}
 use Rattle.sat_checker.specs.listeners.Hearing.{Hearers, hearers, HearsSince, HearsSinceUpTo, notices_by}
-use Rattle.sat_checker.specs.listeners.ProcessingView.{IsListenerFault}
+use Rattle.sat_checker.specs.listeners.ProcessingView.{ErrorNeedsListener}
 use Rattle.sat_checker.specs.declared.kernel.Kernel.{Kernel}
 use Rattle.sat_checker.specs.declared.checker.Checker.{Checker}
 use Rattle.sat_checker.specs.declared.processing.Processing.{Processing}
@@ -50,8 +50,8 @@ abbrev pub IsSettled : {L : Type 0} → CheckerView L → Type 0
 IsSettled c = kernels.KernelIsSettled c.kernel
 
 -- that the result is a listener's fault only if a listener was added
-abbrev pub FaultIsFromListener : {P T : Type 0} → Result Unit CheckerError → Checker P T → Type 0
-FaultIsFromListener result old = (steps : List Step) → kernels.HasAccepted (kernel_of old) steps → IfErr result (IsListenerFault old.processing)
+abbrev pub FaultNeedsListener : {P T : Type 0} → Result Unit CheckerError → Checker P T → Type 0
+FaultNeedsListener result old = (steps : List Step) → kernels.HasAccepted (kernel_of old) steps → IfErr result (ErrorNeedsListener old.processing)
 
 -- that the call returns `fault` and does not change the checker, if the checker had failed
 abbrev pub FailsAgain : {E P T : Type 0} → E → Result Unit E → Checker P T → Checker P T → Type 0
@@ -94,7 +94,7 @@ module _ {L : Type 0} (Hears : L → Notice → Result Unit ProcessingError → 
     pub heard : HearsSince Hears before (notices_after steps) begun new.listeners ⊎ HearsSince Hears before (all_notices_after steps) begun new.listeners
 
   -- that the checker has failed, and its listeners received these announcements up to one that returned this fault
-  pub record FailsAtListener (e : ProcessingError) (reported : List Notice) (new : CheckerView L) (steps : List Step) : Type 0 where
+  pub record FailsByListenerFault (e : ProcessingError) (reported : List Notice) (new : CheckerView L) (steps : List Step) : Type 0 where
     pub fails : Fails new steps
     pub heard : HearsSinceUpTo Hears e before reported begun new.listeners
 
@@ -102,15 +102,15 @@ module _ {L : Type 0} (Hears : L → Notice → Result Unit ProcessingError → 
   -- counts as accepted
   abbrev pub BreaksAt : ProcessingError → CheckerView L → Step → List Step → Type 0
   BreaksAt e new step steps =
-      (kernels.LeavesConflict steps × FailsAtListener e (all_notices_after steps) new steps)
-      ⊎ (Accepts (ready_after steps) step × FailsAtListener e (notices_after (step ∷ steps)) new (step ∷ steps))
+      (kernels.LeavesConflict steps × FailsByListenerFault e (all_notices_after steps) new steps)
+      ⊎ (Accepts (ready_after steps) step × FailsByListenerFault e (notices_after (step ∷ steps)) new (step ∷ steps))
 
   -- That memory ran out, either for the step, which would be accepted, or during an announcement.
   abbrev pub RunsOutOfMemoryAt : CheckerView L → Step → List Step → Type 0
   RunsOutOfMemoryAt new step steps = (Accepts (ready_after steps) step × FailsBeforeStep new steps) ⊎ BreaksAt faults.OutOfMemory new step steps
 
   -- that the definition accepts the step, and the checker has accepted it and has not failed
-  pub record Takes (new : CheckerView L) (step : Step) (steps : List Step) : Type 0 where
+  pub record StepIsAccepted (new : CheckerView L) (step : Step) (steps : List Step) : Type 0 where
     pub accepts : Accepts (ready_after steps) step
     pub valid : HasAccepted new (step ∷ steps)
     pub goes_on : has_failed new ≡ false
@@ -118,9 +118,9 @@ module _ {L : Type 0} (Hears : L → Notice → Result Unit ProcessingError → 
   -- What the result for a step means, after these accepted steps. A step is refused only if the definition refuses it.
   -- `CounterEnd` is returned only if an id or a count does not fit in 64 bits.
   abbrev pub AnswersStep : Result Unit CheckerError → CheckerView L → Step → CheckerView L → List Step → Type 0
-  AnswersStep (Ok x) old step new steps = (has_failed old ≡ false) × Takes new step steps
+  AnswersStep (Ok x) old step new steps = (has_failed old ≡ false) × StepIsAccepted new step steps
   AnswersStep (Err errors.CheckFailed) old step new steps = (has_failed old ≡ false) × (Accepts (ready_after steps) step → ⊥) × FailsRefusing new steps
-  AnswersStep (Err errors.CounterEnd) old step new steps = (has_failed old ≡ false) × SpentBy step (stored_after steps) × FailsBeforeStep new steps
+  AnswersStep (Err errors.CounterEnd) old step new steps = (has_failed old ≡ false) × ExhaustsCounters step (stored_after steps) × FailsBeforeStep new steps
   AnswersStep (Err errors.OutOfMemory) old step new steps = (has_failed old ≡ false) × RunsOutOfMemoryAt new step steps
   AnswersStep (Err (errors.ProofProcessorError cause)) old step new steps = (has_failed old ≡ false) × BreaksAt (faults.ProofProcessorError cause) new step steps
   AnswersStep (Err errors.HasFailed) old step new steps = (has_failed old ≡ true) × (new ≡ old)
@@ -132,11 +132,11 @@ module _ {L : Type 0} (Hears : L → Notice → Result Unit ProcessingError → 
   -- only if an id or a count does not fit in 64 bits.
   abbrev pub AnswersDelayed : Result Unit CheckerError → CheckerView L → CheckerView L → List Step → Type 0
   AnswersDelayed (Ok x) old new steps = (has_failed old ≡ false) × (looks_of new ≡ looks_of old) × HasAccepted new steps × (has_failed new ≡ false) × IsSettled new
-  AnswersDelayed (Err errors.CounterEnd) old new steps = (has_failed old ≡ false) × (looks_of new ≡ looks_of old) × IsSpent (ready_after steps) × FailsBeforeStep new steps
+  AnswersDelayed (Err errors.CounterEnd) old new steps = (has_failed old ≡ false) × (looks_of new ≡ looks_of old) × CountersExhausted (ready_after steps) × FailsBeforeStep new steps
   AnswersDelayed (Err errors.OutOfMemory) old new steps =
-      (has_failed old ≡ false) × (looks_of new ≡ looks_of old) × kernels.LeavesConflict steps × FailsAtListener faults.OutOfMemory (all_notices_after steps) new steps
+      (has_failed old ≡ false) × (looks_of new ≡ looks_of old) × kernels.LeavesConflict steps × FailsByListenerFault faults.OutOfMemory (all_notices_after steps) new steps
   AnswersDelayed (Err (errors.ProofProcessorError cause)) old new steps =
-      (has_failed old ≡ false) × (looks_of new ≡ looks_of old) × kernels.LeavesConflict steps × FailsAtListener (faults.ProofProcessorError cause) (all_notices_after steps) new steps
+      (has_failed old ≡ false) × (looks_of new ≡ looks_of old) × kernels.LeavesConflict steps × FailsByListenerFault (faults.ProofProcessorError cause) (all_notices_after steps) new steps
   AnswersDelayed (Err errors.HasFailed) old new steps = (has_failed old ≡ true) × (new ≡ old)
   AnswersDelayed (Err errors.CheckFailed) old new steps = ⊥
   AnswersDelayed (Err errors.ProofIncomplete) old new steps = ⊥

@@ -5,7 +5,7 @@ use Rattle.sat_checker.specs.Accepts.{Accepts, stored_after, ready_after}
 use Rattle.sat_checker.specs.CheckerView.{CheckerView, has_failed, looks_of, HasAccepted, FailsBeforeStep, BreaksAt, RunsOutOfMemoryAt}
 use Rattle.sat_checker.specs.announcements.Announcements.{Notice}
 use Rattle.sat_checker.specs.ProofView.{taken_after, most_looks_after, HasAcceptedUnfailed}
-use Rattle.sat_checker.specs.Spent.{SpentBy}
+use Rattle.sat_checker.specs.Counters.{ExhaustsCounters}
 use Rattle.sat_checker.specs.declared.error.CheckerError.{CheckerError}
 use Rattle.sat_checker.specs.declared.error.CheckerError.TheVariants as errors
 use Rattle.sat_checker.specs.declared.processing.ProcessingError.{ProcessingError}
@@ -37,7 +37,7 @@ module _ {L : Type 0} (Hears : L → Notice → Result Unit ProcessingError → 
       × (Accepts (ready_after (after_additions added earlier)) (AddClause clause) → ⊥) × HasAcceptedUnfailed Hears before begun new (after_additions added earlier)
   AnswersClauses (Err errors.CounterEnd) old new clauses earlier =
       (added : List (List ℕ)) × (clause : List ℕ) × AddsFirstClauses old new clauses added (clause ∷ []) earlier
-      × SpentBy (AddClause clause) (stored_after (after_additions added earlier)) × FailsBeforeStep Hears before begun new (after_additions added earlier)
+      × ExhaustsCounters (AddClause clause) (stored_after (after_additions added earlier)) × FailsBeforeStep Hears before begun new (after_additions added earlier)
   AnswersClauses (Err errors.OutOfMemory) old new clauses earlier =
       (added : List (List ℕ)) × (clause : List ℕ) × AddsFirstClauses old new clauses added (clause ∷ []) earlier
       × RunsOutOfMemoryAt Hears before begun new (AddClause clause) (after_additions added earlier)

@@ -1,9 +1,9 @@
 -- What contracts see when the clauses of a text are added: which text was read, and what the result means.
 use Rattle.std.specs.Prelude.{ℕ, ◌≡◌, ◌⊎◌, true, List, [], ◌++◌, Result, Ok, Err, IfErr}
-use Rattle.sat_base.specs.device.Device.{Reader, GaveFront, GaveEnough, ReadFails}
-use Rattle.sat_base.specs.text.Tokenizing.{held}
+use Rattle.sat_base.specs.device.Device.{Reader, GavePrefix, GaveEnough, ReadFails}
+use Rattle.sat_base.specs.text.Tokenizing.{capped}
 use Rattle.sat_base.specs.dimacs.Dimacs.{Clean, Malformed, Limit, dimacs, up_to_last_blank, IsDimacs}
-use Rattle.sat_base.specs.dimacs.Parsing.{IsSoundText, ParsesShort}
+use Rattle.sat_base.specs.dimacs.Parsing.{IsSoundText, RunsOutWhileParsing}
 use Rattle.sat_base.specs.declared.dimacs.error.DimacsError.{DimacsError}
 use Rattle.sat_base.specs.declared.dimacs.error.DimacsError.TheVariants as texts
 use Rattle.sat_base.specs.steps.Steps.{Step}
@@ -12,7 +12,7 @@ use Rattle.sat_checker.specs.CheckerView.{CheckerView, kernel_of, has_failed, Ha
 use Rattle.sat_checker.specs.announcements.Announcements.{Notice}
 use Rattle.sat_checker.specs.ProofView.{NoReadFailed, HasAcceptedUnfailed}
 use Rattle.sat_checker.specs.ClausesView.{AddsFirstClauses, after_additions, AnswersClauses}
-use Rattle.sat_checker.specs.listeners.ProcessingView.{IsListenerFault}
+use Rattle.sat_checker.specs.listeners.ProcessingView.{ErrorNeedsListener}
 use Rattle.sat_checker.specs.declared.checker.Checker.{Checker}
 use Rattle.sat_checker.specs.declared.processing.Processing.{Processing}
 use Rattle.sat_checker.specs.declared.processing.ProcessingError.{ProcessingError}
@@ -21,12 +21,12 @@ use Rattle.sat_checker.specs.declared.error.CheckerDimacsError.{CheckerDimacsErr
 use Rattle.sat_checker.specs.declared.error.CheckerDimacsError.TheVariants as refused
 
 -- that these are the clauses of some prefix of the text, up to the prefix's last blank
-abbrev pub AreOfFront : List ℕ → List (List ℕ) → Type 0
-AreOfFront text clauses = (front : List ℕ) × (left : List ℕ) × (text ≡ front ++ left) × (clauses ≡ (dimacs (up_to_last_blank front)).clauses)
+abbrev pub AreOfPrefix : List ℕ → List (List ℕ) → Type 0
+AreOfPrefix text clauses = (front : List ℕ) × (left : List ℕ) × (text ≡ front ++ left) × (clauses ≡ (dimacs (up_to_last_blank front)).clauses)
 
 -- that these are the clauses that were read: those of a prefix of the text, up to a blank, or all clauses of the text
 abbrev pub AreRead : List ℕ → List (List ℕ) → Type 0
-AreRead text clauses = AreOfFront text clauses ⊎ (clauses ≡ (dimacs text).clauses)
+AreRead text clauses = AreOfPrefix text clauses ⊎ (clauses ≡ (dimacs text).clauses)
 
 -- that the text begins with these clauses
 abbrev pub AreFirst : List (List ℕ) → List ℕ → Type 0
@@ -34,16 +34,16 @@ AreFirst clauses text = (following : List (List ℕ)) × ((dimacs text).clauses 
 
 -- that the text has these clauses and then this fault, or that memory ran out and these are the clauses of a prefix
 abbrev pub FaultAfter : DimacsError → List ℕ → List (List ℕ) → Type 0
-FaultAfter (texts.Malformed line) text clauses = (n : ℕ) × (line ≡ held n) × IsDimacs text clauses (Malformed n)
-FaultAfter (texts.Limit line) text clauses = (n : ℕ) × (line ≡ held n) × IsDimacs text clauses (Limit n)
-FaultAfter texts.OutOfMemory text clauses = ParsesShort text × AreOfFront text clauses
+FaultAfter (texts.Malformed line) text clauses = (n : ℕ) × (line ≡ capped n) × IsDimacs text clauses (Malformed n)
+FaultAfter (texts.Limit line) text clauses = (n : ℕ) × (line ≡ capped n) × IsDimacs text clauses (Limit n)
+FaultAfter texts.OutOfMemory text clauses = RunsOutWhileParsing text × AreOfPrefix text clauses
 FaultAfter texts.Read text clauses = ⊥
 FaultAfter texts.HasFailed text clauses = ⊥
 
 -- That reading a text ended with this error after these clauses. If no read failed, `FaultAfter` holds for every text
 -- that the reader could then give.
 abbrev pub FailsAfter : DimacsError → Reader → Reader → List (List ℕ) → Type 0
-FailsAfter texts.Read from to clauses = ReadFails from to × (text : List ℕ) × GaveFront from to text × IsSoundText text × (clauses ≡ (dimacs (up_to_last_blank text)).clauses)
+FailsAfter texts.Read from to clauses = ReadFails from to × (text : List ℕ) × GavePrefix from to text × IsSoundText text × (clauses ≡ (dimacs (up_to_last_blank text)).clauses)
 FailsAfter error from to clauses = NoReadFailed from to × GaveEnough from to (λ text. FaultAfter error text clauses)
 
 module _ {L : Type 0} (Hears : L → Notice → Result Unit ProcessingError → L → Type 0) (before : List Notice) (begun : L) where
@@ -70,13 +70,13 @@ module _ {L : Type 0} (Hears : L → Notice → Result Unit ProcessingError → 
   AddsDimacs result old new from to = (before : List Notice) (begun : L) (steps : List Step) → HasAccepted Hears before begun old steps → AnswersDimacs Hears before begun result old new from to steps
 
 -- that the error is a listener's fault only if a listener was added
-abbrev pub DimacsFaultIsFromListener : {P T : Type 0} → Processing P T → CheckerDimacsError → Type 0
-DimacsFaultIsFromListener old (refused.Checker error) = IsListenerFault old error
-DimacsFaultIsFromListener old (refused.Dimacs error) = Unit {0}
+abbrev pub DimacsErrorNeedsListener : {P T : Type 0} → Processing P T → CheckerDimacsError → Type 0
+DimacsErrorNeedsListener old (refused.Checker error) = ErrorNeedsListener old error
+DimacsErrorNeedsListener old (refused.Dimacs error) = Unit {0}
 
 -- that the result is a listener's fault only if a listener was added
 abbrev pub DimacsFaultNeedsListener : {P T : Type 0} → Result Unit CheckerDimacsError → Checker P T → Type 0
-DimacsFaultNeedsListener result old = (steps : List Step) → kernels.HasAccepted (kernel_of old) steps → IfErr result (DimacsFaultIsFromListener old.processing)
+DimacsFaultNeedsListener result old = (steps : List Step) → kernels.HasAccepted (kernel_of old) steps → IfErr result (DimacsErrorNeedsListener old.processing)
 
 -- that every text that continues this one begins with the clauses of this one up to its last blank
 abbrev pub EndedStayFirst : Type 0

@@ -7,8 +7,8 @@ use Rattle.sat_base.specs.steps.Steps.{Step, SolverVarName, UserVarName, ChangeS
 use Rattle.sat_checker.specs.LiteralSets.{is_among, is_tautology, canonical, same_literals}
 use Rattle.sat_checker.specs.SortedSets.{IsIncreasing}
 use Rattle.sat_checker.specs.Stored.{StoredClause, Last, NoneYet, Empty, UnitClause, LongClause, Stored, unit_literals, long_clauses, is_known}
-use Rattle.sat_checker.specs.Storing.{clause_with, clause_numbered, irredundant_count, without_clause, settled, last_literals}
-use Rattle.sat_checker.specs.Accepts.{VariablesApart, Accepts, AcceptsAll, effect, ready_after}
+use Rattle.sat_checker.specs.Storing.{clause_with, clause_numbered, irredundant_count, without_clause, with_conflict_settled, last_literals}
+use Rattle.sat_checker.specs.Accepts.{VariablesDistinct, Accepts, AcceptsAll, effect, ready_after}
 use Rattle.sat_checker.specs.Fold.{Holds}
 use Rattle.sat_checker.specs.Contents.{count_of, same_side, less_if, contents, contents_after, contents_of}
 
@@ -22,7 +22,7 @@ abbrev pub EachCounted : List StoredClause → Type 0
 EachCounted = AllByRecursion (λ c. 0 < c.irredundant + c.redundant)
 
 -- that clauses are in order of their ids, all of which were assigned
-pub record IdsRise (f : Stored) : Type 0 where
+pub record IdsIncrease (f : Stored) : Type 0 where
   pub rising : IsIncreasing (map (λ c. c.id) f.clauses)
   pub given : AllByRecursion (λ id. id < f.next_id) (map (λ c. c.id) f.clauses)
 
@@ -37,19 +37,19 @@ abbrev pub AllKnown : Stored → List ℕ → Type 0
 AllKnown f = AllByRecursion (λ l. is_known (variable l) f ≡ true)
 
 -- the invariant of clauses, counts, ids and units; the variables of clauses, units and assumptions are known
-pub record IsTidy (f : Stored) : Type 0 where
+pub record StoredInvariant (f : Stored) : Type 0 where
   pub proper : AllByRecursion IsProper (long_clauses f)
   pub once : EachOnce f.clauses
   pub counted : EachCounted f.clauses
-  pub ids : IdsRise f
-  pub units_apart : VariablesApart (unit_literals f)
+  pub ids : IdsIncrease f
+  pub units_apart : VariablesDistinct (unit_literals f)
   pub clauses_known : AllByRecursion (AllKnown f) (long_clauses f)
   pub units_known : AllKnown f (unit_literals f)
   pub assumed_known : AllKnown f f.assumed
 
--- that `IsTidy` holds after every list of accepted steps
-abbrev pub AlwaysTidy : Type 0
-AlwaysTidy = (steps : List Step) → AcceptsAll steps → IsTidy (ready_after steps)
+-- that `StoredInvariant` holds after every list of accepted steps
+abbrev pub StoredInvariantHolds : Type 0
+StoredInvariantHolds = (steps : List Step) → AcceptsAll steps → StoredInvariant (ready_after steps)
 
 -- that unsat, once recorded, stays recorded
 abbrev pub UnsatStays : Type 0
@@ -57,7 +57,7 @@ UnsatStays = (f : Stored) (step : Step) → f.unsat ≡ true → (effect step f)
 
 -- that a pending unit conflict does not affect which steps are accepted
 abbrev pub PendingChangesNothing : Type 0
-PendingChangesNothing = (f : Stored) (step : Step) → Accepts f step ↔ Accepts (settled f) step
+PendingChangesNothing = (f : Stored) (step : Step) → Accepts f step ↔ Accepts (with_conflict_settled f) step
 
 -- that all stored clauses hold in every valuation that the accepted steps allow
 abbrev pub AllClausesHold : Type 0
@@ -69,7 +69,7 @@ ContentsFollow = (f : Stored) (step : Step) → EachOnce f.clauses → contents 
 
 -- that settling a unit conflict does not change the contents
 abbrev pub ContentsAreSettled : Type 0
-ContentsAreSettled = (f : Stored) → contents (settled f) ≡ contents f
+ContentsAreSettled = (f : Stored) → contents (with_conflict_settled f) ≡ contents f
 
 -- that `contents_of` gives the contents after any steps
 abbrev pub ContentsOfSteps : Type 0
@@ -108,7 +108,7 @@ LastStays = (f : Stored) (step : Step) → leaves_last step ≡ true → last_li
 
 -- that settling a unit conflict does not change which irredundant clause was stored last
 abbrev pub LastIsSettled : Type 0
-LastIsSettled = (f : Stored) → last_literals (settled f).last (settled f) ≡ last_literals f.last f
+LastIsSettled = (f : Stored) → last_literals (with_conflict_settled f).last (with_conflict_settled f) ≡ last_literals f.last f
 
 -- that a unit satisfies the clause, or the clause has an irredundant count
 abbrev pub Supported : List ℕ → List StoredClause → List ℕ → Type 0

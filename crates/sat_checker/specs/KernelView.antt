@@ -3,12 +3,12 @@
 use Rattle.std.specs.Prelude.{ℕ, ◌≡◌, ◌≢◌, ◌⊎◌, ◌+◌, ◌≤◌, Bool, true, false, None, List, ◌∷◌, Result, Ok, Err}
 use Rattle.sat_base.specs.steps.Steps.{Step}
 use Rattle.sat_checker.specs.Stored.{Stored}
-use Rattle.sat_checker.specs.Spent.{IsSpent, SpentBy}
+use Rattle.sat_checker.specs.Counters.{CountersExhausted, ExhaustsCounters}
 use Rattle.sat_checker.specs.Accepts.{Accepts, AcceptsAll, stored_after, ready_after}
 use Rattle.sat_checker.specs.Looks.{most_looks}
 use Rattle.sat_checker.specs.inner.StateView.{RepresentsStored}
 use Rattle.sat_checker.specs.declared.kernel.Kernel.{Kernel}
-use Rattle.sat_checker.specs.declared.state.State.{State}
+use Rattle.sat_checker.specs.declared.state.CheckerState.{CheckerState}
 use Rattle.sat_checker.specs.declared.state.status.Records.{Records}
 use Rattle.sat_checker.specs.declared.error.CheckerError.{CheckerError}
 use Rattle.sat_checker.specs.declared.error.CheckerError.TheVariants as errors
@@ -28,7 +28,7 @@ abbrev pub KernelIsSettled : Kernel → Type 0
 KernelIsSettled k = k.state.formula.status.conflict ≡ None
 
 -- That the state represents what is stored after these steps. A unit conflict that was pending then may be settled.
-pub record KeepsAfter (state : State) (steps : List Step) : Type 0 where
+pub record KeepsAfter (state : CheckerState) (steps : List Step) : Type 0 where
   pub formula : Stored
   pub keeps : RepresentsStored state formula
   pub left : (formula ≡ stored_after steps) ⊎ (formula ≡ ready_after steps)
@@ -63,7 +63,7 @@ pub record AcceptsStep (new : Kernel) (step : Step) (steps : List Step) : Type 0
 abbrev pub AnswersStep : Result Unit CheckerError → Kernel → Step → Kernel → List Step → Type 0
 AnswersStep (Ok x) old step new steps = (kernel_has_failed old ≡ false) × AcceptsStep new step steps
 AnswersStep (Err errors.CheckFailed) old step new steps = (kernel_has_failed old ≡ false) × (Accepts (ready_after steps) step → ⊥) × Fails new steps
-AnswersStep (Err errors.CounterEnd) old step new steps = (kernel_has_failed old ≡ false) × SpentBy step (stored_after steps) × Fails new steps
+AnswersStep (Err errors.CounterEnd) old step new steps = (kernel_has_failed old ≡ false) × ExhaustsCounters step (stored_after steps) × Fails new steps
 -- Memory ran out for a step that would be accepted, while a pending conflict was announced, or while the step was
 -- announced. In the last case, the step counts as accepted.
 AnswersStep (Err errors.OutOfMemory) old step new steps =
@@ -103,7 +103,7 @@ LooksAtMost old step new = (steps : List Step) → HasAccepted old steps → ker
 -- if an id or a count does not fit in 64 bits.
 abbrev pub AnswersDelayed : Result Unit CheckerError → Kernel → Kernel → List Step → Type 0
 AnswersDelayed (Ok x) old new steps = (kernel_has_failed old ≡ false) × (kernel_looks new ≡ kernel_looks old) × HasAccepted new steps × (kernel_has_failed new ≡ false) × KernelIsSettled new
-AnswersDelayed (Err errors.CounterEnd) old new steps = (kernel_has_failed old ≡ false) × (kernel_looks new ≡ kernel_looks old) × IsSpent (ready_after steps) × Fails new steps
+AnswersDelayed (Err errors.CounterEnd) old new steps = (kernel_has_failed old ≡ false) × (kernel_looks new ≡ kernel_looks old) × CountersExhausted (ready_after steps) × Fails new steps
 AnswersDelayed (Err errors.HasFailed) old new steps = (kernel_has_failed old ≡ true) × Fails new steps
 AnswersDelayed (Err errors.CheckFailed) old new steps = ⊥
 -- memory ran out while the conflict was announced

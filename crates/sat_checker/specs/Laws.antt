@@ -45,8 +45,8 @@ abbrev pub DeletedIsNameless : Type 0
 DeletedIsNameless = (f : Stored) (v : ℕ) → Accepts f (DeleteVar v) → name_of v f ≡ None
 
 -- that no two variables have the same name
-abbrev pub NamesApart : Type 0
-NamesApart = (steps : List Step) (v w name : ℕ) → AcceptsAll steps → name_of v (ready_after steps) ≡ Some name → name_of w (ready_after steps) ≡ Some name → v ≡ w
+abbrev pub NamesDistinct : Type 0
+NamesDistinct = (steps : List Step) (v w name : ℕ) → AcceptsAll steps → name_of v (ready_after steps) ≡ Some name → name_of w (ready_after steps) ≡ Some name → v ≡ w
 
 -- that a variable that is not known has its initial data
 abbrev pub UnknownIsUnknown : Type 0

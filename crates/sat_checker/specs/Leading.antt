@@ -13,11 +13,11 @@ use Rattle.sat_checker.specs.Accepts.{PassesByHashes}
 
 -- That in every clause but the last, all literals but one are false so far, and that literal is true from then on. All
 -- literals of the last clause are false. The one literal may already be true or false.
-abbrev pub LeadsToConflict : (ℕ → Bool) → List (List ℕ) → Type 0
-LeadsToConflict holds [] = ⊥
-LeadsToConflict holds (c ∷ []) = AllByRecursion (λ l. holds (negated l) ≡ true) c
-LeadsToConflict holds (c ∷ d ∷ cs) =
-    (open_literal : ℕ) × AllByRecursion (λ l. (l ≡ open_literal) ⊎ (holds (negated l) ≡ true)) c × (is_among c open_literal ≡ true) × LeadsToConflict (λ l. open_literal == l || holds l) (d ∷ cs)
+abbrev pub PropagatesToConflict : (ℕ → Bool) → List (List ℕ) → Type 0
+PropagatesToConflict holds [] = ⊥
+PropagatesToConflict holds (c ∷ []) = AllByRecursion (λ l. holds (negated l) ≡ true) c
+PropagatesToConflict holds (c ∷ d ∷ cs) =
+    (open_literal : ℕ) × AllByRecursion (λ l. (l ≡ open_literal) ⊎ (holds (negated l) ≡ true)) c × (is_among c open_literal ≡ true) × PropagatesToConflict (λ l. open_literal == l || holds l) (d ∷ cs)
 
 -- that a clause, given in any order without repeats, is stored and has this hash
 pub record IsStoredByHash (f : Stored) (clause : List ℕ) (name : ℕ) : Type 0 where
@@ -33,16 +33,16 @@ AreStoredByHash f (c ∷ cs) [] = ⊥
 AreStoredByHash f (c ∷ cs) (h ∷ hs) = IsStoredByHash f c h × AreStoredByHash f cs hs
 
 -- whether a literal is assumed at the start of a clause's check: the clause's literals are false, and units are true
-abbrev pub denied : Stored → List ℕ → ℕ → Bool
-denied f clause l = is_among (map negated clause) l || is_unit f l
+abbrev pub stored_rup_assumptions : Stored → List ℕ → ℕ → Bool
+stored_rup_assumptions f clause l = is_among (map negated clause) l || is_unit f l
 
 -- that a clause passes the check under hashes if stored clauses with these hashes lead to a conflict
 abbrev pub LeadingPasses : Type 0
-LeadingPasses = (f : Stored) (clause hashes : List ℕ) (named : List (List ℕ)) → AreStoredByHash f named hashes → LeadsToConflict (denied f clause) named → PassesByHashes f clause hashes
+LeadingPasses = (f : Stored) (clause hashes : List ℕ) (named : List (List ℕ)) → AreStoredByHash f named hashes → PropagatesToConflict (stored_rup_assumptions f clause) named → PassesByHashes f clause hashes
 
 -- that clauses that are unit in turn lead to a conflict
 abbrev pub TurnsLead : Type 0
-TurnsLead = (assumed : List ℕ) (clauses : List (List ℕ)) → UnitInTurn assumed clauses → LeadsToConflict (is_among assumed) clauses
+TurnsLead = (assumed : List ℕ) (clauses : List (List ℕ)) → UnitInTurn assumed clauses → PropagatesToConflict (is_among assumed) clauses
 
 -- that clauses that are unit in turn cannot all be true if the assumed literals are
 abbrev pub TurnsConflict : Type 0
@@ -50,7 +50,7 @@ TurnsConflict = (a : Valuation) (assumed : List ℕ) (clauses : List (List ℕ))
 
 -- that clauses that lead to a conflict also do so if more literals are assumed
 abbrev pub LeadsOnMore : Type 0
-LeadsOnMore = (clauses : List (List ℕ)) (p q : ℕ → Bool) → ((l : ℕ) → p l ≡ true → q l ≡ true) → LeadsToConflict p clauses → LeadsToConflict q clauses
+LeadsOnMore = (clauses : List (List ℕ)) (p q : ℕ → Bool) → ((l : ℕ) → p l ≡ true → q l ≡ true) → PropagatesToConflict p clauses → PropagatesToConflict q clauses
 
 -- that the hash of literals without repeats is that of their sorted set
 abbrev pub HashOfAnyOrder : Type 0

@@ -1,11 +1,11 @@
 pub mod LiteralSets
 pub mod SortedSets
 pub mod Propagation
-pub mod Verdicts
+pub mod ClauseStates
 pub mod Stored
 pub mod Storing
 pub mod Accepts
-pub mod Spent
+pub mod Counters
 pub mod Fold
 pub mod Looks
 pub mod inner

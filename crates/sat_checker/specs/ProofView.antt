@@ -1,15 +1,15 @@
 -- What contracts see of a proof that is read and checked: which steps were read, and what the result means.
 use Rattle.std.specs.Prelude.{ℕ, ◌≡◌, ◌≢◌, ◌+◌, ◌*◌, ◌≤◌, ◌<◌, ◌⊎◌, false, true, List, [], ◌∷◌, ◌++◌, length, Result, Ok, Err}
 use Rattle.std.specs.List.{AllByRecursion}
-use Rattle.sat_base.specs.device.Device.{Reader, GaveFront, FewReads, IsOver, ReadFails, most_reads, piece_size}
-use Rattle.sat_base.specs.steps.Formats.{IsProperFront, BeginsText, IsFirstBadByte}
+use Rattle.sat_base.specs.device.Device.{Reader, GavePrefix, FewReads, IsOver, ReadFails, most_reads, piece_size}
+use Rattle.sat_base.specs.steps.Formats.{IsProperPrefix, IsPrefixOfText, IsFirstBadByte}
 use Rattle.sat_base.specs.steps.Steps.{Step, End}
 use Rattle.sat_base.specs.steps.StepText.{SpellsStep, SpellsSteps}
 use Rattle.sat_checker.specs.Accepts.{Accepts, stored_after, ready_after}
 use Rattle.sat_checker.specs.Looks.{most_looks}
 use Rattle.sat_checker.specs.CheckerView.{CheckerView, has_failed, looks_of, IsSettled, HasAccepted, FailsRefusing, FailsBeforeStep, BreaksAt, RunsOutOfMemoryAt}
 use Rattle.sat_checker.specs.announcements.Announcements.{Notice}
-use Rattle.sat_checker.specs.Spent.{SpentBy}
+use Rattle.sat_checker.specs.Counters.{ExhaustsCounters}
 use Rattle.sat_checker.specs.declared.error.CheckerError.{CheckerError}
 use Rattle.sat_checker.specs.declared.error.CheckerError.TheVariants as errors
 use Rattle.sat_checker.specs.declared.processing.ProcessingError.{ProcessingError}
@@ -33,7 +33,7 @@ most_bytes = piece_size * most_reads
 pub record GaveSteps (old new : Reader) (steps : List Step) (rest : List ℕ) : Type 0 where
   pub text : List ℕ
   pub spelt : SpellsSteps steps text
-  pub front : GaveFront old new (text ++ rest)
+  pub front : GavePrefix old new (text ++ rest)
   pub few : FewReads old new
   pub reads : new.calls ≤ old.calls + most_reads
   pub bytes : length (text ++ rest) ≤ most_bytes
@@ -44,7 +44,7 @@ pub record BeginsWithStep (bytes : List ℕ) : Type 0 where
   pub more : List ℕ
   pub following : List ℕ
   pub whole : bytes ≡ (tag ∷ more) ++ following
-  pub begins : BeginsText SpellsStep (tag ∷ more)
+  pub begins : IsPrefixOfText SpellsStep (tag ∷ more)
 
 -- That a checker that had not failed read the steps `passed`, none of them an end, then the steps `last`, and then the
 -- bytes `rest`. Its looks rose at most by the bound for these steps.
@@ -79,7 +79,7 @@ module _ {L : Type 0} (Hears : L → Notice → Result Unit ProcessingError → 
   -- the text ended before an `End` step, between steps or within one
   AnswersProof (Err errors.ProofIncomplete) old new from to earlier =
       (passed : List Step) × (rest : List ℕ) × ReadsProofPart old new from to earlier passed [] rest × NoReadFailed from to
-      × IsOver to × IsProperFront SpellsStep rest × HasAcceptedUnfailed new (taken_after passed earlier)
+      × IsOver to × IsProperPrefix SpellsStep rest × HasAcceptedUnfailed new (taken_after passed earlier)
   -- a byte was read after which no step can continue
   AnswersProof (Err errors.ParseError) old new from to earlier =
       (passed : List Step) × (rest : List ℕ) × ReadsProofPart old new from to earlier passed [] rest × NoReadFailed from to
@@ -87,7 +87,7 @@ module _ {L : Type 0} (Hears : L → Notice → Result Unit ProcessingError → 
   -- only the last read failed, or none failed and the limit of reads was reached
   AnswersProof (Err errors.IoError) old new from to earlier =
       (passed : List Step) × (rest : List ℕ) × ReadsProofPart old new from to earlier passed [] rest × ReadFails from to
-      × IsProperFront SpellsStep rest × HasAcceptedUnfailed new (taken_after passed earlier)
+      × IsProperPrefix SpellsStep rest × HasAcceptedUnfailed new (taken_after passed earlier)
   -- memory ran out while a step was read, after at least one byte of it, or while the step was checked or announced
   AnswersProof (Err errors.OutOfMemory) old new from to earlier =
       (passed : List Step) × (rest : List ℕ) × NoReadFailed from to
@@ -96,7 +96,7 @@ module _ {L : Type 0} (Hears : L → Notice → Result Unit ProcessingError → 
   -- an id or a count does not fit in 64 bits
   AnswersProof (Err errors.CounterEnd) old new from to earlier =
       (passed : List Step) × (step : Step) × (rest : List ℕ) × ReadsProofPart old new from to earlier passed (step ∷ []) rest × NoReadFailed from to
-      × SpentBy step (stored_after (taken_after passed earlier)) × FailsBeforeStep Hears before begun new (taken_after passed earlier)
+      × ExhaustsCounters step (stored_after (taken_after passed earlier)) × FailsBeforeStep Hears before begun new (taken_after passed earlier)
   -- a listener returned a fault
   AnswersProof (Err (errors.ProofProcessorError cause)) old new from to earlier =
       (passed : List Step) × (step : Step) × (rest : List ℕ) × ReadsProofPart old new from to earlier passed (step ∷ []) rest × NoReadFailed from to

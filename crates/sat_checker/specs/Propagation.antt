@@ -35,7 +35,7 @@ clauses_in [] = []
 clauses_in (b ∷ bs) = b ++ clauses_in bs
 
 -- that some clauses of the first buckets, none of which is empty, are unit in turn, and the last of them is falsified
-pub record LeadToConflict (assumed : List ℕ) (buckets : List (List (List ℕ))) : Type 0 where
+pub record BucketsConflict (assumed : List ℕ) (buckets : List (List (List ℕ))) : Type 0 where
   pub first : List (List (List ℕ))
   pub rest : List (List (List ℕ))
   pub picked : List (List ℕ)
@@ -49,4 +49,4 @@ pub record LeadToConflict (assumed : List ℕ) (buckets : List (List (List ℕ))
 pub data PassesCheck (units clause : List ℕ) (buckets : List (List (List ℕ))) : Type 0 where
   tautology : is_tautology clause ≡ true → PassesCheck units clause buckets
   unit_true : list_any (is_among units) clause ≡ true → PassesCheck units clause buckets
-  conflict : LeadToConflict (map negated clause ++ units) buckets → PassesCheck units clause buckets
+  conflict : BucketsConflict (map negated clause ++ units) buckets → PassesCheck units clause buckets

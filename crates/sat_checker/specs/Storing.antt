@@ -77,8 +77,8 @@ settled_by None f = f
 settled_by (Some units) f = record f { conflict = None; next_id = f.next_id + 1 }
 
 -- the stored formula with its pending unit conflict settled
-abbrev pub settled : Stored → Stored
-settled f = settled_by f.conflict f
+abbrev pub with_conflict_settled : Stored → Stored
+with_conflict_settled f = settled_by f.conflict f
 
 -- what is stored after a clause of two or more literals; only a new clause gets an id
 abbrev pub with_long : Bool → List ℕ → Stored → Stored

@@ -2,7 +2,7 @@ pub mod AnnouncementView
 pub mod TranscriptView
 pub mod Notifying
 pub mod ProcessingView
-pub mod NewsView
+pub mod PendingView
 pub mod AnnouncingView
 pub mod NotedView
 pub mod Hearing

@@ -2,7 +2,7 @@
 //! use the user's variable names.
 
 pub mod announcement;
-pub(crate) mod announcing;
-pub(crate) mod news;
 pub(crate) mod notes;
+pub(crate) mod pending;
+pub(crate) mod step_announcements;
 pub mod transcript;

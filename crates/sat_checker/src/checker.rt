@@ -7,7 +7,7 @@ ghost use Rattle.sat_checker.specs.Accepts.{ready_after};
 ghost use Rattle.sat_checker.specs.KernelView as kernels;
 ghost use Rattle.sat_checker.specs.KernelView.{kernel_has_failed, kernel_looks, LooksAtMost, HasAccepted};
 ghost use Rattle.sat_checker.specs.CheckerView.{kernel_of, seen_of, AddsListener, ChecksStep, ChecksDelayed};
-ghost use Rattle.sat_checker.specs.CheckerView.{ChecksClause, FaultIsFromListener, FailsAgain};
+ghost use Rattle.sat_checker.specs.CheckerView.{ChecksClause, FaultNeedsListener, FailsAgain};
 ghost use Rattle.sat_checker.specs.declared.error.CheckerError.TheVariants.{HasFailed};
 ghost use Rattle.sat_checker.specs.listeners.ProcessingView.{listeners_of, HearsEach};
 
@@ -147,7 +147,7 @@ impl<P: ProofProcessor, T: ProofTranscriptProcessor> Checker<P, T> {
             result (seen_of self.old) clause.now (seen_of self.new) }
         ensures looks { LooksAtMost (kernel_of self.old) (AddClause clause.now) (kernel_of self.new) }
         ensures rise { kernel_looks (kernel_of self.old) ≤ kernel_looks (kernel_of self.new) }
-        ensures faults { FaultIsFromListener result self.old }
+        ensures faults { FaultNeedsListener result self.old }
         ensures failed { FailsAgain HasFailed result self.old self.new }
     {
         if self.kernel.failed {
@@ -166,7 +166,7 @@ impl<P: ProofProcessor, T: ProofTranscriptProcessor> Checker<P, T> {
             result (seen_of self.old) (step_of step.now) (seen_of self.new) }
         ensures looks { LooksAtMost (kernel_of self.old) (step_of step.now) (kernel_of self.new) }
         ensures rise { kernel_looks (kernel_of self.old) ≤ kernel_looks (kernel_of self.new) }
-        ensures faults { FaultIsFromListener result self.old }
+        ensures faults { FaultNeedsListener result self.old }
         ensures failed { FailsAgain HasFailed result self.old self.new }
     {
         let mut nobody = Nobody {};
@@ -242,7 +242,7 @@ impl<P: ProofProcessor, T: ProofTranscriptProcessor> SelfChecker for Checker<P, 
         ensures rise { kernel_looks (kernel_of self.old) ≤ kernel_looks (kernel_of self.new) }
         ensures notifies { ChecksStep (HearsEach P.takes T.reads)
             result (seen_of self.old) (step_of step.now) (seen_of self.new) }
-        ensures faults { FaultIsFromListener result self.old }
+        ensures faults { FaultNeedsListener result self.old }
         ensures failed { FailsAgain HasFailed result self.old self.new }
     {
         self.check_step(step)
@@ -252,7 +252,7 @@ impl<P: ProofProcessor, T: ProofTranscriptProcessor> SelfChecker for Checker<P, 
         ensures judges { kernels.ChecksDelayed result (kernel_of self.old) (kernel_of self.new) }
         ensures notifies { ChecksDelayed (HearsEach P.takes T.reads)
             result (seen_of self.old) (seen_of self.new) }
-        ensures faults { FaultIsFromListener result self.old }
+        ensures faults { FaultNeedsListener result self.old }
         ensures failed { FailsAgain HasFailed result self.old self.new }
     {
         if self.kernel.failed {

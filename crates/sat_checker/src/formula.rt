@@ -9,10 +9,11 @@ ghost use Rattle.sat_base.specs.values.Literals.{negated};
 ghost use Rattle.sat_checker.specs.inner.Looking.{LooksOver};
 ghost use Rattle.sat_checker.specs.inner.ModelTests.{are_all_true};
 ghost use Rattle.sat_checker.specs.LiteralSets.{canonical, is_among, is_tautology};
-ghost use Rattle.sat_checker.specs.Accepts.{PassesByHashes, PassInTurn, IsStrictSubset, FitsModel, VariablesApart};
+ghost use Rattle.sat_checker.specs.Accepts.{PassesByHashes, PassInTurn, IsStrictSubset, FitsModel, VariablesDistinct};
 ghost use Rattle.sat_checker.specs.Stored.{Stored, nothing_stored};
 ghost use Rattle.sat_checker.specs.Looks.{literal_count};
-ghost use Rattle.sat_checker.specs.Storing.{settled, with_unit, with_contradiction, with_canonical, with_stored};
+ghost use Rattle.sat_checker.specs.Storing.{with_conflict_settled, with_unit, with_contradiction, with_canonical};
+ghost use Rattle.sat_checker.specs.Storing.{with_stored};
 ghost use Rattle.sat_checker.specs.Storing.{with_input, with_units, last_literals, without_variable};
 ghost use Rattle.sat_checker.specs.announcements.Announcements.{derived, derived_set, derived_units, id_of_set};
 ghost use Rattle.sat_checker.specs.announcements.Needed.{propagations};
@@ -20,17 +21,18 @@ ghost use Rattle.sat_checker.specs.inner.Reasons.{noted_length};
 ghost use Rattle.sat_checker.specs.inner.StoreView.{TakesCount, with_less};
 ghost use Rattle.sat_checker.specs.inner.Marks.{IsIncreasing};
 ghost use Rattle.sat_checker.specs.declared.store.StoreError.TheVariants.{CounterEnd};
-ghost use Rattle.sat_checker.specs.inner.FormulaView.{RepresentsFormula, refiled_in, ChecksAs, ChecksBeside, FormulaEffect};
+ghost use Rattle.sat_checker.specs.inner.FormulaView.{RepresentsFormula, rehashed_in, ChecksAs, ChecksBeside};
+ghost use Rattle.sat_checker.specs.inner.FormulaView.{FormulaEffect};
 ghost use Rattle.sat_checker.specs.inner.FormulaView.{FormulaEffectIf, DeletionEffect, Explained};
 ghost use Rattle.sat_checker.specs.inner.InTurn.{PassAfter};
 ghost use Rattle.sat_checker.specs.inner.AssumedRoom.{signed, HasClauseRoom};
 ghost use Rattle.sat_checker.specs.listeners.AnnouncingView.{stored_as, AreLong};
-ghost use Rattle.sat_checker.specs.listeners.NotedView.{AppendsNews, ChangesSet};
+ghost use Rattle.sat_checker.specs.listeners.NotedView.{AppendsAnnouncements, ChangesSet};
 
 pub(crate) mod in_room;
 
-use crate::announce::announcing::{Change, change_of};
 use crate::announce::notes::Notes;
+use crate::announce::step_announcements::{Change, change_of};
 use crate::looks::Looks;
 use crate::rup::passed::Passed;
 use crate::sorted_lits::{has_both_signs, is_subset};
@@ -69,11 +71,11 @@ impl Formula {
 
     /// Files the stored clauses under the current hashes, if that has not been done yet. Does not allocate.
     #[inline(always)]
-    pub fn file(&mut self, looks: &mut Looks)
-        ensures kept { (f : Stored) → RepresentsFormula (refiled_in self.old) f → RepresentsFormula self.new f }
-        ensures looks { LooksOver (RepresentsFormula (refiled_in self.old)) literal_count looks.old looks.new }
+    pub fn rehash_if_needed(&mut self, looks: &mut Looks)
+        ensures kept { (f : Stored) → RepresentsFormula (rehashed_in self.old) f → RepresentsFormula self.new f }
+        ensures looks { LooksOver (RepresentsFormula (rehashed_in self.old)) literal_count looks.old looks.new }
     {
-        self.store.file(looks);
+        self.store.rehash_if_needed(looks);
     }
 
     /// Checks the clause that consists of `literals`, or of their negations if `negate` is true, by propagation over
@@ -98,7 +100,7 @@ impl Formula {
         ensures read { IfOk result (λ _. noted_length self.new.store.clauses self.new.passed + looks.old ≤ looks.new) }
     {
         self.passed.listen(hears);
-        self.units.check(
+        self.units.check_clause(
             &self.store,
             literals,
             negate,
@@ -110,7 +112,7 @@ impl Formula {
 
     /// If a unit conflict is pending, gives its empty clause the next id.
     pub fn settle(&mut self) -> Result<(), StoreError>
-        ensures settles { FormulaEffect result (refiled_in self.old) settled (refiled_in self.new) }
+        ensures settles { FormulaEffect result (rehashed_in self.old) with_conflict_settled (rehashed_in self.new) }
         ensures none { OnOk result (self.new.status.conflict ≡ None) }
         ensures spent { OnErr result (IsErrOf result CounterEnd) }
     {
@@ -282,7 +284,7 @@ impl Formula {
         ensures noted { OnOk result ((f : Stored) (clause hashes : List ℕ) → RepresentsFormula self.old f → AreLong f
             → literals.now ≡ canonical clause
             → (IsTrue notes.old.hears → notes.old.rests_on.ids.items ≡ propagations f clause hashes)
-            → AppendsNews notes.old (derived redundant clause hashes f) notes.new) }
+            → AppendsAnnouncements notes.old (derived redundant clause hashes f) notes.new) }
         ensures looks { LooksOver (RepresentsFormula self.old) literal_count looks.old looks.new }
     {
         let id = self.status.next_id;
@@ -305,7 +307,7 @@ impl Formula {
             (with_unit lit f) }
         ensures kept { OnErr result ((f : Stored) → ChecksAs self.old f → ChecksAs self.new f) }
         ensures noted { IfOk result (λ passes. IsTrue passes → (f : Stored) → RepresentsFormula self.old f → AreLong f
-            → AppendsNews notes.old (derived false (lit ∷ []) (hash ∷ []) f) notes.new) }
+            → AppendsAnnouncements notes.old (derived false (lit ∷ []) (hash ∷ []) f) notes.new) }
         ensures hears { notes.new.hears ≡ notes.old.hears }
         ensures looks { LooksOver (RepresentsFormula self.old) (λ f. 2 * literal_count f) looks.old looks.new }
     {
@@ -364,7 +366,7 @@ impl Formula {
             → FormulaEffectIf result (PassInTurn f units.now) (RepresentsFormula self.new (with_units (map (λ u. u.0) units.now) f))
             (with_units (map (λ u. u.0) units.now) f) }
         ensures noted { IfOk result (λ passes. IsTrue passes → (f : Stored) → RepresentsFormula self.old f → AreLong f
-            → AppendsNews notes.old (derived_units units.now f) notes.new) }
+            → AppendsAnnouncements notes.old (derived_units units.now f) notes.new) }
         ensures looks { LooksOver (RepresentsFormula self.old)
             (λ f. length units.now * (2 * literal_count f)) looks.old looks.new }
     {
@@ -478,8 +480,8 @@ impl Formula {
 
     /// Removes the unit of a variable that is being deleted, if there is one, and records that a variable was deleted.
     pub fn forget(&mut self, var: Var)
-        ensures { (f : Stored) → RepresentsFormula (refiled_in self.old) f
-            → RepresentsFormula (refiled_in self.new) (without_variable var f) }
+        ensures { (f : Stored) → RepresentsFormula (rehashed_in self.old) f
+            → RepresentsFormula (rehashed_in self.new) (without_variable var f) }
     {
         self.units.forget(var);
         self.status.var_deleted = true;

@@ -5,7 +5,8 @@ ghost use Rattle.sat_checker.specs.KernelView as kernels;
 ghost use Rattle.sat_checker.specs.KernelView.{step_error, kernel_has_failed, kernel_looks, HasAccepted};
 ghost use Rattle.sat_checker.specs.CheckerView.{seen, ChecksStep, ChecksDelayed};
 ghost use Rattle.sat_checker.specs.announcements.Announcements.{Notice};
-ghost use Rattle.sat_checker.specs.inner.NotifyingSteps.{announced_by, changed_by, put_back, was_of, failure_of, fault_of};
+ghost use Rattle.sat_checker.specs.inner.NotifyingSteps.{announced_by, changed_by, put_back, was_of, failure_of};
+ghost use Rattle.sat_checker.specs.inner.NotifyingSteps.{fault_of};
 ghost use Rattle.sat_checker.specs.inner.NotifyingSteps.{records_in, IsUnmovedByNotices, NotifiesAndKeepsState};
 ghost use Rattle.sat_checker.specs.inner.VariablesView.{variable_at};
 ghost use Rattle.sat_checker.specs.listeners.AnnouncementView.{variables_of};
@@ -13,13 +14,13 @@ ghost use Rattle.sat_checker.specs.listeners.Hearing.{hearers, HearsAll, HearsFi
 ghost use Rattle.sat_checker.specs.listeners.ProcessingView.{listeners_of, HearsEach};
 
 use crate::announce::announcement::{CheckedProofStep, CheckerData, Was};
-use crate::announce::news::News;
 use crate::announce::notes::Notes;
+use crate::announce::pending::PendingAnnouncements;
 use crate::announce::transcript::ProofTranscriptProcessor;
 use crate::error::CheckerError;
 use crate::looks::Looks;
 use crate::processing::{Processing, ProcessingError, ProofProcessor};
-use crate::state::State;
+use crate::state::CheckerState;
 use crate::state::status::{Records, Status};
 use crate::store::StoreError;
 use crate::variables::Variables;
@@ -79,8 +80,8 @@ fn listens<P: ProofProcessor, T: ProofTranscriptProcessor>(
 
 /// Notifies the listeners of the announcements in `news`, in order, up to the first error.
 #[inline(always)]
-fn notify_news<O: ProofProcessor, P: ProofProcessor, T: ProofTranscriptProcessor>(
-    news: &News,
+fn notify_pending<O: ProofProcessor, P: ProofProcessor, T: ProofTranscriptProcessor>(
+    news: &PendingAnnouncements,
     names: CheckerData<'_>,
     own: &mut O,
     others: &mut Processing<P, T>,
@@ -125,7 +126,7 @@ fn refusal(error: StoreError) -> StepRefusal
 /// A checker without its listeners.
 #[derive(Drop)]
 pub(crate) struct Kernel {
-    pub(crate) state: State,
+    pub(crate) state: CheckerState,
     /// What was recorded after the last accepted step.
     pub(crate) records: Records,
     pub(crate) failed: bool,
@@ -143,7 +144,7 @@ impl Kernel {
         ensures looks { kernel_looks result ≡ 0 }
     {
         Kernel {
-            state: State::new(alloc),
+            state: CheckerState::new(alloc),
             records: Status::new().records(),
             failed: false,
             looks: Looks::new(),
@@ -383,7 +384,7 @@ impl Kernel {
             result (seen self.old (hearers own.old others.old)) (seen self.new (hearers own.new others.new)) }
     {
         let names = CheckerData::before(&self.state.variables, was);
-        match notify_news(&self.notes.news, names, own, others) {
+        match notify_pending(&self.notes.news, names, own, others) {
             Ok(()) => Ok(()),
             Err(error) => {
                 self.failed = true;

@@ -1,7 +1,7 @@
 //! Laws about when a clause passes, how each step changes what is stored, and what always holds for it. Each law is the
 //! contract of a function that does nothing.
-ghost use Rattle.sat_checker.specs.FewBytes.{IdsWithinBytes, NoneIsSpent};
-ghost use Rattle.sat_checker.specs.Invariants.{AllClausesHold, AlwaysOrderly, AlwaysTidy, ContentsAreSettled};
+ghost use Rattle.sat_checker.specs.FewBytes.{IdsWithinBytes, CountersNeverExhausted};
+ghost use Rattle.sat_checker.specs.Invariants.{AllClausesHold, AlwaysOrderly, StoredInvariantHolds, ContentsAreSettled};
 ghost use Rattle.sat_checker.specs.Invariants.{ContentsFollow, ContentsOfSteps, CountedIsStored, DerivedIsLast};
 ghost use Rattle.sat_checker.specs.Invariants.{LastIsSettled, LastStays, PendingChangesNothing, TakingCounts};
 ghost use Rattle.sat_checker.specs.Invariants.{UnsatStays};
@@ -29,7 +29,7 @@ pub fn contents_follow_steps()
 
 /// States what holds for the stored clauses and units after every list of accepted steps.
 pub fn stored_is_tidy()
-    ensures tidy { AlwaysTidy }
+    ensures tidy { StoredInvariantHolds }
     ensures unsat { UnsatStays }
     ensures pending { PendingChangesNothing }
     ensures clauses { AllClausesHold }
@@ -48,5 +48,5 @@ pub fn last_was_derived()
 /// checker never exhaust the ids or counts.
 pub fn bytes_bound_ids()
     ensures ids { IdsWithinBytes }
-    ensures spent { NoneIsSpent }
+    ensures spent { CountersNeverExhausted }
 {}

@@ -2,12 +2,13 @@
 ghost use Rattle.sat_checker.specs.DimacsView.{EndedStayFirst, ReadAreFirst};
 ghost use Rattle.sat_checker.specs.Laws.{CanonicalIsSortedSet, CoresAssumed, CoresFail, DeletedIsNameless};
 ghost use Rattle.sat_checker.specs.Laws.{DeletionIsSeen, EmptyIsGiven, FormulaIsFold, KnownStays, ModelsExtend};
-ghost use Rattle.sat_checker.specs.Laws.{NamedIsKnown, NamesApart, SameLiteralsAreEqual, SortedSetsAreEqual};
+ghost use Rattle.sat_checker.specs.Laws.{NamedIsKnown, NamesDistinct, SameLiteralsAreEqual, SortedSetsAreEqual};
 ghost use Rattle.sat_checker.specs.Laws.{TautologyHasBothSigns, UnknownIsUnknown, UnsatMeansNone};
 ghost use Rattle.sat_checker.specs.MeaningRows.{DeletedIsFree, EitherHolds, FourHaveNone, LooksOfAll, LooksOfKinds};
 ghost use Rattle.sat_checker.specs.MeaningRows.{OnlyAddedAsk, StoredAsk, UnsatAsks};
 ghost use Rattle.sat_checker.specs.Rows.{DeletesAssumed, AfterUnsat, BothSigns, ByDuplicate, ByNameLeft, ByOneCount};
-ghost use Rattle.sat_checker.specs.Rows.{BySolverName, Colliding, ConflictAndUnit, EmptyBefore, EmptyAfter, EndAloneAccepted};
+ghost use Rattle.sat_checker.specs.Rows.{BySolverName, Colliding, ConflictAndUnit, EmptyBefore, EmptyAfter};
+ghost use Rattle.sat_checker.specs.Rows.{EndAloneAccepted};
 ghost use Rattle.sat_checker.specs.Rows.{FourClauses, HashesOfOneTwo, HiddenAdded, HiddenNamed, InClause};
 ghost use Rattle.sat_checker.specs.Rows.{LastAfterConflict, LastUnit, ModelAgainstUnit, ModelTwice};
 ghost use Rattle.sat_checker.specs.Rows.{ModelWithoutClause, Modelled, NameTaken, NamedAgain, NamedOnce, NamedTwice};
@@ -45,7 +46,7 @@ pub fn variables_are_kept()
     ensures named { NamedIsKnown }
     ensures stays { KnownStays }
     ensures nameless { DeletedIsNameless }
-    ensures apart { NamesApart }
+    ensures apart { NamesDistinct }
     ensures unknowns { UnknownIsUnknown }
     ensures deletion { DeletionIsSeen }
 {}

@@ -14,7 +14,7 @@ ghost use Rattle.sat_checker.specs.inner.Reasons.{MeetsConflict, ExplainsCheck};
 ghost use Rattle.sat_checker.specs.inner.AssumedRoom.{HasClauseRoom, HasClausesRoom, HasStoredRoom, signed};
 ghost use Rattle.sat_checker.specs.inner.AssumedRoom.{AgreesOn, DeniedInRoom};
 ghost use Rattle.sat_checker.specs.inner.SlotView.{literals_at, bucket_in, bucket_of, live, live_length};
-ghost use Rattle.sat_checker.specs.inner.Walk.{verdict, walk_on, walk_buckets, denied_in_turn};
+ghost use Rattle.sat_checker.specs.inner.Walk.{clause_state, walk_on, walk_buckets, denied_in_turn};
 
 pub(crate) mod in_turn;
 pub(crate) mod needed;
@@ -40,7 +40,7 @@ fn meet(
     looks: &mut Looks,
 ) -> Result<bool, AllocError>
     requires { place < length clauses.now }
-    ensures met { IfOk result (λ conflict. walk_on (verdict assigned.old.literals (literals_at clauses.now place))
+    ensures met { IfOk result (λ conflict. walk_on (clause_state assigned.old.literals (literals_at clauses.now place))
         assigned.old.literals ≡ (if conflict then None else Some assigned.new.literals)) }
     ensures short { OnErr result (HasClauseRoom assigned.old.room (literals_at clauses.now place) → ⊥) }
     ensures extends { AssumesMore assigned.old assigned.new }

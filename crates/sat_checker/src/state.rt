@@ -11,10 +11,11 @@ ghost use Rattle.sat_checker.specs.announcements.Announcements.{derived, input};
 ghost use Rattle.sat_checker.specs.inner.FormulaView.{Explained};
 ghost use Rattle.sat_checker.specs.inner.Looking.{LooksOver};
 ghost use Rattle.sat_checker.specs.inner.Reasons.{noted_length};
-ghost use Rattle.sat_checker.specs.inner.StateView.{RepresentsStored, KeepsFiled, ChangesStored, with_added_clause, with_derived};
+ghost use Rattle.sat_checker.specs.inner.StateView.{RepresentsStored, KeepsFiled, ChangesStored, with_added_clause};
+ghost use Rattle.sat_checker.specs.inner.StateView.{with_derived};
 ghost use Rattle.sat_checker.specs.inner.StateView.{DecidesStep, LooksWithin};
 ghost use Rattle.sat_checker.specs.listeners.AnnouncingView.{AreLong};
-ghost use Rattle.sat_checker.specs.listeners.NotedView.{Announces, AppendsNews};
+ghost use Rattle.sat_checker.specs.listeners.NotedView.{Announces, AppendsAnnouncements};
 
 pub(crate) mod lit_set;
 pub(crate) mod status;
@@ -31,7 +32,7 @@ use std::alloc::Global;
 
 /// Everything on which the verdict on a step depends.
 #[derive(Drop)]
-pub(crate) struct State {
+pub(crate) struct CheckerState {
     pub(crate) alloc: Global,
     pub(crate) formula: Formula,
     pub(crate) variables: Variables,
@@ -40,7 +41,7 @@ pub(crate) struct State {
     pub(crate) buffer: Vec<Lit>,
 }
 
-impl State {
+impl CheckerState {
     /// Checks a `SolverVarName` step, and applies it if it is accepted.
     fn solver_var_name(&mut self, var: Var, name: Option<Var>) -> Result<bool, StoreError>
         ensures { DecidesStep result self.old (SolverVarName var name) self.new }
@@ -107,7 +108,7 @@ impl State {
         if !self.variables.are_sampling(clause) {
             return Ok(false);
         }
-        self.formula.file(looks);
+        self.formula.rehash_if_needed(looks);
         self.store_input(clause, notes, looks)?;
         Ok(true)
     }
@@ -121,7 +122,7 @@ impl State {
     ) -> Result<(), StoreError>
         ensures stored { ChangesStored result self.old (with_added_clause clause.now) self.new }
         ensures noted { OnOk result ((f : Stored) → KeepsFiled self.old f
-            → AppendsNews notes.old (input clause.now f) notes.new) }
+            → AppendsAnnouncements notes.old (input clause.now f) notes.new) }
         ensures looks { LooksOver (KeepsFiled self.old) (λ f. 2 * literal_count f) looks.old looks.new }
     {
         let literals = sorted_set(&mut self.buffer, clause)?;
@@ -143,7 +144,7 @@ impl State {
         ensures looks { LooksWithin self.old (AtClause redundant clause.now hashes.now) looks.old looks.new }
         ensures noted { Announces result self.old (AtClause redundant clause.now hashes.now) notes.old notes.new }
     {
-        self.formula.file(looks);
+        self.formula.rehash_if_needed(looks);
         if !self
             .formula
             .check(clause, false, hashes, notes.has_listener(), looks)?
@@ -168,7 +169,7 @@ impl State {
         ensures stored { ChangesStored result self.old (with_derived redundant clause.now) self.new }
         ensures noted { OnOk result ((f : Stored) (hashes : List ℕ) → KeepsFiled self.old f → AreLong f
             → (self.old.formula.passed.lost ≡ false → Explained self.old.formula clause.now hashes)
-            → AppendsNews notes.old (derived redundant clause.now hashes f) notes.new) }
+            → AppendsAnnouncements notes.old (derived redundant clause.now hashes f) notes.new) }
         ensures looks { LooksOver (KeepsFiled self.old)
             (λ f. noted_length self.old.formula.store.clauses self.old.formula.passed + literal_count f)
             looks.old looks.new }
@@ -219,7 +220,7 @@ impl State {
         ensures looks { LooksWithin self.old (UnitClauses units.now) looks.old looks.new }
         ensures noted { Announces result self.old (UnitClauses units.now) notes.old notes.new }
     {
-        self.formula.file(looks);
+        self.formula.rehash_if_needed(looks);
         if !self.formula.store_units(units, notes, looks)? {
             return Ok(false);
         }
@@ -240,7 +241,7 @@ impl State {
         ensures looks { LooksWithin self.old (DeleteClause clause.now (deletion_of proof)) looks.old looks.new }
         ensures noted { Announces result self.old (DeleteClause clause.now (deletion_of proof)) notes.old notes.new }
     {
-        self.formula.file(looks);
+        self.formula.rehash_if_needed(looks);
         let Ok(literals) = sorted_set(&mut self.buffer, clause) else {
             return self.formula.fail_if_deletable(clause, proof, looks);
         };
@@ -287,7 +288,7 @@ impl State {
         if !self.assumed.has_all(core) {
             return Ok(false);
         }
-        self.formula.file(looks);
+        self.formula.rehash_if_needed(looks);
         if !self
             .formula
             .check(core, true, hashes, notes.has_listener(), looks)?
@@ -333,10 +334,10 @@ impl State {
     }
 
     /// Creates a state in which nothing is stored.
-    pub fn new(alloc: Global) -> State
+    pub fn new(alloc: Global) -> CheckerState
         ensures { RepresentsStored result nothing_stored }
     {
-        State {
+        CheckerState {
             alloc,
             formula: Formula::new(alloc),
             variables: Variables::new(alloc),

@@ -5,7 +5,8 @@ ghost use Rattle.sat_checker.specs.inner.Looking.{LooksOver, LooksUpTo};
 ghost use Rattle.sat_checker.specs.inner.Marks.{IsIncreasing};
 ghost use Rattle.sat_checker.specs.Stored.{Stored, nothing_stored};
 ghost use Rattle.sat_checker.specs.Looks.{literal_count};
-ghost use Rattle.sat_checker.specs.inner.StoreView.{RepresentsClauses, refiled, StoreEffect, PlacesIds, KeepsIds, TakesCount};
+ghost use Rattle.sat_checker.specs.inner.StoreView.{RepresentsClauses, rehashed, StoreEffect, PlacesIds, KeepsIds};
+ghost use Rattle.sat_checker.specs.inner.StoreView.{TakesCount};
 ghost use Rattle.sat_checker.specs.inner.StoreView.{with_less, store_count_in, found_in};
 ghost use Rattle.sat_checker.specs.inner.SlotView.{slot_ids, live, live_length, gone_count};
 ghost use Rattle.sat_checker.specs.Storing.{clause_with, clause_numbered, with_solver_name};
@@ -91,21 +92,21 @@ impl Store {
     /// Files the clauses under the current hashes, if that has not been done yet. This must happen before a hash is
     /// looked up. Does not allocate.
     #[inline(always)]
-    pub fn file(&mut self, looks: &mut Looks)
-        ensures filed { self.new ≡ refiled self.old }
-        ensures looks { LooksOver (RepresentsClauses (refiled self.old)) literal_count looks.old looks.new }
+    pub fn rehash_if_needed(&mut self, looks: &mut Looks)
+        ensures filed { self.new ≡ rehashed self.old }
+        ensures looks { LooksOver (RepresentsClauses (rehashed self.old)) literal_count looks.old looks.new }
     {
         if !self.stale {
             return;
         }
-        self.file_anew(looks);
+        self.rehash(looks);
     }
 
     /// Files the clauses under the current hashes.
     #[inline(never)]
-    fn file_anew(&mut self, looks: &mut Looks)
+    fn rehash(&mut self, looks: &mut Looks)
         requires { self.old.stale ≡ true }
-        ensures filed { self.new ≡ refiled self.old }
+        ensures filed { self.new ≡ rehashed self.old }
         ensures looks { LooksUpTo (live_length self.old.clauses) looks.old looks.new }
     {
         self.clauses.rehash(&self.hasher, looks);
@@ -201,11 +202,11 @@ impl Store {
         self.clauses.compact()
     }
 
-    /// Sets how many bits of every hash are kept from now on. Counts no looks: `file` later files the clauses under
+    /// Sets how many bits of every hash are kept from now on. Counts no looks: `rehash_if_needed` later files the clauses under
     /// their new hashes.
     pub fn set_bits(&mut self, bits: HashBits)
-        ensures set { (f : Stored) → RepresentsClauses (refiled self.old) f
-            → RepresentsClauses (refiled self.new) (record f { width = bits }) }
+        ensures set { (f : Stored) → RepresentsClauses (rehashed self.old) f
+            → RepresentsClauses (rehashed self.new) (record f { width = bits }) }
         ensures ids { slot_ids self.new.clauses ≡ slot_ids self.old.clauses }
     {
         if self.hasher.bits() == bits {
@@ -215,11 +216,11 @@ impl Store {
         self.stale = true;
     }
 
-    /// Sets the solver name of a variable, or removes it if `name` is `None`. Counts no looks: `file` later files the
+    /// Sets the solver name of a variable, or removes it if `name` is `None`. Counts no looks: `rehash_if_needed` later files the
     /// clauses under their new hashes.
     pub fn set_solver_name(&mut self, var: Var, name: Option<Var>) -> Result<(), AllocError>
-        ensures set { OnOk result ((f : Stored) → RepresentsClauses (refiled self.old) f
-            → RepresentsClauses (refiled self.new) (with_solver_name var name f)) }
+        ensures set { OnOk result ((f : Stored) → RepresentsClauses (rehashed self.old) f
+            → RepresentsClauses (rehashed self.new) (with_solver_name var name f)) }
         ensures ids { slot_ids self.new.clauses ≡ slot_ids self.old.clauses }
     {
         if self.hasher.solver_name(var) == name {
@@ -279,7 +280,7 @@ impl Store {
 
     /// Whether any stored clause contains the variable. Counts no looks.
     pub fn mention(&self, var: Var) -> bool
-        ensures { (f : Stored) → RepresentsClauses (refiled self.now) f
+        ensures { (f : Stored) → RepresentsClauses (rehashed self.now) f
             → result ≡ list_any (λ c. mentions c.literals var) f.clauses }
     {
         self.clauses.mention(var)
@@ -287,11 +288,11 @@ impl Store {
 
     /// Whether every clause that is stored as irredundant contains an assumed literal.
     pub fn are_satisfied(&self, assigned: &Assigned, looks: &mut Looks) -> bool
-        ensures found { (f : Stored) → RepresentsClauses (refiled self.now) f
+        ensures found { (f : Stored) → RepresentsClauses (rehashed self.now) f
             → result ≡ are_all_true assigned.now.literals f.clauses }
-        ensures looks { LooksOver (RepresentsClauses (refiled self.now)) literal_count looks.old looks.new }
+        ensures looks { LooksOver (RepresentsClauses (rehashed self.now)) literal_count looks.old looks.new }
         // If the result is true, exactly the literals of the irredundant clauses were looked at.
-        ensures all { (f : Stored) → RepresentsClauses (refiled self.now) f → result ≡ true
+        ensures all { (f : Stored) → RepresentsClauses (rehashed self.now) f → result ≡ true
             → looks.new ≡ looks.old + irredundant_length f.clauses }
     {
         self.clauses.are_satisfied(assigned, looks)

@@ -209,7 +209,7 @@ impl Units {
     /// the units over the clauses with the hashes in `hashes`. The units are unchanged. The notes in `passed` say which
     /// clauses were used.
     #[tactic(auto, using(crate::proofs::lemmas::store::Keeping::checking))]
-    pub fn check(
+    pub fn check_clause(
         &mut self,
         store: &Store,
         literals: &[Lit],

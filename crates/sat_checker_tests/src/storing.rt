@@ -123,7 +123,7 @@ fn finds_at(
         return Ok(false);
     };
     store.set_bits(bits);
-    store.file(looks);
+    store.rehash_if_needed(looks);
     finds_left(store, clause, looks)
 }
 

@@ -1,6 +1,6 @@
 -- When a line of a hint text is at fault, and what a verdict means.
 use Rattle.std.specs.Prelude.{ℕ, ◌+◌, ◌≡◌, ◌⊎◌, Bool, false, None, Some, List, [], ◌∷◌, ◌++◌, length}
-use Rattle.sat_base.specs.text.Tokenizing.{held}
+use Rattle.sat_base.specs.text.Tokenizing.{capped}
 use Rattle.sat_checker.specs.LiteralSets.{is_tautology}
 use Rattle.sat_checker.specs.Propagation.{IsFalsified, IsUnit}
 use Rattle.sat_hints.specs.Lines.{Line, AreLines, text_of, SpellsLine, BeginsWithLine}
@@ -62,7 +62,7 @@ pub record IsBadAt (text : List ℕ) (line : ℕ) (why : HintWhy) : Type 0 where
   pub derivation : IsHintDerivation earlier
   pub first : BeginsWithLine bytes rest
   pub fault : IsAtFault earlier bytes why
-  pub number : line ≡ held (length earlier + 1)
+  pub number : line ≡ capped (length earlier + 1)
 
 -- that the text is that of a derivation, with these counts, capped at 2^64-1, and this value of `empty`
 pub record IsProof (text : List ℕ) (empty : Bool) (cores lines : ℕ) : Type 0 where
@@ -71,8 +71,8 @@ pub record IsProof (text : List ℕ) (empty : Bool) (cores lines : ℕ) : Type 0
   pub are : AreLines all
   pub derivation : IsHintDerivation all
   pub says_empty : empty ≡ derives_empty all
-  pub counts_cores : cores ≡ held (count_of_cores all)
-  pub counts_lines : lines ≡ held (length all)
+  pub counts_cores : cores ≡ capped (count_of_cores all)
+  pub counts_lines : lines ≡ capped (length all)
 
 -- what a verdict says about a text
 abbrev pub VerdictHolds : HintVerdict → List ℕ → Type 0

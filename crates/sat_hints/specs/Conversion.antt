@@ -3,7 +3,7 @@ use Rattle.std.specs.Prelude.{ℕ, true, false, Bool, Option, None, Some, List, 
 use Rattle.sat_base.specs.steps.Steps.{Step}
 use Rattle.sat_checker.specs.announcements.Announcements.{Announcement, Notice, all_notices_after}
 use Rattle.sat_checker.specs.announcements.Announcements as notices
-use Rattle.sat_base.specs.text.Tokenizing.{held}
+use Rattle.sat_base.specs.text.Tokenizing.{capped}
 use Rattle.sat_hints.specs.Lines.{Line, Input, Derived, Gone, Core, Fresh, text_of}
 use Rattle.sat_hints.specs.Hints.{derives_empty, count_of_cores}
 use Rattle.sat_hints.specs.declared.answer.HintVerdict.{HintVerdict}
@@ -50,4 +50,4 @@ hint_text steps = text_of (lines_of steps)
 
 -- the verdict `Proved` for the lines of accepted steps, with counts capped at 2^64-1
 abbrev pub hint_verdict : List Step → HintVerdict
-hint_verdict steps = let lines : List Line = lines_of steps in Proved (derives_empty lines) (held (count_of_cores lines)) (held (length lines))
+hint_verdict steps = let lines : List Line = lines_of steps in Proved (derives_empty lines) (capped (count_of_cores lines)) (capped (length lines))

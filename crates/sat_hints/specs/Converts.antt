@@ -1,8 +1,8 @@
 -- What the result of converting a certificate into a hint text means.
 use Rattle.std.specs.Prelude.{ℕ, ◌≡◌, ◌≢◌, ◌⊎◌, List, [], ◌∷◌, ◌++◌, Result, Ok, Err}
 use Rattle.std.specs.List.{AllByRecursion}
-use Rattle.sat_base.specs.device.Device.{Reader, Writer, IsOver, ReadFails, WriterTakes, WriterBreaks}
-use Rattle.sat_base.specs.steps.Formats.{IsProperFront, IsFirstBadByte}
+use Rattle.sat_base.specs.device.Device.{Reader, Writer, IsOver, ReadFails, WriterAccepts, WriterFails}
+use Rattle.sat_base.specs.steps.Formats.{IsProperPrefix, IsFirstBadByte}
 use Rattle.sat_base.specs.steps.Steps.{Step, End}
 use Rattle.sat_base.specs.steps.StepText.{SpellsStep}
 use Rattle.sat_checker.specs.Accepts.{Accepts, AcceptsAll, ready_after}
@@ -22,16 +22,16 @@ pub record GaveAcceptedSteps (from to : Reader) (passed last : List Step) (rest 
   pub accepted : AcceptsAll (taken_after passed [])
 
 -- that the writer accepted a prefix of the text, and no call failed
-pub record WritesFrontOf (old new : Writer) (text : List ℕ) : Type 0 where
+pub record WritesPrefixOf (old new : Writer) (text : List ℕ) : Type 0 where
   pub front : List ℕ
   pub following : List ℕ
   pub whole : text ≡ front ++ following
-  pub takes : WriterTakes old new front
+  pub takes : WriterAccepts old new front
 
 -- that only the last call of the writer failed, after a prefix of the hint text of the steps, or of these steps and one
 -- more accepted step
 abbrev pub BreaksAfter : Writer → Writer → Step → List Step → Type 0
-BreaksAfter old new step steps = WriterBreaks old new (hint_text steps) ⊎ (Accepts (ready_after steps) step × WriterBreaks old new (hint_text (step ∷ steps)))
+BreaksAfter old new step steps = WriterFails old new (hint_text steps) ⊎ (Accepts (ready_after steps) step × WriterFails old new (hint_text (step ∷ steps)))
 
 -- that after the accepted steps, the reader gave bytes that begin with a step, complete or cut off, or gave one more
 -- step, which is accepted
@@ -50,7 +50,7 @@ abbrev pub RefusesBy : CheckerError → Reader → Reader → List Step → Type
 -- a step is not accepted,
 RefusesBy errors.CheckFailed from to passed = (step : Step) × (rest : List ℕ) × GaveAcceptedSteps from to passed (step ∷ []) rest × (Accepts (ready_after (taken_after passed [])) step → ⊥)
 -- the text has ended before an end,
-RefusesBy errors.ProofIncomplete from to passed = (rest : List ℕ) × GaveAcceptedSteps from to passed [] rest × IsOver to × IsProperFront SpellsStep rest
+RefusesBy errors.ProofIncomplete from to passed = (rest : List ℕ) × GaveAcceptedSteps from to passed [] rest × IsOver to × IsProperPrefix SpellsStep rest
 -- or no step can continue after a byte.
 RefusesBy errors.ParseError from to passed = (rest : List ℕ) × GaveAcceptedSteps from to passed [] rest × IsFirstBadByte SpellsStep rest
 -- No other error is a rejection. The bytes that a reader gives can't exhaust ids or counts.
@@ -65,19 +65,19 @@ abbrev pub Converts : Result (Unit {0}) HintError → Reader → Reader → Writ
 -- all steps are accepted up to an end, and their hint text is proved and completely written,
 Converts (Ok x) from to old new = (passed : List Step) × (rest : List ℕ) × IsAccepted from to passed rest
     × VerdictHolds (hint_verdict (End ∷ taken_after passed [])) (hint_text (End ∷ taken_after passed []))
-    × WriterTakes old new (hint_text (End ∷ taken_after passed []))
+    × WriterAccepts old new (hint_text (End ∷ taken_after passed []))
 -- this error is never returned,
 Converts (Err HasDeleteVar) from to old new = ⊥
 -- the checker rejects a step, a byte or the end of the text,
 Converts (Err (Refused e)) from to old new = (passed : List Step) × NoReadFailed from to × RefusesBy e from to passed
-    × WritesFrontOf old new (hint_text (taken_after passed []))
+    × WritesPrefixOf old new (hint_text (taken_after passed []))
 -- exactly one read failed, the last, or 2^48 reads were made and none failed,
-Converts (Err Read) from to old new = (passed : List Step) × (rest : List ℕ) × ReadFails from to × GaveAcceptedSteps from to passed [] rest × IsProperFront SpellsStep rest
-    × WritesFrontOf old new (hint_text (taken_after passed []))
+Converts (Err Read) from to old new = (passed : List Step) × (rest : List ℕ) × ReadFails from to × GaveAcceptedSteps from to passed [] rest × IsProperPrefix SpellsStep rest
+    × WritesPrefixOf old new (hint_text (taken_after passed []))
 -- only the last write failed, after one more step was read and a prefix of the lines of accepted steps was written,
 Converts (Err Write) from to old new = (passed : List Step) × (step : Step) × (rest : List ℕ) × NoReadFailed from to × GaveAcceptedSteps from to passed (step ∷ []) rest
     × BreaksAfter old new step (taken_after passed [])
 -- or memory ran out while a step was read, or while an accepted step was checked or announced; no read failed or found
 -- the end.
 Converts (Err OutOfMemory) from to old new = (passed : List Step) × (rest : List ℕ) × NoReadFailed from to × FoundNoEnd from to × GaveUpTo from to passed rest
-    × WritesFrontOf old new (hint_text (taken_after passed []))
+    × WritesPrefixOf old new (hint_text (taken_after passed []))

@@ -2,7 +2,7 @@
 use Rattle.std.specs.Prelude.{◌≡◌, ◌≢◌, ◌↔◌, ◌<◌, ◌^◌, Bool, true, ℕ, Some, List, [], ◌∷◌, ◌++◌, Result, Ok, Err, IfOk}
 use Rattle.std.specs.List.{AllByRecursion}
 use Rattle.sat_base.specs.values.Clauses.{Valuation, clause_true, EachTrue, EachHolds}
-use Rattle.sat_base.specs.device.Device.{Reader, Writer, WriterTakes, GaveEnough}
+use Rattle.sat_base.specs.device.Device.{Reader, Writer, WriterAccepts, GaveEnough}
 use Rattle.sat_base.specs.steps.Steps.{Step, AddClause, DeleteVar, End}
 use Rattle.sat_base.specs.steps.StepText.{SpellsSteps}
 use Rattle.sat_checker.specs.Accepts.{AcceptsAll, ready_after}
@@ -118,7 +118,7 @@ pub record IsCertificate (steps : List Step) (text : List ℕ) : Type 0 where
 -- that the result for accepted steps, the oldest first, is `Ok` and their hint text was written, or the result is
 -- `Read`, `Write` or `OutOfMemory`
 abbrev pub IsTextOrFault : Result (Unit {0}) HintError → List Step → Writer → Writer → Type 0
-IsTextOrFault (Ok x) steps old new = WriterTakes old new (hint_text (End ∷ taken_after steps []))
+IsTextOrFault (Ok x) steps old new = WriterAccepts old new (hint_text (End ∷ taken_after steps []))
 IsTextOrFault (Err HasDeleteVar) steps old new = ⊥
 IsTextOrFault (Err (Refused e)) steps old new = ⊥
 IsTextOrFault (Err Read) steps old new = Unit {0}

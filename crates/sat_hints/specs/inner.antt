@@ -2,7 +2,7 @@ pub mod LineReading
 pub mod Prefixes
 pub mod Clauses
 pub mod UsesView
-pub mod Standing
+pub mod ActiveClauses
 pub mod Course
 pub mod LineChecking
 pub mod Holding

@@ -1,6 +1,7 @@
 //! Hint texts: proofs that can be checked without a search.
 #![tactic(auto)]
 
+mod active_clauses;
 mod answer;
 mod checking;
 mod converting;
@@ -17,7 +18,6 @@ mod prefixes;
 mod present;
 mod propagating;
 mod reading;
-mod standing;
 mod uses;
 
 pub use answer::{HintFault, HintVerdict, HintWhy};

@@ -1,6 +1,6 @@
 //! Checking the lines of a hint text, one after another.
 ghost use Rattle.std.specs.Prelude.{◌≡◌, ◌≤◌, ◌+◌, ◌^◌, ◌-◌, ◌<◌, ℕ, [], None, Some, IfOk, OnErr, OnOk};
-ghost use Rattle.sat_base.specs.text.Tokenizing.{held};
+ghost use Rattle.sat_base.specs.text.Tokenizing.{capped};
 ghost use Rattle.sat_checker.specs.LiteralSets.{canonical};
 ghost use Rattle.sat_hints.specs.Lines.{Input, Derived, Gone, Core, Fresh, IsLine};
 ghost use Rattle.sat_hints.specs.inner.LineReading.{line_of_view, IsId};
@@ -8,19 +8,19 @@ ghost use Rattle.sat_checker.specs.inner.AssumedRoom.{signed};
 ghost use Rattle.sat_hints.specs.inner.LineChecking.{HasTakenLines, IsReadyChecker, IsSame, MayFollow, WhyNotRefuted};
 ghost use Rattle.sat_hints.specs.inner.LineChecking.{StoresClause, TakesNext, TakesOne};
 
+use crate::active_clauses::ActiveClauses;
 use crate::answer::{HintVerdict, HintWhy};
 use crate::line::HintLine;
 use crate::propagating::conflict;
-use crate::standing::Standing;
 use sat_base::{Lit, Var};
-use sat_checker::sorted_lits::{copy_canonical, rises};
+use sat_checker::sorted_lits::{copy_canonical, is_strictly_increasing};
 use sat_checker::{Assigned, make_room_for};
 use std::alloc::{AllocError, Global};
 
 /// The state after the lines so far, and buffers that are reused.
 #[derive(Drop)]
 pub(crate) struct LineChecker {
-    standing: Standing,
+    standing: ActiveClauses,
     /// The assumed literals. There is room for the literals of present clauses, and for their negations.
     assumed: Assigned,
     /// A buffer for the sorted literals of the next clause, which is used if the clause isn't sorted.
@@ -35,7 +35,7 @@ pub(crate) struct LineChecker {
 fn sorted_set<'a>(buffer: &'a mut Vec<Lit>, literals: &'a [Lit]) -> Result<&'a [Lit], AllocError>
     ensures { IfOk result (λ set. set.now ≡ canonical literals.now) }
 {
-    if rises(literals) {
+    if is_strictly_increasing(literals) {
         return Ok(literals);
     }
     match copy_canonical(buffer, literals) {
@@ -51,7 +51,7 @@ impl LineChecker {
         ensures taken { HasTakenLines result [] }
     {
         LineChecker {
-            standing: Standing::new(alloc),
+            standing: ActiveClauses::new(alloc),
             assumed: Assigned::new(alloc),
             set: Vec::new(alloc),
             least_id: 0,
@@ -208,7 +208,7 @@ impl LineChecker {
 
     /// Returns the verdict on a text whose next line is at fault for the reason `why`.
     pub(crate) fn bad(&self, why: HintWhy) -> HintVerdict
-        ensures { (count : ℕ) → self.now.lines ≡ held count → result ≡ HintVerdict.Bad (held (count + 1)) why }
+        ensures { (count : ℕ) → self.now.lines ≡ capped count → result ≡ HintVerdict.Bad (capped (count + 1)) why }
     {
         HintVerdict::Bad {
             line: self.lines.saturating_add(1),

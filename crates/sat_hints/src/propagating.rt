@@ -4,11 +4,11 @@ ghost use Rattle.std.specs.Prelude.{◌≡◌, ◌≢◌, ◌⊎◌, [], true, f
 ghost use Rattle.sat_checker.specs.LiteralSets.{is_among, is_tautology};
 ghost use Rattle.sat_checker.specs.inner.AssumedRoom.{AgreesOn, RoomStays, signed};
 ghost use Rattle.sat_hints.specs.inner.LineChecking.{refutation_failure_of, WhyNotRefuted};
-ghost use Rattle.sat_hints.specs.inner.Standing.{standing_clauses, HasRoomForPresent, StandingInvariant};
+ghost use Rattle.sat_hints.specs.inner.ActiveClauses.{active_clauses, HasRoomForPresent, ActiveClausesInvariant};
 
+use crate::active_clauses::ActiveClauses;
 use crate::answer::HintWhy;
 use crate::naming::are_present;
-use crate::standing::Standing;
 use sat_base::Lit;
 use sat_checker::rup::has;
 use sat_checker::{Assigned, Look, assume_if_roomy, look_at};
@@ -66,10 +66,10 @@ fn assume_all(assumed: &mut Assigned, literals: &[Lit], negate: bool) -> bool
 
 /// Returns the fault of a line that names a clause that is not unit in turn. `following` must be the ids that the line
 /// names after that clause. If no clause is present under one of these ids, the fault is `UnknownId`.
-fn not_unit(standing: &Standing, following: &[u64]) -> HintWhy
-    requires { StandingInvariant standing.now }
-    ensures { (standing_clauses standing.now following.now ≡ None) × (result ≡ HintWhy.UnknownId)
-        ⊎ (standing_clauses standing.now following.now ≢ None) × (result ≡ HintWhy.NotUnit) }
+fn not_unit(standing: &ActiveClauses, following: &[u64]) -> HintWhy
+    requires { ActiveClausesInvariant standing.now }
+    ensures { (active_clauses standing.now following.now ≡ None) × (result ≡ HintWhy.UnknownId)
+        ⊎ (active_clauses standing.now following.now ≢ None) × (result ≡ HintWhy.NotUnit) }
 {
     if are_present(standing, following) {
         return HintWhy::NotUnit;
@@ -79,10 +79,10 @@ fn not_unit(standing: &Standing, following: &[u64]) -> HintWhy
 
 /// Returns why the clauses with the ids `ids` do not lead to a conflict under the assumed literals. Returns `None` if
 /// they do.
-fn follow(standing: &Standing, ids: &[u64], assumed: &mut Assigned) -> Option<HintWhy>
-    requires standing { StandingInvariant standing.now }
+fn follow(standing: &ActiveClauses, ids: &[u64], assumed: &mut Assigned) -> Option<HintWhy>
+    requires standing { ActiveClausesInvariant standing.now }
     requires room { HasRoomForPresent assumed.old.room standing.now }
-    ensures follows { result ≡ refutation_failure_of assumed.old.literals (standing_clauses standing.now ids.now) }
+    ensures follows { result ≡ refutation_failure_of assumed.old.literals (active_clauses standing.now ids.now) }
     ensures room { assumed.new.room ≡ assumed.old.room }
 {
     if ids.is_empty() {
@@ -111,13 +111,13 @@ fn follow(standing: &Standing, ids: &[u64], assumed: &mut Assigned) -> Option<Hi
 /// `negate` is true. Returns `None` if they do, or if the literals include both signs of a variable and all clauses
 /// are present.
 fn conflict_under(
-    standing: &Standing,
+    standing: &ActiveClauses,
     ids: &[u64],
     literals: &[Lit],
     negate: bool,
     assumed: &mut Assigned,
 ) -> Option<HintWhy>
-    requires standing { StandingInvariant standing.now }
+    requires standing { ActiveClausesInvariant standing.now }
     requires room { HasRoomForPresent assumed.old.room standing.now }
     requires nothing { assumed.old.literals ≡ [] }
     ensures runs { WhyNotRefuted standing.now (signed negate literals.now) ids.now result }
@@ -134,13 +134,13 @@ fn conflict_under(
 
 /// Does what `conflict_under` does, and then undoes what was assumed. Nothing may be assumed beforehand.
 pub(crate) fn conflict(
-    standing: &Standing,
+    standing: &ActiveClauses,
     ids: &[u64],
     literals: &[Lit],
     negate: bool,
     assumed: &mut Assigned,
 ) -> Option<HintWhy>
-    requires standing { StandingInvariant standing.now }
+    requires standing { ActiveClausesInvariant standing.now }
     requires room { HasRoomForPresent assumed.old.room standing.now }
     requires nothing { assumed.old.literals ≡ [] }
     ensures runs { WhyNotRefuted standing.now (signed negate literals.now) ids.now result }

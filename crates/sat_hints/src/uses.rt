@@ -116,7 +116,7 @@ impl Uses {
     }
 
     /// If counting has started, subtracts the literals of a clause that is being removed.
-    pub(crate) fn take(&mut self, clause: &[Lit])
+    pub(crate) fn subtract(&mut self, clause: &[Lit])
         requires { (l : ℕ) → if_counting self.old.counting (times_long l clause.now) ≤ uses_at self.old l }
         ensures counting { self.new.counting ≡ self.old.counting }
         ensures counted { (l : ℕ) → uses_at self.new l + if_counting self.old.counting (times_long l clause.now)
@@ -125,7 +125,7 @@ impl Uses {
         if !self.counting || clause.len() < 2 {
             return;
         }
-        self.counts.take(clause);
+        self.counts.subtract(clause);
     }
 
     /// Starts counting, unless counting has already started: counts the literals of all present clauses.

@@ -9,7 +9,7 @@ pub mod Places
 pub mod WatchLists
 pub mod Ready
 pub mod Walk
-pub mod Asks
+pub mod Propagation
 pub mod Building
 pub mod Undone
 pub mod Backtracked

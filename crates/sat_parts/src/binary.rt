@@ -1,10 +1,12 @@
 //! The binary clauses.
-ghost use Rattle.std.specs.Prelude.{ℕ, ◌≡◌, ◌+◌, ◌-◌, ◌*◌, ◌/◌, ◌<◌, ◌≤◌, ◌⊎◌, ◌∷◌, ◌++◌, [], length, take, drop, replicate, OnOk, OnErr};
+ghost use Rattle.std.specs.Prelude.{ℕ, ◌≡◌, ◌+◌, ◌-◌, ◌*◌, ◌/◌, ◌<◌, ◌≤◌, ◌⊎◌, ◌∷◌, ◌++◌, [], length, take, drop};
+ghost use Rattle.std.specs.Prelude.{replicate, OnOk, OnErr};
 ghost use Rattle.std.specs.Prelude.{slice_index, slice_index_or, slice_set, vec_capacity};
 ghost use Rattle.sat_base.specs.values.Literals.{var_limit, negated};
-ghost use Rattle.sat_parts.specs.prop.Values.{is_unset};
-ghost use Rattle.sat_parts.specs.prop.Binaries.{implied_by, with_implied, without_last_implied, with_binary, with_binary_lists};
-ghost use Rattle.sat_parts.specs.prop.Binaries.{open_among, implications, RemovesAssigned};
+ghost use Rattle.sat_parts.specs.prop.Values.{is_unassigned_var};
+ghost use Rattle.sat_parts.specs.prop.Binaries.{implied_by, with_implied, without_last_implied, with_binary};
+ghost use Rattle.sat_parts.specs.prop.Binaries.{with_binary_lists};
+ghost use Rattle.sat_parts.specs.prop.Binaries.{unassigned_among, implications, RemovesAssigned};
 ghost use Rattle.sat_parts.specs.prop.Places.{no_place, place_at, part_of, lists_of, ArePlaces, CopiesPadded};
 
 use crate::prop::assignment::Assignment;
@@ -23,7 +25,7 @@ struct Place {
 
 /// Whether the variable with this index has no value.
 fn is_unset(assignment: &Assignment, index: usize) -> bool
-    ensures { result ≡ is_unset assignment.now.current index }
+    ensures { result ≡ is_unassigned_var assignment.now.current index }
 {
     match assignment.assignment().get(index) {
         Some(value) => value.is_none(),
@@ -162,7 +164,7 @@ fn open_part(lits: &mut Vec<Lit>, place: Place, assignment: &Assignment, index: 
     ensures few { result ≤ place.len }
     ensures size { length lits.new.items ≡ length lits.old.items }
     ensures kept { take result (drop place.start lits.new.items)
-        ≡ open_among assignment.now.current index (part_of lits.old.items place) }
+        ≡ unassigned_among assignment.now.current index (part_of lits.old.items place) }
     ensures rest { (k : ℕ) → (k < place.start) ⊎ (place.start + place.len ≤ k)
         → slice_index lits.new.items k ≡ slice_index lits.old.items k }
 {
@@ -195,7 +197,7 @@ fn keep_open(
     ensures places { ArePlaces places.new.items (length lits.new.items) }
     ensures size { length places.new.items ≡ length places.old.items }
     ensures kept { lists_of places.new.items lits.new.items ≡ slice_set (lists_of places.old.items lits.old.items) code
-        (open_among assignment.now.current (code / 2) (implied_by (lists_of places.old.items lits.old.items) code)) }
+        (unassigned_among assignment.now.current (code / 2) (implied_by (lists_of places.old.items lits.old.items) code)) }
     ensures left { result ≡ length (implied_by (lists_of places.new.items lits.new.items) code) }
 {
     let place = places[code];

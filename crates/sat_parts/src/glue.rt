@@ -1,7 +1,7 @@
 //! Computes the glue of clauses. The glue of a clause is the number of distinct levels among its literals.
 ghost use Rattle.std.specs.Prelude.{ℕ, ◌≡◌, ◌<◌, ◌≤◌, min, length, take, slice_index_or, false};
 ghost use Rattle.sat_store.specs.clause.Buffer.{IsClause, lits_at};
-ghost use Rattle.sat_parts.specs.clause.Glue.{levels_of, different, HaveNodes, HaveFlags, AreClear, MarksLevels};
+ghost use Rattle.sat_parts.specs.clause.Glue.{levels_of, count_distinct, HaveNodes, HaveFlags, AreClear, MarksLevels};
 
 use crate::prop::graph::ImplGraph;
 use sat_base::Lit;
@@ -12,7 +12,7 @@ pub fn compute_glue(flags: &mut TmpFlags, graph: &ImplGraph, lits: &[Lit]) -> us
     requires nodes { HaveNodes graph.now lits.now }
     requires levels { HaveFlags graph.now flags.old.flags.items lits.now }
     requires clear { AreClear flags.old.flags.items }
-    ensures glue { result ≡ different (levels_of graph.now lits.now) }
+    ensures glue { result ≡ count_distinct (levels_of graph.now lits.now) }
     ensures clear { flags.new.flags.items ≡ flags.old.flags.items }
 {
     let glue = mark_levels(flags, graph, lits);
@@ -25,7 +25,7 @@ fn mark_levels(flags: &mut TmpFlags, graph: &ImplGraph, lits: &[Lit]) -> usize
     requires nodes { HaveNodes graph.now lits.now }
     requires levels { HaveFlags graph.now flags.old.flags.items lits.now }
     requires clear { AreClear flags.old.flags.items }
-    ensures glue { result ≡ different (levels_of graph.now lits.now) }
+    ensures glue { result ≡ count_distinct (levels_of graph.now lits.now) }
     ensures size { length flags.new.flags.items ≡ length flags.old.flags.items }
     ensures marked { MarksLevels flags.new.flags.items (levels_of graph.now lits.now) }
 {
@@ -66,7 +66,7 @@ pub fn compute_clause_glue(
     requires nodes { HaveNodes graph.now (lits_at clauses.now cref) }
     requires levels { HaveFlags graph.now flags.old.flags.items (lits_at clauses.now cref) }
     requires clear { AreClear flags.old.flags.items }
-    ensures glue { result ≡ different (levels_of graph.now (lits_at clauses.now cref)) }
+    ensures glue { result ≡ count_distinct (levels_of graph.now (lits_at clauses.now cref)) }
     ensures clear { flags.new.flags.items ≡ flags.old.flags.items }
 {
     compute_clause_glue_below(flags, graph, clauses, cref, clauses.len(cref))
@@ -86,7 +86,7 @@ pub fn compute_clause_glue_below(
     requires nodes { HaveNodes graph.now (lits_at clauses.now cref) }
     requires levels { HaveFlags graph.now flags.old.flags.items (lits_at clauses.now cref) }
     requires clear { AreClear flags.old.flags.items }
-    ensures glue { result ≡ min limit (different (levels_of graph.now (lits_at clauses.now cref))) }
+    ensures glue { result ≡ min limit (count_distinct (levels_of graph.now (lits_at clauses.now cref))) }
     ensures clear { flags.new.flags.items ≡ flags.old.flags.items }
 {
     let (glue, seen) = mark_clause_levels(flags, graph, clauses, cref, limit);
@@ -107,7 +107,7 @@ fn mark_clause_levels(
     requires nodes { HaveNodes graph.now (lits_at clauses.now cref) }
     requires levels { HaveFlags graph.now flags.old.flags.items (lits_at clauses.now cref) }
     requires clear { AreClear flags.old.flags.items }
-    ensures glue { result.0 ≡ min limit (different (levels_of graph.now (lits_at clauses.now cref))) }
+    ensures glue { result.0 ≡ min limit (count_distinct (levels_of graph.now (lits_at clauses.now cref))) }
     ensures within { result.1 ≤ length (lits_at clauses.now cref) }
     ensures size { length flags.new.flags.items ≡ length flags.old.flags.items }
     ensures marked { MarksLevels flags.new.flags.items

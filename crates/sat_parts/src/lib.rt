@@ -18,7 +18,7 @@ pub use clause::gc::collect_garbage;
 pub use clause::iter::{ClausesIter, clauses_iter};
 pub use clause::reduce::{dedup_and_mark_by_tier, reduce_mids};
 pub use glue::{compute_clause_glue, compute_clause_glue_below, compute_glue};
-pub use parts::Parts;
+pub use parts::SearchState;
 pub use prop::assignment::{Assignment, fast_option_eq};
 pub use prop::binary::propagate_binary;
 pub use prop::cause::{CauseLits, CauseLitsIter};

@@ -2,7 +2,7 @@
 ghost use Rattle.std.specs.Prelude.{◌≡◌, ◌≤◌, OnOk, length, []};
 ghost use Rattle.sat_base.specs.values.Literals.{var_limit};
 ghost use Rattle.sat_parts.specs.prop.Trails.{no_trail};
-ghost use Rattle.sat_parts.specs.parts.Whole.{PartsInvariant};
+ghost use Rattle.sat_parts.specs.parts.Whole.{SearchStateInvariant};
 ghost use Rattle.sat_parts.specs.parts.Frame.{AddsVars};
 
 pub mod assumptions;
@@ -21,7 +21,7 @@ use std::alloc::{AllocError, Global};
 
 /// The clauses, the assignment, and the queue of variables to decide.
 #[derive(Drop)]
-pub struct Parts {
+pub struct SearchState {
     pub clauses: ClauseAlloc,
     pub db: ClauseDb,
     pub watchlists: Watchlists,
@@ -35,11 +35,11 @@ pub struct Parts {
 /// Raises the number of variables to `count`, which must not be lower than before.
 ///
 /// New variables have no value, are in no clause, and are not available for decisions.
-pub fn grow(alloc: Global, parts: &mut Parts, count: usize) -> Result<(), AllocError>
-    requires holds { PartsInvariant parts.old }
+pub fn set_var_count(alloc: Global, parts: &mut SearchState, count: usize) -> Result<(), AllocError>
+    requires holds { SearchStateInvariant parts.old }
     requires more { length parts.old.assignment.current ≤ count }
     requires few { count ≤ var_limit }
-    ensures holds { OnOk result (PartsInvariant parts.new) }
+    ensures holds { OnOk result (SearchStateInvariant parts.new) }
     ensures grown { OnOk result (AddsVars parts.old parts.new count) }
 {
     parts.watchlists.set_var_count(alloc, count)?;
@@ -51,8 +51,8 @@ pub fn grow(alloc: Global, parts: &mut Parts, count: usize) -> Result<(), AllocE
 }
 
 /// Returns the data of a search without variables or clauses. The first propagation builds the watch lists.
-pub fn no_parts(alloc: Global) -> Parts
-    ensures holds { PartsInvariant result }
+pub fn new_search_state(alloc: Global) -> SearchState
+    ensures holds { SearchStateInvariant result }
     ensures none { result.assignment.current ≡ [] }
     ensures refs { result.db.refs ≡ [] }
     ensures implied { result.binary.implied ≡ [] }
@@ -60,7 +60,7 @@ pub fn no_parts(alloc: Global) -> Parts
 {
     let mut watchlists = Watchlists::new(alloc);
     watchlists.disable();
-    Parts {
+    SearchState {
         clauses: ClauseAlloc::new(alloc),
         db: ClauseDb::new(alloc),
         watchlists,

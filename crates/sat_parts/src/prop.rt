@@ -2,7 +2,7 @@
 ghost use Rattle.std.specs.Prelude.{◌≡◌, true, IfOk, OnOk};
 ghost use Rattle.sat_parts.specs.clause.Db.{DbMatchesBuffer};
 ghost use Rattle.sat_parts.specs.prop.Ready.{state_of};
-ghost use Rattle.sat_parts.specs.prop.Asks.{PropagationPrecondition, PropagationResult};
+ghost use Rattle.sat_parts.specs.prop.Propagation.{PropagationPrecondition, PropagationResult};
 
 pub mod assignment;
 pub mod binary;

@@ -2,14 +2,16 @@
 ghost use Rattle.std.specs.Prelude.{ℕ, List, ◌≡◌, ◌+◌, ◌<◌, [], length};
 ghost use Rattle.sat_parts.specs.prop.State.{level, current_level};
 ghost use Rattle.sat_parts.specs.prop.Ready.{LongReady};
-ghost use Rattle.sat_parts.specs.parts.Whole.{state, PartsInvariant, HoldsBelow};
+ghost use Rattle.sat_parts.specs.parts.Whole.{state, SearchStateInvariant, SearchStateInvariantBelow};
 
 use crate::loading::loaded;
 use crate::propagation::{names_first, reads};
 use sat_base::{Lit, Var};
-use sat_parts::parts::no_parts;
+use sat_parts::parts::new_search_state;
 use sat_parts::parts::steps::propagate_all;
-use sat_parts::{Conflict, Parts, Reason, enable_watchlists, propagate_binary, propagate_long};
+use sat_parts::{
+    Conflict, Reason, SearchState, enable_watchlists, propagate_binary, propagate_long,
+};
 use sat_store::StoreError;
 use std::alloc::{AllocError, Global};
 
@@ -17,8 +19,8 @@ use std::alloc::{AllocError, Global};
 const COUNT: usize = 3;
 
 /// Propagates the next literal of the queue over the clauses of two literals. Returns `None` if the queue is empty.
-fn over_binary(parts: &mut Parts) -> Result<Option<Result<(), Conflict>>, AllocError>
-    requires { HoldsBelow (length parts.old.trail.starts + 1) parts.old }
+fn over_binary(parts: &mut SearchState) -> Result<Option<Result<(), Conflict>>, AllocError>
+    requires { SearchStateInvariantBelow (length parts.old.trail.starts + 1) parts.old }
 {
     let next = parts.trail.pop_queue();
     match next {
@@ -37,7 +39,10 @@ fn over_binary(parts: &mut Parts) -> Result<Option<Result<(), Conflict>>, AllocE
 }
 
 /// Propagates the next literal of the queue over the long clauses. Returns `None` if the queue is empty.
-fn over_long(alloc: Global, parts: &mut Parts) -> Result<Option<Result<(), Conflict>>, AllocError>
+fn over_long(
+    alloc: Global,
+    parts: &mut SearchState,
+) -> Result<Option<Result<(), Conflict>>, AllocError>
     ghost live: { List ℕ }
     requires { LongReady parts.old.clauses live parts.old.watchlists.lists
         (state parts.old) (λ l. level (state parts.old) l < current_level (state parts.old) + 1) }
@@ -63,9 +68,9 @@ fn over_long(alloc: Global, parts: &mut Parts) -> Result<Option<Result<(), Confl
 /// Builds the watch lists, and propagates the next literal over the long clauses.
 fn built_and_over_long(
     alloc: Global,
-    parts: &mut Parts,
+    parts: &mut SearchState,
 ) -> Result<Option<Result<(), Conflict>>, AllocError>
-    requires { HoldsBelow (length parts.old.trail.starts + 1) parts.old }
+    requires { SearchStateInvariantBelow (length parts.old.trail.starts + 1) parts.old }
 {
     enable_watchlists(&mut parts.watchlists, &parts.clauses, &parts.db)?;
     over_long(alloc, parts)
@@ -75,11 +80,11 @@ fn built_and_over_long(
 /// Returns `None` if they aren't clauses over three variables, or the queue is empty.
 fn found_alone(
     alloc: Global,
-    parts: &mut Parts,
+    parts: &mut SearchState,
     clauses: &[&[i64]],
     is_long: bool,
 ) -> Result<Option<Result<(), Conflict>>, StoreError>
-    requires holds { PartsInvariant parts.old }
+    requires holds { SearchStateInvariant parts.old }
     requires none { parts.old.assignment.current ≡ [] }
 {
     if !loaded(alloc, parts, COUNT, clauses)? {
@@ -95,10 +100,10 @@ fn found_alone(
 /// Loads clauses, and propagates over all of them. Returns `None` if they aren't clauses over three variables.
 fn found_together(
     alloc: Global,
-    parts: &mut Parts,
+    parts: &mut SearchState,
     clauses: &[&[i64]],
 ) -> Result<Option<Result<(), Conflict>>, StoreError>
-    requires holds { PartsInvariant parts.old }
+    requires holds { SearchStateInvariant parts.old }
     requires none { parts.old.assignment.current ≡ [] }
 {
     if !loaded(alloc, parts, COUNT, clauses)? {
@@ -109,7 +114,7 @@ fn found_together(
 }
 
 /// Whether the reason of the third variable is the first long clause.
-fn third_by_first(parts: &Parts) -> bool {
+fn third_by_first(parts: &SearchState) -> bool {
     match parts.db.refs().first() {
         Some(cref) => parts.graph.nodes.len() == 3
             && parts.graph.reason(Var::from_index(2)) == Reason::Long(*cref),
@@ -119,7 +124,7 @@ fn third_by_first(parts: &Parts) -> bool {
 
 #[test]
 fn long_clauses_alone(rt: HostRuntime) {
-    let mut parts = no_parts(rt.alloc());
+    let mut parts = new_search_state(rt.alloc());
     let clauses: [&[i64]; 4] = [&[3, -1, -2], &[-1, -3], &[1], &[2]];
     let found = found_alone(rt.alloc(), &mut parts, &clauses, true);
     assert!(rt; found == Ok(Some(Ok(()))));
@@ -131,7 +136,7 @@ fn long_clauses_alone(rt: HostRuntime) {
 
 #[test]
 fn binary_clauses_alone(rt: HostRuntime) {
-    let mut parts = no_parts(rt.alloc());
+    let mut parts = new_search_state(rt.alloc());
     let clauses: [&[i64]; 4] = [&[3, -1, -2], &[-1, -3], &[1], &[2]];
     let found = found_alone(rt.alloc(), &mut parts, &clauses, false);
     assert!(rt; found == Ok(Some(Ok(()))));
@@ -142,7 +147,7 @@ fn binary_clauses_alone(rt: HostRuntime) {
 
 #[test]
 fn binary_conflict_alone(rt: HostRuntime) {
-    let mut parts = no_parts(rt.alloc());
+    let mut parts = new_search_state(rt.alloc());
     let clauses: [&[i64]; 3] = [&[-2, -1], &[1], &[2]];
     let found = found_alone(rt.alloc(), &mut parts, &clauses, false);
     let lits = [Lit::from_code(3), Lit::from_code(1)];
@@ -152,7 +157,7 @@ fn binary_conflict_alone(rt: HostRuntime) {
 
 #[test]
 fn binary_clauses_go_before_long_ones(rt: HostRuntime) {
-    let mut parts = no_parts(rt.alloc());
+    let mut parts = new_search_state(rt.alloc());
     let clauses: [&[i64]; 4] = [&[3, -1, -2], &[-1, -3], &[1], &[2]];
     let found = found_together(rt.alloc(), &mut parts, &clauses);
     assert!(rt; reads(parts.trail.trail(), &[1, 2, -3]));

@@ -2,7 +2,7 @@
 ghost use Rattle.std.specs.Prelude.{◌≡◌, ◌<◌, [], length};
 ghost use Rattle.sat_base.specs.values.Literals.{variable};
 ghost use Rattle.sat_parts.specs.prop.Trails.{no_trail};
-ghost use Rattle.sat_parts.specs.prop.Values.{IsOpenLit};
+ghost use Rattle.sat_parts.specs.prop.Values.{IsUnassignedLit};
 
 use sat_base::{Lit, Var};
 use sat_parts::{
@@ -135,7 +135,7 @@ fn parts_are_read_back(rt: HostRuntime) {
 fn cleared(assignment: &mut Assignment, graph: &mut ImplGraph, trail: &mut Trail, lit: Lit) -> bool
     requires value { variable lit < length assignment.old.current }
     requires node { variable lit < length graph.old }
-    requires open { IsOpenLit assignment.old.current lit }
+    requires open { IsUnassignedLit assignment.old.current lit }
     requires room { length trail.old.lits < trail.old.room }
     requires starts { trail.old.starts ≡ [] }
 {

@@ -2,16 +2,16 @@
 ghost use Rattle.std.specs.Prelude.{ℕ, ◌≡◌, ◌≢◌, ◌*◌, ◌<◌, ◌≤◌, IsTrue, OnOk, [], length, slice_index_or};
 ghost use Rattle.sat_base.specs.values.Literals.{var_limit};
 ghost use Rattle.sat_parts.specs.clause.Orders.{AreDistinct};
-ghost use Rattle.sat_parts.specs.parts.Whole.{PartsInvariant};
+ghost use Rattle.sat_parts.specs.parts.Whole.{SearchStateInvariant};
 ghost use Rattle.sat_parts_tests.specs.Loading.{IsReady};
 
 use sat_base::{Lit, Var};
-use sat_parts::Parts;
-use sat_parts::parts::grow;
+use sat_parts::SearchState;
 use sat_parts::parts::load::load;
-use sat_parts::parts::sorting::{Sorting, no_sorting};
+use sat_parts::parts::set_var_count;
+use sat_parts::parts::sorting::{Sorting, new_sorting};
 use sat_parts::parts::steps::full_restart;
-use sat_parts::parts::variables::use_variable;
+use sat_parts::parts::variables::make_available;
 use sat_store::StoreError;
 use std::alloc::{AllocError, Global};
 
@@ -52,26 +52,26 @@ fn are_distinct(lits: &[Lit]) -> bool
 }
 
 /// Makes every variable available for being picked.
-fn use_all(parts: &mut Parts, count: usize)
-    requires holds { PartsInvariant parts.old }
+fn use_all(parts: &mut SearchState, count: usize)
+    requires holds { SearchStateInvariant parts.old }
     requires bottom { parts.old.trail.starts ≡ [] }
     requires size { length parts.old.assignment.current ≡ count }
     requires few { count ≤ var_limit }
     ensures { IsReady parts.new count }
 {
     for index in 0..count {
-        use_variable(parts, Var::from_index(index));
+        make_available(parts, Var::from_index(index));
     }
 }
 
 /// Introduces `count` variables. There must be no variables before.
-fn begin(alloc: Global, parts: &mut Parts, count: usize) -> Result<(), AllocError>
-    requires holds { PartsInvariant parts.old }
+fn begin(alloc: Global, parts: &mut SearchState, count: usize) -> Result<(), AllocError>
+    requires holds { SearchStateInvariant parts.old }
     requires none { parts.old.assignment.current ≡ [] }
     requires few { count ≤ var_limit }
     ensures { OnOk result (IsReady parts.new count) }
 {
-    grow(alloc, parts, count)?;
+    set_var_count(alloc, parts, count)?;
     full_restart(parts);
     use_all(parts, count);
     Ok(())
@@ -79,7 +79,7 @@ fn begin(alloc: Global, parts: &mut Parts, count: usize) -> Result<(), AllocErro
 
 /// Loads a clause. Returns `false` if its literals aren't distinct literals over `count` variables.
 fn load_one(
-    parts: &mut Parts,
+    parts: &mut SearchState,
     count: usize,
     lits: &[Lit],
     sorting: &mut Sorting,
@@ -107,7 +107,7 @@ fn read_lits(lits: &mut Vec<Lit>, numbers: &[i64]) -> Result<(), AllocError> {
 
 /// Loads clauses in order. Returns `false` if one of them isn't a clause over `count` variables.
 fn load_all(
-    parts: &mut Parts,
+    parts: &mut SearchState,
     count: usize,
     lits: &mut Vec<Lit>,
     sorting: &mut Sorting,
@@ -129,17 +129,17 @@ fn load_all(
 /// variables. There must be no variables before.
 pub fn loaded(
     alloc: Global,
-    parts: &mut Parts,
+    parts: &mut SearchState,
     count: usize,
     clauses: &[&[i64]],
 ) -> Result<bool, StoreError>
-    requires holds { PartsInvariant parts.old }
+    requires holds { SearchStateInvariant parts.old }
     requires none { parts.old.assignment.current ≡ [] }
     requires few { count ≤ var_limit }
     ensures { OnOk result (IsReady parts.new count) }
 {
     begin(alloc, parts, count)?;
     let mut lits = Vec::new(alloc);
-    let mut sorting = no_sorting(alloc);
+    let mut sorting = new_sorting(alloc);
     load_all(parts, count, &mut lits, &mut sorting, clauses)
 }

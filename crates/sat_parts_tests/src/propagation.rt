@@ -1,12 +1,12 @@
 //! Tests of propagating units.
 ghost use Rattle.std.specs.Prelude.{◌≡◌, []};
-ghost use Rattle.sat_parts.specs.parts.Whole.{PartsInvariant};
+ghost use Rattle.sat_parts.specs.parts.Whole.{SearchStateInvariant};
 
 use crate::loading::loaded;
 use sat_base::Lit;
-use sat_parts::parts::no_parts;
+use sat_parts::parts::new_search_state;
 use sat_parts::parts::steps::propagate_all;
-use sat_parts::{ClauseDb, Conflict, Parts};
+use sat_parts::{ClauseDb, Conflict, SearchState};
 use sat_store::StoreError;
 use std::alloc::Global;
 
@@ -16,10 +16,10 @@ const COUNT: usize = 3;
 /// Loads clauses, and propagates. Returns `None` if they aren't clauses over three variables.
 fn propagated(
     alloc: Global,
-    parts: &mut Parts,
+    parts: &mut SearchState,
     clauses: &[&[i64]],
 ) -> Result<Option<Result<(), Conflict>>, StoreError>
-    requires holds { PartsInvariant parts.old }
+    requires holds { SearchStateInvariant parts.old }
     requires none { parts.old.assignment.current ≡ [] }
 {
     if !loaded(alloc, parts, COUNT, clauses)? {
@@ -33,10 +33,10 @@ fn propagated(
 /// requires no more than what the first call ensures.
 fn propagated_twice(
     alloc: Global,
-    parts: &mut Parts,
+    parts: &mut SearchState,
     clauses: &[&[i64]],
 ) -> Result<Option<Result<(), Conflict>>, StoreError>
-    requires holds { PartsInvariant parts.old }
+    requires holds { SearchStateInvariant parts.old }
     requires none { parts.old.assignment.current ≡ [] }
 {
     if !loaded(alloc, parts, COUNT, clauses)? {
@@ -77,7 +77,7 @@ pub fn names_first(
 
 #[test]
 fn long_clause_after_binary(rt: HostRuntime) {
-    let mut parts = no_parts(rt.alloc());
+    let mut parts = new_search_state(rt.alloc());
     let clauses: [&[i64]; 3] = [&[-1, 2], &[-1, -2, 3], &[1]];
     let found = propagated(rt.alloc(), &mut parts, &clauses);
     assert!(rt; found == Ok(Some(Ok(()))));
@@ -89,7 +89,7 @@ fn long_clause_after_binary(rt: HostRuntime) {
 
 #[test]
 fn falsified_clause_is_named(rt: HostRuntime) {
-    let mut parts = no_parts(rt.alloc());
+    let mut parts = new_search_state(rt.alloc());
     let clauses: [&[i64]; 4] = [&[-1, 2], &[-1, -2, 3], &[-2, -3], &[1]];
     let found = propagated(rt.alloc(), &mut parts, &clauses);
     assert!(rt; reads(parts.trail.trail(), &[1, 2, -3]));
@@ -99,7 +99,7 @@ fn falsified_clause_is_named(rt: HostRuntime) {
 
 #[test]
 fn falsified_binary_clause_is_named(rt: HostRuntime) {
-    let mut parts = no_parts(rt.alloc());
+    let mut parts = new_search_state(rt.alloc());
     let clauses: [&[i64]; 3] = [&[-1, 2], &[-1, -2], &[1]];
     let found = propagated(rt.alloc(), &mut parts, &clauses);
     let lits = [Lit::from_index(1, false), Lit::from_index(0, false)];
@@ -109,7 +109,7 @@ fn falsified_binary_clause_is_named(rt: HostRuntime) {
 
 #[test]
 fn nothing_is_left_to_propagate(rt: HostRuntime) {
-    let mut parts = no_parts(rt.alloc());
+    let mut parts = new_search_state(rt.alloc());
     let clauses: [&[i64]; 3] = [&[-1, 2], &[-1, -2, 3], &[1]];
     let found = propagated_twice(rt.alloc(), &mut parts, &clauses);
     assert!(rt; found == Ok(Some(Ok(()))));

@@ -2,15 +2,15 @@
 ghost use Rattle.std.specs.Prelude.{ℕ, ◌≡◌, ◌<◌, IfOk, IsTrue, OnOk, [], length, slice_index, slice_index_or, false};
 ghost use Rattle.sat_base.specs.values.Literals.{variable};
 ghost use Rattle.sat_parts.specs.prop.Graphs.{node_of};
-ghost use Rattle.sat_parts.specs.parts.Whole.{PartsInvariant, IsFullyPropagated};
+ghost use Rattle.sat_parts.specs.parts.Whole.{SearchStateInvariant, IsFullyPropagated};
 
 use crate::loading::loaded;
 use sat_base::{Lit, Var};
 use sat_parts::parts::clauses::bump_variable;
-use sat_parts::parts::no_parts;
+use sat_parts::parts::new_search_state;
 use sat_parts::parts::steps::{assume, full_restart, pick, propagate_all};
 use sat_parts::parts::units::clear_units;
-use sat_parts::{ImplGraph, Parts, Reason, compute_glue};
+use sat_parts::{ImplGraph, Reason, SearchState, compute_glue};
 use sat_store::{StoreError, TmpFlags};
 use std::alloc::{AllocError, Global};
 
@@ -28,10 +28,10 @@ fn node(graph: &ImplGraph, index: usize) -> Option<(Reason, usize, usize)> {
 
 /// Loads two clauses and a unit, propagates, and removes the unit from the trail. Returns whether the unit was on the
 /// trail without a reason.
-fn begun(alloc: Global, parts: &mut Parts) -> Result<bool, StoreError>
-    requires holds { PartsInvariant parts.old }
+fn begun(alloc: Global, parts: &mut SearchState) -> Result<bool, StoreError>
+    requires holds { SearchStateInvariant parts.old }
     requires none { parts.old.assignment.current ≡ [] }
-    ensures holds { IfOk result (λ ok. IsTrue ok → PartsInvariant parts.new) }
+    ensures holds { IfOk result (λ ok. IsTrue ok → SearchStateInvariant parts.new) }
     ensures done { IfOk result (λ ok. IsTrue ok → IsFullyPropagated parts.new) }
 {
     let clauses: [&[i64]; 3] = [&[-3, 4], &[-3, -4, 5], &[1]];
@@ -49,10 +49,10 @@ fn begun(alloc: Global, parts: &mut Parts) -> Result<bool, StoreError>
 }
 
 /// Decides an unassigned literal and propagates. Returns whether that could be done without a conflict.
-fn advance(alloc: Global, parts: &mut Parts, lit: Lit) -> Result<bool, AllocError>
-    requires holds { PartsInvariant parts.old }
+fn advance(alloc: Global, parts: &mut SearchState, lit: Lit) -> Result<bool, AllocError>
+    requires holds { SearchStateInvariant parts.old }
     requires done { IsFullyPropagated parts.old }
-    ensures holds { IfOk result (λ ok. IsTrue ok → PartsInvariant parts.new) }
+    ensures holds { IfOk result (λ ok. IsTrue ok → SearchStateInvariant parts.new) }
     ensures done { IfOk result (λ ok. IsTrue ok → IsFullyPropagated parts.new) }
 {
     if lit.index() >= parts.assignment.assignment().len() || !parts.assignment.lit_is_unk(lit) {
@@ -67,7 +67,7 @@ fn advance(alloc: Global, parts: &mut Parts, lit: Lit) -> Result<bool, AllocErro
 
 /// Whether the nodes are as expected: for a unit that is no longer on the trail, for two decisions, and for what the
 /// second decision implies by the clause of two literals and by the long clause.
-fn nodes_are_right(parts: &Parts) -> bool {
+fn nodes_are_right(parts: &SearchState) -> bool {
     let cref = match parts.db.refs().first() {
         Some(cref) => *cref,
         None => return false,
@@ -118,10 +118,10 @@ fn glue_of(flags: &mut TmpFlags, graph: &ImplGraph, lits: &[Lit]) -> Result<usiz
 }
 
 /// Makes the decisions. Returns whether they are possible, and the nodes are as expected.
-fn decisions(alloc: Global, parts: &mut Parts) -> Result<bool, AllocError>
-    requires holds { PartsInvariant parts.old }
+fn decisions(alloc: Global, parts: &mut SearchState) -> Result<bool, AllocError>
+    requires holds { SearchStateInvariant parts.old }
     requires done { IsFullyPropagated parts.old }
-    ensures holds { IfOk result (λ ok. IsTrue ok → PartsInvariant parts.new) }
+    ensures holds { IfOk result (λ ok. IsTrue ok → SearchStateInvariant parts.new) }
 {
     if !advance(alloc, parts, Lit::from_code(2))? {
         return Ok(false);
@@ -133,8 +133,8 @@ fn decisions(alloc: Global, parts: &mut Parts) -> Result<bool, AllocError>
 }
 
 /// Undoes all levels. Returns whether the trail is empty, and an unassigned variable that was bumped is picked.
-fn undone(parts: &mut Parts) -> bool
-    requires { PartsInvariant parts.old }
+fn undone(parts: &mut SearchState) -> bool
+    requires { SearchStateInvariant parts.old }
 {
     full_restart(parts);
     let raised = Var::from_index(2);
@@ -147,8 +147,8 @@ fn undone(parts: &mut Parts) -> bool
         && pick(&mut parts.vsids, &parts.assignment) == Some(raised)
 }
 
-fn table(alloc: Global, parts: &mut Parts, flags: &mut TmpFlags) -> Result<bool, StoreError>
-    requires holds { PartsInvariant parts.old }
+fn table(alloc: Global, parts: &mut SearchState, flags: &mut TmpFlags) -> Result<bool, StoreError>
+    requires holds { SearchStateInvariant parts.old }
     requires none { parts.old.assignment.current ≡ [] }
     requires flags { flags.old.flags.items ≡ [] }
 {
@@ -168,7 +168,7 @@ fn table(alloc: Global, parts: &mut Parts, flags: &mut TmpFlags) -> Result<bool,
 }
 
 /// Whether the variable is unassigned, and its last value was `value`.
-fn has_lost(parts: &Parts, index: usize, value: bool) -> bool {
+fn has_lost(parts: &SearchState, index: usize, value: bool) -> bool {
     if index >= parts.assignment.assignment().len() || index >= COUNT {
         return false;
     }
@@ -178,7 +178,7 @@ fn has_lost(parts: &Parts, index: usize, value: bool) -> bool {
 
 #[test]
 fn levels_are_entered_and_undone(rt: HostRuntime) {
-    let mut parts = no_parts(rt.alloc());
+    let mut parts = new_search_state(rt.alloc());
     let mut flags = TmpFlags::new(rt.alloc());
     assert!(rt; table(rt.alloc(), &mut parts, &mut flags) == Ok(true));
     for index in 1..COUNT {

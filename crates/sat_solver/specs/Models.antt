@@ -1,6 +1,6 @@
 -- Models over the proof's variables and over names.
 use Rattle.std.specs.Prelude.{ℕ, zero, suc, ◌∷◌, ◌++◌, [], Bool, false, Option, None, Some, List, get_or, if◌then◌else◌}
-use Rattle.sat_base.specs.values.Literals.{coded}
+use Rattle.sat_base.specs.values.Literals.{mk_lit}
 use Rattle.sat_solver.specs.variables.Variables.{data_at, global_of, solver_of}
 use Rattle.sat_solver.specs.declared.variables.Variables.{Variables}
 
@@ -20,7 +20,7 @@ value_in n values v = value_by (solver_of n v) values (data_at n v).unit
 
 -- the literal of a variable that its value satisfies, or none if the variable is not in use
 abbrev pub literal_in : Variables → List (Option Bool) → ℕ → List ℕ
-literal_in n values v = if (data_at n v).deleted then [] else coded v (value_in n values v) ∷ []
+literal_in n values v = if (data_at n v).deleted then [] else mk_lit v (value_in n values v) ∷ []
 
 -- the literals of all variables below n that are in use, in order
 unfoldable pub model_to : Variables → List (Option Bool) → ℕ → List ℕ
@@ -30,7 +30,7 @@ model_to n values (suc v) = model_to n values v ++ literal_in n values v
 -- the literal over a name that the value of its variable satisfies, or none if the name has no variable
 abbrev pub name_literal : Variables → List (Option Bool) → ℕ → Option ℕ → List ℕ
 name_literal n values u None = []
-name_literal n values u (Some v) = coded u (value_in n values v) ∷ []
+name_literal n values u (Some v) = mk_lit u (value_in n values v) ∷ []
 
 -- the literals of all names below n that are in use, in order
 unfoldable pub named_to : Variables → List (Option Bool) → ℕ → List ℕ

@@ -3,4 +3,4 @@ pub mod Derivation
 pub mod Involved
 pub mod Marks
 pub mod Minimal
-pub mod Work
+pub mod AnalysisState

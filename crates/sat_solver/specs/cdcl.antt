@@ -1,8 +1,8 @@
 pub mod Ending
 pub mod Faults
-pub mod Going
+pub mod StepEffects
 pub mod Joint
 pub mod Learning
 pub mod Rounds
 pub mod Showing
-pub mod Turns
+pub mod Iterations

@@ -1,11 +1,11 @@
 pub mod Checked
-pub mod Complaints
+pub mod ListenerErrors
 pub mod Counting
 pub mod Drat
 pub mod DratText
 pub mod Prefixes
 pub mod Listening
-pub mod MadeView
+pub mod EmittedView
 pub mod OutputView
 pub mod ProofRows
 pub mod ProofTexts

@@ -6,14 +6,14 @@ pub mod SessionRows
 pub mod Due
 pub mod Making
 pub mod NamedMeaning
-pub mod Coming
+pub mod AllowedSteps
 pub mod AnswerFacts
 pub mod SolverClauses
 pub mod TrailEntries
 pub mod TrailUnits
 pub mod Advancing
 pub mod Fits
-pub mod Going
+pub mod WritingUnits
 pub mod FitLaws
 pub mod Learning
 pub mod Listed

@@ -4,5 +4,5 @@ pub mod Cutting
 pub mod Flat
 pub mod Freed
 pub mod Freeing
-pub mod Looks
+pub mod ClauseStatus
 pub mod Passes

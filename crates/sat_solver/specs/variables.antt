@@ -1,7 +1,7 @@
 pub mod Initialized
 pub mod Shared
 pub mod Calls
-pub mod Coming
+pub mod NamingSteps
 pub mod Counting
 pub mod Failing
 pub mod Free

@@ -4,9 +4,9 @@ pub mod laws;
 pub mod learn;
 pub(crate) mod lists;
 pub mod resolve;
-pub mod work;
+pub mod state;
 
 pub use crate::assumptions::analyze::analyze_assumption;
 pub use analyze::analyze_conflict;
 pub use learn::learn_from_conflict;
-pub use work::Analysis;
+pub use state::AnalyzeConflict;

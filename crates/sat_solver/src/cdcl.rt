@@ -4,9 +4,9 @@ ghost use Rattle.sat_solver.specs.proof.ProofView.{HasAllowedSteps, steps_of, se
 ghost use Rattle.sat_parts.specs.parts.Whole.{IsRefuted};
 ghost use Rattle.sat_solver.specs.session.Naming.{global_of_index};
 ghost use Rattle.sat_solver.specs.session.Fits.{SessionMatchesParts, TrueLitsHaveNames};
-ghost use Rattle.sat_solver.specs.cdcl.Going.{EmitsSteps};
-ghost use Rattle.sat_solver.specs.cdcl.Turns.{IsStopped};
-ghost use Rattle.sat_solver.specs.cdcl.Rounds.{LastRefutes, RoundGoes};
+ghost use Rattle.sat_solver.specs.cdcl.StepEffects.{EmitsSteps};
+ghost use Rattle.sat_solver.specs.cdcl.Iterations.{IsStopped};
+ghost use Rattle.sat_solver.specs.cdcl.Rounds.{LastRefutes, RoundEffect};
 ghost use Rattle.sat_solver.specs.cdcl.Ending.{EndsRound};
 ghost use Rattle.sat_solver.specs.unit_simplify.Passes.{JointInvariant};
 
@@ -22,18 +22,18 @@ use crate::cdcl::learn::learn_from;
 use crate::context::{Scratch, Search};
 use crate::proof::Proof;
 use crate::proof::map_step::name_clauses;
-use crate::schedule::Outcome;
+use crate::schedule::RoundOutcome;
 use crate::unit_simplify::prove_units::write_units;
 use crate::variables::Variables;
 use sat_base::{CountedWrite, ProofStep, Var};
 use sat_checker::ProofProcessor;
-use sat_parts::{Conflict, Parts};
+use sat_parts::{Conflict, SearchState};
 
 /// Writes the units of the trail, and then the empty clause, which follows from `conflict`. The search must be at
 /// level 0.
 fn refute<W: CountedWrite + Drop, P: ProofProcessor>(
     proof: &mut Proof<W, P>,
-    parts: &Parts,
+    parts: &SearchState,
     globals: &[Var],
     scratch: &mut Scratch,
     conflict: &Conflict,
@@ -59,18 +59,18 @@ fn refute<W: CountedWrite + Drop, P: ProofProcessor>(
 }
 
 /// Learns a clause from `conflict`, or writes the empty clause if the search is at level 0.
-fn resolve<W: CountedWrite + Drop, P: ProofProcessor>(
+fn learn_or_refute<W: CountedWrite + Drop, P: ProofProcessor>(
     proof: &mut Proof<W, P>,
     search: &mut Search,
     conflict: &Conflict,
-) -> Result<Outcome, Fault>
+) -> Result<RoundOutcome, Fault>
     requires keeps { HasAllowedSteps proof.old }
     requires stopped { IsStopped (session_of proof.old) search.old conflict.now }
-    ensures { RoundGoes W.seen result proof.old proof.new search.old search.new }
+    ensures { RoundEffect W.seen result proof.old proof.new search.old search.new }
 {
     if search.parts.trail.current_level() > 0 {
         learn_from(proof, search, conflict)?;
-        return Ok(Outcome::Learned);
+        return Ok(RoundOutcome::Learned);
     }
     refute(
         proof,
@@ -79,7 +79,7 @@ fn resolve<W: CountedWrite + Drop, P: ProofProcessor>(
         &mut search.scratch,
         conflict,
     )?;
-    Ok(Outcome::Unsat)
+    Ok(RoundOutcome::Unsat)
 }
 
 /// Runs a round, which ends in a conflict and the clause learned from it, or in an answer. If there are new literals at
@@ -88,22 +88,22 @@ pub fn conflict_step<W: CountedWrite + Drop, P: ProofProcessor>(
     proof: &mut Proof<W, P>,
     search: &mut Search,
     names: &mut Variables,
-) -> Result<Outcome, Fault>
+) -> Result<RoundOutcome, Fault>
     requires together { JointInvariant names.old proof.old search.old }
     ensures { EndsRound W.seen result names.old names.new proof.old proof.new search.old search.new }
 {
     let begun = begin_round(proof, search, names)?;
     match begun {
-        Some(conflict) => return resolve(proof, search, &conflict),
+        Some(conflict) => return learn_or_refute(proof, search, &conflict),
         None => {}
     }
     let stop = find_conflict(proof, search)?;
     match stop {
-        FoundConflict::Complete => Ok(Outcome::Model),
+        FoundConflict::Complete => Ok(RoundOutcome::Model),
         FoundConflict::Failed(lit) => {
             search.failed = lit;
-            Ok(Outcome::Failed)
+            Ok(RoundOutcome::Failed)
         }
-        FoundConflict::Falsified(conflict) => resolve(proof, search, &conflict),
+        FoundConflict::Falsified(conflict) => learn_or_refute(proof, search, &conflict),
     }
 }

@@ -1,16 +1,16 @@
 //! The data of a search, and the data of a solver.
 ghost use Rattle.std.specs.Prelude.{◌≡◌, []};
-ghost use Rattle.sat_solver.specs.session.Session.{nothing};
-ghost use Rattle.sat_solver.specs.cdcl.Joint.{IsSearch};
+ghost use Rattle.sat_solver.specs.session.Session.{empty_session};
+ghost use Rattle.sat_solver.specs.cdcl.Joint.{SearchInvariant};
 
 use crate::SolverConfig;
-use crate::analyze_conflict::Analysis;
+use crate::analyze_conflict::AnalyzeConflict;
 use crate::proof::Proof;
 use sat_base::{ClauseHash, CountedWrite, Lit, Var};
 use sat_checker::{Nobody, ProofProcessor};
 use sat_parts::parts::assumptions::Assumptions;
-use sat_parts::parts::no_parts;
-use sat_parts::{ClauseActivity, Parts};
+use sat_parts::parts::new_search_state;
+use sat_parts::{ClauseActivity, SearchState};
 use sat_store::TmpFlags;
 use std::alloc::Global;
 
@@ -26,9 +26,9 @@ pub struct Scratch {
 #[derive(Drop)]
 pub struct Search {
     pub alloc: Global,
-    pub parts: Parts,
+    pub parts: SearchState,
     pub assumptions: Assumptions,
-    pub analysis: Analysis,
+    pub analysis: AnalyzeConflict,
     pub activity: ClauseActivity,
     pub flags: TmpFlags,
     /// The proof variable for every index of the search.
@@ -40,24 +40,24 @@ pub struct Search {
 
 /// The proof, the search and the parameters of a solver.
 #[derive(Drop)]
-pub struct Core<W: CountedWrite + Drop, P: ProofProcessor = Nobody> {
+pub struct Context<W: CountedWrite + Drop, P: ProofProcessor = Nobody> {
     pub proof: Proof<W, P>,
     pub search: Search,
     pub config: SolverConfig,
 }
 
 /// Creates a search without variables, clauses or assumptions. Never allocates.
-pub fn no_search(alloc: Global) -> Search
-    ensures search { IsSearch nothing result }
+pub fn new_search(alloc: Global) -> Search
+    ensures search { SearchInvariant empty_session result }
     ensures bottom { result.parts.trail.starts ≡ [] }
     ensures values { result.parts.assignment.current ≡ [] }
     ensures globals { result.globals.items ≡ [] }
 {
     Search {
         alloc,
-        parts: no_parts(alloc),
+        parts: new_search_state(alloc),
         assumptions: Assumptions::new(alloc),
-        analysis: Analysis::new(alloc),
+        analysis: AnalyzeConflict::new(alloc),
         activity: ClauseActivity::default(),
         flags: TmpFlags::new(alloc),
         globals: Vec::new(alloc),

@@ -1,12 +1,12 @@
 //! Loads clauses into a search.
 ghost use Rattle.std.specs.Prelude.{◌≡◌, ◌<◌, length, true, OnOk};
 ghost use Rattle.sat_base.specs.steps.Steps.{DeleteClause, Satisfied};
-ghost use Rattle.sat_solver.specs.session.Coming.{OnlyAllowedSteps, DeletesAdded};
+ghost use Rattle.sat_solver.specs.session.AllowedSteps.{OnlyAllowedSteps, DeletesAdded};
 ghost use Rattle.sat_solver.specs.session.Session.{IsAllowedStep};
 ghost use Rattle.sat_solver.specs.proof.ProofView.{HasAllowedSteps, steps_of, session_of};
 ghost use Rattle.sat_solver.specs.session.Naming.{global_of_index};
 ghost use Rattle.sat_solver.specs.cdcl.Joint.{global_in};
-ghost use Rattle.sat_solver.specs.load.Loaded.{MayLoad, IsAdded, satisfied_step, DeletesSatisfied, DeletesTrue};
+ghost use Rattle.sat_solver.specs.load.Loaded.{CanLoad, IsAdded, satisfied_step, DeletesSatisfied, DeletesTrue};
 ghost use Rattle.sat_solver.specs.load.Loaded.{LoadsClause};
 ghost use Rattle.sat_parts.specs.clause.Glue.{VariablesBelow};
 
@@ -18,7 +18,7 @@ pub mod restart;
 
 use crate::cdcl::fault::Fault;
 use crate::context::Search;
-use crate::decision::make_ready;
+use crate::decision::make_all_available;
 use crate::proof::Proof;
 use crate::proof::map_step::map_lits;
 use sat_base::{CountedWrite, DeleteClauseProof, Lit, ProofStep, Var};
@@ -76,11 +76,11 @@ pub fn load_clause<W: CountedWrite + Drop, P: ProofProcessor>(
 ) -> Result<bool, Fault>
     requires keeps { HasAllowedSteps proof.old }
     requires added { IsAdded (steps_of proof.old) search.old lits.now }
-    requires may { MayLoad search.old lits.now }
+    requires may { CanLoad search.old lits.now }
     ensures goes { LoadsClause W.seen result proof.old proof.new search.old search.new }
     ensures comes { OnOk result (OnlyAllowedSteps DeletesAdded (steps_of proof.old) (steps_of proof.new)) }
 {
-    make_ready(&mut search.parts, lits);
+    make_all_available(&mut search.parts, lits);
     let loaded = load(&mut search.parts, lits, sorting)?;
     match loaded {
         Loaded::Stored => Ok(true),

@@ -5,11 +5,12 @@ ghost use Rattle.sat_parts.specs.clause.Glue.{HaveNodes};
 ghost use Rattle.sat_parts.specs.prop.Causes.{falsified};
 ghost use Rattle.sat_parts.specs.prop.Ready.{state_of, AreAllFalse};
 ghost use Rattle.sat_solver.specs.analyze_conflict.Marks.{CanAnalyze};
-ghost use Rattle.sat_solver.specs.analyze_conflict.Derivation.{IsAsserting, HasUnorderedDerivation, FlagsAmong, IsUipClause};
+ghost use Rattle.sat_solver.specs.analyze_conflict.Derivation.{IsAsserting, HasUnorderedDerivation, FlagsAmong};
+ghost use Rattle.sat_solver.specs.analyze_conflict.Derivation.{IsUipClause};
 ghost use Rattle.sat_solver.specs.analyze_conflict.Involved.{KeepsResolved};
 ghost use Rattle.sat_solver.specs.analyze_conflict.Minimal.{MinimizationIsDone, MinimizationResult, MayStart, followed};
 
-use crate::analyze_conflict::work::Analysis;
+use crate::analyze_conflict::state::AnalyzeConflict;
 use sat_base::Lit;
 use sat_parts::{Assignment, CauseLits, Conflict, ImplGraph, Trail};
 use sat_store::{ClauseAlloc, LevelAbstraction, Lits};
@@ -20,7 +21,7 @@ use std::alloc::AllocError;
 /// Returns false, and does not mark the literal, if its reason is not a clause or its level is not in `levels`.
 #[inline(always)]
 fn follow_one(
-    analysis: &mut Analysis,
+    analysis: &mut AnalyzeConflict,
     graph: &ImplGraph,
     levels: &LevelAbstraction,
     lit: Lit,
@@ -46,7 +47,7 @@ fn follow_one(
 /// Calls `follow_one` for each literal in `lits` in turn, until a call returns false. Returns whether all calls
 /// returned true.
 fn follow_own(
-    analysis: &mut Analysis,
+    analysis: &mut AnalyzeConflict,
     graph: &ImplGraph,
     levels: &LevelAbstraction,
     lits: &[Lit],
@@ -68,7 +69,7 @@ fn follow_own(
 /// Calls `follow_one` for each literal of a long clause in turn, until a call returns false. Returns whether all calls
 /// returned true.
 fn follow_long(
-    analysis: &mut Analysis,
+    analysis: &mut AnalyzeConflict,
     graph: &ImplGraph,
     levels: &LevelAbstraction,
     lits: &Lits<'_>,
@@ -89,7 +90,7 @@ fn follow_long(
 /// Calls `follow_one` for each literal of a reason in turn, until a call returns false. Returns whether all calls
 /// returned true.
 fn follow(
-    analysis: &mut Analysis,
+    analysis: &mut AnalyzeConflict,
     graph: &ImplGraph,
     levels: &LevelAbstraction,
     lits: &CauseLits,
@@ -110,7 +111,7 @@ fn follow(
 /// Checks whether reasons show that `lit` must be false whenever the other literals of the learned clause are false. If
 /// so, the literals that have these reasons are among the used literals afterwards.
 fn is_implied(
-    analysis: &mut Analysis,
+    analysis: &mut AnalyzeConflict,
     clauses: &ClauseAlloc,
     assignment: &Assignment,
     graph: &ImplGraph,
@@ -156,7 +157,7 @@ fn levels_of(graph: &ImplGraph, lits: &[Lit]) -> LevelAbstraction
 /// Removes from the learned clause the literals that reasons show to be false whenever its other literals are false.
 /// Never removes the first literal.
 pub(crate) fn minimize_clause(
-    analysis: &mut Analysis,
+    analysis: &mut AnalyzeConflict,
     clauses: &ClauseAlloc,
     assignment: &Assignment,
     graph: &ImplGraph,
@@ -185,7 +186,7 @@ pub(crate) fn minimize_clause(
                 analysis, clauses, assignment, graph, trail, conflict, &levels, low, lit,
             )?
         {
-            analysis.keep(kept, lit);
+            analysis.set_clause_lit(kept, lit);
             kept += 1;
         }
     }

@@ -1,6 +1,6 @@
 //! Models over proof variables and over names, from the values of the search.
 ghost use Rattle.std.specs.Prelude.{◌≡◌, ◌<◌, ◌++◌, OnOk, Option, None, slice_index_or};
-ghost use Rattle.sat_solver.specs.variables.Variables.{AreTidy, global_of, names_used, variables_used};
+ghost use Rattle.sat_solver.specs.variables.Variables.{VariablesInvariant, global_of, names_used, variables_used};
 ghost use Rattle.sat_solver.specs.Models.{has_true_value, value_in, literal_in, model_to, name_literal, named_to};
 
 use crate::variables::Variables;
@@ -59,12 +59,12 @@ fn push_value(
 }
 
 /// Replaces the content of `lits` with a model: the true literal of every proof variable in use, in increasing order.
-pub fn model_lits(
+pub fn reconstruct_global_model(
     variables: &Variables,
     values: &[Option<bool>],
     lits: &mut Vec<Lit>,
 ) -> Result<(), AllocError>
-    requires tidy { AreTidy variables.now }
+    requires tidy { VariablesInvariant variables.now }
     ensures { OnOk result (lits.new.items ≡ model_to variables.now values.now (variables_used variables.now)) }
 {
     lits.clear();
@@ -82,7 +82,7 @@ fn push_named(
     user: Var,
     lits: &mut Vec<Lit>,
 ) -> Result<(), AllocError>
-    requires tidy { AreTidy variables.now }
+    requires tidy { VariablesInvariant variables.now }
     ensures { OnOk result (lits.new.items ≡ lits.old.items ++ name_literal variables.now values.now user
         (global_of variables.now user)) }
 {
@@ -100,7 +100,7 @@ pub fn named_lits(
     values: &[Option<bool>],
     lits: &mut Vec<Lit>,
 ) -> Result<(), AllocError>
-    requires tidy { AreTidy variables.now }
+    requires tidy { VariablesInvariant variables.now }
     ensures { OnOk result (lits.new.items ≡ named_to variables.now values.now (names_used variables.now)) }
 {
     lits.clear();

@@ -4,33 +4,37 @@ ghost use Rattle.sat_base.specs.device.Sink.{empty_sink};
 ghost use Rattle.sat_base.specs.steps.StepViews.{step_of};
 ghost use Rattle.sat_solver.specs.proof.Counting.{nothing_counted, counted};
 ghost use Rattle.sat_solver.specs.proof.Checked.{has_begun};
-ghost use Rattle.sat_solver.specs.proof.MadeView.{MadeEffect};
+ghost use Rattle.sat_solver.specs.proof.EmittedView.{EmittedEffect};
 ghost use Rattle.sat_solver.specs.session.Session.{IsAllowedStep, AreAllowedSteps};
 ghost use Rattle.sat_solver.specs.proof.Widths.{narrowed, KeepsWidth};
-ghost use Rattle.sat_solver.specs.proof.ProofView.{Closed, IsAtWidth, Open, asking, audience, is_open, is_drat};
+ghost use Rattle.sat_solver.specs.proof.ProofView.{Closed, IsAtWidth, Open, asking, proof_listeners, is_open, is_drat};
 ghost use Rattle.sat_solver.specs.proof.ProofView.{has_asked};
-ghost use Rattle.sat_solver.specs.proof.ProofView.{target_of, steps_of, session_of, is_checked, is_lost, StartsChecker};
-ghost use Rattle.sat_solver.specs.proof.ProofView.{AllStepsReported, HasAllowedSteps, EmitsExactly, EmitsAsAnswered, PutsOn, TargetTakes};
-ghost use Rattle.sat_solver.specs.proof.ProofView.{FailsOnlyInChecker, FailsOnlyInCheckerOrWasLost, FlushesTarget, FlushesOrFails};
-ghost use Rattle.sat_solver.specs.proof.ProofView.{ClosesTarget, ReturnsListeners, ReturnsNotifiedListeners, ReturnsTarget, HasCause, AddListenerEffect};
-ghost use Rattle.sat_solver.specs.proof.ProofView.{without_complaint};
+ghost use Rattle.sat_solver.specs.proof.ProofView.{target_of, steps_of, session_of, is_checked, has_missed_step};
+ghost use Rattle.sat_solver.specs.proof.ProofView.{StartsChecker};
+ghost use Rattle.sat_solver.specs.proof.ProofView.{AllStepsReported, HasAllowedSteps, EmitsExactly, EmitsAsAnswered};
+ghost use Rattle.sat_solver.specs.proof.ProofView.{PutsOn, TargetTakes};
+ghost use Rattle.sat_solver.specs.proof.ProofView.{FailsOnlyInChecker, FailsOnlyInCheckerAfterMissedStep};
+ghost use Rattle.sat_solver.specs.proof.ProofView.{FlushesTarget, FlushesOrFails};
+ghost use Rattle.sat_solver.specs.proof.ProofView.{ClosesTarget, ReturnsListeners, ReturnsNotifiedListeners};
+ghost use Rattle.sat_solver.specs.proof.ProofView.{ReturnsTarget, HasCause, AddListenerEffect};
+ghost use Rattle.sat_solver.specs.proof.ProofView.{without_listener_error};
 
 pub mod checker;
 pub mod drat;
+pub mod emitted;
 pub mod format;
 pub mod hash_bits;
 pub mod kept;
-pub mod made;
 pub mod map_step;
 pub mod native;
 pub mod output;
 pub mod truncate;
 
+use crate::proof::emitted::{CheckFault, EmittedSteps};
 use crate::proof::format::ProofFormat;
 use crate::proof::hash_bits::Counting;
 use crate::proof::kept::Kept;
-use crate::proof::made::{CheckFault, Made};
-use crate::proof::output::{Output, OutputError};
+use crate::proof::output::{OutputError, ProofOutput};
 use crate::proof::truncate::{CutLists, has_hashes, narrow, narrow_units};
 use sat_base::{CountedWrite, ProofStep};
 use sat_checker::{Nobody, ProofProcessor};
@@ -64,14 +68,14 @@ impl From<CheckFault> for ProofError {
 #[derive(Drop)]
 pub struct Proof<W, P: ProofProcessor = Nobody> {
     alloc: Global,
-    made: Made<P>,
+    made: EmittedSteps<P>,
     /// The counts that determine the width of hashes. They are updated only while a target is open or there is
     /// a checker.
     counting: Counting,
     lists: CutLists,
     /// The buffer in which DRAT lines are assembled.
     text: Vec<u8>,
-    output: Option<Output<W>>,
+    output: Option<ProofOutput<W>>,
     broken: bool,
     /// The error from the last failed call to a target, if any.
     cause: Option<io::Error>,
@@ -82,13 +86,13 @@ impl<W: CountedWrite + Drop, P: ProofProcessor> Proof<W, P> {
     pub fn new(alloc: Global) -> Proof<W, P>
         ensures steps { steps_of result ≡ [] }
         ensures checked { is_checked result ≡ false }
-        ensures taking { is_lost result ≡ false }
+        ensures taking { has_missed_step result ≡ false }
         ensures asked { has_asked result ≡ false }
         ensures target { target_of W.seen result ≡ Closed }
     {
         Proof {
             alloc,
-            made: Made::new(),
+            made: EmittedSteps::new(),
             counting: Counting::new(),
             lists: CutLists::new(alloc),
             text: Vec::new(alloc),
@@ -149,7 +153,7 @@ impl<W: CountedWrite + Drop, P: ProofProcessor> Proof<W, P> {
     /// checker receives no further step.
     pub fn add_processor(&mut self, processor: P) -> Result<(), ProofError>
         requires begun { has_begun (steps_of self.old) ≡ false }
-        requires taking { is_lost self.old ≡ false }
+        requires taking { has_missed_step self.old ≡ false }
         requires checked { is_checked self.old ≡ true }
         ensures { AddListenerEffect W.seen result processor self.old self.new }
     {
@@ -162,13 +166,13 @@ impl<W: CountedWrite + Drop, P: ProofProcessor> Proof<W, P> {
     pub fn open(&mut self, format: ProofFormat, target: W)
         requires { is_open (target_of W.seen self.old) ≡ false }
         ensures steps { steps_of self.new ≡ steps_of self.old }
-        ensures listening { audience self.new ≡ audience self.old }
-        ensures taking { is_lost self.new ≡ is_lost self.old }
+        ensures listening { proof_listeners self.new ≡ proof_listeners self.old }
+        ensures taking { has_missed_step self.new ≡ has_missed_step self.old }
         ensures asked { has_asked self.new ≡ false }
         ensures target { target_of W.seen self.new ≡ Open format nothing_counted (empty_sink (W.seen target)) }
     {
         self.counting = Counting::new();
-        self.output = Some(Output::new(format, target));
+        self.output = Some(ProofOutput::new(format, target));
         self.broken = false;
     }
 
@@ -176,7 +180,7 @@ impl<W: CountedWrite + Drop, P: ProofProcessor> Proof<W, P> {
     pub fn begin_ask(&mut self)
         ensures keeps { HasAllowedSteps self.old → HasAllowedSteps self.new }
         ensures adds { EmitsExactly W.seen [] self.old self.new }
-        ensures taking { is_lost self.new ≡ is_lost self.old }
+        ensures taking { has_missed_step self.new ≡ has_missed_step self.old }
         ensures same { self.new ≡ asking self.old }
     {
         self.counting.solving = true;
@@ -295,8 +299,8 @@ impl<W: CountedWrite + Drop, P: ProofProcessor> Proof<W, P> {
         requires width { KeepsWidth (step_of step.now) }
         requires cut { is_checked self.old ≡ true
             → step_of cut.now ≡ narrowed self.old.counting.bits (step_of step.now) }
-        ensures makes { MadeEffect (step_of step.now) self.old.made self.new.made }
-        ensures taking { OnOk result (is_lost self.new ≡ is_lost self.old) }
+        ensures makes { EmittedEffect (step_of step.now) self.old.made self.new.made }
+        ensures taking { OnOk result (has_missed_step self.new ≡ has_missed_step self.old) }
         ensures width { OnOk result (IsAtWidth self.new) }
         ensures asked { has_asked self.new ≡ has_asked self.old }
         ensures target { target_of W.seen self.new ≡ target_of W.seen self.old }
@@ -436,7 +440,7 @@ impl<W: CountedWrite + Drop, P: ProofProcessor> Proof<W, P> {
     /// Writes pending bytes to the open target, if any, and flushes it.
     fn flush_target(&mut self) -> Result<(), ProofError>
         ensures flushes { FlushesTarget W.seen result self.old self.new }
-        ensures taking { is_lost self.new ≡ is_lost self.old }
+        ensures taking { has_missed_step self.new ≡ has_missed_step self.old }
         ensures width { IsAtWidth self.old → IsAtWidth self.new }
         ensures asked { has_asked self.new ≡ has_asked self.old }
     {
@@ -455,12 +459,12 @@ impl<W: CountedWrite + Drop, P: ProofProcessor> Proof<W, P> {
     /// Makes the checker, if any, announce what is pending.
     fn take_delayed(&mut self) -> Result<(), ProofError>
         ensures steps { steps_of self.new ≡ steps_of self.old }
-        ensures listening { audience self.new ≡ audience self.old }
-        ensures taking { OnOk result (is_lost self.new ≡ is_lost self.old) }
+        ensures listening { proof_listeners self.new ≡ proof_listeners self.old }
+        ensures taking { OnOk result (has_missed_step self.new ≡ has_missed_step self.old) }
         ensures asked { has_asked self.new ≡ has_asked self.old }
         ensures width { OnOk result (IsAtWidth self.old → IsAtWidth self.new) }
         ensures target { target_of W.seen self.new ≡ target_of W.seen self.old }
-        ensures fails { FailsOnlyInCheckerOrWasLost (is_lost self.old) result self.new }
+        ensures fails { FailsOnlyInCheckerAfterMissedStep (has_missed_step self.old) result self.new }
         ensures reported { OnOk result (AllStepsReported self.new) }
     {
         self.made.take_delayed()?;
@@ -514,7 +518,7 @@ impl<W: CountedWrite + Drop, P: ProofProcessor> Proof<W, P> {
     /// Returns the error from a listener, if any, and removes it from the proof.
     pub fn take_complaint(&mut self) -> Option<anyhow::Error>
         ensures gives { result ≡ self.old.made.complaint }
-        ensures same { self.new ≡ without_complaint self.old }
+        ensures same { self.new ≡ without_listener_error self.old }
     {
         self.made.take_complaint()
     }

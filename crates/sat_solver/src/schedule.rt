@@ -1,20 +1,22 @@
 //! Rounds, with restarts between them.
 ghost use Rattle.std.specs.Prelude.{◌≡◌, ◌+◌, ◌-◌, ◌^◌, ◌<◌, IfOk, IfErr, None};
 ghost use Rattle.sat_solver.specs.schedule.Climbing.{KeepsProgress};
-ghost use Rattle.sat_solver.specs.schedule.Counting.{AnswersWithin, CountsOn, SpendsRounds, TakesRound, round_allowance};
+ghost use Rattle.sat_solver.specs.schedule.Counting.{AnswersWithin, CountsOn, SpendsRounds, TakesRound};
+ghost use Rattle.sat_solver.specs.schedule.Counting.{round_allowance};
 ghost use Rattle.sat_solver.specs.schedule.Rounds.{LastRoundAnswers, RestartsWhereDue};
-ghost use Rattle.sat_solver.specs.schedule.Solving.{words_in, values_in, CoreInvariant, ReachedByAsManyRounds, EndedBy};
+ghost use Rattle.sat_solver.specs.schedule.Solving.{words_in, values_in, ContextInvariant, ReachedByAsManyRounds};
+ghost use Rattle.sat_solver.specs.schedule.Solving.{EndedBy};
 ghost use Rattle.sat_solver.specs.schedule.Solving.{BreaksRounds};
 ghost use Rattle.sat_solver.specs.schedule.Solving.{Restarted, ReducedAt, RoundOf};
 ghost use Rattle.sat_solver.specs.solver.Found.{FoundNone};
-ghost use Rattle.sat_solver.specs.solver.Joined.{IsJoined, KeepsJoined};
+ghost use Rattle.sat_solver.specs.solver.Joined.{NamesSearchInvariant, KeepsNamesSearchInvariant};
 
 pub mod restarts;
 
 use crate::cdcl::conflict_step;
 use crate::cdcl::fault::Fault;
 use crate::clause::reduce::reduce;
-use crate::context::Core;
+use crate::context::Context;
 use crate::schedule::restarts::{Restarts, begin_gap};
 use crate::variables::Variables;
 use sat_base::CountedWrite;
@@ -23,7 +25,7 @@ use sat_parts::parts::assumptions::restart;
 
 /// The outcome of a round.
 #[derive(Clone, Copy, Debug, Drop, PartialEq, Eq)]
-pub enum Outcome {
+pub enum RoundOutcome {
     /// A clause was learned from a conflict.
     Learned,
     Model,
@@ -32,32 +34,32 @@ pub enum Outcome {
     Failed,
 }
 
-impl Outcome {
+impl RoundOutcome {
     ghost use Rattle.std.specs.Prelude.{◌≡◌, ◌↔◌, IsTrue};
 
     /// Whether a clause was learned.
     fn is_learned(self) -> bool
-        ensures { IsTrue result ↔ (self ≡ Outcome.Learned) }
+        ensures { IsTrue result ↔ (self ≡ RoundOutcome.Learned) }
     {
         match self {
-            Outcome::Learned => true,
-            Outcome::Model => false,
-            Outcome::Unsat => false,
-            Outcome::Failed => false,
+            RoundOutcome::Learned => true,
+            RoundOutcome::Model => false,
+            RoundOutcome::Unsat => false,
+            RoundOutcome::Failed => false,
         }
     }
 }
 
 /// Restarts the search if a restart is due before round `round`.
 fn restart_where_due<W: CountedWrite + Drop, P: ProofProcessor>(
-    core: &mut Core<W, P>,
+    core: &mut Context<W, P>,
     restarts: &mut Restarts,
     round: u64,
 )
-    requires core { CoreInvariant core.old }
+    requires core { ContextInvariant core.old }
     requires scale { 0 < restarts.old.scale }
     requires counts { round + 1 < 2 ^ 64 }
-    ensures joined { KeepsJoined core.old core.new }
+    ensures joined { KeepsNamesSearchInvariant core.old core.new }
     ensures scale { restarts.new.scale ≡ restarts.old.scale }
     ensures most { values_in core.new ≡ values_in core.old }
     ensures come { KeepsProgress words_in round core.old restarts.old.next restarts.old.sequence
@@ -78,13 +80,13 @@ fn restart_where_due<W: CountedWrite + Drop, P: ProofProcessor>(
 /// Counts the rounds in `rounds`, the number of rounds over all calls. No round is run once this number has
 /// reached 2^64-1.
 pub fn search<W: CountedWrite + Drop, P: ProofProcessor>(
-    core: &mut Core<W, P>,
+    core: &mut Context<W, P>,
     names: &mut Variables,
     restarts: &mut Restarts,
     rounds: &mut u64,
     max_steps: u64,
-) -> Result<Option<Outcome>, Fault>
-    requires joined { IsJoined names.old core.old }
+) -> Result<Option<RoundOutcome>, Fault>
+    requires joined { NamesSearchInvariant names.old core.old }
     requires scale { 0 < restarts.old.scale }
     ensures scale { restarts.new.scale ≡ restarts.old.scale }
     ensures counts { CountsOn (values_in core.old) max_steps rounds.old rounds.new }

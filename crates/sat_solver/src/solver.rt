@@ -22,28 +22,28 @@ pub mod report;
 pub mod solve;
 
 use crate::SolverConfig;
-use crate::context::{Core, no_search};
-use crate::load::literals::Taken;
+use crate::context::{Context, new_search};
+use crate::load::literals::MappedLits;
 use crate::proof::Proof;
 use crate::schedule::restarts::Restarts;
-use crate::solver::find::{Clock, LastAnswers};
+use crate::solver::find::{LastAnswers, Schedule};
 use crate::solver::load::Loading;
-use crate::state::State;
+use crate::state::SatState;
 use crate::variables::Variables;
 use sat_base::{CountedWrite, Lit};
 use sat_checker::{Nobody, ProofProcessor};
-use sat_parts::parts::sorting::no_sorting;
+use sat_parts::parts::sorting::new_sorting;
 use sat_store::LubySequence;
 use std::alloc::Global;
 
 /// A solver for clauses over names. It answers any number of asks, under assumptions, and writes a proof.
 #[derive(Drop)]
 pub struct Solver<W: CountedWrite + Drop, P: ProofProcessor = Nobody> {
-    core: Core<W, P>,
+    core: Context<W, P>,
     names: Variables,
-    clock: Clock,
+    clock: Schedule,
     reported: LastAnswers,
-    state: State,
+    state: SatState,
     /// Whether a call failed. If so, every later call that can return an error returns `HasFailed`.
     failed: bool,
     /// Whether the solver has received a clause, a name, assumptions or an ask.
@@ -51,7 +51,7 @@ pub struct Solver<W: CountedWrite + Drop, P: ProofProcessor = Nobody> {
     /// The clause that is being added.
     loading: Loading,
     /// The assumptions, over indices of the search and over proof variables.
-    asked: Taken,
+    asked: MappedLits,
     /// The assumptions, over names.
     assumed: Vec<Lit>,
 }
@@ -73,13 +73,13 @@ impl<W: CountedWrite + Drop, P: ProofProcessor> Solver<W, P> {
     {
         let config = SolverConfig::default();
         Solver {
-            core: Core {
+            core: Context {
                 proof: Proof::new(alloc),
-                search: no_search(alloc),
+                search: new_search(alloc),
                 config,
             },
             names: Variables::new(alloc),
-            clock: Clock {
+            clock: Schedule {
                 restarts: Restarts {
                     sequence: LubySequence::default(),
                     scale: config.luby_restart_interval_scale,
@@ -92,14 +92,14 @@ impl<W: CountedWrite + Drop, P: ProofProcessor> Solver<W, P> {
                 model: Vec::new(alloc),
                 failed_core: Vec::new(alloc),
             },
-            state: State::Unknown,
+            state: SatState::Unknown,
             failed: false,
             used: false,
             loading: Loading {
-                taken: Taken::new(alloc),
-                sorting: no_sorting(alloc),
+                taken: MappedLits::new(alloc),
+                sorting: new_sorting(alloc),
             },
-            asked: Taken::new(alloc),
+            asked: MappedLits::new(alloc),
             assumed: Vec::new(alloc),
         }
     }

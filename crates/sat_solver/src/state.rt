@@ -2,7 +2,7 @@
 
 /// What a solver knows about its clauses and assumptions.
 #[derive(Clone, Copy, Debug, Drop, PartialEq, Eq)]
-pub enum State {
+pub enum SatState {
     Unknown,
     /// The last model satisfies the clauses and the assumptions.
     Sat,
@@ -12,14 +12,14 @@ pub enum State {
     Unsat,
 }
 
-impl Default for State {
+impl Default for SatState {
     ghost use Rattle.std.specs.Prelude.{◌≡◌};
-    ghost use Rattle.sat_solver.specs.declared.state.State.TheVariants.{Unknown};
+    ghost use Rattle.sat_solver.specs.declared.state.SatState.TheVariants.{Unknown};
 
     ghost is_default = { λ s. s ≡ Unknown };
 
     /// Returns the state of a solver that has no answer yet.
-    fn default() -> State {
-        State::Unknown
+    fn default() -> SatState {
+        SatState::Unknown
     }
 }

@@ -1,15 +1,15 @@
 //! Simplifies using the units at level 0: removes clauses, literals of clauses, and indices of variables that are in
 //! no clause.
 ghost use Rattle.sat_solver.specs.proof.ProofView.{HasAllowedSteps, session_of};
-ghost use Rattle.sat_solver.specs.cdcl.Going.{EmitsSteps};
-ghost use Rattle.sat_solver.specs.cdcl.Joint.{IsSearch};
+ghost use Rattle.sat_solver.specs.cdcl.StepEffects.{EmitsSteps};
+ghost use Rattle.sat_solver.specs.cdcl.Joint.{SearchInvariant};
 ghost use Rattle.sat_solver.specs.unit_simplify.Flat.{HasEmptyTrail, StrengthensAll};
 ghost use Rattle.sat_solver.specs.unit_simplify.Passes.{JointInvariant, Simplifies};
 
 pub mod binary;
+pub mod clause_status;
 pub mod free_vars;
 pub mod long;
-pub mod looks;
 pub mod prove_units;
 pub mod steps;
 pub mod strengthen;
@@ -31,7 +31,7 @@ fn strengthen_all<W: CountedWrite + Drop, P: ProofProcessor>(
     search: &mut Search,
 ) -> Result<(), Fault>
     requires keeps { HasAllowedSteps proof.old }
-    requires search { IsSearch (session_of proof.old) search.old }
+    requires search { SearchInvariant (session_of proof.old) search.old }
     requires flat { HasEmptyTrail search.old.parts }
     ensures { EmitsSteps W.seen result proof.old proof.new
         (λ _ _. StrengthensAll (session_of proof.new) search.old search.new) }

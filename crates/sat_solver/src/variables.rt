@@ -1,9 +1,11 @@
 //! Names, variables and indices of a solver.
 ghost use Rattle.std.specs.Prelude.{ℕ, ◌≡◌, ◌≤◌, ◌<◌, None, Some, OnOk, IfSome, IfNone, MatchOption, true, false};
-ghost use Rattle.sat_solver.specs.variables.Variables.{AreTidy, data_at, global_of, user_of, solver_of, names_used};
+ghost use Rattle.sat_solver.specs.variables.Variables.{VariablesInvariant, data_at, global_of, user_of, solver_of};
+ghost use Rattle.sat_solver.specs.variables.Variables.{names_used};
 ghost use Rattle.sat_solver.specs.variables.Variables.{variables_used};
 ghost use Rattle.sat_solver.specs.variables.Free.{is_free};
-ghost use Rattle.sat_solver.specs.variables.Naming.{IsRoom, NamesFull, NoneLeft, PutsDeleted, PutsHidden, PutsIndex};
+ghost use Rattle.sat_solver.specs.variables.Naming.{IsVariableForName, NamesFull, NoVariableLeft, PutsDeleted};
+ghost use Rattle.sat_solver.specs.variables.Naming.{PutsHidden, PutsIndex};
 ghost use Rattle.sat_solver.specs.variables.Naming.{PutsMode, PutsName, PutsObserved, PutsUnit, IsNextIndex};
 ghost use Rattle.sat_solver.specs.variables.Naming.{IsNextUser};
 
@@ -57,7 +59,7 @@ pub struct Variables {
 
 /// Whether every name still has the variable with the same index after the name `user` gets the variable `global`.
 /// `own` says whether this was so before.
-fn are_own(own: bool, user: Var, global: Var) -> bool
+fn stays_identity(own: bool, user: Var, global: Var) -> bool
     ensures own { result ≡ true → own ≡ true }
     ensures same { result ≡ true → global ≡ user }
 {
@@ -67,7 +69,7 @@ fn are_own(own: bool, user: Var, global: Var) -> bool
 impl Variables {
     /// Creates a value without names, variables or indices. Never allocates.
     pub fn new(alloc: Global) -> Variables
-        ensures tidy { AreTidy result }
+        ensures tidy { VariablesInvariant result }
         ensures none { variables_used result ≡ 0 }
     {
         Variables {
@@ -87,9 +89,9 @@ impl Variables {
     /// free, or else the lowest free variable. Returns `None` if all variables are in use.
     #[tactic(auto, using(crate::proofs::lemmas::variables::NextVariables::finding_room))]
     pub(crate) fn room_for(&self, user: Var) -> Option<Var>
-        requires tidy { AreTidy self.now }
+        requires tidy { VariablesInvariant self.now }
         requires within { user ≤ names_used self.now }
-        ensures { MatchOption result (NoneLeft self.now) (IsRoom self.now user) }
+        ensures { MatchOption result (NoVariableLeft self.now) (IsVariableForName self.now user) }
     {
         let index = user.index();
         if index >= self.var_data.len() || self.var_data[index].deleted {
@@ -106,26 +108,26 @@ impl Variables {
 
     /// Gives the name `user` to `global`, which must be the variable that `room_for` returns for this name.
     pub(crate) fn put_name(&mut self, user: Var, global: Var) -> Result<(), AllocError>
-        requires tidy { AreTidy self.old }
+        requires tidy { VariablesInvariant self.old }
         requires named { global_of self.old user ≡ None }
         requires low { user ≤ names_used self.old }
-        requires room { IsRoom self.old user global }
+        requires room { IsVariableForName self.old user global }
         ensures { OnOk result (PutsName self.old self.new user global) }
     {
         put_data(&mut self.var_data, global, VarData::user_default())?;
         link(&mut self.global_from_user, user, global)?;
         self.free_users.reserve(user)?;
         self.free_globals.reserve(global)?;
-        self.free_users.take(user);
-        self.free_globals.take(global);
-        self.own_names = are_own(self.own_names, user, global);
+        self.free_users.remove(user);
+        self.free_globals.remove(global);
+        self.own_names = stays_identity(self.own_names, user, global);
         Ok(())
     }
 
     /// Returns the lowest index that was never used. There is such an index, because the variable `_global` is in use
     /// and has no index. No index that was used may be free.
     fn new_index(&self, _global: Var) -> Var
-        requires tidy { AreTidy self.now }
+        requires tidy { VariablesInvariant self.now }
         requires live { (data_at self.now _global).deleted ≡ false }
         requires without { solver_of self.now _global ≡ None }
         requires none { (x : ℕ) → is_free self.now.free_solvers x ≡ false }
@@ -136,7 +138,7 @@ impl Variables {
 
     /// Returns the index for `global`, a variable in use that has no index: the lowest index that is not in use.
     pub(crate) fn next_index(&self, global: Var) -> Var
-        requires tidy { AreTidy self.now }
+        requires tidy { VariablesInvariant self.now }
         requires live { (data_at self.now global).deleted ≡ false }
         requires without { solver_of self.now global ≡ None }
         ensures { IsNextIndex self.now result }
@@ -151,19 +153,19 @@ impl Variables {
     pub(crate) fn put_index(&mut self, global: Var, solver: Var) -> Result<(), AllocError>
         requires without { solver_of self.old global ≡ None }
         requires next { IsNextIndex self.old solver }
-        requires tidy { AreTidy self.old }
+        requires tidy { VariablesInvariant self.old }
         ensures { OnOk result (PutsIndex self.old self.new global solver true) }
     {
         put_global(&mut self.globals, solver, global)?;
         link(&mut self.solver_from_global, global, solver)?;
         self.free_solvers.reserve(solver)?;
-        self.free_solvers.take(solver);
+        self.free_solvers.remove(solver);
         Ok(())
     }
 
     /// Removes the index `solver` of the variable `global`. Never allocates.
     pub(crate) fn take_index(&mut self, global: Var, solver: Var)
-        requires tidy { AreTidy self.old }
+        requires tidy { VariablesInvariant self.old }
         requires there { solver_of self.old global ≡ Some solver }
         ensures puts { PutsIndex self.old self.new global solver false }
         ensures globals { self.new.globals ≡ self.old.globals }
@@ -174,7 +176,7 @@ impl Variables {
 
     /// Hides the variable `global`. Its name `user` can be introduced again from now on. Never allocates.
     pub(crate) fn put_hidden(&mut self, user: Var, global: Var)
-        requires tidy { AreTidy self.old }
+        requires tidy { VariablesInvariant self.old }
         requires named { global_of self.old user ≡ Some global }
         requires within { global < variables_used self.old }
         ensures { PutsHidden self.old self.new user global }
@@ -187,7 +189,7 @@ impl Variables {
 
     /// Gives the name `user` to the hidden variable `global`, and sets its mode to witness.
     pub(crate) fn put_observed(&mut self, user: Var, global: Var) -> Result<(), AllocError>
-        requires tidy { AreTidy self.old }
+        requires tidy { VariablesInvariant self.old }
         requires free { global_of self.old user ≡ None }
         requires nameless { user_of self.old global ≡ None }
         requires low { user ≤ names_used self.old }
@@ -196,7 +198,7 @@ impl Variables {
     {
         link(&mut self.global_from_user, user, global)?;
         self.free_users.reserve(user)?;
-        self.free_users.take(user);
+        self.free_users.remove(user);
         set_mode(&mut self.var_data, global, SamplingMode::Witness);
         self.witnessed = true;
         self.own_names = false;
@@ -214,7 +216,7 @@ impl Variables {
 
     /// Deletes a variable, so that it is no longer in use. Never allocates.
     pub(crate) fn put_deleted(&mut self, global: Var)
-        requires tidy { AreTidy self.old }
+        requires tidy { VariablesInvariant self.old }
         requires within { global < variables_used self.old }
         ensures { PutsDeleted self.old self.new global }
     {
@@ -278,7 +280,7 @@ impl Variables {
 
     /// Returns the lowest name never used, or `None` if all names were used. No name may be hidden.
     fn first_unused(&self) -> Option<Var>
-        requires tidy { AreTidy self.now }
+        requires tidy { VariablesInvariant self.now }
         requires none { (u : ℕ) → is_free self.now.free_users u ≡ false }
         ensures next { IfSome result (IsNextUser self.now) }
         ensures full { IfNone result (NamesFull self.now) }
@@ -294,7 +296,7 @@ impl Variables {
     /// Returns `None` if all names are in use.
     #[tactic(auto, using(crate::proofs::lemmas::variables::NextNames::next_hidden))]
     pub(crate) fn next_user(&self) -> Option<Var>
-        requires tidy { AreTidy self.now }
+        requires tidy { VariablesInvariant self.now }
         ensures next { IfSome result (IsNextUser self.now) }
         ensures full { IfNone result (NamesFull self.now) }
     {

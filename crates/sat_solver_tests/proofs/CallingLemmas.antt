@@ -2,7 +2,7 @@
 use Rattle.std.proofs.Common.{ℕ, ◌≡◌, ◌∙◌, false, List, [], ◌∷◌, ◌++◌, Option, None, Some, Result, Ok, Err, refl, sym, ap, subst}
 use Rattle.std.proofs.lemmas.Bool.{true≢false}
 use Rattle.std.specs.Prelude.{is_some}
-use Rattle.sat_base.specs.device.Device.{Writer, WriterBreaks, lent_writer}
+use Rattle.sat_base.specs.device.Device.{Writer, WriterFails, lent_writer}
 use Rattle.sat_base.specs.device.Sink.{empty_sink}
 use Rattle.sat_base.specs.steps.Steps.{Step, Assumptions, End}
 use Rattle.sat_base.proofs.lemmas.device.Writes.{breaks_within, lent_puts}
@@ -10,7 +10,7 @@ use Rattle.sat_checker.specs.declared.processing.ProofProcessor.{Ghosts}
 use Rattle.sat_solver.specs.proof.Counting.{nothing_counted, counted, one_made, written_for}
 use Rattle.sat_solver.specs.proof.OutputView.{text_in}
 use Rattle.sat_solver.specs.proof.ProofTexts.{BrokeText}
-use Rattle.sat_solver.specs.proof.ProofView.{Target, Open, TargetTakes, TargetFails, GivesWriter, returned_writer, is_open, target_of, is_checked, is_lost, EmitsChecked, EmitsAsAnswered, ClosesTarget, ReturnsTarget}
+use Rattle.sat_solver.specs.proof.ProofView.{Target, Open, TargetTakes, TargetFails, GivesWriter, returned_writer, is_open, target_of, is_checked, has_missed_step, EmitsChecked, EmitsAsAnswered, ClosesTarget, ReturnsTarget}
 use Rattle.sat_solver.specs.declared.proof.format.ProofFormat.TheVariants.{Varisat}
 use Rattle.sat_solver.specs.declared.proof.Proof.{Proof}
 use Rattle.sat_solver.specs.declared.proof.ProofError.{ProofError}
@@ -37,7 +37,7 @@ all_broke e from given b = record {
   written = written_for b.counting.bits (counted End b.counting).bits End ++ b.written;
   counting = counted End b.counting;
   cuts = one_made End tt b.cuts;
-  puts = subst (WriterBreaks from given) (sym (text_append Varisat (written_for b.counting.bits (counted End b.counting).bits End) b.written))
+  puts = subst (WriterFails from given) (sym (text_append Varisat (written_for b.counting.bits (counted End b.counting).bits End) b.written))
       (breaks_within from given (text_in Varisat b.written) (text_in Varisat (written_for b.counting.bits (counted End b.counting).bits End)) b.breaks);
 }
 
@@ -57,7 +57,7 @@ module _ {W L : Type 0} {G : Ghosts L} (seen : W → Writer) (w : W) (p q : Proo
     carried = subst (λ z. TargetTakes z (Assumptions [] ∷ []) (target_of seen q)) opened a.target
 
     -- closing failed
-    pub close_failed : is_lost p ≡ false → (e : ProofError) (r s : Proof W L G) (given : Option W) → ClosesTarget seen (Err e) q r → ReturnsTarget seen given r s → PutsOwned seen (Err e) w given
+    pub close_failed : has_missed_step p ≡ false → (e : ProofError) (r s : Proof W L G) (given : Option W) → ClosesTarget seen (Err e) q r → ReturnsTarget seen given r s → PutsOwned seen (Err e) w given
     close_failed taking (Write e) r s given c h =
         let x = faulty seen (seen w) made (target_of seen r) given (stops_later (opened_as (seen w)) (target_of seen q) (target_of seen r) (Assumptions [] ∷ []) (End ∷ []) carried c.0.target) h.gives in
         subst (PutsOwned seen (Err (Write e)) w) (sym x.1) (record { written = x.2.written; counting = x.2.counting; cuts = x.2.cuts; puts = x.2.breaks })
@@ -65,7 +65,7 @@ module _ {W L : Type 0} {G : Ghosts L} (seen : W → Writer) (w : W) (p q : Proo
         let x = still seen (seen w) (Assumptions [] ∷ []) (target_of seen r) given (carries_more (opened_as (seen w)) (target_of seen q) (target_of seen r) (Assumptions [] ∷ []) [] carried c.target) h.gives in
         subst (PutsOwned seen (Err OutOfMemory) w) (sym x.1) tt
     close_failed taking (Check fault) r s given c h =
-        let k = complains_now fault r (is_lost q) (a.taking ∙ taking) c.1 in
+        let k = complains_now fault r (has_missed_step q) (a.taking ∙ taking) c.1 in
         absurd (true≢false (sym (complains_checked fault r k.0) ∙ ap (λ o. is_some o) (c.0.listening ∙ a.listening) ∙ unchecked))
 
     -- it was closed

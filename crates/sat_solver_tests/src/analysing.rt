@@ -4,7 +4,7 @@
 use crate::searcher::{no_room, search};
 use sat_base::{Counted, Lit};
 use sat_solver::SolverConfig;
-use sat_solver::context::{Core, Search, no_search};
+use sat_solver::context::{Context, Search, new_search};
 use sat_solver::proof::Proof;
 use sat_solver::variables::Variables;
 use std::alloc::Global;
@@ -55,15 +55,15 @@ fn is_analysis(search: &Search, row: &Row) -> bool {
     let analysis = &search.analysis;
     are_codes(analysis.clause(), row.1)
         && are_codes(analysis.used(), row.2)
-        && analysis.involved().len() == row.3
+        && analysis.antecedents().len() == row.3
 }
 
 /// Whether a search over the clauses of `row` finds an answer, and its last conflict gave what `row` has.
 fn is_right(alloc: Global, row: &Row) -> bool {
     let mut names = Variables::new(alloc);
-    let mut core: Core<Counted<Vec<u8>>> = Core {
+    let mut core: Context<Counted<Vec<u8>>> = Context {
         proof: Proof::new(alloc),
-        search: no_search(alloc),
+        search: new_search(alloc),
         config: SolverConfig::default(),
     };
     let mut room = no_room(alloc);

@@ -1,12 +1,12 @@
 //! A search over a few clauses, and the names of its variables.
 ghost use Rattle.std.specs.Prelude.{MatchOption};
-ghost use Rattle.sat_solver.specs.solver.Joined.{IsJoined};
-ghost use Rattle.sat_solver.specs.solver.Taking.{GoesOnOr};
+ghost use Rattle.sat_solver.specs.solver.Joined.{NamesSearchInvariant};
+ghost use Rattle.sat_solver.specs.solver.Taking.{NamesSearchInvariantOrUnsat};
 
 use sat_base::{CountedWrite, Lit};
-use sat_parts::parts::sorting::no_sorting;
-use sat_solver::context::Core;
-use sat_solver::load::literals::Taken;
+use sat_parts::parts::sorting::new_sorting;
+use sat_solver::context::Context;
+use sat_solver::load::literals::MappedLits;
 use sat_solver::schedule;
 use sat_solver::schedule::restarts::Restarts;
 use sat_solver::solver::load::{Loading, take_clause};
@@ -27,8 +27,8 @@ pub fn no_room(alloc: Global) -> ClauseScratch {
     ClauseScratch {
         lits: Vec::new(alloc),
         loading: Loading {
-            taken: Taken::new(alloc),
-            sorting: no_sorting(alloc),
+            taken: MappedLits::new(alloc),
+            sorting: new_sorting(alloc),
         },
     }
 }
@@ -49,13 +49,13 @@ fn read(codes: &[usize], lits: &mut Vec<Lit>) -> bool {
 
 /// Adds a clause. Returns whether the clauses may still be satisfiable, or `None` if a call fails.
 fn add<W: CountedWrite + Drop>(
-    core: &mut Core<W>,
+    core: &mut Context<W>,
     names: &mut Variables,
     lits: &[Lit],
     loading: &mut Loading,
 ) -> Option<bool>
-    requires { IsJoined names.old core.old }
-    ensures { MatchOption result (Unit {0}) (λ left. GoesOnOr left names.new core.new) }
+    requires { NamesSearchInvariant names.old core.old }
+    ensures { MatchOption result (Unit {0}) (λ left. NamesSearchInvariantOrUnsat left names.new core.new) }
 {
     if leftmost_witness(names, lits).is_some() {
         return None;
@@ -68,13 +68,13 @@ fn add<W: CountedWrite + Drop>(
 
 /// Adds the clauses, given by the codes of their literals. Returns whether the clauses may still be satisfiable.
 fn add_all<W: CountedWrite + Drop>(
-    core: &mut Core<W>,
+    core: &mut Context<W>,
     names: &mut Variables,
     clauses: &[&[usize]],
     room: &mut ClauseScratch,
 ) -> Option<bool>
-    requires { IsJoined names.old core.old }
-    ensures { MatchOption result (Unit {0}) (λ left. GoesOnOr left names.new core.new) }
+    requires { NamesSearchInvariant names.old core.old }
+    ensures { MatchOption result (Unit {0}) (λ left. NamesSearchInvariantOrUnsat left names.new core.new) }
 {
     for codes in clauses {
         if !read(*codes, &mut room.lits) {
@@ -89,8 +89,8 @@ fn add_all<W: CountedWrite + Drop>(
 }
 
 /// Makes rounds up to an answer. Returns whether there is one.
-fn answer<W: CountedWrite + Drop>(core: &mut Core<W>, names: &mut Variables) -> bool
-    requires { IsJoined names.old core.old }
+fn answer<W: CountedWrite + Drop>(core: &mut Context<W>, names: &mut Variables) -> bool
+    requires { NamesSearchInvariant names.old core.old }
 {
     let mut restarts = Restarts {
         sequence: LubySequence::default(),
@@ -107,12 +107,12 @@ fn answer<W: CountedWrite + Drop>(core: &mut Core<W>, names: &mut Variables) -> 
 
 /// Searches for a model of the clauses. Returns whether there is an answer.
 pub fn search<W: CountedWrite + Drop>(
-    core: &mut Core<W>,
+    core: &mut Context<W>,
     names: &mut Variables,
     clauses: &[&[usize]],
     room: &mut ClauseScratch,
 ) -> bool
-    requires { IsJoined names.old core.old }
+    requires { NamesSearchInvariant names.old core.old }
 {
     match add_all(core, names, clauses, room) {
         Some(true) => answer(core, names),

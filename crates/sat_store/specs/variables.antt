@@ -1,5 +1,5 @@
 pub mod Maps
 pub mod Codes
 pub mod VarData
-pub mod Facing
+pub mod MapViews
 pub mod Flags

@@ -249,7 +249,7 @@ pub struct VarBiMapMut<'a> {
 }
 
 impl<'a> VarBiMapMut<'a> {
-    ghost use Rattle.sat_store.specs.variables.Facing.{maps_of_view};
+    ghost use Rattle.sat_store.specs.variables.MapViews.{maps_of_view};
 
     /// Maps `from` to `into` in this map, and `into` to `from` in the other map. `from` must not be mapped in this map,
     /// nor `into` in the other.

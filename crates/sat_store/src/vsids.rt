@@ -8,7 +8,7 @@ ghost use Rattle.std.specs.Prelude.{slice_set};
 ghost use Rattle.sat_base.specs.values.Literals.{var_limit};
 ghost use Rattle.sat_store.specs.heap.Heap.{scaled};
 ghost use Rattle.sat_store.specs.heap.Vsids.{no_variables, with_variables, GrowsQueue, bumped, decayed, with_available};
-ghost use Rattle.sat_store.specs.heap.Vsids.{may_pick};
+ghost use Rattle.sat_store.specs.heap.Vsids.{is_available};
 
 mod heap;
 
@@ -146,7 +146,7 @@ impl Vsids {
     /// Sets the activity of a variable to 0. The variable must not be available.
     pub fn reset(&mut self, var: Var)
         requires within { var < length self.old.available }
-        requires unavailable { may_pick self.old var ≡ false }
+        requires unavailable { is_available self.old var ≡ false }
         ensures { self.new ≡ record self.old { activities = slice_set self.old.activities var 0 } }
     {
         let at = self.positions[var.index()] as usize;

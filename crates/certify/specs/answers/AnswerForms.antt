@@ -40,5 +40,5 @@ IsOrdered (Unsat core) = InOrder core
 IsOrdered Unknown = Unit {0}
 
 -- that an answer may print the outcome: its names are allowed, and its literals are in order
-abbrev pub IsInForm : Outcome → Type 0
-IsInForm o = HaveNames (literals_of o) × IsOrdered o
+abbrev pub IsPrintable : Outcome → Type 0
+IsPrintable o = HaveNames (literals_of o) × IsOrdered o

@@ -2,9 +2,9 @@
 use Rattle.std.specs.Prelude.{ℕ, zero, suc, ◌≡◌, ◌≢◌, ◌⊎◌, List, [], ◌∷◌, ◌++◌, decimal}
 use Rattle.sat_base.specs.values.Literals.{variable}
 use Rattle.sat_base.specs.script.Script.{Literal}
-use Rattle.certify.specs.answers.Answers.{s_satisfiable, s_unsatisfiable, s_unknown, v_line, f_line, word_of, literals_text, outcome_text}
+use Rattle.certify.specs.answers.Answers.{s_satisfiable, s_unsatisfiable, s_unknown, v_line, f_line, literal_text, literals_text, outcome_text}
 use Rattle.sat_checker.specs.matching.Expected.{Outcome, Sat, Unsat, Unknown}
-use Rattle.certify.specs.answers.AnswerForms.{IsName, IsInForm, named_literal, named_literals}
+use Rattle.certify.specs.answers.AnswerForms.{IsName, IsPrintable, named_literal, named_literals}
 use Rattle.certify.specs.declared.answers.read.AnswerKind.{AnswerKind}
 use Rattle.certify.specs.declared.answers.read.AnswerKind.TheVariants as kind
 use Rattle.certify.specs.declared.answers.read.AnswerFault.{AnswerFault}
@@ -59,7 +59,7 @@ NoName bytes = (n : ℕ) (tail : List ℕ) → IsName n → bytes ≡ decimal n 
 
 -- that the bytes do not begin with a literal and a space
 abbrev pub NoLiteral : List ℕ → Type 0
-NoLiteral bytes = (l : Literal) (tail : List ℕ) → IsName l.name → bytes ≡ word_of l ++ (32 ∷ tail) → ⊥
+NoLiteral bytes = (l : Literal) (tail : List ℕ) → IsName l.name → bytes ≡ literal_text l ++ (32 ∷ tail) → ⊥
 
 -- that the bytes, whatever follows them, do not begin with a name and a space
 abbrev pub StartsNoName : List ℕ → Type 0
@@ -76,12 +76,12 @@ BeginWithWordsOf text bytes = (front : List ℕ) × (tail : List ℕ) × ((text 
 -- that the bytes begin with at least one literal of a line in form; only then can memory be needed
 abbrev pub HasFirstLiteral : AnswerKind → (List Literal → List ℕ) → List ℕ → Type 0
 HasFirstLiteral k text bytes = HasLine k
-    × ((ls : List Literal) × (l : Literal) × (IsInForm (outcome_of k (ls ++ (l ∷ []))) × BeginWithWordsOf (text (ls ++ (l ∷ []))) bytes))
+    × ((ls : List Literal) × (l : Literal) × (IsPrintable (outcome_of k (ls ++ (l ∷ []))) × BeginWithWordsOf (text (ls ++ (l ∷ []))) bytes))
 
 -- why the literals of a line of this kind cannot be read
 abbrev pub NoLiterals : AnswerKind → List ℕ → AnswerFault → Type 0
 NoLiterals k bytes Missing = ⊥
-NoLiterals k bytes Text = (ls : List Literal) (tail : List ℕ) → IsInForm (outcome_of k ls) → bytes ≡ literals_text ls ++ tail → ⊥
+NoLiterals k bytes Text = (ls : List Literal) (tail : List ℕ) → IsPrintable (outcome_of k ls) → bytes ≡ literals_text ls ++ tail → ⊥
 NoLiterals k bytes OutOfMemory = HasFirstLiteral k literals_text bytes
 
 -- why the first line cannot be read
@@ -94,12 +94,12 @@ NoKind bytes OutOfMemory = ⊥
 abbrev pub NoLine : AnswerKind → List ℕ → AnswerFault → Type 0
 NoLine k bytes Missing = HasLine k × (bytes ≡ [])
 NoLine k bytes Text = (bytes ≢ [])
-    × ((ls : List Literal) (tail : List ℕ) → IsInForm (outcome_of k ls) → bytes ≡ second_line (outcome_of k ls) ++ tail → ⊥)
+    × ((ls : List Literal) (tail : List ℕ) → IsPrintable (outcome_of k ls) → bytes ≡ second_line (outcome_of k ls) ++ tail → ⊥)
 NoLine k bytes OutOfMemory = HasFirstLiteral k (λ ls. second_line (outcome_of k ls)) bytes
 
 -- that the bytes are not a prefix of literals in form with their `0` and LF
 abbrev pub StartsNoLiterals : AnswerKind → List ℕ → Type 0
-StartsNoLiterals k bytes = (ls : List Literal) (more : List ℕ) → IsInForm (outcome_of k ls) → literals_text ls ≡ bytes ++ more → ⊥
+StartsNoLiterals k bytes = (ls : List Literal) (more : List ℕ) → IsPrintable (outcome_of k ls) → literals_text ls ≡ bytes ++ more → ⊥
 
 -- that the bytes are not a prefix of a first line
 abbrev pub StartsNoKind : List ℕ → Type 0
@@ -107,7 +107,7 @@ StartsNoKind bytes = (k : AnswerKind) (more : List ℕ) → first_answer_line k 
 
 -- that the bytes are not a prefix of a second line in form
 abbrev pub StartsNoLine : AnswerKind → List ℕ → Type 0
-StartsNoLine k bytes = (ls : List Literal) (more : List ℕ) → IsInForm (outcome_of k ls) → second_line (outcome_of k ls) ≡ bytes ++ more → ⊥
+StartsNoLine k bytes = (ls : List Literal) (more : List ℕ) → IsPrintable (outcome_of k ls) → second_line (outcome_of k ls) ≡ bytes ++ more → ⊥
 
 -- that the bytes end where a line of an answer is expected
 abbrev pub IsCutShort : List ℕ → Type 0
@@ -115,7 +115,7 @@ IsCutShort bytes = (bytes ≡ []) ⊎ ((bytes ≡ s_satisfiable) ⊎ (bytes ≡ 
 
 -- that the bytes do not begin with the text of an outcome in form
 abbrev pub BeginsNoOutcome : List ℕ → Type 0
-BeginsNoOutcome bytes = (o : Outcome) (tail : List ℕ) → IsInForm o → bytes ≡ outcome_text o ++ tail → ⊥
+BeginsNoOutcome bytes = (o : Outcome) (tail : List ℕ) → IsPrintable o → bytes ≡ outcome_text o ++ tail → ⊥
 
 -- why no answer can be read
 abbrev pub NoOutcome : List ℕ → AnswerFault → Type 0
@@ -125,18 +125,18 @@ NoOutcome bytes OutOfMemory = (k : AnswerKind) × (rest : List ℕ) × ((bytes �
 
 -- that the bytes are the literal with code `l`, a space, and then `rest`
 abbrev pub BeginsWithLiteral : List ℕ → ℕ → List ℕ → Type 0
-BeginsWithLiteral bytes l rest = IsName (named_literal l).name × (bytes ≡ word_of (named_literal l) ++ (32 ∷ rest))
+BeginsWithLiteral bytes l rest = IsName (named_literal l).name × (bytes ≡ literal_text (named_literal l) ++ (32 ∷ rest))
 
 -- that the bytes are the literals of `line`, in form for this kind, and then `rest`
 abbrev pub BeginsWithLiterals : AnswerKind → List ℕ → List ℕ → List ℕ → Type 0
-BeginsWithLiterals k bytes line rest = IsInForm (outcome_of k (named_literals line)) × (bytes ≡ literals_text (named_literals line) ++ rest)
+BeginsWithLiterals k bytes line rest = IsPrintable (outcome_of k (named_literals line)) × (bytes ≡ literals_text (named_literals line) ++ rest)
 
 -- that the bytes are the second line of an answer of this kind, with the literals of `line` in form, and then `rest`
 abbrev pub BeginsWithSecondLine : AnswerKind → List ℕ → List ℕ → List ℕ → Type 0
-BeginsWithSecondLine k bytes line rest = IsInForm (outcome_of k (named_literals line))
+BeginsWithSecondLine k bytes line rest = IsPrintable (outcome_of k (named_literals line))
     × (bytes ≡ second_line (outcome_of k (named_literals line)) ++ rest)
 
 -- that the bytes are an answer of this kind, with the literals of `line` in form, and then `rest`
 abbrev pub BeginsWithAnswer : AnswerKind → List ℕ → List ℕ → List ℕ → Type 0
-BeginsWithAnswer k bytes line rest = IsInForm (outcome_of k (named_literals line))
+BeginsWithAnswer k bytes line rest = IsPrintable (outcome_of k (named_literals line))
     × (bytes ≡ outcome_text (outcome_of k (named_literals line)) ++ rest)

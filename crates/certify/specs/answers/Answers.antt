@@ -2,16 +2,16 @@
 use Rattle.std.specs.Prelude.{ℕ, ◌+◌, Option, Some, None, List, [], ◌∷◌, ◌++◌, decimal, if◌then◌else◌}
 use Rattle.sat_base.specs.script.Script.{Literal, Command, Ask, ScriptEnding, Clean, Malformed}
 use Rattle.sat_checker.specs.matching.Expected.{Outcome, Sat, Unsat, Unknown}
-use Rattle.sat_base.specs.script.ScriptState.{ScriptState, Refusal, PastLimit, WitnessName, refusal_of, after_command, start}
+use Rattle.sat_base.specs.script.ScriptState.{ScriptState, Refusal, PastLimit, WitnessName, refusal_of, after_command, initial_state}
 
 -- the text of a literal: `-` if it is negative, and its name
-abbrev pub word_of : Literal → List ℕ
-word_of l = (if l.positive then [] else 45 ∷ []) ++ decimal l.name
+abbrev pub literal_text : Literal → List ℕ
+literal_text l = (if l.positive then [] else 45 ∷ []) ++ decimal l.name
 
 -- the text of literals: each literal with a space after it, then `0` and LF
 abbrev pub literals_text : List Literal → List ℕ
 literals_text [] = 48 ∷ 10 ∷ []
-literals_text (l ∷ ls) = word_of l ++ (32 ∷ literals_text ls)
+literals_text (l ∷ ls) = literal_text l ++ (32 ∷ literals_text ls)
 
 -- the first line of an answer that has a model: `s SATISFIABLE` and LF
 abbrev pub s_satisfiable : List ℕ
@@ -58,10 +58,10 @@ ending_text k Clean = []
 ending_text k Malformed = malformed_line k
 
 -- the answer lines for the command with number `k`; the first outcome is that of the next accepted ask
-abbrev pub piece : ℕ → Option Refusal → Command → List Outcome → List ℕ
-piece k (Some refusal) command outcomes = refused_line k refusal
-piece k None (Ask ls) (o ∷ os) = outcome_text o
-piece k None command outcomes = []
+abbrev pub answer_to_command : ℕ → Option Refusal → Command → List Outcome → List ℕ
+answer_to_command k (Some refusal) command outcomes = refused_line k refusal
+answer_to_command k None (Ask ls) (o ∷ os) = outcome_text o
+answer_to_command k None command outcomes = []
 
 -- the outcomes for the commands after this command
 abbrev pub outcomes_left : Option Refusal → Command → List Outcome → List Outcome
@@ -72,9 +72,9 @@ outcomes_left refusal command outcomes = outcomes
 abbrev pub answers_from : ℕ → ScriptState → List Command → ScriptEnding → List Outcome → List ℕ
 answers_from k j [] ending outcomes = ending_text k ending
 answers_from k j (command ∷ commands) ending outcomes =
-    piece k (refusal_of j command) command outcomes
+    answer_to_command k (refusal_of j command) command outcomes
     ++ answers_from (k + 1) (after_command command j) commands ending (outcomes_left (refusal_of j command) command outcomes)
 
 -- the answers to a script
 abbrev pub answers_text : List Command → ScriptEnding → List Outcome → List ℕ
-answers_text = answers_from 1 start
+answers_text = answers_from 1 initial_state

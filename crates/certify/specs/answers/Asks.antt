@@ -1,7 +1,7 @@
 -- The accepted asks of a script, each with the state in which it is asked, and when outcomes for them are correct.
 use Rattle.std.specs.Prelude.{List, [], ◌∷◌, is_some, if◌then◌else◌}
 use Rattle.sat_base.specs.script.Script.{Literal, Command, Ask}
-use Rattle.sat_base.specs.script.ScriptState.{ScriptState, refusal_of, accepted, after_command}
+use Rattle.sat_base.specs.script.ScriptState.{ScriptState, refusal_of, state_after_accepted, after_command}
 use Rattle.sat_checker.specs.matching.Expected.{Outcome}
 use Rattle.certify.specs.answers.RightAnswers.{IsRight}
 
@@ -15,7 +15,7 @@ abbrev pub asks_of : ScriptState → List Command → List Asked
 asks_of j [] = []
 asks_of j (Ask ls ∷ commands) =
     if is_some (refusal_of j (Ask ls)) then asks_of j commands
-    else record { state = accepted (Ask ls) j; literals = ls } ∷ asks_of (accepted (Ask ls) j) commands
+    else record { state = state_after_accepted (Ask ls) j; literals = ls } ∷ asks_of (state_after_accepted (Ask ls) j) commands
 asks_of j (command ∷ commands) = asks_of (after_command command j) commands
 
 -- that there is one outcome for each ask, in order, and each outcome is correct

@@ -6,7 +6,7 @@ use Rattle.sat_base.specs.device.Device.{Reader}
 use Rattle.sat_base.specs.device.Reading.{Source}
 use Rattle.sat_base.specs.script.Language.{Reading}
 use Rattle.certify.specs.confirm.Streams.{Stream, Confirms, Covers, rest_in}
-use Rattle.certify.specs.confirm.VerdictPromises.{numbers}
+use Rattle.certify.specs.confirm.VerdictPromises.{command_count}
 use Rattle.certify.specs.confirm.Confirming.{ConfirmsLast, Table, Through, table_of}
 use Rattle.certify.specs.confirm.Stopping.{Any, Joins}
 use Rattle.certify.specs.confirm.ConfirmStates.{answers_in, stream_in}
@@ -50,7 +50,7 @@ pub record ConfirmsThrough (text : List ℕ → Reading) (old new : ConfirmPlace
   pub means : ReaderMeans reader left
   pub took : TakesSome true old.script new.script
   pub counted : (total : List ℕ) → Covers new.script total
-      → old.number + numbers (text (rest_in total old.script)) ≡ new.number + numbers (left (rest_in total new.script))
+      → old.number + command_count (text (rest_in total old.script)) ≡ new.number + command_count (left (rest_in total new.script))
   pub joins : (total : List ℕ) → Covers new.script total → Joins ⊥ true (Ok tt) old.answers new.answers old.certificate new.certificate
       (Through old.number (text (rest_in total old.script)) old.table new.number (left (rest_in total new.script)) new.table)
 
@@ -79,16 +79,16 @@ ConfirmsScript text (Err stop.AnswersRead) old new = NoReadFailedAhead old.scrip
     × (FaultsAhead old.answers new.answers × Confirms {A = Unit {0}} (Err stop.OutOfMemory) old.certificate new.certificate Any)
 ConfirmsScript text (Err stop.ScriptRead) old new = FaultsAhead old.script new.script × Unsaid old new
 ConfirmsScript text (Err stop.TooMany) old new = TakesSome false old.script new.script
-    × ((total : List ℕ) → Covers new.script total → 2 ^ 64 < old.number + numbers (text (rest_in total old.script)))
+    × ((total : List ℕ) → Covers new.script total → 2 ^ 64 < old.number + command_count (text (rest_in total old.script)))
     × Unsaid old new
 
 -- the result that is returned after `asks` confirmed asks; the number of an ask saturates at 2^64-1
-abbrev pub said_by : Result (Unit {0}) Stop → ℕ → Result Verdict ConfirmFault
-said_by (Ok x) asks = Ok Yes
-said_by (Err (stop.No why)) asks = Ok (No (min (asks + 1) (2 ^ 64 - 1)) why)
-said_by (Err stop.OutOfMemory) asks = Err fault.OutOfMemory
-said_by (Err stop.CertificateRead) asks = Err fault.CertificateRead
-said_by (Err stop.CounterEnd) asks = Err fault.CounterEnd
-said_by (Err stop.AnswersRead) asks = Err fault.AnswersRead
-said_by (Err stop.ScriptRead) asks = Err fault.ScriptRead
-said_by (Err stop.TooMany) asks = Err fault.CounterEnd
+abbrev pub confirm_result : Result (Unit {0}) Stop → ℕ → Result Verdict ConfirmFault
+confirm_result (Ok x) asks = Ok Yes
+confirm_result (Err (stop.No why)) asks = Ok (No (min (asks + 1) (2 ^ 64 - 1)) why)
+confirm_result (Err stop.OutOfMemory) asks = Err fault.OutOfMemory
+confirm_result (Err stop.CertificateRead) asks = Err fault.CertificateRead
+confirm_result (Err stop.CounterEnd) asks = Err fault.CounterEnd
+confirm_result (Err stop.AnswersRead) asks = Err fault.AnswersRead
+confirm_result (Err stop.ScriptRead) asks = Err fault.ScriptRead
+confirm_result (Err stop.TooMany) asks = Err fault.CounterEnd

@@ -5,7 +5,7 @@ use Rattle.sat_base.specs.script.ScriptState.{ScriptState, after_command, refusa
 use Rattle.sat_base.specs.steps.Steps.{Step}
 use Rattle.sat_checker.specs.matching.Expected.{Outcome, Adds, Opens, Closes, showing}
 use Rattle.sat_checker.specs.matching.ProofChecking.{checker_rules}
-use Rattle.certify.specs.confirm.LeftToMatch.{Left}
+use Rattle.certify.specs.confirm.LeftToMatch.{RemainsToMatch}
 use Rattle.certify.specs.confirm.CertificateStates.{CertificateState}
 use Rattle.certify.specs.judge.Names.{Changes, NamesHaveState}
 use Rattle.sat_base.specs.script.ScriptStateLaws.{ScriptStateInvariant, NamesIncrease}
@@ -35,7 +35,7 @@ pub record HoldsAt (t : Table) (u : CertificateState) (j : ScriptState) (earlier
 
 -- that the rest of the script, from command `n` on, matches the rest of the answers and of the certificate
 abbrev pub ToConfirm : ScriptState → ℕ → List Step → List Command → ScriptEnding → List ℕ → List ℕ → Type 0
-ToConfirm j n earlier commands ending answers certificate = Left checker_rules j n earlier [] commands ending answers certificate
+ToConfirm j n earlier commands ending answers certificate = RemainsToMatch checker_rules j n earlier [] commands ending answers certificate
 
 -- That command `n` is confirmed: the script from `n` on is confirmed exactly when the commands after `n` are.
 pub record Confirmed (before following : List ℕ) (old new : CertificateState) (j : ScriptState) (earlier : List Step) (n : ℕ)

@@ -3,7 +3,7 @@ use Rattle.std.specs.Prelude.{◌≡◌, false, Result, Ok, Err, List, ◌∷◌
 use Rattle.sat_base.specs.steps.Steps.{Step}
 use Rattle.sat_checker.specs.Accepts.{Accepts, stored_after, ready_after}
 use Rattle.sat_checker.specs.KernelView.{HasAccepted, kernel_has_failed, kernel_looks}
-use Rattle.sat_checker.specs.Spent.{IsSpent, SpentBy}
+use Rattle.sat_checker.specs.Counters.{CountersExhausted, ExhaustsCounters}
 use Rattle.sat_checker.specs.declared.kernel.Kernel.{Kernel}
 use Rattle.sat_checker.specs.declared.error.CheckerError.{CheckerError}
 use Rattle.sat_checker.specs.declared.error.CheckerError.TheVariants as errors
@@ -36,7 +36,7 @@ FeedsStep (Ok x) old step new = (steps : List Step) → HasTaken old steps → A
 FeedsStep (Err (stop.No why)) old step new = (steps : List Step) → HasTaken old steps → Accepts (ready_after steps) step → ⊥
 FeedsStep (Err stop.CertificateRead) old step new = ⊥
 FeedsStep (Err stop.OutOfMemory) old step new = Unit {0}
-FeedsStep (Err stop.CounterEnd) old step new = (steps : List Step) → HasTaken old steps → SpentBy step (stored_after steps)
+FeedsStep (Err stop.CounterEnd) old step new = (steps : List Step) → HasTaken old steps → ExhaustsCounters step (stored_after steps)
 FeedsStep (Err stop.ScriptRead) old step new = ⊥
 FeedsStep (Err stop.AnswersRead) old step new = ⊥
 FeedsStep (Err stop.TooMany) old step new = ⊥
@@ -48,7 +48,7 @@ SettlesConflict (Ok x) old new = (steps : List Step) → HasTaken old steps → 
 SettlesConflict (Err (stop.No why)) old new = (steps : List Step) → HasTaken old steps → ⊥
 SettlesConflict (Err stop.CertificateRead) old new = ⊥
 SettlesConflict (Err stop.OutOfMemory) old new = (steps : List Step) → HasTaken old steps → kernel_looks new ≡ kernel_looks old
-SettlesConflict (Err stop.CounterEnd) old new = (steps : List Step) → HasTaken old steps → IsSpent (ready_after steps) × (kernel_looks new ≡ kernel_looks old)
+SettlesConflict (Err stop.CounterEnd) old new = (steps : List Step) → HasTaken old steps → CountersExhausted (ready_after steps) × (kernel_looks new ≡ kernel_looks old)
 SettlesConflict (Err stop.ScriptRead) old new = ⊥
 SettlesConflict (Err stop.AnswersRead) old new = ⊥
 SettlesConflict (Err stop.TooMany) old new = ⊥

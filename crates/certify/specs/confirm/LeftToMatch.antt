@@ -2,13 +2,13 @@
 use Rattle.std.specs.Prelude.{ℕ, ◌≡◌, List, [], ◌∷◌, ◌++◌}
 use Rattle.std.specs.List.{AllByRecursion}
 use Rattle.sat_base.specs.script.Script.{Literal, Command, ScriptEnding}
-use Rattle.sat_base.specs.script.ScriptState.{ScriptState, accepted_of}
+use Rattle.sat_base.specs.script.ScriptState.{ScriptState, accepted_commands}
 use Rattle.sat_base.specs.steps.Steps.{Step}
 use Rattle.sat_base.specs.steps.StepText.{SpellsSteps}
 use Rattle.certify.specs.answers.Answers.{outcome_text, answers_from}
 use Rattle.sat_checker.specs.matching.Expected.{Outcome, Expected, Opens, Closes, showing, expected}
 use Rattle.sat_checker.specs.matching.Checking.{CheckerRules}
-use Rattle.certify.specs.confirm.Matches.{OneEach, CoreIsInOrder, Meets}
+use Rattle.certify.specs.confirm.Matches.{OneOutcomePerAsk, CoreIsInOrder, Meets}
 
 -- that the rest of the certificate begins with steps that meet the expected steps `es`, after the earlier steps
 pub record CertificateMeets (k : CheckerRules) (earlier : List Step) (es : List Expected) (certificate : List ℕ) : Type 0 where
@@ -21,20 +21,20 @@ pub record CertificateMeets (k : CheckerRules) (earlier : List Step) (es : List 
 
 -- That the rest of the script matches from command `n` on, in state `j`. The expected steps in `pending` belong to
 -- earlier commands.
-pub record Left (k : CheckerRules) (j : ScriptState) (n : ℕ) (earlier : List Step) (pending : List Expected)
+pub record RemainsToMatch (k : CheckerRules) (j : ScriptState) (n : ℕ) (earlier : List Step) (pending : List Expected)
     (commands : List Command) (ending : ScriptEnding) (answers certificate : List ℕ) : Type 0 where
   pub outcomes : List Outcome
   pub answered : answers ≡ answers_from n j commands ending outcomes
-  pub one_each : OneEach (accepted_of j commands) outcomes
+  pub one_each : OneOutcomePerAsk (accepted_commands j commands) outcomes
   pub in_form : AllByRecursion CoreIsInOrder outcomes
-  pub certified : CertificateMeets k earlier (pending ++ expected j (accepted_of j commands) outcomes) certificate
+  pub certified : CertificateMeets k earlier (pending ++ expected j (accepted_commands j commands) outcomes) certificate
 
 -- That the rest matches from the answer to an ask on. `j` is the state after the names of the ask were introduced. First the steps in `pending`
 -- are expected, then the ask's assumptions.
-pub record LeftOfAsk (k : CheckerRules) (j : ScriptState) (n : ℕ) (earlier : List Step) (pending : List Expected) (ask : List Literal)
+pub record AskRemainsToMatch (k : CheckerRules) (j : ScriptState) (n : ℕ) (earlier : List Step) (pending : List Expected) (ask : List Literal)
     (commands : List Command) (ending : ScriptEnding) (answers certificate : List ℕ) : Type 0 where
   pub outcome : Outcome
   pub tail : List ℕ
   pub answered : answers ≡ outcome_text outcome ++ tail
   pub in_form : CoreIsInOrder outcome
-  pub left : Left k j n earlier (pending ++ (Opens ask outcome ∷ (showing j ask outcome ++ (Closes ∷ [])))) commands ending tail certificate
+  pub left : RemainsToMatch k j n earlier (pending ++ (Opens ask outcome ∷ (showing j ask outcome ++ (Closes ∷ [])))) commands ending tail certificate

@@ -8,7 +8,7 @@ use Rattle.sat_base.specs.declared.device.whole.ReadError.TheVariants as errors
 use Rattle.sat_base.specs.script.Script.{Literal}
 use Rattle.sat_checker.specs.matching.Expected.{Outcome, Unsat}
 use Rattle.certify.specs.answers.Answers.{outcome_text}
-use Rattle.certify.specs.answers.AnswerForms.{IsInForm, named_literals}
+use Rattle.certify.specs.answers.AnswerForms.{IsPrintable, named_literals}
 use Rattle.certify.specs.answers.AnswerReading.{first_answer_line, second_line, outcome_of}
 use Rattle.certify.specs.script.LastPiece.{FaultsAhead, NoReadFailedAhead, source_in, waiting_bytes}
 use Rattle.certify.specs.declared.script.ahead.LastPiece.{LastPiece}
@@ -45,16 +45,16 @@ EndsPart true text left = IsOneLine text
 EndsPart false text left = HasNoLf text × (left ≡ [])
 
 -- that bytes read ahead were moved to the line being read, up to LF if there is one; with an error, none were moved
-abbrev pub MovesFront : {E : Type 0} → Result Bool E → LastPiece → LastPiece → List ℕ → List ℕ → Type 0
-MovesFront (Ok whole) old new before after = (text : List ℕ) × (waiting_bytes old ≡ text ++ waiting_bytes new) × (new.reads ≡ old.reads)
+abbrev pub MovesPrefix : {E : Type 0} → Result Bool E → LastPiece → LastPiece → List ℕ → List ℕ → Type 0
+MovesPrefix (Ok whole) old new before after = (text : List ℕ) × (waiting_bytes old ≡ text ++ waiting_bytes new) × (new.reads ≡ old.reads)
     × (after ≡ before ++ text) × EndsPart whole text (waiting_bytes new)
-MovesFront (Err e) old new before after = new ≡ old
+MovesPrefix (Err e) old new before after = new ≡ old
 
 -- that the line is one of the lines that are expected next
 abbrev pub IsWantedLine : Wanted → List ℕ → List ℕ → Type 0
 IsWantedLine wanted.Due due line = line ≡ due
 IsWantedLine wanted.First due line = (k : AnswerKind) × (line ≡ first_answer_line k)
-IsWantedLine (wanted.Second k) due line = (ls : List Literal) × (IsInForm (outcome_of k ls) × (line ≡ second_line (outcome_of k ls)))
+IsWantedLine (wanted.Second k) due line = (ls : List Literal) × (IsPrintable (outcome_of k ls) × (line ≡ second_line (outcome_of k ls)))
 IsWantedLine wanted.Nothing due line = ⊥
 
 -- that no line that satisfies P begins with the bytes
@@ -108,9 +108,9 @@ ReadsFirst before following (Err why) = (o : Outcome) (tail : List ℕ) → befo
 
 -- that the second line of an answer of this kind was read or, with an error, that the bytes begin with no such line
 abbrev pub ReadsSecond : AnswerKind → List Literal → List ℕ → List ℕ → Result (Unit {0}) Why → Type 0
-ReadsSecond kind line before following (Ok x) = (before ≡ second_line (outcome_of kind line) ++ following) × IsInForm (outcome_of kind line)
+ReadsSecond kind line before following (Ok x) = (before ≡ second_line (outcome_of kind line) ++ following) × IsPrintable (outcome_of kind line)
 ReadsSecond kind line before following (Err why) =
-    (ls : List Literal) (tail : List ℕ) → IsInForm (outcome_of kind ls) → before ≡ second_line (outcome_of kind ls) ++ tail → ⊥
+    (ls : List Literal) (tail : List ℕ) → IsPrintable (outcome_of kind ls) → before ≡ second_line (outcome_of kind ls) ++ tail → ⊥
 
 -- the outcome that a reply represents
 abbrev pub outcome_in : Reply → Outcome
@@ -119,6 +119,6 @@ outcome_in r = outcome_of r.kind (named_literals r.lits.items)
 -- That an answer in form was read, which is the empty core if unsat is recorded (`settled`); or, with an error, that
 -- the bytes begin with no such answer.
 abbrev pub IsReply : List ℕ → List ℕ → Outcome → Bool → Result (Unit {0}) Why → Type 0
-IsReply before following reply settled (Ok x) = (before ≡ outcome_text reply ++ following) × IsInForm reply × (settled ≡ true → reply ≡ Unsat [])
+IsReply before following reply settled (Ok x) = (before ≡ outcome_text reply ++ following) × IsPrintable reply × (settled ≡ true → reply ≡ Unsat [])
 IsReply before following reply settled (Err why) =
-    (o : Outcome) (tail : List ℕ) → IsInForm o → (settled ≡ true → o ≡ Unsat []) → before ≡ outcome_text o ++ tail → ⊥
+    (o : Outcome) (tail : List ℕ) → IsPrintable o → (settled ≡ true → o ≡ Unsat []) → before ≡ outcome_text o ++ tail → ⊥

@@ -2,7 +2,7 @@
 use Rattle.std.specs.Prelude.{◌≡◌, ℕ, true, false, List, [], ◌∷◌, ◌++◌}
 use Rattle.std.specs.List.{AllByRecursion}
 use Rattle.sat_base.specs.script.Script.{Command, Ask, ScriptEnding, InOrder}
-use Rattle.sat_base.specs.script.ScriptState.{start, accepted_of}
+use Rattle.sat_base.specs.script.ScriptState.{initial_state, accepted_commands}
 use Rattle.sat_base.specs.steps.Steps.{Step}
 use Rattle.sat_base.specs.steps.StepText.{SpellsSteps}
 use Rattle.sat_checker.specs.matching.Checking.{CheckerRules, is_ordered}
@@ -10,15 +10,15 @@ use Rattle.sat_checker.specs.matching.Expected.{Outcome, Sat, Unsat, Unknown, Ex
 use Rattle.sat_checker.specs.matching.ProofChecking.{checker_rules}
 use Rattle.certify.specs.answers.Answers.{answers_text}
 use Rattle.certify.specs.answers.AnswersText.{lines_from}
-use Rattle.certify.specs.answers.ScriptText.{script_in}
+use Rattle.certify.specs.answers.ScriptText.{parse_script}
 
 -- that there is one outcome for each ask among the commands
-abbrev pub OneEach : List Command → List Outcome → Type 0
-OneEach [] [] = Unit {0}
-OneEach [] (o ∷ os) = ⊥
-OneEach (Ask ls ∷ commands) [] = ⊥
-OneEach (Ask ls ∷ commands) (o ∷ os) = OneEach commands os
-OneEach (command ∷ commands) outcomes = OneEach commands outcomes
+abbrev pub OneOutcomePerAsk : List Command → List Outcome → Type 0
+OneOutcomePerAsk [] [] = Unit {0}
+OneOutcomePerAsk [] (o ∷ os) = ⊥
+OneOutcomePerAsk (Ask ls ∷ commands) [] = ⊥
+OneOutcomePerAsk (Ask ls ∷ commands) (o ∷ os) = OneOutcomePerAsk commands os
+OneOutcomePerAsk (command ∷ commands) outcomes = OneOutcomePerAsk commands outcomes
 
 -- that a core is sorted as in `InOrder`, without repeats; a model need not be sorted
 abbrev pub CoreIsInOrder : Outcome → Type 0
@@ -48,9 +48,9 @@ pub data Meets (k : CheckerRules) : List Step → List Step → List Expected �
 
 -- that the steps match the script's commands and these outcomes, as `Meets` says, and every core is in form
 pub record StepsMatch (k : CheckerRules) (commands : List Command) (outcomes : List Outcome) (steps : List Step) : Type 0 where
-  pub one_each : OneEach (accepted_of start commands) outcomes
+  pub one_each : OneOutcomePerAsk (accepted_commands initial_state commands) outcomes
   pub in_form : AllByRecursion CoreIsInOrder outcomes
-  pub meets : Meets k [] steps (expected start (accepted_of start commands) outcomes)
+  pub meets : Meets k [] steps (expected initial_state (accepted_commands initial_state commands) outcomes)
 
 -- That the answers and the certificate match these commands and this ending of a script. The certificate may continue with any bytes after the
 -- steps.
@@ -77,7 +77,7 @@ pub record TextsMatch (script answers certificate : List ℕ) : Type 0 where
   pub steps : List Step
   pub text : List ℕ
   pub rest : List ℕ
-  pub answered : answers ≡ lines_from 1 start (script_in script).0 (script_in script).1 outcomes
+  pub answered : answers ≡ lines_from 1 initial_state (parse_script script).0 (parse_script script).1 outcomes
   pub begins : certificate ≡ text ++ rest
   pub spelt : SpellsSteps steps text
-  pub match : StepsMatch checker_rules (script_in script).0 outcomes steps
+  pub match : StepsMatch checker_rules (parse_script script).0 outcomes steps

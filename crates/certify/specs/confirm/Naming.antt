@@ -1,9 +1,9 @@
 -- The steps that the names of a command require.
 use Rattle.std.specs.Prelude.{ℕ, ◌≡◌, Result, Ok, Err, List, [], ◌∷◌, ◌++◌, map}
 use Rattle.sat_base.specs.script.Script.{Hide, Witness, Sample}
-use Rattle.sat_base.specs.script.ScriptState.{ScriptState, Sampled, Witnessed, new_names, bring_all, accepted}
+use Rattle.sat_base.specs.script.ScriptState.{ScriptState, Sampled, Witnessed, new_names, introduce_all, state_after_accepted}
 use Rattle.sat_base.specs.steps.Steps.{Step}
-use Rattle.sat_checker.specs.matching.Expected.{Expected, NewName, NoName, bringing, hiding, setting}
+use Rattle.sat_checker.specs.matching.Expected.{Expected, NewName, NoName, introducing, hiding, setting}
 use Rattle.certify.specs.confirm.CertificatePlaces.{MeetsExactly, MeetsNoneOf}
 use Rattle.certify.specs.confirm.CertificateStates.{CertificateState}
 use Rattle.certify.specs.judge.Names.{NamesHaveState, taken}
@@ -57,13 +57,13 @@ taken_by kind (name ∷ names) j = taken_by kind names (taken kind name j)
 -- That `naming_all` gives the steps that each kind of command expects. `taken_by` gives the state after the command;
 -- for a clause or an ask, that is the state after its names are introduced.
 pub record NamesAreExpected : Type 0 where
-  pub clauses : (names : List ℕ) (j : ScriptState) → naming_all OfClause names j ≡ bringing names j
-  pub asks : (names : List ℕ) (j : ScriptState) → naming_all OfAsk names j ≡ bringing names j
+  pub clauses : (names : List ℕ) (j : ScriptState) → naming_all OfClause names j ≡ introducing names j
+  pub asks : (names : List ℕ) (j : ScriptState) → naming_all OfAsk names j ≡ introducing names j
   pub hides : (names : List ℕ) (j : ScriptState) → naming_all OfHide names j ≡ hiding names j
   pub witnesses : (names : List ℕ) (j : ScriptState) → naming_all OfWitness names j ≡ setting Witnessed names j
   pub samples : (names : List ℕ) (j : ScriptState) → naming_all OfSample names j ≡ setting Sampled names j
-  pub left_by_clause : (names : List ℕ) (j : ScriptState) → taken_by OfClause names j ≡ bring_all names j
-  pub left_by_ask : (names : List ℕ) (j : ScriptState) → taken_by OfAsk names j ≡ bring_all names j
-  pub left_by_hide : (names : List ℕ) (j : ScriptState) → taken_by OfHide names j ≡ accepted (Hide names) j
-  pub left_by_witness : (names : List ℕ) (j : ScriptState) → taken_by OfWitness names j ≡ accepted (Witness names) j
-  pub left_by_sample : (names : List ℕ) (j : ScriptState) → taken_by OfSample names j ≡ accepted (Sample names) j
+  pub left_by_clause : (names : List ℕ) (j : ScriptState) → taken_by OfClause names j ≡ introduce_all names j
+  pub left_by_ask : (names : List ℕ) (j : ScriptState) → taken_by OfAsk names j ≡ introduce_all names j
+  pub left_by_hide : (names : List ℕ) (j : ScriptState) → taken_by OfHide names j ≡ state_after_accepted (Hide names) j
+  pub left_by_witness : (names : List ℕ) (j : ScriptState) → taken_by OfWitness names j ≡ state_after_accepted (Witness names) j
+  pub left_by_sample : (names : List ℕ) (j : ScriptState) → taken_by OfSample names j ≡ state_after_accepted (Sample names) j

@@ -1,9 +1,9 @@
 -- What a verdict guarantees about the texts that three readers gave.
 use Rattle.std.specs.Prelude.{ℕ, ◌+◌, ◌*◌, ◌^◌, ◌≤◌, ◌≡◌, ◌↔◌, ◌⊎◌, Result, Err, IfOk, List, ◌++◌, length, []}
-use Rattle.sat_base.specs.device.Device.{Reader, GaveFront, GaveEnough, CanFollow, ReadFails, most_reads}
-use Rattle.certify.specs.Devices.{gave}
-use Rattle.sat_base.specs.script.ScriptState.{start}
-use Rattle.certify.specs.answers.ScriptText.{script_in}
+use Rattle.sat_base.specs.device.Device.{Reader, GavePrefix, GaveEnough, CanFollow, ReadFails, most_reads}
+use Rattle.certify.specs.Devices.{reader_before_after}
+use Rattle.sat_base.specs.script.ScriptState.{initial_state}
+use Rattle.certify.specs.answers.ScriptText.{parse_script}
 use Rattle.certify.specs.answers.AnswersText.{lines_from}
 use Rattle.sat_checker.specs.matching.Expected.{Outcome}
 use Rattle.certify.specs.answers.Asks.{asks_of, EachIsRight}
@@ -29,7 +29,7 @@ Exact script answers certificate v =
 abbrev pub IsExact : {S A C E : Type 0} → Result Verdict E → (S → Reader) → (A → Reader) → (C → Reader)
     → S × A × C → S × A × C → Type 0
 IsExact r script answers certificate old new =
-    IfOk r (Exact (gave script old.0 new.0) (gave answers old.1 new.1) (gave certificate old.2 new.2))
+    IfOk r (Exact (reader_before_after script old.0 new.0) (reader_before_after answers old.1 new.1) (reader_before_after certificate old.2 new.2))
 
 -- that no further read has failed
 abbrev pub ReadsKept : {R : Type 0} → (R → Reader) → R → R → Type 0
@@ -40,8 +40,8 @@ ReadsKept seen old new = (seen new).failures ≡ (seen old).failures
 -- correct for every ask, and a refused clause does not count.
 pub record AreRightAnswers (script answers : List ℕ) : Type 0 where
   pub outcomes : List Outcome
-  pub answered : answers ≡ lines_from 1 start (script_in script).0 (script_in script).1 outcomes
-  pub right : EachIsRight (asks_of start (script_in script).0) outcomes
+  pub answered : answers ≡ lines_from 1 initial_state (parse_script script).0 (parse_script script).1 outcomes
+  pub right : EachIsRight (asks_of initial_state (parse_script script).0) outcomes
 
 -- That the verdict `Yes` implies correct answers for the script, whatever bytes the two readers could still give. In particular, the answers
 -- were then read to their end.
@@ -52,18 +52,18 @@ IsSoundVerdict script answers v = v ≡ Yes → GaveTextWith script (λ s. GaveT
 -- whatever bytes could follow. There were at most 16 (n + 1)^2 looks.
 pub record TakesLooks (old new : Reader) (from to : ℕ) : Type 0 where
   pub text : List ℕ
-  pub front : GaveFront old new text
+  pub front : GavePrefix old new text
   pub rises : from ≤ to
   pub bound : to ≤ from + 16 * (length text + 1) ^ 2
   pub reached : (rest : List ℕ) → CanFollow old new rest → LooksReach [] (text ++ rest) from to
 
 -- the number of commands, counting a malformed one and the ask at the end
-abbrev pub numbers : Reading → ℕ
-numbers (commands, Clean) = length commands
-numbers (commands, Malformed) = length commands + 1
+abbrev pub command_count : Reading → ℕ
+command_count (commands, Clean) = length commands
+command_count (commands, Malformed) = length commands + 1
 
 -- what `confirm` guarantees, except for the looks
-pub record Promised (r : Result Verdict ConfirmFault) (script answers certificate : Reader × Reader) : Type 0 where
+pub record ConfirmGuarantee (r : Result Verdict ConfirmFault) (script answers certificate : Reader × Reader) : Type 0 where
   pub exact : IfOk r (Exact script answers certificate)
   pub sound : IfOk r (IsSoundVerdict script answers)
   pub script_read : r ≡ Err fault.ScriptRead → ReadFails script.0 script.1

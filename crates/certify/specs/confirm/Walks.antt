@@ -5,7 +5,7 @@ use Rattle.sat_base.specs.steps.StepText.{SpellsStep}
 use Rattle.sat_checker.specs.Accepts.{Accepts, stored_after, ready_after}
 use Rattle.sat_checker.specs.KernelView.{kernel_looks}
 use Rattle.sat_checker.specs.Looks.{most_looks}
-use Rattle.sat_checker.specs.Spent.{IsSpent, SpentBy}
+use Rattle.sat_checker.specs.Counters.{CountersExhausted, ExhaustsCounters}
 use Rattle.sat_checker.specs.declared.kernel.Kernel.{Kernel}
 use Rattle.certify.specs.confirm.Feeding.{HasTaken}
 use Rattle.certify.specs.confirm.CertificateStates.{CertificateState}
@@ -25,16 +25,16 @@ pub data LooksReach : List Step → List ℕ → ℕ → ℕ → Type 0 where
 -- That steps from the beginning of the bytes are accepted one by one, and then a number does not fit into 64 bits: when a pending unit conflict
 -- is settled, or at the next step.
 pub data ReachesCounterEnd : List Step → List ℕ → Type 0 where
-  spent_settling : {earlier : List Step} {bytes : List ℕ} → IsSpent (ready_after earlier) → ReachesCounterEnd earlier bytes
+  spent_settling : {earlier : List Step} {bytes : List ℕ} → CountersExhausted (ready_after earlier) → ReachesCounterEnd earlier bytes
   spent_trying : {earlier : List Step} {bytes : List ℕ} (step : Step) (text rest : List ℕ)
-      → bytes ≡ text ++ rest → SpellsStep step text → SpentBy step (stored_after earlier) → ReachesCounterEnd earlier bytes
+      → bytes ≡ text ++ rest → SpellsStep step text → ExhaustsCounters step (stored_after earlier) → ReachesCounterEnd earlier bytes
   spent_taking : {earlier : List Step} {bytes : List ℕ} (step : Step) (text rest : List ℕ)
       → bytes ≡ text ++ rest → SpellsStep step text → Accepts (ready_after earlier) step → ReachesCounterEnd (step ∷ earlier) rest
       → ReachesCounterEnd earlier bytes
 
 -- That the checker was fed steps from the beginning of the bytes, and `rest` remains. If `LooksReach` or
 -- `ReachesCounterEnd` holds from there on, it holds from the beginning.
-pub record IsFedFront (old : Kernel) (bytes : List ℕ) (new : Kernel) (rest : List ℕ) (earlier : List Step) : Type 0 where
+pub record IsFedPrefix (old : Kernel) (bytes : List ℕ) (new : Kernel) (rest : List ℕ) (earlier : List Step) : Type 0 where
   pub later : List Step
   pub taken : HasTaken new later
   pub reaches : (looks : ℕ) → LooksReach later rest (kernel_looks new) looks → LooksReach earlier bytes (kernel_looks old) looks
@@ -42,12 +42,12 @@ pub record IsFedFront (old : Kernel) (bytes : List ℕ) (new : Kernel) (rest : L
 
 -- that the checker was fed all steps between two states
 abbrev pub FeedsAllSteps : CertificateState → CertificateState → Type 0
-FeedsAllSteps old new = (earlier : List Step) → HasTaken old.checker earlier → IsFedFront old.checker old.rest new.checker new.rest earlier
+FeedsAllSteps old new = (earlier : List Step) → HasTaken old.checker earlier → IsFedPrefix old.checker old.rest new.checker new.rest earlier
 
 -- that the checker was fed all steps between two states except the last
 abbrev pub WalksBefore : CertificateState → CertificateState → Type 0
 WalksBefore old new = (text : List ℕ) × SpellsStep new.step text
-    × ((earlier : List Step) → HasTaken old.checker earlier → IsFedFront old.checker old.rest new.checker (text ++ new.rest) earlier)
+    × ((earlier : List Step) → HasTaken old.checker earlier → IsFedPrefix old.checker old.rest new.checker (text ++ new.rest) earlier)
 
 -- that the checker was fed all steps between two states, or, if the flag is false, all except the last
 abbrev pub walks_if : Bool → CertificateState → CertificateState → Type 0

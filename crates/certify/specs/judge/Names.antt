@@ -6,7 +6,7 @@ use Rattle.sat_base.specs.values.Tables.{value_at}
 use Rattle.sat_base.specs.declared.table.Table.{Table}
 use Rattle.sat_base.specs.script.Script.{Command, names_of}
 use Rattle.certify.specs.answers.AnswerForms.{named_literals}
-use Rattle.sat_base.specs.script.ScriptState.{ScriptState, NameMode, Sampled, Witnessed, identity_of, bring_in, new_names, without_name, with_mode, Refusal, PastLimit, WitnessName, refusal_of}
+use Rattle.sat_base.specs.script.ScriptState.{ScriptState, NameMode, Sampled, Witnessed, identity_of, introduce, new_names, without_name, with_mode, Refusal, PastLimit, WitnessName, refusal_of}
 use Rattle.sat_base.specs.script.Language.{Kind, OfClause, OfAsk, OfHide, OfWitness, OfSample}
 use Rattle.certify.specs.script.Commands.{RepresentsCommand}
 use Rattle.certify.specs.declared.script.Command.{Command as Lent}
@@ -123,7 +123,7 @@ changed_state OfSample name j = with_mode Sampled name j
 
 -- the script state after a command of this kind has introduced and processed one of its names
 abbrev pub taken : Kind → ℕ → ScriptState → ScriptState
-taken kind name j = changed_state kind name (bring_in name j)
+taken kind name j = changed_state kind name (introduce name j)
 
 -- that the names change as `change` changes the script state
 abbrev pub Changes : Names → Names → (ScriptState → ScriptState) → Type 0
@@ -138,6 +138,6 @@ is_of_literals OfWitness = false
 is_of_literals OfSample = false
 
 -- that a command of this kind would only introduce names, and none of these names is new
-pub record BringsNothing (kind : Kind) (list : List ℕ) (names : Names) : Type 0 where
+pub record IntroducesNothing (kind : Kind) (list : List ℕ) (names : Names) : Type 0 where
   pub of_literals : is_of_literals kind ≡ true
   pub known : (j : ScriptState) → NamesHaveState names j → AllByRecursion (λ name. new_names name j ≡ []) list

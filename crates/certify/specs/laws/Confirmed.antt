@@ -1,7 +1,7 @@
 -- Certified outcomes match their certificate.
 use Rattle.std.specs.Prelude.{ℕ, None, List, [], reverse}
 use Rattle.sat_base.specs.script.Script.{Command, ScriptEnding}
-use Rattle.sat_base.specs.script.ScriptState.{start, accepted_of}
+use Rattle.sat_base.specs.script.ScriptState.{initial_state, accepted_commands}
 use Rattle.sat_base.specs.steps.Steps.{Step}
 use Rattle.sat_base.specs.steps.StepText.{SpellsSteps}
 use Rattle.sat_checker.specs.Accepts.{AcceptsAll}
@@ -19,6 +19,6 @@ CertifiedMatches =
     (reading : List ℕ → List Command × ScriptEnding) (script certificate : List ℕ) (outcomes : List Outcome) (steps : List Step) (counts : List ℕ)
     → AnswersAreRight (reading script).0 outcomes
     → AcceptsAll steps
-    → Certifies checker_rules steps None [] (expected start (accepted_of start (reading script).0) outcomes) counts
+    → Certifies checker_rules steps None [] (expected initial_state (accepted_commands initial_state (reading script).0) outcomes) counts
     → SpellsSteps (reverse steps) certificate
     → Matches checker_rules reading script (answers_text (reading script).0 (reading script).1 outcomes) certificate

@@ -1,7 +1,7 @@
 -- The complete guarantee in one statement: a script is run, what the run wrote is confirmed, and other answers are judged with another
 -- certificate.
 use Rattle.std.specs.Prelude.{ℕ, ◌+◌, ◌*◌, ◌^◌, ◌≤◌, ◌≡◌, ◌↔◌, List, ◌++◌, length}
-use Rattle.sat_base.specs.device.Device.{Reader, GaveFront, CanFollow}
+use Rattle.sat_base.specs.device.Device.{Reader, GavePrefix, CanFollow}
 use Rattle.certify.specs.confirm.Matches.{TextsMatch}
 use Rattle.certify.specs.confirm.VerdictPromises.{AreRightAnswers, Exact}
 use Rattle.certify.specs.run.FinishedRun.{CertificateGuarantee}
@@ -13,7 +13,7 @@ use Rattle.certify.specs.declared.verdict.Verdict.TheVariants.{Yes}
 pub record CanBe (r : Reader × Reader) (text : List ℕ) : Type 0 where
   pub given : List ℕ
   pub rest : List ℕ
-  pub front : GaveFront r.0 r.1 given
+  pub front : GavePrefix r.0 r.1 given
   pub follows : CanFollow r.0 r.1 rest
   pub whole : text ≡ given ++ rest
 
@@ -27,7 +27,7 @@ FinishedIsConfirmed =
 -- FOR TEXTS IN MEMORY
 
 -- the guarantee for a verdict on three texts: it is `Yes` exactly when they match, and then the answers are correct
-pub record VerdictSays (script answers certificate : List ℕ) (v : Verdict) : Type 0 where
+pub record VerdictGuarantee (script answers certificate : List ℕ) (v : Verdict) : Type 0 where
   pub exact : (v ≡ Yes) ↔ TextsMatch script answers certificate
   pub sound : v ≡ Yes → AreRightAnswers script answers
 
@@ -45,6 +45,6 @@ pub record Certified (script : List ℕ) (budget : ℕ) (claimed shown : List �
   -- what the run wrote is confirmed
   pub confirmed : own ≡ Yes
   -- both verdicts are those of `confirm`; so if a verdict is `Yes`, its answers are correct, whoever made them
-  pub checked : VerdictSays script answers certificate own
-  pub any : VerdictSays script claimed shown other
+  pub checked : VerdictGuarantee script answers certificate own
+  pub any : VerdictGuarantee script claimed shown other
   pub looks : after ≤ before + most_looks_over script answers certificate + most_looks_over script claimed shown

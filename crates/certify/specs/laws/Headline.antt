@@ -1,7 +1,7 @@
 -- The headline, for texts in memory: a script is run, what the run wrote is confirmed, and other answers are judged with another certificate.
 use Rattle.std.specs.Prelude.{ℕ, ◌+◌, ◌*◌, ◌^◌, ◌<◌, ◌≤◌, ◌≡◌, List, [], ◌∷◌, length, sum}
-use Rattle.sat_base.specs.script.ScriptState.{start}
-use Rattle.certify.specs.answers.ScriptText.{script_in}
+use Rattle.sat_base.specs.script.ScriptState.{initial_state}
+use Rattle.certify.specs.answers.ScriptText.{parse_script}
 use Rattle.sat_checker.specs.matching.Expected.{Outcome, Unknown}
 use Rattle.certify.specs.answers.Asks.{Asked, asks_of}
 use Rattle.certify.specs.confirm.VerdictPromises.{AreRightAnswers}
@@ -34,7 +34,7 @@ pub record Headline (script : List ℕ) (budget : ℕ) (rounds answers certifica
   -- one answer for each accepted ask: a correct model, a correct core, or unknown
   pub answered : AreRightAnswers script answers
   -- an answer is unknown only if its rounds are exhausted, and never if at least 2^(2n+3) were left at the start of the ask
-  pub spent : EachTookRounds budget 0 (asks_of start (script_in script).0) answered.outcomes rounds
+  pub spent : EachTookRounds budget 0 (asks_of initial_state (parse_script script).0) answered.outcomes rounds
   -- the certificate has at least as many bytes as there were rounds in total
   pub in_certificate : sum rounds ≤ length certificate
   -- what the run wrote is confirmed

@@ -2,12 +2,12 @@
 -- headline.
 use Rattle.std.specs.Prelude.{ℕ, ◌≡◌, ◌↔◌, List}
 use Rattle.sat_base.specs.script.Script.{Command, ScriptEnding}
-use Rattle.sat_base.specs.script.ScriptState.{start}
+use Rattle.sat_base.specs.script.ScriptState.{initial_state}
 use Rattle.sat_base.specs.script.Language.{reading}
 use Rattle.sat_checker.specs.matching.Expected.{Outcome}
 use Rattle.certify.specs.answers.Answers.{answers_text}
 use Rattle.certify.specs.answers.RightAnswers.{AnswersAreRight}
-use Rattle.certify.specs.answers.ScriptText.{script_in}
+use Rattle.certify.specs.answers.ScriptText.{parse_script}
 use Rattle.certify.specs.answers.AnswersText.{lines_from}
 use Rattle.certify.specs.answers.Asks.{asks_of, EachIsRight}
 use Rattle.certify.specs.confirm.Matches.{Matches, TextsMatch}
@@ -20,18 +20,18 @@ use Rattle.certify.specs.declared.summary.Summary.{Summary}
 use Rattle.certify.specs.declared.verdict.Verdict.{Verdict}
 
 -- that both definitions read every text alike
-abbrev pub SaysTheSame : Type 0
-SaysTheSame = (text : List ℕ) → script_in text ≡ reading text
+abbrev pub ReadingsAgree : Type 0
+ReadingsAgree = (text : List ℕ) → parse_script text ≡ reading text
 
 -- that both definitions give outcomes the same text
 abbrev pub SameAnswers : Type 0
 SameAnswers = (commands : List Command) (ending : ScriptEnding) (outcomes : List Outcome)
-    → lines_from 1 start commands ending outcomes ≡ answers_text commands ending outcomes
+    → lines_from 1 initial_state commands ending outcomes ≡ answers_text commands ending outcomes
 
 -- that outcomes are correct for the accepted asks exactly when they are correct for the accepted commands
 abbrev pub RightByAsks : Type 0
 RightByAsks = (commands : List Command) (outcomes : List Outcome)
-    → AnswersAreRight commands outcomes ↔ EachIsRight (asks_of start commands) outcomes
+    → AnswersAreRight commands outcomes ↔ EachIsRight (asks_of initial_state commands) outcomes
 
 -- that answers are correct exactly when they are the text of correct outcomes
 abbrev pub RightByOutcomes : Type 0

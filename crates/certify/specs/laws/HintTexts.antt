@@ -1,6 +1,6 @@
 -- The hint text of a finished run's certificate.
 use Rattle.std.specs.Prelude.{ℕ, ◌≡◌, Bool, Some, List, ◌++◌, Result, Ok, Err}
-use Rattle.sat_base.specs.device.Device.{Reader, Writer, WriterTakes}
+use Rattle.sat_base.specs.device.Device.{Reader, Writer, WriterAccepts}
 use Rattle.sat_base.specs.steps.Steps.{Step}
 use Rattle.sat_hints.specs.Checks.{IsProof}
 use Rattle.sat_hints.specs.Conversion.{hint_text}
@@ -19,7 +19,7 @@ pub record IsProved (text : List ℕ) : Type 0 where
 
 -- That the hint text of these steps was written, which is a proof; or a read, a write or an allocation failed.
 abbrev pub HasHints : Result (Unit {0}) HintError → List Step → Writer → Writer → Type 0
-HasHints (Ok x) steps old new = WriterTakes old new (hint_text steps) × IsProved (hint_text steps)
+HasHints (Ok x) steps old new = WriterAccepts old new (hint_text steps) × IsProved (hint_text steps)
 HasHints (Err HasDeleteVar) steps old new = ⊥
 HasHints (Err (Refused e)) steps old new = ⊥
 HasHints (Err Read) steps old new = Unit {0}

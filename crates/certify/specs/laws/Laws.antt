@@ -4,12 +4,12 @@ use Rattle.std.specs.List.{AllByRecursion}
 use Rattle.sat_base.specs.values.Literals.{var_limit}
 use Rattle.sat_base.specs.values.Clauses.{Valuation, EachHolds}
 use Rattle.sat_base.specs.script.Script.{Literal, Command, Ask, ScriptEnding, Among, names_of}
-use Rattle.sat_base.specs.script.ScriptState.{ScriptState, IsRightModel, IsRightCore, with_clause, accepted, accepted_of, start}
+use Rattle.sat_base.specs.script.ScriptState.{ScriptState, IsRightModel, IsRightCore, with_clause, state_after_accepted, accepted_commands, initial_state}
 use Rattle.sat_base.specs.steps.Steps.{Step}
 use Rattle.certify.specs.answers.Answers.{answers_text}
 use Rattle.sat_checker.specs.matching.Expected.{Outcome, Sat, Unsat, Unknown}
 use Rattle.certify.specs.answers.RightAnswers.{AnswersAreRight}
-use Rattle.certify.specs.confirm.Matches.{OneEach, StepsMatch, Matches}
+use Rattle.certify.specs.confirm.Matches.{OneOutcomePerAsk, StepsMatch, Matches}
 use Rattle.sat_checker.specs.matching.ProofChecking.{checker_rules}
 
 -- that no ask has both a correct model and a correct core
@@ -32,11 +32,11 @@ TautologyChangesNothing =
 
 -- that an ask does not change the clauses
 abbrev pub AskBindsNothing : Type 0
-AskBindsNothing = (j : ScriptState) (ls : List Literal) → (accepted (Ask ls) j).clauses ≡ j.clauses
+AskBindsNothing = (j : ScriptState) (ls : List Literal) → (state_after_accepted (Ask ls) j).clauses ≡ j.clauses
 
 -- that the state after an ask depends only on the names in the ask, not on their signs
 abbrev pub AskLeavesNames : Type 0
-AskLeavesNames = (j : ScriptState) (ls ks : List Literal) → names_of ls ≡ names_of ks → accepted (Ask ls) j ≡ accepted (Ask ks) j
+AskLeavesNames = (j : ScriptState) (ls ks : List Literal) → names_of ls ≡ names_of ks → state_after_accepted (Ask ls) j ≡ state_after_accepted (Ask ks) j
 
 -- that no name of an outcome is past the limit
 abbrev pub HasPrintableNames : Outcome → Type 0
@@ -49,7 +49,7 @@ HasPrintableNames Unknown = Unit {0}
 abbrev pub TextsDetermineOutcomes : Type 0
 TextsDetermineOutcomes =
     (commands : List Command) (ending : ScriptEnding) (vs ws : List Outcome)
-    → OneEach (accepted_of start commands) vs → OneEach (accepted_of start commands) ws
+    → OneOutcomePerAsk (accepted_commands initial_state commands) vs → OneOutcomePerAsk (accepted_commands initial_state commands) ws
     → AllByRecursion HasPrintableNames vs → AllByRecursion HasPrintableNames ws
     → answers_text commands ending vs ≡ answers_text commands ending ws
     → vs ≡ ws

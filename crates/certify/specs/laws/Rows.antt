@@ -1,7 +1,7 @@
 -- Worked examples: scripts of a few commands, and their answers.
 use Rattle.std.specs.Prelude.{ℕ, ◌≡◌, Bool, true, false, Some, None, List, [], ◌∷◌, ◌++◌}
 use Rattle.sat_base.specs.script.Script.{Literal, Command, Clause, Ask, Hide, Witness, Clean, Malformed}
-use Rattle.sat_base.specs.script.ScriptState.{Sampled, start, after_script, refusal_of, PastLimit, WitnessName}
+use Rattle.sat_base.specs.script.ScriptState.{Sampled, initial_state, after_script, refusal_of, PastLimit, WitnessName}
 use Rattle.sat_base.specs.steps.Steps.{Step, UserVarName, ChangeSamplingMode, AddClause, AtClause, Model, Assumptions, End}
 use Rattle.sat_checker.specs.Stored.{is_known}
 use Rattle.sat_checker.specs.Accepts.{ready_after}
@@ -39,7 +39,7 @@ ClauseAndAskText = answers_text clause_and_ask Clean (Sat (neg 1 ∷ pos 2 ∷ [
 
 -- the expected steps: both names, the clause, the ask with its model, and the end
 abbrev pub ClauseAndAskExpected : Type 0
-ClauseAndAskExpected = expected start clause_and_ask (Sat (neg 1 ∷ pos 2 ∷ []) ∷ [])
+ClauseAndAskExpected = expected initial_state clause_and_ask (Sat (neg 1 ∷ pos 2 ∷ []) ∷ [])
     ≡ NewName 1 ∷ NewName 2 ∷ Adds (pos 1 ∷ pos 2 ∷ []) ∷ Opens [] (Sat (neg 1 ∷ pos 2 ∷ []))
     ∷ Shows (1 ∷ 2 ∷ []) [] (neg 1 ∷ pos 2 ∷ []) ∷ Closes ∷ Finish ∷ []
 
@@ -61,7 +61,7 @@ hidden_and_back = Clause (pos 1 ∷ []) ∷ Hide (1 ∷ []) ∷ Clause (neg 1 �
 
 -- the state after this script: two clauses, each over an identity of its own
 abbrev pub HiddenAndBackState : Type 0
-HiddenAndBackState = after_script hidden_and_back start ≡ record {
+HiddenAndBackState = after_script hidden_and_back initial_state ≡ record {
   first_unused = 2;
   in_use = (record { name = 1; identity = 1 }) ∷ [];
   modes = Sampled ∷ Sampled ∷ [];
@@ -71,13 +71,13 @@ HiddenAndBackState = after_script hidden_and_back start ≡ record {
 
 -- the expected steps: the name is new twice
 abbrev pub HiddenAndBackExpected : Type 0
-HiddenAndBackExpected = expected start hidden_and_back (Sat (neg 1 ∷ []) ∷ [])
+HiddenAndBackExpected = expected initial_state hidden_and_back (Sat (neg 1 ∷ []) ∷ [])
     ≡ NewName 1 ∷ Adds (pos 1 ∷ []) ∷ NoName 1 ∷ NewName 1 ∷ Adds (neg 1 ∷ []) ∷ Opens [] (Sat (neg 1 ∷ []))
     ∷ Shows (1 ∷ []) [] (neg 1 ∷ []) ∷ Closes ∷ Finish ∷ []
 
 -- the state after the script `h 2 0`, `a 0`: name 1 was introduced along with name 2
 abbrev pub HiddenAtOnceState : Type 0
-HiddenAtOnceState = after_script (Hide (2 ∷ []) ∷ Ask [] ∷ []) start ≡ record {
+HiddenAtOnceState = after_script (Hide (2 ∷ []) ∷ Ask [] ∷ []) initial_state ≡ record {
   first_unused = 3;
   in_use = (record { name = 1; identity = 0 }) ∷ [];
   modes = Sampled ∷ Sampled ∷ [];
@@ -93,11 +93,11 @@ WitnessRefusedText = answers_text (Witness (1 ∷ []) ∷ Clause (pos 1 ∷ []) 
 
 -- the leftmost refused literal determines the reason for a refusal
 abbrev pub LeftmostRefuses : Type 0
-LeftmostRefuses = refusal_of (after_script (Witness (1 ∷ []) ∷ []) start) (Clause (pos 268435457 ∷ pos 1 ∷ [])) ≡ Some PastLimit
+LeftmostRefuses = refusal_of (after_script (Witness (1 ∷ []) ∷ []) initial_state) (Clause (pos 268435457 ∷ pos 1 ∷ [])) ≡ Some PastLimit
 
 -- an ask that contains a name whose mode is witness is refused, like a clause
 abbrev pub WitnessRefusesAsk : Type 0
-WitnessRefusesAsk = refusal_of (after_script (Witness (1 ∷ []) ∷ []) start) (Ask (pos 1 ∷ [])) ≡ Some (WitnessName 1)
+WitnessRefusesAsk = refusal_of (after_script (Witness (1 ∷ []) ∷ []) initial_state) (Ask (pos 1 ∷ [])) ≡ Some (WitnessName 1)
 
 -- the answer to the text `1 2`, which is cut off: `c malformed 1`
 abbrev pub MalformedText : Type 0
@@ -164,7 +164,7 @@ AnswersTwice = (certificate : List ℕ) → MatchesCommands checker_rules clause
 abbrev pub ClauseAndAskCertified : Type 0
 ClauseAndAskCertified = Certifies checker_rules
     (End ∷ Assumptions [] ∷ Model (1 ∷ 2 ∷ []) ∷ Assumptions [] ∷ AddClause (0 ∷ 2 ∷ []) ∷ UserVarName 1 (Some 1) ∷ UserVarName 0 (Some 0) ∷ [])
-    None [] (expected start clause_and_ask (Sat (neg 1 ∷ pos 2 ∷ []) ∷ [])) (1 ∷ [])
+    None [] (expected initial_state clause_and_ask (Sat (neg 1 ∷ pos 2 ∷ []) ∷ [])) (1 ∷ [])
 
 -- The script `1 0`, `-1 0`, `2 0`, `a 0`. The second clause records unsat. So the steps of the third clause and of
 -- the core are left out, but not the step of the name.
@@ -178,12 +178,12 @@ units_and_ask_steps = End ∷ Assumptions [] ∷ Assumptions [] ∷ UserVarName 
 
 -- a run may write these steps, with no round for the ask
 abbrev pub LeftOutCertified : Type 0
-LeftOutCertified = Certifies checker_rules units_and_ask_steps None [] (expected start units_and_ask (Unsat [] ∷ [])) (0 ∷ [])
+LeftOutCertified = Certifies checker_rules units_and_ask_steps None [] (expected initial_state units_and_ask (Unsat [] ∷ [])) (0 ∷ [])
 
 -- with these steps, the ask took no round, and its outcome is the empty core
 abbrev pub KnownWithoutRounds : Type 0
 KnownWithoutRounds = (o : Outcome) (n : ℕ)
-    → Certifies checker_rules units_and_ask_steps None [] (expected start units_and_ask (o ∷ [])) (n ∷ []) → (o ≡ Unsat []) × (n ≡ 0)
+    → Certifies checker_rules units_and_ask_steps None [] (expected initial_state units_and_ask (o ∷ [])) (n ∷ []) → (o ≡ Unsat []) × (n ≡ 0)
 
 -- The script `1 0`, `-1 2 0`, `-2 0`, `3 0`, `a 0`. No valuation satisfies the first three clauses, but none of them records unsat. So the
 -- steps include the fourth clause and a derived clause.
@@ -198,43 +198,43 @@ chain_steps = AddClause (4 ∷ []) ∷ UserVarName 2 (Some 2) ∷ AddClause (3 �
 -- the ask derives the empty clause in its only round
 abbrev pub ChainCertified : Type 0
 ChainCertified = (hashes : List ℕ) → Certifies checker_rules (End ∷ Assumptions [] ∷ AtClause false [] hashes ∷ Assumptions [] ∷ chain_steps) None []
-    (expected start chain_and_ask (Unsat [] ∷ [])) (1 ∷ [])
+    (expected initial_state chain_and_ask (Unsat [] ∷ [])) (1 ∷ [])
 
 -- Steps that a run may not write: the ask records unsat, but is answered otherwise.
 abbrev pub UnknownUncertified : Type 0
 UnknownUncertified = (hashes counts : List ℕ)
     → Certifies checker_rules (End ∷ Assumptions [] ∷ AtClause false [] hashes ∷ Assumptions [] ∷ chain_steps) None []
-    (expected start chain_and_ask (Unknown ∷ [])) counts → ⊥
+    (expected initial_state chain_and_ask (Unknown ∷ [])) counts → ⊥
 
 -- steps that a run may not write: the step of the fourth clause is missing
 abbrev pub EarlyUncertified : Type 0
 EarlyUncertified = (counts : List ℕ) → Certifies checker_rules
     (End ∷ Assumptions [] ∷ Assumptions [] ∷ UserVarName 2 (Some 2) ∷ AddClause (3 ∷ []) ∷ AddClause (1 ∷ 2 ∷ [])
     ∷ UserVarName 1 (Some 1) ∷ AddClause (0 ∷ []) ∷ UserVarName 0 (Some 0) ∷ [])
-    None [] (expected start chain_and_ask (Unsat [] ∷ [])) counts → ⊥
+    None [] (expected initial_state chain_and_ask (Unsat [] ∷ [])) counts → ⊥
 
 -- Steps that a run may not write, for the script `1 0`, `-1 0`, `a 1 0` and a core that is not empty. Any steps may
 -- follow the assumptions.
 abbrev pub CoreUncertified : Type 0
 CoreUncertified = (shown : List Step) (counts : List ℕ)
     → Certifies checker_rules (shown ++ Assumptions (0 ∷ []) ∷ AddClause (1 ∷ []) ∷ AddClause (0 ∷ []) ∷ UserVarName 0 (Some 0) ∷ []) None []
-    (expected start (Clause (pos 1 ∷ []) ∷ Clause (neg 1 ∷ []) ∷ Ask (pos 1 ∷ []) ∷ []) (Unsat (pos 1 ∷ []) ∷ [])) counts → ⊥
+    (expected initial_state (Clause (pos 1 ∷ []) ∷ Clause (neg 1 ∷ []) ∷ Ask (pos 1 ∷ []) ∷ []) (Unsat (pos 1 ∷ []) ∷ [])) counts → ⊥
 
 -- steps that a run may not write: only `End`, for the script `1 0`, `a 0`
 abbrev pub EndAloneUncertified : Type 0
 EndAloneUncertified = (outcomes : List Outcome) (counts : List ℕ)
-    → Certifies checker_rules (End ∷ []) None [] (expected start (Clause (pos 1 ∷ []) ∷ Ask [] ∷ []) outcomes) counts → ⊥
+    → Certifies checker_rules (End ∷ []) None [] (expected initial_state (Clause (pos 1 ∷ []) ∷ Ask [] ∷ []) outcomes) counts → ⊥
 
 -- steps that a run may not write, for the script `1 0`: the step of its clause is missing
 abbrev pub ClauseUncertified : Type 0
 ClauseUncertified = (counts : List ℕ)
-    → Certifies checker_rules (End ∷ UserVarName 0 (Some 0) ∷ []) None [] (expected start (Clause (pos 1 ∷ []) ∷ []) []) counts → ⊥
+    → Certifies checker_rules (End ∷ UserVarName 0 (Some 0) ∷ []) None [] (expected initial_state (Clause (pos 1 ∷ []) ∷ []) []) counts → ⊥
 
 -- steps that a run may not write, for the satisfiable script `a 0`: the step of its model is missing
 abbrev pub ModelUncertified : Type 0
 ModelUncertified = (counts : List ℕ)
-    → Certifies checker_rules (End ∷ Assumptions [] ∷ Assumptions [] ∷ []) None [] (expected start (Ask [] ∷ []) (Sat [] ∷ [])) counts → ⊥
+    → Certifies checker_rules (End ∷ Assumptions [] ∷ Assumptions [] ∷ []) None [] (expected initial_state (Ask [] ∷ []) (Sat [] ∷ [])) counts → ⊥
 
 -- steps that a run may not write, for an empty script: a step follows `End`
 abbrev pub AfterEndUncertified : Type 0
-AfterEndUncertified = (step : Step) (counts : List ℕ) → Certifies checker_rules (step ∷ End ∷ []) None [] (expected start [] []) counts → ⊥
+AfterEndUncertified = (step : Step) (counts : List ℕ) → Certifies checker_rules (step ∷ End ∷ []) None [] (expected initial_state [] []) counts → ⊥

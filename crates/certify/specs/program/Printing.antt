@@ -1,6 +1,6 @@
 -- What the program prints.
 use Rattle.std.specs.Prelude.{ℕ, ◌≡◌, ◌↔◌, ◌⊎◌, true, Bool, false, None, List, ◌∷◌, ◌++◌, codes, decimal, []}
-use Rattle.sat_base.specs.device.Device.{Reader, Writer, GaveEnough, WriterTakes}
+use Rattle.sat_base.specs.device.Device.{Reader, Writer, GaveEnough, WriterAccepts}
 use Rattle.sat_base.specs.script.Script.{ScriptEnding, Clean, Malformed}
 use Rattle.certify.specs.confirm.VerdictPromises.{Exact}
 use Rattle.sat_base.specs.script.Language.{reading}
@@ -17,10 +17,10 @@ use Rattle.certify.specs.declared.verdict.ConfirmFault.TheVariants as confirm_fa
 use Rattle.certify.specs.declared.fault.RunFault.{RunFault}
 use Rattle.certify.specs.declared.fault.RunFault.TheVariants as run_fault
 use Rattle.certify.specs.declared.headline.Written.{Written}
-use Rattle.certify.specs.declared.program.fault.Fault.{Fault}
-use Rattle.certify.specs.declared.program.fault.Fault.TheVariants as fault
-use Rattle.certify.specs.declared.program.fault.HintsFault.{HintsFault}
-use Rattle.certify.specs.declared.program.fault.HintsFault.TheVariants as hints_fault
+use Rattle.certify.specs.declared.program.fault.ProgramFault.{ProgramFault}
+use Rattle.certify.specs.declared.program.fault.ProgramFault.TheVariants as fault
+use Rattle.certify.specs.declared.program.fault.HintCallFault.{HintCallFault}
+use Rattle.certify.specs.declared.program.fault.HintCallFault.TheVariants as hints_fault
 
 -- the word for each reason
 abbrev pub why_text : Why → List ℕ
@@ -54,13 +54,13 @@ confirm_fault_text confirm_fault.OutOfMemory = codes "OutOfMemory"
 confirm_fault_text confirm_fault.CounterEnd = codes "CounterEnd"
 
 -- the word for each fault of writing or checking hints
-abbrev pub hints_fault_text : HintsFault → List ℕ
+abbrev pub hints_fault_text : HintCallFault → List ℕ
 hints_fault_text hints_fault.Read = codes "Read"
 hints_fault_text hints_fault.Write = codes "Write"
 hints_fault_text hints_fault.OutOfMemory = codes "OutOfMemory"
 
 -- the word for each fault of the program
-abbrev pub fault_text : Fault → List ℕ
+abbrev pub fault_text : ProgramFault → List ℕ
 fault_text (fault.Run f) = run_fault_text f
 fault_text (fault.Confirm f) = confirm_fault_text f
 fault_text (fault.Hints f) = hints_fault_text f
@@ -96,7 +96,7 @@ IsWritten text w = CertificateGuarantee text most_rounds w.summary w.answers.ite
 pub record Prints (status : ℕ) (text : List ℕ) (old new : Writer) : Type 0 where
   pub answers : List ℕ
   pub answered : IsAnswered text answers
-  pub printed : WriterTakes old new (answers ++ verdict_text Yes)
+  pub printed : WriterAccepts old new (answers ++ verdict_text Yes)
   pub flushed : new.flushed ≡ true
   pub done : (status ≡ 0) ↔ (is_malformed (reading text).1 ≡ false)
 
@@ -119,7 +119,7 @@ PrintsAtMost input output = TookBytes output.0 output.1 [] ⊎ GaveEnough input.
 
 -- That a line was printed. The status is 0 exactly when `IsSo` holds.
 pub record PrintsLine (status : ℕ) (line : List ℕ) (IsSo : Type 0) (old new : Writer) : Type 0 where
-  pub printed : WriterTakes old new line
+  pub printed : WriterAccepts old new line
   pub flushed : new.flushed ≡ true
   pub done : (status ≡ 0) ↔ IsSo
 

@@ -23,31 +23,31 @@ abbrev pub start_literals : Stored → List ℕ → List ℕ
 start_literals f others = map negated others ++ unit_literals f
 
 -- that the reached literals contain neither the literal nor its negation, and falsify no stored clause
-pub record IsOpenStill (f : Stored) (literal : ℕ) (reached : List ℕ) : Type 0 where
+pub record StaysUnassignedInStored (f : Stored) (literal : ℕ) (reached : List ℕ) : Type 0 where
   pub not_true : is_among reached literal ≡ false
   pub not_false : is_among reached (negated literal) ≡ false
   pub no_conflict : (clause : List ℕ) → Among clause (long_clauses f) → IsFalsified reached clause → ⊥
 
 -- That the literals of `start_literals` do not contradict each other and leave `literal` unassigned. No unit
 -- propagation from them over stored clauses assigns `literal` or falsifies a clause.
-pub record LeavesOpen (f : Stored) (others : List ℕ) (literal : ℕ) : Type 0 where
+pub record LeavesUnassigned (f : Stored) (others : List ℕ) (literal : ℕ) : Type 0 where
   pub agree : (l : ℕ) → is_among (start_literals f others) l ≡ true → is_among (start_literals f others) (negated l) ≡ false
-  pub open_still : (reached : List ℕ) → PropagatesTo f (start_literals f others) reached → IsOpenStill f literal reached
+  pub open_still : (reached : List ℕ) → PropagatesTo f (start_literals f others) reached → StaysUnassignedInStored f literal reached
 
--- that for some literal of the clause, the other literals leave that literal open (`LeavesOpen`)
-abbrev pub AdvancesStored : Stored → List ℕ → Type 0
-AdvancesStored f clause = (literal : ℕ) × (is_among clause literal ≡ true) × LeavesOpen f (others_of literal clause) literal
+-- that for some literal of the clause, the other literals leave that literal open (`LeavesUnassigned`)
+abbrev pub IsEmpoweringFor : Stored → List ℕ → Type 0
+IsEmpoweringFor f clause = (literal : ℕ) × (is_among clause literal ≡ true) × LeavesUnassigned f (others_of literal clause) literal
 
--- that the step derives a clause that advances
-abbrev pub DerivesAdvancing : Stored → Step → Type 0
-DerivesAdvancing f (AtClause redundant clause hashes) = AdvancesStored f clause
-DerivesAdvancing f step = ⊥
+-- that the step derives an empowering clause
+abbrev pub DerivesEmpowering : Stored → Step → Type 0
+DerivesEmpowering f (AtClause redundant clause hashes) = IsEmpoweringFor f clause
+DerivesEmpowering f step = ⊥
 
--- that exactly `k` of these steps derive a clause that advances, judged after the steps before it
-abbrev pub AdvanceTimesStored : (earlier steps : List Step) → ℕ → Type 0
-AdvanceTimesStored earlier [] k = k ≡ 0
-AdvanceTimesStored earlier (step ∷ steps) k = (AdvanceTimesStored earlier steps k × (DerivesAdvancing (ready_after (steps ++ earlier)) step → ⊥))
-    ⊎ ((j : ℕ) × (k ≡ j + 1) × DerivesAdvancing (ready_after (steps ++ earlier)) step × AdvanceTimesStored earlier steps j)
+-- that exactly `k` of these steps derive an empowering clause, judged after the steps before it
+abbrev pub CountsEmpoweringFor : (earlier steps : List Step) → ℕ → Type 0
+CountsEmpoweringFor earlier [] k = k ≡ 0
+CountsEmpoweringFor earlier (step ∷ steps) k = (CountsEmpoweringFor earlier steps k × (DerivesEmpowering (ready_after (steps ++ earlier)) step → ⊥))
+    ⊎ ((j : ℕ) × (k ≡ j + 1) × DerivesEmpowering (ready_after (steps ++ earlier)) step × CountsEmpoweringFor earlier steps j)
 
 -- that none of the steps is an ordered step
 abbrev pub AreUnordered : List Step → Type 0

@@ -1,10 +1,10 @@
 -- The state of a run between commands, and the effect of a command.
 use Rattle.std.specs.Prelude.{ℕ, ◌+◌, ◌≤◌, ◌≡◌, None, List, [], ◌∷◌, ◌++◌, IfErr, OnErr, Result, MatchResult}
-use Rattle.sat_base.specs.device.Device.{Writer, WriterTakes}
+use Rattle.sat_base.specs.device.Device.{Writer, WriterAccepts}
 use Rattle.sat_base.specs.script.Script.{Command}
-use Rattle.sat_base.specs.script.ScriptState.{ScriptState, Refusal, accepted, after_command, refusal_of}
+use Rattle.sat_base.specs.script.ScriptState.{ScriptState, Refusal, state_after_accepted, after_command, refusal_of}
 use Rattle.sat_solver.specs.variables.Calls.{NamesAgree}
-use Rattle.sat_checker.specs.matching.Bridge.{Live}
+use Rattle.sat_checker.specs.matching.Bridge.{LiveVariables}
 use Rattle.sat_solver.specs.session.Making.{ComesBySteps, BreaksEmitting}
 use Rattle.sat_solver.specs.solver.Whole.{HasFullStore, steps_in}
 use Rattle.certify.specs.Devices.{NoneFailed, OneFailed}
@@ -18,21 +18,21 @@ use Rattle.certify.specs.declared.summary.AskReport.{AskReport}
 use Rattle.certify.specs.judge.Names.{NamesHaveState}
 use Rattle.sat_base.specs.script.ScriptStateLaws.{ScriptStateInvariant}
 use Rattle.certify.specs.script.Commands.{kind_of}
-use Rattle.sat_base.specs.script.Language.{Reading, command_of, onto_commands}
-use Rattle.certify.specs.run.Unfinished.{Exceeds, TookAnswersFront}
+use Rattle.sat_base.specs.script.Language.{Reading, command_of, prepend_commands}
+use Rattle.certify.specs.run.Unfinished.{Exceeds, TookAnswersPrefix}
 use Rattle.sat_solver.specs.solver.View.{proof_in}
 use Rattle.certify.specs.run.SolverCalls.{FaultSays, IsCaused, IsReadySolver, LacksFor}
 use Rattle.certify.specs.run.Serving.{RunPlace, Serves}
 use Rattle.certify.specs.run.Quiet.{Solver}
 
 -- that the script state of the solver is `j`, which satisfies the invariant of script states
-pub record AgreesWithState {C : Type 0} (s : Solver C) (j : ScriptState) (live : Live) : Type 0 where
+pub record AgreesWithState {C : Type 0} (s : Solver C) (j : ScriptState) (live : LiveVariables) : Type 0 where
   pub agree : NamesAgree s.names (steps_in s) j live
   pub kept : ScriptStateInvariant j
 
 -- that a run is between commands, in this script state
 pub record HasStateBetweenCommands {C : Type 0} (s : RunState C) (j : ScriptState) : Type 0 where
-  pub live : Live
+  pub live : LiveVariables
   pub means : AgreesWithState s.solver j live
   pub names : NamesHaveState s.names j
 
@@ -69,16 +69,16 @@ pub record CarriedOut {C : Type 0} (seen : C → Writer) (old new : RunState C) 
   pub refused : new.refused ≡ old.refused
   pub budget : new.budget ≡ old.budget
   pub text : List ℕ
-  pub written : WriterTakes before after text
+  pub written : WriterAccepts before after text
   pub reports : List AskReport
   pub asks : new.asks.items ≡ old.asks.items ++ reports
-  pub serves : (j : ScriptState) (live : Live) → AgreesWithState old.solver j live → refusal_of j c ≡ None
-      → (then : Live) × NamesAgree new.solver.names (steps_in new.solver) (accepted c j) then
-      × Serves old.budget (last_place old j) (place_in new (accepted c j)) (c ∷ []) text reports 0
+  pub serves : (j : ScriptState) (live : LiveVariables) → AgreesWithState old.solver j live → refusal_of j c ≡ None
+      → (then : LiveVariables) × NamesAgree new.solver.names (steps_in new.solver) (state_after_accepted c j) then
+      × Serves old.budget (last_place old j) (place_in new (state_after_accepted c j)) (c ∷ []) text reports 0
 
 -- that the latest command was refused
 pub record Refused {C : Type 0} (old new : RunState C) (why : Refusal) (before after : Writer) : Type 0 where
-  pub written : WriterTakes before after (refused_line old.commands why)
+  pub written : WriterAccepts before after (refused_line old.commands why)
   pub solver : new.solver ≡ old.solver
   pub names : new.names ≡ old.names
   pub commands : new.commands ≡ old.commands
@@ -93,7 +93,7 @@ pub record ServedNext {C : Type 0} (seen : C → Writer) (old new : RunState C) 
   pub commands : new.commands ≡ old.commands + 1
   pub budget : new.budget ≡ old.budget
   pub text : List ℕ
-  pub written : WriterTakes before after text
+  pub written : WriterAccepts before after text
   pub reports : List AskReport
   pub asks : new.asks.items ≡ old.asks.items ++ reports
   pub refused : ℕ
@@ -105,13 +105,13 @@ pub record ServedNext {C : Type 0} (seen : C → Writer) (old new : RunState C) 
 -- command is not refused.
 abbrev pub StopsCarrying : {T C : Type 0} → Result T RunFault → RunState C → Command → Reading → Writer → Writer → Type 0
 StopsCarrying r old c left before after =
-    OnErr r ((j : ScriptState) (live : Live) → AgreesWithState old.solver j live → refusal_of j c ≡ None
-    → TookAnswersFront old.budget old.solver.clock.rounds old.commands j (onto_commands (c ∷ []) left) before after)
+    OnErr r ((j : ScriptState) (live : LiveVariables) → AgreesWithState old.solver j live → refusal_of j c ≡ None
+    → TookAnswersPrefix old.budget old.solver.clock.rounds old.commands j (prepend_commands (c ∷ []) left) before after)
 
 -- that, if the result is a fault, a prefix of correct answers to the rest of the script was written
 abbrev pub StopsOver : {T C : Type 0} → Result T RunFault → RunState C → Reading → Writer → Writer → Type 0
 StopsOver r old script before after =
-    OnErr r ((j : ScriptState) → HasStateBetweenCommands old j → TookAnswersFront old.budget old.solver.clock.rounds (old.commands + 1) j script before after)
+    OnErr r ((j : ScriptState) → HasStateBetweenCommands old j → TookAnswersPrefix old.budget old.solver.clock.rounds (old.commands + 1) j script before after)
 
 -- that `StoreFull` is only returned if the store is full, and `CounterEnd` only if the command lacks variables for
 -- its names

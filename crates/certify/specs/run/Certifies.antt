@@ -13,10 +13,10 @@ pub record IsRecorded (k : CheckerRules) (earlier : List Step) : Type 0 where
   pub none : (a : Valuation) → Holds earlier a → ⊥
 
 -- that the expected step may be left out once unsat is recorded: a clause, or the empty core
-abbrev pub MayLack : Expected → Type 0
-MayLack (Adds ls) = Unit {0}
-MayLack (Fails ask core) = core ≡ []
-MayLack e = ⊥
+abbrev pub MayBeLeftOut : Expected → Type 0
+MayBeLeftOut (Adds ls) = Unit {0}
+MayBeLeftOut (Fails ask core) = core ≡ []
+MayBeLeftOut e = ⊥
 
 -- That the expected step may be written. Once unsat is recorded, there is no step for a model or a core. How an ask is opened and closed is
 -- stated separately.
@@ -32,13 +32,13 @@ pub record IsKnown (o : Outcome) (n : ℕ) : Type 0 where
   pub outcome : o ≡ Unsat []
   pub rounds : n ≡ 0
 
--- That the steps after `earlier`, up to `all`, contain the expected steps in order, among unordered steps; `MayLack`
+-- That the steps after `earlier`, up to `all`, contain the expected steps in order, among unordered steps; `MayBeLeftOut`
 -- says which may be left out. No step follows the last expected step. `counts` are the rounds of the asks. The
 -- `Option` is the outcome of the ask that is open at first, if any.
 pub data Certifies (k : CheckerRules) (all : List Step) : Option Outcome → List Step → List Expected → List ℕ → Type 0 where
   complete : Certifies k all None all [] []
   left_out : {current : Option Outcome} {earlier : List Step} {e : Expected} {es : List Expected} {counts : List ℕ}
-      → MayLack e → IsRecorded k earlier → Certifies k all current earlier es counts
+      → MayBeLeftOut e → IsRecorded k earlier → Certifies k all current earlier es counts
       → Certifies k all current earlier (e ∷ es) counts
   other : {current : Option Outcome} {earlier : List Step} {step : Step} {e : Expected} {es : List Expected} {counts : List ℕ}
       → is_ordered step ≡ false → Certifies k all current (step ∷ earlier) (e ∷ es) counts

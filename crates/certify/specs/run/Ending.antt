@@ -1,6 +1,6 @@
 -- How a run ends.
 use Rattle.std.specs.Prelude.{◌≡◌, ℕ, true, Option, Some, [], ◌∷◌, Result, Ok, Err}
-use Rattle.sat_base.specs.device.Device.{Writer, WriterTakes}
+use Rattle.sat_base.specs.device.Device.{Writer, WriterAccepts}
 use Rattle.sat_base.specs.steps.Steps.{End}
 use Rattle.sat_base.specs.device.Sink.{empty_sink}
 use Rattle.sat_solver.specs.declared.proof.format.ProofFormat.TheVariants.{Varisat}
@@ -39,7 +39,7 @@ pub record GivenBack {C : Type 0} (seen : C → Writer) (Goes : (C → Writer) �
   pub gives : GivesWriter (target_of seen proof) (Some (seen given))
 
 -- If the certificate was opened before any step, the returned writer received a prefix of the text of accepted steps, even after a fault.
-pub record GivesFront {C : Type 0} (seen : C → Writer) (s : Solver C) (given : C) : Type 0 where
+pub record GivesPrefix {C : Type 0} (seen : C → Writer) (s : Solver C) (given : C) : Type 0 where
   pub front : (opened : Solver C) (from : Writer) → target_of seen (proof_in opened) ≡ Open Varisat uncounted (empty_sink from)
       → steps_in opened ≡ [] → ReachesBySteps seen opened s → TookSteps (from, seen given)
 
@@ -51,7 +51,7 @@ EndsCertificate seen (Err e) s given = FaultSays e ⊥ (GivenBack seen BreaksEmi
 -- that the certificate was ended, and then the answers' writer was flushed without receiving more bytes; or, with a
 -- fault, that this failed
 abbrev pub FinishesRun : {C : Type 0} → (C → Writer) → Result (Unit {0}) RunFault → Solver C → C → Writer → Writer → Type 0
-FinishesRun seen (Ok x) s given before after = ClosedBy seen s given × WriterTakes before after [] × (after.flushed ≡ true)
+FinishesRun seen (Ok x) s given before after = ClosedBy seen s given × WriterAccepts before after [] × (after.flushed ≡ true)
 FinishesRun seen (Err e) s given before after = FaultSays e
     (OneFailed before after × ClosedBy seen s given)
     (NoneFailed before after × GivenBack seen BreaksEmitting s given)

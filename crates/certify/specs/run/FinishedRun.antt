@@ -1,17 +1,17 @@
 -- The guarantees of a finished run, and failed calls of a writer.
 use Rattle.std.specs.Prelude.{ℕ, ◌+◌, ◌*◌, ◌^◌, ◌<◌, ◌≡◌, ◌≤◌, true, false, Option, Some, None, is_some, List, [], ◌∷◌, map, length, reverse, Result, IfOk, if◌then◌else◌}
 use Rattle.std.specs.List.{AllByRecursion}
-use Rattle.sat_base.specs.device.Device.{Reader, Writer, GaveEnough, WriterTakes}
+use Rattle.sat_base.specs.device.Device.{Reader, Writer, GaveEnough, WriterAccepts}
 use Rattle.sat_base.specs.script.Script.{Command, Clause, Ask, Hide, Witness, Sample, ScriptEnding, Clean, Malformed}
-use Rattle.sat_base.specs.script.ScriptState.{ScriptState, refusal_of, after_command, accepted, accepted_of, start}
+use Rattle.sat_base.specs.script.ScriptState.{ScriptState, refusal_of, after_command, state_after_accepted, accepted_commands, initial_state}
 use Rattle.sat_base.specs.steps.Steps.{Step, End}
 use Rattle.sat_base.specs.steps.StepText.{SpellsSteps}
-use Rattle.certify.specs.Devices.{gave, took}
+use Rattle.certify.specs.Devices.{reader_before_after, writer_before_after}
 use Rattle.sat_base.specs.text.Text.{lines}
 use Rattle.certify.specs.answers.Answers.{answers_text}
 use Rattle.certify.specs.answers.AnswersText.{lines_from}
 use Rattle.certify.specs.answers.Asks.{Asked, asks_of, EachIsRight}
-use Rattle.certify.specs.answers.ScriptText.{script_in, spelled, tokens_in}
+use Rattle.certify.specs.answers.ScriptText.{parse_script, parse_tokens, tokens_of_lines}
 use Rattle.sat_checker.specs.Accepts.{AcceptsAll}
 use Rattle.sat_checker.specs.Laws.{has_delete_var}
 use Rattle.sat_checker.specs.matching.Expected.{Outcome, Sat, Unsat, Unknown, expected}
@@ -19,7 +19,7 @@ use Rattle.certify.specs.answers.RightAnswers.{AnswersAreRight}
 use Rattle.sat_checker.specs.matching.ProofChecking.{checker_rules}
 use Rattle.sat_solver.specs.declared.proof.hash_bits.Counting.{Counting}
 use Rattle.sat_solver.specs.proof.Counting.{nothing_counted as uncounted, TruncatesHashes}
-use Rattle.sat_base.specs.script.Language.{reading, written}
+use Rattle.sat_base.specs.script.Language.{reading, plain_reading}
 use Rattle.certify.specs.run.Hiding.{HidesNothing}
 use Rattle.certify.specs.run.RoundsLeft.{rounds_allowed}
 use Rattle.certify.specs.run.Learning.{EachLearns}
@@ -62,11 +62,11 @@ pub record IsBounded (n budget before : ℕ) (report : AskReport) : Type 0 where
 -- the number of identities at the start of each ask, once its names were introduced; the commands are not refused
 abbrev pub identities_given : ScriptState → List Command → List ℕ
 identities_given j [] = []
-identities_given j (Ask ls ∷ commands) = (accepted (Ask ls) j).identity_count ∷ identities_given (accepted (Ask ls) j) commands
-identities_given j (Clause ls ∷ commands) = identities_given (accepted (Clause ls) j) commands
-identities_given j (Hide names ∷ commands) = identities_given (accepted (Hide names) j) commands
-identities_given j (Witness names ∷ commands) = identities_given (accepted (Witness names) j) commands
-identities_given j (Sample names ∷ commands) = identities_given (accepted (Sample names) j) commands
+identities_given j (Ask ls ∷ commands) = (state_after_accepted (Ask ls) j).identity_count ∷ identities_given (state_after_accepted (Ask ls) j) commands
+identities_given j (Clause ls ∷ commands) = identities_given (state_after_accepted (Clause ls) j) commands
+identities_given j (Hide names ∷ commands) = identities_given (state_after_accepted (Hide names) j) commands
+identities_given j (Witness names ∷ commands) = identities_given (state_after_accepted (Witness names) j) commands
+identities_given j (Sample names ∷ commands) = identities_given (state_after_accepted (Sample names) j) commands
 
 -- the number of identities at each of these asks, once its names were introduced
 abbrev pub variables_at : List Asked → List ℕ
@@ -91,25 +91,25 @@ pub record AnswersRightly (text : List ℕ) (budget : ℕ) (summary : Summary) (
   pub outcomes : List Outcome
   pub right : AnswersAreRight (reading text).0 outcomes
   pub answers : answered ≡ answers_text (reading text).0 (reading text).1 outcomes
-  pub commands : summary.commands ≡ length (written text).0
-  pub refused : summary.refused ≡ refused_count start (reading text).0
+  pub commands : summary.commands ≡ length (plain_reading text).0
+  pub refused : summary.refused ≡ refused_count initial_state (reading text).0
   pub malformed : summary.malformed ≡ malformed_at (length (reading text).0 + 1) (reading text).1
   -- one report for each outcome, of its kind
   pub kinds : map (λ r. r.answer) summary.asks.items ≡ map answer_kind outcomes
-  pub spent : AreWithinBudget budget 0 (identities_given start (accepted_of start (reading text).0)) summary.asks.items
+  pub spent : AreWithinBudget budget 0 (identities_given initial_state (accepted_commands initial_state (reading text).0)) summary.asks.items
 
 -- That the summary and the answers of a finished run are correct, by the short definitions. There the asks are a list
 -- of their own.
 pub record ReportsRightly (text : List ℕ) (budget : ℕ) (summary : Summary) (answered : List ℕ) : Type 0 where
   pub outcomes : List Outcome
-  pub right : EachIsRight (asks_of start (script_in text).0) outcomes
-  pub answers : answered ≡ lines_from 1 start (script_in text).0 (script_in text).1 outcomes
-  pub commands : summary.commands ≡ length (spelled None (tokens_in true (lines text))).0
-  pub refused : summary.refused ≡ refused_count start (script_in text).0
-  pub malformed : summary.malformed ≡ malformed_at (length (script_in text).0 + 1) (script_in text).1
+  pub right : EachIsRight (asks_of initial_state (parse_script text).0) outcomes
+  pub answers : answered ≡ lines_from 1 initial_state (parse_script text).0 (parse_script text).1 outcomes
+  pub commands : summary.commands ≡ length (parse_tokens None (tokens_of_lines true (lines text))).0
+  pub refused : summary.refused ≡ refused_count initial_state (parse_script text).0
+  pub malformed : summary.malformed ≡ malformed_at (length (parse_script text).0 + 1) (parse_script text).1
   -- one report for each outcome, of its kind
   pub kinds : map (λ r. r.answer) summary.asks.items ≡ map answer_kind outcomes
-  pub spent : AreWithinBudget budget 0 (variables_at (asks_of start (script_in text).0)) summary.asks.items
+  pub spent : AreWithinBudget budget 0 (variables_at (asks_of initial_state (parse_script text).0)) summary.asks.items
 
 -- What the certificate of a finished run guarantees. It spells steps, the oldest first, of which a checker accepts each after the earlier ones.
 -- In order, they contain the steps of the accepted commands and of these outcomes, with the rounds that the summary reports. Besides these
@@ -121,16 +121,16 @@ pub record CertificateGuarantee (text : List ℕ) (budget : ℕ) (summary : Summ
   pub certificate : SpellsSteps (reverse steps) certified
   pub accepted : AcceptsAll steps
   pub certifies : Certifies checker_rules steps None []
-      (expected start (accepted_of start (reading text).0) is_answered.outcomes) (rounds_of_asks summary.asks.items)
+      (expected initial_state (accepted_commands initial_state (reading text).0) is_answered.outcomes) (rounds_of_asks summary.asks.items)
   -- the steps that the solver made, up to the end, and how they were written
   pub made : List Step
-  pub follows : ServesCommands start [] made (accepted_of start (reading text).0) is_answered.outcomes (rounds_of_asks summary.asks.items)
+  pub follows : ServesCommands initial_state [] made (accepted_commands initial_state (reading text).0) is_answered.outcomes (rounds_of_asks summary.asks.items)
   pub counting : Counting
   pub cuts : TruncatesHashes uncounted (End ∷ made) steps counting
-  -- every round of an ask derived a clause that advances, except the round that answered, and no other clause of the ask advances
+  -- every round of an ask derived an empowering clause, except the round that answered, and no other clause of the ask advances
   pub learns : EachLearns steps 0 is_answered.outcomes (rounds_of_asks summary.asks.items)
   -- if no accepted command hides a name, no variable is deleted
-  pub keeps : AllByRecursion HidesNothing (accepted_of start (reading text).0) → has_delete_var steps ≡ false
+  pub keeps : AllByRecursion HidesNothing (accepted_commands initial_state (reading text).0) → has_delete_var steps ≡ false
 
 -- FOR THREE DEVICES
 
@@ -138,18 +138,18 @@ pub record CertificateGuarantee (text : List ℕ) (budget : ℕ) (summary : Summ
 abbrev pub WritesAnswers : ℕ → Summary → Reader × Reader → Writer × Writer → Type 0
 WritesAnswers budget summary script answers =
     GaveEnough script.0 script.1 (λ text. (answered : List ℕ)
-    × WriterTakes answers.0 answers.1 answered × ReportsRightly text budget summary answered)
+    × WriterAccepts answers.0 answers.1 answered × ReportsRightly text budget summary answered)
 
 -- that the answers' writer received the answers, and the certificate's writer a certificate with its guarantee
 abbrev pub TookCertificate : ℕ → Summary → Reader × Reader → Writer × Writer → Writer × Writer → Type 0
 TookCertificate budget summary script answers certificate = GaveEnough script.0 script.1 (λ text. (answered : List ℕ) × (certified : List ℕ)
-    × WriterTakes answers.0 answers.1 answered × WriterTakes certificate.0 certificate.1 certified × CertificateGuarantee text budget summary answered certified)
+    × WriterAccepts answers.0 answers.1 answered × WriterAccepts certificate.0 certificate.1 certified × CertificateGuarantee text budget summary answered certified)
 
 -- that `TookCertificate` holds for three devices before and after a run, unless the run failed
 abbrev pub CertificateIsGuaranteed : {S A C : Type 0} → Result Summary RunFault → ℕ → (S → Reader) → (A → Writer) → (C → Writer)
     → S × A × C → S × A × C → Type 0
 CertificateIsGuaranteed r budget script answers certificate old new =
-    IfOk r (λ s. TookCertificate budget s (gave script old.0 new.0) (took answers old.1 new.1) (took certificate old.2 new.2))
+    IfOk r (λ s. TookCertificate budget s (reader_before_after script old.0 new.0) (writer_before_after answers old.1 new.1) (writer_before_after certificate old.2 new.2))
 
 -- that no further call of the writer failed
 abbrev pub WritesKept : {W : Type 0} → (W → Writer) → W → W → Type 0

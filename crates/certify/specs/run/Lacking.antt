@@ -2,7 +2,7 @@
 use Rattle.std.specs.Prelude.{ℕ, ◌+◌, ◌-◌, ◌<◌, ◌≡◌, true, None, List, [], ◌∷◌, ◌++◌, length}
 use Rattle.std.specs.List.{AllByRecursion}
 use Rattle.sat_base.specs.script.Script.{Command, Clause, Ask, Hide, Witness, Sample, names_of}
-use Rattle.sat_base.specs.script.ScriptState.{ScriptState, accepted, after_script, bring_all, refusal_of}
+use Rattle.sat_base.specs.script.ScriptState.{ScriptState, state_after_accepted, after_script, introduce_all, refusal_of}
 use Rattle.sat_base.specs.steps.Steps.{Step}
 use Rattle.sat_base.specs.values.Literals.{var_limit}
 use Rattle.sat_checker.specs.SortedSets.{NoRepeats}
@@ -18,7 +18,7 @@ pub record LacksVariables (steps : List Step) (introduced : ℕ) : Type 0 where
 
 -- the number of names that are introduced for these names
 abbrev pub introduced_for : List ℕ → ScriptState → ℕ
-introduced_for names j = (bring_all names j).identity_count - j.identity_count
+introduced_for names j = (introduce_all names j).identity_count - j.identity_count
 
 -- that a command that processes its names one by one reaches a name that lacks a variable
 pub record NextLacks (command : List ℕ → Command) (names : List ℕ) (j : ScriptState) (steps : List Step) : Type 0 where
@@ -26,7 +26,7 @@ pub record NextLacks (command : List ℕ → Command) (names : List ℕ) (j : Sc
   pub name : ℕ
   pub following : List ℕ
   pub whole : names ≡ first ++ (name ∷ following)
-  pub lacks : LacksVariables steps (introduced_for (name ∷ []) (accepted (command first) j))
+  pub lacks : LacksVariables steps (introduced_for (name ∷ []) (state_after_accepted (command first) j))
 
 -- that the command lacks variables for its names
 abbrev pub CommandLacks : ScriptState → Command → List Step → Type 0

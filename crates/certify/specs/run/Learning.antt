@@ -1,9 +1,9 @@
--- Where asks are in a certificate, and how many clauses that advance are derived there. Lists of steps have the newest first.
+-- Where asks are in a certificate, and how many empowering clauses are derived there. Lists of steps have the newest first.
 use Rattle.std.specs.Prelude.{ℕ, ◌+◌, ◌*◌, ◌≡◌, List, [], ◌∷◌, ◌++◌}
 use Rattle.sat_base.specs.steps.Steps.{Step, Assumptions}
 use Rattle.sat_checker.specs.matching.Expected.{Outcome, Unknown}
 use Rattle.sat_checker.specs.matching.ProofChecking.{checker_rules}
-use Rattle.certify.specs.run.Advancing.{AdvanceTimesStored, AreUnordered}
+use Rattle.certify.specs.run.Advancing.{CountsEmpoweringFor, AreUnordered}
 use Rattle.certify.specs.run.Stretches.{LearnsEachRound}
 
 -- the number of steps that set assumptions: each ask has two, one for its literals and one, at its end, for none
@@ -12,7 +12,7 @@ assumed_times [] = 0
 assumed_times (Assumptions ls ∷ earlier) = assumed_times earlier + 1
 assumed_times (step ∷ earlier) = assumed_times earlier
 
--- That the steps of ask number `asks`, counted from 0, contain as many clauses that advance as its rounds have learned. These steps are those
+-- That the steps of ask number `asks`, counted from 0, contain as many empowering clauses as its rounds have learned. These steps are those
 -- between its assumptions and the next assumptions, which are empty. If its outcome is unknown, none of them is an ordered step.
 pub record LearnsIn (steps : List Step) (asks : ℕ) (o : Outcome) (rounds : ℕ) : Type 0 where
   pub before : List Step
@@ -23,7 +23,7 @@ pub record LearnsIn (steps : List Step) (asks : ℕ) (o : Outcome) (rounds : ℕ
   pub place : assumed_times before ≡ 2 * asks
   pub only : assumed_times middle ≡ 0
   pub learned : ℕ
-  pub times : AdvanceTimesStored (Assumptions ask ∷ before) middle learned
+  pub times : CountsEmpoweringFor (Assumptions ask ∷ before) middle learned
   pub counts : LearnsEachRound (checker_rules.unsat (Assumptions ask ∷ before)) o rounds learned
   pub unordered : o ≡ Unknown → AreUnordered middle
 

@@ -1,6 +1,6 @@
 -- The effect of a run on its three devices.
 use Rattle.std.specs.Prelude.{ℕ, ◌+◌, ◌≡◌, ◌≤◌, true, List, Result, Ok, Err}
-use Rattle.sat_base.specs.device.Device.{Reader, Writer, GaveEnough, ReadFails, WriterTakes, most_reads}
+use Rattle.sat_base.specs.device.Device.{Reader, Writer, GaveEnough, ReadFails, WriterAccepts, most_reads}
 use Rattle.certify.specs.Devices.{NoneFailed, OneFailed}
 use Rattle.certify.specs.declared.fault.RunFault.{RunFault}
 use Rattle.certify.specs.declared.summary.Summary.{Summary}
@@ -11,8 +11,8 @@ use Rattle.certify.specs.run.ServedScript.{RunFaultSays}
 pub record WritesRun (text : List ℕ) (budget : ℕ) (summary : Summary) (answers certificate : Writer × Writer) : Type 0 where
   pub answered : List ℕ
   pub certified : List ℕ
-  pub writes_answers : WriterTakes answers.0 answers.1 answered
-  pub certifies : WriterTakes certificate.0 certificate.1 certified
+  pub writes_answers : WriterAccepts answers.0 answers.1 answered
+  pub certifies : WriterAccepts certificate.0 certificate.1 certified
   pub guarantee : CertificateGuarantee text budget summary answered certified
 
 -- that no read of the script failed

@@ -3,11 +3,11 @@
 use Rattle.std.specs.Prelude.{ℕ, ◌+◌, ◌≡◌, true, false, Option, List, ◌++◌, map, length, Result, Ok, Err}
 use Rattle.sat_base.specs.declared.device.whole.ReadError.{ReadError}
 use Rattle.sat_base.specs.declared.device.whole.ReadError.TheVariants as errors
-use Rattle.sat_base.specs.device.Device.{Writer, WriterTakes}
+use Rattle.sat_base.specs.device.Device.{Writer, WriterAccepts}
 use Rattle.sat_base.specs.device.Reading.{Source}
 use Rattle.sat_base.specs.script.Script.{Command}
-use Rattle.sat_base.specs.script.Language.{Reading, onto_commands}
-use Rattle.sat_base.specs.script.ScriptState.{ScriptState, accepted_of, after_script}
+use Rattle.sat_base.specs.script.Language.{Reading, prepend_commands}
+use Rattle.sat_base.specs.script.ScriptState.{ScriptState, accepted_commands, after_script}
 use Rattle.sat_base.specs.steps.Steps.{Step}
 use Rattle.sat_checker.specs.matching.Expected.{Outcome}
 use Rattle.sat_solver.specs.session.Making.{ComesBySteps, BreaksEmitting}
@@ -24,7 +24,7 @@ use Rattle.certify.specs.declared.summary.AskReport.{AskReport}
 use Rattle.certify.specs.script.LastPiece.{FaultsAhead, TakesSomeOrEnds, TakesSome as TookOf}
 use Rattle.certify.specs.script.Commands.{ReaderMeans, MeansIf}
 use Rattle.certify.specs.run.FinishedRun.{refused_count, malformed_at, answer_kind, AreWithinBudget, rounds_of_asks, identities_given}
-use Rattle.certify.specs.run.Unfinished.{Exceeds, TookAnswersFront}
+use Rattle.certify.specs.run.Unfinished.{Exceeds, TookAnswersPrefix}
 use Rattle.sat_solver.specs.solver.View.{proof_in}
 use Rattle.certify.specs.run.SolverCalls.{IsCaused, IsReadySolver}
 use Rattle.certify.specs.run.Serving.{RunPlace, Serves}
@@ -42,7 +42,7 @@ pub record ServedAll {C : Type 0} (seen : C → Writer) (j : ScriptState) (comma
   pub counted : new.commands ≡ old.commands + length commands
   pub budget : new.budget ≡ old.budget
   pub text : List ℕ
-  pub written : WriterTakes before after text
+  pub written : WriterAccepts before after text
   pub reports : List AskReport
   pub asks : new.asks.items ≡ old.asks.items ++ reports
   pub refused : ℕ
@@ -54,12 +54,12 @@ pub record ServedAll {C : Type 0} (seen : C → Writer) (j : ScriptState) (comma
 pub record ServesTo (budget : ℕ) (a : RunPlace) (script : Reading) (to : List Step)
     (answered : List ℕ) (reports : List AskReport) (refused : ℕ) : Type 0 where
   pub outcomes : List Outcome
-  pub right : AreRight a.judge (accepted_of a.judge script.0) outcomes
+  pub right : AreRight a.judge (accepted_commands a.judge script.0) outcomes
   pub says : answers_from a.number a.judge script.0 script.1 outcomes ≡ answered
   pub refuses : refused_count a.judge script.0 ≡ refused
   pub kinds : map (λ r. r.answer) reports ≡ map answer_kind outcomes
-  pub spent : AreWithinBudget budget a.rounds (identities_given a.judge (accepted_of a.judge script.0)) reports
-  pub follows : ServesCommands a.judge a.steps to (accepted_of a.judge script.0) outcomes (rounds_of_asks reports)
+  pub spent : AreWithinBudget budget a.rounds (identities_given a.judge (accepted_commands a.judge script.0)) reports
+  pub follows : ServesCommands a.judge a.steps to (accepted_commands a.judge script.0) outcomes (rounds_of_asks reports)
 
 -- That the complete script was served, with this number of commands. `at` is the command at which it is malformed, or `None`.
 pub record ServesWhole {C : Type 0} (seen : C → Writer) (j : ScriptState) (script : Reading) (count : ℕ) (at : Option ℕ)
@@ -68,7 +68,7 @@ pub record ServesWhole {C : Type 0} (seen : C → Writer) (j : ScriptState) (scr
   pub counted : new.commands ≡ old.commands + count
   pub ends : at ≡ malformed_at (old.commands + length script.0 + 1) script.1
   pub text : List ℕ
-  pub written : WriterTakes before after text
+  pub written : WriterAccepts before after text
   pub reports : List AskReport
   pub asks : new.asks.items ≡ old.asks.items ++ reports
   pub refused : ℕ
@@ -85,7 +85,7 @@ pub record ServesThrough {C : Type 0} (seen : C → Writer) (j : ScriptState) (t
   pub plain : List ℕ → Reading
   pub counts : MeansIf false reader plain
   pub took : TookOf true a b
-  pub reads : (total : List ℕ) → Covers b total → text (rest_in total a) ≡ onto_commands commands (left (rest_in total b))
+  pub reads : (total : List ℕ) → Covers b total → text (rest_in total a) ≡ prepend_commands commands (left (rest_in total b))
   pub holds : (total : List ℕ) → Covers b total
       → length (counted (rest_in total a)).0 ≡ length commands + length (plain (rest_in total b)).0
   pub goes_on : RunGoesOn new
@@ -120,5 +120,5 @@ abbrev pub ServesScript : {C : Type 0} → (C → Writer) → ScriptState → (L
 ServesScript seen j text counted (Ok at) a b old new before after = TookOf false a b × IsReadySolver new.solver × ((total : List ℕ) → Covers b total
     → ServesWhole seen j (text (rest_in total a)) (length (counted (rest_in total a)).0) at old new before after)
 ServesScript seen j text counted (Err e) a b old new before after = FailsWhole seen e a b old.solver new.solver before after
-    × ((total : List ℕ) → Covers b total → TookAnswersFront old.budget old.solver.clock.rounds (old.commands + 1) j (text (rest_in total a)) before after)
+    × ((total : List ℕ) → Covers b total → TookAnswersPrefix old.budget old.solver.clock.rounds (old.commands + 1) j (text (rest_in total a)) before after)
     × IsCaused e (HasFullStore new.solver) ((total : List ℕ) → Covers b total → Exceeds old.commands j (text (rest_in total a)) (steps_in new.solver))

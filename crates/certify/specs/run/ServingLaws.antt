@@ -3,7 +3,7 @@ use Rattle.std.specs.Prelude.{ℕ, ◌+◌, ◌≡◌, Some, None, List, [], ◌
 use Rattle.std.specs.List.{AllByRecursion}
 use Rattle.sat_base.specs.values.Clauses.{Valuation, EachTrue, EachHolds}
 use Rattle.sat_base.specs.script.Script.{Literal, Command, Ask, Among}
-use Rattle.sat_base.specs.script.ScriptState.{ScriptState, Refusal, IsRightCore, accepted, over, refusal_of}
+use Rattle.sat_base.specs.script.ScriptState.{ScriptState, Refusal, IsRightCore, state_after_accepted, identity_lit, refusal_of}
 use Rattle.sat_base.specs.steps.Steps.{Step}
 use Rattle.sat_checker.specs.LiteralSets.{canonical}
 use Rattle.sat_checker.specs.matching.Expected.{Outcome}
@@ -13,7 +13,7 @@ use Rattle.certify.specs.answers.Answers.{refused_line, outcome_text}
 use Rattle.certify.specs.answers.RightAnswers.{IsRight}
 use Rattle.certify.specs.run.FinishedRun.{IsBounded, SpendsWithinBudget, answer_kind}
 use Rattle.certify.specs.run.Serving.{RunPlace, Serves, place_after}
-use Rattle.certify.specs.run.Stretches.{AskStretches, IsNoAsk, MayFor, Stretch, due_for}
+use Rattle.certify.specs.run.Stretches.{AskStretches, IsNoAsk, IsCommandStep, Stretch, due_for}
 use Rattle.certify.specs.declared.summary.AskReport.{AskReport}
 
 -- that serving some commands and then others serves all of them
@@ -29,19 +29,19 @@ RefusalServes = (budget : ℕ) (a : RunPlace) (c : Command) (r : Refusal) → re
 -- that an accepted command that is not an ask has no answer, if the steps expected for it were made
 abbrev pub PlainServes : Type 0
 PlainServes = (budget : ℕ) (a : RunPlace) (c : Command) (steps : List Step) → IsNoAsk c → refusal_of a.judge c ≡ None
-    → Stretch (MayFor c) a.steps steps (due_for (checker_rules.unsat a.steps) c a.judge)
+    → Stretch (IsCommandStep c) a.steps steps (due_for (checker_rules.unsat a.steps) c a.judge)
     → Serves budget a (place_after a c steps a.rounds) (c ∷ []) [] [] 0
 
 -- that an accepted ask is answered by its outcome, if the outcome is correct and took no more rounds than allowed
 abbrev pub AskServes : Type 0
 AskServes = (budget : ℕ) (a : RunPlace) (ls : List Literal) (o : Outcome) (report : AskReport) (steps : List Step) → refusal_of a.judge (Ask ls) ≡ None
-    → IsRight (accepted (Ask ls) a.judge) ls o → report.answer ≡ answer_kind o → SpendsWithinBudget budget a.rounds report
-    → IsBounded (accepted (Ask ls) a.judge).identity_count budget a.rounds report
+    → IsRight (state_after_accepted (Ask ls) a.judge) ls o → report.answer ≡ answer_kind o → SpendsWithinBudget budget a.rounds report
+    → IsBounded (state_after_accepted (Ask ls) a.judge).identity_count budget a.rounds report
     → AskStretches a.judge ls o report.steps a.steps steps
     → Serves budget a (place_after a (Ask ls) steps (a.rounds + report.steps)) (Ask ls ∷ []) (outcome_text o) (report ∷ []) 0
 
 -- that a core of an ask, in any order, is a correct core once its literals are sorted
 abbrev pub CoresAreSorted : Type 0
 CoresAreSorted = (j : ScriptState) (ask : List Literal) (core : List ℕ) → AllByRecursion (λ l. Among l ask) (named_literals core)
-    → ((a : Valuation) → EachTrue a (map (over j) (named_literals core)) → EachHolds a j.clauses → ⊥)
+    → ((a : Valuation) → EachTrue a (map (identity_lit j) (named_literals core)) → EachHolds a j.clauses → ⊥)
     → IsRightCore j ask (named_literals (canonical core))

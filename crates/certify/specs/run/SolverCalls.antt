@@ -1,15 +1,15 @@
 -- The effect of a run's calls to its solver, and which faults these calls return.
 use Rattle.std.specs.Prelude.{ℕ, ◌+◌, ◌<◌, ◌≡◌, Bool, true, false, None, Result, IfErr, List}
 use Rattle.sat_base.specs.device.Device.{Writer}
-use Rattle.sat_base.specs.script.ScriptState.{ScriptState, accepted, refused_literal}
+use Rattle.sat_base.specs.script.ScriptState.{ScriptState, state_after_accepted, refused_literal}
 use Rattle.sat_base.specs.script.Script.{Command}
 use Rattle.sat_base.specs.values.Literals.{var_limit}
 use Rattle.sat_solver.specs.declared.error.SolverError.{SolverError}
 use Rattle.sat_solver.specs.declared.error.SolverError.TheVariants as errors
-use Rattle.sat_solver.specs.declared.state.State.{State}
-use Rattle.sat_solver.specs.declared.state.State.TheVariants as states
+use Rattle.sat_solver.specs.declared.state.SatState.{SatState}
+use Rattle.sat_solver.specs.declared.state.SatState.TheVariants as states
 use Rattle.sat_solver.specs.variables.Calls.{NamesAgree}
-use Rattle.sat_checker.specs.matching.Bridge.{Live}
+use Rattle.sat_checker.specs.matching.Bridge.{LiveVariables}
 use Rattle.sat_solver.specs.variables.Refusing.{names_in}
 use Rattle.sat_solver.specs.variables.VariableRoom.{HasVariablesFor}
 use Rattle.sat_solver.specs.session.Making.{ComesBySteps, BreaksEmitting}
@@ -83,7 +83,7 @@ pub record IsReadySolver {C : Type 0} (s : Solver C) : Type 0 where
 
 -- that none of the names is refused, in some script state that the solver agrees with
 abbrev pub IsAllowed : {C : Type 0} → Solver C → List ℕ → Type 0
-IsAllowed s user = (j : ScriptState) × (live : Live) × NamesAgree s.names (steps_in s) j live × (refused_literal j (names_in user) ≡ None)
+IsAllowed s user = (j : ScriptState) × (live : LiveVariables) × NamesAgree s.names (steps_in s) j live × (refused_literal j (names_in user) ≡ None)
 
 -- that there are not enough variables for the names that would be introduced for these
 abbrev pub LacksRoom : {C : Type 0} → Solver C → (users : List ℕ) → Type 0
@@ -96,8 +96,8 @@ RefusedForRoom old new users = LacksRoom old users × (new ≡ old)
 -- That the command lacks variables for its names, after the steps that were made for it. After it, there would be more identities than there
 -- can be variables.
 abbrev pub LacksFor : {C : Type 0} → Solver C → Solver C → Command → Type 0
-LacksFor old new c = (j : ScriptState) (live : Live) → NamesAgree old.names (steps_in old) j live
-    → (var_limit < (accepted c j).identity_count) × CommandLacks j c (steps_in new)
+LacksFor old new c = (j : ScriptState) (live : LiveVariables) → NamesAgree old.names (steps_in old) j live
+    → (var_limit < (state_after_accepted c j).identity_count) × CommandLacks j c (steps_in new)
 
 -- that only the limit of rounds changed: a search makes at most `budget` rounds from now on
 pub record Limited {C : Type 0} (budget : ℕ) (old new : Solver C) : Type 0 where
@@ -110,7 +110,7 @@ pub record Limited {C : Type 0} (budget : ℕ) (old new : Solver C) : Type 0 whe
   pub rounds : new.clock.rounds ≡ old.clock.rounds
 
 -- that the answer is the one for this state of the solver
-abbrev pub AnswerIs : State → Answer → Type 0
+abbrev pub AnswerIs : SatState → Answer → Type 0
 AnswerIs states.Unknown answer = answer ≡ kind.Unknown
 AnswerIs states.Sat answer = answer ≡ kind.Sat
 AnswerIs states.UnsatUnderAssumptions answer = answer ≡ kind.Unsat

@@ -2,14 +2,14 @@
 -- first.
 use Rattle.std.specs.Prelude.{ℕ, ◌+◌, ◌≡◌, Bool, true, false, List, [], ◌∷◌, ◌++◌, if◌then◌else◌}
 use Rattle.sat_base.specs.script.Script.{Literal, Command, Clause, Ask, Hide, Witness, Sample, Among, names_of}
-use Rattle.sat_base.specs.script.ScriptState.{ScriptState, Sampled, Witnessed, accepted}
+use Rattle.sat_base.specs.script.ScriptState.{ScriptState, Sampled, Witnessed, state_after_accepted}
 use Rattle.sat_base.specs.steps.Steps.{Step}
-use Rattle.sat_checker.specs.matching.Expected.{Outcome, Sat, Unsat, Unknown, Expected, Adds, Opens, Closes, bringing, hiding, setting, showing}
+use Rattle.sat_checker.specs.matching.Expected.{Outcome, Sat, Unsat, Unknown, Expected, Adds, Opens, Closes, introducing, hiding, setting, showing}
 use Rattle.sat_checker.specs.matching.ProofChecking.{checker_rules}
 use Rattle.sat_checker.specs.matching.Traces.{HasTrace}
-use Rattle.sat_solver.specs.variables.Coming.{MayAdd, MayHide, MaySet, MayTake}
-use Rattle.sat_solver.specs.schedule.Solving.{AdvancesIn}
-use Rattle.sat_solver.specs.session.Coming.{OnlyAllowedSteps, EndsAtUnsat}
+use Rattle.sat_solver.specs.variables.NamingSteps.{IsClauseStep, IsHidingStep, IsModeStep, IsLiteralsStep}
+use Rattle.sat_solver.specs.schedule.Solving.{CountsEmpoweringIn}
+use Rattle.sat_solver.specs.session.AllowedSteps.{OnlyAllowedSteps, EndsAtUnsat}
 use Rattle.certify.specs.run.Certifies.{IsKnown}
 
 -- That the ordered steps between `from` and `to` are those expected, and every step is allowed at its place.
@@ -26,25 +26,25 @@ IsNoAsk command = Unit {0}
 
 -- the steps expected for such a command; for a clause, only those of its names once unsat is recorded
 abbrev pub due_for : Bool → Command → ScriptState → List Expected
-due_for unsat (Clause ls) j = bringing (names_of ls) j ++ (if unsat then [] else Adds ls ∷ [])
+due_for unsat (Clause ls) j = introducing (names_of ls) j ++ (if unsat then [] else Adds ls ∷ [])
 due_for unsat (Ask ls) j = []
 due_for unsat (Hide names) j = hiding names j
 due_for unsat (Witness names) j = setting Witnessed names j
 due_for unsat (Sample names) j = setting Sampled names j
 
 -- that the step is an ordered step at its place, or sets the variable of one of these names to this mode
-abbrev pub MaySetOne : List ℕ → Bool → List Step → Step → Type 0
-MaySetOne names sample earlier step = (name : ℕ) × Among name names × MaySet name sample earlier step
+abbrev pub IsOneModeStep : List ℕ → Bool → List Step → Step → Type 0
+IsOneModeStep names sample earlier step = (name : ℕ) × Among name names × IsModeStep name sample earlier step
 
 -- The steps that are allowed for a command: ordered steps at their places, and some others. A clause and an ask may
 -- give their names indices and change the width. A clause may be deleted right after its step. A hidden variable
 -- without an index may be deleted right after its name is removed. `w` and `s` may change the mode of their names.
-abbrev pub MayFor : Command → List Step → Step → Type 0
-MayFor (Clause ls) = MayAdd (names_of ls)
-MayFor (Ask ls) = MayTake (names_of ls)
-MayFor (Hide names) = MayHide
-MayFor (Witness names) = MaySetOne names false
-MayFor (Sample names) = MaySetOne names true
+abbrev pub IsCommandStep : Command → List Step → Step → Type 0
+IsCommandStep (Clause ls) = IsClauseStep (names_of ls)
+IsCommandStep (Ask ls) = IsLiteralsStep (names_of ls)
+IsCommandStep (Hide names) = IsHidingStep
+IsCommandStep (Witness names) = IsOneModeStep names false
+IsCommandStep (Sample names) = IsOneModeStep names true
 
 -- AN ASK
 
@@ -52,17 +52,17 @@ MayFor (Sample names) = MaySetOne names true
 abbrev pub showing_if : Bool → ScriptState → List Literal → Outcome → List Expected
 showing_if unsat j ask o = if unsat then [] else showing j ask o
 
--- That each round of an ask derives a clause that advances, except the round that answers. There are no rounds once unsat is recorded.
+-- That each round of an ask derives an empowering clause, except the round that answers. There are no rounds once unsat is recorded.
 abbrev pub LearnsEachRound : (unsat : Bool) → Outcome → (rounds learned : ℕ) → Type 0
 LearnsEachRound true o rounds learned = (rounds ≡ 0) × (learned ≡ 0)
 LearnsEachRound false Unknown rounds learned = rounds ≡ learned
 LearnsEachRound false (Sat line) rounds learned = rounds ≡ learned + 1
 LearnsEachRound false (Unsat core) rounds learned = rounds ≡ learned + 1
 
--- that exactly the required number of steps between these two places derive a clause that advances
+-- that exactly the required number of steps between these two places derive an empowering clause
 pub record LearnsBetween (unsat : Bool) (o : Outcome) (rounds : ℕ) (opened shown : List Step) : Type 0 where
   pub learned : ℕ
-  pub times : AdvancesIn opened shown learned
+  pub times : CountsEmpoweringIn opened shown learned
   pub counts : LearnsEachRound unsat o rounds learned
 
 -- The steps of an ask. First its names are introduced, with indices, and it is opened. Then the search may make any
@@ -71,9 +71,9 @@ pub record LearnsBetween (unsat : Bool) (o : Outcome) (rounds : ℕ) (opened sho
 pub record AskStretches (j : ScriptState) (ls : List Literal) (o : Outcome) (rounds : ℕ) (from to : List Step) : Type 0 where
   pub opened : List Step
   pub shown : List Step
-  pub opens : Stretch (MayTake (names_of ls)) from opened (bringing (names_of ls) j ++ (Opens ls o ∷ []))
-  pub searches : Stretch EndsAtUnsat opened shown (showing_if (checker_rules.unsat shown) (accepted (Ask ls) j) ls o)
-  pub closes : Stretch (MayTake []) shown to (Closes ∷ [])
+  pub opens : Stretch (IsLiteralsStep (names_of ls)) from opened (introducing (names_of ls) j ++ (Opens ls o ∷ []))
+  pub searches : Stretch EndsAtUnsat opened shown (showing_if (checker_rules.unsat shown) (state_after_accepted (Ask ls) j) ls o)
+  pub closes : Stretch (IsLiteralsStep []) shown to (Closes ∷ [])
   -- If unsat was recorded before the ask, the outcome is the empty core, without a round. If the search records unsat, the outcome is the empty
   -- core, too.
   pub known : checker_rules.unsat opened ≡ true → IsKnown o rounds
@@ -87,8 +87,8 @@ pub record AskStretches (j : ScriptState) (ls : List Literal) (o : Outcome) (rou
 pub data ServesCommands : ScriptState → List Step → List Step → List Command → List Outcome → List ℕ → Type 0 where
   made_none : {j : ScriptState} {s : List Step} → ServesCommands j s s [] [] []
   made_one : {j : ScriptState} {from to : List Step} {c : Command} {cs : List Command} {os : List Outcome} {counts : List ℕ} (mid : List Step)
-      → IsNoAsk c → Stretch (MayFor c) from mid (due_for (checker_rules.unsat from) c j)
-      → ServesCommands (accepted c j) mid to cs os counts → ServesCommands j from to (c ∷ cs) os counts
+      → IsNoAsk c → Stretch (IsCommandStep c) from mid (due_for (checker_rules.unsat from) c j)
+      → ServesCommands (state_after_accepted c j) mid to cs os counts → ServesCommands j from to (c ∷ cs) os counts
   made_ask : {j : ScriptState} {from to : List Step} {ls : List Literal} {o : Outcome} {n : ℕ} {cs : List Command} {os : List Outcome}
       {counts : List ℕ} (mid : List Step) → AskStretches j ls o n from mid
-      → ServesCommands (accepted (Ask ls) j) mid to cs os counts → ServesCommands j from to (Ask ls ∷ cs) (o ∷ os) (n ∷ counts)
+      → ServesCommands (state_after_accepted (Ask ls) j) mid to cs os counts → ServesCommands j from to (Ask ls ∷ cs) (o ∷ os) (n ∷ counts)

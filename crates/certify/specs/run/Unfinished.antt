@@ -1,8 +1,8 @@
 -- What an unfinished run has written of the answers, and what any run has written of its certificate.
 use Rattle.std.specs.Prelude.{ℕ, ◌+◌, ◌-◌, ◌^◌, ◌<◌, ◌≤◌, ◌≡◌, ◌⊎◌, List, [], ◌∷◌, ◌++◌, map, length}
 use Rattle.std.specs.Io.KnownBytes.{Appends}
-use Rattle.sat_base.specs.device.Device.{Reader, Writer, CanFollow, GaveFront}
-use Rattle.sat_base.specs.script.ScriptState.{ScriptState, accepted_of, after_script, start}
+use Rattle.sat_base.specs.device.Device.{Reader, Writer, CanFollow, GavePrefix}
+use Rattle.sat_base.specs.script.ScriptState.{ScriptState, accepted_commands, after_script, initial_state}
 use Rattle.sat_base.specs.script.Language.{Reading, reading}
 use Rattle.sat_base.specs.values.Literals.{var_limit}
 use Rattle.sat_base.specs.steps.Steps.{Step}
@@ -35,33 +35,33 @@ AreSpentSoFar budget before (n ∷ ns) (report ∷ reports) =
 pub record BeginAnswers (budget before number : ℕ) (j : ScriptState) (script : Reading) (bytes : List ℕ) : Type 0 where
   pub answered : List Outcome
   pub later : List Outcome  -- possible outcomes of the other asks
-  pub right : AreRight j (accepted_of j script.0) (answered ++ later)
+  pub right : AreRight j (accepted_commands j script.0) (answered ++ later)
   -- whatever the outcomes of the other asks are
   pub begins : (others : List Outcome) → length others ≡ length later
       → (following : List ℕ) × (answers_from number j script.0 script.1 (answered ++ others) ≡ bytes ++ following)
   pub reports : List AskReport
   pub kinds : map (λ r. r.answer) reports ≡ map answer_kind answered
-  pub spent : AreSpentSoFar budget before (identities_given j (accepted_of j script.0)) reports
+  pub spent : AreSpentSoFar budget before (identities_given j (accepted_commands j script.0)) reports
 
 -- that the writer received a prefix of correct answers, and nothing else
-pub record TookAnswersFront (budget before number : ℕ) (j : ScriptState) (script : Reading) (old new : Writer) : Type 0 where
+pub record TookAnswersPrefix (budget before number : ℕ) (j : ScriptState) (script : Reading) (old new : Writer) : Type 0 where
   pub bytes : List ℕ
   pub took : TookBytes old new bytes
   pub front : BeginAnswers budget before number j script bytes
 
 -- that a reader gave a prefix of a text that satisfies P, whatever bytes could follow
-pub record GaveFrontOf (old new : Reader) (P : List ℕ → Type 0) : Type 0 where
+pub record GavePrefixOf (old new : Reader) (P : List ℕ → Type 0) : Type 0 where
   pub text : List ℕ
-  pub front : GaveFront old new text
+  pub front : GavePrefix old new text
   pub holds : (rest : List ℕ) → CanFollow old new rest → P (text ++ rest)
 
 -- that the writer received a prefix of correct answers to the text that the reader gave, whatever bytes could follow
 abbrev pub Unfinished : ℕ → Reader × Reader → Writer × Writer → Type 0
-Unfinished budget script answers = GaveFrontOf script.0 script.1 (λ text. TookAnswersFront budget 0 1 start (reading text) answers.0 answers.1)
+Unfinished budget script answers = GavePrefixOf script.0 script.1 (λ text. TookAnswersPrefix budget 0 1 initial_state (reading text) answers.0 answers.1)
 
 -- That the writer received a prefix of the text of `steps`, and nothing else. A checker accepts each of them after the earlier ones. They are
 -- what is written for the steps in `made`, with widths for their hashes. Both lists have the newest first.
-pub record StepsFront (old new : Writer) : Type 0 where
+pub record StepsPrefix (old new : Writer) : Type 0 where
   pub made : List Step
   pub steps : List Step
   pub counting : Counting
@@ -72,9 +72,9 @@ pub record StepsFront (old new : Writer) : Type 0 where
   pub whole : text_in Varisat steps ≡ bytes ++ following
   pub took : TookBytes old new bytes
 
--- that `StepsFront` holds for some steps
+-- that `StepsPrefix` holds for some steps
 abbrev pub TookSteps : Writer × Writer → Type 0
-TookSteps certificate = ∥ StepsFront certificate.0 certificate.1 ∥₁
+TookSteps certificate = ∥ StepsPrefix certificate.0 certificate.1 ∥₁
 
 -- That there are at least 2^64-1 commands, with `count` earlier ones, or one of these commands lacks variables for
 -- its names after these steps. In the latter case there are more identities than there can be variables.
@@ -85,8 +85,8 @@ Exceeds count j script steps =
 -- that `Exceeds` holds for a script from its start, after steps of whose text the writer received a prefix
 abbrev pub ExceedsWritten : Reading → Writer × Writer → Type 0
 ExceedsWritten script certificate = (2 ^ 64 - 1 ≤ length script.0)
-    ⊎ ∥ ((k : StepsFront certificate.0 certificate.1) × (var_limit < (after_script script.0 start).identity_count) × OneLacks start script.0 k.made) ∥₁
+    ⊎ ∥ ((k : StepsPrefix certificate.0 certificate.1) × (var_limit < (after_script script.0 initial_state).identity_count) × OneLacks initial_state script.0 k.made) ∥₁
 
 -- that `ExceedsWritten` holds, whatever bytes could follow what the reader gave
 abbrev pub CounterEnds : Reader × Reader → Writer × Writer → Type 0
-CounterEnds script certificate = GaveFrontOf script.0 script.1 (λ text. ExceedsWritten (reading text) certificate)
+CounterEnds script certificate = GavePrefixOf script.0 script.1 (λ text. ExceedsWritten (reading text) certificate)

@@ -5,10 +5,10 @@ use Rattle.sat_base.specs.values.Literals.{var_limit}
 use Rattle.sat_base.specs.text.Text.{Token, Number, Letter, Header, Wrong, Scan}
 use Rattle.sat_base.specs.text.Chunks.{Follows, IgnoresRest}
 use Rattle.sat_base.specs.text.WrongWords.{HasValidContinuation}
-use Rattle.sat_base.specs.text.Tokenizing.{IsPositionedBefore, held}
+use Rattle.sat_base.specs.text.Tokenizing.{IsPositionedBefore, capped}
 use Rattle.sat_base.specs.script.Script.{Literal, Command, Ask, Clean, Malformed}
 use Rattle.certify.specs.answers.AnswerForms.{named_literals}
-use Rattle.sat_base.specs.script.Language.{Reading, onto_commands, spoken, Kind, OfClause, OfAsk, OfHide, OfWitness, OfSample, command_of, kind_of_letter, CommandHand, Nothing, Within, commands_of, with_ask}
+use Rattle.sat_base.specs.script.Language.{Reading, prepend_commands, without_lines, Kind, OfClause, OfAsk, OfHide, OfWitness, OfSample, command_of, kind_of_letter, PartialCommand, Nothing, Within, commands_of, with_ask}
 use Rattle.certify.specs.declared.script.CommandKind.{CommandKind}
 use Rattle.certify.specs.declared.script.CommandKind.TheVariants as kind
 use Rattle.certify.specs.declared.script.Command.{Command as Lent}
@@ -48,7 +48,7 @@ BeginsPast true [] = ⊥
 BeginsPast true (l ∷ ls) = var_limit < l.name
 
 -- that the codes are those of the literals before the first literal past the limit; `past` says whether there is one
-pub record IsFront (codes : List ℕ) (past : Bool) (ls : List Literal) : Type 0 where
+pub record IsPrefixWithinLimit (codes : List ℕ) (past : Bool) (ls : List Literal) : Type 0 where
   pub within : AllByRecursion (λ code. code < 2 * var_limit) codes
   pub following : List Literal
   pub whole : ls ≡ named_literals codes ++ following
@@ -56,7 +56,7 @@ pub record IsFront (codes : List ℕ) (past : Bool) (ls : List Literal) : Type 0
 
 -- that the code's value represents the command `c`: it has the literals of `c` before the first one past the limit
 abbrev pub RepresentsCommand : Lent → Command → Type 0
-RepresentsCommand lent c = (ls : List Literal) × IsFront lent.literals.now lent.past_limit ls × (c ≡ command_of (kind_of lent.kind) ls)
+RepresentsCommand lent c = (ls : List Literal) × IsPrefixWithinLimit lent.literals.now lent.past_limit ls × (c ≡ command_of (kind_of lent.kind) ls)
 
 -- that the code's value represents some command
 abbrev pub RepresentsSomeCommand : Lent → Type 0
@@ -64,21 +64,21 @@ RepresentsSomeCommand lent = (c : Command) × RepresentsCommand lent c
 
 -- that the reader's draft is the complete command `c`: it has the literals of `c` before the first one past the limit
 abbrev pub IsWholeCommand : Draft → Command → Type 0
-IsWholeCommand draft c = (ls : List Literal) × IsFront draft.literals.items draft.past_limit ls × (c ≡ command_of (kind_of draft.kind) ls)
+IsWholeCommand draft c = (ls : List Literal) × IsPrefixWithinLimit draft.literals.items draft.past_limit ls × (c ≡ command_of (kind_of draft.kind) ls)
 
 -- that the draft of the reader represents the unfinished command, if any
-abbrev pub HoldsHand : Draft → CommandHand → Type 0
-HoldsHand draft Nothing = draft.is_open ≡ false
-HoldsHand draft (Within k ls) = (draft.is_open ≡ true) × (k ≡ kind_of draft.kind) × IsFront draft.literals.items draft.past_limit ls
+abbrev pub HoldsPartialCommand : Draft → PartialCommand → Type 0
+HoldsPartialCommand draft Nothing = draft.is_open ≡ false
+HoldsPartialCommand draft (Within k ls) = (draft.is_open ≡ true) × (k ≡ kind_of draft.kind) × IsPrefixWithinLimit draft.literals.items draft.past_limit ls
 
 -- the unfinished command or, if there is none, an empty clause, to which a literal is then added
-abbrev pub opened : CommandHand → CommandHand
+abbrev pub opened : PartialCommand → PartialCommand
 opened Nothing = Within OfClause []
 opened (Within kind ls) = Within kind ls
 
 -- that `name` is the name of the literal, capped at 2^64-1, and `positive` is its sign
 pub record IsNumbered (l : Literal) (name : ℕ) (positive : Bool) : Type 0 where
-  pub number : name ≡ held l.name
+  pub number : name ≡ capped l.name
   pub sign : positive ≡ l.positive
 
 -- whether the token is a line `p cnf V C`
@@ -95,38 +95,38 @@ any_header (t ∷ ts) = is_header t || any_header ts
 
 -- The reading of the rest of a script, given the unfinished command and the tokens that follow. If `asks` is true, it includes the ask that a
 -- header may add.
-abbrev pub meaning : Bool → Commands → CommandHand → List Token → Reading
-meaning asks commands hand ts = with_ask (asks && ((commands.headed || any_header ts) && not commands.asked)) (commands_of hand ts)
+abbrev pub remaining_reading : Bool → Commands → PartialCommand → List Token → Reading
+remaining_reading asks commands hand ts = with_ask (asks && ((commands.headed || any_header ts) && not commands.asked)) (commands_of hand ts)
 
 -- the effect of a token: more is to be read, a command is complete, or the text is malformed
 abbrev pub TakesToken : Reached → Commands → Token → Commands → Type 0
-TakesToken reached.More old t new = (hand : CommandHand) → HoldsHand old.draft hand
-    → (next : CommandHand) × HoldsHand new.draft next × ((asks : Bool) (ts : List Token) → meaning asks old hand (t ∷ ts) ≡ meaning asks new next ts)
-TakesToken reached.Command old t new = (hand : CommandHand) → HoldsHand old.draft hand
-    → (c : Command) × IsWholeCommand new.draft c × HoldsHand new.draft Nothing
-    × ((asks : Bool) (ts : List Token) → meaning asks old hand (t ∷ ts) ≡ onto_commands (c ∷ []) (meaning asks new Nothing ts))
-TakesToken reached.Malformed old t new = (hand : CommandHand) → HoldsHand old.draft hand
-    → (asks : Bool) (ts : List Token) → meaning asks old hand (t ∷ ts) ≡ ([], Malformed)
+TakesToken reached.More old t new = (hand : PartialCommand) → HoldsPartialCommand old.draft hand
+    → (next : PartialCommand) × HoldsPartialCommand new.draft next × ((asks : Bool) (ts : List Token) → remaining_reading asks old hand (t ∷ ts) ≡ remaining_reading asks new next ts)
+TakesToken reached.Command old t new = (hand : PartialCommand) → HoldsPartialCommand old.draft hand
+    → (c : Command) × IsWholeCommand new.draft c × HoldsPartialCommand new.draft Nothing
+    × ((asks : Bool) (ts : List Token) → remaining_reading asks old hand (t ∷ ts) ≡ prepend_commands (c ∷ []) (remaining_reading asks new Nothing ts))
+TakesToken reached.Malformed old t new = (hand : PartialCommand) → HoldsPartialCommand old.draft hand
+    → (asks : Bool) (ts : List Token) → remaining_reading asks old hand (t ∷ ts) ≡ ([], Malformed)
 
 -- that the reader is at a place of a text, and `left_of` gives the reading of the rest, whatever bytes follow
 pub record MeansIf (asks : Bool) (reader : ScriptReader) (left_of : List ℕ → Reading) : Type 0 where
-  pub hand : CommandHand
-  pub holds : HoldsHand reader.commands.draft hand
+  pub hand : PartialCommand
+  pub holds : HoldsPartialCommand reader.commands.draft hand
   pub scan_of : List ℕ → Scan
   pub valid : IsPositionedBefore reader.tokenizer scan_of
-  pub reads : (rest : List ℕ) → left_of rest ≡ meaning asks reader.commands hand (spoken (scan_of rest).tokens)
+  pub reads : (rest : List ℕ) → left_of rest ≡ remaining_reading asks reader.commands hand (without_lines (scan_of rest).tokens)
 
 -- that `MeansIf` holds, including the ask that a header may add
 abbrev pub ReaderMeans : ScriptReader → (List ℕ → Reading) → Type 0
 ReaderMeans = MeansIf true
 
 -- that the text can continue without a wrong word
-abbrev pub MayGoOn : ScriptReader → Type 0
-MayGoOn reader = (scan_of : List ℕ → Scan) → IsPositionedBefore reader.tokenizer scan_of → HasValidContinuation scan_of
+abbrev pub CanContinue : ScriptReader → Type 0
+CanContinue reader = (scan_of : List ℕ → Scan) → IsPositionedBefore reader.tokenizer scan_of → HasValidContinuation scan_of
 
 -- that the bytes that follow matter: no line has begun with `%`
-abbrev pub LooksOn : ScriptReader → Type 0
-LooksOn reader = (scan_of : List ℕ → Scan) → IsPositionedBefore reader.tokenizer scan_of → IgnoresRest scan_of → ⊥
+abbrev pub RestMatters : ScriptReader → Type 0
+RestMatters reader = (scan_of : List ℕ → Scan) → IsPositionedBefore reader.tokenizer scan_of → IgnoresRest scan_of → ⊥
 
 -- that the reader's draft is the complete command `c`
 pub record HasWhole (reader : ScriptReader) (c : Command) : Type 0 where
@@ -138,7 +138,7 @@ pub record ReachesCommand (asks : Bool) (before : List ℕ → Reading) (bytes :
   pub whole : HasWhole new command
   pub after : List ℕ → Reading
   pub valid : MeansIf asks new after
-  pub reads : (rest : List ℕ) → before (bytes ++ rest) ≡ onto_commands (command ∷ []) (after rest)
+  pub reads : (rest : List ℕ) → before (bytes ++ rest) ≡ prepend_commands (command ∷ []) (after rest)
 
 -- the effect of bytes, whatever bytes follow
 abbrev pub TakesBytes : Reached → ScriptReader → List ℕ → ScriptReader → Type 0
@@ -168,9 +168,9 @@ EndsWhateverFollows reader e = (asks : Bool) (before : List ℕ → Reading) →
 -- the reading of the rest at the end of the text: possibly a last command, and the end
 abbrev pub EndsSo : Bool → Bool → ScriptEnd → Commands → Reading → Type 0
 EndsSo asks false e new r = r ≡ end_if asks e
-EndsSo asks true e new r = (c : Command) × IsWholeCommand new.draft c × (r ≡ onto_commands (c ∷ []) (end_if asks e))
+EndsSo asks true e new r = (c : Command) × IsWholeCommand new.draft c × (r ≡ prepend_commands (c ∷ []) (end_if asks e))
 
 -- the reading of the rest at the end of the text, for a reader of scripts
 abbrev pub EndsLast : Bool → Bool → ScriptEnd → ScriptReader → Reading → Type 0
 EndsLast asks false e new r = r ≡ end_if asks e
-EndsLast asks true e new r = (c : Command) × HasWhole new c × (r ≡ onto_commands (c ∷ []) (end_if asks e))
+EndsLast asks true e new r = (c : Command) × HasWhole new c × (r ≡ prepend_commands (c ∷ []) (end_if asks e))

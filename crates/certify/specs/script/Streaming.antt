@@ -49,10 +49,10 @@ Brings (Err errors.Failed) a b old new = FaultsAhead a b
 Brings (Err errors.OutOfMemory) a b old new = TakesSome true a b
 
 -- that `Arrives` holds or, with an error, that reading failed or memory ran out
-abbrev pub NextComes : Result Next ReadError → Source → Source → ScriptReader → ScriptReader → Type 0
-NextComes (Ok n) a b old new = Arrives n a b old new
-NextComes (Err errors.Failed) a b old new = FaultsAhead a b
-NextComes (Err errors.OutOfMemory) a b old new = TakesSome true a b
+abbrev pub NextCommandResult : Result Next ReadError → Source → Source → ScriptReader → ScriptReader → Type 0
+NextCommandResult (Ok n) a b old new = Arrives n a b old new
+NextCommandResult (Err errors.Failed) a b old new = FaultsAhead a b
+NextCommandResult (Err errors.OutOfMemory) a b old new = TakesSome true a b
 
 -- the largest number of further calls that can consume bytes
 abbrev pub turns_left : LastPiece → ℕ

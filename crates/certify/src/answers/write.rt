@@ -1,7 +1,8 @@
 //! Appends the lines of answers to a buffer. If memory runs out, part of a line may have been appended. A name is
 //! written as a number that is one more than the name's index.
 ghost use Rattle.std.specs.Prelude.{◌≡◌, ◌++◌, OnOk};
-ghost use Rattle.certify.specs.answers.Answers.{literals_text, malformed_line, outcome_text, refused_line, word_of};
+ghost use Rattle.certify.specs.answers.Answers.{literals_text, malformed_line, outcome_text, refused_line};
+ghost use Rattle.certify.specs.answers.Answers.{literal_text};
 ghost use Rattle.sat_checker.specs.matching.Expected.{Sat, Unsat, Unknown};
 ghost use Rattle.certify.specs.answers.AnswerForms.{named_literal, named_literals};
 ghost use Rattle.sat_base.specs.script.ScriptState.{PastLimit};
@@ -11,7 +12,7 @@ use std::alloc::AllocError;
 
 /// Appends a literal in DIMACS notation.
 pub fn push_literal(out: &mut Vec<u8>, lit: Lit) -> Result<(), AllocError>
-    ensures { OnOk result (out.new.items ≡ out.old.items ++ word_of (named_literal lit)) }
+    ensures { OnOk result (out.new.items ≡ out.old.items ++ literal_text (named_literal lit)) }
 {
     let mut bytes = [b'-'; MOST_DIGITS + 1];
     let end = write_decimal(&mut bytes, 1, lit.index() as u64 + 1);

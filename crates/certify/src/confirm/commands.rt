@@ -1,13 +1,13 @@
 //! Confirms commands one by one.
 ghost use Rattle.std.specs.Prelude.{◌≡◌, ◌+◌, ◌^◌, ◌<◌, ℕ, List, [], true, false};
 ghost use Rattle.sat_base.specs.script.Script.{Clean, Command as Spelled};
-ghost use Rattle.sat_base.specs.script.ScriptState.{start};
+ghost use Rattle.sat_base.specs.script.ScriptState.{initial_state};
 ghost use Rattle.sat_base.specs.steps.Steps.{Step};
 ghost use Rattle.sat_checker.specs.CheckerView.{kernel_of};
 ghost use Rattle.sat_checker.specs.KernelView.{kernel_looks};
 ghost use Rattle.certify.specs.answers.AnswerForms.{named_literals};
 ghost use Rattle.certify.specs.confirm.Streams.{Confirms, StepsGoOn, StepsGoOnIf, IsReadFew, SameLoan, stream_of};
-ghost use Rattle.certify.specs.confirm.VerdictPromises.{numbers};
+ghost use Rattle.certify.specs.confirm.VerdictPromises.{command_count};
 ghost use Rattle.certify.specs.confirm.Confirming.{ConfirmsAnswer, ConfirmsContent, ConfirmsLast, ConfirmsNext};
 ghost use Rattle.certify.specs.confirm.Confirming.{HoldsAt, MeetsContent, MeetsOutcome, MeetsShown, table_of};
 ghost use Rattle.certify.specs.confirm.Lines.{outcome_in};
@@ -116,7 +116,7 @@ impl ConfirmState {
     /// Returns the state before the first command.
     pub fn new(alloc: Global) -> ConfirmState
         ensures valid { (rest : List ℕ) (step : Step) → HoldsAt (table_of result.matching)
-            (record { checker = kernel_of result.matching.certificate.checker; step = step; rest = rest }) start [] }
+            (record { checker = kernel_of result.matching.certificate.checker; step = step; rest = rest }) initial_state [] }
         ensures looks { kernel_looks (kernel_of result.matching.certificate.checker) ≡ 0 }
         ensures number { result.number ≡ 0 }
         ensures waiting { waiting_bytes result.answers.lines.ahead ≡ [] }
@@ -222,7 +222,7 @@ impl ConfirmState {
     ) -> Result<(), Stop>
         requires goes_on { StepsGoOn C.seen steps.old }
         requires open_yet { IsNotAtEnd (answers_in A.seen answers.old self.old) }
-        ensures confirms { ConfirmsBoth (2 ^ 64 < self.old.number + 1 + numbers (end_reading ScriptEnd.Asked)) false
+        ensures confirms { ConfirmsBoth (2 ^ 64 < self.old.number + 1 + command_count (end_reading ScriptEnd.Asked)) false
             result A.seen C.seen answers.old answers.new steps.old steps.new self.old self.new
             (λ before following u v. ConfirmsLast (self.old.number + 1) (end_reading ScriptEnd.Asked)
             (table_of self.old.matching) before u) }
@@ -248,7 +248,7 @@ impl ConfirmState {
     ) -> Result<(), Stop>
         requires goes_on { StepsGoOn C.seen steps.old }
         requires open_yet { IsNotAtEnd (answers_in A.seen answers.old self.old) }
-        ensures confirms { ConfirmsBoth (2 ^ 64 < self.old.number + 1 + numbers (end_reading ScriptEnd.Malformed)) false
+        ensures confirms { ConfirmsBoth (2 ^ 64 < self.old.number + 1 + command_count (end_reading ScriptEnd.Malformed)) false
             result A.seen C.seen answers.old answers.new steps.old steps.new self.old self.new
             (λ before following u v. ConfirmsLast (self.old.number + 1) (end_reading ScriptEnd.Malformed)
             (table_of self.old.matching) before u) }
@@ -269,7 +269,7 @@ impl ConfirmState {
     ) -> Result<(), Stop>
         requires goes_on { StepsGoOn C.seen steps.old }
         requires open_yet { IsNotAtEnd (answers_in A.seen answers.old self.old) }
-        ensures confirms { ConfirmsBoth (2 ^ 64 < self.old.number + 1 + numbers (end_reading end)) false result A.seen
+        ensures confirms { ConfirmsBoth (2 ^ 64 < self.old.number + 1 + command_count (end_reading end)) false result A.seen
             C.seen answers.old answers.new steps.old steps.new self.old self.new
             (λ before following u v. ConfirmsLast (self.old.number + 1) (end_reading end) (table_of self.old.matching)
             before u) }

@@ -2,13 +2,13 @@
 ghost use Rattle.std.specs.Prelude.{◌≡◌, ◌+◌, ◌^◌, ◌<◌, ◌≤◌, [], ◌∷◌, true, false, OnOk};
 ghost use Rattle.sat_base.specs.script.Script.{Command as Spelled};
 ghost use Rattle.certify.specs.confirm.Streams.{StepsGoOn, IsReadFew, SameLoan};
-ghost use Rattle.certify.specs.confirm.VerdictPromises.{numbers};
+ghost use Rattle.certify.specs.confirm.VerdictPromises.{command_count};
 ghost use Rattle.certify.specs.confirm.Confirming.{ConfirmsLast, ConfirmsNext, table_of};
 ghost use Rattle.certify.specs.confirm.ConfirmStates.{ConfirmsBoth, answers_in};
 ghost use Rattle.certify.specs.confirm.ConfirmedScript.{ConfirmsScript, script_source, confirm_place};
 ghost use Rattle.certify.specs.script.LastPiece.{IsNotAtEnd};
 ghost use Rattle.certify.specs.script.Commands.{HasWhole, ReaderMeans, end_reading};
-ghost use Rattle.sat_base.specs.script.Language.{onto_commands, reading};
+ghost use Rattle.sat_base.specs.script.Language.{prepend_commands, reading};
 
 use crate::confirm::commands::ConfirmState;
 use crate::confirm::stop::{Stop, unread_script};
@@ -62,9 +62,9 @@ impl Confirmation {
         requires whole { (c : Spelled) × HasWhole self.old.script.reader c }
         ensures script { self.new.script ≡ self.old.script }
         ensures confirms { (c : Spelled) → HasWhole self.old.script.reader c
-            → ConfirmsBoth (2 ^ 64 < self.old.session.number + 1 + numbers (onto_commands (c ∷ []) (end_reading end)))
+            → ConfirmsBoth (2 ^ 64 < self.old.session.number + 1 + command_count (prepend_commands (c ∷ []) (end_reading end)))
             false result A.seen C.seen answers.old answers.new steps.old steps.new self.old.session self.new.session
-            (λ before following u v. ConfirmsLast (self.old.session.number + 1) (onto_commands (c ∷ []) (end_reading end))
+            (λ before following u v. ConfirmsLast (self.old.session.number + 1) (prepend_commands (c ∷ []) (end_reading end))
             (table_of self.old.session.matching) before u) }
     {
         self.confirm_next(answers, steps)?;

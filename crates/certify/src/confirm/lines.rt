@@ -1,6 +1,7 @@
 //! Reads answers line by line.
 ghost use Rattle.std.specs.Prelude.{◌≡◌, ◌<◌, [], false, MatchOption};
-ghost use Rattle.certify.specs.confirm.Lines.{GoesUpToLine, IsWantedLine, IsWrong, MovesFront, ReadsLineOfKind, StartsNone};
+ghost use Rattle.certify.specs.confirm.Lines.{GoesUpToLine, IsWantedLine, IsWrong, MovesPrefix, ReadsLineOfKind};
+ghost use Rattle.certify.specs.confirm.Lines.{StartsNone};
 ghost use Rattle.certify.specs.script.LastPiece.{source_in, waiting_bytes};
 
 use crate::answers::read::{AnswerKind, begins_kind, begins_line, is_front};
@@ -90,12 +91,12 @@ impl Lines {
 
     /// Consumes the bytes that were read, up to the end of the line. Returns whether the end of the line was reached.
     fn take(&mut self) -> Result<bool, AllocError>
-        ensures { MovesFront result self.old.ahead self.new.ahead self.old.line.items self.new.line.items }
+        ensures { MovesPrefix result self.old.ahead self.new.ahead self.old.line.items self.new.line.items }
     {
         let waiting = self.ahead.waiting();
         let (count, whole) = up_to_line(waiting);
         self.line.extend_from_slice(&waiting[..count])?;
-        self.ahead.take(count);
+        self.ahead.consume(count);
         Ok(whole)
     }
 

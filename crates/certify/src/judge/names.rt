@@ -3,11 +3,14 @@ ghost use Rattle.std.specs.Prelude.{◌≡◌, ◌+◌, ◌<◌, ◌≤◌, List
 ghost use Rattle.std.specs.Bool.{MatchBool};
 ghost use Rattle.sat_base.specs.values.Literals.{var_limit};
 ghost use Rattle.sat_base.specs.script.Script.{Command as Spelled, Literal, names_of};
-ghost use Rattle.sat_base.specs.script.ScriptState.{ScriptState, accepted, bring_in, names_from, new_names, refused_literal, start};
-ghost use Rattle.certify.specs.script.Commands.{IsFront, RepresentsCommand, kind_of};
+ghost use Rattle.sat_base.specs.script.ScriptState.{ScriptState, state_after_accepted, introduce, names_from};
+ghost use Rattle.sat_base.specs.script.ScriptState.{new_names, refused_literal, initial_state};
+ghost use Rattle.certify.specs.script.Commands.{IsPrefixWithinLimit, RepresentsCommand, kind_of};
 ghost use Rattle.certify.specs.answers.AnswerForms.{named_literals};
-ghost use Rattle.certify.specs.judge.Names.{BringsNothing, Changes, ComesInUse, IsInUse, ListsUsed, NamesHaveState, ReportsRefusal};
-ghost use Rattle.certify.specs.judge.Names.{changed_state, changed_to, is_of_literals, is_witnessed, limit_refusal, refusal_said};
+ghost use Rattle.certify.specs.judge.Names.{IntroducesNothing, Changes, ComesInUse, IsInUse, ListsUsed, NamesHaveState};
+ghost use Rattle.certify.specs.judge.Names.{ReportsRefusal};
+ghost use Rattle.certify.specs.judge.Names.{changed_state, changed_to, is_of_literals, is_witnessed, limit_refusal};
+ghost use Rattle.certify.specs.judge.Names.{refusal_said};
 ghost use Rattle.certify.specs.judge.Names.{state_in, states_of, taken};
 
 use super::{NameState, Refusal};
@@ -59,7 +62,7 @@ fn is_of_literals(kind: CommandKind) -> bool
 impl Names {
     /// Returns the state before the first command, in which no name has been used.
     pub fn new(alloc: Global) -> Names
-        ensures { NamesHaveState result start }
+        ensures { NamesHaveState result initial_state }
     {
         Names {
             used: 0,
@@ -102,7 +105,7 @@ impl Names {
 
     /// Whether the command is a clause or an ask all of whose names are in use. Such a command changes no names.
     pub(crate) fn are_known(&self, kind: CommandKind, literals: &[Lit]) -> bool
-        ensures { result ≡ true → BringsNothing (kind_of kind) (names_of (named_literals literals.now)) self.now }
+        ensures { result ≡ true → IntroducesNothing (kind_of kind) (names_of (named_literals literals.now)) self.now }
     {
         if !is_of_literals(kind) {
             return false;
@@ -117,7 +120,7 @@ impl Names {
 
     /// Returns why a clause or an ask with these literals is refused, or `None`.
     fn literal_refusal(&self, literals: &[Lit], past_limit: bool) -> Option<Refusal>
-        ensures judges { (j : ScriptState) (ls : List Literal) → NamesHaveState self.now j → IsFront literals.now past_limit ls
+        ensures judges { (j : ScriptState) (ls : List Literal) → NamesHaveState self.now j → IsPrefixWithinLimit literals.now past_limit ls
             → refusal_said result ≡ refused_literal j (names_of ls) }
         ensures within { result ≡ None → past_limit ≡ false }
     {
@@ -199,7 +202,7 @@ impl Names {
     fn grow(&mut self, index: usize)
         requires fresh { self.old.used ≤ index }
         requires within { index < var_limit }
-        ensures changes { Changes self.old self.new (bring_in (index + 1)) }
+        ensures changes { Changes self.old self.new (introduce (index + 1)) }
         ensures in_use { ComesInUse self.old self.new (index + 1) }
     {
         self.used = index + 1;
@@ -207,8 +210,8 @@ impl Names {
 
     /// Introduces a name. If the name has never been used, also introduces all names below it that have never
     /// been used.
-    pub fn bring_in(&mut self, var: Var)
-        ensures changes { Changes self.old self.new (bring_in (var + 1)) }
+    pub fn introduce(&mut self, var: Var)
+        ensures changes { Changes self.old self.new (introduce (var + 1)) }
         ensures in_use { ComesInUse self.old self.new (var + 1) }
     {
         let index = var.index();
@@ -250,7 +253,7 @@ impl Names {
     pub fn take(&mut self, kind: CommandKind, var: Var) -> Result<(), AllocError>
         ensures { OnOk result (Changes self.old self.new (taken (kind_of kind) (var + 1))) }
     {
-        self.bring_in(var);
+        self.introduce(var);
         self.change(kind, var)
     }
 
@@ -258,7 +261,7 @@ impl Names {
     pub fn accept(&mut self, command: Command<'_>) -> Result<(), AllocError>
         requires { command.past_limit ≡ false }
         ensures { OnOk result ((j : ScriptState) (c : Spelled) → NamesHaveState self.old j → RepresentsCommand command.entry c
-            → NamesHaveState self.new (accepted c j)) }
+            → NamesHaveState self.new (state_after_accepted c j)) }
     {
         if self.are_known(command.kind, command.literals) {
             return Ok(());

@@ -10,15 +10,15 @@ use std::alloc::AllocError;
 
 /// Why the program failed.
 #[derive(Clone, Copy, Drop)]
-pub(super) enum Fault {
+pub(super) enum ProgramFault {
     Run(RunFault),
     Confirm(ConfirmFault),
-    Hints(HintsFault),
+    Hints(HintCallFault),
 }
 
 /// Why a hint text was not written or checked.
 #[derive(Clone, Copy, Drop)]
-pub(super) enum HintsFault {
+pub(super) enum HintCallFault {
     /// The certificate or the hint text can't be read.
     Read,
     /// The hint text can't be written.
@@ -26,15 +26,15 @@ pub(super) enum HintsFault {
     OutOfMemory,
 }
 
-impl Fault {
+impl ProgramFault {
     /// Returns the name of the fault, as it is written to standard error.
     pub(super) fn name(&self) -> &'static str
         ensures { result.now ≡ fault_text self.now }
     {
         match *self {
-            Fault::Run(fault) => run_fault_name(fault),
-            Fault::Confirm(fault) => confirm_fault_name(fault),
-            Fault::Hints(fault) => hints_fault_name(fault),
+            ProgramFault::Run(fault) => run_fault_name(fault),
+            ProgramFault::Confirm(fault) => confirm_fault_name(fault),
+            ProgramFault::Hints(fault) => hints_fault_name(fault),
         }
     }
 }
@@ -67,42 +67,42 @@ fn confirm_fault_name(fault: ConfirmFault) -> &'static str
 }
 
 /// Returns the name of the variant.
-fn hints_fault_name(fault: HintsFault) -> &'static str
+fn hints_fault_name(fault: HintCallFault) -> &'static str
     ensures { result.now ≡ hints_fault_text fault }
 {
     match fault {
-        HintsFault::Read => "Read",
-        HintsFault::Write => "Write",
-        HintsFault::OutOfMemory => "OutOfMemory",
+        HintCallFault::Read => "Read",
+        HintCallFault::Write => "Write",
+        HintCallFault::OutOfMemory => "OutOfMemory",
     }
 }
 
-impl From<ReadError> for Fault {
-    fn from(e: ReadError) -> Fault {
+impl From<ReadError> for ProgramFault {
+    fn from(e: ReadError) -> ProgramFault {
         match e {
-            ReadError::Failed => Fault::Run(RunFault::ScriptRead),
-            ReadError::OutOfMemory => Fault::Run(RunFault::OutOfMemory),
+            ReadError::Failed => ProgramFault::Run(RunFault::ScriptRead),
+            ReadError::OutOfMemory => ProgramFault::Run(RunFault::OutOfMemory),
         }
     }
 }
 
-impl From<RunFault> for Fault {
-    fn from(fault: RunFault) -> Fault {
-        Fault::Run(fault)
+impl From<RunFault> for ProgramFault {
+    fn from(fault: RunFault) -> ProgramFault {
+        ProgramFault::Run(fault)
     }
 }
 
-impl From<ConfirmFault> for Fault {
-    fn from(fault: ConfirmFault) -> Fault {
-        Fault::Confirm(fault)
+impl From<ConfirmFault> for ProgramFault {
+    fn from(fault: ConfirmFault) -> ProgramFault {
+        ProgramFault::Confirm(fault)
     }
 }
 
-impl From<HintFault> for Fault {
-    fn from(fault: HintFault) -> Fault {
+impl From<HintFault> for ProgramFault {
+    fn from(fault: HintFault) -> ProgramFault {
         match fault {
-            HintFault::Read => Fault::Hints(HintsFault::Read),
-            HintFault::OutOfMemory => Fault::Hints(HintsFault::OutOfMemory),
+            HintFault::Read => ProgramFault::Hints(HintCallFault::Read),
+            HintFault::OutOfMemory => ProgramFault::Hints(HintCallFault::OutOfMemory),
         }
     }
 }

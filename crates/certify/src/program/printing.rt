@@ -1,10 +1,10 @@
 //! Writes to the standard streams, and defines the statuses.
 ghost use Rattle.std.specs.Prelude.{◌≡◌, [], OnErr, OnOk, true};
-ghost use Rattle.sat_base.specs.device.Device.{WriterBreaks, WriterTakes};
+ghost use Rattle.sat_base.specs.device.Device.{WriterFails, WriterAccepts};
 ghost use Rattle.certify.specs.run.Unfinished.{TookBytes};
 
 use crate::fault::RunFault;
-use crate::program::fault::Fault;
+use crate::program::fault::ProgramFault;
 use sat_base::CountedWrite;
 
 /// The call has done everything, and what it checked is confirmed or proved.
@@ -37,7 +37,7 @@ pub(super) fn misused<E: CountedWrite>(errors: &mut E) -> u8
 }
 
 /// Writes the name of a fault to standard error. Returns the status, which is the same for all faults.
-pub(super) fn failed<E: CountedWrite>(errors: &mut E, fault: Fault) -> u8
+pub(super) fn failed<E: CountedWrite>(errors: &mut E, fault: ProgramFault) -> u8
     ensures { result ≡ 3 }
 {
     report(errors, fault.name());
@@ -45,31 +45,31 @@ pub(super) fn failed<E: CountedWrite>(errors: &mut E, fault: Fault) -> u8
 }
 
 /// Writes to standard output. If that fails, the fault is `AnswersWrite`, whatever is written.
-pub(super) fn write_out<O: CountedWrite>(output: &mut O, bytes: &[u8]) -> Result<(), Fault>
-    ensures takes { OnOk result (WriterTakes (O.seen output.old) (O.seen output.new) bytes.now) }
-    ensures breaks { OnErr result (WriterBreaks (O.seen output.old) (O.seen output.new) bytes.now) }
+pub(super) fn write_out<O: CountedWrite>(output: &mut O, bytes: &[u8]) -> Result<(), ProgramFault>
+    ensures takes { OnOk result (WriterAccepts (O.seen output.old) (O.seen output.new) bytes.now) }
+    ensures breaks { OnErr result (WriterFails (O.seen output.old) (O.seen output.new) bytes.now) }
 {
     match output.write_all_counted(bytes) {
         Ok(()) => Ok(()),
-        Err(_) => Err(Fault::Run(RunFault::AnswersWrite)),
+        Err(_) => Err(ProgramFault::Run(RunFault::AnswersWrite)),
     }
 }
 
 /// Flushes standard output, so that no write error is missed.
-pub(super) fn flush_out<O: CountedWrite>(output: &mut O) -> Result<(), Fault>
-    ensures took { OnOk result (WriterTakes (O.seen output.old) (O.seen output.new) []) }
+pub(super) fn flush_out<O: CountedWrite>(output: &mut O) -> Result<(), ProgramFault>
+    ensures took { OnOk result (WriterAccepts (O.seen output.old) (O.seen output.new) []) }
     ensures flushed { OnOk result ((O.seen output.new).flushed ≡ true) }
     ensures kept { OnErr result (TookBytes (O.seen output.old) (O.seen output.new) []) }
 {
     match output.flush_counted() {
         Ok(()) => Ok(()),
-        Err(_) => Err(Fault::Run(RunFault::AnswersWrite)),
+        Err(_) => Err(ProgramFault::Run(RunFault::AnswersWrite)),
     }
 }
 
 /// Writes the last line to standard output, and flushes it.
-pub(super) fn print_line<O: CountedWrite>(output: &mut O, line: &[u8]) -> Result<(), Fault>
-    ensures took { OnOk result (WriterTakes (O.seen output.old) (O.seen output.new) line.now) }
+pub(super) fn print_line<O: CountedWrite>(output: &mut O, line: &[u8]) -> Result<(), ProgramFault>
+    ensures took { OnOk result (WriterAccepts (O.seen output.old) (O.seen output.new) line.now) }
     ensures flushed { OnOk result ((O.seen output.new).flushed ≡ true) }
 {
     write_out(output, line)?;

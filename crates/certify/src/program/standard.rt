@@ -1,12 +1,12 @@
 //! Handles the call without arguments: answers a script from standard input, with the certificate kept in memory.
 ghost use Rattle.std.specs.Prelude.{IfOk};
-ghost use Rattle.certify.specs.Devices.{gave, took};
+ghost use Rattle.certify.specs.Devices.{reader_before_after, writer_before_after};
 ghost use Rattle.certify.specs.program.Calls.{HasStatus};
 ghost use Rattle.certify.specs.program.Printing.{IsWritten, Prints, PrintsAtMost, PrintsPrefix, PrintsVerdict};
 
 use crate::fault::RunFault;
 use crate::headline::{Written, run_over};
-use crate::program::fault::Fault;
+use crate::program::fault::ProgramFault;
 use crate::program::printing::{flush_out, write_out};
 use crate::program::progress::report_progress;
 use crate::program::verdict_line::{confirm_texts, status};
@@ -20,7 +20,7 @@ fn print_confirmed<O: CountedWrite>(
     script: &[u8],
     written: &Written,
     output: &mut O,
-) -> Result<u8, Fault>
+) -> Result<u8, ProgramFault>
     requires { IsWritten script.now written.now }
     ensures small { HasStatus result }
     ensures printed { IfOk result (λ status. Prints status script.now (O.seen output.old) (O.seen output.new)) }
@@ -46,11 +46,11 @@ pub(super) fn answer<I: CountedRead, O: CountedWrite, E: CountedWrite>(
     input: &mut I,
     output: &mut O,
     errors: &mut E,
-) -> Result<u8, Fault>
+) -> Result<u8, ProgramFault>
     ensures small { HasStatus result }
-    ensures printed { IfOk result (λ s. PrintsVerdict s (gave I.seen input.old input.new)
-        (took O.seen output.old output.new)) }
-    ensures prefix { PrintsAtMost (gave I.seen input.old input.new) (took O.seen output.old output.new) }
+    ensures printed { IfOk result (λ s. PrintsVerdict s (reader_before_after I.seen input.old input.new)
+        (writer_before_after O.seen output.old output.new)) }
+    ensures prefix { PrintsAtMost (reader_before_after I.seen input.old input.new) (writer_before_after O.seen output.old output.new) }
 {
     let script = read_whole(alloc, input)?;
     let written = run_in_memory(alloc, &script)?;
@@ -59,14 +59,14 @@ pub(super) fn answer<I: CountedRead, O: CountedWrite, E: CountedWrite>(
 }
 
 /// Runs a script, with at most 2^64-1 rounds for each ask. If a write to memory fails, the fault is `OutOfMemory`.
-fn run_in_memory(alloc: Global, script: &[u8]) -> Result<Written, Fault>
+fn run_in_memory(alloc: Global, script: &[u8]) -> Result<Written, ProgramFault>
     ensures { IfOk result (IsWritten script.now) }
 {
     match run_over(alloc, script, u64::MAX) {
         Ok(written) => Ok(written),
         Err(RunFault::AnswersWrite | RunFault::CertificateWrite) => {
-            Err(Fault::Run(RunFault::OutOfMemory))
+            Err(ProgramFault::Run(RunFault::OutOfMemory))
         }
-        Err(fault) => Err(Fault::Run(fault)),
+        Err(fault) => Err(ProgramFault::Run(fault)),
     }
 }

@@ -1,14 +1,14 @@
 //! Carries out calls that name files, with any readers and writers instead of the files. All calls return the status.
 ghost use Rattle.std.specs.Prelude.{◌≡◌, ◌≤◌, ◌↔◌, None, [], IfOk, OnOk, true};
-ghost use Rattle.sat_base.specs.device.Device.{WriterTakes};
-ghost use Rattle.certify.specs.Devices.{gave, took};
+ghost use Rattle.sat_base.specs.device.Device.{WriterAccepts};
+ghost use Rattle.certify.specs.Devices.{reader_before_after, writer_before_after};
 ghost use Rattle.certify.specs.declared.verdict.Verdict.TheVariants.{Yes};
 ghost use Rattle.certify.specs.program.Calls.{HasStatus};
 ghost use Rattle.certify.specs.program.HintPrinting.{PrintsHintVerdict, WritesHints, hint_verdict_text, is_proved};
 ghost use Rattle.certify.specs.program.Printing.{PrintsLine, PrintsYesOrNo, Ran, yes_or_no_text};
 
 use crate::confirm::confirm;
-use crate::program::fault::{Fault, HintsFault};
+use crate::program::fault::{HintCallFault, ProgramFault};
 use crate::program::hint_line::{hint_status, push_hint_verdict};
 use crate::program::printing::{DONE, REFUSED, print_line, report};
 use crate::program::verdict_line::{push_yes_or_no, status};
@@ -39,10 +39,10 @@ pub(super) fn run_text<S: CountedRead, A: CountedWrite, C: CountedWrite>(
     answers: &mut A,
     certificate: &mut C,
     budget: u64,
-) -> Result<(u8, Progress), Fault>
+) -> Result<(u8, Progress), ProgramFault>
     ensures small { IfOk result (λ r. r.0 ≤ 1) }
-    ensures ran { IfOk result (λ r. Ran r.0 budget (gave S.seen script.old script.new)
-        (took A.seen answers.old answers.new) (took C.seen certificate.old certificate.new)) }
+    ensures ran { IfOk result (λ r. Ran r.0 budget (reader_before_after S.seen script.old script.new)
+        (writer_before_after A.seen answers.old answers.new) (writer_before_after C.seen certificate.old certificate.new)) }
 {
     let summary = run(alloc, script, answers, certificate, budget)?;
     Ok((run_status(&summary), summary.progress))
@@ -53,14 +53,14 @@ fn print_yes_or_no<O: CountedWrite>(
     alloc: Global,
     verdict: Verdict,
     output: &mut O,
-) -> Result<u8, Fault>
+) -> Result<u8, ProgramFault>
     ensures small { HasStatus result }
     ensures printed { IfOk result (λ s. PrintsLine s (yes_or_no_text verdict) (verdict ≡ Yes) (O.seen output.old)
         (O.seen output.new)) }
 {
     let mut line = Vec::new(alloc);
     if push_yes_or_no(&mut line, verdict).is_err() {
-        return Err(Fault::Confirm(ConfirmFault::OutOfMemory));
+        return Err(ProgramFault::Confirm(ConfirmFault::OutOfMemory));
     }
     print_line(output, &line)?;
     Ok(status(verdict, false))
@@ -73,11 +73,11 @@ pub(super) fn confirm_given<S: CountedRead, A: CountedRead, C: CountedRead, O: C
     answers: &mut A,
     certificate: &mut C,
     output: &mut O,
-) -> Result<u8, Fault>
+) -> Result<u8, ProgramFault>
     ensures small { HasStatus result }
-    ensures printed { IfOk result (λ s. PrintsYesOrNo s (gave S.seen script.old script.new)
-        (gave A.seen answers.old answers.new) (gave C.seen certificate.old certificate.new)
-        (took O.seen output.old output.new)) }
+    ensures printed { IfOk result (λ s. PrintsYesOrNo s (reader_before_after S.seen script.old script.new)
+        (reader_before_after A.seen answers.old answers.new) (reader_before_after C.seen certificate.old certificate.new)
+        (writer_before_after O.seen output.old output.new)) }
 {
     let mut looks = Looks::new();
     let verdict = confirm(alloc, script, answers, certificate, &mut looks)?;
@@ -91,10 +91,10 @@ pub(super) fn write_hints<C: CountedRead, H: CountedWrite, E: CountedWrite>(
     certificate: &mut C,
     hints: &mut H,
     errors: &mut E,
-) -> Result<u8, Fault>
+) -> Result<u8, ProgramFault>
     ensures small { HasStatus result }
-    ensures written { IfOk result (λ s. WritesHints s (gave C.seen certificate.old certificate.new)
-        (took H.seen hints.old hints.new)) }
+    ensures written { IfOk result (λ s. WritesHints s (reader_before_after C.seen certificate.old certificate.new)
+        (writer_before_after H.seen hints.old hints.new)) }
 {
     match convert(alloc, certificate, hints) {
         Ok(()) => finish_hints(hints),
@@ -106,21 +106,21 @@ pub(super) fn write_hints<C: CountedRead, H: CountedWrite, E: CountedWrite>(
             report(errors, "HasDeleteVar");
             Ok(REFUSED)
         }
-        Err(HintError::Read) => Err(Fault::Hints(HintsFault::Read)),
-        Err(HintError::Write) => Err(Fault::Hints(HintsFault::Write)),
-        Err(HintError::OutOfMemory) => Err(Fault::Hints(HintsFault::OutOfMemory)),
+        Err(HintError::Read) => Err(ProgramFault::Hints(HintCallFault::Read)),
+        Err(HintError::Write) => Err(ProgramFault::Hints(HintCallFault::Write)),
+        Err(HintError::OutOfMemory) => Err(ProgramFault::Hints(HintCallFault::OutOfMemory)),
     }
 }
 
 /// Flushes the writer of a hint text. Returns the status.
-fn finish_hints<H: CountedWrite>(hints: &mut H) -> Result<u8, Fault>
+fn finish_hints<H: CountedWrite>(hints: &mut H) -> Result<u8, ProgramFault>
     ensures done { IfOk result (λ status. status ≡ 0) }
-    ensures took { OnOk result (WriterTakes (H.seen hints.old) (H.seen hints.new) []) }
+    ensures took { OnOk result (WriterAccepts (H.seen hints.old) (H.seen hints.new) []) }
     ensures flushed { OnOk result ((H.seen hints.new).flushed ≡ true) }
 {
     match hints.flush_counted() {
         Ok(()) => Ok(DONE),
-        Err(_) => Err(Fault::Hints(HintsFault::Write)),
+        Err(_) => Err(ProgramFault::Hints(HintCallFault::Write)),
     }
 }
 
@@ -129,14 +129,14 @@ fn print_hint_verdict<O: CountedWrite>(
     alloc: Global,
     verdict: HintVerdict,
     output: &mut O,
-) -> Result<u8, Fault>
+) -> Result<u8, ProgramFault>
     ensures small { HasStatus result }
     ensures printed { IfOk result (λ s. PrintsLine s (hint_verdict_text verdict) (is_proved verdict ≡ true)
         (O.seen output.old) (O.seen output.new)) }
 {
     let mut line = Vec::new(alloc);
     if push_hint_verdict(&mut line, verdict).is_err() {
-        return Err(Fault::Hints(HintsFault::OutOfMemory));
+        return Err(ProgramFault::Hints(HintCallFault::OutOfMemory));
     }
     print_line(output, &line)?;
     Ok(hint_status(verdict))
@@ -147,10 +147,10 @@ pub(super) fn check_text<H: CountedRead, O: CountedWrite>(
     alloc: Global,
     text: &mut H,
     output: &mut O,
-) -> Result<u8, Fault>
+) -> Result<u8, ProgramFault>
     ensures small { HasStatus result }
-    ensures printed { IfOk result (λ s. PrintsHintVerdict s (gave H.seen text.old text.new)
-        (took O.seen output.old output.new)) }
+    ensures printed { IfOk result (λ s. PrintsHintVerdict s (reader_before_after H.seen text.old text.new)
+        (writer_before_after O.seen output.old output.new)) }
 {
     let verdict = check(alloc, text)?;
     print_hint_verdict(alloc, verdict, output)

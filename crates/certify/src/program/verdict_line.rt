@@ -1,7 +1,7 @@
 //! The verdict on three texts, the line that reports it, and the status for it.
 ghost use Rattle.std.specs.Prelude.{◌≡◌, ◌≤◌, ◌↔◌, ◌++◌, IfOk, OnOk, false};
 ghost use Rattle.certify.specs.declared.verdict.Verdict.TheVariants.{Yes};
-ghost use Rattle.certify.specs.laws.EndToEnd.{VerdictSays};
+ghost use Rattle.certify.specs.laws.EndToEnd.{VerdictGuarantee};
 ghost use Rattle.certify.specs.program.Printing.{no_text, verdict_text, yes_or_no_text};
 
 use crate::headline::confirm_over;
@@ -66,7 +66,7 @@ pub(super) fn confirm_texts(
     certificate: &[u8],
     line: &mut Vec<u8>,
 ) -> Result<Verdict, ConfirmFault>
-    ensures says { IfOk result (VerdictSays script.now answers.now certificate.now) }
+    ensures says { IfOk result (VerdictGuarantee script.now answers.now certificate.now) }
     ensures line { IfOk result (λ v. line.new.items ≡ line.old.items ++ verdict_text v) }
 {
     let mut looks = Looks::new();

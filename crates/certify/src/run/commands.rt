@@ -1,11 +1,12 @@
 //! Serves commands.
 ghost use Rattle.std.specs.Prelude.{◌≡◌, ◌<◌, ◌-◌, ◌^◌, ◌∷◌, [], false, OnOk};
-ghost use Rattle.sat_base.specs.script.Language.{Reading, onto_commands};
+ghost use Rattle.sat_base.specs.script.Language.{Reading, prepend_commands};
 ghost use Rattle.sat_base.specs.script.Script.{Command as Spelled};
-ghost use Rattle.sat_base.specs.script.ScriptState.{ScriptState, accepted};
+ghost use Rattle.sat_base.specs.script.ScriptState.{ScriptState, state_after_accepted};
 ghost use Rattle.certify.specs.judge.Names.{NamesHaveState};
 ghost use Rattle.certify.specs.script.Commands.{RepresentsCommand, RepresentsSomeCommand};
-ghost use Rattle.certify.specs.run.BetweenCommands.{NamesAllow, CarriedOut, CausedBy, CausedOver, RunGoesOn, ServedNext};
+ghost use Rattle.certify.specs.run.BetweenCommands.{NamesAllow, CarriedOut, CausedBy, CausedOver, RunGoesOn};
+ghost use Rattle.certify.specs.run.BetweenCommands.{ServedNext};
 ghost use Rattle.certify.specs.run.BetweenCommands.{StopsCarrying, StopsOver, WritesBoth, represented_by};
 
 use super::ask::answer_ask;
@@ -61,7 +62,7 @@ fn take_allowed<A: CountedWrite, C: CountedWrite + Drop>(
         → StopsCarrying result session.old (represented_by command.entry) left (A.seen answers.old) (A.seen answers.new) }
     ensures cause { CausedBy result session.old session.new (represented_by command.entry) }
     ensures names { OnOk result ((j : ScriptState) (c : Spelled) → NamesHaveState session.old.names j → RepresentsCommand command.entry c
-        → NamesHaveState session.new.names (accepted c j)) }
+        → NamesHaveState session.new.names (state_after_accepted c j)) }
     ensures written { WritesBoth result C.seen (A.seen answers.old) (A.seen answers.new) session.old.solver
         session.new.solver }
 {
@@ -82,9 +83,9 @@ pub fn take_command<A: CountedWrite, C: CountedWrite + Drop>(
     ensures served { (c : Spelled) → RepresentsCommand command.entry c
         → OnOk result (ServedNext C.seen session.old session.new c (A.seen answers.old) (A.seen answers.new)) }
     ensures stops { (c : Spelled) → RepresentsCommand command.entry c → (left : Reading)
-        → StopsOver result session.old (onto_commands (c ∷ []) left) (A.seen answers.old) (A.seen answers.new) }
+        → StopsOver result session.old (prepend_commands (c ∷ []) left) (A.seen answers.old) (A.seen answers.new) }
     ensures cause { (c : Spelled) → RepresentsCommand command.entry c → (left : Reading)
-        → CausedOver result session.old session.new (onto_commands (c ∷ []) left) }
+        → CausedOver result session.old session.new (prepend_commands (c ∷ []) left) }
     ensures written { WritesBoth result C.seen (A.seen answers.old) (A.seen answers.new) session.old.solver
         session.new.solver }
 {

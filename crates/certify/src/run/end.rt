@@ -1,12 +1,13 @@
 //! Ends a run.
 ghost use Rattle.std.specs.Prelude.{◌≡◌, [], true, Err, OnErr, OnOk, Some};
-ghost use Rattle.sat_base.specs.device.Device.{WriterTakes};
+ghost use Rattle.sat_base.specs.device.Device.{WriterAccepts};
 ghost use Rattle.sat_solver.specs.proof.ProofView.{GivesWriter, target_of};
 ghost use Rattle.certify.specs.Devices.{OneFailed};
 ghost use Rattle.certify.specs.run.Unfinished.{TookBytes};
 ghost use Rattle.sat_solver.specs.solver.View.{proof_in};
 ghost use Rattle.certify.specs.run.SolverCalls.{IsReadySolver};
-ghost use Rattle.certify.specs.run.Ending.{EndsCertificate, EndsRun, FinishesRun, GivesFront, HasTarget, HasOpenTarget};
+ghost use Rattle.certify.specs.run.Ending.{EndsCertificate, EndsRun, FinishesRun, GivesPrefix, HasTarget};
+ghost use Rattle.certify.specs.run.Ending.{HasOpenTarget};
 
 use super::faults::fault_of;
 use super::session::RunState;
@@ -19,7 +20,7 @@ use sat_solver::Solver;
 fn give_back<C: CountedWrite + Drop>(solver: Solver<C>) -> C
     requires { HasTarget C.seen solver }
     ensures gives { GivesWriter (target_of C.seen (proof_in solver)) (Some (C.seen result)) }
-    ensures front { GivesFront C.seen solver result }
+    ensures front { GivesPrefix C.seen solver result }
 {
     match solver.into_target() {
         Some(certificate) => certificate,
@@ -33,7 +34,7 @@ fn close_certificate<C: CountedWrite + Drop>(solver: Solver<C>) -> (C, Result<()
     requires ready { IsReadySolver solver }
     requires target { HasOpenTarget C.seen solver }
     ensures closes { EndsCertificate C.seen result.1 solver result.0 }
-    ensures front { GivesFront C.seen solver result.0 }
+    ensures front { GivesPrefix C.seen solver result.0 }
 {
     let mut solver = solver;
     match solver.close_proof() {
@@ -48,7 +49,7 @@ fn close_certificate<C: CountedWrite + Drop>(solver: Solver<C>) -> (C, Result<()
 
 /// Flushes the answers' writer, so that no write error is missed.
 fn flush_answers<A: CountedWrite>(answers: &mut A) -> Result<(), RunFault>
-    ensures took { OnOk result (WriterTakes (A.seen answers.old) (A.seen answers.new) []) }
+    ensures took { OnOk result (WriterAccepts (A.seen answers.old) (A.seen answers.new) []) }
     ensures flushed { OnOk result ((A.seen answers.new).flushed ≡ true) }
     ensures fails { OnErr result (OneFailed (A.seen answers.old) (A.seen answers.new)) }
     ensures fault { OnErr result (result ≡ Err RunFault.AnswersWrite) }
@@ -68,7 +69,7 @@ fn finish<A: CountedWrite, C: CountedWrite + Drop>(
     requires ready { IsReadySolver solver }
     requires target { HasOpenTarget C.seen solver }
     ensures finishes { FinishesRun C.seen result.1 solver result.0 (A.seen answers.old) (A.seen answers.new) }
-    ensures front { GivesFront C.seen solver result.0 }
+    ensures front { GivesPrefix C.seen solver result.0 }
 {
     let (certificate, closed) = close_certificate(solver);
     match closed {
@@ -88,7 +89,7 @@ pub(crate) fn end_run<A: CountedWrite, C: CountedWrite + Drop>(
     requires target { OnOk served (HasOpenTarget C.seen session.solver) }
     requires some { HasTarget C.seen session.solver }
     ensures ends { EndsRun C.seen served result.1 session result.0 (A.seen answers.old) (A.seen answers.new) }
-    ensures front { GivesFront C.seen session.solver result.0 }
+    ensures front { GivesPrefix C.seen session.solver result.0 }
 {
     let RunState {
         names: _names,

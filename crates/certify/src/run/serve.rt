@@ -1,15 +1,17 @@
 //! Serves the commands of a script as they are read, and then its end.
 ghost use Rattle.std.specs.Prelude.{◌≡◌, ◌+◌, ◌∷◌, [], false, IfErr, IfOk, OnErr, OnOk};
-ghost use Rattle.sat_base.specs.device.Device.{WriterTakes};
-ghost use Rattle.sat_base.specs.script.ScriptState.{ScriptState, start};
+ghost use Rattle.sat_base.specs.device.Device.{WriterAccepts};
+ghost use Rattle.sat_base.specs.script.ScriptState.{ScriptState, initial_state};
 ghost use Rattle.sat_base.specs.script.Script.{Command as Spelled, Malformed};
 ghost use Rattle.certify.specs.answers.Answers.{malformed_line};
 ghost use Rattle.certify.specs.script.LastPiece.{IsNotAtEnd, source_in};
-ghost use Rattle.certify.specs.script.Commands.{RepresentsCommand, RepresentsSomeCommand, ReaderMeans, MeansIf, end_reading};
-ghost use Rattle.sat_base.specs.script.Language.{Reading, onto_commands, reading, written};
-ghost use Rattle.certify.specs.run.Unfinished.{TookAnswersFront};
+ghost use Rattle.certify.specs.script.Commands.{RepresentsCommand, RepresentsSomeCommand, ReaderMeans, MeansIf};
+ghost use Rattle.certify.specs.script.Commands.{end_reading};
+ghost use Rattle.sat_base.specs.script.Language.{Reading, prepend_commands, reading, plain_reading};
+ghost use Rattle.certify.specs.run.Unfinished.{TookAnswersPrefix};
 ghost use Rattle.certify.specs.run.SolverCalls.{IsCaused, IsReadySolver};
-ghost use Rattle.certify.specs.run.BetweenCommands.{CausedOver, RunGoesOn, HasStateBetweenCommands, ServedNext, StopsOver, WritesBoth};
+ghost use Rattle.certify.specs.run.BetweenCommands.{CausedOver, RunGoesOn, HasStateBetweenCommands, ServedNext};
+ghost use Rattle.certify.specs.run.BetweenCommands.{StopsOver, WritesBoth};
 ghost use Rattle.certify.specs.run.ServedScript.{ServesScript, ServesWhole, run_fault};
 
 use super::ask::answer_ask;
@@ -43,9 +45,9 @@ fn serve_next<A: CountedWrite, C: CountedWrite + Drop>(
     ensures served { (c : Spelled) → RepresentsCommand command.entry c
         → OnOk result (ServedNext C.seen session.old session.new c (A.seen answers.old) (A.seen answers.new)) }
     ensures stops { (c : Spelled) → RepresentsCommand command.entry c → (left : Reading)
-        → StopsOver result session.old (onto_commands (c ∷ []) left) (A.seen answers.old) (A.seen answers.new) }
+        → StopsOver result session.old (prepend_commands (c ∷ []) left) (A.seen answers.old) (A.seen answers.new) }
     ensures cause { (c : Spelled) → RepresentsCommand command.entry c → (left : Reading)
-        → CausedOver result session.old session.new (onto_commands (c ∷ []) left) }
+        → CausedOver result session.old session.new (prepend_commands (c ∷ []) left) }
     ensures written { WritesBoth result C.seen (A.seen answers.old) (A.seen answers.new) session.old.solver
         session.new.solver }
 {
@@ -61,10 +63,10 @@ fn report_malformed<A: CountedWrite, C: CountedWrite + Drop>(
     answers: &mut A,
     number: u64,
 ) -> Result<(), RunFault>
-    ensures takes { OnOk result (WriterTakes (A.seen answers.old) (A.seen answers.new) (malformed_line number)) }
+    ensures takes { OnOk result (WriterAccepts (A.seen answers.old) (A.seen answers.new) (malformed_line number)) }
     ensures same { session.new ≡ record session.old { page = session.new.page } }
     ensures stops { (j : ScriptState) → OnErr result
-        (TookAnswersFront session.old.budget session.old.solver.clock.rounds number j ([], Malformed)
+        (TookAnswersPrefix session.old.budget session.old.solver.clock.rounds number j ([], Malformed)
         (A.seen answers.old) (A.seen answers.new)) }
     ensures cause { IfErr result (λ e. IsCaused e ⊥ ⊥) }
     ensures written { WritesBoth result C.seen (A.seen answers.old) (A.seen answers.new) session.old.solver
@@ -118,13 +120,13 @@ fn serve_last<A: CountedWrite, C: CountedWrite + Drop>(
     requires goes_on { RunGoesOn session.old }
     requires whole { RepresentsSomeCommand command }
     ensures serves { (c : Spelled) → RepresentsCommand command.entry c → (j : ScriptState) → HasStateBetweenCommands session.old j
-        → IfOk result (λ at. ServesWhole C.seen j (onto_commands (c ∷ []) (end_reading end)) 1 at session.old
+        → IfOk result (λ at. ServesWhole C.seen j (prepend_commands (c ∷ []) (end_reading end)) 1 at session.old
         session.new (A.seen answers.old) (A.seen answers.new)) }
     ensures stops { (c : Spelled) → RepresentsCommand command.entry c
-        → StopsOver result session.old (onto_commands (c ∷ []) (end_reading end)) (A.seen answers.old)
+        → StopsOver result session.old (prepend_commands (c ∷ []) (end_reading end)) (A.seen answers.old)
         (A.seen answers.new) }
     ensures cause { (c : Spelled) → RepresentsCommand command.entry c
-        → CausedOver result session.old session.new (onto_commands (c ∷ []) (end_reading end)) }
+        → CausedOver result session.old session.new (prepend_commands (c ∷ []) (end_reading end)) }
     ensures ready { OnOk result (IsReadySolver session.new.solver) }
     ensures written { WritesBoth result C.seen (A.seen answers.old) (A.seen answers.new) session.old.solver
         session.new.solver }
@@ -142,11 +144,11 @@ pub(crate) fn serve_all<S: CountedRead, A: CountedWrite, C: CountedWrite + Drop>
     answers: &mut A,
 ) -> Result<Option<u64>, RunFault>
     requires goes_on { RunGoesOn session.old }
-    requires at { HasStateBetweenCommands session.old start }
+    requires at { HasStateBetweenCommands session.old initial_state }
     requires open_yet { IsNotAtEnd (source_in S.seen script.old stream.old.ahead) }
     requires means { ReaderMeans stream.old.reader reading }
-    requires counts { MeansIf false stream.old.reader written }
-    ensures { ServesScript C.seen start reading written result (source_in S.seen script.old stream.old.ahead)
+    requires counts { MeansIf false stream.old.reader plain_reading }
+    ensures { ServesScript C.seen initial_state reading plain_reading result (source_in S.seen script.old stream.old.ahead)
         (source_in S.seen script.new stream.new.ahead) session.old session.new (A.seen answers.old)
         (A.seen answers.new) }
 {

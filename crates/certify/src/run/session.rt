@@ -1,7 +1,7 @@
 //! The state of a run between commands.
 ghost use Rattle.std.specs.Prelude.{◌≡◌, [], ◌+◌};
 ghost use Rattle.sat_base.specs.device.Sink.{empty_sink};
-ghost use Rattle.sat_base.specs.script.ScriptState.{start};
+ghost use Rattle.sat_base.specs.script.ScriptState.{initial_state};
 ghost use Rattle.sat_solver.specs.variables.Calls.{NamesAgree};
 ghost use Rattle.sat_solver.specs.proof.Counting.{nothing_counted as uncounted};
 ghost use Rattle.sat_solver.specs.proof.ProofView.{Open, target_of};
@@ -40,7 +40,7 @@ pub struct RunState<C: CountedWrite + Drop> {
 /// Returns a solver that writes its proof steps to `certificate`.
 fn solver_into<C: CountedWrite + Drop>(alloc: Global, certificate: C) -> Solver<C>
     ensures ready { IsReadySolver result }
-    ensures agree { NamesAgree result.names [] start [] }
+    ensures agree { NamesAgree result.names [] initial_state [] }
     ensures steps { steps_in result ≡ [] }
     ensures target { target_of C.seen (proof_in result)
         ≡ Open ProofFormat.Varisat uncounted (empty_sink (C.seen certificate)) }
@@ -62,7 +62,7 @@ impl<C: CountedWrite + Drop> RunState<C> {
     /// Returns the state before the first command. The run writes its certificate to `certificate`.
     pub fn new(alloc: Global, certificate: C, budget: u64) -> RunState<C>
         ensures goes_on { RunGoesOn result }
-        ensures at { HasStateBetweenCommands result start }
+        ensures at { HasStateBetweenCommands result initial_state }
         ensures steps { steps_in result.solver ≡ [] }
         ensures target { target_of C.seen (proof_in result.solver)
             ≡ Open ProofFormat.Varisat uncounted (empty_sink (C.seen certificate)) }

@@ -1,10 +1,11 @@
 //! The state of a script reader between tokens, and the effect of each token.
 ghost use Rattle.std.specs.Prelude.{◌≡◌, ◌<◌, ◌&&◌, ◌||◌, ℕ, [], ◌∷◌, Bool, false, not, IfOk};
 ghost use Rattle.sat_base.specs.text.Text.{Token as Spelled, Letter, Number};
-ghost use Rattle.sat_base.specs.text.Tokenizing.{held, held_token};
-ghost use Rattle.sat_base.specs.script.Language.{CommandHand, Nothing, may_stand};
-ghost use Rattle.certify.specs.script.Commands.{BeginsKind, EndsSo, HoldsHand, TakesToken, end_if, is_ask_kind};
-ghost use Rattle.certify.specs.script.Commands.{kind_of, meaning};
+ghost use Rattle.sat_base.specs.text.Tokenizing.{capped, capped_token};
+ghost use Rattle.sat_base.specs.script.Language.{PartialCommand, Nothing, allows_sign};
+ghost use Rattle.certify.specs.script.Commands.{BeginsKind, EndsSo, HoldsPartialCommand, TakesToken, end_if};
+ghost use Rattle.certify.specs.script.Commands.{is_ask_kind};
+ghost use Rattle.certify.specs.script.Commands.{kind_of, remaining_reading};
 
 use super::draft::Draft;
 use super::{CommandKind, Reached, ScriptEnd};
@@ -36,8 +37,8 @@ fn kind_of_letter(letter: u8) -> Option<CommandKind>
 
 /// Whether a command of this kind can have a literal with this sign. Commands that list names have only positive ones.
 #[inline(always)]
-fn may_stand(kind: CommandKind, positive: bool) -> bool
-    ensures { result ≡ may_stand (kind_of kind) positive }
+fn allows_sign(kind: CommandKind, positive: bool) -> bool
+    ensures { result ≡ allows_sign (kind_of kind) positive }
 {
     match kind {
         CommandKind::Clause => true,
@@ -58,7 +59,7 @@ fn is_ask(kind: CommandKind) -> bool
 impl Commands {
     /// Returns the state before the first token.
     pub fn new(alloc: Global) -> Commands
-        ensures draft { HoldsHand result.draft Nothing }
+        ensures draft { HoldsPartialCommand result.draft Nothing }
         ensures headed { result.headed ≡ false }
         ensures asked { result.asked ≡ false }
     {
@@ -89,11 +90,11 @@ impl Commands {
     #[inline(always)]
     fn add_literal(&mut self, name: u64, negative: bool) -> Result<Reached, AllocError>
         requires { 0 < name }
-        ensures { IfOk result (λ reached. (value : ℕ) → name ≡ held value
+        ensures { IfOk result (λ reached. (value : ℕ) → name ≡ capped value
             → TakesToken reached self.old (Number negative value) self.new) }
     {
         self.draft.open();
-        if !may_stand(self.draft.kind, !negative) {
+        if !allows_sign(self.draft.kind, !negative) {
             return Ok(Reached::Malformed);
         }
         self.draft.add(name, !negative)?;
@@ -118,7 +119,7 @@ impl Commands {
     /// Consumes the next token.
     #[inline(always)]
     pub fn take(&mut self, token: Token) -> Result<Reached, AllocError>
-        ensures { IfOk result (λ reached. (t : Spelled) → token ≡ held_token t
+        ensures { IfOk result (λ reached. (t : Spelled) → token ≡ capped_token t
             → TakesToken reached self.old t self.new) }
     {
         match token {
@@ -147,8 +148,8 @@ impl Commands {
 
     /// Returns how the script ends if its text ends here, after a complete command or within one.
     pub fn ending(&self) -> ScriptEnd
-        ensures { (asks : Bool) (hand : CommandHand) → HoldsHand self.now.draft hand
-            → end_if asks result ≡ meaning asks self.now hand [] }
+        ensures { (asks : Bool) (hand : PartialCommand) → HoldsPartialCommand self.now.draft hand
+            → end_if asks result ≡ remaining_reading asks self.now hand [] }
     {
         if self.draft.is_open {
             return ScriptEnd::Malformed;
@@ -162,9 +163,9 @@ impl Commands {
     /// Consumes the last token, which ends with the text. Returns whether the token completes a command, as a `0` does,
     /// and how the script ends.
     pub fn finish_with(&mut self, token: Token) -> (bool, ScriptEnd)
-        ensures { (t : Spelled) → token ≡ held_token t → (asks : Bool) (hand : CommandHand)
-            → HoldsHand self.old.draft hand
-            → EndsSo asks result.0 result.1 self.new (meaning asks self.old hand (t ∷ [])) }
+        ensures { (t : Spelled) → token ≡ capped_token t → (asks : Bool) (hand : PartialCommand)
+            → HoldsPartialCommand self.old.draft hand
+            → EndsSo asks result.0 result.1 self.new (remaining_reading asks self.old hand (t ∷ [])) }
     {
         match token {
             Token::Number { value, .. } => {

@@ -1,8 +1,8 @@
 //! The command that is being read.
 ghost use Rattle.std.specs.Prelude.{◌<◌, ◌++◌, ◌∷◌, [], List, true, false, OnOk};
 ghost use Rattle.sat_base.specs.script.Script.{Literal};
-ghost use Rattle.sat_base.specs.script.Language.{CommandHand, Kind, Nothing, Within, command_in};
-ghost use Rattle.certify.specs.script.Commands.{HoldsHand, IsNumbered, IsWholeCommand, kind_of, opened};
+ghost use Rattle.sat_base.specs.script.Language.{PartialCommand, Kind, Nothing, Within, command_in};
+ghost use Rattle.certify.specs.script.Commands.{HoldsPartialCommand, IsNumbered, IsWholeCommand, kind_of, opened};
 
 use super::CommandKind;
 use sat_base::{Lit, Var};
@@ -22,7 +22,7 @@ pub(crate) struct Draft {
 impl Draft {
     /// Returns a draft without a command. Never allocates.
     pub fn new(alloc: Global) -> Draft
-        ensures { HoldsHand result Nothing }
+        ensures { HoldsPartialCommand result Nothing }
     {
         Draft {
             kind: CommandKind::Clause,
@@ -35,7 +35,7 @@ impl Draft {
     /// Begins a command.
     #[inline(always)]
     pub fn begin(&mut self, kind: CommandKind)
-        ensures { HoldsHand self.new (Within (kind_of kind) []) }
+        ensures { HoldsPartialCommand self.new (Within (kind_of kind) []) }
     {
         self.kind = kind;
         self.literals.clear();
@@ -48,7 +48,7 @@ impl Draft {
     pub fn add(&mut self, name: u64, positive: bool) -> Result<(), AllocError>
         requires { 0 < name }
         ensures { OnOk result ((kind : Kind) (ls : List Literal) (l : Literal) → IsNumbered l name positive
-            → HoldsHand self.old (Within kind ls) → HoldsHand self.new (Within kind (ls ++ l ∷ []))) }
+            → HoldsPartialCommand self.old (Within kind ls) → HoldsPartialCommand self.new (Within kind (ls ++ l ∷ []))) }
     {
         if self.past_limit {
             return Ok(());
@@ -65,7 +65,7 @@ impl Draft {
     /// Begins a clause if no command is being read.
     #[inline(always)]
     pub fn open(&mut self)
-        ensures { (hand : CommandHand) → HoldsHand self.old hand → HoldsHand self.new (opened hand) }
+        ensures { (hand : PartialCommand) → HoldsPartialCommand self.old hand → HoldsPartialCommand self.new (opened hand) }
     {
         if !self.is_open {
             self.begin(CommandKind::Clause);
@@ -76,8 +76,8 @@ impl Draft {
     /// command is the clause without literals.
     #[inline(always)]
     pub fn end(&mut self)
-        ensures none { HoldsHand self.new Nothing }
-        ensures whole { (hand : CommandHand) → HoldsHand self.old hand → IsWholeCommand self.new (command_in hand) }
+        ensures none { HoldsPartialCommand self.new Nothing }
+        ensures whole { (hand : PartialCommand) → HoldsPartialCommand self.old hand → IsWholeCommand self.new (command_in hand) }
     {
         self.open();
         self.is_open = false;

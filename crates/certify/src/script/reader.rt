@@ -1,11 +1,12 @@
 //! Reads scripts.
 ghost use Rattle.std.specs.Prelude.{◌≡◌, ◌<◌, ◌≤◌, ℕ, Bool, false, List, [], None, length, take, IfOk, MatchOption};
 ghost use Rattle.sat_base.specs.script.Script.{Command as SpelledCommand};
-ghost use Rattle.sat_base.specs.script.Language.{Reading, reading, written};
+ghost use Rattle.sat_base.specs.script.Language.{Reading, reading, plain_reading};
 ghost use Rattle.sat_base.specs.text.Text.{Scan};
-ghost use Rattle.sat_base.specs.text.Tokenizing.{IsPositionedBefore, TakesFront};
+ghost use Rattle.sat_base.specs.text.Tokenizing.{IsPositionedBefore, ReceivesPrefix};
 ghost use Rattle.sat_base.specs.text.WrongWords.{HasValidContinuation};
-ghost use Rattle.certify.specs.script.Commands.{EndsLast, EndsWhateverFollows, HasWhole, RepresentsCommand, LooksOn, MayGoOn};
+ghost use Rattle.certify.specs.script.Commands.{EndsLast, EndsWhateverFollows, HasWhole, RepresentsCommand};
+ghost use Rattle.certify.specs.script.Commands.{RestMatters, CanContinue};
 ghost use Rattle.certify.specs.script.Commands.{MeansIf, ReaderMeans, TakesBytes};
 
 use super::commands::Commands;
@@ -29,7 +30,7 @@ fn take_token(tokenizer: &mut Tokenizer, bytes: &[u8]) -> (usize, Option<Token>)
     requires { 0 < length bytes.now }
     ensures some { 0 < result.0 }
     ensures within { result.0 ≤ length bytes.now }
-    ensures takes { TakesFront tokenizer.old (take result.0 bytes.now) result.1 tokenizer.new }
+    ensures takes { ReceivesPrefix tokenizer.old (take result.0 bytes.now) result.1 tokenizer.new }
     ensures right { (result.1 ≡ None → ⊥) → (after : List ℕ → Scan) → IsPositionedBefore tokenizer.new after
         → HasValidContinuation after }
 {
@@ -43,7 +44,7 @@ impl ScriptReader {
     /// Returns a reader for a new script.
     pub fn new(alloc: Global) -> ScriptReader
         ensures means { ReaderMeans result reading }
-        ensures counts { MeansIf false result written }
+        ensures counts { MeansIf false result plain_reading }
     {
         ScriptReader {
             tokenizer: Tokenizer::new(),
@@ -70,7 +71,7 @@ impl ScriptReader {
         // In the case `More`, all bytes were consumed.
         ensures all { IfOk result (λ r. r.1 ≡ Reached.More → r.0 ≡ length bytes.now) }
         // A malformed word is reported at the first byte after which it can no longer become a valid one.
-        ensures right { IfOk result (λ r. 0 < length bytes.now → r.1 ≡ Reached.More → MayGoOn self.new) }
+        ensures right { IfOk result (λ r. 0 < length bytes.now → r.1 ≡ Reached.More → CanContinue self.new) }
         ensures takes { IfOk result (λ r. TakesBytes r.1 self.old (take r.0 bytes.now) self.new) }
     {
         let mut at = 0;
@@ -95,7 +96,7 @@ impl ScriptReader {
     /// If a line has begun with `%`, returns how the script ends, since whatever follows is ignored. Otherwise
     /// returns `None`.
     pub fn end_if_over(&self) -> Option<ScriptEnd>
-        ensures { MatchOption result (LooksOn self.now) (EndsWhateverFollows self.now) }
+        ensures { MatchOption result (RestMatters self.now) (EndsWhateverFollows self.now) }
     {
         if self.tokenizer.is_over() {
             return Some(self.commands.ending());

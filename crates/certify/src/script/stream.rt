@@ -2,9 +2,10 @@
 ghost use Rattle.std.specs.Prelude.{◌≡◌, [], false};
 ghost use Rattle.sat_base.specs.script.Script.{Command as SpelledCommand};
 ghost use Rattle.certify.specs.script.LastPiece.{IsNotAtEnd, source_in, waiting_bytes};
-ghost use Rattle.certify.specs.script.Commands.{HasWhole, RepresentsCommand, LooksOn, MeansIf, ReaderMeans};
-ghost use Rattle.sat_base.specs.script.Language.{reading, written};
-ghost use Rattle.certify.specs.script.Streaming.{Brings, NextComes, LeavesFewerTurns, FinishesText, TakesWaiting};
+ghost use Rattle.certify.specs.script.Commands.{HasWhole, RepresentsCommand, RestMatters, MeansIf, ReaderMeans};
+ghost use Rattle.sat_base.specs.script.Language.{reading, plain_reading};
+ghost use Rattle.certify.specs.script.Streaming.{Brings, NextCommandResult, LeavesFewerTurns, FinishesText};
+ghost use Rattle.certify.specs.script.Streaming.{TakesWaiting};
 
 use super::reader::ScriptReader;
 use super::{Command, Reached, ScriptEnd};
@@ -34,7 +35,7 @@ impl CommandStream {
     /// Returns a stream of the commands of a new script.
     pub fn new(alloc: Global) -> CommandStream
         ensures means { ReaderMeans result.reader reading }
-        ensures counts { MeansIf false result.reader written }
+        ensures counts { MeansIf false result.reader plain_reading }
         ensures waiting { waiting_bytes result.ahead ≡ [] }
         ensures reads { result.ahead.reads ≡ 0 }
     {
@@ -56,7 +57,7 @@ impl CommandStream {
         ensures { TakesWaiting result self.old self.new }
     {
         let (count, reached) = self.reader.push(self.ahead.waiting())?;
-        self.ahead.take(count);
+        self.ahead.consume(count);
         Ok(reached)
     }
 
@@ -76,7 +77,7 @@ impl CommandStream {
     /// far must have been consumed, and no line may have begun with `%`.
     fn refill<S: CountedRead>(&mut self, script: &mut S) -> Result<Option<Next>, ReadError>
         requires waiting { waiting_bytes self.old.ahead ≡ [] }
-        requires looks_on { LooksOn self.old.reader }
+        requires looks_on { RestMatters self.old.reader }
         ensures brings { Brings result (source_in S.seen script.old self.old.ahead)
             (source_in S.seen script.new self.new.ahead) self.old.reader self.new.reader }
         ensures falls { LeavesFewerTurns result self.old.ahead self.new.ahead }
@@ -123,7 +124,7 @@ impl CommandStream {
     /// Reads up to the end of the next command, or to the end of the text.
     pub fn next<S: CountedRead>(&mut self, script: &mut S) -> Result<Next, ReadError>
         requires { IsNotAtEnd (source_in S.seen script.old self.old.ahead) }
-        ensures { NextComes result (source_in S.seen script.old self.old.ahead)
+        ensures { NextCommandResult result (source_in S.seen script.old self.old.ahead)
             (source_in S.seen script.new self.new.ahead) self.old.reader self.new.reader }
     {
         loop {

@@ -49,8 +49,8 @@ CountsWrite r piece old new failed = MatchResult r
     (λ _. (new ≡ old + 1) × (failed ≡ true))
 
 -- that a call appends the first n bytes of `piece` to `old` if it returns `Ok n`, and nothing if it fails
-abbrev pub AppendsFront : {E : Type 0} → Result ℕ E → List ℕ → List ℕ → List ℕ → Type 0
-AppendsFront r piece old new = MatchResult r (λ n. new ≡ old ++ take n piece) (λ _. new ≡ old)
+abbrev pub AppendsPrefix : {E : Type 0} → Result ℕ E → List ℕ → List ℕ → List ℕ → Type 0
+AppendsPrefix r piece old new = MatchResult r (λ n. new ≡ old ++ take n piece) (λ _. new ≡ old)
 
 -- that `ended` is true exactly when the call succeeds and gives nothing although there was room
 abbrev pub EndsIfNone : {E : Type 0} → Result ℕ E → List ℕ → Bool → Type 0
@@ -60,7 +60,7 @@ EndsIfNone r piece ended = MatchResult r (λ n. ended ≡ (nat_eq n 0 && nat_lt 
 -- were read.
 pub record ReadsOnce {E : Type 0} (r : Result ℕ E) (room : List ℕ) (old new : Reader) : Type 0 where
   pub known_bytes : ReadConsumes old.to_come new.to_come r room
-  pub given : AppendsFront r room old.given new.given
+  pub given : AppendsPrefix r room old.given new.given
   pub ended : EndsIfNone r room new.ended
   pub failures : CountsErr r old.failures new.failures new.failed
   pub calls : new.calls ≡ old.calls + 1
@@ -69,7 +69,7 @@ pub record ReadsOnce {E : Type 0} (r : Result ℕ E) (room : List ℕ) (old new 
 -- the effect of one write of a piece
 pub record WritesOnce {E : Type 0} (r : Result ℕ E) (piece : List ℕ) (old new : Writer) : Type 0 where
   pub known_bytes : WriteAppends old.contents new.contents r piece
-  pub taken : AppendsFront r piece old.taken new.taken
+  pub taken : AppendsPrefix r piece old.taken new.taken
   pub flushed : new.flushed ≡ false
   pub flushes : new.flushes ≡ old.flushes
   pub failures : CountsWrite r piece old.failures new.failures new.failed
@@ -93,7 +93,7 @@ pub record FlushesOnce {E : Type 0} (r : Result (Unit {0}) E) (old new : Writer)
 -- WHAT A READER GAVE
 
 -- That the reader gave `text` between `old` and `new`. If its bytes still to come were known, they began with `text`.
-pub record GaveFront (old new : Reader) (text : List ℕ) : Type 0 where
+pub record GavePrefix (old new : Reader) (text : List ℕ) : Type 0 where
   pub gave : new.given ≡ old.given ++ text
   pub known_bytes : Consumes old.to_come new.to_come text
   pub loans : new.loans ≡ old.loans
@@ -126,14 +126,14 @@ CanFollow old new rest = old.calls < new.calls → new.ended ≡ true → rest �
 -- establish P. If the last read found the end, P holds of `text` itself.
 pub record GaveEnough (old new : Reader) (P : List ℕ → Type 0) : Type 0 where
   pub text : List ℕ
-  pub front : GaveFront old new text
+  pub front : GavePrefix old new text
   pub over : old.calls < new.calls → new.ended ≡ true → IsAtEnd new.to_come
   pub few : FewReads old new
   pub holds : (rest : List ℕ) → CanFollow old new rest → P (text ++ rest)
 
 -- the reader gave more bytes, possibly none, in few reads
 abbrev pub GaveMore : Reader → Reader → Type 0
-GaveMore old new = (text : List ℕ) × GaveFront old new text × FewReads old new
+GaveMore old new = (text : List ℕ) × GavePrefix old new text × FewReads old new
 
 -- the largest number of reads of one reader
 abbrev pub most_reads : ℕ
@@ -159,7 +159,7 @@ ReadFails old new = (LastCallFails old new ⊎ ReadsAreExhausted old new) × Few
 
 -- That the writer accepted `text` between `old` and `new`, and no call failed. Apart from flushes, there were at most
 -- as many calls as bytes.
-pub record WriterTakes (old new : Writer) (text : List ℕ) : Type 0 where
+pub record WriterAccepts (old new : Writer) (text : List ℕ) : Type 0 where
   pub taken : new.taken ≡ old.taken ++ text
   pub known_bytes : Appends old.contents new.contents text
   pub failures : new.failures ≡ old.failures
@@ -169,7 +169,7 @@ pub record WriterTakes (old new : Writer) (text : List ℕ) : Type 0 where
 
 -- That the writer accepted a prefix of `text` between `old` and `new`, and the last call is the only one that failed.
 -- Apart from successful flushes, there was at most one more call than bytes accepted.
-pub record WriterBreaks (old new : Writer) (text : List ℕ) : Type 0 where
+pub record WriterFails (old new : Writer) (text : List ℕ) : Type 0 where
   pub front : List ℕ
   pub following : List ℕ
   pub whole : text ≡ front ++ following
@@ -183,4 +183,4 @@ pub record WriterBreaks (old new : Writer) (text : List ℕ) : Type 0 where
 
 -- that the text was written, or only the last call failed and a prefix was written
 abbrev pub WritesText : {E : Type 0} → List ℕ → Result (Unit {0}) E → Writer → Writer → Type 0
-WritesText text r old new = MatchResult r (λ _. WriterTakes old new text) (λ _. WriterBreaks old new text)
+WritesText text r old new = MatchResult r (λ _. WriterAccepts old new text) (λ _. WriterFails old new text)

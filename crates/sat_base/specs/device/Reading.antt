@@ -7,7 +7,7 @@ use Rattle.sat_base.specs.device.Waiting.{waiting}
 use Rattle.sat_base.specs.declared.steps.error.StepError.{StepError}
 use Rattle.sat_base.specs.declared.steps.error.StepError.TheVariants as errors
 use Rattle.sat_base.specs.device.Device.{Reader, most_reads, piece_size}
-use Rattle.sat_base.specs.steps.Formats.{Format, BeginsText, IsProperFront}
+use Rattle.sat_base.specs.steps.Formats.{Format, IsPrefixOfText, IsProperPrefix}
 use Rattle.sat_base.specs.steps.Steps.{Step}
 use Rattle.sat_base.specs.steps.StepText.{tag_of, SpellsFields, SpellsStep}
 
@@ -23,8 +23,8 @@ abbrev pub to_come : Source → Option (List ℕ)
 to_come s = prepend_known s.waiting s.reader.to_come
 
 -- the source of a reader before the first read
-abbrev pub unread : Reader → Source
-unread r = record { reader = r; waiting = []; reads = 0; names = [] }
+abbrev pub new_source : Reader → Source
+new_source r = record { reader = r; waiting = []; reads = 0; names = [] }
 
 -- a reader as contracts see it, and the bytes read ahead, without the borrows that hold them
 abbrev pub source : {R : Type 0} → (R → Reader) → R → Ahead → Source
@@ -129,11 +129,11 @@ ByteWithin (Err e) old new = ⊥
 -- on `BadByte` such a prefix, and a byte with which no text continues; on `OutOfMemory` a prefix of a text, or all of it.
 abbrev pub ReadsValue : {A : Type 0} → Format A → Result A StepError → Source → Source → Type 0
 ReadsValue F (Ok x) old new = (text : List ℕ) × ConsumesBytes old new text × F x text
-ReadsValue F (Err errors.Cut) old new = (text : List ℕ) × ConsumesToEnd old new text × IsProperFront F text
+ReadsValue F (Err errors.Cut) old new = (text : List ℕ) × ConsumesToEnd old new text × IsProperPrefix F text
 ReadsValue F (Err errors.BadByte) old new =
-    (front : List ℕ) × (byte : ℕ) × ConsumesBytes old new (front ++ byte ∷ []) × IsProperFront F front × (BeginsText F (front ++ byte ∷ []) → ⊥)
-ReadsValue F (Err errors.Read) old new = (text : List ℕ) × ConsumesAndFails old new text × IsProperFront F text
-ReadsValue F (Err errors.OutOfMemory) old new = (text : List ℕ) × ConsumesBytes old new text × BeginsText F text
+    (front : List ℕ) × (byte : ℕ) × ConsumesBytes old new (front ++ byte ∷ []) × IsProperPrefix F front × (IsPrefixOfText F (front ++ byte ∷ []) → ⊥)
+ReadsValue F (Err errors.Read) old new = (text : List ℕ) × ConsumesAndFails old new text × IsProperPrefix F text
+ReadsValue F (Err errors.OutOfMemory) old new = (text : List ℕ) × ConsumesBytes old new text × IsPrefixOfText F text
 ReadsValue F (Err errors.Ends) old new = ⊥
 ReadsValue F (Err errors.HasFailed) old new = ⊥
 
@@ -160,11 +160,11 @@ FieldsAfter tag step bytes = (tag_of step ≡ tag) × SpellsFields step bytes
 abbrev pub AnswersStepRead : Result Step StepError → Source → Source → Type 0
 AnswersStepRead (Ok step) old new = (text : List ℕ) × ConsumesBytes old new text × SpellsStep step text
 AnswersStepRead (Err errors.Ends) old new = ConsumesToEnd old new []
-AnswersStepRead (Err errors.Cut) old new = (tag : ℕ) × (more : List ℕ) × ConsumesToEnd old new (tag ∷ more) × IsProperFront SpellsStep (tag ∷ more)
+AnswersStepRead (Err errors.Cut) old new = (tag : ℕ) × (more : List ℕ) × ConsumesToEnd old new (tag ∷ more) × IsProperPrefix SpellsStep (tag ∷ more)
 AnswersStepRead (Err errors.BadByte) old new =
-    (front : List ℕ) × (byte : ℕ) × ConsumesBytes old new (front ++ byte ∷ []) × IsProperFront SpellsStep front
-    × (BeginsText SpellsStep (front ++ byte ∷ []) → ⊥)
-AnswersStepRead (Err errors.Read) old new = (text : List ℕ) × ConsumesAndFails old new text × IsProperFront SpellsStep text
+    (front : List ℕ) × (byte : ℕ) × ConsumesBytes old new (front ++ byte ∷ []) × IsProperPrefix SpellsStep front
+    × (IsPrefixOfText SpellsStep (front ++ byte ∷ []) → ⊥)
+AnswersStepRead (Err errors.Read) old new = (text : List ℕ) × ConsumesAndFails old new text × IsProperPrefix SpellsStep text
 AnswersStepRead (Err errors.OutOfMemory) old new =
-    (tag : ℕ) × (more : List ℕ) × ConsumesBytes old new (tag ∷ more) × BeginsText SpellsStep (tag ∷ more)
+    (tag : ℕ) × (more : List ℕ) × ConsumesBytes old new (tag ∷ more) × IsPrefixOfText SpellsStep (tag ∷ more)
 AnswersStepRead (Err errors.HasFailed) old new = ⊥

@@ -1,6 +1,6 @@
 -- Pending bytes of a writer.
 use Rattle.std.specs.Prelude.{◌≡◌, ℕ, true, List, [], ◌++◌, Result, MatchResult}
-use Rattle.sat_base.specs.device.Device.{Writer, WriterTakes, WriterBreaks}
+use Rattle.sat_base.specs.device.Device.{Writer, WriterAccepts, WriterFails}
 use Rattle.sat_base.specs.steps.Formats.{Format}
 use Rattle.sat_base.specs.declared.device.output.Output.{Output}
 
@@ -21,11 +21,11 @@ sink_of seen waiting o = record { writer = seen o.writer; waiting = waiting o.pe
 pub record AddsToSink (old new : Sink) (text : List ℕ) : Type 0 where
   pub fresh : List ℕ
   pub flows : old.waiting ++ text ≡ fresh ++ new.waiting
-  pub takes : WriterTakes old.writer new.writer fresh
+  pub takes : WriterAccepts old.writer new.writer fresh
 
 -- Only the last call failed. The writer accepted a prefix of the two together, and the rest is lost.
 pub record SinkFails (old new : Sink) (text : List ℕ) : Type 0 where
-  pub breaks : WriterBreaks old.writer new.writer (old.waiting ++ text)
+  pub breaks : WriterFails old.writer new.writer (old.waiting ++ text)
   pub none : new.waiting ≡ []
 
 -- a text was sent, or one call failed

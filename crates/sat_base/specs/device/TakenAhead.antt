@@ -12,12 +12,12 @@ abbrev pub TakesNumber : ℕ → ℕ → Ahead → Ahead → Type 0
 TakesNumber limit n old new = (text : List ℕ) × IsBelow limit n text × (waiting old ≡ text ++ waiting new) × (new.reads ≡ old.reads)
 
 -- the buffered bytes from a position on
-abbrev pub from : ℕ → Ahead → List ℕ
-from at a = drop at (take a.end a.piece)
+abbrev pub buffered_from : ℕ → Ahead → List ℕ
+buffered_from at a = drop at (take a.end a.piece)
 
 -- the text of a number below the limit is between two positions
 abbrev pub IsEncodedBetween : ℕ → ℕ → ℕ → ℕ → Ahead → Type 0
-IsEncodedBetween limit n at following a = (text : List ℕ) × IsBelow limit n text × (from at a ≡ text ++ from following a)
+IsEncodedBetween limit n at following a = (text : List ℕ) × IsBelow limit n text × (buffered_from at a ≡ text ++ buffered_from following a)
 
 -- At most `most` items were consumed, without a read; or memory ran out, and nothing changed.
 abbrev pub TakesItems : Format ℕ → ℕ → Result ℕ StepError → List ℕ → List ℕ → Ahead → Ahead → Type 0

@@ -6,9 +6,9 @@ use Rattle.sat_base.specs.declared.dimacs.clauses.Refusal.TheVariants as refusal
 use Rattle.sat_base.specs.declared.text.Token.{Token as CodeToken}
 use Rattle.sat_base.specs.declared.text.Token.TheVariants as code
 use Rattle.sat_base.specs.text.Text.{Token, Number, Letter, Header, Wrong}
-use Rattle.sat_base.specs.text.Tokenizing.{held}
+use Rattle.sat_base.specs.text.Tokenizing.{capped}
 use Rattle.sat_base.specs.values.Formulas.{with_formula_clause}
-use Rattle.sat_base.specs.dimacs.Dimacs.{Malformed, Limit, Hand, Turn, GoesOn, Ends, Fails, literals_in, turn}
+use Rattle.sat_base.specs.dimacs.Dimacs.{Malformed, Limit, PartialClause, TokenEffect, GoesOn, Ends, Fails, literals_in, token_effect}
 use Rattle.sat_base.specs.values.Literals.{var_limit}
 
 -- the token that a token of the code represents; its numbers are those of the code, which are capped
@@ -19,13 +19,13 @@ token_of (code.Header v c) = Header v c
 token_of code.Wrong = Wrong
 
 -- the unfinished clause with these literals, or `None` if there are no literals
-abbrev pub hand_of : List ℕ → Hand
-hand_of [] = None
-hand_of (l ∷ ls) = Some (l ∷ ls)
+abbrev pub partial_clause_of : List ℕ → PartialClause
+partial_clause_of [] = None
+partial_clause_of (l ∷ ls) = Some (l ∷ ls)
 
 -- the unfinished clause, or `None` if it has no literals
-abbrev pub hand_in : Clauses → Hand
-hand_in clauses = hand_of clauses.hand.items
+abbrev pub partial_clause_in : Clauses → PartialClause
+partial_clause_in clauses = partial_clause_of clauses.hand.items
 
 -- the header after a token: the token's numbers if it is a header, otherwise the header so far
 abbrev pub header_after : Token → Option (ℕ × ℕ) → Option (ℕ × ℕ)
@@ -43,10 +43,10 @@ abbrev pub SameClausesAndHeader : Clauses → Clauses → Type 0
 SameClausesAndHeader old new = SameClausesAndCount old new × (new.header ≡ old.header)
 
 -- the change of the clauses for the effect of a token, which is not a fault
-abbrev pub TakesTokenTurn : Turn → Clauses → Clauses → Type 0
-TakesTokenTurn (GoesOn hand) old new = SameClausesAndCount old new × (hand_in new ≡ hand)
-TakesTokenTurn (Ends clause) old new = (new.formula ≡ with_formula_clause clause old.formula) × (new.count ≡ held (old.count + 1)) × (hand_in new ≡ None)
-TakesTokenTurn (Fails ending) old new = ⊥
+abbrev pub AppliesTokenEffect : TokenEffect → Clauses → Clauses → Type 0
+AppliesTokenEffect (GoesOn hand) old new = SameClausesAndCount old new × (partial_clause_in new ≡ hand)
+AppliesTokenEffect (Ends clause) old new = (new.formula ≡ with_formula_clause clause old.formula) × (new.count ≡ capped (old.count + 1)) × (partial_clause_in new ≡ None)
+AppliesTokenEffect (Fails ending) old new = ⊥
 
 -- whether the token is a literal: a number from 1 up to the limit, of either sign
 abbrev pub is_literal : Token → Bool
@@ -57,16 +57,16 @@ is_literal Wrong = false
 
 -- that the token may need memory: it is a literal, or it ends a clause
 abbrev pub NeedsRoom : Token → Type 0
-NeedsRoom t = (is_literal t ≡ true) ⊎ ((hand : Hand) (n : ℕ) → turn hand n t ≡ Ends (literals_in hand))
+NeedsRoom t = (is_literal t ≡ true) ⊎ ((hand : PartialClause) (n : ℕ) → token_effect hand n t ≡ Ends (literals_in hand))
 
 -- the result of collecting a token, regardless of its line
 abbrev pub CollectsToken : Result (Unit {0}) Refusal → Clauses → Token → Clauses → Type 0
-CollectsToken (Ok u) old t new = ((n : ℕ) → TakesTokenTurn (turn (hand_in old) n t) old new) × (new.header ≡ header_after t old.header)
-CollectsToken (Err refusal.Malformed) old t new = SameClausesAndHeader old new × ((n : ℕ) → turn (hand_in old) n t ≡ Fails (Malformed n))
-CollectsToken (Err refusal.Limit) old t new = SameClausesAndHeader old new × ((n : ℕ) → turn (hand_in old) n t ≡ Fails (Limit n))
+CollectsToken (Ok u) old t new = ((n : ℕ) → AppliesTokenEffect (token_effect (partial_clause_in old) n t) old new) × (new.header ≡ header_after t old.header)
+CollectsToken (Err refusal.Malformed) old t new = SameClausesAndHeader old new × ((n : ℕ) → token_effect (partial_clause_in old) n t ≡ Fails (Malformed n))
+CollectsToken (Err refusal.Limit) old t new = SameClausesAndHeader old new × ((n : ℕ) → token_effect (partial_clause_in old) n t ≡ Fails (Limit n))
 CollectsToken (Err refusal.OutOfMemory) old t new = SameClausesAndHeader old new × NeedsRoom t
 
 -- that the flag is true exactly when a clause is unfinished
-abbrev pub IsInside : Bool → Hand → Type 0
+abbrev pub IsInside : Bool → PartialClause → Type 0
 IsInside false hand = hand ≡ None
 IsInside true hand = (ls : List ℕ) × (hand ≡ Some ls)

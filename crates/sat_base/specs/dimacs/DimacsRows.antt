@@ -1,17 +1,17 @@
 -- Example texts of formulas, with their meaning.
 use Rattle.std.specs.Prelude.{◌≡◌, ℕ, ◌-◌, List, [], ◌∷◌, true, false, None, Some, codes}
-use Rattle.sat_base.specs.values.Literals.{coded}
+use Rattle.sat_base.specs.values.Literals.{mk_lit}
 use Rattle.sat_base.specs.text.Text.{dimacs_header}
 use Rattle.sat_base.specs.dimacs.Dimacs.{Clean, Malformed, Limit, up_to_last_blank, IsDimacs}
 use Rattle.sat_base.specs.dimacs.Parsing.{whole_lines}
 
 -- the positive literal whose variable has this number
 abbrev pub positive_lits : ℕ → ℕ
-positive_lits n = coded (n - 1) true
+positive_lits n = mk_lit (n - 1) true
 
 -- the negative literal whose variable has this number
 abbrev pub negative_lit : ℕ → ℕ
-negative_lit n = coded (n - 1) false
+negative_lit n = mk_lit (n - 1) false
 
 -- that the header of the text gives these numbers of variables and clauses
 abbrev pub HasHeader : List ℕ → ℕ → ℕ → Type 0

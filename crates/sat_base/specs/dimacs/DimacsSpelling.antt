@@ -4,7 +4,7 @@ use Rattle.std.specs.List.{AllByRecursion}
 use Rattle.sat_base.specs.values.Literals.{var_limit, variable, is_positive}
 use Rattle.sat_base.specs.text.Text.{Token, Number, Header, tokens}
 use Rattle.sat_base.specs.dimacs.Dimacs.{Ending, Clean, IsDimacs}
-use Rattle.sat_base.specs.script.Language.{spoken}
+use Rattle.sat_base.specs.script.Language.{without_lines}
 use Rattle.sat_base.specs.script.ScriptSpelling.{IsZero}
 
 -- the token of a literal: the number of its variable, counted from 1, negative if the literal is
@@ -38,4 +38,4 @@ pub record OneFormula : Type 0 where
 
 -- that a text has these clauses and ends cleanly exactly when its tokens spell a formula of these clauses
 abbrev pub CleanIfSpelled : Type 0
-CleanIfSpelled = (text : List ℕ) (cs : List (List ℕ)) → IsDimacs text cs Clean ↔ SpellsFormula cs (spoken (tokens text))
+CleanIfSpelled = (text : List ℕ) (cs : List (List ℕ)) → IsDimacs text cs Clean ↔ SpellsFormula cs (without_lines (tokens text))

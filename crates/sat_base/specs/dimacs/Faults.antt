@@ -5,10 +5,10 @@ use Rattle.sat_base.specs.declared.dimacs.error.DimacsError.{DimacsError}
 use Rattle.sat_base.specs.declared.dimacs.error.DimacsError.TheVariants as errors
 use Rattle.sat_base.specs.device.Device.{Reader, ReadsOnce}
 use Rattle.sat_base.specs.text.Text.{Token, Scan, scan, tokens, HasEnded}
-use Rattle.sat_base.specs.text.Position.{onto}
+use Rattle.sat_base.specs.text.Position.{prepend_tokens}
 use Rattle.sat_base.specs.text.WrongWords.{HasValidContinuation}
 use Rattle.sat_base.specs.text.Tokenizing.{IsPositionedBefore}
-use Rattle.sat_base.specs.dimacs.Dimacs.{Hand, Malformed, Limit, Fails, turn}
+use Rattle.sat_base.specs.dimacs.Dimacs.{PartialClause, Malformed, Limit, Fails, token_effect}
 use Rattle.sat_base.specs.dimacs.Parsing.{NoFault, unless_fault, whole_lines, IsSoundText, HasFaultOn}
 use Rattle.sat_base.specs.dimacs.ParserPlaces.{HaveTakenTokens}
 
@@ -16,19 +16,19 @@ use Rattle.sat_base.specs.dimacs.ParserPlaces.{HaveTakenTokens}
 pub record HasTakenSoundly (text : List ℕ) (machine : Tokenizer) : Type 0 where
   pub before : List (ℕ × Token)  -- the tokens so far
   pub all : List (List ℕ)  -- their clauses
-  pub hand : Hand
+  pub hand : PartialClause
   pub left_of : List ℕ → Scan  -- how the bytes that follow will be read, for any such bytes
   pub valid : IsPositionedBefore machine left_of
-  pub scans : (rest : List ℕ) → scan (text ++ rest) ≡ onto before (left_of rest)
+  pub scans : (rest : List ℕ) → scan (text ++ rest) ≡ prepend_tokens before (left_of rest)
   pub turned : HaveTakenTokens before all hand
   pub sound : NoFault None (tokens (whole_lines text))
   pub right : HasValidContinuation left_of
 
 -- that a token is not a fault, or is the reported fault on this line, whatever clause is unfinished
 abbrev pub JudgesToken : Result (Unit {0}) DimacsError → ℕ → Token → Type 0
-JudgesToken (Ok u) line t = (hand : Hand) (n : ℕ) → unless_fault (turn hand n t) (λ h. Unit {0})
-JudgesToken (Err (errors.Malformed l)) line t = (l ≡ line) × ((hand : Hand) (n : ℕ) → turn hand n t ≡ Fails (Malformed n))
-JudgesToken (Err (errors.Limit l)) line t = (l ≡ line) × ((hand : Hand) (n : ℕ) → turn hand n t ≡ Fails (Limit n))
+JudgesToken (Ok u) line t = (hand : PartialClause) (n : ℕ) → unless_fault (token_effect hand n t) (λ h. Unit {0})
+JudgesToken (Err (errors.Malformed l)) line t = (l ≡ line) × ((hand : PartialClause) (n : ℕ) → token_effect hand n t ≡ Fails (Malformed n))
+JudgesToken (Err (errors.Limit l)) line t = (l ≡ line) × ((hand : PartialClause) (n : ℕ) → token_effect hand n t ≡ Fails (Limit n))
 JudgesToken (Err e) line t = ⊥
 
 -- that a text has no fault so far, or has the reported fault however the text continues

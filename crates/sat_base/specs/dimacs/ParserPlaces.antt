@@ -4,13 +4,13 @@ use Rattle.sat_base.specs.declared.dimacs.parser.Parser.{Parser}
 use Rattle.sat_base.specs.declared.dimacs.error.DimacsError.{DimacsError}
 use Rattle.sat_base.specs.declared.dimacs.error.DimacsError.TheVariants as errors
 use Rattle.sat_base.specs.text.Text.{is_blank, Token, Scan, scan, header_first, dimacs_header}
-use Rattle.sat_base.specs.text.Position.{onto}
+use Rattle.sat_base.specs.text.Position.{prepend_tokens}
 use Rattle.sat_base.specs.text.WrongWords.{HasValidContinuation}
-use Rattle.sat_base.specs.text.Tokenizing.{held, IsPositionedBefore, HoldsNoWord}
+use Rattle.sat_base.specs.text.Tokenizing.{capped, IsPositionedBefore, HasNoNumberOrLetter}
 use Rattle.sat_base.specs.values.Formulas.{vars_of}
-use Rattle.sat_base.specs.dimacs.Dimacs.{Hand, Dimacs, clauses_of}
-use Rattle.sat_base.specs.dimacs.Collecting.{hand_in}
-use Rattle.sat_base.specs.dimacs.Parsing.{Progress, NoFault, clauses_read, lines_read, whole_lines, held_numbers, last_byte}
+use Rattle.sat_base.specs.dimacs.Dimacs.{PartialClause, Dimacs, clauses_of}
+use Rattle.sat_base.specs.dimacs.Collecting.{partial_clause_in}
+use Rattle.sat_base.specs.dimacs.Parsing.{Progress, NoFault, clauses_read, lines_read, whole_lines, capped_numbers, last_byte}
 
 -- what a caller knows about a parser
 abbrev pub progress_of : Parser → Progress
@@ -26,12 +26,12 @@ abbrev pub all_in : Parser → List (List ℕ)
 all_in p = p.history.taken ++ p.clauses.formula.clauses
 
 -- the reading of a formula with the clauses `cs` before its own
-abbrev pub onto_clauses : List (List ℕ) → Dimacs → Dimacs
-onto_clauses cs d = record { clauses = cs ++ d.clauses; ending = d.ending }
+abbrev pub prepend_clauses : List (List ℕ) → Dimacs → Dimacs
+prepend_clauses cs d = record { clauses = cs ++ d.clauses; ending = d.ending }
 
 -- That the tokens `before` complete the clauses `all` and leave `hand` unfinished. So the clauses of any continuation come after `all`.
-pub record HaveTakenTokens (before : List (ℕ × Token)) (all : List (List ℕ)) (hand : Hand) : Type 0 where
-  pub says : (last : ℕ) (ts : List (ℕ × Token)) → clauses_of None last (before ++ ts) ≡ onto_clauses all (clauses_of hand last ts)
+pub record HaveTakenTokens (before : List (ℕ × Token)) (all : List (List ℕ)) (hand : PartialClause) : Type 0 where
+  pub says : (last : ℕ) (ts : List (ℕ × Token)) → clauses_of None last (before ++ ts) ≡ prepend_clauses all (clauses_of hand last ts)
   pub sound : (ts : List (ℕ × Token)) → NoFault hand ts → NoFault None (before ++ ts)
 
 -- the invariant of a parser that has not stopped
@@ -40,25 +40,25 @@ pub record IsGoingParser (p : Parser) : Type 0 where
   pub before : List (ℕ × Token)  -- the tokens so far
   pub left_of : List ℕ → Scan  -- how the bytes that follow will be read, for any such bytes
   pub valid : IsPositionedBefore p.tokenizer left_of
-  pub scans : (rest : List ℕ) → scan (p.history.fed ++ rest) ≡ onto before (left_of rest)
-  pub turned : HaveTakenTokens before (all_in p) (hand_in p.clauses)
+  pub scans : (rest : List ℕ) → scan (p.history.fed ++ rest) ≡ prepend_tokens before (left_of rest)
+  pub turned : HaveTakenTokens before (all_in p) (partial_clause_in p.clauses)
   pub heads : dimacs_header (whole_lines p.history.fed) ≡ header_first before
   pub sound : NoFault None (scan (whole_lines p.history.fed)).tokens
-  pub quiet : is_blank (last_byte p.history.fed) ≡ true → HoldsNoWord (left_of [])
+  pub quiet : is_blank (last_byte p.history.fed) ≡ true → HasNoNumberOrLetter (left_of [])
   pub right : HasValidContinuation left_of
 
 -- the invariant of every parser
 pub record IsParser (p : Parser) : Type 0 where
   pub clauses : clauses_read (progress_of p) ≡ all_in p
-  pub count : p.clauses.count ≡ held (length (all_in p))
+  pub count : p.clauses.count ≡ capped (length (all_in p))
   pub vars : p.clauses.formula.var_count ≡ vars_of (all_in p)
-  pub header : p.clauses.header ≡ held_numbers (dimacs_header (lines_read (progress_of p)))
+  pub header : p.clauses.header ≡ capped_numbers (dimacs_header (lines_read (progress_of p)))
   pub goes : p.stopped ≡ false → IsGoingParser p
 
 -- the effect of the end of the text after its last word: within a clause, the text is malformed
 abbrev pub EndsClean : Result (Unit {0}) DimacsError → Parser → Type 0
-EndsClean (Ok u) p = hand_in p.clauses ≡ None
+EndsClean (Ok u) p = partial_clause_in p.clauses ≡ None
 EndsClean (Err (errors.Malformed line)) p =
-    ((ls : List ℕ) × (hand_in p.clauses ≡ Some ls))
-    × ((before : List ℕ → Scan) → IsPositionedBefore p.tokenizer before → line ≡ held (before []).last)
+    ((ls : List ℕ) × (partial_clause_in p.clauses ≡ Some ls))
+    × ((before : List ℕ → Scan) → IsPositionedBefore p.tokenizer before → line ≡ capped (before []).last)
 EndsClean (Err e) p = ⊥

@@ -3,12 +3,12 @@ use Rattle.std.specs.Borrow.{MutBor}
 use Rattle.std.specs.Io.KnownBytes.{IsAtEnd}
 use Rattle.std.specs.List.{FoldsTo, concat}
 use Rattle.std.specs.Prelude.{◌≡◌, ◌<◌, ◌≤◌, ◌+◌, ◌⊎◌, ◌-◌, ℕ, length, get_or, nat_eq, List, [], ◌∷◌, ◌++◌, Bool, true, false, ◌||◌, Option, None, Some, Result, Ok, Err, if◌then◌else◌}
-use Rattle.sat_base.specs.device.Device.{Reader, CanFollow, GaveFront, GaveEnough, piece_size}
+use Rattle.sat_base.specs.device.Device.{Reader, CanFollow, GavePrefix, GaveEnough, piece_size}
 use Rattle.sat_base.specs.text.Text.{is_blank, Token, Number, scan, tokens, HasEnded, dimacs_header}
 use Rattle.sat_base.specs.text.WrongWords.{HasValidContinuation}
-use Rattle.sat_base.specs.text.Tokenizing.{held}
+use Rattle.sat_base.specs.text.Tokenizing.{capped}
 use Rattle.sat_base.specs.values.Formulas.{Formula, vars_of}
-use Rattle.sat_base.specs.dimacs.Dimacs.{Ending, Clean, Malformed, Limit, Hand, Turn, GoesOn, Ends, Fails, turn, dimacs, up_to_last_blank, IsDimacs}
+use Rattle.sat_base.specs.dimacs.Dimacs.{Ending, Clean, Malformed, Limit, PartialClause, TokenEffect, GoesOn, Ends, Fails, token_effect, dimacs, up_to_last_blank, IsDimacs}
 use Rattle.sat_base.specs.declared.dimacs.error.DimacsError.{DimacsError}
 use Rattle.sat_base.specs.declared.dimacs.error.IncrementalError.{IncrementalError}
 use Rattle.sat_base.specs.declared.dimacs.error.IncrementalError.TheVariants as parts
@@ -64,24 +64,24 @@ abbrev pub lines_read : Progress → List ℕ
 lines_read p = if p.ended then p.fed else whole_lines p.fed
 
 -- the numbers of a header, capped
-abbrev pub held_numbers : Option (ℕ × ℕ) → Option (ℕ × ℕ)
-held_numbers None = None
-held_numbers (Some h) = Some (held h.0, held h.1)
+abbrev pub capped_numbers : Option (ℕ × ℕ) → Option (ℕ × ℕ)
+capped_numbers None = None
+capped_numbers (Some h) = Some (capped h.0, capped h.1)
 
 -- that, however the text continues, its clauses are those already read, and it has this ending
 abbrev pub EndsAt : Ending → Progress → Type 0
 EndsAt ending p = (rest : List ℕ) → dimacs (p.fed ++ rest) ≡ record { clauses = clauses_read p; ending = ending }
 
 -- that the effect of a token is not a fault, and `more` holds for the unfinished clause after the token
-abbrev pub unless_fault : Turn → (Hand → Type 0) → Type 0
+abbrev pub unless_fault : TokenEffect → (PartialClause → Type 0) → Type 0
 unless_fault (GoesOn hand) more = more hand
 unless_fault (Ends clause) more = more None
 unless_fault (Fails ending) more = ⊥
 
 -- that none of the tokens is a fault, starting from this unfinished clause or none
-abbrev pub NoFault : Hand → List (ℕ × Token) → Type 0
+abbrev pub NoFault : PartialClause → List (ℕ × Token) → Type 0
 NoFault hand [] = Unit {0}
-NoFault hand (t ∷ ts) = unless_fault (turn hand t.0 t.1) (λ h. NoFault h ts)
+NoFault hand (t ∷ ts) = unless_fault (token_effect hand t.0 t.1) (λ h. NoFault h ts)
 
 -- that no complete line of a text has a fault, and the text can continue without a wrong word
 pub record IsSoundText (text : List ℕ) : Type 0 where
@@ -94,7 +94,7 @@ IsSoundSoFar p = IsSoundText p.fed
 
 -- that `IsSoundText` holds for what a reader gave, and the text ends cleanly if the reader found its end
 abbrev pub GaveSound : Reader → Reader → Type 0
-GaveSound old new = (text : List ℕ) × GaveFront old new text × IsSoundText text
+GaveSound old new = (text : List ℕ) × GavePrefix old new text × IsSoundText text
     × (old.calls < new.calls → new.ended ≡ true → (dimacs text).ending ≡ Clean)
 
 -- that after a line that ends the text, there are fewer bytes than one read can give
@@ -103,7 +103,7 @@ EndsInLastPiece text = (front rest : List ℕ) → text ≡ front ++ rest → Ha
 
 -- that `EndsInLastPiece` holds for what a reader gave: nothing was read after the line that ends the text
 abbrev pub StopsReading : Reader → Reader → Type 0
-StopsReading old new = (text : List ℕ) × GaveFront old new text × EndsInLastPiece text
+StopsReading old new = (text : List ℕ) × GavePrefix old new text × EndsInLastPiece text
 
 -- that a prefix of the piece was accepted, up to and including a fault
 pub record EndsAtFault (ending : Ending) (piece : List ℕ) (old new : Progress) : Type 0 where
@@ -138,7 +138,7 @@ pub record EndsWell (text : List ℕ) : Type 0 where
   pub goes_on : HasEnded text → ⊥
 
 -- that a prefix of the piece was accepted, and memory ran out at the next byte
-pub record FallsShort (piece : List ℕ) (old new : Progress) : Type 0 where
+pub record RunsOutWithinPiece (piece : List ℕ) (old new : Progress) : Type 0 where
   pub front : List ℕ
   pub byte : ℕ
   pub following : List ℕ
@@ -148,29 +148,29 @@ pub record FallsShort (piece : List ℕ) (old new : Progress) : Type 0 where
 
 -- that a text has a fault on this line, however the text continues
 abbrev pub HasFaultOn : ℕ → (ℕ → Ending) → List ℕ → Type 0
-HasFaultOn line ending text = (n : ℕ) × (line ≡ held n) × ((rest : List ℕ) → (dimacs (text ++ rest)).ending ≡ ending n)
+HasFaultOn line ending text = (n : ℕ) × (line ≡ capped n) × ((rest : List ℕ) → (dimacs (text ++ rest)).ending ≡ ending n)
 
 -- that the flag says whether the parser has not stopped and a line that begins with `%` has ended its text
-abbrev pub SaysEnded : Bool → Progress → Type 0
-SaysEnded true p = (p.stopped ≡ false) × HasEnded p.fed
-SaysEnded false p = (p.stopped ≡ true) ⊎ (HasEnded p.fed → ⊥)
+abbrev pub ReportsEnded : Bool → Progress → Type 0
+ReportsEnded true p = (p.stopped ≡ false) × HasEnded p.fed
+ReportsEnded false p = (p.stopped ≡ true) ⊎ (HasEnded p.fed → ⊥)
 
 -- the effect of `feed` for a piece
 abbrev pub FeedsPiece : Result (Unit {0}) DimacsError → List ℕ → Progress → Progress → Type 0
 FeedsPiece (Ok u) piece old new = (old.stopped ≡ false) × (new ≡ with_fed piece old)
 FeedsPiece (Err (errors.Malformed line)) piece old new =
-    (old.stopped ≡ false) × (n : ℕ) × (line ≡ held n) × EndsAtFault (Malformed n) piece old new
-FeedsPiece (Err (errors.Limit line)) piece old new = (old.stopped ≡ false) × (n : ℕ) × (line ≡ held n) × EndsAtFault (Limit n) piece old new
-FeedsPiece (Err errors.OutOfMemory) piece old new = (old.stopped ≡ false) × FallsShort piece old new
+    (old.stopped ≡ false) × (n : ℕ) × (line ≡ capped n) × EndsAtFault (Malformed n) piece old new
+FeedsPiece (Err (errors.Limit line)) piece old new = (old.stopped ≡ false) × (n : ℕ) × (line ≡ capped n) × EndsAtFault (Limit n) piece old new
+FeedsPiece (Err errors.OutOfMemory) piece old new = (old.stopped ≡ false) × RunsOutWithinPiece piece old new
 FeedsPiece (Err errors.HasFailed) piece old new = (old.stopped ≡ true) × (new ≡ old)
 FeedsPiece (Err errors.Read) piece old new = ⊥
 
 -- the effect of `finish`
 abbrev pub Finishes : Result (Unit {0}) DimacsError → Progress → Progress → Type 0
 Finishes (Ok u) old new = (old.stopped ≡ false) × (new ≡ at_its_end old) × ((dimacs old.fed).ending ≡ Clean)
-Finishes (Err (errors.Malformed line)) old new = (old.stopped ≡ false) × (new ≡ at_its_end old) × (n : ℕ) × (line ≡ held n)
+Finishes (Err (errors.Malformed line)) old new = (old.stopped ≡ false) × (new ≡ at_its_end old) × (n : ℕ) × (line ≡ capped n)
     × ((dimacs old.fed).ending ≡ Malformed n)
-Finishes (Err (errors.Limit line)) old new = (old.stopped ≡ false) × (new ≡ at_its_end old) × (n : ℕ) × (line ≡ held n)
+Finishes (Err (errors.Limit line)) old new = (old.stopped ≡ false) × (new ≡ at_its_end old) × (n : ℕ) × (line ≡ capped n)
     × ((dimacs old.fed).ending ≡ Limit n)
 Finishes (Err errors.OutOfMemory) old new = (old.stopped ≡ false) × (new ≡ cut_short old) × EndsWell old.fed
 Finishes (Err errors.HasFailed) old new = (old.stopped ≡ true) × (new ≡ old)
@@ -180,21 +180,21 @@ Finishes (Err errors.Read) old new = ⊥
 abbrev pub RefusesPiece : DimacsError → List ℕ → Progress → Type 0
 RefusesPiece (errors.Malformed line) piece old = HasFaultOn line Malformed (old.fed ++ piece)
 RefusesPiece (errors.Limit line) piece old = HasFaultOn line Limit (old.fed ++ piece)
-RefusesPiece errors.OutOfMemory piece old = ((new : Progress) × FallsShort piece old new) × IsSoundText (old.fed ++ piece)
+RefusesPiece errors.OutOfMemory piece old = ((new : Progress) × RunsOutWithinPiece piece old new) × IsSoundText (old.fed ++ piece)
 RefusesPiece errors.HasFailed piece old = old.stopped ≡ true
 RefusesPiece errors.Read piece old = ⊥
 
 -- that memory ran out where a number of the text ends, and no word up to that number is a fault
-abbrev pub ParsesShort : List ℕ → Type 0
-ParsesShort text = ((front : List ℕ) × (byte : ℕ) × (following : List ℕ) × (text ≡ front ++ byte ∷ following) × GoesWell front byte)
+abbrev pub RunsOutWhileParsing : List ℕ → Type 0
+RunsOutWhileParsing text = ((front : List ℕ) × (byte : ℕ) × (following : List ℕ) × (text ≡ front ++ byte ∷ following) × GoesWell front byte)
     ⊎ EndsWell text
 
 -- the result of parsing a complete text
 abbrev pub Parses : Result Formula DimacsError → List ℕ → Type 0
 Parses (Ok f) text = IsDimacs text f.clauses Clean × (f.var_count ≡ vars_of f.clauses)
-Parses (Err (errors.Malformed line)) text = (n : ℕ) × (line ≡ held n) × ((dimacs text).ending ≡ Malformed n)
-Parses (Err (errors.Limit line)) text = (n : ℕ) × (line ≡ held n) × ((dimacs text).ending ≡ Limit n)
-Parses (Err errors.OutOfMemory) text = ParsesShort text
+Parses (Err (errors.Malformed line)) text = (n : ℕ) × (line ≡ capped n) × ((dimacs text).ending ≡ Malformed n)
+Parses (Err (errors.Limit line)) text = (n : ℕ) × (line ≡ capped n) × ((dimacs text).ending ≡ Limit n)
+Parses (Err errors.OutOfMemory) text = RunsOutWhileParsing text
 Parses (Err errors.Read) text = Unit {0}
 Parses (Err errors.HasFailed) text = ⊥
 
@@ -203,28 +203,28 @@ abbrev pub Calls : Type 0 → Type 0 → Type 1
 Calls F E = F → MutBor Progress → Result (Unit {0}) E → MutBor Progress → F → Type 0
 
 -- that successive calls with these parsers change only which clauses were taken
-abbrev pub KeepsEach : {F E : Type 0} → Calls F E → F → List (MutBor Progress) → Type 0
-KeepsEach calls f [] = Unit {0}
-KeepsEach {F} {E} calls f (p ∷ ps) =
+abbrev pub EachOnlyTakesClauses : {F E : Type 0} → Calls F E → F → List (MutBor Progress) → Type 0
+EachOnlyTakesClauses calls f [] = Unit {0}
+EachOnlyTakesClauses {F} {E} calls f (p ∷ ps) =
     (answer : Result (Unit {0}) E) (q : MutBor Progress) (g : F) → calls f p answer q g
-    → (q.now ≡ record p.now { taken = q.now.taken }) × KeepsEach calls g ps
+    → (q.now ≡ record p.now { taken = q.now.taken }) × EachOnlyTakesClauses calls g ps
 
 -- that every call of the closure, now and later, changes only which clauses were taken, as `take_formula` does
-abbrev pub KeepsText : {F E : Type 0} → Calls F E → F → Type 0
-KeepsText calls f = (ps : List (MutBor Progress)) → KeepsEach calls f ps
+abbrev pub OnlyTakesClauses : {F E : Type 0} → Calls F E → F → Type 0
+OnlyTakesClauses calls f = (ps : List (MutBor Progress)) → EachOnlyTakesClauses calls f ps
 
 -- that the parser has read a text that ends cleanly
 abbrev pub HasReadCleanly : Progress → List ℕ → Type 0
 HasReadCleanly p text = (p.fed ≡ text) × (p.stopped ≡ true) × (p.ended ≡ true) × ((dimacs text).ending ≡ Clean)
 
 -- That no bytes that could follow this text change its clauses, its ending or its header.
-abbrev pub IsWholeText : Reader → Reader → List ℕ → Type 0
-IsWholeText old new text = (rest : List ℕ) → CanFollow old new rest
+abbrev pub FormulaIsDetermined : Reader → Reader → List ℕ → Type 0
+FormulaIsDetermined old new text = (rest : List ℕ) → CanFollow old new rest
     → (dimacs (text ++ rest) ≡ dimacs text) × (dimacs_header (text ++ rest) ≡ dimacs_header text)
 
 -- the result of `parse_incremental` for what the reader gave
 abbrev pub ParsesInParts : {E : Type 0} → Reader → Reader → Result Progress (IncrementalError E) → Type 0
-ParsesInParts old new (Ok p) = (text : List ℕ) × GaveFront old new text × HasReadCleanly p text × IsWholeText old new text
+ParsesInParts old new (Ok p) = (text : List ℕ) × GavePrefix old new text × HasReadCleanly p text × FormulaIsDetermined old new text
 ParsesInParts old new (Err (parts.Dimacs e)) = GaveEnough old new (Parses (Err e))
 ParsesInParts old new (Err (parts.Caller e)) = Unit {0}
 
@@ -240,12 +240,12 @@ FeedsAndVisits calls s piece t = (0 < length piece) × (fed : Progress) × Feeds
 -- the result for the last piece, or for the end of the text
 abbrev pub AnswersLastPiece : Result (Unit {0}) DimacsError → List ℕ → Reader × Reader → Progress → Progress → Type 0
 AnswersLastPiece answer piece reader old new =
-    ((0 < length piece) × FeedsPiece answer piece old new) ⊎ ((piece ≡ []) × IsWholeText reader.0 reader.1 old.fed × Finishes answer old new)
+    ((0 < length piece) × FeedsPiece answer piece old new) ⊎ ((piece ≡ []) × FormulaIsDetermined reader.0 reader.1 old.fed × Finishes answer old new)
 
 -- What follows the pieces after which the closure returned `Ok`. The closure is called once more, unless a read failed.
 abbrev pub LastVisit : {F E : Type 0} → Calls F E → List ℕ → Reader × Reader → Result Progress (IncrementalError E) → F × Progress
     → Type 0
-LastVisit {F} calls piece reader (Ok p) s = (piece ≡ []) × IsWholeText reader.0 reader.1 s.1.fed × (mid : Progress) × (f : F)
+LastVisit {F} calls piece reader (Ok p) s = (piece ≡ []) × FormulaIsDetermined reader.0 reader.1 s.1.fed × (mid : Progress) × (f : F)
     × Finishes (Ok tt) s.1 mid × Visits calls (s.0, mid) (Ok tt) (f, p)
 LastVisit {F} calls piece reader (Err (parts.Dimacs e)) s = ((e ≡ errors.Read) × (piece ≡ []))
     ⊎ ((mid : Progress) × (t : F × Progress) × AnswersLastPiece (Err e) piece reader s.1 mid × Visits calls (s.0, mid) (Ok tt) t)
@@ -260,7 +260,7 @@ pub record VisitsAll {F E : Type 0} (calls : Calls F E) (f : F) (old new : Reade
   pub seen : F × Progress
   pub folds : FoldsTo (FeedsAndVisits calls) (f, no_progress) pieces seen
   pub visit : LastVisit calls last (old, new) result seen
-  pub front : GaveFront old new (concat pieces ++ last)
+  pub front : GavePrefix old new (concat pieces ++ last)
   pub over : new.ended ≡ true → IsAtEnd new.to_come
   pub least : old.calls + length pieces ≤ new.calls
   pub most : new.calls ≤ old.calls + length pieces + 1

@@ -20,33 +20,33 @@ command_of OfWitness ls = Witness (names_of ls)
 command_of OfSample ls = Sample (names_of ls)
 
 -- the unfinished command between two tokens: none, or one with its literals or names so far
-pub data CommandHand : Type 0 where
-  Nothing : CommandHand
-  Within : Kind → List Literal → CommandHand
+pub data PartialCommand : Type 0 where
+  Nothing : PartialCommand
+  Within : Kind → List Literal → PartialCommand
 
 -- the effect of a token: the text continues, a command ends, or the text is malformed
-pub data CommandTurn : Type 0 where
-  GoesOn : CommandHand → CommandTurn
-  Ends : Command → CommandTurn
-  Fails : CommandTurn
+pub data CommandTokenEffect : Type 0 where
+  GoesOn : PartialCommand → CommandTokenEffect
+  Ends : Command → CommandTokenEffect
+  Fails : CommandTokenEffect
 
 -- the command that a zero ends; without an unfinished command, the empty clause
-abbrev pub command_in : CommandHand → Command
+abbrev pub command_in : PartialCommand → Command
 command_in Nothing = Clause []
 command_in (Within kind ls) = command_of kind ls
 
 -- whether a literal of this sign is allowed in a command of this kind: a name has no minus sign
-abbrev pub may_stand : Kind → Bool → Bool
-may_stand OfClause positive = true
-may_stand OfAsk positive = true
-may_stand OfHide positive = positive
-may_stand OfWitness positive = positive
-may_stand OfSample positive = positive
+abbrev pub allows_sign : Kind → Bool → Bool
+allows_sign OfClause positive = true
+allows_sign OfAsk positive = true
+allows_sign OfHide positive = positive
+allows_sign OfWitness positive = positive
+allows_sign OfSample positive = positive
 
 -- the effect of a literal, which begins a clause or is added to the unfinished command
-abbrev pub turn_with_literal : CommandHand → Literal → CommandTurn
-turn_with_literal Nothing l = GoesOn (Within OfClause (l ∷ []))
-turn_with_literal (Within kind ls) l = if may_stand kind l.positive then GoesOn (Within kind (ls ++ l ∷ [])) else Fails
+abbrev pub literal_effect : PartialCommand → Literal → CommandTokenEffect
+literal_effect Nothing l = GoesOn (Within OfClause (l ∷ []))
+literal_effect (Within kind ls) l = if allows_sign kind l.positive then GoesOn (Within kind (ls ++ l ∷ [])) else Fails
 
 -- the kind of command that a letter begins, or `None` if the letter is not `a`, `h`, `w` or `s`
 abbrev pub kind_of_letter : ℕ → Option Kind
@@ -57,54 +57,54 @@ kind_of_letter b =
     else (if nat_eq b 115 then Some OfSample else None)))
 
 -- the effect of a letter that begins a command of this kind; without a kind, the text is malformed
-abbrev pub beginning : Option Kind → CommandTurn
+abbrev pub beginning : Option Kind → CommandTokenEffect
 beginning None = Fails
 beginning (Some kind) = GoesOn (Within kind [])
 
 -- the effect of a letter: it begins a command, and within a command it is malformed
-abbrev pub with_letter : CommandHand → ℕ → CommandTurn
+abbrev pub with_letter : PartialCommand → ℕ → CommandTokenEffect
 with_letter Nothing b = beginning (kind_of_letter b)
 with_letter (Within kind ls) b = Fails
 
 -- the effect of a token, regardless of its line
-abbrev pub command_turn : CommandHand → Token → CommandTurn
-command_turn hand (Number negative value) =
-    if nat_eq value 0 then Ends (command_in hand) else turn_with_literal hand (record { name = value; positive = not negative })
-command_turn hand (Letter b) = with_letter hand b
-command_turn hand (Header v c) = GoesOn hand
-command_turn hand Wrong = Fails
+abbrev pub command_token_effect : PartialCommand → Token → CommandTokenEffect
+command_token_effect hand (Number negative value) =
+    if nat_eq value 0 then Ends (command_in hand) else literal_effect hand (record { name = value; positive = not negative })
+command_token_effect hand (Letter b) = with_letter hand b
+command_token_effect hand (Header v c) = GoesOn hand
+command_token_effect hand Wrong = Fails
 
 -- the commands of a text, and how the text ends
 abbrev pub Reading : Type 0
 Reading = List Command × ScriptEnding
 
 -- the reading with these commands before its own
-abbrev pub onto_commands : List Command → Reading → Reading
-onto_commands commands reading = (commands ++ reading.0, reading.1)
+abbrev pub prepend_commands : List Command → Reading → Reading
+prepend_commands commands reading = (commands ++ reading.0, reading.1)
 
 -- the ending if the text ends here: malformed within a command, otherwise clean
-abbrev pub command_at_end : CommandHand → ScriptEnding
+abbrev pub command_at_end : PartialCommand → ScriptEnding
 command_at_end Nothing = Clean
 command_at_end (Within kind ls) = Malformed
 
 -- the reading after the effect of a token; `more` gives the reading of the later tokens, and malformed text ends it
-abbrev pub after_command_turn : CommandTurn → (CommandHand → Reading) → Reading
-after_command_turn (GoesOn hand) more = more hand
-after_command_turn (Ends command) more = onto_commands (command ∷ []) (more Nothing)
-after_command_turn Fails more = ([], Malformed)
+abbrev pub after_command_token_effect : CommandTokenEffect → (PartialCommand → Reading) → Reading
+after_command_token_effect (GoesOn hand) more = more hand
+after_command_token_effect (Ends command) more = prepend_commands (command ∷ []) (more Nothing)
+after_command_token_effect Fails more = ([], Malformed)
 
 -- the commands that the tokens spell, starting from an unfinished command or none
-unfoldable pub commands_of : CommandHand → List Token → Reading
+unfoldable pub commands_of : PartialCommand → List Token → Reading
 commands_of hand [] = ([], command_at_end hand)
-commands_of hand (t ∷ ts) = after_command_turn (command_turn hand t) (λ h. commands_of h ts)
+commands_of hand (t ∷ ts) = after_command_token_effect (command_token_effect hand t) (λ h. commands_of h ts)
 
 -- the tokens without their lines
-abbrev pub spoken : List (ℕ × Token) → List Token
-spoken ts = map (λ t. t.1) ts
+abbrev pub without_lines : List (ℕ × Token) → List Token
+without_lines ts = map (λ t. t.1) ts
 
 -- the commands written in a text, and how the text ends
-unfoldable pub written : List ℕ → Reading
-written text = commands_of Nothing (spoken (tokens text))
+unfoldable pub plain_reading : List ℕ → Reading
+plain_reading text = commands_of Nothing (without_lines (tokens text))
 
 -- The reading with an ask without literals appended, if `due` is true, the text ended cleanly, and no command is an ask. An ask that will be
 -- refused counts as an ask here.
@@ -113,7 +113,7 @@ with_ask due r = if due && (is_clean r.1 && not (has_ask r.0)) then (r.0 ++ Ask 
 
 -- the commands of a text and how it ends; after a header, `with_ask` may append an ask
 unfoldable pub reading : List ℕ → Reading
-reading text = with_ask (is_some (dimacs_header text)) (written text)
+reading text = with_ask (is_some (dimacs_header text)) (plain_reading text)
 
 -- that the text has these commands and this ending
 abbrev pub IsScript : List ℕ → List Command → ScriptEnding → Type 0

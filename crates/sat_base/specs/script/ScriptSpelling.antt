@@ -3,7 +3,7 @@ use Rattle.std.specs.Prelude.{◌≡◌, ℕ, ◌<◌, ◌↔◌, ◌⊎◌, tru
 use Rattle.std.specs.List.{AllByRecursion}
 use Rattle.sat_base.specs.text.Text.{Token, Number, Letter, Header, Wrong, tokens}
 use Rattle.sat_base.specs.script.Script.{Literal, Command, Ask, ScriptEnding, Clean, Malformed, has_ask}
-use Rattle.sat_base.specs.script.Language.{Kind, OfClause, OfAsk, OfHide, OfWitness, OfSample, command_of, may_stand, spoken, IsScript}
+use Rattle.sat_base.specs.script.Language.{Kind, OfClause, OfAsk, OfHide, OfWitness, OfSample, command_of, allows_sign, without_lines, IsScript}
 
 -- the token of a literal: its name, negative if the literal is
 abbrev pub number_of : Literal → Token
@@ -11,7 +11,7 @@ number_of l = Number (not l.positive) l.name
 
 -- that all names are at least 1, and all literals are positive unless `kind` is a clause or an ask
 abbrev pub AreNamesOfKind : Kind → List Literal → Type 0
-AreNamesOfKind kind ls = AllByRecursion (λ l. (0 < l.name) × (may_stand kind l.positive ≡ true)) ls
+AreNamesOfKind kind ls = AllByRecursion (λ l. (0 < l.name) × (allows_sign kind l.positive ≡ true)) ls
 
 -- that the token is a zero, which ends a clause or command (no text has the token of a negative zero)
 abbrev pub IsZero : Token → Type 0
@@ -55,16 +55,16 @@ SpellsTo cs Clean ts = SpellsCommands cs ts
 SpellsTo cs Malformed ts = (front : List Token) × (rest : List Token) × SpellsCommands cs front × BeginsNone rest × (ts ≡ front ++ rest)
 
 -- the commands with an ask without literals appended, if the ending is clean and no command is an ask
-abbrev pub asked : List Command → ScriptEnding → List Command
-asked cs Clean = if has_ask cs then cs else cs ++ Ask [] ∷ []
-asked cs Malformed = cs
+abbrev pub with_final_ask : List Command → ScriptEnding → List Command
+with_final_ask cs Clean = if has_ask cs then cs else cs ++ Ask [] ∷ []
+with_final_ask cs Malformed = cs
 
 -- That the tokens spell these commands and this ending. A header may precede the commands. It counts as an ask at the end if the ending is
 -- clean and no command is an ask.
 abbrev pub SpellsScript : List Command → ScriptEnding → List Token → Type 0
 SpellsScript cs end ts = (((vars : ℕ) (clauses : ℕ) (rest : List Token) → ts ≡ Header vars clauses ∷ rest → ⊥) × SpellsTo cs end ts)
     ⊎ ((vars : ℕ) × (clauses : ℕ) × (rest : List Token) × (spelled : List Command)
-    × (ts ≡ Header vars clauses ∷ rest) × SpellsTo spelled end rest × (cs ≡ asked spelled end))
+    × (ts ≡ Header vars clauses ∷ rest) × SpellsTo spelled end rest × (cs ≡ with_final_ask spelled end))
 
 -- that every text has exactly one list of commands and one ending
 pub record OneReading : Type 0 where
@@ -74,4 +74,4 @@ pub record OneReading : Type 0 where
 
 -- that a text means these commands and this ending exactly when its tokens spell them
 abbrev pub ReadIfSpelled : Type 0
-ReadIfSpelled = (text : List ℕ) (cs : List Command) (end : ScriptEnding) → IsScript text cs end ↔ SpellsScript cs end (spoken (tokens text))
+ReadIfSpelled = (text : List ℕ) (cs : List Command) (end : ScriptEnding) → IsScript text cs end ↔ SpellsScript cs end (without_lines (tokens text))

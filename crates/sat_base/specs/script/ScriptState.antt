@@ -1,7 +1,7 @@
 -- The state after the commands of a script: names, their variables, modes and clauses. No result of a search is part of it.
 use Rattle.std.specs.Prelude.{ℕ, zero, suc, ◌+◌, ◌-◌, ◌==◌, ◌≡◌, max, Bool, true, false, not, Option, Some, None, List, [], ◌∷◌, ◌++◌, map, set, get_or, nat_lt, is_some, unwrap_or, ◌&&◌, if◌then◌else◌}
 use Rattle.std.specs.List.{filter, AllByRecursion}
-use Rattle.sat_base.specs.values.Literals.{coded, var_limit}
+use Rattle.sat_base.specs.values.Literals.{mk_lit, var_limit}
 use Rattle.sat_base.specs.values.Clauses.{Valuation, EachTrue, EachHolds}
 use Rattle.sat_base.specs.script.Script.{Literal, Command, Clause, Ask, Hide, Witness, Sample, names_of, Among, InOrder}
 
@@ -26,8 +26,8 @@ pub record ScriptState : Type 0 where
   pub clauses : List (List ℕ)  -- the accepted clauses, newest first; a literal is twice its identity, plus 1 if negated
 
 -- the state before the first command
-abbrev pub start : ScriptState
-start = record { first_unused = 1; in_use = []; modes = []; identity_count = 0; clauses = [] }
+abbrev pub initial_state : ScriptState
+initial_state = record { first_unused = 1; in_use = []; modes = []; identity_count = 0; clauses = [] }
 
 -- the identity of a name in a list of names in use, or `None` if the name is not in the list
 abbrev pub identity_in : List Named → ℕ → Option ℕ
@@ -39,15 +39,15 @@ abbrev pub identity_of : ScriptState → ℕ → Option ℕ
 identity_of j name = identity_in j.in_use name
 
 -- the list with `new` inserted, in increasing order of name
-abbrev pub placed : Named → List Named → List Named
-placed new [] = new ∷ []
-placed new (n ∷ ns) = if nat_lt n.name new.name then n ∷ placed new ns else new ∷ n ∷ ns
+abbrev pub insert_by_name : Named → List Named → List Named
+insert_by_name new [] = new ∷ []
+insert_by_name new (n ∷ ns) = if nat_lt n.name new.name then n ∷ insert_by_name new ns else new ∷ n ∷ ns
 
 -- the state after `name` gets a new variable, of mode sample
 abbrev pub with_name : ℕ → ScriptState → ScriptState
 with_name name j = record {
   first_unused = max j.first_unused (name + 1);
-  in_use = placed (record { name = name; identity = j.identity_count }) j.in_use;
+  in_use = insert_by_name (record { name = name; identity = j.identity_count }) j.in_use;
   modes = j.modes ++ Sampled ∷ [];
   identity_count = j.identity_count + 1;
   clauses = j.clauses;
@@ -72,8 +72,8 @@ for_each f [] j = j
 for_each f (name ∷ names) j = for_each f names (f name j)
 
 -- the state after `name` is introduced: all of its `new_names` are then in use
-abbrev pub bring_in : ℕ → ScriptState → ScriptState
-bring_in name j = for_each with_name (new_names name j) j
+abbrev pub introduce : ℕ → ScriptState → ScriptState
+introduce name j = for_each with_name (new_names name j) j
 
 -- the state in which `name` is no longer in use
 abbrev pub without_name : ℕ → ScriptState → ScriptState
@@ -82,8 +82,8 @@ without_name name j = record j { in_use = filter (λ n. not (n.name == name)) j.
 -- The literal with its variable's identity instead of its name. The default 0 is never needed, because the name is always in use. An ask and a
 -- clause introduce their names first. A model lists the names in use, and a core consists of literals of the ask. Law `judge_laws` states this
 -- (`NamesAreInUse`).
-abbrev pub over : ScriptState → Literal → ℕ
-over j l = coded (unwrap_or (identity_of j l.name) 0) l.positive
+abbrev pub identity_lit : ScriptState → Literal → ℕ
+identity_lit j l = mk_lit (unwrap_or (identity_of j l.name) 0) l.positive
 
 -- the state after the variable of `name` gets this mode; `name` is in use
 abbrev pub with_mode : NameMode → ℕ → ScriptState → ScriptState
@@ -91,16 +91,16 @@ with_mode mode name j = record j { modes = set j.modes (unwrap_or (identity_of j
 
 -- the state with one more clause, all of whose names are in use
 abbrev pub with_clause : List Literal → ScriptState → ScriptState
-with_clause ls j = record j { clauses = map (over j) ls ∷ j.clauses }
+with_clause ls j = record j { clauses = map (identity_lit j) ls ∷ j.clauses }
 
 -- The state after an accepted command. `Clause` and `Ask` introduce their names from left to right; `Clause` then adds the clause. `Hide`,
 -- `Witness` and `Sample` process one name at a time: they introduce it, then hide it or set its variable's mode.
-abbrev pub accepted : Command → ScriptState → ScriptState
-accepted (Clause ls) j = with_clause ls (for_each bring_in (names_of ls) j)
-accepted (Ask ls) j = for_each bring_in (names_of ls) j
-accepted (Hide names) j = for_each (λ name i. without_name name (bring_in name i)) names j
-accepted (Witness names) j = for_each (λ name i. with_mode Witnessed name (bring_in name i)) names j
-accepted (Sample names) j = for_each (λ name i. with_mode Sampled name (bring_in name i)) names j
+abbrev pub state_after_accepted : Command → ScriptState → ScriptState
+state_after_accepted (Clause ls) j = with_clause ls (for_each introduce (names_of ls) j)
+state_after_accepted (Ask ls) j = for_each introduce (names_of ls) j
+state_after_accepted (Hide names) j = for_each (λ name i. without_name name (introduce name i)) names j
+state_after_accepted (Witness names) j = for_each (λ name i. with_mode Witnessed name (introduce name i)) names j
+state_after_accepted (Sample names) j = for_each (λ name i. with_mode Sampled name (introduce name i)) names j
 
 -- why a command is refused: a name is past the limit, or the mode of this name is witness
 pub data Refusal : Type 0 where
@@ -135,7 +135,7 @@ refusal_of j (Sample names) = first_refusal true j names
 
 -- the state after a command, which is unchanged if the command is refused
 abbrev pub after_command : Command → ScriptState → ScriptState
-after_command command j = if is_some (refusal_of j command) then j else accepted command j
+after_command command j = if is_some (refusal_of j command) then j else state_after_accepted command j
 
 -- the state after these commands, from left to right
 abbrev pub after_script : List Command → ScriptState → ScriptState
@@ -143,10 +143,10 @@ after_script [] j = j
 after_script (command ∷ commands) j = after_script commands (after_command command j)
 
 -- the accepted commands, in order
-abbrev pub accepted_of : ScriptState → List Command → List Command
-accepted_of j [] = []
-accepted_of j (command ∷ commands) =
-    if is_some (refusal_of j command) then accepted_of j commands else command ∷ accepted_of (accepted command j) commands
+abbrev pub accepted_commands : ScriptState → List Command → List Command
+accepted_commands j [] = []
+accepted_commands j (command ∷ commands) =
+    if is_some (refusal_of j command) then accepted_commands j commands else command ∷ accepted_commands (state_after_accepted command j) commands
 
 -- That `line` is a correct model of `ask`. `j` is the state after the names of `ask` were introduced.
 pub record IsRightModel (j : ScriptState) (ask line : List Literal) : Type 0 where
@@ -154,9 +154,9 @@ pub record IsRightModel (j : ScriptState) (ask line : List Literal) : Type 0 whe
   pub names : names_of line ≡ map (λ n. n.name) j.in_use
   -- some valuation that agrees with `line` satisfies the accepted clauses and the literals of `ask`
   pub valuation : Valuation
-  pub agrees : EachTrue valuation (map (over j) line)
+  pub agrees : EachTrue valuation (map (identity_lit j) line)
   pub clauses : EachHolds valuation j.clauses
-  pub asked : EachTrue valuation (map (over j) ask)
+  pub asked : EachTrue valuation (map (identity_lit j) ask)
 
 -- That `core` is a correct core of `ask`. It contains some of the literals of `ask`, sorted and without repeats, that cannot all be true if the
 -- accepted clauses hold. It need not be minimal. `j` is the state after the names of `ask` were introduced.
@@ -164,7 +164,7 @@ pub record IsRightCore (j : ScriptState) (ask core : List Literal) : Type 0 wher
   pub order : InOrder core
   pub among : AllByRecursion (λ l. Among l ask) core
   -- no valuation satisfies both the core and the accepted clauses
-  pub none : (a : Valuation) → EachTrue a (map (over j) core) → EachHolds a j.clauses → ⊥
+  pub none : (a : Valuation) → EachTrue a (map (identity_lit j) core) → EachHolds a j.clauses → ⊥
 
 -- Further definitions that laws and dependent crates use:
 
@@ -173,16 +173,16 @@ abbrev pub with_names : List ℕ → ScriptState → ScriptState
 with_names names j = for_each with_name names j
 
 -- the state after these names are introduced, from left to right
-abbrev pub bring_all : List ℕ → ScriptState → ScriptState
-bring_all names j = for_each bring_in names j
+abbrev pub introduce_all : List ℕ → ScriptState → ScriptState
+introduce_all names j = for_each introduce names j
 
 -- the state after these names are introduced and hidden, one by one
 abbrev pub hide_all : List ℕ → ScriptState → ScriptState
-hide_all names j = for_each (λ name i. without_name name (bring_in name i)) names j
+hide_all names j = for_each (λ name i. without_name name (introduce name i)) names j
 
 -- the state after these names are introduced and the modes of their variables are set, one by one
 abbrev pub set_all : NameMode → List ℕ → ScriptState → ScriptState
-set_all mode names j = for_each (λ name i. with_mode mode name (bring_in name i)) names j
+set_all mode names j = for_each (λ name i. with_mode mode name (introduce name i)) names j
 
 -- why a clause or an ask with these names is refused, or `None`
 abbrev pub refused_literal : ScriptState → List ℕ → Option Refusal

@@ -1,10 +1,10 @@
 -- Laws about the state of scripts.
 use Rattle.std.specs.Prelude.{ℕ, ◌+◌, ◌≤◌, ◌<◌, ◌≡◌, ◌↔◌, false, Some, List, [], ◌∷◌, length, map, nat_lt, unwrap_or, if◌then◌else◌}
 use Rattle.std.specs.List.{AllByRecursion}
-use Rattle.sat_base.specs.values.Literals.{coded, var_limit, variable}
+use Rattle.sat_base.specs.values.Literals.{mk_lit, var_limit, variable}
 use Rattle.sat_base.specs.values.Clauses.{Valuation, literal_true, EachHolds}
 use Rattle.sat_base.specs.script.Script.{Literal, Command, Among, names_of}
-use Rattle.sat_base.specs.script.ScriptState.{ScriptState, Named, identity_of, over, for_each, bring_in, after_script, start, IsRightModel, IsRightCore}
+use Rattle.sat_base.specs.script.ScriptState.{ScriptState, Named, identity_of, identity_lit, for_each, introduce, after_script, initial_state, IsRightModel, IsRightCore}
 
 -- that the names strictly increase
 abbrev pub NamesIncrease : List Named → Type 0
@@ -23,7 +23,7 @@ pub record ScriptStateInvariant (j : ScriptState) : Type 0 where
 
 -- that the invariant holds after every script
 abbrev pub ScriptStateInvariantHolds : Type 0
-ScriptStateInvariantHolds = (commands : List Command) → ScriptStateInvariant (after_script commands start)
+ScriptStateInvariantHolds = (commands : List Command) → ScriptStateInvariant (after_script commands initial_state)
 
 -- the valuation that agrees with `a` below variable `n` and is false from `n` on
 abbrev pub only_below : ℕ → Valuation → Valuation
@@ -33,9 +33,9 @@ only_below n a = λ v. if nat_lt v n then a v else false
 abbrev pub GivenIdentitiesSuffice : Type 0
 GivenIdentitiesSuffice =
     (commands : List Command) (a : Valuation)
-    → let j = after_script commands start in
+    → let j = after_script commands initial_state in
     (EachHolds a j.clauses ↔ EachHolds (only_below j.identity_count a) j.clauses)
-    × ((l : Literal) (i : ℕ) → identity_of j l.name ≡ Some i → literal_true (only_below j.identity_count a) (over j l) ≡ literal_true a (over j l))
+    × ((l : Literal) (i : ℕ) → identity_of j l.name ≡ Some i → literal_true (only_below j.identity_count a) (identity_lit j l) ≡ literal_true a (identity_lit j l))
 
 -- that every number is less than all numbers after it
 abbrev pub Increase : List ℕ → Type 0
@@ -52,15 +52,15 @@ NamesAreListed = (j : ScriptState) (names : List ℕ) → NamesIncrease j.in_use
     → ((name i : ℕ) → identity_of j name ≡ Some i → Among name names)
     → AreInUse j names → names ≡ map (λ n. n.name) j.in_use
 
--- Why the default identity 0 in `over` and `with_mode` is never needed: both are only used for names in use. This holds in every state, even in
+-- Why the default identity 0 in `identity_lit` and `with_mode` is never needed: both are only used for names in use. This holds in every state, even in
 -- one that no script reaches.
 pub record NamesAreInUse : Type 0 where
-  -- Names are in use once they are introduced. `accepted` introduces the names of a clause or an ask before it uses `over`, and every other
+  -- Names are in use once they are introduced. `accepted` introduces the names of a clause or an ask before it uses `identity_lit`, and every other
   -- name before it sets the mode.
-  pub introduced : (j : ScriptState) (names : List ℕ) → AreInUse (for_each bring_in names j) names
+  pub introduced : (j : ScriptState) (names : List ℕ) → AreInUse (for_each introduce names j) names
   -- All names of a correct model are in use. So are those of a correct core, if the names of its ask are in use.
   pub model : (j : ScriptState) (ask line : List Literal) → IsRightModel j ask line → AreInUse j (names_of line)
   pub core : (j : ScriptState) (ask core : List Literal) → AreInUse j (names_of ask) → IsRightCore j ask core → AreInUse j (names_of core)
   -- For names in use, any other default than 0 gives the same literals.
   pub zero_never_counts : (j : ScriptState) (ls : List Literal) (other : ℕ) → AreInUse j (names_of ls)
-      → map (over j) ls ≡ map (λ l. coded (unwrap_or (identity_of j l.name) other) l.positive) ls
+      → map (identity_lit j) ls ≡ map (λ l. mk_lit (unwrap_or (identity_of j l.name) other) l.positive) ls

@@ -6,12 +6,12 @@ abbrev pub Format : Type 0 → Type 1
 Format A = A → List ℕ → Type 0
 
 -- the bytes are a prefix of a text, or all of it
-abbrev pub BeginsText : {A : Type 0} → Format A → List ℕ → Type 0
-BeginsText {A} F bytes = (x : A) × (more : List ℕ) × F x (bytes ++ more)
+abbrev pub IsPrefixOfText : {A : Type 0} → Format A → List ℕ → Type 0
+IsPrefixOfText {A} F bytes = (x : A) × (more : List ℕ) × F x (bytes ++ more)
 
 -- the bytes are a prefix of a text, but not all of it
-abbrev pub IsProperFront : {A : Type 0} → Format A → List ℕ → Type 0
-IsProperFront {A} F bytes = (x : A) × (b : ℕ) × (more : List ℕ) × F x (bytes ++ b ∷ more)
+abbrev pub IsProperPrefix : {A : Type 0} → Format A → List ℕ → Type 0
+IsProperPrefix {A} F bytes = (x : A) × (b : ℕ) × (more : List ℕ) × F x (bytes ++ b ∷ more)
 
 -- that some prefix of the bytes is a proper prefix of a text, but no text begins with this prefix and the next byte
 pub record IsFirstBadByte {A : Type 0} (F : Format A) (bytes : List ℕ) : Type 0 where
@@ -19,8 +19,8 @@ pub record IsFirstBadByte {A : Type 0} (F : Format A) (bytes : List ℕ) : Type 
   pub byte : ℕ
   pub following : List ℕ
   pub whole : bytes ≡ front ++ byte ∷ following
-  pub live : IsProperFront F front
-  pub shut : BeginsText F (front ++ byte ∷ []) → ⊥
+  pub live : IsProperPrefix F front
+  pub shut : IsPrefixOfText F (front ++ byte ∷ []) → ⊥
 
 -- one format, and then another that may depend on the first value
 abbrev pub Then : {A B : Type 0} → Format A → (A → Format B) → Format (A × B)

@@ -1,13 +1,13 @@
 -- Steps as a kind and separate lists.
 use Rattle.std.specs.Prelude.{ℕ, ◌==◌, ◌||◌, ◌&&◌, Bool, List, nat_lt}
-use Rattle.sat_base.specs.declared.steps.kind.Kind.{Kind}
+use Rattle.sat_base.specs.declared.steps.kind.StepKind.{StepKind}
 use Rattle.sat_base.specs.declared.steps.step_lists.Lists.{Lists}
-use Rattle.sat_base.specs.declared.steps.kind.Kind.TheVariants as code
+use Rattle.sat_base.specs.declared.steps.kind.StepKind.TheVariants as code
 use Rattle.sat_base.specs.steps.Steps.{Step, SolverVarName, UserVarName, DeleteVar, ChangeSamplingMode, AddClause, AtClause, UnitClauses, DeleteClause, ChangeHashBits, Model, Assumptions, FailedAssumptions, End}
 use Rattle.sat_base.specs.steps.StepViews.{deletion_of}
 
 -- the step of a kind with these literals, hashes and units
-abbrev pub step_with : Kind → List ℕ → List ℕ → List (ℕ × ℕ) → Step
+abbrev pub step_with : StepKind → List ℕ → List ℕ → List (ℕ × ℕ) → Step
 step_with (code.SolverVarName global solver) literals hashes units = SolverVarName global solver
 step_with (code.UserVarName global user) literals hashes units = UserVarName global user
 step_with (code.DeleteVar var) literals hashes units = DeleteVar var
@@ -23,7 +23,7 @@ step_with code.FailedAssumptions literals hashes units = FailedAssumptions liter
 step_with code.End literals hashes units = End
 
 -- the step of a kind with the lists that `Lists` holds
-abbrev pub step_held : Lists → Kind → Step
+abbrev pub step_held : Lists → StepKind → Step
 step_held l k = step_with k l.literals.items l.hashes.items l.units.items
 
 -- the list of literals and the list of hashes that `Lists` holds

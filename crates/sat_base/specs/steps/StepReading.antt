@@ -64,7 +64,7 @@ AnswersUnlessFailed (Err errors.OutOfMemory) old new = AnswersStepRead (Err erro
 AnswersUnlessFailed (Err errors.HasFailed) old new = new ≡ old
 
 -- A call of `advance`. It returns `HasFailed` exactly when an earlier error stopped the reader.
-pub record Next {R : Type 0} (seen : R → Reader) (old new : StepReader R Buffers) (result : Result Step StepError) : Type 0 where
+pub record AdvanceEffect {R : Type 0} (seen : R → Reader) (old new : StepReader R Buffers) (result : Result Step StepError) : Type 0 where
   pub same : reader_name new ≡ reader_name old
   pub answer : AnswersUnlessFailed result (reader_source seen old) (reader_source seen new)
   pub was : has_reader_failed old ≡ repeated result

@@ -94,16 +94,16 @@ last_left Over n ls = n + 1
 last_left spot n ls = last_line (n + 1) (later_lines ls)
 
 -- what is still to be read, from a position after n ended lines, if these are the bytes to come
-unfoldable pub left : Position → ℕ → List ℕ → Scan
-left spot n bytes = record { tokens = tokens_left spot n (lines bytes); last = last_left spot n (lines bytes) }
+unfoldable pub remaining_scan : Position → ℕ → List ℕ → Scan
+remaining_scan spot n bytes = record { tokens = tokens_left spot n (lines bytes); last = last_left spot n (lines bytes) }
 
 -- the token of the unfinished word or header line if the line ends here, or no token
-abbrev pub in_hand : Position → ℕ → List (ℕ × Token)
-in_hand (Within x w) n = (n + 1, token (x ∷ w)) ∷ []
-in_hand (HeaderBetween stage) n = (n + 1, stage_end stage) ∷ []
-in_hand (HeaderWithin stage x w) n = (n + 1, after_word (stage_after stage (x ∷ w)) stage_end) ∷ []
-in_hand Spoilt n = (n + 1, Wrong) ∷ []
-in_hand spot n = []
+abbrev pub unfinished_token : Position → ℕ → List (ℕ × Token)
+unfinished_token (Within x w) n = (n + 1, token (x ∷ w)) ∷ []
+unfinished_token (HeaderBetween stage) n = (n + 1, stage_end stage) ∷ []
+unfinished_token (HeaderWithin stage x w) n = (n + 1, after_word (stage_after stage (x ∷ w)) stage_end) ∷ []
+unfinished_token Spoilt n = (n + 1, Wrong) ∷ []
+unfinished_token spot n = []
 
 -- whether a header is still allowed on the next lines
 abbrev pub may_after : Position → Bool
@@ -157,5 +157,5 @@ line_at (Fresh may) n = n
 line_at spot n = n + 1
 
 -- the scan with these tokens before its own
-abbrev pub onto : List (ℕ × Token) → Scan → Scan
-onto ts rest = record { tokens = ts ++ rest.tokens; last = rest.last }
+abbrev pub prepend_tokens : List (ℕ × Token) → Scan → Scan
+prepend_tokens ts rest = record { tokens = ts ++ rest.tokens; last = rest.last }

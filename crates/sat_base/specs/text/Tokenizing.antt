@@ -10,26 +10,26 @@ use Rattle.sat_base.specs.declared.text.Token.{Token as CodeToken}
 use Rattle.sat_base.specs.declared.text.Token.TheVariants as code
 use Rattle.sat_base.specs.declared.text.Tokenizer.{Tokenizer}
 use Rattle.sat_base.specs.text.Text.{digits, Token, Number, Letter, Header, Wrong, token, Scan, is_letter}
-use Rattle.sat_base.specs.text.Position.{Stage, Begun, Named, Format, Vars, Both, stage_after, Position, Fresh, Leading, Comment, Between, Within, HeaderBetween, HeaderWithin, Spoilt, Over, HasNoBlank, left, in_hand, ended_by_blank, following_blank, after_LF, onto}
+use Rattle.sat_base.specs.text.Position.{Stage, Begun, Named, Format, Vars, Both, stage_after, Position, Fresh, Leading, Comment, Between, Within, HeaderBetween, HeaderWithin, Spoilt, Over, HasNoBlank, remaining_scan, unfinished_token, ended_by_blank, following_blank, after_LF, prepend_tokens}
 
 -- a count or a value, capped at 2^64-1
-abbrev pub held : ℕ → ℕ
-held n = min n (2 ^ 64 - 1)
+abbrev pub capped : ℕ → ℕ
+capped n = min n (2 ^ 64 - 1)
 
 -- a token as the code represents it, with its values capped
-abbrev pub held_token : Token → CodeToken
-held_token (Number negative value) = code.Number negative (held value)
-held_token (Letter b) = code.Letter b
-held_token (Header v c) = code.Header (held v) (held c)
-held_token Wrong = code.Wrong
+abbrev pub capped_token : Token → CodeToken
+capped_token (Number negative value) = code.Number negative (capped value)
+capped_token (Letter b) = code.Letter b
+capped_token (Header v c) = code.Header (capped v) (capped c)
+capped_token Wrong = code.Wrong
 
 -- the value with the digit of this byte appended, capped
-abbrev pub grown : ℕ → ℕ → ℕ
-grown value digit = held (10 * value + (digit - 48))
+abbrev pub with_digit : ℕ → ℕ → ℕ
+with_digit value digit = capped (10 * value + (digit - 48))
 
 -- the bytes are digits, and the value is the number that they spell, capped
-abbrev pub SpellsHeld : List ℕ → ℕ → Type 0
-SpellsHeld ds value = (m : ℕ) × (digits 0 ds ≡ Some m) × (value ≡ held m)
+abbrev pub SpellsCapped : List ℕ → ℕ → Type 0
+SpellsCapped ds value = (m : ℕ) × (digits 0 ds ≡ Some m) × (value ≡ capped m)
 
 -- every word that begins with these bytes is wrong
 abbrev pub BeginsWrong : List ℕ → Type 0
@@ -43,8 +43,8 @@ BeginsSpoilt s w = (more : List ℕ) → stage_after s (w ++ more) ≡ None
 abbrev pub IsStage : CodeStage → Stage → Type 0
 IsStage stage.Named s = s ≡ Named
 IsStage stage.Format s = s ≡ Format
-IsStage (stage.Vars vars) s = (v : ℕ) × (vars ≡ held v) × (s ≡ Vars v)
-IsStage (stage.Both vars clauses) s = (v : ℕ) × (c : ℕ) × (vars ≡ held v) × (clauses ≡ held c) × (s ≡ Both v c)
+IsStage (stage.Vars vars) s = (v : ℕ) × (vars ≡ capped v) × (s ≡ Vars v)
+IsStage (stage.Both vars clauses) s = (v : ℕ) × (c : ℕ) × (vars ≡ capped v) × (clauses ≡ capped c) × (s ≡ Both v c)
 
 -- the positions that a place in a header line can represent
 abbrev pub IsAtHeader : HeaderPlace → Position → Type 0
@@ -54,10 +54,10 @@ IsAtHeader header.C spot = spot ≡ HeaderWithin Named 99 []
 IsAtHeader header.Cn spot = spot ≡ HeaderWithin Named 99 (110 ∷ [])
 IsAtHeader header.Cnf spot = spot ≡ HeaderWithin Named 99 (110 ∷ 102 ∷ [])
 IsAtHeader (header.Vars value) spot =
-    (x : ℕ) × (w : List ℕ) × HasNoBlank (x ∷ w) × SpellsHeld (x ∷ w) value × (spot ≡ HeaderWithin Format x w)
+    (x : ℕ) × (w : List ℕ) × HasNoBlank (x ∷ w) × SpellsCapped (x ∷ w) value × (spot ≡ HeaderWithin Format x w)
 IsAtHeader (header.Clauses vars value) spot =
-    (v : ℕ) × (x : ℕ) × (w : List ℕ) × (vars ≡ held v)
-    × HasNoBlank (x ∷ w) × SpellsHeld (x ∷ w) value × (spot ≡ HeaderWithin (Vars v) x w)
+    (v : ℕ) × (x : ℕ) × (w : List ℕ) × (vars ≡ capped v)
+    × HasNoBlank (x ∷ w) × SpellsCapped (x ∷ w) value × (spot ≡ HeaderWithin (Vars v) x w)
 
 -- the positions that a place can represent, with the bytes of the unfinished word and the numbers of the header, not capped
 abbrev pub IsAt : Place → Position → Type 0
@@ -67,9 +67,9 @@ IsAt (at.Comment may) spot = spot ≡ Comment may
 IsAt at.Between spot = spot ≡ Between
 IsAt at.Minus spot = spot ≡ Within 45 []
 IsAt (at.Digits false value) spot =
-    (x : ℕ) × (w : List ℕ) × HasNoBlank (x ∷ w) × SpellsHeld (x ∷ w) value
+    (x : ℕ) × (w : List ℕ) × HasNoBlank (x ∷ w) × SpellsCapped (x ∷ w) value
     × (x ≡ 45 → ⊥) × (is_letter x ≡ false) × (spot ≡ Within x w)
-IsAt (at.Digits true value) spot = (w : List ℕ) × HasNoBlank w × (w ≡ [] → ⊥) × SpellsHeld w value × (spot ≡ Within 45 w)
+IsAt (at.Digits true value) spot = (w : List ℕ) × HasNoBlank w × (w ≡ [] → ⊥) × SpellsCapped w value × (spot ≡ Within 45 w)
 IsAt (at.Letter b) spot = (HasNoBlank (b ∷ []) × (is_letter b ≡ true)) × (spot ≡ Within b [])
 IsAt at.Bad spot = (x : ℕ) × (w : List ℕ) × HasNoBlank (x ∷ w) × BeginsWrong (x ∷ w) × (spot ≡ Within x w)
 IsAt (at.Header place) spot = IsAtHeader place spot
@@ -78,7 +78,7 @@ IsAt at.Over spot = spot ≡ Over
 
 -- that a byte leads from one position to another, and completes no token and no line
 abbrev pub MovesPosition : Position → ℕ → Position → Type 0
-MovesPosition old byte new = (n : ℕ) (rest : List ℕ) → left old n (byte ∷ rest) ≡ left new n rest
+MovesPosition old byte new = (n : ℕ) (rest : List ℕ) → remaining_scan old n (byte ∷ rest) ≡ remaining_scan new n rest
 
 -- that a byte leads from one place to another, and completes no token and no line
 abbrev pub MovesPlace : Place → ℕ → Place → Type 0
@@ -87,7 +87,7 @@ MovesPlace old byte new = (spot : Position) → IsAt old spot → (next : Positi
 -- that bytes lead from one place to another, and complete no token and no line
 abbrev pub MovesBy : Place → List ℕ → Place → Type 0
 MovesBy old bytes new = (spot : Position) → IsAt old spot
-    → (next : Position) × IsAt new next × ((n : ℕ) (rest : List ℕ) → left spot n (bytes ++ rest) ≡ left next n rest)
+    → (next : Position) × IsAt new next × ((n : ℕ) (rest : List ℕ) → remaining_scan spot n (bytes ++ rest) ≡ remaining_scan next n rest)
 
 -- that a word may begin at this place, which is not in a header line
 abbrev pub BeginsWord : Place → Type 0
@@ -111,17 +111,17 @@ BeganHeader ended byte None = (s : Stage) → IsStage ended s → BeginsSpoilt s
 BeganHeader ended byte (Some place) = (s : Stage) → IsStage ended s → IsAtHeader place (HeaderWithin s byte [])
 
 -- that after n ended lines there is one token, on the next line, which the code represents so; `None`: there is none
-abbrev pub IsHeldToken : Option CodeToken → (ℕ → List (ℕ × Token)) → Type 0
-IsHeldToken None tokens = (n : ℕ) → tokens n ≡ []
-IsHeldToken (Some t) tokens = (given : Token) × (t ≡ held_token given) × ((n : ℕ) → tokens n ≡ (n + 1, given) ∷ [])
+abbrev pub IsCappedToken : Option CodeToken → (ℕ → List (ℕ × Token)) → Type 0
+IsCappedToken None tokens = (n : ℕ) → tokens n ≡ []
+IsCappedToken (Some t) tokens = (given : Token) × (t ≡ capped_token given) × ((n : ℕ) → tokens n ≡ (n + 1, given) ∷ [])
 
 -- that the end of the line at this place completes this token, or none
 abbrev pub SaysInHand : Option CodeToken → Place → Type 0
-SaysInHand given place = (spot : Position) → IsAt place spot → IsHeldToken given (in_hand spot)
+SaysInHand given place = (spot : Position) → IsAt place spot → IsCappedToken given (unfinished_token spot)
 
 -- that a blank within a line at this place completes this token, or none
 abbrev pub SaysAtBlank : Option CodeToken → Place → Type 0
-SaysAtBlank given place = (spot : Position) → IsAt place spot → IsHeldToken given (ended_by_blank spot)
+SaysAtBlank given place = (spot : Position) → IsAt place spot → IsCappedToken given (ended_by_blank spot)
 
 -- the stage of a header line once its unfinished word ends; `None` elsewhere, or if the word is not allowed there
 abbrev pub ended_stage : Position → Option Stage
@@ -139,13 +139,13 @@ abbrev pub LeadsAfter : Place → Place → Type 0
 LeadsAfter old new = (spot : Position) → IsAt old spot → IsAt new (following_blank spot)
 
 -- that no word is unfinished, and the place is not at the start of a line
-abbrev pub IsQuiet : Place → Type 0
-IsQuiet (at.Leading may) = Unit {0}
-IsQuiet (at.Comment may) = Unit {0}
-IsQuiet at.Between = Unit {0}
-IsQuiet (at.Header (header.Between ended)) = Unit {0}
-IsQuiet at.Over = Unit {0}
-IsQuiet place = ⊥
+abbrev pub IsBetweenWords : Place → Type 0
+IsBetweenWords (at.Leading may) = Unit {0}
+IsBetweenWords (at.Comment may) = Unit {0}
+IsBetweenWords at.Between = Unit {0}
+IsBetweenWords (at.Header (header.Between ended)) = Unit {0}
+IsBetweenWords at.Over = Unit {0}
+IsBetweenWords place = ⊥
 
 -- whether a header is still allowed on the next lines
 abbrev pub may_come : Place → Bool
@@ -160,30 +160,30 @@ LeadsBelow old new = (spot : Position) → IsAt old spot → IsAt new (after_LF 
 
 -- that the tokenizer is at a position from which `left_of` gives what is still to be read, for any bytes to come
 unfoldable pub IsPositionedBefore : Tokenizer → (List ℕ → Scan) → Type 0
-IsPositionedBefore machine left_of = (spot : Position) × (n : ℕ) × IsAt machine.place spot × (machine.lines ≡ held n)
-    × ((rest : List ℕ) → left_of rest ≡ left spot n rest)
+IsPositionedBefore machine left_of = (spot : Position) × (n : ℕ) × IsAt machine.place spot × (machine.lines ≡ capped n)
+    × ((rest : List ℕ) → left_of rest ≡ remaining_scan spot n rest)
 
 -- that the byte completes this token, on the line of the byte, or none
 abbrev pub GivesToken : Option CodeToken → ℕ → (List ℕ → Scan) → (List ℕ → Scan) → Type 0
 GivesToken None byte old new = (rest : List ℕ) → old (byte ∷ rest) ≡ new rest
-GivesToken (Some t) byte old new = (given : Token) × (t ≡ held_token given)
-    × ((rest : List ℕ) → old (byte ∷ rest) ≡ onto (((new []).last, given) ∷ []) (new rest))
+GivesToken (Some t) byte old new = (given : Token) × (t ≡ capped_token given)
+    × ((rest : List ℕ) → old (byte ∷ rest) ≡ prepend_tokens (((new []).last, given) ∷ []) (new rest))
 
 -- That the tokenizer receives a byte, which completes this token, or none. What was still to be read is this token, and
 -- then what is still to be read after the byte.
-abbrev pub TakesByte : Tokenizer → ℕ → Option CodeToken → Tokenizer → Type 0
-TakesByte old byte given new = (before : List ℕ → Scan) → IsPositionedBefore old before
+abbrev pub ReceivesByte : Tokenizer → ℕ → Option CodeToken → Tokenizer → Type 0
+ReceivesByte old byte given new = (before : List ℕ → Scan) → IsPositionedBefore old before
     → (after : List ℕ → Scan) × IsPositionedBefore new after × GivesToken given byte before after
 
 -- that the bytes complete this token, on the line of the last byte, or none
 abbrev pub GivesAfter : Option CodeToken → List ℕ → (List ℕ → Scan) → (List ℕ → Scan) → Type 0
 GivesAfter None bytes old new = (rest : List ℕ) → old (bytes ++ rest) ≡ new rest
-GivesAfter (Some t) bytes old new = (given : Token) × (t ≡ held_token given)
-    × ((rest : List ℕ) → old (bytes ++ rest) ≡ onto (((new []).last, given) ∷ []) (new rest))
+GivesAfter (Some t) bytes old new = (given : Token) × (t ≡ capped_token given)
+    × ((rest : List ℕ) → old (bytes ++ rest) ≡ prepend_tokens (((new []).last, given) ∷ []) (new rest))
 
 -- that the tokenizer receives these bytes, which complete this token, or none
-abbrev pub TakesFront : Tokenizer → List ℕ → Option CodeToken → Tokenizer → Type 0
-TakesFront old bytes given new = (before : List ℕ → Scan) → IsPositionedBefore old before
+abbrev pub ReceivesPrefix : Tokenizer → List ℕ → Option CodeToken → Tokenizer → Type 0
+ReceivesPrefix old bytes given new = (before : List ℕ → Scan) → IsPositionedBefore old before
     → (after : List ℕ → Scan) × IsPositionedBefore new after × GivesAfter given bytes before after
 
 -- that the token is a header or `Wrong`
@@ -194,10 +194,10 @@ IsOfHeader (Header v c) = Unit {0}
 IsOfHeader Wrong = Unit {0}
 
 -- that the scan has no token, or only a header or `Wrong`, so neither a number nor a letter
-abbrev pub HoldsNoWord : Scan → Type 0
-HoldsNoWord s = (s.tokens ≡ []) ⊎ ((line : ℕ) × (t : Token) × IsOfHeader t × (s.tokens ≡ (line, t) ∷ []))
+abbrev pub HasNoNumberOrLetter : Scan → Type 0
+HasNoNumberOrLetter s = (s.tokens ≡ []) ⊎ ((line : ℕ) × (t : Token) × IsOfHeader t × (s.tokens ≡ (line, t) ∷ []))
 
 -- that the end of the text completes this token, on the last line, or none, and nothing else is left
 abbrev pub GivesLast : Option CodeToken → Scan → Type 0
 GivesLast None rest = rest.tokens ≡ []
-GivesLast (Some t) rest = (given : Token) × (t ≡ held_token given) × (rest.tokens ≡ (rest.last, given) ∷ [])
+GivesLast (Some t) rest = (given : Token) × (t ≡ capped_token given) × (rest.tokens ≡ (rest.last, given) ∷ [])

@@ -43,7 +43,7 @@ impl<'r, R: CountedRead> Input<'r, R> {
         ensures { NextByte result (source_of R.seen self.old) (source_of R.seen self.new) }
     {
         if self.ahead.at < self.ahead.end {
-            return Ok(Some(self.ahead.take()));
+            return Ok(Some(self.ahead.take_byte()));
         }
         self.first_byte()
     }
@@ -57,7 +57,7 @@ impl<'r, R: CountedRead> Input<'r, R> {
         if self.ahead.end == 0 {
             return Ok(None);
         }
-        Ok(Some(self.ahead.take()))
+        Ok(Some(self.ahead.take_byte()))
     }
 
     /// Consumes the next byte and returns it. The end of the text is an error.

@@ -23,7 +23,7 @@ impl Ahead {
 
     /// Consumes the next byte that was read and returns it. There must be one.
     #[inline(always)]
-    pub(crate) fn take(&mut self) -> u8
+    pub(crate) fn take_byte(&mut self) -> u8
         requires { self.old.at < self.old.end }
         ensures byte { waiting self.old ≡ result ∷ waiting self.new }
         ensures reads { self.new.reads ≡ self.old.reads }

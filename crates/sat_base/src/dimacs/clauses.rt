@@ -3,7 +3,8 @@ ghost use Rattle.std.specs.Prelude.{◌≡◌, None, MatchResult};
 ghost use Rattle.sat_base.specs.values.Formulas.{no_formula, with_at_least_vars};
 ghost use Rattle.sat_base.specs.dimacs.Dimacs.{Ends, literals_in};
 ghost use Rattle.sat_base.specs.declared.dimacs.clauses.Refusal.TheVariants.{OutOfMemory};
-ghost use Rattle.sat_base.specs.dimacs.Collecting.{token_of, hand_in, is_literal, SameClausesAndHeader, TakesTokenTurn};
+ghost use Rattle.sat_base.specs.dimacs.Collecting.{token_of, partial_clause_in, is_literal, SameClausesAndHeader};
+ghost use Rattle.sat_base.specs.dimacs.Collecting.{AppliesTokenEffect};
 ghost use Rattle.sat_base.specs.dimacs.Collecting.{CollectsToken, IsInside};
 
 use crate::var::MAX_COUNT;
@@ -71,7 +72,7 @@ impl Clauses {
     /// Returns empty `Clauses`. Does not allocate.
     pub(crate) fn new(alloc: Global) -> Clauses
         ensures formula { result.formula ≡ no_formula }
-        ensures hand { hand_in result ≡ None }
+        ensures hand { partial_clause_in result ≡ None }
         ensures count { result.count ≡ 0 }
         ensures header { result.header ≡ None }
     {
@@ -85,7 +86,7 @@ impl Clauses {
 
     /// Ends the unfinished clause, after the `0` that ends it.
     fn end_clause(&mut self) -> Result<(), Refusal>
-        ensures { MatchResult result (λ _. TakesTokenTurn (Ends (literals_in (hand_in self.old))) self.old self.new
+        ensures { MatchResult result (λ _. AppliesTokenEffect (Ends (literals_in (partial_clause_in self.old))) self.old self.new
             × (self.new.header ≡ self.old.header)) (λ e. (e ≡ OutOfMemory) × SameClausesAndHeader self.old self.new) }
     {
         self.formula.add_clause(&self.hand)?;
@@ -123,7 +124,7 @@ impl Clauses {
 
     /// Whether a clause has begun.
     pub(crate) fn is_inside(&self) -> bool
-        ensures { IsInside result (hand_in self.now) }
+        ensures { IsInside result (partial_clause_in self.now) }
     {
         !self.hand.is_empty()
     }

@@ -1,10 +1,10 @@
 //! The implementation of `DimacsParser`.
 ghost use Rattle.std.specs.Prelude.{◌≡◌, ◌++◌, ◌∷◌, [], ℕ, List, true, false, Ok, OnOk, IfErr};
 ghost use Rattle.sat_base.specs.text.Text.{Scan};
-ghost use Rattle.sat_base.specs.text.Tokenizing.{held, IsPositionedBefore};
+ghost use Rattle.sat_base.specs.text.Tokenizing.{capped, IsPositionedBefore};
 ghost use Rattle.sat_base.specs.values.Formulas.{vars_of};
 ghost use Rattle.sat_base.specs.dimacs.Parsing.{FeedsPiece, Finishes, IsSoundSoFar, no_progress, all_taken};
-ghost use Rattle.sat_base.specs.dimacs.Parsing.{clauses_read, RefusesPiece, SaysEnded};
+ghost use Rattle.sat_base.specs.dimacs.Parsing.{clauses_read, RefusesPiece, ReportsEnded};
 ghost use Rattle.sat_base.specs.dimacs.ParserPlaces.{IsParser, progress_of, EndsClean};
 
 use super::clauses::{Clauses, Refusal, is_literal};
@@ -45,7 +45,7 @@ impl Parser {
 
     /// Returns the line of the last byte.
     fn line(&self) -> u64
-        ensures { (before : List ℕ → Scan) → IsPositionedBefore self.now.tokenizer before → result ≡ held (before []).last }
+        ensures { (before : List ℕ → Scan) → IsPositionedBefore self.now.tokenizer before → result ≡ capped (before []).last }
     {
         self.tokenizer.line()
     }
@@ -125,7 +125,7 @@ impl Parser {
     /// Whether a line that begins with `%` has ended the text, so that only `finish` needs to be called.
     pub(crate) fn has_ended(&self) -> bool
         requires { IsParser self.now }
-        ensures { SaysEnded result (progress_of self.now) }
+        ensures { ReportsEnded result (progress_of self.now) }
     {
         if self.stopped {
             return false;

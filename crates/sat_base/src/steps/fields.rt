@@ -12,7 +12,7 @@ use crate::device::input::Input;
 use crate::device::kept_error::WriteFailed;
 use crate::device::output::Output;
 use crate::device::room::Room;
-use crate::steps::kind::Kind;
+use crate::steps::kind::StepKind;
 use crate::steps::step_lists::Lists;
 use crate::{CountedRead, CountedWrite, ProofStep, StepError};
 
@@ -54,7 +54,7 @@ fn has_lists(tag: u8) -> bool
 
 impl<R: CountedRead> Input<'_, R> {
     /// Reads the fields of a step with this tag. Steps with this tag must have no lists.
-    fn plain_fields(&mut self, tag: u8) -> Result<Kind, StepError>
+    fn plain_fields(&mut self, tag: u8) -> Result<StepKind, StepError>
         requires known { IsTrue (is_tag tag) }
         requires plain { has_lists tag ≡ false }
         ensures { (literals hashes : List ℕ) (units : List (ℕ × ℕ))
@@ -64,19 +64,19 @@ impl<R: CountedRead> Input<'_, R> {
         if tag < 5 {
             let var = self.variable()?;
             if tag == 3 {
-                Ok(Kind::DeleteVar { var })
+                Ok(StepKind::DeleteVar { var })
             } else if tag == 4 {
                 let sample = self.flag()?;
-                Ok(Kind::ChangeSamplingMode { var, sample })
+                Ok(StepKind::ChangeSamplingMode { var, sample })
             } else {
                 let named = self.optional()?;
                 if tag == 1 {
-                    Ok(Kind::SolverVarName {
+                    Ok(StepKind::SolverVarName {
                         global: var,
                         solver: named,
                     })
                 } else {
-                    Ok(Kind::UserVarName {
+                    Ok(StepKind::UserVarName {
                         global: var,
                         user: named,
                     })
@@ -84,43 +84,43 @@ impl<R: CountedRead> Input<'_, R> {
             }
         } else if tag == 9 {
             let bits = self.width()?;
-            Ok(Kind::ChangeHashBits { bits })
+            Ok(StepKind::ChangeHashBits { bits })
         } else {
-            Ok(Kind::End)
+            Ok(StepKind::End)
         }
     }
 
     /// Reads the fields of a step with this tag, and its lists into `lists`. Steps with this tag must have lists.
-    fn list_fields(&mut self, lists: &mut Lists, tag: u8) -> Result<Kind, StepError>
+    fn list_fields(&mut self, lists: &mut Lists, tag: u8) -> Result<StepKind, StepError>
         requires { IsTrue (has_lists tag) }
         ensures { ReadsFromInput (FieldsAfter tag) (valued (step_held lists.new) result) R.seen self.old self.new }
     {
         if tag == 6 {
             let redundant = self.flag_and_lists(lists)?;
-            Ok(Kind::AtClause { redundant })
+            Ok(StepKind::AtClause { redundant })
         } else if tag == 7 {
             self.units(&mut lists.units)?;
-            Ok(Kind::UnitClauses)
+            Ok(StepKind::UnitClauses)
         } else if tag == 8 {
             let proof = self.clause_and_deletion(lists)?;
-            Ok(Kind::DeleteClause { proof })
+            Ok(StepKind::DeleteClause { proof })
         } else if tag == 12 {
             self.both_lists(lists)?;
-            Ok(Kind::FailedAssumptions)
+            Ok(StepKind::FailedAssumptions)
         } else {
             self.literals(&mut lists.literals)?;
             if tag == 5 {
-                Ok(Kind::AddClause)
+                Ok(StepKind::AddClause)
             } else if tag == 10 {
-                Ok(Kind::Model)
+                Ok(StepKind::Model)
             } else {
-                Ok(Kind::Assumptions)
+                Ok(StepKind::Assumptions)
             }
         }
     }
 
     /// Reads the fields of a step with this tag, and its lists, if any, into `lists`.
-    fn fields(&mut self, lists: &mut Lists, tag: u8) -> Result<Kind, StepError>
+    fn fields(&mut self, lists: &mut Lists, tag: u8) -> Result<StepKind, StepError>
         requires { IsTrue (is_tag tag) }
         ensures { ReadsFromInput (FieldsAfter tag) (valued (step_held lists.new) result) R.seen self.old self.new }
     {
@@ -132,7 +132,7 @@ impl<R: CountedRead> Input<'_, R> {
     }
 
     /// Reads the next step, and its lists, if any, into `lists`.
-    pub(super) fn read_step(&mut self, lists: &mut Lists) -> Result<Kind, StepError>
+    pub(super) fn read_step(&mut self, lists: &mut Lists) -> Result<StepKind, StepError>
         ensures { AnswersStepRead (valued (step_held lists.new) result) (source_of R.seen self.old)
             (source_of R.seen self.new) }
     {

@@ -4,7 +4,7 @@ use crate::{DeleteClauseProof, HashBits, Var};
 
 /// The kind of a step, and all of its fields except for the lists.
 #[derive(Clone, Copy)]
-pub(crate) enum Kind {
+pub(crate) enum StepKind {
     SolverVarName { global: Var, solver: Option<Var> },
     UserVarName { global: Var, user: Option<Var> },
     DeleteVar { var: Var },

@@ -2,14 +2,14 @@
 ghost use Rattle.std.specs.Prelude.{◌≡◌, ℕ, List, false};
 ghost use Rattle.sat_base.specs.steps.StepText.{tag_of};
 ghost use Rattle.sat_base.specs.steps.StepViews.{step_of};
-ghost use Rattle.sat_base.specs.device.Reading.{AnswersStepRead, giving, source, unread, valued};
+ghost use Rattle.sat_base.specs.device.Reading.{AnswersStepRead, giving, source, new_source, valued};
 ghost use Rattle.sat_base.specs.steps.Kinds.{step_held, step_with};
 ghost use Rattle.sat_base.specs.steps.StepReading.{reader_source, has_reader_failed, reader_name, step_in, is_stop};
-ghost use Rattle.sat_base.specs.steps.StepReading.{Next};
+ghost use Rattle.sat_base.specs.steps.StepReading.{AdvanceEffect};
 
 use crate::device::ahead::Ahead;
 use crate::device::input::Input;
-use crate::steps::kind::Kind;
+use crate::steps::kind::StepKind;
 use crate::steps::step_lists::Lists;
 use crate::{CountedRead, ProofStep, StepError};
 use std::alloc::Global;
@@ -20,7 +20,7 @@ pub struct Buffers {
     ahead: Ahead,
     lists: Lists,
     /// The current step, except for its lists.
-    kind: Kind,
+    kind: StepKind,
     failed: bool,
 }
 
@@ -58,24 +58,24 @@ fn stops(error: StepError) -> bool
 
 /// Returns the tag of a step of this kind.
 #[inline(always)] // a caller that asks for one tag compares once
-fn tag(kind: Kind) -> u8
+fn tag(kind: StepKind) -> u8
     ensures { (literals hashes : List ℕ) (units : List (ℕ × ℕ))
         → result ≡ tag_of (step_with kind literals hashes units) }
 {
     match kind {
-        Kind::SolverVarName { .. } => 1,
-        Kind::UserVarName { .. } => 2,
-        Kind::DeleteVar { .. } => 3,
-        Kind::ChangeSamplingMode { .. } => 4,
-        Kind::AddClause => 5,
-        Kind::AtClause { .. } => 6,
-        Kind::UnitClauses => 7,
-        Kind::DeleteClause { .. } => 8,
-        Kind::ChangeHashBits { .. } => 9,
-        Kind::Model => 10,
-        Kind::Assumptions => 11,
-        Kind::FailedAssumptions => 12,
-        Kind::End => 13,
+        StepKind::SolverVarName { .. } => 1,
+        StepKind::UserVarName { .. } => 2,
+        StepKind::DeleteVar { .. } => 3,
+        StepKind::ChangeSamplingMode { .. } => 4,
+        StepKind::AddClause => 5,
+        StepKind::AtClause { .. } => 6,
+        StepKind::UnitClauses => 7,
+        StepKind::DeleteClause { .. } => 8,
+        StepKind::ChangeHashBits { .. } => 9,
+        StepKind::Model => 10,
+        StepKind::Assumptions => 11,
+        StepKind::FailedAssumptions => 12,
+        StepKind::End => 13,
     }
 }
 
@@ -84,7 +84,7 @@ fn read_from<R: CountedRead>(
     reader: &mut R,
     ahead: &mut Ahead,
     lists: &mut Lists,
-) -> Result<Kind, StepError>
+) -> Result<StepKind, StepError>
     ensures { AnswersStepRead (valued (step_held lists.new) result) (source R.seen reader.old ahead.old)
         (source R.seen reader.new ahead.new) }
 {
@@ -96,13 +96,13 @@ impl<'r, R: CountedRead> StepReader<'r, R, Buffers> {
     /// Returns a step reader that reads its bytes from `reader`. Reads nothing yet, and does not allocate.
     pub fn new(alloc: Global, reader: &'r mut R) -> StepReader<'r, R, Buffers>
         ensures same { reader_name result ≡ reader.entry.ghost_name }
-        ensures source { reader_source R.seen result ≡ unread (R.seen reader.old) }
+        ensures source { reader_source R.seen result ≡ new_source (R.seen reader.old) }
         ensures fresh { has_reader_failed result ≡ false }
     {
         let buffers = Buffers {
             ahead: Ahead::new(),
             lists: Lists::new(alloc),
-            kind: Kind::End,
+            kind: StepKind::End,
             failed: false,
         };
         StepReader { reader, buffers }
@@ -111,7 +111,7 @@ impl<'r, R: CountedRead> StepReader<'r, R, Buffers> {
     /// Reads the next step, which `step` then returns. After any error other than `Ends`, all later calls
     /// return `HasFailed`.
     pub fn advance(&mut self) -> Result<(), StepError>
-        ensures { Next R.seen self.old self.new (giving (step_in self.new) result) }
+        ensures { AdvanceEffect R.seen self.old self.new (giving (step_in self.new) result) }
     {
         if self.buffers.failed {
             return Err(StepError::HasFailed);

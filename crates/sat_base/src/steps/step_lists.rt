@@ -3,7 +3,7 @@ ghost use Rattle.std.specs.Prelude.{◌≡◌, []};
 ghost use Rattle.sat_base.specs.steps.StepViews.{step_of};
 ghost use Rattle.sat_base.specs.steps.Kinds.{step_with};
 
-use crate::steps::kind::Kind;
+use crate::steps::kind::StepKind;
 use crate::{ClauseHash, Lit, ProofStep};
 use std::alloc::Global;
 
@@ -30,43 +30,46 @@ impl Lists {
     }
 
     /// Returns the step that has this kind and these lists.
-    pub(crate) fn step(&self, kind: Kind) -> ProofStep<'_>
+    pub(crate) fn step(&self, kind: StepKind) -> ProofStep<'_>
         ensures { step_of result ≡ step_with kind self.now.literals.items self.now.hashes.items self.now.units.items }
     {
         let literals = self.literals.as_slice();
         let propagation_hashes = self.hashes.as_slice();
         match kind {
-            Kind::SolverVarName { global, solver } => ProofStep::SolverVarName { global, solver },
-            Kind::UserVarName { global, user } => ProofStep::UserVarName { global, user },
-            Kind::DeleteVar { var } => ProofStep::DeleteVar { var },
-            Kind::ChangeSamplingMode { var, sample } => {
+            StepKind::SolverVarName { global, solver } => ProofStep::SolverVarName {
+                global,
+                solver,
+            },
+            StepKind::UserVarName { global, user } => ProofStep::UserVarName { global, user },
+            StepKind::DeleteVar { var } => ProofStep::DeleteVar { var },
+            StepKind::ChangeSamplingMode { var, sample } => {
                 ProofStep::ChangeSamplingMode { var, sample }
             }
-            Kind::AddClause => ProofStep::AddClause { clause: literals },
-            Kind::AtClause { redundant } => ProofStep::AtClause {
+            StepKind::AddClause => ProofStep::AddClause { clause: literals },
+            StepKind::AtClause { redundant } => ProofStep::AtClause {
                 redundant,
                 clause: literals,
                 propagation_hashes,
             },
-            Kind::UnitClauses => ProofStep::UnitClauses {
+            StepKind::UnitClauses => ProofStep::UnitClauses {
                 units: self.units.as_slice(),
             },
-            Kind::DeleteClause { proof } => ProofStep::DeleteClause {
+            StepKind::DeleteClause { proof } => ProofStep::DeleteClause {
                 clause: literals,
                 proof,
             },
-            Kind::ChangeHashBits { bits } => ProofStep::ChangeHashBits { bits },
-            Kind::Model => ProofStep::Model {
+            StepKind::ChangeHashBits { bits } => ProofStep::ChangeHashBits { bits },
+            StepKind::Model => ProofStep::Model {
                 assignment: literals,
             },
-            Kind::Assumptions => ProofStep::Assumptions {
+            StepKind::Assumptions => ProofStep::Assumptions {
                 assumptions: literals,
             },
-            Kind::FailedAssumptions => ProofStep::FailedAssumptions {
+            StepKind::FailedAssumptions => ProofStep::FailedAssumptions {
                 failed_core: literals,
                 propagation_hashes,
             },
-            Kind::End => ProofStep::End,
+            StepKind::End => ProofStep::End,
         }
     }
 }

@@ -4,7 +4,7 @@ ghost use Rattle.sat_base.specs.text.Text.{is_blank};
 ghost use Rattle.sat_base.specs.text.Position.{Position};
 ghost use Rattle.sat_base.specs.text.Tokenizing.{BeganHeader, MovesHeader, IsAtHeader, IsStageIf, ended_stage};
 
-use super::{grown, is_digit};
+use super::{is_digit, with_digit};
 
 /// The words of a header line that are finished. Numbers are capped at 2^64-1.
 #[derive(Clone, Copy, Drop)]
@@ -97,7 +97,7 @@ pub(crate) fn next_in_header(place: HeaderPlace, byte: u8) -> Option<HeaderPlace
         }
         HeaderPlace::Vars(value) => {
             if is_digit(byte) {
-                Some(HeaderPlace::Vars(grown(value, byte)))
+                Some(HeaderPlace::Vars(with_digit(value, byte)))
             } else {
                 None
             }
@@ -106,7 +106,7 @@ pub(crate) fn next_in_header(place: HeaderPlace, byte: u8) -> Option<HeaderPlace
             if is_digit(byte) {
                 Some(HeaderPlace::Clauses {
                     vars,
-                    value: grown(value, byte),
+                    value: with_digit(value, byte),
                 })
             } else {
                 None

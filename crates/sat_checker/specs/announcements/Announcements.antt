@@ -111,9 +111,9 @@ irredundant_deleted ids None = []
 irredundant_deleted ids (Some c) = if c.irredundant == 1 then DeleteAtClause c.id (nat_lt 0 c.redundant) c.literals ids ∷ [] else []
 
 -- the list of only this id, or no id
-abbrev pub one : Option ℕ → List ℕ
-one None = []
-one (Some id) = id ∷ []
+abbrev pub option_to_list : Option ℕ → List ℕ
+option_to_list None = []
+option_to_list (Some id) = id ∷ []
 
 -- the id of the last irredundant clause stored, or `None`
 abbrev pub last_id : Last → Option ℕ
@@ -133,8 +133,8 @@ announced f (steps.AddClause clause) = if f.unsat then [] else input clause f
 announced f (steps.AtClause redundant clause hashes) = derived redundant clause hashes f
 announced f (steps.UnitClauses us) = derived_units us f
 announced f (steps.DeleteClause clause Redundant) = redundant_deleted (clause_with (canonical clause) f.clauses)
-announced f (steps.DeleteClause clause Satisfied) = irredundant_deleted (one (true_unit (canonical clause) f.units)) (clause_with (canonical clause) f.clauses)
-announced f (steps.DeleteClause clause Simplified) = irredundant_deleted (one (last_id f.last)) (clause_with (canonical clause) f.clauses)
+announced f (steps.DeleteClause clause Satisfied) = irredundant_deleted (option_to_list (true_unit (canonical clause) f.units)) (clause_with (canonical clause) f.clauses)
+announced f (steps.DeleteClause clause Simplified) = irredundant_deleted (option_to_list (last_id f.last)) (clause_with (canonical clause) f.clauses)
 announced f (steps.ChangeHashBits bits) = []
 announced f (steps.Model ls) = Model ls ∷ []
 announced f (steps.Assumptions ls) = Assumptions ls ∷ []

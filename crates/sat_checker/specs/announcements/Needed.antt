@@ -4,7 +4,7 @@ use Rattle.sat_base.specs.values.Literals.{negated}
 use Rattle.sat_checker.specs.LiteralSets.{is_among, is_tautology, canonical}
 use Rattle.sat_checker.specs.Stored.{StoredClause, StoredUnit, Stored, unit_literals, hash_by}
 use Rattle.sat_checker.specs.Storing.{unit_id}
-use Rattle.sat_checker.specs.inner.Walk.{Verdict, falsified, opens, rests, verdict}
+use Rattle.sat_checker.specs.inner.Walk.{ClauseState, falsified, becomes_unit, neither, clause_state}
 
 -- What a conflict rests on, followed backwards: literals that are true, and the needed clauses in the order visited,
 -- the falsified clause last.
@@ -13,25 +13,25 @@ pub record ConflictCauses : Type 0 where
   pub clauses : List StoredClause
 
 -- the negations of all literals of the clause except `l`
-abbrev pub others_denied : ℕ → List ℕ → List ℕ
-others_denied l clause = map negated (filter (λ m. not (m == l)) clause)
+abbrev pub negations_except : ℕ → List ℕ → List ℕ
+negations_except l clause = map negated (filter (λ m. not (m == l)) clause)
 
 -- A clause that implied a literal is needed if the literal is; then so are the negations of its other literals.
 abbrev pub with_cause : ℕ → StoredClause → ConflictCauses → ConflictCauses
 with_cause l c g =
-    if is_among g.literals l then record { literals = others_denied l c.literals ++ g.literals; clauses = c ∷ g.clauses } else g
+    if is_among g.literals l then record { literals = negations_except l c.literals ++ g.literals; clauses = c ∷ g.clauses } else g
 
 -- The causes, given the verdict on a clause. A falsified clause is the conflict. The open literal of a unit clause is
 -- true for the clauses after it.
-abbrev pub causes_by : Verdict → StoredClause → List ℕ → (List ℕ → ConflictCauses) → ConflictCauses
+abbrev pub causes_by : ClauseState → StoredClause → List ℕ → (List ℕ → ConflictCauses) → ConflictCauses
 causes_by falsified c assumed following = record { literals = map negated c.literals; clauses = c ∷ [] }
-causes_by (opens l) c assumed following = with_cause l c (following (l ∷ assumed))
-causes_by rests c assumed following = following assumed
+causes_by (becomes_unit l) c assumed following = with_cause l c (following (l ∷ assumed))
+causes_by neither c assumed following = following assumed
 
 -- what the first conflict of these clauses rests on, if every clause that is unit when it is visited is used
 abbrev pub conflict_causes : List ℕ → List StoredClause → ConflictCauses
 conflict_causes assumed [] = record { literals = []; clauses = [] }
-conflict_causes assumed (c ∷ cs) = causes_by (verdict assumed c.literals) c assumed (λ more. conflict_causes more cs)
+conflict_causes assumed (c ∷ cs) = causes_by (clause_state assumed c.literals) c assumed (λ more. conflict_causes more cs)
 
 -- the stored clauses of the buckets with these hashes, in the order of the hashes, and by id within each bucket
 abbrev pub clauses_named : List ℕ → Stored → List StoredClause

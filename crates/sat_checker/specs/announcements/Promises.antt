@@ -3,14 +3,14 @@ use Rattle.std.specs.Prelude.{ℕ, ◌≡◌, ◌≢◌, ◌⊎◌, ◌↔◌, t
 use Rattle.std.specs.List.{AllByRecursion, list_any}
 use Rattle.sat_base.specs.values.Literals.{negated}
 use Rattle.sat_base.specs.steps.Steps.{Step, DeleteClause, Simplified, Satisfied}
-use Rattle.sat_checker.specs.LiteralSets.{is_among, is_part, is_tautology, canonical}
+use Rattle.sat_checker.specs.LiteralSets.{is_among, is_subset_of, is_tautology, canonical}
 use Rattle.sat_checker.specs.inner.Marks.{IsIncreasing}
 use Rattle.sat_checker.specs.Propagation.{IsFalsified, IsUnit, UnitInTurn}
 use Rattle.sat_checker.specs.Stored.{StoredClause, StoredUnit, Last, Empty, Stored, unit_literals}
 use Rattle.sat_checker.specs.Storing.{with_units}
 use Rattle.sat_checker.specs.Accepts.{PassesByHashes, Accepts, AcceptsAll, stored_after, ready_after}
 use Rattle.sat_checker.specs.announcements.Needed.{ConflictCauses, conflict_causes, clauses_named, conflict_ids, true_unit, propagations}
-use Rattle.sat_checker.specs.announcements.Announcements.{Announcement, AddClause, AtClause, one, last_id, announced, delayed, Notice, notices_over, notices_after, all_notices_after}
+use Rattle.sat_checker.specs.announcements.Announcements.{Announcement, AddClause, AtClause, option_to_list, last_id, announced, delayed, Notice, notices_over, notices_after, all_notices_after}
 
 -- that `x` is in the list
 abbrev pub IsOneOf : {A : Type 0} → A → List A → Type 0
@@ -83,8 +83,8 @@ IsNoEmpty last = (id : ℕ) → last ≢ Empty id
 -- an empty clause
 abbrev pub DeletionsRest : Type 0
 DeletionsRest = (steps : List Step) (clause : List ℕ) → AcceptsAll steps →
-    (Accepts (ready_after steps) (DeleteClause clause Satisfied) → RestsOn (ready_after steps) clause (one (true_unit (canonical clause) (ready_after steps).units)))
-    × (Accepts (ready_after steps) (DeleteClause clause Simplified) → IsNoEmpty (ready_after steps).last → RestsOn (ready_after steps) clause (one (last_id (ready_after steps).last)))
+    (Accepts (ready_after steps) (DeleteClause clause Satisfied) → RestsOn (ready_after steps) clause (option_to_list (true_unit (canonical clause) (ready_after steps).units)))
+    × (Accepts (ready_after steps) (DeleteClause clause Simplified) → IsNoEmpty (ready_after steps).last → RestsOn (ready_after steps) clause (option_to_list (last_id (ready_after steps).last)))
 
 -- that a step's announcements come after all earlier and delayed ones, and no delayed announcement is repeated
 abbrev pub NoticesInOrder : Type 0
@@ -121,4 +121,4 @@ ConflictIsAnnounced = (steps : List Step) (id i j : ℕ) → delayed (stored_aft
 -- that a clause that is deleted as simplified rests on an announced clause that is part of it, possibly an empty clause
 abbrev pub SimplifiedIsAnnounced : Type 0
 SimplifiedIsAnnounced = (steps : List Step) (clause : List ℕ) → Accepts (ready_after steps) (DeleteClause clause Simplified) →
-    (id : ℕ) × (part : List ℕ) × (one (last_id (ready_after steps).last) ≡ id ∷ []) × (is_part part clause ≡ true) × IsAnnounced id part (all_notices_after steps)
+    (id : ℕ) × (part : List ℕ) × (option_to_list (last_id (ready_after steps).last) ≡ id ∷ []) × (is_subset_of part clause ≡ true) × IsAnnounced id part (all_notices_after steps)

@@ -5,11 +5,11 @@ use Rattle.std.specs.Bool.{MatchBool}
 use Rattle.sat_checker.specs.Stored.{Stored, StoredClause, StoredUnit, Last, NoneYet, Empty, UnitClause, LongClause, unit_literals}
 use Rattle.sat_base.specs.steps.Steps.{Step}
 use Rattle.sat_checker.specs.Accepts.{Accepts, effect}
-use Rattle.sat_checker.specs.Spent.{IsSpent}
+use Rattle.sat_checker.specs.Counters.{CountersExhausted}
 use Rattle.sat_checker.specs.inner.Reasons.{ExplainsCheck}
 use Rattle.sat_checker.specs.inner.AssumedRoom.{RoomStays, HasStoredRoom}
 use Rattle.sat_checker.specs.inner.SlotView.{slot_ids}
-use Rattle.sat_checker.specs.inner.StoreView.{RepresentsClauses, KeepsHashed, AreIdsInOrder, refiled}
+use Rattle.sat_checker.specs.inner.StoreView.{RepresentsClauses, KeepsHashed, AreIdsInOrder, rehashed}
 use Rattle.sat_checker.specs.declared.store.StoreError.{StoreError}
 use Rattle.sat_checker.specs.declared.store.StoreError.TheVariants.{OutOfMemory, CounterEnd}
 use Rattle.sat_checker.specs.declared.state.status.LastClause.{LastClause}
@@ -18,7 +18,7 @@ use Rattle.sat_checker.specs.declared.state.status.Status.{Status}
 use Rattle.sat_checker.specs.declared.formula.Formula.{Formula}
 
 -- what is recorded besides clauses, units and variables
-pub record RestOfStored : Type 0 where
+pub record StoredStatus : Type 0 where
   pub unsat : Bool
   pub conflict : Option (ℕ × ℕ)
   pub last : Last
@@ -27,8 +27,8 @@ pub record RestOfStored : Type 0 where
   pub var_deleted : Bool
 
 -- what the definition's state records besides clauses, units and variables
-abbrev pub standing_of : Stored → RestOfStored
-standing_of f = record { unsat = f.unsat; conflict = f.conflict; last = f.last; next_id = f.next_id; ended = f.ended; var_deleted = f.var_deleted }
+abbrev pub status_of : Stored → StoredStatus
+status_of f = record { unsat = f.unsat; conflict = f.conflict; last = f.last; next_id = f.next_id; ended = f.ended; var_deleted = f.var_deleted }
 
 -- the last irredundant clause stored, as the code represents it
 abbrev pub last_in : LastClause → Last
@@ -38,8 +38,8 @@ last_in (code.Single id l) = UnitClause id
 last_in (code.Long id) = LongClause id
 
 -- what is recorded in the code's status
-abbrev pub standing_in : Status → RestOfStored
-standing_in s = record { unsat = s.unsat; conflict = s.conflict; last = last_in s.last; next_id = s.next_id; ended = s.ended; var_deleted = s.var_deleted }
+abbrev pub status_in_code : Status → StoredStatus
+status_in_code s = record { unsat = s.unsat; conflict = s.conflict; last = last_in s.last; next_id = s.next_id; ended = s.ended; var_deleted = s.var_deleted }
 
 -- That a unit with this id has this literal, and a unit with this literal has this id or a higher one.
 abbrev pub IsIdOfUnit : ℕ → ℕ → StoredUnit → Type 0
@@ -60,37 +60,37 @@ pub record AreNumbered (ids : List ℕ) (units : List StoredUnit) (last : LastCl
 
 -- That the formula has these clauses, hashed with these solver names at this width, these units, and these records.
 -- Both the units and the marks have room for all literals of the clauses.
-pub record KeepsParts (formula : Formula) (kept : List StoredClause) (solver_names : ℕ → Option ℕ) (bits : ℕ) (stored : List StoredUnit) (standing : RestOfStored) : Type 0 where
+pub record KeepsParts (formula : Formula) (kept : List StoredClause) (solver_names : ℕ → Option ℕ) (bits : ℕ) (stored : List StoredUnit) (standing : StoredStatus) : Type 0 where
   pub clauses : KeepsHashed formula.store kept solver_names bits
   pub units : formula.units.units ≡ stored
-  pub status : standing_in formula.status ≡ standing
+  pub status : status_in_code formula.status ≡ standing
   pub numbered : AreNumbered (slot_ids formula.store.clauses) stored formula.status.last standing.next_id
   pub room : HasStoredRoom formula.units.room kept
   pub marks : HasStoredRoom formula.marks.room kept
 
 -- that the formula represents what is stored, except for the variables and the assumptions
 abbrev pub RepresentsFormula : Formula → Stored → Type 0
-RepresentsFormula formula f = KeepsParts formula f.clauses f.solver_names f.width f.units (standing_of f)
+RepresentsFormula formula f = KeepsParts formula f.clauses f.solver_names f.width f.units (status_of f)
 
 -- the formula with all clauses filed by their current hashes
-abbrev pub refiled_in : Formula → Formula
-refiled_in formula = record formula { store = refiled formula.store }
+abbrev pub rehashed_in : Formula → Formula
+rehashed_in formula = record formula { store = rehashed formula.store }
 
 -- The result of a change: `Ok` means that it is stored, and `CounterEnd` that a number does not fit in 64 bits.
-abbrev pub KeepsOrSpends : {T : Type 0} → Result T StoreError → Type 0 → Stored → Type 0
-KeepsOrSpends (Ok x) kept g = kept
-KeepsOrSpends (Err OutOfMemory) kept g = Unit {0}
-KeepsOrSpends (Err CounterEnd) kept g = IsSpent g
+abbrev pub StoredOrExhausted : {T : Type 0} → Result T StoreError → Type 0 → Stored → Type 0
+StoredOrExhausted (Ok x) kept g = kept
+StoredOrExhausted (Err OutOfMemory) kept g = Unit {0}
+StoredOrExhausted (Err CounterEnd) kept g = CountersExhausted g
 
 -- that the formula is changed as the function says
 abbrev pub FormulaEffect : {T : Type 0} → Result T StoreError → Formula → (Stored → Stored) → Formula → Type 0
-FormulaEffect result old change new = (f : Stored) → RepresentsFormula old f → KeepsOrSpends result (RepresentsFormula new (change f)) (change f)
+FormulaEffect result old change new = (f : Stored) → RepresentsFormula old f → StoredOrExhausted result (RepresentsFormula new (change f)) (change f)
 
 -- That the change is accepted and made, or is refused. An error is returned only if the change would be accepted.
 abbrev pub FormulaEffectIf : Result Bool StoreError → Type 0 → Type 0 → Stored → Type 0
 FormulaEffectIf (Ok accepted) accepts kept g = MatchBool accepted (accepts × kept) (accepts → ⊥)
 FormulaEffectIf (Err OutOfMemory) accepts kept g = accepts
-FormulaEffectIf (Err CounterEnd) accepts kept g = accepts × IsSpent g
+FormulaEffectIf (Err CounterEnd) accepts kept g = accepts × CountersExhausted g
 
 -- That the formula has these clauses, the literals of these units under any ids, and room for the clauses' literals. A
 -- propagation check needs nothing else.

@@ -2,7 +2,7 @@
 use Rattle.std.specs.Prelude.{ℕ, ◌≡◌, ◌≢◌, ◌-◌, ◌≤◌, List, [], length, drop, None, Some}
 use Rattle.sat_checker.specs.inner.AssumedRoom.{LiteralsAndRoom, RoomStays}
 use Rattle.sat_checker.specs.inner.Walk.{walk}
-pub use Rattle.sat_checker.specs.Verdicts.{verdict_of}
+pub use Rattle.sat_checker.specs.ClauseStates.{clause_state_of}
 use Rattle.sat_checker.specs.declared.rup.Walked.{Walked}
 use Rattle.sat_checker.specs.declared.rup.Walked.TheVariants.{Empty, Conflict, Open}
 

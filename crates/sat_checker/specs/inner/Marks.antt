@@ -44,6 +44,6 @@ pub record HoldsRoom (count capacity : ℕ) (room : List ℕ) : Type 0 where
   pub paired : (l : ℕ) → is_among room l ≡ is_among room (negated l)
 
 -- That the item at a place was removed from the list, and the last item moved to that place.
-pub record LosesAt (place : ℕ) (old new : List ℕ) : Type 0 where
+pub record IsSwapRemoved (place : ℕ) (old new : List ℕ) : Type 0 where
   pub count : length new + 1 ≡ length old
   pub each : (i : ℕ) → i < length new → get_or new i 0 ≡ (if i == place then get_or old (length old - 1) 0 else get_or old i 0)

@@ -6,7 +6,7 @@ use Rattle.sat_base.specs.declared.steps.error.StepError.{StepError}
 use Rattle.sat_base.specs.declared.steps.error.StepError.TheVariants as unread
 use Rattle.sat_base.specs.device.Device.{most_reads, piece_size}
 use Rattle.sat_base.specs.device.Reading.{Source, ConsumesBytes, ConsumesToEnd, ConsumesAndFails}
-use Rattle.sat_base.specs.steps.Formats.{IsProperFront, BeginsText}
+use Rattle.sat_base.specs.steps.Formats.{IsProperPrefix, IsPrefixOfText}
 use Rattle.sat_base.specs.steps.Steps.{Step, End}
 use Rattle.sat_base.specs.steps.StepText.{SpellsStep, SpellsSteps}
 use Rattle.sat_checker.specs.Accepts.{Accepts, stored_after, ready_after}
@@ -14,7 +14,7 @@ use Rattle.sat_checker.specs.Looks.{most_looks}
 use Rattle.sat_checker.specs.CheckerView.{CheckerView, looks_of, HasAccepted, FailsRefusing, FailsBeforeStep, BreaksAt, RunsOutOfMemoryAt}
 use Rattle.sat_checker.specs.announcements.Announcements.{Notice}
 use Rattle.sat_checker.specs.ProofView.{taken_after, most_looks_after, HasAcceptedUnfailed}
-use Rattle.sat_checker.specs.Spent.{SpentBy}
+use Rattle.sat_checker.specs.Counters.{ExhaustsCounters}
 use Rattle.sat_checker.specs.declared.error.CheckerError.{CheckerError}
 use Rattle.sat_checker.specs.declared.error.CheckerError.TheVariants as errors
 use Rattle.sat_checker.specs.declared.processing.ProcessingError.{ProcessingError}
@@ -63,11 +63,11 @@ pub record TriesStep {L : Type 0} (a b : CheckerAtSource L) (earlier : List Step
   pub looks : looks_of b.checker ≤ looks_of a.checker + most_looks (ready_after earlier) step
 
 -- that at least one byte was consumed, the bytes begin a step, and no looks were added
-pub record Starves {L : Type 0} (a b : CheckerAtSource L) : Type 0 where
+pub record ReadsPartOfStep {L : Type 0} (a b : CheckerAtSource L) : Type 0 where
   pub tag : ℕ
   pub more : List ℕ
   pub passes : ConsumesBytes a.source b.source (tag ∷ more)
-  pub begins : BeginsText SpellsStep (tag ∷ more)
+  pub begins : IsPrefixOfText SpellsStep (tag ∷ more)
   pub looks : looks_of b.checker ≡ looks_of a.checker
 
 module _ {L : Type 0} (Hears : L → Notice → Result Unit ProcessingError → L → Type 0) (before : List Notice) (begun : L) where
@@ -80,17 +80,17 @@ module _ {L : Type 0} (Hears : L → Notice → Result Unit ProcessingError → 
   abbrev pub StepsOn : Result Bool CheckerError → CheckerAtSource L → CheckerAtSource L → List Step → Type 0
   StepsOn (Ok ended) a b earlier = (step : Step) × TriesStep a b earlier step × MatchBool ended (step ≡ End) (step ≢ End) × HasAcceptedUnfailed Hears before begun b.checker (step ∷ earlier)
   StepsOn (Err errors.CheckFailed) a b earlier = (step : Step) × TriesStep a b earlier step × (Accepts (ready_after earlier) step → ⊥) × FailsRefusing Hears before begun b.checker earlier
-  StepsOn (Err errors.CounterEnd) a b earlier = (step : Step) × TriesStep a b earlier step × SpentBy step (stored_after earlier) × FailsBeforeStep Hears before begun b.checker earlier
+  StepsOn (Err errors.CounterEnd) a b earlier = (step : Step) × TriesStep a b earlier step × ExhaustsCounters step (stored_after earlier) × FailsBeforeStep Hears before begun b.checker earlier
   StepsOn (Err errors.OutOfMemory) a b earlier =
-      (Starves a b × FailsBeforeStep Hears before begun b.checker earlier)
+      (ReadsPartOfStep a b × FailsBeforeStep Hears before begun b.checker earlier)
       ⊎ ((step : Step) × TriesStep a b earlier step × RunsOutOfMemoryAt Hears before begun b.checker step earlier)
   StepsOn (Err (errors.ProofProcessorError cause)) a b earlier = (step : Step) × TriesStep a b earlier step × BreaksAt Hears before begun (faults.ProofProcessorError cause) b.checker step earlier
   StepsOn (Err errors.ProofIncomplete) a b earlier =
-      (text : List ℕ) × ConsumesToEnd a.source b.source text × IsProperFront SpellsStep text × Waits a b earlier
+      (text : List ℕ) × ConsumesToEnd a.source b.source text × IsProperPrefix SpellsStep text × Waits a b earlier
   StepsOn (Err errors.ParseError) a b earlier =
-      (front : List ℕ) × (byte : ℕ) × ConsumesBytes a.source b.source (front ++ byte ∷ []) × IsProperFront SpellsStep front
-      × (BeginsText SpellsStep (front ++ byte ∷ []) → ⊥) × Waits a b earlier
-  StepsOn (Err errors.IoError) a b earlier = (text : List ℕ) × ConsumesAndFails a.source b.source text × IsProperFront SpellsStep text × Waits a b earlier
+      (front : List ℕ) × (byte : ℕ) × ConsumesBytes a.source b.source (front ++ byte ∷ []) × IsProperPrefix SpellsStep front
+      × (IsPrefixOfText SpellsStep (front ++ byte ∷ []) → ⊥) × Waits a b earlier
+  StepsOn (Err errors.IoError) a b earlier = (text : List ℕ) × ConsumesAndFails a.source b.source text × IsProperPrefix SpellsStep text × Waits a b earlier
   StepsOn (Err errors.HasFailed) a b earlier = ⊥
 
   -- That these steps, none of them the end, were read and accepted.

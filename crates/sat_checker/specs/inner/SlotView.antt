@@ -80,8 +80,8 @@ abbrev pub slots_present : List Slot → List Slot
 slots_present = filter (λ s. not (is_gone s))
 
 -- that the removed clauses were dropped, or nothing changed
-abbrev pub MayDrop : List Slot → List Slot → Type 0
-MayDrop old new = (new ≡ old) ⊎ (new ≡ slots_present old)
+abbrev pub CompactsOrKeeps : List Slot → List Slot → Type 0
+CompactsOrKeeps old new = (new ≡ old) ⊎ (new ≡ slots_present old)
 
 -- that a clause with this id is at this place, and is not removed
 pub record IsPresentAt (slots : List Slot) (id place : ℕ) : Type 0 where

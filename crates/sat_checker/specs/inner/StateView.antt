@@ -6,32 +6,32 @@ use Rattle.sat_checker.specs.LiteralSets.{canonical}
 use Rattle.sat_checker.specs.Stored.{Stored}
 use Rattle.sat_checker.specs.Accepts.{Accepts, effect}
 use Rattle.sat_checker.specs.Looks.{most_looks}
-use Rattle.sat_checker.specs.inner.FormulaView.{RepresentsFormula, refiled_in, FormulaEffectIf, KeepsOrSpends}
+use Rattle.sat_checker.specs.inner.FormulaView.{RepresentsFormula, rehashed_in, FormulaEffectIf, StoredOrExhausted}
 use Rattle.sat_checker.specs.inner.Looking.{LooksOver}
 use Rattle.sat_checker.specs.inner.VariablesView.{KeepsVariables}
-use Rattle.sat_checker.specs.declared.state.State.{State}
+use Rattle.sat_checker.specs.declared.state.CheckerState.{CheckerState}
 use Rattle.sat_checker.specs.declared.store.StoreError.{StoreError}
 
 -- that the state represents what is stored, once all clauses are filed by their current hashes
-pub record RepresentsStored (state : State) (f : Stored) : Type 0 where
-  pub formula : RepresentsFormula (refiled_in state.formula) f
+pub record RepresentsStored (state : CheckerState) (f : Stored) : Type 0 where
+  pub formula : RepresentsFormula (rehashed_in state.formula) f
   pub variables : KeepsVariables state.variables f.variables
   pub assumed : state.assumed ≡ canonical f.assumed
 
 -- that the state represents what is stored, and all clauses are filed by their current hashes
-pub record KeepsFiled (state : State) (f : Stored) : Type 0 where
+pub record KeepsFiled (state : CheckerState) (f : Stored) : Type 0 where
   pub formula : RepresentsFormula state.formula f
   pub variables : KeepsVariables state.variables f.variables
   pub assumed : state.assumed ≡ canonical f.assumed
 
 -- That a step is accepted only if the definition accepts it, and the new state then represents its effect. A step is
 -- refused only if the definition refuses it, and an error is returned only if the definition accepts it.
-abbrev pub DecidesStep : Result Bool StoreError → State → Step → State → Type 0
+abbrev pub DecidesStep : Result Bool StoreError → CheckerState → Step → CheckerState → Type 0
 DecidesStep result old step new = (f : Stored) → RepresentsStored old f → FormulaEffectIf result (Accepts f step) (RepresentsStored new (effect step f)) (effect step f)
 
 -- the result of changing the state in this way, if all its clauses are filed by their current hashes
-abbrev pub ChangesStored : {T : Type 0} → Result T StoreError → State → (Stored → Stored) → State → Type 0
-ChangesStored result old change new = (f : Stored) → KeepsFiled old f → KeepsOrSpends result (RepresentsStored new (change f)) (change f)
+abbrev pub ChangesStored : {T : Type 0} → Result T StoreError → CheckerState → (Stored → Stored) → CheckerState → Type 0
+ChangesStored result old change new = (f : Stored) → KeepsFiled old f → StoredOrExhausted result (RepresentsStored new (change f)) (change f)
 
 -- what is stored after a derived clause; its variables are then known
 abbrev pub with_derived : Bool → List ℕ → Stored → Stored
@@ -42,5 +42,5 @@ abbrev pub with_added_clause : List ℕ → Stored → Stored
 with_added_clause clause f = with_input clause (with_literals_known clause f)
 
 -- that the number of looks did not decrease, and rose at most by the bound of the step
-abbrev pub LooksWithin : State → Step → ℕ → ℕ → Type 0
+abbrev pub LooksWithin : CheckerState → Step → ℕ → ℕ → Type 0
 LooksWithin state step old new = LooksOver (RepresentsStored state) (λ f. most_looks f step) old new

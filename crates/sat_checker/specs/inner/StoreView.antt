@@ -27,8 +27,8 @@ abbrev pub RepresentsClauses : Store → Stored → Type 0
 RepresentsClauses store f = KeepsHashed store f.clauses f.solver_names f.width
 
 -- the store with all clauses filed by their current hashes, if they are not filed yet
-abbrev pub refiled : Store → Store
-refiled store = record store { clauses = (if store.stale then hashed_anew store.hasher store.clauses else store.clauses); stale = false }
+abbrev pub rehashed : Store → Store
+rehashed store = record store { clauses = (if store.stale then hashed_anew store.hasher store.clauses else store.clauses); stale = false }
 
 -- the redundant (true) or the irredundant count of a clause, or 0 if the clause is not stored
 abbrev pub store_count_in : Bool → Option StoredClause → ℕ

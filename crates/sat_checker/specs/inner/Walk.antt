@@ -2,13 +2,13 @@
 use Rattle.std.specs.Prelude.{ℕ, Bool, true, false, List, [], ◌∷◌, Option, None, Some, if◌then◌else◌}
 use Rattle.sat_base.specs.values.Literals.{negated}
 use Rattle.sat_checker.specs.LiteralSets.{is_among}
-pub use Rattle.sat_checker.specs.Verdicts.{Verdict, falsified, opens, rests, not_false, verdict_of_open, verdict}
+pub use Rattle.sat_checker.specs.ClauseStates.{ClauseState, falsified, becomes_unit, neither, not_false, state_by_open, clause_state}
 
 -- The assumed literals after a clause, or `None` if it is falsified. Every clause that is unit when visited is used.
-abbrev pub walk_on : Verdict → List ℕ → Option (List ℕ)
+abbrev pub walk_on : ClauseState → List ℕ → Option (List ℕ)
 walk_on falsified assumed = None
-walk_on (opens l) assumed = Some (l ∷ assumed)
-walk_on rests assumed = Some assumed
+walk_on (becomes_unit l) assumed = Some (l ∷ assumed)
+walk_on neither assumed = Some assumed
 
 -- the rest of the walk, unless a clause was falsified
 abbrev pub and_then : Option (List ℕ) → (List ℕ → Option (List ℕ)) → Option (List ℕ)
@@ -18,7 +18,7 @@ and_then (Some assumed) next = next assumed
 -- The assumed literals after these clauses, or `None` if one of them was falsified.
 abbrev pub walk : List ℕ → List (List ℕ) → Option (List ℕ)
 walk assumed [] = Some assumed
-walk assumed (c ∷ cs) = and_then (walk_on (verdict assumed c) assumed) (λ more. walk more cs)
+walk assumed (c ∷ cs) = and_then (walk_on (clause_state assumed c) assumed) (λ more. walk more cs)
 
 -- true if a conflict was met, otherwise the result for the literals assumed so far
 abbrev pub if_conflict : Option (List ℕ) → (List ℕ → Bool) → Bool

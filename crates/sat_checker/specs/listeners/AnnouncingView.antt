@@ -2,12 +2,12 @@
 use Rattle.std.specs.Prelude.{ℕ, ◌≡◌, Bool, List, [], ◌∷◌, None, ◌==◌, if◌then◌else◌}
 use Rattle.sat_checker.specs.Stored.{Stored}
 use Rattle.sat_checker.specs.Storing.{clause_with}
-use Rattle.sat_checker.specs.announcements.Announcements.{Announcement, AtClause, MakeIrredundant, redundant_deleted, irredundant_deleted, one}
+use Rattle.sat_checker.specs.announcements.Announcements.{Announcement, AtClause, MakeIrredundant, redundant_deleted, irredundant_deleted, option_to_list}
 use Rattle.sat_checker.specs.inner.StoreView.{found_in}
 use Rattle.sat_checker.specs.declared.store.Placed.{Placed}
-use Rattle.sat_checker.specs.declared.announce.announcing.Change.{Change}
-use Rattle.sat_checker.specs.declared.announce.announcing.Change.TheVariants as changes
-use Rattle.sat_checker.specs.declared.announce.announcing.Deletion.{Deletion}
+use Rattle.sat_checker.specs.declared.announce.step_announcements.Change.{Change}
+use Rattle.sat_checker.specs.declared.announce.step_announcements.Change.TheVariants as changes
+use Rattle.sat_checker.specs.declared.announce.step_announcements.Deletion.{Deletion}
 
 -- the announcement of a derived clause, given the change that it makes to what is stored
 abbrev pub stored_as : Change → ℕ → Bool → List ℕ → List ℕ → List Announcement
@@ -21,7 +21,7 @@ change_in redundant p = if p.is_new then changes.New else if redundant then chan
 
 -- the announcement that a clause with these literals is deleted, given how it was stored
 abbrev pub deletion_announced : List ℕ → Deletion → List Announcement
-deletion_announced literals d = if d.redundant then redundant_deleted (found_in literals d.stored) else irredundant_deleted (one d.from) (found_in literals d.stored)
+deletion_announced literals d = if d.redundant then redundant_deleted (found_in literals d.stored) else irredundant_deleted (option_to_list d.from) (found_in literals d.stored)
 
 -- that no unit is stored among the clauses of two or more literals
 abbrev pub AreLong : Stored → Type 0

@@ -6,19 +6,19 @@ use Rattle.sat_checker.specs.announcements.Announcements.{Announcement, announce
 use Rattle.sat_checker.specs.inner.FormulaView.{RepresentsFormula}
 use Rattle.sat_checker.specs.inner.StateView.{RepresentsStored}
 use Rattle.sat_checker.specs.listeners.AnnouncingView.{stored_as, AreLong}
-use Rattle.sat_checker.specs.declared.announce.announcing.Change.{Change}
+use Rattle.sat_checker.specs.declared.announce.step_announcements.Change.{Change}
 use Rattle.sat_checker.specs.declared.formula.Formula.{Formula}
 use Rattle.sat_checker.specs.declared.announce.notes.Notes.{Notes}
 use Rattle.sat_checker.specs.declared.store.StoreError.{StoreError}
-use Rattle.sat_checker.specs.declared.state.State.{State}
+use Rattle.sat_checker.specs.declared.state.CheckerState.{CheckerState}
 
 -- that these announcements were appended to the notes, if there is a listener
-abbrev pub AppendsNews : Notes → List Announcement → Notes → Type 0
-AppendsNews before reported after = IsTrue before.hears → after.news ≡ before.news ++ reported
+abbrev pub AppendsAnnouncements : Notes → List Announcement → Notes → Type 0
+AppendsAnnouncements before reported after = IsTrue before.hears → after.news ≡ before.news ++ reported
 
 -- that the announcements of an accepted step were appended to the notes, if there is a listener
-abbrev pub Announces : Result Bool StoreError → State → Step → Notes → Notes → Type 0
-Announces result old step before after = IfOk result (λ accepted. IsTrue accepted → (f : Stored) → RepresentsStored old f → AreLong f → AppendsNews before (announced f step) after)
+abbrev pub Announces : Result Bool StoreError → CheckerState → Step → Notes → Notes → Type 0
+Announces result old step before after = IfOk result (λ accepted. IsTrue accepted → (f : Stored) → RepresentsStored old f → AreLong f → AppendsAnnouncements before (announced f step) after)
 
 -- that the change of storing a sorted set gives the announcement that the definition makes for the derived set
 abbrev pub ChangesSet : Result Change StoreError → Bool → List ℕ → Formula → Type 0

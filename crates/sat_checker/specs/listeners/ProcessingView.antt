@@ -23,6 +23,6 @@ abbrev pub NoListenerNoFault : {P T : Type 0} → (P → Notice → Result Unit 
 NoListenerNoFault {P = P} {T = T} Takes Reads = (e : ProcessingError) (reported : List Notice) (old new : Processing P T) → listeners_of old ≡ record { processors = []; transcripts = [] } → HearsUpTo (HearsEach Takes Reads) e reported old new → ⊥
 
 -- that the error is a listener's fault only if a listener was added
-abbrev pub IsListenerFault : {P T : Type 0} → Processing P T → CheckerError → Type 0
-IsListenerFault old (errors.ProofProcessorError cause) = listeners_of old ≡ record { processors = []; transcripts = [] } → ⊥
-IsListenerFault old error = Unit {0}
+abbrev pub ErrorNeedsListener : {P T : Type 0} → Processing P T → CheckerError → Type 0
+ErrorNeedsListener old (errors.ProofProcessorError cause) = listeners_of old ≡ record { processors = []; transcripts = [] } → ⊥
+ErrorNeedsListener old error = Unit {0}

@@ -1,9 +1,9 @@
 -- The ordered steps that are expected for a script's commands and their outcomes, in terms of names.
 use Rattle.std.specs.Prelude.{ℕ, ◌+◌, ◌≡◌, Bool, false, Option, Some, None, List, [], ◌∷◌, ◌++◌, map}
 use Rattle.std.specs.List.{AllByRecursion}
-use Rattle.sat_base.specs.values.Literals.{coded}
+use Rattle.sat_base.specs.values.Literals.{mk_lit}
 use Rattle.sat_base.specs.script.Script.{Literal, Command, Clause, Ask, Hide, Witness, Sample, names_of, Among}
-use Rattle.sat_base.specs.script.ScriptState.{ScriptState, NameMode, Sampled, Witnessed, new_names, bring_in, without_name, with_mode, accepted}
+use Rattle.sat_base.specs.script.ScriptState.{ScriptState, NameMode, Sampled, Witnessed, new_names, introduce, without_name, with_mode, state_after_accepted}
 use Rattle.sat_base.specs.steps.Steps.{Step, UserVarName, AddClause, Model, Assumptions, FailedAssumptions, End}
 use Rattle.sat_checker.specs.matching.Checking.{variable_of}
 
@@ -25,19 +25,19 @@ pub data Expected : Type 0 where
   Finish : Expected
 
 -- the steps expected for names that are introduced from left to right
-abbrev pub bringing : List ℕ → ScriptState → List Expected
-bringing [] j = []
-bringing (name ∷ names) j = map NewName (new_names name j) ++ bringing names (bring_in name j)
+abbrev pub introducing : List ℕ → ScriptState → List Expected
+introducing [] j = []
+introducing (name ∷ names) j = map NewName (new_names name j) ++ introducing names (introduce name j)
 
 -- the steps expected for names that are hidden
 abbrev pub hiding : List ℕ → ScriptState → List Expected
 hiding [] j = []
-hiding (name ∷ names) j = map NewName (new_names name j) ++ (NoName name ∷ hiding names (without_name name (bring_in name j)))
+hiding (name ∷ names) j = map NewName (new_names name j) ++ (NoName name ∷ hiding names (without_name name (introduce name j)))
 
 -- the steps expected for names whose mode is set
 abbrev pub setting : NameMode → List ℕ → ScriptState → List Expected
 setting mode [] j = []
-setting mode (name ∷ names) j = map NewName (new_names name j) ++ setting mode names (with_mode mode name (bring_in name j))
+setting mode (name ∷ names) j = map NewName (new_names name j) ++ setting mode names (with_mode mode name (introduce name j))
 
 -- the step that shows an outcome, or none if it is unknown
 abbrev pub showing : ScriptState → List Literal → Outcome → List Expected
@@ -48,20 +48,20 @@ showing j ask Unknown = []
 -- the steps expected for commands that are not refused, and their outcomes
 abbrev pub expected : ScriptState → List Command → List Outcome → List Expected
 expected j [] outcomes = Finish ∷ []
-expected j (Clause ls ∷ commands) outcomes = bringing (names_of ls) j ++ (Adds ls ∷ expected (accepted (Clause ls) j) commands outcomes)
+expected j (Clause ls ∷ commands) outcomes = introducing (names_of ls) j ++ (Adds ls ∷ expected (state_after_accepted (Clause ls) j) commands outcomes)
 expected j (Ask ls ∷ commands) [] = Finish ∷ []
 expected j (Ask ls ∷ commands) (o ∷ os) =
-    bringing (names_of ls) j
-    ++ (Opens ls o ∷ (showing (accepted (Ask ls) j) ls o ++ (Closes ∷ expected (accepted (Ask ls) j) commands os)))
-expected j (Hide names ∷ commands) outcomes = hiding names j ++ expected (accepted (Hide names) j) commands outcomes
-expected j (Witness names ∷ commands) outcomes = setting Witnessed names j ++ expected (accepted (Witness names) j) commands outcomes
-expected j (Sample names ∷ commands) outcomes = setting Sampled names j ++ expected (accepted (Sample names) j) commands outcomes
+    introducing (names_of ls) j
+    ++ (Opens ls o ∷ (showing (state_after_accepted (Ask ls) j) ls o ++ (Closes ∷ expected (state_after_accepted (Ask ls) j) commands os)))
+expected j (Hide names ∷ commands) outcomes = hiding names j ++ expected (state_after_accepted (Hide names) j) commands outcomes
+expected j (Witness names ∷ commands) outcomes = setting Witnessed names j ++ expected (state_after_accepted (Witness names) j) commands outcomes
+expected j (Sample names ∷ commands) outcomes = setting Sampled names j ++ expected (state_after_accepted (Sample names) j) commands outcomes
 
 -- that `code` is the literal of the proof variable for `l`; variables are found only through explicit names
 pub record Spells (variable_of : ℕ → Option ℕ) (l : Literal) (code : ℕ) : Type 0 where
   pub variable : ℕ
   pub named : variable_of l.name ≡ Some variable
-  pub is : code ≡ coded variable l.positive
+  pub is : code ≡ mk_lit variable l.positive
 
 -- that for every literal of the list, its code is among the codes
 abbrev pub EachSpelt : (ℕ → Option ℕ) → List Literal → List ℕ → Type 0

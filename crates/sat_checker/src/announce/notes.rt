@@ -17,10 +17,10 @@ ghost use Rattle.sat_checker.specs.inner.Marks.{IsIncreasing};
 ghost use Rattle.sat_checker.specs.inner.Reasons.{noted_length};
 ghost use Rattle.sat_checker.specs.inner.VariablesView.{mode_in, variable_of_data};
 ghost use Rattle.sat_checker.specs.listeners.AnnouncingView.{stored_as, deletion_announced, AreLong};
-ghost use Rattle.sat_checker.specs.listeners.NotedView.{AppendsNews};
+ghost use Rattle.sat_checker.specs.listeners.NotedView.{AppendsAnnouncements};
 
-use crate::announce::announcing::{Change, Deletion};
-use crate::announce::news::News;
+use crate::announce::pending::PendingAnnouncements;
+use crate::announce::step_announcements::{Change, Deletion};
 use crate::formula::Formula;
 use crate::looks::Looks;
 use crate::rup::propagations::Propagations;
@@ -34,7 +34,7 @@ use std::alloc::{AllocError, Global};
 pub(crate) struct Notes {
     /// Whether there is a listener. If there is none, nothing is noted.
     hears: bool,
-    pub(crate) news: News,
+    pub(crate) news: PendingAnnouncements,
     rests_on: Propagations,
     /// A buffer for sorted literals.
     literals: Vec<Lit>,
@@ -48,7 +48,7 @@ impl Notes {
     {
         Notes {
             hears: false,
-            news: News::new(alloc),
+            news: PendingAnnouncements::new(alloc),
             rests_on: Propagations::new(alloc),
             literals: Vec::new(alloc),
         }
@@ -80,7 +80,7 @@ impl Notes {
         user: Option<Var>,
         before: VarData,
     ) -> Result<(), AllocError>
-        ensures { OnOk result (AppendsNews self.old (renaming var user (variable_of_data before)) self.new) }
+        ensures { OnOk result (AppendsAnnouncements self.old (renaming var user (variable_of_data before)) self.new) }
     {
         if !self.hears {
             return Ok(());
@@ -95,7 +95,7 @@ impl Notes {
         sampling: bool,
         before: VarData,
     ) -> Result<(), AllocError>
-        ensures { OnOk result (AppendsNews self.old (mode_change var sampling (mode_in before.mode) before.name)
+        ensures { OnOk result (AppendsAnnouncements self.old (mode_change var sampling (mode_in before.mode) before.name)
             self.new) }
     {
         if !self.hears {
@@ -106,7 +106,7 @@ impl Notes {
 
     /// Notes that a variable was deleted.
     pub fn var_deleted(&mut self, var: Var) -> Result<(), AllocError>
-        ensures { OnOk result (AppendsNews self.old (announcements.DeleteVar var ∷ []) self.new) }
+        ensures { OnOk result (AppendsAnnouncements self.old (announcements.DeleteVar var ∷ []) self.new) }
     {
         if !self.hears {
             return Ok(());
@@ -125,7 +125,7 @@ impl Notes {
         redundant: bool,
         literals: &[Lit],
     ) -> Result<(), AllocError>
-        ensures { OnOk result (AppendsNews self.old
+        ensures { OnOk result (AppendsAnnouncements self.old
             (stored_as change id redundant literals.now self.old.rests_on.ids.items) self.new) }
     {
         if !self.hears {
@@ -137,7 +137,7 @@ impl Notes {
 
     /// Notes the announcement, if any, of the deletion `deletion` of the clause with the literals `literals`.
     pub fn deleted(&mut self, literals: &[Lit], deletion: Deletion) -> Result<(), AllocError>
-        ensures { OnOk result (AppendsNews self.old (deletion_announced literals.now deletion) self.new) }
+        ensures { OnOk result (AppendsAnnouncements self.old (deletion_announced literals.now deletion) self.new) }
     {
         if !self.hears {
             return Ok(());
@@ -147,7 +147,7 @@ impl Notes {
 
     /// Notes a model.
     pub fn model(&mut self, assignment: &[Lit]) -> Result<(), AllocError>
-        ensures { OnOk result (AppendsNews self.old (announcements.Model assignment.now ∷ []) self.new) }
+        ensures { OnOk result (AppendsAnnouncements self.old (announcements.Model assignment.now ∷ []) self.new) }
     {
         if !self.hears {
             return Ok(());
@@ -157,7 +157,7 @@ impl Notes {
 
     /// Notes assumptions.
     pub fn assumptions(&mut self, assumptions: &[Lit]) -> Result<(), AllocError>
-        ensures { OnOk result (AppendsNews self.old (announcements.Assumptions assumptions.now ∷ []) self.new) }
+        ensures { OnOk result (AppendsAnnouncements self.old (announcements.Assumptions assumptions.now ∷ []) self.new) }
     {
         if !self.hears {
             return Ok(());
@@ -176,7 +176,7 @@ impl Formula {
     ) -> Result<(), AllocError>
         requires { IsIncreasing literals.now }
         ensures noted { OnOk result ((f : Stored) (clause : List ℕ) → RepresentsFormula self.now f
-            → literals.now ≡ canonical clause → AppendsNews notes.old (input clause f) notes.new) }
+            → literals.now ≡ canonical clause → AppendsAnnouncements notes.old (input clause f) notes.new) }
         ensures looks { LooksOver (RepresentsFormula self.now) literal_count looks.old looks.new }
     {
         if !notes.hears {
@@ -302,7 +302,7 @@ impl Formula {
         requires explained { self.now.passed.lost ≡ false → (hashes : List ℕ) × Explained self.now (lit ∷ []) hashes }
         ensures noted { OnOk result ((f : Stored) (hashes : List ℕ) → RepresentsFormula self.now f → AreLong f
             → (self.now.passed.lost ≡ false → Explained self.now (lit ∷ []) hashes)
-            → AppendsNews notes.old (derived false (lit ∷ []) hashes f) notes.new) }
+            → AppendsAnnouncements notes.old (derived false (lit ∷ []) hashes f) notes.new) }
         ensures hears { notes.new.hears ≡ notes.old.hears }
         ensures looks { LooksUpTo (noted_length self.now.store.clauses self.now.passed) looks.old looks.new }
     {
@@ -337,7 +337,7 @@ impl Formula {
         requires explained { self.now.passed.lost ≡ false → (hashes : List ℕ) × Explained self.now denied.now hashes }
         ensures noted { OnOk result ((f : Stored) (hashes : List ℕ) → RepresentsFormula self.now f
             → (self.now.passed.lost ≡ false → Explained self.now denied.now hashes)
-            → AppendsNews notes.old (announced f (FailedAssumptions core.now hashes)) notes.new) }
+            → AppendsAnnouncements notes.old (announced f (FailedAssumptions core.now hashes)) notes.new) }
         ensures looks { LooksUpTo (noted_length self.now.store.clauses self.now.passed) looks.old looks.new }
     {
         if !notes.hears {

@@ -1,6 +1,6 @@
 //! Adds a formula, clause by clause.
 ghost use Rattle.std.specs.Prelude.{◌≤◌};
-ghost use Rattle.sat_checker.specs.CheckerView.{kernel_of, seen_of, FaultIsFromListener, FailsAgain};
+ghost use Rattle.sat_checker.specs.CheckerView.{kernel_of, seen_of, FaultNeedsListener, FailsAgain};
 ghost use Rattle.sat_checker.specs.KernelView.{kernel_looks};
 ghost use Rattle.sat_checker.specs.declared.error.CheckerError.TheVariants.{HasFailed};
 ghost use Rattle.sat_checker.specs.listeners.ProcessingView.{HearsEach};
@@ -19,7 +19,7 @@ impl<P: ProofProcessor, T: ProofTranscriptProcessor> Checker<P, T> {
         ensures adds { AddsClauses (HearsEach P.takes T.reads)
             result (seen_of self.old) (seen_of self.new) formula.now.clauses }
         ensures rise { kernel_looks (kernel_of self.old) ≤ kernel_looks (kernel_of self.new) }
-        ensures faults { FaultIsFromListener result self.old }
+        ensures faults { FaultNeedsListener result self.old }
         ensures failed { FailsAgain HasFailed result self.old self.new }
     {
         if self.kernel.failed {

@@ -1,12 +1,12 @@
 //! Checks complete proofs, which are read step by step.
 ghost use Rattle.std.specs.Prelude.{◌≡◌, ◌≢◌, ◌≤◌, ◌<◌, false, MatchBool, Ok, OnOk, IsErrOf};
 ghost use Rattle.sat_base.specs.device.Device.{most_reads};
-ghost use Rattle.sat_base.specs.device.Reading.{unread, AtEnd};
+ghost use Rattle.sat_base.specs.device.Reading.{new_source, AtEnd};
 ghost use Rattle.sat_base.specs.steps.Steps.{End};
 ghost use Rattle.sat_base.specs.steps.StepReading.{reader_source, reader_name, has_reader_failed as is_stopped};
 ghost use Rattle.sat_base.specs.steps.StepViews.{step_of};
 ghost use Rattle.sat_checker.specs.KernelView.{kernel_has_failed, kernel_looks};
-ghost use Rattle.sat_checker.specs.CheckerView.{kernel_of, seen_of, seen_with, FaultIsFromListener, FailsAgain};
+ghost use Rattle.sat_checker.specs.CheckerView.{kernel_of, seen_of, seen_with, FaultNeedsListener, FailsAgain};
 ghost use Rattle.sat_checker.specs.declared.error.CheckerError.TheVariants.{HasFailed, OutOfMemory};
 ghost use Rattle.sat_checker.specs.announcements.Announcements.{Notice};
 ghost use Rattle.sat_checker.specs.ProofView.{ChecksProof, FoundNoEnd};
@@ -64,7 +64,7 @@ impl<P: ProofProcessor, T: ProofTranscriptProcessor> Checker<P, T> {
             result (seen_of self.old) (seen_of self.new) (R.seen reader.old) (R.seen reader.new) }
         ensures unended { IsErrOf result OutOfMemory → FoundNoEnd (R.seen reader.old) (R.seen reader.new) }
         ensures rise { kernel_looks (kernel_of self.old) ≤ kernel_looks (kernel_of self.new) }
-        ensures faults { FaultIsFromListener result self.old }
+        ensures faults { FaultNeedsListener result self.old }
         ensures failed { FailsAgain HasFailed result self.old self.new }
     {
         let mut nobody = Nobody {};
@@ -118,7 +118,7 @@ impl<P: ProofProcessor, T: ProofTranscriptProcessor> Checker<P, T> {
     ) -> Result<(), CheckerError>
         requires quiet { has_own ≡ false → (v : _) (t : Notice) → O.takes v t (Ok tt) v }
         requires well { kernel_has_failed (kernel_of self.old) ≡ false }
-        requires fresh { reader_source R.seen steps.old ≡ unread (reader_source R.seen steps.old).reader }
+        requires fresh { reader_source R.seen steps.old ≡ new_source (reader_source R.seen steps.old).reader }
         requires open_yet { is_stopped steps.old ≡ false }
         ensures same { reader_name steps.new ≡ reader_name steps.old }
         ensures proof { ChecksProof (HearsFirst O.takes (HearsEach P.takes T.reads))

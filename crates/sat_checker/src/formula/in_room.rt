@@ -11,7 +11,7 @@ ghost use Rattle.sat_checker.specs.Accepts.{Accepts, FitsModel, IsStrictSubset};
 ghost use Rattle.sat_checker.specs.Looks.{literal_count};
 ghost use Rattle.sat_checker.specs.Stored.{Stored};
 ghost use Rattle.sat_checker.specs.Storing.{last_literals, clause_with};
-ghost use Rattle.sat_checker.specs.inner.FormulaView.{RepresentsFormula, refiled_in, ChecksBeside};
+ghost use Rattle.sat_checker.specs.inner.FormulaView.{RepresentsFormula, rehashed_in, ChecksBeside};
 ghost use Rattle.sat_checker.specs.inner.Looking.{LooksOver};
 ghost use Rattle.sat_checker.specs.inner.ModelTests.{are_all_true};
 ghost use Rattle.sat_checker.specs.inner.AssumedRoom.{AgreesOn};
@@ -31,11 +31,11 @@ use std::alloc::AllocError;
 impl Formula {
     /// Whether the literals are a model of the stored formula. Runs out of memory only if they are.
     pub fn fits(&mut self, literals: &[Lit], looks: &mut Looks) -> Result<bool, AllocError>
-        ensures exact { IfOk result (λ fits. (f : Stored) → RepresentsFormula (refiled_in self.old) f
+        ensures exact { IfOk result (λ fits. (f : Stored) → RepresentsFormula (rehashed_in self.old) f
             → IsTrue fits ↔ FitsModel f literals.now) }
-        ensures judged { OnErr result ((f : Stored) → RepresentsFormula (refiled_in self.old) f → FitsModel f literals.now) }
+        ensures judged { OnErr result ((f : Stored) → RepresentsFormula (rehashed_in self.old) f → FitsModel f literals.now) }
         ensures rest { ChecksBeside self.old self.new }
-        ensures looks { LooksOver (RepresentsFormula (refiled_in self.old)) literal_count looks.old looks.new }
+        ensures looks { LooksOver (RepresentsFormula (rehashed_in self.old)) literal_count looks.old looks.new }
     {
         if self.status.unsat {
             return Ok(false);
@@ -52,11 +52,11 @@ impl Formula {
     /// formula, and an error if they are.
     fn fail_if_met(&mut self, literals: &[Lit], looks: &mut Looks) -> Result<bool, AllocError>
         requires { self.old.status.unsat ≡ false }
-        ensures exact { IfOk result (λ fits. (f : Stored) → RepresentsFormula (refiled_in self.old) f
+        ensures exact { IfOk result (λ fits. (f : Stored) → RepresentsFormula (rehashed_in self.old) f
             → IsTrue fits ↔ FitsModel f literals.now) }
-        ensures judged { OnErr result ((f : Stored) → RepresentsFormula (refiled_in self.old) f → FitsModel f literals.now) }
+        ensures judged { OnErr result ((f : Stored) → RepresentsFormula (rehashed_in self.old) f → FitsModel f literals.now) }
         ensures rest { ChecksBeside self.old self.new }
-        ensures looks { LooksOver (RepresentsFormula (refiled_in self.old)) literal_count looks.old looks.new }
+        ensures looks { LooksOver (RepresentsFormula (rehashed_in self.old)) literal_count looks.old looks.new }
     {
         if !are_apart(literals) {
             return Ok(false);
@@ -83,10 +83,10 @@ impl Formula {
     /// there is room must be marked.
     fn are_met(&self, literals: &[Lit], looks: &mut Looks) -> bool
         requires { AgreesOn self.now.marks.room self.now.marks.literals literals.now }
-        ensures met { (f : Stored) → RepresentsFormula (refiled_in self.now) f
+        ensures met { (f : Stored) → RepresentsFormula (rehashed_in self.now) f
             → result ≡ (not (list_any (λ u. is_among literals.now (negated u.literal)) f.units)
             && are_all_true literals.now f.clauses) }
-        ensures looks { LooksOver (RepresentsFormula (refiled_in self.now)) literal_count looks.old looks.new }
+        ensures looks { LooksOver (RepresentsFormula (rehashed_in self.now)) literal_count looks.old looks.new }
     {
         !self.units.are_contradicted(literals) && self.store.are_satisfied(&self.marks, looks)
     }

@@ -1,8 +1,9 @@
 //! Finds the clauses and units from which a conflict follows, by going backwards through the notes on a walk.
-ghost use Rattle.std.specs.Prelude.{ℕ, ◌≡◌, ◌+◌, ◌<◌, ◌==◌, ◌||◌, ◌++◌, [], map, length, reverse, OnOk, Some, true, false};
+ghost use Rattle.std.specs.Prelude.{ℕ, ◌≡◌, ◌+◌, ◌<◌, ◌==◌, ◌||◌, ◌++◌, [], map, length, reverse, OnOk, Some, true};
+ghost use Rattle.std.specs.Prelude.{false};
 ghost use Rattle.sat_base.specs.values.Literals.{negated};
 ghost use Rattle.sat_checker.specs.LiteralSets.{is_among};
-ghost use Rattle.sat_checker.specs.announcements.Needed.{ConflictCauses, others_denied, with_cause, needed_units};
+ghost use Rattle.sat_checker.specs.announcements.Needed.{ConflictCauses, negations_except, with_cause, needed_units};
 ghost use Rattle.sat_checker.specs.announcements.Needed.{conflict_ids};
 ghost use Rattle.sat_checker.specs.inner.Looking.{LooksUpTo};
 ghost use Rattle.sat_checker.specs.inner.Marks.{IsIncreasing};
@@ -51,7 +52,7 @@ pub(crate) fn mark_all(marked: &mut Assigned, clause: &[Lit]) -> Result<(), Allo
 #[tactic(auto, using(crate::proofs::lemmas::announcements::Marking::marking))]
 fn mark_others(marked: &mut Assigned, clause: &[Lit], made: Lit) -> Result<(), AllocError>
     ensures marked { OnOk result ((m : ℕ) → is_among marked.new.literals m
-        ≡ (is_among (others_denied made clause.now) m || is_among marked.old.literals m)) }
+        ≡ (is_among (negations_except made clause.now) m || is_among marked.old.literals m)) }
 {
     for lit in clause {
         if *lit == made {

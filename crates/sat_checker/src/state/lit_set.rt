@@ -1,6 +1,6 @@
 //! Sets of literals.
 ghost use Rattle.std.specs.Prelude.{◌≡◌, [], OnOk};
-ghost use Rattle.sat_checker.specs.LiteralSets.{canonical, is_among, is_part, mentions};
+ghost use Rattle.sat_checker.specs.LiteralSets.{canonical, is_among, is_subset_of, mentions};
 
 use crate::sorted_lits::copy_canonical;
 use crate::units::valuation::mentions;
@@ -58,7 +58,7 @@ impl LitSet {
 
     /// Whether all literals of `part` are in the set.
     pub fn has_all(&self, part: &[Lit]) -> bool
-        ensures { result ≡ is_part part.now self.now }
+        ensures { result ≡ is_subset_of part.now self.now }
     {
         for lit in part {
             if !self.has(*lit) {

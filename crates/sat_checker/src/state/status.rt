@@ -2,7 +2,7 @@
 ghost use Rattle.std.specs.Prelude.{◌≡◌, ◌+◌, ◌<◌, ◌≤◌, ◌^◌, IfOk, OnErr, MatchResult, true, if◌then◌else◌};
 ghost use Rattle.sat_checker.specs.Stored.{nothing_stored};
 ghost use Rattle.sat_checker.specs.Storing.{first_conflict};
-ghost use Rattle.sat_checker.specs.inner.FormulaView.{standing_in, standing_of};
+ghost use Rattle.sat_checker.specs.inner.FormulaView.{status_in_code, status_of};
 ghost use Rattle.sat_checker.specs.declared.store.StoreError.TheVariants.{CounterEnd};
 
 use crate::store::StoreError;
@@ -41,7 +41,7 @@ pub(crate) struct Records {
 impl Status {
     /// Creates a status in which nothing is recorded.
     pub fn new() -> Status
-        ensures { standing_in result ≡ standing_of nothing_stored }
+        ensures { status_in_code result ≡ status_of nothing_stored }
     {
         Status {
             unsat: false,

@@ -8,7 +8,8 @@ ghost use Rattle.sat_checker.specs.Looks.{total_length};
 ghost use Rattle.sat_checker.specs.inner.Marks.{IsIncreasing};
 ghost use Rattle.sat_checker.specs.inner.SlotView.{slot_at, literals_at, all_lits, stored_slot, with_count_at};
 ghost use Rattle.sat_checker.specs.inner.SlotView.{without_count_at, slot_count, is_gone, gone_count, slots_present};
-ghost use Rattle.sat_checker.specs.inner.SlotView.{MayDrop, IsPresentAt, slot_ids, places_of, bucket_in, is_same_at};
+ghost use Rattle.sat_checker.specs.inner.SlotView.{CompactsOrKeeps, IsPresentAt, slot_ids, places_of, bucket_in};
+ghost use Rattle.sat_checker.specs.inner.SlotView.{is_same_at};
 ghost use Rattle.sat_checker.specs.inner.SlotView.{found_among, hashed_anew, live, live_length};
 ghost use Rattle.sat_checker.specs.Storing.{clause_numbered, clause_with};
 ghost use Rattle.sat_checker.specs.LiteralSets.{mentions, is_among, canonical};
@@ -276,7 +277,7 @@ impl Clauses {
         self.slots.take_count(place, redundant);
         if self.slots.is_gone(place) {
             self.index.remove(place);
-            self.occurrences.take(literals);
+            self.occurrences.subtract(literals);
             self.gone += 1;
             self.unused = self.unused.saturating_add(in_buffer(literals.len()));
         }
@@ -285,7 +286,7 @@ impl Clauses {
     /// Drops the removed clauses from memory if they make up more than half of all clauses, or fill more than half of
     /// the buffer. This changes the places of other clauses. If memory runs out, all clauses are kept.
     pub fn compact(&mut self) -> Result<(), AllocError>
-        ensures left { MayDrop self.old self.new }
+        ensures left { CompactsOrKeeps self.old self.new }
         ensures few { OnOk result (2 * gone_count self.new ≤ length self.new) }
     {
         if self.gone <= self.slots.len() / 2 && self.unused <= self.slots.buffered() / 2 {

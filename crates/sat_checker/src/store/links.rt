@@ -3,7 +3,8 @@
 ghost use Rattle.std.specs.Prelude.{All, ℕ, ◌≡◌, ◌+◌, ◌<◌, ◌≤◌, ◌++◌, length, OnOk, OnErr, None};
 ghost use Rattle.std.specs.List.{AllByRecursion};
 ghost use Rattle.sat_checker.specs.inner.PairView.{inserted, without_pair, places_in, first_of};
-ghost use Rattle.sat_checker.specs.inner.LinkView.{rest, listed_pairs, top_of, head_at, IsWalk, AreLinked, LinksListPairs, up_to};
+ghost use Rattle.sat_checker.specs.inner.LinkView.{rest, listed_pairs, top_of, head_at, IsWalk, AreLinked};
+ghost use Rattle.sat_checker.specs.inner.LinkView.{LinksListPairs, up_to};
 ghost use Rattle.sat_checker.specs.inner.LinkView.{below, last_or, place_before, nowhere, FitPlaces};
 
 use sat_base::ClauseHash;
@@ -146,7 +147,7 @@ pub(crate) fn put(
 }
 
 /// Removes the pair at `place`.
-pub(crate) fn take(heads: &mut [u32], links: &mut [Link], shift: u32, place: usize)
+pub(crate) fn unlink(heads: &mut [u32], links: &mut [Link], shift: u32, place: usize)
     requires linked { AreLinked heads.old links.old shift }
     requires some { 0 < length heads.old }
     requires inside { place < length links.old }

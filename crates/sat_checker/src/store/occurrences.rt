@@ -86,7 +86,7 @@ impl Occurrences {
 
     /// Subtracts one from a literal's count for each of its occurrences in `literals`. These occurrences must have been
     /// counted before.
-    pub fn take(&mut self, literals: &[Lit])
+    pub fn subtract(&mut self, literals: &[Lit])
         requires { (l : ℕ) → times_in l literals.now ≤ count_at self.old l }
         ensures { (l : ℕ) → count_at self.new l + times_in l literals.now ≡ count_at self.old l }
     {

@@ -8,7 +8,7 @@ ghost use Rattle.sat_checker.specs.inner.PairView.{places_after};
 ghost use Rattle.sat_checker.specs.inner.LinkView.{listed_pairs, AreKeptPairs, LinksListPairs, nowhere};
 
 use crate::store::links::{
-    Link, NOWHERE, Pair, first_from, link_all, link_before, list_all, put, take, top,
+    Link, NOWHERE, Pair, first_from, link_all, link_before, list_all, put, top, unlink,
 };
 use sat_base::ClauseHash;
 use std::alloc::{AllocError, Global};
@@ -203,7 +203,7 @@ impl SortedPairs {
         if self.heads.is_empty() {
             return;
         }
-        take(&mut self.heads, &mut self.links, self.shift, place);
+        unlink(&mut self.heads, &mut self.links, self.shift, place);
     }
 
     /// Removes all pairs, but keeps the places.

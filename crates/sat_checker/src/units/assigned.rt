@@ -1,13 +1,13 @@
 //! The assumed literals, and the literals for which there is room, with a mark for each literal code.
 ghost use Rattle.std.specs.Prelude.{◌≡◌, ◌+◌, ◌-◌, ◌<◌, ◌≤◌, List, [], ◌∷◌, drop, length, OnOk, OnErr, IfSome};
 ghost use Rattle.std.specs.Prelude.{true, false, reverse, ℕ, ◌==◌, get_or, if◌then◌else◌, ◌&&◌, not};
-ghost use Rattle.sat_checker.specs.inner.Marks.{is_assumed, mark_at, AreNear, NoRepeats, LosesAt};
+ghost use Rattle.sat_checker.specs.inner.Marks.{is_assumed, mark_at, AreNear, NoRepeats, IsSwapRemoved};
 ghost use Rattle.sat_checker.specs.inner.AssumedRoom.{with_room, AgreesOn, AssumesOnce, HasClauseRoom, RoomStays};
 ghost use Rattle.sat_checker.specs.inner.Look.{AssumesMore};
 ghost use Rattle.sat_base.specs.values.Tables.{HasPlaceFor, KeepsRoom};
 ghost use Rattle.sat_checker.specs.LiteralSets.{is_among};
 ghost use Rattle.sat_base.specs.values.Literals.{negated};
-ghost use Rattle.sat_checker.specs.Verdicts.{verdict, verdict_of};
+ghost use Rattle.sat_checker.specs.ClauseStates.{clause_state, clause_state_of};
 
 use crate::units::roomy::Roomy;
 use sat_base::{Lit, Table};
@@ -206,7 +206,7 @@ impl Assigned {
         requires { place < length self.old.literals }
         ensures forgotten { (l : ℕ) → is_among self.new.literals l
             ≡ (if l == get_or (reverse self.old.literals) place 0 then false else is_among self.old.literals l) }
-        ensures moved { LosesAt place (reverse self.old.literals) (reverse self.new.literals) }
+        ensures moved { IsSwapRemoved place (reverse self.old.literals) (reverse self.new.literals) }
         ensures room { self.new.room ≡ self.old.room }
     {
         let lit = self.trail.swap_remove(place);
@@ -289,7 +289,7 @@ pub enum Look {
 /// Returns the state of a clause under the assumed literals.
 #[inline(always)]
 pub fn look_at(assigned: &Assigned, clause: &[Lit]) -> Look
-    ensures { verdict_of result ≡ verdict assigned.now.literals clause.now }
+    ensures { clause_state_of result ≡ clause_state assigned.now.literals clause.now }
 {
     let near = assigned.near();
     let mut open = None;
@@ -338,7 +338,7 @@ fn is_assumed(mark: Mark) -> bool
 /// Does what `look_at` does, even for literals with large codes.
 #[inline(never)]
 fn look_far(assigned: &Assigned, clause: &[Lit]) -> Look
-    ensures { verdict_of result ≡ verdict assigned.now.literals clause.now }
+    ensures { clause_state_of result ≡ clause_state assigned.now.literals clause.now }
 {
     let mut open = None;
     for lit in clause {

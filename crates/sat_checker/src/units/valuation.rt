@@ -1,8 +1,8 @@
 //! Comparisons of literals with the assumed literals, used to check a model and to find a clause without its hash.
 ghost use Rattle.std.specs.Prelude.{ℕ, ◌≡◌, [], ◌&&◌, not, IfOk, MatchBool};
 ghost use Rattle.std.specs.List.{list_any};
-ghost use Rattle.sat_checker.specs.LiteralSets.{is_among, is_part, mentions, canonical, same_literals};
-ghost use Rattle.sat_checker.specs.Accepts.{VariablesApart};
+ghost use Rattle.sat_checker.specs.LiteralSets.{is_among, is_subset_of, mentions, canonical, same_literals};
+ghost use Rattle.sat_checker.specs.Accepts.{VariablesDistinct};
 ghost use Rattle.sat_checker.specs.inner.Marks.{IsIncreasing};
 ghost use Rattle.sat_checker.specs.inner.AssumedRoom.{RoomStays};
 
@@ -16,7 +16,7 @@ use std::alloc::AllocError;
 pub(crate) fn assume_apart(assigned: &mut Assigned, literals: &[Lit]) -> Result<bool, AllocError>
     requires { assigned.old.literals ≡ [] }
     ensures exact { IfOk result (λ yes. MatchBool yes
-        (VariablesApart literals.now × (assigned.new.literals ≡ literals.now)) (VariablesApart literals.now → ⊥)) }
+        (VariablesDistinct literals.now × (assigned.new.literals ≡ literals.now)) (VariablesDistinct literals.now → ⊥)) }
     ensures stays { RoomStays assigned.old.room assigned.new.room }
 {
     for place in (0..literals.len()).rev() {
@@ -47,7 +47,7 @@ pub(crate) fn assume_roomy(assigned: &mut Assigned, literals: &[Lit])
 /// Whether there is room for all of the literals.
 #[tactic(auto, using(crate::proofs::lemmas::sets::Parts::each_literal))]
 pub(crate) fn have_room(assigned: &Assigned, literals: &[Lit]) -> bool
-    ensures { result ≡ is_part literals.now assigned.now.room }
+    ensures { result ≡ is_subset_of literals.now assigned.now.room }
 {
     for lit in literals {
         if !assigned.has_room(*lit) {
@@ -60,7 +60,7 @@ pub(crate) fn have_room(assigned: &Assigned, literals: &[Lit]) -> bool
 /// Whether all of the literals are assumed.
 #[tactic(auto, using(crate::proofs::lemmas::sets::Parts::each_literal))]
 fn are_assumed(assigned: &Assigned, literals: &[Lit]) -> bool
-    ensures { result ≡ is_part literals.now assigned.now.literals }
+    ensures { result ≡ is_subset_of literals.now assigned.now.literals }
 {
     for lit in literals {
         if !assigned.is_true(*lit) {
@@ -82,7 +82,7 @@ pub(crate) fn has_just_assumed(assigned: &Assigned, clause: &[Lit]) -> bool
 /// Whether the literals of a clause, which must be sorted, are a proper subset of the assumed literals.
 pub(crate) fn is_strictly_assumed(assigned: &Assigned, clause: &[Lit]) -> bool
     requires { IsIncreasing clause.now }
-    ensures { result ≡ (is_part clause.now assigned.now.literals && not (is_part assigned.now.literals clause.now)) }
+    ensures { result ≡ (is_subset_of clause.now assigned.now.literals && not (is_subset_of assigned.now.literals clause.now)) }
 {
     let assumed = assigned.literals();
     clause.len() < assumed.len() && are_assumed(assigned, clause)
@@ -90,7 +90,7 @@ pub(crate) fn is_strictly_assumed(assigned: &Assigned, clause: &[Lit]) -> bool
 
 /// Whether no two of the literals have the same variable. Does not allocate.
 pub(crate) fn are_apart(literals: &[Lit]) -> bool
-    ensures { MatchBool result (VariablesApart literals.now) (VariablesApart literals.now → ⊥) }
+    ensures { MatchBool result (VariablesDistinct literals.now) (VariablesDistinct literals.now → ⊥) }
 {
     for place in 0..literals.len() {
         let (_, following) = literals.split_at(place + 1);

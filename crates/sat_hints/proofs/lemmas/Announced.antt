@@ -7,11 +7,11 @@ use Rattle.sat_base.specs.steps.Steps.{Redundant, Simplified, Satisfied, Step, S
 use Rattle.sat_checker.specs.LiteralSets.{is_among, mentions, is_tautology, canonical, same_literals}
 use Rattle.sat_checker.specs.Propagation.{UnitInTurn}
 use Rattle.sat_checker.specs.Stored.{StoredClause, StoredUnit, Mode, Stored, is_unit}
-use Rattle.sat_checker.specs.Storing.{clause_with, irredundant_count, redundant_count, without_count, unless_gone, without_clause, with_unit, with_units, with_contradiction, with_new_unit, with_set, with_canonical, with_stored, with_input, with_known, with_literals_known, place_of, settled, settled_by, without_variable}
+use Rattle.sat_checker.specs.Storing.{clause_with, irredundant_count, redundant_count, without_count, unless_gone, without_clause, with_unit, with_units, with_contradiction, with_new_unit, with_set, with_canonical, with_stored, with_input, with_known, with_literals_known, place_of, with_conflict_settled, settled_by, without_variable}
 use Rattle.sat_checker.specs.Accepts.{PassInTurn, MayBeDeleted, Accepts, AcceptsAll, effect, stored_after, ready_after}
-use Rattle.sat_checker.specs.Invariants.{EachOnce, IsProper, AlwaysTidy}
+use Rattle.sat_checker.specs.Invariants.{EachOnce, IsProper, StoredInvariantHolds}
 use Rattle.sat_checker.specs.announcements.Needed.{true_unit, propagations}
-use Rattle.sat_checker.specs.announcements.Announcements.{Announcement, is_sample, has_witness_mode, mode_change, id_of_set, input_set, input, redundant_alone, derived_set, derived, derived_units, redundant_deleted, irredundant_deleted, one, last_id, announced, delayed_by, delayed, Notice, notices_over, notices_after, all_notices_after}
+use Rattle.sat_checker.specs.announcements.Announcements.{Announcement, is_sample, has_witness_mode, mode_change, id_of_set, input_set, input, redundant_alone, derived_set, derived, derived_units, redundant_deleted, irredundant_deleted, option_to_list, last_id, announced, delayed_by, delayed, Notice, notices_over, notices_after, all_notices_after}
 use Rattle.sat_checker.specs.announcements.Promises.{IsOneOf, RestsOn, PropagationsInTurn, TautologiesRestOnNothing}
 use Rattle.sat_checker.proofs.lemmas.propagation.Soundness.{negated-negated}
 use Rattle.sat_checker.proofs.lemmas.propagation.Members.{same_runs}
@@ -172,10 +172,10 @@ module _ (in_turn : PropagationsInTurn) (steps : List Step) (ok : AcceptsAll ste
       let f : Stored = following front in
       let rests : RestsOn f (u.0 ∷ []) (propagations f (u.0 ∷ []) (u.1 ∷ [])) = in_turn steps front (u.0 ∷ []) (u.1 ∷ []) ok p.0 refl in
       let new : NewLine (Derived f.next_id (u.0 ∷ []) (propagations f (u.0 ∷ []) (u.1 ∷ []))) f.next_id (u.0 ∷ []) lines = new_derived f lines (u.0 ∷ []) (propagations f (u.0 ∷ []) (u.1 ∷ [])) m rests in
-      let one : Mirrors (with_unit u.0 f) (lines_by (derived false (u.0 ∷ []) (u.1 ∷ []) f) lines)
+      let option_to_list : Mirrors (with_unit u.0 f) (lines_by (derived false (u.0 ∷ []) (u.1 ∷ []) f) lines)
       = subst (Mirrors (with_unit u.0 f)) (sym (unit_lines u.0 u.1 f lines)) (set_mirrors false (u.0 ∷ []) f lines (Derived f.next_id (u.0 ∷ []) (propagations f (u.0 ∷ []) (u.1 ∷ []))) (id_of_set (u.0 ∷ []) f) refl (λ n. new) m) in
       let next : following (front ++ u.0 ∷ []) ≡ with_unit u.0 f = units_more front u.0 (ready_after steps) in
-      let more = units_mirrors us (front ++ u.0 ∷ []) (lines_by (derived false (u.0 ∷ []) (u.1 ∷ []) f) lines) (subst (λ g. PassInTurn g us) (sym next) p.1) (subst (λ g. Mirrors g (lines_by (derived false (u.0 ∷ []) (u.1 ∷ []) f) lines)) (sym next) one) in
+      let more = units_mirrors us (front ++ u.0 ∷ []) (lines_by (derived false (u.0 ∷ []) (u.1 ∷ []) f) lines) (subst (λ g. PassInTurn g us) (sym next) p.1) (subst (λ g. Mirrors g (lines_by (derived false (u.0 ∷ []) (u.1 ∷ []) f) lines)) (sym next) option_to_list) in
       subst (Mirrors (with_units (map (λ w. w.0) us) (with_unit u.0 f))) (sym (by-append (derived false (u.0 ∷ []) (u.1 ∷ []) f) (derived_units us (with_unit u.0 f)) lines))
       (subst (λ g. Mirrors (with_units (map (λ w. w.0) us) g) (lines_by (derived_units us g) (lines_by (derived false (u.0 ∷ []) (u.1 ∷ []) f) lines))) next more)
 
@@ -496,14 +496,14 @@ lines_next : (step : Step) (earlier : List Step) → announced_lines (notices_af
 lines_next step earlier =
     lines-append (all_notices_after earlier) (notices_over (ready_after earlier) (announced (ready_after earlier) step)) [] ∙ reported_lines (ready_after earlier) (announced (ready_after earlier) step) (lines_of earlier)
 
-settled_has_none : (f : Stored) → (settled f).conflict ≡ None
+settled_has_none : (f : Stored) → (with_conflict_settled f).conflict ≡ None
 settled_has_none f = go f.conflict refl
   where
     go : (x : Option (ℕ × ℕ)) → f.conflict ≡ x → (settled_by x f).conflict ≡ None
     go None e = e
     go (Some ids) e = refl
 
-module _ (tidy : AlwaysTidy) (in_turn : PropagationsInTurn) (nothing : TautologiesRestOnNothing) (earlier : List Step) (ok : AcceptsAll earlier) (lines : List Line) (m : Mirrors (ready_after earlier) lines) where
+module _ (tidy : StoredInvariantHolds) (in_turn : PropagationsInTurn) (nothing : TautologiesRestOnNothing) (earlier : List Step) (ok : AcceptsAll earlier) (lines : List Line) (m : Mirrors (ready_after earlier) lines) where
   abbrev before : Stored
   before = ready_after earlier
 
@@ -543,16 +543,16 @@ module _ (tidy : AlwaysTidy) (in_turn : PropagationsInTurn) (nothing : Tautologi
       subst (Mirrors (effect (DeleteClause c Redundant) before)) (sym (redundant_lines (clause_with (canonical c) before.clauses) lines a))
       (taken_mirrors true (canonical c) before lines once longs settled_now m (clause_with (canonical c) before.clauses) refl)
   step_mirrors (DeleteClause c Satisfied) a =
-      subst (Mirrors (effect (DeleteClause c Satisfied) before)) (sym (irredundant_lines (one (true_unit (canonical c) before.units)) (clause_with (canonical c) before.clauses) lines a.0))
+      subst (Mirrors (effect (DeleteClause c Satisfied) before)) (sym (irredundant_lines (option_to_list (true_unit (canonical c) before.units)) (clause_with (canonical c) before.clauses) lines a.0))
       (taken_mirrors false (canonical c) before lines once longs settled_now m (clause_with (canonical c) before.clauses) refl)
   step_mirrors (DeleteClause c Simplified) a =
-      subst (Mirrors (effect (DeleteClause c Simplified) before)) (sym (irredundant_lines (one (last_id before.last)) (clause_with (canonical c) before.clauses) lines a.0))
+      subst (Mirrors (effect (DeleteClause c Simplified) before)) (sym (irredundant_lines (option_to_list (last_id before.last)) (clause_with (canonical c) before.clauses) lines a.0))
       (taken_mirrors false (canonical c) before lines once longs settled_now m (clause_with (canonical c) before.clauses) refl)
   step_mirrors (Model ls) a = known_mirrors (map variable ls) before lines m
   step_mirrors (FailedAssumptions core hs) a = core_mirrors before lines core hs (nothing before (map negated core) hs) (λ t. in_turn earlier [] (map negated core) hs ok a.1 t) m
   step_mirrors step a = aside before (effect step before) lines refl refl refl (omega arith) m
 
-module _ (tidy : AlwaysTidy) (in_turn : PropagationsInTurn) (nothing : TautologiesRestOnNothing) where
+module _ (tidy : StoredInvariantHolds) (in_turn : PropagationsInTurn) (nothing : TautologiesRestOnNothing) where
   settled_after : (steps : List Step) → Mirrors (stored_after steps) (announced_lines (notices_after steps) []) → Mirrors (ready_after steps) (lines_of steps)
   settled_after steps m =
       subst (Mirrors (ready_after steps)) (sym (lines-append (notices_after steps) (notices_over (stored_after steps) (delayed (stored_after steps))) [] ∙ reported_lines (stored_after steps) (delayed (stored_after steps)) (announced_lines (notices_after steps) [])))

@@ -1,7 +1,7 @@
 -- The result of converting a certificate of accepted steps.
 use Rattle.std.proofs.Common.{ℕ, ◌≡◌, List, [], ◌∷◌, ◌++◌, Option, Some, Ok, Err, refl, sym, ◌∙◌, ap, subst, append_assoc, append-nil}
 use Rattle.std.specs.Io.KnownBytes.{IsAtEnd}
-use Rattle.sat_base.specs.device.Device.{Reader, WriterTakes}
+use Rattle.sat_base.specs.device.Device.{Reader, WriterAccepts}
 use Rattle.sat_base.specs.steps.Steps.{Step, End}
 use Rattle.sat_base.specs.steps.StepText.{SpellsStep, SpellsSteps}
 use Rattle.sat_base.proofs.lemmas.steps.Prefixes.{no_whole, no_way}
@@ -71,7 +71,7 @@ module _ (steps : List Step) (text more : List ℕ) (from to : Reader) (cert : I
 pub accepted_converts : AcceptedConverts
 accepted_converts steps text more (Ok x) from to old new cert text_is c =
     let r = read_of steps text more from to cert text_is c.0 (End ∷ []) c.1 c.2.gave in
-    subst (λ z. WriterTakes old new (hint_text (End ∷ taken_after z []))) (sym (all_passed steps text more from to cert text_is c.0 (End ∷ []) c.1 r refl)) c.4
+    subst (λ z. WriterAccepts old new (hint_text (End ∷ taken_after z []))) (sym (all_passed steps text more from to cert text_is c.0 (End ∷ []) c.1 r refl)) c.4
 accepted_converts steps text more (Err HasDeleteVar) from to old new cert text_is c = c
 accepted_converts steps text more (Err (Refused errors.CheckFailed)) from to old new cert text_is c =
     let w = c.2 in

@@ -7,7 +7,7 @@ use Rattle.sat_checker.specs.LiteralSets.{is_among}
 use Rattle.sat_checker.specs.Propagation.{IsFalsified, IsUnit, UnitInTurn}
 use Rattle.sat_checker.specs.SortedSets.{NoRepeats}
 use Rattle.sat_checker.specs.inner.AssumedRoom.{AgreesOn, HasClauseRoom, HasClausesRoom}
-use Rattle.sat_checker.specs.Verdicts.{Verdict, falsified, opens, rests, verdict, verdict_of_open, not_false}
+use Rattle.sat_checker.specs.ClauseStates.{ClauseState, falsified, becomes_unit, neither, clause_state, state_by_open, not_false}
 use Rattle.sat_hints.specs.Checks.{SomeIsNotUnit, LastIsNotFalsified}
 use Rattle.sat_hints.specs.declared.answer.HintWhy.{HintWhy}
 use Rattle.sat_hints.specs.declared.answer.HintWhy.TheVariants.{NotUnit, NotFalsified}
@@ -84,44 +84,44 @@ member_false assumed (l ∷ ls) o h m = elim (or_cases (eqb l o) (is_among ls o)
 ]
 
 -- THE MEANING OF A VERDICT
-falsified_from : (assumed ls : List ℕ) → verdict_of_open assumed ls ≡ falsified → ls ≡ []
+falsified_from : (assumed ls : List ℕ) → state_by_open assumed ls ≡ falsified → ls ≡ []
 falsified_from assumed [] e = refl
 falsified_from assumed (l ∷ []) e = go (is_among assumed l) e
   where
-    go : (b : Bool) → cond b rests (opens l) ≡ falsified → (l ∷ []) ≡ []
+    go : (b : Bool) → cond b neither (becomes_unit l) ≡ falsified → (l ∷ []) ≡ []
     go true e = absurd cc
     go false e = absurd cc
 falsified_from assumed (l ∷ m ∷ ls) e = absurd cc
 
-pub is_falsified : (assumed clause : List ℕ) → verdict assumed clause ≡ falsified → IsFalsified assumed clause
+pub is_falsified : (assumed clause : List ℕ) → clause_state assumed clause ≡ falsified → IsFalsified assumed clause
 is_falsified assumed clause e = none_open assumed clause (falsified_from assumed (not_false assumed clause) e)
 
-pub falsifies : (assumed clause : List ℕ) → IsFalsified assumed clause → verdict assumed clause ≡ falsified
-falsifies assumed clause h = ap (verdict_of_open assumed) (all_false assumed clause h)
+pub falsifies : (assumed clause : List ℕ) → IsFalsified assumed clause → clause_state assumed clause ≡ falsified
+falsifies assumed clause h = ap (state_by_open assumed) (all_false assumed clause h)
 
 record Opens (assumed ls : List ℕ) (l : ℕ) : Type 0 where
   one : ls ≡ l ∷ []
   new : is_among assumed l ≡ false
 
-opens_from : (assumed ls : List ℕ) (l : ℕ) → verdict_of_open assumed ls ≡ opens l → Opens assumed ls l
+opens_from : (assumed ls : List ℕ) (l : ℕ) → state_by_open assumed ls ≡ becomes_unit l → Opens assumed ls l
 opens_from assumed [] l e = absurd cc
 opens_from assumed (m ∷ []) l e = go (is_among assumed m) refl e
   where
-    go : (b : Bool) → is_among assumed m ≡ b → cond b rests (opens m) ≡ opens l → Opens assumed (m ∷ []) l
+    go : (b : Bool) → is_among assumed m ≡ b → cond b neither (becomes_unit m) ≡ becomes_unit l → Opens assumed (m ∷ []) l
     go true h e' = absurd cc
     go false h e' = let same : m ≡ l = cc in record { one = ap (λ x. x ∷ []) same; new = subst (λ x. is_among assumed x ≡ false) same h }
 opens_from assumed (m ∷ n ∷ ls) l e = absurd cc
 
-pub is_unit : (assumed clause : List ℕ) (l : ℕ) → verdict assumed clause ≡ opens l → IsUnit assumed clause l
+pub is_unit : (assumed clause : List ℕ) (l : ℕ) → clause_state assumed clause ≡ becomes_unit l → IsUnit assumed clause l
 is_unit assumed clause l e =
     let o = opens_from assumed (not_false assumed clause) l e in
     let k = one_open assumed clause l o.one in
     record { within = k.within; not_true = o.new; not_false = k.not_false; others = k.others }
 
-pub unit_opens : (assumed clause : List ℕ) (l : ℕ) → NoRepeats clause → IsUnit assumed clause l → verdict assumed clause ≡ opens l
+pub unit_opens : (assumed clause : List ℕ) (l : ℕ) → NoRepeats clause → IsUnit assumed clause l → clause_state assumed clause ≡ becomes_unit l
 unit_opens assumed clause l n u = elim (only_open assumed clause l n u.others) [
   | inl e ↦ absurd (both_ways (is_among assumed (negated l)) u.not_false (member_false assumed clause l (none_open assumed clause e) u.within))
-  | inr e ↦ ap (verdict_of_open assumed) e ∙ ap (λ b. cond b rests (opens l)) u.not_true
+  | inr e ↦ ap (state_by_open assumed) e ∙ ap (λ b. cond b neither (becomes_unit l)) u.not_true
 ]
 
 -- THE RESULT FOR SEVERAL CLAUSES
@@ -139,18 +139,18 @@ says_further (Some e) assumed c d ds l u h = h
 
 pub course_says : (cs : List (List ℕ)) (assumed : List ℕ) → AllByRecursion NoRepeats cs → Says (refutation_failure assumed cs) assumed cs
 course_says [] assumed n = tt
-course_says (c ∷ []) assumed n = go (verdict assumed c) refl
+course_says (c ∷ []) assumed n = go (clause_state assumed c) refl
   where
-    go : (v : Verdict) → verdict assumed c ≡ v → Says (falsified_failure v) assumed (c ∷ [])
+    go : (v : ClauseState) → clause_state assumed c ≡ v → Says (falsified_failure v) assumed (c ∷ [])
     go falsified e = is_falsified assumed c e
-    go (opens l) e = λ f. let g = falsifies assumed c f in absurd cc
-    go rests e = λ f. let g = falsifies assumed c f in absurd cc
-course_says (c ∷ d ∷ ds) assumed n = go (λ l. course_says (d ∷ ds) (l ∷ assumed) n.1) (verdict assumed c) refl
+    go (becomes_unit l) e = λ f. let g = falsifies assumed c f in absurd cc
+    go neither e = λ f. let g = falsifies assumed c f in absurd cc
+course_says (c ∷ d ∷ ds) assumed n = go (λ l. course_says (d ∷ ds) (l ∷ assumed) n.1) (clause_state assumed c) refl
   where
-    go : ((l : ℕ) → Says (refutation_failure (l ∷ assumed) (d ∷ ds)) (l ∷ assumed) (d ∷ ds)) → (v : Verdict) → verdict assumed c ≡ v → Says (unit_failure v (λ l. refutation_failure (l ∷ assumed) (d ∷ ds))) assumed (c ∷ d ∷ ds)
+    go : ((l : ℕ) → Says (refutation_failure (l ∷ assumed) (d ∷ ds)) (l ∷ assumed) (d ∷ ds)) → (v : ClauseState) → clause_state assumed c ≡ v → Says (unit_failure v (λ l. refutation_failure (l ∷ assumed) (d ∷ ds))) assumed (c ∷ d ∷ ds)
     go ih falsified e = inl (λ l u. let g = unit_opens assumed c l n.0 u in absurd cc)
-    go ih (opens l) e = says_further (refutation_failure (l ∷ assumed) (d ∷ ds)) assumed c d ds l (is_unit assumed c l e) (ih l)
-    go ih rests e = inl (λ l u. let g = unit_opens assumed c l n.0 u in absurd cc)
+    go ih (becomes_unit l) e = says_further (refutation_failure (l ∷ assumed) (d ∷ ds)) assumed c d ds l (is_unit assumed c l e) (ih l)
+    go ih neither e = inl (λ l u. let g = unit_opens assumed c l n.0 u in absurd cc)
 
 -- ONLY ASSUMED LITERALS THAT OCCUR IN THE CLAUSES MATTER
 pub room_in : (room c : List ℕ) (l : ℕ) → HasClauseRoom room c → is_among c l ≡ true → (is_among room l ≡ true) × (is_among room (negated l) ≡ true)
@@ -165,21 +165,21 @@ same_open room us vs [] h same = refl
 same_open room us vs (l ∷ ls) h same =
     ap (λ b. cond (not b) (l ∷ not_false us ls) (not_false us ls)) (same (negated l) h.0.1) ∙ ap (λ ms. cond (not (is_among vs (negated l))) (l ∷ ms) ms) (same_open room us vs ls h.1 same)
 
-same_verdict : (room us vs clause : List ℕ) → HasClauseRoom room clause → AgreesOn room us vs → verdict us clause ≡ verdict vs clause
-same_verdict room us vs clause h same = ap (verdict_of_open us) (same_open room us vs clause h same) ∙ go (not_false vs clause) refl
+same_verdict : (room us vs clause : List ℕ) → HasClauseRoom room clause → AgreesOn room us vs → clause_state us clause ≡ clause_state vs clause
+same_verdict room us vs clause h same = ap (state_by_open us) (same_open room us vs clause h same) ∙ go (not_false vs clause) refl
   where
-    go : (ns : List ℕ) → not_false vs clause ≡ ns → verdict_of_open us ns ≡ verdict_of_open vs ns
+    go : (ns : List ℕ) → not_false vs clause ≡ ns → state_by_open us ns ≡ state_by_open vs ns
     go [] e = refl
-    go (l ∷ []) e = ap (λ b. cond b rests (opens l)) (same l (room_in room clause l h (one_open vs clause l e).within).0)
+    go (l ∷ []) e = ap (λ b. cond b neither (becomes_unit l)) (same l (room_in room clause l h (one_open vs clause l e).within).0)
     go (l ∷ m ∷ ls) e = refl
 
 pub same_course : (cs : List (List ℕ)) (room us vs : List ℕ) → HasClausesRoom room cs → AgreesOn room us vs → refutation_failure us cs ≡ refutation_failure vs cs
 same_course [] room us vs h same = refl
 same_course (c ∷ []) room us vs h same = ap falsified_failure (same_verdict room us vs c h.0 same)
 same_course (c ∷ d ∷ ds) room us vs h same =
-    ap (λ v. unit_failure v (λ l. refutation_failure (l ∷ us) (d ∷ ds))) (same_verdict room us vs c h.0 same) ∙ go (λ l. same_course (d ∷ ds) room (l ∷ us) (l ∷ vs) h.1 (λ m r. ap (λ b. eqb l m || b) (same m r))) (verdict vs c)
+    ap (λ v. unit_failure v (λ l. refutation_failure (l ∷ us) (d ∷ ds))) (same_verdict room us vs c h.0 same) ∙ go (λ l. same_course (d ∷ ds) room (l ∷ us) (l ∷ vs) h.1 (λ m r. ap (λ b. eqb l m || b) (same m r))) (clause_state vs c)
   where
-    go : ((l : ℕ) → refutation_failure (l ∷ us) (d ∷ ds) ≡ refutation_failure (l ∷ vs) (d ∷ ds)) → (v : Verdict) → unit_failure v (λ l. refutation_failure (l ∷ us) (d ∷ ds)) ≡ unit_failure v (λ l. refutation_failure (l ∷ vs) (d ∷ ds))
+    go : ((l : ℕ) → refutation_failure (l ∷ us) (d ∷ ds) ≡ refutation_failure (l ∷ vs) (d ∷ ds)) → (v : ClauseState) → unit_failure v (λ l. refutation_failure (l ∷ us) (d ∷ ds)) ≡ unit_failure v (λ l. refutation_failure (l ∷ vs) (d ∷ ds))
     go ih falsified = refl
-    go ih (opens l) = ih l
-    go ih rests = refl
+    go ih (becomes_unit l) = ih l
+    go ih neither = refl

@@ -1,22 +1,22 @@
 -- Nothing is pending at first, and the pending bytes are written at the end.
 use Rattle.std.proofs.Common.{ℕ, ◌≡◌, Bool, true, false, List, [], ◌∷◌, ◌++◌, Result, Ok, Err, sym, ◌∙◌, ap, subst, append_assoc, append-nil, inl, inr}
 use Rattle.std.specs.Borrow.{MutBor}
-use Rattle.sat_base.specs.device.Device.{Reader, Writer, WriterBreaks, lent_writer}
+use Rattle.sat_base.specs.device.Device.{Reader, Writer, WriterFails, lent_writer}
 use Rattle.sat_base.specs.device.Sink.{AddsToSink, SinkFails}
 use Rattle.sat_base.specs.steps.Steps.{Step, End}
 use Rattle.sat_base.proofs.lemmas.device.Sending.{sent_more, sends_breaks, all_out}
 use Rattle.sat_base.proofs.lemmas.device.Writes.{lent_puts}
 use Rattle.sat_checker.specs.ProofView.{taken_after}
 use Rattle.sat_hints.specs.Conversion.{hint_text}
-use Rattle.sat_hints.specs.Converts.{BreaksAfter, WritesFrontOf, Converts}
+use Rattle.sat_hints.specs.Converts.{BreaksAfter, WritesPrefixOf, Converts}
 use Rattle.sat_hints.specs.declared.error.HintError.{HintError}
 use Rattle.sat_hints.specs.declared.error.HintError.TheVariants.{Refused, HasDeleteVar, Read, Write, OutOfMemory}
 use Rattle.sat_hints.specs.declared.line_writer.LineWriter.{LineWriter}
 use Rattle.sat_hints.specs.inner.LineWriting.{Outlet, outlet, PutsText, PutFrom, PutBy}
-use Rattle.sat_hints.specs.inner.LinesWritten.{BrokenAfter, SentFront, WritesLines}
+use Rattle.sat_hints.specs.inner.LinesWritten.{BrokenAfter, SentPrefix, WritesLines}
 
 -- if a prefix was put, the writer accepted a prefix
-front_took : (a b : Outlet) (text : List ℕ) → a.sink.waiting ≡ [] → SentFront a b text → WritesFrontOf a.sink.writer b.sink.writer text
+front_took : (a b : Outlet) (text : List ℕ) → a.sink.waiting ≡ [] → SentPrefix a b text → WritesPrefixOf a.sink.writer b.sink.writer text
 front_took a b text e s =
     let w = s.sent.sent in
     let f : s.front ≡ w.fresh ++ b.sink.waiting = ap (λ x. x ++ s.front) (sym e) ∙ w.flows in
@@ -27,8 +27,8 @@ front_took a b text e s =
       takes = w.takes;
     }
 
-breaks_of : (a b : Outlet) (text : List ℕ) → a.sink.waiting ≡ [] → SinkFails a.sink b.sink text → WriterBreaks a.sink.writer b.sink.writer text
-breaks_of a b text e k = subst (λ x. WriterBreaks a.sink.writer b.sink.writer (x ++ text)) e k.breaks
+breaks_of : (a b : Outlet) (text : List ℕ) → a.sink.waiting ≡ [] → SinkFails a.sink b.sink text → WriterFails a.sink.writer b.sink.writer text
+breaks_of a b text e k = subst (λ x. WriterFails a.sink.writer b.sink.writer (x ++ text)) e k.breaks
 
 breaks_after : (a b : Outlet) (step : Step) (steps : List Step) → a.sink.waiting ≡ [] → BrokenAfter a b step steps → BreaksAfter a.sink.writer b.sink.writer step steps
 breaks_after a b step steps e k = elim k [
@@ -57,11 +57,11 @@ pub write_converts : (from to : Reader) (a b c : Outlet) → a.sink.waiting ≡ 
 write_converts from to a b c e w p f =
     let text : List ℕ = hint_text (End ∷ taken_after w.0 []) in
     let k : SinkFails a.sink c.sink (text ++ []) = sends_breaks a.sink b.sink c.sink text [] w.4.sent (put_by [] b c true w.4.well f p) in
-    (w.0, End, w.1, w.2.none_failed, w.2.gave, inr (w.2.ends, subst (WriterBreaks a.sink.writer c.sink.writer) (ap (λ x. x ++ (text ++ [])) e ∙ append-nil text) k.breaks))
+    (w.0, End, w.1, w.2.none_failed, w.2.gave, inr (w.2.ends, subst (WriterFails a.sink.writer c.sink.writer) (ap (λ x. x ++ (text ++ [])) e ∙ append-nil text) k.breaks))
 
 -- A LENT WRITER
 module _ {W : Type 0} (seen : W → Writer) (a z v : W) (given back : ℕ) (same : given ≡ back → z ≡ v) where
-  lent_took : (text : List ℕ) → WritesFrontOf (lent_writer given (seen a)) (lent_writer back (seen v)) text → WritesFrontOf (seen a) (seen z) text
+  lent_took : (text : List ℕ) → WritesPrefixOf (lent_writer given (seen a)) (lent_writer back (seen v)) text → WritesPrefixOf (seen a) (seen z) text
   lent_took text t = record { front = t.front; following = t.following; whole = t.whole; takes = lent_puts {E = HintError} seen a z v given back t.front (Ok tt) same t.takes }
 
   lent_breaks : (step : Step) (steps : List Step) → BreaksAfter (lent_writer given (seen a)) (lent_writer back (seen v)) step steps → BreaksAfter (seen a) (seen z) step steps

@@ -17,7 +17,7 @@ use Rattle.sat_hints.specs.Lines.{Line, text_of, line_text}
 use Rattle.sat_hints.specs.Conversion.{announced_line, with_line, announced_lines, hint_text}
 use Rattle.sat_hints.specs.declared.line_writer.LineWriter.{LineWriter}
 use Rattle.sat_hints.specs.inner.LineWriting.{Outlet, outlet, PutsText, PutFrom, PutBy}
-use Rattle.sat_hints.specs.inner.LinesWritten.{SentAll, SentFront}
+use Rattle.sat_hints.specs.inner.LinesWritten.{SentAll, SentPrefix}
 use Rattle.sat_hints.specs.inner.AnnouncedLines.{text_if, announced_text, AnswersIf, PutsAnnouncedLine}
 
 -- THE TEXT OF ANNOUNCEMENTS
@@ -122,13 +122,13 @@ module _ {W P T : Type 0} (seen : W → Writer) (Takes : P → Notice → Result
   since_broken f notices a b e none h = subst (λ ts. (cause : Error) × (f ≡ faults.ProofProcessorError cause) × SinkFails (sink_in a) (sink_in b) (texts ts)) (sym h.1) (all_broken f h.0 a b e none h.2)
 
 -- the text of all announcements, or of all but the pending ones
-pub front_all : (old new : Outlet) (steps : List Step) → SentAll old new (texts (all_notices_after steps)) → SentFront old new (hint_text steps)
+pub front_all : (old new : Outlet) (steps : List Step) → SentAll old new (texts (all_notices_after steps)) → SentPrefix old new (hint_text steps)
 front_all old new steps s = record { front = texts (all_notices_after steps); following = []; whole = hint_texts steps ∙ sym (append-nil (texts (all_notices_after steps))); sent = s }
 
-pub front_reported : (old new : Outlet) (steps : List Step) → SentAll old new (texts (notices_after steps)) → SentFront old new (hint_text steps)
+pub front_reported : (old new : Outlet) (steps : List Step) → SentAll old new (texts (notices_after steps)) → SentPrefix old new (hint_text steps)
 front_reported old new steps s = record { front = texts (notices_after steps); following = _; whole = hint_texts steps ∙ texts-append (notices_after steps) _; sent = s }
 
-pub front_by : (old new : Outlet) (conflict : Option (ℕ × ℕ)) (steps : List Step) → SentAll old new (texts (notices_by conflict steps)) → SentFront old new (hint_text steps)
+pub front_by : (old new : Outlet) (conflict : Option (ℕ × ℕ)) (steps : List Step) → SentAll old new (texts (notices_by conflict steps)) → SentPrefix old new (hint_text steps)
 front_by old new (Some conflict) steps s = front_reported old new steps s
 front_by old new None steps s = front_all old new steps s
 

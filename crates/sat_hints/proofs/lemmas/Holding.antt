@@ -2,7 +2,7 @@
 use Rattle.std.proofs.Common.{ℕ, ◌+◌, ◌<◌, ◌≤◌, ◌≡◌, ◌⊎◌, inl, inr, Bool, true, false, eqb, List, [], ◌∷◌, ◌++◌, length, take, drop, get_or, Option, None, Some, refl, sym, ◌∙◌, ap, subst, arith, append_assoc, append-nil}
 use Rattle.std.proofs.lemmas.Bool.{both_ways, eqb-true, eq-eqb}
 use Rattle.std.proofs.lemmas.List.{take-append-drop, take_more, take_all}
-use Rattle.sat_base.specs.text.Tokenizing.{held}
+use Rattle.sat_base.specs.text.Tokenizing.{capped}
 use Rattle.sat_hints.specs.Lines.{Line, AreLines, Input, Derived, Gone, Core, Fresh, text_of, line_text, id_words, literal_words, SpellsLine, HasNoEnd, BeginsWithLine, ended, cut_off}
 use Rattle.sat_hints.specs.Hints.{FollowsLines, IsHintDerivation}
 use Rattle.sat_hints.specs.Checks.{IsAtFault, IsBadAt, VerdictHolds}
@@ -23,8 +23,8 @@ no_end_both [] ys h k = k
 no_end_both (x ∷ xs) ys h k = (h.0, no_end_both xs ys h.1 k)
 
 -- the start of a line, and the rest of it
-pub whole_with : (held bytes : List ℕ) → HasNoEnd held → IsWholeLine bytes → IsWholeLine (held ++ bytes)
-whole_with held bytes h w = record { front = held ++ w.front; inside = no_end_both held w.front h w.inside; ended = ap (λ b. held ++ b) w.ended ∙ sym (append_assoc held w.front (10 ∷ [])) }
+pub whole_with : (capped bytes : List ℕ) → HasNoEnd capped → IsWholeLine bytes → IsWholeLine (capped ++ bytes)
+whole_with capped bytes h w = record { front = capped ++ w.front; inside = no_end_both capped w.front h w.inside; ended = ap (λ b. capped ++ b) w.ended ∙ sym (append_assoc capped w.front (10 ∷ [])) }
 
 -- the end of a line
 module _ (old new : Checking) (bytes : List ℕ) (w : IsWholeLine bytes) where
@@ -72,8 +72,8 @@ module _ (old new : Checking) (bytes : List ℕ) (w : IsWholeLine bytes) where
       let fits : LeadsToPlace Letter new.held.items (Some new.place) = rw (e, at) r.fits in
       line_goes why text r (subst (ChecksLineBytes why old.checker new.checker r.lines) (sym (ap (λ b. b ++ bytes) none)) (h r.lines r.taken)) (e ∙ none) fits
 
-leads_on : (held bytes : List ℕ) (here : Place) (to : Option Place) → LeadsToPlace Letter held (Some here) → LeadsToPlace here bytes to → LeadsToPlace Letter (held ++ bytes) to
-leads_on held bytes here to h k more l = k more (h (bytes ++ more) (subst (IsRestOfLine Letter) (append_assoc held bytes more) l))
+leads_on : (capped bytes : List ℕ) (here : Place) (to : Option Place) → LeadsToPlace Letter capped (Some here) → LeadsToPlace here bytes to → LeadsToPlace Letter (capped ++ bytes) to
+leads_on capped bytes here to h k more l = k more (h (bytes ++ more) (subst (IsRestOfLine Letter) (append_assoc capped bytes more) l))
 
 -- more bytes of an unfinished line
 pub held_more : (old new : Checking) (bytes : List ℕ) → HasNoEnd bytes → new.checker ≡ old.checker → new.held.items ≡ old.held.items ++ bytes → LeadsToPlace old.place bytes (Some new.place) → ReadsFurther None old bytes new
@@ -119,7 +119,7 @@ module _ (front : List ℕ) (inside : HasNoEnd front) (never : LeadsToPlace Lett
       not_empty (x ∷ xs) some e = cc
   begins bytes rest (inr w) = let k = whole_with front bytes inside w in ended k.front k.inside k.ended
 
-  front_faulty : (lines : List Line) (rest : List ℕ) → AreLines lines → IsHintDerivation lines → IsBadAt (text_of lines ++ (front ++ rest)) (held (length lines + 1)) Syntax
+  front_faulty : (lines : List Line) (rest : List ℕ) → AreLines lines → IsHintDerivation lines → IsBadAt (text_of lines ++ (front ++ rest)) (capped (length lines + 1)) Syntax
   front_faulty lines rest are derivation =
       let c = cut rest in
       record {
@@ -138,7 +138,7 @@ pub held_faulty : (old : Checking) (bytes : List ℕ) → HasNoEnd bytes → Lea
 held_faulty old bytes h leads text r = record {
   count = length r.lines;
   number = r.taken.counts_lines;
-  bad = λ rest. subst (λ x. IsBadAt x (held (length r.lines + 1)) Syntax)
+  bad = λ rest. subst (λ x. IsBadAt x (capped (length r.lines + 1)) Syntax)
       (sym (ap (λ x. (x ++ bytes) ++ rest) r.whole ∙ ap (λ x. x ++ rest) (append_assoc (text_of r.lines) old.held.items bytes) ∙ append_assoc (text_of r.lines) (old.held.items ++ bytes) rest))
       (front_faulty (old.held.items ++ bytes) (no_end_both old.held.items bytes r.inside h) (leads_on old.held.items bytes old.place None r.fits leads) r.lines rest r.are r.derivation);
 }
@@ -154,7 +154,7 @@ reads_after why a b xs ys h text r =
     record {
       count = f.count;
       number = f.number;
-      bad = λ rest. subst (VerdictHolds (Bad (held (f.count + 1)) why)) (append_assoc text xs (ys ++ rest) ∙ ap (λ x. text ++ x) (sym (append_assoc xs ys rest)) ∙ sym (append_assoc text (xs ++ ys) rest)) (f.bad (ys ++ rest));
+      bad = λ rest. subst (VerdictHolds (Bad (capped (f.count + 1)) why)) (append_assoc text xs (ys ++ rest) ∙ ap (λ x. text ++ x) (sym (append_assoc xs ys rest)) ∙ sym (append_assoc text (xs ++ ys) rest)) (f.bad (ys ++ rest));
     }
 
 pub reads_none : (c : Checking) → ReadsFurther None c [] c
@@ -176,7 +176,7 @@ line_has_end (Gone id) h = ends (no_end_second (id_words (id ∷ [])) (48 ∷ 10
 line_has_end (Core ls ids) h = ends (no_end_second (id_words ids) (48 ∷ 10 ∷ []) (no_end_second (literal_words ls) (48 ∷ 32 ∷ (id_words ids ++ (48 ∷ 10 ∷ []))) h.1.1).1.1)
 line_has_end (Fresh v) h = ends (no_end_second (id_words (v ∷ [])) (48 ∷ 10 ∷ []) h.1.1)
 
-pub ends_badly : (c : Checking) (text : List ℕ) (v : HintVerdict) → ((count : ℕ) → c.checker.lines ≡ held count → v ≡ Bad (held (count + 1)) Syntax) → (c.held.items ≡ [] → ⊥) → HasRead c text → VerdictHolds v text
+pub ends_badly : (c : Checking) (text : List ℕ) (v : HintVerdict) → ((count : ℕ) → c.checker.lines ≡ capped count → v ≡ Bad (capped (count + 1)) Syntax) → (c.held.items ≡ [] → ⊥) → HasRead c text → VerdictHolds v text
 ends_badly c text v is some r = subst (λ v. VerdictHolds v text) (sym (is (length r.lines) r.taken.counts_lines)) (record {
   earlier = r.lines;
   bytes = c.held.items;
@@ -190,7 +190,7 @@ ends_badly c text v is some r = subst (λ v. VerdictHolds v text) (sym (is (leng
 })
 
 -- the verdict on a fault
-pub says_fault : (c : Checking) (text : List ℕ) (why : HintWhy) (v : HintVerdict) → ((count : ℕ) → c.checker.lines ≡ held count → v ≡ Bad (held (count + 1)) why) → HasFault c text why → (rest : List ℕ) → VerdictHolds v (text ++ rest)
+pub says_fault : (c : Checking) (text : List ℕ) (why : HintWhy) (v : HintVerdict) → ((count : ℕ) → c.checker.lines ≡ capped count → v ≡ Bad (capped (count + 1)) why) → HasFault c text why → (rest : List ℕ) → VerdictHolds v (text ++ rest)
 says_fault c text why v is f rest = subst (λ v. VerdictHolds v (text ++ rest)) (sym (is f.count f.number)) (f.bad rest)
 
 pub goes_on : (bytes : List ℕ) (i : ℕ) → i < length bytes → (get_or bytes i 0 ≡ 10 → ⊥) → HasNoEnd (take i bytes) → HasNoEnd (take (i + 1) bytes)

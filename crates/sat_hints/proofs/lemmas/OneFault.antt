@@ -1,7 +1,7 @@
 -- Two verdicts on a text are equal.
 use Rattle.std.proofs.Common.{ℕ, ◌+◌, ◌≡◌, Bool, List, [], ◌∷◌, ◌++◌, length, Option, None, Some, refl, sym, ◌∙◌, ap, subst, inl, inr, append-nil}
 use Rattle.sat_base.specs.text.Text.{lines}
-use Rattle.sat_base.specs.text.Tokenizing.{held}
+use Rattle.sat_base.specs.text.Tokenizing.{capped}
 use Rattle.sat_hints.specs.Lines.{Line, AreLines, SpellsLine, text_of}
 use Rattle.sat_hints.specs.Hints.{clauses_under, IsInOrder, named_ids, UsesVariable, derives_empty, count_of_cores}
 use Rattle.sat_hints.specs.Checks.{SomeIsNotUnit, LastIsNotFalsified, TriesLine, IsFaultOf, IsAtFault, IsBadAt, IsProof}
@@ -135,7 +135,7 @@ module _ (text : List ℕ) (k l : ℕ) (w v : HintWhy) (p : IsBadAt text k w) (q
       let g : q.earlier ≡ p.earlier = same_lines p.earlier q.earlier p.are q.are e in
       let h : IsAtFault p.earlier p.bytes v = subst (λ b. IsAtFault p.earlier b v) (sym f) (subst (λ ls. IsAtFault ls q.bytes v) g q.fault) in
       record {
-        number = p.number ∙ ap (λ (ls : List Line). held (length ls + 1)) (sym g) ∙ sym q.number;
+        number = p.number ∙ ap (λ (ls : List Line). capped (length ls + 1)) (sym g) ∙ sym q.number;
         why = one_why p.earlier p.bytes w v (reason p.earlier p.bytes w p.fault) (reason p.earlier p.bytes v h);
       }
 
@@ -154,8 +154,8 @@ same_proof : (text : List ℕ) (d e : Bool) (c b m n : ℕ) → IsProof text d c
 same_proof text d e c b m n p q =
     let f : q.all ≡ p.all = same_lines p.all q.all p.are q.are (sym (texts_of text p.all p.are p.whole) ∙ texts_of text q.all q.are q.whole) in
     let g : d ≡ e = p.says_empty ∙ ap derives_empty (sym f) ∙ sym q.says_empty in
-    let h : c ≡ b = p.counts_cores ∙ ap (λ (ls : List Line). held (count_of_cores ls)) (sym f) ∙ sym q.counts_cores in
-    let i : m ≡ n = p.counts_lines ∙ ap (λ (ls : List Line). held (length ls)) (sym f) ∙ sym q.counts_lines in
+    let h : c ≡ b = p.counts_cores ∙ ap (λ (ls : List Line). capped (count_of_cores ls)) (sym f) ∙ sym q.counts_cores in
+    let i : m ≡ n = p.counts_lines ∙ ap (λ (ls : List Line). capped (length ls)) (sym f) ∙ sym q.counts_lines in
     ap (λ x. Proved x c m) g ∙ ap (λ x. Proved e x m) h ∙ ap (λ x. Proved e b x) i
 
 pub one_verdict : OneVerdict

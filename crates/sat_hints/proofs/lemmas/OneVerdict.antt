@@ -5,7 +5,7 @@ use Rattle.std.proofs.lemmas.Str.Parse.{digit_from_value}
 use Rattle.std.specs.List.{AllByRecursion}
 use Rattle.std.specs.Str.Parse.{AllDigits}
 use Rattle.sat_base.specs.values.Literals.{negated, variable, is_positive}
-use Rattle.sat_base.specs.text.Text.{lines, onto_first}
+use Rattle.sat_base.specs.text.Text.{lines, prepend_to_first}
 use Rattle.sat_base.specs.dimacs.DimacsText.{number_text}
 use Rattle.sat_checker.specs.LiteralSets.{is_among, is_tautology}
 use Rattle.sat_checker.specs.Propagation.{IsUnit, UnitInTurn}
@@ -200,7 +200,7 @@ not_ten b h = go (nat_eq b 10) refl
 split_front : (front more : List ℕ) → HasNoEnd front → lines ((front ++ (10 ∷ [])) ++ more) ≡ (front ++ (10 ∷ [])) ∷ lines more
 unfolding lines
 split_front [] more h = refl
-split_front (b ∷ bs) more h = rw (not_ten b h.0) (ap (onto_first b) (split_front bs more h.1))
+split_front (b ∷ bs) more h = rw (not_ten b h.0) (ap (prepend_to_first b) (split_front bs more h.1))
 
 split_ended : (bytes more : List ℕ) → Ended bytes → lines (bytes ++ more) ≡ bytes ∷ lines more
 split_ended bytes more w = ap (λ t. lines (t ++ more)) w.ended ∙ split_front w.front more w.inside ∙ ap (λ t. t ∷ lines more) (sym w.ended)
@@ -209,7 +209,7 @@ split_last : (bytes : List ℕ) → HasNoEnd bytes → (bytes ≡ [] → ⊥) �
 unfolding lines
 split_last [] h some = absurd (some refl)
 split_last (b ∷ []) h some = rw (not_ten b h.0) refl
-split_last (b ∷ c ∷ cs) h some = rw (not_ten b h.0) (ap (onto_first b) (split_last (c ∷ cs) h.1 (λ e. cc)))
+split_last (b ∷ c ∷ cs) h some = rw (not_ten b h.0) (ap (prepend_to_first b) (split_last (c ∷ cs) h.1 (λ e. cc)))
 
 pub lines_none : lines [] ≡ []
 unfolding lines

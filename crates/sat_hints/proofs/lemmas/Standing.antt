@@ -9,9 +9,9 @@ use Rattle.sat_checker.specs.SortedSets.{IsIncreasing}
 use Rattle.sat_hints.specs.Hints.{is_long, unless_unit_over}
 use Rattle.sat_hints.specs.inner.Clauses.{clause_in, present_clause_at, times_long, occurrences_of, AllBelow, IsStore, AddsPresentClause, Loses}
 use Rattle.sat_hints.specs.inner.UsesView.{if_counting, uses_at}
-use Rattle.sat_hints.specs.inner.Standing.{is_stale, unless_stale, standing_clause, SinceWithin, StandingInvariant, FindsClause, AddsStandingClause, DropsClause, IsUsed, RenewsVariable}
+use Rattle.sat_hints.specs.inner.ActiveClauses.{is_stale, unless_stale, active_clause, SinceWithin, ActiveClausesInvariant, FindsClause, AddsActiveClause, DropsClause, IsUsed, RenewsVariable}
 use Rattle.sat_hints.specs.declared.present.Present.{Present}
-use Rattle.sat_hints.specs.declared.standing.Standing.{Standing}
+use Rattle.sat_hints.specs.declared.active_clauses.ActiveClauses.{ActiveClauses}
 use Rattle.sat_hints.specs.declared.uses.Uses.{Uses}
 use Rattle.sat_hints.proofs.lemmas.Counting.{times_one, times-few, times-there, times-some, counted_long, counted_mentions, mentions_counted}
 use Rattle.sat_hints.proofs.lemmas.Listed.{stands_at, listed-at}
@@ -42,8 +42,8 @@ if_more : (b : Bool) (m n k : ℕ) → m ≡ n + k → if_counting b n + if_coun
 if_more true m n k e = sym e
 if_more false m n k e = refl
 
-pub gains : (old new : Standing) (id : ℕ) (clause : List ℕ) → StandingInvariant old → SinceWithin old id → AddsPresentClause old.present new.present id clause → new.since ≡ old.since → new.uses.counting ≡ old.uses.counting
-    → ((l : ℕ) → uses_at new.uses l ≡ uses_at old.uses l + if_counting old.uses.counting (times_long l clause)) → AddsStandingClause old new id clause
+pub gains : (old new : ActiveClauses) (id : ℕ) (clause : List ℕ) → ActiveClausesInvariant old → SinceWithin old id → AddsPresentClause old.present new.present id clause → new.since ≡ old.since → new.uses.counting ≡ old.uses.counting
+    → ((l : ℕ) → uses_at new.uses l ≡ uses_at old.uses l + if_counting old.uses.counting (times_long l clause)) → AddsActiveClause old new id clause
 gains old new id clause s w a e c u = record {
   standing = record {
     store = a.store;
@@ -56,7 +56,7 @@ gains old new id clause s w a e c u = record {
   clauses = λ j. ap (λ x. unless_stale x j (clause_in new.present j)) e ∙ ap (unless_stale old.since j) (a.clauses j) ∙ one j (eqb j id) refl;
 }
   where
-    one : (j : ℕ) (b : Bool) → eqb j id ≡ b → unless_stale old.since j (cond b (Some clause) (clause_in old.present j)) ≡ cond b (Some clause) (standing_clause old j)
+    one : (j : ℕ) (b : Bool) → eqb j id ≡ b → unless_stale old.since j (cond b (Some clause) (clause_in old.present j)) ≡ cond b (Some clause) (active_clause old j)
     one j true t = let same : j ≡ id = eqb-true j id t in ap (λ x. cond x None (Some clause)) (subst (λ i. is_stale old.since i clause ≡ false) (sym same) (fresh_unit old.since id clause w))
     one j false t = refl
 
@@ -80,7 +80,7 @@ if_less : (b : Bool) (m n k : ℕ) → m + k ≡ n → if_counting b m + if_coun
 if_less true m n k e = e
 if_less false m n k e = refl
 
-module _ (old : Standing) (id place : ℕ) (s : StandingInvariant old) (f : FindsClause old id place) where
+module _ (old : ActiveClauses) (id place : ℕ) (s : ActiveClausesInvariant old) (f : FindsClause old id place) where
   -- the clause at this index was not removed
   not_gone : (c : List ℕ) → clause_in old.present id ≡ Some c → (get_or old.present.gone.items place false ≡ false) × (present_clause_at old.present place ≡ c)
   not_gone c e =
@@ -103,7 +103,7 @@ module _ (old : Standing) (id place : ℕ) (s : StandingInvariant old) (f : Find
       let k : times_long l (present_clause_at old.present place) ≤ occurrences_of old.present l = times-there l old.present.clauses old.present.gone.items place (s.store.gone ∙ sym s.store.clauses) f.within g in
       if_below old.uses.counting (times_long l clause) (occurrences_of old.present l) (uses_at old.uses l) (subst (λ c. times_long l c ≤ occurrences_of old.present l) (sym e) k) (s.counted l)
 
-  pub drops : (new : Standing) (clause : List ℕ) → clause ≡ present_clause_at old.present place → Loses old.present new.present (get_or old.present.ids.items place 0) → new.since ≡ old.since → new.uses.counting ≡ old.uses.counting
+  pub drops : (new : ActiveClauses) (clause : List ℕ) → clause ≡ present_clause_at old.present place → Loses old.present new.present (get_or old.present.ids.items place 0) → new.since ≡ old.since → new.uses.counting ≡ old.uses.counting
       → ((l : ℕ) → uses_at new.uses l + if_counting old.uses.counting (times_long l clause) ≡ uses_at old.uses l) → DropsClause old new id
   drops new clause e lost w c u =
       let l = subst (Loses old.present new.present) f.named lost in
@@ -114,7 +114,7 @@ module _ (old : Standing) (id place : ℕ) (s : StandingInvariant old) (f : Find
         clauses = λ j. ap (λ x. unless_stale x j (clause_in new.present j)) w ∙ ap (unless_stale old.since j) (l.clauses j) ∙ one j (eqb j id);
       }
     where
-      one : (j : ℕ) (b : Bool) → unless_stale old.since j (cond b None (clause_in old.present j)) ≡ cond b None (standing_clause old j)
+      one : (j : ℕ) (b : Bool) → unless_stale old.since j (cond b None (clause_in old.present j)) ≡ cond b None (active_clause old j)
       one j true = refl
       one j false = refl
 
@@ -127,11 +127,11 @@ module _ (old : Standing) (id place : ℕ) (s : StandingInvariant old) (f : Find
           let r : uses_at new.uses m ≡ if_counting old.uses.counting (occurrences_of new.present m) = omega (arith, y, z, t) in
           r ∙ ap (λ b. if_counting b (occurrences_of new.present m)) (sym c)
 
-pub found_some : (s : Standing) (id place : ℕ) → FindsClause s id place → standing_clause s id ≢ None
+pub found_some : (s : ActiveClauses) (id place : ℕ) → FindsClause s id place → active_clause s id ≢ None
 found_some s id place f e = let x : ◌≡◌ {A = Option (List ℕ)} (Some (present_clause_at s.present place)) None = sym f.clause ∙ e in cc
 
 -- VARIABLES IN USE
-module _ (s : Standing) (v : ℕ) (st : IsStore s.present) where
+module _ (s : ActiveClauses) (v : ℕ) (st : IsStore s.present) where
   abbrev both : ℕ
   both = occurrences_of s.present (2 * v) + occurrences_of s.present (2 * v + 1)
 
@@ -181,7 +181,7 @@ below_bound p bound s h id c e =
     let t = stands_at id c p.ids.items p.clauses p.gone.items e in
     subst (λ i. i < bound) t.named (h t.place (subst (λ n. t.place < n) s.clauses t.within))
 
-module _ (old new : Standing) (v bound : ℕ) (s : StandingInvariant old) (above : AllBelow old.present.ids.items bound) (w : SinceWithin old bound)
+module _ (old new : ActiveClauses) (v bound : ℕ) (s : ActiveClausesInvariant old) (above : AllBelow old.present.ids.items bound) (w : SinceWithin old bound)
     (p : new.present ≡ old.present) (counting : new.uses.counting ≡ true) (u : (l : ℕ) → uses_at new.uses l ≡ occurrences_of old.present l) (at : (x : ℕ) → value_at 0 new.since x ≡ cond (eqb x v) bound (value_at 0 old.since x)) where
   unit_gone : (l : ℕ) (b : Bool) → eqb (variable l) v ≡ true → unless_unit_over v (cond b None (Some (l ∷ []))) ≡ None
   unit_gone l true e = refl

@@ -2,7 +2,7 @@
 use Rattle.std.proofs.Common.{ℕ, ◌+◌, ◌-◌, ◌^◌, ◌≤◌, ◌≡◌, ◌≢◌, Bool, true, false, cond, eqb, ◌||◌, List, [], ◌∷◌, length, min, map, Option, None, Some, refl, sym, ◌∙◌, ap, subst, arith, inl, inr}
 use Rattle.std.proofs.lemmas.Bool.{eqb-true}
 use Rattle.std.specs.List.{AllByRecursion}
-use Rattle.sat_base.specs.text.Tokenizing.{held}
+use Rattle.sat_base.specs.text.Tokenizing.{capped}
 use Rattle.sat_base.specs.values.Literals.{negated}
 use Rattle.sat_base.specs.values.Tables.{value_at}
 use Rattle.sat_checker.specs.LiteralSets.{canonical, is_tautology}
@@ -14,22 +14,22 @@ use Rattle.sat_hints.specs.Lines.{Line, Input, Derived, Gone, Core, Fresh}
 use Rattle.sat_hints.specs.Hints.{and_clauses, clause_under, clauses_under, IsInOrder, named_ids, assumed_by, ConflictsIf, Conflicts, FollowsLines, is_empty, derives_empty, count_of_cores}
 use Rattle.sat_hints.specs.Checks.{IsFaultOf}
 use Rattle.sat_hints.specs.inner.Clauses.{AllBelow}
-use Rattle.sat_hints.specs.inner.Standing.{standing_clause, standing_clauses, AddsStandingClause, DropsClause, HasRoomForPresent, StandingInvariant, IsUsed, SinceWithin}
+use Rattle.sat_hints.specs.inner.ActiveClauses.{active_clause, active_clauses, AddsActiveClause, DropsClause, HasRoomForPresent, ActiveClausesInvariant, IsUsed, SinceWithin}
 use Rattle.sat_hints.specs.inner.Course.{refutation_failure, WhyNoConflict}
 use Rattle.sat_hints.specs.inner.LineChecking.{IsReadyChecker, HasTakenLines, IsSame, MayFollow, WhyNotRefuted, StoresClause, TakesOne}
 use Rattle.sat_hints.specs.declared.answer.HintWhy.{HintWhy}
 use Rattle.sat_hints.specs.declared.answer.HintWhy.TheVariants.{NotUnit, NotFalsified, VarInUse}
 use Rattle.sat_hints.specs.declared.line_checking.LineChecker.{LineChecker}
-use Rattle.sat_hints.specs.declared.standing.Standing.{Standing}
+use Rattle.sat_hints.specs.declared.active_clauses.ActiveClauses.{ActiveClauses}
 use Rattle.sat_hints.proofs.lemmas.Courses.{Says, course_says}
 use Rattle.sat_hints.proofs.lemmas.Finding.{room_still}
 use Rattle.sat_hints.proofs.lemmas.Sound.{still}
 use Rattle.sat_hints.proofs.lemmas.Unused.{unused_assuming}
 
 -- the checker finds the same clauses under ids
-clauses_same : (p : Standing) (lines : List Line) → ((id : ℕ) → standing_clause p id ≡ clause_under id lines) → (ids : List ℕ) → standing_clauses p ids ≡ clauses_under ids lines
+clauses_same : (p : ActiveClauses) (lines : List Line) → ((id : ℕ) → active_clause p id ≡ clause_under id lines) → (ids : List ℕ) → active_clauses p ids ≡ clauses_under ids lines
 clauses_same p lines h [] = refl
-clauses_same p lines h (id ∷ ids) = ap (λ c. and_clauses c (standing_clauses p ids)) (h id) ∙ ap (and_clauses (clause_under id lines)) (clauses_same p lines h ids)
+clauses_same p lines h (id ∷ ids) = ap (λ c. and_clauses c (active_clauses p ids)) (h id) ∙ ap (and_clauses (clause_under id lines)) (clauses_same p lines h ids)
 
 -- a clause under an id is a sorted set
 set_once : (ls c : List ℕ) → Some (canonical ls) ≡ Some c → NoRepeats c
@@ -80,7 +80,7 @@ module _ (lines : List Line) (line : Line) (assumed : List ℕ) (in_order : IsIn
   by_course clauses present t (Some NotFalsified) s = record { in_order = in_order; clauses = clauses; present = present; assumed = assumed; assumes = assumes; consistent = t; fails = s }
   by_course clauses present t (Some e) s = absurd s
 
-  refuted : (p : Standing) (why : Option HintWhy) → ((id : ℕ) → standing_clause p id ≡ clause_under id lines) → WhyNotRefuted p assumed (named_ids line) why → Says_of why lines line
+  refuted : (p : ActiveClauses) (why : Option HintWhy) → ((id : ℕ) → active_clause p id ≡ clause_under id lines) → WhyNotRefuted p assumed (named_ids line) why → Says_of why lines line
   refuted p why same (inl h) = subst (λ w. Says_of w lines line) (sym h.1) (in_order, sym (clauses_same p lines same (named_ids line)) ∙ h.0)
   refuted p why same (inr h) = go h.2
     where
@@ -103,7 +103,7 @@ stored_ready old new id clause w s = record {
 -- a checker is still ready after a call that kept its state
 pub same_ready : (old new : LineChecker) → IsReadyChecker old → IsSame old new → IsReadyChecker new
 same_ready old new r m = record {
-  standing = subst StandingInvariant (sym m.standing) r.standing;
+  standing = subst ActiveClausesInvariant (sym m.standing) r.standing;
   below = subst (λ p. AllBelow p.present.ids.items new.least_id) (sym m.standing) (subst (AllBelow old.standing.present.ids.items) (sym m.least) r.below);
   since = subst (λ p. SinceWithin p new.least_id) (sym m.standing) (subst (SinceWithin old.standing) (sym m.least) r.since);
   nothing = m.nothing;
@@ -121,10 +121,10 @@ pub derived_may : (old : LineChecker) (id : ℕ) (clause ids : List ℕ) → old
 derived_may old id clause ids l r lines t = derived_refuted old id clause ids None l r lines t
 
 -- there is room for the literals of one more clause
-pub room_stored : (old new : Standing) (id : ℕ) (clause xs ys : List ℕ) → AddsStandingClause old new id clause → HasRoomForPresent xs old → RoomStays xs ys → HasClauseRoom ys clause → HasRoomForPresent ys new
+pub room_stored : (old new : ActiveClauses) (id : ℕ) (clause xs ys : List ℕ) → AddsActiveClause old new id clause → HasRoomForPresent xs old → RoomStays xs ys → HasClauseRoom ys clause → HasRoomForPresent ys new
 room_stored old new id clause xs ys a h k m j c e = go (eqb j id) (sym (a.clauses j) ∙ e)
   where
-    go : (b : Bool) → cond b (Some clause) (standing_clause old j) ≡ Some c → HasClauseRoom ys c
+    go : (b : Bool) → cond b (Some clause) (active_clause old j) ≡ Some c → HasClauseRoom ys c
     go true f = let g : clause ≡ c = cc in subst (HasClauseRoom ys) g m
     go false f = room_still old xs ys k h j c f
 
@@ -145,7 +145,7 @@ derived_taken old mid last new id clause ids e y l r m s f n = (
   ap (λ j. j.lines) n ∙ s.lines ∙ m.lines,
   λ lines t. record {
     follows = derived_refuted old id clause ids None l r lines t;
-    clauses = λ j. ap (λ k. standing_clause k.standing j) n ∙ s.adds.clauses j ∙ ap (λ o. cond (eqb j id) (Some (canonical clause)) o) (ap (λ p. standing_clause p j) m.standing ∙ t.clauses j);
+    clauses = λ j. ap (λ k. active_clause k.standing j) n ∙ s.adds.clauses j ∙ ap (λ o. cond (eqb j id) (Some (canonical clause)) o) (ap (λ p. active_clause p j) m.standing ∙ t.clauses j);
     least = ap (λ j. j.least_id) n ∙ s.least;
     says_empty = ap (λ j. j.empty) n ∙ f ∙ ap (λ b. eqb (length clause) 0 || b) (s.empty ∙ m.empty ∙ t.says_empty) ∙ ap (λ b. b || derives_empty lines) (sym (empty_length clause));
     counts_cores = ap (λ j. j.cores) n ∙ s.cores ∙ m.cores ∙ t.counts_cores;
@@ -157,28 +157,28 @@ some_clause : (o : Option (List ℕ)) → o ≢ None → (c : List ℕ) × (o �
 some_clause None h = absurd (h refl)
 some_clause (Some c) h = (c, refl)
 
-gone_follows : (s : Standing) (id : ℕ) (lines : List Line) → ((j : ℕ) → standing_clause s j ≡ clause_under j lines) → standing_clause s id ≢ None → FollowsLines lines (Gone id)
+gone_follows : (s : ActiveClauses) (id : ℕ) (lines : List Line) → ((j : ℕ) → active_clause s j ≡ clause_under j lines) → active_clause s id ≢ None → FollowsLines lines (Gone id)
 gone_follows s id lines same h =
-    let c = some_clause (standing_clause s id) h in
+    let c = some_clause (active_clause s id) h in
     record { in_order = tt; clauses = c.0 ∷ []; present = ap (λ o. and_clauses o (Some [])) (sym (same id) ∙ c.1); conflict = tt; unused = λ u. u }
 
-pub gone_may : (old : LineChecker) (id : ℕ) → standing_clause old.standing id ≢ None → MayFollow old (Gone id)
+pub gone_may : (old : LineChecker) (id : ℕ) → active_clause old.standing id ≢ None → MayFollow old (Gone id)
 gone_may old id h lines t = gone_follows old.standing id lines t.clauses h
 
-room_less : (s p : Standing) (id : ℕ) (room : List ℕ) → ((j : ℕ) → standing_clause p j ≡ cond (eqb j id) None (standing_clause s j)) → HasRoomForPresent room s → HasRoomForPresent room p
+room_less : (s p : ActiveClauses) (id : ℕ) (room : List ℕ) → ((j : ℕ) → active_clause p j ≡ cond (eqb j id) None (active_clause s j)) → HasRoomForPresent room s → HasRoomForPresent room p
 room_less s p id room same h j c e = go (eqb j id) (sym (same j) ∙ e)
   where
-    go : (b : Bool) → cond b None (standing_clause s j) ≡ Some c → HasClauseRoom room c
+    go : (b : Bool) → cond b None (active_clause s j) ≡ Some c → HasClauseRoom room c
     go true f = absurd cc
     go false f = h j c f
 
-pub gone_taken : (old new : LineChecker) (id : ℕ) (p : Standing) → IsReadyChecker old → standing_clause old.standing id ≢ None → DropsClause old.standing p id → new ≡ record old { standing = p } → TakesOne None old new (Gone id)
+pub gone_taken : (old new : LineChecker) (id : ℕ) (p : ActiveClauses) → IsReadyChecker old → active_clause old.standing id ≢ None → DropsClause old.standing p id → new ≡ record old { standing = p } → TakesOne None old new (Gone id)
 gone_taken old new id p r h l n = (
   subst IsReadyChecker (sym n) (record { standing = l.standing; below = l.below old.least_id r.below; since = λ v. subst (λ x. value_at 0 x v ≤ old.least_id) (sym l.since) (r.since v); nothing = r.nothing; room = room_less old.standing p id old.assumed.room l.clauses r.room }),
   ap (λ j. j.lines) n,
   λ lines t. record {
     follows = gone_follows old.standing id lines t.clauses h;
-    clauses = λ j. ap (λ k. standing_clause k.standing j) n ∙ l.clauses j ∙ ap (λ o. cond (eqb j id) None o) (t.clauses j);
+    clauses = λ j. ap (λ k. active_clause k.standing j) n ∙ l.clauses j ∙ ap (λ o. cond (eqb j id) None o) (t.clauses j);
     least = ap (λ j. j.least_id) n ∙ t.least;
     says_empty = ap (λ j. j.empty) n ∙ t.says_empty;
     counts_cores = ap (λ j. j.cores) n ∙ t.counts_cores;
@@ -192,7 +192,7 @@ core_refuted old core ids why r lines t = refuted lines (Core core ids) core tt 
 pub core_faulty : (old new : LineChecker) (core ids : List ℕ) (why : HintWhy) → WhyNotRefuted old.standing (signed false core) ids (Some why) → IsSame old new → TakesOne (Some why) old new (Core core ids)
 core_faulty old new core ids why r s = (s.lines, core_refuted old core ids (Some why) r)
 
-one_more : (n count m : ℕ) → n ≡ held count → m ≡ min (n + 1) (2 ^ 64 - 1) → m ≡ held (1 + count)
+one_more : (n count m : ℕ) → n ≡ capped count → m ≡ min (n + 1) (2 ^ 64 - 1) → m ≡ capped (1 + count)
 one_more n count m e f = omega arith
 
 pub core_taken : (old mid new : LineChecker) (core ids : List ℕ) (n : ℕ) → IsReadyChecker old → WhyNotRefuted old.standing (signed false core) ids None → IsSame old mid → n ≡ min (mid.cores + 1) (2 ^ 64 - 1) → new ≡ record mid { cores = n } → TakesOne None old new (Core core ids)
@@ -201,7 +201,7 @@ core_taken old mid new core ids n r h m f e = (
   ap (λ j. j.lines) e ∙ m.lines,
   λ lines t. record {
     follows = core_refuted old core ids None h lines t;
-    clauses = λ j. ap (λ k. standing_clause k.standing j) e ∙ ap (λ p. standing_clause p j) m.standing ∙ t.clauses j;
+    clauses = λ j. ap (λ k. active_clause k.standing j) e ∙ ap (λ p. active_clause p j) m.standing ∙ t.clauses j;
     least = ap (λ j. j.least_id) e ∙ m.least ∙ t.least;
     says_empty = ap (λ j. j.empty) e ∙ m.empty ∙ t.says_empty;
     counts_cores = ap (λ j. j.cores) e ∙ one_more mid.cores (count_of_cores lines) n (m.cores ∙ t.counts_cores) f;

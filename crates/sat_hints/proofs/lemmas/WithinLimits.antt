@@ -12,7 +12,7 @@ use Rattle.sat_checker.specs.Storing.{clause_with, with_unit}
 use Rattle.sat_checker.specs.Accepts.{stored_after, ready_after}
 use Rattle.sat_checker.specs.announcements.Needed.{true_unit, propagations}
 use Rattle.sat_checker.specs.announcements.Announcements as notices
-use Rattle.sat_checker.specs.announcements.Announcements.{Announcement, is_sample, has_witness_mode, mode_change, renaming, naming, id_of_set, input_set, input, redundant_alone, derived_set, derived, derived_units, redundant_deleted, irredundant_deleted, one, last_id, announced, delayed_by, delayed, Notice, notices_over, notices_after, all_notices_after}
+use Rattle.sat_checker.specs.announcements.Announcements.{Announcement, is_sample, has_witness_mode, mode_change, renaming, naming, id_of_set, input_set, input, redundant_alone, derived_set, derived, derived_units, redundant_deleted, irredundant_deleted, option_to_list, last_id, announced, delayed_by, delayed, Notice, notices_over, notices_after, all_notices_after}
 use Rattle.sat_checker.proofs.lemmas.sets.Members.{canonical_each}
 use Rattle.sat_hints.specs.Lines.{Line, Input, Derived, Gone, Core, Fresh, AreLiteralCodes, AreVariables, AreLines}
 use Rattle.sat_hints.specs.Hints.{and_clauses, clause_under, clauses_under, least_id, IsHintDerivation}
@@ -112,8 +112,8 @@ step_fits (AddClause c) f h = go f.unsat
 step_fits (AtClause r c hs) f h = derived_fit r c hs f h
 step_fits (UnitClauses us) f h = units_fit us f h
 step_fits (DeleteClause c Redundant) f h = redundant_fit (clause_with (canonical c) f.clauses)
-step_fits (DeleteClause c Satisfied) f h = irredundant_fit (one (true_unit (canonical c) f.units)) (clause_with (canonical c) f.clauses)
-step_fits (DeleteClause c Simplified) f h = irredundant_fit (one (last_id f.last)) (clause_with (canonical c) f.clauses)
+step_fits (DeleteClause c Satisfied) f h = irredundant_fit (option_to_list (true_unit (canonical c) f.units)) (clause_with (canonical c) f.clauses)
+step_fits (DeleteClause c Simplified) f h = irredundant_fit (option_to_list (last_id f.last)) (clause_with (canonical c) f.clauses)
 step_fits (Model ls) f h = (tt, tt)
 step_fits (Assumptions ls) f h = (tt, tt)
 step_fits (FailedAssumptions core hs) f h = (set_fits core h, tt)

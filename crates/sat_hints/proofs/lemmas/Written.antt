@@ -23,7 +23,7 @@ use Rattle.sat_hints.specs.Conversion.{hint_text}
 use Rattle.sat_hints.specs.Converts.{GaveAcceptedSteps, IsAccepted}
 use Rattle.sat_hints.specs.declared.line_writer.LineWriter.{LineWriter}
 use Rattle.sat_hints.specs.inner.LineWriting.{outlet}
-use Rattle.sat_hints.specs.inner.LinesWritten.{hint_of, BrokenAfter, SentAll, SentFront, WritesLines}
+use Rattle.sat_hints.specs.inner.LinesWritten.{hint_of, BrokenAfter, SentAll, SentPrefix, WritesLines}
 use Rattle.sat_hints.specs.inner.AnnouncedLines.{PutsAnnouncedLine}
 use Rattle.sat_hints.proofs.lemmas.AreProved.{read_proved}
 use Rattle.sat_hints.proofs.lemmas.Heard.{since_sent, since_broken, front_all, front_reported, front_by, all_by, broken_all, broken_reported}
@@ -50,7 +50,7 @@ module _ {W P T : Type 0} (seen : W → Writer) (Takes : P → Notice → Result
   gave_of : {old new : Checker} {from to : Reader} {passed last : List Step} {rest : List ℕ} → ReadsProofPart old new from to [] passed last rest → AcceptsAll (taken_after passed []) → GaveAcceptedSteps from to passed last rest
   gave_of w a = record { steps = w.steps; unended = w.unended; accepted = a }
 
-  stopped : (new : Checker) (steps : List Step) → FailsBeforeStep Hears [] begun new steps → SentFront (outlet seen begun.own) (outlet seen new.listeners.own) (hint_text steps)
+  stopped : (new : Checker) (steps : List Step) → FailsBeforeStep Hears [] begun new steps → SentPrefix (outlet seen begun.own) (outlet seen new.listeners.own) (hint_text steps)
   stopped new steps s = elim s.heard [
     | inl h ↦ front_reported (outlet seen begun.own) (outlet seen new.listeners.own) steps (since_sent seen Takes Reads _ begun new.listeners well h)
     | inr h ↦ front_all (outlet seen begun.own) (outlet seen new.listeners.own) steps (since_sent seen Takes Reads _ begun new.listeners well h)

@@ -1,6 +1,6 @@
 -- The state of the check after a prefix of a hint text.
 use Rattle.std.specs.Prelude.{ℕ, ◌≡◌, ◌+◌, Option, None, Some, Result, Ok, Err, List, [], ◌∷◌, ◌++◌}
-use Rattle.sat_base.specs.text.Tokenizing.{held}
+use Rattle.sat_base.specs.text.Tokenizing.{capped}
 use Rattle.sat_hints.specs.Lines.{Line, AreLines, text_of, SpellsLine, HasNoEnd}
 use Rattle.sat_hints.specs.Hints.{IsHintDerivation, FollowsLines}
 use Rattle.sat_hints.specs.Checks.{IsAtFault, VerdictHolds}
@@ -41,8 +41,8 @@ pub record HasRead (c : Checking) (text : List ℕ) : Type 0 where
 -- the checker has counted.
 pub record HasFault (c : Checking) (text : List ℕ) (why : HintWhy) : Type 0 where
   pub count : ℕ
-  pub number : c.checker.lines ≡ held count
-  pub bad : (rest : List ℕ) → VerdictHolds (Bad (held (count + 1)) why) (text ++ rest)
+  pub number : c.checker.lines ≡ capped count
+  pub bad : (rest : List ℕ) → VerdictHolds (Bad (capped (count + 1)) why) (text ++ rest)
 
 -- that the text was read without a fault, or its first line at fault was found
 abbrev pub HasReadOrFault : Option HintWhy → Checking → List ℕ → Type 0

@@ -1,23 +1,23 @@
 -- The state of a checker after the lines that it has accepted.
 use Rattle.std.specs.Prelude.{ℕ, ◌≡◌, ◌⊎◌, ◌+◌, Option, None, Some, List, [], ◌∷◌, length}
-use Rattle.sat_base.specs.text.Tokenizing.{held}
+use Rattle.sat_base.specs.text.Tokenizing.{capped}
 use Rattle.sat_checker.specs.LiteralSets.{canonical}
 use Rattle.sat_checker.specs.inner.AssumedRoom.{RoomStays}
 use Rattle.sat_hints.specs.Lines.{Line}
 use Rattle.sat_hints.specs.Hints.{clause_under, least_id, derives_empty, count_of_cores, FollowsLines}
 use Rattle.sat_hints.specs.Checks.{IsFaultOf}
 use Rattle.sat_hints.specs.inner.Clauses.{AllBelow}
-use Rattle.sat_hints.specs.inner.Standing.{standing_clause, standing_clauses, AddsStandingClause, HasRoomForPresent, StandingInvariant, SinceWithin}
+use Rattle.sat_hints.specs.inner.ActiveClauses.{active_clause, active_clauses, AddsActiveClause, HasRoomForPresent, ActiveClausesInvariant, SinceWithin}
 use Rattle.sat_hints.specs.inner.Course.{refutation_failure, WhyNoConflict}
 use Rattle.sat_hints.specs.declared.answer.HintWhy.{HintWhy}
 use Rattle.sat_hints.specs.declared.answer.HintWhy.TheVariants.{UnknownId}
-use Rattle.sat_hints.specs.declared.standing.Standing.{Standing}
+use Rattle.sat_hints.specs.declared.active_clauses.ActiveClauses.{ActiveClauses}
 use Rattle.sat_hints.specs.declared.line_checking.LineChecker.{LineChecker}
 
 -- That the checker can check the next line. Its clauses are in order, with ids below the least id. It assumes no
 -- literals, and has room for those of every present clause.
 pub record IsReadyChecker (j : LineChecker) : Type 0 where
-  pub standing : StandingInvariant j.standing
+  pub standing : ActiveClausesInvariant j.standing
   pub below : AllBelow j.standing.present.ids.items j.least_id
   pub since : SinceWithin j.standing j.least_id
   pub nothing : j.assumed.literals ≡ []
@@ -25,11 +25,11 @@ pub record IsReadyChecker (j : LineChecker) : Type 0 where
 
 -- that the state of the checker is that after these lines: its clauses, its least id, its counts and `empty`
 pub record HasTakenLines (j : LineChecker) (lines : List Line) : Type 0 where
-  pub clauses : (id : ℕ) → standing_clause j.standing id ≡ clause_under id lines
+  pub clauses : (id : ℕ) → active_clause j.standing id ≡ clause_under id lines
   pub least : j.least_id ≡ least_id lines
   pub says_empty : j.empty ≡ derives_empty lines
-  pub counts_cores : j.cores ≡ held (count_of_cores lines)
-  pub counts_lines : j.lines ≡ held (length lines)
+  pub counts_cores : j.cores ≡ capped (count_of_cores lines)
+  pub counts_lines : j.lines ≡ capped (length lines)
 
 -- that the checker is unchanged and assumes no literals, but may have more room for them
 pub record IsSame (old new : LineChecker) : Type 0 where
@@ -43,9 +43,9 @@ pub record IsSame (old new : LineChecker) : Type 0 where
 
 -- that `why` is the reason why the assumed literals and the clauses under these ids do not conflict, or `None` if they
 -- do
-abbrev pub WhyNotRefuted : Standing → List ℕ → List ℕ → Option HintWhy → Type 0
+abbrev pub WhyNotRefuted : ActiveClauses → List ℕ → List ℕ → Option HintWhy → Type 0
 WhyNotRefuted s assumed ids why =
-    ((standing_clauses s ids ≡ None) × (why ≡ Some UnknownId)) ⊎ ((clauses : List (List ℕ)) × (standing_clauses s ids ≡ Some clauses) × WhyNoConflict assumed clauses why)
+    ((active_clauses s ids ≡ None) × (why ≡ Some UnknownId)) ⊎ ((clauses : List (List ℕ)) × (active_clauses s ids ≡ Some clauses) × WhyNoConflict assumed clauses why)
 
 -- why the clauses, if all are present, do not lead to a conflict under the assumed literals; `UnknownId` if not all are
 abbrev pub refutation_failure_of : List ℕ → Option (List (List ℕ)) → Option HintWhy
@@ -54,7 +54,7 @@ refutation_failure_of assumed (Some clauses) = refutation_failure assumed clause
 
 -- that the clause was stored under the id, as a sorted set, and the counts are unchanged
 pub record StoresClause (old new : LineChecker) (id : ℕ) (clause : List ℕ) : Type 0 where
-  pub adds : AddsStandingClause old.standing new.standing id (canonical clause)
+  pub adds : AddsActiveClause old.standing new.standing id (canonical clause)
   pub nothing : new.assumed.literals ≡ []
   pub room : HasRoomForPresent new.assumed.room new.standing
   pub least : new.least_id ≡ id + 1
@@ -69,10 +69,10 @@ MayFollow old line = (lines : List Line) → HasTakenLines old lines → Follows
 -- that the checker has accepted the line after these lines, but has not counted it yet
 pub record HasTakenOne (old new : LineChecker) (lines : List Line) (line : Line) : Type 0 where
   pub follows : FollowsLines lines line
-  pub clauses : (id : ℕ) → standing_clause new.standing id ≡ clause_under id (line ∷ lines)
+  pub clauses : (id : ℕ) → active_clause new.standing id ≡ clause_under id (line ∷ lines)
   pub least : new.least_id ≡ least_id (line ∷ lines)
   pub says_empty : new.empty ≡ derives_empty (line ∷ lines)
-  pub counts_cores : new.cores ≡ held (count_of_cores (line ∷ lines))
+  pub counts_cores : new.cores ≡ capped (count_of_cores (line ∷ lines))
 
 -- that the checker has accepted the line, but has not counted it yet, or the line is at fault for this reason
 abbrev pub TakesOne : Option HintWhy → LineChecker → LineChecker → Line → Type 0

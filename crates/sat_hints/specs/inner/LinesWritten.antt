@@ -2,7 +2,7 @@
 use Rattle.std.specs.Prelude.{ℕ, ◌≡◌, ◌⊎◌, false, List, [], ◌∷◌, ◌++◌, Result, Ok, Err}
 use Rattle.sat_base.specs.device.Device.{Reader, ReadFails}
 use Rattle.sat_base.specs.device.Sink.{AddsToSink, SinkFails}
-use Rattle.sat_base.specs.steps.Formats.{IsProperFront}
+use Rattle.sat_base.specs.steps.Formats.{IsProperPrefix}
 use Rattle.sat_base.specs.steps.Steps.{Step, End}
 use Rattle.sat_base.specs.steps.StepText.{SpellsStep}
 use Rattle.sat_checker.specs.Accepts.{Accepts, ready_after}
@@ -33,7 +33,7 @@ pub record SentAll (old new : Outlet) (text : List ℕ) : Type 0 where
   pub sent : AddsToSink old.sink new.sink text
 
 -- that a prefix of the text was appended to the pending bytes, and no write failed
-pub record SentFront (old new : Outlet) (text : List ℕ) : Type 0 where
+pub record SentPrefix (old new : Outlet) (text : List ℕ) : Type 0 where
   pub front : List ℕ
   pub following : List ℕ
   pub whole : text ≡ front ++ following
@@ -50,10 +50,10 @@ WritesLines (Ok x) from to old new = (passed : List Step) × (rest : List ℕ) �
     × SentAll old new (hint_text (End ∷ taken_after passed []))
 WritesLines (Err HasDeleteVar) from to old new = ⊥
 WritesLines (Err (Refused e)) from to old new = (passed : List Step) × NoReadFailed from to × RefusesBy e from to passed
-    × SentFront old new (hint_text (taken_after passed []))
-WritesLines (Err Read) from to old new = (passed : List Step) × (rest : List ℕ) × ReadFails from to × GaveAcceptedSteps from to passed [] rest × IsProperFront SpellsStep rest
-    × SentFront old new (hint_text (taken_after passed []))
+    × SentPrefix old new (hint_text (taken_after passed []))
+WritesLines (Err Read) from to old new = (passed : List Step) × (rest : List ℕ) × ReadFails from to × GaveAcceptedSteps from to passed [] rest × IsProperPrefix SpellsStep rest
+    × SentPrefix old new (hint_text (taken_after passed []))
 WritesLines (Err Write) from to old new = (passed : List Step) × (step : Step) × (rest : List ℕ) × NoReadFailed from to × GaveAcceptedSteps from to passed (step ∷ []) rest
     × BrokenAfter old new step (taken_after passed [])
 WritesLines (Err OutOfMemory) from to old new = (passed : List Step) × (rest : List ℕ) × NoReadFailed from to × FoundNoEnd from to × GaveUpTo from to passed rest
-    × SentFront old new (hint_text (taken_after passed []))
+    × SentPrefix old new (hint_text (taken_after passed []))

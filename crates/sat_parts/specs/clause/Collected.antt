@@ -6,7 +6,7 @@ use Rattle.sat_store.specs.clause.Buffer.{HoldsClauses, AppendsClause, header_at
 use Rattle.sat_parts.specs.declared.prop.graph.ImplNode.{ImplNode}
 use Rattle.sat_parts.specs.declared.prop.graph.Reason.{Reason}
 use Rattle.sat_parts.specs.declared.prop.graph.Reason.TheVariants.{Unit as NoCause, Binary, Long}
-use Rattle.sat_parts.specs.clause.Db.{Db, DbMatchesBuffer, live_refs, AreRising}
+use Rattle.sat_parts.specs.clause.Db.{Db, DbMatchesBuffer, live_refs, AreStrictlyIncreasing}
 use Rattle.sat_parts.specs.clause.Stored.{lit_of}
 use Rattle.sat_parts.specs.prop.Graphs.{node_of}
 use Rattle.sat_parts.specs.prop.WatchLists.{Watching}
@@ -25,7 +25,7 @@ words_of words refs = sum_by (λ o. length (lits_at words o) + 3) refs
 pub record CopyInvariant (words refs words' refs' : List ℕ) (i : ℕ) : Type 0 where
   pub copies : Copies words (live_refs words (take i refs)) words' refs'
   pub holds_clauses : HoldsClauses words' refs'
-  pub rising : AreRising refs'
+  pub rising : AreStrictlyIncreasing refs'
   pub low : (k : ℕ) → k < length refs' → get_or refs' k 0 ≤ get_or (live_refs words (take i refs)) k 0
   pub room : (p : ℕ) → Contains (drop i refs) p → length words' ≤ p
   pub packed : length words' ≡ words_of words' refs'

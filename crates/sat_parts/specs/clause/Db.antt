@@ -30,8 +30,8 @@ abbrev pub live_refs : List ℕ → List ℕ → List ℕ
 live_refs words refs = filter (is_live words) refs
 
 -- whether the clause at o is live and in this tier
-abbrev pub is_live_of : List ℕ → Tier → ℕ → Bool
-is_live_of words tier o = is_live words o && (index_of (header_at words o).tier == index_of tier)
+abbrev pub is_live_in_tier : List ℕ → Tier → ℕ → Bool
+is_live_in_tier words tier o = is_live words o && (index_of (header_at words o).tier == index_of tier)
 
 -- there is a clause at every one of these offsets
 abbrev pub AreClausePlaces : List ℕ → List ℕ → Type 0
@@ -42,17 +42,17 @@ abbrev pub garbage_of : List ℕ → ℕ → ℕ
 garbage_of words o = if is_live words o then 0 else length (lits_at words o) + 3
 
 -- every number is greater than those before it
-abbrev pub AreRising : List ℕ → Type 0
-AreRising xs = (j k : ℕ) → j < k → k < length xs → get_or xs j 0 < get_or xs k 0
+abbrev pub AreStrictlyIncreasing : List ℕ → Type 0
+AreStrictlyIncreasing xs = (j k : ℕ) → j < k → k < length xs → get_or xs j 0 < get_or xs k 0
 
 -- The list has the clauses of the buffer. Every clause has three or more literals, no two clauses share words, and
 -- offsets increase. `counts` are the numbers of live clauses by tier. `garbage` is the number of words of deleted
 -- clauses (it saturates at 2^64 - 1).
 pub record DbMatchesBuffer (words : List ℕ) (db : Db) : Type 0 where
   pub holds_clauses : HoldsClauses words db.refs
-  pub rising : AreRising db.refs
+  pub rising : AreStrictlyIncreasing db.refs
   pub tiers : length db.counts ≡ 4
-  pub counts : (tier : Tier) → get_or db.counts (index_of tier) 0 ≡ count_by (is_live_of words tier) db.refs
+  pub counts : (tier : Tier) → get_or db.counts (index_of tier) 0 ≡ count_by (is_live_in_tier words tier) db.refs
   pub garbage : db.garbage ≡ min (sum_by (garbage_of words) db.refs) (2 ^ 64 - 1)
   pub few : length db.refs < 2 ^ 64
   pub long : (o : ℕ) → Contains db.refs o → 3 ≤ length (lits_at words o)

@@ -11,8 +11,8 @@ abbrev pub levels_of : List ImplNode → List ℕ → List ℕ
 levels_of nodes ls = map (λ l. (node_of nodes (variable l)).level) ls
 
 -- the number of different numbers in a list
-abbrev pub different : List ℕ → ℕ
-different xs = distinct_count nat_eq xs
+abbrev pub count_distinct : List ℕ → ℕ
+count_distinct xs = distinct_count nat_eq xs
 
 -- the variables of the literals are less than this number
 abbrev pub VariablesBelow : List ℕ → ℕ → Type 0

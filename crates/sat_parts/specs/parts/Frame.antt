@@ -6,144 +6,144 @@
 --   restart, full_restart: SameClauses, AddsNoUnit
 --   learn: AddsLearnedClause, EnqueuesFirst
 --   clear_units: SameClauses, TakesOffUnits
---   put_back: SameClauses, AddsNoUnit
---   grow: AddsVars
---   use_variable, reset_activity: SameContents
+--   resurrect_unit: SameClauses, AddsNoUnit
+--   set_var_count: AddsVars
+--   make_available, reset_activity: SameContents
 --   use_with_unit: SameClauses, GainsUnit
 --   load_unit: SameClauses, GainsUnit
 --   load_binary, load_long: AddsOriginalClause
 --   load: LoadEffect (Loading), which selects one of these by the result
 --   drop_clause: DropsLongClause if it deletes, otherwise nothing changes; delete_long: DropsLongClause
---   put_header, set_tier, reduce_middle, bump_clause, decay_clauses: ChangesHeaders
+--   put_header, set_tier, reduce_middle, bump_activity, decay_clauses: ChangesHeaders
 --   bump_variable, decay_variables: SameContents
 --   swap_unwatched: SwapsLits; shorten: ShortensLongClause; remove_binary: RemovesBinaries; collect: MovesLongClauses
 -- FreesVar describes how the solver frees a variable. At level 0, KeepsTo 0 follows from AddsNoUnit, which in turn
--- follows from SameState or SameSearch (carries_same).
+-- follows from SameState or SameExceptLongClauses (carries_same).
 use Rattle.std.specs.Prelude.{ℕ, ◌≡◌, ◌≢◌, ◌+◌, ◌*◌, ◌<◌, ◌≤◌, ◌⊎◌, true, false, None, List, length, slice_index_or as get_or}
 use Rattle.std.specs.List.{Contains}
 use Rattle.sat_base.specs.values.Literals.{variable}
 use Rattle.sat_store.specs.clause.Buffer.{header_at, lits_at, swapped}
 use Rattle.sat_store.specs.clause.Header.{Header, no_header, is_learned}
-use Rattle.sat_store.specs.heap.Vsids.{may_pick, with_available}
+use Rattle.sat_store.specs.heap.Vsids.{is_available, with_available}
 use Rattle.sat_parts.specs.declared.prop.graph.Reason.{Reason}
 use Rattle.sat_parts.specs.clause.Collected.{Copies}
 use Rattle.sat_parts.specs.clause.Db.{live_refs, AddsLongClause, DeletesClause, ShortensClause}
 use Rattle.sat_parts.specs.clause.Orders.{SameUpToOrder}
-use Rattle.sat_parts.specs.prop.Graphs.{is_unit_reason}
+use Rattle.sat_parts.specs.prop.Graphs.{has_no_clause}
 use Rattle.sat_parts.specs.prop.Binaries.{with_binary, with_binary_lists, RemovesAssigned}
-use Rattle.sat_parts.specs.prop.Values.{IsTrueLit, value_of, assigned}
-use Rattle.sat_parts.specs.prop.State.{State, node, level, lit_at, IsRemoved, enqueued}
-use Rattle.sat_parts.specs.declared.parts.Parts.{Parts}
+use Rattle.sat_parts.specs.prop.Values.{IsTrueLit, value_of, with_value}
+use Rattle.sat_parts.specs.prop.State.{PropagationState, node, level, lit_at, IsRemoved, enqueued}
+use Rattle.sat_parts.specs.declared.parts.SearchState.{SearchState}
 use Rattle.sat_parts.specs.parts.Whole.{state}
 use Rattle.sat_parts.specs.prop.Trails.{with_lit}
 
 -- the literal is on the trail at level 0 and has no clause as its reason
-pub record IsBare (s : State) (l : ℕ) : Type 0 where
+pub record IsBare (s : PropagationState) (l : ℕ) : Type 0 where
   pub place : ℕ
   pub within : place < length s.trail.lits
   pub there : lit_at s place ≡ l
   pub bottom : level s l ≡ 0
-  pub none : is_unit_reason (node s l).reason ≡ true
+  pub none : has_no_clause (node s l).reason ≡ true
 
 -- the literal is a unit: it is at level 0 and has no clause as its reason, or it was taken off the trail
-abbrev pub IsUnitLit : State → ℕ → Type 0
+abbrev pub IsUnitLit : PropagationState → ℕ → Type 0
 IsUnitLit s l = IsRemoved s l ⊎ IsBare s l
 
 -- no unit is new, and literals of level 0 stay true at level 0
-pub record AddsNoUnit (s s' : State) : Type 0 where
+pub record AddsNoUnit (s s' : PropagationState) : Type 0 where
   pub size : length s'.values ≡ length s.values
   pub units : (l : ℕ) → IsUnitLit s' l → IsUnitLit s l
   pub bottom : (l : ℕ) → IsTrueLit s.values l → level s l ≡ 0 → IsTrueLit s'.values l × (level s' l ≡ 0)
 
 -- units were taken off the trail: every unit was a literal of level 0 before, and literals of level 0 stay true at
 -- level 0
-pub record TakesOffUnits (s s' : State) : Type 0 where
+pub record TakesOffUnits (s s' : PropagationState) : Type 0 where
   pub size : length s'.values ≡ length s.values
   pub units : (l : ℕ) → IsUnitLit s' l → IsTrueLit s.values l × (level s l ≡ 0)
   pub bottom : (l : ℕ) → IsTrueLit s.values l → level s l ≡ 0 → IsTrueLit s'.values l × (level s' l ≡ 0)
 
 -- the clauses are unchanged
-abbrev pub SameClauses : Parts → Parts → Type 0
+abbrev pub SameClauses : SearchState → SearchState → Type 0
 SameClauses p p' = (p'.clauses ≡ p.clauses) × (p'.db ≡ p.db) × (p'.binary ≡ p.binary)
 
 -- the clauses are unchanged except possibly for the order of their literals
-pub record ReordersLits (p p' : Parts) : Type 0 where
+pub record ReordersLits (p p' : SearchState) : Type 0 where
   pub live : live_refs p'.clauses p'.db.refs ≡ live_refs p.clauses p.db.refs
   pub kept : SameUpToOrder p.clauses p'.clauses (live_refs p.clauses p.db.refs)
   pub binary : p'.binary ≡ p.binary
 
 -- a clause was learned, as a unit, a binary clause or a long one, and its first literal was enqueued
-pub data AddsLearnedClause (p p' : Parts) (header : Header) (ls : List ℕ) : Type 0 where
-  learnt_unit : length ls ≡ 1 → SameClauses p p' → (r : Reason) → is_unit_reason r ≡ true → state p' ≡ enqueued (get_or ls 0 0) r (state p) → AddsLearnedClause p p' header ls
+pub data AddsLearnedClause (p p' : SearchState) (header : Header) (ls : List ℕ) : Type 0 where
+  learnt_unit : length ls ≡ 1 → SameClauses p p' → (r : Reason) → has_no_clause r ≡ true → state p' ≡ enqueued (get_or ls 0 0) r (state p) → AddsLearnedClause p p' header ls
   learnt_binary : length ls ≡ 2 → p'.clauses ≡ p.clauses → p'.db ≡ p.db → p'.binary ≡ with_binary (get_or ls 0 0) (get_or ls 1 0) p.binary →
-      (r : Reason) → is_unit_reason r ≡ false → state p' ≡ enqueued (get_or ls 0 0) r (state p) → AddsLearnedClause p p' header ls
+      (r : Reason) → has_no_clause r ≡ false → state p' ≡ enqueued (get_or ls 0 0) r (state p) → AddsLearnedClause p p' header ls
   learnt_long : 3 ≤ length ls → (o : ℕ) → AddsLongClause p.clauses p.db p'.clauses p'.db o header ls → p'.binary ≡ p.binary →
-      (r : Reason) → is_unit_reason r ≡ false → state p' ≡ enqueued (get_or ls 0 0) r (state p) → AddsLearnedClause p p' header ls
+      (r : Reason) → has_no_clause r ≡ false → state p' ≡ enqueued (get_or ls 0 0) r (state p) → AddsLearnedClause p p' header ls
 
 -- literals that are true at level `top` or lower stay true at their levels, and these levels begin with the same
 -- literals
-pub record KeepsTo (top : ℕ) (s s' : State) : Type 0 where
+pub record KeepsTo (top : ℕ) (s s' : PropagationState) : Type 0 where
   pub low : (l : ℕ) → IsTrueLit s.values l → level s l ≤ top → IsTrueLit s'.values l × (level s' l ≡ level s l)
   pub begun : (j : ℕ) → j < top → j < length s.trail.starts → (j < length s'.trail.starts) × (lit_at s' (get_or s'.trail.starts j 0) ≡ lit_at s (get_or s.trail.starts j 0))
 
 -- values, reasons and trail are unchanged
-abbrev pub SameState : Parts → Parts → Type 0
+abbrev pub SameState : SearchState → SearchState → Type 0
 SameState p p' = (p'.assignment ≡ p.assignment) × (p'.graph ≡ p.graph) × (p'.trail ≡ p.trail)
 
 -- clauses, values, reasons and trail are unchanged
-abbrev pub SameContents : Parts → Parts → Type 0
+abbrev pub SameContents : SearchState → SearchState → Type 0
 SameContents p p' = SameClauses p p' × SameState p p'
 
 -- the trail and the queue of variables are unchanged
-abbrev pub SameQueues : Parts → Parts → Type 0
+abbrev pub SameQueues : SearchState → SearchState → Type 0
 SameQueues p p' = (p'.vsids ≡ p.vsids) × (p'.trail ≡ p.trail)
 
 -- the clauses are unchanged, no unit is new, and literals of level 0 stay true at level 0
-abbrev pub AddsNothing : Parts → Parts → Type 0
+abbrev pub AddsNothing : SearchState → SearchState → Type 0
 AddsNothing p p' = SameClauses p p' × AddsNoUnit (state p) (state p')
 
 -- true literals stay true at their levels, and the levels before begin with the same literals
-abbrev pub KeepsLevels : Parts → Parts → Type 0
+abbrev pub KeepsLevels : SearchState → SearchState → Type 0
 KeepsLevels p p' = (top : ℕ) → KeepsTo top (state p) (state p')
 
 -- there is one more level
-abbrev pub OpensLevel : Parts → Parts → Type 0
+abbrev pub OpensLevel : SearchState → SearchState → Type 0
 OpensLevel p p' = length p'.trail.starts ≡ length p.trail.starts + 1
 
 -- the first of these literals was appended to the trail
-abbrev pub EnqueuesFirst : List ℕ → Parts → Parts → Type 0
+abbrev pub EnqueuesFirst : List ℕ → SearchState → SearchState → Type 0
 EnqueuesFirst ls p p' = p'.trail ≡ with_lit (get_or ls 0 0) p.trail
 
 -- everything is unchanged except long clauses and watch lists
-abbrev pub SameSearch : Parts → Parts → Type 0
-SameSearch p p' = SameState p p' × (p'.binary ≡ p.binary) × (p'.vsids ≡ p.vsids)
+abbrev pub SameExceptLongClauses : SearchState → SearchState → Type 0
+SameExceptLongClauses p p' = SameState p p' × (p'.binary ≡ p.binary) × (p'.vsids ≡ p.vsids)
 
 -- only headers of long clauses changed, and every clause stays original or learned
-pub record ChangesHeaders (p p' : Parts) : Type 0 where
+pub record ChangesHeaders (p p' : SearchState) : Type 0 where
   pub live : live_refs p'.clauses p'.db.refs ≡ live_refs p.clauses p.db.refs
   pub lits : (o : ℕ) → Contains (live_refs p.clauses p.db.refs) o → lits_at p'.clauses o ≡ lits_at p.clauses o
   pub sides : (o : ℕ) → Contains (live_refs p.clauses p.db.refs) o → is_learned (header_at p'.clauses o).tier ≡ is_learned (header_at p.clauses o).tier
-  pub same : SameSearch p p'
+  pub same : SameExceptLongClauses p p'
 
 -- a long clause was deleted
-pub record DropsLongClause (p p' : Parts) (o : ℕ) : Type 0 where
+pub record DropsLongClause (p p' : SearchState) (o : ℕ) : Type 0 where
   pub deletes : DeletesClause p.clauses p.db p'.clauses p'.db o
-  pub same : SameSearch p p'
+  pub same : SameExceptLongClauses p p'
 
 -- a long clause lost its literals from position `len` on
-pub record ShortensLongClause (p p' : Parts) (o len : ℕ) : Type 0 where
+pub record ShortensLongClause (p p' : SearchState) (o len : ℕ) : Type 0 where
   pub shortens : ShortensClause p.clauses p.db p'.clauses o len
   pub db : p'.db ≡ p.db
-  pub same : SameSearch p p'
+  pub same : SameExceptLongClauses p p'
 
 -- two literals of a long clause were swapped
-pub record SwapsLits (p p' : Parts) (o i j : ℕ) : Type 0 where
+pub record SwapsLits (p p' : SearchState) (o i j : ℕ) : Type 0 where
   pub lits : lits_at p'.clauses o ≡ swapped (lits_at p.clauses o) i j
   pub moved : ReordersLits p p'
-  pub same : SameSearch p p'
+  pub same : SameExceptLongClauses p p'
 
 -- the live long clauses have new references, in order, with the same headers and literals
-pub record MovesLongClauses (p p' : Parts) : Type 0 where
+pub record MovesLongClauses (p p' : SearchState) : Type 0 where
   pub copies : Copies p.clauses (live_refs p.clauses p.db.refs) p'.clauses (live_refs p'.clauses p'.db.refs)
   pub binary : p'.binary ≡ p.binary
   pub values : p'.assignment ≡ p.assignment
@@ -153,7 +153,7 @@ pub record MovesLongClauses (p p' : Parts) : Type 0 where
   pub keeps : KeepsLevels p p'
 
 -- the binary clauses with an assigned variable were removed
-pub record RemovesBinaries (p p' : Parts) : Type 0 where
+pub record RemovesBinaries (p p' : SearchState) : Type 0 where
   pub removes : RemovesAssigned p.assignment.current p.binary p'.binary
   pub clauses : p'.clauses ≡ p.clauses
   pub db : p'.db ≡ p.db
@@ -162,10 +162,10 @@ pub record RemovesBinaries (p p' : Parts) : Type 0 where
 
 -- there are now `count` variables; new variables are unassigned, may not be picked, and are in no clause; the levels
 -- are unchanged
-pub record AddsVars (p p' : Parts) (count : ℕ) : Type 0 where
+pub record AddsVars (p p' : SearchState) (count : ℕ) : Type 0 where
   pub size : length p'.assignment.current ≡ count
   pub values : (v : ℕ) → value_of p'.assignment.current v ≡ value_of p.assignment.current v
-  pub picks : (v : ℕ) → may_pick p'.vsids v ≡ may_pick p.vsids v
+  pub picks : (v : ℕ) → is_available p'.vsids v ≡ is_available p.vsids v
   pub clauses : p'.clauses ≡ p.clauses
   pub db : p'.db ≡ p.db
   pub binary : p'.binary ≡ with_binary_lists (2 * count) p.binary
@@ -174,9 +174,9 @@ pub record AddsVars (p p' : Parts) (count : ℕ) : Type 0 where
   pub keeps : KeepsLevels p p'
 
 -- a variable lost its value, and may not be picked
-pub record FreesVar (p p' : Parts) (v : ℕ) : Type 0 where
+pub record FreesVar (p p' : SearchState) (v : ℕ) : Type 0 where
   pub clauses : SameClauses p p'
-  pub values : p'.assignment ≡ assigned v None p.assignment
+  pub values : p'.assignment ≡ with_value v None p.assignment
   pub graph : p'.graph ≡ p.graph
   pub trail : p'.trail ≡ p.trail
   pub queue : p'.vsids ≡ with_available v false p.vsids
@@ -184,13 +184,13 @@ pub record FreesVar (p p' : Parts) (v : ℕ) : Type 0 where
   pub bottom : (l : ℕ) → variable l ≢ v → IsTrueLit p.assignment.current l → level (state p) l ≡ 0 → IsTrueLit p'.assignment.current l × (level (state p') l ≡ 0)
 
 -- a literal became true at level 0; no other unit is new, and literals of level 0 stay true at level 0
-pub record GainsUnit (l : ℕ) (s s' : State) : Type 0 where
+pub record GainsUnit (l : ℕ) (s s' : PropagationState) : Type 0 where
   pub size : length s'.values ≡ length s.values
   pub units : (m : ℕ) → IsUnitLit s' m → IsUnitLit s m ⊎ (m ≡ l)
   pub bottom : (m : ℕ) → IsTrueLit s.values m → level s m ≡ 0 → IsTrueLit s'.values m × (level s' m ≡ 0)
   pub holds : IsTrueLit s'.values l × (level s' l ≡ 0)
 
 -- an irredundant clause was stored, as a binary or a long one, and no unit is new
-pub data AddsOriginalClause (p p' : Parts) (ls : List ℕ) : Type 0 where
+pub data AddsOriginalClause (p p' : SearchState) (ls : List ℕ) : Type 0 where
   stores_binary : length ls ≡ 2 → p'.clauses ≡ p.clauses → p'.db ≡ p.db → p'.binary ≡ with_binary (get_or ls 0 0) (get_or ls 1 0) p.binary → AddsNoUnit (state p) (state p') → AddsOriginalClause p p' ls
   stores_long : 3 ≤ length ls → (o : ℕ) → AddsLongClause p.clauses p.db p'.clauses p'.db o no_header ls → p'.binary ≡ p.binary → AddsNoUnit (state p) (state p') → AddsOriginalClause p p' ls

@@ -1,7 +1,7 @@
 -- A full clause buffer.
 use Rattle.std.specs.Prelude.{◌-◌, ◌<◌, ◌^◌, length}
-use Rattle.sat_parts.specs.declared.parts.Parts.{Parts}
+use Rattle.sat_parts.specs.declared.parts.SearchState.{SearchState}
 
 -- the buffer has more than 2^32 - 1 words, so that no reference can name the next offset
-abbrev pub IsFull : Parts → Type 0
+abbrev pub IsFull : SearchState → Type 0
 IsFull p = 2 ^ 32 - 1 < length p.clauses

@@ -1,15 +1,15 @@
 -- A clause learned from a conflict, before and after backtracking.
 use Rattle.std.specs.Prelude.{ℕ, ◌≡◌, ◌^◌, ◌<◌, ◌≤◌, true, List, [], length, slice_index_or as get_or}
 use Rattle.sat_base.specs.values.Literals.{variable}
-use Rattle.sat_store.specs.heap.Vsids.{Queue, may_pick}
+use Rattle.sat_store.specs.heap.Vsids.{Queue, is_available}
 use Rattle.sat_parts.specs.clause.Orders.{AreDistinct}
-use Rattle.sat_parts.specs.prop.Values.{IsFalseLit, IsOpenLit}
-use Rattle.sat_parts.specs.prop.State.{State, level, current_level}
+use Rattle.sat_parts.specs.prop.Values.{IsFalseLit, IsUnassignedLit}
+use Rattle.sat_parts.specs.prop.State.{PropagationState, level, current_level}
 use Rattle.sat_parts.specs.prop.Ready.{AreAllFalse}
 
 -- The result of conflict analysis. All literals are false and above level 0. Only the first is at the current level.
 -- The second is at level `to`, the highest level of the others, to which the search backtracks.
-pub record IsAnalyzedClause (s : State) (ls : List ℕ) (to : ℕ) : Type 0 where
+pub record IsAnalyzedClause (s : PropagationState) (ls : List ℕ) (to : ℕ) : Type 0 where
   pub some : 1 ≤ length ls
   pub fits : length ls < 2 ^ 32
   pub distinct : AreDistinct ls
@@ -23,13 +23,13 @@ pub record IsAnalyzedClause (s : State) (ls : List ℕ) (to : ℕ) : Type 0 wher
 
 -- The learned clause after backtracking. The first literal is unassigned, and its variable may be picked. The others
 -- are false, and the second is at the current level.
-pub record IsPending (s : State) (q : Queue) (ls : List ℕ) : Type 0 where
+pub record IsUnitAfterBacktracking (s : PropagationState) (q : Queue) (ls : List ℕ) : Type 0 where
   pub some : 1 ≤ length ls
   pub fits : length ls < 2 ^ 32
   pub distinct : AreDistinct ls
   pub there : variable (get_or ls 0 0) < length s.values
-  pub open_first : IsOpenLit s.values (get_or ls 0 0)
-  pub ready : may_pick q (variable (get_or ls 0 0)) ≡ true
+  pub open_first : IsUnassignedLit s.values (get_or ls 0 0)
+  pub ready : is_available q (variable (get_or ls 0 0)) ≡ true
   pub rest : (k : ℕ) → 1 ≤ k → k < length ls → IsFalseLit s.values (get_or ls k 0)
   pub second : 1 < length ls → level s (get_or ls 1 0) ≡ current_level s
   pub above : 1 < length ls → 0 < current_level s

@@ -1,18 +1,18 @@
 -- A clause that may be loaded at level 0.
 use Rattle.std.specs.Prelude.{ℕ, ◌≡◌, ◌≤◌, ◌*◌, ◌<◌, Bool, true, false, Option, Some, None, List, [], ◌∷◌, ◌++◌, length, slice_index_or as get_or}
 use Rattle.sat_base.specs.values.Literals.{variable, negated, is_positive}
-use Rattle.sat_store.specs.heap.Vsids.{Queue, may_pick}
+use Rattle.sat_store.specs.heap.Vsids.{Queue, is_available}
 use Rattle.sat_parts.specs.clause.Orders.{AreDistinct}
-use Rattle.sat_parts.specs.prop.Values.{value_of, seen_from, IsTrueLit, IsFalseLit, IsOpenLit}
-use Rattle.sat_parts.specs.prop.State.{State, HasLeftQueue}
+use Rattle.sat_parts.specs.prop.Values.{value_of, seen_from, IsTrueLit, IsFalseLit, IsUnassignedLit}
+use Rattle.sat_parts.specs.prop.State.{PropagationState, HasLeftQueue}
 
 -- The literals are different and have known variables. The first two are unassigned, true, or false by literals that
 -- are still in the queue. Unassigned variables may be picked.
-pub record IsLoadable (s : State) (q : Queue) (ls : List ℕ) : Type 0 where
+pub record IsLoadable (s : PropagationState) (q : Queue) (ls : List ℕ) : Type 0 where
   pub distinct : AreDistinct ls
   pub below : (k : ℕ) → k < length ls → get_or ls k 0 < 2 * length s.values
   pub fresh : (i : ℕ) → i < 2 → HasLeftQueue s (negated (get_or ls i 0)) → ⊥
-  pub ready : (k : ℕ) → k < length ls → value_of s.values (variable (get_or ls k 0)) ≡ None → may_pick q (variable (get_or ls k 0)) ≡ true
+  pub ready : (k : ℕ) → k < length ls → value_of s.values (variable (get_or ls k 0)) ≡ None → is_available q (variable (get_or ls k 0)) ≡ true
 
 -- the value of a literal, or `None` if it is unassigned
 abbrev pub lit_value : List (Option Bool) → ℕ → Option Bool
@@ -29,30 +29,30 @@ abbrev pub without_false : List (Option Bool) → List ℕ → List ℕ
 without_false values [] = []
 without_false values (l ∷ ls) = kept_by (lit_value values l) l ls (without_false values ls)
 
--- the result of `false_front` for l followed by further literals, given the value of l and the result for those
+-- the result of `false_prefix` for l followed by further literals, given the value of l and the result for those
 abbrev pub false_by : Option Bool → (l : ℕ) → (rest : List ℕ) → List ℕ
 false_by (Some true) l rest = []
 false_by (Some false) l rest = l ∷ rest
 false_by None l rest = rest
 
 -- the false literals of a clause before its first true literal
-abbrev pub false_front : List (Option Bool) → List ℕ → List ℕ
-false_front values [] = []
-false_front values (l ∷ ls) = false_by (lit_value values l) l (false_front values ls)
+abbrev pub false_prefix : List (Option Bool) → List ℕ → List ℕ
+false_prefix values [] = []
+false_prefix values (l ∷ ls) = false_by (lit_value values l) l (false_prefix values ls)
 
 -- the order in which a clause is stored: the false literals before the first true literal move to the end
 abbrev pub false_last : List (Option Bool) → List ℕ → List ℕ
-false_last values ls = without_false values ls ++ false_front values ls
+false_last values ls = without_false values ls ++ false_prefix values ls
 
 -- `without_false` for the rest of a clause; the flag says whether a true literal was found before
 abbrev pub left_without : Bool → List (Option Bool) → List ℕ → List ℕ
 left_without true values ls = ls
 left_without false values ls = without_false values ls
 
--- `false_front` for the rest of a clause; the flag says whether a true literal was found before
+-- `false_prefix` for the rest of a clause; the flag says whether a true literal was found before
 abbrev pub left_false : Bool → List (Option Bool) → List ℕ → List ℕ
 left_false true values ls = []
-left_false false values ls = false_front values ls
+left_false false values ls = false_prefix values ls
 
 -- the flag says whether one of these literals is true
 abbrev pub IsFoundIn : Bool → List (Option Bool) → List ℕ → Type 0
@@ -67,11 +67,11 @@ IsFoundNext false false values l = IsTrueLit values l → ⊥
 
 -- The literals are different and have known variables. The first `kept` are unassigned and may be picked. The others
 -- are false by literals that are still in the queue.
-pub record IsSorted (s : State) (q : Queue) (ls : List ℕ) (kept : ℕ) : Type 0 where
+pub record IsSorted (s : PropagationState) (q : Queue) (ls : List ℕ) (kept : ℕ) : Type 0 where
   pub distinct : AreDistinct ls
   pub below : (k : ℕ) → k < length ls → get_or ls k 0 < 2 * length s.values
   pub within : kept ≤ length ls
-  pub free : (k : ℕ) → k < kept → IsOpenLit s.values (get_or ls k 0)
+  pub free : (k : ℕ) → k < kept → IsUnassignedLit s.values (get_or ls k 0)
   pub gone : (k : ℕ) → kept ≤ k → k < length ls → IsFalseLit s.values (get_or ls k 0)
   pub fresh : (k : ℕ) → kept ≤ k → k < length ls → HasLeftQueue s (negated (get_or ls k 0)) → ⊥
-  pub ready : (k : ℕ) → k < kept → may_pick q (variable (get_or ls k 0)) ≡ true
+  pub ready : (k : ℕ) → k < kept → is_available q (variable (get_or ls k 0)) ≡ true

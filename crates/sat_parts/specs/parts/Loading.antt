@@ -1,15 +1,15 @@
 -- The effect of loading a clause.
 use Rattle.std.specs.Prelude.{ℕ, ◌≡◌, ◌<◌, ◌≤◌, List, length, slice_index_or as get_or}
-use Rattle.sat_parts.specs.prop.Values.{IsTrueLit, IsFalseLit, IsOpenLit}
-use Rattle.sat_parts.specs.declared.parts.Parts.{Parts}
+use Rattle.sat_parts.specs.prop.Values.{IsTrueLit, IsFalseLit, IsUnassignedLit}
+use Rattle.sat_parts.specs.declared.parts.SearchState.{SearchState}
 use Rattle.sat_parts.specs.declared.parts.load.Loaded.{Loaded}
 use Rattle.sat_parts.specs.declared.parts.load.Loaded.TheVariants.{Stored, Unit as One, Satisfied, Falsified}
 use Rattle.sat_parts.specs.parts.Whole.{state}
 use Rattle.sat_parts.specs.parts.Frame.{AddsNoUnit, SameClauses, GainsUnit, AddsOriginalClause}
 
 -- the effect of loading a clause with these literals, by the result
-abbrev pub LoadEffect : Loaded → Parts → Parts → List ℕ → Type 0
+abbrev pub LoadEffect : Loaded → SearchState → SearchState → List ℕ → Type 0
 LoadEffect Stored p p' ls = AddsOriginalClause p p' ls
-LoadEffect One p p' ls = (length ls ≡ 1) × IsOpenLit p.assignment.current (get_or ls 0 0) × SameClauses p p' × GainsUnit (get_or ls 0 0) (state p) (state p')
+LoadEffect One p p' ls = (length ls ≡ 1) × IsUnassignedLit p.assignment.current (get_or ls 0 0) × SameClauses p p' × GainsUnit (get_or ls 0 0) (state p) (state p')
 LoadEffect Satisfied p p' ls = SameClauses p p' × AddsNoUnit (state p) (state p') × ((k : ℕ) × ((k < length ls) × IsTrueLit p.assignment.current (get_or ls k 0)))
 LoadEffect Falsified p p' ls = (length ls ≤ 1) × ((k : ℕ) → k < length ls → IsFalseLit p.assignment.current (get_or ls k 0)) × SameClauses p p' × AddsNoUnit (state p) (state p')

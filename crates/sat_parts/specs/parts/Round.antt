@@ -2,7 +2,7 @@
 use Rattle.std.specs.Prelude.{ℕ, ◌≡◌, ◌≢◌, ◌+◌, ◌<◌, ◌⊎◌, Bool, true, Option, None, List, length, slice_index_or as get_or}
 use Rattle.std.specs.List.{Contains}
 use Rattle.sat_base.specs.values.Literals.{variable}
-use Rattle.sat_store.specs.heap.Vsids.{Queue, may_pick}
+use Rattle.sat_store.specs.heap.Vsids.{Queue, is_available}
 use Rattle.sat_parts.specs.declared.prop.graph.ImplNode.{ImplNode}
 use Rattle.sat_parts.specs.declared.prop.graph.Reason.TheVariants.{Unit as NoCause}
 use Rattle.sat_parts.specs.clause.Db.{Db, DbMatchesBuffer, live_refs}
@@ -11,10 +11,10 @@ use Rattle.sat_parts.specs.prop.Binaries.{Binaries, implied_by}
 use Rattle.sat_parts.specs.prop.Values.{Values, value_of}
 use Rattle.sat_parts.specs.prop.Trails.{Trailed}
 use Rattle.sat_parts.specs.prop.WatchLists.{Watching}
-use Rattle.sat_parts.specs.prop.State.{State, node, level, lit_at}
+use Rattle.sat_parts.specs.prop.State.{PropagationState, node, level, lit_at}
 use Rattle.sat_parts.specs.prop.Reasons.{AreUnitInTurn}
 use Rattle.sat_parts.specs.prop.Ready.{state_of}
-use Rattle.sat_parts.specs.prop.Asks.{PropagationInvariant}
+use Rattle.sat_parts.specs.prop.Propagation.{PropagationInvariant}
 use Rattle.sat_parts.specs.prop.TrailWord.{IsLevelled}
 
 -- no clause contains the variable
@@ -24,14 +24,14 @@ pub record IsUnused (words live : List ℕ) (implied : List (List ℕ)) (v : ℕ
 
 -- every unassigned variable may be picked, unless no clause contains it
 abbrev pub AreReady : (words live : List ℕ) (implied : List (List ℕ)) (values : List (Option Bool)) (q : Queue) → Type 0
-AreReady words live implied values q = (v : ℕ) → v < length values → value_of values v ≡ None → (may_pick q v ≡ true) ⊎ IsUnused words live implied v
+AreReady words live implied values q = (v : ℕ) → v < length values → value_of values v ≡ None → (is_available q v ≡ true) ⊎ IsUnused words live implied v
 
 -- the unassigned variables that could be picked still can, except possibly v
 abbrev pub KeepsPicks : (values : List (Option Bool)) (q q' : Queue) (v : ℕ) → Type 0
-KeepsPicks values q q' v = (u : ℕ) → u ≢ v → value_of values u ≡ None → may_pick q u ≡ true → may_pick q' u ≡ true
+KeepsPicks values q q' v = (u : ℕ) → u ≢ v → value_of values u ≡ None → is_available q u ≡ true → is_available q' u ≡ true
 
 -- the literals on the trail at level 0 have no clause as their reason
-abbrev pub UnitsHaveNoReason : State → Type 0
+abbrev pub UnitsHaveNoReason : PropagationState → Type 0
 UnitsHaveNoReason s = (i : ℕ) → i < length s.trail.lits → level s (lit_at s i) ≡ 0 → (node s (lit_at s i)).reason ≡ NoCause
 
 -- the invariant of all parts, with complete propagation for the literals at levels below `top`
@@ -45,7 +45,7 @@ pub record IsSoundBelow (words : List ℕ) (db : Db) (w : Watching) (b : Binarie
 
 -- If the current level is above 0, the trail has no literals of level 0. Otherwise all literals on the trail are in
 -- the queue.
-pub record IsBased (t : Trailed) : Type 0 where
+pub record LevelZeroInvariant (t : Trailed) : Type 0 where
   pub above : 0 < length t.starts → get_or t.starts 0 0 ≡ 0
   pub bottom : length t.starts ≡ 0 → t.head ≡ 0
 
@@ -53,4 +53,4 @@ pub record IsBased (t : Trailed) : Type 0 where
 pub record RoundInvariant (words : List ℕ) (db : Db) (w : Watching) (b : Binaries) (a : Values) (g : List ImplNode) (t : Trailed) (q : Queue) : Type 0 where
   pub below : IsSoundBelow words db w b a g t q (length t.starts + 1)
   pub units : UnitsHaveNoReason (state_of a g t)
-  pub base : IsBased t
+  pub base : LevelZeroInvariant t

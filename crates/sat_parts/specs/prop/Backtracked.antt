@@ -6,13 +6,13 @@ use Rattle.sat_parts.specs.declared.prop.graph.Reason.TheVariants.{Long}
 use Rattle.sat_parts.specs.clause.Db.{live_refs}
 use Rattle.sat_parts.specs.clause.Stored.{lit_of}
 use Rattle.sat_parts.specs.declared.prop.graph.ImplNode.{ImplNode}
-use Rattle.sat_parts.specs.prop.Values.{Values, IsTrueLit, IsOpenLit}
+use Rattle.sat_parts.specs.prop.Values.{Values, IsTrueLit, IsUnassignedLit}
 use Rattle.sat_parts.specs.prop.Trails.{Trailed}
 use Rattle.sat_parts.specs.prop.WatchLists.{Watching}
-use Rattle.sat_parts.specs.prop.State.{State, level, lit_at, IsRemoved, StateIsConsistent}
+use Rattle.sat_parts.specs.prop.State.{PropagationState, level, lit_at, IsRemoved, StateIsConsistent}
 use Rattle.sat_parts.specs.prop.Reasons.{AreUnitInTurn}
 use Rattle.sat_parts.specs.prop.Ready.{state_of}
-use Rattle.sat_parts.specs.prop.Asks.{PropagationInvariant, EnqueuePrecondition, PropagationPrecondition}
+use Rattle.sat_parts.specs.prop.Propagation.{PropagationInvariant, EnqueuePrecondition, PropagationPrecondition}
 
 -- undoing the levels above this level establishes the precondition of propagation, if the invariant held for the
 -- literals at levels below a higher `top`
@@ -43,18 +43,18 @@ NewLevelPreservesInvariant t t' =
 
 -- The effect of undoing the levels above `top`. Exactly the literals that were true at `top` or lower stay true,
 -- those on the trail at their positions. The others are unassigned.
-pub record KeepsLow (top : ℕ) (s s' : State) : Type 0 where
+pub record BacktrackEffect (top : ℕ) (s s' : PropagationState) : Type 0 where
   pub agrees : StateIsConsistent s'
   pub low_kept : (l : ℕ) → IsTrueLit s.values l → level s l ≤ top → IsTrueLit s'.values l
   pub true_kept : (l : ℕ) → IsTrueLit s'.values l → IsTrueLit s.values l
   pub kept_level : (l : ℕ) → IsTrueLit s'.values l → level s l ≤ top
-  pub opened : (l : ℕ) → IsTrueLit s.values l → top < level s l → IsOpenLit s'.values l
-  pub open_kept : (l : ℕ) → IsOpenLit s.values l → IsOpenLit s'.values l
+  pub opened : (l : ℕ) → IsTrueLit s.values l → top < level s l → IsUnassignedLit s'.values l
+  pub open_kept : (l : ℕ) → IsUnassignedLit s.values l → IsUnassignedLit s'.values l
   pub removed_kept : (l : ℕ) → IsRemoved s l → IsRemoved s' l
   pub shorter : length s'.trail.lits ≤ length s.trail.lits
   pub places : (i : ℕ) → i < length s'.trail.lits → lit_at s' i ≡ lit_at s i
   pub low_places : (i : ℕ) → i < length s.trail.lits → level s (lit_at s i) ≤ top → i < length s'.trail.lits
 
--- `KeepsLow` for these values and this trail, with any nodes that agree with them
-abbrev pub KeepsBelow : (top : ℕ) (a : Values) (t : Trailed) (a' : Values) (t' : Trailed) → Type 0
-KeepsBelow top a t a' t' = (nodes : List ImplNode) → StateIsConsistent (state_of a nodes t) → KeepsLow top (state_of a nodes t) (state_of a' nodes t')
+-- `BacktrackEffect` for these values and this trail, with any nodes that agree with them
+abbrev pub BacktrackEffectOn : (top : ℕ) (a : Values) (t : Trailed) (a' : Values) (t' : Trailed) → Type 0
+BacktrackEffectOn top a t a' t' = (nodes : List ImplNode) → StateIsConsistent (state_of a nodes t) → BacktrackEffect top (state_of a nodes t) (state_of a' nodes t')

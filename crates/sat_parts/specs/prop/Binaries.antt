@@ -2,7 +2,7 @@
 use Rattle.std.specs.Prelude.{ℕ, ◌≡◌, ◌+◌, ◌-◌, ◌/◌, ◌^◌, min, Bool, Option, if◌then◌else◌, List, [], ◌∷◌, ◌++◌, take, replicate, length, slice_index_or as get_or, slice_set as set}
 use Rattle.std.specs.List.{filter, sum_by}
 use Rattle.sat_base.specs.values.Literals.{negated, variable}
-use Rattle.sat_parts.specs.prop.Values.{is_unset}
+use Rattle.sat_parts.specs.prop.Values.{is_unassigned_var}
 
 -- the lists of implied literals, indexed by literal code, and the number of binary clauses (it saturates at 2^64 - 1)
 pub record Binaries : Type 0 where
@@ -33,8 +33,8 @@ abbrev pub with_binary_lists : ℕ → Binaries → Binaries
 with_binary_lists count x = record x { implied = take count x.implied ++ replicate (count - length x.implied) [] }
 
 -- the unassigned literals among these, or none if the variable v is assigned
-abbrev pub open_among : List (Option Bool) → (v : ℕ) → List ℕ → List ℕ
-open_among values v ls = if is_unset values v then filter (λ l. is_unset values (variable l)) ls else []
+abbrev pub unassigned_among : List (Option Bool) → (v : ℕ) → List ℕ → List ℕ
+unassigned_among values v ls = if is_unassigned_var values v then filter (λ l. is_unassigned_var values (variable l)) ls else []
 
 -- the number of implications, two for every clause (it saturates at 2^64 - 1)
 abbrev pub implications : List (List ℕ) → ℕ
@@ -43,5 +43,5 @@ implications implied = min (sum_by (λ (ls : List ℕ). length ls) implied) (2 ^
 -- the clauses with an assigned variable were removed, and the others are kept in order
 pub record RemovesAssigned (values : List (Option Bool)) (old new : Binaries) : Type 0 where
   pub size : length new.implied ≡ length old.implied
-  pub implied : (l : ℕ) → implied_by new.implied l ≡ open_among values (variable l) (implied_by old.implied l)
+  pub implied : (l : ℕ) → implied_by new.implied l ≡ unassigned_among values (variable l) (implied_by old.implied l)
   pub count : new.count ≡ implications new.implied / 2

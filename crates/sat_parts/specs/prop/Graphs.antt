@@ -6,10 +6,10 @@ use Rattle.sat_parts.specs.declared.prop.graph.Reason.{Reason}
 use Rattle.sat_parts.specs.declared.prop.graph.Reason.TheVariants.{Unit as NoCause, Binary, Long}
 
 -- whether the reason is not a clause: the literal is a unit, a decision or an assumption
-abbrev pub is_unit_reason : Reason → Bool
-is_unit_reason NoCause = true
-is_unit_reason (Binary _) = false
-is_unit_reason (Long _) = false
+abbrev pub has_no_clause : Reason → Bool
+has_no_clause NoCause = true
+has_no_clause (Binary _) = false
+has_no_clause (Long _) = false
 
 -- the node of a new variable
 abbrev pub new_node : ImplNode

@@ -8,15 +8,15 @@ use Rattle.sat_parts.specs.declared.prop.graph.ImplNode.{ImplNode}
 use Rattle.sat_parts.specs.declared.prop.graph.Conflict.{Conflict}
 use Rattle.sat_parts.specs.declared.prop.graph.Conflict.TheVariants.{Binary, Long}
 use Rattle.sat_parts.specs.clause.Stored.{AreClauses, lit_of, size_of}
-use Rattle.sat_parts.specs.prop.Values.{Values, IsTrueLit, IsFalseLit, IsOpenLit}
+use Rattle.sat_parts.specs.prop.Values.{Values, IsTrueLit, IsFalseLit, IsUnassignedLit}
 use Rattle.sat_parts.specs.prop.Trails.{Trailed}
 use Rattle.sat_parts.specs.prop.Binaries.{implied_by}
 use Rattle.sat_parts.specs.prop.WatchLists.{no_watch, watches_of}
-use Rattle.sat_parts.specs.prop.State.{State, level, current_level, HasLeftQueue, StateIsConsistent, IsQueueCurrent, IsSatisfied}
+use Rattle.sat_parts.specs.prop.State.{PropagationState, level, current_level, HasLeftQueue, StateIsConsistent, IsQueueCurrent, IsSatisfied}
 use Rattle.sat_parts.specs.prop.Reasons.{HaveFirsts, PropagatesOn}
 
 -- the state with these values, nodes and trail
-abbrev pub state_of : Values → List ImplNode → Trailed → State
+abbrev pub state_of : Values → List ImplNode → Trailed → PropagationState
 state_of a g t = record { values = a.current; nodes = g; trail = t }
 
 -- l is a literal of the clause at o
@@ -39,19 +39,19 @@ pub record AreWatched (words live : List ℕ) (lists : List (List Watch)) (count
 
 -- Assume that one of the first two literals of a live clause is false by a due literal that has left the queue. Then
 -- the clause has a true literal at the same level or lower.
-abbrev pub AreSettled : (words live : List ℕ) (s : State) (due : ℕ → Type 0) → Type 0
+abbrev pub AreSettled : (words live : List ℕ) (s : PropagationState) (due : ℕ → Type 0) → Type 0
 AreSettled words live s due =
     (o i : ℕ) → Contains live o → i < 2 → HasLeftQueue s (negated (lit_of words o i)) → due (negated (lit_of words o i)) →
     IsSatisfied s (lits_at words o) (level s (negated (lit_of words o i)))
 
 -- every literal that is implied by a due literal that has left the queue is true at the same level or lower
-abbrev pub AreImplied : (implied : List (List ℕ)) (s : State) (due : ℕ → Type 0) → Type 0
+abbrev pub AreImplied : (implied : List (List ℕ)) (s : PropagationState) (due : ℕ → Type 0) → Type 0
 AreImplied implied s due =
     (l k : ℕ) → HasLeftQueue s l → due l → k < length (implied_by implied l) →
     IsTrueLit s.values (get_or (implied_by implied l) k 0) × (level s (get_or (implied_by implied l) k 0) ≤ level s l)
 
 -- the long clauses and their watch lists, with the due literals propagated
-pub record LongReady (words live : List ℕ) (lists : List (List Watch)) (s : State) (due : ℕ → Type 0) : Type 0 where
+pub record LongReady (words live : List ℕ) (lists : List (List Watch)) (s : PropagationState) (due : ℕ → Type 0) : Type 0 where
   pub clauses : AreClauses words live (length s.values)
   pub watches : AreWatched words live lists (length s.values)
   pub agrees : StateIsConsistent s
@@ -65,14 +65,14 @@ pub record AreLists (implied : List (List ℕ)) (count : ℕ) : Type 0 where
 
 -- The precondition of propagation for the literals at levels below `top`. If `top` is one more than the current
 -- level, propagation can continue. If it is the current level, propagation can continue once that level is undone.
-pub record ReadyBelow (words live : List ℕ) (lists : List (List Watch)) (implied : List (List ℕ)) (s : State) (top : ℕ) : Type 0 where
+pub record ReadyBelow (words live : List ℕ) (lists : List (List Watch)) (implied : List (List ℕ)) (s : PropagationState) (top : ℕ) : Type 0 where
   pub long : LongReady words live lists s (λ l. level s l < top)
   pub ranges : AreLists implied (length s.values)
   pub binary : AreImplied implied s (λ l. level s l < top)
   pub firsts : HaveFirsts words live s
 
 -- the precondition of propagation, for literals of all levels
-abbrev pub IsReadyToPropagate : (words live : List ℕ) (lists : List (List Watch)) (implied : List (List ℕ)) (s : State) → Type 0
+abbrev pub IsReadyToPropagate : (words live : List ℕ) (lists : List (List Watch)) (implied : List (List ℕ)) (s : PropagationState) → Type 0
 IsReadyToPropagate words live lists implied s = ReadyBelow words live lists implied s (current_level s + 1)
 
 -- all of these literals are false
@@ -81,7 +81,7 @@ AreAllFalse values ls = (k : ℕ) → k < length ls → IsFalseLit values (get_o
 
 -- the literal at position k is unassigned, and the others are false
 abbrev pub IsUnitAt : List (Option Bool) → List ℕ → ℕ → Type 0
-IsUnitAt values ls k = IsOpenLit values (get_or ls k 0) × ((j : ℕ) → j < length ls → j ≢ k → IsFalseLit values (get_or ls j 0))
+IsUnitAt values ls k = IsUnassignedLit values (get_or ls k 0) × ((j : ℕ) → j < length ls → j ≢ k → IsFalseLit values (get_or ls j 0))
 
 -- no clause is falsified or unit
 pub record IsUnitFixpoint (words live : List ℕ) (implied : List (List ℕ)) (values : List (Option Bool)) : Type 0 where
@@ -100,7 +100,7 @@ IsConflict words live implied values (Long o) = Contains live o × AreAllFalse v
 -- The result of propagation. The literals that it assigned have reasons. Without a conflict, its precondition holds
 -- again, with an empty queue and no unit or falsified clause. After a conflict, a clause is falsified, and the
 -- precondition holds once the current level is undone.
-pub record Propagated (live : List ℕ) (implied : List (List ℕ)) (words : List ℕ) (s : State) (words' : List ℕ) (s' : State) (lists : List (List Watch)) (r : Result (Unit {0}) Conflict) : Type 0 where
+pub record Propagated (live : List ℕ) (implied : List (List ℕ)) (words : List ℕ) (s : PropagationState) (words' : List ℕ) (s' : PropagationState) (lists : List (List Watch)) (r : Result (Unit {0}) Conflict) : Type 0 where
   pub moves : PropagatesOn live implied words s words' s'
   pub outcome : MatchResult r
       (λ _. IsReadyToPropagate words' live lists implied s' × (s'.trail.head ≡ length s'.trail.lits) × IsUnitFixpoint words' live implied s'.values)

@@ -7,16 +7,16 @@ use Rattle.sat_parts.specs.declared.prop.graph.Reason.TheVariants.{Unit as NoCau
 use Rattle.sat_parts.specs.clause.Orders.{PermutesClauses}
 use Rattle.sat_parts.specs.clause.Stored.{lit_of, size_of}
 use Rattle.sat_parts.specs.prop.Values.{IsTrueLit}
-use Rattle.sat_parts.specs.prop.Graphs.{is_unit_reason}
-use Rattle.sat_parts.specs.prop.State.{State, node, lit_at, IsBefore, IsRemoved, TrailGrows}
+use Rattle.sat_parts.specs.prop.Graphs.{has_no_clause}
+use Rattle.sat_parts.specs.prop.State.{PropagationState, node, lit_at, IsBefore, IsRemoved, TrailGrows}
 
 -- the literal is false: its negation is on the trail before this position, or was taken off as a unit
-abbrev pub IsFalseBefore : State → ℕ → ℕ → Type 0
+abbrev pub IsFalseBefore : PropagationState → ℕ → ℕ → Type 0
 IsFalseBefore s bound l = IsBefore s bound (negated l) ⊎ IsRemoved s (negated l)
 
 -- the clause of this reason implies the literal at position i of the trail, and its other literals were false before:
 -- a binary clause of the lists of implied literals, or a live long clause that has the literal first
-abbrev pub Implies : (words live : List ℕ) (implied : List (List ℕ)) (s : State) (i : ℕ) → Reason → Type 0
+abbrev pub Implies : (words live : List ℕ) (implied : List (List ℕ)) (s : PropagationState) (i : ℕ) → Reason → Type 0
 Implies words live implied s i NoCause = Unit {0}
 Implies words live implied s i (Binary ls) =
     Contains (get_or implied (negated (get_or ls 0 0)) []) (lit_at s i) × IsFalseBefore s i (get_or ls 0 0)
@@ -24,21 +24,21 @@ Implies words live implied s i (Long o) =
     Contains live o × (lit_of words o 0 ≡ lit_at s i) × ((k : ℕ) → 1 ≤ k → k < size_of words o → IsFalseBefore s i (lit_of words o k))
 
 -- the reasons of the literals from this position on are unit in the order of the trail
-abbrev pub AreUnitInTurn : (words live : List ℕ) (implied : List (List ℕ)) (s : State) (from : ℕ) → Type 0
+abbrev pub AreUnitInTurn : (words live : List ℕ) (implied : List (List ℕ)) (s : PropagationState) (from : ℕ) → Type 0
 AreUnitInTurn words live implied s from =
     (i : ℕ) → from ≤ i → i < length s.trail.lits → Implies words live implied s i (node s (lit_at s i)).reason
 
 -- the clause of every long reason on the trail is live and has the literal first
-abbrev pub HaveFirsts : (words live : List ℕ) (s : State) → Type 0
+abbrev pub HaveFirsts : (words live : List ℕ) (s : PropagationState) → Type 0
 HaveFirsts words live s = (i o : ℕ) → i < length s.trail.lits → (node s (lit_at s i)).reason ≡ Long o → Contains live o × (lit_of words o 0 ≡ lit_at s i)
 
 -- the literal at position i of the trail is true and has a clause as its reason
-abbrev pub HasClauseReason : State → ℕ → Type 0
-HasClauseReason s i = IsTrueLit s.values (lit_at s i) × (is_unit_reason (node s (lit_at s i)).reason ≡ false)
+abbrev pub HasClauseReason : PropagationState → ℕ → Type 0
+HasClauseReason s i = IsTrueLit s.values (lit_at s i) × (has_no_clause (node s (lit_at s i)).reason ≡ false)
 
 -- The effect of some propagation. Every literal that became true has a clause as its reason, and reasons stay unit in
 -- the order of the trail. Clauses changed only in the order of their literals; a true first literal stays first.
-pub record PropagatesOn (live : List ℕ) (implied : List (List ℕ)) (words : List ℕ) (s : State) (words' : List ℕ) (s' : State) : Type 0 where
+pub record PropagatesOn (live : List ℕ) (implied : List (List ℕ)) (words : List ℕ) (s : PropagationState) (words' : List ℕ) (s' : PropagationState) : Type 0 where
   pub grows : TrailGrows s s'
   pub reorders : PermutesClauses words words' live
   pub firsts : (o : ℕ) → Contains live o → IsTrueLit s.values (lit_of words o 0) → lit_of words' o 0 ≡ lit_of words o 0

@@ -8,47 +8,47 @@ use Rattle.sat_parts.specs.prop.Trails.{Trailed, IsTrail, LevelIs, with_lit}
 use Rattle.sat_parts.specs.prop.Graphs.{node_of, node_at, with_node}
 
 -- the state of a search: which literals are true, why, and in which order they became true
-pub record State : Type 0 where
+pub record PropagationState : Type 0 where
   pub values : List (Option Bool)
   pub nodes : List ImplNode
   pub trail : Trailed
 
 -- the node of a literal's variable
-abbrev pub node : State → ℕ → ImplNode
+abbrev pub node : PropagationState → ℕ → ImplNode
 node s l = node_of s.nodes (variable l)
 
 -- the level of a literal and of its negation
-abbrev pub level : State → ℕ → ℕ
+abbrev pub level : PropagationState → ℕ → ℕ
 level s l = (node s l).level
 
 -- the current level: the number of levels above 0
-abbrev pub current_level : State → ℕ
+abbrev pub current_level : PropagationState → ℕ
 current_level s = length s.trail.starts
 
 -- the literal at a position of the trail
-abbrev pub lit_at : State → ℕ → ℕ
+abbrev pub lit_at : PropagationState → ℕ → ℕ
 lit_at s i = get_or s.trail.lits i 0
 
 -- the literal is a unit, true at level 0, that was taken off the trail
-pub record IsRemoved (s : State) (l : ℕ) : Type 0 where
+pub record IsRemoved (s : PropagationState) (l : ℕ) : Type 0 where
   pub holds : IsTrueLit s.values l
   pub depth : (node s l).depth ≡ 4294967295
   pub bottom : level s l ≡ 0
 
 -- the literal is on the trail before this position
-pub record IsBefore (s : State) (bound l : ℕ) : Type 0 where
+pub record IsBefore (s : PropagationState) (bound l : ℕ) : Type 0 where
   pub place : ℕ
   pub before : place < bound
   pub within : place < length s.trail.lits
   pub there : lit_at s place ≡ l
 
 -- the literal has left the queue: it was propagated, or taken off the trail as a unit
-abbrev pub HasLeftQueue : State → ℕ → Type 0
+abbrev pub HasLeftQueue : PropagationState → ℕ → Type 0
 HasLeftQueue s l = IsBefore s s.trail.head l ⊎ IsRemoved s l
 
 -- Values, nodes and trail agree. The literals on the trail are true, and their nodes have their positions and levels.
 -- Every other true literal was taken off the trail as a unit.
-pub record StateIsConsistent (s : State) : Type 0 where
+pub record StateIsConsistent (s : PropagationState) : Type 0 where
   pub trail : IsTrail s.trail
   pub nodes : length s.nodes ≡ length s.values
   pub room : length s.values ≤ s.trail.room
@@ -58,11 +58,11 @@ pub record StateIsConsistent (s : State) : Type 0 where
   pub known : (l : ℕ) → IsTrueLit s.values l → IsBefore s (length s.trail.lits) l ⊎ IsRemoved s l
 
 -- every literal in the queue is at the current level
-abbrev pub IsQueueCurrent : State → Type 0
+abbrev pub IsQueueCurrent : PropagationState → Type 0
 IsQueueCurrent s = (i : ℕ) → s.trail.head ≤ i → i < length s.trail.lits → level s (lit_at s i) ≡ current_level s
 
 -- the state after an unassigned literal became true and was appended to the trail
-abbrev pub enqueued : ℕ → Reason → State → State
+abbrev pub enqueued : ℕ → Reason → PropagationState → PropagationState
 enqueued l reason s = record {
   values = set s.values (variable l) (Some (is_positive l));
   nodes = with_node (variable l) (node_at s.trail reason) s.nodes;
@@ -70,7 +70,7 @@ enqueued l reason s = record {
 }
 
 -- only unassigned literals became true, and were appended to the trail
-pub record TrailGrows (old new : State) : Type 0 where
+pub record TrailGrows (old new : PropagationState) : Type 0 where
   pub size : length new.values ≡ length old.values
   pub starts : new.trail.starts ≡ old.trail.starts
   pub cleared : new.trail.cleared ≡ old.trail.cleared
@@ -82,7 +82,7 @@ pub record TrailGrows (old new : State) : Type 0 where
   pub removed : (l : ℕ) → IsRemoved new l → IsRemoved old l
 
 -- some literal of the list is true at this level or lower
-pub record IsSatisfied (s : State) (ls : List ℕ) (bound : ℕ) : Type 0 where
+pub record IsSatisfied (s : PropagationState) (ls : List ℕ) (bound : ℕ) : Type 0 where
   pub place : ℕ
   pub within : place < length ls
   pub holds : IsTrueLit s.values (get_or ls place 0)

@@ -4,10 +4,10 @@ use Rattle.sat_base.specs.values.Literals.{variable}
 use Rattle.sat_parts.specs.declared.prop.graph.ImplNode.{ImplNode}
 use Rattle.sat_parts.specs.declared.prop.graph.Reason.{Reason}
 use Rattle.sat_parts.specs.declared.prop.graph.Reason.TheVariants.{Unit as NoCause}
-use Rattle.sat_parts.specs.prop.Graphs.{is_unit_reason}
-use Rattle.sat_parts.specs.prop.Values.{Values, IsOpenLit}
+use Rattle.sat_parts.specs.prop.Graphs.{has_no_clause}
+use Rattle.sat_parts.specs.prop.Values.{Values, IsUnassignedLit}
 use Rattle.sat_parts.specs.prop.Trails.{Trailed, with_lit, with_level, cut_to}
-use Rattle.sat_parts.specs.prop.State.{State, node, lit_at, StateIsConsistent, enqueued}
+use Rattle.sat_parts.specs.prop.State.{PropagationState, node, lit_at, StateIsConsistent, enqueued}
 use Rattle.sat_parts.specs.prop.Reasons.{PropagatesOn}
 use Rattle.sat_parts.specs.prop.Undone.{undone_to}
 use Rattle.sat_parts.specs.prop.Ready.{state_of}
@@ -51,29 +51,29 @@ BeginsNoLevel starts i = (k : ℕ) → k < length starts → get_or starts k 0 �
 
 -- Every level begins with a literal, after the literal that begins the level before. The literal that begins a level
 -- has no clause as its reason, and every other literal above level 0 has a clause as its reason.
-pub record IsLevelled (s : State) : Type 0 where
+pub record IsLevelled (s : PropagationState) : Type 0 where
   pub strict : (j k : ℕ) → j < k → k < length s.trail.starts → get_or s.trail.starts j 0 < get_or s.trail.starts k 0
   pub begun : (k : ℕ) → k < length s.trail.starts → get_or s.trail.starts k 0 < length s.trail.lits
-  pub decided : (k : ℕ) → k < length s.trail.starts → is_unit_reason (node s (lit_at s (get_or s.trail.starts k 0))).reason ≡ true
+  pub decided : (k : ℕ) → k < length s.trail.starts → has_no_clause (node s (lit_at s (get_or s.trail.starts k 0))).reason ≡ true
   pub caused : (i k : ℕ) → k < length s.trail.starts → get_or s.trail.starts k 0 ≤ i → i < length s.trail.lits → BeginsNoLevel s.trail.starts i →
-      is_unit_reason (node s (lit_at s i)).reason ≡ false
+      has_no_clause (node s (lit_at s i)).reason ≡ false
 
 -- the state after an unassigned literal was decided at a new level
-abbrev pub decided_on : ℕ → State → State
+abbrev pub decided_on : ℕ → PropagationState → PropagationState
 decided_on l s = enqueued l NoCause (record s { trail = with_level s.trail })
 
 -- `IsLevelled` holds without levels above 0. It is preserved when a literal is decided or becomes true by a clause,
 -- in propagation, and when levels are undone.
 pub record LevelsStay : Type 0 where
-  pub none : (s : State) → s.trail.starts ≡ [] → IsLevelled s
-  pub decides : (s : State) (l : ℕ) → StateIsConsistent s → IsOpenLit s.values l → variable l < length s.values → IsLevelled s → IsLevelled (decided_on l s)
-  pub caused : (s : State) (l : ℕ) (r : Reason) → StateIsConsistent s → IsOpenLit s.values l → variable l < length s.values → is_unit_reason r ≡ false → IsLevelled s → IsLevelled (enqueued l r s)
-  pub moves : (words live words' : List ℕ) (implied : List (List ℕ)) (s s' : State) → StateIsConsistent s → PropagatesOn live implied words s words' s' → IsLevelled s → IsLevelled s'
+  pub none : (s : PropagationState) → s.trail.starts ≡ [] → IsLevelled s
+  pub decides : (s : PropagationState) (l : ℕ) → StateIsConsistent s → IsUnassignedLit s.values l → variable l < length s.values → IsLevelled s → IsLevelled (decided_on l s)
+  pub caused : (s : PropagationState) (l : ℕ) (r : Reason) → StateIsConsistent s → IsUnassignedLit s.values l → variable l < length s.values → has_no_clause r ≡ false → IsLevelled s → IsLevelled (enqueued l r s)
+  pub moves : (words live words' : List ℕ) (implied : List (List ℕ)) (s s' : PropagationState) → StateIsConsistent s → PropagatesOn live implied words s words' s' → IsLevelled s → IsLevelled s'
   pub undone : (a : Values) (nodes : List ImplNode) (t : Trailed) (level : ℕ) → StateIsConsistent (state_of a nodes t) → level < length t.starts →
       IsLevelled (state_of a nodes t) → IsLevelled (state_of (undone_to level t a) nodes (cut_to level t))
 
 -- a new literal appends its letter to the word; if levels were undone before, the new word is higher than the old one
 pub record WordsRise : Type 0 where
-  pub decided : (s : State) (l : ℕ) → IsLevelled s → trail_word (with_lit l (with_level s.trail)) ≡ trail_word s.trail ++ D ∷ []
-  pub caused : (s : State) (l : ℕ) → IsLevelled s → trail_word (with_lit l s.trail) ≡ trail_word s.trail ++ P ∷ []
-  pub rises : (s : State) (l level : ℕ) → IsLevelled s → level < length s.trail.starts → IsLowerWord (trail_word s.trail) (trail_word (with_lit l (cut_to level s.trail)))
+  pub decided : (s : PropagationState) (l : ℕ) → IsLevelled s → trail_word (with_lit l (with_level s.trail)) ≡ trail_word s.trail ++ D ∷ []
+  pub caused : (s : PropagationState) (l : ℕ) → IsLevelled s → trail_word (with_lit l s.trail) ≡ trail_word s.trail ++ P ∷ []
+  pub rises : (s : PropagationState) (l level : ℕ) → IsLevelled s → level < length s.trail.starts → IsLowerWord (trail_word s.trail) (trail_word (with_lit l (cut_to level s.trail)))

@@ -12,8 +12,8 @@ abbrev pub value_of : List (Option Bool) → ℕ → Option Bool
 value_of values v = get_or values v None
 
 -- whether the variable is unassigned
-abbrev pub is_unset : List (Option Bool) → ℕ → Bool
-is_unset values v = is_none (value_of values v)
+abbrev pub is_unassigned_var : List (Option Bool) → ℕ → Bool
+is_unassigned_var values v = is_none (value_of values v)
 
 -- the literal is true
 abbrev pub IsTrueLit : List (Option Bool) → ℕ → Type 0
@@ -24,8 +24,8 @@ abbrev pub IsFalseLit : List (Option Bool) → ℕ → Type 0
 IsFalseLit values l = value_of values (variable l) ≡ Some (not (is_positive l))
 
 -- the literal is unassigned
-abbrev pub IsOpenLit : List (Option Bool) → ℕ → Type 0
-IsOpenLit values l = value_of values (variable l) ≡ None
+abbrev pub IsUnassignedLit : List (Option Bool) → ℕ → Type 0
+IsUnassignedLit values l = value_of values (variable l) ≡ None
 
 -- the value of the literal of this sign, if its variable has this value
 abbrev pub seen_from : Bool → Option Bool → Option Bool
@@ -33,12 +33,12 @@ seen_from positive None = None
 seen_from positive (Some b) = Some (if positive then b else not b)
 
 -- the values, with the value of one variable set or removed
-abbrev pub assigned : ℕ → Option Bool → Values → Values
-assigned v value a = record a { current = set a.current v value }
+abbrev pub with_value : ℕ → Option Bool → Values → Values
+with_value v value a = record a { current = set a.current v value }
 
 -- the values after the literal became true
-abbrev pub made_true : ℕ → Values → Values
-made_true l a = assigned (variable l) (Some (is_positive l)) a
+abbrev pub with_true_lit : ℕ → Values → Values
+with_true_lit l a = with_value (variable l) (Some (is_positive l)) a
 
 -- the values of `count` variables; new variables are unassigned, and their last value is false
 abbrev pub with_var_count : ℕ → Values → Values

@@ -9,10 +9,10 @@ use Rattle.sat_parts.specs.declared.prop.graph.Conflict.TheVariants.{Long}
 use Rattle.sat_parts.specs.declared.prop.long.Visit.{Visit}
 use Rattle.sat_parts.specs.declared.prop.long.Visit.TheVariants.{Stale, Moved, Keep, Propagates, Falsified}
 use Rattle.sat_parts.specs.clause.Stored.{AreClauses, lit_of, size_of}
-use Rattle.sat_parts.specs.prop.Values.{Values, IsTrueLit, IsFalseLit, IsOpenLit}
+use Rattle.sat_parts.specs.prop.Values.{Values, IsTrueLit, IsFalseLit, IsUnassignedLit}
 use Rattle.sat_parts.specs.prop.Binaries.{implied_by}
 use Rattle.sat_parts.specs.prop.WatchLists.{Watching, no_watch, watch_on, watches_of, more_at}
-use Rattle.sat_parts.specs.prop.State.{State, level, current_level, HasLeftQueue, StateIsConsistent, IsQueueCurrent, IsSatisfied}
+use Rattle.sat_parts.specs.prop.State.{PropagationState, level, current_level, HasLeftQueue, StateIsConsistent, IsQueueCurrent, IsSatisfied}
 use Rattle.sat_parts.specs.prop.Reasons.{PropagatesOn}
 use Rattle.sat_parts.specs.prop.Ready.{IsSoundWatch, HasWatch, LongReady, AreAllFalse, IsConflict}
 
@@ -37,7 +37,7 @@ pub record AreWalked (words live : List ℕ) (lists : List (List Watch)) (list :
       ⊎ ((negated (lit_of words o i) ≢ lit) × HasWatch (watches_of lists (negated (lit_of words o i))) o)
 
 -- the invariant of the walk: every clause that is not yet propagated has a watch that is still to visit
-pub record WalkInvariant (words live : List ℕ) (s : State) (lists : List (List Watch)) (list : List Watch) (lit kept at : ℕ) : Type 0 where
+pub record WalkInvariant (words live : List ℕ) (s : PropagationState) (lists : List (List Watch)) (list : List Watch) (lit kept at : ℕ) : Type 0 where
   pub clauses : AreClauses words live (length s.values)
   pub agrees : StateIsConsistent s
   pub queue : IsQueueCurrent s
@@ -70,7 +70,7 @@ Visited w v a lists lists' o fl (Propagates n) =
     × (n ≡ lit_of v o 0)
     × (lists' ≡ lists)
     × ((k : ℕ) → 1 ≤ k → k < size_of v o → IsFalseLit a (lit_of v o k))
-    × IsOpenLit a (lit_of v o 0)
+    × IsUnassignedLit a (lit_of v o 0)
 Visited w v a lists lists' o fl (Falsified n) =
     WalkInvariantAtClause w v o fl
     × (n ≡ lit_of v o 0)
@@ -82,23 +82,23 @@ abbrev pub VisitedIn : (w v : List ℕ) (a : Values) (lists lists' : Watching) (
 VisitedIn w v a lists lists' o fl r = Visited w v a.current lists.lists lists'.lists o fl r
 
 -- the literal is due after a walk: any literal or, if a clause was falsified, a literal below the current level
-abbrev pub due_after : Option ℕ → State → ℕ → Type 0
+abbrev pub due_after : Option ℕ → PropagationState → ℕ → Type 0
 due_after found s l = MatchOption found (Unit {0}) (λ _. level s l < current_level s)
 
 -- the effect of a walk on words and state, and on the lists once the walked list is put back
-pub record WatchWalkEffect (live : List ℕ) (words : List ℕ) (s : State) (words' : List ℕ) (s' : State) (lists : List (List Watch)) (found : Option ℕ) : Type 0 where
+pub record WatchWalkEffect (live : List ℕ) (words : List ℕ) (s : PropagationState) (words' : List ℕ) (s' : PropagationState) (lists : List (List Watch)) (found : Option ℕ) : Type 0 where
   pub moves : (implied : List (List ℕ)) → PropagatesOn live implied words s words' s'
   pub head : s'.trail.head ≡ s.trail.head
   pub ready : LongReady words' live lists s' (due_after found s')
   pub conflict : MatchOption found (Unit {0}) (λ o. Contains live o × AreAllFalse s'.values (lits_at words' o))
 
 -- the effect of a walk over long clauses, with a falsified clause as a conflict
-abbrev pub LongWalkEffect : (live : List ℕ) (words : List ℕ) (s : State) (words' : List ℕ) (s' : State) (lists : List (List Watch)) → Result (Unit {0}) Conflict → Type 0
+abbrev pub LongWalkEffect : (live : List ℕ) (words : List ℕ) (s : PropagationState) (words' : List ℕ) (s' : PropagationState) (lists : List (List Watch)) → Result (Unit {0}) Conflict → Type 0
 LongWalkEffect live words s words' s' lists r =
     MatchResult r (λ _. WatchWalkEffect live words s words' s' lists None) (λ e. (o : ℕ) × ((e ≡ Long o) × WatchWalkEffect live words s words' s' lists (Some o)))
 
 -- the state during the walk through the literals that lit implies: those before position `at` are true
-pub record BinaryWalkInvariant (implied : List (List ℕ)) (lit : ℕ) (s s' : State) (at : ℕ) : Type 0 where
+pub record BinaryWalkInvariant (implied : List (List ℕ)) (lit : ℕ) (s s' : PropagationState) (at : ℕ) : Type 0 where
   pub agrees : StateIsConsistent s'
   pub queue : IsQueueCurrent s'
   pub left : HasLeftQueue s' lit
@@ -109,6 +109,6 @@ pub record BinaryWalkInvariant (implied : List (List ℕ)) (lit : ℕ) (s s' : S
       IsTrueLit s'.values (get_or (implied_by implied lit) k 0) × (level s' (get_or (implied_by implied lit) k 0) ≤ level s' lit)
 
 -- the effect of propagation over binary clauses
-abbrev pub BinaryWalkEffect : (implied : List (List ℕ)) (lit : ℕ) (s s' : State) → Result (Unit {0}) Conflict → Type 0
+abbrev pub BinaryWalkEffect : (implied : List (List ℕ)) (lit : ℕ) (s s' : PropagationState) → Result (Unit {0}) Conflict → Type 0
 BinaryWalkEffect implied lit s s' r =
     MatchResult r (λ _. BinaryWalkInvariant implied lit s s' (length (implied_by implied lit))) (λ e. BinaryWalkInvariant implied lit s s' 0 × IsConflict [] [] implied s'.values e)

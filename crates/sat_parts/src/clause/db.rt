@@ -4,9 +4,10 @@ ghost use Rattle.std.specs.Prelude.{slice_index, slice_index_or, IsTrue, IfOk, O
 ghost use Rattle.std.specs.List.{Contains};
 ghost use Rattle.sat_base.specs.values.Literals.{negated, variable};
 ghost use Rattle.sat_store.specs.clause.Buffer.{IsClause, HoldsClauses, AppendsClause, header_at, lits_at};
-ghost use Rattle.sat_store.specs.clause.Full.{OnFull};
+ghost use Rattle.sat_store.specs.clause.Full.{IfStoreFull};
 ghost use Rattle.sat_store.specs.clause.Header.{index_of};
-ghost use Rattle.sat_parts.specs.clause.Db.{no_clauses, DbMatchesBuffer, live_refs, tier_count_more, tier_count_less, PutsHeader};
+ghost use Rattle.sat_parts.specs.clause.Db.{no_clauses, DbMatchesBuffer, live_refs, tier_count_more, tier_count_less};
+ghost use Rattle.sat_parts.specs.clause.Db.{PutsHeader};
 ghost use Rattle.sat_parts.specs.clause.Db.{AddsLongClause, DeletesClause, MovesClause, ShortensClause, IsLockedClause};
 ghost use Rattle.sat_parts.specs.clause.Stored.{lit_of};
 ghost use Rattle.sat_parts.specs.prop.WatchLists.{with_firsts};
@@ -138,7 +139,7 @@ fn store_clause(
     requires second { negated (slice_index_or lits.now 1 0) < length watchlists.old.lists }
     ensures added { IfOk result (λ cref. AppendsClause clauses.old clauses.new cref header lits.now) }
     ensures watched { IfOk result (λ cref. watchlists.new ≡ with_firsts cref lits.now watchlists.old) }
-    ensures full { OnFull result (2 ^ 32 - 1 < length clauses.old) }
+    ensures full { IfStoreFull result (2 ^ 32 - 1 < length clauses.old) }
     ensures kept { OnErr result (clauses.new ≡ clauses.old) }
     ensures unwatched { OnErr result (watchlists.new ≡ watchlists.old) }
 {

@@ -2,7 +2,7 @@
 ghost use Rattle.std.specs.Prelude.{ℕ, ◌≡◌, ◌<◌, ◌≤◌, ◌/◌, [], length, slice_index, false, OnOk, OnErr, IfOk};
 ghost use Rattle.sat_base.specs.values.Literals.{variable};
 ghost use Rattle.sat_store.specs.clause.Buffer.{IsClause};
-ghost use Rattle.sat_store.specs.clause.Full.{OnFull};
+ghost use Rattle.sat_store.specs.clause.Full.{IfStoreFull};
 ghost use Rattle.sat_parts.specs.clause.Db.{DbMatchesBuffer, live_refs};
 ghost use Rattle.sat_parts.specs.clause.Collected.{CopiesOne, CopyInvariant, AreFirsts, FollowsAll, Collects};
 ghost use Rattle.sat_parts.specs.clause.Collected.{CollectsNothing, after_collection};
@@ -25,7 +25,7 @@ fn copy_one(
 ) -> Result<(), StoreError>
     requires { IsClause clauses.now cref }
     ensures copied { OnOk result (CopiesOne clauses.now cref to.old refs.old.items to.new refs.new.items) }
-    ensures room { length to.old ≤ cref → OnFull result ⊥ }
+    ensures room { length to.old ≤ cref → IfStoreFull result ⊥ }
 {
     let copy = to.copy_clause(clauses, cref)?;
     match refs.push(copy) {
@@ -45,7 +45,7 @@ fn copy_live(
     requires no_words { to.old ≡ [] }
     requires no_refs { refs.old.items ≡ [] }
     ensures copied { OnOk result (CopyInvariant clauses.now db.now.refs to.new refs.new.items (length db.now.refs)) }
-    ensures room { OnFull result ⊥ }
+    ensures room { IfStoreFull result ⊥ }
 {
     for at in 0..db.len() {
         let cref = db.cref(at);
@@ -116,7 +116,7 @@ struct Copied {
 fn copy_all(alloc: Global, clauses: &ClauseAlloc, db: &ClauseDb) -> Result<Copied, StoreError>
     requires { DbMatchesBuffer clauses.now db.now }
     ensures copied { IfOk result (λ x. CopyInvariant clauses.now db.now.refs x.clauses x.refs.items (length db.now.refs)) }
-    ensures room { OnFull result ⊥ }
+    ensures room { IfStoreFull result ⊥ }
 {
     let live = clauses.buffer_size().saturating_sub(db.garbage_size());
     // Also reserves capacity for clauses that are learned later.
@@ -162,7 +162,7 @@ pub fn collect_garbage(
         → OnOk result (watchlists.new ≡ record watchlists.old { enabled = false }) }
     ensures not_due { db.old.garbage ≤ length clauses.old / 2 →
         CollectsNothing clauses.old db.old graph.old watchlists.old clauses.new db.new graph.new watchlists.new }
-    ensures room { OnFull result ⊥ }
+    ensures room { IfStoreFull result ⊥ }
     ensures same { OnErr result (CollectsNothing clauses.old db.old graph.old watchlists.old clauses.new db.new
         graph.new watchlists.new) }
 {

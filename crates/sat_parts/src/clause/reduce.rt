@@ -2,7 +2,7 @@
 ghost use Rattle.std.specs.Prelude.{◌≡◌, IfOk, OnOk, OnErr};
 ghost use Rattle.std.specs.List.{Contains, filter};
 ghost use Rattle.sat_store.specs.clause.Buffer.{IsClause, header_at};
-ghost use Rattle.sat_parts.specs.clause.Db.{DbMatchesBuffer, PutsHeader, live_refs, is_live_of};
+ghost use Rattle.sat_parts.specs.clause.Db.{DbMatchesBuffer, PutsHeader, live_refs, is_live_in_tier};
 ghost use Rattle.sat_parts.specs.clause.Activity.{PutsHeaders};
 ghost use Rattle.sat_parts.specs.clause.Reduced.{reduced, with_mark};
 
@@ -53,7 +53,7 @@ pub fn reduce_mids(clauses: &mut ClauseAlloc, db: &mut ClauseDb)
 /// Whether a clause is live and in the tier `tier`.
 fn is_of_tier(clauses: &ClauseAlloc, cref: ClauseRef, tier: Tier) -> bool
     requires { IsClause clauses.now cref }
-    ensures { result ≡ is_live_of clauses.now tier cref }
+    ensures { result ≡ is_live_in_tier clauses.now tier cref }
 {
     let header = clauses.header(cref);
     if header.deleted() {
@@ -70,7 +70,7 @@ fn clauses_of_tier(
     tier: Tier,
 ) -> Result<Vec<ClauseRef>, AllocError>
     requires { DbMatchesBuffer clauses.now db.now }
-    ensures { IfOk result (λ list. list.items ≡ filter (is_live_of clauses.now tier) db.now.refs) }
+    ensures { IfOk result (λ list. list.items ≡ filter (is_live_in_tier clauses.now tier) db.now.refs) }
 {
     let mut list = Vec::new(alloc);
     for at in 0..db.len() {
@@ -124,7 +124,7 @@ pub fn dedup_and_mark_by_tier(
     tier: Tier,
 ) -> Result<Vec<ClauseRef>, AllocError>
     requires { DbMatchesBuffer clauses.old db.now }
-    ensures list { IfOk result (λ list. list.items ≡ filter (is_live_of clauses.old tier) db.now.refs) }
+    ensures list { IfOk result (λ list. list.items ≡ filter (is_live_in_tier clauses.old tier) db.now.refs) }
     ensures marks { OnOk result (PutsHeaders clauses.old clauses.new db.now.refs
         (λ p. with_mark tier (header_at clauses.old p))) }
     ensures db { DbMatchesBuffer clauses.new db.now }

@@ -1,15 +1,16 @@
 //! The assumptions of an ask, and how many of them are on the trail.
 ghost use Rattle.std.specs.Prelude.{◌≡◌, ◌+◌, ◌-◌, ◌<◌, ◌≤◌, OnOk, IfOk, MatchOption, [], length, slice_index_or};
 ghost use Rattle.sat_base.specs.values.Literals.{variable};
-ghost use Rattle.sat_parts.specs.prop.Values.{IsOpenLit};
-ghost use Rattle.sat_parts.specs.prop.State.{State};
-ghost use Rattle.sat_parts.specs.parts.Whole.{state, PartsInvariant, IsFullyPropagated};
+ghost use Rattle.sat_parts.specs.prop.Values.{IsUnassignedLit};
+ghost use Rattle.sat_parts.specs.prop.State.{PropagationState};
+ghost use Rattle.sat_parts.specs.parts.Whole.{state, SearchStateInvariant, IsFullyPropagated};
 ghost use Rattle.sat_parts.specs.parts.Words.{TrailWordStays, TrailWordExtendsFor};
-ghost use Rattle.sat_parts.specs.parts.Assumed.{HaveVariablesIn, variables_of_lits, ArePlaced, EnqueueAssumptionEffect, AreCutTo};
+ghost use Rattle.sat_parts.specs.parts.Assumed.{HaveVariablesIn, variables_of_lits, ArePlaced, EnqueueAssumptionEffect};
+ghost use Rattle.sat_parts.specs.parts.Assumed.{AreCutTo};
 ghost use Rattle.sat_parts.specs.parts.Assumed.{AreTrueFromTo, IsUntrueAt};
 ghost use Rattle.sat_parts.specs.parts.Frame.{AddsNoUnit, SameClauses, AddsNothing, KeepsLevels, OpensLevel};
 
-use crate::parts::Parts;
+use crate::parts::SearchState;
 use crate::parts::steps::{assume, undo};
 use sat_base::Lit;
 use std::alloc::{AllocError, Global};
@@ -44,7 +45,7 @@ impl Assumptions {
     /// Returns an empty list of assumptions. Never allocates.
     pub fn new(alloc: Global) -> Assumptions
         ensures none { result.lits.items ≡ [] }
-        ensures placed { (s : State) → ArePlaced result s }
+        ensures placed { (s : PropagationState) → ArePlaced result s }
     {
         Assumptions {
             lits: Vec::new(alloc),
@@ -63,7 +64,7 @@ impl Assumptions {
     /// Starts again with the first assumption. Must be called for a new list, and after all levels have been undone.
     pub fn begin(&mut self)
         ensures lits { self.new.lits ≡ self.old.lits }
-        ensures placed { (s : State) → s.trail.starts ≡ [] → ArePlaced self.new s }
+        ensures placed { (s : PropagationState) → s.trail.starts ≡ [] → ArePlaced self.new s }
     {
         self.below.clear();
         self.place = 0;
@@ -84,7 +85,7 @@ impl Assumptions {
 }
 
 /// Skips true assumptions. Returns the next assumption that is not true, or `None` if all are true.
-fn next_untrue(parts: &Parts, assumptions: &mut Assumptions) -> Option<Lit>
+fn next_untrue(parts: &SearchState, assumptions: &mut Assumptions) -> Option<Lit>
     requires there { HaveVariablesIn assumptions.old.lits.items parts.now }
     requires within { assumptions.old.place ≤ length assumptions.old.lits.items }
     ensures lits { assumptions.new.lits ≡ assumptions.old.lits }
@@ -106,15 +107,19 @@ fn next_untrue(parts: &Parts, assumptions: &mut Assumptions) -> Option<Lit>
 }
 
 /// Begins a level with the current assumption `lit`, which must be unassigned.
-fn begin_level(parts: &mut Parts, assumptions: &mut Assumptions, lit: Lit) -> Result<(), AllocError>
-    requires holds { PartsInvariant parts.old }
+fn begin_level(
+    parts: &mut SearchState,
+    assumptions: &mut Assumptions,
+    lit: Lit,
+) -> Result<(), AllocError>
+    requires holds { SearchStateInvariant parts.old }
     requires done { IsFullyPropagated parts.old }
     requires there { variable lit < length parts.old.assignment.current }
-    requires open { IsOpenLit parts.old.assignment.current lit }
+    requires open { IsUnassignedLit parts.old.assignment.current lit }
     requires placed { ArePlaced assumptions.old (state parts.old) }
     requires next { assumptions.old.place < length assumptions.old.lits.items }
     requires is { slice_index_or assumptions.old.lits.items assumptions.old.place 0 ≡ lit }
-    ensures holds { OnOk result (PartsInvariant parts.new) }
+    ensures holds { OnOk result (SearchStateInvariant parts.new) }
     ensures lits { assumptions.new.lits ≡ assumptions.old.lits }
     ensures placed { OnOk result (ArePlaced assumptions.new (state parts.new)) }
     ensures word { OnOk result (TrailWordExtendsFor (variables_of_lits assumptions.old.lits.items) parts.old parts.new) }
@@ -129,14 +134,14 @@ fn begin_level(parts: &mut Parts, assumptions: &mut Assumptions, lit: Lit) -> Re
 
 /// Assigns the next assumption that is not true yet, at a new level, unless it is false or there is none.
 pub fn enqueue_assumption(
-    parts: &mut Parts,
+    parts: &mut SearchState,
     assumptions: &mut Assumptions,
 ) -> Result<EnqueueAssumption, AllocError>
-    requires holds { PartsInvariant parts.old }
+    requires holds { SearchStateInvariant parts.old }
     requires done { IsFullyPropagated parts.old }
     requires there { HaveVariablesIn assumptions.old.lits.items parts.old }
     requires placed { ArePlaced assumptions.old (state parts.old) }
-    ensures holds { OnOk result (PartsInvariant parts.new) }
+    ensures holds { OnOk result (SearchStateInvariant parts.new) }
     ensures lits { assumptions.new.lits ≡ assumptions.old.lits }
     ensures placed { OnOk result (ArePlaced assumptions.new (state parts.new)) }
     ensures word { OnOk result (TrailWordExtendsFor (variables_of_lits assumptions.old.lits.items) parts.old parts.new) }
@@ -158,10 +163,10 @@ pub fn enqueue_assumption(
 }
 
 /// Undoes all decisions, but keeps the levels of assumptions.
-pub fn restart(parts: &mut Parts, assumptions: &Assumptions)
-    requires holds { PartsInvariant parts.old }
+pub fn restart(parts: &mut SearchState, assumptions: &Assumptions)
+    requires holds { SearchStateInvariant parts.old }
     requires placed { ArePlaced assumptions.now (state parts.old) }
-    ensures holds { PartsInvariant parts.new }
+    ensures holds { SearchStateInvariant parts.new }
     ensures levels { length parts.new.trail.starts ≡ length assumptions.now.below.items }
     ensures placed { ArePlaced assumptions.now (state parts.new) }
     ensures same { SameClauses parts.old parts.new }

@@ -10,12 +10,13 @@ ghost use Rattle.sat_parts.specs.clause.Reduced.{reduced};
 ghost use Rattle.sat_parts.specs.clause.Stored.{lit_of, size_of};
 ghost use Rattle.sat_parts.specs.prop.State.{HasLeftQueue};
 ghost use Rattle.sat_parts.specs.clause.Db.{PutsHeader, MovesClause, IsLockedClause};
-ghost use Rattle.sat_parts.specs.parts.Whole.{state, PartsInvariant, HasClause};
+ghost use Rattle.sat_parts.specs.parts.Whole.{state, SearchStateInvariant, HasClause};
 ghost use Rattle.sat_parts.specs.parts.Words.{TrailWordExtends};
-ghost use Rattle.sat_parts.specs.parts.Frame.{ChangesHeaders, DropsLongClause, MovesLongClauses, SwapsLits, ShortensLongClause, RemovesBinaries, SameContents};
-ghost use Rattle.sat_store.specs.clause.Full.{OnFull};
+ghost use Rattle.sat_parts.specs.parts.Frame.{ChangesHeaders, DropsLongClause, MovesLongClauses, SwapsLits};
+ghost use Rattle.sat_parts.specs.parts.Frame.{ShortensLongClause, RemovesBinaries, SameContents};
+ghost use Rattle.sat_store.specs.clause.Full.{IfStoreFull};
 
-use crate::parts::Parts;
+use crate::parts::SearchState;
 use crate::{
     ClauseActivity, bump_clause_activity, collect_garbage, decay_clause_activities, delete_clause,
     reduce_mids, set_clause_tier, shorten_clause, try_delete_clause,
@@ -26,10 +27,10 @@ use std::alloc::Global;
 
 /// Deletes a live clause unless its first literal is true and the clause is the reason for that literal. Returns
 /// whether the clause was deleted.
-pub fn drop_clause(parts: &mut Parts, cref: ClauseRef) -> bool
-    requires holds { PartsInvariant parts.old }
+pub fn drop_clause(parts: &mut SearchState, cref: ClauseRef) -> bool
+    requires holds { SearchStateInvariant parts.old }
     requires live { HasClause parts.old cref }
-    ensures holds { PartsInvariant parts.new }
+    ensures holds { SearchStateInvariant parts.new }
     ensures dropped { result ≡ true → DropsLongClause parts.old parts.new cref }
     ensures free { result ≡ true → IsLockedClause parts.old.clauses parts.old.assignment.current parts.old.graph cref
         → ⊥ }
@@ -49,11 +50,11 @@ pub fn drop_clause(parts: &mut Parts, cref: ClauseRef) -> bool
 }
 
 /// Deletes a live clause. The trail must be empty.
-pub fn delete_long(parts: &mut Parts, cref: ClauseRef)
-    requires holds { PartsInvariant parts.old }
+pub fn delete_long(parts: &mut SearchState, cref: ClauseRef)
+    requires holds { SearchStateInvariant parts.old }
     requires empty { parts.old.trail.lits ≡ [] }
     requires live { HasClause parts.old cref }
-    ensures holds { PartsInvariant parts.new }
+    ensures holds { SearchStateInvariant parts.new }
     ensures dropped { DropsLongClause parts.old parts.new cref }
     ensures word { TrailWordExtends parts.old parts.new }
 {
@@ -66,9 +67,9 @@ pub fn delete_long(parts: &mut Parts, cref: ClauseRef)
 }
 
 /// Moves to tier Local the clauses in tier Mid that have not been used since the last call.
-pub fn reduce_middle(parts: &mut Parts)
-    requires holds { PartsInvariant parts.old }
-    ensures holds { PartsInvariant parts.new }
+pub fn reduce_middle(parts: &mut SearchState)
+    requires holds { SearchStateInvariant parts.old }
+    ensures holds { SearchStateInvariant parts.new }
     ensures headers { PutsHeaders parts.old.clauses parts.new.clauses parts.old.db.refs
         (λ o. reduced (header_at parts.old.clauses o)) }
     ensures headed { ChangesHeaders parts.old parts.new }
@@ -78,13 +79,13 @@ pub fn reduce_middle(parts: &mut Parts)
 }
 
 /// Collects garbage if deleted clauses take up more than half of the buffer.
-pub fn collect(alloc: Global, parts: &mut Parts) -> Result<(), StoreError>
-    requires holds { PartsInvariant parts.old }
-    ensures holds { PartsInvariant parts.new }
+pub fn collect(alloc: Global, parts: &mut SearchState) -> Result<(), StoreError>
+    requires holds { SearchStateInvariant parts.old }
+    ensures holds { SearchStateInvariant parts.new }
     ensures copied { MovesLongClauses parts.old parts.new }
     ensures due { length parts.old.clauses / 2 < parts.old.db.garbage → OnOk result (parts.new.db.garbage ≡ 0) }
     ensures not_due { parts.old.db.garbage ≤ length parts.old.clauses / 2 → parts.new ≡ parts.old }
-    ensures room { OnFull result ⊥ }
+    ensures room { IfStoreFull result ⊥ }
     ensures word { TrailWordExtends parts.old parts.new }
 {
     collect_garbage(
@@ -99,13 +100,13 @@ pub fn collect(alloc: Global, parts: &mut Parts) -> Result<(), StoreError>
 
 /// Replaces the header of a live clause. The new header must have the same deleted flag, tier and length as the
 /// old one.
-pub fn put_header(parts: &mut Parts, cref: ClauseRef, header: ClauseHeader)
-    requires holds { PartsInvariant parts.old }
+pub fn put_header(parts: &mut SearchState, cref: ClauseRef, header: ClauseHeader)
+    requires holds { SearchStateInvariant parts.old }
     requires live { HasClause parts.old cref }
     requires deleted { header.deleted ≡ (header_at parts.old.clauses cref).deleted }
     requires tier { header.tier ≡ (header_at parts.old.clauses cref).tier }
     requires len { header.len ≡ (header_at parts.old.clauses cref).len }
-    ensures holds { PartsInvariant parts.new }
+    ensures holds { SearchStateInvariant parts.new }
     ensures put { PutsHeader parts.old.clauses parts.new.clauses parts.old.db.refs cref header }
     ensures db { parts.new.db ≡ parts.old.db }
     ensures headed { ChangesHeaders parts.old parts.new }
@@ -116,11 +117,11 @@ pub fn put_header(parts: &mut Parts, cref: ClauseRef, header: ClauseHeader)
 
 /// Moves a live clause to another tier. A learned clause must stay learned, and an irredundant clause must
 /// stay irredundant.
-pub fn set_tier(parts: &mut Parts, cref: ClauseRef, tier: Tier)
-    requires holds { PartsInvariant parts.old }
+pub fn set_tier(parts: &mut SearchState, cref: ClauseRef, tier: Tier)
+    requires holds { SearchStateInvariant parts.old }
     requires live { HasClause parts.old cref }
     requires side { is_learned tier ≡ is_learned (header_at parts.old.clauses cref).tier }
-    ensures holds { PartsInvariant parts.new }
+    ensures holds { SearchStateInvariant parts.new }
     ensures moves { MovesClause parts.old.clauses parts.old.db parts.new.clauses parts.new.db cref tier }
     ensures headed { ChangesHeaders parts.old parts.new }
     ensures word { TrailWordExtends parts.old parts.new }
@@ -129,14 +130,14 @@ pub fn set_tier(parts: &mut Parts, cref: ClauseRef, tier: Tier)
 }
 
 /// Swaps two literals of a live clause. `i` and `j` must be at least 2.
-pub fn swap_unwatched(parts: &mut Parts, cref: ClauseRef, i: usize, j: usize)
-    requires holds { PartsInvariant parts.old }
+pub fn swap_unwatched(parts: &mut SearchState, cref: ClauseRef, i: usize, j: usize)
+    requires holds { SearchStateInvariant parts.old }
     requires live { HasClause parts.old cref }
     requires first_unwatched { 2 ≤ i }
     requires second_unwatched { 2 ≤ j }
     requires first_within { i < size_of parts.old.clauses cref }
     requires second_within { j < size_of parts.old.clauses cref }
-    ensures holds { PartsInvariant parts.new }
+    ensures holds { SearchStateInvariant parts.new }
     ensures swapped { SwapsLits parts.old parts.new cref i j }
     ensures db { parts.new.db ≡ parts.old.db }
     ensures word { TrailWordExtends parts.old parts.new }
@@ -147,13 +148,13 @@ pub fn swap_unwatched(parts: &mut Parts, cref: ClauseRef, i: usize, j: usize)
 /// Drops the literals of a live clause from position `len` on. `len` must be at least 3.
 ///
 /// The negations of the first two literals must not have left the queue.
-pub fn shorten(parts: &mut Parts, cref: ClauseRef, len: usize)
-    requires holds { PartsInvariant parts.old }
+pub fn shorten(parts: &mut SearchState, cref: ClauseRef, len: usize)
+    requires holds { SearchStateInvariant parts.old }
     requires live { HasClause parts.old cref }
     requires long { 3 ≤ len }
     requires no_longer { len ≤ size_of parts.old.clauses cref }
     requires fresh { (i : ℕ) → i < 2 → HasLeftQueue (state parts.old) (negated (lit_of parts.old.clauses cref i)) → ⊥ }
-    ensures holds { PartsInvariant parts.new }
+    ensures holds { SearchStateInvariant parts.new }
     ensures shortened { ShortensLongClause parts.old parts.new cref len }
     ensures word { TrailWordExtends parts.old parts.new }
 {
@@ -167,10 +168,10 @@ pub fn shorten(parts: &mut Parts, cref: ClauseRef, len: usize)
 }
 
 /// Removes the binary clauses that contain an assigned variable. The trail must be empty.
-pub fn remove_binary(parts: &mut Parts)
-    requires holds { PartsInvariant parts.old }
+pub fn remove_binary(parts: &mut SearchState)
+    requires holds { SearchStateInvariant parts.old }
     requires empty { parts.old.trail.lits ≡ [] }
-    ensures holds { PartsInvariant parts.new }
+    ensures holds { SearchStateInvariant parts.new }
     ensures removed { RemovesBinaries parts.old parts.new }
     ensures word { TrailWordExtends parts.old parts.new }
 {
@@ -178,10 +179,10 @@ pub fn remove_binary(parts: &mut Parts)
 }
 
 /// Raises the activity of a live clause.
-pub fn bump_clause(parts: &mut Parts, activity: &mut ClauseActivity, cref: ClauseRef)
-    requires holds { PartsInvariant parts.old }
+pub fn bump_activity(parts: &mut SearchState, activity: &mut ClauseActivity, cref: ClauseRef)
+    requires holds { SearchStateInvariant parts.old }
     requires live { HasClause parts.old cref }
-    ensures holds { PartsInvariant parts.new }
+    ensures holds { SearchStateInvariant parts.new }
     ensures raised { BumpsBelow parts.old.clauses parts.new.clauses parts.old.db.refs cref activity.old activity.new }
     ensures rescaled { BumpsPast parts.old.clauses parts.new.clauses parts.old.db.refs cref activity.old activity.new }
     ensures db { parts.new.db ≡ parts.old.db }
@@ -192,10 +193,10 @@ pub fn bump_clause(parts: &mut Parts, activity: &mut ClauseActivity, cref: Claus
 }
 
 /// Raises the activity of a variable.
-pub fn bump_variable(parts: &mut Parts, var: Var)
-    requires holds { PartsInvariant parts.old }
+pub fn bump_variable(parts: &mut SearchState, var: Var)
+    requires holds { SearchStateInvariant parts.old }
     requires there { var < length parts.old.assignment.current }
-    ensures holds { PartsInvariant parts.new }
+    ensures holds { SearchStateInvariant parts.new }
     ensures same { SameContents parts.old parts.new }
     ensures queue { parts.new.vsids ≡ bumped var parts.old.vsids }
     ensures picks { parts.new.vsids.available ≡ parts.old.vsids.available }
@@ -205,9 +206,9 @@ pub fn bump_variable(parts: &mut Parts, var: Var)
 }
 
 /// Lets the activities of clauses decay, by making later bumps add more.
-pub fn decay_clauses(parts: &mut Parts, activity: &mut ClauseActivity)
-    requires holds { PartsInvariant parts.old }
-    ensures holds { PartsInvariant parts.new }
+pub fn decay_clauses(parts: &mut SearchState, activity: &mut ClauseActivity)
+    requires holds { SearchStateInvariant parts.old }
+    ensures holds { SearchStateInvariant parts.new }
     ensures later { later_bump activity.old < 2 ^ 30
         → (activity.new ≡ later_scale activity.old) × (parts.new.clauses ≡ parts.old.clauses) }
     ensures rescaled { 2 ^ 30 ≤ later_bump activity.old
@@ -220,9 +221,9 @@ pub fn decay_clauses(parts: &mut Parts, activity: &mut ClauseActivity)
 }
 
 /// Lets the activities of variables decay, by making later bumps add more.
-pub fn decay_variables(parts: &mut Parts)
-    requires holds { PartsInvariant parts.old }
-    ensures holds { PartsInvariant parts.new }
+pub fn decay_variables(parts: &mut SearchState)
+    requires holds { SearchStateInvariant parts.old }
+    ensures holds { SearchStateInvariant parts.new }
     ensures same { SameContents parts.old parts.new }
     ensures queue { parts.new.vsids ≡ decayed parts.old.vsids }
     ensures picks { parts.new.vsids.available ≡ parts.old.vsids.available }

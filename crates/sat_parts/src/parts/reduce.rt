@@ -3,19 +3,19 @@ ghost use Rattle.std.specs.Prelude.{ℕ, ◌≡◌, ◌<◌, OnOk, map, length, 
 ghost use Rattle.std.specs.List.{filter};
 ghost use Rattle.std.specs.List.Sorted.{IsPermutation, IsNonDecreasingBy};
 ghost use Rattle.sat_store.specs.clause.Buffer.{IsClause};
-ghost use Rattle.sat_parts.specs.clause.Db.{is_live_of};
+ghost use Rattle.sat_parts.specs.clause.Db.{is_live_in_tier};
 ghost use Rattle.sat_parts.specs.clause.Orders.{AreDistinct};
-ghost use Rattle.sat_parts.specs.parts.Whole.{PartsInvariant, HasClauses};
+ghost use Rattle.sat_parts.specs.parts.Whole.{SearchStateInvariant, HasClauses};
 ghost use Rattle.sat_parts.specs.parts.Reducing.{clause_rank, ranked};
 
-use crate::parts::Parts;
+use crate::parts::SearchState;
 use sat_store::{ClauseAlloc, ClauseRef, Tier};
 use std::alloc::{AllocError, Global};
 
 /// Whether a clause is live and in tier Local.
 fn is_local(clauses: &ClauseAlloc, cref: ClauseRef) -> bool
     requires { IsClause clauses.now cref }
-    ensures { result ≡ is_live_of clauses.now Tier.Local cref }
+    ensures { result ≡ is_live_in_tier clauses.now Tier.Local cref }
 {
     let header = clauses.header(cref);
     if header.deleted() {
@@ -25,9 +25,9 @@ fn is_local(clauses: &ClauseAlloc, cref: ClauseRef) -> bool
 }
 
 /// Replaces the contents of `list` with the live clauses in tier Local, in the order in which they were added.
-fn find_locals(parts: &Parts, list: &mut Vec<ClauseRef>) -> Result<(), AllocError>
-    requires holds { PartsInvariant parts.now }
-    ensures { OnOk result (list.new.items ≡ filter (is_live_of parts.now.clauses Tier.Local) parts.now.db.refs) }
+fn find_locals(parts: &SearchState, list: &mut Vec<ClauseRef>) -> Result<(), AllocError>
+    requires holds { SearchStateInvariant parts.now }
+    ensures { OnOk result (list.new.items ≡ filter (is_live_in_tier parts.now.clauses Tier.Local) parts.now.db.refs) }
 {
     list.clear();
     for at in 0..parts.db.len() {
@@ -78,11 +78,11 @@ fn take_clauses(ranks: &[(u128, ClauseRef)], list: &mut Vec<ClauseRef>) -> Resul
 /// activity, the older clause comes first.
 pub fn list_locals(
     alloc: Global,
-    parts: &Parts,
+    parts: &SearchState,
     list: &mut Vec<ClauseRef>,
 ) -> Result<(), AllocError>
-    requires holds { PartsInvariant parts.now }
-    ensures locals { OnOk result (IsPermutation (filter (is_live_of parts.now.clauses Tier.Local) parts.now.db.refs)
+    requires holds { SearchStateInvariant parts.now }
+    ensures locals { OnOk result (IsPermutation (filter (is_live_in_tier parts.now.clauses Tier.Local) parts.now.db.refs)
         list.new.items) }
     ensures rising { OnOk result (IsNonDecreasingBy (clause_rank parts.now.clauses) list.new.items) }
     ensures once { OnOk result (AreDistinct list.new.items) }

@@ -2,13 +2,14 @@
 ghost use Rattle.std.specs.Prelude.{ℕ, ◌≡◌, ◌+◌, [], length};
 ghost use Rattle.sat_parts.specs.prop.Values.{IsTrueLit, value_of};
 ghost use Rattle.sat_parts.specs.prop.State.{HasLeftQueue};
-ghost use Rattle.sat_parts.specs.parts.Whole.{state, PartsInvariant, HoldsBelow, IsFullyPropagated};
+ghost use Rattle.sat_parts.specs.parts.Whole.{state, SearchStateInvariant, SearchStateInvariantBelow};
+ghost use Rattle.sat_parts.specs.parts.Whole.{IsFullyPropagated};
 ghost use Rattle.sat_parts.specs.parts.Words.{TrailWordExtends};
 ghost use Rattle.sat_parts.specs.parts.Units.{removed};
 ghost use Rattle.sat_parts.specs.parts.Frame.{AddsNoUnit, TakesOffUnits, SameClauses};
 ghost use Rattle.sat_parts.specs.clause.Glue.{HaveNodes};
 
-use crate::parts::Parts;
+use crate::parts::SearchState;
 use crate::{ImplGraph, Reason, Trail, enqueue_assignment};
 use sat_base::Lit;
 
@@ -24,11 +25,11 @@ fn mark_removed(graph: &mut ImplGraph, trail: &Trail)
 
 /// Removes the literals at level 0 from the trail. There must be no other level, and all literals must have
 /// been propagated.
-pub fn clear_units(parts: &mut Parts)
-    requires holds { HoldsBelow (length parts.old.trail.starts + 1) parts.old }
+pub fn clear_units(parts: &mut SearchState)
+    requires holds { SearchStateInvariantBelow (length parts.old.trail.starts + 1) parts.old }
     requires bottom { parts.old.trail.starts ≡ [] }
     requires done { IsFullyPropagated parts.old }
-    ensures holds { PartsInvariant parts.new }
+    ensures holds { SearchStateInvariant parts.new }
     ensures done { IsFullyPropagated parts.new }
     ensures bottom { parts.new.trail.starts ≡ [] }
     ensures empty { parts.new.trail.lits ≡ [] }
@@ -41,11 +42,11 @@ pub fn clear_units(parts: &mut Parts)
 }
 
 /// Moves a true literal back to the trail and the queue, if it was removed from the trail as a unit.
-pub fn put_back(parts: &mut Parts, lit: Lit)
-    requires holds { PartsInvariant parts.old }
+pub fn resurrect_unit(parts: &mut SearchState, lit: Lit)
+    requires holds { SearchStateInvariant parts.old }
     requires bottom { parts.old.trail.starts ≡ [] }
     requires true_lit { IsTrueLit parts.old.assignment.current lit }
-    ensures holds { PartsInvariant parts.new }
+    ensures holds { SearchStateInvariant parts.new }
     ensures bottom { parts.new.trail.starts ≡ [] }
     ensures values { (v : ℕ) → value_of parts.new.assignment.current v ≡ value_of parts.old.assignment.current v }
     ensures size { length parts.new.assignment.current ≡ length parts.old.assignment.current }

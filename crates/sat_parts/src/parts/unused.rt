@@ -3,11 +3,11 @@ ghost use Rattle.std.specs.Prelude.{ℕ, ◌≡◌, ◌<◌, OnOk, true, false, 
 ghost use Rattle.sat_base.specs.values.Literals.{variable};
 ghost use Rattle.sat_store.specs.clause.Buffer.{IsClause};
 ghost use Rattle.sat_parts.specs.clause.Stored.{lit_of, size_of};
-ghost use Rattle.sat_parts.specs.parts.Whole.{PartsInvariant, InNoClause};
+ghost use Rattle.sat_parts.specs.parts.Whole.{SearchStateInvariant, InNoClause};
 ghost use Rattle.sat_parts.specs.parts.Using.{MarksJustWhere, IsAmong, HasVar, InLong, InBinary};
 ghost use Rattle.sat_parts.specs.clause.Glue.{VariablesBelow};
 
-use crate::parts::Parts;
+use crate::parts::SearchState;
 use sat_base::Lit;
 use sat_store::{ClauseAlloc, ClauseRef};
 use std::alloc::AllocError;
@@ -43,8 +43,8 @@ fn mark_clause(used: &mut Vec<bool>, clauses: &ClauseAlloc, cref: ClauseRef)
 }
 
 /// Marks the variables of the live long clauses.
-fn mark_long(used: &mut Vec<bool>, parts: &Parts)
-    requires holds { PartsInvariant parts.now }
+fn mark_long(used: &mut Vec<bool>, parts: &SearchState)
+    requires holds { SearchStateInvariant parts.now }
     requires size { length used.old.items ≡ length parts.now.assignment.current }
     ensures { MarksJustWhere used.old.items used.new.items
         (InLong parts.now.clauses parts.now.db.refs (length parts.now.db.refs)) }
@@ -59,8 +59,8 @@ fn mark_long(used: &mut Vec<bool>, parts: &Parts)
 }
 
 /// Marks the variables of the binary clauses.
-fn mark_binary(used: &mut Vec<bool>, parts: &Parts)
-    requires holds { PartsInvariant parts.now }
+fn mark_binary(used: &mut Vec<bool>, parts: &SearchState)
+    requires holds { SearchStateInvariant parts.now }
     requires size { length used.old.items ≡ length parts.now.assignment.current }
     ensures { MarksJustWhere used.old.items used.new.items
         (InBinary parts.now.binary.implied (length parts.now.binary.implied)) }
@@ -77,8 +77,8 @@ fn mark_binary(used: &mut Vec<bool>, parts: &Parts)
 }
 
 /// Replaces the contents of `used` with a flag for every variable, which says whether the variable occurs in a clause.
-pub fn mark_used(used: &mut Vec<bool>, parts: &Parts) -> Result<(), AllocError>
-    requires holds { PartsInvariant parts.now }
+pub fn mark_used(used: &mut Vec<bool>, parts: &SearchState) -> Result<(), AllocError>
+    requires holds { SearchStateInvariant parts.now }
     ensures size { OnOk result (length used.new.items ≡ length parts.now.assignment.current) }
     ensures unused { OnOk result ((v : ℕ) → slice_index_or used.new.items v false ≡ false → InNoClause parts.now v) }
     ensures others { OnOk result ((v : ℕ) → InNoClause parts.now v → slice_index_or used.new.items v false ≡ false) }

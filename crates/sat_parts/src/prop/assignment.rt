@@ -1,8 +1,9 @@
 //! The values of variables.
 ghost use Rattle.std.specs.Prelude.{◌≡◌, ◌<◌, ◌≤◌, ◌↔◌, [], length, IsTrue, OnOk, OnErr, None, slice_index_or};
 ghost use Rattle.sat_base.specs.values.Literals.{var_limit, variable, is_positive};
-ghost use Rattle.sat_parts.specs.prop.Values.{assigned, made_true, with_var_count, value_of, seen_from, IsTrueLit};
-ghost use Rattle.sat_parts.specs.prop.Values.{IsFalseLit, IsOpenLit};
+ghost use Rattle.sat_parts.specs.prop.Values.{with_value, with_true_lit, with_var_count, value_of, seen_from};
+ghost use Rattle.sat_parts.specs.prop.Values.{IsTrueLit};
+ghost use Rattle.sat_parts.specs.prop.Values.{IsFalseLit, IsUnassignedLit};
 ghost use Rattle.sat_parts.specs.prop.Undone.{lost};
 
 use crate::prop::lit_values::LitValues;
@@ -129,7 +130,7 @@ impl Assignment {
     /// Whether a literal is unassigned.
     pub fn lit_is_unk(&self, lit: Lit) -> bool
         requires { variable lit < length self.now.current }
-        ensures { IsTrue result ↔ IsOpenLit self.now.current lit }
+        ensures { IsTrue result ↔ IsUnassignedLit self.now.current lit }
     {
         self.lit_values.is_open(lit)
     }
@@ -137,7 +138,7 @@ impl Assignment {
     /// Makes a literal true.
     pub fn assign_lit(&mut self, lit: Lit)
         requires { variable lit < length self.old.current }
-        ensures { self.new ≡ made_true lit self.old }
+        ensures { self.new ≡ with_true_lit lit self.old }
     {
         self.values[lit.index()] = Some(lit.is_positive());
         self.lit_values.set_var(lit.var(), Some(lit.is_positive()));
@@ -146,7 +147,7 @@ impl Assignment {
     /// Removes the value of a variable, without recording the value as the last value that the variable lost.
     pub fn unassign_var(&mut self, var: Var)
         requires { var < length self.old.current }
-        ensures { self.new ≡ assigned var None self.old }
+        ensures { self.new ≡ with_value var None self.old }
     {
         self.values[var.index()] = None;
         self.lit_values.set_var(var, None);
@@ -169,7 +170,7 @@ impl Assignment {
     /// Sets or removes the value of a variable.
     pub fn set_var(&mut self, var: Var, value: Option<bool>)
         requires { var < length self.old.current }
-        ensures { self.new ≡ assigned var value self.old }
+        ensures { self.new ≡ with_value var value self.old }
     {
         self.values[var.index()] = value;
         self.lit_values.set_var(var, value);

@@ -1,6 +1,6 @@
 //! The implication graph: the reason, the level and the position on the trail of every assigned variable.
 ghost use Rattle.std.specs.Prelude.{◌≡◌, ◌<◌, ◌↔◌, [], length, IsTrue, OnOk, OnErr};
-ghost use Rattle.sat_parts.specs.prop.Graphs.{node_of, with_node, with_nodes, removed_node, is_unit_reason};
+ghost use Rattle.sat_parts.specs.prop.Graphs.{node_of, with_node, with_nodes, removed_node, has_no_clause};
 
 use sat_base::{Lit, Var};
 use sat_store::ClauseRef;
@@ -21,7 +21,7 @@ pub enum Reason {
 impl Reason {
     /// Whether the reason is not a clause: the literal is a unit, a decision or an assumption.
     pub fn is_unit(&self) -> bool
-        ensures { result ≡ is_unit_reason self.now }
+        ensures { result ≡ has_no_clause self.now }
     {
         match self {
             Reason::Unit => true,

@@ -3,7 +3,7 @@ ghost use Rattle.std.specs.Prelude.{◌≡◌, ◌+◌, ◌-◌, ◌^◌, ◌<�
 ghost use Rattle.std.specs.Prelude.{MatchOption, slice_get, IfNone, IfSome};
 ghost use Rattle.sat_base.specs.values.Literals.{var_limit, variable};
 ghost use Rattle.sat_parts.specs.clause.Glue.{VariablesBelow};
-ghost use Rattle.sat_parts.specs.prop.Values.{made_true, IsOpenLit};
+ghost use Rattle.sat_parts.specs.prop.Values.{with_true_lit, IsUnassignedLit};
 ghost use Rattle.sat_parts.specs.prop.Graphs.{node_at, with_node};
 ghost use Rattle.sat_parts.specs.prop.Trails.{IsTrail, PopsNext, no_trail, first_start, with_lit, with_level};
 ghost use Rattle.sat_parts.specs.prop.Trails.{with_cleared};
@@ -11,7 +11,8 @@ ghost use Rattle.sat_parts.specs.prop.Trails.{cut_to};
 ghost use Rattle.sat_parts.specs.prop.Undone.{undone, undone_to, all_available, undone_lits};
 ghost use Rattle.sat_parts.specs.prop.State.{StateIsConsistent};
 ghost use Rattle.sat_parts.specs.prop.Ready.{state_of};
-ghost use Rattle.sat_parts.specs.prop.Backtracked.{KeepsBelow, BacktrackPreservesInvariant, EnqueuePreservesInvariant, NewLevelPreservesInvariant};
+ghost use Rattle.sat_parts.specs.prop.Backtracked.{BacktrackEffectOn, BacktrackPreservesInvariant};
+ghost use Rattle.sat_parts.specs.prop.Backtracked.{EnqueuePreservesInvariant, NewLevelPreservesInvariant};
 ghost use Rattle.sat_parts.specs.prop.Backtracked.{KeepsTurns};
 
 use crate::prop::assignment::Assignment;
@@ -129,7 +130,7 @@ impl Trail {
         requires { length self.old.starts + 1 < 2 ^ 32 }
         ensures done { OnOk result (self.new ≡ with_level self.old) }
         ensures same { OnErr result (self.new ≡ self.old) }
-        ensures asked { OnOk result (NewLevelPreservesInvariant self.old self.new) }
+        ensures preserves { OnOk result (NewLevelPreservesInvariant self.old self.new) }
     {
         self.push_level()
     }
@@ -184,15 +185,15 @@ pub fn enqueue_assignment(
 )
     requires value { variable lit < length assignment.old.current }
     requires node { variable lit < length graph.old }
-    requires open { IsOpenLit assignment.old.current lit }
+    requires open { IsUnassignedLit assignment.old.current lit }
     // If the state is consistent, there is room for every unassigned literal.
     requires room { StateIsConsistent (state_of assignment.old graph.old trail.old) ⊎ (length trail.old.lits < trail.old.room) }
-    ensures value { assignment.new ≡ made_true lit assignment.old }
+    ensures value { assignment.new ≡ with_true_lit lit assignment.old }
     ensures node { graph.new ≡ with_node (variable lit) (node_at trail.old reason) graph.old }
     ensures trail { trail.new ≡ with_lit lit trail.old }
     ensures agrees { StateIsConsistent (state_of assignment.old graph.old trail.old)
         → StateIsConsistent (state_of assignment.new graph.new trail.new) }
-    ensures asked { EnqueuePreservesInvariant lit reason
+    ensures preserves { EnqueuePreservesInvariant lit reason
         assignment.old graph.old trail.old assignment.new graph.new trail.new }
 {
     push_assignment(assignment, graph, trail, lit, reason);
@@ -209,9 +210,9 @@ fn push_assignment(
 )
     requires value { variable lit < length assignment.old.current }
     requires node { variable lit < length graph.old }
-    requires open { IsOpenLit assignment.old.current lit }
+    requires open { IsUnassignedLit assignment.old.current lit }
     requires room { length trail.old.lits < trail.old.room }
-    ensures value { assignment.new ≡ made_true lit assignment.old }
+    ensures value { assignment.new ≡ with_true_lit lit assignment.old }
     ensures node { graph.new ≡ with_node (variable lit) (node_at trail.old reason) graph.old }
     ensures trail { trail.new ≡ with_lit lit trail.old }
 {
@@ -251,8 +252,8 @@ pub fn backtrack(assignment: &mut Assignment, trail: &mut Trail, vsids: &mut Vsi
     ensures trail { level < length trail.old.starts → trail.new ≡ cut_to level trail.old }
     ensures available { level < length trail.old.starts
         → vsids.new ≡ all_available (undone_lits level trail.old) vsids.old }
-    ensures kept { KeepsBelow level assignment.old trail.old assignment.new trail.new }
-    ensures asked { level < length trail.old.starts
+    ensures kept { BacktrackEffectOn level assignment.old trail.old assignment.new trail.new }
+    ensures preserves { level < length trail.old.starts
         → BacktrackPreservesInvariant level assignment.old trail.old assignment.new trail.new }
     ensures turns { level < length trail.old.starts → KeepsTurns assignment.old trail.old assignment.new trail.new }
 {

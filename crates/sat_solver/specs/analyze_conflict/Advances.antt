@@ -8,10 +8,10 @@ use Rattle.sat_store.specs.clause.Buffer.{lits_at}
 use Rattle.sat_parts.specs.clause.Db.{live_refs}
 use Rattle.sat_parts.specs.prop.WatchLists.{Watching}
 use Rattle.sat_parts.specs.prop.Binaries.{implied_by}
-use Rattle.sat_parts.specs.prop.State.{State}
-use Rattle.sat_solver.specs.analyze_conflict.Work.{Work}
-use Rattle.sat_solver.specs.analyze_conflict.Derivation.{AreLevelZeroLits, Learns}
-use Rattle.sat_solver.specs.analyze_conflict.Marks.{AsksBelow}
+use Rattle.sat_parts.specs.prop.State.{PropagationState}
+use Rattle.sat_solver.specs.analyze_conflict.AnalysisState.{AnalysisState}
+use Rattle.sat_solver.specs.analyze_conflict.Derivation.{AreLevelZeroLits, AnalysisResult}
+use Rattle.sat_solver.specs.analyze_conflict.Marks.{PropagationInvariantBelow}
 
 -- a clause of two different literals, each implied by the negation of the other
 abbrev pub IsPair : List (List ℕ) → ℕ → ℕ → Type 0
@@ -23,20 +23,20 @@ pub data IsStored (words live : List ℕ) (implied : List (List ℕ)) (c : List 
   stored_pair : (a b : ℕ) → IsPair implied a b → c ≡ a ∷ b ∷ [] → IsStored words live implied c
 
 -- the clauses are unit in turn, and these literals are assumed after them
-abbrev pub LeadTo : (assumed : List ℕ) (picked : List (List ℕ)) (reached : List ℕ) → Type 0
-LeadTo assumed [] reached = reached ≡ assumed
-LeadTo assumed (c ∷ cs) reached = (o : ℕ) × IsUnit assumed c o × LeadTo (o ∷ assumed) cs reached
+abbrev pub UnitPropagateTo : (assumed : List ℕ) (picked : List (List ℕ)) (reached : List ℕ) → Type 0
+UnitPropagateTo assumed [] reached = reached ≡ assumed
+UnitPropagateTo assumed (c ∷ cs) reached = (o : ℕ) × IsUnit assumed c o × UnitPropagateTo (o ∷ assumed) cs reached
 
 -- the reached literals neither satisfy nor falsify the literal, and falsify no stored clause
-pub record StaysOpen (words live : List ℕ) (implied : List (List ℕ)) (l : ℕ) (reached : List ℕ) : Type 0 where
+pub record StaysUnassigned (words live : List ℕ) (implied : List (List ℕ)) (l : ℕ) (reached : List ℕ) : Type 0 where
   pub not_true : is_among reached l ≡ false
   pub not_false : is_among reached (negated l) ≡ false
   pub no_conflict : (c : List ℕ) → IsStored words live implied c → IsFalsified reached c → ⊥
 
 -- Let stored clauses be unit in turn under the units and the negations of a learned clause's other literals. Then
 -- its first literal stays open, and no stored clause is falsified.
-abbrev pub LearnedAdvances : Type 0
-LearnedAdvances =
-    (words refs : List ℕ) (watching : Watching) (implied : List (List ℕ)) (s : State) (conflict : List ℕ) (w : Work) (back : ℕ) (units : List ℕ) (picked : List (List ℕ)) (reached : List ℕ) →
-    AsksBelow words refs watching implied s → Learns words s conflict w back → AreLevelZeroLits s units → AllByRecursion (IsStored words (live_refs words refs) implied) picked →
-    LeadTo (map negated (drop 1 w.clause) ++ units) picked reached → StaysOpen words (live_refs words refs) implied (get_or w.clause 0 0) reached
+abbrev pub LearnedIsEmpowering : Type 0
+LearnedIsEmpowering =
+    (words refs : List ℕ) (watching : Watching) (implied : List (List ℕ)) (s : PropagationState) (conflict : List ℕ) (w : AnalysisState) (back : ℕ) (units : List ℕ) (picked : List (List ℕ)) (reached : List ℕ) →
+    PropagationInvariantBelow words refs watching implied s → AnalysisResult words s conflict w back → AreLevelZeroLits s units → AllByRecursion (IsStored words (live_refs words refs) implied) picked →
+    UnitPropagateTo (map negated (drop 1 w.clause) ++ units) picked reached → StaysUnassigned words (live_refs words refs) implied (get_or w.clause 0 0) reached

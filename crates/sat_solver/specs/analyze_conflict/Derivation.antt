@@ -5,39 +5,39 @@ use Rattle.sat_base.specs.values.Literals.{variable, negated}
 use Rattle.sat_checker.specs.LiteralSets.{is_among}
 use Rattle.sat_checker.specs.Propagation.{UnitInTurn}
 use Rattle.sat_parts.specs.prop.Values.{IsTrueLit, IsFalseLit}
-use Rattle.sat_parts.specs.prop.State.{State, level, current_level}
+use Rattle.sat_parts.specs.prop.State.{PropagationState, level, current_level}
 use Rattle.sat_parts.specs.declared.prop.graph.ImplNode.{ImplNode}
 use Rattle.sat_parts.specs.clause.Glue.{AreClear}
 use Rattle.sat_parts.specs.clause.Orders.{AreDistinct, IsReordering}
 use Rattle.sat_parts.specs.prop.Graphs.{node_of}
-use Rattle.sat_solver.specs.analyze_conflict.Work.{Work}
+use Rattle.sat_solver.specs.analyze_conflict.AnalysisState.{AnalysisState}
 use Rattle.sat_solver.specs.analyze_conflict.Marks.{causes_at, IsReasoned, depth, HasVariable}
 use Rattle.sat_parts.specs.declared.prop.graph.Conflict.{Conflict}
 use Rattle.sat_parts.specs.prop.Causes.{falsified}
 
 -- the clause that implies a true literal
-abbrev pub clause_of : List ℕ → State → ℕ → List ℕ
+abbrev pub clause_of : List ℕ → PropagationState → ℕ → List ℕ
 clause_of words s l = l ∷ causes_at words s l
 
 -- the list has exactly the true literals of level 0
-pub record AreLevelZeroLits (s : State) (units : List ℕ) : Type 0 where
+pub record AreLevelZeroLits (s : PropagationState) (units : List ℕ) : Type 0 where
   pub all : (l : ℕ) → IsTrueLit s.values l → level s l ≡ 0 → is_among units l ≡ true
   pub only : (l : ℕ) → is_among units l ≡ true → IsTrueLit s.values l × (level s l ≡ 0)
 
 -- how a false literal is explained: it is of level 0, in the learned clause, or the negation of a used literal
-pub data HasKnownCause (s : State) (learned used : List ℕ) (r : ℕ) : Type 0 where
+pub data HasKnownCause (s : PropagationState) (learned used : List ℕ) (r : ℕ) : Type 0 where
   grounded_unit : level s r ≡ 0 → HasKnownCause s learned used r
   grounded_clause : Contains learned r → HasKnownCause s learned used r
   grounded_reason : Contains used (negated r) → HasKnownCause s learned used r
 
 -- all these literals are explained this way
-abbrev pub HaveKnownCauses : State → (learned used rs : List ℕ) → Type 0
+abbrev pub HaveKnownCauses : PropagationState → (learned used rs : List ℕ) → Type 0
 HaveKnownCauses s learned used rs = (k : ℕ) → k < length rs → HasKnownCause s learned used (get_or rs k 0)
 
 -- A derivation in any order. Every used literal has a clause as its reason. The other literals of these reasons, and
 -- the literals of the falsified clause, are explained. No used literal occurs twice, or is the negation of a learned
 -- one.
-pub record IsUnorderedDerivation (words : List ℕ) (s : State) (conflict learned used : List ℕ) : Type 0 where
+pub record IsUnorderedDerivation (words : List ℕ) (s : PropagationState) (conflict learned used : List ℕ) : Type 0 where
   pub reasons : (l : ℕ) → Contains used l → IsReasoned s 0 l
   pub causes : (l : ℕ) → Contains used l → HaveKnownCauses s learned used (causes_at words s l)
   pub start : HaveKnownCauses s learned used conflict
@@ -45,23 +45,23 @@ pub record IsUnorderedDerivation (words : List ℕ) (s : State) (conflict learne
   pub distinct : AreDistinct used
 
 -- the clause learned from a conflict has such a derivation, by its used literals
-abbrev pub HasUnorderedDerivation : (words : List ℕ) (s : State) (e : Conflict) (w : Work) → Type 0
+abbrev pub HasUnorderedDerivation : (words : List ℕ) (s : PropagationState) (e : Conflict) (w : AnalysisState) → Type 0
 HasUnorderedDerivation words s e w = IsUnorderedDerivation words s (falsified words e) w.clause w.used
 
 -- such a derivation, with the used literals in trail order
-pub record IsDerivation (words : List ℕ) (s : State) (conflict learned used : List ℕ) : Type 0 where
+pub record IsDerivation (words : List ℕ) (s : PropagationState) (conflict learned used : List ℕ) : Type 0 where
   pub grounds : IsUnorderedDerivation words s conflict learned used
   pub rising : (j k : ℕ) → j < k → k < length used → depth s (get_or used j 0) < depth s (get_or used k 0)
 
 -- the checker accepts the derivation: under the negated clause and the units, the used clauses are unit in turn, and
 -- the conflict clause is falsified
-abbrev pub IsAcceptable : (words : List ℕ) (s : State) (conflict learned used : List ℕ) → Type 0
+abbrev pub IsAcceptable : (words : List ℕ) (s : PropagationState) (conflict learned used : List ℕ) → Type 0
 IsAcceptable words s conflict learned used =
     (units : List ℕ) → AreLevelZeroLits s units → UnitInTurn (map negated learned ++ units) (map (clause_of words s) used ++ conflict ∷ [])
 
 -- The shape of a learned clause: its first literal is of the current level, the others are of lower levels above 0.
 -- All literals are false, and none occurs twice.
-pub record IsAsserting (s : State) (learned : List ℕ) : Type 0 where
+pub record IsAsserting (s : PropagationState) (learned : List ℕ) : Type 0 where
   pub some : 0 < length learned
   pub fails : (k : ℕ) → k < length learned → IsFalseLit s.values (get_or learned k 0)
   pub top : level s (get_or learned 0 0) ≡ current_level s
@@ -73,12 +73,12 @@ abbrev pub OnlyFlags : List Bool → List ℕ → Type 0
 OnlyFlags flags ls = (v : ℕ) → get_or flags v false ≡ true → HasVariable ls v
 
 -- only variables of the clause or of used literals are flagged
-abbrev pub FlagsAmong : Work → Type 0
+abbrev pub FlagsAmong : AnalysisState → Type 0
 FlagsAmong w = (v : ℕ) → get_or w.flags v false ≡ true → HasVariable w.clause v ⊎ HasVariable w.used v
 
 -- The result of resolution: an asserting clause and its derivation. The used literals are of the current level, the
 -- last on the trail first. Only variables of the clause are flagged, and all of them except possibly the first.
-pub record ResolutionResult (words : List ℕ) (s : State) (conflict : List ℕ) (w : Work) : Type 0 where
+pub record ResolutionResult (words : List ℕ) (s : PropagationState) (conflict : List ℕ) (w : AnalysisState) : Type 0 where
   pub size : length w.flags ≡ length s.values
   pub asserting : IsAsserting s w.clause
   pub grounds : IsUnorderedDerivation words s conflict w.clause w.used
@@ -88,7 +88,7 @@ pub record ResolutionResult (words : List ℕ) (s : State) (conflict : List ℕ)
   pub flagged : (k : ℕ) → 0 < k → k < length w.clause → get_or w.flags (variable (get_or w.clause k 0)) false ≡ true
 
 -- resolution of a conflict has reached the first unique implication point
-abbrev pub IsUipClause : (words : List ℕ) (s : State) (e : Conflict) (w : Work) → Type 0
+abbrev pub IsUipClause : (words : List ℕ) (s : PropagationState) (e : Conflict) (w : AnalysisState) → Type 0
 IsUipClause words s e w = ResolutionResult words s (falsified words e) w
 
 -- The clause was reordered: its first literal stays, and its second has the highest level among the others. `level`
@@ -102,7 +102,7 @@ pub record PutsSecond (nodes : List ImplNode) (clause clause' : List ℕ) (level
 
 -- The result of analysis: a clause that asserts its first literal once the levels above `back` are undone, and used literals. The reasons
 -- of these, in trail order, and then the falsified clause lead the checker to a conflict. Every used literal has a clause as its reason.
-pub record Learns (words : List ℕ) (s : State) (conflict : List ℕ) (w : Work) (back : ℕ) : Type 0 where
+pub record AnalysisResult (words : List ℕ) (s : PropagationState) (conflict : List ℕ) (w : AnalysisState) (back : ℕ) : Type 0 where
   pub asserting : IsAsserting s w.clause
   pub reasons : (k : ℕ) → k < length w.used → IsReasoned s 0 (get_or w.used k 0)
   pub rising : (j k : ℕ) → j < k → k < length w.used → depth s (get_or w.used j 0) < depth s (get_or w.used k 0)
@@ -114,5 +114,5 @@ pub record Learns (words : List ℕ) (s : State) (conflict : List ℕ) (w : Work
   pub clear : AreClear w.flags
 
 -- the result of the analysis of a conflict
-abbrev pub LearnsFrom : (words : List ℕ) (s : State) (e : Conflict) (w : Work) (back : ℕ) → Type 0
-LearnsFrom words s e w back = Learns words s (falsified words e) w back
+abbrev pub AnalysisResultOf : (words : List ℕ) (s : PropagationState) (e : Conflict) (w : AnalysisState) (back : ℕ) → Type 0
+AnalysisResultOf words s e w back = AnalysisResult words s (falsified words e) w back

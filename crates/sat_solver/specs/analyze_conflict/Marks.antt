@@ -6,25 +6,25 @@ use Rattle.sat_store.specs.clause.Buffer.{IsClause, lits_at}
 use Rattle.sat_parts.specs.declared.prop.graph.Reason.TheVariants.{Long}
 use Rattle.sat_parts.specs.clause.Orders.{AreDistinct}
 use Rattle.sat_parts.specs.prop.Values.{IsFalseLit}
-use Rattle.sat_parts.specs.prop.Graphs.{is_unit_reason}
+use Rattle.sat_parts.specs.prop.Graphs.{has_no_clause}
 use Rattle.sat_parts.specs.prop.Causes.{causes, falsified}
-use Rattle.sat_parts.specs.prop.State.{State, node, level, current_level, lit_at, IsBefore, StateIsConsistent}
+use Rattle.sat_parts.specs.prop.State.{PropagationState, node, level, current_level, lit_at, IsBefore, StateIsConsistent}
 use Rattle.sat_parts.specs.prop.Reasons.{IsFalseBefore, AreUnitInTurn}
 use Rattle.sat_parts.specs.prop.TrailWord.{IsLevelled}
-use Rattle.sat_solver.specs.analyze_conflict.Work.{Work}
+use Rattle.sat_solver.specs.analyze_conflict.AnalysisState.{AnalysisState}
 use Rattle.sat_parts.specs.declared.prop.graph.Conflict.{Conflict}
 use Rattle.sat_parts.specs.clause.Db.{live_refs}
 use Rattle.sat_parts.specs.prop.WatchLists.{Watching}
-use Rattle.sat_parts.specs.prop.Asks.{PropagationInvariant}
+use Rattle.sat_parts.specs.prop.Propagation.{PropagationInvariant}
 
 -- the false literals of the reason of a literal
-abbrev pub causes_at : List ℕ → State → ℕ → List ℕ
+abbrev pub causes_at : List ℕ → PropagationState → ℕ → List ℕ
 causes_at words s l = causes words (node s l).reason
 
 -- What analysis requires: values, nodes and trail agree, a level is open, and every level begins with a decision.
 -- Above level 0, the other literals of a reason were false before the literal that it implies, and a long reason is
 -- a stored clause.
-pub record CanAnalyze (words : List ℕ) (s : State) : Type 0 where
+pub record CanAnalyze (words : List ℕ) (s : PropagationState) : Type 0 where
   pub agrees : StateIsConsistent s
   pub levelled : IsLevelled s
   pub above : 0 < current_level s
@@ -33,19 +33,19 @@ pub record CanAnalyze (words : List ℕ) (s : State) : Type 0 where
   pub valid : (p o : ℕ) → get_or s.trail.starts 0 0 ≤ p → p < length s.trail.lits → (node s (lit_at s p)).reason ≡ Long o → IsClause words o × (0 < length (lits_at words o))
 
 -- what holds after propagation has found a conflict: its invariant, for literals below the current level
-abbrev pub AsksBelow : (words refs : List ℕ) (w : Watching) (implied : List (List ℕ)) (s : State) → Type 0
-AsksBelow words refs w implied s = PropagationInvariant words refs w implied s (current_level s)
+abbrev pub PropagationInvariantBelow : (words refs : List ℕ) (w : Watching) (implied : List (List ℕ)) (s : PropagationState) → Type 0
+PropagationInvariantBelow words refs w implied s = PropagationInvariant words refs w implied s (current_level s)
 
 -- the reasons of the literals above level 0 are unit in turn
-abbrev pub AreInTurnAbove : (words refs : List ℕ) (implied : List (List ℕ)) (s : State) → Type 0
+abbrev pub AreInTurnAbove : (words refs : List ℕ) (implied : List (List ℕ)) (s : PropagationState) → Type 0
 AreInTurnAbove words refs implied s = AreUnitInTurn words (live_refs words refs) implied s (get_or s.trail.starts 0 0)
 
 -- whether a true literal is flagged and of level `top` or above, and so must be resolved
-abbrev pub is_open_flagged : State → ℕ → List Bool → ℕ → Bool
+abbrev pub is_open_flagged : PropagationState → ℕ → List Bool → ℕ → Bool
 is_open_flagged s top flags l = get_or flags (variable l) false && not (nat_lt (level s l) top)
 
 -- the number of such literals before a position of the trail
-abbrev pub open_below : State → ℕ → List Bool → ℕ → ℕ
+abbrev pub open_below : PropagationState → ℕ → List Bool → ℕ → ℕ
 open_below s top flags zero = 0
 open_below s top flags (suc i) = (if is_open_flagged s top flags (lit_at s i) then 1 else 0) + open_below s top flags i
 
@@ -54,14 +54,14 @@ abbrev pub HasVariable : List ℕ → ℕ → Type 0
 HasVariable clause v = (k : ℕ) × ((k < length clause) × (variable (get_or clause k 0) ≡ v))
 
 -- a literal of this variable is before this position of the trail, at level `top` or above
-pub record IsOpenAt (s : State) (top at v : ℕ) : Type 0 where
+pub record IsOpenAt (s : PropagationState) (top at v : ℕ) : Type 0 where
   pub place : ℕ
   pub before : place < at
   pub there : variable (lit_at s place) ≡ v
   pub high : top ≤ level s (lit_at s place)
 
 -- a false, flagged literal of a level between 0 and `top`
-pub record IsLower (s : State) (top : ℕ) (flags : List Bool) (r : ℕ) : Type 0 where
+pub record IsLower (s : PropagationState) (top : ℕ) (flags : List Bool) (r : ℕ) : Type 0 where
   pub fails : IsFalseLit s.values r
   pub above : 0 < level s r
   pub below : level s r < top
@@ -69,7 +69,7 @@ pub record IsLower (s : State) (top : ℕ) (flags : List Bool) (r : ℕ) : Type 
 
 -- Every flagged variable is in the clause, or has a literal of level `top` or above before this position; `pending`
 -- counts the latter. The literals of the clause are different, false, flagged, and of levels between 0 and `top`.
-pub record AreFlagsAt (s : State) (top : ℕ) (clause : List ℕ) (flags : List Bool) (pending at : ℕ) : Type 0 where
+pub record AreFlagsAt (s : PropagationState) (top : ℕ) (clause : List ℕ) (flags : List Bool) (pending at : ℕ) : Type 0 where
   pub size : length flags ≡ length s.values
   pub within : at ≤ length s.trail.lits
   pub flagged : (v : ℕ) → get_or flags v false ≡ true → HasVariable clause v ⊎ IsOpenAt s top at v
@@ -78,18 +78,18 @@ pub record AreFlagsAt (s : State) (top : ℕ) (clause : List ℕ) (flags : List 
   pub counted : pending ≡ open_below s top flags at
 
 -- the same for the work of an analysis
-abbrev pub MarksWork : State → ℕ → Work → ℕ → Type 0
+abbrev pub MarksWork : PropagationState → ℕ → AnalysisState → ℕ → Type 0
 MarksWork s top w at = AreFlagsAt s top w.clause w.flags w.pending at
 
 -- a flagged false literal of level `top` or above, whose negation is before this position
-pub record IsWaiting (s : State) (top : ℕ) (flags : List Bool) (at r : ℕ) : Type 0 where
+pub record IsWaiting (s : PropagationState) (top : ℕ) (flags : List Bool) (at r : ℕ) : Type 0 where
   pub flagged : get_or flags (variable r) false ≡ true
   pub high : top ≤ level s r
   pub before : IsBefore s at (negated r)
 
 -- How a false literal is explained: it is of level 0, in the learned clause, or still to be resolved. Or its
 -- negation is a used literal or a core literal.
-pub data IsCovered (s : State) (top : ℕ) (w : Work) (at r : ℕ) : Type 0 where
+pub data IsCovered (s : PropagationState) (top : ℕ) (w : AnalysisState) (at r : ℕ) : Type 0 where
   covered_unit : level s r ≡ 0 → IsCovered s top w at r
   covered_clause : Contains w.clause r → IsCovered s top w at r
   covered_reason : Contains w.used (negated r) → IsCovered s top w at r
@@ -97,31 +97,31 @@ pub data IsCovered (s : State) (top : ℕ) (w : Work) (at r : ℕ) : Type 0 wher
   covered_open : IsWaiting s top w.flags at r → IsCovered s top w at r
 
 -- all these literals are explained this way
-abbrev pub AreCovered : State → ℕ → Work → ℕ → List ℕ → Type 0
+abbrev pub AreCovered : PropagationState → ℕ → AnalysisState → ℕ → List ℕ → Type 0
 AreCovered s top w at rs = (k : ℕ) → k < length rs → IsCovered s top w at (get_or rs k 0)
 
 -- a true literal of the trail, above level 0, at this position or later, that has a clause as its reason
-pub record IsReasoned (s : State) (at l : ℕ) : Type 0 where
+pub record IsReasoned (s : PropagationState) (at l : ℕ) : Type 0 where
   pub place : ℕ
   pub from : at ≤ place
   pub within : place < length s.trail.lits
   pub there : lit_at s place ≡ l
   pub above : 0 < level s l
-  pub caused : is_unit_reason (node s l).reason ≡ false
+  pub caused : has_no_clause (node s l).reason ≡ false
 
 -- the position of the literal's variable on the trail, counted from 1
-abbrev pub depth : State → ℕ → ℕ
+abbrev pub depth : PropagationState → ℕ → ℕ
 depth s l = (node s l).depth
 
 -- The used literals are at this position or later, of level `top` or above, and the last on the trail comes first.
 -- The other literals of their reasons are explained.
-pub record AreUsed (words : List ℕ) (s : State) (top : ℕ) (w : Work) (at : ℕ) : Type 0 where
+pub record AreUsed (words : List ℕ) (s : PropagationState) (top : ℕ) (w : AnalysisState) (at : ℕ) : Type 0 where
   pub reasons : (k : ℕ) → k < length w.used → IsReasoned s at (get_or w.used k 0) × (top ≤ level s (get_or w.used k 0))
   pub falling : (j k : ℕ) → j < k → k < length w.used → depth s (get_or w.used k 0) < depth s (get_or w.used j 0)
   pub causes : (k : ℕ) → k < length w.used → AreCovered s top w at (causes_at words s (get_or w.used k 0))
 
 -- the invariant while a clause is resolved with the reasons of used literals
-pub record ResolutionInvariant (words : List ℕ) (s : State) (ls : List ℕ) (w : Work) (at : ℕ) : Type 0 where
+pub record ResolutionInvariant (words : List ℕ) (s : PropagationState) (ls : List ℕ) (w : AnalysisState) (at : ℕ) : Type 0 where
   pub marks : MarksWork s (current_level s) w at
   pub some : 0 < w.pending
   pub none : w.core ≡ []
@@ -129,13 +129,13 @@ pub record ResolutionInvariant (words : List ℕ) (s : State) (ls : List ℕ) (w
   pub start : AreCovered s (current_level s) w at ls
 
 -- the resolvent of the falsified clause with the reasons starting at this position of the trail
-abbrev pub IsResolvent : (words : List ℕ) (s : State) (e : Conflict) (w : Work) (at : ℕ) → Type 0
+abbrev pub IsResolvent : (words : List ℕ) (s : PropagationState) (e : Conflict) (w : AnalysisState) (at : ℕ) → Type 0
 IsResolvent words s e w at = ResolutionInvariant words s (falsified words e) w at
 
 -- the falsified clause itself, before the first resolution
-abbrev pub IsFirstResolvent : (words : List ℕ) (s : State) (e : Conflict) (w : Work) → Type 0
+abbrev pub IsFirstResolvent : (words : List ℕ) (s : PropagationState) (e : Conflict) (w : AnalysisState) → Type 0
 IsFirstResolvent words s e w = IsResolvent words s e w (length s.trail.lits)
 
 -- some literal is of the current level
-abbrev pub HasTop : State → List ℕ → Type 0
-HasTop s ls = (k : ℕ) × ((k < length ls) × (level s (get_or ls k 0) ≡ current_level s))
+abbrev pub HasCurrentLevelLit : PropagationState → List ℕ → Type 0
+HasCurrentLevelLit s ls = (k : ℕ) × ((k < length ls) × (level s (get_or ls k 0) ≡ current_level s))

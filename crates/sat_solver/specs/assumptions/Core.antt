@@ -10,22 +10,22 @@ use Rattle.sat_solver.specs.proof.ProofView.{HasAllowedSteps, session_of}
 use Rattle.sat_solver.specs.session.Session.{Session}
 use Rattle.sat_solver.specs.declared.proof.Proof.{Proof}
 use Rattle.sat_solver.specs.analyze_conflict.Derivation.{clause_of}
-use Rattle.sat_parts.specs.declared.parts.Parts.{Parts}
+use Rattle.sat_parts.specs.declared.parts.SearchState.{SearchState}
 use Rattle.sat_parts.specs.parts.Whole.{state}
 use Rattle.sat_solver.specs.declared.error.SolverError.{SolverError}
 use Rattle.sat_solver.specs.declared.context.Search.{Search}
 use Rattle.sat_solver.specs.cdcl.Faults.{IsKept, NamesLoss}
-use Rattle.sat_solver.specs.cdcl.Going.{IsFault, EmitsUpToFault}
-use Rattle.sat_solver.specs.cdcl.Joint.{global_in, IsSearch, SameVarsAndAssumptions}
-use Rattle.sat_solver.specs.analyze_conflict.Work.{Work}
+use Rattle.sat_solver.specs.cdcl.StepEffects.{IsFault, EmitsUpToFault}
+use Rattle.sat_solver.specs.cdcl.Joint.{global_in, SearchInvariant, SameVarsAndAssumptions}
+use Rattle.sat_solver.specs.analyze_conflict.AnalysisState.{AnalysisState}
 use Rattle.sat_solver.specs.assumptions.Failing.{IsFailedAssumption}
 
 -- why the assumption fails, by the clauses of the search
-abbrev pub FailsBy : Parts → (failed : ℕ) → Work → Type 0
+abbrev pub FailsBy : SearchState → (failed : ℕ) → AnalysisState → Type 0
 FailsBy p failed w = IsFailedAssumption p.clauses (state p) failed w.core w.used
 
 -- the hashes of the reasons of these literals
-abbrev pub causes_hashes : Parts → List ℕ → List ℕ
+abbrev pub causes_hashes : SearchState → List ℕ → List ℕ
 causes_hashes p used = map (λ l. hash_of (clause_of p.clauses (state p) l)) used
 
 -- whether the step is a failed core
@@ -43,7 +43,7 @@ pub record AreFailed (assumed : List ℕ) (failed : ℕ) (core : List ℕ) : Typ
 pub record CoreWasWritten (steps : List Step) (s : Session) (c c' : Search) : Type 0 where
   pub is : steps ≡ FailedAssumptions (map (with_var (global_in c)) c'.analysis.core) (causes_hashes c.parts c'.analysis.used) ∷ []
   pub failed : AreFailed c.assumptions.lits.items c.failed c'.analysis.core
-  pub search : IsSearch s c'
+  pub search : SearchInvariant s c'
   pub moved : SameVarsAndAssumptions c c'
   pub same : c'.parts ≡ c.parts
 

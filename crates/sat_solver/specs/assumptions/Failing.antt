@@ -4,39 +4,39 @@ use Rattle.sat_base.specs.values.Literals.{negated}
 use Rattle.sat_checker.specs.Propagation.{UnitInTurn}
 use Rattle.sat_parts.specs.clause.Glue.{AreClear}
 use Rattle.sat_parts.specs.clause.Orders.{AreDistinct}
-use Rattle.sat_parts.specs.prop.Graphs.{is_unit_reason}
-use Rattle.sat_parts.specs.prop.State.{State, node, level, lit_at}
-use Rattle.sat_solver.specs.analyze_conflict.Work.{Work}
+use Rattle.sat_parts.specs.prop.Graphs.{has_no_clause}
+use Rattle.sat_parts.specs.prop.State.{PropagationState, node, level, lit_at}
+use Rattle.sat_solver.specs.analyze_conflict.AnalysisState.{AnalysisState}
 use Rattle.sat_solver.specs.analyze_conflict.Marks.{depth, MarksWork, AreUsed}
 use Rattle.sat_solver.specs.analyze_conflict.Derivation.{clause_of, AreLevelZeroLits, IsUnorderedDerivation, IsDerivation}
 
 -- A true literal of the trail, above level 0, at this position or later, whose reason is not a clause. It is a
 -- decision or an assumption.
-pub record IsChosen (s : State) (at l : ℕ) : Type 0 where
+pub record IsChosen (s : PropagationState) (at l : ℕ) : Type 0 where
   pub place : ℕ
   pub from : at ≤ place
   pub within : place < length s.trail.lits
   pub there : lit_at s place ≡ l
   pub above : 0 < level s l
-  pub free : is_unit_reason (node s l).reason ≡ true
+  pub free : has_no_clause (node s l).reason ≡ true
 
 -- the assumption that failed, and then chosen literals at this position of the trail or later, the last on the trail
 -- first
-pub record IsCoreFrom (s : State) (failed : ℕ) (core : List ℕ) (at : ℕ) : Type 0 where
+pub record IsCoreFrom (s : PropagationState) (failed : ℕ) (core : List ℕ) (at : ℕ) : Type 0 where
   pub some : 0 < length core
   pub first : get_or core 0 0 ≡ failed
   pub chosen : (k : ℕ) → 0 < k → k < length core → IsChosen s at (get_or core k 0)
   pub falling : (j k : ℕ) → 0 < j → j < k → k < length core → depth s (get_or core k 0) < depth s (get_or core j 0)
 
 -- the same for the complete trail, and no literal occurs twice
-pub record IsDistinctCore (s : State) (failed : ℕ) (core : List ℕ) : Type 0 where
+pub record IsDistinctCore (s : PropagationState) (failed : ℕ) (core : List ℕ) : Type 0 where
   pub lits : IsCoreFrom s failed core 0
   pub distinct : AreDistinct core
 
 -- The reasons of the used literals, in trail order, derive the negation of the core; the last of them falsifies the
 -- assumption. The checker accepts this: under the core and the units, they are unit in turn, and the last one is
 -- falsified.
-pub record IsRefutation (words : List ℕ) (s : State) (failed : ℕ) (core used : List ℕ) : Type 0 where
+pub record IsRefutation (words : List ℕ) (s : PropagationState) (failed : ℕ) (core used : List ℕ) : Type 0 where
   pub lits : IsDistinctCore s failed core
   pub derivation : IsDerivation words s (clause_of words s (negated failed)) (map negated core) used
   pub some : 0 < length used
@@ -44,13 +44,13 @@ pub record IsRefutation (words : List ℕ) (s : State) (failed : ℕ) (core used
   pub acceptable : (units : List ℕ) → AreLevelZeroLits s units → UnitInTurn (core ++ units) (map (clause_of words s) used)
 
 -- how a false assumption fails: it is false at level 0, its negation was chosen before it, or clauses refute it
-pub data IsFailedAssumption (words : List ℕ) (s : State) (failed : ℕ) (core used : List ℕ) : Type 0 where
+pub data IsFailedAssumption (words : List ℕ) (s : PropagationState) (failed : ℕ) (core used : List ℕ) : Type 0 where
   fails_bottom : level s failed ≡ 0 → core ≡ failed ∷ [] → used ≡ [] → IsFailedAssumption words s failed core used
   fails_signs : IsChosen s 0 (negated failed) → core ≡ failed ∷ negated failed ∷ [] → used ≡ [] → IsFailedAssumption words s failed core used
   fails_clauses : IsRefutation words s failed core used → IsFailedAssumption words s failed core used
 
 -- the invariant while reasons are traced back: flagged literals above level 0 that are before this position are still to be resolved
-pub record TraceInvariant (words : List ℕ) (s : State) (failed : ℕ) (w : Work) (at : ℕ) : Type 0 where
+pub record TraceInvariant (words : List ℕ) (s : PropagationState) (failed : ℕ) (w : AnalysisState) (at : ℕ) : Type 0 where
   pub marks : MarksWork s 1 w at
   pub uses : AreUsed words s 1 w at
   pub lits : IsCoreFrom s failed w.core at
@@ -58,7 +58,7 @@ pub record TraceInvariant (words : List ℕ) (s : State) (failed : ℕ) (w : Wor
   pub head : get_or w.used 0 0 ≡ negated failed
 
 -- what holds when no literal is flagged any more
-pub record TraceResult (words : List ℕ) (s : State) (failed : ℕ) (w : Work) : Type 0 where
+pub record TraceResult (words : List ℕ) (s : PropagationState) (failed : ℕ) (w : AnalysisState) : Type 0 where
   pub size : length w.flags ≡ length s.values
   pub clear : AreClear w.flags
   pub core : IsDistinctCore s failed w.core

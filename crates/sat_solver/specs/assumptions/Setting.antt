@@ -3,11 +3,11 @@ use Rattle.std.specs.Prelude.{ℕ, ◌≡◌, List, map}
 use Rattle.sat_base.specs.steps.Steps.{Assumptions}
 use Rattle.sat_solver.specs.session.Session.{Session, after}
 use Rattle.sat_solver.specs.session.LiveClauses.{with_var, AreMapped}
-use Rattle.sat_solver.specs.cdcl.Joint.{global_in, IsSearch}
+use Rattle.sat_solver.specs.cdcl.Joint.{global_in, SearchInvariant}
 use Rattle.sat_solver.specs.declared.context.Search.{Search}
 
 -- these literals replace the assumptions, as the `Assumptions` step says; their variables have indices, and nothing else changed
 pub record ReplacesAssumed (ls : List ℕ) (c c' : Search) : Type 0 where
   pub lits : c'.assumptions.lits.items ≡ ls
   pub same : c' ≡ record c { assumptions = c'.assumptions }
-  pub search : (s : Session) → IsSearch s c → AreMapped (global_in c) s.solver_names ls → IsSearch (after (Assumptions (map (with_var (global_in c)) ls)) s) c'
+  pub search : (s : Session) → SearchInvariant s c → AreMapped (global_in c) s.solver_names ls → SearchInvariant (after (Assumptions (map (with_var (global_in c)) ls)) s) c'

@@ -5,35 +5,35 @@ use Rattle.sat_base.specs.steps.Steps.{Step}
 use Rattle.sat_checker.specs.declared.processing.ProofProcessor.{Ghosts}
 use Rattle.sat_solver.specs.proof.ProofView.{EmitsChecked, HasAllowedSteps, steps_of, session_of}
 use Rattle.sat_solver.specs.declared.proof.Proof.{Proof}
-use Rattle.sat_solver.specs.declared.schedule.Outcome.{Outcome}
-use Rattle.sat_solver.specs.declared.schedule.Outcome.TheVariants as outcomes
+use Rattle.sat_solver.specs.declared.schedule.RoundOutcome.{RoundOutcome}
+use Rattle.sat_solver.specs.declared.schedule.RoundOutcome.TheVariants as outcomes
 use Rattle.sat_solver.specs.declared.error.SolverError.{SolverError}
 use Rattle.sat_solver.specs.variables.Calls.{KeepsScriptState}
 use Rattle.sat_solver.specs.declared.variables.Variables.{Variables}
 use Rattle.sat_solver.specs.declared.context.Search.{Search}
-use Rattle.sat_solver.specs.cdcl.Rounds.{RoundSays}
+use Rattle.sat_solver.specs.cdcl.Rounds.{RoundResult}
 use Rattle.sat_solver.specs.variables.Shared.{SharesIndices}
 use Rattle.sat_solver.specs.unit_simplify.Freed.{KeepsAsked}
 use Rattle.sat_parts.specs.parts.Full.{IsFull}
 use Rattle.sat_solver.specs.unit_simplify.Passes.{PassFailsOr}
 
 -- names and search share their indices, unless the outcome is that unsat was recorded
-abbrev pub RoundShares : Outcome → Variables → Search → Type 0
+abbrev pub RoundShares : RoundOutcome → Variables → Search → Type 0
 RoundShares outcomes.Learned n c = SharesIndices n c
 RoundShares outcomes.Model n c = SharesIndices n c
 RoundShares outcomes.Unsat n c = Unit {0}
 RoundShares outcomes.Failed n c = SharesIndices n c
 
 -- The outcome of a round, and how the round changed names, proof and search. The judge's state is unchanged.
-pub record RoundEnds {W L : Type 0} {G : Ghosts L} (seen : W → Writer) (outcome : Outcome) (n n' : Variables) (p p' : Proof W L G) (c c' : Search) : Type 0 where
+pub record RoundEnds {W L : Type 0} {G : Ghosts L} (seen : W → Writer) (outcome : RoundOutcome) (n n' : Variables) (p p' : Proof W L G) (c c' : Search) : Type 0 where
   pub steps : List Step
   pub adds : EmitsChecked seen steps p p'
   pub keeps : HasAllowedSteps p'
   pub does : KeepsScriptState n n' (steps_of p) (steps_of p')
   pub asked : KeepsAsked n n' (session_of p) (session_of p')
-  pub says : RoundSays outcome (steps_of p) steps (session_of p') c c'
+  pub says : RoundResult outcome (steps_of p) steps (session_of p') c c'
   pub shares : RoundShares outcome n' c'
 
 -- the result of a round: an outcome or an error; `StoreFull` only if the clause buffer is full
-abbrev pub EndsRound : {W L : Type 0} {G : Ghosts L} → (W → Writer) → Result Outcome SolverError → Variables → Variables → Proof W L G → Proof W L G → Search → Search → Type 0
+abbrev pub EndsRound : {W L : Type 0} {G : Ghosts L} → (W → Writer) → Result RoundOutcome SolverError → Variables → Variables → Proof W L G → Proof W L G → Search → Search → Type 0
 EndsRound seen r n n' p p' c c' = MatchResult r (λ o. RoundEnds seen o n n' p p' c c') (λ e. PassFailsOr (IsFull c'.parts) seen e p p')

@@ -1,16 +1,16 @@
 -- Why a call failed, as the solver reports it, and where the underlying error is stored until then.
 use Rattle.std.specs.Prelude.{◌≡◌, ◌⊎◌, Some}
 use Rattle.sat_checker.specs.declared.processing.ProofProcessor.{Ghosts}
-use Rattle.sat_solver.specs.proof.ProofView.{Complains, is_lost}
-use Rattle.sat_solver.specs.declared.proof.made.CheckFault.TheVariants as checks
+use Rattle.sat_solver.specs.proof.ProofView.{CheckerFailed, has_missed_step}
+use Rattle.sat_solver.specs.declared.proof.emitted.CheckFault.TheVariants as checks
 use Rattle.sat_solver.specs.declared.proof.Proof.{Proof}
-use Rattle.sat_solver.specs.declared.cdcl.fault.Kind.{Kind}
-use Rattle.sat_solver.specs.declared.cdcl.fault.Kind.TheVariants as kinds
+use Rattle.sat_solver.specs.declared.cdcl.fault.FaultKind.{FaultKind}
+use Rattle.sat_solver.specs.declared.cdcl.fault.FaultKind.TheVariants as kinds
 use Rattle.sat_solver.specs.declared.error.SolverError.{SolverError}
 use Rattle.sat_solver.specs.declared.error.SolverError.TheVariants as errors
 
 -- the error that the solver reports for a fault of this kind
-abbrev pub reported_error : Kind → SolverError
+abbrev pub reported_error : FaultKind → SolverError
 reported_error (kinds.Write cause) = errors.ProofIoError cause
 reported_error (kinds.Processor cause) = errors.ProofProcessorError cause
 reported_error kinds.OutOfMemory = errors.OutOfMemory
@@ -30,5 +30,5 @@ abbrev pub NamesLoss : {W L : Type 0} {G : Ghosts L} → SolverError → Proof W
 NamesLoss (errors.ProofIoError cause) old new = Unit {0}
 NamesLoss (errors.ProofProcessorError cause) old new = Unit {0}
 NamesLoss errors.CounterEnd old new = Unit {0}
-NamesLoss errors.OutOfMemory old new = (is_lost new ≡ is_lost old) ⊎ Complains checks.OutOfMemory new
-NamesLoss e old new = is_lost new ≡ is_lost old
+NamesLoss errors.OutOfMemory old new = (has_missed_step new ≡ has_missed_step old) ⊎ CheckerFailed checks.OutOfMemory new
+NamesLoss e old new = has_missed_step new ≡ has_missed_step old

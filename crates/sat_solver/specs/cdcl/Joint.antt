@@ -7,7 +7,7 @@ use Rattle.sat_parts.specs.parts.Words.{IsIdle}
 use Rattle.sat_solver.specs.session.Session.{Session}
 use Rattle.sat_solver.specs.session.LiveClauses.{with_var}
 use Rattle.sat_solver.specs.session.Naming.{global_of_index}
-use Rattle.sat_solver.specs.session.Fits.{PartsSessionInvariant}
+use Rattle.sat_solver.specs.session.Fits.{SearchStateSessionInvariant}
 use Rattle.sat_solver.specs.unit_simplify.Left.{SameSize}
 use Rattle.sat_solver.specs.declared.context.Search.{Search}
 
@@ -49,8 +49,8 @@ pub record IsReadySearch (s : Session) (c : Search) : Type 0 where
   pub used : AreNamedOrIdle s c
 
 -- the invariant of a search between turns
-pub record IsSearch (s : Session) (c : Search) : Type 0 where
-  pub valid : PartsSessionInvariant c.parts s (global_in c)
+pub record SearchInvariant (s : Session) (c : Search) : Type 0 where
+  pub valid : SearchStateSessionInvariant c.parts s (global_in c)
   pub ready : IsReadySearch s c
 
 -- the same variables and assumptions

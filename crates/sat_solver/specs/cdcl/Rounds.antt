@@ -10,30 +10,30 @@ use Rattle.sat_solver.specs.session.Session.{Session, session_after}
 use Rattle.sat_solver.specs.declared.proof.Proof.{Proof}
 use Rattle.sat_solver.specs.declared.error.SolverError.{SolverError}
 use Rattle.sat_solver.specs.session.Quiet.{AreQuiet}
-use Rattle.sat_solver.specs.declared.schedule.Outcome.{Outcome}
-use Rattle.sat_solver.specs.declared.schedule.Outcome.TheVariants as outcomes
+use Rattle.sat_solver.specs.declared.schedule.RoundOutcome.{RoundOutcome}
+use Rattle.sat_solver.specs.declared.schedule.RoundOutcome.TheVariants as outcomes
 use Rattle.sat_solver.specs.declared.context.Search.{Search}
-use Rattle.sat_solver.specs.cdcl.Going.{EmitsStepsOr}
-use Rattle.sat_solver.specs.cdcl.Joint.{assumed_indices, IsSearch, SameVarsAndAssumptions}
-use Rattle.sat_solver.specs.cdcl.Learning.{LastAdvances}
-use Rattle.sat_solver.specs.cdcl.Turns.{IsComplete, IsFailing}
+use Rattle.sat_solver.specs.cdcl.StepEffects.{EmitsStepsOr}
+use Rattle.sat_solver.specs.cdcl.Joint.{assumed_indices, SearchInvariant, SameVarsAndAssumptions}
+use Rattle.sat_solver.specs.cdcl.Learning.{LastIsEmpowering}
+use Rattle.sat_solver.specs.cdcl.Iterations.{IsComplete, IsFailing}
 
 -- a clause was learned by a step that advances, and the word of the trail rose
 pub record RoundLearns (earlier steps : List Step) (s : Session) (c c' : Search) : Type 0 where
-  pub search : IsSearch s c'
+  pub search : SearchInvariant s c'
   pub moved : SameVarsAndAssumptions c c'
   pub rises : TrailWordRisesFor (assumed_indices c) c.parts c'.parts
-  pub last : LastAdvances earlier steps
+  pub last : LastIsEmpowering earlier steps
 
 -- an assumption is false, and only assumptions were decided
-pub record RoundFails (s : Session) (c c' : Search) : Type 0 where
-  pub search : IsSearch s c'
+pub record RoundFindsCore (s : Session) (c c' : Search) : Type 0 where
+  pub search : SearchInvariant s c'
   pub moved : SameVarsAndAssumptions c c'
   pub failing : IsFailing c'.assumptions.lits.items c'.parts c'.failed
 
 -- every variable of a clause has a value, and the assumptions are true
-pub record RoundShows (s : Session) (c c' : Search) : Type 0 where
-  pub search : IsSearch s c'
+pub record RoundFindsModel (s : Session) (c c' : Search) : Type 0 where
+  pub search : SearchInvariant s c'
   pub moved : SameVarsAndAssumptions c c'
   pub complete : IsComplete c'.assumptions.lits.items c'.parts
 
@@ -47,12 +47,12 @@ pub record LastRefutes (earlier steps : List Step) (s : Session) : Type 0 where
   pub quiet : AreQuiet steps
 
 -- what holds after a round, by its outcome
-abbrev pub RoundSays : Outcome → (earlier steps : List Step) → Session → Search → Search → Type 0
-RoundSays outcomes.Learned earlier steps s c c' = RoundLearns earlier steps s c c'
-RoundSays outcomes.Model earlier steps s c c' = RoundShows s c c' × AreQuiet steps
-RoundSays outcomes.Unsat earlier steps s c c' = LastRefutes earlier steps s
-RoundSays outcomes.Failed earlier steps s c c' = RoundFails s c c' × AreQuiet steps
+abbrev pub RoundResult : RoundOutcome → (earlier steps : List Step) → Session → Search → Search → Type 0
+RoundResult outcomes.Learned earlier steps s c c' = RoundLearns earlier steps s c c'
+RoundResult outcomes.Model earlier steps s c c' = RoundFindsModel s c c' × AreQuiet steps
+RoundResult outcomes.Unsat earlier steps s c c' = LastRefutes earlier steps s
+RoundResult outcomes.Failed earlier steps s c c' = RoundFindsCore s c c' × AreQuiet steps
 
 -- a round made its steps and had this outcome, or failed
-abbrev pub RoundGoes : {W L : Type 0} {G : Ghosts L} → (W → Writer) → Result Outcome SolverError → Proof W L G → Proof W L G → Search → Search → Type 0
-RoundGoes seen r p p' c c' = EmitsStepsOr (IsFull c'.parts) seen r p p' (λ outcome steps. RoundSays outcome (steps_of p) steps (session_of p') c c')
+abbrev pub RoundEffect : {W L : Type 0} {G : Ghosts L} → (W → Writer) → Result RoundOutcome SolverError → Proof W L G → Proof W L G → Search → Search → Type 0
+RoundEffect seen r p p' c c' = EmitsStepsOr (IsFull c'.parts) seen r p p' (λ outcome steps. RoundResult outcome (steps_of p) steps (session_of p') c c')

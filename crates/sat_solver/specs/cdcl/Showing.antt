@@ -1,11 +1,11 @@
 -- The literals that are true in a search.
 use Rattle.std.specs.Prelude.{ℕ, ◌+◌, Bool, Option, None, Some, List, [], ◌∷◌, ◌++◌}
-use Rattle.sat_base.specs.values.Literals.{coded}
+use Rattle.sat_base.specs.values.Literals.{mk_lit}
 
 -- the true literal of this variable, if it has a value
 abbrev pub literal_of : ℕ → Option Bool → List ℕ
 literal_of v None = []
-literal_of v (Some b) = coded v b ∷ []
+literal_of v (Some b) = mk_lit v b ∷ []
 
 -- the true literals; the first of these values is that of variable v
 abbrev pub true_lits : ℕ → List (Option Bool) → List ℕ

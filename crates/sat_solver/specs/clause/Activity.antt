@@ -6,7 +6,7 @@ use Rattle.sat_solver.specs.declared.config.SolverConfig.{SolverConfig}
 use Rattle.sat_parts.specs.parts.Words.{TrailWordExtends}
 use Rattle.sat_solver.specs.session.Session.{Session}
 use Rattle.sat_solver.specs.declared.context.Search.{Search}
-use Rattle.sat_solver.specs.cdcl.Joint.{IsSearch, SameVarsAndAssumptions}
+use Rattle.sat_solver.specs.cdcl.Joint.{SearchInvariant, SameVarsAndAssumptions}
 
 -- all these variables are below n
 abbrev pub AreBelow : List ℕ → ℕ → Type 0
@@ -24,6 +24,6 @@ all_bumped (v ∷ vs) q = all_bumped vs (bumped v q)
 -- the invariant of the search holds, variables and assumptions are unchanged, and the word of the trail is unchanged
 -- or extended
 pub record BumpEffect (s : Session) (c c' : Search) : Type 0 where
-  pub search : IsSearch s c'
+  pub search : SearchInvariant s c'
   pub moved : SameVarsAndAssumptions c c'
   pub word : TrailWordExtends c.parts c'.parts

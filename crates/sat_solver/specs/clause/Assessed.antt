@@ -7,10 +7,10 @@ use Rattle.sat_store.specs.declared.clause.tier.Tier.{Tier}
 use Rattle.sat_store.specs.declared.clause.tier.Tier.TheVariants.{Core, Mid, Local}
 use Rattle.sat_parts.specs.clause.Activity.{Scale, BumpsBelow, BumpsPast, DecaysAll, later_bump, later_scale}
 use Rattle.sat_parts.specs.clause.Db.{live_refs, PutsHeader}
-use Rattle.sat_parts.specs.clause.Glue.{levels_of, different, HaveFlags, AreClear}
-use Rattle.sat_parts.specs.declared.parts.Parts.{Parts}
+use Rattle.sat_parts.specs.clause.Glue.{levels_of, count_distinct, HaveFlags, AreClear}
+use Rattle.sat_parts.specs.declared.parts.SearchState.{SearchState}
 use Rattle.sat_parts.specs.parts.Frame.{ChangesHeaders}
-use Rattle.sat_parts.specs.parts.Whole.{PartsInvariant}
+use Rattle.sat_parts.specs.parts.Whole.{SearchStateInvariant}
 use Rattle.sat_parts.specs.parts.Words.{TrailWordExtends}
 
 -- the tier of a learned clause with this glue
@@ -22,24 +22,24 @@ abbrev pub with_glue : ℕ → Header → Header
 with_glue glue h = record h { glue = min glue 63; tier = tier_for glue }
 
 -- the header of a learned clause whose literals have this many levels: its glue is one less
-abbrev pub graded : ℕ → Header
-graded levels = with_glue (levels - 1) no_header
+abbrev pub learned_header : ℕ → Header
+learned_header levels = with_glue (levels - 1) no_header
 
 -- The header of a clause that took part: it is active. A learned clause whose literals have fewer levels than its
 -- glue also gets a smaller glue, and the tier for it.
-abbrev pub improved : ℕ → Header → Header
-improved levels h = if is_learned h.tier && nat_lt levels h.glue then with_glue levels (record h { active = true }) else record h { active = true }
+abbrev pub with_updated_glue : ℕ → Header → Header
+with_updated_glue levels h = if is_learned h.tier && nat_lt levels h.glue then with_glue levels (record h { active = true }) else record h { active = true }
 
 -- the number of levels of the literals of the clause at o
-abbrev pub levels_in : Parts → ℕ → ℕ
-levels_in p o = different (levels_of p.graph (lits_at p.clauses o))
+abbrev pub clause_level_count : SearchState → ℕ → ℕ
+clause_level_count p o = count_distinct (levels_of p.graph (lits_at p.clauses o))
 
 -- the activity of the clause at o was bumped, and then its header improved
 pub record BumpsClause (levels : ℕ) (words words' refs : List ℕ) (o : ℕ) (s s' : Scale) : Type 0 where
   pub raised : List ℕ
   pub one : BumpsBelow words raised refs o s s'
   pub all : BumpsPast words raised refs o s s'
-  pub improves : PutsHeader raised words' refs o (improved levels (header_at raised o))
+  pub improves : PutsHeader raised words' refs o (with_updated_glue levels (header_at raised o))
 
 -- the bump grew by a decay; if it reached 2^30, all activities were rescaled
 pub record DecaysActivities (words words' refs : List ℕ) (s s' : Scale) : Type 0 where
@@ -52,14 +52,14 @@ BumpsClauses levels refs [] words s words' s' = DecaysActivities words words' re
 BumpsClauses levels refs (o ∷ os) words s words' s' = (mid : List ℕ) × (t : Scale) × BumpsClause (levels o) words mid refs o s t × BumpsClauses levels refs os mid t words' s'
 
 -- only headers of long clauses changed
-pub record ChangesOnlyHeaders (p p' : Parts) : Type 0 where
-  pub holds : PartsInvariant p'
+pub record ChangesOnlyHeaders (p p' : SearchState) : Type 0 where
+  pub holds : SearchStateInvariant p'
   pub headed : ChangesHeaders p p'
   pub refs : p'.db.refs ≡ p.db.refs
   pub word : TrailWordExtends p p'
 
 -- the clauses are live, there is a flag for the level of each of their literals, and no flag is set
-pub record AreInvolved (p : Parts) (flags : List Bool) (os : List ℕ) : Type 0 where
+pub record AreAntecedents (p : SearchState) (flags : List Bool) (os : List ℕ) : Type 0 where
   pub live : (o : ℕ) → Contains os o → Contains (live_refs p.clauses p.db.refs) o
   pub levels : (o : ℕ) → Contains os o → HaveFlags p.graph flags (lits_at p.clauses o)
   pub clear : AreClear flags

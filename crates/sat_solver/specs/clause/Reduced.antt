@@ -7,11 +7,11 @@ use Rattle.sat_checker.specs.declared.processing.ProofProcessor.{Ghosts}
 use Rattle.sat_store.specs.clause.Buffer.{SameClauseAt, header_at}
 use Rattle.sat_store.specs.declared.clause.tier.Tier.TheVariants.{Local}
 use Rattle.sat_parts.specs.clause.Activity.{PutsHeaders}
-use Rattle.sat_parts.specs.clause.Db.{live_refs, is_live_of, IsLockedClause}
+use Rattle.sat_parts.specs.clause.Db.{live_refs, is_live_in_tier, IsLockedClause}
 use Rattle.sat_parts.specs.clause.Reduced.{reduced}
 use Rattle.sat_solver.specs.declared.config.SolverConfig.{SolverConfig}
-use Rattle.sat_parts.specs.declared.parts.Parts.{Parts}
-use Rattle.sat_parts.specs.parts.Frame.{SameSearch, ChangesHeaders, DropsLongClause, MovesLongClauses}
+use Rattle.sat_parts.specs.declared.parts.SearchState.{SearchState}
+use Rattle.sat_parts.specs.parts.Frame.{SameExceptLongClauses, ChangesHeaders, DropsLongClause, MovesLongClauses}
 use Rattle.sat_parts.specs.parts.Reducing.{clause_rank}
 use Rattle.sat_parts.specs.parts.Words.{TrailWordExtends, TrailWordExtendsFor}
 use Rattle.sat_solver.specs.proof.ProofView.{session_of}
@@ -20,26 +20,26 @@ use Rattle.sat_solver.specs.declared.proof.Proof.{Proof}
 use Rattle.sat_solver.specs.declared.error.SolverError.{SolverError}
 use Rattle.sat_solver.specs.session.Fits.{is_redundant}
 use Rattle.sat_solver.specs.declared.context.Search.{Search}
-use Rattle.sat_solver.specs.cdcl.Going.{EmitsSteps}
-use Rattle.sat_solver.specs.cdcl.Joint.{assumed_indices, IsSearch, SameVarsAndAssumptions}
+use Rattle.sat_solver.specs.cdcl.StepEffects.{EmitsSteps}
+use Rattle.sat_solver.specs.cdcl.Joint.{assumed_indices, SearchInvariant, SameVarsAndAssumptions}
 
 -- a live long learned clause
-pub record IsLearnedLong (p : Parts) (o : ℕ) : Type 0 where
+pub record IsLearnedLong (p : SearchState) (o : ℕ) : Type 0 where
   pub live : Contains (live_refs p.clauses p.db.refs) o
   pub learned : is_redundant p.clauses o ≡ true
 
 -- the clause at o is the reason of its first literal
-abbrev pub IsReason : Parts → ℕ → Type 0
+abbrev pub IsReason : SearchState → ℕ → Type 0
 IsReason p o = IsLockedClause p.clauses p.assignment.current p.graph o
 
 -- the clause at o was deleted, and was not a reason; or it is a reason, and nothing changed
-abbrev pub DeletesUnlessReason : (deleted : Bool) (o : ℕ) → Parts → Parts → Type 0
+abbrev pub DeletesUnlessReason : (deleted : Bool) (o : ℕ) → SearchState → SearchState → Type 0
 DeletesUnlessReason true o p p' = (IsReason p o → ⊥) × DropsLongClause p p' o
 DeletesUnlessReason false o p p' = IsReason p o × (p' ≡ p)
 
 -- the clause at o was deleted, or nothing changed; the invariant of the search holds
 pub record DeletesIf (deleted : Bool) (o : ℕ) (s : Session) (c c' : Search) : Type 0 where
-  pub search : IsSearch s c'
+  pub search : SearchInvariant s c'
   pub moved : SameVarsAndAssumptions c c'
   pub word : TrailWordExtends c.parts c'.parts
   pub others : (p : ℕ) → p ≢ o → IsLearnedLong c.parts p → IsLearnedLong c'.parts p
@@ -48,54 +48,54 @@ pub record DeletesIf (deleted : Bool) (o : ℕ) (s : Session) (c c' : Search) : 
 -- the invariant of the search holds, variables and assumptions are unchanged, and the word of the trail is unchanged
 -- or extended
 pub record ReductionEffect (s : Session) (c c' : Search) : Type 0 where
-  pub search : IsSearch s c'
+  pub search : SearchInvariant s c'
   pub moved : SameVarsAndAssumptions c c'
   pub word : TrailWordExtendsFor (assumed_indices c) c.parts c'.parts
 
 -- a change of this kind was made by proof steps, with this effect
-abbrev pub ReductionBySteps : {W L : Type 0} {G : Ghosts L} → (Changes : Parts → Parts → Type 0) → (W → Writer) → Result (Unit {0}) SolverError → Proof W L G → Proof W L G → Search → Search → Type 0
+abbrev pub ReductionBySteps : {W L : Type 0} {G : Ghosts L} → (Changes : SearchState → SearchState → Type 0) → (W → Writer) → Result (Unit {0}) SolverError → Proof W L G → Proof W L G → Search → Search → Type 0
 ReductionBySteps Changes seen r p p' c c' = EmitsSteps seen r p p' (λ _ _. ReductionEffect (session_of p') c c' × Changes c.parts c'.parts)
 
 -- TIER LOCAL
 
 -- the first n clauses of the list, in order, that are not reasons; all of these if there are fewer
-abbrev pub AreFirstFree : Parts → (list : List ℕ) (n : ℕ) (free : List ℕ) → Type 0
+abbrev pub AreFirstFree : SearchState → (list : List ℕ) (n : ℕ) (free : List ℕ) → Type 0
 AreFirstFree p [] n free = free ≡ []
 AreFirstFree p (o ∷ os) zero free = free ≡ []
 AreFirstFree p (o ∷ os) (suc n) free =
     (IsReason p o × AreFirstFree p os (suc n) free) ⊎ ((IsReason p o → ⊥) × (rest : List ℕ) × (free ≡ o ∷ rest) × AreFirstFree p os n rest)
 
 -- exactly these live clauses were deleted; the others are unchanged
-pub record DeletesJustThese (p p' : Parts) (gone : List ℕ) : Type 0 where
+pub record DeletesJustThese (p p' : SearchState) (gone : List ℕ) : Type 0 where
   pub deleted : (o : ℕ) → Contains gone o → Contains (live_refs p.clauses p.db.refs) o × (Contains (live_refs p'.clauses p'.db.refs) o → ⊥)
   pub others : (o : ℕ) → Contains (live_refs p.clauses p.db.refs) o → Contains gone o ⊎ Contains (live_refs p'.clauses p'.db.refs) o
   pub stay : (o : ℕ) → Contains (live_refs p'.clauses p'.db.refs) o → Contains (live_refs p.clauses p.db.refs) o × SameClauseAt p.clauses p'.clauses o
-  pub same : SameSearch p p'
+  pub same : SameExceptLongClauses p p'
 
 -- Live clauses of tier Local were deleted: those of lowest activity, the earlier one first among equals, but none
 -- that is a reason. Their number is half of these clauses, rounded down, or less if fewer of them are not reasons.
-pub record HalvesLocals (p p' : Parts) : Type 0 where
+pub record HalvesLocals (p p' : SearchState) : Type 0 where
   pub locals : List ℕ
-  pub all : IsPermutation (filter (is_live_of p.clauses Local) p.db.refs) locals
+  pub all : IsPermutation (filter (is_live_in_tier p.clauses Local) p.db.refs) locals
   pub rising : IsNonDecreasingBy (clause_rank p.clauses) locals
   pub gone : List ℕ
   pub first : AreFirstFree p locals (length locals / 2) gone
   pub deletes : DeletesJustThese p p' gone
 
 -- the reduction of tier Local, if it is due
-abbrev pub ReducesLocals : Bool → Parts → Parts → Type 0
+abbrev pub ReducesLocals : Bool → SearchState → SearchState → Type 0
 ReducesLocals true p p' = HalvesLocals p p'
 ReducesLocals false p p' = p' ≡ p
 
 -- TIER MID
 
 -- inactive clauses of tier Mid moved to tier Local, the others were made inactive, and nothing else changed
-pub record MovesMids (p p' : Parts) : Type 0 where
+pub record MovesMids (p p' : SearchState) : Type 0 where
   pub headers : PutsHeaders p.clauses p'.clauses p.db.refs (λ o. reduced (header_at p.clauses o))
   pub headed : ChangesHeaders p p'
 
 -- the reduction of tier Mid, if it is due
-abbrev pub ReducesMids : Bool → Parts → Parts → Type 0
+abbrev pub ReducesMids : Bool → SearchState → SearchState → Type 0
 ReducesMids true p p' = MovesMids p p'
 ReducesMids false p p' = p' ≡ p
 
@@ -103,16 +103,16 @@ ReducesMids false p p' = p' ≡ p
 
 -- if deleted clauses take up more than half of the buffer, the live ones were moved together, in order, and no
 -- garbage is left
-pub record CollectsWhereDue (p p' : Parts) : Type 0 where
+pub record CollectsWhereDue (p p' : SearchState) : Type 0 where
   pub due : length p.clauses / 2 < p.db.garbage → MovesLongClauses p p' × (p'.db.garbage ≡ 0)
   pub not_due : p.db.garbage ≤ length p.clauses / 2 → p' ≡ p
 
 -- ALL OF THESE
 
 -- the reductions that are due before the round with this number
-pub record Reduces (config : SolverConfig) (round : ℕ) (p p' : Parts) : Type 0 where
-  pub after_locals : Parts
-  pub after_mids : Parts
+pub record Reduces (config : SolverConfig) (round : ℕ) (p p' : SearchState) : Type 0 where
+  pub after_locals : SearchState
+  pub after_mids : SearchState
   pub locals : ReducesLocals (round % config.reduce_locals_interval == 0) p after_locals
   pub mids : ReducesMids (round % config.reduce_mids_interval == 0) after_locals after_mids
   pub collection : CollectsWhereDue after_mids p'

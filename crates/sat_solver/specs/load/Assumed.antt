@@ -1,6 +1,6 @@
 -- Assumptions over names, and the marks of their variables.
 use Rattle.std.specs.Prelude.{ℕ, ◌≡◌, ◌∷◌, ◌++◌, [], Bool, true, false, List, map}
-use Rattle.sat_base.specs.script.ScriptState.{bring_all}
+use Rattle.sat_base.specs.script.ScriptState.{introduce_all}
 use Rattle.sat_base.specs.steps.Steps.{Step, Assumptions}
 use Rattle.sat_checker.specs.LiteralSets.{mentions}
 use Rattle.sat_solver.specs.session.Session.{session_after}
@@ -9,14 +9,14 @@ use Rattle.sat_store.specs.declared.data.VarData.{VarData}
 use Rattle.sat_solver.specs.variables.Variables.{data_at, variables_used}
 use Rattle.sat_solver.specs.variables.Naming.{ExtendsNames}
 use Rattle.sat_solver.specs.variables.Refusing.{names_in}
-use Rattle.sat_checker.specs.matching.Expected.{Outcome, Opens, bringing}
+use Rattle.sat_checker.specs.matching.Expected.{Outcome, Opens, introducing}
 use Rattle.sat_solver.specs.load.Literals.{user_literal, Images, global_with_index}
 use Rattle.sat_solver.specs.variables.Search.{KeepsSearch, GivesIndices}
 use Rattle.sat_solver.specs.variables.Calls.{NamesEffect}
-use Rattle.sat_solver.specs.session.Coming.{OnlyAllowedSteps}
-use Rattle.sat_solver.specs.variables.Coming.{MayTake}
+use Rattle.sat_solver.specs.session.AllowedSteps.{OnlyAllowedSteps}
+use Rattle.sat_solver.specs.variables.NamingSteps.{IsLiteralsStep}
 use Rattle.sat_solver.specs.declared.variables.Variables.{Variables}
-use Rattle.sat_solver.specs.declared.load.literals.Taken.{Taken}
+use Rattle.sat_solver.specs.declared.load.literals.MappedLits.{MappedLits}
 
 -- the data with its mark set to the second flag, if the first flag is set
 abbrev pub marked_if : Bool → Bool → VarData → VarData
@@ -42,8 +42,8 @@ pub record PutsMarks (old new : Variables) (ls : List ℕ) : Type 0 where
 
 -- The names of the literals were introduced, their variables have indices, and the last step makes the literals the
 -- assumptions. This holds for any outcome of the ask.
-pub record BringsAssumptions (old new : Variables) (from to : List Step) (user : List ℕ) (t : Taken) : Type 0 where
-  pub does : (o : Outcome) → NamesEffect old new from to (bring_all (names_in user)) (λ j. bringing (names_in user) j ++ (Opens (map user_literal user) o ∷ []))
+pub record IntroducesAssumptions (old new : Variables) (from to : List Step) (user : List ℕ) (t : MappedLits) : Type 0 where
+  pub does : (o : Outcome) → NamesEffect old new from to (introduce_all (names_in user)) (λ j. introducing (names_in user) j ++ (Opens (map user_literal user) o ∷ []))
   pub extends : ExtendsNames old new
   pub images : Images new user t.order.items
   pub globals : t.globals.items ≡ map (with_var (global_with_index new)) t.order.items
@@ -52,4 +52,4 @@ pub record BringsAssumptions (old new : Variables) (from to : List Step) (user :
   pub between : List Step
   pub written : to ≡ Assumptions t.globals.items ∷ between
   pub search : KeepsSearch (session_after from) (session_after between)
-  pub comes : OnlyAllowedSteps (MayTake (names_in user)) from to
+  pub comes : OnlyAllowedSteps (IsLiteralsStep (names_in user)) from to

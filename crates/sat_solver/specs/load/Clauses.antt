@@ -1,23 +1,23 @@
 -- A clause over names, as it is added and written.
 use Rattle.std.specs.Prelude.{ℕ, ◌≡◌, ◌∷◌, ◌++◌, [], Bool, List, map}
-use Rattle.sat_base.specs.script.ScriptState.{bring_all, with_clause}
+use Rattle.sat_base.specs.script.ScriptState.{introduce_all, with_clause}
 use Rattle.sat_base.specs.steps.Steps.{Step, AddClause}
 use Rattle.sat_checker.specs.LiteralSets.{is_tautology}
 use Rattle.sat_solver.specs.session.Session.{session_after}
 use Rattle.sat_solver.specs.variables.Naming.{ExtendsNames}
 use Rattle.sat_solver.specs.variables.Refusing.{names_in}
-use Rattle.sat_checker.specs.matching.Expected.{Adds, bringing}
+use Rattle.sat_checker.specs.matching.Expected.{Adds, introducing}
 use Rattle.sat_solver.specs.load.Literals.{user_literal, Images, MapsClause}
 use Rattle.sat_solver.specs.variables.Search.{KeepsSearch, IsUnseen, GivesIndices}
 use Rattle.sat_solver.specs.variables.Calls.{NamesEffect}
-use Rattle.sat_solver.specs.session.Coming.{OnlyAllowedSteps}
-use Rattle.sat_solver.specs.variables.Coming.{IsDue, MayTake}
+use Rattle.sat_solver.specs.session.AllowedSteps.{OnlyAllowedSteps}
+use Rattle.sat_solver.specs.variables.NamingSteps.{IsDue, IsLiteralsStep}
 use Rattle.sat_solver.specs.declared.variables.Variables.{Variables}
-use Rattle.sat_solver.specs.declared.load.literals.Taken.{Taken}
+use Rattle.sat_solver.specs.declared.load.literals.MappedLits.{MappedLits}
 
 -- the names of the clause were introduced, their variables have indices, and the last step adds the clause
-pub record BringsClause (old new : Variables) (from to : List Step) (user : List ℕ) (t : Taken) (both_signs : Bool) : Type 0 where
-  pub does : NamesEffect old new from to (λ j. with_clause (map user_literal user) (bring_all (names_in user) j)) (λ j. bringing (names_in user) j ++ (Adds (map user_literal user) ∷ []))
+pub record IntroducesClause (old new : Variables) (from to : List Step) (user : List ℕ) (t : MappedLits) (both_signs : Bool) : Type 0 where
+  pub does : NamesEffect old new from to (λ j. with_clause (map user_literal user) (introduce_all (names_in user) j)) (λ j. introducing (names_in user) j ++ (Adds (map user_literal user) ∷ []))
   pub signs : both_signs ≡ is_tautology t.order.items
   pub extends : ExtendsNames old new
   pub images : Images new user t.order.items
@@ -25,14 +25,14 @@ pub record BringsClause (old new : Variables) (from to : List Step) (user : List
   pub gives : GivesIndices old new (session_after from) t.given.items
   -- all steps before the last one; the search sees no change by those since `from`
   pub between : List Step
-  pub since : OnlyAllowedSteps (MayTake (names_in user)) from between
+  pub since : OnlyAllowedSteps (IsLiteralsStep (names_in user)) from between
   pub written : to ≡ AddClause t.globals.items ∷ between
   pub search : KeepsSearch (session_after from) (session_after between)
-  pub comes : OnlyAllowedSteps (MayTake (names_in user)) from to
+  pub comes : OnlyAllowedSteps (IsLiteralsStep (names_in user)) from to
 
 -- the names of the clause were introduced; no step adds the clause, since the clauses are known to be unsatisfiable
 pub record LeavesOut (old new : Variables) (from to : List Step) (user : List ℕ) : Type 0 where
-  pub does : NamesEffect old new from to (λ j. with_clause (map user_literal user) (bring_all (names_in user) j)) (bringing (names_in user))
+  pub does : NamesEffect old new from to (λ j. with_clause (map user_literal user) (introduce_all (names_in user) j)) (introducing (names_in user))
   pub extends : ExtendsNames old new
   pub unseen : IsUnseen old new from to
   pub comes : OnlyAllowedSteps IsDue from to

@@ -3,7 +3,7 @@ use Rattle.sat_solver.specs.declared.variables.error.NameError.{NameError}
 use Rattle.sat_solver.specs.declared.variables.error.NameError.TheVariants as names
 use Rattle.sat_solver.specs.declared.error.SolverError.{SolverError}
 use Rattle.sat_solver.specs.declared.error.SolverError.TheVariants as errors
-use Rattle.sat_solver.specs.cdcl.Going.{check_fault_of}
+use Rattle.sat_solver.specs.cdcl.StepEffects.{check_fault_of}
 
 -- the solver's error for a failed call over names
 abbrev pub reported_as : NameError → SolverError

@@ -1,9 +1,9 @@
 -- Literals over names, and the literals of the search and of the proof that represent them.
 use Rattle.std.specs.Prelude.{ℕ, ◌+◌, ◌<◌, ◌≡◌, Some, List, map, length, get_or}
 use Rattle.std.specs.List.{AllByRecursion}
-use Rattle.sat_base.specs.values.Literals.{variable, is_positive, coded}
+use Rattle.sat_base.specs.values.Literals.{variable, is_positive, mk_lit}
 use Rattle.sat_base.specs.script.Script.{Literal, Among}
-use Rattle.sat_base.specs.script.ScriptState.{bring_all}
+use Rattle.sat_base.specs.script.ScriptState.{introduce_all}
 use Rattle.sat_base.specs.steps.Steps.{Step}
 use Rattle.sat_checker.specs.LiteralSets.{canonical}
 use Rattle.sat_solver.specs.session.Session.{session_after}
@@ -12,13 +12,13 @@ use Rattle.sat_store.specs.declared.data.SamplingMode.TheVariants as kept
 use Rattle.sat_solver.specs.variables.Variables.{data_at, global_of, solver_of}
 use Rattle.sat_solver.specs.variables.Naming.{ExtendsNames}
 use Rattle.sat_solver.specs.variables.Refusing.{names_in}
-use Rattle.sat_checker.specs.matching.Expected.{bringing}
+use Rattle.sat_checker.specs.matching.Expected.{introducing}
 use Rattle.sat_solver.specs.variables.Search.{KeepsSearch, GivesIndices}
 use Rattle.sat_solver.specs.variables.Calls.{NamesEffect}
-use Rattle.sat_solver.specs.session.Coming.{OnlyAllowedSteps}
-use Rattle.sat_solver.specs.variables.Coming.{MayTake}
+use Rattle.sat_solver.specs.session.AllowedSteps.{OnlyAllowedSteps}
+use Rattle.sat_solver.specs.variables.NamingSteps.{IsLiteralsStep}
 use Rattle.sat_solver.specs.declared.variables.Variables.{Variables}
-use Rattle.sat_solver.specs.declared.load.literals.Taken.{Taken}
+use Rattle.sat_solver.specs.declared.load.literals.MappedLits.{MappedLits}
 
 -- a literal over names
 abbrev pub user_literal : ℕ → Literal
@@ -31,7 +31,7 @@ pub record IsProofLiteralOf (n : Variables) (l code : ℕ) : Type 0 where
   pub named : global_of n (variable l) ≡ Some variable_is
   pub indexed : solver_of n variable_is ≡ Some index_is
   pub sampled : (data_at n variable_is).sampling_mode ≡ kept.Sample
-  pub is : code ≡ coded variable_is (is_positive l)
+  pub is : code ≡ mk_lit variable_is (is_positive l)
 
 -- the clause over proof variables represents exactly these literals over names, in any order and with any
 -- repetitions
@@ -45,7 +45,7 @@ pub record Image (n : Variables) (l code : ℕ) : Type 0 where
   pub index_is : ℕ
   pub named : global_of n (variable l) ≡ Some variable_is
   pub indexed : solver_of n variable_is ≡ Some index_is
-  pub is : code ≡ coded index_is (is_positive l)
+  pub is : code ≡ mk_lit index_is (is_positive l)
 
 -- one search literal for each literal over names, in order
 pub record Images (n : Variables) (user lits : List ℕ) : Type 0 where
@@ -55,7 +55,7 @@ pub record Images (n : Variables) (user lits : List ℕ) : Type 0 where
 -- one proof literal for each literal over names, in order
 pub record GlobalImages (n : Variables) (user codes : List ℕ) : Type 0 where
   pub count : length codes ≡ length user
-  pub each : (k : ℕ) → k < length user → (v : ℕ) × (global_of n (variable (get_or user k 0)) ≡ Some v) × (get_or codes k 0 ≡ coded v (is_positive (get_or user k 0)))
+  pub each : (k : ℕ) → k < length user → (v : ℕ) × (global_of n (variable (get_or user k 0)) ≡ Some v) × (get_or codes k 0 ≡ mk_lit v (is_positive (get_or user k 0)))
 
 -- the name is of mode sample, if it is in use
 abbrev pub IsSampled : Variables → ℕ → Type 0
@@ -70,16 +70,16 @@ abbrev pub global_with_index : Variables → ℕ → ℕ
 global_with_index n x = get_or n.globals.items x 0
 
 -- the names of the literals were introduced, and their variables have indices
-pub record BringsLiterals (old new : Variables) (from to : List Step) (user : List ℕ) (t : Taken) : Type 0 where
-  pub does : NamesEffect old new from to (bring_all (names_in user)) (bringing (names_in user))
+pub record IntroducesLiterals (old new : Variables) (from to : List Step) (user : List ℕ) (t : MappedLits) : Type 0 where
+  pub does : NamesEffect old new from to (introduce_all (names_in user)) (introducing (names_in user))
   pub extends : ExtendsNames old new
   pub images : Images new user t.order.items
   pub gives : GivesIndices old new (session_after from) t.given.items
   pub search : KeepsSearch (session_after from) (session_after to)
-  pub comes : OnlyAllowedSteps (MayTake (names_in user)) from to
+  pub comes : OnlyAllowedSteps (IsLiteralsStep (names_in user)) from to
 
 -- the literals of the search in order of their codes and without repetitions, and the same literals over proof
 -- variables
-pub record MapsClause (new : Variables) (t : Taken) : Type 0 where
+pub record MapsClause (new : Variables) (t : MappedLits) : Type 0 where
   pub lits : t.lits.items ≡ canonical t.order.items
   pub globals : t.globals.items ≡ map (with_var (global_with_index new)) t.lits.items

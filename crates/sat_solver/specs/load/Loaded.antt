@@ -11,12 +11,12 @@ use Rattle.sat_solver.specs.proof.ProofView.{steps_of, session_of}
 use Rattle.sat_solver.specs.declared.proof.Proof.{Proof}
 use Rattle.sat_solver.specs.declared.error.SolverError.{SolverError}
 use Rattle.sat_parts.specs.parts.Full.{IsFull}
-use Rattle.sat_solver.specs.cdcl.Going.{EmitsSteps, EmitsStepsOr}
-use Rattle.sat_solver.specs.cdcl.Joint.{global_in, IsSearch, SameVarsAndAssumptions}
+use Rattle.sat_solver.specs.cdcl.StepEffects.{EmitsSteps, EmitsStepsOr}
+use Rattle.sat_solver.specs.cdcl.Joint.{global_in, SearchInvariant, SameVarsAndAssumptions}
 use Rattle.sat_solver.specs.declared.context.Search.{Search}
 
 -- a clause that may be loaded at level 0: its literals are over different variables that exist
-pub record MayLoad (c : Search) (ls : List ℕ) : Type 0 where
+pub record CanLoad (c : Search) (ls : List ℕ) : Type 0 where
   pub bottom : c.parts.trail.starts ≡ []
   pub differ : AreDistinct ls
   pub plain : is_tautology ls ≡ false
@@ -26,17 +26,17 @@ pub record MayLoad (c : Search) (ls : List ℕ) : Type 0 where
 pub record IsAdded (steps : List Step) (c : Search) (ls : List ℕ) : Type 0 where
   pub earlier : List Step
   pub added : steps ≡ AddClause (map (with_var (global_in c)) ls) ∷ earlier
-  pub search : IsSearch (session_after earlier) c
+  pub search : SearchInvariant (session_after earlier) c
   pub named : AreMapped (global_in c) (session_after earlier).solver_names ls
 
 -- the invariant of the search holds or, if the flag is false, unsat is recorded
-abbrev pub SearchGoesOn : Bool → Session → Search → Type 0
-SearchGoesOn true s c = IsSearch s c
-SearchGoesOn false s c = s.unsat ≡ true
+abbrev pub SearchInvariantOrUnsat : Bool → Session → Search → Type 0
+SearchInvariantOrUnsat true s c = SearchInvariant s c
+SearchInvariantOrUnsat false s c = s.unsat ≡ true
 
 -- a clause was loaded, and the search is at level 0; variables and assumptions are unchanged
 pub record IsLoaded (left : Bool) (s : Session) (c c' : Search) : Type 0 where
-  pub goes_on : SearchGoesOn left s c'
+  pub goes_on : SearchInvariantOrUnsat left s c'
   pub moved : SameVarsAndAssumptions c c'
   pub bottom : c'.parts.trail.starts ≡ []
 

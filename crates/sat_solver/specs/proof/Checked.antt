@@ -17,8 +17,8 @@ use Rattle.sat_solver.specs.session.Session.{AreAllowedSteps}
 use Rattle.sat_solver.specs.proof.Counting.{width_change, written_for}
 use Rattle.sat_solver.specs.proof.Widths.{IsNarrowedTo, KeepsWidth}
 use Rattle.sat_solver.specs.declared.proof.checker.Checked.{Checked}
-use Rattle.sat_solver.specs.declared.proof.made.CheckFault.{CheckFault}
-use Rattle.sat_solver.specs.declared.proof.made.CheckFault.TheVariants as checks
+use Rattle.sat_solver.specs.declared.proof.emitted.CheckFault.{CheckFault}
+use Rattle.sat_solver.specs.declared.proof.emitted.CheckFault.TheVariants as checks
 
 -- whether the step ends a proof; the checker does not receive such steps
 abbrev pub is_end : Step → Bool
@@ -50,8 +50,8 @@ pub record AreGivenAndWidth (steps given : List Step) (now : ℕ) : Type 0 where
   pub given_is : given ≡ width_change before now ++ earlier
 
 -- the checker's listeners
-abbrev pub who_listens : {L : Type 0} → Checked L → Processing L Nobody
-who_listens own = (seen_of own.checker).listeners
+abbrev pub listeners_of_checked : {L : Type 0} → Checked L → Processing L Nobody
+listeners_of_checked own = (seen_of own.checker).listeners
 
 -- The checker has received these steps except for some of the newest, at the widths that were set. Since these
 -- processors were added, its listeners have heard what `Heard` says.
@@ -118,16 +118,16 @@ module _ {L : Type 0} (takes : L → Notice → Result Unit Error → L → Type
   -- an allowed step is accepted; an error never means that the step is wrong
   abbrev pub TakesStep : Result (Unit {0}) CheckerError → Checked L → Step → Checked L → Type 0
   TakesStep result old step new = (added : List L) (steps : List Step) → AreAllowedSteps (step ∷ steps) → IsFed old added steps
-      → OkOrCause result (IsFed new added (step ∷ steps)) (FailsWhileHeard added (listeners_of (who_listens new)) (step ∷ steps))
+      → OkOrCause result (IsFed new added (step ∷ steps)) (FailsWhileHeard added (listeners_of (listeners_of_checked new)) (step ∷ steps))
 
   -- the checker receives the width of the next step, or fails
   abbrev pub TakesWidth : Result (Unit {0}) CheckerError → Checked L → Checked L → Type 0
-  TakesWidth result old new = (added : List L) (steps : List Step) → AreAllowedSteps steps → IsFed old added steps → OkOrCause result (IsFedBy (AreGivenAndWidth steps) new added) (FailsWhileHeard added (listeners_of (who_listens new)) steps)
+  TakesWidth result old new = (added : List L) (steps : List Step) → AreAllowedSteps steps → IsFed old added steps → OkOrCause result (IsFedBy (AreGivenAndWidth steps) new added) (FailsWhileHeard added (listeners_of (listeners_of_checked new)) steps)
 
   -- after `Ok`, the checker has no pending unit conflict
   abbrev pub TakesDelayed : Result (Unit {0}) CheckerError → Checked L → Checked L → Type 0
   TakesDelayed result old new = (added : List L) (steps : List Step) → IsFed old added steps
-      → OkOrCause result (IsFed new added steps × KernelIsSettled (kernel_of new.checker)) (FailsWhileHeard added (listeners_of (who_listens new)) steps)
+      → OkOrCause result (IsFed new added steps × KernelIsSettled (kernel_of new.checker)) (FailsWhileHeard added (listeners_of (listeners_of_checked new)) steps)
 
   -- a step that may be written is never rejected, but the checker may fail at it
   abbrev pub FeedsOwnChecker : Result (Unit {0}) CheckerError → CheckerView (Processing L Nobody) → Step → CheckerView (Processing L Nobody) → Type 0
@@ -139,7 +139,7 @@ module _ {L : Type 0} (takes : L → Notice → Result Unit Error → L → Type
   -- processors have heard what it announced.
   abbrev pub FedUnless : Bool → Option (Checked L) → (added : List L) → List Step → Type 0
   FedUnless lost None added steps = added ≡ []
-  FedUnless lost (Some own) added steps = (lost ≡ false → IsFed own added steps) × Heard added (listeners_of (who_listens own)) steps
+  FedUnless lost (Some own) added steps = (lost ≡ false → IsFed own added steps) × Heard added (listeners_of (listeners_of_checked own)) steps
 
   -- without listeners, the checker never fails with a processor's error
   abbrev pub NeverFailsWithoutListeners : Type 0
@@ -148,9 +148,9 @@ module _ {L : Type 0} (takes : L → Notice → Result Unit Error → L → Type
   -- a processor is added, or memory ran out
   abbrev pub AddsOwnListener : Result (Unit {0}) CheckerError → Checked L → L → Checked L → Type 0
   AddsOwnListener result old processor new = (added : List L) (steps : List Step) → has_begun steps ≡ false → IsFed old added steps
-      → OkOrCause result (IsFed new (added ++ processor ∷ []) steps) (λ fault. (fault ≡ checks.OutOfMemory) × Heard added (listeners_of (who_listens new)) steps)
+      → OkOrCause result (IsFed new (added ++ processor ∷ []) steps) (λ fault. (fault ≡ checks.OutOfMemory) × Heard added (listeners_of (listeners_of_checked new)) steps)
 
   -- the checker is restarted; its listeners are the processors that were added
   pub record CheckerRestarts (old new : Checked L) (added : List L) : Type 0 where
-    pub listed : added ≡ (listeners_of (who_listens old)).processors
+    pub listed : added ≡ (listeners_of (listeners_of_checked old)).processors
     pub fed : IsFed new added []

@@ -3,7 +3,7 @@ use Rattle.std.specs.Prelude.{◌≡◌, ◌⊎◌, List, [], Result, Ok}
 use Rattle.anyhow.specs.declared.error.Error.{Error}
 use Rattle.sat_base.specs.steps.Steps.{Step}
 use Rattle.sat_checker.specs.Accepts.{stored_after, ready_after}
-use Rattle.sat_checker.specs.Spent.{IsSpent, SpentBy}
+use Rattle.sat_checker.specs.Counters.{CountersExhausted, ExhaustsCounters}
 use Rattle.sat_checker.specs.announcements.Announcements.{Notice, notices_after, all_notices_after}
 use Rattle.sat_checker.specs.announcements.Transcripts.{Transcribed}
 use Rattle.sat_checker.specs.listeners.Hearing.{HearsSince, HearsSinceUpTo}
@@ -12,8 +12,8 @@ use Rattle.sat_checker.specs.declared.processing.Nobody.{Nobody}
 use Rattle.sat_checker.specs.declared.processing.Processing.{Processing}
 use Rattle.sat_checker.specs.declared.processing.ProcessingError.{ProcessingError}
 use Rattle.sat_checker.specs.declared.processing.ProcessingError.TheVariants as faults
-use Rattle.sat_solver.specs.declared.proof.made.CheckFault.{CheckFault}
-use Rattle.sat_solver.specs.declared.proof.made.CheckFault.TheVariants as checks
+use Rattle.sat_solver.specs.declared.proof.emitted.CheckFault.{CheckFault}
+use Rattle.sat_solver.specs.declared.proof.emitted.CheckFault.TheVariants as checks
 
 -- the relation for transcripts of type `Nobody`, which accept everything
 abbrev pub reads_nothing : Nobody → Transcribed → Result Unit Error → Nobody → Type 0
@@ -45,5 +45,5 @@ module _ {L : Type 0} (takes : L → Notice → Result Unit Error → L → Type
     -- this fault. `CounterEnd`: ids or a counter are exhausted. `Processor`: a listener returned this error.
     abbrev pub FailedOf : CheckFault → Type 0
     FailedOf checks.OutOfMemory = HeardAll ⊎ HeardUpTo faults.OutOfMemory
-    FailedOf checks.CounterEnd = (((step : Step) × SpentBy step (stored_after written)) ⊎ IsSpent (ready_after written)) × HeardAll
+    FailedOf checks.CounterEnd = (((step : Step) × ExhaustsCounters step (stored_after written)) ⊎ CountersExhausted (ready_after written)) × HeardAll
     FailedOf (checks.Processor cause) = HeardUpTo (faults.ProofProcessorError cause)

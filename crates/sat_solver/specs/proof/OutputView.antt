@@ -1,7 +1,7 @@
 -- Where the text of a proof is written, and what it is in each format. Lists of steps have the newest first.
 use Rattle.std.specs.Prelude.{◌≡◌, ℕ, Bool, true, false, List, [], ◌∷◌, ◌++◌, Result, Ok, Err}
 use Rattle.std.specs.List.{AllByRecursion}
-use Rattle.sat_base.specs.device.Device.{Writer, WriterTakes, WriterBreaks}
+use Rattle.sat_base.specs.device.Device.{Writer, WriterAccepts, WriterFails}
 use Rattle.sat_base.specs.device.Sink.{Sink, AddsToSink, empty_sink}
 use Rattle.sat_base.specs.steps.Steps.{Step}
 use Rattle.sat_base.specs.steps.StepBytes.{step_bytes}
@@ -10,8 +10,8 @@ use Rattle.sat_base.specs.steps.StepWriting.{steps_sink}
 use Rattle.sat_solver.specs.proof.DratText.{drat_text}
 use Rattle.sat_solver.specs.declared.proof.format.ProofFormat.{ProofFormat}
 use Rattle.sat_solver.specs.declared.proof.format.ProofFormat.TheVariants.{Varisat, Drat, BinaryDrat}
-use Rattle.sat_solver.specs.declared.proof.output.Output.{Output}
-use Rattle.sat_solver.specs.declared.proof.output.Output.TheVariants.{Steps, Lines}
+use Rattle.sat_solver.specs.declared.proof.output.ProofOutput.{ProofOutput}
+use Rattle.sat_solver.specs.declared.proof.output.ProofOutput.TheVariants.{Steps, Lines}
 use Rattle.sat_solver.specs.declared.proof.output.OutputError.{OutputError}
 use Rattle.sat_solver.specs.declared.proof.output.OutputError.TheVariants.{Write, OutOfMemory}
 
@@ -46,13 +46,13 @@ pub record SendsSteps (f : ProofFormat) (steps : List Step) (old new : Sink) : T
 -- the result of writing steps
 abbrev pub PutsSteps : ProofFormat → Result (Unit {0}) OutputError → List Step → Sink → Sink → Type 0
 PutsSteps f (Ok x) steps old new = SendsSteps f steps old new
-PutsSteps f (Err (Write e)) steps old new = WriterBreaks old.writer new.writer (old.waiting ++ text_in f steps)
+PutsSteps f (Err (Write e)) steps old new = WriterFails old.writer new.writer (old.waiting ++ text_in f steps)
 PutsSteps f (Err OutOfMemory) steps old new = new ≡ old
 
 -- the result of writing the lines of a step
 abbrev pub PutsLines : Bool → Result (Unit {0}) OutputError → Step → Writer → Writer → Type 0
-PutsLines binary (Ok x) step old new = WriterTakes old new (drat_text binary step)
-PutsLines binary (Err (Write e)) step old new = WriterBreaks old new (drat_text binary step)
+PutsLines binary (Ok x) step old new = WriterAccepts old new (drat_text binary step)
+PutsLines binary (Err (Write e)) step old new = WriterFails old new (drat_text binary step)
 PutsLines binary (Err OutOfMemory) step old new = new ≡ old
 
 -- OUTPUTS
@@ -69,11 +69,11 @@ lines_format false = Drat
 lines_format true = BinaryDrat
 
 -- the format of an output: steps in bytes, or DRAT lines
-abbrev pub output_format : {W : Type 0} → Output W → ProofFormat
+abbrev pub output_format : {W : Type 0} → ProofOutput W → ProofFormat
 output_format (Steps w) = Varisat
 output_format (Lines w) = lines_format w.binary
 
 -- the sink of an output; a writer of lines has nothing pending
-abbrev pub output_sink : {W : Type 0} → (W → Writer) → Output W → Sink
+abbrev pub output_sink : {W : Type 0} → (W → Writer) → ProofOutput W → Sink
 output_sink seen (Steps w) = steps_sink seen w
 output_sink seen (Lines w) = empty_sink (seen w.writer)

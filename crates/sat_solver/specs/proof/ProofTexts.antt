@@ -1,6 +1,6 @@
 -- What the target of a proof has received until it was closed.
 use Rattle.std.specs.Prelude.{◌≡◌, true, reverse, Some, List, [], ◌∷◌, ◌++◌}
-use Rattle.sat_base.specs.device.Device.{Writer, WriterTakes, WriterBreaks}
+use Rattle.sat_base.specs.device.Device.{Writer, WriterAccepts, WriterFails}
 use Rattle.sat_base.specs.device.Sink.{empty_sink}
 use Rattle.sat_base.specs.steps.Steps.{Step}
 use Rattle.sat_base.specs.steps.StepText.{SpellsSteps}
@@ -23,7 +23,7 @@ pub record TookText (f : ProofFormat) (from given : Writer) (steps : List Step) 
   pub counting : Counting
   pub cuts : TruncatesHashes nothing_counted steps written counting
   pub spells : f ≡ Varisat → SpellsSteps (reverse written) (text_in f written)
-  pub takes : WriterTakes from given (text_in f written)
+  pub takes : WriterAccepts from given (text_in f written)
   pub flushed : given.flushed ≡ true
 
 -- the target received a prefix of that text, and its last call failed
@@ -31,7 +31,7 @@ pub record BrokeText (f : ProofFormat) (from given : Writer) (steps : List Step)
   pub written : List Step
   pub counting : Counting
   pub cuts : TruncatesHashes nothing_counted steps written counting
-  pub breaks : WriterBreaks from given (text_in f written)
+  pub breaks : WriterFails from given (text_in f written)
 
 -- a target that was opened, received steps, and was closed with the last one, has received their text
 abbrev pub ClosedIsText : Type 0

@@ -1,19 +1,19 @@
 -- What contracts say about a proof that a solver writes: its steps, and where their text is written. Lists of steps have the newest first.
 use Rattle.std.specs.Prelude.{◌≡◌, ◌⊎◌, Bool, true, false, Option, None, Some, List, [], ◌∷◌, ◌++◌, Result, Ok, Err}
-use Rattle.sat_base.specs.device.Device.{Writer, WriterTakes, WriterBreaks}
+use Rattle.sat_base.specs.device.Device.{Writer, WriterAccepts, WriterFails}
 use Rattle.sat_base.specs.device.Sink.{Sink, SinkIsFlushed}
 use Rattle.sat_base.specs.steps.Steps.{Step, End}
 use Rattle.sat_checker.specs.declared.processing.ProofProcessor.{Ghosts}
 use Rattle.sat_solver.specs.proof.Counting.{TruncatesHashes}
-use Rattle.sat_solver.specs.proof.Complaints.{IsComplaint}
-use Rattle.sat_solver.specs.proof.MadeView as mades
+use Rattle.sat_solver.specs.proof.ListenerErrors.{IsListenerError}
+use Rattle.sat_solver.specs.proof.EmittedView as mades
 use Rattle.sat_solver.specs.proof.OutputView.{is_lines, text_in, AreSpeltInFormat, SendsSteps, output_format, output_sink}
 use Rattle.sat_solver.specs.session.Session.{Session, AreAllowedSteps, session_after}
-use Rattle.sat_solver.specs.declared.proof.made.CheckFault.{CheckFault}
-use Rattle.sat_solver.specs.declared.proof.made.CheckFault.TheVariants as checks
+use Rattle.sat_solver.specs.declared.proof.emitted.CheckFault.{CheckFault}
+use Rattle.sat_solver.specs.declared.proof.emitted.CheckFault.TheVariants as checks
 use Rattle.sat_solver.specs.declared.proof.hash_bits.Counting.{Counting}
 use Rattle.sat_solver.specs.declared.proof.format.ProofFormat.{ProofFormat}
-use Rattle.sat_solver.specs.declared.proof.output.Output.{Output}
+use Rattle.sat_solver.specs.declared.proof.output.ProofOutput.{ProofOutput}
 use Rattle.sat_solver.specs.declared.proof.Proof.{Proof}
 use Rattle.sat_solver.specs.declared.proof.ProofError.{ProofError}
 use Rattle.sat_solver.specs.declared.proof.ProofError.TheVariants.{Write, OutOfMemory, Check}
@@ -30,7 +30,7 @@ with_fault false f c s = Open f c s
 with_fault true f c s = Broken s.writer
 
 -- the target of an output, given whether a call of it failed, and the count that determines its width
-abbrev pub target_in : {W : Type 0} → (W → Writer) → Option (Output W) → Bool → Counting → Target
+abbrev pub target_in : {W : Type 0} → (W → Writer) → Option (ProofOutput W) → Bool → Counting → Target
 target_in seen None broken c = Closed
 target_in seen (Some o) broken c = with_fault broken (output_format o) c (output_sink seen o)
 
@@ -64,27 +64,27 @@ steps_of p = p.made.history.steps
 
 -- whether the solver has its own checker
 abbrev pub is_checked : {W L : Type 0} {G : Ghosts L} → Proof W L G → Bool
-is_checked p = mades.made_is_checked p.made
+is_checked p = mades.emitted_is_checked p.made
 
 -- the checker's listeners, each as it was added, in order; `None` without a checker
-abbrev pub audience : {W L : Type 0} {G : Ghosts L} → Proof W L G → Option (List L)
-audience p = mades.made_audience p.made
+abbrev pub proof_listeners : {W L : Type 0} {G : Ghosts L} → Proof W L G → Option (List L)
+proof_listeners p = mades.emitted_listeners p.made
 
 -- whether a step was made that the checker has not received
-abbrev pub is_lost : {W L : Type 0} {G : Ghosts L} → Proof W L G → Bool
-is_lost p = mades.made_is_lost p.made
+abbrev pub has_missed_step : {W L : Type 0} {G : Ghosts L} → Proof W L G → Bool
+has_missed_step p = mades.emitted_has_missed_step p.made
 
 -- the checker, if there is one, has received every step, and nothing is pending in it
 abbrev pub AllStepsReported : {W L : Type 0} {G : Ghosts L} → Proof W L G → Type 0
-AllStepsReported p = mades.MadeIsReported p.made
+AllStepsReported p = mades.EmittedIsReported p.made
 
 -- the checker, if there is one that has missed no step, is at the width of the target's text
 abbrev pub IsAtWidth : {W L : Type 0} {G : Ghosts L} → Proof W L G → Type 0
 IsAtWidth p = mades.LastWidthIs p.counting.bits p.made
 
 -- the checker failed with this fault; a listener's fault was returned by one of the listeners
-abbrev pub Complains : {W L : Type 0} {G : Ghosts L} → CheckFault → Proof W L G → Type 0
-Complains fault p = mades.MadeComplains fault p.made
+abbrev pub CheckerFailed : {W L : Type 0} {G : Ghosts L} → CheckFault → Proof W L G → Type 0
+CheckerFailed fault p = mades.EmittedCheckerFailed fault p.made
 
 -- if a call of the target failed, its error is stored
 abbrev pub HasCause : {W L : Type 0} {G : Ghosts L} → ProofError → Proof W L G → Type 0
@@ -93,24 +93,24 @@ HasCause OutOfMemory p = Unit {0}
 HasCause (Check fault) p = Unit {0}
 
 -- the listener's error was reported, and is no longer stored
-abbrev pub without_complaint : {W L : Type 0} {G : Ghosts L} → Proof W L G → Proof W L G
-without_complaint p = record p { made = mades.cleared_complaint p.made }
+abbrev pub without_listener_error : {W L : Type 0} {G : Ghosts L} → Proof W L G → Proof W L G
+without_listener_error p = record p { made = mades.emitted_without_listener_error p.made }
 
 -- the listeners are returned, in order; each has heard a prefix of the announcements, possibly not all
 abbrev pub ReturnsListeners : {W L : Type 0} {G : Ghosts L} → Proof W L G → (given : List L) → Type 0
-ReturnsListeners p given = mades.MadeReturnsListeners p.made given
+ReturnsListeners p given = mades.EmittedReturnsListeners p.made given
 
 -- the listeners are returned; if the checker received every step, they have heard everything
 abbrev pub ReturnsNotifiedListeners : {W L : Type 0} {G : Ghosts L} → Proof W L G → (given : List L) → Type 0
-ReturnsNotifiedListeners p given = mades.MadeReturnsNotifiedListeners p.made given
+ReturnsNotifiedListeners p given = mades.EmittedReturnsNotifiedListeners p.made given
 
 -- there is a checker that has missed no step; no step was made
 abbrev pub StartsChecker : {W L : Type 0} {G : Ghosts L} → Proof W L G → Proof W L G → Type 0
-StartsChecker old new = mades.MadeStartsChecker old.made new.made
+StartsChecker old new = mades.EmittedStartsChecker old.made new.made
 
 -- the listeners when checking begins
 abbrev pub ListenersAtRestart : {W L : Type 0} {G : Ghosts L} → Proof W L G → List L → Type 0
-ListenersAtRestart p begun = mades.MadeListenersAtRestart (is_lost p) p.made (audience p) begun
+ListenersAtRestart p begun = mades.MadeListenersAtRestart (has_missed_step p) p.made (proof_listeners p) begun
 
 -- the session after the steps
 abbrev pub session_of : {W L : Type 0} {G : Ghosts L} → Proof W L G → Session
@@ -138,7 +138,7 @@ pub record SinkFailsAt (f : ProofFormat) (c : Counting) (s : Sink) (steps : List
   pub written : List Step
   pub counting : Counting
   pub cuts : TruncatesHashes c steps written counting
-  pub breaks : WriterBreaks s.writer w (s.waiting ++ text_in f written)
+  pub breaks : WriterFails s.writer w (s.waiting ++ text_in f written)
 
 -- one call of an open target failed while writing the text of these steps
 abbrev pub TargetFails : Target → List Step → Target → Type 0
@@ -149,26 +149,26 @@ TargetFails (Broken w) steps new = ⊥
 -- these steps were made, and an open target received their text
 pub record EmitsExactly {W L : Type 0} {G : Ghosts L} (seen : W → Writer) (steps : List Step) (old new : Proof W L G) : Type 0 where
   pub history : steps_of new ≡ steps ++ steps_of old
-  pub listening : audience new ≡ audience old
+  pub listening : proof_listeners new ≡ proof_listeners old
   pub target : TargetTakes (target_of seen old) steps (target_of seen new)
 
 -- these steps were made, and a call of the target failed while their text was written
 pub record FailsToEmit {W L : Type 0} {G : Ghosts L} (seen : W → Writer) (steps : List Step) (old new : Proof W L G) : Type 0 where
   pub history : steps_of new ≡ steps ++ steps_of old
-  pub listening : audience new ≡ audience old
+  pub listening : proof_listeners new ≡ proof_listeners old
   pub target : TargetFails (target_of seen old) steps (target_of seen new)
 
 -- these steps were made, an open target received their text, and then the checker failed with this fault
 pub record FailsCheck {W L : Type 0} {G : Ghosts L} (seen : W → Writer) (fault : CheckFault) (steps : List Step) (old new : Proof W L G) : Type 0 where
   pub adds : EmitsExactly seen steps old new
-  pub why : Complains fault new
+  pub why : CheckerFailed fault new
 
 -- These steps were made, and an open target received their text. The checker received them, unless it had missed a
 -- step before, and no ask began. If there was a step, the checker is at the width of the target's text.
 pub record EmitsChecked {W L : Type 0} {G : Ghosts L} (seen : W → Writer) (steps : List Step) (old new : Proof W L G) : Type 0 where
   pub history : steps_of new ≡ steps ++ steps_of old
-  pub listening : audience new ≡ audience old
-  pub taking : is_lost new ≡ is_lost old
+  pub listening : proof_listeners new ≡ proof_listeners old
+  pub taking : has_missed_step new ≡ has_missed_step old
   pub asked : has_asked new ≡ has_asked old
   pub width : IsAtWidth old ⊎ (steps ≡ [] → ⊥) → IsAtWidth new
   pub target : TargetTakes (target_of seen old) steps (target_of seen new)
@@ -185,21 +185,21 @@ abbrev pub FailsOnlyInChecker : {W L : Type 0} {G : Ghosts L} → Result (Unit {
 FailsOnlyInChecker (Ok x) new = Unit {0}
 FailsOnlyInChecker (Err (Write e)) new = ⊥
 FailsOnlyInChecker (Err OutOfMemory) new = ⊥
-FailsOnlyInChecker (Err (Check fault)) new = Complains fault new × IsComplaint fault new.made.complaint
+FailsOnlyInChecker (Err (Check fault)) new = CheckerFailed fault new × IsListenerError fault new.made.complaint
 
 -- the same, for a checker that may have missed a step before
-abbrev pub FailsOnlyInCheckerOrWasLost : {W L : Type 0} {G : Ghosts L} → (lost : Bool) → Result (Unit {0}) ProofError → Proof W L G → Type 0
-FailsOnlyInCheckerOrWasLost lost (Ok x) new = Unit {0}
-FailsOnlyInCheckerOrWasLost lost (Err (Write e)) new = ⊥
-FailsOnlyInCheckerOrWasLost lost (Err OutOfMemory) new = ⊥
-FailsOnlyInCheckerOrWasLost lost (Err (Check fault)) new = mades.ComplainsOrWasLost lost fault new.made
+abbrev pub FailsOnlyInCheckerAfterMissedStep : {W L : Type 0} {G : Ghosts L} → (lost : Bool) → Result (Unit {0}) ProofError → Proof W L G → Type 0
+FailsOnlyInCheckerAfterMissedStep lost (Ok x) new = Unit {0}
+FailsOnlyInCheckerAfterMissedStep lost (Err (Write e)) new = ⊥
+FailsOnlyInCheckerAfterMissedStep lost (Err OutOfMemory) new = ⊥
+FailsOnlyInCheckerAfterMissedStep lost (Err (Check fault)) new = mades.CheckerErrorAfterMissedStep lost fault new.made
 
 -- the result of making these steps: if memory runs out, none was made
 abbrev pub EmitsAsAnswered : {T W L : Type 0} {G : Ghosts L} → (W → Writer) → Result T ProofError → List Step → Proof W L G → Proof W L G → Type 0
 EmitsAsAnswered seen (Ok x) steps old new = EmitsChecked seen steps old new
 EmitsAsAnswered seen (Err (Write e)) steps old new = FailsToEmit seen steps old new × (new.cause ≡ Some e)
 EmitsAsAnswered seen (Err OutOfMemory) steps old new = EmitsChecked seen [] old new
-EmitsAsAnswered seen (Err (Check fault)) steps old new = FailsCheck seen fault steps old new × IsComplaint fault new.made.complaint
+EmitsAsAnswered seen (Err (Check fault)) steps old new = FailsCheck seen fault steps old new × IsListenerError fault new.made.complaint
 
 -- an open target was flushed, and nothing is pending for it; a closed or broken one is unchanged
 abbrev pub Flushed : Target → Target → Type 0
@@ -210,14 +210,14 @@ Flushed (Broken w) new = new ≡ Broken w
 -- the target was flushed, and no step was made
 pub record Drains {W L : Type 0} {G : Ghosts L} (seen : W → Writer) (old new : Proof W L G) : Type 0 where
   pub history : steps_of new ≡ steps_of old
-  pub listening : audience new ≡ audience old
+  pub listening : proof_listeners new ≡ proof_listeners old
   pub target : Flushed (target_of seen old) (target_of seen new)
 
 -- the same, and the checker has received every step and announced what was pending
 pub record FlushesAndNotifies {W L : Type 0} {G : Ghosts L} (seen : W → Writer) (old new : Proof W L G) : Type 0 where
   pub history : steps_of new ≡ steps_of old
-  pub listening : audience new ≡ audience old
-  pub taking : is_lost new ≡ is_lost old
+  pub listening : proof_listeners new ≡ proof_listeners old
+  pub taking : has_missed_step new ≡ has_missed_step old
   pub asked : has_asked new ≡ has_asked old
   pub width : IsAtWidth old → IsAtWidth new
   pub target : Flushed (target_of seen old) (target_of seen new)
@@ -235,7 +235,7 @@ abbrev pub FlushesOrFails : {W L : Type 0} {G : Ghosts L} → (W → Writer) →
 FlushesOrFails seen (Ok x) old new = FlushesAndNotifies seen old new
 FlushesOrFails seen (Err (Write e)) old new = FailsToEmit seen [] old new × (new.cause ≡ Some e)
 FlushesOrFails seen (Err OutOfMemory) old new = ⊥
-FlushesOrFails seen (Err (Check fault)) old new = Drains seen old new × mades.ComplainsOrWasLost (is_lost old) fault new.made
+FlushesOrFails seen (Err (Check fault)) old new = Drains seen old new × mades.CheckerErrorAfterMissedStep (has_missed_step old) fault new.made
 
 -- an open target is returned after it received what was pending and the text of these steps, and was flushed
 pub record TookAll (f : ProofFormat) (c : Counting) (s : Sink) (steps : List Step) (given : Writer) : Type 0 where
@@ -243,7 +243,7 @@ pub record TookAll (f : ProofFormat) (c : Counting) (s : Sink) (steps : List Ste
   pub counting : Counting
   pub cuts : TruncatesHashes c steps written counting
   pub spelt : AreSpeltInFormat f written
-  pub takes : WriterTakes s.writer given (s.waiting ++ text_in f written)
+  pub takes : WriterAccepts s.writer given (s.waiting ++ text_in f written)
   pub flushed : given.flushed ≡ true
 
 -- the same for any target; only an open one can be returned so
@@ -255,8 +255,8 @@ TakesAll (Broken w) steps given = ⊥
 -- no target was open: no step was made, and nothing has changed
 pub record ClosesNone {W L : Type 0} {G : Ghosts L} (seen : W → Writer) (old new : Proof W L G) : Type 0 where
   pub history : steps_of new ≡ steps_of old
-  pub listening : audience new ≡ audience old
-  pub taking : is_lost new ≡ is_lost old
+  pub listening : proof_listeners new ≡ proof_listeners old
+  pub taking : has_missed_step new ≡ has_missed_step old
   pub asked : has_asked new ≡ has_asked old
   pub shut : is_open (target_of seen old) ≡ false
   pub target : target_of seen new ≡ target_of seen old
@@ -265,8 +265,8 @@ pub record ClosesNone {W L : Type 0} {G : Ghosts L} (seen : W → Writer) (old n
 -- and nothing is pending in it.
 pub record ClosesOne {W L : Type 0} {G : Ghosts L} (seen : W → Writer) (given : W) (old new : Proof W L G) : Type 0 where
   pub history : steps_of new ≡ End ∷ steps_of old
-  pub listening : audience new ≡ audience old
-  pub taking : is_lost new ≡ is_lost old
+  pub listening : proof_listeners new ≡ proof_listeners old
+  pub taking : has_missed_step new ≡ has_missed_step old
   pub asked : has_asked new ≡ has_asked old
   pub takes : TakesAll (target_of seen old) (End ∷ []) (seen given)
   pub target : target_of seen new ≡ Closed
@@ -279,7 +279,7 @@ ClosesTarget seen (Ok None) old new = ClosesNone seen old new
 ClosesTarget seen (Ok (Some given)) old new = ClosesOne seen given old new
 ClosesTarget seen (Err (Write e)) old new = FailsToEmit seen (End ∷ []) old new × (new.cause ≡ Some e)
 ClosesTarget seen (Err OutOfMemory) old new = EmitsChecked seen [] old new
-ClosesTarget seen (Err (Check fault)) old new = EmitsExactly seen (End ∷ []) old new × mades.ComplainsOrWasLost (is_lost old) fault new.made
+ClosesTarget seen (Err (Check fault)) old new = EmitsExactly seen (End ∷ []) old new × mades.CheckerErrorAfterMissedStep (has_missed_step old) fault new.made
 
 -- the writer of a returned target, if there is one; pending bytes are lost
 abbrev pub GivesWriter : Target → Option Writer → Type 0
@@ -303,16 +303,16 @@ pub record ReturnsTarget {W L : Type 0} {G : Ghosts L} (seen : W → Writer) (gi
 -- the checker, which has missed no step, has one more listener
 pub record HasOneMoreListener {W L : Type 0} {G : Ghosts L} (processor : L) (old new : Proof W L G) : Type 0 where
   pub before : List L
-  pub listened : audience old ≡ Some before
-  pub listening : audience new ≡ Some (before ++ processor ∷ [])
-  pub taking : is_lost new ≡ false
+  pub listened : proof_listeners old ≡ Some before
+  pub listening : proof_listeners new ≡ Some (before ++ processor ∷ [])
+  pub taking : has_missed_step new ≡ false
 
 -- the result of adding a listener; memory may run out
 abbrev pub AddListenerResult : {W L : Type 0} {G : Ghosts L} → Result (Unit {0}) ProofError → L → Proof W L G → Proof W L G → Type 0
 AddListenerResult (Ok x) processor old new = HasOneMoreListener processor old new
 AddListenerResult (Err (Write e)) processor old new = ⊥
 AddListenerResult (Err OutOfMemory) processor old new = ⊥
-AddListenerResult (Err (Check fault)) processor old new = (fault ≡ checks.OutOfMemory) × (audience new ≡ audience old)
+AddListenerResult (Err (Check fault)) processor old new = (fault ≡ checks.OutOfMemory) × (proof_listeners new ≡ proof_listeners old)
 
 -- adding a listener makes no step, and leaves the target unchanged
 pub record AddListenerEffect {W L : Type 0} {G : Ghosts L} (seen : W → Writer) (result : Result (Unit {0}) ProofError) (processor : L) (old new : Proof W L G) : Type 0 where

@@ -3,8 +3,8 @@ use Rattle.std.specs.Prelude.{ℕ, ◌+◌, ◌-◌, ◌^◌, ◌<◌, ◌≤◌
 use Rattle.sat_store.specs.schedule.Luby.{luby, wrapped_number}
 use Rattle.sat_solver.specs.schedule.Gaps.{gap_end}
 use Rattle.sat_solver.specs.declared.schedule.restarts.Restarts.{Restarts}
-use Rattle.sat_solver.specs.declared.schedule.Outcome.{Outcome}
-use Rattle.sat_solver.specs.declared.schedule.Outcome.TheVariants as outcomes
+use Rattle.sat_solver.specs.declared.schedule.RoundOutcome.{RoundOutcome}
+use Rattle.sat_solver.specs.declared.schedule.RoundOutcome.TheVariants as outcomes
 
 -- a gap begins before this round: its length is the next term of the sequence times the scale, and it is counted
 pub record BeginsGap (round : ℕ) (old new : Restarts) : Type 0 where
@@ -18,7 +18,7 @@ abbrev pub RestartsWhereDue : {A : Type 0} (restarted : A → A → Type 0) → 
 RestartsWhereDue restarted round a r b s = ((round < r.next) × (b ≡ a) × (s ≡ r)) ⊎ ((r.next ≤ round) × restarted a b × BeginsGap round r s)
 
 -- the round with this number and its outcome: a restart if one is due, a reduction, and then the search
-pub record IsRound {A N : Type 0} (restarted : A → A → Type 0) (reduced : A → ℕ → A → Type 0) (rounded : A → N → Outcome → A → N → Type 0) (round : ℕ) (outcome : Outcome) (a : A) (n : N) (r : Restarts) (b : A) (m : N) (s : Restarts) : Type 0 where
+pub record IsRound {A N : Type 0} (restarted : A → A → Type 0) (reduced : A → ℕ → A → Type 0) (rounded : A → N → RoundOutcome → A → N → Type 0) (round : ℕ) (outcome : RoundOutcome) (a : A) (n : N) (r : Restarts) (b : A) (m : N) (s : Restarts) : Type 0 where
   pub after_restart : A
   pub due : RestartsWhereDue restarted round a r after_restart s
   pub after_reduction : A
@@ -26,12 +26,12 @@ pub record IsRound {A N : Type 0} (restarted : A → A → Type 0) (reduced : A 
   pub ends : rounded after_reduction n outcome b m
 
 -- rounds one after another, each of which learned a clause
-pub data AreRounds {A N : Type 0} (restarted : A → A → Type 0) (reduced : A → ℕ → A → Type 0) (rounded : A → N → Outcome → A → N → Type 0) : A → N → Restarts → ℕ → A → N → Restarts → ℕ → Type 0 where
+pub data AreRounds {A N : Type 0} (restarted : A → A → Type 0) (reduced : A → ℕ → A → Type 0) (rounded : A → N → RoundOutcome → A → N → Type 0) : A → N → Restarts → ℕ → A → N → Restarts → ℕ → Type 0 where
   no_round : {a : A} {n : N} {r : Restarts} {k : ℕ} → AreRounds restarted reduced rounded a n r k a n r k
   one_more : {a b c : A} {n m l : N} {r s t : Restarts} {k j : ℕ} → AreRounds restarted reduced rounded a n r k b m s j → IsRound restarted reduced rounded j outcomes.Learned b m s c l t → AreRounds restarted reduced rounded a n r k c l t (j + 1)
 
 -- rounds that each learned a clause and, if there is an outcome, one more round with this outcome
-abbrev pub LastRoundAnswers : {A N : Type 0} (restarted : A → A → Type 0) (reduced : A → ℕ → A → Type 0) (rounded : A → N → Outcome → A → N → Type 0) → Option Outcome → A → N → Restarts → ℕ → A → N → Restarts → ℕ → Type 0
+abbrev pub LastRoundAnswers : {A N : Type 0} (restarted : A → A → Type 0) (reduced : A → ℕ → A → Type 0) (rounded : A → N → RoundOutcome → A → N → Type 0) → Option RoundOutcome → A → N → Restarts → ℕ → A → N → Restarts → ℕ → Type 0
 LastRoundAnswers restarted reduced rounded None a n r k b m s j = AreRounds restarted reduced rounded a n r k b m s j
 LastRoundAnswers {A} {N} restarted reduced rounded (Some o) a n r k b m s j =
     (c : A) × (l : N) × (t : Restarts) × (i : ℕ) × (j ≡ i + 1) × AreRounds restarted reduced rounded a n r k c l t i × IsRound restarted reduced rounded i o c l t b m s

@@ -5,22 +5,22 @@ use Rattle.sat_base.specs.values.Literals.{negated}
 use Rattle.sat_checker.specs.LiteralSets.{is_among}
 use Rattle.sat_parts.specs.declared.prop.graph.Conflict.{Conflict}
 use Rattle.sat_parts.specs.prop.Causes.{falsified}
-use Rattle.sat_solver.specs.session.Session.{Session, IsLive, denied_in}
+use Rattle.sat_solver.specs.session.Session.{Session, IsLive, rup_assumptions}
 use Rattle.sat_solver.specs.session.LiveClauses.{with_var}
-use Rattle.sat_solver.specs.analyze_conflict.Work.{Work}
-use Rattle.sat_solver.specs.analyze_conflict.Derivation.{Learns}
-use Rattle.sat_parts.specs.declared.parts.Parts.{Parts}
+use Rattle.sat_solver.specs.analyze_conflict.AnalysisState.{AnalysisState}
+use Rattle.sat_solver.specs.analyze_conflict.Derivation.{AnalysisResult}
+use Rattle.sat_parts.specs.declared.parts.SearchState.{SearchState}
 use Rattle.sat_parts.specs.parts.Whole.{state, IsRefuted}
 use Rattle.sat_solver.specs.session.Fits.{SessionMatchesParts, TrueLitsHaveNames}
 
 -- Each of these live clauses has at most one literal that is not false so far, which holds from then on. All reached
 -- literals hold after these clauses.
-abbrev pub LeadsOn : Session → (ℕ → Bool) → List (List ℕ) → (ℕ → Bool) → Type 0
-LeadsOn s holds [] reached = (l : ℕ) → reached l ≡ true → holds l ≡ true
-LeadsOn s holds (c ∷ cs) reached = IsLive s c × ((o : ℕ) × AllByRecursion (λ l. (l ≡ o) ⊎ (holds (negated l) ≡ true)) c × (is_among c o ≡ true) × LeadsOn s (λ l. (o == l) || holds l) cs reached)
+abbrev pub UnitPropagates : Session → (ℕ → Bool) → List (List ℕ) → (ℕ → Bool) → Type 0
+UnitPropagates s holds [] reached = (l : ℕ) → reached l ≡ true → holds l ≡ true
+UnitPropagates s holds (c ∷ cs) reached = IsLive s c × ((o : ℕ) × AllByRecursion (λ l. (l ≡ o) ⊎ (holds (negated l) ≡ true)) c × (is_among c o ≡ true) × UnitPropagates s (λ l. (o == l) || holds l) cs reached)
 
 -- the reached literals neither satisfy nor falsify the literal, and falsify no live clause
-pub record StaysNew (s : Session) (l : ℕ) (reached : ℕ → Bool) : Type 0 where
+pub record StaysUnassignedInSession (s : Session) (l : ℕ) (reached : ℕ → Bool) : Type 0 where
   pub not_true : reached l ≡ false
   pub not_false : reached (negated l) ≡ false
   pub no_conflict : (c : List ℕ) → IsLive s c → AllByRecursion (λ m. reached (negated m) ≡ true) c → ⊥
@@ -31,13 +31,13 @@ AreConsistent holds = (l : ℕ) → holds l ≡ true → holds (negated l) ≡ f
 
 -- The units and the negations of a clause's other literals are consistent and leave its first literal open. No live clauses that are unit
 -- in turn under them assign it, and none is falsified.
-pub record Advances (s : Session) (clause : List ℕ) : Type 0 where
+pub record IsEmpowering (s : Session) (clause : List ℕ) : Type 0 where
   pub some : 0 < length clause
-  pub agree : AreConsistent (denied_in s (drop 1 clause))
-  pub stays : (picked : List (List ℕ)) (reached : ℕ → Bool) → LeadsOn s (denied_in s (drop 1 clause)) picked reached → StaysNew s (get_or clause 0 0) reached
+  pub agree : AreConsistent (rup_assumptions s (drop 1 clause))
+  pub stays : (picked : List (List ℕ)) (reached : ℕ → Bool) → UnitPropagates s (rup_assumptions s (drop 1 clause)) picked reached → StaysUnassignedInSession s (get_or clause 0 0) reached
 
 -- whichever live clauses of the session are used, the first literal of a learned clause stays new
-abbrev pub LearnedAdvancesIn : Type 0
-LearnedAdvancesIn =
-    (p : Parts) (e : Conflict) (w : Work) (back : ℕ) (s : Session) (global : ℕ → ℕ) (picked : List (List ℕ)) (reached : ℕ → Bool) → IsRefuted p e → SessionMatchesParts p s global → TrueLitsHaveNames p.assignment.current s global → Learns p.clauses (state p) (falsified p.clauses e) w back →
-    LeadsOn s (denied_in s (map (with_var global) (drop 1 w.clause))) picked reached → StaysNew s (with_var global (get_or w.clause 0 0)) reached
+abbrev pub LearnedIsEmpoweringInSession : Type 0
+LearnedIsEmpoweringInSession =
+    (p : SearchState) (e : Conflict) (w : AnalysisState) (back : ℕ) (s : Session) (global : ℕ → ℕ) (picked : List (List ℕ)) (reached : ℕ → Bool) → IsRefuted p e → SessionMatchesParts p s global → TrueLitsHaveNames p.assignment.current s global → AnalysisResult p.clauses (state p) (falsified p.clauses e) w back →
+    UnitPropagates s (rup_assumptions s (map (with_var global) (drop 1 w.clause))) picked reached → StaysUnassignedInSession s (with_var global (get_or w.clause 0 0)) reached

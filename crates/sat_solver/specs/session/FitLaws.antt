@@ -4,58 +4,58 @@ use Rattle.sat_base.specs.values.Hashes.{hash_of}
 use Rattle.sat_parts.specs.declared.prop.graph.Conflict.{Conflict}
 use Rattle.sat_parts.specs.clause.Stored.{AreClauses}
 use Rattle.sat_parts.specs.prop.Causes.{falsified}
-use Rattle.sat_parts.specs.prop.State.{State, StateIsConsistent}
+use Rattle.sat_parts.specs.prop.State.{PropagationState, StateIsConsistent}
 use Rattle.sat_parts.specs.prop.Ready.{IsConflict}
 use Rattle.sat_parts.specs.parts.Round.{UnitsHaveNoReason}
 use Rattle.sat_parts.specs.prop.Reasons.{AreUnitInTurn}
 use Rattle.sat_solver.specs.session.Session.{Session, MayDerive}
 use Rattle.sat_solver.specs.session.LiveClauses.{with_var}
-use Rattle.sat_solver.specs.analyze_conflict.Work.{Work}
-use Rattle.sat_solver.specs.analyze_conflict.Derivation.{clause_of, Learns}
+use Rattle.sat_solver.specs.analyze_conflict.AnalysisState.{AnalysisState}
+use Rattle.sat_solver.specs.analyze_conflict.Derivation.{clause_of, AnalysisResult}
 use Rattle.std.specs.Prelude.{drop, slice_index_or as get_or}
 use Rattle.std.specs.List.{AllByRecursion}
 use Rattle.sat_base.specs.values.Literals.{negated}
 use Rattle.sat_base.specs.steps.Steps.{Model}
 use Rattle.sat_parts.specs.clause.Db.{live_refs}
-use Rattle.sat_solver.specs.session.Session.{nothing, IsAllowedStep}
+use Rattle.sat_solver.specs.session.Session.{empty_session, IsAllowedStep}
 use Rattle.sat_solver.specs.analyze_conflict.Derivation.{AreLevelZeroLits}
-use Rattle.sat_solver.specs.analyze_conflict.Advances.{IsStored, LeadTo, StaysOpen}
-use Rattle.sat_parts.specs.declared.parts.Parts.{Parts}
-use Rattle.sat_parts.specs.parts.Whole.{state, PartsInvariant, AllAssigned, IsModelled, IsRefuted}
+use Rattle.sat_solver.specs.analyze_conflict.Advances.{IsStored, UnitPropagateTo, StaysUnassigned}
+use Rattle.sat_parts.specs.declared.parts.SearchState.{SearchState}
+use Rattle.sat_parts.specs.parts.Whole.{state, SearchStateInvariant, AllAssigned, ClausesAreSatisfied, IsRefuted}
 use Rattle.sat_solver.specs.session.Units.{AreTrueLits}
 use Rattle.sat_solver.specs.session.Fits.{SessionMatches, SessionMatchesParts, TrueLitsHaveNames}
 
 -- the clauses that the step of a learned clause names: the reasons of the used literals, in order, and the falsified
 -- clause
-abbrev pub named_clauses : List ℕ → State → List ℕ → Conflict → List (List ℕ)
+abbrev pub named_clauses : List ℕ → PropagationState → List ℕ → Conflict → List (List ℕ)
 named_clauses words st used e = map (clause_of words st) used ++ falsified words e ∷ []
 
 -- their complete hashes, over search variables
-abbrev pub named_hashes : List ℕ → State → List ℕ → Conflict → List ℕ
+abbrev pub named_hashes : List ℕ → PropagationState → List ℕ → Conflict → List ℕ
 named_hashes words st used e = map (λ l. hash_of (clause_of words st l)) used ++ hash_of (falsified words e) ∷ []
 
 -- a learned clause may be derived with these hashes
-abbrev pub LearnedMay : Type 0
-LearnedMay =
-    (words live : List ℕ) (implied : List (List ℕ)) (st : State) (s : Session) (global : ℕ → ℕ) (e : Conflict) (w : Work) (back : ℕ) →
+abbrev pub LearnedIsAllowed : Type 0
+LearnedIsAllowed =
+    (words live : List ℕ) (implied : List (List ℕ)) (st : PropagationState) (s : Session) (global : ℕ → ℕ) (e : Conflict) (w : AnalysisState) (back : ℕ) →
     SessionMatches words live implied st s global → StateIsConsistent st → AreClauses words live (length st.values) → UnitsHaveNoReason st → AreUnitInTurn words live implied st 0 →
-    IsConflict words live implied st.values e → Learns words st (falsified words e) w back →
+    IsConflict words live implied st.values e → AnalysisResult words st (falsified words e) w back →
     MayDerive s (map (with_var global) w.clause) (named_hashes words st w.used e)
 
 -- if parts and session match and every variable of a clause is assigned, the true literals may be written as a
 -- model, in any order
-abbrev pub ModelMay : Type 0
-ModelMay =
-    (p : Parts) (s : Session) (global : ℕ → ℕ) (ls : List ℕ) → SessionMatchesParts p s global → TrueLitsHaveNames p.assignment.current s global → PartsInvariant p → AreTrueLits p.assignment.current ls → AllAssigned p → IsModelled p → IsAllowedStep s (Model (map (with_var global) ls))
+abbrev pub ModelIsAllowed : Type 0
+ModelIsAllowed =
+    (p : SearchState) (s : Session) (global : ℕ → ℕ) (ls : List ℕ) → SessionMatchesParts p s global → TrueLitsHaveNames p.assignment.current s global → SearchStateInvariant p → AreTrueLits p.assignment.current ls → AllAssigned p → ClausesAreSatisfied p → IsAllowedStep s (Model (map (with_var global) ls))
 
 -- After a conflict above level 0, let stored clauses be unit in turn under the units and the negations of the
 -- learned clause's other literals. Then its first literal stays open, and no stored clause is falsified.
 abbrev pub LearnedIsNew : Type 0
 LearnedIsNew =
-    (p : Parts) (e : Conflict) (w : Work) (back : ℕ) (units : List ℕ) (picked : List (List ℕ)) (reached : List ℕ) → IsRefuted p e → Learns p.clauses (state p) (falsified p.clauses e) w back → AreLevelZeroLits (state p) units →
-    AllByRecursion (IsStored p.clauses (live_refs p.clauses p.db.refs) p.binary.implied) picked → LeadTo (map negated (drop 1 w.clause) ++ units) picked reached →
-    StaysOpen p.clauses (live_refs p.clauses p.db.refs) p.binary.implied (get_or w.clause 0 0) reached
+    (p : SearchState) (e : Conflict) (w : AnalysisState) (back : ℕ) (units : List ℕ) (picked : List (List ℕ)) (reached : List ℕ) → IsRefuted p e → AnalysisResult p.clauses (state p) (falsified p.clauses e) w back → AreLevelZeroLits (state p) units →
+    AllByRecursion (IsStored p.clauses (live_refs p.clauses p.db.refs) p.binary.implied) picked → UnitPropagateTo (map negated (drop 1 w.clause) ++ units) picked reached →
+    StaysUnassigned p.clauses (live_refs p.clauses p.db.refs) p.binary.implied (get_or w.clause 0 0) reached
 
 -- a search without variables and clauses matches the empty session
 abbrev pub NothingFits : Type 0
-NothingFits = (words : List ℕ) (st : State) (global : ℕ → ℕ) → st.values ≡ [] → st.trail.lits ≡ [] → SessionMatches words [] [] st nothing global
+NothingFits = (words : List ℕ) (st : PropagationState) (global : ℕ → ℕ) → st.values ≡ [] → st.trail.lits ≡ [] → SessionMatches words [] [] st empty_session global

@@ -7,12 +7,12 @@ use Rattle.sat_store.specs.clause.Header.{Header, is_learned}
 use Rattle.sat_parts.specs.clause.Db.{live_refs}
 use Rattle.sat_parts.specs.prop.Values.{IsTrueLit}
 use Rattle.sat_parts.specs.prop.Binaries.{implied_by}
-use Rattle.sat_parts.specs.prop.State.{State, level}
+use Rattle.sat_parts.specs.prop.State.{PropagationState, level}
 use Rattle.sat_solver.specs.session.Session.{Session}
 use Rattle.sat_solver.specs.session.LiveClauses.{with_var, AreOf}
 use Rattle.sat_solver.specs.session.SolverClauses.{solver_clauses}
-use Rattle.sat_parts.specs.declared.parts.Parts.{Parts}
-use Rattle.sat_parts.specs.parts.Whole.{state, PartsInvariant}
+use Rattle.sat_parts.specs.declared.parts.SearchState.{SearchState}
+use Rattle.sat_parts.specs.parts.Whole.{state, SearchStateInvariant}
 use Rattle.sat_parts.specs.parts.Frame.{IsUnitLit}
 
 -- every binary clause is in both of its lists, and its literals are different
@@ -27,7 +27,7 @@ is_redundant words o = is_learned (header_at words o).tier
 -- The live clauses of the search are those of the session. Every unit of the search is a unit of the session, and
 -- units of the session are true at level 0. Literals that propagation implied at level 0 need not be units of the
 -- session yet.
-pub record SessionMatches (words live : List ℕ) (implied : List (List ℕ)) (st : State) (s : Session) (global : ℕ → ℕ) : Type 0 where
+pub record SessionMatches (words live : List ℕ) (implied : List (List ℕ)) (st : PropagationState) (s : Session) (global : ℕ → ℕ) : Type 0 where
   pub clauses : AreOf s global (solver_clauses (is_redundant words) words live implied)
   pub paired : ArePaired implied
   pub known : (l : ℕ) → IsUnitLit st l → s.units (with_var global l) ≡ true
@@ -40,12 +40,12 @@ abbrev pub TrueLitsHaveNames : List (Option Bool) → Session → (ℕ → ℕ) 
 TrueLitsHaveNames values s global = (l : ℕ) → IsTrueLit values l → s.solver_names (global (variable l)) ≡ Some (variable l)
 
 -- the parts of a search match the session
-abbrev pub SessionMatchesParts : Parts → Session → (ℕ → ℕ) → Type 0
+abbrev pub SessionMatchesParts : SearchState → Session → (ℕ → ℕ) → Type 0
 SessionMatchesParts p s global = SessionMatches p.clauses (live_refs p.clauses p.db.refs) p.binary.implied (state p) s global
 
 -- the invariant of the parts holds, and they match the session
-pub record PartsSessionInvariant (p : Parts) (s : Session) (global : ℕ → ℕ) : Type 0 where
-  pub holds : PartsInvariant p
+pub record SearchStateSessionInvariant (p : SearchState) (s : Session) (global : ℕ → ℕ) : Type 0 where
+  pub holds : SearchStateInvariant p
   pub fits : SessionMatchesParts p s global
 
 -- the flag of a step fits the clause: a long clause is redundant if its header says so, a binary one never

@@ -4,10 +4,10 @@ use Rattle.sat_base.specs.steps.Steps.{AtClause}
 use Rattle.sat_store.specs.clause.Header.{Header}
 use Rattle.sat_solver.specs.session.Session.{Session, after}
 use Rattle.sat_solver.specs.session.LiveClauses.{with_var, AreMapped}
-use Rattle.sat_parts.specs.declared.parts.Parts.{Parts}
+use Rattle.sat_parts.specs.declared.parts.SearchState.{SearchState}
 use Rattle.sat_solver.specs.session.Fits.{SessionMatchesParts, FlagFits}
 
 -- any session that matches the parts before also matches the changed parts after the step that derives the clause
-abbrev pub FitsAfterLearning : Parts → Parts → Header → List ℕ → Type 0
+abbrev pub FitsAfterLearning : SearchState → SearchState → Header → List ℕ → Type 0
 FitsAfterLearning p p' header ls =
     (s : Session) (global : ℕ → ℕ) (hashes : List ℕ) (flag : Bool) → FlagFits flag header ls → AreMapped global s.solver_names ls → SessionMatchesParts p s global → SessionMatchesParts p' (after (AtClause flag (map (with_var global) ls) hashes) s) global

@@ -5,18 +5,18 @@ use Rattle.sat_base.specs.steps.Steps.{Step, UserVarName, ChangeSamplingMode, Mo
 use Rattle.sat_checker.specs.LiteralSets.{is_tautology}
 use Rattle.sat_parts.specs.clause.Db.{live_refs}
 use Rattle.sat_parts.specs.prop.Values.{IsTrueLit}
-use Rattle.sat_parts.specs.prop.State.{State, level}
+use Rattle.sat_parts.specs.prop.State.{PropagationState, level}
 use Rattle.sat_solver.specs.session.Session.{Session}
 use Rattle.sat_solver.specs.session.LiveClauses.{LiveClause, with_var, AreOf}
 use Rattle.sat_solver.specs.session.SolverClauses.{longs, binaries_left}
-use Rattle.sat_parts.specs.declared.parts.Parts.{Parts}
+use Rattle.sat_parts.specs.declared.parts.SearchState.{SearchState}
 use Rattle.sat_parts.specs.parts.Whole.{state}
 use Rattle.sat_parts.specs.parts.Frame.{IsUnitLit}
 use Rattle.sat_solver.specs.session.Fits.{is_redundant}
 
 -- The live clauses of the session are these. Every unit of the search is a unit of the session, and units of the
 -- session are true at level 0.
-pub record FitsList (cs : List LiveClause) (st : State) (s : Session) (global : ℕ → ℕ) : Type 0 where
+pub record FitsList (cs : List LiveClause) (st : PropagationState) (s : Session) (global : ℕ → ℕ) : Type 0 where
   pub clauses : AreOf s global cs
   pub known : (l : ℕ) → IsUnitLit st l → s.units (with_var global l) ≡ true
   pub sound : (l : ℕ) → s.solver_names (global (variable l)) ≡ Some (variable l) → s.units (with_var global l) ≡ true → IsTrueLit st.values l × (level st l ≡ 0)
@@ -47,5 +47,5 @@ ChangesNoClause step = ⊥
 
 -- The parts match the session, except for binary clauses with an assigned variable that were removed from the
 -- session. All lists before list l, and the first k literals of list l, were visited.
-abbrev pub LeftParts : Parts → Session → (ℕ → ℕ) → (l k : ℕ) → Type 0
+abbrev pub LeftParts : SearchState → Session → (ℕ → ℕ) → (l k : ℕ) → Type 0
 LeftParts p s global l k = FitsList (binaries_left p.assignment.current p.binary.implied l k ++ longs (is_redundant p.clauses) p.clauses (live_refs p.clauses p.db.refs)) (state p) s global

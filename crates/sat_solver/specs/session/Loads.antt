@@ -3,14 +3,14 @@ use Rattle.std.specs.Prelude.{ℕ, ◌≡◌, ◌≤◌, true, List, map, length
 use Rattle.sat_base.specs.steps.Steps.{AddClause, DeleteClause, Satisfied as True}
 use Rattle.sat_solver.specs.session.Session.{Session, after, IsAllowedStep}
 use Rattle.sat_solver.specs.session.LiveClauses.{with_var}
-use Rattle.sat_parts.specs.declared.parts.Parts.{Parts}
+use Rattle.sat_parts.specs.declared.parts.SearchState.{SearchState}
 use Rattle.sat_parts.specs.declared.parts.load.Loaded.{Loaded}
 use Rattle.sat_parts.specs.declared.parts.load.Loaded.TheVariants.{Stored, Unit as One, Satisfied, Falsified}
 use Rattle.sat_solver.specs.session.Fits.{SessionMatchesParts}
 
 -- The step adds the clause as it was given. A clause with a true literal is then deleted, with its literals in the
 -- order `ls`, unless it has only one literal. The step of a falsified clause records unsat.
-abbrev pub LoadFits : Loaded → Parts → Session → (ℕ → ℕ) → (given ls : List ℕ) → Type 0
+abbrev pub LoadFits : Loaded → SearchState → Session → (ℕ → ℕ) → (given ls : List ℕ) → Type 0
 LoadFits Stored p s global given ls = SessionMatchesParts p (after (AddClause (map (with_var global) given)) s) global
 LoadFits One p s global given ls = SessionMatchesParts p (after (AddClause (map (with_var global) given)) s) global
 LoadFits Satisfied p s global given ls =

@@ -1,7 +1,7 @@
 -- What the answers of a session mean for the names of a script. Lists of steps have the newest first.
 use Rattle.std.specs.Prelude.{ℕ, ◌<◌, ◌≡◌, ◌⊎◌, true, Option, Some, List, [], ◌∷◌, map}
 use Rattle.std.specs.List.{AllByRecursion}
-use Rattle.sat_base.specs.values.Literals.{coded, variable}
+use Rattle.sat_base.specs.values.Literals.{mk_lit, variable}
 use Rattle.sat_base.specs.values.Clauses.{Valuation, EachHolds}
 use Rattle.sat_base.specs.script.Script.{Literal, names_of, Among, InOrder}
 use Rattle.sat_base.specs.script.ScriptState.{ScriptState, identity_of, IsRightModel, IsRightCore}
@@ -27,7 +27,7 @@ pub record IsReadAs (j : ScriptState) (variable_of : ℕ → Option ℕ) (l : Li
   pub in_use : identity_of j l.name ≡ Some identity
   pub var : ℕ
   pub named : variable_of l.name ≡ Some var
-  pub is : code ≡ coded var l.positive
+  pub is : code ≡ mk_lit var l.positive
 
 -- every literal is represented by one of these literals over proof variables
 abbrev pub AllReadAmong : ScriptState → (ℕ → Option ℕ) → List Literal → List ℕ → Type 0

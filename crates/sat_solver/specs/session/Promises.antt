@@ -9,8 +9,8 @@ use Rattle.sat_solver.specs.session.Session.{Session, IsAllowedStep, AreAllowedS
 use Rattle.sat_solver.specs.session.Agrees.{MatchesStored}
 
 -- a checker that matches a session accepts every step that the session allows
-abbrev pub MayIsAccepted : Type 0
-MayIsAccepted = (s : Session) (f : Stored) (step : Step) → MatchesStored s f → IsAllowedStep s step → Accepts f step
+abbrev pub AllowedIsAccepted : Type 0
+AllowedIsAccepted = (s : Session) (f : Stored) (step : Step) → MatchesStored s f → IsAllowedStep s step → Accepts f step
 
 -- if every step is allowed after those before it, the checker accepts all of them, and session and checker agree
 -- afterwards

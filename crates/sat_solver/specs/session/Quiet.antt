@@ -3,9 +3,9 @@ use Rattle.std.specs.Prelude.{ℕ, ◌≡◌, ◌==◌, Bool, true, false, List,
 use Rattle.std.specs.List.{AllByRecursion}
 use Rattle.sat_base.specs.steps.Steps.{Step, AtClause}
 use Rattle.sat_checker.specs.LiteralSets.{is_among}
-use Rattle.sat_solver.specs.session.Coming.{OnlyAllowedSteps}
-use Rattle.sat_solver.specs.session.Session.{Session, denied_in, IsAllowedStep}
-use Rattle.sat_solver.specs.session.Advancing.{AreConsistent, LeadsOn, StaysNew}
+use Rattle.sat_solver.specs.session.AllowedSteps.{OnlyAllowedSteps}
+use Rattle.sat_solver.specs.session.Session.{Session, rup_assumptions, IsAllowedStep}
+use Rattle.sat_solver.specs.session.Advancing.{AreConsistent, UnitPropagates, StaysUnassignedInSession}
 
 -- the literals of a clause other than this one
 abbrev pub others_of : ℕ → List ℕ → List ℕ
@@ -14,15 +14,15 @@ others_of l (m ∷ ms) = if m == l then others_of l ms else m ∷ others_of l ms
 
 -- The units and the negations of a clause's other literals are consistent and leave this literal open. No live clauses that are unit in
 -- turn under them assign it, and none is falsified.
-pub record LeavesLiteralOpen (s : Session) (clause : List ℕ) (l : ℕ) : Type 0 where
+pub record LeavesLiteralUnassigned (s : Session) (clause : List ℕ) (l : ℕ) : Type 0 where
   pub among : is_among clause l ≡ true
-  pub agree : AreConsistent (denied_in s (others_of l clause))
-  pub stays : (picked : List (List ℕ)) (reached : ℕ → Bool) → LeadsOn s (denied_in s (others_of l clause)) picked reached → StaysNew s l reached
+  pub agree : AreConsistent (rup_assumptions s (others_of l clause))
+  pub stays : (picked : List (List ℕ)) (reached : ℕ → Bool) → UnitPropagates s (rup_assumptions s (others_of l clause)) picked reached → StaysUnassignedInSession s l reached
 
 -- the step derives no clause of which a literal is left open in this way
-abbrev pub NeverAdvances : Session → Step → Type 0
-NeverAdvances s (AtClause redundant clause hashes) = (l : ℕ) → LeavesLiteralOpen s clause l → ⊥
-NeverAdvances s step = Unit {0}
+abbrev pub IsNeverEmpowering : Session → Step → Type 0
+IsNeverEmpowering s (AtClause redundant clause hashes) = (l : ℕ) → LeavesLiteralUnassigned s clause l → ⊥
+IsNeverEmpowering s step = Unit {0}
 
 -- whether the list has at most one element
 abbrev pub are_few : List ℕ → Bool
@@ -45,5 +45,5 @@ abbrev pub ComesQuietly : (from to : List Step) → Type 0
 ComesQuietly = OnlyAllowedSteps (λ earlier step. is_quiet step ≡ true)
 
 -- a quiet step that is allowed never advances
-abbrev pub QuietNeverAdvances : Type 0
-QuietNeverAdvances = (s : Session) (step : Step) → IsAllowedStep s step → is_quiet step ≡ true → NeverAdvances s step
+abbrev pub QuietIsNeverEmpowering : Type 0
+QuietIsNeverEmpowering = (s : Session) (step : Step) → IsAllowedStep s step → is_quiet step ≡ true → IsNeverEmpowering s step

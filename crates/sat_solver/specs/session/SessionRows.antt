@@ -17,8 +17,8 @@ collided =
     ∷ AtClause false (0 ∷ []) (0x44 ∷ 0xe6 ∷ []) ∷ ChangeHashBits 8 ∷ Assumptions [] ∷ four
 
 -- the steps `collided` may be written, although every hash is that of two clauses
-abbrev pub CollidingMay : Type 0
-CollidingMay = AreAllowedSteps collided
+abbrev pub CollidingIsAllowed : Type 0
+CollidingIsAllowed = AreAllowedSteps collided
 
 -- A name is hidden and then refers to another variable. The clause of this variable would contradict the unit of the
 -- hidden one if both were the same. The hidden variable is deleted before the model, and its unit is forgotten.
@@ -29,5 +29,5 @@ hidden =
     ∷ AddClause (0 ∷ []) ∷ SolverVarName 0 (Some 0) ∷ UserVarName 0 (Some 0) ∷ []
 
 -- the steps `hidden` may be written, although the name had another variable before
-abbrev pub HiddenMay : Type 0
-HiddenMay = AreAllowedSteps hidden
+abbrev pub HiddenIsAllowed : Type 0
+HiddenIsAllowed = AreAllowedSteps hidden

@@ -3,7 +3,7 @@ use Rattle.std.specs.Prelude.{ℕ, ◌+◌, ◌≡◌, Bool, false, Option, nat_
 use Rattle.std.specs.List.{filter, list_all}
 use Rattle.sat_base.specs.values.Literals.{variable, negated}
 use Rattle.sat_store.specs.clause.Buffer.{lits_at}
-use Rattle.sat_parts.specs.prop.Values.{is_unset}
+use Rattle.sat_parts.specs.prop.Values.{is_unassigned_var}
 use Rattle.sat_parts.specs.prop.Binaries.{implied_by}
 use Rattle.sat_solver.specs.session.LiveClauses.{LiveClause}
 
@@ -43,7 +43,7 @@ pub record InsertsClause (old new : List LiveClause) (c : LiveClause) : Type 0 w
 
 -- whether no variable of the clause has a value
 abbrev pub is_open_clause : List (Option Bool) → LiveClause → Bool
-is_open_clause values c = list_all (λ l. is_unset values (variable l)) c.literals
+is_open_clause values c = list_all (λ l. is_unassigned_var values (variable l)) c.literals
 
 -- The binary clauses while those with an assigned variable are removed. All lists before list l, and the first k
 -- literals of list l, were visited.

@@ -2,20 +2,20 @@
 use Rattle.std.specs.Prelude.{ℕ, ◌≡◌, true, Bool, Option, List, [], ◌∷◌, if◌then◌else◌}
 use Rattle.sat_checker.specs.LiteralSets.{is_among}
 use Rattle.sat_checker.specs.SortedSets.{NoRepeats}
-use Rattle.sat_parts.specs.prop.Graphs.{is_unit_reason}
+use Rattle.sat_parts.specs.prop.Graphs.{has_no_clause}
 use Rattle.sat_parts.specs.prop.Values.{IsTrueLit}
-use Rattle.sat_parts.specs.prop.State.{State, node, level}
+use Rattle.sat_parts.specs.prop.State.{PropagationState, node, level}
 use Rattle.sat_solver.specs.session.Session.{Session}
 use Rattle.sat_solver.specs.session.LiveClauses.{with_var}
 use Rattle.sat_solver.specs.session.Fits.{SessionMatches}
 
 -- the literals that have a clause as their reason
-abbrev pub written_lits : State → List ℕ → List ℕ
+abbrev pub written_lits : PropagationState → List ℕ → List ℕ
 written_lits st [] = []
-written_lits st (l ∷ ls) = if is_unit_reason (node st l).reason then written_lits st ls else l ∷ written_lits st ls
+written_lits st (l ∷ ls) = if has_no_clause (node st l).reason then written_lits st ls else l ∷ written_lits st ls
 
 -- the session matches, and has every literal that is true at level 0 as a unit
-pub record FitsAll (words live : List ℕ) (implied : List (List ℕ)) (st : State) (s : Session) (global : ℕ → ℕ) : Type 0 where
+pub record FitsAll (words live : List ℕ) (implied : List (List ℕ)) (st : PropagationState) (s : Session) (global : ℕ → ℕ) : Type 0 where
   pub fits : SessionMatches words live implied st s global
   pub all : (l : ℕ) → IsTrueLit st.values l → level st l ≡ 0 → s.units (with_var global l) ≡ true
 

@@ -1,26 +1,26 @@
 -- Assumptions that a solver accepts.
 use Rattle.std.specs.Prelude.{ℕ, ◌≡◌, List, Result, Ok, Err}
 use Rattle.sat_base.specs.device.Device.{Writer}
-use Rattle.sat_base.specs.script.ScriptState.{bring_all}
+use Rattle.sat_base.specs.script.ScriptState.{introduce_all}
 use Rattle.sat_checker.specs.declared.processing.ProofProcessor.{Ghosts}
 use Rattle.sat_checker.specs.matching.Expected.{Outcome}
 use Rattle.sat_solver.specs.declared.error.SolverError.{SolverError}
 use Rattle.sat_solver.specs.variables.Calls.{NamesEffect}
-use Rattle.sat_solver.specs.variables.Coming.{MayTake}
-use Rattle.sat_solver.specs.session.Coming.{OnlyAllowedSteps}
+use Rattle.sat_solver.specs.variables.NamingSteps.{IsLiteralsStep}
+use Rattle.sat_solver.specs.session.AllowedSteps.{OnlyAllowedSteps}
 use Rattle.sat_solver.specs.variables.Refusing.{names_in}
 use Rattle.sat_solver.specs.session.Making.{ComesBySteps}
 use Rattle.sat_solver.specs.proof.ProofView.{IsAtWidth, has_asked}
 use Rattle.sat_solver.specs.declared.solver.Solver.{Solver}
 use Rattle.sat_solver.specs.solver.Adding.{ForgetsAnswer, due_for_asked}
 use Rattle.sat_solver.specs.solver.Taking.{BreaksNamesOff}
-use Rattle.sat_solver.specs.solver.Whole.{IsWholeOf, steps_in}
+use Rattle.sat_solver.specs.solver.Whole.{SolverPartsInvariant, steps_in}
 
 -- that these assumptions were accepted, but the list over names is not stored yet
-pub record AskedIn {W L : Type 0} {G : Ghosts L} (seen : W → Writer) (old new : Solver W L G) (user : List ℕ) : Type 0 where
-  pub whole : IsWholeOf new.core new.names new.asked user new.reported.failed_core.items new.clock.restarts.scale new.state
-  pub does : (o : Outcome) → NamesEffect old.names new.names (steps_in old) (steps_in new) (bring_all (names_in user)) (due_for_asked o user)
-  pub comes : OnlyAllowedSteps (MayTake (names_in user)) (steps_in old) (steps_in new)
+pub record SetAssumptionsEffect {W L : Type 0} {G : Ghosts L} (seen : W → Writer) (old new : Solver W L G) (user : List ℕ) : Type 0 where
+  pub whole : SolverPartsInvariant new.core new.names new.asked user new.reported.failed_core.items new.clock.restarts.scale new.state
+  pub does : (o : Outcome) → NamesEffect old.names new.names (steps_in old) (steps_in new) (introduce_all (names_in user)) (due_for_asked o user)
+  pub comes : OnlyAllowedSteps (IsLiteralsStep (names_in user)) (steps_in old) (steps_in new)
   pub took : ComesBySteps seen old.core.proof new.core.proof
   pub asked : has_asked new.core.proof ≡ has_asked old.core.proof
   pub width : (steps_in new ≡ steps_in old → ⊥) → IsAtWidth new.core.proof
@@ -30,6 +30,6 @@ pub record AskedIn {W L : Type 0} {G : Ghosts L} (seen : W → Writer) (old new 
   pub state : ForgetsAnswer old.state new.state
 
 -- the result of setting assumptions before the list over names is stored: they were accepted, or the call failed
-abbrev pub Asks : {W L : Type 0} {G : Ghosts L} → (W → Writer) → Result (Unit {0}) SolverError → Solver W L G → Solver W L G → List ℕ → Type 0
-Asks seen (Ok x) old new user = AskedIn seen old new user
-Asks seen (Err e) old new user = BreaksNamesOff ⊥ seen e old.core new.core
+abbrev pub SetAssumptionsResult : {W L : Type 0} {G : Ghosts L} → (W → Writer) → Result (Unit {0}) SolverError → Solver W L G → Solver W L G → List ℕ → Type 0
+SetAssumptionsResult seen (Ok x) old new user = SetAssumptionsEffect seen old new user
+SetAssumptionsResult seen (Err e) old new user = BreaksNamesOff ⊥ seen e old.core new.core

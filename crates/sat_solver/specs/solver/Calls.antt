@@ -12,19 +12,19 @@ use Rattle.sat_solver.specs.declared.variables.Variables.{Variables}
 use Rattle.sat_solver.specs.load.Literals.{user_literal}
 use Rattle.sat_solver.specs.variables.Calls.{NamesAgree, NamesEffect}
 use Rattle.sat_checker.specs.matching.Expected.{Expected, Shows, Fails}
-use Rattle.sat_checker.specs.matching.Bridge.{Live}
-use Rattle.sat_solver.specs.schedule.Solving.{AdvancesIn}
-use Rattle.sat_solver.specs.session.Coming.{OnlyAllowedSteps, EndsAtUnsat}
+use Rattle.sat_checker.specs.matching.Bridge.{LiveVariables}
+use Rattle.sat_solver.specs.schedule.Solving.{CountsEmpoweringIn}
+use Rattle.sat_solver.specs.session.AllowedSteps.{OnlyAllowedSteps, EndsAtUnsat}
 use Rattle.sat_solver.specs.session.Making.{ComesBySteps}
 use Rattle.sat_solver.specs.proof.ProofView.{Target, Closed, Open, Broken, FlushesAndNotifies, AllStepsReported, IsAtWidth, asking, has_asked, is_open, target_of}
 use Rattle.sat_solver.specs.declared.proof.Proof.{Proof}
 use Rattle.sat_solver.specs.declared.solver.Solver.{Solver}
-use Rattle.sat_solver.specs.declared.state.State.{State}
-use Rattle.sat_solver.specs.declared.state.State.TheVariants as states
+use Rattle.sat_solver.specs.declared.state.SatState.{SatState}
+use Rattle.sat_solver.specs.declared.state.SatState.TheVariants as states
 use Rattle.sat_solver.specs.solver.Answering.{BreaksCall, FlushFails}
 use Rattle.sat_solver.specs.solver.Found.{SearchedBy}
 use Rattle.sat_solver.specs.solver.Whole.{SolverInvariant, steps_in, line_in}
-use Rattle.sat_solver.specs.solver.View.{IsInState, OnlyProofDiffers, answer_in, assumed_in, assumptions_in, reported_core, has_failed, inside, is_used, known_names, parameters_in, proof_in, rounds_in, schedule_in, target_in, used_now}
+use Rattle.sat_solver.specs.solver.View.{IsInState, OnlyProofDiffers, answer_in, assumed_in, assumptions_in, reported_core, has_failed, context_of, is_used, known_names, parameters_in, proof_in, rounds_in, schedule_in, target_in, used_now}
 
 -- the effect of a call: how it changes the script state, and which ordered steps it has made; other steps may be in between
 pub record CallEffect {W L : Type 0} {G : Ghosts L} (seen : W → Writer) (old new : Solver W L G) (judge : ScriptState → ScriptState) (due : ScriptState → List Expected) : Type 0 where
@@ -47,7 +47,7 @@ rounds_left s = round_allowance (parameters_in s).max_steps (rounds_in s)
 pub record RoundsOn (n : Variables) (steps : List Step) (budget before now : ℕ) : Type 0 where
   pub more : before ≤ now
   pub within : now ≤ before + round_allowance budget before
-  pub few : (j : ScriptState) (live : Live) → NamesAgree n steps j live → now < before + 2 ^ (2 * j.identity_count + 3)
+  pub few : (j : ScriptState) (live : LiveVariables) → NamesAgree n steps j live → now < before + 2 ^ (2 * j.identity_count + 3)
 
 -- that `RoundsOn` holds for a call of a solver
 abbrev pub CountsRounds : {W L : Type 0} {G : Ghosts L} → Solver W L G → Solver W L G → Type 0
@@ -58,7 +58,7 @@ CountsRounds old new = RoundsOn (known_names old) (steps_in old) (parameters_in 
 pub record EndsInFailure {W L : Type 0} {G : Ghosts L} (seen : W → Writer) (e : SolverError) (old new : Solver W L G) : Type 0 where
   pub going : has_failed old ≡ false
   pub failed : has_failed new ≡ true
-  pub breaks : BreaksCall seen e (inside old) (inside new)
+  pub breaks : BreaksCall seen e (context_of old) (context_of new)
   pub counts : CountsRounds old new
   pub known : (answer_in old ≡ states.Unknown → ⊥) → FlushFails seen e (proof_in old) (proof_in new)
 
@@ -70,13 +70,13 @@ pub record Refuses {W L : Type 0} {G : Ghosts L} (old new : Solver W L G) (why :
 -- ANSWERS
 
 -- the ordered steps of an answer; an answer that was already known needs none
-abbrev pub due_between_states : (before now : State) → (line asked core : List ℕ) → List Expected
+abbrev pub due_between_states : (before now : SatState) → (line asked core : List ℕ) → List Expected
 due_between_states states.Unknown states.Sat line asked core = Shows (names_of (map user_literal line)) (map user_literal asked) (map user_literal line) ∷ []
 due_between_states states.Unknown states.UnsatUnderAssumptions line asked core = Fails (map user_literal asked) (map user_literal core) ∷ []
 due_between_states before now line asked core = []
 
 -- the ordered steps of the answer that the solver now has
-abbrev pub due_for_answer : {W L : Type 0} {G : Ghosts L} → State → Solver W L G → List Expected
+abbrev pub due_for_answer : {W L : Type 0} {G : Ghosts L} → SatState → Solver W L G → List Expected
 due_for_answer before s = due_between_states before (answer_in s) (line_in s) (assumptions_in s) (reported_core s)
 
 -- The number of rounds made: at least one for a new answer, and all that are allowed if there is no answer. There is
@@ -85,11 +85,11 @@ pub record Counts {W L : Type 0} {G : Ghosts L} (old new : Solver W L G) : Type 
   pub on : CountsRounds old new
   pub round : answer_in old ≡ states.Unknown → (answer_in new ≡ states.Unknown → ⊥) → rounds_in old < rounds_in new
   pub spent : answer_in new ≡ states.Unknown → rounds_in new ≡ rounds_in old + rounds_left old
-  pub answered : (j : ScriptState) (live : Live) → IsInState old j live → 2 ^ (2 * j.identity_count + 3) ≤ rounds_left old →
+  pub answered : (j : ScriptState) (live : LiveVariables) → IsInState old j live → 2 ^ (2 * j.identity_count + 3) ≤ rounds_left old →
       answer_in new ≡ states.Unknown → ⊥
 
 -- the number of rounds of an ask that learn a clause: all except the round that answers
-abbrev pub learned_of : State → (rounds : ℕ) → ℕ
+abbrev pub learned_of : SatState → (rounds : ℕ) → ℕ
 learned_of states.Unknown rounds = rounds
 learned_of states.Sat rounds = rounds - 1
 learned_of states.UnsatUnderAssumptions rounds = rounds - 1
@@ -115,14 +115,14 @@ pub record AnswersAgain {W L : Type 0} {G : Ghosts L} (old new : Solver W L G) :
 -- target was flushed.
 pub record MakesRounds {W L : Type 0} {G : Ghosts L} (seen : W → Writer) (old new : Solver W L G) : Type 0 where
   pub following : Proof W L G
-  pub searched : SearchedBy seen (answer_in new) (schedule_in old) (schedule_in new) (known_names old) (known_names new) (record (inside old) { proof = asking (proof_in old) }) (record (inside new) { proof = following }) (reported_core new)
+  pub searched : SearchedBy seen (answer_in new) (schedule_in old) (schedule_in new) (known_names old) (known_names new) (record (context_of old) { proof = asking (proof_in old) }) (record (context_of new) { proof = following }) (reported_core new)
   pub flushes : FlushesAndNotifies seen following (proof_in new)
 
 -- The steps of an ask; after unsat is recorded, they only change the width. Every round except the answering one
--- derived a clause that advances; no other step did. Names keep their variables.
+-- derived an empowering clause; no other step did. Names keep their variables.
 pub record StepsOfAsk {W L : Type 0} {G : Ghosts L} (seen : W → Writer) (old new : Solver W L G) : Type 0 where
   pub comes : OnlyAllowedSteps EndsAtUnsat (steps_in old) (steps_in new)
-  pub times : AdvancesIn (steps_in old) (steps_in new) (learned_of (answer_in new) (rounds_in new - rounds_in old))
+  pub times : CountsEmpoweringIn (steps_in old) (steps_in new) (learned_of (answer_in new) (rounds_in new - rounds_in old))
   pub users : (known_names new).global_from_user ≡ (known_names old).global_from_user
   pub asked : NotesAsk seen (proof_in new)
   pub rounds : answer_in old ≡ states.Unknown → MakesRounds seen old new
@@ -138,7 +138,7 @@ pub record Answered {W L : Type 0} {G : Ghosts L} (seen : W → Writer) (old new
   pub steps : StepsOfAsk seen old new
 
 -- that the state represents this answer; `Unknown` represents none
-abbrev pub is_answer : State → Bool → Type 0
+abbrev pub is_answer : SatState → Bool → Type 0
 is_answer states.Unknown sat = ⊥
 is_answer states.Sat sat = sat ≡ true
 is_answer states.UnsatUnderAssumptions sat = sat ≡ false

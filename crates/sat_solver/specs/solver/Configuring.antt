@@ -6,30 +6,30 @@ use Rattle.sat_solver.specs.session.Session.{Session}
 use Rattle.sat_solver.specs.declared.config.SolverConfigUpdate.{SolverConfigUpdate}
 use Rattle.sat_solver.specs.declared.error.SolverError.{SolverError}
 use Rattle.sat_solver.specs.declared.error.SolverError.TheVariants as errors
-use Rattle.sat_solver.specs.declared.context.Core.{Core}
+use Rattle.sat_solver.specs.declared.context.Context.{Context}
 use Rattle.sat_solver.specs.clause.Activity.{BumpEffect}
-use Rattle.sat_solver.specs.cdcl.Joint.{IsSearch}
+use Rattle.sat_solver.specs.cdcl.Joint.{SearchInvariant}
 use Rattle.sat_solver.specs.declared.solver.Solver.{Solver}
-use Rattle.sat_solver.specs.declared.solver.find.Clock.{Clock}
-use Rattle.sat_solver.specs.declared.state.State.{State}
-use Rattle.sat_solver.specs.declared.state.State.TheVariants as states
+use Rattle.sat_solver.specs.declared.solver.find.Schedule.{Schedule}
+use Rattle.sat_solver.specs.declared.state.SatState.{SatState}
+use Rattle.sat_solver.specs.declared.state.SatState.TheVariants as states
 use Rattle.sat_solver.specs.solver.Calls.{Refuses}
-use Rattle.sat_solver.specs.solver.View.{answer_in, assumed_in, has_failed, inside, is_used, known_names, parameters_in, proof_in, schedule_in, reported_in}
+use Rattle.sat_solver.specs.solver.View.{answer_in, assumed_in, has_failed, context_of, is_used, known_names, parameters_in, proof_in, schedule_in, reported_in}
 
 -- that the search got the decay of variables from the parameters; besides it, only the scale of clause activities
 -- may have changed
-pub record SetsDecays {W L : Type 0} {G : Ghosts L} (a b : Core W L G) : Type 0 where
-  pub bumped : (s : Session) → IsSearch s a.search → BumpEffect s a.search b.search
+pub record SetsDecays {W L : Type 0} {G : Ghosts L} (a b : Context W L G) : Type 0 where
+  pub bumped : (s : Session) → SearchInvariant s a.search → BumpEffect s a.search b.search
   pub parts : b.search.parts ≡ record a.search.parts { vsids = record a.search.parts.vsids { decay = a.config.vsids_decay } }
   pub search : b.search ≡ record a.search { parts = b.search.parts; activity = b.search.activity }
   pub same : b ≡ record a { search = b.search }
 
 -- the schedule at another scale, if one is given
-abbrev pub at_scale : Option ℕ → Clock → Clock
+abbrev pub at_scale : Option ℕ → Schedule → Schedule
 at_scale scale clock = record clock { restarts = record clock.restarts { scale = unwrap_or scale clock.restarts.scale } }
 
 -- that the parameters were passed to the search, unless the search has ended
-abbrev pub PassesToSearch : {W L : Type 0} {G : Ghosts L} → State → Core W L G → Core W L G → Type 0
+abbrev pub PassesToSearch : {W L : Type 0} {G : Ghosts L} → SatState → Context W L G → Context W L G → Type 0
 PassesToSearch states.Unsat a b = b ≡ a
 PassesToSearch st a b = SetsDecays a b
 
@@ -50,7 +50,7 @@ pub record Configured {W L : Type 0} {G : Ghosts L} (u : SolverConfigUpdate) (ol
   pub same : KeepsAllElse old new
   -- the schedule of restarts continues, at the scale of the update
   pub clock : schedule_in new ≡ at_scale u.luby_restart_interval_scale (schedule_in old)
-  pub decays : PassesToSearch (answer_in old) (record (inside old) { config = updated u (parameters_in old) }) (inside new)
+  pub decays : PassesToSearch (answer_in old) (record (context_of old) { config = updated u (parameters_in old) }) (context_of new)
   pub failed : has_failed new ≡ false
 
 -- the result of an update; if a field is out of range, nothing changes

@@ -3,9 +3,9 @@ use Rattle.std.specs.Prelude.{List, map}
 use Rattle.std.specs.List.{AllByRecursion}
 use Rattle.sat_base.specs.values.Clauses.{Valuation, EachTrue, EachHolds}
 use Rattle.sat_base.specs.script.Script.{Literal, Among}
-use Rattle.sat_base.specs.script.ScriptState.{ScriptState, over}
+use Rattle.sat_base.specs.script.ScriptState.{ScriptState, identity_lit}
 
 -- that `core` is a correct core of `ask`, in any order
 pub record IsCoreOf (j : ScriptState) (ask core : List Literal) : Type 0 where
   pub among : AllByRecursion (λ l. Among l ask) core
-  pub none : (a : Valuation) → EachTrue a (map (over j) core) → EachHolds a j.clauses → ⊥
+  pub none : (a : Valuation) → EachTrue a (map (identity_lit j) core) → EachHolds a j.clauses → ⊥

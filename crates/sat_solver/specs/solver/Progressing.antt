@@ -3,30 +3,30 @@ use Rattle.std.specs.Prelude.{ℕ, ◌≡◌, ◌/◌, ◌&&◌, not, false, Boo
 use Rattle.sat_store.specs.declared.clause.tier.Tier.{Tier}
 use Rattle.sat_store.specs.declared.clause.tier.Tier.TheVariants as tiers
 use Rattle.sat_checker.specs.declared.processing.ProofProcessor.{Ghosts}
-use Rattle.sat_parts.specs.clause.Db.{is_live_of}
+use Rattle.sat_parts.specs.clause.Db.{is_live_in_tier}
 use Rattle.sat_parts.specs.prop.Binaries.{implications}
 use Rattle.sat_parts.specs.prop.Values.{value_of}
 use Rattle.sat_solver.specs.declared.variables.Variables.{Variables}
-use Rattle.sat_parts.specs.declared.parts.Parts.{Parts}
+use Rattle.sat_parts.specs.declared.parts.SearchState.{SearchState}
 use Rattle.sat_solver.specs.declared.progress.Progress.{Progress}
 use Rattle.sat_solver.specs.declared.solver.Solver.{Solver}
-use Rattle.sat_solver.specs.declared.state.State.TheVariants as states
+use Rattle.sat_solver.specs.declared.state.SatState.TheVariants as states
 use Rattle.sat_solver.specs.variables.Counting.{count_to}
 use Rattle.sat_solver.specs.variables.Variables.{global_at, indices_used}
 use Rattle.sat_solver.specs.solver.View.{answer_in, has_failed}
 use Rattle.sat_solver.specs.solver.Whole.{IsSolver}
 
 -- whether a variable has this index, and no value
-abbrev pub is_open_at : Variables → List (Option Bool) → ℕ → Bool
-is_open_at n values x = is_some (global_at n x) && (nat_lt x (length values) && not (is_some (value_of values x)))
+abbrev pub is_unassigned_at : Variables → List (Option Bool) → ℕ → Bool
+is_unassigned_at n values x = is_some (global_at n x) && (nat_lt x (length values) && not (is_some (value_of values x)))
 
 -- the number of search variables without a value
-abbrev pub open_vars : Variables → List (Option Bool) → ℕ
-open_vars n values = count_to (indices_used n) (is_open_at n values)
+abbrev pub unassigned_count : Variables → List (Option Bool) → ℕ
+unassigned_count n values = count_to (indices_used n) (is_unassigned_at n values)
 
 -- the number of search variables of a solver without a value
-abbrev pub open_in : {W L : Type 0} {G : Ghosts L} → Solver W L G → ℕ
-open_in s = open_vars s.names s.core.search.parts.assignment.current
+abbrev pub solver_unassigned_count : {W L : Type 0} {G : Ghosts L} → Solver W L G → ℕ
+solver_unassigned_count s = unassigned_count s.names s.core.search.parts.assignment.current
 
 -- that no call failed, and the clauses are not known to be unsatisfiable
 pub record IsOngoing {W L : Type 0} {G : Ghosts L} (s : Solver W L G) : Type 0 where
@@ -35,11 +35,11 @@ pub record IsOngoing {W L : Type 0} {G : Ghosts L} (s : Solver W L G) : Type 0 w
   pub left : answer_in s ≡ states.Unsat → ⊥
 
 -- the number of long clauses of a tier that were not deleted
-abbrev pub live_count_of_tier : Parts → Tier → ℕ
-live_count_of_tier p tier = count_by (is_live_of p.clauses tier) p.db.refs
+abbrev pub live_count_of_tier : SearchState → Tier → ℕ
+live_count_of_tier p tier = count_by (is_live_in_tier p.clauses tier) p.db.refs
 
 -- that the counts are those of the search's clauses; a binary clause is two implications
-pub record CountsClauses (r : Progress) (p : Parts) : Type 0 where
+pub record CountsClauses (r : Progress) (p : SearchState) : Type 0 where
   pub binary : r.binary ≡ implications p.binary.implied / 2
   pub irred : r.irred ≡ live_count_of_tier p tiers.Irred
   pub core : r.core ≡ live_count_of_tier p tiers.Core

@@ -9,25 +9,25 @@ use Rattle.sat_solver.specs.proof.Counting.{nothing_counted}
 use Rattle.sat_solver.specs.proof.Drat.{IsDratDerivation, RefutesByUnits, present}
 use Rattle.sat_solver.specs.proof.ProofTexts.{TookAcceptedSteps, WroteSince}
 use Rattle.sat_solver.specs.proof.ProofView as proofs
-use Rattle.sat_solver.specs.proof.ProofView.{Open, EmitsExactly, ClosesNone, ClosesOne, FailsToEmit, FailsCheck, ListenersAtRestart, audience, has_asked, is_open, is_lost, target_of}
+use Rattle.sat_solver.specs.proof.ProofView.{Open, EmitsExactly, ClosesNone, ClosesOne, FailsToEmit, FailsCheck, ListenersAtRestart, proof_listeners, has_asked, is_open, has_missed_step, target_of}
 use Rattle.sat_solver.specs.declared.proof.format.ProofFormat.{ProofFormat}
 use Rattle.sat_solver.specs.declared.error.SolverError.{SolverError}
-use Rattle.sat_solver.specs.declared.proof.made.CheckFault.{CheckFault}
-use Rattle.sat_solver.specs.declared.proof.made.CheckFault.TheVariants as checks
+use Rattle.sat_solver.specs.declared.proof.emitted.CheckFault.{CheckFault}
+use Rattle.sat_solver.specs.declared.proof.emitted.CheckFault.TheVariants as checks
 use Rattle.sat_solver.specs.declared.error.SolverError.TheVariants as errors
 use Rattle.sat_solver.specs.variables.Calls.{NamesEffect}
 use Rattle.sat_solver.specs.cdcl.Faults.{NamesLoss}
 use Rattle.sat_checker.specs.matching.Expected.{Finish}
 use Rattle.sat_solver.specs.declared.solver.Solver.{Solver}
-use Rattle.sat_solver.specs.declared.state.State.TheVariants as states
+use Rattle.sat_solver.specs.declared.state.SatState.TheVariants as states
 use Rattle.sat_solver.specs.solver.Calls.{Refuses}
 use Rattle.sat_solver.specs.solver.Whole.{SolverInvariant, steps_in}
 use Rattle.sat_solver.specs.solver.View.{OnlyProofDiffers, answer_in, has_failed, is_used, known_names, proof_in, schedule_in, target_in}
 
 -- that the solver's own checker, if any, has the same listeners, and has missed a step exactly if it had before
 pub record KeepsListeners {W L : Type 0} {G : Ghosts L} (old new : Solver W L G) : Type 0 where
-  pub listening : audience (proof_in new) ≡ audience (proof_in old)
-  pub taking : is_lost (proof_in new) ≡ is_lost (proof_in old)
+  pub listening : proof_listeners (proof_in new) ≡ proof_listeners (proof_in old)
+  pub taking : has_missed_step (proof_in new) ≡ has_missed_step (proof_in old)
 
 -- that a target was opened by an unused solver that had no open one
 pub record Opened {W L : Type 0} {G : Ghosts L} (seen : W → Writer) (format : ProofFormat) (target : W) (old new : Solver W L G) : Type 0 where
@@ -68,7 +68,7 @@ Enables seen (Err e) old new = ⊥
 pub record HasMoreListeners {W L : Type 0} {G : Ghosts L} (more : List L) (old new : Solver W L G) : Type 0 where
   pub before : List L
   pub listed : ListenersAtRestart (proof_in old) before
-  pub listening : audience (proof_in new) ≡ Some (before ++ more)
+  pub listening : proof_listeners (proof_in new) ≡ Some (before ++ more)
 
 -- that a listener was added to the solver's own checker, after the earlier listeners, before any step other than ends of proofs
 pub record GainsListener {W L : Type 0} {G : Ghosts L} (seen : W → Writer) (processor : L) (old new : Solver W L G) : Type 0 where
@@ -77,12 +77,12 @@ pub record GainsListener {W L : Type 0} {G : Ghosts L} (seen : W → Writer) (pr
   pub begun : has_begun (steps_in old) ≡ false
   pub steps : steps_in new ≡ steps_in old
   pub target : target_in seen new ≡ target_in seen old
-  pub listens : HasMoreListeners (processor ∷ []) old new × (is_lost (proof_in new) ≡ false)
+  pub listens : HasMoreListeners (processor ∷ []) old new × (has_missed_step (proof_in new) ≡ false)
   pub asked : has_asked (proof_in new) ≡ has_asked (proof_in old)
   pub same : OnlyProofDiffers old new
 
 -- that memory ran out while a listener was added
-pub record Unheard {W L : Type 0} {G : Ghosts L} (seen : W → Writer) (old new : Solver W L G) : Type 0 where
+pub record AddListenerOutOfMemory {W L : Type 0} {G : Ghosts L} (seen : W → Writer) (old new : Solver W L G) : Type 0 where
   pub going : has_failed old ≡ false
   pub first : is_used old ≡ false
   pub begun : has_begun (steps_in old) ≡ false
@@ -97,11 +97,11 @@ abbrev pub AddsProcessor : {W L : Type 0} {G : Ghosts L} → (W → Writer) → 
 AddsProcessor seen (Ok x) processor old new = GainsListener seen processor old new
 AddsProcessor seen (Err errors.HasFailed) processor old new = Refuses old new (has_failed old ≡ true)
 AddsProcessor seen (Err errors.TooLate) processor old new = Refuses old new ((has_failed old ≡ false) × ((is_used old ≡ true) ⊎ (has_begun (steps_in old) ≡ true)))
-AddsProcessor seen (Err errors.OutOfMemory) processor old new = Unheard seen old new
+AddsProcessor seen (Err errors.OutOfMemory) processor old new = AddListenerOutOfMemory seen old new
 AddsProcessor seen (Err e) processor old new = ⊥
 
 -- the target is returned, with the last step; the solver's own checker has received all steps, and has announced what was pending
-pub record ClosedOne {W L : Type 0} {G : Ghosts L} (seen : W → Writer) (given : W) (old new : Solver W L G) : Type 0 where
+pub record CloseReturnsTarget {W L : Type 0} {G : Ghosts L} (seen : W → Writer) (given : W) (old new : Solver W L G) : Type 0 where
   pub going : has_failed old ≡ false
   pub whole : SolverInvariant new
   pub does : NamesEffect (known_names old) (known_names new) (steps_in old) (steps_in new) (λ j. j) (λ j. Finish ∷ [])
@@ -114,20 +114,20 @@ pub record ClosedOne {W L : Type 0} {G : Ghosts L} (seen : W → Writer) (given 
   pub same : OnlyProofDiffers old new
 
 -- that no target was open
-pub record ClosedNone {W L : Type 0} {G : Ghosts L} (seen : W → Writer) (old new : Solver W L G) : Type 0 where
+pub record CloseWithoutTarget {W L : Type 0} {G : Ghosts L} (seen : W → Writer) (old new : Solver W L G) : Type 0 where
   pub going : has_failed old ≡ false
   pub closes : ClosesNone seen (proof_in old) (proof_in new)
   pub same : OnlyProofDiffers old new
 
 -- that the target failed while the last step's text was written
-pub record ClosedBroken {W L : Type 0} {G : Ghosts L} (seen : W → Writer) (old new : Solver W L G) : Type 0 where
+pub record CloseTargetFailed {W L : Type 0} {G : Ghosts L} (seen : W → Writer) (old new : Solver W L G) : Type 0 where
   pub going : has_failed old ≡ false
   pub failed : has_failed new ≡ true
   pub fails : FailsToEmit seen (End ∷ []) (proof_in old) (proof_in new)
   pub clock : schedule_in new ≡ schedule_in old
 
 -- that memory ran out before any step was made, or the solver's own checker ran out of memory after the last step
-pub record ClosedStarved {W L : Type 0} {G : Ghosts L} (seen : W → Writer) (old new : Solver W L G) : Type 0 where
+pub record CloseOutOfMemory {W L : Type 0} {G : Ghosts L} (seen : W → Writer) (old new : Solver W L G) : Type 0 where
   pub going : has_failed old ≡ false
   pub failed : has_failed new ≡ true
   pub adds : EmitsExactly seen [] (proof_in old) (proof_in new) ⊎ FailsCheck seen checks.OutOfMemory (End ∷ []) (proof_in old) (proof_in new)
@@ -135,7 +135,7 @@ pub record ClosedStarved {W L : Type 0} {G : Ghosts L} (seen : W → Writer) (ol
   pub clock : schedule_in new ≡ schedule_in old
 
 -- that the solver's own checker failed after the last step
-pub record ClosedUnchecked {W L : Type 0} {G : Ghosts L} (seen : W → Writer) (fault : CheckFault) (old new : Solver W L G) : Type 0 where
+pub record CloseCheckerFailed {W L : Type 0} {G : Ghosts L} (seen : W → Writer) (fault : CheckFault) (old new : Solver W L G) : Type 0 where
   pub going : has_failed old ≡ false
   pub failed : has_failed new ≡ true
   pub fails : FailsCheck seen fault (End ∷ []) (proof_in old) (proof_in new)
@@ -143,11 +143,11 @@ pub record ClosedUnchecked {W L : Type 0} {G : Ghosts L} (seen : W → Writer) (
 
 -- the result of closing a proof: the target is returned, or none was open, or the call failed
 abbrev pub ClosesProof : {W L : Type 0} {G : Ghosts L} → (W → Writer) → Result (Option W) SolverError → Solver W L G → Solver W L G → Type 0
-ClosesProof seen (Ok None) old new = ClosedNone seen old new
-ClosesProof seen (Ok (Some given)) old new = ClosedOne seen given old new
+ClosesProof seen (Ok None) old new = CloseWithoutTarget seen old new
+ClosesProof seen (Ok (Some given)) old new = CloseReturnsTarget seen given old new
 ClosesProof seen (Err errors.HasFailed) old new = Refuses old new (has_failed old ≡ true)
-ClosesProof seen (Err (errors.ProofIoError cause)) old new = ClosedBroken seen old new
-ClosesProof seen (Err errors.OutOfMemory) old new = ClosedStarved seen old new
-ClosesProof seen (Err errors.CounterEnd) old new = ClosedUnchecked seen checks.CounterEnd old new
-ClosesProof seen (Err (errors.ProofProcessorError cause)) old new = ClosedUnchecked seen (checks.Processor cause) old new
+ClosesProof seen (Err (errors.ProofIoError cause)) old new = CloseTargetFailed seen old new
+ClosesProof seen (Err errors.OutOfMemory) old new = CloseOutOfMemory seen old new
+ClosesProof seen (Err errors.CounterEnd) old new = CloseCheckerFailed seen checks.CounterEnd old new
+ClosesProof seen (Err (errors.ProofProcessorError cause)) old new = CloseCheckerFailed seen (checks.Processor cause) old new
 ClosesProof seen (Err e) old new = ⊥

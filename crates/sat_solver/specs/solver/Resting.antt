@@ -6,10 +6,10 @@ use Rattle.sat_solver.specs.declared.error.SolverError.{SolverError}
 use Rattle.sat_solver.specs.declared.error.SolverError.TheVariants as errors
 use Rattle.sat_solver.specs.load.Literals.{user_literal}
 use Rattle.sat_solver.specs.variables.Calls.{HasScriptState}
-use Rattle.sat_checker.specs.matching.Bridge.{Live}
+use Rattle.sat_checker.specs.matching.Bridge.{LiveVariables}
 use Rattle.sat_solver.specs.declared.solver.Solver.{Solver}
-use Rattle.sat_solver.specs.declared.state.State.{State}
-use Rattle.sat_solver.specs.declared.state.State.TheVariants as states
+use Rattle.sat_solver.specs.declared.state.SatState.{SatState}
+use Rattle.sat_solver.specs.declared.state.SatState.TheVariants as states
 use Rattle.sat_solver.specs.solver.Lines.{IsCoreOf}
 use Rattle.sat_solver.specs.solver.Whole.{IsSolver, steps_in, asked_in, line_in}
 use Rattle.sat_solver.specs.solver.View.{IsInState, answer_in, reported_core, has_failed, known_names}
@@ -24,11 +24,11 @@ SolverMatchesSomeState s = IsSolver s → has_failed s ≡ false → MatchesSome
 
 -- that the line is a correct model for the assumptions, in every script state that names and steps agree with
 abbrev pub IsRightLine : {W L : Type 0} {G : Ghosts L} → Solver W L G → List ℕ → Type 0
-IsRightLine s line = (j : ScriptState) (live : Live) → IsInState s j live → IsRightModel j (asked_in s) (map user_literal line)
+IsRightLine s line = (j : ScriptState) (live : LiveVariables) → IsInState s j live → IsRightModel j (asked_in s) (map user_literal line)
 
 -- that the core, in any order, is correct for the assumptions, in every script state that names and steps agree with
 abbrev pub IsRightCoreOf : {W L : Type 0} {G : Ghosts L} → Solver W L G → List ℕ → Type 0
-IsRightCoreOf s core = (j : ScriptState) (live : Live) → IsInState s j live → IsCoreOf j (asked_in s) (map user_literal core)
+IsRightCoreOf s core = (j : ScriptState) (live : LiveVariables) → IsInState s j live → IsCoreOf j (asked_in s) (map user_literal core)
 
 -- that the line is a model over names
 pub record IsModel {W L : Type 0} {G : Ghosts L} (s : Solver W L G) (line : List ℕ) : Type 0 where
@@ -48,14 +48,14 @@ ModelFails errors.OutOfMemory s = (has_failed s ≡ false) × (answer_in s ≡ s
 ModelFails e s = ⊥
 
 -- that the state says that no valuation satisfies the clauses, or the clauses and the assumptions
-abbrev pub is_unsat : State → Type 0
+abbrev pub is_unsat : SatState → Type 0
 is_unsat states.Unknown = ⊥
 is_unsat states.Sat = ⊥
 is_unsat states.UnsatUnderAssumptions = Unit {0}
 is_unsat states.Unsat = Unit {0}
 
 -- the failed core in this state: the reported core if an ask failed under its assumptions, otherwise the empty core
-abbrev pub core_for : {W L : Type 0} {G : Ghosts L} → State → Solver W L G → List ℕ
+abbrev pub core_for : {W L : Type 0} {G : Ghosts L} → SatState → Solver W L G → List ℕ
 core_for states.UnsatUnderAssumptions s = (reported_core s)
 core_for st s = []
 

@@ -4,12 +4,12 @@ use Rattle.sat_base.specs.device.Device.{Writer}
 use Rattle.sat_checker.specs.declared.processing.ProofProcessor.{Ghosts}
 use Rattle.sat_solver.specs.declared.error.SolverError.{SolverError}
 use Rattle.sat_solver.specs.variables.Calls.{NamesEffect}
-use Rattle.sat_solver.specs.schedule.Solving.{AdvancesIn}
-use Rattle.sat_solver.specs.session.Coming.{OnlyAllowedSteps, EndsAtUnsat}
+use Rattle.sat_solver.specs.schedule.Solving.{CountsEmpoweringIn}
+use Rattle.sat_solver.specs.session.AllowedSteps.{OnlyAllowedSteps, EndsAtUnsat}
 use Rattle.sat_solver.specs.session.Making.{ComesBySteps}
 use Rattle.sat_solver.specs.proof.ProofView.{EmitsExactly, IsAtWidth}
 use Rattle.sat_solver.specs.declared.solver.Solver.{Solver}
-use Rattle.sat_solver.specs.declared.state.State.TheVariants as states
+use Rattle.sat_solver.specs.declared.state.SatState.TheVariants as states
 use Rattle.sat_solver.specs.solver.Answering.{BreaksOff, FlushFails}
 use Rattle.sat_solver.specs.solver.Calls.{Counts, CountsRounds, learned_of, due_for_answer}
 use Rattle.sat_solver.specs.solver.Whole.{SolverInvariant, steps_in}
@@ -25,7 +25,7 @@ pub record Settled {W L : Type 0} {G : Ghosts L} (seen : W → Writer) (old new 
   pub users : new.names.global_from_user ≡ old.names.global_from_user
   pub config : new.core.config ≡ old.core.config
   pub counts : Counts old new
-  pub times : AdvancesIn (steps_in old) (steps_in new) (learned_of new.state (new.clock.rounds - old.clock.rounds))
+  pub times : CountsEmpoweringIn (steps_in old) (steps_in new) (learned_of new.state (new.clock.rounds - old.clock.rounds))
   pub known : (old.state ≡ states.Unknown → ⊥) → EmitsExactly seen [] old.core.proof new.core.proof × (new ≡ record old { core = record old.core { proof = new.core.proof } })
 
 -- that `Settled` holds or, with an error, the call failed; if the answer was known, a flush or the solver's own checker failed

@@ -2,23 +2,23 @@
 use Rattle.std.specs.Prelude.{◌≡◌, ℕ, Bool, true, false, Option, None, List, []}
 use Rattle.std.specs.Global.{Vec}
 use Rattle.sat_base.specs.device.Device.{Writer}
-use Rattle.sat_base.specs.script.ScriptState.{ScriptState, start}
+use Rattle.sat_base.specs.script.ScriptState.{ScriptState, initial_state}
 use Rattle.sat_base.specs.steps.Steps.{Step}
-use Rattle.sat_checker.specs.matching.Bridge.{Live}
+use Rattle.sat_checker.specs.matching.Bridge.{LiveVariables}
 use Rattle.sat_checker.specs.declared.processing.ProofProcessor.{Ghosts}
 use Rattle.sat_solver.specs.proof.ProofView as proofs
 use Rattle.sat_solver.specs.proof.ProofView.{Target, Closed, target_of}
 use Rattle.sat_solver.specs.variables.Calls.{NamesAgree}
 use Rattle.sat_solver.specs.Configs.{defaults}
 use Rattle.sat_solver.specs.declared.config.SolverConfig.{SolverConfig}
-use Rattle.sat_solver.specs.declared.context.Core.{Core}
+use Rattle.sat_solver.specs.declared.context.Context.{Context}
 use Rattle.sat_solver.specs.declared.proof.Proof.{Proof}
 use Rattle.sat_solver.specs.declared.solver.Solver.{Solver}
-use Rattle.sat_solver.specs.declared.solver.find.Clock.{Clock}
+use Rattle.sat_solver.specs.declared.solver.find.Schedule.{Schedule}
 use Rattle.sat_solver.specs.declared.solver.find.LastAnswers.{LastAnswers}
 use Rattle.sat_solver.specs.declared.variables.Variables.{Variables}
-use Rattle.sat_solver.specs.declared.state.State.{State}
-use Rattle.sat_solver.specs.declared.state.State.TheVariants as states
+use Rattle.sat_solver.specs.declared.state.SatState.{SatState}
+use Rattle.sat_solver.specs.declared.state.SatState.TheVariants as states
 use Rattle.sat_solver.specs.solver.Whole.{SolverInvariant, steps_in}
 
 -- whether a call failed; then every later call fails
@@ -30,7 +30,7 @@ abbrev pub is_used : {W L : Type 0} {G : Ghosts L} → Solver W L G → Bool
 is_used s = s.used
 
 -- what the solver knows about the answer
-abbrev pub answer_in : {W L : Type 0} {G : Ghosts L} → Solver W L G → State
+abbrev pub answer_in : {W L : Type 0} {G : Ghosts L} → Solver W L G → SatState
 answer_in s = s.state
 
 -- the assumptions, as codes of literals over names
@@ -54,7 +54,7 @@ abbrev pub reported_core : {W L : Type 0} {G : Ghosts L} → Solver W L G → Li
 reported_core s = s.reported.failed_core.items
 
 -- the rounds of all asks, and when restarts are due
-abbrev pub schedule_in : {W L : Type 0} {G : Ghosts L} → Solver W L G → Clock
+abbrev pub schedule_in : {W L : Type 0} {G : Ghosts L} → Solver W L G → Schedule
 schedule_in s = s.clock
 
 -- the number of rounds of all asks
@@ -70,8 +70,8 @@ abbrev pub parameters_in : {W L : Type 0} {G : Ghosts L} → Solver W L G → So
 parameters_in s = s.core.config
 
 -- everything besides names: the proof, the search and the parameters
-abbrev pub inside : {W L : Type 0} {G : Ghosts L} → Solver W L G → Core W L G
-inside s = s.core
+abbrev pub context_of : {W L : Type 0} {G : Ghosts L} → Solver W L G → Context W L G
+context_of s = s.core
 
 -- the proof; contracts see its steps, its target and the solver's own checker
 abbrev pub proof_in : {W L : Type 0} {G : Ghosts L} → Solver W L G → Proof W L G
@@ -90,14 +90,14 @@ abbrev pub used_now : {W L : Type 0} {G : Ghosts L} → Solver W L G → Solver 
 used_now s = record s { used = true }
 
 -- that the script state is `j`, with these variables
-abbrev pub IsInState : {W L : Type 0} {G : Ghosts L} → Solver W L G → ScriptState → Live → Type 0
+abbrev pub IsInState : {W L : Type 0} {G : Ghosts L} → Solver W L G → ScriptState → LiveVariables → Type 0
 IsInState s j live = NamesAgree s.names (steps_in s) j live
 
 -- the observable state of a solver, as one value
 pub record View (L : Type 0) : Type 0 where
   pub failed : Bool
   pub used : Bool
-  pub answer : State
+  pub answer : SatState
   pub assumptions : List ℕ
   pub rounds : ℕ
   pub restarts : ℕ
@@ -119,7 +119,7 @@ view_of seen s = record {
   parameters = s.core.config;
   steps = steps_in s;
   target = target_in seen s;
-  listeners = proofs.audience s.core.proof;
+  listeners = proofs.proof_listeners s.core.proof;
   asked = proofs.has_asked s.core.proof;
 }
 
@@ -142,5 +142,5 @@ empty_view = record {
 -- that the solver is in its initial state
 pub record IsEmpty {W L : Type 0} {G : Ghosts L} (seen : W → Writer) (s : Solver W L G) : Type 0 where
   pub view : view_of seen s ≡ empty_view
-  pub state : IsInState s start []
+  pub state : IsInState s initial_state []
   pub whole : SolverInvariant s

@@ -7,21 +7,21 @@ use Rattle.sat_base.specs.values.Clauses.{Valuation, EachTrue}
 use Rattle.sat_checker.specs.Fold.{Holds}
 use Rattle.sat_checker.specs.declared.processing.ProofProcessor.{Ghosts}
 use Rattle.sat_parts.specs.parts.Full.{IsFull}
-use Rattle.sat_solver.specs.proof.ProofView.{is_lost, steps_of, session_of}
+use Rattle.sat_solver.specs.proof.ProofView.{has_missed_step, steps_of, session_of}
 use Rattle.sat_solver.specs.session.Session.{Session}
 use Rattle.sat_solver.specs.clause.Activity.{AreDecays}
-use Rattle.sat_solver.specs.cdcl.Turns.{IsComplete}
+use Rattle.sat_solver.specs.cdcl.Iterations.{IsComplete}
 use Rattle.sat_solver.specs.load.Literals.{user_literal, Images, GlobalImages}
 use Rattle.sat_solver.specs.variables.Calls.{HasScriptState, NamesInvariant}
 use Rattle.sat_checker.specs.matching.Checking.{variable_of}
 use Rattle.sat_checker.specs.matching.Expected.{SameSet}
 use Rattle.sat_solver.specs.declared.variables.Variables.{Variables}
-use Rattle.sat_solver.specs.declared.load.literals.Taken.{Taken}
-use Rattle.sat_solver.specs.declared.context.Core.{Core}
+use Rattle.sat_solver.specs.declared.load.literals.MappedLits.{MappedLits}
+use Rattle.sat_solver.specs.declared.context.Context.{Context}
 use Rattle.sat_solver.specs.declared.solver.Solver.{Solver}
-use Rattle.sat_solver.specs.declared.state.State.{State}
-use Rattle.sat_solver.specs.declared.state.State.TheVariants as states
-use Rattle.sat_solver.specs.solver.Joined.{IsJoined}
+use Rattle.sat_solver.specs.declared.state.SatState.{SatState}
+use Rattle.sat_solver.specs.declared.state.SatState.TheVariants as states
+use Rattle.sat_solver.specs.solver.Joined.{NamesSearchInvariant}
 use Rattle.sat_solver.specs.solver.Answering.{line_of_names}
 
 -- all steps that the solver has made, the newest first
@@ -41,11 +41,11 @@ abbrev pub line_in : {W L : Type 0} {G : Ghosts L} → Solver W L G → List ℕ
 line_in s = line_of_names s.names s.core
 
 -- that every variable of a clause has a value, and the assumptions are true
-abbrev pub HasModel : {W L : Type 0} {G : Ghosts L} → Core W L G → Type 0
+abbrev pub HasModel : {W L : Type 0} {G : Ghosts L} → Context W L G → Type 0
 HasModel c = IsComplete c.search.assumptions.lits.items c.search.parts
 
 -- a failed core over names: assumptions, at least one, and no valuation that the steps admit satisfies all of them
-pub record HasCore {W L : Type 0} {G : Ghosts L} (c : Core W L G) (assumed core : List ℕ) : Type 0 where
+pub record HasCore {W L : Type 0} {G : Ghosts L} (c : Context W L G) (assumed core : List ℕ) : Type 0 where
   pub some : core ≡ [] → ⊥
   pub codes : List ℕ
   pub none : (a : Valuation) → Holds (steps_of c.proof) a → EachTrue a codes → ⊥
@@ -53,19 +53,19 @@ pub record HasCore {W L : Type 0} {G : Ghosts L} (c : Core W L G) (assumed core 
   pub among : AllByRecursion (λ l. Among l assumed) core
 
 -- that the search can continue, under the assumptions
-pub record AskGoesOn {W L : Type 0} {G : Ghosts L} (c : Core W L G) (n : Variables) (asked : Taken) : Type 0 where
-  pub joined : IsJoined n c
+pub record AskGoesOn {W L : Type 0} {G : Ghosts L} (c : Context W L G) (n : Variables) (asked : MappedLits) : Type 0 where
+  pub joined : NamesSearchInvariant n c
   pub lits : c.search.assumptions.lits.items ≡ asked.order.items
 
 -- what a state says: the search can continue, possibly with a model or a failed core; or unsat is recorded
-abbrev pub StateSays : {W L : Type 0} {G : Ghosts L} → State → Core W L G → Variables → Taken → (assumed core : List ℕ) → Type 0
-StateSays states.Unknown c n asked assumed core = AskGoesOn c n asked
-StateSays states.Sat c n asked assumed core = AskGoesOn c n asked × HasModel c
-StateSays states.UnsatUnderAssumptions c n asked assumed core = AskGoesOn c n asked × HasCore c assumed core
-StateSays states.Unsat c n asked assumed core = (session_of c.proof).unsat ≡ true
+abbrev pub HoldsInState : {W L : Type 0} {G : Ghosts L} → SatState → Context W L G → Variables → MappedLits → (assumed core : List ℕ) → Type 0
+HoldsInState states.Unknown c n asked assumed core = AskGoesOn c n asked
+HoldsInState states.Sat c n asked assumed core = AskGoesOn c n asked × HasModel c
+HoldsInState states.UnsatUnderAssumptions c n asked assumed core = AskGoesOn c n asked × HasCore c assumed core
+HoldsInState states.Unsat c n asked assumed core = (session_of c.proof).unsat ≡ true
 
 -- the invariant of a solver's parts
-pub record IsWholeOf {W L : Type 0} {G : Ghosts L} (c : Core W L G) (n : Variables) (asked : Taken) (assumed core : List ℕ) (scale : ℕ) (state : State) : Type 0 where
+pub record SolverPartsInvariant {W L : Type 0} {G : Ghosts L} (c : Context W L G) (n : Variables) (asked : MappedLits) (assumed core : List ℕ) (scale : ℕ) (state : SatState) : Type 0 where
   pub valid : NamesInvariant n (steps_of c.proof)
   pub images : Images n assumed asked.order.items
   pub spelt : GlobalImages n assumed asked.globals.items
@@ -74,14 +74,14 @@ pub record IsWholeOf {W L : Type 0} {G : Ghosts L} (c : Core W L G) (n : Variabl
   pub scaled : scale ≡ c.config.luby_restart_interval_scale
   pub decays : AreDecays c.config
   -- the solver's own checker, if there is one, has received all steps
-  pub taking : is_lost c.proof ≡ false
+  pub taking : has_missed_step c.proof ≡ false
   -- names and steps match some state of the judge
   pub judged : HasScriptState n (steps_of c.proof)
-  pub says : StateSays state c n asked assumed core
+  pub says : HoldsInState state c n asked assumed core
 
 -- the invariant of a solver of which no call failed
 abbrev pub SolverInvariant : {W L : Type 0} {G : Ghosts L} → Solver W L G → Type 0
-SolverInvariant s = IsWholeOf s.core s.names s.asked s.assumed.items s.reported.failed_core.items s.clock.restarts.scale s.state
+SolverInvariant s = SolverPartsInvariant s.core s.names s.asked s.assumed.items s.reported.failed_core.items s.clock.restarts.scale s.state
 
 -- that the clause buffer has more than 2^32-1 words, so that it can store no further clause
 abbrev pub HasFullStore : {W L : Type 0} {G : Ghosts L} → Solver W L G → Type 0

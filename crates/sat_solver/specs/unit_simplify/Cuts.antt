@@ -7,7 +7,7 @@ use Rattle.sat_solver.specs.proof.ProofView.{steps_of}
 use Rattle.sat_solver.specs.session.Session.{Session, after, IsAllowedStep}
 use Rattle.sat_solver.specs.declared.proof.Proof.{Proof}
 use Rattle.sat_solver.specs.declared.error.SolverError.{SolverError}
-use Rattle.sat_solver.specs.cdcl.Going.{EmitsSteps}
+use Rattle.sat_solver.specs.cdcl.StepEffects.{EmitsSteps}
 
 -- why a long clause may be deleted: because it is redundant, or otherwise for this reason
 abbrev pub deletion : Bool → Deletion → Deletion
@@ -22,7 +22,7 @@ abbrev pub derived_step : Bool → (part hashes : List ℕ) → Step
 derived_step redundant part hashes = AtClause (redundant && nat_lt 2 (length part)) part hashes
 
 -- the strengthened clause may be derived, and then the original one may be deleted
-pub record MayCut (s : Session) (redundant : Bool) (part hashes clause : List ℕ) : Type 0 where
+pub record CanStrengthen (s : Session) (redundant : Bool) (part hashes clause : List ℕ) : Type 0 where
   pub derive : IsAllowedStep s (derived_step redundant part hashes)
   pub delete : IsAllowedStep (after (derived_step redundant part hashes) s) (deleted_step redundant Simplified clause)
 

@@ -3,36 +3,36 @@ use Rattle.std.specs.Prelude.{ℕ, ◌≡◌, ◌<◌, ◌≤◌, List, [], ◌�
 use Rattle.sat_base.specs.values.Hashes.{hash_of}
 use Rattle.sat_store.specs.clause.Buffer.{lits_at}
 use Rattle.sat_parts.specs.clause.Stored.{lit_of, size_of}
-use Rattle.sat_parts.specs.prop.Values.{IsFalseLit, IsOpenLit}
+use Rattle.sat_parts.specs.prop.Values.{IsFalseLit, IsUnassignedLit}
 use Rattle.sat_solver.specs.session.LiveClauses.{with_var}
-use Rattle.sat_parts.specs.declared.parts.Parts.{Parts}
-use Rattle.sat_parts.specs.parts.Frame.{ReordersLits, SameSearch, SameState, AddsOriginalClause, DropsLongClause, ShortensLongClause}
-use Rattle.sat_parts.specs.parts.Whole.{PartsInvariant}
+use Rattle.sat_parts.specs.declared.parts.SearchState.{SearchState}
+use Rattle.sat_parts.specs.parts.Frame.{ReordersLits, SameExceptLongClauses, SameState, AddsOriginalClause, DropsLongClause, ShortensLongClause}
+use Rattle.sat_parts.specs.parts.Whole.{SearchStateInvariant}
 use Rattle.sat_parts.specs.parts.Words.{TrailWordExtends}
 use Rattle.sat_solver.specs.declared.context.Search.{Search}
 use Rattle.sat_solver.specs.cdcl.Joint.{global_in}
 
 -- The literals of the clause at o were reordered: open ones come before position `kept`, and false ones from there
 -- up to `next`. The rest is unchanged.
-pub record Gathers (p p' : Parts) (o kept next : ℕ) : Type 0 where
-  pub holds : PartsInvariant p'
+pub record Gathers (p p' : SearchState) (o kept next : ℕ) : Type 0 where
+  pub holds : SearchStateInvariant p'
   pub moved : ReordersLits p p'
-  pub same : SameSearch p p'
+  pub same : SameExceptLongClauses p p'
   pub db : p'.db ≡ p.db
   pub word : TrailWordExtends p p'
-  pub front : (k : ℕ) → k < kept → IsOpenLit p.assignment.current (lit_of p'.clauses o k)
+  pub front : (k : ℕ) → k < kept → IsUnassignedLit p.assignment.current (lit_of p'.clauses o k)
   pub cut : (k : ℕ) → kept ≤ k → k < next → IsFalseLit p.assignment.current (lit_of p'.clauses o k)
   pub rest : (k : ℕ) → next ≤ k → lit_of p'.clauses o k ≡ lit_of p.clauses o k
 
 -- the clause at o was strengthened to its first `len` literals: as a long clause, or as a binary one that replaces
 -- it
-pub data PutsPart (p p' : Parts) (o len : ℕ) : Type 0 where
+pub data PutsPart (p p' : SearchState) (o len : ℕ) : Type 0 where
   puts_long : 3 ≤ len → ShortensLongClause p p' o len → PutsPart p p' o len
-  puts_pair : len ≡ 2 → (mid : Parts) → AddsOriginalClause p mid (lit_of p.clauses o 0 ∷ lit_of p.clauses o 1 ∷ []) → DropsLongClause mid p' o → PutsPart p p' o len
+  puts_pair : len ≡ 2 → (mid : SearchState) → AddsOriginalClause p mid (lit_of p.clauses o 0 ∷ lit_of p.clauses o 1 ∷ []) → DropsLongClause mid p' o → PutsPart p p' o len
 
 -- the same; values, trail and the list of long clauses are unchanged, and the invariant of the parts holds
-pub record Replaces (p p' : Parts) (o len : ℕ) : Type 0 where
-  pub holds : PartsInvariant p'
+pub record Replaces (p p' : SearchState) (o len : ℕ) : Type 0 where
+  pub holds : SearchStateInvariant p'
   pub state : SameState p p'
   pub word : TrailWordExtends p p'
   pub refs : p'.db.refs ≡ p.db.refs

@@ -4,29 +4,29 @@ use Rattle.std.specs.List.{Contains}
 use Rattle.sat_base.specs.device.Device.{Writer}
 use Rattle.sat_checker.specs.declared.processing.ProofProcessor.{Ghosts}
 use Rattle.sat_parts.specs.clause.Db.{live_refs}
-use Rattle.sat_parts.specs.declared.parts.Parts.{Parts}
+use Rattle.sat_parts.specs.declared.parts.SearchState.{SearchState}
 use Rattle.sat_parts.specs.parts.Frame.{SameState, RemovesBinaries}
 use Rattle.sat_parts.specs.parts.Words.{TrailWordExtendsFor}
 use Rattle.sat_solver.specs.proof.ProofView.{session_of}
 use Rattle.sat_solver.specs.session.Session.{Session}
 use Rattle.sat_solver.specs.declared.proof.Proof.{Proof}
 use Rattle.sat_solver.specs.declared.error.SolverError.{SolverError}
-use Rattle.sat_parts.specs.parts.Whole.{PartsInvariant}
+use Rattle.sat_parts.specs.parts.Whole.{SearchStateInvariant}
 use Rattle.sat_solver.specs.session.Fits.{ArePaired}
 use Rattle.sat_solver.specs.session.Listed.{LeftParts}
-use Rattle.sat_solver.specs.cdcl.Going.{EmitsSteps}
-use Rattle.sat_solver.specs.cdcl.Joint.{assumed_indices, global_in, IsSearch, SameVarsAndAssumptions}
+use Rattle.sat_solver.specs.cdcl.StepEffects.{EmitsSteps}
+use Rattle.sat_solver.specs.cdcl.Joint.{assumed_indices, global_in, SearchInvariant, SameVarsAndAssumptions}
 use Rattle.sat_solver.specs.declared.context.Search.{Search}
-use Rattle.sat_solver.specs.unit_simplify.Looks.{IsOpenClause}
+use Rattle.sat_solver.specs.unit_simplify.ClauseStatus.{HasNoAssignedLit}
 
 -- no level is open, and the trail is empty
-pub record HasEmptyTrail (p : Parts) : Type 0 where
+pub record HasEmptyTrail (p : SearchState) : Type 0 where
   pub bottom : p.trail.starts ≡ []
   pub empty : p.trail.lits ≡ []
 
 -- what is required before binary clauses are removed with their steps
-pub record MayRemove (c : Search) : Type 0 where
-  pub holds : PartsInvariant c.parts
+pub record CanRemovePairs (c : Search) : Type 0 where
+  pub holds : SearchStateInvariant c.parts
   pub flat : HasEmptyTrail c.parts
   pub paired : ArePaired c.parts.binary.implied
   pub names : length c.parts.assignment.current ≤ length c.globals.items
@@ -39,7 +39,7 @@ LeavesPairs s c l k = LeftParts c.parts s (global_in c) l k
 -- Clauses were removed or strengthened. Values and variables are unchanged, and so is the list of long clauses, in
 -- which removed ones remain.
 pub record IsStrengthened (s : Session) (c c' : Search) : Type 0 where
-  pub search : IsSearch s c'
+  pub search : SearchInvariant s c'
   pub moved : SameVarsAndAssumptions c c'
   pub word : TrailWordExtendsFor (assumed_indices c) c.parts c'.parts
   pub state : SameState c.parts c'.parts
@@ -53,8 +53,8 @@ RemovesPairs seen r p p' c c' = EmitsSteps seen r p p' (λ _ _. IsStrengthened (
 -- live long clause was live before, and is without assigned literals if it was so before.
 pub record StrengthensClause (s : Session) (c c' : Search) (o : ℕ) : Type 0 where
   pub strengthened : IsStrengthened s c c'
-  pub left : Contains (live_refs c'.parts.clauses c'.parts.db.refs) o → IsOpenClause c'.parts o
-  pub others : (p : ℕ) → p ≢ o → Contains (live_refs c'.parts.clauses c'.parts.db.refs) p → Contains (live_refs c.parts.clauses c.parts.db.refs) p × (IsOpenClause c.parts p → IsOpenClause c'.parts p)
+  pub left : Contains (live_refs c'.parts.clauses c'.parts.db.refs) o → HasNoAssignedLit c'.parts o
+  pub others : (p : ℕ) → p ≢ o → Contains (live_refs c'.parts.clauses c'.parts.db.refs) p → Contains (live_refs c.parts.clauses c.parts.db.refs) p × (HasNoAssignedLit c.parts p → HasNoAssignedLit c'.parts p)
 
 -- this was done by steps, or the call failed
 abbrev pub StrengthensOrFails : {W L : Type 0} {G : Ghosts L} → (W → Writer) → Result (Unit {0}) SolverError → Proof W L G → Proof W L G → Search → Search → (o : ℕ) → Type 0
@@ -62,9 +62,9 @@ StrengthensOrFails seen r p p' c c' o = EmitsSteps seen r p p' (λ _ _. Strength
 
 -- the live clauses among the first `at` of the list have no assigned literal
 abbrev pub AreOpenTo : Search → Search → ℕ → Type 0
-AreOpenTo c c' at = (k : ℕ) → k < at → Contains (live_refs c'.parts.clauses c'.parts.db.refs) (get_or c.parts.db.refs k 0) → IsOpenClause c'.parts (get_or c.parts.db.refs k 0)
+AreOpenTo c c' at = (k : ℕ) → k < at → Contains (live_refs c'.parts.clauses c'.parts.db.refs) (get_or c.parts.db.refs k 0) → HasNoAssignedLit c'.parts (get_or c.parts.db.refs k 0)
 
 -- long clauses were removed or strengthened: no live one has an assigned literal
 pub record StrengthensAll (s : Session) (c c' : Search) : Type 0 where
   pub strengthened : IsStrengthened s c c'
-  pub left : (o : ℕ) → Contains (live_refs c'.parts.clauses c'.parts.db.refs) o → IsOpenClause c'.parts o
+  pub left : (o : ℕ) → Contains (live_refs c'.parts.clauses c'.parts.db.refs) o → HasNoAssignedLit c'.parts o

@@ -1,6 +1,6 @@
 -- Indices are released.
 use Rattle.std.specs.Prelude.{ℕ, ◌≡◌, ◌≢◌, ◌<◌, ◌==◌, Bool, true, Some, None, List, length, if◌then◌else◌}
-use Rattle.sat_base.specs.values.Literals.{coded}
+use Rattle.sat_base.specs.values.Literals.{mk_lit}
 use Rattle.sat_base.specs.steps.Steps.{Step}
 use Rattle.sat_checker.specs.LiteralSets.{mentions}
 use Rattle.sat_parts.specs.prop.Values.{value_of}
@@ -8,12 +8,12 @@ use Rattle.sat_solver.specs.session.Session.{Session, session_after}
 use Rattle.sat_solver.specs.variables.Calls.{NamesInvariant, KeepsScriptState}
 use Rattle.sat_solver.specs.variables.Variables.{solver_of, global_at, indices_used}
 use Rattle.sat_solver.specs.declared.variables.Variables.{Variables}
-use Rattle.sat_parts.specs.declared.parts.Parts.{Parts}
+use Rattle.sat_parts.specs.declared.parts.SearchState.{SearchState}
 use Rattle.sat_solver.specs.session.Quiet.{ComesQuietly}
 use Rattle.sat_parts.specs.parts.Whole.{InNoClause}
 use Rattle.sat_parts.specs.parts.Frame.{SameClauses}
 use Rattle.sat_parts.specs.parts.Words.{TrailWordExtendsFor}
-use Rattle.sat_solver.specs.cdcl.Joint.{assumed_indices, IsSearch, SameVarsAndAssumptions}
+use Rattle.sat_solver.specs.cdcl.Joint.{assumed_indices, SearchInvariant, SameVarsAndAssumptions}
 use Rattle.sat_solver.specs.declared.context.Search.{Search}
 use Rattle.sat_solver.specs.variables.Shared.{SharesIndices}
 use Rattle.sat_solver.specs.unit_simplify.Flat.{HasEmptyTrail}
@@ -21,7 +21,7 @@ use Rattle.sat_solver.specs.unit_simplify.Flat.{HasEmptyTrail}
 -- a variable lost its index, and its units may be forgotten; a search sees no other change
 pub record LosesIndex (s t : Session) (v : ℕ) : Type 0 where
   pub live : t.live ≡ s.live
-  pub units : (w x : ℕ) (b : Bool) → w ≢ v → s.solver_names w ≡ Some x → t.units (coded w b) ≡ s.units (coded w b)
+  pub units : (w x : ℕ) (b : Bool) → w ≢ v → s.solver_names w ≡ Some x → t.units (mk_lit w b) ≡ s.units (mk_lit w b)
   pub names : (w : ℕ) → t.solver_names w ≡ (if w == v then None else s.solver_names w)
   pub unsat : t.unsat ≡ s.unsat
   pub width : t.width ≡ s.width
@@ -37,9 +37,9 @@ pub record FreesIndex (old new : Variables) (from to : List Step) (v : ℕ) : Ty
   pub quiet : ComesQuietly from to
 
 -- indices may be released: the search is at level 0 with an empty trail, and has the indices of the names
-pub record MayFree (n : Variables) (steps : List Step) (c : Search) : Type 0 where
+pub record CanFreeIndices (n : Variables) (steps : List Step) (c : Search) : Type 0 where
   pub valid : NamesInvariant n steps
-  pub search : IsSearch (session_after steps) c
+  pub search : SearchInvariant (session_after steps) c
   pub shares : SharesIndices n c
   pub flat : HasEmptyTrail c.parts
 
@@ -54,7 +54,7 @@ pub record KeepsAsked (old new : Variables) (s t : Session) : Type 0 where
 pub record FreesSome (old new : Variables) (from to : List Step) (c c' : Search) : Type 0 where
   pub does : KeepsScriptState old new from to
   pub quiet : ComesQuietly from to
-  pub search : IsSearch (session_after to) c'
+  pub search : SearchInvariant (session_after to) c'
   pub shares : SharesIndices new c'
   pub flat : HasEmptyTrail c'.parts
   pub moved : SameVarsAndAssumptions c c'
@@ -69,9 +69,9 @@ abbrev pub IsIndexOfAssumed : Variables → Session → ℕ → Type 0
 IsIndexOfAssumed n s x = (v : ℕ) → global_at n x ≡ Some v → mentions s.assumed v ≡ true
 
 -- each of the first `at` indices is in a clause, or its variable, if any, is assumed
-abbrev pub AreLeft : Variables → Session → Parts → ℕ → Type 0
+abbrev pub AreLeft : Variables → Session → SearchState → ℕ → Type 0
 AreLeft n s p at = (x : ℕ) → x < at → InNoClause p x → IsIndexOfAssumed n s x
 
 -- the same for all indices
-abbrev pub AllLeft : Variables → Session → Parts → Type 0
+abbrev pub AllLeft : Variables → Session → SearchState → Type 0
 AllLeft n s p = AreLeft n s p (length p.assignment.current)

@@ -1,16 +1,16 @@
 -- Variables without a mark lose their values.
 use Rattle.std.specs.Prelude.{ℕ, zero, suc, ◌≡◌, ◌≢◌, Bool, false, None, List, length, slice_index_or as get_or, if◌then◌else◌}
 use Rattle.sat_store.specs.heap.Vsids.{with_available}
-use Rattle.sat_parts.specs.prop.Values.{assigned}
-use Rattle.sat_parts.specs.declared.parts.Parts.{Parts}
+use Rattle.sat_parts.specs.prop.Values.{with_value}
+use Rattle.sat_parts.specs.declared.parts.SearchState.{SearchState}
 use Rattle.sat_solver.specs.declared.context.Search.{Search}
 
 -- the parts after a variable has lost its value and can no longer be picked
-abbrev pub without_var : ℕ → Parts → Parts
-without_var v p = record p { assignment = assigned v None p.assignment; vsids = with_available v false p.vsids }
+abbrev pub without_var : ℕ → SearchState → SearchState
+without_var v p = record p { assignment = with_value v None p.assignment; vsids = with_available v false p.vsids }
 
 -- the parts after all unmarked variables below this index were freed in this way
-unfoldable pub freed_below : List Bool → ℕ → Parts → Parts
+unfoldable pub freed_below : List Bool → ℕ → SearchState → SearchState
 freed_below used zero p = p
 freed_below used (suc k) p = if get_or used k false then freed_below used k p else without_var k (freed_below used k p)
 

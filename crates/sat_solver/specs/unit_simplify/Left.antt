@@ -1,26 +1,26 @@
 -- The parts of a search after units were taken off the trail.
 use Rattle.std.specs.Prelude.{ℕ, ◌≡◌, [], length}
 use Rattle.sat_parts.specs.clause.Db.{live_refs}
-use Rattle.sat_parts.specs.declared.parts.Parts.{Parts}
+use Rattle.sat_parts.specs.declared.parts.SearchState.{SearchState}
 use Rattle.sat_parts.specs.declared.parts.assumptions.Assumptions.{Assumptions}
 use Rattle.sat_parts.specs.parts.Assumed.{ArePlaced}
 use Rattle.sat_parts.specs.parts.Whole.{state, IsFullyPropagated}
 use Rattle.sat_parts.specs.parts.Words.{TrailWordExtends}
 use Rattle.sat_solver.specs.session.Session.{Session}
-use Rattle.sat_solver.specs.session.Fits.{PartsSessionInvariant}
+use Rattle.sat_solver.specs.session.Fits.{SearchStateSessionInvariant}
 use Rattle.sat_solver.specs.session.Units.{FitsAll}
 
 -- every literal of level 0 is a unit of the session
-abbrev pub AllUnits : Parts → Session → (ℕ → ℕ) → Type 0
+abbrev pub AllUnits : SearchState → Session → (ℕ → ℕ) → Type 0
 AllUnits p s global = FitsAll p.clauses (live_refs p.clauses p.db.refs) p.binary.implied (state p) s global
 
 -- the number of variables is unchanged
-abbrev pub SameSize : Parts → Parts → Type 0
+abbrev pub SameSize : SearchState → SearchState → Type 0
 SameSize p p' = length p'.assignment.current ≡ length p.assignment.current
 
 -- nothing is left to propagate and, if no level is open, the trail is empty
-pub record TakesUnitsOff (p p' : Parts) (s : Session) (global : ℕ → ℕ) : Type 0 where
-  pub valid : PartsSessionInvariant p' s global
+pub record TakesUnitsOff (p p' : SearchState) (s : Session) (global : ℕ → ℕ) : Type 0 where
+  pub valid : SearchStateSessionInvariant p' s global
   pub done : IsFullyPropagated p'
   pub starts : p'.trail.starts ≡ p.trail.starts
   pub empty : p.trail.starts ≡ [] → p'.trail.lits ≡ []

@@ -15,20 +15,20 @@ use Rattle.sat_solver.specs.declared.variables.Variables.{Variables}
 use Rattle.sat_solver.specs.session.Quiet.{ComesQuietly}
 use Rattle.sat_parts.specs.parts.Words.{TrailWordExtendsFor}
 use Rattle.sat_solver.specs.cdcl.Faults.{IsKept, NamesLoss}
-use Rattle.sat_solver.specs.cdcl.Going.{IsFaultOr, EmitsUpToFault}
-use Rattle.sat_solver.specs.cdcl.Joint.{assumed_indices, IsSearch, SameVarsAndAssumptions}
-use Rattle.sat_solver.specs.cdcl.Turns.{IsStopped, IsPropagated}
+use Rattle.sat_solver.specs.cdcl.StepEffects.{IsFaultOr, EmitsUpToFault}
+use Rattle.sat_solver.specs.cdcl.Joint.{assumed_indices, SearchInvariant, SameVarsAndAssumptions}
+use Rattle.sat_solver.specs.cdcl.Iterations.{IsStopped, IsPropagated}
 use Rattle.sat_solver.specs.declared.context.Search.{Search}
 use Rattle.sat_solver.specs.variables.Shared.{SharesIndices}
 use Rattle.sat_solver.specs.unit_simplify.Flat.{HasEmptyTrail}
 use Rattle.sat_solver.specs.unit_simplify.Freed.{KeepsAsked, AllLeft}
-use Rattle.sat_solver.specs.unit_simplify.Looks.{IsOpenClause}
+use Rattle.sat_solver.specs.unit_simplify.ClauseStatus.{HasNoAssignedLit}
 
 -- the invariants of names, proof and search hold together
 pub record JointInvariant {W L : Type 0} {G : Ghosts L} (n : Variables) (p : Proof W L G) (c : Search) : Type 0 where
   pub keeps : HasAllowedSteps p
   pub valid : NamesInvariant n (steps_of p)
-  pub search : IsSearch (session_of p) c
+  pub search : SearchInvariant (session_of p) c
   pub shares : SharesIndices n c
 
 -- the same at level 0 after complete propagation; no clause is falsified
@@ -68,7 +68,7 @@ PassFails seen e p p' = PassFailsOr ⊥ seen e p p'
 pub record IsSimplifiedPass {W L : Type 0} {G : Ghosts L} (seen : W → Writer) (n n' : Variables) (p p' : Proof W L G) (c c' : Search) : Type 0 where
   pub passes : PassesQuietly seen n n' p p' c c'
   pub flat : HasEmptyTrail c'.parts
-  pub left : (o : ℕ) → Contains (live_refs c'.parts.clauses c'.parts.db.refs) o → IsOpenClause c'.parts o
+  pub left : (o : ℕ) → Contains (live_refs c'.parts.clauses c'.parts.db.refs) o → HasNoAssignedLit c'.parts o
   pub indices : AllLeft n' (session_of p') c'.parts
 
 -- the result of a simplification

@@ -12,5 +12,5 @@ abbrev pub mapped_count : List (Option ℕ) → ℕ
 mapped_count map = count_to (length map) (λ v. is_some (target map v))
 
 -- as many keys have a value as values have a key
-abbrev pub IsEven : MapAndInverse → Type 0
-IsEven maps = mapped_count maps.fwd ≡ mapped_count maps.bwd
+abbrev pub HasEqualCounts : MapAndInverse → Type 0
+HasEqualCounts maps = mapped_count maps.fwd ≡ mapped_count maps.bwd

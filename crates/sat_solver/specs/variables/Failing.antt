@@ -2,7 +2,7 @@
 use Rattle.std.specs.Prelude.{ℕ, ◌≡◌, List, Result, Ok, Err, IfErr}
 use Rattle.sat_solver.specs.declared.variables.error.NameError.{NameError}
 use Rattle.sat_solver.specs.declared.variables.error.NameError.TheVariants as errors
-use Rattle.sat_solver.specs.variables.Naming.{NoneLeft}
+use Rattle.sat_solver.specs.variables.Naming.{NoVariableLeft}
 use Rattle.sat_solver.specs.variables.VariableRoom.{HasVariablesFor}
 use Rattle.sat_solver.specs.declared.variables.Variables.{Variables}
 
@@ -34,11 +34,11 @@ EmitsOrFails took broke (Err e) old new = (w : _) → took w old → EmitsUpTo t
 pub record FailsForNoVariable {W : Type 0} (old new : Variables) (from to : W) : Type 0 where
   pub names : new ≡ old
   pub steps : to ≡ from
-  pub none : NoneLeft old
+  pub none : NoVariableLeft old
 
 -- why a call failed: `VariableLimit` exactly if no variable is left, and then nothing has changed
 abbrev pub Limits : {W : Type 0} → NameError → Variables → Variables → W → W → Type 0
 Limits errors.VariableLimit old new from to = FailsForNoVariable old new from to
-Limits errors.OutOfMemory old new from to = NoneLeft old → ⊥
-Limits (errors.Write cause) old new from to = NoneLeft old → ⊥
-Limits (errors.Check fault) old new from to = NoneLeft old → ⊥
+Limits errors.OutOfMemory old new from to = NoVariableLeft old → ⊥
+Limits (errors.Write cause) old new from to = NoVariableLeft old → ⊥
+Limits (errors.Check fault) old new from to = NoVariableLeft old → ⊥

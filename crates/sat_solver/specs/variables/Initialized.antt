@@ -1,19 +1,19 @@
 -- A search gets indices for proof variables: new ones, or ones that were released.
 use Rattle.std.specs.Prelude.{ℕ, ◌≡◌, ◌≢◌, ◌≤◌, ◌<◌, ◌⊎◌, Bool, true, false, Some, None, List, [], ◌∷◌, length, slice_index_or as get_or}
 use Rattle.std.specs.List.{AllByRecursion}
-use Rattle.sat_base.specs.values.Literals.{coded, variable, is_positive}
-use Rattle.sat_store.specs.heap.Vsids.{may_pick}
+use Rattle.sat_base.specs.values.Literals.{mk_lit, variable, is_positive}
+use Rattle.sat_store.specs.heap.Vsids.{is_available}
 use Rattle.sat_parts.specs.prop.Values.{value_of, IsTrueLit}
 use Rattle.sat_parts.specs.prop.State.{level}
-use Rattle.sat_parts.specs.declared.parts.Parts.{Parts}
-use Rattle.sat_parts.specs.parts.Whole.{state, PartsInvariant}
+use Rattle.sat_parts.specs.declared.parts.SearchState.{SearchState}
+use Rattle.sat_parts.specs.parts.Whole.{state, SearchStateInvariant}
 use Rattle.sat_parts.specs.parts.Frame.{SameClauses, IsUnitLit}
 use Rattle.sat_solver.specs.session.Session.{Session}
 use Rattle.sat_solver.specs.session.Naming.{global_of_index}
 use Rattle.sat_solver.specs.variables.Variables.{says_unit}
-use Rattle.sat_solver.specs.variables.Search.{KeepsSearch, GivenApart, HasGiven}
+use Rattle.sat_solver.specs.variables.Search.{KeepsSearch, IndicesDistinct, HasGiven}
 use Rattle.sat_solver.specs.declared.variables.solver_vars.Given.{Given}
-use Rattle.sat_solver.specs.cdcl.Joint.{IsSearch}
+use Rattle.sat_solver.specs.cdcl.Joint.{SearchInvariant}
 use Rattle.sat_solver.specs.declared.context.Search.{Search}
 
 -- an index was given, with this literal as its unit
@@ -22,25 +22,25 @@ GivesLit [] l = ⊥
 GivesLit (g ∷ gs) l = ((g.solver ≡ variable l) × (g.unit ≡ Some (is_positive l))) ⊎ GivesLit gs l
 
 -- no variable of the search uses the index, which is below the count: it has no value and may not be picked
-pub record IsVacant (p : Parts) (count : ℕ) (g : Given) : Type 0 where
+pub record IsVacant (p : SearchState) (count : ℕ) (g : Given) : Type 0 where
   pub below : g.solver < count
   pub open_value : value_of p.assignment.current g.solver ≡ None
-  pub unpicked : may_pick p.vsids g.solver ≡ false
+  pub unpicked : is_available p.vsids g.solver ≡ false
 
 -- none of these indices is in use, and none is given twice
-pub record AreVacant (p : Parts) (count : ℕ) (gs : List Given) : Type 0 where
+pub record AreVacant (p : SearchState) (count : ℕ) (gs : List Given) : Type 0 where
   pub each : AllByRecursion (IsVacant p count) gs
-  pub apart : GivenApart gs
+  pub apart : IndicesDistinct gs
 
 -- indices were added at level 0: those with a unit have its value, the others may be picked, and nothing else changed
-pub record ActivatesIndices (gs : List Given) (p p' : Parts) : Type 0 where
-  pub holds : PartsInvariant p'
+pub record ActivatesIndices (gs : List Given) (p p' : SearchState) : Type 0 where
+  pub holds : SearchStateInvariant p'
   pub bottom : p'.trail.starts ≡ []
   pub same : SameClauses p p'
   pub size : length p'.assignment.current ≡ length p.assignment.current
   pub values : (v : ℕ) → (HasGiven gs v → ⊥) → value_of p'.assignment.current v ≡ value_of p.assignment.current v
-  pub picks : (v : ℕ) → (HasGiven gs v → ⊥) → may_pick p'.vsids v ≡ may_pick p.vsids v
-  pub ready : (v : ℕ) → HasGiven gs v → value_of p'.assignment.current v ≡ None → may_pick p'.vsids v ≡ true
+  pub picks : (v : ℕ) → (HasGiven gs v → ⊥) → is_available p'.vsids v ≡ is_available p.vsids v
+  pub ready : (v : ℕ) → HasGiven gs v → value_of p'.assignment.current v ≡ None → is_available p'.vsids v ≡ true
   pub units : (l : ℕ) → IsUnitLit (state p') l → IsUnitLit (state p) l ⊎ GivesLit gs l
   pub kept : (l : ℕ) → IsTrueLit p.assignment.current l → level (state p) l ≡ 0 → IsTrueLit p'.assignment.current l × (level (state p') l ≡ 0)
   pub its : (l : ℕ) → GivesLit gs l → IsTrueLit p'.assignment.current l × (level (state p') l ≡ 0)
@@ -56,7 +56,7 @@ pub record IsGivenTo (globals : List ℕ) (s t : Session) (g : Given) : Type 0 w
   pub without : s.solver_names (global_of_index globals g.solver) ≡ None
   pub free : (v : ℕ) → s.solver_names v ≢ Some g.solver
   pub named : t.solver_names (global_of_index globals g.solver) ≡ Some g.solver
-  pub unit : (b : Bool) → s.units (coded (global_of_index globals g.solver) b) ≡ says_unit g.unit b
+  pub unit : (b : Bool) → s.units (mk_lit (global_of_index globals g.solver) b) ≡ says_unit g.unit b
 
 -- between these sessions, proof variables got these indices; a search sees no other change
 pub record GivesNames (globals : List ℕ) (gs : List Given) (count : ℕ) (s t : Session) : Type 0 where
@@ -74,8 +74,8 @@ pub record GivesSearchIndices (globals : List ℕ) (gs : List Given) (c c' : Sea
   pub few : length c.globals.items ≤ length globals → length c'.globals.items ≤ length globals
   pub there : AllByRecursion (λ g. g.solver < length c'.globals.items) gs
   pub size : length c'.parts.assignment.current ≡ length c'.globals.items
-  pub ready : (v : ℕ) → HasGiven gs v → value_of c'.parts.assignment.current v ≡ None → may_pick c'.parts.vsids v ≡ true
+  pub ready : (v : ℕ) → HasGiven gs v → value_of c'.parts.assignment.current v ≡ None → is_available c'.parts.vsids v ≡ true
   pub lits : c'.assumptions.lits ≡ c.assumptions.lits
   pub bottom : c'.parts.trail.starts ≡ []
-  pub holds : PartsInvariant c'.parts
-  pub search : (s t : Session) → IsSearch s c → GivesNames globals gs (length c.globals.items) s t → IsSearch t c'
+  pub holds : SearchStateInvariant c'.parts
+  pub search : (s t : Session) → SearchInvariant s c → GivesNames globals gs (length c.globals.items) s t → SearchInvariant t c'

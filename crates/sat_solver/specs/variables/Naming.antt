@@ -11,15 +11,15 @@ use Rattle.sat_solver.specs.variables.Variables.{data_at, global_of, names_used,
 use Rattle.sat_solver.specs.declared.variables.Variables.{Variables}
 
 -- the variable for a new name: the one with the name's own number if that is free, otherwise the lowest free one
-pub record IsRoom (n : Variables) (user v : ℕ) : Type 0 where
+pub record IsVariableForName (n : Variables) (user v : ℕ) : Type 0 where
   pub unused : (data_at n v).deleted ≡ true
   pub within : v ≤ variables_used n
   pub own : (data_at n user).deleted ≡ true → v ≡ user
   pub lowest : (data_at n user).deleted ≡ false → (w : ℕ) → w < v → (data_at n w).deleted ≡ false
 
 -- every variable is in use
-abbrev pub NoneLeft : Variables → Type 0
-NoneLeft n = (v : ℕ) → v < var_limit → (data_at n v).deleted ≡ false
+abbrev pub NoVariableLeft : Variables → Type 0
+NoVariableLeft n = (v : ℕ) → v < var_limit → (data_at n v).deleted ≡ false
 
 -- every name up to the limit is in use
 pub record NamesFull (n : Variables) : Type 0 where

@@ -1,10 +1,10 @@
 -- Hidden variables that get names.
 use Rattle.std.specs.Prelude.{ℕ, ◌+◌, ◌≤◌, ◌==◌, ◌≡◌, max, set, false, Some, None, List, [], ◌∷◌, if◌then◌else◌}
-use Rattle.sat_base.specs.script.ScriptState.{ScriptState, Witnessed, placed}
+use Rattle.sat_base.specs.script.ScriptState.{ScriptState, Witnessed, insert_by_name}
 use Rattle.sat_base.specs.steps.Steps.{Step, UserVarName, ChangeSamplingMode}
 use Rattle.sat_solver.specs.variables.Calls.{NamesInvariant, NamesAgree}
 use Rattle.sat_checker.specs.matching.Checking.{variable_of}
-use Rattle.sat_checker.specs.matching.Bridge.{Live}
+use Rattle.sat_checker.specs.matching.Bridge.{LiveVariables}
 use Rattle.sat_solver.specs.variables.Live.{given}
 use Rattle.sat_solver.specs.variables.Naming.{IsNextUser, IsLowestUnused, KeepsNames}
 use Rattle.sat_solver.specs.variables.Search.{IsUnseen}
@@ -15,7 +15,7 @@ use Rattle.sat_solver.specs.declared.variables.Variables.{Variables}
 abbrev pub observed : ℕ → ℕ → ScriptState → ScriptState
 observed name identity j = record {
   first_unused = max j.first_unused (name + 1);
-  in_use = placed (record { name = name; identity = identity }) j.in_use;
+  in_use = insert_by_name (record { name = name; identity = identity }) j.in_use;
   modes = set j.modes identity Witnessed;
   identity_count = j.identity_count;
   clauses = j.clauses;
@@ -23,9 +23,9 @@ observed name identity j = record {
 
 -- Hidden variables got the next names, by increasing variable starting with this one. For each of them, its mode was
 -- written, and then its name.
-pub data Observes : ℕ → List Step → ScriptState → Live → List Step → ScriptState → List ℕ → Type 0 where
-  all_named : {low : ℕ} {s : List Step} {j : ScriptState} {live : Live} → Observes low s j live s j []
-  one_more : {low : ℕ} {s t : List Step} {j k : ScriptState} {live : Live} {users : List ℕ} (v i user : ℕ) → low ≤ v → given live v ≡ Some i → ((name : ℕ) → variable_of s name ≡ Some v → ⊥) → IsLowestUnused j (user + 1)
+pub data Observes : ℕ → List Step → ScriptState → LiveVariables → List Step → ScriptState → List ℕ → Type 0 where
+  all_named : {low : ℕ} {s : List Step} {j : ScriptState} {live : LiveVariables} → Observes low s j live s j []
+  one_more : {low : ℕ} {s t : List Step} {j k : ScriptState} {live : LiveVariables} {users : List ℕ} (v i user : ℕ) → low ≤ v → given live v ≡ Some i → ((name : ℕ) → variable_of s name ≡ Some v → ⊥) → IsLowestUnused j (user + 1)
       → Observes (v + 1) (UserVarName v (Some user) ∷ ChangeSamplingMode v false ∷ s) (observed (user + 1) i j) live t k users → Observes low s j live t k (user ∷ users)
 
 -- a variable that is in use and has no name
@@ -42,7 +42,7 @@ pub record NamesHidden (old new : Variables) (from to : List Step) (v user : ℕ
   pub deleted : (w : ℕ) → (data_at new w).deleted ≡ (data_at old w).deleted
   pub count : variables_used new ≡ variables_used old
   pub names : KeepsNames old new
-  pub kept : (j : ScriptState) (live : Live) (i : ℕ) → NamesAgree old from j live → given live v ≡ Some i → NamesAgree new to (observed (user + 1) i j) live
+  pub kept : (j : ScriptState) (live : LiveVariables) (i : ℕ) → NamesAgree old from j live → given live v ≡ Some i → NamesAgree new to (observed (user + 1) i j) live
   pub unseen : IsUnseen old new from to
 
 -- all hidden variables got names, and mode witness
@@ -50,5 +50,5 @@ pub record NamesAllHidden (old new : Variables) (from to : List Step) (users : L
   pub valid : NamesInvariant new to
   pub all : (v : ℕ) → IsHidden new v → ⊥
   pub names : KeepsNames old new
-  pub kept : (j : ScriptState) (live : Live) → NamesAgree old from j live → (k : ScriptState) × Observes 0 from j live to k users × NamesAgree new to k live
+  pub kept : (j : ScriptState) (live : LiveVariables) → NamesAgree old from j live → (k : ScriptState) × Observes 0 from j live to k users × NamesAgree new to k live
   pub unseen : IsUnseen old new from to

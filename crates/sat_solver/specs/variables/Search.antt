@@ -1,7 +1,7 @@
 -- What the search sees of calls over names.
 use Rattle.std.specs.Prelude.{ℕ, ◌≤◌, ◌≡◌, ◌≢◌, ◌⊎◌, ◌&&◌, ◌==◌, not, Bool, true, Some, None, List, [], ◌∷◌}
 use Rattle.std.specs.List.{AllByRecursion}
-use Rattle.sat_base.specs.values.Literals.{coded, variable}
+use Rattle.sat_base.specs.values.Literals.{mk_lit, variable}
 use Rattle.sat_base.specs.values.Clauses.{Valuation}
 use Rattle.sat_base.specs.steps.Steps.{Step}
 use Rattle.sat_checker.specs.Fold.{Holds}
@@ -40,12 +40,12 @@ pub record IsGiven (old new : Variables) (s : Session) (g : Given) : Type 0 wher
   pub without : solver_of old variable ≡ None
   pub free : global_at old g.solver ≡ None
   pub taken : global_at new g.solver ≡ Some variable
-  pub unit : (b : Bool) → s.units (coded variable b) ≡ says_unit g.unit b
+  pub unit : (b : Bool) → s.units (mk_lit variable b) ≡ says_unit g.unit b
 
 -- no index is given twice
-abbrev pub GivenApart : List Given → Type 0
-GivenApart [] = Unit {0}
-GivenApart (g ∷ gs) = AllByRecursion (λ h. h.solver ≢ g.solver) gs × GivenApart gs
+abbrev pub IndicesDistinct : List Given → Type 0
+IndicesDistinct [] = Unit {0}
+IndicesDistinct (g ∷ gs) = AllByRecursion (λ h. h.solver ≢ g.solver) gs × IndicesDistinct gs
 
 -- the index is among those given
 abbrev pub HasGiven : List Given → ℕ → Type 0
@@ -56,13 +56,13 @@ HasGiven (g ∷ gs) x = (g.solver ≡ x) ⊎ HasGiven gs x
 pub record GivesIndices (old new : Variables) (s : Session) (gs : List Given) : Type 0 where
   pub stays : (v x : ℕ) → solver_of old v ≡ Some x → solver_of new v ≡ Some x
   pub each : AllByRecursion (IsGiven old new s) gs
-  pub apart : GivenApart gs
+  pub apart : IndicesDistinct gs
   pub others : (v x : ℕ) → solver_of new v ≡ Some x → (solver_of old v ≡ Some x) ⊎ HasGiven gs x
   pub used : indices_used old ≤ indices_used new
 
 -- the units of variables with names are unchanged
 abbrev pub KeepsUnits : Variables → List Step → List Step → Type 0
-KeepsUnits new from to = (u v : ℕ) (b : Bool) → global_of new u ≡ Some v → (session_after to).units (coded v b) ≡ (session_after from).units (coded v b)
+KeepsUnits new from to = (u v : ℕ) (b : Bool) → global_of new u ≡ Some v → (session_after to).units (mk_lit v b) ≡ (session_after from).units (mk_lit v b)
 
 -- the steps admit some valuation with the same values as this one for the variables of these literals
 abbrev pub IsLeftOn : List Step → List ℕ → Valuation → Type 0
@@ -74,7 +74,7 @@ pub record IsAlike (old new : Variables) (from to : List Step) : Type 0 where
   pub solvers : new.solver_from_global ≡ old.solver_from_global
   pub globals : new.globals ≡ old.globals
   pub live : (session_after to).live ≡ (session_after from).live
-  pub units : (v x : ℕ) (b : Bool) → solver_of old v ≡ Some x → (session_after to).units (coded v b) ≡ (session_after from).units (coded v b)
+  pub units : (v x : ℕ) (b : Bool) → solver_of old v ≡ Some x → (session_after to).units (mk_lit v b) ≡ (session_after from).units (mk_lit v b)
   pub unsat : (session_after to).unsat ≡ (session_after from).unsat
   pub width : (session_after to).width ≡ (session_after from).width
   pub assumed : (session_after to).assumed ≡ (session_after from).assumed

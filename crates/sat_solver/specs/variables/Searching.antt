@@ -5,7 +5,7 @@ use Rattle.sat_base.specs.values.Literals.{variable}
 use Rattle.sat_base.specs.script.ScriptState.{ScriptState}
 use Rattle.sat_base.specs.steps.Steps.{Step, AtClause, UnitClauses, DeleteClause, ChangeHashBits, Model, FailedAssumptions, End}
 use Rattle.sat_solver.specs.session.Session.{IsAllowedStep, session_after}
-use Rattle.sat_checker.specs.matching.Bridge.{Live}
+use Rattle.sat_checker.specs.matching.Bridge.{LiveVariables}
 use Rattle.sat_solver.specs.variables.Variables.{data_at, solver_of}
 use Rattle.sat_solver.specs.variables.Naming.{PutsUnit}
 use Rattle.sat_solver.specs.variables.Calls.{NamesInvariant, NamesAgree}
@@ -32,8 +32,8 @@ SearchesPreserveNames = (n : Variables) (steps : List Step) (step : Step) → Na
 
 -- such a step, if allowed, leaves the judge's state unchanged
 abbrev pub SearchesAgree : Type 0
-SearchesAgree = (n : Variables) (steps : List Step) (step : Step) → NamesInvariant n steps → IsAllowedStep (session_after steps) step → IsOfSearch n step → (j : ScriptState) (live : Live) → NamesAgree n steps j live → NamesAgree n (step ∷ steps) j live
+SearchesAgree = (n : Variables) (steps : List Step) (step : Step) → NamesInvariant n steps → IsAllowedStep (session_after steps) step → IsOfSearch n step → (j : ScriptState) (live : LiveVariables) → NamesAgree n steps j live → NamesAgree n (step ∷ steps) j live
 
 -- storing the value of the unit of a variable that has an index preserves the invariant of names and the judge's state
 abbrev pub UnitsPreserveNames : Type 0
-UnitsPreserveNames = (old new : Variables) (steps : List Step) (v x : ℕ) (value : Option Bool) → NamesInvariant old steps → solver_of old v ≡ Some x → PutsUnit old new v value → NamesInvariant new steps × ((j : ScriptState) (live : Live) → NamesAgree old steps j live → NamesAgree new steps j live)
+UnitsPreserveNames = (old new : Variables) (steps : List Step) (v x : ℕ) (value : Option Bool) → NamesInvariant old steps → solver_of old v ≡ Some x → PutsUnit old new v value → NamesInvariant new steps × ((j : ScriptState) (live : LiveVariables) → NamesAgree old steps j live → NamesAgree new steps j live)

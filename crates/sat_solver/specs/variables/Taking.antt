@@ -5,14 +5,14 @@ use Rattle.sat_base.specs.steps.Steps.{Step}
 use Rattle.sat_checker.specs.declared.processing.ProofProcessor.{Ghosts}
 use Rattle.sat_solver.specs.declared.variables.error.NameError.{NameError}
 use Rattle.sat_solver.specs.declared.variables.error.NameError.TheVariants as errors
-use Rattle.sat_solver.specs.proof.Complaints.{IsComplaint}
+use Rattle.sat_solver.specs.proof.ListenerErrors.{IsListenerError}
 use Rattle.sat_solver.specs.session.Making.{BreaksEmitting}
 use Rattle.sat_solver.specs.proof.ProofView.{FailsCheck}
 use Rattle.sat_solver.specs.declared.proof.Proof.{Proof}
 
 -- A call of the target failed while writing the text of the last of these steps, or the checker failed at the step.
 -- The underlying error is stored.
-abbrev pub NotTaken : {W L : Type 0} {G : Ghosts L} → (W → Writer) → Proof W L G → NameError → Proof W L G → Type 0
-NotTaken seen old (errors.Write cause) new = BreaksEmitting seen old new × (new.cause ≡ Some cause)
-NotTaken seen old (errors.Check fault) new = (steps : List Step) × FailsCheck seen fault steps old new × IsComplaint fault new.made.complaint
-NotTaken seen old e new = ⊥
+abbrev pub StepNotAccepted : {W L : Type 0} {G : Ghosts L} → (W → Writer) → Proof W L G → NameError → Proof W L G → Type 0
+StepNotAccepted seen old (errors.Write cause) new = BreaksEmitting seen old new × (new.cause ≡ Some cause)
+StepNotAccepted seen old (errors.Check fault) new = (steps : List Step) × FailsCheck seen fault steps old new × IsListenerError fault new.made.complaint
+StepNotAccepted seen old e new = ⊥

@@ -37,17 +37,17 @@ hidden_after n ls at = hidden_count n (user_vars_in (drop at ls))
 
 -- how many names are introduced with these: those never used up to the highest of them, and the hidden ones among
 -- them
-abbrev pub coming : Variables → List ℕ → ℕ
-coming n users = reach (names_used n) users - names_used n + hidden_count n users
+abbrev pub introduced_count : Variables → List ℕ → ℕ
+introduced_count n users = reach (names_used n) users - names_used n + hidden_count n users
 
 -- there is a variable for every name that is introduced
 abbrev pub HasVariablesFor : Variables → List ℕ → Type 0
-HasVariablesFor n users = live_count n + coming n users ≤ var_limit
+HasVariablesFor n users = live_count n + introduced_count n users ≤ var_limit
 
 -- the flag says whether there are enough variables
-abbrev pub SaysRoom : Bool → Variables → List ℕ → Type 0
-SaysRoom true n users = HasVariablesFor n users
-SaysRoom false n users = HasVariablesFor n users → ⊥
+abbrev pub ReportsRoom : Bool → Variables → List ℕ → Type 0
+ReportsRoom true n users = HasVariablesFor n users
+ReportsRoom false n users = HasVariablesFor n users → ⊥
 
 -- a name was introduced, and there are enough variables for the others that were introduced with it
 abbrev pub LeavesRoom : Variables → Variables → ℕ → Type 0

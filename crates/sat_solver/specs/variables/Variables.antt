@@ -1,7 +1,7 @@
 -- What a solver stores about names, variables and indices: whether it is consistent, and whether it matches the proof and the judge.
 use Rattle.std.specs.Prelude.{ℕ, ◌+◌, ◌<◌, ◌≤◌, ◌≡◌, ◌≢◌, Bool, true, false, not, ◌&&◌, Option, None, Some, is_some, List, length, get_or, nat_lt, if◌then◌else◌}
 use Rattle.std.specs.List.{AllByRecursion}
-use Rattle.sat_base.specs.values.Literals.{var_limit, coded}
+use Rattle.sat_base.specs.values.Literals.{var_limit, mk_lit}
 use Rattle.sat_base.specs.script.ScriptState.{ScriptState, Sampled, Witnessed, identity_of}
 use Rattle.sat_base.specs.script.ScriptState as judged
 use Rattle.sat_base.specs.script.ScriptStateLaws.{NamesIncrease}
@@ -13,9 +13,9 @@ use Rattle.sat_store.specs.variables.Maps.{target, AreInverse}
 use Rattle.sat_checker.specs.LiteralSets.{mentions}
 use Rattle.sat_checker.specs.Stored.{Mode, Sample, Witness, Hide, Variable, unknown}
 use Rattle.sat_solver.specs.session.Session.{Session}
-use Rattle.sat_solver.specs.variables.Counting.{IsEven}
+use Rattle.sat_solver.specs.variables.Counting.{HasEqualCounts}
 use Rattle.sat_solver.specs.variables.Free.{is_free, Spans}
-use Rattle.sat_checker.specs.matching.Bridge.{Live, AreDistinctVariables}
+use Rattle.sat_checker.specs.matching.Bridge.{LiveVariables, AreDistinctVariables}
 use Rattle.sat_solver.specs.variables.Live.{given, given_of}
 use Rattle.sat_solver.specs.declared.variables.Variables.{Variables}
 
@@ -58,7 +58,7 @@ is_witness_kept kept.Witness = true
 is_witness_kept kept.Hide = false
 
 -- the maps, the data of variables and the sets of free numbers are consistent
-pub record AreTidy (n : Variables) : Type 0 where
+pub record VariablesInvariant (n : Variables) : Type 0 where
   pub users : AreInverse n.global_from_user
   pub solvers : AreInverse n.solver_from_global
   -- a variable that has a name or an index is in use
@@ -77,8 +77,8 @@ pub record AreTidy (n : Variables) : Type 0 where
   pub globals_count : length n.globals.items ≡ indices_used n
   pub globals : (x v : ℕ) → global_at n x ≡ Some v → get_or n.globals.items x 0 ≡ v
   -- as many variables have names as names have variables, and likewise for indices
-  pub even_users : IsEven n.global_from_user
-  pub even_solvers : IsEven n.solver_from_global
+  pub even_users : HasEqualCounts n.global_from_user
+  pub even_solvers : HasEqualCounts n.solver_from_global
   pub spans_users : Spans n.free_users (names_used n)
   pub spans_globals : Spans n.free_globals (variables_used n)
   pub spans_solvers : Spans n.free_solvers (indices_used n)
@@ -109,7 +109,7 @@ says_unit (Some value) false = not value
 
 -- the stored unit of the variable is that of the session
 abbrev pub IsUnitOf : Variables → Session → ℕ → Type 0
-IsUnitOf n s v = (b : Bool) → s.units (coded v b) ≡ says_unit (data_at n v).unit b
+IsUnitOf n s v = (b : Bool) → s.units (mk_lit v b) ≡ says_unit (data_at n v).unit b
 
 -- no clause with two or more literals has the variable
 abbrev pub IsInNoNonUnitClause : Session → ℕ → Type 0
@@ -131,7 +131,7 @@ IsModeOf kept.Witness m = m ≡ Witnessed
 IsModeOf kept.Hide m = Unit {0}
 
 -- The stored names match the judge's state. Name k has index k - 1.
-pub record NamesMatchState (n : Variables) (j : ScriptState) (live : Live) : Type 0 where
+pub record NamesMatchState (n : Variables) (j : ScriptState) (live : LiveVariables) : Type 0 where
   pub first_unused : j.first_unused ≡ names_used n + 1
   pub no_zero : identity_of j 0 ≡ None
   pub names : (u : ℕ) → identity_of j (u + 1) ≡ given_of live (global_of n u)

@@ -4,12 +4,12 @@ ghost use Rattle.sat_store.specs.clause.Buffer.{IsClause};
 ghost use Rattle.sat_parts.specs.clause.Glue.{AreClear};
 ghost use Rattle.sat_parts.specs.prop.Causes.{falsified};
 ghost use Rattle.sat_parts.specs.prop.Ready.{AreAllFalse, state_of};
-ghost use Rattle.sat_solver.specs.analyze_conflict.Marks.{CanAnalyze, HasTop};
-ghost use Rattle.sat_solver.specs.analyze_conflict.Derivation.{LearnsFrom};
+ghost use Rattle.sat_solver.specs.analyze_conflict.Marks.{CanAnalyze, HasCurrentLevelLit};
+ghost use Rattle.sat_solver.specs.analyze_conflict.Derivation.{AnalysisResultOf};
 ghost use Rattle.sat_solver.specs.analyze_conflict.Involved.{IsResolution};
 
 use crate::analyze_conflict::resolve::{begin_conflict, finish_conflict, resolve_conflict};
-use crate::analyze_conflict::work::Analysis;
+use crate::analyze_conflict::state::AnalyzeConflict;
 use crate::minimize::minimize_clause;
 use sat_parts::{Assignment, Conflict, ImplGraph, Trail};
 use sat_store::ClauseAlloc;
@@ -18,7 +18,7 @@ use std::alloc::AllocError;
 /// Learns a clause from `conflict`, which must be above level 0. Returns the level to backtrack to. At that level, all
 /// literals of the learned clause but the first are false, so that the clause implies its first literal.
 pub fn analyze_conflict(
-    analysis: &mut Analysis,
+    analysis: &mut AnalyzeConflict,
     clauses: &ClauseAlloc,
     assignment: &Assignment,
     graph: &ImplGraph,
@@ -30,8 +30,8 @@ pub fn analyze_conflict(
     requires clear { AreClear analysis.old.flags }
     requires valid { (o : ℕ) → conflict.now ≡ Conflict.Long o → IsClause clauses.now o }
     requires fails { AreAllFalse assignment.now.current (falsified clauses.now conflict.now) }
-    requires top { HasTop (state_of assignment.now graph.now trail.now) (falsified clauses.now conflict.now) }
-    ensures learns { IfOk result (λ back. LearnsFrom clauses.now (state_of assignment.now graph.now trail.now)
+    requires top { HasCurrentLevelLit (state_of assignment.now graph.now trail.now) (falsified clauses.now conflict.now) }
+    ensures learns { IfOk result (λ back. AnalysisResultOf clauses.now (state_of assignment.now graph.now trail.now)
         conflict.now analysis.new back) }
     ensures resolution { OnOk result
         (IsResolution clauses.now (state_of assignment.now graph.now trail.now) conflict.now analysis.new) }

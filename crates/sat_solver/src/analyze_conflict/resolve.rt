@@ -4,12 +4,13 @@ ghost use Rattle.sat_store.specs.clause.Buffer.{IsClause};
 ghost use Rattle.sat_parts.specs.clause.Glue.{AreClear, HaveNodes};
 ghost use Rattle.sat_parts.specs.prop.Causes.{falsified};
 ghost use Rattle.sat_parts.specs.prop.Ready.{state_of, AreAllFalse};
-ghost use Rattle.sat_solver.specs.analyze_conflict.Work.{with_met_literals};
-ghost use Rattle.sat_solver.specs.analyze_conflict.Marks.{CanAnalyze, IsResolvent, IsFirstResolvent, HasTop};
+ghost use Rattle.sat_solver.specs.analyze_conflict.AnalysisState.{with_seen_literals};
+ghost use Rattle.sat_solver.specs.analyze_conflict.Marks.{CanAnalyze, IsResolvent, IsFirstResolvent};
+ghost use Rattle.sat_solver.specs.analyze_conflict.Marks.{HasCurrentLevelLit};
 ghost use Rattle.sat_solver.specs.analyze_conflict.Derivation.{IsUipClause};
 ghost use Rattle.sat_solver.specs.analyze_conflict.Involved.{CollectionInvariant, BeginsCollecting, CollectionResult};
 
-use crate::analyze_conflict::work::Analysis;
+use crate::analyze_conflict::state::AnalyzeConflict;
 use sat_base::Lit;
 use sat_parts::{Assignment, CauseLits, Conflict, ImplGraph, Trail};
 use sat_store::{ClauseAlloc, Lits};
@@ -17,14 +18,14 @@ use std::alloc::AllocError;
 
 /// Adds the false literals `lits` to the analysis, one after another.
 fn add_own(
-    analysis: &mut Analysis,
+    analysis: &mut AnalyzeConflict,
     graph: &ImplGraph,
     top: usize,
     lits: &[Lit],
 ) -> Result<(), AllocError>
     requires nodes { HaveNodes graph.now lits.now }
     requires flags { length analysis.old.flags ≡ length graph.now }
-    ensures meets { OnOk result (analysis.new ≡ with_met_literals graph.now top lits.now analysis.old) }
+    ensures meets { OnOk result (analysis.new ≡ with_seen_literals graph.now top lits.now analysis.old) }
     ensures flags { OnOk result (length analysis.new.flags ≡ length graph.now) }
 {
     for lit in lits {
@@ -35,14 +36,14 @@ fn add_own(
 
 /// Adds the false literals of a long clause to the analysis, one after another.
 fn add_long(
-    analysis: &mut Analysis,
+    analysis: &mut AnalyzeConflict,
     graph: &ImplGraph,
     top: usize,
     lits: &Lits<'_>,
 ) -> Result<(), AllocError>
     requires nodes { HaveNodes graph.now lits.now }
     requires flags { length analysis.old.flags ≡ length graph.now }
-    ensures { OnOk result (analysis.new ≡ with_met_literals graph.now top lits.now analysis.old) }
+    ensures { OnOk result (analysis.new ≡ with_seen_literals graph.now top lits.now analysis.old) }
 {
     for at in 0..lits.len() {
         analysis.add(graph, top, lits.get(at))?;
@@ -53,14 +54,14 @@ fn add_long(
 /// Adds the false literals `lits` to the analysis, one after another. Those at level `top` or above are still to
 /// be resolved.
 pub(crate) fn add_all(
-    analysis: &mut Analysis,
+    analysis: &mut AnalyzeConflict,
     graph: &ImplGraph,
     top: usize,
     lits: &CauseLits,
 ) -> Result<(), AllocError>
     requires nodes { HaveNodes graph.now lits.now }
     requires flags { length analysis.old.flags ≡ length graph.now }
-    ensures { OnOk result (analysis.new ≡ with_met_literals graph.now top lits.now analysis.old) }
+    ensures { OnOk result (analysis.new ≡ with_seen_literals graph.now top lits.now analysis.old) }
 {
     let (own, long) = lits.parts();
     add_own(analysis, graph, top, own)?;
@@ -71,7 +72,7 @@ pub(crate) fn add_all(
 /// Resolves with the reason for the last flagged literal before position `before` of the trail. Returns the position of
 /// this literal.
 fn resolve_next(
-    analysis: &mut Analysis,
+    analysis: &mut AnalyzeConflict,
     clauses: &ClauseAlloc,
     assignment: &Assignment,
     graph: &ImplGraph,
@@ -106,7 +107,7 @@ fn resolve_next(
 /// Resolves until exactly one literal of the current level is left. Returns a position on the trail that comes after
 /// this literal.
 pub(crate) fn resolve_conflict(
-    analysis: &mut Analysis,
+    analysis: &mut AnalyzeConflict,
     clauses: &ClauseAlloc,
     assignment: &Assignment,
     graph: &ImplGraph,
@@ -131,7 +132,7 @@ pub(crate) fn resolve_conflict(
 
 /// Begins an analysis with the literals of the falsified clause.
 pub(crate) fn begin_conflict(
-    analysis: &mut Analysis,
+    analysis: &mut AnalyzeConflict,
     clauses: &ClauseAlloc,
     assignment: &Assignment,
     graph: &ImplGraph,
@@ -143,7 +144,7 @@ pub(crate) fn begin_conflict(
     requires clear { AreClear analysis.old.flags }
     requires valid { (o : ℕ) → conflict.now ≡ Conflict.Long o → IsClause clauses.now o }
     requires fails { AreAllFalse assignment.now.current (falsified clauses.now conflict.now) }
-    requires top { HasTop (state_of assignment.now graph.now trail.now) (falsified clauses.now conflict.now) }
+    requires top { HasCurrentLevelLit (state_of assignment.now graph.now trail.now) (falsified clauses.now conflict.now) }
     ensures resolving { OnOk result
         (IsFirstResolvent clauses.now (state_of assignment.now graph.now trail.now) conflict.now analysis.new) }
     ensures collecting { OnOk result
@@ -162,7 +163,7 @@ pub(crate) fn begin_conflict(
 /// Finds the last flagged literal before position `before` of the trail. Makes its negation the first literal of the
 /// learned clause.
 pub(crate) fn finish_conflict(
-    analysis: &mut Analysis,
+    analysis: &mut AnalyzeConflict,
     clauses: &ClauseAlloc,
     assignment: &Assignment,
     graph: &ImplGraph,

@@ -1,7 +1,7 @@
 //! Finds the assumptions that, together with the clauses, falsify an assumption.
 ghost use Rattle.std.specs.Prelude.{◌≡◌, ◌<◌, false, length, OnOk, IfOk};
 ghost use Rattle.sat_parts.specs.clause.Glue.{AreClear};
-ghost use Rattle.sat_parts.specs.prop.Graphs.{is_unit_reason};
+ghost use Rattle.sat_parts.specs.prop.Graphs.{has_no_clause};
 ghost use Rattle.sat_parts.specs.prop.Ready.{state_of};
 ghost use Rattle.sat_parts.specs.prop.State.{StateIsConsistent, node, level};
 ghost use Rattle.sat_parts.specs.prop.Values.{IsFalseLit};
@@ -9,7 +9,7 @@ ghost use Rattle.sat_solver.specs.analyze_conflict.Marks.{CanAnalyze};
 ghost use Rattle.sat_solver.specs.assumptions.Failing.{IsFailedAssumption, TraceInvariant, TraceResult};
 
 use crate::analyze_conflict::resolve::add_all;
-use crate::analyze_conflict::work::Analysis;
+use crate::analyze_conflict::state::AnalyzeConflict;
 use sat_base::Lit;
 use sat_parts::{Assignment, ImplGraph, Trail};
 use sat_store::ClauseAlloc;
@@ -18,7 +18,7 @@ use std::alloc::AllocError;
 /// Begins an analysis with the clause that falsifies the assumption `failed`. Returns the position of the negation of
 /// `failed` on the trail.
 fn begin_trace(
-    analysis: &mut Analysis,
+    analysis: &mut AnalyzeConflict,
     clauses: &ClauseAlloc,
     assignment: &Assignment,
     graph: &ImplGraph,
@@ -30,7 +30,7 @@ fn begin_trace(
     requires clear { AreClear analysis.old.flags }
     requires fails { IsFalseLit assignment.now.current failed }
     requires above { 0 < level (state_of assignment.now graph.now trail.now) failed }
-    requires caused { is_unit_reason (node (state_of assignment.now graph.now trail.now) failed).reason ≡ false }
+    requires caused { has_no_clause (node (state_of assignment.now graph.now trail.now) failed).reason ≡ false }
     ensures { IfOk result (λ p. TraceInvariant clauses.now (state_of assignment.now graph.now trail.now) failed analysis.new
         p) }
 {
@@ -44,7 +44,7 @@ fn begin_trace(
 /// Handles the last flagged literal before position `before` of the trail: uses its reason if the reason is a clause,
 /// and adds the literal to the core otherwise. Returns the position of the literal.
 fn trace_next(
-    analysis: &mut Analysis,
+    analysis: &mut AnalyzeConflict,
     clauses: &ClauseAlloc,
     assignment: &Assignment,
     graph: &ImplGraph,
@@ -73,7 +73,7 @@ fn trace_next(
 
 /// Traces reasons back, from position `from` of the trail, until no literal is flagged.
 fn trace(
-    analysis: &mut Analysis,
+    analysis: &mut AnalyzeConflict,
     clauses: &ClauseAlloc,
     assignment: &Assignment,
     graph: &ImplGraph,
@@ -97,7 +97,7 @@ fn trace(
 ///
 /// Afterwards, the core of `analysis` contains the assumptions, and the reasons for its used literals are the clauses.
 pub fn analyze_assumption(
-    analysis: &mut Analysis,
+    analysis: &mut AnalyzeConflict,
     clauses: &ClauseAlloc,
     assignment: &Assignment,
     graph: &ImplGraph,

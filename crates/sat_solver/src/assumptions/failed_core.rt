@@ -3,10 +3,10 @@ ghost use Rattle.std.specs.Prelude.{◌≡◌, ◌≤◌, map, length, OnOk};
 ghost use Rattle.sat_solver.specs.session.LiveClauses.{with_var};
 ghost use Rattle.sat_solver.specs.proof.ProofView.{HasAllowedSteps, session_of};
 ghost use Rattle.sat_parts.specs.parts.Assumed.{HaveVariablesIn};
-ghost use Rattle.sat_parts.specs.parts.Whole.{PartsInvariant};
+ghost use Rattle.sat_parts.specs.parts.Whole.{SearchStateInvariant};
 ghost use Rattle.sat_solver.specs.assumptions.Core.{causes_hashes, WritesCoreStep, FailsBy};
-ghost use Rattle.sat_solver.specs.cdcl.Joint.{global_in, IsFree, IsSearch};
-ghost use Rattle.sat_solver.specs.cdcl.Turns.{IsFailing};
+ghost use Rattle.sat_solver.specs.cdcl.Joint.{global_in, IsFree, SearchInvariant};
+ghost use Rattle.sat_solver.specs.cdcl.Iterations.{IsFailing};
 
 use crate::analyze_conflict::analyze_assumption;
 use crate::cdcl::fault::Fault;
@@ -20,7 +20,7 @@ use std::alloc::AllocError;
 /// Fills `search.scratch` for the step that states a core: the core's literals over proof variables, and the hashes of
 /// the clauses that show that the core contradicts the clauses.
 fn name_core(search: &mut Search) -> Result<(), AllocError>
-    requires holds { PartsInvariant search.old.parts }
+    requires holds { SearchStateInvariant search.old.parts }
     requires names { length search.old.parts.assignment.current ≤ length search.old.globals.items }
     requires there { HaveVariablesIn search.old.assumptions.lits.items search.old.parts }
     requires failing { IsFailing search.old.assumptions.lits.items search.old.parts search.old.failed }
@@ -46,7 +46,7 @@ fn name_core(search: &mut Search) -> Result<(), AllocError>
 /// Finds assumptions that contradict the failed assumption, and fills `search.scratch` for the step that states
 /// this core.
 fn find_core(search: &mut Search) -> Result<(), AllocError>
-    requires holds { PartsInvariant search.old.parts }
+    requires holds { SearchStateInvariant search.old.parts }
     requires free { IsFree search.old }
     requires there { HaveVariablesIn search.old.assumptions.lits.items search.old.parts }
     requires failing { IsFailing search.old.assumptions.lits.items search.old.parts search.old.failed }
@@ -76,7 +76,7 @@ pub fn write_core<W: CountedWrite + Drop, P: ProofProcessor>(
     search: &mut Search,
 ) -> Result<(), Fault>
     requires keeps { HasAllowedSteps proof.old }
-    requires search { IsSearch (session_of proof.old) search.old }
+    requires search { SearchInvariant (session_of proof.old) search.old }
     requires failing { IsFailing search.old.assumptions.lits.items search.old.parts search.old.failed }
     ensures { WritesCoreStep W.seen result proof.old proof.new search.old search.new }
 {

@@ -4,7 +4,7 @@ ghost use Rattle.sat_solver.specs.unit_simplify.Passes.{JointInvariant, BeginsRo
 use crate::cdcl::fault::Fault;
 use crate::context::Search;
 use crate::proof::Proof;
-use crate::unit_simplify::prove_units::settle;
+use crate::unit_simplify::prove_units::prove_units;
 use crate::unit_simplify::unit_simplify;
 use crate::variables::Variables;
 use sat_base::CountedWrite;
@@ -32,7 +32,7 @@ pub fn begin_round<W: CountedWrite + Drop, P: ProofProcessor>(
         Err(conflict) => return Ok(Some(conflict)),
         Ok(()) => {}
     }
-    settle(
+    prove_units(
         proof,
         &mut search.parts,
         &search.globals,

@@ -1,11 +1,11 @@
 //! Why a call failed. The underlying error is stored with the proof until the solver reports it.
 ghost use Rattle.std.specs.Prelude.{◌≡◌};
 ghost use Rattle.sat_solver.specs.cdcl.Faults.{reported_error, IsKept};
-ghost use Rattle.sat_solver.specs.proof.ProofView.{without_complaint};
+ghost use Rattle.sat_solver.specs.proof.ProofView.{without_listener_error};
 
 use crate::SolverError;
+use crate::proof::emitted::CheckFault;
 use crate::proof::kept::Kept;
-use crate::proof::made::CheckFault;
 use crate::proof::{Proof, ProofError};
 use sat_base::CountedWrite;
 use sat_checker::ProofProcessor;
@@ -16,7 +16,7 @@ use std::marker::Model;
 
 /// The kind of a fault.
 #[derive(Drop)]
-pub enum Kind {
+pub enum FaultKind {
     /// A call to the target failed.
     Write(Kept<io::Error>),
     /// A listener returned a fault.
@@ -30,7 +30,7 @@ pub enum Kind {
 /// Why a call failed. Contracts describe a fault as the error that the solver reports.
 #[derive(Drop)]
 pub struct Fault {
-    kind: Kind,
+    kind: FaultKind,
 }
 
 impl Model for Fault {
@@ -44,7 +44,7 @@ impl Model for Fault {
 
 impl Fault {
     /// Creates a fault of the kind `kind`.
-    pub fn of(kind: Kind) -> Fault
+    pub fn of(kind: FaultKind) -> Fault
         ensures { result ≡ reported_error kind }
     {
         Fault { kind }
@@ -58,7 +58,7 @@ impl From<AllocError> for Fault {
     ghost from_gives = { λ _ e. e ≡ OutOfMemory };
 
     fn from(_e: AllocError) -> Fault {
-        Fault::of(Kind::OutOfMemory)
+        Fault::of(FaultKind::OutOfMemory)
     }
 }
 
@@ -70,37 +70,37 @@ impl From<StoreError> for Fault {
 
     fn from(error: StoreError) -> Fault {
         match error {
-            StoreError::StoreFull => Fault::of(Kind::StoreFull),
-            StoreError::OutOfMemory => Fault::of(Kind::OutOfMemory),
+            StoreError::StoreFull => Fault::of(FaultKind::StoreFull),
+            StoreError::OutOfMemory => Fault::of(FaultKind::OutOfMemory),
         }
     }
 }
 
 impl From<CheckFault> for Fault {
     ghost use Rattle.std.specs.Prelude.{◌≡◌};
-    ghost use Rattle.sat_solver.specs.cdcl.Going.{check_fault_of};
+    ghost use Rattle.sat_solver.specs.cdcl.StepEffects.{check_fault_of};
 
     ghost from_gives = { λ f e. e ≡ check_fault_of f };
 
     fn from(fault: CheckFault) -> Fault {
         match fault {
-            CheckFault::OutOfMemory => Fault::of(Kind::OutOfMemory),
-            CheckFault::CounterEnd => Fault::of(Kind::CounterEnd),
-            CheckFault::Processor(kept) => Fault::of(Kind::Processor(kept)),
+            CheckFault::OutOfMemory => Fault::of(FaultKind::OutOfMemory),
+            CheckFault::CounterEnd => Fault::of(FaultKind::CounterEnd),
+            CheckFault::Processor(kept) => Fault::of(FaultKind::Processor(kept)),
         }
     }
 }
 
 impl From<ProofError> for Fault {
     ghost use Rattle.std.specs.Prelude.{◌≡◌};
-    ghost use Rattle.sat_solver.specs.cdcl.Going.{proof_fault};
+    ghost use Rattle.sat_solver.specs.cdcl.StepEffects.{proof_fault};
 
     ghost from_gives = { λ p e. e ≡ proof_fault p };
 
     fn from(error: ProofError) -> Fault {
         match error {
-            ProofError::Write(kept) => Fault::of(Kind::Write(kept)),
-            ProofError::OutOfMemory => Fault::of(Kind::OutOfMemory),
+            ProofError::Write(kept) => Fault::of(FaultKind::Write(kept)),
+            ProofError::OutOfMemory => Fault::of(FaultKind::OutOfMemory),
             ProofError::Check(fault) => Fault::from(fault),
         }
     }
@@ -114,17 +114,17 @@ pub fn report<W: CountedWrite + Drop, P: ProofProcessor>(
 ) -> SolverError
     requires kept { IsKept fault proof.old }
     ensures error { result ≡ fault }
-    ensures proof { proof.new ≡ without_complaint proof.old }
+    ensures proof { proof.new ≡ without_listener_error proof.old }
 {
     let complaint = proof.take_complaint();
     match (fault.kind, complaint, proof.cause()) {
-        (Kind::OutOfMemory, _, _) => SolverError::OutOfMemory,
-        (Kind::StoreFull, _, _) => SolverError::StoreFull,
-        (Kind::VariableLimit, _, _) => SolverError::VariableLimit,
-        (Kind::CounterEnd, _, _) => SolverError::CounterEnd,
-        (Kind::Write(_), _, Some(cause)) => SolverError::ProofIoError { cause },
-        (Kind::Processor(_), Some(cause), _) => SolverError::ProofProcessorError { cause },
-        (Kind::Write(_), _, None) => unreachable!(),
-        (Kind::Processor(_), None, _) => unreachable!(),
+        (FaultKind::OutOfMemory, _, _) => SolverError::OutOfMemory,
+        (FaultKind::StoreFull, _, _) => SolverError::StoreFull,
+        (FaultKind::VariableLimit, _, _) => SolverError::VariableLimit,
+        (FaultKind::CounterEnd, _, _) => SolverError::CounterEnd,
+        (FaultKind::Write(_), _, Some(cause)) => SolverError::ProofIoError { cause },
+        (FaultKind::Processor(_), Some(cause), _) => SolverError::ProofProcessorError { cause },
+        (FaultKind::Write(_), _, None) => unreachable!(),
+        (FaultKind::Processor(_), None, _) => unreachable!(),
     }
 }

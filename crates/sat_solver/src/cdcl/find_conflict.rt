@@ -2,20 +2,20 @@
 ghost use Rattle.std.specs.Prelude.{IfOk};
 ghost use Rattle.sat_solver.specs.proof.ProofView.{HasAllowedSteps, session_of};
 ghost use Rattle.sat_parts.specs.parts.Assumed.{HaveVariablesIn, ArePlaced};
-ghost use Rattle.sat_parts.specs.parts.Whole.{state, PartsInvariant, IsFullyPropagated};
-ghost use Rattle.sat_solver.specs.cdcl.Going.{EmitsSteps};
-ghost use Rattle.sat_solver.specs.cdcl.Joint.{IsSearch};
-ghost use Rattle.sat_solver.specs.cdcl.Turns.{GoesDeeper, StopsSearch};
+ghost use Rattle.sat_parts.specs.parts.Whole.{state, SearchStateInvariant, IsFullyPropagated};
+ghost use Rattle.sat_solver.specs.cdcl.StepEffects.{EmitsSteps};
+ghost use Rattle.sat_solver.specs.cdcl.Joint.{SearchInvariant};
+ghost use Rattle.sat_solver.specs.cdcl.Iterations.{GoesDeeper, StopsSearch};
 
 use crate::cdcl::fault::Fault;
 use crate::context::Search;
 use crate::proof::Proof;
-use crate::unit_simplify::prove_units::settle;
+use crate::unit_simplify::prove_units::prove_units;
 use sat_base::{CountedWrite, Lit};
 use sat_checker::ProofProcessor;
 use sat_parts::parts::assumptions::{Assumptions, EnqueueAssumption, enqueue_assumption};
 use sat_parts::parts::steps::{make_decision, propagate_all};
-use sat_parts::{Conflict, Parts};
+use sat_parts::{Conflict, SearchState};
 use std::alloc::AllocError;
 
 /// Why a search stopped.
@@ -32,10 +32,10 @@ pub enum FoundConflict {
 /// Begins a level with the next assumption, or with the variable that has the highest activity if no assumption is
 /// left. Returns `None` if a level was begun; otherwise returns why the search stopped.
 fn assume_or_decide(
-    parts: &mut Parts,
+    parts: &mut SearchState,
     assumptions: &mut Assumptions,
 ) -> Result<Option<FoundConflict>, AllocError>
-    requires holds { PartsInvariant parts.old }
+    requires holds { SearchStateInvariant parts.old }
     requires done { IsFullyPropagated parts.old }
     requires there { HaveVariablesIn assumptions.old.lits.items parts.old }
     requires placed { ArePlaced assumptions.old (state parts.old) }
@@ -61,7 +61,7 @@ pub fn find_conflict<W: CountedWrite + Drop, P: ProofProcessor>(
     search: &mut Search,
 ) -> Result<FoundConflict, Fault>
     requires keeps { HasAllowedSteps proof.old }
-    requires search { IsSearch (session_of proof.old) search.old }
+    requires search { SearchInvariant (session_of proof.old) search.old }
     ensures { EmitsSteps W.seen result proof.old proof.new
         (λ stop _. StopsSearch stop (session_of proof.new) search.old search.new) }
 {
@@ -71,7 +71,7 @@ pub fn find_conflict<W: CountedWrite + Drop, P: ProofProcessor>(
             Err(conflict) => return Ok(FoundConflict::Falsified(conflict)),
             Ok(()) => {}
         }
-        settle(
+        prove_units(
             proof,
             &mut search.parts,
             &search.globals,

@@ -1,26 +1,27 @@
 //! Learns a clause from a conflict: writes its step and stores it.
 ghost use Rattle.std.specs.Prelude.{◌≡◌, ◌<◌, ◌≤◌, length, map, Err, false, OnOk, IfOk};
-ghost use Rattle.sat_parts.specs.clause.Glue.{levels_of, different};
+ghost use Rattle.sat_parts.specs.clause.Glue.{levels_of, count_distinct};
 ghost use Rattle.sat_solver.specs.session.LiveClauses.{with_var};
 ghost use Rattle.sat_solver.specs.proof.ProofView.{HasAllowedSteps, session_of};
-ghost use Rattle.sat_solver.specs.analyze_conflict.Derivation.{Learns, LearnsFrom};
-ghost use Rattle.sat_parts.specs.parts.Round.{UnitsHaveNoReason, IsBased};
+ghost use Rattle.sat_solver.specs.analyze_conflict.Derivation.{AnalysisResult, AnalysisResultOf};
+ghost use Rattle.sat_parts.specs.parts.Round.{UnitsHaveNoReason, LevelZeroInvariant};
 ghost use Rattle.sat_parts.specs.parts.Full.{IsFull};
 ghost use Rattle.sat_parts.specs.parts.Learned.{IsAnalyzedClause};
-ghost use Rattle.sat_parts.specs.parts.Whole.{state, HoldsBelow, IsRefuted};
+ghost use Rattle.sat_parts.specs.parts.Whole.{state, SearchStateInvariantBelow, IsRefuted};
 ghost use Rattle.sat_solver.specs.session.Fits.{FlagFits};
 ghost use Rattle.sat_solver.specs.clause.Activity.{AreBelow};
-ghost use Rattle.sat_solver.specs.clause.Assessed.{graded, AreInvolved};
+ghost use Rattle.sat_solver.specs.clause.Assessed.{learned_header, AreAntecedents};
 ghost use Rattle.sat_solver.specs.cdcl.Joint.{global_in, IsFree};
-ghost use Rattle.sat_solver.specs.cdcl.Learning.{UndoesAndLearns, BumpsInvolved, SearchBumpsInvolved, BumpsMetVars, LearnsClause};
+ghost use Rattle.sat_solver.specs.cdcl.Learning.{UndoesAndLearns, BumpsAntecedents, SearchBumpsAntecedents};
+ghost use Rattle.sat_solver.specs.cdcl.Learning.{BumpsSeenVars, LearnsClause};
 ghost use Rattle.sat_solver.specs.cdcl.Learning.{learned_hashes};
-ghost use Rattle.sat_solver.specs.cdcl.Turns.{IsStopped};
-ghost use Rattle.sat_store.specs.clause.Full.{OnFull};
+ghost use Rattle.sat_solver.specs.cdcl.Iterations.{IsStopped};
+ghost use Rattle.sat_store.specs.clause.Full.{IfStoreFull};
 
 use crate::analyze_conflict::learn_from_conflict;
 use crate::cdcl::fault::Fault;
-use crate::clause::activity::{bump_clauses, bump_met};
-use crate::clause::assess::assess;
+use crate::clause::activity::{bump_clauses, bump_seen_vars};
+use crate::clause::assess::assess_learned_clause;
 use crate::context::Search;
 use crate::proof::Proof;
 use crate::proof::map_step::{map_lits, name_clauses};
@@ -36,7 +37,7 @@ use std::alloc::AllocError;
 fn name_learned(search: &mut Search, _level: usize, conflict: &Conflict) -> Result<(), AllocError>
     requires refuted { IsRefuted search.old.parts conflict.now }
     requires names { length search.old.parts.assignment.current ≤ length search.old.globals.items }
-    requires learns { LearnsFrom search.old.parts.clauses (state search.old.parts) conflict.now search.old.analysis
+    requires learns { AnalysisResultOf search.old.parts.clauses (state search.old.parts) conflict.now search.old.analysis
         _level }
     ensures same { search.new ≡ record search.old { scratch = search.new.scratch } }
     ensures clause { OnOk result (search.new.scratch.clause.items
@@ -62,27 +63,27 @@ fn name_learned(search: &mut Search, _level: usize, conflict: &Conflict) -> Resu
 ///
 /// Also updates the headers of the used clauses, based on the levels of their literals before backtracking.
 fn take_in(search: &mut Search, header: ClauseHeader, level: usize) -> Result<(), StoreError>
-    requires holds { HoldsBelow (length search.old.parts.trail.starts) search.old.parts }
+    requires holds { SearchStateInvariantBelow (length search.old.parts.trail.starts) search.old.parts }
     requires units { UnitsHaveNoReason (state search.old.parts) }
-    requires base { IsBased search.old.parts.trail }
+    requires base { LevelZeroInvariant search.old.parts.trail }
     requires live { header.deleted ≡ false }
     requires learned { IsAnalyzedClause (state search.old.parts) search.old.analysis.clause level }
-    requires involved { AreInvolved search.old.parts search.old.flags.flags.items search.old.analysis.involved }
+    requires antecedents { AreAntecedents search.old.parts search.old.flags.flags.items search.old.analysis.antecedents }
     ensures same { search.new ≡ record search.old
         { parts = search.new.parts; activity = search.new.activity; flags = search.new.flags } }
     ensures flags { search.new.flags.flags.items ≡ search.old.flags.flags.items }
     ensures taken { OnOk result (UndoesAndLearns search.old.parts search.new.parts header search.old.analysis.clause
         level) }
-    ensures rated { OnOk result (BumpsInvolved search.old.parts search.old.activity search.old.analysis header search.new.parts
+    ensures rated { OnOk result (BumpsAntecedents search.old.parts search.old.activity search.old.analysis header search.new.parts
         search.new.activity) }
-    ensures full { OnFull result (IsFull search.new.parts) }
+    ensures full { IfStoreFull result (IsFull search.new.parts) }
 {
     undo(&mut search.parts, level);
     bump_clauses(
         &mut search.parts,
         &mut search.activity,
         &mut search.flags,
-        search.analysis.involved(),
+        search.analysis.antecedents(),
     );
     learn(&mut search.parts, header, search.analysis.clause())
 }
@@ -107,13 +108,13 @@ fn analyze(search: &mut Search, conflict: &Conflict) -> Result<(usize, ClauseHea
     ensures same { search.new ≡ record search.old
         { analysis = search.new.analysis; flags = search.new.flags; scratch = search.new.scratch } }
     ensures free { OnOk result (IsFree search.new) }
-    ensures learns { IfOk result (λ r. LearnsFrom search.old.parts.clauses (state search.old.parts) conflict.now
+    ensures learns { IfOk result (λ r. AnalysisResultOf search.old.parts.clauses (state search.old.parts) conflict.now
         search.new.analysis r.0) }
     ensures header { IfOk result (λ r. r.1
-        ≡ graded (different (levels_of search.old.parts.graph search.new.analysis.clause))) }
-    ensures involved { OnOk result
-        (AreInvolved search.old.parts search.new.flags.flags.items search.new.analysis.involved) }
-    ensures met { OnOk result (AreBelow search.new.analysis.met (length search.old.parts.assignment.current)) }
+        ≡ learned_header (count_distinct (levels_of search.old.parts.graph search.new.analysis.clause))) }
+    ensures antecedents { OnOk result
+        (AreAntecedents search.old.parts search.new.flags.flags.items search.new.analysis.antecedents) }
+    ensures seen { OnOk result (AreBelow search.new.analysis.seen (length search.old.parts.assignment.current)) }
     ensures clause { OnOk result (search.new.scratch.clause.items
         ≡ map (with_var (global_in search.old)) search.new.analysis.clause) }
     ensures hashes { OnOk result (search.new.scratch.hashes.items
@@ -131,7 +132,7 @@ fn analyze(search: &mut Search, conflict: &Conflict) -> Result<(usize, ClauseHea
         &parts.trail,
         conflict,
     )?;
-    let header = assess(
+    let header = assess_learned_clause(
         &mut search.flags,
         &search.parts.graph,
         search.analysis.clause(),
@@ -150,8 +151,8 @@ fn learn_clause<W: CountedWrite + Drop, P: ProofProcessor>(
     requires stopped { IsStopped (session_of proof.old) search.old conflict.now }
     requires above { 0 < length search.old.parts.trail.starts }
     ensures learned { LearnsClause W.seen result proof.old proof.new search.old search.new }
-    ensures met { OnOk result (AreBelow search.new.analysis.met (length search.new.parts.assignment.current)) }
-    ensures rated { OnOk result (SearchBumpsInvolved search.old search.new) }
+    ensures seen { OnOk result (AreBelow search.new.analysis.seen (length search.new.parts.assignment.current)) }
+    ensures rated { OnOk result (SearchBumpsAntecedents search.old search.new) }
 {
     let (level, header) = analyze(search, conflict)?;
     let step = ProofStep::AtClause {
@@ -177,9 +178,9 @@ pub fn learn_from<W: CountedWrite + Drop, P: ProofProcessor>(
     requires stopped { IsStopped (session_of proof.old) search.old conflict.now }
     requires above { 0 < length search.old.parts.trail.starts }
     ensures learned { LearnsClause W.seen result proof.old proof.new search.old search.new }
-    ensures raised { OnOk result (BumpsMetVars search.old search.new) }
+    ensures raised { OnOk result (BumpsSeenVars search.old search.new) }
 {
     learn_clause(proof, search, conflict)?;
-    bump_met(search);
+    bump_seen_vars(search);
     Ok(())
 }

@@ -4,14 +4,15 @@ ghost use Rattle.sat_store.specs.clause.Buffer.{IsClause, lits_at};
 ghost use Rattle.sat_solver.specs.session.LiveClauses.{with_var};
 ghost use Rattle.sat_solver.specs.proof.ProofView.{HasAllowedSteps, session_of};
 ghost use Rattle.sat_solver.specs.session.Session.{Session};
-ghost use Rattle.sat_parts.specs.parts.Whole.{PartsInvariant};
+ghost use Rattle.sat_parts.specs.parts.Whole.{SearchStateInvariant};
 ghost use Rattle.sat_solver.specs.session.Naming.{global_of_index};
-ghost use Rattle.sat_solver.specs.cdcl.Going.{EmitsSteps};
-ghost use Rattle.sat_solver.specs.cdcl.Joint.{IsSearch};
-ghost use Rattle.sat_solver.specs.clause.Reduced.{IsLearnedLong, DeletesIf, ReductionEffect, ReducesLocals, ReducesMids};
+ghost use Rattle.sat_solver.specs.cdcl.StepEffects.{EmitsSteps};
+ghost use Rattle.sat_solver.specs.cdcl.Joint.{SearchInvariant};
+ghost use Rattle.sat_solver.specs.clause.Reduced.{IsLearnedLong, DeletesIf, ReductionEffect, ReducesLocals};
+ghost use Rattle.sat_solver.specs.clause.Reduced.{ReducesMids};
 ghost use Rattle.sat_solver.specs.clause.Reduced.{CollectsWhereDue, Reduces, ReductionBySteps};
 ghost use Rattle.sat_parts.specs.clause.Glue.{VariablesBelow};
-ghost use Rattle.sat_store.specs.clause.Full.{OnFull};
+ghost use Rattle.sat_store.specs.clause.Full.{IfStoreFull};
 
 use crate::SolverConfig;
 use crate::cdcl::fault::Fault;
@@ -19,7 +20,7 @@ use crate::context::Search;
 use crate::proof::Proof;
 use sat_base::{CountedWrite, DeleteClauseProof, Lit, ProofStep, Var};
 use sat_checker::ProofProcessor;
-use sat_parts::Parts;
+use sat_parts::SearchState;
 use sat_parts::parts::clauses::{collect, drop_clause, reduce_middle};
 use sat_parts::parts::reduce::list_locals;
 use sat_store::{ClauseRef, StoreError};
@@ -27,7 +28,7 @@ use std::alloc::AllocError;
 
 /// Replaces the content of `clause` with the literals of the long clause at `cref`, over proof variables.
 pub fn map_clause(
-    parts: &Parts,
+    parts: &SearchState,
     globals: &[Var],
     cref: ClauseRef,
     clause: &mut Vec<Lit>,
@@ -54,7 +55,7 @@ fn delete_learned<W: CountedWrite + Drop, P: ProofProcessor>(
     cref: ClauseRef,
 ) -> Result<bool, Fault>
     requires keeps { HasAllowedSteps proof.old }
-    requires search { IsSearch (session_of proof.old) search.old }
+    requires search { SearchInvariant (session_of proof.old) search.old }
     requires learned { IsLearnedLong search.old.parts cref }
     ensures { EmitsSteps W.seen result proof.old proof.new
         (λ deleted _. DeletesIf deleted cref (session_of proof.new) search.old search.new) }
@@ -92,7 +93,7 @@ fn reduce_locals<W: CountedWrite + Drop, P: ProofProcessor>(
     is_due: bool,
 ) -> Result<(), Fault>
     requires keeps { HasAllowedSteps proof.old }
-    requires search { IsSearch (session_of proof.old) search.old }
+    requires search { SearchInvariant (session_of proof.old) search.old }
     ensures { ReductionBySteps (ReducesLocals is_due) W.seen result proof.old proof.new search.old search.new }
 {
     if !is_due {
@@ -114,9 +115,9 @@ fn reduce_locals<W: CountedWrite + Drop, P: ProofProcessor>(
 /// If `is_due` is true, moves to tier Local the clauses of tier Mid that have not been used since the last
 /// such reduction.
 fn reduce_mids(search: &mut Search, is_due: bool)
-    requires holds { PartsInvariant search.old.parts }
-    ensures holds { PartsInvariant search.new.parts }
-    ensures reduced { (s : Session) → IsSearch s search.old → ReductionEffect s search.old search.new }
+    requires holds { SearchStateInvariant search.old.parts }
+    ensures holds { SearchStateInvariant search.new.parts }
+    ensures reduced { (s : Session) → SearchInvariant s search.old → ReductionEffect s search.old search.new }
     ensures mids { ReducesMids is_due search.old.parts search.new.parts }
 {
     if !is_due {
@@ -127,10 +128,10 @@ fn reduce_mids(search: &mut Search, is_due: bool)
 
 /// Compacts the clause buffer if deleted clauses take up more than half of it.
 fn collect_deleted(search: &mut Search) -> Result<(), StoreError>
-    requires holds { PartsInvariant search.old.parts }
-    ensures reduced { OnOk result ((s : Session) → IsSearch s search.old → ReductionEffect s search.old search.new) }
+    requires holds { SearchStateInvariant search.old.parts }
+    ensures reduced { OnOk result ((s : Session) → SearchInvariant s search.old → ReductionEffect s search.old search.new) }
     ensures collects { OnOk result (CollectsWhereDue search.old.parts search.new.parts) }
-    ensures room { OnFull result ⊥ }
+    ensures room { IfStoreFull result ⊥ }
 {
     collect(search.alloc, &mut search.parts)
 }
@@ -144,7 +145,7 @@ pub fn reduce<W: CountedWrite + Drop, P: ProofProcessor>(
     round: u64,
 ) -> Result<(), Fault>
     requires keeps { HasAllowedSteps proof.old }
-    requires search { IsSearch (session_of proof.old) search.old }
+    requires search { SearchInvariant (session_of proof.old) search.old }
     requires locals { 0 < config.now.reduce_locals_interval }
     requires mids { 0 < config.now.reduce_mids_interval }
     ensures { ReductionBySteps (Reduces config.now round) W.seen result proof.old proof.new search.old search.new }

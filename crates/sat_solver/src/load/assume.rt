@@ -5,15 +5,15 @@ ghost use Rattle.sat_checker.specs.LiteralSets.{mentions};
 ghost use Rattle.sat_solver.specs.session.Session.{session_after};
 ghost use Rattle.sat_solver.specs.session.LiveClauses.{with_var};
 ghost use Rattle.sat_store.specs.variables.VarData.{unused_variable};
-ghost use Rattle.sat_solver.specs.variables.Variables.{AreTidy, data_at};
+ghost use Rattle.sat_solver.specs.variables.Variables.{VariablesInvariant, data_at};
 ghost use Rattle.sat_solver.specs.load.Literals.{NoWitness, Images, global_with_index};
-ghost use Rattle.sat_solver.specs.load.Assumed.{MarksAssumed, PutsMarks, BringsAssumptions};
+ghost use Rattle.sat_solver.specs.load.Assumed.{MarksAssumed, PutsMarks, IntroducesAssumptions};
 ghost use Rattle.sat_solver.specs.variables.Calls.{NamesInvariant};
 ghost use Rattle.sat_solver.specs.variables.Failing.{EmitsOrFails, FailsOnlyByFault};
 ghost use Rattle.sat_solver.specs.variables.VariableRoom.{user_vars_in};
 ghost use Rattle.sat_parts.specs.clause.Glue.{VariablesBelow};
 
-use crate::load::literals::{Taken, take_names};
+use crate::load::literals::{MappedLits, solver_from_user_lits};
 use crate::proof::map_step::map_lits;
 use crate::variables::Variables;
 use crate::variables::error::NameError;
@@ -40,9 +40,9 @@ fn mark_all(list: &mut Vec<VarData>, lits: &[Lit], assumed: bool)
 fn change_marks(
     variables: &mut Variables,
     _user: &[Lit],
-    asked: &mut Taken,
+    asked: &mut MappedLits,
 ) -> Result<(), AllocError>
-    requires tidy { AreTidy variables.old }
+    requires tidy { VariablesInvariant variables.old }
     requires marked { (v : ℕ) → mentions asked.old.globals.items v ≡ (data_at variables.old v).assumed }
     requires images { Images variables.old _user.now asked.old.order.items }
     ensures puts { OnOk result (PutsMarks variables.old variables.new asked.new.globals.items) }
@@ -63,19 +63,19 @@ pub fn assume<W: StepLog>(
     variables: &mut Variables,
     writer: &mut W,
     lits: &[Lit],
-    asked: &mut Taken,
+    asked: &mut MappedLits,
 ) -> Result<(), NameError>
     requires valid { NamesInvariant variables.old (W.steps writer.old) }
     requires keeps { W.keeps writer.old }
     requires sampled { NoWitness variables.old lits.now }
     requires asked { asked.old.globals.items ≡ (session_after (W.steps writer.old)).assumed }
-    ensures assumes { OnOk result (BringsAssumptions variables.old variables.new (W.steps writer.old)
+    ensures assumes { OnOk result (IntroducesAssumptions variables.old variables.new (W.steps writer.old)
         (W.steps writer.new) lits.now asked.new) }
     ensures room { FailsOnlyByFault result variables.old (user_vars_in lits.now) }
     ensures keeps { OnOk result (W.keeps writer.new) }
-    ensures came { EmitsOrFails W.took W.broke result writer.old writer.new }
+    ensures emits { EmitsOrFails W.took W.broke result writer.old writer.new }
 {
-    take_names(variables, writer, lits, asked)?;
+    solver_from_user_lits(variables, writer, lits, asked)?;
     change_marks(variables, lits, asked)?;
     writer.step(&ProofStep::Assumptions {
         assumptions: &asked.globals,

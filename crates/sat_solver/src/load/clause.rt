@@ -3,16 +3,16 @@ ghost use Rattle.std.specs.Prelude.{◌≡◌, true, ◌∷◌, [], map, OnOk, I
 ghost use Rattle.sat_base.specs.script.ScriptState.{with_clause};
 ghost use Rattle.sat_base.specs.steps.Steps.{AddClause};
 ghost use Rattle.sat_solver.specs.load.Literals.{NoWitness, SameLiterals, user_literal, Images, MapsClause};
-ghost use Rattle.sat_solver.specs.load.Clauses.{BringsClause, LeavesOut};
+ghost use Rattle.sat_solver.specs.load.Clauses.{IntroducesClause, LeavesOut};
 ghost use Rattle.sat_checker.specs.matching.Expected.{Adds};
 ghost use Rattle.sat_solver.specs.variables.Calls.{NamesInvariant, NamesEffect};
-ghost use Rattle.sat_solver.specs.variables.Variables.{AreTidy};
+ghost use Rattle.sat_solver.specs.variables.Variables.{VariablesInvariant};
 ghost use Rattle.sat_solver.specs.session.Session.{session_after};
 ghost use Rattle.sat_checker.specs.LiteralSets.{is_tautology};
 ghost use Rattle.sat_solver.specs.variables.Failing.{IsFailure, EmitsOrFails, FailsOnlyByFault};
 ghost use Rattle.sat_solver.specs.variables.VariableRoom.{user_vars_in};
 
-use crate::load::literals::{Taken, take_names};
+use crate::load::literals::{MappedLits, solver_from_user_lits};
 use crate::proof::map_step::map_lits;
 use crate::variables::Variables;
 use crate::variables::error::NameError;
@@ -37,7 +37,7 @@ fn write_clause<W: StepLog>(
     ensures step { OnOk result (W.steps writer.new ≡ AddClause clause.now ∷ W.steps writer.old) }
     ensures fails { IfErr result IsFailure }
     ensures keeps { OnOk result (W.keeps writer.new) }
-    ensures came { EmitsOrFails W.took W.broke result writer.old writer.new }
+    ensures emits { EmitsOrFails W.took W.broke result writer.old writer.new }
 {
     writer.step(&ProofStep::AddClause { clause })?;
     Ok(())
@@ -45,8 +45,12 @@ fn write_clause<W: StepLog>(
 
 /// Lists the literals of `taken.order` in `taken.lits`, sorted and without repetitions, and lists the result over proof
 /// variables in `taken.globals`. Returns whether the clause contains both literals of some variable.
-fn map_clause(variables: &Variables, _user: &[Lit], taken: &mut Taken) -> Result<bool, NameError>
-    requires tidy { AreTidy variables.now }
+fn map_clause(
+    variables: &Variables,
+    _user: &[Lit],
+    taken: &mut MappedLits,
+) -> Result<bool, NameError>
+    requires tidy { VariablesInvariant variables.now }
     requires images { Images variables.now _user.now taken.old.order.items }
     ensures maps { OnOk result (MapsClause variables.now taken.new) }
     ensures signs { IfOk result (λ both. both ≡ is_tautology taken.new.order.items) }
@@ -65,18 +69,18 @@ pub fn add_clause<W: StepLog>(
     variables: &mut Variables,
     writer: &mut W,
     lits: &[Lit],
-    taken: &mut Taken,
+    taken: &mut MappedLits,
 ) -> Result<bool, NameError>
     requires valid { NamesInvariant variables.old (W.steps writer.old) }
     requires keeps { W.keeps writer.old }
     requires sampled { NoWitness variables.old lits.now }
-    ensures adds { IfOk result (BringsClause variables.old variables.new (W.steps writer.old) (W.steps writer.new)
+    ensures adds { IfOk result (IntroducesClause variables.old variables.new (W.steps writer.old) (W.steps writer.new)
         lits.now taken.new) }
     ensures room { FailsOnlyByFault result variables.old (user_vars_in lits.now) }
     ensures keeps { OnOk result (W.keeps writer.new) }
-    ensures came { EmitsOrFails W.took W.broke result writer.old writer.new }
+    ensures emits { EmitsOrFails W.took W.broke result writer.old writer.new }
 {
-    take_names(variables, writer, lits, taken)?;
+    solver_from_user_lits(variables, writer, lits, taken)?;
     let both_signs = map_clause(variables, lits, taken)?;
     write_clause(variables, writer, lits, &taken.globals)?;
     Ok(both_signs)
@@ -95,7 +99,7 @@ pub fn leave_out_clause<W: StepLog>(
         lits.now) }
     ensures room { FailsOnlyByFault result variables.old (user_vars_in lits.now) }
     ensures keeps { OnOk result (W.keeps writer.new) }
-    ensures came { EmitsOrFails W.took W.broke result writer.old writer.new }
+    ensures emits { EmitsOrFails W.took W.broke result writer.old writer.new }
 {
     for lit in lits {
         global_from_user(variables, writer, lit.var())?;

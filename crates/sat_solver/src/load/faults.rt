@@ -1,6 +1,6 @@
 //! Converts errors from operations on names to the faults that the solver reports.
 
-use crate::cdcl::fault::{Fault, Kind};
+use crate::cdcl::fault::{Fault, FaultKind};
 use crate::variables::error::NameError;
 
 impl From<NameError> for Fault {
@@ -11,9 +11,9 @@ impl From<NameError> for Fault {
 
     fn from(error: NameError) -> Fault {
         match error {
-            NameError::VariableLimit => Fault::of(Kind::VariableLimit),
-            NameError::OutOfMemory => Fault::of(Kind::OutOfMemory),
-            NameError::Write(kept) => Fault::of(Kind::Write(kept)),
+            NameError::VariableLimit => Fault::of(FaultKind::VariableLimit),
+            NameError::OutOfMemory => Fault::of(FaultKind::OutOfMemory),
+            NameError::Write(kept) => Fault::of(FaultKind::Write(kept)),
             NameError::Check(fault) => Fault::from(fault),
         }
     }

@@ -1,6 +1,6 @@
 //! Introduces the names of literals, and gives their variables indices.
 ghost use Rattle.std.specs.Prelude.{◌≡◌, [], OnOk};
-ghost use Rattle.sat_solver.specs.load.Literals.{BringsLiterals};
+ghost use Rattle.sat_solver.specs.load.Literals.{IntroducesLiterals};
 ghost use Rattle.sat_solver.specs.variables.Calls.{NamesInvariant};
 ghost use Rattle.sat_solver.specs.variables.Failing.{EmitsOrFails, FailsOnlyByFault};
 ghost use Rattle.sat_solver.specs.variables.VariableRoom.{user_vars_in};
@@ -15,7 +15,7 @@ use std::alloc::Global;
 
 /// The literals of a clause or of assumptions, as the search and the proof need them.
 #[derive(Drop)]
-pub struct Taken {
+pub struct MappedLits {
     /// The literals over indices of the search, in the order in which they were passed.
     pub order: Vec<Lit>,
 
@@ -29,13 +29,13 @@ pub struct Taken {
     pub given: Vec<Given>,
 }
 
-impl Taken {
+impl MappedLits {
     /// Creates a value with empty lists. Never allocates.
-    pub fn new(alloc: Global) -> Taken
+    pub fn new(alloc: Global) -> MappedLits
         ensures order { result.order.items ≡ [] }
         ensures globals { result.globals.items ≡ [] }
     {
-        Taken {
+        MappedLits {
             order: Vec::new(alloc),
             lits: Vec::new(alloc),
             globals: Vec::new(alloc),
@@ -46,20 +46,20 @@ impl Taken {
 
 /// Introduces the names in `lits` from left to right, and gives indices to those of their variables that have none.
 /// Lists the literals over indices in `taken.order`, and the new indices in `taken.given`.
-pub fn take_names<W: StepLog>(
+pub fn solver_from_user_lits<W: StepLog>(
     variables: &mut Variables,
     writer: &mut W,
     lits: &[Lit],
-    taken: &mut Taken,
+    taken: &mut MappedLits,
 ) -> Result<(), NameError>
     requires valid { NamesInvariant variables.old (W.steps writer.old) }
     requires keeps { W.keeps writer.old }
-    ensures takes { OnOk result (BringsLiterals variables.old variables.new (W.steps writer.old) (W.steps writer.new)
+    ensures takes { OnOk result (IntroducesLiterals variables.old variables.new (W.steps writer.old) (W.steps writer.new)
         lits.now taken.new) }
     ensures room { FailsOnlyByFault result variables.old (user_vars_in lits.now) }
     ensures globals { taken.new.globals ≡ taken.old.globals }
     ensures keeps { OnOk result (W.keeps writer.new) }
-    ensures came { EmitsOrFails W.took W.broke result writer.old writer.new }
+    ensures emits { EmitsOrFails W.took W.broke result writer.old writer.new }
 {
     taken.order.clear();
     taken.given.clear();

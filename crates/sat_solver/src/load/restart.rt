@@ -1,5 +1,5 @@
 //! Restarts a search.
-ghost use Rattle.sat_parts.specs.parts.Whole.{PartsInvariant};
+ghost use Rattle.sat_parts.specs.parts.Whole.{SearchStateInvariant};
 ghost use Rattle.sat_solver.specs.load.Restart.{FullyRestarted};
 
 use crate::context::Search;
@@ -7,7 +7,7 @@ use sat_parts::parts::steps;
 
 /// Undoes all levels above 0. Afterwards, the first assumption is the next one to be considered.
 pub fn full_restart(search: &mut Search)
-    requires { PartsInvariant search.old.parts }
+    requires { SearchStateInvariant search.old.parts }
     ensures { FullyRestarted search.old search.new }
 {
     steps::full_restart(&mut search.parts);

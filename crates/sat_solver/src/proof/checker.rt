@@ -5,7 +5,7 @@ ghost use Rattle.sat_base.specs.steps.StepViews.{step_of};
 ghost use Rattle.sat_checker.specs.CheckerView.{seen_of};
 ghost use Rattle.sat_checker.specs.listeners.ProcessingView.{listeners_of};
 ghost use Rattle.sat_solver.specs.proof.Checked.{is_end, IsFed, TakesStep, TakesWidth, TakesDelayed, FeedsOwnChecker};
-ghost use Rattle.sat_solver.specs.proof.Checked.{AddsOwnListener, CheckerRestarts, who_listens};
+ghost use Rattle.sat_solver.specs.proof.Checked.{AddsOwnListener, CheckerRestarts, listeners_of_checked};
 ghost use Rattle.sat_solver.specs.proof.Widths.{narrowed, KeepsWidth};
 
 use crate::proof::hash_bits::Counting;
@@ -137,7 +137,7 @@ impl<P: ProofProcessor> Checked<P> {
 
     /// Returns the listeners in the order in which they were added, even after a failure.
     pub fn into_processors(self) -> Vec<P>
-        ensures { result.items ≡ (listeners_of (who_listens self)).processors }
+        ensures { result.items ≡ (listeners_of (listeners_of_checked self)).processors }
     {
         self.checker.into_processors().processors
     }

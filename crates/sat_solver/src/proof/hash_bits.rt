@@ -1,7 +1,8 @@
 //! The width of the hashes in a proof, which depends on the number of clauses.
 ghost use Rattle.std.specs.Prelude.{◌≡◌, ◌≤◌, ◌/◌, ◌^◌, ◌&&◌, not};
 ghost use Rattle.sat_base.specs.steps.StepViews.{step_of};
-ghost use Rattle.sat_solver.specs.proof.Counting.{nothing_counted, one_more_if, one_less_if, count_after, too_short, too_long};
+ghost use Rattle.sat_solver.specs.proof.Counting.{nothing_counted, one_more_if, one_less_if, count_after, too_short};
+ghost use Rattle.sat_solver.specs.proof.Counting.{too_long};
 ghost use Rattle.sat_solver.specs.proof.Counting.{widened_bits, shortened, fitting, counted};
 
 use sat_base::{HashBits, Lit, ProofStep};
@@ -74,7 +75,7 @@ fn count(clauses: u64, step: &ProofStep<'_>) -> u64
 }
 
 /// Returns 2^(bits/2), rounding the exponent down. For an even width, this is the square root of the number of hashes.
-fn enough(bits: u32) -> u64
+fn sqrt_hash_count(bits: u32) -> u64
     requires { bits ≤ 64 }
     ensures { result ≡ 2 ^ (bits / 2) }
 {
@@ -86,7 +87,7 @@ fn is_short(clauses: u64, bits: u32) -> bool
     requires { bits ≤ 64 }
     ensures { result ≡ too_short clauses bits }
 {
-    bits < 64 && enough(bits) < clauses
+    bits < 64 && sqrt_hash_count(bits) < clauses
 }
 
 /// Whether the width `bits` is longer than `clauses` clauses need.
@@ -94,7 +95,7 @@ fn is_long(clauses: u64, bits: u32) -> bool
     requires { bits ≤ 64 }
     ensures { result ≡ too_long clauses bits }
 {
-    6 < bits && clauses.saturating_mul(4) < enough(bits)
+    6 < bits && clauses.saturating_mul(4) < sqrt_hash_count(bits)
 }
 
 /// Adds two bits to the width `from` as long as it is too short for `clauses` clauses, and returns the result. The

@@ -9,12 +9,12 @@ ghost use Rattle.sat_solver.specs.session.LiveClauses.{with_var};
 ghost use Rattle.sat_solver.specs.analyze_conflict.Derivation.{clause_of};
 ghost use Rattle.sat_parts.specs.parts.Whole.{state};
 ghost use Rattle.sat_solver.specs.session.TrailUnits.{written_units};
-ghost use Rattle.sat_solver.specs.session.Going.{IsOrderly};
+ghost use Rattle.sat_solver.specs.session.WritingUnits.{IsOrderly};
 ghost use Rattle.sat_solver.specs.session.Naming.{global_of_index, ReasonsAreStored, ReasonsHaveLiterals};
 ghost use Rattle.sat_solver.specs.session.FitLaws.{named_hashes};
 
 use sat_base::{ClauseHash, Lit, Var, lit_hash};
-use sat_parts::{CauseLits, Conflict, Parts, Reason};
+use sat_parts::{CauseLits, Conflict, Reason, SearchState};
 use sat_store::Lits;
 use std::alloc::AllocError;
 
@@ -62,7 +62,7 @@ fn causes_hash(lits: &CauseLits) -> ClauseHash
 }
 
 /// Returns the hash of the clause that implies `lit`.
-fn reason_hash(parts: &Parts, lit: Lit) -> ClauseHash
+fn reason_hash(parts: &SearchState, lit: Lit) -> ClauseHash
     requires there { variable lit < length parts.now.graph }
     requires clause { (o : ℕ) → (node (state parts.now) lit).reason ≡ Reason.Long o → IsClause parts.now.clauses o }
     requires some { (o : ℕ) → (node (state parts.now) lit).reason ≡ Reason.Long o
@@ -75,7 +75,7 @@ fn reason_hash(parts: &Parts, lit: Lit) -> ClauseHash
 
 /// Replaces the content of `hashes` with the hashes of the clauses that imply the literals `used`, in order.
 pub fn name_reasons(
-    parts: &Parts,
+    parts: &SearchState,
     used: &[Lit],
     hashes: &mut Vec<ClauseHash>,
 ) -> Result<(), AllocError>
@@ -95,7 +95,7 @@ pub fn name_reasons(
 /// Replaces the content of `hashes` with the hashes of the clauses that imply the literals `used`, followed by the hash
 /// of the falsified clause.
 pub fn name_clauses(
-    parts: &Parts,
+    parts: &SearchState,
     used: &[Lit],
     conflict: &Conflict,
     hashes: &mut Vec<ClauseHash>,
@@ -120,7 +120,7 @@ fn map_lit(globals: &[Var], lit: Lit) -> Lit
 }
 
 /// Returns the unit `lit` over proof variables, with the hash of the clause that implies it.
-fn unit_of(parts: &Parts, globals: &[Var], lit: Lit) -> (Lit, ClauseHash)
+fn unit_of(parts: &SearchState, globals: &[Var], lit: Lit) -> (Lit, ClauseHash)
     requires there { variable lit < length parts.now.graph }
     requires name { variable lit < length globals.now }
     requires clause { (o : ℕ) → (node (state parts.now) lit).reason ≡ Reason.Long o → IsClause parts.now.clauses o }
@@ -139,7 +139,7 @@ fn unit_of(parts: &Parts, globals: &[Var], lit: Lit) -> (Lit, ClauseHash)
 /// Replaces the content of `units` with the literals on the trail whose reasons are clauses, over proof variables. Each
 /// unit comes with the hash of the clause that implies it.
 pub fn collect_units(
-    parts: &Parts,
+    parts: &SearchState,
     globals: &[Var],
     units: &mut Vec<(Lit, ClauseHash)>,
 ) -> Result<(), AllocError>

@@ -3,7 +3,8 @@ ghost use Rattle.std.specs.Prelude.{◌≡◌, ◌∷◌, true, false};
 ghost use Rattle.sat_base.specs.device.Sink.{Flushes, empty_sink};
 ghost use Rattle.sat_base.specs.steps.StepViews.{step_of};
 ghost use Rattle.sat_solver.specs.proof.Counting.{width_change};
-ghost use Rattle.sat_solver.specs.proof.OutputView.{is_lines, output_format, output_sink, PutsLines, PutsSteps, SendsSteps};
+ghost use Rattle.sat_solver.specs.proof.OutputView.{is_lines, output_format, output_sink, PutsLines, PutsSteps};
+ghost use Rattle.sat_solver.specs.proof.OutputView.{SendsSteps};
 
 use crate::proof::drat::put_step;
 use crate::proof::format::ProofFormat;
@@ -45,12 +46,12 @@ impl From<AllocError> for OutputError {
 
 /// A writer of DRAT lines. All lines of a step are written in one call.
 #[derive(Drop)]
-pub struct LineWriter<W> {
+pub struct DratWriter<W> {
     pub writer: W,
     pub binary: bool,
 }
 
-impl<W: CountedWrite> LineWriter<W> {
+impl<W: CountedWrite> DratWriter<W> {
     /// Writes the lines of a step, which are assembled in `text`.
     fn write(&mut self, text: &mut Vec<u8>, step: &ProofStep<'_>) -> Result<(), OutputError>
         ensures binary { self.new.binary ≡ self.old.binary }
@@ -66,24 +67,24 @@ impl<W: CountedWrite> LineWriter<W> {
 
 /// A writer of steps, or of DRAT lines.
 #[derive(Drop)]
-pub enum Output<W> {
+pub enum ProofOutput<W> {
     Steps(StepWriter<W>),
-    Lines(LineWriter<W>),
+    Lines(DratWriter<W>),
 }
 
-impl<W: CountedWrite> Output<W> {
+impl<W: CountedWrite> ProofOutput<W> {
     /// Creates an output that has written nothing. Never allocates.
-    pub fn new(format: ProofFormat, writer: W) -> Output<W>
+    pub fn new(format: ProofFormat, writer: W) -> ProofOutput<W>
         ensures format { output_format result ≡ format }
         ensures sink { output_sink W.seen result ≡ empty_sink (W.seen writer) }
     {
         match format {
-            ProofFormat::Varisat => Output::Steps(StepWriter::new(writer)),
-            ProofFormat::Drat => Output::Lines(LineWriter {
+            ProofFormat::Varisat => ProofOutput::Steps(StepWriter::new(writer)),
+            ProofFormat::Drat => ProofOutput::Lines(DratWriter {
                 writer,
                 binary: false,
             }),
-            ProofFormat::BinaryDrat => Output::Lines(LineWriter {
+            ProofFormat::BinaryDrat => ProofOutput::Lines(DratWriter {
                 writer,
                 binary: true,
             }),
@@ -95,8 +96,8 @@ impl<W: CountedWrite> Output<W> {
         ensures { result ≡ is_lines (output_format self.now) }
     {
         match self {
-            Output::Steps(_) => false,
-            Output::Lines(_) => true,
+            ProofOutput::Steps(_) => false,
+            ProofOutput::Lines(_) => true,
         }
     }
 
@@ -114,8 +115,8 @@ impl<W: CountedWrite> Output<W> {
             (output_sink W.seen self.old) (output_sink W.seen self.new) }
     {
         match self {
-            Output::Steps(writer) => write_at(writer, widths, step),
-            Output::Lines(lines) => lines.write(text, step),
+            ProofOutput::Steps(writer) => write_at(writer, widths, step),
+            ProofOutput::Lines(lines) => lines.write(text, step),
         }
     }
 
@@ -129,8 +130,8 @@ impl<W: CountedWrite> Output<W> {
         ensures stays { result ≡ false → self.new ≡ self.old }
     {
         match self {
-            Output::Steps(writer) => try_write_at(writer, widths, step),
-            Output::Lines(_) => false,
+            ProofOutput::Steps(writer) => try_write_at(writer, widths, step),
+            ProofOutput::Lines(_) => false,
         }
     }
 
@@ -140,8 +141,8 @@ impl<W: CountedWrite> Output<W> {
         ensures flushes { Flushes result (output_sink W.seen self.old) (output_sink W.seen self.new) }
     {
         match self {
-            Output::Steps(writer) => writer.flush(),
-            Output::Lines(lines) => lines.writer.flush_counted(),
+            ProofOutput::Steps(writer) => writer.flush(),
+            ProofOutput::Lines(lines) => lines.writer.flush_counted(),
         }
     }
 
@@ -150,9 +151,9 @@ impl<W: CountedWrite> Output<W> {
         ensures { W.seen result ≡ (output_sink W.seen self).writer }
     {
         match self {
-            Output::Steps(writer) => writer.into_writer(),
-            Output::Lines(lines) => {
-                let LineWriter {
+            ProofOutput::Steps(writer) => writer.into_writer(),
+            ProofOutput::Lines(lines) => {
+                let DratWriter {
                     writer,
                     binary: _binary,
                 } = lines;

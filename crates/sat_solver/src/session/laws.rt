@@ -1,5 +1,6 @@
 //! Laws about sessions. Each law is the contract of a function that does nothing.
-ghost use Rattle.sat_solver.specs.session.Promises.{CoresAreRight, MayIsAccepted, ModelsAreRight, SessionsAreAccepted};
+ghost use Rattle.sat_solver.specs.session.Promises.{CoresAreRight, AllowedIsAccepted, ModelsAreRight};
+ghost use Rattle.sat_solver.specs.session.Promises.{SessionsAreAccepted};
 ghost use Rattle.sat_solver.specs.session.Promises.{UnsatIsRight};
 ghost use Rattle.sat_solver.specs.proof.Checked.{NeverFailsWithoutListeners};
 ghost use Rattle.sat_solver.specs.proof.Drat.{DratIsRight};
@@ -8,7 +9,7 @@ ghost use Rattle.sat_solver.specs.session.NamedMeaning.{NamedCoresAreRight, Name
 ghost use Rattle.sat_solver.specs.session.NamedMeaning.{NoneHiddenMeans};
 ghost use Rattle.sat_solver.specs.proof.ProofRows.{CountRow, LineRows, WidthRows};
 ghost use Rattle.sat_solver.specs.proof.ProofTexts.{BrokenIsPrefix, ClosedIsText, TruncationsAreAllowed};
-ghost use Rattle.sat_solver.specs.session.SessionRows.{CollidingMay, HiddenMay};
+ghost use Rattle.sat_solver.specs.session.SessionRows.{CollidingIsAllowed, HiddenIsAllowed};
 ghost use Rattle.sat_solver.specs.proof.Widths.{WidthsAreFree};
 
 use sat_checker::law_announcements::faults_come_from_listeners;
@@ -16,7 +17,7 @@ use sat_checker::{Nobody, ProofProcessor};
 
 /// States that a checker accepts every step that a session may write.
 pub fn sessions_are_accepted()
-    ensures step { MayIsAccepted }
+    ensures step { AllowedIsAccepted }
     ensures steps { SessionsAreAccepted }
 {}
 
@@ -44,8 +45,8 @@ pub fn never_fails_without_listeners<P: ProofProcessor>()
 
 /// Worked examples: derived clauses whose hashes collide, and a hidden variable that is deleted before a model.
 pub fn rows_of_sessions()
-    ensures colliding { CollidingMay }
-    ensures hidden { HiddenMay }
+    ensures colliding { CollidingIsAllowed }
+    ensures hidden { HiddenIsAllowed }
 {}
 
 /// States what answers mean for a script's names if the steps mean what its accepted clauses mean.

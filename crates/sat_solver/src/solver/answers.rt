@@ -7,7 +7,7 @@ ghost use Rattle.sat_solver.specs.solver.Whole.{IsSolver, line_in};
 use crate::SolverError;
 use crate::model::named_lits;
 use crate::solver::Solver;
-use crate::state::State;
+use crate::state::SatState;
 use sat_base::{CountedWrite, Lit};
 use sat_checker::ProofProcessor;
 use std::alloc::Global;
@@ -40,10 +40,10 @@ impl<W: CountedWrite + Drop, P: ProofProcessor> Solver<W, P> {
             return Err(SolverError::HasFailed);
         }
         match self.state {
-            State::Unknown => Ok(None),
-            State::UnsatUnderAssumptions => Ok(None),
-            State::Unsat => Ok(None),
-            State::Sat => Ok(Some(self.model_lits(alloc)?)),
+            SatState::Unknown => Ok(None),
+            SatState::UnsatUnderAssumptions => Ok(None),
+            SatState::Unsat => Ok(None),
+            SatState::Sat => Ok(Some(self.model_lits(alloc)?)),
         }
     }
 
@@ -60,10 +60,10 @@ impl<W: CountedWrite + Drop, P: ProofProcessor> Solver<W, P> {
             return None;
         }
         match self.state {
-            State::Unknown => None,
-            State::Sat => None,
-            State::UnsatUnderAssumptions => Some(&self.reported.failed_core),
-            State::Unsat => Some(&[]),
+            SatState::Unknown => None,
+            SatState::Sat => None,
+            SatState::UnsatUnderAssumptions => Some(&self.reported.failed_core),
+            SatState::Unsat => Some(&[]),
         }
     }
 }

@@ -1,22 +1,22 @@
 //! Sets the assumptions for later asks.
 ghost use Rattle.std.specs.Prelude.{◌≡◌, true, false, OnOk, IfErr, IsErrOf};
 ghost use Rattle.sat_solver.specs.variables.VariableRoom.{HasVariablesFor, user_vars_in};
-ghost use Rattle.sat_solver.specs.cdcl.Going.{IsFault};
-ghost use Rattle.sat_base.specs.script.ScriptState.{bring_all};
+ghost use Rattle.sat_solver.specs.cdcl.StepEffects.{IsFault};
+ghost use Rattle.sat_base.specs.script.ScriptState.{introduce_all};
 ghost use Rattle.sat_solver.specs.load.Literals.{NoWitness};
 ghost use Rattle.sat_solver.specs.variables.Refusing.{names_in};
-ghost use Rattle.sat_solver.specs.declared.state.State.TheVariants.{Unsat};
+ghost use Rattle.sat_solver.specs.declared.state.SatState.TheVariants.{Unsat};
 ghost use Rattle.sat_solver.specs.solver.Adding.{AssumesOrRefuses, IsDrat, due_for_asked};
-ghost use Rattle.sat_solver.specs.solver.Asking.{Asks};
+ghost use Rattle.sat_solver.specs.solver.Asking.{SetAssumptionsResult};
 ghost use Rattle.sat_solver.specs.solver.View.{has_failed};
 ghost use Rattle.sat_solver.specs.solver.Whole.{IsSolver, SolverInvariant};
 
 use crate::SolverError;
-use crate::cdcl::fault::{Fault, Kind};
+use crate::cdcl::fault::{Fault, FaultKind};
 use crate::load::assume::assume;
 use crate::solver::Solver;
 use crate::solver::load::take_assumptions;
-use crate::state::State;
+use crate::state::SatState;
 use crate::variables::refuse::leftmost_witness;
 use crate::variables::room::has_room;
 use sat_base::{CountedWrite, Lit};
@@ -29,7 +29,7 @@ impl<W: CountedWrite + Drop, P: ProofProcessor> Solver<W, P> {
         requires whole { SolverInvariant self.old }
         requires unsat { self.old.state ≡ Unsat }
         requires sampled { NoWitness self.old.names lits.now }
-        ensures asks { Asks W.seen result self.old self.new lits.now }
+        ensures asks { SetAssumptionsResult W.seen result self.old self.new lits.now }
         ensures room { HasVariablesFor self.old.names (user_vars_in lits.now) → IfErr result IsFault }
         ensures clock { self.new.clock ≡ self.old.clock }
     {
@@ -41,18 +41,18 @@ impl<W: CountedWrite + Drop, P: ProofProcessor> Solver<W, P> {
     fn ask(&mut self, lits: &[Lit]) -> Result<(), Fault>
         requires whole { SolverInvariant self.old }
         requires sampled { NoWitness self.old.names lits.now }
-        ensures asks { Asks W.seen result self.old self.new lits.now }
+        ensures asks { SetAssumptionsResult W.seen result self.old self.new lits.now }
         ensures room { HasVariablesFor self.old.names (user_vars_in lits.now) → IfErr result IsFault }
         ensures clock { self.new.clock ≡ self.old.clock }
     {
         match self.state {
-            State::Unsat => return self.ask_known(lits),
-            State::Unknown => {}
-            State::Sat => {}
-            State::UnsatUnderAssumptions => {}
+            SatState::Unsat => return self.ask_known(lits),
+            SatState::Unknown => {}
+            SatState::Sat => {}
+            SatState::UnsatUnderAssumptions => {}
         }
         take_assumptions(&mut self.core, &mut self.names, lits, &mut self.asked)?;
-        self.state = State::Unknown;
+        self.state = SatState::Unknown;
         Ok(())
     }
 
@@ -89,7 +89,7 @@ impl<W: CountedWrite + Drop, P: ProofProcessor> Solver<W, P> {
         }
         match listed {
             Ok(()) => Ok(()),
-            Err(_) => Err(self.fail(Fault::of(Kind::OutOfMemory))),
+            Err(_) => Err(self.fail(Fault::of(FaultKind::OutOfMemory))),
         }
     }
 }

@@ -1,10 +1,10 @@
 //! Adds clauses.
 ghost use Rattle.std.specs.Prelude.{◌≡◌, true, false, IfErr, IsErrOf};
 ghost use Rattle.sat_solver.specs.variables.VariableRoom.{HasVariablesFor, user_vars_in};
-ghost use Rattle.sat_solver.specs.cdcl.Going.{IsFault, IsFaultOr};
+ghost use Rattle.sat_solver.specs.cdcl.StepEffects.{IsFault, IsFaultOr};
 ghost use Rattle.sat_solver.specs.load.Literals.{NoWitness};
-ghost use Rattle.sat_solver.specs.declared.state.State.TheVariants.{Unsat};
-ghost use Rattle.sat_solver.specs.solver.Adding.{AddsClause, IsBeforeDrat, IsPastDrat, TakesInOrBreaks};
+ghost use Rattle.sat_solver.specs.declared.state.SatState.TheVariants.{Unsat};
+ghost use Rattle.sat_solver.specs.solver.Adding.{AddsClause, IsBeforeDrat, IsPastDrat, AddClauseResult};
 ghost use Rattle.sat_solver.specs.solver.View.{has_failed};
 ghost use Rattle.sat_solver.specs.solver.Whole.{HasFullStore, IsSolver, SolverInvariant};
 
@@ -13,7 +13,7 @@ use crate::cdcl::fault::Fault;
 use crate::load::clause::leave_out_clause;
 use crate::solver::Solver;
 use crate::solver::load::take_clause;
-use crate::state::State;
+use crate::state::SatState;
 use crate::variables::refuse::leftmost_witness;
 use crate::variables::room::has_room;
 use sat_base::{CountedWrite, Lit};
@@ -35,7 +35,7 @@ impl<W: CountedWrite + Drop, P: ProofProcessor> Solver<W, P> {
     fn leave_out(&mut self, lits: &[Lit]) -> Result<(), Fault>
         requires whole { SolverInvariant self.old }
         requires unsat { self.old.state ≡ Unsat }
-        ensures takes { TakesInOrBreaks W.seen result self.old self.new lits.now }
+        ensures takes { AddClauseResult W.seen result self.old self.new lits.now }
         ensures room { HasVariablesFor self.old.names (user_vars_in lits.now) → IfErr result IsFault }
         ensures assumed { self.new.assumed ≡ self.old.assumed }
         ensures clock { self.new.clock ≡ self.old.clock }
@@ -48,19 +48,23 @@ impl<W: CountedWrite + Drop, P: ProofProcessor> Solver<W, P> {
     fn take(&mut self, lits: &[Lit]) -> Result<(), Fault>
         requires whole { SolverInvariant self.old }
         requires sampled { NoWitness self.old.names lits.now }
-        ensures takes { TakesInOrBreaks W.seen result self.old self.new lits.now }
+        ensures takes { AddClauseResult W.seen result self.old self.new lits.now }
         ensures room { HasVariablesFor self.old.names (user_vars_in lits.now) → IfErr result (IsFaultOr (HasFullStore self.new)) }
         ensures assumed { self.new.assumed ≡ self.old.assumed }
         ensures clock { self.new.clock ≡ self.old.clock }
     {
         match self.state {
-            State::Unsat => return self.leave_out(lits),
-            State::Unknown => {}
-            State::Sat => {}
-            State::UnsatUnderAssumptions => {}
+            SatState::Unsat => return self.leave_out(lits),
+            SatState::Unknown => {}
+            SatState::Sat => {}
+            SatState::UnsatUnderAssumptions => {}
         }
         let left = take_clause(&mut self.core, &mut self.names, lits, &mut self.loading)?;
-        self.state = if left { State::Unknown } else { State::Unsat };
+        self.state = if left {
+            SatState::Unknown
+        } else {
+            SatState::Unsat
+        };
         Ok(())
     }
 

@@ -1,30 +1,30 @@
 //! Parameters of a solver.
 ghost use Rattle.std.specs.Prelude.{◌≡◌, false};
-ghost use Rattle.sat_parts.specs.parts.Whole.{PartsInvariant};
+ghost use Rattle.sat_parts.specs.parts.Whole.{SearchStateInvariant};
 ghost use Rattle.sat_solver.specs.clause.Activity.{AreDecays};
-ghost use Rattle.sat_solver.specs.declared.state.State.TheVariants.{Unsat};
+ghost use Rattle.sat_solver.specs.declared.state.SatState.TheVariants.{Unsat};
 ghost use Rattle.sat_solver.specs.solver.Configuring.{Configures, PassesToSearch};
 ghost use Rattle.sat_solver.specs.solver.Whole.{IsSolver};
 
-use crate::clause::activity::set_decays;
-use crate::context::Core;
+use crate::clause::activity::config_changed;
+use crate::context::Context;
 use crate::solver::Solver;
-use crate::state::State;
+use crate::state::SatState;
 use crate::{SolverConfigUpdate, SolverError};
 use sat_base::CountedWrite;
 use sat_checker::ProofProcessor;
 
 /// Sets the decays of the search to those in the parameters, unless the clauses are known to be unsatisfiable.
-fn hand_on<W: CountedWrite + Drop, P: ProofProcessor>(core: &mut Core<W, P>, state: State)
-    requires holds { (state ≡ Unsat → ⊥) → PartsInvariant core.old.search.parts }
+fn hand_on<W: CountedWrite + Drop, P: ProofProcessor>(core: &mut Context<W, P>, state: SatState)
+    requires holds { (state ≡ Unsat → ⊥) → SearchStateInvariant core.old.search.parts }
     requires decays { AreDecays core.old.config }
     ensures { PassesToSearch state core.old core.new }
 {
     match state {
-        State::Unsat => {}
-        State::Unknown => set_decays(&mut core.search, &core.config),
-        State::Sat => set_decays(&mut core.search, &core.config),
-        State::UnsatUnderAssumptions => set_decays(&mut core.search, &core.config),
+        SatState::Unsat => {}
+        SatState::Unknown => config_changed(&mut core.search, &core.config),
+        SatState::Sat => config_changed(&mut core.search, &core.config),
+        SatState::UnsatUnderAssumptions => config_changed(&mut core.search, &core.config),
     }
 }
 

@@ -1,17 +1,18 @@
 //! Runs rounds until there is an answer, and writes the step for the answer.
 ghost use Rattle.std.specs.Prelude.{◌≡◌, ◌<◌, IfOk, IfErr};
-ghost use Rattle.sat_solver.specs.schedule.Counting.{AnswersWithin, CountsOn, SpendsRounds, TakesRound, round_allowance};
+ghost use Rattle.sat_solver.specs.schedule.Counting.{AnswersWithin, CountsOn, SpendsRounds, TakesRound};
+ghost use Rattle.sat_solver.specs.schedule.Counting.{round_allowance};
 ghost use Rattle.sat_solver.specs.schedule.Solving.{values_in};
-ghost use Rattle.sat_solver.specs.solver.Joined.{IsJoined};
+ghost use Rattle.sat_solver.specs.solver.Joined.{NamesSearchInvariant};
 ghost use Rattle.sat_solver.specs.solver.Answering.{BreaksOff};
 ghost use Rattle.sat_solver.specs.solver.Found.{FindsBy, OutcomeHolds, SearchedBy, ReportsOutcome, state_found};
 
 use crate::cdcl::fault::Fault;
-use crate::context::Core;
+use crate::context::Context;
 use crate::schedule::restarts::Restarts;
-use crate::schedule::{Outcome, search};
+use crate::schedule::{RoundOutcome, search};
 use crate::solver::report::{fail_core, show_model};
-use crate::state::State;
+use crate::state::SatState;
 use crate::variables::Variables;
 use sat_base::{CountedWrite, Lit};
 use sat_checker::ProofProcessor;
@@ -25,7 +26,7 @@ pub struct LastAnswers {
 
 /// The number of rounds so far, and when restarts are due.
 #[derive(Drop)]
-pub struct Clock {
+pub struct Schedule {
     pub restarts: Restarts,
     pub rounds: u64,
 }
@@ -33,37 +34,37 @@ pub struct Clock {
 /// Writes the step for a model or a failed core, and stores the answer in `reported`. Returns the state that follows
 /// from `outcome`, or `None` if `outcome` is not an answer.
 fn report<W: CountedWrite + Drop, P: ProofProcessor>(
-    core: &mut Core<W, P>,
+    core: &mut Context<W, P>,
     names: &Variables,
     reported: &mut LastAnswers,
-    outcome: Outcome,
-) -> Result<Option<State>, Fault>
+    outcome: RoundOutcome,
+) -> Result<Option<SatState>, Fault>
     requires { OutcomeHolds outcome names.now core.old }
     ensures { ReportsOutcome W.seen result outcome names.now core.old core.new reported.new.failed_core.items }
 {
     match outcome {
-        Outcome::Learned => Ok(None),
-        Outcome::Model => {
+        RoundOutcome::Learned => Ok(None),
+        RoundOutcome::Model => {
             show_model(core, names, &mut reported.model)?;
-            Ok(Some(State::Sat))
+            Ok(Some(SatState::Sat))
         }
-        Outcome::Failed => {
+        RoundOutcome::Failed => {
             fail_core(core, names, &mut reported.failed_core)?;
-            Ok(Some(State::UnsatUnderAssumptions))
+            Ok(Some(SatState::UnsatUnderAssumptions))
         }
-        Outcome::Unsat => Ok(Some(State::Unsat)),
+        RoundOutcome::Unsat => Ok(Some(SatState::Unsat)),
     }
 }
 
 /// Runs rounds until there is an answer, but at most as many as the parameters allow, and writes the step for the
 /// answer. Returns the state that follows from the answer, or `None` if there is no answer.
 pub fn find_answer<W: CountedWrite + Drop, P: ProofProcessor>(
-    core: &mut Core<W, P>,
+    core: &mut Context<W, P>,
     names: &mut Variables,
     reported: &mut LastAnswers,
-    clock: &mut Clock,
-) -> Result<Option<State>, Fault>
-    requires joined { IsJoined names.old core.old }
+    clock: &mut Schedule,
+) -> Result<Option<SatState>, Fault>
+    requires joined { NamesSearchInvariant names.old core.old }
     requires scale { 0 < clock.old.restarts.scale }
     ensures scale { clock.new.restarts.scale ≡ clock.old.restarts.scale }
     ensures counts { CountsOn (values_in core.old) core.old.config.max_steps clock.old.rounds clock.new.rounds }

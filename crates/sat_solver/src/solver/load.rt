@@ -3,17 +3,17 @@ ghost use Rattle.sat_solver.specs.load.Literals.{NoWitness};
 ghost use Rattle.std.specs.Prelude.{◌≡◌, IfErr};
 ghost use Rattle.sat_solver.specs.variables.VariableRoom.{HasVariablesFor, user_vars_in};
 ghost use Rattle.sat_parts.specs.parts.Full.{IsFull};
-ghost use Rattle.sat_solver.specs.cdcl.Going.{IsFault, IsFaultOr};
+ghost use Rattle.sat_solver.specs.cdcl.StepEffects.{IsFault, IsFaultOr};
 ghost use Rattle.sat_solver.specs.proof.ProofView.{session_of};
-ghost use Rattle.sat_solver.specs.solver.Joined.{IsJoined};
+ghost use Rattle.sat_solver.specs.solver.Joined.{NamesSearchInvariant};
 ghost use Rattle.sat_solver.specs.solver.Taking.{TakesClause, TakesAssumptions};
 
 use crate::assumptions::set_assumptions;
 use crate::cdcl::fault::Fault;
-use crate::context::Core;
+use crate::context::Context;
 use crate::load::assume::assume;
 use crate::load::clause::add_clause;
-use crate::load::literals::Taken;
+use crate::load::literals::MappedLits;
 use crate::load::load_clause;
 use crate::load::restart::full_restart;
 use crate::variables::Variables;
@@ -25,19 +25,19 @@ use sat_parts::parts::sorting::Sorting;
 /// Buffers in which a clause is assembled.
 #[derive(Drop)]
 pub struct Loading {
-    pub taken: Taken,
+    pub taken: MappedLits,
     pub sorting: Sorting,
 }
 
 /// Restarts the search and adds the clause `lits`, none of whose names may have the mode witness. Returns whether the
 /// formula may still be satisfiable.
 pub fn take_clause<W: CountedWrite + Drop, P: ProofProcessor>(
-    core: &mut Core<W, P>,
+    core: &mut Context<W, P>,
     names: &mut Variables,
     lits: &[Lit],
     loading: &mut Loading,
 ) -> Result<bool, Fault>
-    requires joined { IsJoined names.old core.old }
+    requires joined { NamesSearchInvariant names.old core.old }
     requires sampled { NoWitness names.old lits.now }
     ensures takes { TakesClause W.seen result names.old names.new core.old core.new lits.now }
     ensures room { HasVariablesFor names.old (user_vars_in lits.now) → IfErr result (IsFaultOr (IsFull core.new.search.parts)) }
@@ -58,12 +58,12 @@ pub fn take_clause<W: CountedWrite + Drop, P: ProofProcessor>(
 
 /// Restarts the search and replaces the assumptions with `lits`, none of whose names may have the mode witness.
 pub fn take_assumptions<W: CountedWrite + Drop, P: ProofProcessor>(
-    core: &mut Core<W, P>,
+    core: &mut Context<W, P>,
     names: &mut Variables,
     lits: &[Lit],
-    asked: &mut Taken,
+    asked: &mut MappedLits,
 ) -> Result<(), Fault>
-    requires joined { IsJoined names.old core.old }
+    requires joined { NamesSearchInvariant names.old core.old }
     requires sampled { NoWitness names.old lits.now }
     requires asked { asked.old.globals.items ≡ (session_of core.old.proof).assumed }
     ensures takes { TakesAssumptions W.seen result names.old names.new core.old core.new lits.now asked.new }

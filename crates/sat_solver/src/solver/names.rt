@@ -1,7 +1,7 @@
 //! Introduces and hides names, and sets their modes.
 ghost use Rattle.std.specs.Prelude.{◌≡◌, ◌==◌, ◌||◌, not, length, true, false, IfOk, IfErr, OnOk};
 ghost use Rattle.sat_solver.specs.solver.Naming.{Hides, Witnesses, Samples, SetsMode, NamesNew, NamesFail, Observed};
-ghost use Rattle.sat_solver.specs.variables.Coming.{LeavesNoneIdle};
+ghost use Rattle.sat_solver.specs.variables.NamingSteps.{LeavesNoneIdle};
 ghost use Rattle.sat_solver.specs.solver.Whole.{IsSolver, steps_in};
 
 use crate::SolverError;

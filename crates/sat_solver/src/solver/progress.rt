@@ -1,7 +1,8 @@
 //! The progress of a solver.
 ghost use Rattle.std.specs.Prelude.{◌≡◌, false, slice_index_or};
-ghost use Rattle.sat_solver.specs.variables.Variables.{AreTidy};
-ghost use Rattle.sat_solver.specs.solver.Progressing.{is_open_at, open_vars, open_in, IsOngoing, CountsClausesIn};
+ghost use Rattle.sat_solver.specs.variables.Variables.{VariablesInvariant};
+ghost use Rattle.sat_solver.specs.solver.Progressing.{is_unassigned_at, unassigned_count, solver_unassigned_count};
+ghost use Rattle.sat_solver.specs.solver.Progressing.{IsOngoing, CountsClausesIn};
 ghost use Rattle.sat_solver.specs.solver.View.{has_failed, restarts_in, rounds_in};
 ghost use Rattle.sat_solver.specs.solver.Whole.{IsSolver};
 
@@ -14,8 +15,8 @@ use sat_store::Tier;
 
 /// Whether the variable `global` has the index `index`, and this index has no value.
 fn is_open(names: &Variables, global: Var, index: usize, values: &[Option<bool>]) -> bool
-    ensures { AreTidy names.now → slice_index_or names.now.globals.items index 0 ≡ global
-        → result ≡ is_open_at names.now values.now index }
+    ensures { VariablesInvariant names.now → slice_index_or names.now.globals.items index 0 ≡ global
+        → result ≡ is_unassigned_at names.now values.now index }
 {
     let Some(solver) = names.solver_from_global.fwd().get(global) else {
         return false;
@@ -27,8 +28,8 @@ fn is_open(names: &Variables, global: Var, index: usize, values: &[Option<bool>]
 }
 
 /// Returns the number of variables that have an index but no value.
-fn open_count(names: &Variables, values: &[Option<bool>]) -> u64
-    ensures { AreTidy names.now → result ≡ open_vars names.now values.now }
+fn unassigned_count(names: &Variables, values: &[Option<bool>]) -> u64
+    ensures { VariablesInvariant names.now → result ≡ unassigned_count names.now values.now }
 {
     let mut count: u64 = 0;
     for index in 0..names.globals.len() {
@@ -48,14 +49,14 @@ impl<W: CountedWrite + Drop, P: ProofProcessor> Solver<W, P> {
     pub fn progress(&self) -> Progress
         ensures conflicts { result.conflicts ≡ rounds_in self.now }
         ensures restarts { result.restarts ≡ restarts_in self.now }
-        ensures vars { IsSolver self.now → has_failed self.now ≡ false → result.vars ≡ open_in self.now }
+        ensures vars { IsSolver self.now → has_failed self.now ≡ false → result.vars ≡ solver_unassigned_count self.now }
         ensures clauses { IsOngoing self.now → CountsClausesIn result self.now }
     {
         let parts = &self.core.search.parts;
         Progress {
             conflicts: self.clock.rounds,
             restarts: self.clock.restarts.count,
-            vars: open_count(&self.names, parts.assignment.assignment()),
+            vars: unassigned_count(&self.names, parts.assignment.assignment()),
             binary: parts.binary.implications() as u64 / 2,
             irred: parts.db.count_by_tier(Tier::Irred) as u64,
             core: parts.db.count_by_tier(Tier::Core) as u64,

@@ -1,14 +1,14 @@
 //! Writes answers to the proof, over proof variables, and lists failed cores for the caller, over names.
 ghost use Rattle.std.specs.Prelude.{◌≡◌, OnOk, map};
 ghost use Rattle.sat_solver.specs.variables.Variables.{global_at};
-ghost use Rattle.sat_solver.specs.cdcl.Turns.{IsComplete, IsFailing};
-ghost use Rattle.sat_solver.specs.solver.Joined.{IsJoined, lit_over_names, user_by};
+ghost use Rattle.sat_solver.specs.cdcl.Iterations.{IsComplete, IsFailing};
+ghost use Rattle.sat_solver.specs.solver.Joined.{NamesSearchInvariant, lit_over_names, user_by};
 ghost use Rattle.sat_solver.specs.solver.Answering.{ShowsModel, FailsCore};
 
 use crate::assumptions::failed_core::write_core;
 use crate::cdcl::fault::Fault;
-use crate::context::Core;
-use crate::model::model_lits;
+use crate::context::Context;
+use crate::model::reconstruct_global_model;
 use crate::variables::Variables;
 use sat_base::{CountedWrite, Lit, ProofStep, Var};
 use sat_checker::ProofProcessor;
@@ -47,16 +47,16 @@ fn name_lits(names: &Variables, lits: &[Lit], named: &mut Vec<Lit>) -> Result<()
 
 /// Writes the model that a search found: a literal for every proof variable in use. Stores the literals in `model`.
 pub fn show_model<W: CountedWrite + Drop, P: ProofProcessor>(
-    core: &mut Core<W, P>,
+    core: &mut Context<W, P>,
     names: &Variables,
     model: &mut Vec<Lit>,
 ) -> Result<(), Fault>
-    requires joined { IsJoined names.now core.old }
+    requires joined { NamesSearchInvariant names.now core.old }
     requires complete { IsComplete core.old.search.assumptions.lits.items core.old.search.parts }
     ensures { ShowsModel W.seen result names.now core.old core.new }
 {
     let values = core.search.parts.assignment.assignment();
-    model_lits(names, values, model)?;
+    reconstruct_global_model(names, values, model)?;
     let step = ProofStep::Model { assignment: model };
     core.proof.step(&step)?;
     Ok(())
@@ -65,11 +65,11 @@ pub fn show_model<W: CountedWrite + Drop, P: ProofProcessor>(
 /// Writes the failed core, which consists of assumptions that contradict the clauses. Lists the core over names
 /// in `failed_core`.
 pub fn fail_core<W: CountedWrite + Drop, P: ProofProcessor>(
-    core: &mut Core<W, P>,
+    core: &mut Context<W, P>,
     names: &Variables,
     failed_core: &mut Vec<Lit>,
 ) -> Result<(), Fault>
-    requires joined { IsJoined names.now core.old }
+    requires joined { NamesSearchInvariant names.now core.old }
     requires failing { IsFailing core.old.search.assumptions.lits.items core.old.search.parts core.old.search.failed }
     ensures { FailsCore W.seen result names.now core.old core.new failed_core.new.items }
 {

@@ -9,7 +9,7 @@ use crate::SolverError;
 use crate::cdcl::fault::Fault;
 use crate::solver::Solver;
 use crate::solver::find::find_answer;
-use crate::state::State;
+use crate::state::SatState;
 use sat_base::CountedWrite;
 use sat_checker::ProofProcessor;
 
@@ -18,14 +18,14 @@ impl<W: CountedWrite + Drop, P: ProofProcessor> Solver<W, P> {
     fn find_where_unknown(&mut self) -> Result<(), Fault>
         requires whole { SolverInvariant self.old }
         ensures answers { AnswersOrBreaks W.seen result self.old self.new }
-        ensures searched { OnOk result (self.old.state ≡ State.Unknown → SearchedBy W.seen self.new.state self.old.clock
+        ensures searched { OnOk result (self.old.state ≡ SatState.Unknown → SearchedBy W.seen self.new.state self.old.clock
             self.new.clock self.old.names self.new.names self.old.core self.new.core self.new.reported.failed_core.items) }
     {
         match self.state {
-            State::Unknown => {}
-            State::Sat => return Ok(()),
-            State::UnsatUnderAssumptions => return Ok(()),
-            State::Unsat => return Ok(()),
+            SatState::Unknown => {}
+            SatState::Sat => return Ok(()),
+            SatState::UnsatUnderAssumptions => return Ok(()),
+            SatState::Unsat => return Ok(()),
         }
         let found = find_answer(
             &mut self.core,
@@ -66,10 +66,10 @@ impl<W: CountedWrite + Drop, P: ProofProcessor> Solver<W, P> {
             return Err(self.fail(Fault::from(error)));
         }
         match self.state {
-            State::Unknown => Err(SolverError::Interrupted),
-            State::Sat => Ok(true),
-            State::UnsatUnderAssumptions => Ok(false),
-            State::Unsat => Ok(false),
+            SatState::Unknown => Err(SolverError::Interrupted),
+            SatState::Sat => Ok(true),
+            SatState::UnsatUnderAssumptions => Ok(false),
+            SatState::Unsat => Ok(false),
         }
     }
 }

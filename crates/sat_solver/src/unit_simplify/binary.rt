@@ -4,9 +4,9 @@ ghost use Rattle.sat_base.specs.values.Literals.{variable};
 ghost use Rattle.sat_parts.specs.prop.Binaries.{implied_by};
 ghost use Rattle.sat_solver.specs.session.SolverClauses.{pair, is_open_clause};
 ghost use Rattle.sat_solver.specs.proof.ProofView.{HasAllowedSteps, session_of};
-ghost use Rattle.sat_solver.specs.cdcl.Going.{EmitsSteps};
-ghost use Rattle.sat_solver.specs.cdcl.Joint.{IsSearch};
-ghost use Rattle.sat_solver.specs.unit_simplify.Flat.{HasEmptyTrail, MayRemove, LeavesPairs, RemovesPairs};
+ghost use Rattle.sat_solver.specs.cdcl.StepEffects.{EmitsSteps};
+ghost use Rattle.sat_solver.specs.cdcl.Joint.{SearchInvariant};
+ghost use Rattle.sat_solver.specs.unit_simplify.Flat.{HasEmptyTrail, CanRemovePairs, LeavesPairs, RemovesPairs};
 
 use crate::cdcl::fault::Fault;
 use crate::context::Search;
@@ -14,11 +14,11 @@ use crate::load::delete_satisfied;
 use crate::proof::Proof;
 use sat_base::{CountedWrite, Lit};
 use sat_checker::ProofProcessor;
-use sat_parts::Parts;
+use sat_parts::SearchState;
 use sat_parts::parts::clauses::remove_binary;
 
 /// Whether neither `first` nor `second` has a value.
-fn are_open(parts: &Parts, first: Lit, second: Lit) -> bool
+fn are_open(parts: &SearchState, first: Lit, second: Lit) -> bool
     requires first { variable first < length parts.now.assignment.current }
     requires second { variable second < length parts.now.assignment.current }
     ensures { result ≡ is_open_clause parts.now.assignment.current (pair first second) }
@@ -38,7 +38,7 @@ fn delete_pair<W: CountedWrite + Drop, P: ProofProcessor>(
     at: usize,
 ) -> Result<(), Fault>
     requires keeps { HasAllowedSteps proof.old }
-    requires may { MayRemove search.old }
+    requires may { CanRemovePairs search.old }
     requires left { LeavesPairs (session_of proof.old) search.old lit at }
     requires there { lit < length search.old.parts.binary.implied }
     requires within { at < length (implied_by search.old.parts.binary.implied lit) }
@@ -65,7 +65,7 @@ fn delete_pairs_of<W: CountedWrite + Drop, P: ProofProcessor>(
     lit: Lit,
 ) -> Result<(), Fault>
     requires keeps { HasAllowedSteps proof.old }
-    requires may { MayRemove search.old }
+    requires may { CanRemovePairs search.old }
     requires left { LeavesPairs (session_of proof.old) search.old lit 0 }
     requires there { lit < length search.old.parts.binary.implied }
     ensures same { search.new ≡ record search.old { scratch = search.new.scratch } }
@@ -85,7 +85,7 @@ pub fn simplify_binary<W: CountedWrite + Drop, P: ProofProcessor>(
     search: &mut Search,
 ) -> Result<(), Fault>
     requires keeps { HasAllowedSteps proof.old }
-    requires search { IsSearch (session_of proof.old) search.old }
+    requires search { SearchInvariant (session_of proof.old) search.old }
     requires flat { HasEmptyTrail search.old.parts }
     ensures { RemovesPairs W.seen result proof.old proof.new search.old search.new }
 {

@@ -1,12 +1,14 @@
 //! Releases the indices of variables that are in no clause.
-ghost use Rattle.std.specs.Prelude.{◌≡◌, ◌+◌, ◌<◌, ◌≤◌, IfErr, OnOk, Some, false, true, length, slice_index_or, slice_set};
+ghost use Rattle.std.specs.Prelude.{◌≡◌, ◌+◌, ◌<◌, ◌≤◌, IfErr, OnOk, Some, false, true, length, slice_index_or};
+ghost use Rattle.std.specs.Prelude.{slice_set};
 ghost use Rattle.sat_base.specs.values.Literals.{var_limit};
 ghost use Rattle.sat_solver.specs.session.Session.{session_after};
 ghost use Rattle.sat_solver.specs.variables.Variables.{solver_of, IsUnitOf, IsInNoNonUnitClause};
 ghost use Rattle.sat_solver.specs.variables.Calls.{NamesInvariant};
 ghost use Rattle.sat_solver.specs.variables.Failing.{IsFailure, EmitsOrFails};
 ghost use Rattle.sat_parts.specs.parts.Whole.{InNoClause};
-ghost use Rattle.sat_solver.specs.unit_simplify.Freed.{FreesIndex, MayFree, FreesSome, IsIndexOfAssumed, AllLeft};
+ghost use Rattle.sat_solver.specs.unit_simplify.Freed.{FreesIndex, CanFreeIndices, FreesSome, IsIndexOfAssumed};
+ghost use Rattle.sat_solver.specs.unit_simplify.Freed.{AllLeft};
 ghost use Rattle.sat_solver.specs.unit_simplify.Freeing.{freed_below, freed_search, MarksAtMost};
 
 use crate::context::Search;
@@ -16,7 +18,7 @@ use crate::variables::log::StepLog;
 use crate::variables::modes::forget_idle;
 use crate::variables::solver_vars::remove_solver_var;
 use sat_base::Var;
-use sat_parts::Parts;
+use sat_parts::SearchState;
 use sat_parts::parts::unused::mark_used;
 
 /// Removes the index of the variable `global`, whose unit must already be stored. If the variable is hidden and not
@@ -35,7 +37,7 @@ fn give_up<S: StepLog>(
     ensures gone { OnOk result (FreesIndex variables.old variables.new (S.steps writer.old) (S.steps writer.new) global) }
     ensures keeps { OnOk result (S.keeps writer.new) }
     ensures fails { IfErr result IsFailure }
-    ensures came { EmitsOrFails S.took S.broke result writer.old writer.new }
+    ensures emits { EmitsOrFails S.took S.broke result writer.old writer.new }
 {
     remove_solver_var(variables, writer, global, index)?;
     if variables.global_from_user.bwd().get(global).is_some() {
@@ -62,7 +64,7 @@ fn release_unused<S: StepLog>(
     index: Var,
 ) -> Result<(), NameError>
     requires keeps { S.keeps writer.old }
-    requires may { MayFree variables.old (S.steps writer.old) (freed_search used.old.items index search.now) }
+    requires may { CanFreeIndices variables.old (S.steps writer.old) (freed_search used.old.items index search.now) }
     requires there { index < length search.now.parts.assignment.current }
     requires size { index < length used.old.items }
     requires unmarked { slice_index_or used.old.items index false ≡ false }
@@ -73,7 +75,7 @@ fn release_unused<S: StepLog>(
     ensures marks { OnOk result (MarksAtMost index used.old.items used.new.items) }
     ensures keeps { OnOk result (S.keeps writer.new) }
     ensures fails { IfErr result IsFailure }
-    ensures came { EmitsOrFails S.took S.broke result writer.old writer.new }
+    ensures emits { EmitsOrFails S.took S.broke result writer.old writer.new }
 {
     let Some(global) = variables.solver_from_global.bwd().get(index) else {
         mark(used, index);
@@ -90,7 +92,7 @@ fn release_unused<S: StepLog>(
 
 /// Clears the values of the indices that are not marked in `used`, and makes these indices unavailable for decisions,
 /// from the last to the first.
-fn free_unmarked(parts: &mut Parts, used: &Vec<bool>)
+fn free_unmarked(parts: &mut SearchState, used: &Vec<bool>)
     requires size { length used.now.items ≤ length parts.old.assignment.current }
     requires queue { length used.now.items ≤ length parts.old.vsids.available }
     requires few { length used.now.items ≤ var_limit }
@@ -115,13 +117,13 @@ pub fn free_indices<S: StepLog>(
     used: &mut Vec<bool>,
 ) -> Result<(), NameError>
     requires keeps { S.keeps writer.old }
-    requires may { MayFree variables.old (S.steps writer.old) search.old }
+    requires may { CanFreeIndices variables.old (S.steps writer.old) search.old }
     ensures frees { OnOk result (FreesSome variables.old variables.new (S.steps writer.old) (S.steps writer.new)
         search.old search.new) }
     ensures left { OnOk result (AllLeft variables.new (session_after (S.steps writer.old)) search.old.parts) }
     ensures keeps { OnOk result (S.keeps writer.new) }
     ensures fails { IfErr result IsFailure }
-    ensures came { EmitsOrFails S.took S.broke result writer.old writer.new }
+    ensures emits { EmitsOrFails S.took S.broke result writer.old writer.new }
 {
     mark_used(used, &search.parts)?;
     for index in 0..used.len() {

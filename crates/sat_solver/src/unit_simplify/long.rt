@@ -1,16 +1,16 @@
 //! Removes long clauses that units satisfy, and the literals that units falsify.
 ghost use Rattle.sat_solver.specs.proof.ProofView.{HasAllowedSteps, session_of};
-ghost use Rattle.sat_solver.specs.cdcl.Going.{EmitsSteps};
-ghost use Rattle.sat_solver.specs.cdcl.Joint.{IsSearch};
+ghost use Rattle.sat_solver.specs.cdcl.StepEffects.{EmitsSteps};
+ghost use Rattle.sat_solver.specs.cdcl.Joint.{SearchInvariant};
 ghost use Rattle.sat_solver.specs.unit_simplify.Flat.{HasEmptyTrail, StrengthensAll, StrengthensOrFails};
-ghost use Rattle.sat_solver.specs.unit_simplify.Looks.{HasTrue};
+ghost use Rattle.sat_solver.specs.unit_simplify.ClauseStatus.{HasTrue};
 ghost use Rattle.sat_parts.specs.parts.Whole.{HasClause};
 
 use crate::cdcl::fault::Fault;
 use crate::clause::reduce::map_clause;
 use crate::context::Search;
 use crate::proof::Proof;
-use crate::unit_simplify::looks::{Looks, look};
+use crate::unit_simplify::clause_status::{ClauseStatus, clause_status};
 use crate::unit_simplify::steps::deletion_for;
 use crate::unit_simplify::strengthen::cut_clause;
 use sat_base::{CountedWrite, DeleteClauseProof, Lit, ProofStep};
@@ -25,7 +25,7 @@ fn delete_true<W: CountedWrite + Drop, P: ProofProcessor>(
     cref: ClauseRef,
 ) -> Result<(), Fault>
     requires keeps { HasAllowedSteps proof.old }
-    requires search { IsSearch (session_of proof.old) search.old }
+    requires search { SearchInvariant (session_of proof.old) search.old }
     requires flat { HasEmptyTrail search.old.parts }
     requires live { HasClause search.old.parts cref }
     requires satisfied { HasTrue search.old.parts cref }
@@ -55,15 +55,15 @@ fn simplify_clause<W: CountedWrite + Drop, P: ProofProcessor>(
     part: &mut Vec<Lit>,
 ) -> Result<(), Fault>
     requires keeps { HasAllowedSteps proof.old }
-    requires search { IsSearch (session_of proof.old) search.old }
+    requires search { SearchInvariant (session_of proof.old) search.old }
     requires flat { HasEmptyTrail search.old.parts }
     requires live { HasClause search.old.parts cref }
     ensures { StrengthensOrFails W.seen result proof.old proof.new search.old search.new cref }
 {
-    match look(&search.parts, cref) {
-        Looks::Whole => Ok(()),
-        Looks::Satisfied => delete_true(proof, search, cref),
-        Looks::Shorter => cut_clause(proof, search, cref, part),
+    match clause_status(&search.parts, cref) {
+        ClauseStatus::Whole => Ok(()),
+        ClauseStatus::Satisfied => delete_true(proof, search, cref),
+        ClauseStatus::Shorter => cut_clause(proof, search, cref, part),
     }
 }
 
@@ -75,7 +75,7 @@ pub fn simplify_clauses<W: CountedWrite + Drop, P: ProofProcessor>(
     part: &mut Vec<Lit>,
 ) -> Result<(), Fault>
     requires keeps { HasAllowedSteps proof.old }
-    requires search { IsSearch (session_of proof.old) search.old }
+    requires search { SearchInvariant (session_of proof.old) search.old }
     requires flat { HasEmptyTrail search.old.parts }
     ensures { EmitsSteps W.seen result proof.old proof.new
         (λ _ _. StrengthensAll (session_of proof.new) search.old search.new) }

@@ -1,12 +1,12 @@
 //! Writes units at level 0, and removes them from the trail.
 ghost use Rattle.std.specs.Prelude.{◌≡◌, ◌+◌, ◌<◌, ◌≤◌, length};
 ghost use Rattle.sat_solver.specs.proof.ProofView.{HasAllowedSteps, session_of};
-ghost use Rattle.sat_parts.specs.parts.Round.{UnitsHaveNoReason, IsBased};
-ghost use Rattle.sat_parts.specs.parts.Whole.{state, HoldsBelow, IsFullyPropagated};
+ghost use Rattle.sat_parts.specs.parts.Round.{UnitsHaveNoReason, LevelZeroInvariant};
+ghost use Rattle.sat_parts.specs.parts.Whole.{state, SearchStateInvariantBelow, IsFullyPropagated};
 ghost use Rattle.sat_solver.specs.session.Naming.{global_of_index};
 ghost use Rattle.sat_solver.specs.session.Fits.{SessionMatchesParts, TrueLitsHaveNames};
-ghost use Rattle.sat_solver.specs.session.Going.{IsOrderly};
-ghost use Rattle.sat_solver.specs.cdcl.Going.{EmitsSteps};
+ghost use Rattle.sat_solver.specs.session.WritingUnits.{IsOrderly};
+ghost use Rattle.sat_solver.specs.cdcl.StepEffects.{EmitsSteps};
 ghost use Rattle.sat_solver.specs.unit_simplify.Left.{AllUnits, TakesUnitsOff};
 
 use crate::cdcl::fault::Fault;
@@ -14,13 +14,13 @@ use crate::proof::Proof;
 use crate::proof::map_step::collect_units;
 use sat_base::{ClauseHash, CountedWrite, Lit, ProofStep, Var};
 use sat_checker::ProofProcessor;
-use sat_parts::Parts;
+use sat_parts::SearchState;
 use sat_parts::parts::units::clear_units;
 
 /// Writes, as units, the literals on the trail whose reasons are clauses. The search must be at level 0.
 pub fn write_units<W: CountedWrite + Drop, P: ProofProcessor>(
     proof: &mut Proof<W, P>,
-    parts: &Parts,
+    parts: &SearchState,
     globals: &[Var],
     units: &mut Vec<(Lit, ClauseHash)>,
 ) -> Result<(), Fault>
@@ -42,16 +42,16 @@ pub fn write_units<W: CountedWrite + Drop, P: ProofProcessor>(
 }
 
 /// Writes the units of the trail and removes them from the trail, if the search is at level 0.
-pub fn settle<W: CountedWrite + Drop, P: ProofProcessor>(
+pub fn prove_units<W: CountedWrite + Drop, P: ProofProcessor>(
     proof: &mut Proof<W, P>,
-    parts: &mut Parts,
+    parts: &mut SearchState,
     globals: &[Var],
     units: &mut Vec<(Lit, ClauseHash)>,
 ) -> Result<(), Fault>
     requires keeps { HasAllowedSteps proof.old }
-    requires holds { HoldsBelow (length parts.old.trail.starts + 1) parts.old }
+    requires holds { SearchStateInvariantBelow (length parts.old.trail.starts + 1) parts.old }
     requires done { IsFullyPropagated parts.old }
-    requires units { 0 < length parts.old.trail.starts → UnitsHaveNoReason (state parts.old) × IsBased parts.old.trail }
+    requires units { 0 < length parts.old.trail.starts → UnitsHaveNoReason (state parts.old) × LevelZeroInvariant parts.old.trail }
     requires fits { SessionMatchesParts parts.old (session_of proof.old) (global_of_index globals.now) }
     requires named { TrueLitsHaveNames parts.old.assignment.current (session_of proof.old) (global_of_index globals.now) }
     requires names { length parts.old.assignment.current ≤ length globals.now }

@@ -4,8 +4,8 @@ ghost use Rattle.sat_base.specs.steps.StepViews.{deletion_of};
 ghost use Rattle.sat_base.specs.steps.Steps.{Simplified};
 ghost use Rattle.sat_solver.specs.proof.ProofView.{HasAllowedSteps, session_of};
 ghost use Rattle.sat_solver.specs.session.Quiet.{are_few};
-ghost use Rattle.sat_solver.specs.cdcl.Going.{HaveSolverNames};
-ghost use Rattle.sat_solver.specs.unit_simplify.Cuts.{deletion, MayCut, WritesCut};
+ghost use Rattle.sat_solver.specs.cdcl.StepEffects.{HaveSolverNames};
+ghost use Rattle.sat_solver.specs.unit_simplify.Cuts.{deletion, CanStrengthen, WritesCut};
 
 use crate::cdcl::fault::Fault;
 use crate::context::Scratch;
@@ -40,7 +40,7 @@ pub fn write_cut<W: CountedWrite + Drop, P: ProofProcessor>(
 ) -> Result<(), Fault>
     requires keeps { HasAllowedSteps proof.old }
     requires named { HaveSolverNames (session_of proof.old).solver_names part.now }
-    requires may { MayCut (session_of proof.old) redundant part.now scratch.now.hashes.items scratch.now.clause.items }
+    requires may { CanStrengthen (session_of proof.old) redundant part.now scratch.now.hashes.items scratch.now.clause.items }
     requires few { are_few scratch.now.hashes.items ≡ true }
     ensures { WritesCut W.seen result proof.old proof.new redundant part.now scratch.now.hashes.items
         scratch.now.clause.items }

@@ -1,13 +1,13 @@
 //! Removes the false literals of long clauses.
 ghost use Rattle.std.specs.Prelude.{ℕ, ◌≡◌, ◌<◌, ◌≤◌, OnOk, IfOk, length};
 ghost use Rattle.sat_parts.specs.clause.Stored.{lit_of, size_of};
-ghost use Rattle.sat_parts.specs.prop.Values.{IsOpenLit};
+ghost use Rattle.sat_parts.specs.prop.Values.{IsUnassignedLit};
 ghost use Rattle.sat_solver.specs.proof.ProofView.{HasAllowedSteps, session_of};
-ghost use Rattle.sat_parts.specs.parts.Whole.{PartsInvariant, HasClause};
-ghost use Rattle.sat_solver.specs.cdcl.Joint.{IsSearch};
+ghost use Rattle.sat_parts.specs.parts.Whole.{SearchStateInvariant, HasClause};
+ghost use Rattle.sat_solver.specs.cdcl.Joint.{SearchInvariant};
 ghost use Rattle.sat_solver.specs.unit_simplify.Cutting.{Gathers, Replaces, NamesCut};
 ghost use Rattle.sat_solver.specs.unit_simplify.Flat.{HasEmptyTrail, StrengthensOrFails};
-ghost use Rattle.sat_solver.specs.unit_simplify.Looks.{HasTrue, HasFalse};
+ghost use Rattle.sat_solver.specs.unit_simplify.ClauseStatus.{HasTrue, HasFalse};
 
 use crate::cdcl::fault::Fault;
 use crate::clause::reduce::map_clause;
@@ -19,17 +19,17 @@ use sat_base::{CountedWrite, Lit};
 use sat_checker::ProofProcessor;
 use sat_parts::parts::clauses::{delete_long, shorten, swap_unwatched};
 use sat_parts::parts::load::load_binary;
-use sat_parts::{Conflict, Parts};
+use sat_parts::{Conflict, SearchState};
 use sat_store::ClauseRef;
 use std::alloc::AllocError;
 
 /// Moves the literals of a clause that have no value to the beginning of the clause, in order. Returns their number. No
 /// literal may be true, and the first two literals must have no value.
-fn gather_open(parts: &mut Parts, cref: ClauseRef) -> usize
-    requires holds { PartsInvariant parts.old }
+fn gather_open(parts: &mut SearchState, cref: ClauseRef) -> usize
+    requires holds { SearchStateInvariant parts.old }
     requires live { HasClause parts.old cref }
     requires none { HasTrue parts.old cref → ⊥ }
-    requires front { (k : ℕ) → k < 2 → IsOpenLit parts.old.assignment.current (lit_of parts.old.clauses cref k) }
+    requires front { (k : ℕ) → k < 2 → IsUnassignedLit parts.old.assignment.current (lit_of parts.old.clauses cref k) }
     ensures gathers { Gathers parts.old parts.new cref result (size_of parts.old.clauses cref) }
     ensures some { 2 ≤ result }
     ensures within { result ≤ size_of parts.old.clauses cref }
@@ -48,7 +48,7 @@ fn gather_open(parts: &mut Parts, cref: ClauseRef) -> usize
 /// Moves the literals of a clause that have no value to the beginning of the clause, and fills `search.scratch` and
 /// `part` for the steps that strengthen the clause. Returns the number of these literals.
 fn name_cut(search: &mut Search, cref: ClauseRef, part: &mut Vec<Lit>) -> Result<usize, AllocError>
-    requires holds { PartsInvariant search.old.parts }
+    requires holds { SearchStateInvariant search.old.parts }
     requires flat { HasEmptyTrail search.old.parts }
     requires names { length search.old.parts.assignment.current ≤ length search.old.globals.items }
     requires live { HasClause search.old.parts cref }
@@ -71,13 +71,13 @@ fn name_cut(search: &mut Search, cref: ClauseRef, part: &mut Vec<Lit>) -> Result
 }
 
 /// Replaces a clause with its first `len` literals.
-fn replace(parts: &mut Parts, cref: ClauseRef, len: usize) -> Result<(), AllocError>
-    requires holds { PartsInvariant parts.old }
+fn replace(parts: &mut SearchState, cref: ClauseRef, len: usize) -> Result<(), AllocError>
+    requires holds { SearchStateInvariant parts.old }
     requires flat { HasEmptyTrail parts.old }
     requires live { HasClause parts.old cref }
     requires some { 2 ≤ len }
     requires within { len ≤ size_of parts.old.clauses cref }
-    requires front { (k : ℕ) → k < 2 → IsOpenLit parts.old.assignment.current (lit_of parts.old.clauses cref k) }
+    requires front { (k : ℕ) → k < 2 → IsUnassignedLit parts.old.assignment.current (lit_of parts.old.clauses cref k) }
     ensures { OnOk result (Replaces parts.old parts.new cref len) }
 {
     if len > 2 {
@@ -99,7 +99,7 @@ pub fn cut_clause<W: CountedWrite + Drop, P: ProofProcessor>(
     part: &mut Vec<Lit>,
 ) -> Result<(), Fault>
     requires keeps { HasAllowedSteps proof.old }
-    requires search { IsSearch (session_of proof.old) search.old }
+    requires search { SearchInvariant (session_of proof.old) search.old }
     requires flat { HasEmptyTrail search.old.parts }
     requires live { HasClause search.old.parts cref }
     requires none { HasTrue search.old.parts cref → ⊥ }

@@ -1,7 +1,7 @@
 //! Why an operation on names failed.
 
+use crate::proof::emitted::CheckFault;
 use crate::proof::kept::Kept;
-use crate::proof::made::CheckFault;
 use std::alloc::{AllocError, AllocFailed};
 use std::io;
 

@@ -177,7 +177,7 @@ impl FreeIndices {
     }
 
     /// Removes an index from the set, if the set contains it. There must be room for the index. Never allocates.
-    pub fn take(&mut self, index: Var)
+    pub fn remove(&mut self, index: Var)
         requires tree { IsTree self.old }
         requires within { index < self.old.room }
         ensures tree { IsTree self.new }

@@ -2,37 +2,37 @@
 ghost use Rattle.std.specs.Prelude.{ℕ, ◌≡◌, ◌<◌, ◌≤◌, None, [], ◌∷◌, OnOk, length};
 ghost use Rattle.std.specs.List.{AllByRecursion};
 ghost use Rattle.sat_base.specs.values.Literals.{var_limit};
-ghost use Rattle.sat_solver.specs.variables.Search.{GivenApart};
-ghost use Rattle.sat_parts.specs.parts.Whole.{PartsInvariant};
+ghost use Rattle.sat_solver.specs.variables.Search.{IndicesDistinct};
+ghost use Rattle.sat_parts.specs.parts.Whole.{SearchStateInvariant};
 ghost use Rattle.sat_solver.specs.variables.Initialized.{IsVacant, AreVacant, ActivatesIndices, Renames};
 ghost use Rattle.sat_solver.specs.variables.Initialized.{GivesSearchIndices};
 
 use crate::context::Search;
 use crate::variables::solver_vars::Given;
 use sat_base::Var;
-use sat_parts::Parts;
-use sat_parts::parts::grow;
-use sat_parts::parts::variables::{reset_activity, use_variable, use_with_unit};
+use sat_parts::SearchState;
+use sat_parts::parts::set_var_count;
+use sat_parts::parts::variables::{make_available, reset_activity, use_with_unit};
 use std::alloc::AllocError;
 
 /// Adds an index at level 0. If its variable has a unit, the index takes the value of the unit; otherwise it may be
 /// picked, with activity 0. Its saved phase is the last value of the index.
-fn take_index(parts: &mut Parts, given: &Given)
-    requires holds { PartsInvariant parts.old }
+fn take_index(parts: &mut SearchState, given: &Given)
+    requires holds { SearchStateInvariant parts.old }
     requires bottom { parts.old.trail.starts ≡ [] }
     requires vacant { IsVacant parts.old (length parts.old.assignment.current) given.now }
     ensures { ActivatesIndices (given.now ∷ []) parts.old parts.new }
 {
     reset_activity(parts, given.solver);
     match given.unit {
-        None => use_variable(parts, given.solver),
+        None => make_available(parts, given.solver),
         Some(value) => use_with_unit(parts, given.solver.lit(value)),
     }
 }
 
 /// Adds the indices in `given`, in order.
-fn take_indices(parts: &mut Parts, given: &[Given])
-    requires holds { PartsInvariant parts.old }
+fn take_indices(parts: &mut SearchState, given: &[Given])
+    requires holds { SearchStateInvariant parts.old }
     requires bottom { parts.old.trail.starts ≡ [] }
     requires vacant { AreVacant parts.old (length parts.old.assignment.current) given.now }
     ensures { ActivatesIndices given.now parts.old parts.new }
@@ -46,7 +46,7 @@ fn take_indices(parts: &mut Parts, given: &[Given])
 fn rename(list: &mut Vec<Var>, globals: &[Var], given: &[Given])
     requires there { AllByRecursion (λ g. g.solver < length list.old.items) given.now }
     requires below { AllByRecursion (λ g. g.solver < length globals.now) given.now }
-    requires apart { GivenApart given.now }
+    requires apart { IndicesDistinct given.now }
     ensures { Renames given.now globals.now list.old.items list.new.items }
 {
     for at in 0..given.len() {
@@ -73,7 +73,7 @@ fn count_with(count: usize, given: &[Given]) -> usize
 /// Adds, at level 0, the indices that proof variables were given, whether these are new or were released before.
 /// `globals` contains the proof variable that each index belongs to, or belonged to last.
 pub fn new_indices(search: &mut Search, globals: &[Var], given: &[Given]) -> Result<(), AllocError>
-    requires holds { PartsInvariant search.old.parts }
+    requires holds { SearchStateInvariant search.old.parts }
     requires bottom { search.old.parts.trail.starts ≡ [] }
     requires same { length search.old.globals.items ≡ length search.old.parts.assignment.current }
     requires vacant { AreVacant search.old.parts (length globals.now) given.now }
@@ -83,7 +83,7 @@ pub fn new_indices(search: &mut Search, globals: &[Var], given: &[Given]) -> Res
         return Ok(());
     }
     let count = count_with(search.globals.len(), given);
-    grow(search.alloc, &mut search.parts, count)?;
+    set_var_count(search.alloc, &mut search.parts, count)?;
     search.analysis.set_var_count(count)?;
     search.flags.set_var_count(count)?;
     search.globals.resize(count, Var::from_index(0))?;

@@ -34,13 +34,13 @@ pub trait StepLog: Drop {
         ensures keeps { OnOk result (keeps self.new) }
         ensures steps { OnOk result (steps self.new ≡ step_of step.now ∷ steps self.old) }
         ensures fails { IfErr result IsFailure }
-        ensures came { EmitsOrFails took broke result self.old self.new };
+        ensures emits { EmitsOrFails took broke result self.old self.new };
 }
 
 impl<W: CountedWrite + Drop, P: ProofProcessor> StepLog for Proof<W, P> {
     ghost use Rattle.sat_solver.specs.proof.ProofView.{HasAllowedSteps, steps_of};
     ghost use Rattle.sat_solver.specs.session.Making.{ComesByCheckedSteps};
-    ghost use Rattle.sat_solver.specs.variables.Taking.{NotTaken};
+    ghost use Rattle.sat_solver.specs.variables.Taking.{StepNotAccepted};
 
     ghost steps = { λ p. steps_of p };
 
@@ -48,7 +48,7 @@ impl<W: CountedWrite + Drop, P: ProofProcessor> StepLog for Proof<W, P> {
 
     ghost took = { ComesByCheckedSteps W.seen };
 
-    ghost broke = { NotTaken W.seen };
+    ghost broke = { StepNotAccepted W.seen };
 
     #[inline(always)]
     fn step(&mut self, step: &ProofStep<'_>) -> Result<(), NameError> {

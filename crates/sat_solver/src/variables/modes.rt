@@ -1,11 +1,12 @@
 //! Sets modes of variables, hides names, and deletes variables.
 ghost use Rattle.std.specs.Prelude.{ℕ, ◌≡◌, ◌⊎◌, ◌+◌, true, false, Some, None, [], ◌∷◌, ◌++◌, map, IfErr, OnOk};
-ghost use Rattle.sat_base.specs.script.ScriptState.{without_name, with_mode, bring_in, new_names};
+ghost use Rattle.sat_base.specs.script.ScriptState.{without_name, with_mode, introduce, new_names};
 ghost use Rattle.sat_solver.specs.session.Session.{session_after};
 ghost use Rattle.sat_solver.specs.variables.Variables.{data_at, global_of, user_of, solver_of, script_mode, mode_for};
 ghost use Rattle.sat_base.specs.steps.Steps.{UserVarName, ChangeSamplingMode, DeleteVar};
-ghost use Rattle.sat_solver.specs.session.Coming.{OnlyAllowedSteps};
-ghost use Rattle.sat_solver.specs.variables.Coming.{ForgetsIdle, LeavesNoneIdle, MayHide, MaySet, TurnsMode};
+ghost use Rattle.sat_solver.specs.session.AllowedSteps.{OnlyAllowedSteps};
+ghost use Rattle.sat_solver.specs.variables.NamingSteps.{ForgetsIdle, LeavesNoneIdle, IsHidingStep, IsModeStep};
+ghost use Rattle.sat_solver.specs.variables.NamingSteps.{TurnsMode};
 ghost use Rattle.sat_checker.specs.matching.Expected.{NewName, NoName};
 ghost use Rattle.sat_solver.specs.variables.Naming.{VariablesAreKeptOrNew, KeepsOthers};
 ghost use Rattle.sat_solver.specs.variables.Calls.{NamesInvariant, NamesEffect, KeepsScriptState};
@@ -40,7 +41,7 @@ fn hide_global<W: StepLog>(
     ensures step { OnOk result (W.steps writer.new ≡ UserVarName global None ∷ W.steps writer.old) }
     ensures fails { IfErr result IsFailure }
     ensures keeps { OnOk result (W.keeps writer.new) }
-    ensures came { EmitsOrFails W.took W.broke result writer.old writer.new }
+    ensures emits { EmitsOrFails W.took W.broke result writer.old writer.new }
 {
     variables.put_hidden(user, global);
     writer.step(&ProofStep::UserVarName { global, user: None })?;
@@ -68,7 +69,7 @@ pub fn delete_var<W: StepLog>(
         (session_after (W.steps writer.new)) global) }
     ensures fails { IfErr result IsFailure }
     ensures keeps { OnOk result (W.keeps writer.new) }
-    ensures came { EmitsOrFails W.took W.broke result writer.old writer.new }
+    ensures emits { EmitsOrFails W.took W.broke result writer.old writer.new }
 {
     variables.put_deleted(global);
     writer.step(&ProofStep::DeleteVar { var: global })?;
@@ -92,7 +93,7 @@ pub(crate) fn forget_idle<W: StepLog>(
     ensures users { OnOk result (variables.new.global_from_user ≡ variables.old.global_from_user) }
     ensures fails { IfErr result IsFailure }
     ensures keeps { OnOk result (W.keeps writer.new) }
-    ensures came { EmitsOrFails W.took W.broke result writer.old writer.new }
+    ensures emits { EmitsOrFails W.took W.broke result writer.old writer.new }
 {
     if variables.is_marked(global) {
         return Ok(());
@@ -115,17 +116,17 @@ pub fn hide_var<W: StepLog>(
     requires keeps { W.keeps writer.old }
     requires free { IsAssumed variables.old user → ⊥ }
     ensures does { OnOk result (NamesEffect variables.old variables.new (W.steps writer.old) (W.steps writer.new)
-        (λ j. without_name (user + 1) (bring_in (user + 1) j))
+        (λ j. without_name (user + 1) (introduce (user + 1) j))
         (λ j. map NewName (new_names (user + 1) j) ++ (NoName (user + 1) ∷ []))) }
     ensures others { OnOk result (KeepsOthers variables.old variables.new user) }
     ensures fresh { OnOk result (VariablesAreKeptOrNew variables.old variables.new) }
     ensures units { OnOk result (KeepsUnits variables.new (W.steps writer.old) (W.steps writer.new)) }
     ensures alike { OnOk result (IsAlike variables.old variables.new (W.steps writer.old) (W.steps writer.new)) }
-    ensures comes { OnOk result (OnlyAllowedSteps MayHide (W.steps writer.old) (W.steps writer.new)) }
+    ensures comes { OnOk result (OnlyAllowedSteps IsHidingStep (W.steps writer.old) (W.steps writer.new)) }
     ensures gone { OnOk result (LeavesNoneIdle (W.steps writer.new)) }
     ensures room { FailsOnlyByFault result variables.old (user ∷ []) }
     ensures keeps { OnOk result (W.keeps writer.new) }
-    ensures came { EmitsOrFails W.took W.broke result writer.old writer.new }
+    ensures emits { EmitsOrFails W.took W.broke result writer.old writer.new }
 {
     let global = global_from_user(variables, writer, user)?;
     hide_global(variables, writer, user, global)?;
@@ -178,7 +179,7 @@ fn set_global_mode<W: StepLog>(
     ensures unseen { OnOk result (IsUnseen variables.old variables.new (W.steps writer.old) (W.steps writer.new)) }
     ensures fails { IfErr result IsFailure }
     ensures keeps { OnOk result (W.keeps writer.new) }
-    ensures came { EmitsOrFails W.took W.broke result writer.old writer.new }
+    ensures emits { EmitsOrFails W.took W.broke result writer.old writer.new }
 {
     if is_mode(variables.mode(global), sample) {
         return Ok(());
@@ -202,16 +203,16 @@ pub fn set_sampling_mode<W: StepLog>(
     requires keeps { W.keeps writer.old }
     requires free { IsAssumed variables.old user → ⊥ }
     ensures does { OnOk result (NamesEffect variables.old variables.new (W.steps writer.old) (W.steps writer.new)
-        (λ j. with_mode (script_mode sample) (user + 1) (bring_in (user + 1) j))
+        (λ j. with_mode (script_mode sample) (user + 1) (introduce (user + 1) j))
         (λ j. map NewName (new_names (user + 1) j) ++ [])) }
     ensures others { OnOk result (KeepsOthers variables.old variables.new user) }
     ensures fresh { OnOk result (VariablesAreKeptOrNew variables.old variables.new) }
     ensures unseen { OnOk result (IsUnseen variables.old variables.new (W.steps writer.old) (W.steps writer.new)) }
-    ensures comes { OnOk result (OnlyAllowedSteps (MaySet (user + 1) sample) (W.steps writer.old)
+    ensures comes { OnOk result (OnlyAllowedSteps (IsModeStep (user + 1) sample) (W.steps writer.old)
         (W.steps writer.new)) }
     ensures room { FailsOnlyByFault result variables.old (user ∷ []) }
     ensures keeps { OnOk result (W.keeps writer.new) }
-    ensures came { EmitsOrFails W.took W.broke result writer.old writer.new }
+    ensures emits { EmitsOrFails W.took W.broke result writer.old writer.new }
 {
     let global = global_from_user(variables, writer, user)?;
     set_global_mode(variables, writer, user, global, sample)

@@ -35,7 +35,7 @@ fn observe_var<W: StepLog>(
         (W.steps writer.new) global user) }
     ensures left { IfErr result (λ e. e ≡ NameError.VariableLimit → ⊥) }
     ensures keeps { OnOk result (W.keeps writer.new) }
-    ensures came { EmitsOrFails W.took W.broke result writer.old writer.new }
+    ensures emits { EmitsOrFails W.took W.broke result writer.old writer.new }
 {
     let Some(user) = variables.next_user() else {
         return Err(NameError::VariableLimit);
@@ -65,7 +65,7 @@ pub fn observe_internal_vars<W: StepLog>(
         users.new.items) }
     ensures left { IfErr result (λ e. e ≡ NameError.VariableLimit → ⊥) }
     ensures keeps { OnOk result (W.keeps writer.new) }
-    ensures came { EmitsOrFails W.took W.broke result writer.old writer.new }
+    ensures emits { EmitsOrFails W.took W.broke result writer.old writer.new }
 {
     users.clear();
     let count = variables.used_count();

@@ -1,8 +1,8 @@
 //! Checks whether calls are refused, before anything changes.
 ghost use Rattle.std.specs.Prelude.{◌≡◌, ◌+◌, true, false, IfNone};
 ghost use Rattle.sat_base.specs.script.ScriptState.{ScriptState, has_witness, identity_of, refused_literal};
-ghost use Rattle.sat_checker.specs.matching.Bridge.{Live};
-ghost use Rattle.sat_solver.specs.variables.Variables.{AreTidy, NamesMatchState, is_witness_kept};
+ghost use Rattle.sat_checker.specs.matching.Bridge.{LiveVariables};
+ghost use Rattle.sat_solver.specs.variables.Variables.{VariablesInvariant, NamesMatchState, is_witness_kept};
 ghost use Rattle.sat_solver.specs.load.Literals.{IsSampled, NoWitness};
 ghost use Rattle.sat_solver.specs.variables.Refusing.{as_refusal, names_in, IsAssumed};
 
@@ -22,8 +22,8 @@ fn is_witness_mode(mode: SamplingMode) -> bool
 
 /// Whether a name is in use and has the mode witness.
 fn is_witness(variables: &Variables, user: Var) -> bool
-    requires { AreTidy variables.now }
-    ensures judged { (j : ScriptState) (live : Live) → NamesMatchState variables.now j live
+    requires { VariablesInvariant variables.now }
+    ensures judged { (j : ScriptState) (live : LiveVariables) → NamesMatchState variables.now j live
         → result ≡ has_witness j (identity_of j (user + 1)) }
     ensures sampled { result ≡ false → IsSampled variables.now user }
 {
@@ -38,8 +38,8 @@ fn is_witness(variables: &Variables, user: Var) -> bool
 
 /// Returns the leftmost name in `lits` that has the mode witness, or `None`.
 pub fn leftmost_witness(variables: &Variables, lits: &[Lit]) -> Option<Var>
-    requires { AreTidy variables.now }
-    ensures judged { (j : ScriptState) (live : Live) → NamesMatchState variables.now j live
+    requires { VariablesInvariant variables.now }
+    ensures judged { (j : ScriptState) (live : LiveVariables) → NamesMatchState variables.now j live
         → refused_literal j (names_in lits.now) ≡ as_refusal result }
     ensures sampled { IfNone result (NoWitness variables.now lits.now) }
 {
@@ -55,7 +55,7 @@ pub fn leftmost_witness(variables: &Variables, lits: &[Lit]) -> Option<Var>
 
 /// Whether a name is in use and assumed, so that it cannot be hidden and its mode cannot be set.
 pub fn is_assumed(variables: &Variables, user: Var) -> bool
-    requires { AreTidy variables.now }
+    requires { VariablesInvariant variables.now }
     ensures assumed { result ≡ true → IsAssumed variables.now user }
     ensures free { result ≡ false → IsAssumed variables.now user → ⊥ }
 {

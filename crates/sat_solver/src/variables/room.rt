@@ -2,15 +2,16 @@
 ghost use Rattle.std.specs.Prelude.{◌≡◌, ◌+◌, ◌<◌, ◌≤◌, [], ◌∷◌, length};
 ghost use Rattle.sat_base.specs.values.Literals.{var_limit};
 ghost use Rattle.sat_checker.specs.LiteralSets.{mentions};
-ghost use Rattle.sat_solver.specs.variables.VariableRoom.{live_count, reach, user_vars_in, hidden_count, SaysRoom, hidden_after};
-ghost use Rattle.sat_solver.specs.variables.Variables.{AreTidy};
+ghost use Rattle.sat_solver.specs.variables.VariableRoom.{live_count, reach, user_vars_in, hidden_count, ReportsRoom};
+ghost use Rattle.sat_solver.specs.variables.VariableRoom.{hidden_after};
+ghost use Rattle.sat_solver.specs.variables.Variables.{VariablesInvariant};
 
 use crate::variables::Variables;
 use sat_base::{Lit, Var};
 
 /// Returns the number of variables that are not in use.
 fn left_count(variables: &Variables) -> usize
-    requires { AreTidy variables.now }
+    requires { VariablesInvariant variables.now }
     ensures { result + live_count variables.now ≡ var_limit }
 {
     let live = variables.used_count() - variables.free_globals.count();
@@ -67,7 +68,7 @@ fn count_hidden_name(variables: &Variables, lits: &[Lit], at: usize, count: usiz
 
 /// Returns the number of hidden names in `lits`. Each name is counted once.
 fn count_hidden(variables: &Variables, lits: &[Lit]) -> usize
-    requires { AreTidy variables.now }
+    requires { VariablesInvariant variables.now }
     ensures { result ≡ hidden_count variables.now (user_vars_in lits.now) }
 {
     let mut count = 0;
@@ -81,8 +82,8 @@ fn count_hidden(variables: &Variables, lits: &[Lit]) -> usize
 ///
 /// If this depends on how many times names occur, every hidden name is searched for among the later literals.
 pub fn has_room(variables: &Variables, lits: &[Lit]) -> bool
-    requires { AreTidy variables.now }
-    ensures { SaysRoom result variables.now (user_vars_in lits.now) }
+    requires { VariablesInvariant variables.now }
+    ensures { ReportsRoom result variables.now (user_vars_in lits.now) }
 {
     let left = left_count(variables);
     let used = variables.name_count();
@@ -99,8 +100,8 @@ pub fn has_room(variables: &Variables, lits: &[Lit]) -> bool
 
 /// Whether there is a variable for every name that would be introduced with `user`.
 pub fn has_room_for(variables: &Variables, user: Var) -> bool
-    requires { AreTidy variables.now }
-    ensures { SaysRoom result variables.now (user ∷ []) }
+    requires { VariablesInvariant variables.now }
+    ensures { ReportsRoom result variables.now (user ∷ []) }
 {
     let left = left_count(variables);
     let used = variables.name_count();

@@ -34,7 +34,7 @@ fn new_index<W: StepLog>(
         given.old.items given.new.items global) }
     ensures fails { IfErr result IsFailure }
     ensures keeps { OnOk result (W.keeps writer.new) }
-    ensures came { EmitsOrFails W.took W.broke result writer.old writer.new }
+    ensures emits { EmitsOrFails W.took W.broke result writer.old writer.new }
 {
     let solver = variables.next_index(global);
     variables.put_index(global, solver)?;
@@ -62,7 +62,7 @@ pub fn solver_from_global<W: StepLog>(
         given.old.items given.new.items global) }
     ensures fails { IfErr result IsFailure }
     ensures keeps { OnOk result (W.keeps writer.new) }
-    ensures came { EmitsOrFails W.took W.broke result writer.old writer.new }
+    ensures emits { EmitsOrFails W.took W.broke result writer.old writer.new }
 {
     if let Some(solver) = variables.solver_from_global.fwd().get(global) {
         return Ok(solver);
@@ -87,7 +87,7 @@ pub fn remove_solver_var<W: StepLog>(
         solver) }
     ensures fails { IfErr result IsFailure }
     ensures keeps { OnOk result (W.keeps writer.new) }
-    ensures came { EmitsOrFails W.took W.broke result writer.old writer.new }
+    ensures emits { EmitsOrFails W.took W.broke result writer.old writer.new }
 {
     variables.take_index(global, solver);
     writer.step(&ProofStep::SolverVarName {

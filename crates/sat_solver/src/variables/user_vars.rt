@@ -3,7 +3,7 @@ ghost use Rattle.std.specs.Prelude.{ℕ, ◌≡◌, ◌≤◌, ◌<◌, ◌+◌,
 ghost use Rattle.sat_base.specs.script.ScriptState.{names_from};
 ghost use Rattle.sat_solver.specs.variables.Variables.{global_of, names_used};
 ghost use Rattle.sat_solver.specs.variables.Naming.{IsNextUser};
-ghost use Rattle.sat_solver.specs.variables.Calls.{NamesInvariant, NamesOne, NamesAll, BringsInUnseen};
+ghost use Rattle.sat_solver.specs.variables.Calls.{NamesInvariant, NamesOne, NamesAll, IntroducesNameUnseen};
 ghost use Rattle.sat_solver.specs.variables.Failing.{EmitsOrFails, Limits, FailsOnlyByFault};
 ghost use Rattle.sat_solver.specs.variables.VariableRoom.{LeavesRoom};
 
@@ -26,7 +26,7 @@ fn new_name<W: StepLog>(
         user v) }
     ensures limit { IfErr result (λ e. Limits e variables.old variables.new writer.old writer.new) }
     ensures keeps { OnOk result (W.keeps writer.new) }
-    ensures came { EmitsOrFails W.took W.broke result writer.old writer.new }
+    ensures emits { EmitsOrFails W.took W.broke result writer.old writer.new }
 {
     let Some(global) = variables.room_for(user) else {
         return Err(NameError::VariableLimit);
@@ -56,7 +56,7 @@ fn bring_new<W: StepLog>(
     ensures leaves { OnOk result (LeavesRoom variables.old variables.new user) }
     ensures room { (us : List ℕ) → FailsOnlyByFault result variables.old (user ∷ us) }
     ensures keeps { OnOk result (W.keeps writer.new) }
-    ensures came { EmitsOrFails W.took W.broke result writer.old writer.new }
+    ensures emits { EmitsOrFails W.took W.broke result writer.old writer.new }
 {
     for index in variables.global_from_user.fwd().watermark()..user.index() {
         new_name(variables, writer, Var::from_index(index))?;
@@ -75,10 +75,10 @@ pub fn global_from_user<W: StepLog>(
     requires valid { NamesInvariant variables.old (W.steps writer.old) }
     requires keeps { W.keeps writer.old }
     ensures variable { IfOk result (λ v. global_of variables.new user ≡ Some v) }
-    ensures brought { OnOk result (BringsInUnseen variables.old variables.new (W.steps writer.old) (W.steps writer.new) user) }
+    ensures brought { OnOk result (IntroducesNameUnseen variables.old variables.new (W.steps writer.old) (W.steps writer.new) user) }
     ensures room { (us : List ℕ) → FailsOnlyByFault result variables.old (user ∷ us) }
     ensures keeps { OnOk result (W.keeps writer.new) }
-    ensures came { EmitsOrFails W.took W.broke result writer.old writer.new }
+    ensures emits { EmitsOrFails W.took W.broke result writer.old writer.new }
 {
     if user.index() >= variables.global_from_user.fwd().watermark() {
         return bring_new(variables, writer, user);
@@ -98,11 +98,11 @@ pub fn new_user_var<W: StepLog>(variables: &mut Variables, writer: &mut W) -> Re
     requires valid { NamesInvariant variables.old (W.steps writer.old) }
     requires keeps { W.keeps writer.old }
     ensures next { IfOk result (IsNextUser variables.old) }
-    ensures brought { IfOk result (λ user. BringsInUnseen variables.old variables.new (W.steps writer.old) (W.steps writer.new)
+    ensures brought { IfOk result (λ user. IntroducesNameUnseen variables.old variables.new (W.steps writer.old) (W.steps writer.new)
         user) }
     ensures limit { IfErr result (λ e. Limits e variables.old variables.new writer.old writer.new) }
     ensures keeps { OnOk result (W.keeps writer.new) }
-    ensures came { EmitsOrFails W.took W.broke result writer.old writer.new }
+    ensures emits { EmitsOrFails W.took W.broke result writer.old writer.new }
 {
     let Some(user) = variables.next_user() else {
         return Err(NameError::VariableLimit);

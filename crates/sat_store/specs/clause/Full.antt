@@ -4,5 +4,5 @@ use Rattle.sat_store.specs.declared.clause.alloc.StoreError.{StoreError}
 use Rattle.sat_store.specs.declared.clause.alloc.StoreError.TheVariants.{StoreFull}
 
 -- that the proposition holds if the result is `StoreFull`
-abbrev pub OnFull : {T : Type 0} → Result T StoreError → Type 0 → Type 0
-OnFull r p = r ≡ Err StoreFull → p
+abbrev pub IfStoreFull : {T : Type 0} → Result T StoreError → Type 0 → Type 0
+IfStoreFull r p = r ≡ Err StoreFull → p

@@ -9,8 +9,8 @@ pub record Queue : Type 0 where
   pub decay : ℕ
 
 -- whether a variable may be picked
-abbrev pub may_pick : Queue → ℕ → Bool
-may_pick q v = get_or q.available v false
+abbrev pub is_available : Queue → ℕ → Bool
+is_available q v = get_or q.available v false
 
 -- the activity of a variable, 0 if there is no such variable; the highest is picked first
 abbrev pub activity_of : Queue → ℕ → ℕ
@@ -30,9 +30,9 @@ with_variables count q = record q {
 -- the old variables stay as they were; the new ones may not be picked and have activity 0
 pub record GrowsQueue (count : ℕ) (old new : Queue) : Type 0 where
   pub size : length new.available ≡ max (length old.available) count
-  pub kept_available : (v : ℕ) → v < length old.available → may_pick new v ≡ may_pick old v
+  pub kept_available : (v : ℕ) → v < length old.available → is_available new v ≡ is_available old v
   pub kept_activity : (v : ℕ) → v < length old.activities → activity_of new v ≡ activity_of old v
-  pub new_available : (v : ℕ) → length old.available ≤ v → may_pick new v ≡ false
+  pub new_available : (v : ℕ) → length old.available ≤ v → is_available new v ≡ false
   pub new_activity : (v : ℕ) → length old.activities ≤ v → activity_of new v ≡ 0
   pub bump : new.bump ≡ old.bump
   pub decay : new.decay ≡ old.decay
@@ -64,12 +64,12 @@ with_available v flag q = record q { available = set q.available v flag }
 -- that the variable may be picked, and every other variable that may be picked has a lower activity, or the same
 -- activity and a higher index
 pub record IsFirst (q : Queue) (v : ℕ) : Type 0 where
-  pub available : may_pick q v ≡ true
-  pub first : (u : ℕ) → may_pick q u ≡ true → (activity_of q u < activity_of q v) ⊎ ((activity_of q u ≡ activity_of q v) × (v ≤ u))
+  pub available : is_available q v ≡ true
+  pub first : (u : ℕ) → is_available q u ≡ true → (activity_of q u < activity_of q v) ⊎ ((activity_of q u ≡ activity_of q v) × (v ≤ u))
 
 -- no variable may be picked
 abbrev pub NonePickable : Queue → Type 0
-NonePickable q = (v : ℕ) → may_pick q v ≡ false
+NonePickable q = (v : ℕ) → is_available q v ≡ false
 
 -- the result of `next`: the first variable, which may then not be picked, or `None` if no variable may be picked
 abbrev pub Picks : Queue → Option ℕ → Queue → Type 0

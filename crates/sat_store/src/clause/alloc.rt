@@ -4,7 +4,7 @@ ghost use Rattle.std.specs.Prelude.{take, IfOk, OnErr, vec_len, vec_capacity};
 ghost use Rattle.std.specs.List.{All};
 ghost use Rattle.sat_base.specs.values.Literals.{var_limit};
 ghost use Rattle.sat_store.specs.clause.Buffer.{IsClause, header_at, lits_at, ChangesAt, AppendsClause, swapped};
-ghost use Rattle.sat_store.specs.clause.Full.{OnFull};
+ghost use Rattle.sat_store.specs.clause.Full.{IfStoreFull};
 
 use crate::clause::edit::ClauseMut;
 use crate::clause::header::ClauseHeader;
@@ -159,7 +159,7 @@ impl ClauseAlloc {
         ensures added { IfOk result (λ c. AppendsClause self.old self.new c (header_at from.now cref)
             (lits_at from.now cref)) }
         ensures full { (result ≡ Err StoreError.StoreFull) ↔ (2 ^ 32 - 1 < length self.old) }
-        ensures room { length self.old ≤ cref → OnFull result ⊥ }
+        ensures room { length self.old ≤ cref → IfStoreFull result ⊥ }
         ensures kept { OnErr result (self.new ≡ self.old) }
     {
         let offset = self.words.len();

@@ -6,7 +6,7 @@ use Rattle.sat_base.specs.values.Literals.{var_limit}
 use Rattle.sat_base.specs.script.Script.{Literal}
 use Rattle.certify.specs.answers.Answers.{outcome_text, s_satisfiable, s_unsatisfiable, s_unknown, v_line, f_line}
 use Rattle.sat_checker.specs.matching.Expected.{Outcome, Sat, Unsat, Unknown}
-use Rattle.certify.specs.answers.AnswerForms.{HaveNames, IsInForm}
+use Rattle.certify.specs.answers.AnswerForms.{HaveNames, IsPrintable}
 use Rattle.certify.specs.laws.Laws.{HasPrintableNames}
 use Rattle.certify.specs.answers.AnswerReading.{first_answer_line, second_line, outcome_of}
 use Rattle.certify.specs.declared.answers.read.AnswerKind.{AnswerKind}
@@ -37,7 +37,7 @@ same_kind kind.Unknown kind.Sat x y e = let r : ◌≡◌ {A = ℕ} 85 83 = cc i
 same_kind kind.Unknown kind.Unsat x y e = let r : ◌≡◌ {A = ℕ} 75 83 = cc in absurd (omega arith)
 
 -- the names of an outcome in form are within the limit
-pub printed : (o : Outcome) → IsInForm o → HasPrintableNames o
+pub printed : (o : Outcome) → IsPrintable o → HasPrintableNames o
 printed (Sat line) h = all_low line h.0
   where
     all_low : (ls : List Literal) → HaveNames ls → AllByRecursion (λ l. l.name ≤ var_limit) ls

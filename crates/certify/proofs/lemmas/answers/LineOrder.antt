@@ -2,7 +2,7 @@
 use Rattle.std.proofs.Common.{ℕ, ◌+◌, ◌<◌, ◌≤◌, ◌≡◌, ◌∷◌, [], List, map, arith}
 use Rattle.std.proofs.lemmas.Bool.Decides.{nat_tests}
 use Rattle.sat_base.specs.values.Literals.{variable}
-use Rattle.sat_base.specs.script.Script.{names_of, place, InOrder}
+use Rattle.sat_base.specs.script.Script.{names_of, sort_key, InOrder}
 use Rattle.certify.specs.answers.AnswerForms.{NamesRise, IsOrdered, named_literal, named_literals}
 use Rattle.certify.specs.answers.AnswerReading.{HasLine, outcome_of, literal_place}
 use Rattle.certify.specs.declared.answers.read.AnswerKind.{AnswerKind}
@@ -22,7 +22,7 @@ increasing_rise : (least l : ℕ) (ls : List ℕ) → least ≤ variable l → N
 increasing_rise least l [] h o = (h, tt)
 increasing_rise least l (m ∷ ls) h o = (h, increasing_rise (variable l + 1) m ls (omega (arith, o.0)) o.1)
 
-place_named : (l : ℕ) → place (named_literal l) ≡ l + 2
+place_named : (l : ℕ) → sort_key (named_literal l) ≡ l + 2
 place_named l = grind (arith, nat_tests)
 
 in_order : (least : ℕ) (ls : List ℕ) → RiseFrom least (map (literal_place kind.Unsat) ls) → InOrder (named_literals ls)
@@ -37,7 +37,7 @@ in_order least (l ∷ m ∷ ls) h =
 order_rise : (least l : ℕ) (ls : List ℕ) → least ≤ l → InOrder (named_literals (l ∷ ls)) → RiseFrom least (map (literal_place kind.Unsat) (l ∷ ls))
 order_rise least l [] h o = (h, tt)
 order_rise least l (m ∷ ls) h o =
-    let x : place (named_literal l) < place (named_literal m) = o.0 in
+    let x : sort_key (named_literal l) < sort_key (named_literal m) = o.0 in
     let p = place_named l in
     let q = place_named m in
     (h, order_rise (l + 1) m ls (omega arith) o.1)

@@ -4,7 +4,7 @@ use Rattle.std.proofs.lemmas.List.{append_cancel_left}
 use Rattle.sat_base.specs.script.Script.{Literal}
 use Rattle.certify.specs.answers.Answers.{s_satisfiable, s_unsatisfiable, s_unknown, literals_text, outcome_text}
 use Rattle.sat_checker.specs.matching.Expected.{Outcome, Sat, Unsat, Unknown}
-use Rattle.certify.specs.answers.AnswerForms.{IsInForm, literals_of}
+use Rattle.certify.specs.answers.AnswerForms.{IsPrintable, literals_of}
 use Rattle.certify.specs.answers.AnswerReading.{NoKind, NoLiterals, NoLine, NoOutcome, StartsNoLine, StartsNoLiterals, HasLine, IsHead, IsCutShort, BeginsNoOutcome, first_answer_line, outcome_of, second_line}
 use Rattle.certify.specs.declared.answers.read.AnswerKind.{AnswerKind}
 use Rattle.certify.specs.declared.answers.read.AnswerKind.TheVariants as kind
@@ -105,7 +105,7 @@ no_line k bytes following Text e none = (
   cut k none.0 e,
   λ o tail h f.
       let r = of_kind k o following tail (sym e ∙ f) in
-      none.1 r.0 tail (subst IsInForm r.1.0 h) (r.1.1 ∙ ap (λ t. second_line t ++ tail) r.1.0),
+      none.1 r.0 tail (subst IsPrintable r.1.0 h) (r.1.1 ∙ ap (λ t. second_line t ++ tail) r.1.0),
 )
   where
     cut : (k : AnswerKind) → following ≢ [] → bytes ≡ first_answer_line k ++ following → IsCutShort bytes → ⊥

@@ -2,8 +2,8 @@
 use Rattle.std.proofs.Common.{ℕ, ◌+◌, ◌<◌, ◌≤◌, ◌≡◌, ◌↔◌, ◌++◌, ◌∷◌, [], List, map, append-nil, append_assoc, refl, sym, ◌∙◌, ap, subst, arith}
 use Rattle.std.proofs.lemmas.List.{map-append}
 use Rattle.sat_base.specs.script.Script.{Literal, names_of, InOrder}
-use Rattle.certify.specs.answers.Answers.{literals_text, word_of}
-use Rattle.certify.specs.answers.AnswerForms.{HaveNames, NamesRise, IsInForm, IsName, IsOrdered, named_literal, named_literals}
+use Rattle.certify.specs.answers.Answers.{literals_text, literal_text}
+use Rattle.certify.specs.answers.AnswerForms.{HaveNames, NamesRise, IsPrintable, IsName, IsOrdered, named_literal, named_literals}
 use Rattle.certify.specs.answers.AnswerReading.{HasLine, NoLiterals, StartsNoLiteral, StartsNoLiterals, outcome_of, literal_place}
 use Rattle.certify.specs.declared.answers.read.AnswerKind.{AnswerKind}
 use Rattle.certify.specs.declared.answers.read.AnswerKind.TheVariants as kind
@@ -15,7 +15,7 @@ use Rattle.certify.proofs.lemmas.answers.LineOrder.{RiseFrom, rise_ordered, orde
 -- the text of each literal and a space after it
 abbrev pub words_text : List Literal → List ℕ
 words_text [] = []
-words_text (l ∷ ls) = word_of l ++ (32 ∷ words_text ls)
+words_text (l ∷ ls) = literal_text l ++ (32 ∷ words_text ls)
 
 -- that places rise after those of the line exactly when they rise from `least`
 abbrev pub GoOnFrom : AnswerKind → List ℕ → ℕ → Type 0
@@ -30,12 +30,12 @@ pub record ReadInOrder (k : AnswerKind) (bytes line rest : List ℕ) (least : �
 -- the words of joined lists are the joined words
 words_joined : (ls ks : List Literal) → words_text (ls ++ ks) ≡ words_text ls ++ words_text ks
 words_joined [] ks = refl
-words_joined (l ∷ ls) ks = ap (λ t. word_of l ++ (32 ∷ t)) (words_joined ls ks) ∙ sym (append_assoc (word_of l) (32 ∷ words_text ls) (words_text ks))
+words_joined (l ∷ ls) ks = ap (λ t. literal_text l ++ (32 ∷ t)) (words_joined ls ks) ∙ sym (append_assoc (literal_text l) (32 ∷ words_text ls) (words_text ks))
 
 -- a line's text is its words and the end
 words_ended : (ls : List Literal) → literals_text ls ≡ words_text ls ++ (48 ∷ 10 ∷ [])
 words_ended [] = refl
-words_ended (l ∷ ls) = ap (λ t. word_of l ++ (32 ∷ t)) (words_ended ls) ∙ sym (append_assoc (word_of l) (32 ∷ words_text ls) (48 ∷ 10 ∷ []))
+words_ended (l ∷ ls) = ap (λ t. literal_text l ++ (32 ∷ t)) (words_ended ls) ∙ sym (append_assoc (literal_text l) (32 ∷ words_text ls) (48 ∷ 10 ∷ []))
 
 -- if the names of a list rise, so do those of a prefix
 increasing_front : (ls ks : List Literal) → NamesRise (names_of (ls ++ ks)) → NamesRise (names_of ls)
@@ -64,15 +64,15 @@ goes_on k line l least g h places =
 in_full_order : (k : AnswerKind) (line : List ℕ) (least : ℕ) → GoOnFrom k line least → IsOrdered (outcome_of k (named_literals line))
 in_full_order k line least g = rise_ordered k line (subst (RiseFrom 0) (append-nil (map (literal_place k) line)) ((g []).1 tt))
 
-pub in_form : (k : AnswerKind) (bytes line rest : List ℕ) (least : ℕ) → HasLine k → ReadInOrder k bytes line rest least → IsInForm (outcome_of k (named_literals line))
+pub in_form : (k : AnswerKind) (bytes line rest : List ℕ) (least : ℕ) → HasLine k → ReadInOrder k bytes line rest least → IsPrintable (outcome_of k (named_literals line))
 in_form k bytes line rest least d r = (subst HaveNames (sym (line_literals k (named_literals line) d)) r.read.names, in_full_order k line least r.order)
 
-pub one_in_order : (k : AnswerKind) (bytes line rest following : List ℕ) (l least : ℕ) → ReadInOrder k bytes line rest least → IsName (named_literal l).name → rest ≡ word_of (named_literal l) ++ (32 ∷ following) → least ≤ literal_place k l
+pub one_in_order : (k : AnswerKind) (bytes line rest following : List ℕ) (l least : ℕ) → ReadInOrder k bytes line rest least → IsName (named_literal l).name → rest ≡ literal_text (named_literal l) ++ (32 ∷ following) → least ≤ literal_place k l
     → ReadInOrder k bytes (line ++ (l ∷ [])) following (literal_place k l + 1)
 one_in_order k bytes line rest following l least r n e h = record {
   read = one_read bytes line rest following l r.read n e;
   words =
-      let f : word_of (named_literal l) ++ (32 ∷ following) ≡ words_text (named_literal l ∷ []) ++ following = sym (append_assoc (word_of (named_literal l)) (32 ∷ []) following) in
+      let f : literal_text (named_literal l) ++ (32 ∷ following) ≡ words_text (named_literal l ∷ []) ++ following = sym (append_assoc (literal_text (named_literal l)) (32 ∷ []) following) in
       let g : words_text (named_literals (line ++ (l ∷ []))) ≡ words_text (named_literals line) ++ words_text (named_literal l ∷ [])
       = ap words_text (map-append named_literal line (l ∷ [])) ∙ words_joined (named_literals line) (named_literal l ∷ []) in
       r.words ∙ ap (λ t. words_text (named_literals line) ++ t) (e ∙ f) ∙ sym (append_assoc (words_text (named_literals line)) (words_text (named_literal l ∷ [])) following) ∙ ap (λ t. t ++ following) (sym g);
@@ -84,7 +84,7 @@ have_both [] ks h i = i
 have_both (l ∷ ls) ks h i = (h.0, have_both ls ks h.1 i)
 
 -- any line in form at the beginning of the bytes begins with the literals that were read
-begun : (k : AnswerKind) (bytes line rest : List ℕ) (ls : List Literal) (tail : List ℕ) → HasLine k → Read bytes line rest → IsInForm (outcome_of k ls) → bytes ≡ literals_text ls ++ tail → (more : List Literal) × (ls ≡ named_literals line ++ more)
+begun : (k : AnswerKind) (bytes line rest : List ℕ) (ls : List Literal) (tail : List ℕ) → HasLine k → Read bytes line rest → IsPrintable (outcome_of k ls) → bytes ≡ literals_text ls ++ tail → (more : List Literal) × (ls ≡ named_literals line ++ more)
 begun k bytes line rest ls tail d r o e =
     let n : HaveNames ls = subst HaveNames (line_literals k ls d) o.0 in
     let more = r.forth ls tail n e in
@@ -92,7 +92,7 @@ begun k bytes line rest ls tail d r o e =
     (more.0, (same_literals ls (named_literals line ++ more.0) tail tail n m (sym e ∙ r.back more.0 tail more.1.1)).0)
 
 -- the bytes begin with no line if the next literal is out of order
-pub out_of_order : (k : AnswerKind) (bytes line rest following : List ℕ) (l least : ℕ) → HasLine k → ReadInOrder k bytes line rest least → IsName (named_literal l).name → rest ≡ word_of (named_literal l) ++ (32 ∷ following) → literal_place k l < least
+pub out_of_order : (k : AnswerKind) (bytes line rest following : List ℕ) (l least : ℕ) → HasLine k → ReadInOrder k bytes line rest least → IsName (named_literal l).name → rest ≡ literal_text (named_literal l) ++ (32 ∷ following) → literal_place k l < least
     → NoLiterals k bytes Text
 out_of_order k bytes line rest following l least d r n e low ls tail o f =
     let b = begun k bytes (line ++ (l ∷ [])) following ls tail d (one_read bytes line rest following l r.read n e) o f in
@@ -102,12 +102,12 @@ out_of_order k bytes line rest following l least d r n e low ls tail o f =
     omega arith
 
 -- memory is needed for the next literal, which is in order
-pub no_room : (k : AnswerKind) (bytes line rest following : List ℕ) (l least : ℕ) → HasLine k → ReadInOrder k bytes line rest least → IsName (named_literal l).name → rest ≡ word_of (named_literal l) ++ (32 ∷ following) → least ≤ literal_place k l
+pub no_room : (k : AnswerKind) (bytes line rest following : List ℕ) (l least : ℕ) → HasLine k → ReadInOrder k bytes line rest least → IsName (named_literal l).name → rest ≡ literal_text (named_literal l) ++ (32 ∷ following) → least ≤ literal_place k l
     → NoLiterals k bytes OutOfMemory
 no_room k bytes line rest following l least d r n e h =
     let s = one_in_order k bytes line rest following l least r n e h in
     let t : named_literals (line ++ (l ∷ [])) ≡ named_literals line ++ (named_literal l ∷ []) = map-append named_literal line (l ∷ []) in
-    let o = subst (λ ls. IsInForm (outcome_of k ls)) t (in_form k bytes (line ++ (l ∷ [])) following (literal_place k l + 1) d s) in
+    let o = subst (λ ls. IsPrintable (outcome_of k ls)) t (in_form k bytes (line ++ (l ∷ [])) following (literal_place k l + 1) d s) in
     let w = s.words ∙ ap (λ ls. words_text ls ++ following) t in
     (d, (named_literals line, named_literal l, (o, (words_text (named_literals line ++ (named_literal l ∷ [])), following, (words_ended (named_literals line ++ (named_literal l ∷ [])), w)))))
 
@@ -119,17 +119,17 @@ pub record ReadSoFar (k : AnswerKind) (bytes rest : List ℕ) (least : ℕ) : Ty
   pub before : (more : List ℕ) → ReadInOrder k (bytes ++ more) line (rest ++ more) least
 
 -- the next word and its space stay next if more bytes follow
-after_space : (l : ℕ) (rest following more : List ℕ) → rest ≡ word_of (named_literal l) ++ (32 ∷ following) → rest ++ more ≡ word_of (named_literal l) ++ (32 ∷ (following ++ more))
-after_space l rest following more e = ap (λ t. t ++ more) e ∙ append_assoc (word_of (named_literal l)) (32 ∷ following) more
+after_space : (l : ℕ) (rest following more : List ℕ) → rest ≡ literal_text (named_literal l) ++ (32 ∷ following) → rest ++ more ≡ literal_text (named_literal l) ++ (32 ∷ (following ++ more))
+after_space l rest following more e = ap (λ t. t ++ more) e ∙ append_assoc (literal_text (named_literal l)) (32 ∷ following) more
 
-pub one_so_far : (k : AnswerKind) (bytes rest following : List ℕ) (l least : ℕ) → ReadSoFar k bytes rest least → IsName (named_literal l).name → rest ≡ word_of (named_literal l) ++ (32 ∷ following) → least ≤ literal_place k l
+pub one_so_far : (k : AnswerKind) (bytes rest following : List ℕ) (l least : ℕ) → ReadSoFar k bytes rest least → IsName (named_literal l).name → rest ≡ literal_text (named_literal l) ++ (32 ∷ following) → least ≤ literal_place k l
     → ReadSoFar k bytes following (literal_place k l + 1)
 one_so_far k bytes rest following l least r n e h = record {
   line = r.line ++ (l ∷ []);
   before = λ more. one_in_order k (bytes ++ more) r.line (rest ++ more) (following ++ more) l least (r.before more) n (after_space l rest following more e) h;
 }
 
-pub starts_out_of_order : (k : AnswerKind) (bytes rest following : List ℕ) (l least : ℕ) → HasLine k → ReadSoFar k bytes rest least → IsName (named_literal l).name → rest ≡ word_of (named_literal l) ++ (32 ∷ following) → literal_place k l < least
+pub starts_out_of_order : (k : AnswerKind) (bytes rest following : List ℕ) (l least : ℕ) → HasLine k → ReadSoFar k bytes rest least → IsName (named_literal l).name → rest ≡ literal_text (named_literal l) ++ (32 ∷ following) → literal_place k l < least
     → StartsNoLiterals k bytes
 starts_out_of_order k bytes rest following l least d r n e low ls more o f =
     out_of_order k (bytes ++ more) r.line (rest ++ more) (following ++ more) l least d (r.before more) n (after_space l rest following more e) low ls [] o (sym f ∙ sym (append-nil (literals_text ls)))

@@ -2,12 +2,12 @@
 use Rattle.std.proofs.Common.{ℕ, append_assoc, ◌+◌, ◌≤◌, ◌≡◌, inl, inr, true, List, [], ◌∷◌, ◌++◌, map, Option, Some, None, sym, ◌∙◌, ap, subst, zero, suc, arith}
 use Rattle.sat_base.specs.values.Literals.{var_limit}
 use Rattle.sat_base.specs.script.Script.{Literal, Command, Ask, ScriptEnding, names_of}
-use Rattle.sat_base.specs.script.ScriptState.{ScriptState, accepted, accepted_of, refusal_of}
+use Rattle.sat_base.specs.script.ScriptState.{ScriptState, state_after_accepted, accepted_commands, refusal_of}
 use Rattle.sat_base.specs.steps.Steps.{Step}
 use Rattle.sat_checker.specs.Accepts.{ready_after}
 use Rattle.sat_checker.specs.matching.Checking.{variable_of}
-use Rattle.sat_checker.specs.matching.Expected.{Outcome, Sat, Unsat, Unknown, Expected, Fails, Opens, Closes, bringing, showing, expected}
-use Rattle.certify.specs.answers.AnswerForms.{IsName, HaveNames, NamesRise, IsInForm}
+use Rattle.sat_checker.specs.matching.Expected.{Outcome, Sat, Unsat, Unknown, Expected, Fails, Opens, Closes, introducing, showing, expected}
+use Rattle.certify.specs.answers.AnswerForms.{IsName, HaveNames, NamesRise, IsPrintable}
 use Rattle.certify.specs.answers.Answers.{outcome_text}
 use Rattle.certify.specs.confirm.CertificatePlaces.{CanMeet, MeetsExactly, MeetsNoneOf}
 use Rattle.certify.specs.confirm.Matches.{CoreIsInOrder}
@@ -51,12 +51,12 @@ core_form : (ask core : List Literal) (earlier : List Step) (certificate : List 
 core_form ask core earlier certificate es named m = elim (met_fails earlier ask core es certificate m) [ inl e ↦ subst HaveNames (sym e) tt | inr h ↦ variables_named earlier core named h ]
 
 -- an outcome whose steps can be met is in form
-shown_form : (j : ScriptState) (ask : List Literal) (o : Outcome) (earlier : List Step) (certificate : List ℕ) (es : List Expected) → Listed j → Within earlier → CoreIsInOrder o → CanMeet earlier (showing j ask o ++ es) certificate → IsInForm o
+shown_form : (j : ScriptState) (ask : List Literal) (o : Outcome) (earlier : List Step) (certificate : List ℕ) (es : List Expected) → Listed j → Within earlier → CoreIsInOrder o → CanMeet earlier (showing j ask o ++ es) certificate → IsPrintable o
 shown_form j ask (Sat line) earlier certificate es listed named form m = listed line (met_shows earlier (map (λ n. n.name) j.in_use) ask line es certificate m)
 shown_form j ask (Unsat core) earlier certificate es listed named form m = (core_form ask core earlier certificate es named m, form)
 shown_form j ask Unknown earlier certificate es listed named form m = (tt, tt)
 
-form_of : (o : Outcome) → IsInForm o → CoreIsInOrder o
+form_of : (o : Outcome) → IsPrintable o → CoreIsInOrder o
 form_of (Sat line) h = tt
 form_of (Unsat core) h = h.1
 form_of Unknown h = tt
@@ -66,39 +66,39 @@ pub record Answerable (j : ScriptState) (n : ℕ) (earlier : List Step) (ask : L
   pub outcome : Outcome
   pub tail : List ℕ
   pub answered : answers ≡ outcome_text outcome ++ tail
-  pub readable : IsInForm outcome
+  pub readable : IsPrintable outcome
   pub alone : (ready_after earlier).unsat ≡ true → outcome ≡ Unsat []
   pub left : Rest j n earlier (showing j ask outcome ++ (Closes ∷ [])) cs ending tail certificate
 
 module _ (j : ScriptState) (n : ℕ) (ask : List Literal) (cs : List Command) (ending : ScriptEnding) (answers : List ℕ) (e : refusal_of j (Ask ask) ≡ None) where
   -- an ask is not confirmed if the steps for its names cannot be met
-  pub ask_unnamed : (first : List Step) (c : List ℕ) → MeetsNoneOf first c (bringing (names_of ask) j) → Rest j n first [] (Ask ask ∷ cs) ending answers c → ⊥
+  pub ask_unnamed : (first : List Step) (c : List ℕ) → MeetsNoneOf first c (introducing (names_of ask) j) → Rest j n first [] (Ask ask ∷ cs) ending answers c → ⊥
   ask_unnamed first c b l =
       let a = ask_on j n first ask cs ending answers c e l in
-      left_barred (Opens ask a.outcome ∷ (showing (accepted (Ask ask) j) ask a.outcome ++ (Closes ∷ []))) (accepted (Ask ask) j) (n + 1) cs ending a.tail b a.left
+      left_barred (Opens ask a.outcome ∷ (showing (state_after_accepted (Ask ask) j) ask a.outcome ++ (Closes ∷ []))) (state_after_accepted (Ask ask) j) (n + 1) cs ending a.tail b a.left
 
-  module _ (first second : List Step) (c d : List ℕ) (named : MeetsExactly first c (bringing (names_of ask) j) second d) where
+  module _ (first second : List Step) (c d : List ℕ) (named : MeetsExactly first c (introducing (names_of ask) j) second d) where
     -- an ask is not confirmed if its assumptions cannot be met
     pub ask_unopened : ((o : Outcome) → MeetsNoneOf second d (Opens ask o ∷ [])) → Rest j n first [] (Ask ask ∷ cs) ending answers c → ⊥
     ask_unopened b l =
         let a = ask_on j n first ask cs ending answers c e l in
-        let next = accepted (Ask ask) j in
+        let next = state_after_accepted (Ask ask) j in
         let more = showing next ask a.outcome ++ (Closes ∷ []) in
         left_barred more next (n + 1) cs ending a.tail (b a.outcome) (left_on (Opens ask a.outcome ∷ more) next (n + 1) cs ending a.tail named a.left)
 
     module _ (third : List Step) (f : List ℕ)
         (opened : (o : Outcome) → ((ready_after third).unsat ≡ true → o ≡ Unsat []) → MeetsExactly second d (Opens ask o ∷ []) third f)
         (alone : (o : Outcome) (es : List Expected) → CanMeet second (Opens ask o ∷ es) d → (ready_after third).unsat ≡ true → o ≡ Unsat [])
-        (listed : Listed (accepted (Ask ask) j)) (within : Within third) where
-      answerable : Rest j n first [] (Ask ask ∷ cs) ending answers c → Answerable (accepted (Ask ask) j) (n + 1) third ask cs ending answers f
+        (listed : Listed (state_after_accepted (Ask ask) j)) (within : Within third) where
+      answerable : Rest j n first [] (Ask ask ∷ cs) ending answers c → Answerable (state_after_accepted (Ask ask) j) (n + 1) third ask cs ending answers f
       answerable l =
           let a = ask_on j n first ask cs ending answers c e l in
-          let next = accepted (Ask ask) j in
+          let next = state_after_accepted (Ask ask) j in
           let more = showing next ask a.outcome ++ (Closes ∷ []) in
           let here = left_on (Opens ask a.outcome ∷ more) next (n + 1) cs ending a.tail named a.left in
-          let allowed : (ready_after third).unsat ≡ true → a.outcome ≡ Unsat [] = λ u. alone a.outcome (more ++ expected next (accepted_of next cs) here.outcomes) here.certified u in
+          let allowed : (ready_after third).unsat ≡ true → a.outcome ≡ Unsat [] = λ u. alone a.outcome (more ++ expected next (accepted_commands next cs) here.outcomes) here.certified u in
           let there = left_on more next (n + 1) cs ending a.tail (opened a.outcome allowed) here in
-          let following = expected next (accepted_of next cs) there.outcomes in
+          let following = expected next (accepted_commands next cs) there.outcomes in
           record {
             outcome = a.outcome;
             tail = a.tail;
@@ -109,18 +109,18 @@ module _ (j : ScriptState) (n : ℕ) (ask : List Literal) (cs : List Command) (e
           }
 
       -- once the outcome was read, the steps that show it are left to confirm
-      pub answered_on : (o : Outcome) (tail : List ℕ) → IsInForm o → answers ≡ outcome_text o ++ tail → Rest j n first [] (Ask ask ∷ cs) ending answers c
-          → Rest (accepted (Ask ask) j) (n + 1) third (showing (accepted (Ask ask) j) ask o ++ (Closes ∷ [])) cs ending tail f
+      pub answered_on : (o : Outcome) (tail : List ℕ) → IsPrintable o → answers ≡ outcome_text o ++ tail → Rest j n first [] (Ask ask ∷ cs) ending answers c
+          → Rest (state_after_accepted (Ask ask) j) (n + 1) third (showing (state_after_accepted (Ask ask) j) ask o ++ (Closes ∷ [])) cs ending tail f
       answered_on o tail form answered l =
           let a = answerable l in
           let same = same_outcome a.outcome o a.tail tail (printed a.outcome a.readable) (printed o form) (sym a.answered ∙ answered) in
-          subst (λ t. Rest (accepted (Ask ask) j) (n + 1) third (showing (accepted (Ask ask) j) ask o ++ (Closes ∷ [])) cs ending t f) same.1
-          (subst (λ v. Rest (accepted (Ask ask) j) (n + 1) third (showing (accepted (Ask ask) j) ask v ++ (Closes ∷ [])) cs ending a.tail f) same.0 a.left)
+          subst (λ t. Rest (state_after_accepted (Ask ask) j) (n + 1) third (showing (state_after_accepted (Ask ask) j) ask o ++ (Closes ∷ [])) cs ending t f) same.1
+          (subst (λ v. Rest (state_after_accepted (Ask ask) j) (n + 1) third (showing (state_after_accepted (Ask ask) j) ask v ++ (Closes ∷ [])) cs ending a.tail f) same.0 a.left)
 
-      pub answered_back : (o : Outcome) (tail : List ℕ) → IsInForm o → answers ≡ outcome_text o ++ tail → ((ready_after third).unsat ≡ true → o ≡ Unsat [])
-          → Rest (accepted (Ask ask) j) (n + 1) third (showing (accepted (Ask ask) j) ask o ++ (Closes ∷ [])) cs ending tail f → Rest j n first [] (Ask ask ∷ cs) ending answers c
+      pub answered_back : (o : Outcome) (tail : List ℕ) → IsPrintable o → answers ≡ outcome_text o ++ tail → ((ready_after third).unsat ≡ true → o ≡ Unsat [])
+          → Rest (state_after_accepted (Ask ask) j) (n + 1) third (showing (state_after_accepted (Ask ask) j) ask o ++ (Closes ∷ [])) cs ending tail f → Rest j n first [] (Ask ask ∷ cs) ending answers c
       answered_back o tail form answered allowed h =
-          let next = accepted (Ask ask) j in
+          let next = state_after_accepted (Ask ask) j in
           let more = showing next ask o ++ (Closes ∷ []) in
           ask_back j n first ask cs ending answers c e (record {
             outcome = o;
@@ -131,5 +131,5 @@ module _ (j : ScriptState) (n : ℕ) (ask : List Literal) (cs : List Command) (e
           })
 
       -- an ask is not confirmed if no outcome can be read
-      pub ask_unread : ((o : Outcome) (tail : List ℕ) → IsInForm o → ((ready_after third).unsat ≡ true → o ≡ Unsat []) → answers ≡ outcome_text o ++ tail → ⊥) → Rest j n first [] (Ask ask ∷ cs) ending answers c → ⊥
+      pub ask_unread : ((o : Outcome) (tail : List ℕ) → IsPrintable o → ((ready_after third).unsat ≡ true → o ≡ Unsat []) → answers ≡ outcome_text o ++ tail → ⊥) → Rest j n first [] (Ask ask ∷ cs) ending answers c → ⊥
       ask_unread none l = let a = answerable l in none a.outcome a.tail a.readable a.alone a.answered

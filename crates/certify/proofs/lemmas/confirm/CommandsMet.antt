@@ -2,16 +2,16 @@
 use Rattle.std.proofs.Common.{ℕ, ◌+◌, ◌≡◌, ◌↔◌, true, List, [], ◌∷◌, ◌++◌, Some, None, Result, Ok, Err, refl, sym, ◌∙◌, ap, subst, append_assoc}
 use Rattle.std.proofs.lemmas.List.{append_cancel_left, append-nil}
 use Rattle.sat_base.specs.script.Script.{Literal, Command, Clause, Ask, Hide, Witness, Sample, ScriptEnding, Clean, Malformed, names_of}
-use Rattle.sat_base.specs.script.ScriptState.{ScriptState, Sampled, Witnessed, Refusal, refusal_of, accepted, accepted_of, after_command, bring_all, with_clause}
+use Rattle.sat_base.specs.script.ScriptState.{ScriptState, Sampled, Witnessed, Refusal, refusal_of, state_after_accepted, accepted_commands, after_command, introduce_all, with_clause}
 use Rattle.sat_base.specs.steps.Steps.{Step}
 use Rattle.sat_checker.specs.Accepts.{ready_after}
 use Rattle.sat_checker.specs.KernelView.{HasAccepted as HasTakenSteps}
-use Rattle.sat_checker.specs.matching.Expected.{Outcome, Unsat, Expected, Adds, Opens, Closes, Finish, bringing, hiding, setting, showing, expected}
-use Rattle.certify.specs.answers.AnswerForms.{IsInForm}
-use Rattle.certify.specs.answers.Answers.{outcome_text, refused_line, malformed_line, answers_from, outcomes_left, piece}
+use Rattle.sat_checker.specs.matching.Expected.{Outcome, Unsat, Expected, Adds, Opens, Closes, Finish, introducing, hiding, setting, showing, expected}
+use Rattle.certify.specs.answers.AnswerForms.{IsPrintable}
+use Rattle.certify.specs.answers.Answers.{outcome_text, refused_line, malformed_line, answers_from, outcomes_left, answer_to_command}
 use Rattle.certify.specs.confirm.CertificatePlaces.{CanMeet, MeetsNoneOf}
 use Rattle.certify.specs.confirm.Lines.{TakesDueLine}
-use Rattle.certify.specs.confirm.Matches.{OneEach}
+use Rattle.certify.specs.confirm.Matches.{OneOutcomePerAsk}
 use Rattle.certify.specs.confirm.CertificateStates.{CertificateState}
 use Rattle.certify.specs.judge.Names.{NamesHaveState}
 use Rattle.certify.specs.confirm.Awaiting.{IsDueMet, MeetsDue}
@@ -35,8 +35,8 @@ NoAsk e = Unit {0}
 
 -- the steps that a command expects for its names
 abbrev for_names : Command → ScriptState → List Expected
-for_names (Clause ls) j = bringing (names_of ls) j
-for_names (Ask ls) j = bringing (names_of ls) j
+for_names (Clause ls) j = introducing (names_of ls) j
+for_names (Ask ls) j = introducing (names_of ls) j
 for_names (Hide names) j = hiding names j
 for_names (Witness names) j = setting Witnessed names j
 for_names (Sample names) j = setting Sampled names j
@@ -46,18 +46,18 @@ abbrev after_names : Command → List Expected
 after_names (Clause ls) = Adds ls ∷ []
 after_names e = []
 
-expected_on : (c : Command) → NoAsk c → (j : ScriptState) (cs : List Command) (os : List Outcome) → expected j (c ∷ cs) os ≡ (for_names c j ++ after_names c) ++ expected (accepted c j) cs os
-expected_on (Clause ls) a j cs os = sym (append_assoc (bringing (names_of ls) j) (Adds ls ∷ []) (expected (accepted (Clause ls) j) cs os))
+expected_on : (c : Command) → NoAsk c → (j : ScriptState) (cs : List Command) (os : List Outcome) → expected j (c ∷ cs) os ≡ (for_names c j ++ after_names c) ++ expected (state_after_accepted c j) cs os
+expected_on (Clause ls) a j cs os = sym (append_assoc (introducing (names_of ls) j) (Adds ls ∷ []) (expected (state_after_accepted (Clause ls) j) cs os))
 expected_on (Ask ls) a j cs os = absurd a
-expected_on (Hide names) a j cs os = ap (λ (es : List Expected). es ++ expected (accepted (Hide names) j) cs os) (sym (append-nil (hiding names j)))
-expected_on (Witness names) a j cs os = ap (λ (es : List Expected). es ++ expected (accepted (Witness names) j) cs os) (sym (append-nil (setting Witnessed names j)))
-expected_on (Sample names) a j cs os = ap (λ (es : List Expected). es ++ expected (accepted (Sample names) j) cs os) (sym (append-nil (setting Sampled names j)))
+expected_on (Hide names) a j cs os = ap (λ (es : List Expected). es ++ expected (state_after_accepted (Hide names) j) cs os) (sym (append-nil (hiding names j)))
+expected_on (Witness names) a j cs os = ap (λ (es : List Expected). es ++ expected (state_after_accepted (Witness names) j) cs os) (sym (append-nil (setting Witnessed names j)))
+expected_on (Sample names) a j cs os = ap (λ (es : List Expected). es ++ expected (state_after_accepted (Sample names) j) cs os) (sym (append-nil (setting Sampled names j)))
 
-one_on : (c : Command) → NoAsk c → (cs : List Command) (os : List Outcome) → OneEach (c ∷ cs) os ↔ OneEach cs os
+one_on : (c : Command) → NoAsk c → (cs : List Command) (os : List Outcome) → OneOutcomePerAsk (c ∷ cs) os ↔ OneOutcomePerAsk cs os
 one_on (Ask ls) a cs os = absurd a
 one_on e a cs os = ((λ h. h), (λ h. h))
 
-no_piece : (c : Command) → NoAsk c → (n : ℕ) (os : List Outcome) → piece n None c os ≡ []
+no_piece : (c : Command) → NoAsk c → (n : ℕ) (os : List Outcome) → answer_to_command n None c os ≡ []
 no_piece (Ask ls) a n os = absurd a
 no_piece e a n os = refl
 
@@ -66,24 +66,24 @@ all_left (Ask ls) a os = absurd a
 all_left e a os = refl
 
 command_pending : (c : Command) → NoAsk c → (j : ScriptState) (n : ℕ) (earlier : List Step) (cs : List Command) (ending : ScriptEnding) (answers certificate : List ℕ) → refusal_of j c ≡ None
-    → Rest j n earlier [] (c ∷ cs) ending answers certificate ↔ Rest (accepted c j) (n + 1) earlier (for_names c j ++ after_names c) cs ending answers certificate
+    → Rest j n earlier [] (c ∷ cs) ending answers certificate ↔ Rest (state_after_accepted c j) (n + 1) earlier (for_names c j ++ after_names c) cs ending answers certificate
 command_pending c a j n earlier cs ending answers certificate e =
-    let next = accepted c j in
-    let text : (os : List Outcome) → piece n None c os ++ answers_from (n + 1) next cs ending (outcomes_left None c os) ≡ answers_from (n + 1) next cs ending os = λ os.
+    let next = state_after_accepted c j in
+    let text : (os : List Outcome) → answer_to_command n None c os ++ answers_from (n + 1) next cs ending (outcomes_left None c os) ≡ answers_from (n + 1) next cs ending os = λ os.
     ap (λ (xs : List ℕ). xs ++ answers_from (n + 1) next cs ending (outcomes_left None c os)) (no_piece c a n os) ∙ ap (answers_from (n + 1) next cs ending) (all_left c a os) in (
       (λ l. record {
         outcomes = l.outcomes;
         answered = (rw e at l.answered) ∙ text l.outcomes;
-        one_each = (one_on c a (accepted_of next cs) l.outcomes).0 (rw e at l.one_each);
+        one_each = (one_on c a (accepted_commands next cs) l.outcomes).0 (rw e at l.one_each);
         in_form = l.in_form;
-        certified = subst (λ es. CanMeet earlier es certificate) (expected_on c a j (accepted_of next cs) l.outcomes) (rw e at l.certified);
+        certified = subst (λ es. CanMeet earlier es certificate) (expected_on c a j (accepted_commands next cs) l.outcomes) (rw e at l.certified);
       }),
       (λ l. record {
         outcomes = l.outcomes;
         answered = rw e (l.answered ∙ sym (text l.outcomes));
-        one_each = rw e ((one_on c a (accepted_of next cs) l.outcomes).1 l.one_each);
+        one_each = rw e ((one_on c a (accepted_commands next cs) l.outcomes).1 l.one_each);
         in_form = l.in_form;
-        certified = rw e (subst (λ es. CanMeet earlier es certificate) (sym (expected_on c a j (accepted_of next cs) l.outcomes)) l.certified);
+        certified = rw e (subst (λ es. CanMeet earlier es certificate) (sym (expected_on c a j (accepted_commands next cs) l.outcomes)) l.certified);
       }),
     )
 
@@ -92,7 +92,7 @@ command_pending c a j n earlier cs ending answers certificate e =
 after_refused : (j : ScriptState) (c : Command) (r : Refusal) → refusal_of j c ≡ Some r → after_command c j ≡ j
 after_refused j c r e = rw e refl
 
-after_accepted : (j : ScriptState) (c : Command) → refusal_of j c ≡ None → after_command c j ≡ accepted c j
+after_accepted : (j : ScriptState) (c : Command) → refusal_of j c ≡ None → after_command c j ≡ state_after_accepted c j
 after_accepted j c e = rw e refl
 
 -- how a command that leads to state `next` is confirmed
@@ -136,8 +136,8 @@ with_clauses : (names : Names) (ls : List Literal) (j : ScriptState) → NamesHa
 with_clauses names ls j h = record { first = h.first; limit = h.limit; each = h.each; fresh = h.fresh; given = h.given; modes = h.modes; apart = h.apart }
 
 -- a table that fits the state after the names of a command fits the state after the command
-left_is : (kind : Kind) (ls : List Literal) (j : ScriptState) (names : Names) → NamesHaveState names (taken_by kind (names_of ls) j) → NamesHaveState names (accepted (command_of kind ls) j)
-left_is OfClause ls j names h = with_clauses names ls (bring_all (names_of ls) j) (subst (NamesHaveState names) (names_are_expected.left_by_clause (names_of ls) j) h)
+left_is : (kind : Kind) (ls : List Literal) (j : ScriptState) (names : Names) → NamesHaveState names (taken_by kind (names_of ls) j) → NamesHaveState names (state_after_accepted (command_of kind ls) j)
+left_is OfClause ls j names h = with_clauses names ls (introduce_all (names_of ls) j) (subst (NamesHaveState names) (names_are_expected.left_by_clause (names_of ls) j) h)
 left_is OfAsk ls j names h = subst (NamesHaveState names) (names_are_expected.left_by_ask (names_of ls) j) h
 left_is OfHide ls j names h = subst (NamesHaveState names) (names_are_expected.left_by_hide (names_of ls) j) h
 left_is OfWitness ls j names h = subst (NamesHaveState names) (names_are_expected.left_by_witness (names_of ls) j) h
@@ -145,9 +145,9 @@ left_is OfSample ls j names h = subst (NamesHaveState names) (names_are_expected
 
 -- a command is not confirmed if the steps for its names cannot be met
 unnamed_barred : (c : Command) (j : ScriptState) (n : ℕ) (earlier : List Step) (cs : List Command) (ending : ScriptEnding) (answers certificate : List ℕ) → refusal_of j c ≡ None → MeetsNoneOf earlier certificate (for_names c j) → Rest j n earlier [] (c ∷ cs) ending answers certificate → ⊥
-unnamed_barred (Clause ls) j n earlier cs ending answers certificate e b h = left_barred (Adds ls ∷ []) (accepted (Clause ls) j) (n + 1) cs ending answers b ((command_pending (Clause ls) tt j n earlier cs ending answers certificate e).0 h)
+unnamed_barred (Clause ls) j n earlier cs ending answers certificate e b h = left_barred (Adds ls ∷ []) (state_after_accepted (Clause ls) j) (n + 1) cs ending answers b ((command_pending (Clause ls) tt j n earlier cs ending answers certificate e).0 h)
 unnamed_barred (Ask ls) j n earlier cs ending answers certificate e b h = ask_unnamed j n ls cs ending answers e earlier certificate b h
-unnamed_barred x j n earlier cs ending answers certificate e b h = left_barred [] (accepted x j) (n + 1) cs ending answers b ((command_pending x tt j n earlier cs ending answers certificate e).0 h)
+unnamed_barred x j n earlier cs ending answers certificate e b h = left_barred [] (state_after_accepted x j) (n + 1) cs ending answers b ((command_pending x tt j n earlier cs ending answers certificate e).0 h)
 
 pub command_unnamed : (kind : Kind) (ls : List Literal) (t next : Table) (before following : List ℕ) (u v : CertificateState) (n : ℕ) (after : NamedVars) (why : Why) → ((j : ScriptState) → NamesHaveState t.names j → refusal_of j (command_of kind ls) ≡ None)
     → ((j : ScriptState) → NamesHaveState t.names j → MeetsAll (naming_all kind (names_of ls) j) t.variables after u v (Err why)) → ConfirmsNext n (command_of kind ls) t next before following u v (Err why)
@@ -167,7 +167,7 @@ module _ (kind : Kind) (ls : List Literal) (a : NoAsk (command_of kind ls)) (t n
       let e = is.allowed j s.judged in
       let first = named_on kind ls t named u v is j earlier s in
       let second = met first.later first.valid in
-      let left = accepted (command_of kind ls) j in
+      let left = state_after_accepted (command_of kind ls) j in
       let pending = command_pending (command_of kind ls) a j n earlier in
       let valid : NamesHaveState next.names left = subst (λ (x : Names). NamesHaveState x left) (sym same) (left_is kind ls j named.names (is.changes j s.judged)) in
       confirmed before before u w j left earlier second.later n (command_of kind ls) next (after_accepted j (command_of kind ls) e)
@@ -181,7 +181,7 @@ module _ (kind : Kind) (ls : List Literal) (a : NoAsk (command_of kind ls)) (t n
   plain_confirmed next w (Err why) same met = λ j earlier s cs ending h.
       let e = is.allowed j s.judged in
       let first = named_on kind ls t named u v is j earlier s in
-      let left = accepted (command_of kind ls) j in
+      let left = state_after_accepted (command_of kind ls) j in
       left_barred [] left (n + 1) cs ending before (met first.later first.valid)
       (subst (λ (es : List Expected). Rest left (n + 1) first.later es cs ending before v.rest) (sym (append-nil (after_names (command_of kind ls))))
       (left_on (after_names (command_of kind ls)) left (n + 1) cs ending before first.leads ((command_pending (command_of kind ls) a j n earlier cs ending before u.rest e).0 h)))
@@ -189,7 +189,7 @@ module _ (kind : Kind) (ls : List Literal) (a : NoAsk (command_of kind ls)) (t n
 -- AN ASK
 
 module _ (ls : List Literal) (t named : Table) (u v : CertificateState) (n : ℕ) (is : MeetsCommandNames OfAsk ls t named u v) where
-  first : (j : ScriptState) (earlier : List Step) → HoldsAt t u j earlier → GoesOnTo (bringing (names_of ls) j) named.variables u earlier v
+  first : (j : ScriptState) (earlier : List Step) → HoldsAt t u j earlier → GoesOnTo (introducing (names_of ls) j) named.variables u earlier v
   first j earlier s = named_on OfAsk ls t named u v is j earlier s
 
   pub ask_without_assumptions : (next : Table) (before following : List ℕ) (after : NamedVars) (w : CertificateState) (why : Why) → MeetsDue (λ o ask. Opens ls o) named.variables after v w (Err why) → ConfirmsNext n (Ask ls) t next before following u w (Err why)
@@ -201,23 +201,23 @@ module _ (ls : List Literal) (t named : Table) (u v : CertificateState) (n : ℕ
     second : (j : ScriptState) (earlier : List Step) (s : HoldsAt t u j earlier) → IsDueMet (λ o ask. Opens ls o) asked.variables v (first j earlier s).later w
     second j earlier s = let f = first j earlier s in opens f.later f.valid
 
-    holds : (j : ScriptState) (earlier : List Step) (s : HoldsAt t u j earlier) → HoldsAt asked w (accepted (Ask ls) j) (second j earlier s).later
+    holds : (j : ScriptState) (earlier : List Step) (s : HoldsAt t u j earlier) → HoldsAt asked w (state_after_accepted (Ask ls) j) (second j earlier s).later
     holds j earlier s =
         let e = is.allowed j s.judged in
         record {
-          judged = subst (λ (x : Names). NamesHaveState x (accepted (Ask ls) j)) same (left_is OfAsk ls j named.names (is.changes j s.judged));
+          judged = subst (λ (x : Names). NamesHaveState x (state_after_accepted (Ask ls) j)) same (left_is OfAsk ls j named.names (is.changes j s.judged));
           kept = accepted_kept (Ask ls) j e s.kept;
           at = (second j earlier s).valid;
         }
 
-    listed : (j : ScriptState) (earlier : List Step) → HoldsAt t u j earlier → Listed (accepted (Ask ls) j)
-    listed j earlier s = let h = holds j earlier s in all_listed asked.names (accepted (Ask ls) j) h.judged h.kept.order
+    listed : (j : ScriptState) (earlier : List Step) → HoldsAt t u j earlier → Listed (state_after_accepted (Ask ls) j)
+    listed j earlier s = let h = holds j earlier s in all_listed asked.names (state_after_accepted (Ask ls) j) h.judged h.kept.order
 
     within : (j : ScriptState) (earlier : List Step) (s : HoldsAt t u j earlier) → Within (second j earlier s).later
     within j earlier s = let h = holds j earlier s in all_within asked.variables (second j earlier s).later h.at.stand
 
     pub ask_without_answer : (next : Table) (following : List ℕ) (x : CertificateState) (why : Why)
-        → ((steps : List Step) → HasTakenSteps w.checker steps → (o : Outcome) (tail : List ℕ) → IsInForm o → ((ready_after steps).unsat ≡ true → o ≡ Unsat []) → before ≡ outcome_text o ++ tail → ⊥)
+        → ((steps : List Step) → HasTakenSteps w.checker steps → (o : Outcome) (tail : List ℕ) → IsPrintable o → ((ready_after steps).unsat ≡ true → o ≡ Unsat []) → before ≡ outcome_text o ++ tail → ⊥)
         → ConfirmsNext n (Ask ls) t next before following u x (Err why)
     ask_without_answer next following x why none j earlier s cs ending h =
         let f = first j earlier s in
@@ -226,14 +226,14 @@ module _ (ls : List Literal) (t named : Table) (u v : CertificateState) (n : ℕ
         (none g.later g.valid.taken.valid) h
 
     module _ (o : Outcome) (following : List ℕ)
-        (read : (steps : List Step) → HasTakenSteps w.checker steps → (before ≡ outcome_text o ++ following) × IsInForm o × ((ready_after steps).unsat ≡ true → o ≡ Unsat [])) where
+        (read : (steps : List Step) → HasTakenSteps w.checker steps → (before ≡ outcome_text o ++ following) × IsPrintable o × ((ready_after steps).unsat ≡ true → o ≡ Unsat [])) where
       pub ask_answered : (next : Table) (y : CertificateState) (r : Result (Unit {0}) Why) → next.names ≡ asked.names → MeetsOutcome asked.names ls o asked.variables next.variables w y r → ConfirmsNext n (Ask ls) t next before following u y r
       ask_answered next y (Ok z) kept met = λ j earlier s.
           let e = is.allowed j s.judged in
           let f = first j earlier s in
           let g = second j earlier s in
           let q = read g.later g.valid.taken.valid in
-          let left = accepted (Ask ls) j in
+          let left = state_after_accepted (Ask ls) j in
           let h = holds j earlier s in
           let m = met left h.judged h.kept.order g.later g.valid in
           let more = showing left ls o ++ Closes ∷ [] in
@@ -248,7 +248,7 @@ module _ (ls : List Literal) (t named : Table) (u v : CertificateState) (n : ℕ
           let f = first j earlier s in
           let g = second j earlier s in
           let q = read g.later g.valid.taken.valid in
-          let left = accepted (Ask ls) j in
+          let left = state_after_accepted (Ask ls) j in
           let h = holds j earlier s in
           let more = showing left ls o ++ Closes ∷ [] in
           left_barred [] left (n + 1) cs ending following (met left h.judged h.kept.order g.later g.valid)

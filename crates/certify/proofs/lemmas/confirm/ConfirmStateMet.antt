@@ -9,7 +9,7 @@ use Rattle.sat_checker.specs.Accepts.{ready_after}
 use Rattle.sat_checker.specs.KernelView.{HasAccepted as HasTakenSteps}
 use Rattle.sat_checker.specs.matching.Expected.{Outcome, Sat, Unsat, Unknown, Opens, Shows, Fails, Closes, Finish, showing}
 use Rattle.certify.specs.answers.Answers.{outcome_text, refused_line, malformed_line}
-use Rattle.certify.specs.answers.AnswerForms.{IsInForm, named_literals}
+use Rattle.certify.specs.answers.AnswerForms.{IsPrintable, named_literals}
 use Rattle.certify.specs.confirm.Lines.{TakesDueLine}
 use Rattle.certify.specs.confirm.Streams.{Stream, Confirms, seen_in}
 use Rattle.certify.specs.confirm.CertificateStates.{CertificateState}
@@ -84,7 +84,7 @@ module _ (n : ℕ) (ask : List Literal) (asked next : Table) (a b : Source) (s :
   answer_closes r t kept h p after_open = joins_then ⊥ true tt r a b b s s t Answered (λ q z w y (m : Result (Unit {0}) Why). (q ≡ z) × MeetsOutcome asked.names ask reply asked.variables next.variables w y m) (ConfirmsAnswer n ask asked next)
       here open_yet
       (λ p q z v w y m f g t named x u is same opens.
-      let read : (steps : List Step) → HasTakenSteps w.checker steps → (p ≡ outcome_text reply ++ z) × IsInForm reply × ((ready_after steps).unsat ≡ true → reply ≡ Unsat []) = λ steps taken.
+      let read : (steps : List Step) → HasTakenSteps w.checker steps → (p ≡ outcome_text reply ++ z) × IsPrintable reply × ((ready_after steps).unsat ≡ true → reply ≡ Unsat []) = λ steps taken.
       (f.1.0 ∙ ap (λ (rest : List ℕ). outcome_text reply ++ rest) g.0, f.1.1, (λ closed. f.1.2 (f.2 steps (subst (λ (k : CertificateState). HasTakenSteps k.checker steps) (sym f.0) taken) ∙ closed))) in
       let opened : MeetsDue (λ o under. Opens ask o) named.variables asked.variables u w (Ok tt) = subst (λ (k : CertificateState). MeetsDue (λ o under. Opens ask o) named.variables asked.variables u k (Ok tt)) f.0 opens in
       ask_answered ask t named x u n is asked w same opened p reply z read next y m kept g.1)

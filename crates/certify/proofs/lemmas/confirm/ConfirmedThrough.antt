@@ -2,11 +2,11 @@
 use Rattle.std.proofs.Common.{ℕ, ◌+◌, ◌^◌, ◌<◌, ◌≤◌, ◌≡◌, true, false, List, [], ◌∷◌, Result, Ok, Err, refl, sym, ◌∙◌, ap, subst, arith}
 use Rattle.sat_base.specs.device.Reading.{Source, AtEnd}
 use Rattle.sat_base.specs.script.Script.{Command, Clean, Malformed}
-use Rattle.sat_base.specs.script.Language.{Reading, onto_commands}
+use Rattle.sat_base.specs.script.Language.{Reading, prepend_commands}
 use Rattle.sat_base.specs.script.ScriptState.{ScriptState, after_command}
 use Rattle.sat_base.specs.steps.Steps.{Step}
 use Rattle.certify.specs.confirm.Streams.{Stream, Confirms, Covers, rest_in}
-use Rattle.certify.specs.confirm.VerdictPromises.{numbers}
+use Rattle.certify.specs.confirm.VerdictPromises.{command_count}
 use Rattle.certify.specs.confirm.CertificateStates.{CertificateState}
 use Rattle.certify.specs.declared.confirm.stop.Stop.TheVariants as stop
 use Rattle.certify.specs.declared.confirm.stop.Stop.{Stop}
@@ -21,7 +21,7 @@ use Rattle.sat_base.specs.declared.device.whole.ReadError.TheVariants as errors
 use Rattle.certify.specs.confirm.ConfirmedScript.{ConfirmsScript, ConfirmsThrough, ConfirmPlace}
 use Rattle.certify.specs.script.LastPiece.{FaultsAhead, NoReadFailedAhead, TakesSome}
 use Rattle.certify.specs.script.Commands.{HasWhole, ReaderMeans, ReachesCommand, end_reading}
-use Rattle.certify.specs.script.Streaming.{Arrives, NextComes}
+use Rattle.certify.specs.script.Streaming.{Arrives, NextCommandResult}
 use Rattle.certify.proofs.lemmas.confirm.Streams.{all_over, confirms_none, nothing_after, says_stop, taken_front}
 use Rattle.certify.proofs.lemmas.confirm.Joining.{covers_given, covers_took, failed_then, joins_stop, joins_then, kept_then, took_halted, took_kept, took_none, took_open, took_then}
 
@@ -42,12 +42,12 @@ through_none text s reader m = record {
 
 -- ONE MORE COMMAND
 
-pub numbers_more : (c : Command) (r : Reading) → numbers (onto_commands (c ∷ []) r) ≡ numbers r + 1
+pub numbers_more : (c : Command) (r : Reading) → command_count (prepend_commands (c ∷ []) r) ≡ command_count r + 1
 numbers_more c (cs, Clean) = omega arith
 numbers_more c (cs, Malformed) = omega arith
 
 through_command : (n m k : ℕ) (script : Reading) (c : Command) (left : Reading) (t between next : Table) (p q z : List ℕ) (u v w : CertificateState) → k ≡ m + 1
-    → Through n script t m (onto_commands (c ∷ []) left) between p q u v (Ok tt) → ConfirmsNext m c between next q z v w (Ok tt) → Through n script t k left next p z u w (Ok tt)
+    → Through n script t m (prepend_commands (c ∷ []) left) between p q u v (Ok tt) → ConfirmsNext m c between next q z v w (Ok tt) → Through n script t k left next p z u w (Ok tt)
 through_command n m k script c left t between next p q z u v w e f g j earlier s =
     let x = f j earlier s in
     let y = g x.judge x.later x.valid in
@@ -77,7 +77,7 @@ quits a b s t P open_yet h =
     (took_kept true a b h.0, says_stop {B = ℕ} {C = Unit {0}} true stop.OutOfMemory s t (λ u v. P (rest_in total a) (rest_in total b) u v (Ok tt)) (λ y. ⊥) Any open_yet (λ more why f n. tt) (h.1 total (covers_given b)) tt)
 
 -- a script has the result of its complete reading
-ends_by : (M : Type 0) (text : List ℕ → Reading) (r : Result (Unit {0}) Stop) (old new : ConfirmPlace) → TakesSome false old.script new.script → (M → (total : List ℕ) → Covers new.script total → 2 ^ 64 < old.number + numbers (text (rest_in total old.script)))
+ends_by : (M : Type 0) (text : List ℕ → Reading) (r : Result (Unit {0}) Stop) (old new : ConfirmPlace) → TakesSome false old.script new.script → (M → (total : List ℕ) → Covers new.script total → 2 ^ 64 < old.number + command_count (text (rest_in total old.script)))
     → ((total : List ℕ) → Covers new.script total → Joins M false r old.answers new.answers old.certificate new.certificate (λ before following u v. ConfirmsLast old.number (text (rest_in total old.script)) old.table before u)) → ConfirmsScript text r old new
 ends_by M text (Ok x) old new took many joins = (took, joins)
 ends_by M text (Err (stop.No why)) old new took many joins = (took, joins)
@@ -98,19 +98,19 @@ module _ (text : List ℕ → Reading) (old mid : ConfirmPlace) (reader after_re
   pub short_script : (new : Source) → NoReadFailedAhead mid.script new → ConfirmsScript text (Err stop.OutOfMemory) old (record mid { script = new })
   short_script new f = (kept_then old.script mid.script new (took_kept true old.script mid.script through.took) f, quits old.answers mid.answers old.certificate mid.certificate (Through old.number (text (rest_in mid.script.reader.given old.script)) old.table mid.number (through.left (rest_in mid.script.reader.given mid.script)) mid.table) open_yet (through.joins mid.script.reader.given (covers_given mid.script)))
 
-  pub unread : (e : ReadError) (new : Source) → NextComes (Err e) mid.script new reader after_reader → ConfirmsScript text (Err (script_stop e)) old (record mid { script = new })
+  pub unread : (e : ReadError) (new : Source) → NextCommandResult (Err e) mid.script new reader after_reader → ConfirmsScript text (Err (script_stop e)) old (record mid { script = new })
   unread errors.Failed new f = unread_script new f
   unread errors.OutOfMemory new f = short_script new (took_kept true mid.script new f)
 
   -- the end
   module _ (new : ConfirmPlace) (M : Type 0) (took : TakesSome false mid.script new.script) (left : Reading) (is : (total : List ℕ) → Covers new.script total → through.left (rest_in total mid.script) ≡ left) where
-    whole : (r : Result (Unit {0}) Stop) → (M → 2 ^ 64 < mid.number + numbers left)
+    whole : (r : Result (Unit {0}) Stop) → (M → 2 ^ 64 < mid.number + command_count left)
         → Joins M false r mid.answers new.answers mid.certificate new.certificate (λ before following u v. ConfirmsLast mid.number left mid.table before u) → ConfirmsScript text r old new
     whole r many joins = ends_by M text r old new (took_then false old.script mid.script new.script through.took took)
         (λ x total k.
         let before = covers_took false mid.script new.script total mid_open took k in
         let c = through.counted total before in
-        let l : numbers (through.left (rest_in total mid.script)) ≡ numbers left = ap numbers (is total k) in
+        let l : command_count (through.left (rest_in total mid.script)) ≡ command_count left = ap command_count (is total k) in
         let m = many x in
         omega arith)
         (λ total k.
@@ -121,14 +121,14 @@ module _ (text : List ℕ → Reading) (old mid : ConfirmPlace) (reader after_re
         (subst (λ (x : Reading). Joins M true (Ok tt) old.answers mid.answers old.certificate mid.certificate (Through old.number (text (rest_in total old.script)) old.table mid.number x mid.table)) (is total k) (through.joins total before)) joins)
 
   pub ends_so : (new : ConfirmPlace) (e : ScriptEnd) (r : Result (Unit {0}) Stop) → Arrives (next.End e) mid.script new.script reader after_reader
-      → Joins (2 ^ 64 < mid.number + numbers (end_reading e)) false r mid.answers new.answers mid.certificate new.certificate (λ before following u v. ConfirmsLast mid.number (end_reading e) mid.table before u) → ConfirmsScript text r old new
-  ends_so new e r a joins = whole new (2 ^ 64 < mid.number + numbers (end_reading e)) a.0 (end_reading e) (a.1 true through.left through.means) r (λ x. x) joins
+      → Joins (2 ^ 64 < mid.number + command_count (end_reading e)) false r mid.answers new.answers mid.certificate new.certificate (λ before following u v. ConfirmsLast mid.number (end_reading e) mid.table before u) → ConfirmsScript text r old new
+  ends_so new e r a joins = whole new (2 ^ 64 < mid.number + command_count (end_reading e)) a.0 (end_reading e) (a.1 true through.left through.means) r (λ x. x) joins
 
   pub ends_last : (new : ConfirmPlace) (e : ScriptEnd) (r : Result (Unit {0}) Stop) → Arrives (next.Last e) mid.script new.script reader after_reader
-      → ((c : Command) → HasWhole after_reader c → Joins (2 ^ 64 < mid.number + numbers (onto_commands (c ∷ []) (end_reading e))) false r mid.answers new.answers mid.certificate new.certificate (λ before following u v. ConfirmsLast mid.number (onto_commands (c ∷ []) (end_reading e)) mid.table before u)) → ConfirmsScript text r old new
+      → ((c : Command) → HasWhole after_reader c → Joins (2 ^ 64 < mid.number + command_count (prepend_commands (c ∷ []) (end_reading e))) false r mid.answers new.answers mid.certificate new.certificate (λ before following u v. ConfirmsLast mid.number (prepend_commands (c ∷ []) (end_reading e)) mid.table before u)) → ConfirmsScript text r old new
   ends_last new e r a joins =
       let k = a.2 true through.left through.means in
-      whole new (2 ^ 64 < mid.number + numbers (onto_commands (k.0 ∷ []) (end_reading e))) ((a.0, a.1.0), λ h. all_over new.script a.1.1) (onto_commands (k.0 ∷ []) (end_reading e))
+      whole new (2 ^ 64 < mid.number + command_count (prepend_commands (k.0 ∷ []) (end_reading e))) ((a.0, a.1.0), λ h. all_over new.script a.1.1) (prepend_commands (k.0 ∷ []) (end_reading e))
       (λ total c. ap through.left (nothing_after mid.script new.script a.0 total a.1 c) ∙ k.2) r (λ x. x) (joins k.0 k.1)
 
   -- a command
@@ -139,7 +139,7 @@ module _ (text : List ℕ → Reading) (old mid : ConfirmPlace) (reader after_re
     took : TakesSome true mid.script new.script
     took = (a.0, a.1)
 
-    left_is : (total : List ℕ) → Covers new.script total → through.left (rest_in total mid.script) ≡ onto_commands (reaches.command ∷ []) (reaches.after (rest_in total new.script))
+    left_is : (total : List ℕ) → Covers new.script total → through.left (rest_in total mid.script) ≡ prepend_commands (reaches.command ∷ []) (reaches.after (rest_in total new.script))
     left_is total k = ap through.left (taken_front 0 mid.script new.script a.0 total a.1 k) ∙ reaches.reads (rest_in total new.script)
 
     pub one_more : new.number ≡ mid.number + 1
@@ -150,14 +150,14 @@ module _ (text : List ℕ → Reading) (old mid : ConfirmPlace) (reader after_re
       took = took_then true old.script mid.script new.script through.took took;
       counted = λ total k.
           let c = through.counted total (covers_took true mid.script new.script total mid_open took k) in
-          let l : numbers (through.left (rest_in total mid.script)) ≡ numbers (reaches.after (rest_in total new.script)) + 1 = ap numbers (left_is total k) ∙ numbers_more reaches.command (reaches.after (rest_in total new.script)) in
+          let l : command_count (through.left (rest_in total mid.script)) ≡ command_count (reaches.after (rest_in total new.script)) + 1 = ap command_count (left_is total k) ∙ numbers_more reaches.command (reaches.after (rest_in total new.script)) in
           omega arith;
       joins = λ total k.
           let before = covers_took true mid.script new.script total mid_open took k in
           let left = reaches.after (rest_in total new.script) in
           let script = text (rest_in total old.script) in
           joins_then ⊥ true tt (Ok tt) old.answers mid.answers new.answers old.certificate mid.certificate new.certificate
-          (Through old.number script old.table mid.number (onto_commands (reaches.command ∷ []) left) mid.table) (λ q z v w (y : Result (Unit {0}) Why). ConfirmsNext mid.number reaches.command mid.table new.table q z v w (Ok tt)) (Through old.number script old.table new.number left new.table)
+          (Through old.number script old.table mid.number (prepend_commands (reaches.command ∷ []) left) mid.table) (λ q z v w (y : Result (Unit {0}) Why). ConfirmsNext mid.number reaches.command mid.table new.table q z v w (Ok tt)) (Through old.number script old.table new.number left new.table)
           answers_open open_yet (λ p q z u v w y f g. through_command old.number mid.number new.number script reaches.command left old.table mid.table new.table p q z u v w n f g)
           (subst (λ (x : Reading). Joins ⊥ true (Ok tt) old.answers mid.answers old.certificate mid.certificate (Through old.number script old.table mid.number x mid.table)) (left_is total k) (through.joins total before)) (joins reaches.command reaches.whole);
     }
@@ -166,11 +166,11 @@ module _ (text : List ℕ → Reading) (old mid : ConfirmPlace) (reader after_re
     stops e joins = ends_by (2 ^ 64 ≤ mid.number) text (Err e) old new (took_halted old.script new.script script_open (took_then true old.script mid.script new.script through.took took))
         (λ x total k.
         let c = through.counted total (covers_took true mid.script new.script total mid_open took k) in
-        let l : numbers (through.left (rest_in total mid.script)) ≡ numbers (reaches.after (rest_in total new.script)) + 1 = ap numbers (left_is total k) ∙ numbers_more reaches.command (reaches.after (rest_in total new.script)) in
+        let l : command_count (through.left (rest_in total mid.script)) ≡ command_count (reaches.after (rest_in total new.script)) + 1 = ap command_count (left_is total k) ∙ numbers_more reaches.command (reaches.after (rest_in total new.script)) in
         omega arith)
         (λ total k.
         let before = covers_took true mid.script new.script total mid_open took k in
-        let left = onto_commands (reaches.command ∷ []) (reaches.after (rest_in total new.script)) in
+        let left = prepend_commands (reaches.command ∷ []) (reaches.after (rest_in total new.script)) in
         let script = text (rest_in total old.script) in
         let here = joins_stop (2 ^ 64 ≤ mid.number) false e mid.answers new.answers mid.certificate new.certificate (ConfirmsNext mid.number reaches.command mid.table new.table) (Nothing mid.number left mid.table)
         (λ p q u v why f j earlier s h. f j earlier s (reaches.after (rest_in total new.script)).0 (reaches.after (rest_in total new.script)).1 h) (joins reaches.command reaches.whole) in

@@ -2,8 +2,8 @@
 use Rattle.std.proofs.Common.{ℕ, ◌+◌, ◌-◌, ◌^◌, ◌<◌, ◌≤◌, ◌≡◌, ◌↔◌, ◌⊎◌, inl, inr, min, true, false, List, ◌++◌, length, Result, Ok, Err, refl, subst, arith, []}
 use Rattle.std.specs.Prelude.{IfOk}
 use Rattle.sat_base.specs.device.Device.{Reader, GaveEnough, most_reads}
-use Rattle.sat_base.specs.device.Reading.{Source, AtEnd, unread}
-use Rattle.sat_base.specs.script.ScriptState.{start}
+use Rattle.sat_base.specs.device.Reading.{Source, AtEnd, new_source}
+use Rattle.sat_base.specs.script.ScriptState.{initial_state}
 use Rattle.sat_base.specs.steps.Steps.{Step}
 use Rattle.sat_base.proofs.lemmas.device.Given.{enough_as}
 use Rattle.sat_checker.specs.KernelView.{kernel_looks}
@@ -13,12 +13,12 @@ use Rattle.sat_checker.specs.matching.ProofChecking.{checker_rules}
 use Rattle.sat_checker.proofs.lemmas.matching.CheckerIsSound.{the_checking_sound}
 use Rattle.certify.specs.confirm.Matches.{Matches, TextsMatch}
 use Rattle.certify.specs.confirm.Streams.{Confirms, Covers, rest_in, seen_in}
-use Rattle.certify.specs.confirm.VerdictPromises.{AreRightAnswers, Exact, GaveTextWith, IsSoundVerdict, Promised, TakesLooks, numbers}
+use Rattle.certify.specs.confirm.VerdictPromises.{AreRightAnswers, Exact, GaveTextWith, IsSoundVerdict, ConfirmGuarantee, TakesLooks, command_count}
 use Rattle.certify.specs.confirm.CertificateStates.{CertificateState}
 use Rattle.certify.specs.confirm.Walks.{LooksReach, FeedsSomeSteps}
 use Rattle.certify.specs.confirm.Confirming.{ConfirmsLast, HoldsAt, Table}
 use Rattle.certify.specs.confirm.Stopping.{Any}
-use Rattle.certify.specs.confirm.ConfirmedScript.{ConfirmsScript, ConfirmPlace, said_by}
+use Rattle.certify.specs.confirm.ConfirmedScript.{ConfirmsScript, ConfirmPlace, confirm_result}
 use Rattle.certify.specs.script.LastPiece.{FaultsAhead, NoReadFailedAhead, TakesSome, waiting_bytes}
 use Rattle.sat_base.specs.script.Language.{reading}
 use Rattle.certify.specs.declared.script.ahead.LastPiece.{LastPiece}
@@ -59,16 +59,16 @@ sound_as (Ok v) script answers certificate h = λ said.
 -- What a result says about three readers, with all their reads counted. At most one read failed:
 -- that of the text which the fault names.
 abbrev pub ResultSays : Reader → Reader → Reader → Source → Source → Source → Result Verdict ConfirmFault → Type 0
-ResultSays x a c y b d (Ok v) = NoReadFailedAhead (unread x) y × NoReadFailedAhead (unread a) b × NoReadFailedAhead (unread c) d × Exact (x, y.reader) (a, b.reader) (c, d.reader) v
-ResultSays x a c y b d (Err fault.ScriptRead) = FaultsAhead (unread x) y × NoReadFailedAhead (unread a) b × NoReadFailedAhead (unread c) d
-ResultSays x a c y b d (Err fault.AnswersRead) = NoReadFailedAhead (unread x) y × FaultsAhead (unread a) b × NoReadFailedAhead (unread c) d
-ResultSays x a c y b d (Err fault.CertificateRead) = NoReadFailedAhead (unread x) y × NoReadFailedAhead (unread a) b × FaultsAhead (unread c) d
-ResultSays x a c y b d (Err fault.OutOfMemory) = NoReadFailedAhead (unread x) y × NoReadFailedAhead (unread a) b × NoReadFailedAhead (unread c) d
+ResultSays x a c y b d (Ok v) = NoReadFailedAhead (new_source x) y × NoReadFailedAhead (new_source a) b × NoReadFailedAhead (new_source c) d × Exact (x, y.reader) (a, b.reader) (c, d.reader) v
+ResultSays x a c y b d (Err fault.ScriptRead) = FaultsAhead (new_source x) y × NoReadFailedAhead (new_source a) b × NoReadFailedAhead (new_source c) d
+ResultSays x a c y b d (Err fault.AnswersRead) = NoReadFailedAhead (new_source x) y × FaultsAhead (new_source a) b × NoReadFailedAhead (new_source c) d
+ResultSays x a c y b d (Err fault.CertificateRead) = NoReadFailedAhead (new_source x) y × NoReadFailedAhead (new_source a) b × FaultsAhead (new_source c) d
+ResultSays x a c y b d (Err fault.OutOfMemory) = NoReadFailedAhead (new_source x) y × NoReadFailedAhead (new_source a) b × NoReadFailedAhead (new_source c) d
 ResultSays x a c y b d (Err fault.CounterEnd) = ⊥
 
 -- that no read failed, or that one failed and P holds
 abbrev Leaves : Type 0 → Reader → Source → Type 0
-Leaves P x y = NoReadFailedAhead (unread x) y ⊎ (P × FaultsAhead (unread x) y)
+Leaves P x y = NoReadFailedAhead (new_source x) y ⊎ (P × FaultsAhead (new_source x) y)
 
 kept_or : (P : Type 0) (x : Reader) (y : Source) → Leaves P x y → P ⊎ (y.reader.failures ≡ x.failures)
 kept_or P x y h = elim h [ inl k ↦ inr k.0 | inr f ↦ inl f.0 ]
@@ -98,7 +98,7 @@ said_exact : (x a c : Reader) (y b d : Source) (r : Result Verdict ConfirmFault)
 said_exact x a c y b d (Ok v) h = h.3
 said_exact x a c y b d (Err e) h = tt
 
-promised : (x a c : Reader) (y b d : Source) (r : Result Verdict ConfirmFault) → y.reads ≤ most_reads → b.reads ≤ most_reads → d.reads ≤ most_reads → ResultSays x a c y b d r → Promised r (x, y.reader) (a, b.reader) (c, d.reader)
+promised : (x a c : Reader) (y b d : Source) (r : Result Verdict ConfirmFault) → y.reads ≤ most_reads → b.reads ≤ most_reads → d.reads ≤ most_reads → ResultSays x a c y b d r → ConfirmGuarantee r (x, y.reader) (a, b.reader) (c, d.reader)
 promised x a c y b d r m n k h =
     let T = ResultSays x a c y b d in
     let exact = said_exact x a c y b d r h in
@@ -125,25 +125,25 @@ promised x a c y b d r m n k h =
 -- the place before the first command
 abbrev pub begun : Reader → Reader → Reader → Kernel → Step → Table → ConfirmPlace
 begun x a c checker step table = record {
-  script = unread x;
-  answers = unread a;
-  certificate = record { source = unread c; checker = checker; step = step };
+  script = new_source x;
+  answers = new_source a;
+  certificate = record { source = new_source c; checker = checker; step = step };
   number = 1;
   table = table;
 }
 
 -- that the table and the checker are those at the start, before any step
 abbrev pub IsBegun : Kernel → Step → Table → Type 0
-IsBegun checker step table = (rest : List ℕ) → HoldsAt table (record { checker = checker; step = step; rest = rest }) start []
+IsBegun checker step table = (rest : List ℕ) → HoldsAt table (record { checker = checker; step = step; rest = rest }) initial_state []
 
-unread_open : (r : Reader) → AtEnd (unread r) → ⊥
+unread_open : (r : Reader) → AtEnd (new_source r) → ⊥
 unread_open r h = none h.0
   where
     none : 0 < 0 → ⊥
     none k = absurd (omega arith)
 
 -- what holds whatever bytes could follow holds of the text that the reader gave
-given : (r : Reader) (t : Source) (P : List ℕ → Type 0) → TakesSome false (unread r) t → ((total : List ℕ) → Covers t total → P (rest_in total (unread r))) → GaveEnough r t.reader P
+given : (r : Reader) (t : Source) (P : List ℕ → Type 0) → TakesSome false (new_source r) t → ((total : List ℕ) → Covers t total → P (rest_in total (new_source r))) → GaveEnough r t.reader P
 given r t P h f = gave_enough r t h.0.0 P h.0.1 h.1 f
 
 module _ (x a c : Reader) (checker : Kernel) (step : Step) (table : Table) (fresh : IsBegun checker step table) (new : ConfirmPlace) where
@@ -157,39 +157,39 @@ module _ (x a c : Reader) (checker : Kernel) (step : Step) (table : Table) (fres
   Sure v = Exact (x, new.script.reader) (a, new.answers.reader) (c, new.certificate.source.reader) v
 
   matched : (s t u : List ℕ) (v : CertificateState) → ConfirmsLast 1 (reading s) table t (record { checker = checker; step = step; rest = u }) (Ok tt) → TextsMatch s t u
-  matched s t u v h = (same_matches s t u).1 ((left_begins (reading s).0 (reading s).1 t u).1 (h start [] (fresh u)))
+  matched s t u v h = (same_matches s t u).1 ((left_begins (reading s).0 (reading s).1 t u).1 (h initial_state [] (fresh u)))
 
   unmatched : (s t u : List ℕ) (why : Why) → ConfirmsLast 1 (reading s) table t (record { checker = checker; step = step; rest = u }) (Err why) → TextsMatch s t u → ⊥
-  unmatched s t u why h m = h start [] (fresh u) ((left_begins (reading s).0 (reading s).1 t u).0 ((same_matches s t u).0 m))
+  unmatched s t u why h m = h initial_state [] (fresh u) ((left_begins (reading s).0 (reading s).1 t u).0 ((same_matches s t u).0 m))
 
   yes_exact : ConfirmsScript reading (Ok tt) old new → Sure Yes
   yes_exact e =
       given x new.script (λ s. GaveTextWith (a, new.answers.reader) (λ t. GaveTextWith (c, new.certificate.source.reader) (λ u. (Yes ≡ Yes) ↔ TextsMatch s t u))) e.0
       (λ total k.
-      let s = rest_in total (unread x) in
+      let s = rest_in total (new_source x) in
       let j = e.1 total k in
       given a new.answers (λ t. GaveTextWith (c, new.certificate.source.reader) (λ u. (Yes ≡ Yes) ↔ TextsMatch s t u)) j.0
       (λ all l.
-      let t = rest_in all (unread a) in
+      let t = rest_in all (new_source a) in
       let p = j.1 all l in
       let h = moves_halt old.certificate new.certificate (unread_open c) p.0 in
       gave_enough c new.certificate.source h.0.0 (λ u. (Yes ≡ Yes) ↔ TextsMatch s t u) h.0.1 h.1
-      (λ more m. ((λ said. matched s t (rest_in more (unread c)) (seen_in more old.certificate) (p.1 more m)), (λ said. refl)))))
+      (λ more m. ((λ said. matched s t (rest_in more (new_source c)) (seen_in more old.certificate) (p.1 more m)), (λ said. refl)))))
 
   no_exact : (ask : ℕ) (why : Why) → ConfirmsScript reading (Err (stop.No why)) old new → Sure (No ask why)
   no_exact ask why e =
       given x new.script (λ s. GaveTextWith (a, new.answers.reader) (λ t. GaveTextWith (c, new.certificate.source.reader) (λ u. (No ask why ≡ Yes) ↔ TextsMatch s t u))) e.0
       (λ total k.
-      let s = rest_in total (unread x) in
+      let s = rest_in total (new_source x) in
       let j = e.1 total k in
       given a new.answers (λ t. GaveTextWith (c, new.certificate.source.reader) (λ u. (No ask why ≡ Yes) ↔ TextsMatch s t u)) j.0
       (λ all l.
-      let t = rest_in all (unread a) in
+      let t = rest_in all (new_source a) in
       let p = j.1 all l in
       gave_enough c new.certificate.source p.0.0.0 (λ u. (No ask why ≡ Yes) ↔ TextsMatch s t u) p.0.0.1 p.0.1
-      (λ more m. ((λ said. absurd (cc)), (λ same. absurd (unmatched s t (rest_in more (unread c)) why (p.1 more m) same))))))
+      (λ more m. ((λ said. absurd (cc)), (λ same. absurd (unmatched s t (rest_in more (new_source c)) why (p.1 more m) same))))))
 
-  result_says : (r : Result (Unit {0}) Stop) (asks : ℕ) → new.script.reads ≤ most_reads → new.certificate.source.reads ≤ most_reads → ConfirmsScript reading r old new → ResultSays x a c new.script new.answers new.certificate.source (said_by r asks)
+  result_says : (r : Result (Unit {0}) Stop) (asks : ℕ) → new.script.reads ≤ most_reads → new.certificate.source.reads ≤ most_reads → ConfirmsScript reading r old new → ResultSays x a c new.script new.answers new.certificate.source (confirm_result r asks)
   result_says (Ok u) asks short few e =
       let j = e.1 last (covers_given new.script) in
       let p = j.1 new.answers.reader.given (covers_given new.answers) in
@@ -202,14 +202,14 @@ module _ (x a c : Reader) (checker : Kernel) (step : Step) (table : Table) (fres
   result_says (Err stop.CounterEnd) asks short few e =
       let p = e.1.1 in
       let all = new.certificate.source.reader.given in
-      absurd (nothing_spent (rest_in all (unread c)) (few_given 1 c new.certificate.source p.0.0.0 p.0.0.1 few) (p.1 all (covers_given new.certificate.source) [] (fresh (rest_in all (unread c))).at.taken))
+      absurd (nothing_spent (rest_in all (new_source c)) (few_given 1 c new.certificate.source p.0.0.0 p.0.0.1 few) (p.1 all (covers_given new.certificate.source) [] (fresh (rest_in all (new_source c))).at.taken))
   result_says (Err stop.TooMany) asks short few e =
       let all = new.script.reader.given in
-      let text = rest_in all (unread x) in
+      let text = rest_in all (new_source x) in
       let many = e.1 all (covers_given new.script) in
       let most = few_given 1 x new.script e.0.0.0 e.0.0.1 short in
       let read = few_read text in
-      absurd (too_many (numbers (reading text)) (length text) many read most)
+      absurd (too_many (command_count (reading text)) (length text) many read most)
     where
       too_many : (n l : ℕ) → 2 ^ 64 < 1 + n → n ≤ l + 2 → l ≤ most_bytes → ⊥
       too_many n l h k m = absurd (let e : most_bytes + 2 < 2 ^ 64 = omega arith in omega arith)
@@ -220,10 +220,10 @@ module _ (x a c : Reader) (checker : Kernel) (step : Step) (table : Table) (fres
   certified : (r : Result (Unit {0}) Stop) → ConfirmsScript reading r old new → (q : Result (Unit {0}) Stop) × Confirms q old.certificate new.certificate Any
   certified (Ok u) e =
       let p = (e.1 last (covers_given new.script)).1 new.answers.reader.given (covers_given new.answers) in
-      (Ok tt, confirms_so (Ok tt) old.certificate new.certificate (λ v w. ConfirmsLast 1 (reading (rest_in last (unread x))) table (rest_in new.answers.reader.given (unread a)) v) Any (λ total y h. tt) p)
+      (Ok tt, confirms_so (Ok tt) old.certificate new.certificate (λ v w. ConfirmsLast 1 (reading (rest_in last (new_source x))) table (rest_in new.answers.reader.given (new_source a)) v) Any (λ total y h. tt) p)
   certified (Err (stop.No why)) e =
       let p = (e.1 last (covers_given new.script)).1 new.answers.reader.given (covers_given new.answers) in
-      (Err (stop.No why), confirms_so (Err (stop.No why)) old.certificate new.certificate (λ v w. ConfirmsLast 1 (reading (rest_in last (unread x))) table (rest_in new.answers.reader.given (unread a)) v) Any (λ total y h. tt) p)
+      (Err (stop.No why), confirms_so (Err (stop.No why)) old.certificate new.certificate (λ v w. ConfirmsLast 1 (reading (rest_in last (new_source x))) table (rest_in new.answers.reader.given (new_source a)) v) Any (λ total y h. tt) p)
   certified (Err stop.AnswersRead) e = (Err stop.OutOfMemory, e.1.1)
   certified (Err stop.ScriptRead) e = (Err stop.OutOfMemory, e.1.1)
   certified (Err stop.TooMany) e = (Err stop.OutOfMemory, e.2.1)
@@ -234,11 +234,11 @@ module _ (x a c : Reader) (checker : Kernel) (step : Step) (table : Table) (fres
     reached_by bytes h = subst (λ k. LooksReach [] bytes k (kernel_looks new.certificate.checker)) none (h [] (fresh bytes).at.taken)
 
     took : (q : Result (Unit {0}) Stop) → Confirms q old.certificate new.certificate Any → TakesLooks c new.certificate.source.reader 0 (kernel_looks new.certificate.checker)
-    took (Ok u) p = took_looks 0 c new.certificate.source p.0.0 (kernel_looks new.certificate.checker) p.0.1 (λ total k. reached_by (rest_in total (unread c)) (tries_if true (seen_in total old.certificate) (seen_in total new.certificate) (p.2 total k)))
-    took (Err (stop.No why)) p = took_looks 1 c new.certificate.source p.0.0.0 (kernel_looks new.certificate.checker) p.0.0.1 (λ total k. reached_by (rest_in total (unread c)) (p.2 total k))
-    took (Err stop.CertificateRead) p = took_faulted c new.certificate.source p.0.0 (kernel_looks new.certificate.checker) p.0.1 (λ total k. reached_by (rest_in total (unread c)) (p.1 total k))
-    took (Err stop.OutOfMemory) p = took_looks 1 c new.certificate.source p.0.0.0 (kernel_looks new.certificate.checker) p.0.0.1 (λ total k. reached_by (rest_in total (unread c)) (p.1 total k))
-    took (Err stop.CounterEnd) p = took_looks 1 c new.certificate.source p.0.0.0 (kernel_looks new.certificate.checker) p.0.0.1 (λ total k. reached_by (rest_in total (unread c)) (p.2 total k))
+    took (Ok u) p = took_looks 0 c new.certificate.source p.0.0 (kernel_looks new.certificate.checker) p.0.1 (λ total k. reached_by (rest_in total (new_source c)) (tries_if true (seen_in total old.certificate) (seen_in total new.certificate) (p.2 total k)))
+    took (Err (stop.No why)) p = took_looks 1 c new.certificate.source p.0.0.0 (kernel_looks new.certificate.checker) p.0.0.1 (λ total k. reached_by (rest_in total (new_source c)) (p.2 total k))
+    took (Err stop.CertificateRead) p = took_faulted c new.certificate.source p.0.0 (kernel_looks new.certificate.checker) p.0.1 (λ total k. reached_by (rest_in total (new_source c)) (p.1 total k))
+    took (Err stop.OutOfMemory) p = took_looks 1 c new.certificate.source p.0.0.0 (kernel_looks new.certificate.checker) p.0.0.1 (λ total k. reached_by (rest_in total (new_source c)) (p.1 total k))
+    took (Err stop.CounterEnd) p = took_looks 1 c new.certificate.source p.0.0.0 (kernel_looks new.certificate.checker) p.0.0.1 (λ total k. reached_by (rest_in total (new_source c)) (p.2 total k))
     took (Err e) p = absurd p
 
     -- the looks of the confirmation, added to those of earlier checkers
@@ -253,15 +253,15 @@ module _ (x a c : Reader) (checker : Kernel) (step : Step) (table : Table) (fres
         subst (λ to. LooksReach [] (t.text ++ rest) before to) sum
         (subst (λ from. LooksReach [] (t.text ++ rest) from (kernel_looks new.certificate.checker + before)) zero (looks_from before [] (t.text ++ rest) 0 (kernel_looks new.certificate.checker) (t.reached rest k))))
 
--- a confirmation of three texts has the properties in `Promised`
+-- a confirmation of three texts has the properties in `ConfirmGuarantee`
 pub keeps_promises : (x a c : Reader) (checker : Kernel) (step : Step) (table : Table) (new : ConfirmPlace) → IsBegun checker step table → (r : Result (Unit {0}) Stop) (asks : ℕ) → new.script.reads ≤ most_reads → new.answers.reads ≤ most_reads → new.certificate.source.reads ≤ most_reads
-    → ConfirmsScript reading r (begun x a c checker step table) new → Promised (said_by r asks) (x, new.script.reader) (a, new.answers.reader) (c, new.certificate.source.reader)
+    → ConfirmsScript reading r (begun x a c checker step table) new → ConfirmGuarantee (confirm_result r asks) (x, new.script.reader) (a, new.answers.reader) (c, new.certificate.source.reader)
 keeps_promises x a c checker step table new fresh r asks m n k h =
-    promised x a c new.script new.answers new.certificate.source (said_by r asks) m n k (result_says x a c checker step table fresh new r asks m k h)
+    promised x a c new.script new.answers new.certificate.source (confirm_result r asks) m n k (result_says x a c checker step table fresh new r asks m k h)
 
 -- a confirmation without bytes read ahead begins before the first command
 pub begins : (r : Result (Unit {0}) Stop) (x a c : Reader) (script answers : LastPiece) (certificate : Source) (checker : Kernel) (step : Step) (number : ℕ) (table : Table) (new : ConfirmPlace)
-    → waiting_bytes script ≡ [] → script.reads ≡ 0 → waiting_bytes answers ≡ [] → answers.reads ≡ 0 → certificate ≡ unread c → number ≡ 1
+    → waiting_bytes script ≡ [] → script.reads ≡ 0 → waiting_bytes answers ≡ [] → answers.reads ≡ 0 → certificate ≡ new_source c → number ≡ 1
     → ConfirmsScript reading r (record {
       script = record { reader = x; waiting = waiting_bytes script; reads = script.reads; names = [] };
       answers = record { reader = a; waiting = waiting_bytes answers; reads = answers.reads; names = [] };
@@ -278,7 +278,7 @@ begins r x a c script answers certificate checker step number table new e f g h 
       number = m;
       table = table;
     } in
-    subst (λ m. ConfirmsScript reading r (at [] 0 [] 0 (unread c) m) new) n
+    subst (λ m. ConfirmsScript reading r (at [] 0 [] 0 (new_source c) m) new) n
     (subst (λ s. ConfirmsScript reading r (at [] 0 [] 0 s number) new) i
     (subst (λ q. ConfirmsScript reading r (at [] 0 [] q certificate number) new) h
     (subst (λ v. ConfirmsScript reading r (at [] 0 v answers.reads certificate number) new) g

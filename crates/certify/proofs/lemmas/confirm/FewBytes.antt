@@ -5,22 +5,22 @@ use Rattle.sat_base.specs.steps.Steps.{Step}
 use Rattle.sat_base.specs.steps.StepText.{SpellsStep, SpellsSteps}
 use Rattle.sat_checker.specs.Accepts.{effect, stored_after, ready_after}
 use Rattle.sat_checker.specs.ProofView.{most_bytes, taken_after}
-use Rattle.sat_checker.specs.Spent.{IsSpent, SpentBy}
+use Rattle.sat_checker.specs.Counters.{CountersExhausted, ExhaustsCounters}
 use Rattle.sat_checker.specs.Stored.{Stored}
-use Rattle.sat_checker.specs.Storing.{clause_with, irredundant_count, redundant_count, settled, settled_by}
+use Rattle.sat_checker.specs.Storing.{clause_with, irredundant_count, redundant_count, with_conflict_settled, settled_by}
 use Rattle.sat_checker.proofs.lemmas.checker.Proofs.{taken_one}
 use Rattle.sat_checker.proofs.lemmas.invariants.FewBytes.{ids_within_bytes, none_is_spent}
 use Rattle.certify.specs.confirm.Walks.{ReachesCounterEnd, spent_settling, spent_trying, spent_taking}
 
 -- settling a pending unit conflict does not change the stored clauses
-settled_clauses : (f : Stored) → (settled f).clauses ≡ f.clauses
+settled_clauses : (f : Stored) → (with_conflict_settled f).clauses ≡ f.clauses
 settled_clauses f = go f.conflict
   where
     go : (o : Option (ℕ × ℕ)) → (settled_by o f).clauses ≡ f.clauses
     go None = refl
     go (Some units) = refl
 
-spent_before : (f : Stored) (n : ℕ) → (settled f).next_id ≤ n → n ≤ most_bytes → IsSpent (settled f) → IsSpent f
+spent_before : (f : Stored) (n : ℕ) → (with_conflict_settled f).next_id ≤ n → n ≤ most_bytes → CountersExhausted (with_conflict_settled f) → CountersExhausted f
 spent_before f n i l spent = elim spent [
   | inl h ↦ absurd (let e : most_bytes < 2 ^ 64 = omega arith in omega arith)
   | inr h ↦ inr (record {
@@ -39,11 +39,11 @@ longer text step rest bytes e l =
     let b : length bytes ≡ length step + length rest = ap length e ∙ length-append step rest in
     omega arith
 
-none_spent : (earlier done : List Step) (text bytes : List ℕ) → taken_after done [] ≡ earlier → SpellsSteps done text → length text + length bytes ≤ most_bytes → (IsSpent (ready_after earlier) → ⊥) → ReachesCounterEnd earlier bytes → ⊥
+none_spent : (earlier done : List Step) (text bytes : List ℕ) → taken_after done [] ≡ earlier → SpellsSteps done text → length text + length bytes ≤ most_bytes → (CountersExhausted (ready_after earlier) → ⊥) → ReachesCounterEnd earlier bytes → ⊥
 none_spent earlier done text bytes e s l low (spent_settling h) = low h
 none_spent earlier done text bytes e s l low (spent_trying step following rest cut spelt h) =
     let few : length (text ++ following) ≤ most_bytes = let k = longer text following rest bytes cut l in omega arith in
-    none_is_spent done step (text ++ following) (spells_one done text step following s spelt) few (subst (λ z. SpentBy step (stored_after z)) (sym e) h)
+    none_is_spent done step (text ++ following) (spells_one done text step following s spelt) few (subst (λ z. ExhaustsCounters step (stored_after z)) (sym e) h)
 none_spent earlier done text bytes e s l low (spent_taking step following rest cut spelt accepts h) =
     let more = spells_one done text step following s spelt in
     let k = longer text following rest bytes cut l in
@@ -52,12 +52,12 @@ none_spent earlier done text bytes e s l low (spent_taking step following rest c
     let ids : (ready_after (step ∷ earlier)).next_id ≤ length (text ++ following) = subst (λ z. (ready_after z).next_id ≤ length (text ++ following)) whole (ids_within_bytes (done ++ step ∷ []) (text ++ following) more) in
     none_spent (step ∷ earlier) (done ++ step ∷ []) (text ++ following) rest whole more k
     (λ spent. none_is_spent done step (text ++ following) more few
-    (subst (λ z. SpentBy step (stored_after z)) (sym e) (inr (accepts, spent_before (effect step (ready_after earlier)) (length (text ++ following)) ids few spent)))) h
+    (subst (λ z. ExhaustsCounters step (stored_after z)) (sym e) (inr (accepts, spent_before (effect step (ready_after earlier)) (length (text ++ following)) ids few spent)))) h
 
 pub nothing_spent : (bytes : List ℕ) → length bytes ≤ most_bytes → ReachesCounterEnd [] bytes → ⊥
 nothing_spent bytes l = none_spent [] [] [] bytes refl refl (let k : length bytes ≤ most_bytes = l in omega arith) none_begun
   where
-    none_begun : IsSpent (ready_after []) → ⊥
+    none_begun : CountersExhausted (ready_after []) → ⊥
     none_begun spent = elim spent [
       | inl h ↦ absurd (omega arith)
       | inr h ↦ elim h.past [ inl k ↦ absurd (omega arith) | inr k ↦ absurd (omega arith) ]

@@ -2,22 +2,22 @@
 use Rattle.std.proofs.Common.{ℕ, ◌+◌, ◌≡◌, ◌↔◌, ◌⊎◌, inl, inr, List, [], ◌∷◌, ◌++◌, Option, Some, None, refl, sym, ◌∙◌, ap, subst, append_assoc}
 use Rattle.std.specs.List.{AllByRecursion}
 use Rattle.sat_base.specs.script.Script.{Literal, Command, Ask, ScriptEnding, names_of}
-use Rattle.sat_base.specs.script.ScriptState.{ScriptState, Refusal, accepted, accepted_of, refusal_of, start}
+use Rattle.sat_base.specs.script.ScriptState.{ScriptState, Refusal, state_after_accepted, accepted_commands, refusal_of, initial_state}
 use Rattle.sat_base.specs.steps.Steps.{Step}
-use Rattle.certify.specs.answers.Answers.{answers_from, refused_line, outcome_text, outcomes_left, piece, ending_text}
-use Rattle.sat_checker.specs.matching.Expected.{Outcome, EachSpelt, Expected, Opens, Shows, Fails, Closes, Finish, bringing, showing, expected, shows, fails}
+use Rattle.certify.specs.answers.Answers.{answers_from, refused_line, outcome_text, outcomes_left, answer_to_command, ending_text}
+use Rattle.sat_checker.specs.matching.Expected.{Outcome, EachSpelt, Expected, Opens, Shows, Fails, Closes, Finish, introducing, showing, expected, shows, fails}
 use Rattle.sat_checker.specs.matching.Checking.{variable_of}
-use Rattle.certify.specs.confirm.Matches.{OneEach, CoreIsInOrder, Meets, cut, other, ordered, MatchesCommands}
-use Rattle.certify.specs.confirm.LeftToMatch.{Left, LeftOfAsk}
+use Rattle.certify.specs.confirm.Matches.{OneOutcomePerAsk, CoreIsInOrder, Meets, cut, other, ordered, MatchesCommands}
+use Rattle.certify.specs.confirm.LeftToMatch.{RemainsToMatch, AskRemainsToMatch}
 use Rattle.sat_checker.specs.matching.ProofChecking.{checker_rules}
 use Rattle.certify.specs.confirm.CertificatePlaces.{CanMeet, MeetsExactly, MeetsNoneOf}
 use Rattle.certify.proofs.lemmas.confirm.StepTags.{unordered_names}
 
 -- that the rest matches from command `n` on
 abbrev pub Rest : ScriptState → ℕ → List Step → List Expected → List Command → ScriptEnding → List ℕ → List ℕ → Type 0
-Rest j n earlier pending commands ending answers certificate = Left checker_rules j n earlier pending commands ending answers certificate
+Rest j n earlier pending commands ending answers certificate = RemainsToMatch checker_rules j n earlier pending commands ending answers certificate
 
-pub left_begins : (commands : List Command) (ending : ScriptEnding) (answers certificate : List ℕ) → MatchesCommands checker_rules commands ending answers certificate ↔ Rest start 1 [] [] commands ending answers certificate
+pub left_begins : (commands : List Command) (ending : ScriptEnding) (answers certificate : List ℕ) → MatchesCommands checker_rules commands ending answers certificate ↔ Rest initial_state 1 [] [] commands ending answers certificate
 left_begins commands ending answers certificate = (
   (λ m. record { outcomes = m.outcomes; answered = m.answered; one_each = m.match.one_each; in_form = m.match.in_form; certified = record { steps = m.steps; text = m.text; rest = m.rest; begins = m.begins; spelt = m.spelt; meets = m.match.meets } }),
   (λ l. let c = l.certified in record { outcomes = l.outcomes; steps = c.steps; text = c.text; rest = c.rest; answered = l.answered; begins = c.begins; spelt = c.spelt; match = record { one_each = l.one_each; in_form = l.in_form; meets = c.meets } }),
@@ -36,28 +36,28 @@ refused_back j n earlier c cs ending answers tail certificate refusal e a l =
 
 -- the answer to an accepted ask is the text of an outcome
 module _ (j : ScriptState) (n : ℕ) (earlier : List Step) (ls : List Literal) (cs : List Command) (ending : ScriptEnding) (answers certificate : List ℕ) where
-  same : (v : Outcome) (vs : List Outcome) → (bringing (names_of ls) j ++ (Opens ls v ∷ (showing (accepted (Ask ls) j) ls v ++ (Closes ∷ [])))) ++ expected (accepted (Ask ls) j) (accepted_of (accepted (Ask ls) j) cs) vs
-      ≡ bringing (names_of ls) j ++ (Opens ls v ∷ (showing (accepted (Ask ls) j) ls v ++ (Closes ∷ expected (accepted (Ask ls) j) (accepted_of (accepted (Ask ls) j) cs) vs)))
-  same v vs = append_assoc (bringing (names_of ls) j) (Opens ls v ∷ (showing (accepted (Ask ls) j) ls v ++ (Closes ∷ []))) (expected (accepted (Ask ls) j) (accepted_of (accepted (Ask ls) j) cs) vs)
-      ∙ ap (λ es. bringing (names_of ls) j ++ (Opens ls v ∷ es)) (append_assoc (showing (accepted (Ask ls) j) ls v) (Closes ∷ []) (expected (accepted (Ask ls) j) (accepted_of (accepted (Ask ls) j) cs) vs))
+  same : (v : Outcome) (vs : List Outcome) → (introducing (names_of ls) j ++ (Opens ls v ∷ (showing (state_after_accepted (Ask ls) j) ls v ++ (Closes ∷ [])))) ++ expected (state_after_accepted (Ask ls) j) (accepted_commands (state_after_accepted (Ask ls) j) cs) vs
+      ≡ introducing (names_of ls) j ++ (Opens ls v ∷ (showing (state_after_accepted (Ask ls) j) ls v ++ (Closes ∷ expected (state_after_accepted (Ask ls) j) (accepted_commands (state_after_accepted (Ask ls) j) cs) vs)))
+  same v vs = append_assoc (introducing (names_of ls) j) (Opens ls v ∷ (showing (state_after_accepted (Ask ls) j) ls v ++ (Closes ∷ []))) (expected (state_after_accepted (Ask ls) j) (accepted_commands (state_after_accepted (Ask ls) j) cs) vs)
+      ∙ ap (λ es. introducing (names_of ls) j ++ (Opens ls v ∷ es)) (append_assoc (showing (state_after_accepted (Ask ls) j) ls v) (Closes ∷ []) (expected (state_after_accepted (Ask ls) j) (accepted_commands (state_after_accepted (Ask ls) j) cs) vs))
 
-  to : (vs : List Outcome) → OneEach (Ask ls ∷ accepted_of (accepted (Ask ls) j) cs) vs → AllByRecursion CoreIsInOrder vs
-      → answers ≡ piece n None (Ask ls) vs ++ answers_from (n + 1) (accepted (Ask ls) j) cs ending (outcomes_left None (Ask ls) vs)
-      → CanMeet earlier (expected j (Ask ls ∷ accepted_of (accepted (Ask ls) j) cs) vs) certificate
-      → LeftOfAsk checker_rules (accepted (Ask ls) j) (n + 1) earlier (bringing (names_of ls) j) ls cs ending answers certificate
+  to : (vs : List Outcome) → OneOutcomePerAsk (Ask ls ∷ accepted_commands (state_after_accepted (Ask ls) j) cs) vs → AllByRecursion CoreIsInOrder vs
+      → answers ≡ answer_to_command n None (Ask ls) vs ++ answers_from (n + 1) (state_after_accepted (Ask ls) j) cs ending (outcomes_left None (Ask ls) vs)
+      → CanMeet earlier (expected j (Ask ls ∷ accepted_commands (state_after_accepted (Ask ls) j) cs) vs) certificate
+      → AskRemainsToMatch checker_rules (state_after_accepted (Ask ls) j) (n + 1) earlier (introducing (names_of ls) j) ls cs ending answers certificate
   to [] o f a m = absurd o
   to (v ∷ vs) o f a m = record {
     outcome = v;
-    tail = answers_from (n + 1) (accepted (Ask ls) j) cs ending vs;
+    tail = answers_from (n + 1) (state_after_accepted (Ask ls) j) cs ending vs;
     answered = a;
     in_form = f.0;
     left = record { outcomes = vs; answered = refl; one_each = o; in_form = f.1; certified = subst (λ es. CanMeet earlier es certificate) (sym (same v vs)) m };
   }
 
-  pub ask_on : refusal_of j (Ask ls) ≡ None → Rest j n earlier [] (Ask ls ∷ cs) ending answers certificate → LeftOfAsk checker_rules (accepted (Ask ls) j) (n + 1) earlier (bringing (names_of ls) j) ls cs ending answers certificate
+  pub ask_on : refusal_of j (Ask ls) ≡ None → Rest j n earlier [] (Ask ls ∷ cs) ending answers certificate → AskRemainsToMatch checker_rules (state_after_accepted (Ask ls) j) (n + 1) earlier (introducing (names_of ls) j) ls cs ending answers certificate
   ask_on e l = to l.outcomes (rw e at l.one_each) l.in_form (rw e at l.answered) (rw e at l.certified)
 
-  pub ask_back : refusal_of j (Ask ls) ≡ None → LeftOfAsk checker_rules (accepted (Ask ls) j) (n + 1) earlier (bringing (names_of ls) j) ls cs ending answers certificate → Rest j n earlier [] (Ask ls ∷ cs) ending answers certificate
+  pub ask_back : refusal_of j (Ask ls) ≡ None → AskRemainsToMatch checker_rules (state_after_accepted (Ask ls) j) (n + 1) earlier (introducing (names_of ls) j) ls cs ending answers certificate → Rest j n earlier [] (Ask ls ∷ cs) ending answers certificate
   ask_back e p =
       let l = p.left in
       record {
@@ -72,26 +72,26 @@ module _ (j : ScriptState) (n : ℕ) (earlier : List Step) (ls : List Literal) (
 pub left_on : {earlier later : List Step} {certificate rest : List ℕ} {p : List Expected} (q : List Expected) (j : ScriptState) (n : ℕ) (cs : List Command) (ending : ScriptEnding) (answers : List ℕ)
     → MeetsExactly earlier certificate p later rest → Rest j n earlier (p ++ q) cs ending answers certificate → Rest j n later q cs ending answers rest
 left_on {earlier} {later} {certificate} {rest} {p} q j n cs ending answers l m =
-    let more = expected j (accepted_of j cs) m.outcomes in
+    let more = expected j (accepted_commands j cs) m.outcomes in
     record { outcomes = m.outcomes; answered = m.answered; one_each = m.one_each; in_form = m.in_form; certified = l.on (q ++ more) (subst (λ es. CanMeet earlier es certificate) (append_assoc p q more) m.certified) }
 
 pub left_back : {earlier later : List Step} {certificate rest : List ℕ} {p : List Expected} (q : List Expected) (j : ScriptState) (n : ℕ) (cs : List Command) (ending : ScriptEnding) (answers : List ℕ)
     → MeetsExactly earlier certificate p later rest → Rest j n later q cs ending answers rest → Rest j n earlier (p ++ q) cs ending answers certificate
 left_back {earlier} {later} {certificate} {rest} {p} q j n cs ending answers l m =
-    let more = expected j (accepted_of j cs) m.outcomes in
+    let more = expected j (accepted_commands j cs) m.outcomes in
     record { outcomes = m.outcomes; answered = m.answered; one_each = m.one_each; in_form = m.in_form; certified = subst (λ es. CanMeet earlier es certificate) (sym (append_assoc p q more)) (l.back (q ++ more) m.certified) }
 
 pub left_barred : {earlier : List Step} {certificate : List ℕ} {p : List Expected} (q : List Expected) (j : ScriptState) (n : ℕ) (cs : List Command) (ending : ScriptEnding) (answers : List ℕ)
     → MeetsNoneOf earlier certificate p → Rest j n earlier (p ++ q) cs ending answers certificate → ⊥
 left_barred {earlier} {certificate} {p} q j n cs ending answers b m =
-    let more = expected j (accepted_of j cs) m.outcomes in
+    let more = expected j (accepted_commands j cs) m.outcomes in
     b.none (q ++ more) (subst (λ es. CanMeet earlier es certificate) (append_assoc p q more) m.certified)
 
 -- if no command is left, only the last line and the end of the certificate are
 pub end_on : (j : ScriptState) (n : ℕ) (earlier : List Step) (ending : ScriptEnding) (answers certificate : List ℕ) → Rest j n earlier [] [] ending answers certificate → (answers ≡ ending_text n ending) × CanMeet earlier (Finish ∷ []) certificate
 end_on j n earlier ending answers certificate l = go l.outcomes l.one_each l.answered l.certified
   where
-    go : (vs : List Outcome) → OneEach [] vs → answers ≡ answers_from n j [] ending vs → CanMeet earlier (expected j [] vs) certificate → (answers ≡ ending_text n ending) × CanMeet earlier (Finish ∷ []) certificate
+    go : (vs : List Outcome) → OneOutcomePerAsk [] vs → answers ≡ answers_from n j [] ending vs → CanMeet earlier (expected j [] vs) certificate → (answers ≡ ending_text n ending) × CanMeet earlier (Finish ∷ []) certificate
     go [] o a m = (a, m)
     go (v ∷ vs) o a m = absurd o
 

@@ -10,8 +10,8 @@ use Rattle.sat_base.specs.values.Literals.{var_limit}
 use Rattle.sat_base.specs.script.Script.{Literal}
 use Rattle.sat_base.specs.script.ScriptState.{Refusal, PastLimit, WitnessName}
 use Rattle.sat_checker.specs.matching.Expected.{Outcome, Sat, Unsat}
-use Rattle.certify.specs.answers.Answers.{outcome_text, refused_line, refusal_text, malformed_line, literals_text, word_of}
-use Rattle.certify.specs.answers.AnswerForms.{HaveNames, IsInForm, named_literals}
+use Rattle.certify.specs.answers.Answers.{outcome_text, refused_line, refusal_text, malformed_line, literals_text, literal_text}
+use Rattle.certify.specs.answers.AnswerForms.{HaveNames, IsPrintable, named_literals}
 use Rattle.certify.specs.answers.AnswerReading.{HasLine, NoKind, NoLine, StartsNoKind, StartsNoLine, first_answer_line, second_line, outcome_of}
 use Rattle.certify.specs.confirm.Lines.{TakesDueLine, stop_after}
 use Rattle.certify.specs.confirm.Streams.{Covers, rest_in}
@@ -110,8 +110,8 @@ first_is_line kind.Unknown = line_more 115 _ (above 115 (omega arith)) (line_mor
 low_name : (n : ℕ) → n ≤ var_limit → n < 2 ^ 64
 low_name n h = omega arith
 
-word_line : (l : Literal) (ys : List ℕ) → l.name ≤ var_limit → IsOneLine ys → IsOneLine (word_of l ++ ys)
-word_line l ys low h = line_on (word_of l) ys (go l.positive) h
+word_line : (l : Literal) (ys : List ℕ) → l.name ≤ var_limit → IsOneLine ys → IsOneLine (literal_text l ++ ys)
+word_line l ys low h = line_on (literal_text l) ys (go l.positive) h
   where
     go : (b : Bool) → HasNoLf (cond b [] (45 ∷ []) ++ decimal l.name)
     go true = digits_no_lf l.name (low_name l.name low)
@@ -121,7 +121,7 @@ literals_line : (ls : List Literal) → HaveNames ls → IsOneLine (literals_tex
 literals_line [] h = line_more 48 _ (above 48 (omega arith)) line_end
 literals_line (l ∷ ls) h = word_line l (32 ∷ literals_text ls) h.0.1 (line_more 32 _ (above 32 (omega arith)) (literals_line ls h.1))
 
-second_is_line : (k : AnswerKind) → HasLine k → (ls : List Literal) → IsInForm (outcome_of k ls) → IsOneLine (second_line (outcome_of k ls))
+second_is_line : (k : AnswerKind) → HasLine k → (ls : List Literal) → IsPrintable (outcome_of k ls) → IsOneLine (second_line (outcome_of k ls))
 second_is_line kind.Sat u ls h = line_more 118 _ (above 118 (omega arith)) (line_more 32 _ (above 32 (omega arith)) (literals_line ls h.0))
 second_is_line kind.Unsat u ls h = line_more 102 _ (above 102 (omega arith)) (line_more 32 _ (above 32 (omega arith)) (literals_line ls h.0))
 second_is_line kind.Unknown u ls h = absurd u
@@ -202,19 +202,19 @@ module _ (P : List ℕ → Type 0) (a b : Source) (line : List ℕ) (open_yet : 
   kind_differs right fault.OutOfMemory n h = absurd n
 
   -- AN ANSWER'S SECOND LINE
-  pub second_read : (k : AnswerKind) (ls : List Literal) (following : List ℕ) → HasLine k → IsInForm (outcome_of k ls) → line ≡ second_line (outcome_of k ls) ++ following → IsNextLine P a b line → Replies {A = Unit {0}} true (Ok tt) a b (ReadsSecond k ls)
+  pub second_read : (k : AnswerKind) (ls : List Literal) (following : List ℕ) → HasLine k → IsPrintable (outcome_of k ls) → line ≡ second_line (outcome_of k ls) ++ following → IsNextLine P a b line → Replies {A = Unit {0}} true (Ok tt) a b (ReadsSecond k ls)
   second_read k ls following u f e h = let r = line_taken (second_line (outcome_of k ls)) following (second_is_line k u ls f) e h in (r.0, λ total c. (r.1 total c, f))
 
-  pub second_differs : (k : AnswerKind) (ls : List Literal) → ((ks : List Literal) → IsInForm (outcome_of k ks) → P (second_line (outcome_of k ks))) → (w : AnswerFault) → HasLine k → NoLine k line w → IsNextLine P a b line → Replies {A = Unit {0}} true (Err (stop_after w)) a b (ReadsSecond k ls)
+  pub second_differs : (k : AnswerKind) (ls : List Literal) → ((ks : List Literal) → IsPrintable (outcome_of k ks) → P (second_line (outcome_of k ks))) → (w : AnswerFault) → HasLine k → NoLine k line w → IsNextLine P a b line → Replies {A = Unit {0}} true (Err (stop_after w)) a b (ReadsSecond k ls)
   second_differs k ls right fault.Missing u n h = (line_halts h, none)
     where
-      none : (total : List ℕ) → Covers b total → (ks : List Literal) (tail : List ℕ) → IsInForm (outcome_of k ks) → rest_in total a ≡ second_line (outcome_of k ks) ++ tail → ⊥
+      none : (total : List ℕ) → Covers b total → (ks : List Literal) (tail : List ℕ) → IsPrintable (outcome_of k ks) → rest_in total a ≡ second_line (outcome_of k ks) ++ tail → ⊥
       none total c ks tail f e =
           let t = second_is_line k u ks f in
           no_lf_in [] t.front [] tt (sym n.1 ∙ (the_line P line (rest_in total a) (rest_in total b) (second_line (outcome_of k ks)) tail (right ks f) t (first_of P a b line total c h) e).0 ∙ t.whole)
   second_differs k ls right fault.Text u n h = (line_halts h, none)
     where
-      none : (total : List ℕ) → Covers b total → (ks : List Literal) (tail : List ℕ) → IsInForm (outcome_of k ks) → rest_in total a ≡ second_line (outcome_of k ks) ++ tail → ⊥
+      none : (total : List ℕ) → Covers b total → (ks : List Literal) (tail : List ℕ) → IsPrintable (outcome_of k ks) → rest_in total a ≡ second_line (outcome_of k ks) ++ tail → ⊥
       none total c ks tail f e =
           let t = second_is_line k u ks f in
           let same = (the_line P line (rest_in total a) (rest_in total b) (second_line (outcome_of k ks)) tail (right ks f) t (first_of P a b line total c h) e).0 in
@@ -264,22 +264,22 @@ not_alone k p q u e o tail is f =
     go kind.Unsat line e = refl
     go kind.Unknown line e = absurd (cc)
 
-pub no_second : (k : AnswerKind) (p q : List ℕ) → p ≡ first_answer_line k ++ q → ((ls : List Literal) (tail : List ℕ) → IsInForm (outcome_of k ls) → q ≡ second_line (outcome_of k ls) ++ tail → ⊥)
-    → (o : Outcome) (tail : List ℕ) → IsInForm o → p ≡ outcome_text o ++ tail → ⊥
+pub no_second : (k : AnswerKind) (p q : List ℕ) → p ≡ first_answer_line k ++ q → ((ls : List Literal) (tail : List ℕ) → IsPrintable (outcome_of k ls) → q ≡ second_line (outcome_of k ls) ++ tail → ⊥)
+    → (o : Outcome) (tail : List ℕ) → IsPrintable o → p ≡ outcome_text o ++ tail → ⊥
 no_second k p q e none o tail form f =
     let l = lines_of o tail p f in
     let s = same_kind k l.kind q (second_line o ++ tail) (sym e ∙ l.text) in
     let is : outcome_of k l.line ≡ o = ap (λ (m : AnswerKind). outcome_of m l.line) s.0 ∙ l.is in
-    none l.line tail (subst IsInForm (sym is) form) (s.1 ∙ ap (λ (v : Outcome). second_line v ++ tail) (sym is))
+    none l.line tail (subst IsPrintable (sym is) form) (s.1 ∙ ap (λ (v : Outcome). second_line v ++ tail) (sym is))
 
-pub whole_answer : (k : AnswerKind) (ls : List Literal) (p q s : List ℕ) → p ≡ first_answer_line k ++ q → ReadsSecond k ls q s (Ok tt) → (p ≡ outcome_text (outcome_of k ls) ++ s) × IsInForm (outcome_of k ls)
+pub whole_answer : (k : AnswerKind) (ls : List Literal) (p q s : List ℕ) → p ≡ first_answer_line k ++ q → ReadsSecond k ls q s (Ok tt) → (p ≡ outcome_text (outcome_of k ls) ++ s) × IsPrintable (outcome_of k ls)
 whole_answer k ls p q s e f = (first_then k ls p q s e f.0, f.1)
 
 -- an answer with literals is not the empty core
 pub not_empty : (k : AnswerKind) (ls : List Literal) (p q s : List ℕ) → (ls ≡ [] → ⊥) → p ≡ first_answer_line k ++ q → ReadsSecond k ls q s (Ok tt) → (o : Outcome) (tail : List ℕ) → o ≡ Unsat [] → p ≡ outcome_text o ++ tail → ⊥
 not_empty k ls p q s some e f o tail is g =
     let w = whole_answer k ls p q s e f in
-    let same = same_outcome (outcome_of k ls) o s tail (printed (outcome_of k ls) w.1) (printed o (subst IsInForm (sym is) (tt, tt))) (sym w.0 ∙ g) in
+    let same = same_outcome (outcome_of k ls) o s tail (printed (outcome_of k ls) w.1) (printed o (subst IsPrintable (sym is) (tt, tt))) (sym w.0 ∙ g) in
     go k (same.0 ∙ is)
   where
     go : (m : AnswerKind) → outcome_of m ls ≡ Unsat [] → ⊥
@@ -374,10 +374,10 @@ limit_is_line k low = refused_is_line k PastLimit low (λ n e. absurd (cc))
 -- AN ANSWER IN TWO LINES
 
 abbrev NoReply : Bool → List ℕ → Type 0
-NoReply settled p = (o : Outcome) (tail : List ℕ) → IsInForm o → (settled ≡ true → o ≡ Unsat []) → p ≡ outcome_text o ++ tail → ⊥
+NoReply settled p = (o : Outcome) (tail : List ℕ) → IsPrintable o → (settled ≡ true → o ≡ Unsat []) → p ≡ outcome_text o ++ tail → ⊥
 
 abbrev NoSecond : AnswerKind → List ℕ → Type 0
-NoSecond k q = (ls : List Literal) (tail : List ℕ) → IsInForm (outcome_of k ls) → q ≡ second_line (outcome_of k ls) ++ tail → ⊥
+NoSecond k q = (ls : List Literal) (tail : List ℕ) → IsPrintable (outcome_of k ls) → q ≡ second_line (outcome_of k ls) ++ tail → ⊥
 
 pub reply_without_first : (e : Stop) (a b : Source) (reply : Outcome) (settled : Bool) → Replies {A = AnswerKind} true (Err e) a b ReadsFirst → Replies {A = Unit {0}} true (Err e) a b (λ before following. IsReply before following reply settled)
 reply_without_first e a b reply settled h = replies_stop true e a b ReadsFirst (λ before following. IsReply before following reply settled) (λ p q why none o tail form alone x. none o tail x) h

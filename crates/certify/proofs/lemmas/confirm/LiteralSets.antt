@@ -4,7 +4,7 @@ use Rattle.std.proofs.lemmas.Bool.{true≢false, eqb-true, or_cases}
 use Rattle.std.proofs.lemmas.List.{drop_all, take_more}
 use Rattle.std.specs.Bool.{MatchBool}
 use Rattle.std.specs.List.{AllByRecursion}
-use Rattle.sat_base.specs.values.Literals.{coded}
+use Rattle.sat_base.specs.values.Literals.{mk_lit}
 use Rattle.sat_base.specs.script.Script.{Literal, Among}
 use Rattle.sat_checker.specs.LiteralSets.{is_among}
 use Rattle.sat_checker.specs.matching.Expected.{Spells, EachSpelt, SameSet}
@@ -29,7 +29,7 @@ is_from_among (x ∷ xs) l (inr h) = go (eqb x l) (is_from_among xs l h)
 -- the codes that spell literals
 
 spells_once : (names : ℕ → Option ℕ) (l : Literal) (c d : ℕ) → Spells names l c → Spells names l d → c ≡ d
-spells_once names l c d s t = s.is ∙ ap (λ v. coded v l.positive) (some (sym s.named ∙ t.named)) ∙ sym t.is
+spells_once names l c d s t = s.is ∙ ap (λ v. mk_lit v l.positive) (some (sym s.named ∙ t.named)) ∙ sym t.is
   where
     some : {v w : ℕ} → Some v ≡ Some w → v ≡ w
     some e = cc
@@ -107,7 +107,7 @@ pub unspelt_each : (names : ℕ → Option ℕ) (ls : List Literal) (codes : Lis
 unspelt_each names ls codes first P e m s = subst (λ x. MatchBool x P ((codes : List ℕ) → EachSpelt names ls codes → ⊥)) e m codes s
 
 -- one more literal is spelled
-pub spelt_loop : (names : ℕ → Option ℕ) (ls : List Literal) (cs new : List ℕ) (i : ℕ) (l : Literal) (v code : ℕ) → i < length ls → l ≡ get_or ls i l → AreSpelt names (take i ls) cs → new ≡ cs ++ code ∷ [] → names l.name ≡ Some v → code ≡ coded v l.positive → AreSpelt names (take (i + 1) ls) new
+pub spelt_loop : (names : ℕ → Option ℕ) (ls : List Literal) (cs new : List ℕ) (i : ℕ) (l : Literal) (v code : ℕ) → i < length ls → l ≡ get_or ls i l → AreSpelt names (take i ls) cs → new ≡ cs ++ code ∷ [] → names l.name ≡ Some v → code ≡ mk_lit v l.positive → AreSpelt names (take (i + 1) ls) new
 spelt_loop names ls cs new i l v code h is a n e c =
     let more : take (i + 1) ls ≡ take i ls ++ l ∷ [] = take_more ls i l h ∙ ap (λ x. take i ls ++ x ∷ []) (sym is) in
     subst (AreSpelt names (take (i + 1) ls)) (sym n) (subst (λ xs. AreSpelt names xs (cs ++ code ∷ [])) (sym more) (spelt_more names (take i ls) cs l code a (record { variable = v; named = e; is = c })))

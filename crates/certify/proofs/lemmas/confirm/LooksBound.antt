@@ -3,7 +3,7 @@ use Rattle.std.proofs.Common.{ℕ, ◌+◌, ◌*◌, ◌≤◌, ◌≡◌, ◌==
 use Rattle.std.proofs.lemmas.List.{append-nil, length-append}
 use Rattle.std.proofs.Math.Nat.{mul-le-mul_left, mul-one, pow-succ', pow-zero}
 use Rattle.std.specs.Prelude.{nat_lt}
-use Rattle.sat_base.specs.device.Device.{Reader, GaveFront, CanFollow}
+use Rattle.sat_base.specs.device.Device.{Reader, GavePrefix, CanFollow}
 use Rattle.sat_base.specs.values.Literals.{negated}
 use Rattle.sat_base.specs.steps.Formats.{Format, Items, ListOf, Both}
 use Rattle.sat_base.specs.steps.Numbers.{IsNumber, IsBelow}
@@ -13,7 +13,7 @@ use Rattle.sat_checker.specs.Accepts.{effect, ready_after}
 use Rattle.sat_checker.specs.LiteralSets.{with_literal, canonical, same_literals, is_tautology}
 use Rattle.sat_checker.specs.Looks.{total_length, literal_count, hashes_named}
 use Rattle.sat_checker.specs.Stored.{StoredClause, Stored, is_unit}
-use Rattle.sat_checker.specs.Storing.{with_count, new_clause, with_stored_clause, without_count, unless_gone, without_clause, with_unit, with_contradiction, with_new_unit, with_units, settled_by, settled, with_set, with_canonical, with_stored, with_input, with_literals_known}
+use Rattle.sat_checker.specs.Storing.{with_count, new_clause, with_stored_clause, without_count, unless_gone, without_clause, with_unit, with_contradiction, with_new_unit, with_units, settled_by, with_conflict_settled, with_set, with_canonical, with_stored, with_input, with_literals_known}
 use Rattle.certify.specs.confirm.VerdictPromises.{TakesLooks}
 use Rattle.certify.specs.confirm.Walks.{LooksReach, same_looks, looks_tried, looks_taken}
 
@@ -138,7 +138,7 @@ units_keep : (ls : List ℕ) (f : Stored) → (with_units ls f).clauses ≡ f.cl
 units_keep [] f = refl
 units_keep (l ∷ ls) f = units_keep ls (with_unit l f) ∙ unit_keeps l f
 
-settled_keeps : (f : Stored) → (settled f).clauses ≡ f.clauses
+settled_keeps : (f : Stored) → (with_conflict_settled f).clauses ≡ f.clauses
 settled_keeps f = by_conflict f.conflict
   where
     by_conflict : (conflict : Option (ℕ × ℕ)) → (settled_by conflict f).clauses ≡ f.clauses
@@ -199,7 +199,7 @@ step_grows : (step : Step) (earlier : List Step) → literal_count (ready_after 
 step_grows step earlier =
     let f : Stored = ready_after earlier in
     let grown = effect_grows step f in
-    let e : literal_count (settled (effect step f)) ≡ literals_in (effect step f).clauses = ap literals_in (settled_keeps (effect step f)) in
+    let e : literal_count (with_conflict_settled (effect step f)) ≡ literals_in (effect step f).clauses = ap literals_in (settled_keeps (effect step f)) in
     omega (arith, grown, e)
 
 -- THE BOUND ON LOOKS
@@ -248,7 +248,7 @@ looks_bounded bytes from to reach =
     omega (arith, most, whole)
 
 -- the looks of steps in the text that a reader gave are bounded
-pub takes_looks : (old new : Reader) (text : List ℕ) (from to : ℕ) → GaveFront old new text → from ≤ to
+pub takes_looks : (old new : Reader) (text : List ℕ) (from to : ℕ) → GavePrefix old new text → from ≤ to
     → ((rest : List ℕ) → CanFollow old new rest → LooksReach [] (text ++ rest) from to) → TakesLooks old new from to
 takes_looks old new text from to front rises reached = record {
   text = text;

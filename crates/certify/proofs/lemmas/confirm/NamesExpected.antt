@@ -1,8 +1,8 @@
 -- The steps expected for names, one by one, are those expected for their command.
 use Rattle.std.proofs.Common.{ℕ, ◌≡◌, List, [], ◌∷◌, ◌++◌, map, refl, ◌∙◌, ap, append_assoc}
 use Rattle.std.proofs.lemmas.List.{append-nil}
-use Rattle.sat_base.specs.script.ScriptState.{ScriptState, Sampled, Witnessed, bring_in, bring_all, hide_all, set_all, new_names}
-use Rattle.sat_checker.specs.matching.Expected.{Expected, NewName, NoName, bringing, hiding, setting}
+use Rattle.sat_base.specs.script.ScriptState.{ScriptState, Sampled, Witnessed, introduce, introduce_all, hide_all, set_all, new_names}
+use Rattle.sat_checker.specs.matching.Expected.{Expected, NewName, NoName, introducing, hiding, setting}
 use Rattle.certify.specs.confirm.Naming.{naming_all, taken_by, NamesAreExpected}
 use Rattle.certify.specs.judge.Names.{taken}
 use Rattle.sat_base.specs.script.Language.{OfClause, OfAsk, OfHide, OfWitness, OfSample}
@@ -11,13 +11,13 @@ use Rattle.sat_base.specs.script.Language.{OfClause, OfAsk, OfHide, OfWitness, O
 comes : (new : List ℕ) (more others : List Expected) → more ≡ others → (map NewName new ++ []) ++ more ≡ map NewName new ++ others
 comes new more others e = ap (λ (es : List Expected). es ++ more) (append-nil (map NewName new)) ∙ ap (λ (es : List Expected). map NewName new ++ es) e
 
-clauses : (names : List ℕ) (j : ScriptState) → naming_all OfClause names j ≡ bringing names j
+clauses : (names : List ℕ) (j : ScriptState) → naming_all OfClause names j ≡ introducing names j
 clauses [] j = refl
-clauses (n ∷ ns) j = comes (new_names n j) (naming_all OfClause ns (bring_in n j)) (bringing ns (bring_in n j)) (clauses ns (bring_in n j))
+clauses (n ∷ ns) j = comes (new_names n j) (naming_all OfClause ns (introduce n j)) (introducing ns (introduce n j)) (clauses ns (introduce n j))
 
-asks : (names : List ℕ) (j : ScriptState) → naming_all OfAsk names j ≡ bringing names j
+asks : (names : List ℕ) (j : ScriptState) → naming_all OfAsk names j ≡ introducing names j
 asks [] j = refl
-asks (n ∷ ns) j = comes (new_names n j) (naming_all OfAsk ns (bring_in n j)) (bringing ns (bring_in n j)) (asks ns (bring_in n j))
+asks (n ∷ ns) j = comes (new_names n j) (naming_all OfAsk ns (introduce n j)) (introducing ns (introduce n j)) (asks ns (introduce n j))
 
 hides : (names : List ℕ) (j : ScriptState) → naming_all OfHide names j ≡ hiding names j
 hides [] j = refl
@@ -31,13 +31,13 @@ samples : (names : List ℕ) (j : ScriptState) → naming_all OfSample names j �
 samples [] j = refl
 samples (n ∷ ns) j = comes (new_names n j) (naming_all OfSample ns (taken OfSample n j)) (setting Sampled ns (taken OfSample n j)) (samples ns (taken OfSample n j))
 
-by_clause : (names : List ℕ) (j : ScriptState) → taken_by OfClause names j ≡ bring_all names j
+by_clause : (names : List ℕ) (j : ScriptState) → taken_by OfClause names j ≡ introduce_all names j
 by_clause [] j = refl
-by_clause (n ∷ ns) j = by_clause ns (bring_in n j)
+by_clause (n ∷ ns) j = by_clause ns (introduce n j)
 
-by_ask : (names : List ℕ) (j : ScriptState) → taken_by OfAsk names j ≡ bring_all names j
+by_ask : (names : List ℕ) (j : ScriptState) → taken_by OfAsk names j ≡ introduce_all names j
 by_ask [] j = refl
-by_ask (n ∷ ns) j = by_ask ns (bring_in n j)
+by_ask (n ∷ ns) j = by_ask ns (introduce n j)
 
 by_hide : (names : List ℕ) (j : ScriptState) → taken_by OfHide names j ≡ hide_all names j
 by_hide [] j = refl

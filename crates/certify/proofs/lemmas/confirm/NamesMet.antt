@@ -10,7 +10,7 @@ use Rattle.sat_base.specs.values.Literals.{variable}
 use Rattle.sat_checker.specs.matching.Expected.{Expected, NewName}
 use Rattle.certify.specs.answers.AnswerForms.{named_literals}
 use Rattle.certify.specs.confirm.Streams.{Stream, seen_in, Confirms}
-use Rattle.certify.specs.judge.Names.{BringsNothing, NamesHaveState, Changes, is_of_literals, taken}
+use Rattle.certify.specs.judge.Names.{IntroducesNothing, NamesHaveState, Changes, is_of_literals, taken}
 use Rattle.certify.specs.confirm.Naming.{MeetsAll, MeetsName, MeetsNames, expected_naming, naming_all, taken_by}
 use Rattle.sat_base.specs.script.Language.{Kind, OfClause, OfAsk}
 use Rattle.certify.specs.declared.confirm.stop.Stop.{Stop}
@@ -105,9 +105,9 @@ unnamed_all kind (name ∷ list) j k h =
     ap (λ (es : List Expected). es ++ naming_all kind list (taken kind name j)) (unnamed kind name j k h.0)
     ∙ ap (naming_all kind list) (untaken kind name j k h.0) ∙ unnamed_all kind list j k h.1
 
-pub known_taken : (kind : Kind) (codes : List ℕ) (names : Names) → BringsNothing kind (listed codes) names → Changes names names (taken_by kind (listed codes))
+pub known_taken : (kind : Kind) (codes : List ℕ) (names : Names) → IntroducesNothing kind (listed codes) names → Changes names names (taken_by kind (listed codes))
 known_taken kind codes names b j h = subst (NamesHaveState names) (sym (unmoved kind (listed codes) j b.of_literals (b.known j h))) h
 
-pub known_met : (kind : Kind) (codes : List ℕ) (names : Names) (vars : NamedVars) (a : Stream) → BringsNothing kind (listed codes) names → Confirms (Ok tt) a a (MeetsNames kind (listed codes) names vars vars)
+pub known_met : (kind : Kind) (codes : List ℕ) (names : Names) (vars : NamedVars) (a : Stream) → IntroducesNothing kind (listed codes) names → Confirms (Ok tt) a a (MeetsNames kind (listed codes) names vars vars)
 known_met kind codes names vars a b = confirms_none tt a (MeetsNames kind (listed codes) names vars vars)
     (λ total j h. subst (λ (es : List Expected). MeetsAll es vars vars (seen_in total a) (seen_in total a) (Ok tt)) (sym (unnamed_all kind (listed codes) j b.of_literals (b.known j h))) (nothing vars (seen_in total a)))

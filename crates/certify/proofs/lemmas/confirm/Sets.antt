@@ -3,7 +3,7 @@ use Rattle.std.proofs.Common.{ℕ, ◌≡◌, ◌&&◌, Bool, true, false, List,
 use Rattle.std.specs.Bool.{MatchBool}
 use Rattle.std.specs.List.{AllByRecursion, list_all}
 use Rattle.sat_base.specs.script.Script.{Among}
-use Rattle.sat_checker.specs.LiteralSets.{is_among, is_part, canonical}
+use Rattle.sat_checker.specs.LiteralSets.{is_among, is_subset_of, canonical}
 use Rattle.sat_checker.proofs.lemmas.sets.Canonical.{canonical_among}
 use Rattle.certify.specs.confirm.SpeltLiterals.{AllAmong}
 use Rattle.certify.proofs.lemmas.confirm.LiteralSets.{among_is, is_from_among}
@@ -35,11 +35,11 @@ into xs l m = canonical_among xs l ∙ is_from_among xs l m
 out : (xs : List ℕ) (l : ℕ) → is_among (canonical xs) l ≡ true → Among l xs
 out xs l e = among_is xs l (sym (canonical_among xs l) ∙ e)
 
-parts : (xs ys : List ℕ) → is_part (canonical xs) (canonical ys) ≡ true → AllAmong xs ys
+parts : (xs ys : List ℕ) → is_subset_of (canonical xs) (canonical ys) ≡ true → AllAmong xs ys
 parts xs ys e = all_of (λ l. Among l ys) xs (λ l m.
     out ys l (each_of (λ k. is_among (canonical ys) k ≡ true) (canonical xs) l (part_all (canonical ys) (canonical xs) e) (among_is (canonical xs) l (into xs l m))))
 
-parted : (xs ys : List ℕ) → AllAmong xs ys → is_part (canonical xs) (canonical ys) ≡ true
+parted : (xs ys : List ℕ) → AllAmong xs ys → is_subset_of (canonical xs) (canonical ys) ≡ true
 parted xs ys h = all_part (canonical ys) (canonical xs) (all_of (λ l. is_among (canonical ys) l ≡ true) (canonical xs) (λ l m.
     into ys l (each_of (λ k. Among k ys) xs l h (out xs l (is_from_among (canonical xs) l m)))))
 
@@ -47,9 +47,9 @@ and_true : (b : Bool) → b && true ≡ b
 and_true true = refl
 and_true false = refl
 
-pub part_reports : (xs ys a b : List ℕ) (answer : Bool) → a ≡ canonical xs → b ≡ canonical ys → answer ≡ (is_part a b && true) → MatchBool answer (AllAmong xs ys) (AllAmong xs ys → ⊥)
-part_reports xs ys a b answer p q e = go answer (e ∙ and_true (is_part a b) ∙ ap (λ (x : List ℕ). is_part x b) p ∙ ap (λ (x : List ℕ). is_part (canonical xs) x) q)
+pub part_reports : (xs ys a b : List ℕ) (answer : Bool) → a ≡ canonical xs → b ≡ canonical ys → answer ≡ (is_subset_of a b && true) → MatchBool answer (AllAmong xs ys) (AllAmong xs ys → ⊥)
+part_reports xs ys a b answer p q e = go answer (e ∙ and_true (is_subset_of a b) ∙ ap (λ (x : List ℕ). is_subset_of x b) p ∙ ap (λ (x : List ℕ). is_subset_of (canonical xs) x) q)
   where
-    go : (y : Bool) → y ≡ is_part (canonical xs) (canonical ys) → MatchBool y (AllAmong xs ys) (AllAmong xs ys → ⊥)
+    go : (y : Bool) → y ≡ is_subset_of (canonical xs) (canonical ys) → MatchBool y (AllAmong xs ys) (AllAmong xs ys → ⊥)
     go true f = parts xs ys (sym f)
     go false f = λ h. let g : false ≡ true = f ∙ parted xs ys h in absurd (cc)

@@ -6,9 +6,9 @@ use Rattle.std.specs.Io.KnownBytes.{Consumes, IsAtEnd, prepend_known}
 use Rattle.sat_base.specs.declared.steps.error.StepError.{StepError}
 use Rattle.sat_base.specs.declared.steps.error.StepError.TheVariants as errors
 use Rattle.sat_base.specs.device.Device.{Reader, GaveEnough, ReadFails, most_reads}
-use Rattle.sat_base.specs.device.Reading.{Source, AtEnd, ConsumesWithReads, ConsumesBytes, ConsumesToEnd, AllTaken, ConsumesAndFails, AnswersStepRead, unread}
+use Rattle.sat_base.specs.device.Reading.{Source, AtEnd, ConsumesWithReads, ConsumesBytes, ConsumesToEnd, AllTaken, ConsumesAndFails, AnswersStepRead, new_source}
 use Rattle.sat_base.specs.steps.StepReading.{AnswersUnlessFailed, repeated}
-use Rattle.sat_base.specs.steps.Formats.{BeginsText, IsProperFront}
+use Rattle.sat_base.specs.steps.Formats.{IsPrefixOfText, IsProperPrefix}
 use Rattle.sat_base.specs.steps.Steps.{Step}
 use Rattle.sat_base.specs.steps.StepText.{SpellsStep, tag_of}
 use Rattle.sat_base.proofs.lemmas.device.ReadLemmas.{passes_more, faults_later, passes_none}
@@ -26,7 +26,7 @@ use Rattle.certify.specs.declared.confirm.stop.Stop.{Stop}
 use Rattle.certify.specs.declared.confirm.stop.Stop.TheVariants as stop
 use Rattle.certify.specs.declared.verdict.Why.{Why}
 use Rattle.certify.specs.declared.verdict.Why.TheVariants.{CertificateEnds, StepRefused}
-use Rattle.certify.specs.run.Unfinished.{GaveFrontOf}
+use Rattle.certify.specs.run.Unfinished.{GavePrefixOf}
 use Rattle.certify.proofs.lemmas.confirm.LooksBound.{takes_looks}
 use Rattle.certify.proofs.lemmas.confirm.OneStep.{one_step}
 use Rattle.certify.proofs.lemmas.confirm.Walks.{walks_none, walks_on, tries_on, runs_on, tries_if, tries_none, walks_read, walks_fed, tries_fed, runs_fed, walks_settled, tries_kept, tries_spent, runs_spent, never_settled}
@@ -73,13 +73,13 @@ nothing_after s t text total p c =
 
 -- NO STEP CAN BE READ
 
-pub no_step_at_byte : (s t : Source) (front : List ℕ) (byte : ℕ) (total : List ℕ) → ConsumesBytes s t (front ++ byte ∷ []) → IsProperFront SpellsStep front → (BeginsText SpellsStep (front ++ byte ∷ []) → ⊥) → Covers t total
+pub no_step_at_byte : (s t : Source) (front : List ℕ) (byte : ℕ) (total : List ℕ) → ConsumesBytes s t (front ++ byte ∷ []) → IsProperPrefix SpellsStep front → (IsPrefixOfText SpellsStep (front ++ byte ∷ []) → ⊥) → Covers t total
     → BeginsNoStep (rest_in total s)
 no_step_at_byte s t front byte total p live shut c =
     no_way SpellsStep one_step (rest_in total s) front (rest_in total t) byte (taken_front 0 s t (front ++ byte ∷ []) total p c ∙ append_assoc front (byte ∷ []) (rest_in total t)) live shut
 
-pub no_step_cut : (s t : Source) (text total : List ℕ) → ConsumesToEnd s t text → IsProperFront SpellsStep text → Covers t total → BeginsNoStep (rest_in total s)
-no_step_cut s t text total p live c = no_whole SpellsStep one_step (rest_in total s) (subst (IsProperFront SpellsStep) (sym (nothing_after s t text total p c)) live)
+pub no_step_cut : (s t : Source) (text total : List ℕ) → ConsumesToEnd s t text → IsProperPrefix SpellsStep text → Covers t total → BeginsNoStep (rest_in total s)
+no_step_cut s t text total p live c = no_whole SpellsStep one_step (rest_in total s) (subst (IsProperPrefix SpellsStep) (sym (nothing_after s t text total p c)) live)
 
 pub no_step_over : (s t : Source) (total : List ℕ) → ConsumesToEnd s t [] → Covers t total → BeginsNoStep (rest_in total s)
 no_step_over s t total p c step text rest e h = let u : [] ≡ tag_of step ∷ (h.0 ++ rest) = sym (nothing_after s t [] total p c) ∙ e ∙ ap (λ (z : List ℕ). z ++ rest) h.1 in cc
@@ -299,8 +299,8 @@ called_some : (rc tc tr : ℕ) → tc + 0 ≡ rc + tr → 0 < tr → rc < tc
 called_some rc tc tr e h = omega arith
 
 -- what holds whatever bytes could follow holds of what the reader gave
-pub gave_enough : (r : Reader) (t : Source) (text : List ℕ) (P : List ℕ → Type 0) → ConsumesWithReads 1 (unread r) t text → (AtEnd t → IsAtEnd t.reader.to_come)
-    → ((total : List ℕ) → Covers t total → P (rest_in total (unread r))) → GaveEnough r t.reader P
+pub gave_enough : (r : Reader) (t : Source) (text : List ℕ) (P : List ℕ → Type 0) → ConsumesWithReads 1 (new_source r) t text → (AtEnd t → IsAtEnd t.reader.to_come)
+    → ((total : List ℕ) → Covers t total → P (rest_in total (new_source r))) → GaveEnough r t.reader P
 gave_enough r t text P p over f = record {
   text = p.fresh;
   front = record { gave = p.gave; known_bytes = known_front r.to_come t.reader.to_come t.waiting text p.fresh p.flows p.bytes; loans = p.loans };
@@ -308,7 +308,7 @@ gave_enough r t text P p over f = record {
   few = few_of r.calls t.reader.calls t.reads r.given t.reader.given p.fresh p.calls p.few p.gave;
   holds = λ rest k.
       let whole : t.reader.given ++ rest ≡ r.given ++ (p.fresh ++ rest) = ap (λ (z : List ℕ). z ++ rest) p.gave ∙ append_assoc r.given p.fresh rest in
-      subst P (rest_is (unread r) (t.reader.given ++ rest) (p.fresh ++ rest) whole)
+      subst P (rest_is (new_source r) (t.reader.given ++ rest) (p.fresh ++ rest) whole)
       (f (t.reader.given ++ rest) (record { later = rest; whole = refl; none = λ h. k (called_some r.calls t.reader.calls t.reads p.calls h.0) h.1 }));
 }
 
@@ -316,53 +316,53 @@ gave_enough r t text P p over f = record {
 few_read : (lf tr : ℕ) → lf + 4096 * 0 ≤ 4096 * tr → tr ≤ most_reads → lf ≤ most_bytes
 few_read lf tr h k = omega arith
 
-pub few_given : (n : ℕ) (r : Reader) (t : Source) (text : List ℕ) → ConsumesWithReads n (unread r) t text → t.reads ≤ most_reads → length (rest_in t.reader.given (unread r)) ≤ most_bytes
-few_given n r t text p k = subst (λ bytes. length bytes ≤ most_bytes) (sym (rest_is (unread r) t.reader.given p.fresh p.gave)) (few_read (length p.fresh) t.reads p.room k)
+pub few_given : (n : ℕ) (r : Reader) (t : Source) (text : List ℕ) → ConsumesWithReads n (new_source r) t text → t.reads ≤ most_reads → length (rest_in t.reader.given (new_source r)) ≤ most_bytes
+few_given n r t text p k = subst (λ bytes. length bytes ≤ most_bytes) (sym (rest_is (new_source r) t.reader.given p.fresh p.gave)) (few_read (length p.fresh) t.reads p.room k)
 
 read_out : (rc tc tr m : ℕ) → tc + 0 ≡ rc + tr → m ≤ tr → tr ≤ m → tc ≡ rc + m
 read_out rc tc tr m e h k = omega arith
 
-pub read_fails : (r : Reader) (t : Source) (text : List ℕ) → t.reads ≤ most_reads → ConsumesAndFails (unread r) t text → ReadFails r t.reader
+pub read_fails : (r : Reader) (t : Source) (text : List ℕ) → t.reads ≤ most_reads → ConsumesAndFails (new_source r) t text → ReadFails r t.reader
 read_fails r t text b p = (
   elim p.cause [ inl h ↦ inl (h.0, h.1) | inr h ↦ inr (h.0, read_out r.calls t.reader.calls t.reads most_reads p.calls h.1 b) ],
   few_of r.calls t.reader.calls t.reads r.given t.reader.given p.fresh p.calls p.few p.gave,
 )
 
 -- what holds whatever bytes could follow holds for the prefix that the reader gave
-pub passed_front : (n : ℕ) (r : Reader) (t : Source) (text : List ℕ) (P : List ℕ → Type 0) → ConsumesWithReads n (unread r) t text → ((total : List ℕ) → Covers t total → P (rest_in total (unread r))) → GaveFrontOf r t.reader P
+pub passed_front : (n : ℕ) (r : Reader) (t : Source) (text : List ℕ) (P : List ℕ → Type 0) → ConsumesWithReads n (new_source r) t text → ((total : List ℕ) → Covers t total → P (rest_in total (new_source r))) → GavePrefixOf r t.reader P
 passed_front n r t text P p f = record {
   text = p.fresh;
   front = record { gave = p.gave; known_bytes = known_front r.to_come t.reader.to_come t.waiting text p.fresh p.flows p.bytes; loans = p.loans };
   holds = λ rest k.
       let whole : t.reader.given ++ rest ≡ r.given ++ (p.fresh ++ rest) = ap (λ (z : List ℕ). z ++ rest) p.gave ∙ append_assoc r.given p.fresh rest in
-      subst P (rest_is (unread r) (t.reader.given ++ rest) (p.fresh ++ rest) whole)
+      subst P (rest_is (new_source r) (t.reader.given ++ rest) (p.fresh ++ rest) whole)
       (f (t.reader.given ++ rest) (record { later = rest; whole = refl; none = λ h. k (called_some r.calls t.reader.calls t.reads p.calls h.0) h.1 }));
 }
 
-pub faulted_front : (r : Reader) (t : Source) (text : List ℕ) (P : List ℕ → Type 0) → ConsumesAndFails (unread r) t text → ((total : List ℕ) → Covers t total → P (rest_in total (unread r))) → GaveFrontOf r t.reader P
+pub faulted_front : (r : Reader) (t : Source) (text : List ℕ) (P : List ℕ → Type 0) → ConsumesAndFails (new_source r) t text → ((total : List ℕ) → Covers t total → P (rest_in total (new_source r))) → GavePrefixOf r t.reader P
 faulted_front r t text P p f = record {
   text = p.fresh;
   front = record { gave = p.gave; known_bytes = known_front r.to_come t.reader.to_come t.waiting text p.fresh (p.flows ∙ sym (append-nil text) ∙ ap (λ (z : List ℕ). text ++ z) (sym p.none)) p.bytes; loans = p.loans };
   holds = λ rest k.
       let whole : t.reader.given ++ rest ≡ r.given ++ (p.fresh ++ rest) = ap (λ (z : List ℕ). z ++ rest) p.gave ∙ append_assoc r.given p.fresh rest in
-      subst P (rest_is (unread r) (t.reader.given ++ rest) (p.fresh ++ rest) whole)
+      subst P (rest_is (new_source r) (t.reader.given ++ rest) (p.fresh ++ rest) whole)
       (f (t.reader.given ++ rest) (record { later = rest; whole = refl; none = λ h. k (called_some r.calls t.reader.calls t.reads p.calls h.0) h.1 }));
 }
 
 -- the looks of the steps that were read, whatever bytes could follow
-pub took_looks : (n : ℕ) (r : Reader) (t : Source) (text : List ℕ) (to : ℕ) → ConsumesWithReads n (unread r) t text → ((total : List ℕ) → Covers t total → LooksReach [] (rest_in total (unread r)) 0 to) → TakesLooks r t.reader 0 to
+pub took_looks : (n : ℕ) (r : Reader) (t : Source) (text : List ℕ) (to : ℕ) → ConsumesWithReads n (new_source r) t text → ((total : List ℕ) → Covers t total → LooksReach [] (rest_in total (new_source r)) 0 to) → TakesLooks r t.reader 0 to
 took_looks n r t text to p f = takes_looks r t.reader p.fresh 0 to
     (record { gave = p.gave; known_bytes = known_front r.to_come t.reader.to_come t.waiting text p.fresh p.flows p.bytes; loans = p.loans }) (omega arith)
     (λ rest k.
     let whole : t.reader.given ++ rest ≡ r.given ++ (p.fresh ++ rest) = ap (λ (z : List ℕ). z ++ rest) p.gave ∙ append_assoc r.given p.fresh rest in
-    subst (λ bytes. LooksReach [] bytes 0 to) (rest_is (unread r) (t.reader.given ++ rest) (p.fresh ++ rest) whole)
+    subst (λ bytes. LooksReach [] bytes 0 to) (rest_is (new_source r) (t.reader.given ++ rest) (p.fresh ++ rest) whole)
     (f (t.reader.given ++ rest) (record { later = rest; whole = refl; none = λ h. k (called_some r.calls t.reader.calls t.reads p.calls h.0) h.1 })))
 
 -- the same if a read failed
-pub took_faulted : (r : Reader) (t : Source) (text : List ℕ) (to : ℕ) → ConsumesAndFails (unread r) t text → ((total : List ℕ) → Covers t total → LooksReach [] (rest_in total (unread r)) 0 to) → TakesLooks r t.reader 0 to
+pub took_faulted : (r : Reader) (t : Source) (text : List ℕ) (to : ℕ) → ConsumesAndFails (new_source r) t text → ((total : List ℕ) → Covers t total → LooksReach [] (rest_in total (new_source r)) 0 to) → TakesLooks r t.reader 0 to
 took_faulted r t text to p f = takes_looks r t.reader p.fresh 0 to
     (record { gave = p.gave; known_bytes = known_front r.to_come t.reader.to_come t.waiting text p.fresh (p.flows ∙ sym (append-nil text) ∙ ap (λ (z : List ℕ). text ++ z) (sym p.none)) p.bytes; loans = p.loans }) (omega arith)
     (λ rest k.
     let whole : t.reader.given ++ rest ≡ r.given ++ (p.fresh ++ rest) = ap (λ (z : List ℕ). z ++ rest) p.gave ∙ append_assoc r.given p.fresh rest in
-    subst (λ bytes. LooksReach [] bytes 0 to) (rest_is (unread r) (t.reader.given ++ rest) (p.fresh ++ rest) whole)
+    subst (λ bytes. LooksReach [] bytes 0 to) (rest_is (new_source r) (t.reader.given ++ rest) (p.fresh ++ rest) whole)
     (f (t.reader.given ++ rest) (record { later = rest; whole = refl; none = λ h. k (called_some r.calls t.reader.calls t.reads p.calls h.0) h.1 })))

@@ -5,11 +5,11 @@ use Rattle.sat_base.specs.steps.StepText.{SpellsStep}
 use Rattle.sat_checker.specs.Accepts.{ready_after}
 use Rattle.sat_checker.specs.KernelView.{kernel_looks, LooksAtMost}
 use Rattle.sat_checker.specs.Looks.{most_looks}
-use Rattle.sat_checker.specs.Spent.{IsSpent}
+use Rattle.sat_checker.specs.Counters.{CountersExhausted}
 use Rattle.sat_checker.specs.declared.kernel.Kernel.{Kernel}
 use Rattle.certify.specs.confirm.Feeding.{HasTaken, FeedsStep, SettlesConflict}
 use Rattle.certify.specs.confirm.CertificateStates.{CertificateState}
-use Rattle.certify.specs.confirm.Walks.{LooksReach, same_looks, looks_tried, looks_taken, ReachesCounterEnd, spent_settling, spent_trying, spent_taking, IsFedFront, FeedsAllSteps, WalksBefore, walks_if, FeedsSomeSteps, RunsOut}
+use Rattle.certify.specs.confirm.Walks.{LooksReach, same_looks, looks_tried, looks_taken, ReachesCounterEnd, spent_settling, spent_trying, spent_taking, IsFedPrefix, FeedsAllSteps, WalksBefore, walks_if, FeedsSomeSteps, RunsOut}
 use Rattle.certify.specs.declared.confirm.stop.Stop.TheVariants as stop
 
 pub walks_none : (u : CertificateState) → FeedsAllSteps u u
@@ -52,7 +52,7 @@ pub walks_read : (u v : CertificateState) (text : List ℕ) → SpellsStep v.ste
 walks_read u v text spelt front same = (
   text,
   spelt,
-  (λ earlier t. subst (λ (c : Kernel). IsFedFront u.checker u.rest c (text ++ v.rest) earlier) (sym same) (record {
+  (λ earlier t. subst (λ (c : Kernel). IsFedPrefix u.checker u.rest c (text ++ v.rest) earlier) (sym same) (record {
     later = earlier;
     taken = t;
     reaches = λ n r. subst (λ bytes. LooksReach earlier bytes (kernel_looks u.checker) n) (sym front) r;
@@ -81,7 +81,7 @@ runs_fed u v w next fed f earlier t = let x = f.2 earlier t in x.spends (spent_t
 
 -- SETTLING A PENDING UNIT CONFLICT
 
-settled_walk : (old : Kernel) (bytes : List ℕ) (mid next : Kernel) (rest : List ℕ) (earlier : List Step) → SettlesConflict (Ok tt) mid next → IsFedFront old bytes mid rest earlier → IsFedFront old bytes next rest earlier
+settled_walk : (old : Kernel) (bytes : List ℕ) (mid next : Kernel) (rest : List ℕ) (earlier : List Step) → SettlesConflict (Ok tt) mid next → IsFedPrefix old bytes mid rest earlier → IsFedPrefix old bytes next rest earlier
 settled_walk old bytes mid next rest earlier settled x =
     let y = settled x.later x.taken in
     record {
@@ -93,11 +93,11 @@ settled_walk old bytes mid next rest earlier settled x =
 
 pub walks_settled : (fed : Bool) (u v w : CertificateState) → w.rest ≡ v.rest → w.step ≡ v.step → SettlesConflict (Ok tt) v.checker w.checker → walks_if fed u v → walks_if fed u w
 walks_settled true u v w r s settled f = λ earlier t.
-    subst (λ bytes. IsFedFront u.checker u.rest w.checker bytes earlier) (sym r) (settled_walk u.checker u.rest v.checker w.checker v.rest earlier settled (f earlier t))
+    subst (λ bytes. IsFedPrefix u.checker u.rest w.checker bytes earlier) (sym r) (settled_walk u.checker u.rest v.checker w.checker v.rest earlier settled (f earlier t))
 walks_settled false u v w r s settled f = (
   f.0,
   subst (λ step. SpellsStep step f.0) (sym s) f.1,
-  (λ earlier t. subst (λ bytes. IsFedFront u.checker u.rest w.checker (f.0 ++ bytes) earlier) (sym r) (settled_walk u.checker u.rest v.checker w.checker (f.0 ++ v.rest) earlier settled (f.2 earlier t))),
+  (λ earlier t. subst (λ bytes. IsFedPrefix u.checker u.rest w.checker (f.0 ++ bytes) earlier) (sym r) (settled_walk u.checker u.rest v.checker w.checker (f.0 ++ v.rest) earlier settled (f.2 earlier t))),
 )
 
 -- the steps that the checker was fed, with their looks
@@ -105,7 +105,7 @@ pub record Reached (u v : CertificateState) (earlier : List Step) : Type 0 where
   pub later : List Step
   pub taken : HasTaken v.checker later
   pub looks : LooksReach earlier u.rest (kernel_looks u.checker) (kernel_looks v.checker)
-  pub spent : IsSpent (ready_after later) → ReachesCounterEnd earlier u.rest
+  pub spent : CountersExhausted (ready_after later) → ReachesCounterEnd earlier u.rest
 
 reached : (fed : Bool) (u v : CertificateState) → walks_if fed u v → (earlier : List Step) → HasTaken u.checker earlier → Reached u v earlier
 reached true u v f = λ earlier t. let x = f earlier t in record { later = x.later; taken = x.taken; looks = x.reaches (kernel_looks v.checker) same_looks; spent = λ s. x.spends (spent_settling s) }

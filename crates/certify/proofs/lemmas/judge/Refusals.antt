@@ -8,7 +8,7 @@ use Rattle.sat_base.specs.script.Script.{Literal, names_of}
 use Rattle.sat_base.specs.script.ScriptState.{ScriptState, NameMode, Sampled, Witnessed, identity_of, is_witness, has_witness, WitnessName, first_refusal, refused_literal, refusal_of}
 use Rattle.certify.specs.answers.AnswerForms.{named_literals}
 use Rattle.sat_base.specs.script.Language.{Kind, OfClause, OfAsk, command_of}
-use Rattle.certify.specs.script.Commands.{kind_of, BeginsPast, IsFront}
+use Rattle.certify.specs.script.Commands.{kind_of, BeginsPast, IsPrefixWithinLimit}
 use Rattle.certify.specs.declared.script.Command.{Command as Lent}
 use Rattle.certify.specs.declared.judge.Refusal.{Refusal as CodeRefusal}
 use Rattle.certify.specs.declared.judge.names.Names.{Names}
@@ -59,7 +59,7 @@ past_names j false ls h = ap (λ (ks : List Literal). first_refusal true j (name
 past_names j true [] h = absurd h
 past_names j true (l ∷ ls) h = let e : ltb var_limit l.name ≡ true = lt-ltb var_limit l.name h in rw e refl
 
-pub refused_end : (j : ScriptState) (codes : List ℕ) (past : Bool) (ls : List Literal) (k : ℕ) → (f : IsFront codes past ls) → length codes ≤ k → refused_literal j (names_of (named_literals (drop k codes) ++ f.following)) ≡ refusal_said (limit_refusal past)
+pub refused_end : (j : ScriptState) (codes : List ℕ) (past : Bool) (ls : List Literal) (k : ℕ) → (f : IsPrefixWithinLimit codes past ls) → length codes ≤ k → refused_literal j (names_of (named_literals (drop k codes) ++ f.following)) ≡ refusal_said (limit_refusal past)
 refused_end j codes past ls k f over =
     ap (λ (xs : List ℕ). refused_literal j (names_of (named_literals xs ++ f.following))) (drop_all k codes over) ∙ past_literals j past f.following f.limit
 
@@ -67,12 +67,12 @@ names_within : (j : ScriptState) (codes : List ℕ) (tail : List Literal) → Al
 names_within j [] tail h = refl
 names_within j (code ∷ codes) tail h = let low = h.0 in rw (within (variable code + 1) (omega arith)) (names_within j codes tail h.1)
 
-pub names_refused : (j : ScriptState) (codes : List ℕ) (past : Bool) (ls : List Literal) → IsFront codes past ls → first_refusal true j (names_of ls) ≡ refusal_said (limit_refusal past)
+pub names_refused : (j : ScriptState) (codes : List ℕ) (past : Bool) (ls : List Literal) → IsPrefixWithinLimit codes past ls → first_refusal true j (names_of ls) ≡ refusal_said (limit_refusal past)
 names_refused j codes past ls f = ap (λ (ks : List Literal). first_refusal true j (names_of ks)) f.whole ∙ names_within j codes f.following f.within ∙ past_names j past f.following f.limit
 
 -- COMPLETE COMMANDS
 pub says_literals : (names : Names) (lent : Lent) (r : Option CodeRefusal) → (kind_of lent.kind ≡ OfClause) ⊎ (kind_of lent.kind ≡ OfAsk)
-    → ((j : ScriptState) (ls : List Literal) → NamesHaveState names j → IsFront lent.literals.now lent.past_limit ls → refusal_said r ≡ refused_literal j (names_of ls)) → ReportsRefusal r names lent
+    → ((j : ScriptState) (ls : List Literal) → NamesHaveState names j → IsPrefixWithinLimit lent.literals.now lent.past_limit ls → refusal_said r ≡ refused_literal j (names_of ls)) → ReportsRefusal r names lent
 says_literals names lent r (inl k) said j c h (ls, f, e) = said j ls h f ∙ sym (ap (refusal_of j) (e ∙ ap (λ (kind : Kind). command_of kind ls) k))
 says_literals names lent r (inr k) said j c h (ls, f, e) = said j ls h f ∙ sym (ap (refusal_of j) (e ∙ ap (λ (kind : Kind). command_of kind ls) k))
 

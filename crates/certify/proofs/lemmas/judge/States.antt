@@ -5,7 +5,7 @@ use Rattle.std.proofs.Math.Seq.{get_or-append_seam}
 use Rattle.std.proofs.lemmas.List.{length-append, get_or-set_same, get_or-set_other}
 use Rattle.std.proofs.lemmas.Bool.{eqb-true, eqb-false, eq-eqb, ne_eqb, ltb-true, ltb-false}
 use Rattle.sat_base.specs.values.Literals.{var_limit}
-use Rattle.sat_base.specs.script.ScriptState.{ScriptState, Named, NameMode, Sampled, Witnessed, identity_of, with_name, with_names, names_from, new_names, bring_in, without_name, with_mode}
+use Rattle.sat_base.specs.script.ScriptState.{ScriptState, Named, NameMode, Sampled, Witnessed, identity_of, with_name, with_names, names_from, new_names, introduce, without_name, with_mode}
 use Rattle.sat_base.proofs.lemmas.script.LiteralValues.{all_map, placed_found, removed_found, removed_gone}
 use Rattle.sat_base.proofs.lemmas.script.ScriptStates.{placed_all, filtered_all, given_at}
 use Rattle.certify.specs.declared.judge.NameState.{NameState}
@@ -258,7 +258,7 @@ new_used names j name h u = below_at j name true (low (ltb names.used name) refl
     low false e = let f = h.first in let x = ltb-false names.used name e in omega arith
 
 -- so introducing it changes nothing
-pub stays : (names : Names) (name : ℕ) → IsInUse names name → Changes names names (bring_in name)
+pub stays : (names : Names) (name : ℕ) → IsInUse names name → Changes names names (introduce name)
 stays names name u j h = subst (λ (ns : List ℕ). NamesHaveState names (with_names ns j)) (sym (new_used names j name h u)) h
 
 pub witnessed_used : (s : NameState) → s ≡ state.Witnessed → s ≡ state.Hidden → ⊥
@@ -285,7 +285,7 @@ state_set old new state.Witnessed index name low n same sets used j h = mode_at 
 
 -- a hidden name is introduced again
 pub again_at : (old new : Names) (j : ScriptState) (index name : ℕ) → NamesHaveState old j → index < old.used → index + 1 ≡ name → index < var_limit → new.used ≡ old.used → SetsValue state.Sampled old.states new.states index state.Sampled
-    → state_in (states_of old) name ≡ state.Hidden → NamesHaveState new (bring_in name j)
+    → state_in (states_of old) name ≡ state.Hidden → NamesHaveState new (introduce name j)
 again_at old new j index name h low n within same sets hidden_yet =
     let f = h.first in
     let longer : new.used ≡ max old.used name = omega arith in

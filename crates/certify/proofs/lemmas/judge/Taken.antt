@@ -5,14 +5,14 @@ use Rattle.std.proofs.lemmas.Bool.{true≢false}
 use Rattle.std.specs.List.{AllByRecursion}
 use Rattle.sat_base.specs.values.Literals.{var_limit, variable}
 use Rattle.sat_base.specs.script.Script.{Literal, names_of}
-use Rattle.sat_base.specs.script.ScriptState.{ScriptState, Sampled, Witnessed, with_name, with_names, names_from, bring_in, bring_all, hide_all, set_all, with_clause, accepted, new_names}
+use Rattle.sat_base.specs.script.ScriptState.{ScriptState, Sampled, Witnessed, with_name, with_names, names_from, introduce, introduce_all, hide_all, set_all, with_clause, state_after_accepted, new_names}
 use Rattle.certify.specs.declared.judge.NameState.{NameState}
 use Rattle.certify.specs.declared.judge.NameState.TheVariants as state
 use Rattle.certify.specs.declared.judge.names.Names.{Names}
 use Rattle.certify.specs.answers.AnswerForms.{named_literals}
-use Rattle.certify.specs.script.Commands.{BeginsPast, IsFront}
+use Rattle.certify.specs.script.Commands.{BeginsPast, IsPrefixWithinLimit}
 use Rattle.sat_base.specs.script.Language.{Kind, OfClause, OfAsk, OfHide, OfWitness, OfSample, command_of}
-use Rattle.certify.specs.judge.Names.{state_in, states_of, first_states, BringsNothing, Changes, ComesInUse, IsInUse, NamesHaveState, is_of_literals, taken}
+use Rattle.certify.specs.judge.Names.{state_in, states_of, first_states, IntroducesNothing, Changes, ComesInUse, IsInUse, NamesHaveState, is_of_literals, taken}
 use Rattle.certify.proofs.lemmas.confirm.NamesFrom.{from_more, with_names_append}
 use Rattle.certify.proofs.lemmas.judge.States.{past_used, pushed_at, states_length, got_at, named, new_past, new_used, sampled_used}
 
@@ -52,7 +52,7 @@ grown_by names j (suc count) low h =
     ∙ ap (λ (name : ℕ). with_name name mid) last in
     subst (λ (k : ScriptState). NamesHaveState (with_used names (names.used + suc count)) k) (sym whole) (subst (λ (n : ℕ). NamesHaveState (with_used names n) (with_name (next + 1) mid)) (sym total) one)
 
-pub grown : (names : Names) (index : ℕ) → names.used ≤ index → index < var_limit → Changes names (with_used names (index + 1)) (bring_in (index + 1))
+pub grown : (names : Names) (index : ℕ) → names.used ≤ index → index < var_limit → Changes names (with_used names (index + 1)) (introduce (index + 1))
 grown names index past low j h =
     let f = h.first in
     let count = index + 1 - names.used in
@@ -70,13 +70,13 @@ abbrev pub taken_all : Kind → List ℕ → ScriptState → ScriptState
 taken_all kind [] j = j
 taken_all kind (name ∷ names) j = taken_all kind names (taken kind name j)
 
-clause_all : (names : List ℕ) (j : ScriptState) → taken_all OfClause names j ≡ bring_all names j
+clause_all : (names : List ℕ) (j : ScriptState) → taken_all OfClause names j ≡ introduce_all names j
 clause_all [] j = refl
-clause_all (name ∷ names) j = clause_all names (bring_in name j)
+clause_all (name ∷ names) j = clause_all names (introduce name j)
 
-ask_all : (names : List ℕ) (j : ScriptState) → taken_all OfAsk names j ≡ bring_all names j
+ask_all : (names : List ℕ) (j : ScriptState) → taken_all OfAsk names j ≡ introduce_all names j
 ask_all [] j = refl
-ask_all (name ∷ names) j = ask_all names (bring_in name j)
+ask_all (name ∷ names) j = ask_all names (introduce name j)
 
 hidden_all : (names : List ℕ) (j : ScriptState) → taken_all OfHide names j ≡ hide_all names j
 hidden_all [] j = refl
@@ -117,8 +117,8 @@ known_end j codes k over = subst (λ (xs : List ℕ). AllByRecursion (λ name. n
 pub clause_stands : (n : Names) (ls : List Literal) (j : ScriptState) → NamesHaveState n j → NamesHaveState n (with_clause ls j)
 clause_stands n ls j h = record { first = h.first; limit = h.limit; each = h.each; fresh = h.fresh; given = h.given; modes = h.modes; apart = h.apart }
 
-pub accepted_stands : (n : Names) (kind : Kind) (ls : List Literal) (j : ScriptState) → NamesHaveState n (taken_all kind (names_of ls) j) → NamesHaveState n (accepted (command_of kind ls) j)
-accepted_stands n OfClause ls j h = clause_stands n ls (bring_all (names_of ls) j) (subst (NamesHaveState n) (clause_all (names_of ls) j) h)
+pub accepted_stands : (n : Names) (kind : Kind) (ls : List Literal) (j : ScriptState) → NamesHaveState n (taken_all kind (names_of ls) j) → NamesHaveState n (state_after_accepted (command_of kind ls) j)
+accepted_stands n OfClause ls j h = clause_stands n ls (introduce_all (names_of ls) j) (subst (NamesHaveState n) (clause_all (names_of ls) j) h)
 accepted_stands n OfAsk ls j h = subst (NamesHaveState n) (ask_all (names_of ls) j) h
 accepted_stands n OfHide ls j h = subst (NamesHaveState n) (hidden_all (names_of ls) j) h
 accepted_stands n OfWitness ls j h = subst (NamesHaveState n) (witnessed_all (names_of ls) j) h
@@ -134,8 +134,8 @@ taken_next kind codes k code v mid within at e =
     ∙ ap (λ (n : ℕ). taken_all kind (names_of (named_literals (drop (k + 1) codes))) (taken kind (n + 1) mid)) (sym e)
 
 -- after all names were processed, the table is that of the state after the command
-pub all_taken : (n : Names) (kind : Kind) (codes : List ℕ) (past : Bool) (ls : List Literal) (j mid : ScriptState) (k : ℕ) → past ≡ false → IsFront codes past ls → length codes ≤ k → NamesHaveState n mid
-    → taken_all kind (names_of (named_literals codes)) j ≡ taken_all kind (names_of (named_literals (drop k codes))) mid → NamesHaveState n (accepted (command_of kind ls) j)
+pub all_taken : (n : Names) (kind : Kind) (codes : List ℕ) (past : Bool) (ls : List Literal) (j mid : ScriptState) (k : ℕ) → past ≡ false → IsPrefixWithinLimit codes past ls → length codes ≤ k → NamesHaveState n mid
+    → taken_all kind (names_of (named_literals codes)) j ≡ taken_all kind (names_of (named_literals (drop k codes))) mid → NamesHaveState n (state_after_accepted (command_of kind ls) j)
 all_taken n kind codes past ls j mid k not_past f over h same =
     let none : f.following ≡ [] = subst (λ (b : Bool). BeginsPast b f.following) not_past f.limit in
     let whole : ls ≡ named_literals codes = f.whole ∙ ap (λ (ks : List Literal). named_literals codes ++ ks) none ∙ append-nil (named_literals codes) in
@@ -143,8 +143,8 @@ all_taken n kind codes past ls j mid k not_past f over h same =
     accepted_stands n kind ls j (subst (NamesHaveState n) (sym end ∙ ap (λ (ks : List Literal). taken_all kind (names_of ks) j) (sym whole)) h)
 
 -- a clause or an ask that introduces no name leaves the table as it is
-pub known_taken : (n : Names) (kind : Kind) (codes : List ℕ) (past : Bool) (ls : List Literal) (j : ScriptState) → past ≡ false → IsFront codes past ls → BringsNothing kind (names_of (named_literals codes)) n → NamesHaveState n j
-    → NamesHaveState n (accepted (command_of kind ls) j)
+pub known_taken : (n : Names) (kind : Kind) (codes : List ℕ) (past : Bool) (ls : List Literal) (j : ScriptState) → past ≡ false → IsPrefixWithinLimit codes past ls → IntroducesNothing kind (names_of (named_literals codes)) n → NamesHaveState n j
+    → NamesHaveState n (state_after_accepted (command_of kind ls) j)
 known_taken n kind codes past ls j not_past f b h =
     let over : length codes ≤ length codes = omega arith in
     let none = drop_all (length codes) codes over in

@@ -5,7 +5,7 @@ use Rattle.std.proofs.lemmas.List.{append-nil, reverse-append}
 use Rattle.std.specs.Prelude.{reverse}
 use Rattle.std.specs.List.{AllByRecursion}
 use Rattle.sat_base.specs.script.Script.{Command, Clause, Ask, Hide, Witness, Sample, ScriptEnding}
-use Rattle.sat_base.specs.script.ScriptState.{ScriptState, accepted, accepted_of, start}
+use Rattle.sat_base.specs.script.ScriptState.{ScriptState, state_after_accepted, accepted_commands, initial_state}
 use Rattle.sat_base.specs.steps.Steps.{Step}
 use Rattle.sat_base.specs.steps.StepText.{SpellsSteps}
 use Rattle.sat_checker.specs.Accepts.{AcceptsAll, effect, ready_after}
@@ -15,9 +15,9 @@ use Rattle.sat_checker.specs.matching.Expected.{Outcome, Sat, Unsat, Unknown, Ex
 use Rattle.sat_checker.specs.matching.ProofChecking.{checker_rules}
 use Rattle.certify.specs.answers.Answers.{answers_text}
 use Rattle.certify.specs.answers.RightAnswers.{AreRight, AnswersAreRight}
-use Rattle.certify.specs.confirm.Matches.{OneEach, CoreIsInOrder, MayBeUnmet, Meets, met, cut, other, ordered, Matches}
+use Rattle.certify.specs.confirm.Matches.{OneOutcomePerAsk, CoreIsInOrder, MayBeUnmet, Meets, met, cut, other, ordered, Matches}
 use Rattle.certify.specs.run.Certifies as by
-use Rattle.certify.specs.run.Certifies.{Certifies, MayLack, MayOccur}
+use Rattle.certify.specs.run.Certifies.{Certifies, MayBeLeftOut, MayOccur}
 use Rattle.certify.proofs.lemmas.confirm.Settled.{settled_unsat}
 
 -- once recorded, unsat stays recorded
@@ -26,7 +26,7 @@ stays s step u = settled_unsat (effect step (ready_after s)) ∙ unsat_stays (re
 
 -- WHAT MAY BE LEFT UNMET
 
-lacked_excused : (e : Expected) → MayLack e → MayBeUnmet e
+lacked_excused : (e : Expected) → MayBeLeftOut e → MayBeUnmet e
 lacked_excused (Adds ls) h = tt
 lacked_excused (Fails ask core) h = h
 lacked_excused e h = absurd h
@@ -115,26 +115,26 @@ accepted_each (step ∷ earlier) h = (accepted_each earlier h.0, h.1)
 
 -- OUTCOMES
 
-one_each : (j : ScriptState) (commands : List Command) (outcomes : List Outcome) → AreRight j commands outcomes → OneEach commands outcomes
+one_each : (j : ScriptState) (commands : List Command) (outcomes : List Outcome) → AreRight j commands outcomes → OneOutcomePerAsk commands outcomes
 one_each j [] [] h = tt
 one_each j [] (o ∷ os) h = absurd h
 one_each j (Ask ls ∷ commands) [] h = absurd h
-one_each j (Ask ls ∷ commands) (o ∷ os) h = one_each (accepted (Ask ls) j) commands os h.1
-one_each j (Clause ls ∷ commands) os h = one_each (accepted (Clause ls) j) commands os h
-one_each j (Hide names ∷ commands) os h = one_each (accepted (Hide names) j) commands os h
-one_each j (Witness names ∷ commands) os h = one_each (accepted (Witness names) j) commands os h
-one_each j (Sample names ∷ commands) os h = one_each (accepted (Sample names) j) commands os h
+one_each j (Ask ls ∷ commands) (o ∷ os) h = one_each (state_after_accepted (Ask ls) j) commands os h.1
+one_each j (Clause ls ∷ commands) os h = one_each (state_after_accepted (Clause ls) j) commands os h
+one_each j (Hide names ∷ commands) os h = one_each (state_after_accepted (Hide names) j) commands os h
+one_each j (Witness names ∷ commands) os h = one_each (state_after_accepted (Witness names) j) commands os h
+one_each j (Sample names ∷ commands) os h = one_each (state_after_accepted (Sample names) j) commands os h
 
 in_form : (j : ScriptState) (commands : List Command) (outcomes : List Outcome) → AreRight j commands outcomes → AllByRecursion CoreIsInOrder outcomes
 in_form j commands [] h = tt
 in_form j [] (o ∷ os) h = absurd h
-in_form j (Ask ls ∷ commands) (Sat line ∷ os) h = (tt, in_form (accepted (Ask ls) j) commands os h.1)
-in_form j (Ask ls ∷ commands) (Unsat core ∷ os) h = (h.0.order, in_form (accepted (Ask ls) j) commands os h.1)
-in_form j (Ask ls ∷ commands) (Unknown ∷ os) h = (tt, in_form (accepted (Ask ls) j) commands os h.1)
-in_form j (Clause ls ∷ commands) (o ∷ os) h = in_form (accepted (Clause ls) j) commands (o ∷ os) h
-in_form j (Hide names ∷ commands) (o ∷ os) h = in_form (accepted (Hide names) j) commands (o ∷ os) h
-in_form j (Witness names ∷ commands) (o ∷ os) h = in_form (accepted (Witness names) j) commands (o ∷ os) h
-in_form j (Sample names ∷ commands) (o ∷ os) h = in_form (accepted (Sample names) j) commands (o ∷ os) h
+in_form j (Ask ls ∷ commands) (Sat line ∷ os) h = (tt, in_form (state_after_accepted (Ask ls) j) commands os h.1)
+in_form j (Ask ls ∷ commands) (Unsat core ∷ os) h = (h.0.order, in_form (state_after_accepted (Ask ls) j) commands os h.1)
+in_form j (Ask ls ∷ commands) (Unknown ∷ os) h = (tt, in_form (state_after_accepted (Ask ls) j) commands os h.1)
+in_form j (Clause ls ∷ commands) (o ∷ os) h = in_form (state_after_accepted (Clause ls) j) commands (o ∷ os) h
+in_form j (Hide names ∷ commands) (o ∷ os) h = in_form (state_after_accepted (Hide names) j) commands (o ∷ os) h
+in_form j (Witness names ∷ commands) (o ∷ os) h = in_form (state_after_accepted (Witness names) j) commands (o ∷ os) h
+in_form j (Sample names ∷ commands) (o ∷ os) h = in_form (state_after_accepted (Sample names) j) commands (o ∷ os) h
 
 -- TEXTS
 
@@ -159,11 +159,11 @@ text_front (step ∷ front) rest text h =
 pub certified_matches : (reading : List ℕ → List Command × ScriptEnding) (script certificate : List ℕ) (outcomes : List Outcome) (steps : List Step) (counts : List ℕ)
     → AnswersAreRight (reading script).0 outcomes
     → AcceptsAll steps
-    → Certifies checker_rules steps None [] (expected start (accepted_of start (reading script).0) outcomes) counts
+    → Certifies checker_rules steps None [] (expected initial_state (accepted_commands initial_state (reading script).0) outcomes) counts
     → SpellsSteps (reverse steps) certificate
     → Matches checker_rules reading script (answers_text (reading script).0 (reading script).1 outcomes) certificate
 certified_matches reading script certificate outcomes steps counts right a c spelt =
-    let commands : List Command = accepted_of start (reading script).0 in
+    let commands : List Command = accepted_commands initial_state (reading script).0 in
     let h = met_by steps (accepted_each steps a) c (checker_rules.unsat []) refl in
     let whole : reverse steps ≡ h.steps ++ h.rest = ap reverse h.whole ∙ onto_reversed (h.steps ++ h.rest) [] in
     let t = text_front h.steps h.rest certificate (subst (λ s. SpellsSteps s certificate) whole spelt) in
@@ -175,5 +175,5 @@ certified_matches reading script certificate outcomes steps counts right a c spe
       answered = refl;
       begins = t.parts;
       spelt = t.spelt;
-      match = record { one_each = one_each start commands outcomes right; in_form = in_form start commands outcomes right; meets = h.meets };
+      match = record { one_each = one_each initial_state commands outcomes right; in_form = in_form initial_state commands outcomes right; meets = h.meets };
     }

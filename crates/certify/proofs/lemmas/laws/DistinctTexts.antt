@@ -7,10 +7,10 @@ use Rattle.std.specs.Char.{digit_value}
 use Rattle.std.specs.List.{AllByRecursion}
 use Rattle.sat_base.specs.values.Literals.{var_limit}
 use Rattle.sat_base.specs.script.Script.{Literal, Command, Clause, Ask, Hide, Witness, Sample, ScriptEnding, names_of}
-use Rattle.sat_base.specs.script.ScriptState.{ScriptState, Refusal, refusal_of, accepted, accepted_of, start, with_names, new_names, bring_in, bring_all, with_name}
-use Rattle.certify.specs.answers.Answers.{word_of, literals_text, outcome_text, answers_from, piece, outcomes_left}
+use Rattle.sat_base.specs.script.ScriptState.{ScriptState, Refusal, refusal_of, state_after_accepted, accepted_commands, initial_state, with_names, new_names, introduce, introduce_all, with_name}
+use Rattle.certify.specs.answers.Answers.{literal_text, literals_text, outcome_text, answers_from, answer_to_command, outcomes_left}
 use Rattle.sat_checker.specs.matching.Expected.{Outcome, Sat, Unsat, Unknown}
-use Rattle.certify.specs.confirm.Matches.{OneEach}
+use Rattle.certify.specs.confirm.Matches.{OneOutcomePerAsk}
 use Rattle.certify.specs.laws.Laws.{HasPrintableNames, TextsDetermineOutcomes, AskBindsNothing}
 
 -- that no byte is a space or LF
@@ -53,7 +53,7 @@ small n h = omega arith
 pub numeral : (n : ℕ) → n ≤ var_limit → AllDigits 10 (decimal n) × (digits_value 10 (decimal n) ≡ n)
 numeral n h = let p = decimal_is_IsNumeral n (small n h) in (p.0.1, p.1)
 
-pub plain_word : (l : Literal) → l.name ≤ var_limit → Plain (word_of l)
+pub plain_word : (l : Literal) → l.name ≤ var_limit → Plain (literal_text l)
 plain_word l h = go l.positive
   where
     go : (b : Bool) → Plain (cond b [] (45 ∷ []) ++ decimal l.name)
@@ -69,7 +69,7 @@ no_minus n ds h e = go (subst (AllDigits 10) e (numeral n h).0).0
     go : digit_value 45 < 10 → ⊥
     go h = omega arith
 
-same_word : (l m : Literal) → l.name ≤ var_limit → m.name ≤ var_limit → word_of l ≡ word_of m → l ≡ m
+same_word : (l m : Literal) → l.name ≤ var_limit → m.name ≤ var_limit → literal_text l ≡ literal_text m → l ≡ m
 same_word l m h k e = go l.positive m.positive l.name m.name h k e
   where
     go : (s t : Bool) (x y : ℕ) → x ≤ var_limit → y ≤ var_limit → cond s [] (45 ∷ []) ++ decimal x ≡ cond t [] (45 ∷ []) ++ decimal y → (let z : Literal = record { name = x; positive = s } in z) ≡ record { name = y; positive = t }
@@ -80,11 +80,11 @@ same_word l m h k e = go l.positive m.positive l.name m.name h k e
 
 pub same_literals : (ls ks : List Literal) (x y : List ℕ) → AllByRecursion (λ l. l.name ≤ var_limit) ls → AllByRecursion (λ l. l.name ≤ var_limit) ks → literals_text ls ++ x ≡ literals_text ks ++ y → (ls ≡ ks) × (x ≡ y)
 same_literals [] [] x y h k e = (refl, cc)
-same_literals [] (m ∷ ks) x y h k e = absurd (not_end (word_of m) x (literals_text ks ++ y) (plain_word m k.0) (e ∙ append_assoc (word_of m) (32 ∷ literals_text ks) y))
-same_literals (l ∷ ls) [] x y h k e = absurd (not_end (word_of l) y (literals_text ls ++ x) (plain_word l h.0) (sym e ∙ append_assoc (word_of l) (32 ∷ literals_text ls) x))
+same_literals [] (m ∷ ks) x y h k e = absurd (not_end (literal_text m) x (literals_text ks ++ y) (plain_word m k.0) (e ∙ append_assoc (literal_text m) (32 ∷ literals_text ks) y))
+same_literals (l ∷ ls) [] x y h k e = absurd (not_end (literal_text l) y (literals_text ls ++ x) (plain_word l h.0) (sym e ∙ append_assoc (literal_text l) (32 ∷ literals_text ls) x))
 same_literals (l ∷ ls) (m ∷ ks) x y h k e =
-    let p = at_space (word_of l) (word_of m) (literals_text ls ++ x) (literals_text ks ++ y) (plain_word l h.0) (plain_word m k.0)
-    (sym (append_assoc (word_of l) (32 ∷ literals_text ls) x) ∙ e ∙ append_assoc (word_of m) (32 ∷ literals_text ks) y) in
+    let p = at_space (literal_text l) (literal_text m) (literals_text ls ++ x) (literals_text ks ++ y) (plain_word l h.0) (plain_word m k.0)
+    (sym (append_assoc (literal_text l) (32 ∷ literals_text ls) x) ∙ e ∙ append_assoc (literal_text m) (32 ∷ literals_text ks) y) in
     let r = same_literals ls ks x y h.1 k.1 p.1 in
     (pair l m ls ks (same_word l m h.0 k.0 p.0) r.0, r.1)
   where
@@ -102,27 +102,27 @@ same_outcome Unknown (Sat b) x y h k e = let r : ◌≡◌ {A = ℕ} 85 83 = cc 
 same_outcome (Unsat a) Unknown x y h k e = let r : ◌≡◌ {A = ℕ} 83 75 = cc in absurd (omega arith)
 same_outcome Unknown (Unsat b) x y h k e = let r : ◌≡◌ {A = ℕ} 75 83 = cc in absurd (omega arith)
 
-same_outcomes : (commands : List Command) (n : ℕ) (j : ScriptState) (ending : ScriptEnding) (vs ws : List Outcome) → OneEach (accepted_of j commands) vs → OneEach (accepted_of j commands) ws → AllByRecursion HasPrintableNames vs → AllByRecursion HasPrintableNames ws → answers_from n j commands ending vs ≡ answers_from n j commands ending ws → vs ≡ ws
+same_outcomes : (commands : List Command) (n : ℕ) (j : ScriptState) (ending : ScriptEnding) (vs ws : List Outcome) → OneOutcomePerAsk (accepted_commands j commands) vs → OneOutcomePerAsk (accepted_commands j commands) ws → AllByRecursion HasPrintableNames vs → AllByRecursion HasPrintableNames ws → answers_from n j commands ending vs ≡ answers_from n j commands ending ws → vs ≡ ws
 same_outcomes [] n j ending [] [] o u p q e = refl
 same_outcomes [] n j ending [] (w ∷ ws) o u p q e = absurd u
 same_outcomes [] n j ending (v ∷ vs) ws o u p q e = absurd o
 same_outcomes (command ∷ commands) n j ending vs ws o u p q e =
-    go command (refusal_of j command) (same_outcomes commands (n + 1) j ending) (same_outcomes commands (n + 1) (accepted command j) ending) vs ws o u p q e
+    go command (refusal_of j command) (same_outcomes commands (n + 1) j ending) (same_outcomes commands (n + 1) (state_after_accepted command j) ending) vs ws o u p q e
   where
-    go : (command : Command) (r : Option Refusal) → ((vs ws : List Outcome) → OneEach (accepted_of j commands) vs → OneEach (accepted_of j commands) ws → AllByRecursion HasPrintableNames vs → AllByRecursion HasPrintableNames ws → answers_from (n + 1) j commands ending vs ≡ answers_from (n + 1) j commands ending ws → vs ≡ ws)
-        → ((vs ws : List Outcome) → OneEach (accepted_of (accepted command j) commands) vs → OneEach (accepted_of (accepted command j) commands) ws → AllByRecursion HasPrintableNames vs → AllByRecursion HasPrintableNames ws → answers_from (n + 1) (accepted command j) commands ending vs ≡ answers_from (n + 1) (accepted command j) commands ending ws → vs ≡ ws)
+    go : (command : Command) (r : Option Refusal) → ((vs ws : List Outcome) → OneOutcomePerAsk (accepted_commands j commands) vs → OneOutcomePerAsk (accepted_commands j commands) ws → AllByRecursion HasPrintableNames vs → AllByRecursion HasPrintableNames ws → answers_from (n + 1) j commands ending vs ≡ answers_from (n + 1) j commands ending ws → vs ≡ ws)
+        → ((vs ws : List Outcome) → OneOutcomePerAsk (accepted_commands (state_after_accepted command j) commands) vs → OneOutcomePerAsk (accepted_commands (state_after_accepted command j) commands) ws → AllByRecursion HasPrintableNames vs → AllByRecursion HasPrintableNames ws → answers_from (n + 1) (state_after_accepted command j) commands ending vs ≡ answers_from (n + 1) (state_after_accepted command j) commands ending ws → vs ≡ ws)
         → (vs ws : List Outcome)
-        → OneEach (cond (is_some r) (accepted_of j commands) (command ∷ accepted_of (accepted command j) commands)) vs
-        → OneEach (cond (is_some r) (accepted_of j commands) (command ∷ accepted_of (accepted command j) commands)) ws
+        → OneOutcomePerAsk (cond (is_some r) (accepted_commands j commands) (command ∷ accepted_commands (state_after_accepted command j) commands)) vs
+        → OneOutcomePerAsk (cond (is_some r) (accepted_commands j commands) (command ∷ accepted_commands (state_after_accepted command j) commands)) ws
         → AllByRecursion HasPrintableNames vs → AllByRecursion HasPrintableNames ws
-        → piece n r command vs ++ answers_from (n + 1) (cond (is_some r) j (accepted command j)) commands ending (outcomes_left r command vs)
-        ≡ piece n r command ws ++ answers_from (n + 1) (cond (is_some r) j (accepted command j)) commands ending (outcomes_left r command ws)
+        → answer_to_command n r command vs ++ answers_from (n + 1) (cond (is_some r) j (state_after_accepted command j)) commands ending (outcomes_left r command vs)
+        ≡ answer_to_command n r command ws ++ answers_from (n + 1) (cond (is_some r) j (state_after_accepted command j)) commands ending (outcomes_left r command ws)
         → vs ≡ ws
-    go command (Some r) same next vs ws o u p q e = same vs ws o u p q (append_cancel_left (piece n (Some r) command vs) (answers_from (n + 1) j commands ending vs) (answers_from (n + 1) j commands ending ws) e)
+    go command (Some r) same next vs ws o u p q e = same vs ws o u p q (append_cancel_left (answer_to_command n (Some r) command vs) (answers_from (n + 1) j commands ending vs) (answers_from (n + 1) j commands ending ws) e)
     go (Ask ls) None same next [] ws o u p q e = absurd o
     go (Ask ls) None same next (v ∷ vs) [] o u p q e = absurd u
     go (Ask ls) None same next (v ∷ vs) (w ∷ ws) o u p q e =
-        let r = same_outcome v w (answers_from (n + 1) (accepted (Ask ls) j) commands ending vs) (answers_from (n + 1) (accepted (Ask ls) j) commands ending ws) p.0 q.0 e in
+        let r = same_outcome v w (answers_from (n + 1) (state_after_accepted (Ask ls) j) commands ending vs) (answers_from (n + 1) (state_after_accepted (Ask ls) j) commands ending ws) p.0 q.0 e in
         pair v w vs ws r.0 (next vs ws o u p.1 q.1 r.1)
       where
         pair : (v w : Outcome) (vs ws : List Outcome) → v ≡ w → vs ≡ ws → (v ∷ vs) ≡ (w ∷ ws)
@@ -133,16 +133,16 @@ same_outcomes (command ∷ commands) n j ending vs ws o u p q e =
     go (Sample names) None same next vs ws o u p q e = next vs ws o u p q e
 
 pub texts_report : TextsDetermineOutcomes
-texts_report commands ending vs ws = same_outcomes commands 1 start ending vs ws
+texts_report commands ending vs ws = same_outcomes commands 1 initial_state ending vs ws
 
 -- introducing names does not change the clauses
 names_leave : (names : List ℕ) (j : ScriptState) → (with_names names j).clauses ≡ j.clauses
 names_leave [] j = refl
 names_leave (name ∷ names) j = names_leave names (with_name name j)
 
-brought_leave : (names : List ℕ) (j : ScriptState) → (bring_all names j).clauses ≡ j.clauses
+brought_leave : (names : List ℕ) (j : ScriptState) → (introduce_all names j).clauses ≡ j.clauses
 brought_leave [] j = refl
-brought_leave (name ∷ names) j = brought_leave names (bring_in name j) ∙ names_leave (new_names name j) j
+brought_leave (name ∷ names) j = brought_leave names (introduce name j) ∙ names_leave (new_names name j) j
 
 pub ask_leaves : AskBindsNothing
 ask_leaves j ls = brought_leave (names_of ls) j

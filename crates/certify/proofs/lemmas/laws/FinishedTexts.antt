@@ -4,13 +4,13 @@ use Rattle.std.specs.Prelude.{IfSome, ◌↔◌}
 use Rattle.std.specs.Io.KnownBytes.{Appends, Consumes}
 use Rattle.std.proofs.lemmas.List.{append_cancel_left}
 use Rattle.std.proofs.Math.Nat.{mul-le-mul, mul-one, pow-succ', pow-zero}
-use Rattle.sat_base.specs.device.Device.{Reader, Writer, GaveEnough, WriterTakes}
+use Rattle.sat_base.specs.device.Device.{Reader, Writer, GaveEnough, WriterAccepts}
 use Rattle.sat_base.specs.script.Language.{reading}
 use Rattle.sat_base.proofs.lemmas.device.Given.{enough_known}
 use Rattle.sat_checker.specs.matching.ProofChecking.{checker_rules}
 use Rattle.certify.specs.confirm.Matches.{Matches, TextsMatch}
 use Rattle.certify.specs.confirm.VerdictPromises.{AreRightAnswers, Exact, GaveTextWith, IsSoundVerdict, TakesLooks}
-use Rattle.certify.specs.laws.EndToEnd.{CanBe, FinishedIsConfirmed, VerdictSays, most_looks_over}
+use Rattle.certify.specs.laws.EndToEnd.{CanBe, FinishedIsConfirmed, VerdictGuarantee, most_looks_over}
 use Rattle.certify.specs.run.FinishedRun.{CertificateGuarantee, TookCertificate, rounds_of_asks}
 use Rattle.certify.specs.declared.summary.Summary.{Summary}
 use Rattle.certify.specs.declared.verdict.ConfirmFault.{ConfirmFault}
@@ -41,7 +41,7 @@ pub of_known_text : (a b : Reader) (P : List ℕ → Type 0) (text : List ℕ) �
 of_known_text a b P text e g = subst (λ o. IfSome o P) e (enough_known a b P g)
 
 pub says : (r : Result Verdict ConfirmFault) (a x b y c z : Reader) (s t u : List ℕ) → a.to_come ≡ Some s → b.to_come ≡ Some t → c.to_come ≡ Some u
-    → IfOk r (Exact (a, x) (b, y) (c, z)) → IfOk r (IsSoundVerdict (a, x) (b, y)) → IfOk r (VerdictSays s t u)
+    → IfOk r (Exact (a, x) (b, y) (c, z)) → IfOk r (IsSoundVerdict (a, x) (b, y)) → IfOk r (VerdictGuarantee s t u)
 says (Ok v) a x b y c z s t u d e f h k = record {
   exact = of_known_text c z (λ n. (v ≡ Yes) ↔ TextsMatch s t n) u f
       (of_known_text b y (λ m. GaveTextWith (c, z) (λ n. (v ≡ Yes) ↔ TextsMatch s m n)) t e
@@ -86,11 +86,11 @@ pub run_finished : (budget : ℕ) (summary : Summary) (x y : Reader) (a b c d : 
     → a.contents ≡ Some [] → b.contents ≡ Some answers → c.contents ≡ Some [] → d.contents ≡ Some certificate
     → TookCertificate budget summary (x, y) (a, b) (c, d) → CertificateGuarantee text budget summary answers certificate
 run_finished budget summary x y a b c d text answers certificate e f g h i took =
-    let p = of_known_text x y (λ t. (answered : List ℕ) × (certified : List ℕ) × WriterTakes a b answered × WriterTakes c d certified × CertificateGuarantee t budget summary answered certified) text e took in
+    let p = of_known_text x y (λ t. (answered : List ℕ) × (certified : List ℕ) × WriterAccepts a b answered × WriterAccepts c d certified × CertificateGuarantee t budget summary answered certified) text e took in
     let is_answered : answers ≡ p.0 = appended a.contents b.contents p.0 answers p.2.known_bytes f g in
     let is_certified : certificate ≡ p.1 = appended c.contents d.contents p.1 certificate p.3.known_bytes h i in
     subst (λ s. CertificateGuarantee text budget summary answers s) (sym is_certified) (subst (λ s. CertificateGuarantee text budget summary s p.1) (sym is_answered) p.4)
 
 -- a verdict on what a finished run wrote is `Yes`
-pub guaranteed_yes : (budget : ℕ) (summary : Summary) (script answers certificate : List ℕ) (v : Verdict) → CertificateGuarantee script budget summary answers certificate → VerdictSays script answers certificate v → v ≡ Yes
+pub guaranteed_yes : (budget : ℕ) (summary : Summary) (script answers certificate : List ℕ) (v : Verdict) → CertificateGuarantee script budget summary answers certificate → VerdictGuarantee script answers certificate v → v ≡ Yes
 guaranteed_yes budget summary script answers certificate v b s = s.exact.1 (guaranteed_matches budget summary script answers certificate b)

@@ -4,19 +4,19 @@ use Rattle.std.proofs.lemmas.Bool.{true≢false}
 use Rattle.std.specs.List.{AllByRecursion}
 use Rattle.sat_base.specs.values.Clauses.{Valuation, literal_true, EachTrue, EachHolds}
 use Rattle.sat_base.specs.script.Script.{Literal, names_of, Among}
-use Rattle.sat_base.specs.script.ScriptState.{ScriptState, over, with_name, without_name, with_clause, IsRightModel}
+use Rattle.sat_base.specs.script.ScriptState.{ScriptState, identity_lit, with_name, without_name, with_clause, IsRightModel}
 use Rattle.sat_base.specs.steps.Steps.{Step, SolverVarName, DeleteVar, ChangeSamplingMode, AddClause, AtClause, UnitClauses, DeleteClause, ChangeHashBits, Model, Assumptions, FailedAssumptions, End}
 use Rattle.sat_checker.specs.matching.Checking.{variable_of, assumed, is_ordered, CheckerRules, IsSound}
 use Rattle.certify.specs.confirm.Matches.{MayBeUnmet, Meets, met, cut, other, ordered}
 use Rattle.sat_checker.specs.matching.Expected.{Expected, NewName, NoName, Adds, Opens, Shows, Fails, Closes, Finish, Spells, EachSpelt, SameSet, new_name, no_name, adds, opens, shows, fails, closes, finish}
-use Rattle.sat_checker.specs.matching.Bridge.{Live, IsBridge}
+use Rattle.sat_checker.specs.matching.Bridge.{LiveVariables, IsBridge}
 use Rattle.sat_base.proofs.lemmas.script.LiteralValues.{all_at, all_map, true_mapped, mapped_true, coded_same}
 use Rattle.sat_checker.proofs.lemmas.matching.Bridge.{line_true, core_true, pulled, pulled_agrees, without, nothing_new, added, named_new, unnamed, deleted}
 
 -- that a core is correct, except for its order
 pub record IsCore (j : ScriptState) (ask core : List Literal) : Type 0 where
   pub among : AllByRecursion (λ l. Among l ask) core
-  pub none : (a : Valuation) → EachTrue a (map (over j) core) → EachHolds a j.clauses → ⊥
+  pub none : (a : Valuation) → EachTrue a (map (identity_lit j) core) → EachHolds a j.clauses → ⊥
 
 -- That the expected steps show correct answers, given the script state. `q` is the open ask, if no name was introduced
 -- or removed since it was opened.
@@ -49,7 +49,7 @@ Asked None earlier = Unit {0}
 Asked (Some ask) earlier = SameSet (variable_of earlier) ask (assumed earlier)
 
 -- two literals of names with the same code are the same
-spelt_once : (k : CheckerRules) (j : ScriptState) (earlier : List Step) (live : Live) → IsBridge k j earlier live → (l m : Literal) (code : ℕ) → Spells (variable_of earlier) l code → Spells (variable_of earlier) m code → l ≡ m
+spelt_once : (k : CheckerRules) (j : ScriptState) (earlier : List Step) (live : LiveVariables) → IsBridge k j earlier live → (l m : Literal) (code : ℕ) → Spells (variable_of earlier) l code → Spells (variable_of earlier) m code → l ≡ m
 spelt_once k j earlier live bridge l m code s t =
     let e = coded_same s.variable t.variable l.positive m.positive (sym s.is ∙ t.is) in
     let n : l.name ≡ m.name = bridge.distinct l.name m.name t.variable (s.named ∙ ap Some e.0) t.named in
@@ -61,9 +61,9 @@ spelt_once k j earlier live bridge l m code s t =
 module _ (k : CheckerRules) (sound : IsSound k) where
   -- an unordered step preserves the relation between steps and script state
   data After (earlier : List Step) (q : Option (List Literal)) (j : ScriptState) (step : Step) : Type 0 where
-    after : (live : Live) → IsBridge k j (step ∷ earlier) live → Asked q (step ∷ earlier) → After earlier q j step
+    after : (live : LiveVariables) → IsBridge k j (step ∷ earlier) live → Asked q (step ∷ earlier) → After earlier q j step
 
-  passed : (earlier : List Step) (q : Option (List Literal)) (j : ScriptState) (live : Live) (step : Step) → is_ordered step ≡ false → IsBridge k j earlier live → Asked q earlier → k.Accepts earlier step → After earlier q j step
+  passed : (earlier : List Step) (q : Option (List Literal)) (j : ScriptState) (live : LiveVariables) (step : Step) → is_ordered step ≡ false → IsBridge k j earlier live → Asked q earlier → k.Accepts earlier step → After earlier q j step
   passed earlier q j live (SolverVarName v name) o b w acc = after live (nothing_new k sound j earlier live b (SolverVarName v name) acc (λ w e. cc) (λ n. refl) (λ a h. h) (λ a h. h)) (keep q w)
     where
       keep : (q : Option (List Literal)) → Asked q earlier → Asked q (SolverVarName v name ∷ earlier)
@@ -102,10 +102,10 @@ module _ (k : CheckerRules) (sound : IsSound k) where
   passed earlier q j live step o b w acc = absurd (true≢false o)
 
   -- once unsat is recorded, no valuation satisfies the clauses
-  dead : (j : ScriptState) (earlier : List Step) (live : Live) → IsBridge k j earlier live → k.unsat earlier ≡ true → (b : Valuation) → EachHolds b j.clauses → ⊥
+  dead : (j : ScriptState) (earlier : List Step) (live : LiveVariables) → IsBridge k j earlier live → k.unsat earlier ≡ true → (b : Valuation) → EachHolds b j.clauses → ⊥
   dead j earlier live bridge u b h = sound.none_left earlier (pulled live b) bridge.accepted u (bridge.back (pulled live b) (b, pulled_agrees live b bridge.once, h))
 
-  right_model : (j : ScriptState) (earlier : List Step) (live : Live) → IsBridge k j earlier live → (names c : List ℕ) (ask line : List Literal) → names_of line ≡ names → EachSpelt (variable_of earlier) line c → AllByRecursion (λ l. Among l line) ask → k.Accepts earlier (Model c) → names ≡ map (λ n. n.name) j.in_use → IsRightModel j ask line
+  right_model : (j : ScriptState) (earlier : List Step) (live : LiveVariables) → IsBridge k j earlier live → (names c : List ℕ) (ask line : List Literal) → names_of line ≡ names → EachSpelt (variable_of earlier) line c → AllByRecursion (λ l. Among l line) ask → k.Accepts earlier (Model c) → names ≡ map (λ n. n.name) j.in_use → IsRightModel j ask line
   right_model j earlier live bridge names c ask line n spelt asked acc e =
       let a = sound.model earlier c bridge.accepted acc in
       let m = bridge.to a.0 a.1 in
@@ -113,12 +113,12 @@ module _ (k : CheckerRules) (sound : IsSound k) where
       record {
         names = n ∙ e;
         valuation = m.0;
-        agrees = true_mapped m.0 (over j) line t;
+        agrees = true_mapped m.0 (identity_lit j) line t;
         clauses = m.2;
-        asked = true_mapped m.0 (over j) ask (all_map (λ l. Among l line) (λ l. literal_true m.0 (over j l) ≡ true) ask (λ l x. all_at (λ l. literal_true m.0 (over j l) ≡ true) l line t x) asked);
+        asked = true_mapped m.0 (identity_lit j) ask (all_map (λ l. Among l line) (λ l. literal_true m.0 (identity_lit j l) ≡ true) ask (λ l x. all_at (λ l. literal_true m.0 (identity_lit j l) ≡ true) l line t x) asked);
       }
 
-  is_core : (j : ScriptState) (earlier : List Step) (live : Live) → IsBridge k j earlier live → (c hashes : List ℕ) (ask core : List Literal) → SameSet (variable_of earlier) core c → k.Accepts earlier (FailedAssumptions c hashes) → SameSet (variable_of earlier) ask (assumed earlier) → IsCore j ask core
+  is_core : (j : ScriptState) (earlier : List Step) (live : LiveVariables) → IsBridge k j earlier live → (c hashes : List ℕ) (ask core : List Literal) → SameSet (variable_of earlier) core c → k.Accepts earlier (FailedAssumptions c hashes) → SameSet (variable_of earlier) ask (assumed earlier) → IsCore j ask core
   is_core j earlier live bridge c hashes ask core same acc asked = record {
     among = all_map (λ l. (code : ℕ) × Spells (variable_of earlier) l code × Among code c) (λ l. Among l ask) core
         (λ l x.
@@ -129,15 +129,15 @@ module _ (k : CheckerRules) (sound : IsSound k) where
     none = λ b t h.
         let a = pulled live b in
         let g = pulled_agrees live b bridge.once in
-        sound.core earlier c hashes a bridge.accepted acc (bridge.back a (b, g, h)) (core_true k j earlier live bridge a b g core c same (mapped_true b (over j) core t));
+        sound.core earlier c hashes a bridge.accepted acc (bridge.back a (b, g, h)) (core_true k j earlier live bridge a b g core c same (mapped_true b (identity_lit j) core t));
   }
 
-  pub right_for : {earlier steps : List Step} {es : List Expected} → Meets k earlier steps es → (q : Option (List Literal)) (j : ScriptState) (live : Live) → IsBridge k j earlier live → Asked q earlier → RightFor q j es
+  pub right_for : {earlier steps : List Step} {es : List Expected} → Meets k earlier steps es → (q : Option (List Literal)) (j : ScriptState) (live : LiveVariables) → IsBridge k j earlier live → Asked q earlier → RightFor q j es
   right_for (met u) q j live b w = tt
   right_for (cut {earlier = earlier} {es = es} u x) q j live b w = dead_for es q j (dead j earlier live b u) x
   right_for (other {earlier = earlier} {step = step} {e = e} {es = es} u o acc m) q j live b w = go (passed earlier q j live step o b w acc) (λ live b w. right_for m q j live b w)
     where
-      go : After earlier q j step → ((live : Live) → IsBridge k j (step ∷ earlier) live → Asked q (step ∷ earlier) → RightFor q j (e ∷ es)) → RightFor q j (e ∷ es)
+      go : After earlier q j step → ((live : LiveVariables) → IsBridge k j (step ∷ earlier) live → Asked q (step ∷ earlier) → RightFor q j (e ∷ es)) → RightFor q j (e ∷ es)
       go (after live b w) ih = ih live b w
   right_for (ordered {earlier = earlier} u (new_name {name = name} {v = v} {index = index} is unknown) acc m) q j live b w =
       right_for m None (with_name name j) ((v, j.identity_count) ∷ live) (named_new k sound j earlier live b name v index is unknown acc) tt

@@ -14,7 +14,7 @@ use Rattle.sat_checker.specs.Accepts.{MayGetName, ready_after}
 use Rattle.certify.specs.answers.Answers.{answers_text, outcome_text}
 use Rattle.sat_checker.specs.matching.Expected.{Outcome, Sat, Unsat, Unknown, Fits, NewName, new_name, adds, opens, shows, closes, finish}
 use Rattle.sat_checker.specs.matching.Checking.{CheckerRules}
-use Rattle.certify.specs.confirm.Matches.{met, cut, ordered, OneEach, StepsMatch}
+use Rattle.certify.specs.confirm.Matches.{met, cut, ordered, OneOutcomePerAsk, StepsMatch}
 use Rattle.sat_checker.specs.matching.ProofChecking.{checker_rules}
 use Rattle.certify.specs.laws.Rows.{AskAloneText, clause_and_ask, clause_and_ask_text, ClauseAndAskText, ClauseAndAskExpected, ClauseAndAskRight, ClauseAndAskSteps, ClauseAndAskMatches, TwoUnitsRight, TwoUnitsSteps, TwoUnitsMatches, EmptyMatches, HiddenAndBackState, HiddenAndBackExpected, HiddenAtOnceState, WitnessRefusedText, LeftmostRefuses, WitnessRefusesAsk, MalformedText, EmptyText, NameOnOldVariable, EndAloneMatches, NoAnswers, AnswersTwice, pos, neg}
 use Rattle.certify.proofs.lemmas.confirm.NextStep.{taken, skipped, fits_new}
@@ -218,7 +218,7 @@ no_text Unknown e = absurd cc
 pub no_answers : NoAnswers
 no_answers certificate m = go m.outcomes m.match.one_each m.answered
   where
-    go : (os : List Outcome) → OneEach clause_and_ask os → [] ≡ answers_text clause_and_ask Clean os → ⊥
+    go : (os : List Outcome) → OneOutcomePerAsk clause_and_ask os → [] ≡ answers_text clause_and_ask Clean os → ⊥
     go [] o e = o
     go (o ∷ []) u e = no_text o e
     go (o ∷ p ∷ os) u e = u

@@ -3,13 +3,13 @@ use Rattle.std.proofs.Common.{ℕ, ◌≡◌, ◌≢◌, List, [], ◌∷◌, �
 use Rattle.std.proofs.lemmas.Grind.{reverse_onto}
 use Rattle.std.proofs.lemmas.List.{append-nil, append_cancel_left, reverse-reverse}
 use Rattle.std.specs.List.{AllByRecursion}
-use Rattle.sat_base.specs.device.Device.{Reader, Writer, WriterTakes}
+use Rattle.sat_base.specs.device.Device.{Reader, Writer, WriterAccepts}
 use Rattle.sat_base.specs.steps.Steps.{Step, End}
 use Rattle.sat_base.specs.steps.StepText.{SpellsSteps}
 use Rattle.sat_checker.specs.Accepts.{AcceptsAll}
 use Rattle.sat_checker.specs.ProofView.{taken_after}
 use Rattle.sat_hints.specs.Checks.{IsProof}
-use Rattle.sat_base.specs.text.Tokenizing.{held}
+use Rattle.sat_base.specs.text.Tokenizing.{capped}
 use Rattle.sat_hints.specs.Conversion.{hint_text, lines_of}
 use Rattle.sat_hints.specs.Converts.{Converts}
 use Rattle.sat_hints.specs.Hints.{derives_empty, count_of_cores}
@@ -47,7 +47,7 @@ certificate_of before text s ok u = record {
 }
 
 -- what a writer received is one text
-one_text : (old new : Writer) (s t : List ℕ) → WriterTakes old new s → WriterTakes old new t → s ≡ t
+one_text : (old new : Writer) (s t : List ℕ) → WriterAccepts old new s → WriterAccepts old new t → s ≡ t
 one_text old new s t a b = append_cancel_left old.taken s t (sym a.taken ∙ b.taken)
 
 -- THE RESULT
@@ -55,14 +55,14 @@ is_hinted : (steps written : List Step) (result : Result (Unit {0}) HintError) (
     → HasHints result steps old new
 is_hinted steps written (Ok x) from to old new e c t =
     let all : List Step = End ∷ taken_after c.0 [] in
-    let took : WriterTakes old new (hint_text steps) = subst (λ s. WriterTakes old new (hint_text s)) e t in
-    let proof : IsProof (hint_text all) (derives_empty (lines_of all)) (held (count_of_cores (lines_of all))) (held (length (lines_of all))) = c.3 in (
+    let took : WriterAccepts old new (hint_text steps) = subst (λ s. WriterAccepts old new (hint_text s)) e t in
+    let proof : IsProof (hint_text all) (derives_empty (lines_of all)) (capped (count_of_cores (lines_of all))) (capped (length (lines_of all))) = c.3 in (
       took,
       record {
         empty = derives_empty (lines_of all);
-        cores = held (count_of_cores (lines_of all));
-        lines = held (length (lines_of all));
-        proof = subst (λ s. IsProof s (derives_empty (lines_of all)) (held (count_of_cores (lines_of all))) (held (length (lines_of all)))) (one_text old new (hint_text all) (hint_text steps) c.4 took) proof;
+        cores = capped (count_of_cores (lines_of all));
+        lines = capped (length (lines_of all));
+        proof = subst (λ s. IsProof s (derives_empty (lines_of all)) (capped (count_of_cores (lines_of all))) (capped (length (lines_of all)))) (one_text old new (hint_text all) (hint_text steps) c.4 took) proof;
       },
     )
 is_hinted steps written (Err HasDeleteVar) from to old new e c t = t

@@ -1,7 +1,7 @@
 -- What is printed for texts in memory.
 use Rattle.std.proofs.Common.{ℕ, ◌≡◌, List, ◌++◌, Result, Ok, Err, IfOk, OnOk, inl, inr, refl, sym, ◌∙◌, ap, append_assoc, append-nil, []}
 use Rattle.std.specs.Prelude.{is_ok, is_some, if◌then◌else◌}
-use Rattle.sat_base.specs.device.Device.{Reader, Writer, GaveAll, WriterBreaks, WriterTakes}
+use Rattle.sat_base.specs.device.Device.{Reader, Writer, GaveAll, WriterFails, WriterAccepts}
 use Rattle.sat_base.proofs.lemmas.device.Given.{enough_all}
 use Rattle.sat_base.specs.script.Script.{ScriptEnding, Clean, Malformed}
 use Rattle.certify.specs.program.Printing.{IsAnswered, Prints, PrintsAtMost, PrintsPrefix, PrintsVerdict, is_malformed, verdict_text}
@@ -36,7 +36,7 @@ module _ (text answers : List ℕ) (is : IsAnswered text answers) where
   line = verdict_text Yes
 
   -- only a part of the answers was printed
-  pub prefix_cut : (a b : Writer) → WriterBreaks a b answers → PrintsPrefix text a b
+  pub prefix_cut : (a b : Writer) → WriterFails a b answers → PrintsPrefix text a b
   prefix_cut a b t = record {
     answers = answers;
     answered = is;
@@ -47,11 +47,11 @@ module _ (text answers : List ℕ) (is : IsAnswered text answers) where
   }
 
   -- the answers were printed
-  pub prefix_reported : (a b : Writer) → WriterTakes a b answers → PrintsPrefix text a b
+  pub prefix_reported : (a b : Writer) → WriterAccepts a b answers → PrintsPrefix text a b
   prefix_reported a b t = record { answers = answers; answered = is; bytes = answers; following = line; whole = refl; took = bytes_taken a b answers t }
 
   -- the answers and a part of the last line were printed
-  pub prefix_line : (a b d : Writer) → WriterTakes a b answers → WriterBreaks b d line → PrintsPrefix text a d
+  pub prefix_line : (a b d : Writer) → WriterAccepts a b answers → WriterFails b d line → PrintsPrefix text a d
   prefix_line a b d t k = record {
     answers = answers;
     answered = is;
@@ -62,7 +62,7 @@ module _ (text answers : List ℕ) (is : IsAnswered text answers) where
   }
 
   -- the answers and the last line were printed
-  pub prefix_whole : (a b d f : Writer) → WriterTakes a b answers → WriterTakes b d line → TookBytes d f [] → PrintsPrefix text a f
+  pub prefix_whole : (a b d f : Writer) → WriterAccepts a b answers → WriterAccepts b d line → TookBytes d f [] → PrintsPrefix text a f
   prefix_whole a b d f t k e = record {
     answers = answers;
     answered = is;

@@ -23,16 +23,16 @@ use Rattle.sat_checker.proofs.lemmas.sets.Marks.{once}
 use Rattle.sat_checker.proofs.lemmas.sets.Members.{canonical_each}
 use Rattle.sat_checker.proofs.lemmas.sets.Order.{among-append}
 use Rattle.sat_checker.proofs.lemmas.sets.Rising.{canonical_stays}
-use Rattle.sat_solver.specs.session.Session.{Session, session_with, after, last_after, session_after, IsLive, denied_in}
+use Rattle.sat_solver.specs.session.Session.{Session, session_with, after, last_after, session_after, IsLive, rup_assumptions}
 use Rattle.sat_solver.specs.proof.Widths.{narrowed}
 use Rattle.sat_solver.specs.proof.Counting.{TruncatesHashes, none_made, ask_begun, one_made, counted}
 use Rattle.sat_solver.specs.session.Advancing as made
-use Rattle.sat_solver.specs.session.Quiet.{NeverAdvances, others_of}
+use Rattle.sat_solver.specs.session.Quiet.{IsNeverEmpowering, others_of}
 use Rattle.sat_solver.specs.schedule.Solving as made_steps
 use Rattle.sat_solver.specs.declared.proof.hash_bits.Counting.{Counting}
 use Rattle.sat_solver.proofs.lemmas.session.Mapped.{among_mapped}
 use Rattle.sat_solver.proofs.lemmas.session.WidthLemmas.{wide, after_wide}
-use Rattle.certify.specs.run.Advancing.{PropagatesTo, leads_none, leads_one, start_literals, IsOpenStill, LeavesOpen, AdvancesStored, DerivesAdvancing}
+use Rattle.certify.specs.run.Advancing.{PropagatesTo, leads_none, leads_one, start_literals, StaysUnassignedInStored, LeavesUnassigned, IsEmpoweringFor, DerivesEmpowering}
 
 -- THE SESSION AFTER STEPS
 session_is : (steps : List Step) → (last : Option (List ℕ)) × (session_after steps ≡ session_with last (contents_of steps).state)
@@ -117,24 +117,24 @@ false_by o start holds h l (inl e) = inl e
 false_by o start holds h l (inr e) = inr (sym (h (negated l)) ∙ e)
 
 leads_on : (steps : List Step) (s : Session) → IsSame (ready_after steps) s → {start reached : List ℕ} → PropagatesTo (ready_after steps) start reached → (holds : ℕ → Bool) → ((m : ℕ) → is_among start m ≡ holds m)
-    → (picked : List (List ℕ)) × made.LeadsOn s holds picked (is_among reached)
+    → (picked : List (List ℕ)) × made.UnitPropagates s holds picked (is_among reached)
 leads_on steps s same leads_none holds h = ([], λ l e. sym (h l) ∙ e)
 leads_on steps s same {start} {reached} (leads_one clause o a u rest) holds h =
     let more = leads_on steps s same rest (λ l. (o == l) || holds l) (λ m. ap (λ (b : Bool). (o == m) || b) (h m)) in
     (clause ∷ more.0, (is_live steps s same clause a, (o, each_so _ _ (false_by o start holds h) clause u.others, u.within, more.1)))
 
-denied_is : (f : Stored) (s : Session) → IsSame f s → (ls : List ℕ) (m : ℕ) → is_among (start_literals f ls) m ≡ denied_in s ls m
+denied_is : (f : Stored) (s : Session) → IsSame f s → (ls : List ℕ) (m : ℕ) → is_among (start_literals f ls) m ≡ rup_assumptions s ls m
 denied_is f s same ls m = among-append (map negated ls) (unit_literals f) m ∙ ap (λ (b : Bool). is_among (map negated ls) m || b) (same.units m)
 
 either_way : (b : Bool) → (b ≡ true) ⊎ (b ≡ false)
 either_way true = inl refl
 either_way false = inr refl
 
--- a clause that advances with its first literal does not repeat that literal
-not_repeated : (s : Session) (l : ℕ) (ls : List ℕ) → made.Advances s (l ∷ ls) → is_among ls l ≡ false
+-- an empowering clause with its first literal does not repeat that literal
+not_repeated : (s : Session) (l : ℕ) (ls : List ℕ) → made.IsEmpowering s (l ∷ ls) → is_among ls l ≡ false
 not_repeated s l ls a = elim (either_way (is_among ls l)) [
   | inl t ↦
-      let new = a.stays [] (denied_in s ls) (λ m e. e) in
+      let new = a.stays [] (rup_assumptions s ls) (λ m e. e) in
       absurd (true≢false (sym (or_left (is_among (map negated ls) (negated l)) (s.units (negated l)) (among_mapped negated ls l t)) ∙ new.not_false))
   | inr f ↦ f
 ]
@@ -154,21 +154,21 @@ others_first l ls e = go (eqb l l) (eq-eqb l l refl)
     go true f = others_none l ls e
     go false f = absurd (true≢false (sym f))
 
-advances_as : (steps : List Step) (s : Session) → IsSame (ready_after steps) s → (clause : List ℕ) → made.Advances s clause → AdvancesStored (ready_after steps) clause
+advances_as : (steps : List Step) (s : Session) → IsSame (ready_after steps) s → (clause : List ℕ) → made.IsEmpowering s clause → IsEmpoweringFor (ready_after steps) clause
 advances_as steps s same [] a = absurd (let h = a.some in omega (arith, h))
 advances_as steps s same (l ∷ ls) a =
     let f = ready_after steps in
     let d = denied_is f s same ls in
-    let leaves : LeavesOpen f ls l = record {
+    let leaves : LeavesUnassigned f ls l = record {
       agree = λ m e. d (negated m) ∙ a.agree m (sym (d m) ∙ e);
       open_still = λ reached leads.
-          let on = leads_on steps s same leads (denied_in s ls) d in
+          let on = leads_on steps s same leads (rup_assumptions s ls) d in
           let new = a.stays on.0 (is_among reached) on.1 in
           record { not_true = new.not_true; not_false = new.not_false; no_conflict = λ c k falsified. new.no_conflict c (is_live steps s same c k) falsified };
     } in
-    (l, or_left (eqb l l) (is_among ls l) (eq-eqb l l refl), subst (λ (ks : List ℕ). LeavesOpen f ks l) (sym (others_first l ls (not_repeated s l ls a))) leaves)
+    (l, or_left (eqb l l) (is_among ls l) (eq-eqb l l refl), subst (λ (ks : List ℕ). LeavesUnassigned f ks l) (sym (others_first l ls (not_repeated s l ls a))) leaves)
 
-pub advancing_as : (steps : List Step) (s : Session) → IsSame (ready_after steps) s → (w : ℕ) (step : Step) → made_steps.IsAdvancing s step → DerivesAdvancing (ready_after steps) (narrowed w step)
+pub advancing_as : (steps : List Step) (s : Session) → IsSame (ready_after steps) s → (w : ℕ) (step : Step) → made_steps.IsEmpoweringStep s step → DerivesEmpowering (ready_after steps) (narrowed w step)
 advancing_as steps s same w (AtClause r clause hashes) a = advances_as steps s same clause a
 advancing_as steps s same w step a = absurd a
 
@@ -214,13 +214,13 @@ still_by start holds h o m (inr k) = inr (h (negated m) ∙ k)
 
 module _ (steps : List Step) (s : Session) (same : IsSame (ready_after steps) s) (l : ℕ) where
   abbrev StaysOpen : List ℕ → Type 0
-  StaysOpen start = (reached : List ℕ) → PropagatesTo (ready_after steps) start reached → IsOpenStill (ready_after steps) l reached
+  StaysOpen start = (reached : List ℕ) → PropagatesTo (ready_after steps) start reached → StaysUnassignedInStored (ready_after steps) l reached
 
   falsified_by : (start : List ℕ) (holds : ℕ → Bool) → ((m : ℕ) → is_among start m ≡ holds m) → (c : List ℕ) → AllByRecursion (λ m. holds (negated m) ≡ true) c → IsFalsified start (canonical c)
   falsified_by start holds h c k = canonical_each (λ m. is_among start (negated m) ≡ true) c (each_so (λ m. holds (negated m) ≡ true) (λ m. is_among start (negated m) ≡ true) (λ m e. h (negated m) ∙ e) c k)
 
   -- unit propagation over live clauses is one over stored clauses, without the literals that hold already
-  stays : (start : List ℕ) (holds : ℕ → Bool) → ((m : ℕ) → is_among start m ≡ holds m) → StaysOpen start → (picked : List (List ℕ)) (reached : ℕ → Bool) → made.LeadsOn s holds picked reached → made.StaysNew s l reached
+  stays : (start : List ℕ) (holds : ℕ → Bool) → ((m : ℕ) → is_among start m ≡ holds m) → StaysOpen start → (picked : List (List ℕ)) (reached : ℕ → Bool) → made.UnitPropagates s holds picked reached → made.StaysUnassignedInSession s l reached
   stays start holds h still [] reached within =
       let o = still start leads_none in
       record {
@@ -247,14 +247,14 @@ module _ (steps : List Step) (s : Session) (same : IsSame (ready_after steps) s)
     ]
   ]
 
--- a step that never advances in the session does not derive a clause that advances in the checker
-pub never_as : (steps : List Step) (s : Session) → IsSame (ready_after steps) s → (w : ℕ) (step : Step) → NeverAdvances s step → DerivesAdvancing (ready_after steps) (narrowed w step) → ⊥
+-- a step that never advances in the session does not derive an empowering clause in the checker
+pub never_as : (steps : List Step) (s : Session) → IsSame (ready_after steps) s → (w : ℕ) (step : Step) → IsNeverEmpowering s step → DerivesEmpowering (ready_after steps) (narrowed w step) → ⊥
 never_as steps s same w (AtClause r clause hashes) never (l, among, leaves) =
     let others = others_of l clause in
     let d = denied_is (ready_after steps) s same others in
     never l (record {
       among = among;
       agree = λ m e. sym (d (negated m)) ∙ leaves.agree m (d m ∙ e);
-      stays = stays steps s same l (start_literals (ready_after steps) others) (denied_in s others) d leaves.open_still;
+      stays = stays steps s same l (start_literals (ready_after steps) others) (rup_assumptions s others) d leaves.open_still;
     })
 never_as steps s same w step never a = a

@@ -3,20 +3,20 @@ use Rattle.std.proofs.Common.{ℕ, ◌+◌, ◌*◌, ◌^◌, ◌-◌, ◌<◌, 
 use Rattle.std.proofs.lemmas.Bool.{both_ways}
 use Rattle.sat_base.specs.device.Device.{Writer}
 use Rattle.sat_base.specs.script.Script.{Literal, Ask, names_of}
-use Rattle.sat_base.specs.script.ScriptState.{ScriptState, accepted, bring_all, refusal_of}
+use Rattle.sat_base.specs.script.ScriptState.{ScriptState, state_after_accepted, introduce_all, refusal_of}
 use Rattle.sat_base.specs.steps.Steps.{Step}
 use Rattle.sat_checker.specs.LiteralSets.{canonical}
 use Rattle.sat_checker.specs.matching.Checking.{variable_of}
-use Rattle.sat_checker.specs.matching.Expected.{Outcome, Unsat, Unknown, Expected, Opens, Shows, Fails, Closes, Fits, bringing, showing, fails}
+use Rattle.sat_checker.specs.matching.Expected.{Outcome, Unsat, Unknown, Expected, Opens, Shows, Fails, Closes, Fits, introducing, showing, fails}
 use Rattle.sat_checker.specs.matching.ProofChecking.{checker_rules}
-use Rattle.sat_solver.specs.declared.state.State.{State}
-use Rattle.sat_solver.specs.declared.state.State.TheVariants as states
+use Rattle.sat_solver.specs.declared.state.SatState.{SatState}
+use Rattle.sat_solver.specs.declared.state.SatState.TheVariants as states
 use Rattle.sat_solver.specs.variables.Calls as solver
-use Rattle.sat_solver.specs.variables.Coming.{MayTake}
-use Rattle.sat_checker.specs.matching.Bridge.{Live}
+use Rattle.sat_solver.specs.variables.NamingSteps.{IsLiteralsStep}
+use Rattle.sat_checker.specs.matching.Bridge.{LiveVariables}
 use Rattle.sat_solver.specs.variables.Refusing.{names_in}
-use Rattle.sat_solver.specs.schedule.Solving.{AdvancesIn}
-use Rattle.sat_solver.specs.session.Coming.{OnlyAllowedSteps, EndsAtUnsat}
+use Rattle.sat_solver.specs.schedule.Solving.{CountsEmpoweringIn}
+use Rattle.sat_solver.specs.session.AllowedSteps.{OnlyAllowedSteps, EndsAtUnsat}
 use Rattle.sat_solver.specs.proof.ProofView.{steps_of}
 use Rattle.sat_solver.specs.solver.Adding.{ReplacesAssumptions, ForgetsAnswer}
 use Rattle.sat_solver.specs.solver.Calls.{learned_of, due_between_states}
@@ -53,7 +53,7 @@ sorted_core es ask core {t = t} (visible {s = s} {step = step} {e = x} {es = ys}
     visible (fails_sorted s ask core step (subst (λ y. Fits (checker_rules.knows s) s y step) hd f)) (subst (HasTrace checker_rules (step ∷ s) t) tl m)
 
 -- the outcome of an ask, given the solver after it
-module _ {C : Type 0} (now : Solver C) (ask : List Literal) (asked : named_literals now.assumed.items ≡ ask) (j : ScriptState) (live : Live) (agree : solver.NamesAgree now.names (steps_in now) j live) where
+module _ {C : Type 0} (now : Solver C) (ask : List Literal) (asked : named_literals now.assumed.items ≡ ask) (j : ScriptState) (live : LiveVariables) (agree : solver.NamesAgree now.names (steps_in now) j live) where
   line_listed : IsReportedRight kind.Sat now → names_of (named_literals (line_in now)) ≡ map (λ n. n.name) j.in_use
   line_listed right = (right j live agree).names
 
@@ -69,30 +69,30 @@ kind_reported kind.Unsat now = refl
 kind_reported kind.Unknown now = refl
 
 -- the state of the solver for each answer
-sat_state : (st : State) → AnswerIs st kind.Sat → st ≡ states.Sat
+sat_state : (st : SatState) → AnswerIs st kind.Sat → st ≡ states.Sat
 sat_state states.Sat h = refl
 sat_state e h = absurd (cc)
 
-unsat_state : (st : State) → AnswerIs st kind.Unsat → (st ≡ states.UnsatUnderAssumptions) ⊎ (st ≡ states.Unsat)
+unsat_state : (st : SatState) → AnswerIs st kind.Unsat → (st ≡ states.UnsatUnderAssumptions) ⊎ (st ≡ states.Unsat)
 unsat_state states.UnsatUnderAssumptions h = inl refl
 unsat_state states.Unsat h = inr refl
 unsat_state states.Unknown h = absurd (cc)
 unsat_state states.Sat h = absurd (cc)
 
-unknown_state : (st : State) → AnswerIs st kind.Unknown → st ≡ states.Unknown
+unknown_state : (st : SatState) → AnswerIs st kind.Unknown → st ≡ states.Unknown
 unknown_state states.Unknown h = refl
 unknown_state e h = absurd (cc)
 
-sat_apart : (st : State) → st ≡ states.Sat → st ≡ states.Unsat → ⊥
+sat_apart : (st : SatState) → st ≡ states.Sat → st ≡ states.Unsat → ⊥
 sat_apart st e f = cc
 
-core_apart : (st : State) → st ≡ states.UnsatUnderAssumptions → st ≡ states.Unsat → ⊥
+core_apart : (st : SatState) → st ≡ states.UnsatUnderAssumptions → st ≡ states.Unsat → ⊥
 core_apart st e f = cc
 
-unknown_apart : (st : State) → st ≡ states.Unknown → st ≡ states.Unsat → ⊥
+unknown_apart : (st : SatState) → st ≡ states.Unknown → st ≡ states.Unsat → ⊥
 unknown_apart st e f = cc
 
-unsat_apart : (st : State) → st ≡ states.Unsat → st ≡ states.Unknown → ⊥
+unsat_apart : (st : SatState) → st ≡ states.Unsat → st ≡ states.Unknown → ⊥
 unsat_apart st e f = cc
 
 -- if the solver's state is `Unsat`, the core is empty
@@ -102,8 +102,8 @@ unsat_outcome now kind.Unsat e h = ap (λ st. Unsat (named_literals (canonical (
 unsat_outcome now kind.Unknown e h = absurd (unknown_apart now.state (unknown_state now.state h) e)
 
 -- the step that shows an answer
-module _ {C : Type 0} (now : Solver C) (whole : SolverInvariant now) (ask : List Literal) (asked : named_literals now.assumed.items ≡ ask) (j : ScriptState) (before : State) (s : List Step) where
-  abbrev ReportsBetween : State → State → Type 0
+module _ {C : Type 0} (now : Solver C) (whole : SolverInvariant now) (ask : List Literal) (asked : named_literals now.assumed.items ≡ ask) (j : ScriptState) (before : SatState) (s : List Step) where
+  abbrev ReportsBetween : SatState → SatState → Type 0
   ReportsBetween b st = HasTrace checker_rules s (steps_in now) (due_between_states b st (line_in now) now.assumed.items now.reported.failed_core.items)
 
   abbrev Shown : Bool → Outcome → Type 0
@@ -129,7 +129,7 @@ module _ {C : Type 0} (now : Solver C) (whole : SolverInvariant now) (ask : List
       shown_going (outcome_for kind.Unsat now) (core_apart now.state e)
       (subst (λ st. HasTrace checker_rules s (steps_in now) (Fails ask (named_literals (canonical (core_for st now))) ∷ [])) (sym e) sorted)
 
-  none_reported : (b : State) → ReportsBetween b states.Unsat → HasTrace checker_rules s (steps_in now) []
+  none_reported : (b : SatState) → ReportsBetween b states.Unsat → HasTrace checker_rules s (steps_in now) []
   none_reported states.Unknown w = w
   none_reported e w = w
 
@@ -146,7 +146,7 @@ module _ {C : Type 0} (now : Solver C) (whole : SolverInvariant now) (ask : List
   answer_shown kind.Unknown h b names w = let e = unknown_state now.state h in unknown_shown e (b (unknown_apart now.state e)) w
 
 -- setting assumptions leaves the solver's state `Unknown` or `Unsat`
-forgets_either : (a b : State) → ForgetsAnswer a b → (b ≡ states.Unknown) ⊎ (b ≡ states.Unsat)
+forgets_either : (a b : SatState) → ForgetsAnswer a b → (b ≡ states.Unknown) ⊎ (b ≡ states.Unsat)
 forgets_either a states.Unknown h = inl refl
 forgets_either a states.Unsat h = inr refl
 forgets_either states.Unsat states.Sat h = absurd (cc)
@@ -159,14 +159,14 @@ forgets_either states.Sat states.UnsatUnderAssumptions h = absurd h
 forgets_either states.UnsatUnderAssumptions states.UnsatUnderAssumptions h = absurd h
 
 -- the number of rounds that derive a clause
-none_learned : (st : State) → learned_of st 0 ≡ 0
+none_learned : (st : SatState) → learned_of st 0 ≡ 0
 none_learned states.Unknown = refl
 none_learned e = refl
 
 less_one : (n : ℕ) → 0 < n → n ≡ n - 1 + 1
 less_one n h = omega arith
 
-answer_learns : {C : Type 0} (now : Solver C) (st : State) (a : Answer) (n : ℕ) → AnswerIs st a → ((st ≡ states.Unknown → ⊥) → 0 < n) → LearnsEachRound false (outcome_for a now) n (learned_of st n)
+answer_learns : {C : Type 0} (now : Solver C) (st : SatState) (a : Answer) (n : ℕ) → AnswerIs st a → ((st ≡ states.Unknown → ⊥) → 0 < n) → LearnsEachRound false (outcome_for a now) n (learned_of st n)
 answer_learns now states.Unknown kind.Unknown n h f = refl
 answer_learns now states.Sat kind.Sat n h f = less_one n (f (λ e. cc))
 answer_learns now states.UnsatUnderAssumptions kind.Unsat n h f = less_one n (f (λ e. cc))
@@ -218,13 +218,13 @@ module _ {C : Type 0} (seen : C → Writer) (old mid now : Solver C) (user : Lis
       let r = searched.rounds in let l = searched.limited.rounds in
       omega arith
 
-  -- each round derived a clause that advances, except the round that answered
+  -- each round derived an empowering clause, except the round that answered
   learns : LearnsBetween (checker_rules.unsat (steps_in mid)) (outcome_for report.answer now) report.steps (steps_in mid) (steps_in now)
   learns = record {
     learned = learned_of now.state report.steps;
     times =
-        subst (λ n. AdvancesIn (steps_in mid) (steps_in now) (learned_of now.state n)) count
-        (subst (λ ss. AdvancesIn ss (steps_in now) (learned_of now.state (now.clock.rounds - searched.mid.clock.rounds))) same_steps searched.solved.answered.steps.times);
+        subst (λ n. CountsEmpoweringIn (steps_in mid) (steps_in now) (learned_of now.state n)) count
+        (subst (λ ss. CountsEmpoweringIn ss (steps_in now) (learned_of now.state (now.clock.rounds - searched.mid.clock.rounds))) same_steps searched.solved.answered.steps.times);
     counts = counted (checker_rules.unsat (steps_in mid)) refl;
   }
     where
@@ -235,44 +235,44 @@ module _ {C : Type 0} (seen : C → Writer) (old mid now : Solver C) (user : Lis
   pub ask_spent : SpendsWithinBudget budget old.clock.rounds report
   ask_spent = subst (λ (n : ℕ). SpendsWithinBudget budget n report) (ap (λ (x : _). x.rounds) opened.clock) searched.spent
 
-  module _ (j : ScriptState) (live : Live) (means : AgreesWithState old j live) (free : refusal_of j (Ask (named_literals user)) ≡ None) where
-    first : solver.ReachesScriptState mid.names (steps_in old) (steps_in mid) (bring_all (names_in user) j) (bringing (names_in user) j ++ (Opens (named_literals user) (outcome_for report.answer now) ∷ []))
+  module _ (j : ScriptState) (live : LiveVariables) (means : AgreesWithState old j live) (free : refusal_of j (Ask (named_literals user)) ≡ None) where
+    first : solver.ReachesScriptState mid.names (steps_in old) (steps_in mid) (introduce_all (names_in user) j) (introducing (names_in user) j ++ (Opens (named_literals user) (outcome_for report.answer now) ∷ []))
     first = (opened.did (outcome_for report.answer now)).does.kept j live means.agree
 
-    agree_mid : solver.NamesAgree mid.names (steps_in mid) (accepted (Ask (named_literals user)) j) first.live
-    agree_mid = subst (λ ns. solver.NamesAgree mid.names (steps_in mid) (bring_all ns j) first.live) (sym (names_same user)) first.agree
+    agree_mid : solver.NamesAgree mid.names (steps_in mid) (state_after_accepted (Ask (named_literals user)) j) first.live
+    agree_mid = subst (λ ns. solver.NamesAgree mid.names (steps_in mid) (introduce_all ns j) first.live) (sym (names_same user)) first.agree
 
-    agree_at : solver.NamesAgree searched.mid.names (steps_in searched.mid) (accepted (Ask (named_literals user)) j) first.live
-    agree_at = subst (λ ns. solver.NamesAgree ns (steps_in searched.mid) (accepted (Ask (named_literals user)) j) first.live) (sym searched.limited.names) (subst (λ ss. solver.NamesAgree mid.names ss (accepted (Ask (named_literals user)) j) first.live) (sym same_steps) agree_mid)
+    agree_at : solver.NamesAgree searched.mid.names (steps_in searched.mid) (state_after_accepted (Ask (named_literals user)) j) first.live
+    agree_at = subst (λ ns. solver.NamesAgree ns (steps_in searched.mid) (state_after_accepted (Ask (named_literals user)) j) first.live) (sym searched.limited.names) (subst (λ ss. solver.NamesAgree mid.names ss (state_after_accepted (Ask (named_literals user)) j) first.live) (sym same_steps) agree_mid)
 
-    second : solver.ReachesScriptState now.names (steps_in searched.mid) (steps_in now) (accepted (Ask (named_literals user)) j) (due_between_states searched.mid.state now.state (line_in now) now.assumed.items now.reported.failed_core.items)
-    second = searched.solved.answered.did.does.kept (accepted (Ask (named_literals user)) j) first.live agree_at
+    second : solver.ReachesScriptState now.names (steps_in searched.mid) (steps_in now) (state_after_accepted (Ask (named_literals user)) j) (due_between_states searched.mid.state now.state (line_in now) now.assumed.items now.reported.failed_core.items)
+    second = searched.solved.answered.did.does.kept (state_after_accepted (Ask (named_literals user)) j) first.live agree_at
 
-    named : HasTrace checker_rules (steps_in old) (steps_in mid) (bringing (names_of (named_literals user)) j ++ (Opens (named_literals user) (outcome_for report.answer now) ∷ []))
-    named = subst (λ ns. HasTrace checker_rules (steps_in old) (steps_in mid) (bringing ns j ++ (Opens (named_literals user) (outcome_for report.answer now) ∷ []))) (sym (names_same user)) first.trace
+    named : HasTrace checker_rules (steps_in old) (steps_in mid) (introducing (names_of (named_literals user)) j ++ (Opens (named_literals user) (outcome_for report.answer now) ∷ []))
+    named = subst (λ ns. HasTrace checker_rules (steps_in old) (steps_in mid) (introducing ns j ++ (Opens (named_literals user) (outcome_for report.answer now) ∷ []))) (sym (names_same user)) first.trace
 
-    listed : report.answer ≡ kind.Sat → names_of (named_literals (line_in now)) ≡ map (λ n. n.name) (accepted (Ask (named_literals user)) j).in_use
-    listed e = line_listed now (named_literals user) assumed_is (accepted (Ask (named_literals user)) j) second.live second.agree (subst (λ a. IsReportedRight a now) e right)
+    listed : report.answer ≡ kind.Sat → names_of (named_literals (line_in now)) ≡ map (λ n. n.name) (state_after_accepted (Ask (named_literals user)) j).in_use
+    listed e = line_listed now (named_literals user) assumed_is (state_after_accepted (Ask (named_literals user)) j) second.live second.agree (subst (λ a. IsReportedRight a now) e right)
 
-    shown : HasTrace checker_rules (steps_in mid) (steps_in now) (showing_if (checker_rules.unsat (steps_in now)) (accepted (Ask (named_literals user)) j) (named_literals user) (outcome_for report.answer now))
-    shown = answer_shown now searched.solved.answered.did.whole (named_literals user) assumed_is (accepted (Ask (named_literals user)) j) searched.mid.state (steps_in mid) report.answer searched.solved.answer_is was_unknown listed
+    shown : HasTrace checker_rules (steps_in mid) (steps_in now) (showing_if (checker_rules.unsat (steps_in now)) (state_after_accepted (Ask (named_literals user)) j) (named_literals user) (outcome_for report.answer now))
+    shown = answer_shown now searched.solved.answered.did.whole (named_literals user) assumed_is (state_after_accepted (Ask (named_literals user)) j) searched.mid.state (steps_in mid) report.answer searched.solved.answer_is was_unknown listed
         (subst (λ ss. HasTrace checker_rules ss (steps_in now) (due_between_states searched.mid.state now.state (line_in now) now.assumed.items now.reported.failed_core.items)) same_steps second.trace)
 
-    pub ask_right : IsRight (accepted (Ask (named_literals user)) j) (named_literals user) (outcome_for report.answer now)
-    ask_right = reported_right now (named_literals user) assumed_is (accepted (Ask (named_literals user)) j) second.live second.agree report.answer right
+    pub ask_right : IsRight (state_after_accepted (Ask (named_literals user)) j) (named_literals user) (outcome_for report.answer now)
+    ask_right = reported_right now (named_literals user) assumed_is (state_after_accepted (Ask (named_literals user)) j) second.live second.agree report.answer right
 
     -- the bound on rounds, by the number of identities
-    pub ask_bounded : IsBounded (accepted (Ask (named_literals user)) j).identity_count budget old.clock.rounds report
+    pub ask_bounded : IsBounded (state_after_accepted (Ask (named_literals user)) j).identity_count budget old.clock.rounds report
     ask_bounded =
-        let most : ℕ = 2 ^ (2 * (accepted (Ask (named_literals user)) j).identity_count + 3) in
-        let counted : now.clock.rounds < searched.mid.clock.rounds + most = searched.solved.answered.counts.on.few (accepted (Ask (named_literals user)) j) first.live agree_at in
+        let most : ℕ = 2 ^ (2 * (state_after_accepted (Ask (named_literals user)) j).identity_count + 3) in
+        let counted : now.clock.rounds < searched.mid.clock.rounds + most = searched.solved.answered.counts.on.few (state_after_accepted (Ask (named_literals user)) j) first.live agree_at in
         let r = searched.rounds in let l = searched.limited.rounds in
         let few : report.steps < most = omega arith in
         record { few = few; answered = λ left unknown. let all = ask_spent.unknown unknown in omega arith }
 
     module _ (new : Solver C) (closed : ReplacesAssumptions seen now new []) where
-      third : solver.ReachesScriptState new.names (steps_in now) (steps_in new) (accepted (Ask (named_literals user)) j) (Opens [] Unknown ∷ [])
-      third = (closed.did Unknown).does.kept (accepted (Ask (named_literals user)) j) second.live second.agree
+      third : solver.ReachesScriptState new.names (steps_in now) (steps_in new) (state_after_accepted (Ask (named_literals user)) j) (Opens [] Unknown ∷ [])
+      third = (closed.did Unknown).does.kept (state_after_accepted (Ask (named_literals user)) j) second.live second.agree
 
       shut : HasTrace checker_rules (steps_in now) (steps_in new) (Closes ∷ [])
       shut = closed_by_none Unknown third.trace
@@ -281,7 +281,7 @@ module _ {C : Type 0} (seen : C → Writer) (old mid now : Solver C) (user : Lis
       ask_steps = record {
         opened = steps_in mid;
         shown = steps_in now;
-        opens = record { due = named; comes = subst (λ ns. OnlyAllowedSteps (MayTake ns) (steps_in old) (steps_in mid)) (sym (names_same user)) opened.comes };
+        opens = record { due = named; comes = subst (λ ns. OnlyAllowedSteps (IsLiteralsStep ns) (steps_in old) (steps_in mid)) (sym (names_same user)) opened.comes };
         searches = record { due = shown; comes = subst (λ ss. OnlyAllowedSteps EndsAtUnsat ss (steps_in now)) same_steps searched.solved.answered.steps.comes };
         closes = record { due = shut; comes = closed.comes };
         known = known;
@@ -289,7 +289,7 @@ module _ {C : Type 0} (seen : C → Writer) (old mid now : Solver C) (user : Lis
         learns = learns;
       }
 
-      pub ask_then : (then : Live) × solver.NamesAgree new.names (steps_in new) (accepted (Ask (named_literals user)) j) then
+      pub ask_then : (then : LiveVariables) × solver.NamesAgree new.names (steps_in new) (state_after_accepted (Ask (named_literals user)) j) then
       ask_then = (third.live, third.agree)
 
   pub ask_rounds : (new : Solver C) → ReplacesAssumptions seen now new [] → old.clock.rounds + report.steps ≡ new.clock.rounds

@@ -1,4 +1,4 @@
--- The steps made between two places are written between two places, with as many clauses that advance.
+-- The steps made between two places are written between two places, with as many empowering clauses.
 use Rattle.std.proofs.Common.{ℕ, ◌≡◌, ◌∙◌, Bool, true, false, Option, Some, None, List, [], ◌∷◌, ◌++◌, refl, sym, ap, subst, inl, inr, append_assoc, append-nil}
 use Rattle.std.specs.Prelude.{nat_eq, if◌then◌else◌}
 use Rattle.std.specs.List.{AllByRecursion}
@@ -10,12 +10,12 @@ use Rattle.sat_checker.specs.matching.Checking.{is_ordered}
 use Rattle.sat_checker.specs.matching.ProofChecking.{checker_rules}
 use Rattle.sat_checker.proofs.lemmas.contents.Steps.{contents_of_steps}
 use Rattle.sat_solver.specs.declared.proof.hash_bits.Counting.{Counting}
-use Rattle.sat_solver.specs.session.Quiet.{NeverAdvances}
+use Rattle.sat_solver.specs.session.Quiet.{IsNeverEmpowering}
 use Rattle.sat_solver.specs.schedule.Solving as made
 use Rattle.sat_solver.specs.proof.Counting.{TruncatesHashes, none_made, ask_begun, one_made, width_change, written_for, counted}
 use Rattle.sat_solver.specs.session.Session.{Session, session_after}
 use Rattle.sat_solver.specs.proof.Widths.{narrowed}
-use Rattle.certify.specs.run.Advancing.{DerivesAdvancing, AdvanceTimesStored, AreUnordered}
+use Rattle.certify.specs.run.Advancing.{DerivesEmpowering, CountsEmpoweringFor, AreUnordered}
 use Rattle.certify.proofs.lemmas.run.Advanced.{IsSame, advancing_as, cuts_state, is_same, never_as, change_wide}
 
 -- STEPS THAT DERIVE AND RECORD NOTHING
@@ -48,29 +48,29 @@ reported_aside before now = go (nat_eq before now)
     go false = (width_aside, tt)
 
 -- such a step never advances among the steps that were made
-aside_still : {step : Step} (s : Session) → IsAside step → made.NeverAdvancesByForm s step
+aside_still : {step : Step} (s : Session) → IsAside step → made.IsNeverEmpoweringByForm s step
 aside_still s index_aside = record { quiet = refl; never = tt }
 aside_still s width_aside = record { quiet = refl; never = tt }
 
-pub asides_still : (earlier front xs : List Step) (k : ℕ) → AreAside front → made.AdvanceTimes earlier xs k → made.AdvanceTimes earlier (front ++ xs) k
+pub asides_still : (earlier front xs : List Step) (k : ℕ) → AreAside front → made.CountsEmpowering earlier xs k → made.CountsEmpowering earlier (front ++ xs) k
 asides_still earlier [] xs k h t = t
 asides_still earlier (s ∷ front) xs k h t = inl (asides_still earlier front xs k h.1 t, aside_still (session_after ((front ++ xs) ++ earlier)) h.0)
 
-pub after_asides : (earlier mid xs : List Step) (k : ℕ) → AreAside mid → made.AdvanceTimes (mid ++ earlier) xs k → made.AdvanceTimes earlier (xs ++ mid) k
+pub after_asides : (earlier mid xs : List Step) (k : ℕ) → AreAside mid → made.CountsEmpowering (mid ++ earlier) xs k → made.CountsEmpowering earlier (xs ++ mid) k
 after_asides earlier mid [] k h t =
     let none : k ≡ 0 = t in
-    subst (λ (n : ℕ). made.AdvanceTimes earlier mid n) (sym none) (subst (λ (ms : List Step). made.AdvanceTimes earlier ms 0) (append-nil mid) (asides_still earlier mid [] 0 h refl))
+    subst (λ (n : ℕ). made.CountsEmpowering earlier mid n) (sym none) (subst (λ (ms : List Step). made.CountsEmpowering earlier ms 0) (append-nil mid) (asides_still earlier mid [] 0 h refl))
 after_asides earlier mid (x ∷ xs) k h (inl (t, still)) =
-    inl (after_asides earlier mid xs k h t, subst (λ (v : List Step). made.NeverAdvancesByForm (session_after v) x) (sym (append_assoc xs mid earlier)) still)
+    inl (after_asides earlier mid xs k h t, subst (λ (v : List Step). made.IsNeverEmpoweringByForm (session_after v) x) (sym (append_assoc xs mid earlier)) still)
 after_asides earlier mid (x ∷ xs) k h (inr (j, e, a, t)) =
-    inr (j, e, subst (λ (v : List Step). made.IsAdvancing (session_after v) x) (sym (append_assoc xs mid earlier)) a, after_asides earlier mid xs j h t)
+    inr (j, e, subst (λ (v : List Step). made.IsEmpoweringStep (session_after v) x) (sym (append_assoc xs mid earlier)) a, after_asides earlier mid xs j h t)
 
 -- it never advances among the written steps
-aside_never : {step : Step} (f : Stored) → IsAside step → DerivesAdvancing f step → ⊥
+aside_never : {step : Step} (f : Stored) → IsAside step → DerivesEmpowering f step → ⊥
 aside_never f index_aside a = a
 aside_never f width_aside a = a
 
-pub asides_never : (earlier front xs : List Step) (k : ℕ) → AreAside front → AdvanceTimesStored earlier xs k → AdvanceTimesStored earlier (front ++ xs) k
+pub asides_never : (earlier front xs : List Step) (k : ℕ) → AreAside front → CountsEmpoweringFor earlier xs k → CountsEmpoweringFor earlier (front ++ xs) k
 asides_never earlier [] xs k h t = t
 asides_never earlier (s ∷ front) xs k h t = inl (asides_never earlier front xs k h.1 t, aside_never (ready_after ((front ++ xs) ++ earlier)) h.0)
 
@@ -139,7 +139,7 @@ pub record Timed (c : Counting) (opened written steps : List Step) (k : ℕ) : T
   pub mid : Counting
   pub whole : written ≡ middle ++ before
   pub cuts : TruncatesHashes c opened before mid
-  pub times : AdvanceTimesStored before middle k
+  pub times : CountsEmpoweringFor before middle k
   pub unordered : AreUnordered steps → AreUnordered middle
 
 -- how the last step was written, after any change of the width, and what was written before it
@@ -178,7 +178,7 @@ here {d = d} {m = m} {w = w} step p =
     let wider = change_wide (nat_eq d.bits now) now w (contents_of m).state h.0 h.1 in
     record { same = is_same (width_change d.bits now ++ w) m wider.0 wider.1 }
 
-pub timed : {c d : Counting} {m w : List Step} → TruncatesHashes c m w d → (steps opened : List Step) (k : ℕ) → m ≡ steps ++ opened → made.AdvanceTimes opened steps k → Timed c opened w steps k
+pub timed : {c d : Counting} {m w : List Step} → TruncatesHashes c m w d → (steps opened : List Step) (k : ℕ) → m ≡ steps ++ opened → made.CountsEmpowering opened steps k → Timed c opened w steps k
 timed {c} {d} {m} {w} p [] opened k e t = record { middle = []; before = w; mid = d; whole = refl; cuts = subst (λ (n : List Step). TruncatesHashes c n w d) e p; times = t; unordered = λ u. tt }
 timed none_made (s ∷ steps) opened k e t = none_first s (steps ++ opened) e
 timed {c} {d} {m} {w} (ask_begun {d = b} p) (s ∷ steps) opened k e t = timed {c = c} {d = b} {m = m} {w = w} p (s ∷ steps) opened k e t
@@ -189,7 +189,7 @@ timed (one_made {d = d} {made = m} {written = w} step kw p) (s ∷ steps) opened
     let now = (counted step d).bits in
     let f = width_change d.bits now in
     let place : f ++ w ≡ (f ++ q.middle) ++ q.before = ap (λ (v : List Step). f ++ v) q.whole ∙ sym (append_assoc f q.middle q.before) in
-    let never : NeverAdvances (session_after m) step = subst (λ (x : Step). NeverAdvances (session_after m) x) (sym first) (subst (λ (v : List Step). NeverAdvances (session_after v) s) (sym rest) still.never) in
+    let never : IsNeverEmpowering (session_after m) step = subst (λ (x : Step). IsNeverEmpowering (session_after m) x) (sym first) (subst (λ (v : List Step). IsNeverEmpowering (session_after v) s) (sym rest) still.never) in
     record {
       middle = narrowed now step ∷ (f ++ q.middle);
       before = q.before;
@@ -198,7 +198,7 @@ timed (one_made {d = d} {made = m} {written = w} step kw p) (s ∷ steps) opened
       cuts = q.cuts;
       times = inl (
         asides_never q.before f q.middle k (reported_aside d.bits now) q.times,
-        subst (λ (v : List Step). DerivesAdvancing (ready_after v) (narrowed now step) → ⊥) place (never_as (f ++ w) (session_after m) (here step p).same now step never),
+        subst (λ (v : List Step). DerivesEmpowering (ready_after v) (narrowed now step) → ⊥) place (never_as (f ++ w) (session_after m) (here step p).same now step never),
       );
       unordered = λ u. unordered_more now d.bits step s first q.middle u.0 (q.unordered u.1);
     }
@@ -209,7 +209,7 @@ timed (one_made {d = d} {made = m} {written = w} step kw p) (s ∷ steps) opened
     let now = (counted step d).bits in
     let f = width_change d.bits now in
     let place : f ++ w ≡ (f ++ q.middle) ++ q.before = ap (λ (v : List Step). f ++ v) q.whole ∙ sym (append_assoc f q.middle q.before) in
-    let there : made.IsAdvancing (session_after m) step = subst (λ (x : Step). made.IsAdvancing (session_after m) x) (sym first) (subst (λ (v : List Step). made.IsAdvancing (session_after v) s) (sym rest) a) in
+    let there : made.IsEmpoweringStep (session_after m) step = subst (λ (x : Step). made.IsEmpoweringStep (session_after m) x) (sym first) (subst (λ (v : List Step). made.IsEmpoweringStep (session_after v) s) (sym rest) a) in
     record {
       middle = narrowed now step ∷ (f ++ q.middle);
       before = q.before;
@@ -219,7 +219,7 @@ timed (one_made {d = d} {made = m} {written = w} step kw p) (s ∷ steps) opened
       times = inr (
         j,
         n,
-        subst (λ (v : List Step). DerivesAdvancing (ready_after v) (narrowed now step)) place (advancing_as (f ++ w) (session_after m) (here step p).same now step there),
+        subst (λ (v : List Step). DerivesEmpowering (ready_after v) (narrowed now step)) place (advancing_as (f ++ w) (session_after m) (here step p).same now step there),
         asides_never q.before f q.middle j (reported_aside d.bits now) q.times,
       );
       unordered = λ u. unordered_more now d.bits step s first q.middle u.0 (q.unordered u.1);

@@ -14,11 +14,11 @@ use Rattle.sat_solver.specs.solver.Naming.{ChangesMode, IsAsked}
 use Rattle.sat_checker.specs.contracts.processing.NobodyProofProcessor.TheImpl.{ghosts}
 use Rattle.sat_checker.specs.declared.processing.Nobody.{Nobody}
 use Rattle.sat_solver.specs.declared.proof.checker.Checked.{Checked}
-use Rattle.sat_solver.specs.declared.proof.made.CheckFault.{CheckFault}
-use Rattle.sat_solver.specs.declared.proof.made.CheckFault.TheVariants as checks
+use Rattle.sat_solver.specs.declared.proof.emitted.CheckFault.{CheckFault}
+use Rattle.sat_solver.specs.declared.proof.emitted.CheckFault.TheVariants as checks
 use Rattle.sat_solver.specs.variables.VariableRoom.{user_vars_in}
-use Rattle.sat_solver.specs.cdcl.Going.{IsFaultOr, EmitsUpToFault}
-use Rattle.sat_solver.specs.proof.MadeView.{CheckerComplains, listed_in}
+use Rattle.sat_solver.specs.cdcl.StepEffects.{IsFaultOr, EmitsUpToFault}
+use Rattle.sat_solver.specs.proof.EmittedView.{OwnCheckerFailed, listed_in}
 use Rattle.sat_solver.specs.proof.ProofView.{FailsCheck, is_checked}
 use Rattle.sat_solver.specs.solver.Whole.{HasFullStore}
 use Rattle.certify.specs.declared.fault.RunFault.{RunFault}
@@ -50,7 +50,7 @@ module _ {C : Type 0} (seen : C → Writer) (a b : Solver C) where
   pub complains_never : (k : CheckFault) → is_checked (proof_in a) ≡ false → (steps : List Step) → FailsCheck seen k steps (proof_in a) (proof_in b) → ⊥
   complains_never k alone steps h = go (proof_in b).made.own (ap is_some h.adds.listening ∙ alone) h.why
     where
-      go : (own : Option (Checked Nobody)) → is_some (listed_in own (proof_in b).made.roll.items) ≡ false → CheckerComplains ghosts.takes k own (proof_in b).made.roll.items (proof_in b).made.history.steps → ⊥
+      go : (own : Option (Checked Nobody)) → is_some (listed_in own (proof_in b).made.roll.items) ≡ false → OwnCheckerFailed ghosts.takes k own (proof_in b).made.roll.items (proof_in b).made.history.steps → ⊥
       go None e c = c
       go (Some own) e c = absurd (apart e)
 

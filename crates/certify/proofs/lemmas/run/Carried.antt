@@ -3,7 +3,7 @@ use Rattle.std.proofs.Common.{ℕ, ◌+◌, ◌≡◌, ◌∙◌, [], ◌∷◌,
 use Rattle.std.proofs.lemmas.List.{append-nil}
 use Rattle.sat_base.specs.device.Device.{Writer}
 use Rattle.sat_base.specs.script.Script.{Command}
-use Rattle.sat_base.specs.script.ScriptState.{ScriptState, accepted}
+use Rattle.sat_base.specs.script.ScriptState.{ScriptState, state_after_accepted}
 use Rattle.sat_base.proofs.lemmas.device.Writes.{took_none}
 use Rattle.sat_solver.specs.solver.Whole.{steps_in}
 use Rattle.certify.specs.declared.run.session.RunState.{RunState}
@@ -16,11 +16,11 @@ use Rattle.certify.specs.run.Quiet.{Solver}
 
 -- the place of a run after the latest command
 pub place_following : {C : Type 0} (old new : RunState C) (c : Command) (j : ScriptState) (rounds : ℕ) → new.commands ≡ old.commands → rounds ≡ new.solver.clock.rounds
-    → place_after (last_place old j) c (steps_in new.solver) rounds ≡ place_in new (accepted c j)
+    → place_after (last_place old j) c (steps_in new.solver) rounds ≡ place_in new (state_after_accepted c j)
 place_following old new c j rounds e f = ap (λ (k : ℕ). at (k + 1) rounds) (sym e) ∙ ap (at (new.commands + 1)) f
   where
     at : ℕ → ℕ → RunPlace
-    at k n = record { judge = accepted c j; number = k; steps = steps_in new.solver; rounds = n }
+    at k n = record { judge = state_after_accepted c j; number = k; steps = steps_in new.solver; rounds = n }
 
 -- a command that only the solver carries out
 pub obeyed_carried : {C : Type 0} (seen : C → Writer) (old : RunState C) (s : Solver C) (c : Command) (w : Writer) → IsNoAsk c → old.solver.assumed.items ≡ [] → Obeyed seen c old.solver s

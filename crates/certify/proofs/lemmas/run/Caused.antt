@@ -3,8 +3,8 @@ use Rattle.std.proofs.Common.{ℕ, ◌+◌, ◌<◌, ◌≡◌, ◌∙◌, inl, 
 use Rattle.std.proofs.lemmas.List.{map-append, take-append-drop}
 use Rattle.sat_base.specs.device.Device.{Writer}
 use Rattle.sat_base.specs.script.Script.{Command, Clause, Ask, Clean}
-use Rattle.sat_base.specs.script.Language.{Reading, onto_commands}
-use Rattle.sat_base.specs.script.ScriptState.{ScriptState, accepted, after_command, after_script, refusal_of}
+use Rattle.sat_base.specs.script.Language.{Reading, prepend_commands}
+use Rattle.sat_base.specs.script.ScriptState.{ScriptState, state_after_accepted, after_command, after_script, refusal_of}
 use Rattle.sat_base.specs.values.Literals.{var_limit, variable}
 use Rattle.sat_solver.specs.variables.Refusing.{names_in}
 use Rattle.sat_solver.specs.variables.VariableRoom.{user_vars_in}
@@ -85,20 +85,20 @@ ask_caused_by lent old new r e h = subst (λ c. CausedBy r old new c) (sym (spel
 
 -- a script exceeds a limit if its first command lacks variables
 pub needs_exceed : {C : Type 0} (old : RunState C) (new : Solver C) (c : Command) (left : Reading) (j : ScriptState) → HasStateBetweenCommands old j → refusal_of j c ≡ None → LacksFor old.solver new c
-    → Exceeds old.commands j (onto_commands (c ∷ []) left) (steps_in new)
+    → Exceeds old.commands j (prepend_commands (c ∷ []) left) (steps_in new)
 needs_exceed old new c left j at free needs =
     let both = needs j at.live at.means.agree in
     let h = both.0 in
-    let g = script_grows left.0 (accepted c j) in
+    let g = script_grows left.0 (state_after_accepted c j) in
     inr (
       subst (λ i. var_limit < (after_script left.0 i).identity_count) (sym (after_accepted j c free)) (omega arith),
       record { before = []; command = c; following = left.0; whole = refl; accepted_one = free; lacks = both.1 },
     )
 
 module _ {C : Type 0} (old mid new : RunState C) (lent : Lent) (r : Result (Unit {0}) RunFault) where
-  pub taken_caused : lent.past_limit ≡ false → ReportsRefusal None old.names lent → mid.solver ≡ old.solver → CausedBy r mid new (represented_by lent) → (c : Command) → RepresentsCommand lent c → (left : Reading) → CausedOver r old new (onto_commands (c ∷ []) left)
+  pub taken_caused : lent.past_limit ≡ false → ReportsRefusal None old.names lent → mid.solver ≡ old.solver → CausedBy r mid new (represented_by lent) → (c : Command) → RepresentsCommand lent c → (left : Reading) → CausedOver r old new (prepend_commands (c ∷ []) left)
   taken_caused within judges same h c l left =
-      caused_if r (HasFullStore new.solver) (LacksFor mid.solver new.solver (represented_by lent)) (HasFullStore new.solver) ((j : ScriptState) → HasStateBetweenCommands old j → Exceeds old.commands j (onto_commands (c ∷ []) left) (steps_in new.solver)) (λ x. x)
+      caused_if r (HasFullStore new.solver) (LacksFor mid.solver new.solver (represented_by lent)) (HasFullStore new.solver) ((j : ScriptState) → HasStateBetweenCommands old j → Exceeds old.commands j (prepend_commands (c ∷ []) left) (steps_in new.solver)) (λ x. x)
       (λ needs j at. needs_exceed old new.solver c left j at (sym (judges j c at.names l)) (subst (λ s. LacksFor s new.solver c) same (subst (LacksFor mid.solver new.solver) (sym (lent_is lent c l within)) needs))) h
 
 -- a fault that is caused by neither a full store nor a counter
@@ -110,7 +110,7 @@ after_both [] ys i = refl
 after_both (x ∷ xs) ys i = after_both xs ys (after_command x i)
 
 -- a limit that is exceeded after some commands is exceeded by the complete script
-pub exceeds_later : (n m : ℕ) (cs : List Command) (script : Reading) (j : ScriptState) (steps : List Step) → m ≡ n + length cs → Exceeds m (after_script cs j) script steps → Exceeds n j (onto_commands cs script) steps
+pub exceeds_later : (n m : ℕ) (cs : List Command) (script : Reading) (j : ScriptState) (steps : List Step) → m ≡ n + length cs → Exceeds m (after_script cs j) script steps → Exceeds n j (prepend_commands cs script) steps
 exceeds_later n m cs script j steps e (inl few) = inl (let l = length-append cs script.0 in omega arith)
 exceeds_later n m cs script j steps e (inr (needs, one)) = inr (
   subst (λ i. var_limit < i.identity_count) (sym (after_both cs script.0 j)) needs,
@@ -125,9 +125,9 @@ exceeds_later n m cs script j steps e (inr (needs, one)) = inr (
 )
 
 -- a fault after one command was served
-pub caused_after : {T C : Type 0} (seen : C → Writer) (r : Result T RunFault) (c : Command) (script : Reading) (a b new : RunState C) (u v : Writer) → ServedNext seen a b c u v → CausedOver r b new script → CausedOver r a new (onto_commands (c ∷ []) script)
+pub caused_after : {T C : Type 0} (seen : C → Writer) (r : Result T RunFault) (c : Command) (script : Reading) (a b new : RunState C) (u v : Writer) → ServedNext seen a b c u v → CausedOver r b new script → CausedOver r a new (prepend_commands (c ∷ []) script)
 caused_after seen r c script a b new u v f h =
-    caused_if r (HasFullStore new.solver) ((j : ScriptState) → HasStateBetweenCommands b j → Exceeds b.commands j script (steps_in new.solver)) (HasFullStore new.solver) ((j : ScriptState) → HasStateBetweenCommands a j → Exceeds a.commands j (onto_commands (c ∷ []) script) (steps_in new.solver)) (λ x. x)
+    caused_if r (HasFullStore new.solver) ((j : ScriptState) → HasStateBetweenCommands b j → Exceeds b.commands j script (steps_in new.solver)) (HasFullStore new.solver) ((j : ScriptState) → HasStateBetweenCommands a j → Exceeds a.commands j (prepend_commands (c ∷ []) script) (steps_in new.solver)) (λ x. x)
     (λ k j at. exceeds_later a.commands b.commands (c ∷ []) script j (steps_in new.solver) f.commands (k (after_command c j) (f.serves j at).0)) h
 
 -- a fault at the ask that a header adds

@@ -3,8 +3,8 @@ use Rattle.std.proofs.Common.{ℕ, ◌+◌, ◌*◌, ◌/◌, ◌%◌, ◌≡◌
 use Rattle.std.proofs.lemmas.Bool.Decides.{nat_tests}
 use Rattle.std.specs.List.{AllByRecursion}
 use Rattle.sat_base.specs.values.Clauses.{Valuation, EachTrue, EachHolds, literal_true}
-use Rattle.sat_base.specs.script.Script.{Literal, Among, InOrder, place}
-use Rattle.sat_base.specs.script.ScriptState.{ScriptState, IsRightCore, over}
+use Rattle.sat_base.specs.script.Script.{Literal, Among, InOrder, sort_key}
+use Rattle.sat_base.specs.script.ScriptState.{ScriptState, IsRightCore, identity_lit}
 use Rattle.sat_checker.specs.LiteralSets.{canonical}
 use Rattle.sat_checker.specs.SortedSets.{IsIncreasing}
 use Rattle.sat_checker.specs.matching.Expected.{SameSet, Spells}
@@ -35,7 +35,7 @@ pub canonical_named : (xs : List ℕ) (l : Literal) → Among l (named_literals 
 canonical_named xs l m = let r = named_from (canonical xs) l m in subst (λ k. Among k (named_literals xs)) (sym r.2) (named_in xs r.0 (from_canonical xs r.0 r.1))
 
 -- literals are in order exactly if their codes are
-place_of : (x : ℕ) → place (named_literal x) ≡ x + 2
+place_of : (x : ℕ) → sort_key (named_literal x) ≡ x + 2
 place_of x = go (eqb (x % 2) 0) refl
   where
     go : (b : Bool) → eqb (x % 2) 0 ≡ b → 2 * (x / 2 + 1) + cond b 0 1 ≡ x + 2
@@ -49,13 +49,13 @@ in_order (x ∷ y ∷ ys) h = ((let a = place_of x in let b = place_of y in let 
 
 -- a core in any order is correct once its literals are sorted
 pub right_in_order : (j : ScriptState) (ask : List Literal) (core : List ℕ) → AllByRecursion (λ l. Among l ask) (named_literals core)
-    → ((a : Valuation) → EachTrue a (map (over j) (named_literals core)) → EachHolds a j.clauses → ⊥) → IsRightCore j ask (named_literals (canonical core))
+    → ((a : Valuation) → EachTrue a (map (identity_lit j) (named_literals core)) → EachHolds a j.clauses → ⊥) → IsRightCore j ask (named_literals (canonical core))
 right_in_order j ask core among none = record {
   order = in_order (canonical core) (canonical_increasing core);
   among = all_from (λ l. Among l ask) (named_literals (canonical core)) (λ l m. all_at (λ l. Among l ask) l (named_literals core) among (canonical_named core l m));
   none = λ a h k. none a
-      (true_mapped a (over j) (named_literals core)
-      (all_from (λ l. literal_true a (over j l) ≡ true) (named_literals core) (λ l m. all_at (λ l. literal_true a (over j l) ≡ true) l (named_literals (canonical core)) (mapped_true a (over j) (named_literals (canonical core)) h) (named_canonical core l m)))) k;
+      (true_mapped a (identity_lit j) (named_literals core)
+      (all_from (λ l. literal_true a (identity_lit j l) ≡ true) (named_literals core) (λ l m. all_at (λ l. literal_true a (identity_lit j l) ≡ true) l (named_literals (canonical core)) (mapped_true a (identity_lit j) (named_literals (canonical core)) h) (named_canonical core l m)))) k;
 }
 
 pub spelt_in_order : (names : ℕ → Option ℕ) (core codes : List ℕ) → SameSet names (named_literals core) codes → SameSet names (named_literals (canonical core)) codes

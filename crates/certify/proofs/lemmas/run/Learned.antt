@@ -5,20 +5,20 @@ use Rattle.std.proofs.lemmas.List.{append_cancel_right}
 use Rattle.std.specs.List.{AllByRecursion}
 use Rattle.std.specs.Prelude.{nat_eq, if◌then◌else◌}
 use Rattle.sat_base.specs.script.Script.{Literal, Command, Clause, Ask, Hide, Witness, Sample, names_of}
-use Rattle.sat_base.specs.script.ScriptState.{ScriptState, NameMode, Sampled, Witnessed, accepted, bring_in, new_names, with_mode, without_name}
+use Rattle.sat_base.specs.script.ScriptState.{ScriptState, NameMode, Sampled, Witnessed, state_after_accepted, introduce, new_names, with_mode, without_name}
 use Rattle.sat_base.specs.steps.Steps.{Step, SolverVarName, UserVarName, DeleteVar, ChangeSamplingMode, AddClause, AtClause, UnitClauses, DeleteClause, ChangeHashBits, Model, Assumptions, FailedAssumptions, End}
 use Rattle.sat_checker.specs.matching.Checking.{CheckerRules, is_ordered}
 use Rattle.sat_checker.specs.matching.Expected as expecting
-use Rattle.sat_checker.specs.matching.Expected.{Outcome, Sat, Unsat, Unknown, Expected, NewName, NoName, Adds, Opens, Shows, Fails, Closes, Finish, Fits, bringing, hiding, setting}
+use Rattle.sat_checker.specs.matching.Expected.{Outcome, Sat, Unsat, Unknown, Expected, NewName, NoName, Adds, Opens, Shows, Fails, Closes, Finish, Fits, introducing, hiding, setting}
 use Rattle.sat_checker.specs.matching.ProofChecking.{checker_rules}
 use Rattle.sat_checker.specs.matching.Traces.{HasTrace, no_step, silent, visible}
 use Rattle.sat_solver.specs.declared.proof.hash_bits.Counting.{Counting}
 use Rattle.sat_solver.specs.proof.Counting.{TruncatesHashes, none_made, ask_begun, one_made, counted}
 use Rattle.sat_solver.specs.proof.Widths.{narrowed}
-use Rattle.sat_solver.specs.variables.Coming.{MayTake}
+use Rattle.sat_solver.specs.variables.NamingSteps.{IsLiteralsStep}
 use Rattle.sat_solver.specs.schedule.Solving as made
-use Rattle.sat_solver.specs.session.Coming.{EachIsAllowed}
-use Rattle.certify.specs.run.Advancing.{AdvanceTimesStored, AreUnordered}
+use Rattle.sat_solver.specs.session.AllowedSteps.{EachIsAllowed}
+use Rattle.certify.specs.run.Advancing.{CountsEmpoweringFor, AreUnordered}
 use Rattle.certify.specs.run.Learning.{assumed_times, LearnsIn, EachLearns}
 use Rattle.certify.specs.run.Stretches.{IsNoAsk, Stretch, AskStretches, LearnsEachRound, ServesCommands, due_for, made_none, made_one, made_ask, showing_if}
 use Rattle.certify.proofs.lemmas.run.Between.{IsAside, index_aside, width_aside, AreAside, Head, Split, Timed, append_unordered, asides_never, asides_still, asides_unordered, asides_unsat, after_asides, cut_unsat, head_cut, split, timed}
@@ -128,7 +128,7 @@ later_come : (IsAllowedStep : List Step → Step → Type 0) (earlier xs ys : Li
 later_come IsAllowedStep earlier [] ys h = h
 later_come IsAllowedStep earlier (x ∷ xs) ys h = later_come IsAllowedStep earlier xs ys h.0
 
-aside_one : (names : List ℕ) (earlier : List Step) (step : Step) → MayTake names earlier step → is_ordered step ≡ false → IsAside step
+aside_one : (names : List ℕ) (earlier : List Step) (step : Step) → IsLiteralsStep names earlier step → is_ordered step ≡ false → IsAside step
 aside_one names earlier (SolverVarName v index) m n = index_aside
 aside_one names earlier (ChangeHashBits bits) m n = width_aside
 aside_one names earlier (DeleteVar v) m n = absurd (true≢false (sym m))
@@ -138,26 +138,26 @@ aside_one names earlier (UnitClauses us) m n = absurd (true≢false (sym m))
 aside_one names earlier (DeleteClause c proof) m n = absurd (true≢false (sym m))
 aside_one names earlier step m n = absurd (true≢false n)
 
-aside_each : (names : List ℕ) (xs : List Step) → ComesThere (MayTake names) xs → AreUnordered xs → AreAside xs
+aside_each : (names : List ℕ) (xs : List Step) → ComesThere (IsLiteralsStep names) xs → AreUnordered xs → AreAside xs
 aside_each names [] h u = tt
 aside_each names (x ∷ xs) h u = (aside_one names h.0.0 x h.0.1 u.0, aside_each names xs h.1 u.1)
 
 -- the steps before and after the last expected step
-module _ (names : List ℕ) (from to : List Step) (es : List Expected) (st : Stretch (MayTake names) from to es) (fs : List Expected) (e : Expected) (d : LastDue checker_rules from to fs e) where
+module _ (names : List ℕ) (from to : List Step) (es : List Expected) (st : Stretch (IsLiteralsStep names) from to es) (fs : List Expected) (e : Expected) (d : LastDue checker_rules from to fs e) where
   steps_are : st.comes.steps ≡ d.following ++ (d.step ∷ d.front)
   steps_are = append_cancel_right st.comes.steps (d.following ++ (d.step ∷ d.front)) from (sym st.comes.following ∙ d.whole ∙ sym (append_assoc d.following (d.step ∷ d.front) from))
 
-  each : EachIsAllowed (MayTake names) from (d.following ++ (d.step ∷ d.front))
-  each = subst (EachIsAllowed (MayTake names) from) steps_are st.comes.each
+  each : EachIsAllowed (IsLiteralsStep names) from (d.following ++ (d.step ∷ d.front))
+  each = subst (EachIsAllowed (IsLiteralsStep names) from) steps_are st.comes.each
 
   after_aside : AreAside d.following
-  after_aside = aside_each names d.following (first_come (MayTake names) from d.following (d.step ∷ d.front) each) d.unordered
+  after_aside = aside_each names d.following (first_come (IsLiteralsStep names) from d.following (d.step ∷ d.front) each) d.unordered
 
-  front_each : EachIsAllowed (MayTake names) from (d.front ++ [])
-  front_each = subst (EachIsAllowed (MayTake names) from) (sym (append-nil d.front)) (later_come (MayTake names) from d.following (d.step ∷ d.front) each).0
+  front_each : EachIsAllowed (IsLiteralsStep names) from (d.front ++ [])
+  front_each = subst (EachIsAllowed (IsLiteralsStep names) from) (sym (append-nil d.front)) (later_come (IsLiteralsStep names) from d.following (d.step ∷ d.front) each).0
 
   front_aside : fs ≡ [] → AreAside d.front
-  front_aside z = aside_each names d.front (first_come (MayTake names) from d.front [] front_each) (d.alone z)
+  front_aside z = aside_each names d.front (first_come (IsLiteralsStep names) from d.front [] front_each) (d.alone z)
 
 shows_none : (b : Bool) (j : ScriptState) (ls : List Literal) → showing_if b j ls Unknown ≡ []
 shows_none true j ls = refl
@@ -210,24 +210,24 @@ new_times : (names : List ℕ) → due_times (map NewName names) ≡ 0
 new_times [] = refl
 new_times (name ∷ names) = new_times names
 
-bringing_times : (names : List ℕ) (j : ScriptState) → due_times (bringing names j) ≡ 0
+bringing_times : (names : List ℕ) (j : ScriptState) → due_times (introducing names j) ≡ 0
 bringing_times [] j = refl
-bringing_times (name ∷ names) j = after_none (map NewName (new_names name j)) (bringing names (bring_in name j)) (new_times (new_names name j)) ∙ bringing_times names (bring_in name j)
+bringing_times (name ∷ names) j = after_none (map NewName (new_names name j)) (introducing names (introduce name j)) (new_times (new_names name j)) ∙ bringing_times names (introduce name j)
 
 hiding_times : (names : List ℕ) (j : ScriptState) → due_times (hiding names j) ≡ 0
 hiding_times [] j = refl
 hiding_times (name ∷ names) j =
-    after_none (map NewName (new_names name j)) (NoName name ∷ hiding names (without_name name (bring_in name j))) (new_times (new_names name j)) ∙ hiding_times names (without_name name (bring_in name j))
+    after_none (map NewName (new_names name j)) (NoName name ∷ hiding names (without_name name (introduce name j))) (new_times (new_names name j)) ∙ hiding_times names (without_name name (introduce name j))
 
 setting_times : (mode : NameMode) (names : List ℕ) (j : ScriptState) → due_times (setting mode names j) ≡ 0
 setting_times mode [] j = refl
 setting_times mode (name ∷ names) j =
-    after_none (map NewName (new_names name j)) (setting mode names (with_mode mode name (bring_in name j))) (new_times (new_names name j)) ∙ setting_times mode names (with_mode mode name (bring_in name j))
+    after_none (map NewName (new_names name j)) (setting mode names (with_mode mode name (introduce name j))) (new_times (new_names name j)) ∙ setting_times mode names (with_mode mode name (introduce name j))
 
 -- a command that is no ask sets no assumptions
 due_none : (unsat : Bool) (c : Command) (j : ScriptState) → IsNoAsk c → due_times (due_for unsat c j) ≡ 0
-due_none true (Clause ls) j h = after_none (bringing (names_of ls) j) [] (bringing_times (names_of ls) j)
-due_none false (Clause ls) j h = after_none (bringing (names_of ls) j) (Adds ls ∷ []) (bringing_times (names_of ls) j)
+due_none true (Clause ls) j h = after_none (introducing (names_of ls) j) [] (bringing_times (names_of ls) j)
+due_none false (Clause ls) j h = after_none (introducing (names_of ls) j) (Adds ls ∷ []) (bringing_times (names_of ls) j)
 due_none unsat (Ask ls) j h = absurd h
 due_none unsat (Hide names) j h = hiding_times names j
 due_none unsat (Witness names) j h = setting_times Witnessed names j
@@ -293,13 +293,13 @@ record MadeAsk (from to : List Step) (o : Outcome) (rounds : ℕ) : Type 0 where
   opened_at : assumed_times before ≡ assumed_times from
   closed_at : assumed_times to ≡ assumed_times (middle ++ (Assumptions ask ∷ before)) + 1
   learned : ℕ
-  times : made.AdvanceTimes (Assumptions ask ∷ before) middle learned
+  times : made.CountsEmpowering (Assumptions ask ∷ before) middle learned
   counts : LearnsEachRound (checker_rules.unsat (Assumptions ask ∷ before)) o rounds learned
   unordered : o ≡ Unknown → AreUnordered middle
 
 module _ (j : ScriptState) (ls : List Literal) (o : Outcome) (n : ℕ) (from to : List Step) (a : AskStretches j ls o n from to) where
-  first : LastDue checker_rules from a.opened (bringing (names_of ls) j) (Opens ls o)
-  first = last_due a.opens.due (bringing (names_of ls) j) (Opens ls o) refl
+  first : LastDue checker_rules from a.opened (introducing (names_of ls) j) (Opens ls o)
+  first = last_due a.opens.due (introducing (names_of ls) j) (Opens ls o) refl
 
   last : LastDue checker_rules a.shown to [] Closes
   last = last_due a.closes.due [] Closes refl
@@ -314,7 +314,7 @@ module _ (j : ScriptState) (ls : List Literal) (o : Outcome) (n : ℕ) (from to 
   opened_is = first.whole ∙ ap (λ (s : Step). first.following ++ (s ∷ (first.front ++ from))) (opening first.fits).1
 
   first_aside : AreAside first.following
-  first_aside = after_aside (names_of ls) from a.opened (bringing (names_of ls) j ++ (Opens ls o ∷ [])) a.opens (bringing (names_of ls) j) (Opens ls o) first
+  first_aside = after_aside (names_of ls) from a.opened (introducing (names_of ls) j ++ (Opens ls o ∷ [])) a.opens (introducing (names_of ls) j) (Opens ls o) first
 
   last_following : AreAside last.following
   last_following = after_aside [] a.shown to (Closes ∷ []) a.closes [] Closes last
@@ -335,7 +335,7 @@ module _ (j : ScriptState) (ls : List Literal) (o : Outcome) (n : ℕ) (from to 
 
   opened_times : assumed_times (first.front ++ from) ≡ assumed_times from
   opened_times =
-      let h : assumed_times a.opened ≡ assumed_times from + 1 = makes_times a.opens.due ∙ ap (λ (k : ℕ). assumed_times from + k) (after_none (bringing (names_of ls) j) (Opens ls o ∷ []) (bringing_times (names_of ls) j)) in
+      let h : assumed_times a.opened ≡ assumed_times from + 1 = makes_times a.opens.due ∙ ap (λ (k : ℕ). assumed_times from + k) (after_none (introducing (names_of ls) j) (Opens ls o ∷ []) (bringing_times (names_of ls) j)) in
       let e = ap assumed_times opened_is in
       let f : assumed_times (first.following ++ start) ≡ assumed_times (first.front ++ from) + 1 = asides_times first.following start first_aside in
       omega (arith, h, e, f)
@@ -345,8 +345,8 @@ module _ (j : ScriptState) (ls : List Literal) (o : Outcome) (n : ℕ) (from to 
 
   found_unordered : o ≡ Unknown → AreUnordered found
   found_unordered e =
-      let none : showing_if (checker_rules.unsat a.shown) (accepted (Ask ls) j) ls o ≡ [] =
-      ap (showing_if (checker_rules.unsat a.shown) (accepted (Ask ls) j) ls) e ∙ shows_none (checker_rules.unsat a.shown) (accepted (Ask ls) j) ls in
+      let none : showing_if (checker_rules.unsat a.shown) (state_after_accepted (Ask ls) j) ls o ≡ [] =
+      ap (showing_if (checker_rules.unsat a.shown) (state_after_accepted (Ask ls) j) ls) e ∙ shows_none (checker_rules.unsat a.shown) (state_after_accepted (Ask ls) j) ls in
       let q = quiet_between a.searches.due none in
       subst AreUnordered (append_cancel_right q.0 found a.opened (sym q.1 ∙ a.learns.times.following)) q.2
 
@@ -361,7 +361,7 @@ module _ (j : ScriptState) (ls : List Literal) (o : Outcome) (n : ℕ) (from to 
     closed_at = closed_times;
     learned = a.learns.learned;
     times = asides_still start last.front (found ++ first.following) a.learns.learned last_front
-        (after_asides start first.following found a.learns.learned first_aside (subst (λ (v : List Step). made.AdvanceTimes v found a.learns.learned) opened_is a.learns.times.times));
+        (after_asides start first.following found a.learns.learned first_aside (subst (λ (v : List Step). made.CountsEmpowering v found a.learns.learned) opened_is a.learns.times.times));
     counts = subst (λ (b : Bool). LearnsEachRound b o n a.learns.learned) (ap (λ (v : List Step). checker_rules.unsat v) opened_is ∙ asides_unsat first.following start first_aside) a.learns.counts;
     unordered = λ e. append_unordered last.front (found ++ first.following) (asides_unordered last.front last_front)
         (append_unordered found first.following (found_unordered e) (asides_unordered first.following first_aside));
@@ -369,9 +369,9 @@ module _ (j : ScriptState) (ls : List Literal) (o : Outcome) (n : ℕ) (from to 
 
   ask_closed : assumed_times to ≡ assumed_times from + 2
   ask_closed =
-      let opened : assumed_times a.opened ≡ assumed_times from + 1 = makes_times a.opens.due ∙ ap (λ (k : ℕ). assumed_times from + k) (after_none (bringing (names_of ls) j) (Opens ls o ∷ []) (bringing_times (names_of ls) j)) in
+      let opened : assumed_times a.opened ≡ assumed_times from + 1 = makes_times a.opens.due ∙ ap (λ (k : ℕ). assumed_times from + k) (after_none (introducing (names_of ls) j) (Opens ls o ∷ []) (bringing_times (names_of ls) j)) in
       let shown = makes_times a.searches.due in
-      let none = shown_none (checker_rules.unsat a.shown) (accepted (Ask ls) j) ls o in
+      let none = shown_none (checker_rules.unsat a.shown) (state_after_accepted (Ask ls) j) ls o in
       let closed : assumed_times to ≡ assumed_times a.shown + 1 = makes_times a.closes.due in
       omega (arith, opened, shown, none, closed)
 
@@ -436,7 +436,7 @@ module _ {c d : Counting} {whole steps : List Step} (p : TruncatesHashes c whole
     only = only_is;
     learned = m.learned;
     times = asides_never (Assumptions m.ask ∷ before_is) closed_head.widths between.middle m.learned closed_head.aside
-        (subst (λ (v : List Step). AdvanceTimesStored v between.middle m.learned) opened_head.whole between.times);
+        (subst (λ (v : List Step). CountsEmpoweringFor v between.middle m.learned) opened_head.whole between.times);
     counts = subst (λ (b : Bool). LearnsEachRound b o n m.learned) (sym (ap (λ (v : List Step). checker_rules.unsat v) (sym opened_head.whole) ∙ cut_unsat between.cuts)) m.counts;
     unordered = λ e. append_unordered closed_head.widths between.middle (asides_unordered closed_head.widths closed_head.aside) (between.unordered (m.unordered e));
   }

@@ -3,9 +3,9 @@ use Rattle.std.proofs.Common.{ℕ, ◌≡◌, ◌∙◌, Bool, true, false, None
 use Rattle.std.proofs.lemmas.Bool.{both_ways}
 use Rattle.std.specs.List.{AllByRecursion}
 use Rattle.sat_base.specs.script.Script.{Literal, Command, Clause, Ask, Hide, Witness, Sample, names_of}
-use Rattle.sat_base.specs.script.ScriptState.{ScriptState, Sampled, Witnessed, accepted}
+use Rattle.sat_base.specs.script.ScriptState.{ScriptState, Sampled, Witnessed, state_after_accepted}
 use Rattle.sat_base.specs.steps.Steps.{Step}
-use Rattle.sat_checker.specs.matching.Expected.{Outcome, Sat, Unsat, Unknown, Expected, Adds, Opens, Fails, Closes, Finish, bringing, hiding, setting, showing, expected}
+use Rattle.sat_checker.specs.matching.Expected.{Outcome, Sat, Unsat, Unknown, Expected, Adds, Opens, Fails, Closes, Finish, introducing, hiding, setting, showing, expected}
 use Rattle.sat_checker.specs.matching.ProofChecking.{checker_rules}
 use Rattle.sat_solver.specs.session.Session.{AreAllowedSteps}
 use Rattle.certify.specs.run.Certifies.{Certifies}
@@ -43,28 +43,28 @@ made_after (made_ask {from = from} {to = to} mid a m) =
 
 expects_more : (j : ScriptState) (cs : List Command) (os : List Outcome) → (e : Expected) × (es : List Expected) × (expected j cs os ≡ e ∷ es)
 expects_more j [] os = (Finish, [], refl)
-expects_more j (Clause ls ∷ cs) os = some (bringing (names_of ls) j) (Adds ls) (expected (accepted (Clause ls) j) cs os)
+expects_more j (Clause ls ∷ cs) os = some (introducing (names_of ls) j) (Adds ls) (expected (state_after_accepted (Clause ls) j) cs os)
   where
     some : (xs : List Expected) (e : Expected) (es : List Expected) → (f : Expected) × (fs : List Expected) × (xs ++ (e ∷ es) ≡ f ∷ fs)
     some [] e es = (e, es, refl)
     some (x ∷ xs) e es = (x, xs ++ (e ∷ es), refl)
 expects_more j (Ask ls ∷ cs) [] = (Finish, [], refl)
-expects_more j (Ask ls ∷ cs) (o ∷ os) = some (bringing (names_of ls) j) (Opens ls o) (showing (accepted (Ask ls) j) ls o ++ (Closes ∷ expected (accepted (Ask ls) j) cs os))
+expects_more j (Ask ls ∷ cs) (o ∷ os) = some (introducing (names_of ls) j) (Opens ls o) (showing (state_after_accepted (Ask ls) j) ls o ++ (Closes ∷ expected (state_after_accepted (Ask ls) j) cs os))
   where
     some : (xs : List Expected) (e : Expected) (es : List Expected) → (f : Expected) × (fs : List Expected) × (xs ++ (e ∷ es) ≡ f ∷ fs)
     some [] e es = (e, es, refl)
     some (x ∷ xs) e es = (x, xs ++ (e ∷ es), refl)
-expects_more j (Hide names ∷ cs) os = either (hiding names j) (expects_more (accepted (Hide names) j) cs os)
+expects_more j (Hide names ∷ cs) os = either (hiding names j) (expects_more (state_after_accepted (Hide names) j) cs os)
   where
     either : (xs : List Expected) {es : List Expected} → (e : Expected) × (fs : List Expected) × (es ≡ e ∷ fs) → (f : Expected) × (fs : List Expected) × (xs ++ es ≡ f ∷ fs)
     either [] h = h
     either (x ∷ xs) {es} h = (x, xs ++ es, refl)
-expects_more j (Witness names ∷ cs) os = either (setting Witnessed names j) (expects_more (accepted (Witness names) j) cs os)
+expects_more j (Witness names ∷ cs) os = either (setting Witnessed names j) (expects_more (state_after_accepted (Witness names) j) cs os)
   where
     either : (xs : List Expected) {es : List Expected} → (e : Expected) × (fs : List Expected) × (es ≡ e ∷ fs) → (f : Expected) × (fs : List Expected) × (xs ++ es ≡ f ∷ fs)
     either [] h = h
     either (x ∷ xs) {es} h = (x, xs ++ es, refl)
-expects_more j (Sample names ∷ cs) os = either (setting Sampled names j) (expects_more (accepted (Sample names) j) cs os)
+expects_more j (Sample names ∷ cs) os = either (setting Sampled names j) (expects_more (state_after_accepted (Sample names) j) cs os)
   where
     either : (xs : List Expected) {es : List Expected} → (e : Expected) × (fs : List Expected) × (es ≡ e ∷ fs) → (f : Expected) × (fs : List Expected) × (xs ++ es ≡ f ∷ fs)
     either [] h = h
@@ -72,8 +72,8 @@ expects_more j (Sample names ∷ cs) os = either (setting Sampled names j) (expe
 
 -- A COMMAND THAT IS NO ASK
 
-expects_next : (j : ScriptState) (c : Command) (cs : List Command) (os : List Outcome) → IsNoAsk c → expected j (c ∷ cs) os ≡ due_for false c j ++ expected (accepted c j) cs os
-expects_next j (Clause ls) cs os h = sym (append_assoc (bringing (names_of ls) j) (Adds ls ∷ []) (expected (accepted (Clause ls) j) cs os))
+expects_next : (j : ScriptState) (c : Command) (cs : List Command) (os : List Outcome) → IsNoAsk c → expected j (c ∷ cs) os ≡ due_for false c j ++ expected (state_after_accepted c j) cs os
+expects_next j (Clause ls) cs os h = sym (append_assoc (introducing (names_of ls) j) (Adds ls ∷ []) (expected (state_after_accepted (Clause ls) j) cs os))
 expects_next j (Ask ls) cs os h = absurd h
 expects_next j e cs os h = refl
 
@@ -91,8 +91,8 @@ plain_leads from mid j c m may = at (checker_rules.unsat from) refl
   where
     left_out : (c : Command) → checker_rules.unsat from ≡ true → HasTrace checker_rules from mid (due_for true c j) → Leads from mid (due_for false c j)
     left_out (Clause ls) u m =
-        let names : HasTrace checker_rules from mid (bringing (names_of ls) j) = subst (λ es. HasTrace checker_rules from mid es) (append-nil (bringing (names_of ls) j)) m in
-        leads_both (bringing (names_of ls) j) (Adds ls ∷ []) (leads_free names (bringing_free (names_of ls) j)) (leads_lacking mid (Adds ls) tt (recorded_at mid may (unsat_made m u)))
+        let names : HasTrace checker_rules from mid (introducing (names_of ls) j) = subst (λ es. HasTrace checker_rules from mid es) (append-nil (introducing (names_of ls) j)) m in
+        leads_both (introducing (names_of ls) j) (Adds ls ∷ []) (leads_free names (bringing_free (names_of ls) j)) (leads_lacking mid (Adds ls) tt (recorded_at mid may (unsat_made m u)))
     left_out (Ask ls) u m = leads_free m (due_free true (Ask ls) j)
     left_out (Hide names) u m = leads_free m (due_free true (Hide names) j)
     left_out (Witness names) u m = leads_free m (due_free true (Witness names) j)
@@ -138,16 +138,16 @@ module _ {from to : List Step} {j : ScriptState} {ls : List Literal} {o : Outcom
   opening all counts s m [] e fs x = opens_ask rounds m a.known all e fs counts x
   opening all counts s m (y ∷ es) e fs x = opens_ask rounds m a.known all y (es ++ (e ∷ fs)) counts x
 
-  ask_leads : (all : List Step) (cs : List Command) (os : List Outcome) (counts : List ℕ) → Certifies checker_rules all None to (expected (accepted (Ask ls) j) cs os) counts
+  ask_leads : (all : List Step) (cs : List Command) (os : List Outcome) (counts : List ℕ) → Certifies checker_rules all None to (expected (state_after_accepted (Ask ls) j) cs os) counts
       → Certifies checker_rules all None from (expected j (Ask ls ∷ cs) (o ∷ os)) (rounds ∷ counts)
   ask_leads all cs os counts c =
-      let next = accepted (Ask ls) j in
+      let next = state_after_accepted (Ask ls) j in
       let m = expects_more next cs os in
-      let split = trace_apart (bringing (names_of ls) j) (Opens ls o ∷ []) a.opens.due in
+      let split = trace_apart (introducing (names_of ls) j) (Opens ls o ∷ []) a.opens.due in
       let closed : Certifies checker_rules all (Some o) a.shown (Closes ∷ m.0 ∷ m.1) counts = closes_ask a.closes.due knows all m.0 m.1 counts (subst (λ fs. Certifies checker_rules all None to fs counts) m.2 c) in
       let shown : Certifies checker_rules all (Some o) a.opened (showing next ls o ++ (Closes ∷ m.0 ∷ m.1)) counts = shown_leads next ls o a.searches.due a.recorded may_shown all (Some o) Closes (m.0 ∷ m.1) counts closed in
       let opened : Certifies checker_rules all None split.0 (Opens ls o ∷ (showing next ls o ++ (Closes ∷ m.0 ∷ m.1))) (rounds ∷ counts) = opening all counts split.0 split.2 (showing next ls o) Closes (m.0 ∷ m.1) shown in
-      subst (λ fs. Certifies checker_rules all None from (bringing (names_of ls) j ++ (Opens ls o ∷ (showing next ls o ++ (Closes ∷ fs)))) (rounds ∷ counts)) (sym m.2)
+      subst (λ fs. Certifies checker_rules all None from (introducing (names_of ls) j ++ (Opens ls o ∷ (showing next ls o ++ (Closes ∷ fs)))) (rounds ∷ counts)) (sym m.2)
       (leads_free split.1 (bringing_free (names_of ls) j) all None (Opens ls o) (showing next ls o ++ (Closes ∷ m.0 ∷ m.1)) (rounds ∷ counts) opened)
 
 -- ALL COMMANDS
@@ -158,7 +158,7 @@ made_certifies all made_none may last = last
 made_certifies {j} {from} {to} all (made_one {c = c} {cs = cs} {os = os} {counts = counts} mid h s m) may last =
     let r = made_after m in
     subst (λ es. Certifies checker_rules all None from es counts) (sym (expects_next j c cs os h))
-    (leads_expected (due_for false c j) (plain_leads from mid j c s.due (may_at mid to r.0 r.1 may)) all (accepted c j) cs os counts (made_certifies all m may last))
+    (leads_expected (due_for false c j) (plain_leads from mid j c s.due (may_at mid to r.0 r.1 may)) all (state_after_accepted c j) cs os counts (made_certifies all m may last))
 made_certifies {to = to} all (made_ask {cs = cs} {os = os} {counts = counts} mid a m) may last =
     let r = made_after m in
     ask_leads a (may_at mid to r.0 r.1 may) all cs os counts (made_certifies all m may last)

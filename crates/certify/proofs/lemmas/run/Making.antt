@@ -3,14 +3,14 @@ use Rattle.std.proofs.Common.{ℕ, ◌≡◌, ◌∙◌, Bool, true, false, Opti
 use Rattle.std.proofs.lemmas.Bool.{both_ways}
 use Rattle.std.specs.List.{AllByRecursion}
 use Rattle.sat_base.specs.script.Script.{Literal, Command, Clause, Ask, Hide, Witness, Sample, names_of}
-use Rattle.sat_base.specs.script.ScriptState.{ScriptState, NameMode, Sampled, Witnessed, bring_in, new_names, with_mode, without_name}
+use Rattle.sat_base.specs.script.ScriptState.{ScriptState, NameMode, Sampled, Witnessed, introduce, new_names, with_mode, without_name}
 use Rattle.sat_base.specs.steps.Steps.{Step}
 use Rattle.sat_checker.specs.Accepts.{effect, ready_after}
 use Rattle.sat_checker.proofs.lemmas.invariants.Stored.{unsat_stays}
 use Rattle.sat_checker.specs.matching.Checking.{is_ordered}
-use Rattle.sat_checker.specs.matching.Expected.{Outcome, Unsat, Expected, NewName, NoName, Adds, Opens, Closes, bringing, hiding, setting}
+use Rattle.sat_checker.specs.matching.Expected.{Outcome, Unsat, Expected, NewName, NoName, Adds, Opens, Closes, introducing, hiding, setting}
 use Rattle.sat_checker.specs.matching.ProofChecking.{checker_rules}
-use Rattle.certify.specs.run.Certifies.{Certifies, IsKnown, IsRecorded, MayOccur, MayLack, left_out, other, ordered, asked, answered}
+use Rattle.certify.specs.run.Certifies.{Certifies, IsKnown, IsRecorded, MayOccur, MayBeLeftOut, left_out, other, ordered, asked, answered}
 use Rattle.sat_checker.specs.matching.Traces.{HasTrace, no_step, silent, visible}
 use Rattle.certify.specs.run.Stretches.{due_for}
 use Rattle.certify.proofs.lemmas.confirm.Settled.{settled_unsat}
@@ -47,7 +47,7 @@ leads_both {s} {t} {u} es gs f g = λ all current e fs counts c.
         at (x ∷ xs) c = f all current x (xs ++ (e ∷ fs)) counts c
 
 -- an expected step that may be left out
-pub leads_lacking : (s : List Step) (e : Expected) → MayLack e → IsRecorded checker_rules s → Leads s s (e ∷ [])
+pub leads_lacking : (s : List Step) (e : Expected) → MayBeLeftOut e → IsRecorded checker_rules s → Leads s s (e ∷ [])
 leads_lacking s x h r = λ all current e fs counts c. left_out h r c
 
 -- once recorded, unsat stays recorded
@@ -100,26 +100,26 @@ names_free : (names : List ℕ) → AllByRecursion IsFree (map NewName names)
 names_free [] = tt
 names_free (n ∷ ns) = ((λ b. tt), names_free ns)
 
-pub bringing_free : (names : List ℕ) (j : ScriptState) → AllByRecursion IsFree (bringing names j)
+pub bringing_free : (names : List ℕ) (j : ScriptState) → AllByRecursion IsFree (introducing names j)
 bringing_free [] j = tt
-bringing_free (name ∷ names) j = free_both (map NewName (new_names name j)) (bringing names (bring_in name j)) (names_free (new_names name j)) (bringing_free names (bring_in name j))
+bringing_free (name ∷ names) j = free_both (map NewName (new_names name j)) (introducing names (introduce name j)) (names_free (new_names name j)) (bringing_free names (introduce name j))
 
 hiding_free : (names : List ℕ) (j : ScriptState) → AllByRecursion IsFree (hiding names j)
 hiding_free [] j = tt
 hiding_free (name ∷ names) j =
-    let next = without_name name (bring_in name j) in
+    let next = without_name name (introduce name j) in
     free_both (map NewName (new_names name j)) (NoName name ∷ hiding names next) (names_free (new_names name j)) ((λ b. tt), hiding_free names next)
 
 setting_free : (mode : NameMode) (names : List ℕ) (j : ScriptState) → AllByRecursion IsFree (setting mode names j)
 setting_free mode [] j = tt
 setting_free mode (name ∷ names) j =
-    let next = with_mode mode name (bring_in name j) in
+    let next = with_mode mode name (introduce name j) in
     free_both (map NewName (new_names name j)) (setting mode names next) (names_free (new_names name j)) (setting_free mode names next)
 
 -- the steps due for any command may be written whether or not unsat is recorded
 pub due_free : (unsat : Bool) (c : Command) (j : ScriptState) → AllByRecursion IsFree (due_for unsat c j)
-due_free true (Clause ls) j = free_both (bringing (names_of ls) j) [] (bringing_free (names_of ls) j) tt
-due_free false (Clause ls) j = free_both (bringing (names_of ls) j) (Adds ls ∷ []) (bringing_free (names_of ls) j) ((λ b. tt), tt)
+due_free true (Clause ls) j = free_both (introducing (names_of ls) j) [] (bringing_free (names_of ls) j) tt
+due_free false (Clause ls) j = free_both (introducing (names_of ls) j) (Adds ls ∷ []) (bringing_free (names_of ls) j) ((λ b. tt), tt)
 due_free unsat (Ask ls) j = tt
 due_free unsat (Hide names) j = hiding_free names j
 due_free unsat (Witness names) j = setting_free Witnessed names j

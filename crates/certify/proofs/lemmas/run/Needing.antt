@@ -6,19 +6,19 @@ use Rattle.std.proofs.lemmas.Bool.{eq-eqb, ne_eqb, cases_eq, cases_lt, ltb-true,
 use Rattle.sat_base.specs.device.Device.{Writer}
 use Rattle.sat_base.specs.values.Literals.{var_limit, variable}
 use Rattle.sat_base.specs.script.Script.{Command, Clause, Ask, Hide, Witness, Sample, names_of}
-use Rattle.sat_base.specs.script.ScriptState.{ScriptState, NameMode, Sampled, Witnessed, accepted, after_command, after_script, bring_all, bring_in, hide_all, identity_of, names_from, new_names, refusal_of, set_all, with_mode, with_name, with_names, without_name}
+use Rattle.sat_base.specs.script.ScriptState.{ScriptState, NameMode, Sampled, Witnessed, state_after_accepted, after_command, after_script, introduce_all, introduce, hide_all, identity_of, names_from, new_names, refusal_of, set_all, with_mode, with_name, with_names, without_name}
 use Rattle.sat_base.proofs.lemmas.script.LiteralValues.{placed_found}
 use Rattle.sat_base.specs.steps.Steps.{Step}
 use Rattle.sat_checker.specs.LiteralSets.{is_among}
 use Rattle.sat_checker.specs.SortedSets.{NoRepeats}
-use Rattle.sat_checker.specs.matching.Bridge.{AreDistinctVariables, Live}
+use Rattle.sat_checker.specs.matching.Bridge.{AreDistinctVariables, LiveVariables}
 use Rattle.sat_checker.specs.matching.ProofChecking.{checker_rules}
 use Rattle.sat_solver.specs.declared.variables.Variables.{Variables}
 use Rattle.sat_solver.specs.variables.Calls.{NamesAgree}
 use Rattle.sat_solver.specs.variables.Counting.{count_to}
 use Rattle.sat_solver.specs.variables.Live.{given, given_of}
 use Rattle.sat_solver.specs.variables.Refusing.{names_in}
-use Rattle.sat_solver.specs.variables.VariableRoom.{HasVariablesFor, coming, is_hidden_name, is_listed, live_count, reach, user_vars_in}
+use Rattle.sat_solver.specs.variables.VariableRoom.{HasVariablesFor, introduced_count, is_hidden_name, is_listed, live_count, reach, user_vars_in}
 use Rattle.sat_solver.specs.variables.Variables.{global_of, names_used, variables_used}
 use Rattle.sat_solver.specs.solver.Adding.{ReplacesAssumptions}
 use Rattle.sat_solver.specs.solver.Whole.{steps_in}
@@ -77,11 +77,11 @@ count_none n j = count_same n (is_asked j []) (λ k. false) (λ k lt. never (not
 
 -- that introducing these names creates an identity for each new name
 abbrev Brings : List ℕ → Type 0
-Brings us = (used : ℕ) (j : ScriptState) → j.first_unused ≡ used + 1 → j.identity_count + (reach used us - used) + count_to used (is_asked j us) ≤ (bring_all (map (λ u. u + 1) us) j).identity_count
+Brings us = (used : ℕ) (j : ScriptState) → j.first_unused ≡ used + 1 → j.identity_count + (reach used us - used) + count_to used (is_asked j us) ≤ (introduce_all (map (λ u. u + 1) us) j).identity_count
 
 module _ (u : ℕ) (us : List ℕ) (later : Brings us) (used : ℕ) (j : ScriptState) (e : j.first_unused ≡ used + 1) where
   abbrev Goal : ScriptState → Type 0
-  Goal i = j.identity_count + (reach used (u ∷ us) - used) + count_to used (is_asked j (u ∷ us)) ≤ (bring_all (map (λ w. w + 1) us) i).identity_count
+  Goal i = j.identity_count + (reach used (u ∷ us) - used) + count_to used (is_asked j (u ∷ us)) ≤ (introduce_all (map (λ w. w + 1) us) i).identity_count
 
   one_kept : (i : ℕ) → u < used → identity_of j (u + 1) ≡ Some i → Goal j
   one_kept i lt f =
@@ -149,19 +149,19 @@ grows : (names : List ℕ) (j : ScriptState) → j.identity_count ≤ (with_name
 grows [] j = omega arith
 grows (n ∷ ns) j = let r = grows ns (with_name n j) in omega arith
 
-all_grow : (names : List ℕ) (j : ScriptState) → j.identity_count ≤ (bring_all names j).identity_count
+all_grow : (names : List ℕ) (j : ScriptState) → j.identity_count ≤ (introduce_all names j).identity_count
 all_grow [] j = omega arith
-all_grow (n ∷ ns) j = let r = all_grow ns (bring_in n j) in let q = grows (new_names n j) j in omega arith
+all_grow (n ∷ ns) j = let r = all_grow ns (introduce n j) in let q = grows (new_names n j) j in omega arith
 
 hidden_grow : (names : List ℕ) (j : ScriptState) → j.identity_count ≤ (hide_all names j).identity_count
 hidden_grow [] j = omega arith
-hidden_grow (n ∷ ns) j = let r = hidden_grow ns (without_name n (bring_in n j)) in let q = grows (new_names n j) j in omega arith
+hidden_grow (n ∷ ns) j = let r = hidden_grow ns (without_name n (introduce n j)) in let q = grows (new_names n j) j in omega arith
 
 set_grow : (mode : NameMode) (names : List ℕ) (j : ScriptState) → j.identity_count ≤ (set_all mode names j).identity_count
 set_grow mode [] j = omega arith
-set_grow mode (n ∷ ns) j = let r = set_grow mode ns (with_mode mode n (bring_in n j)) in let q = grows (new_names n j) j in omega arith
+set_grow mode (n ∷ ns) j = let r = set_grow mode ns (with_mode mode n (introduce n j)) in let q = grows (new_names n j) j in omega arith
 
-pub command_grows : (c : Command) (j : ScriptState) → j.identity_count ≤ (accepted c j).identity_count
+pub command_grows : (c : Command) (j : ScriptState) → j.identity_count ≤ (state_after_accepted c j).identity_count
 command_grows (Clause ls) j = all_grow (names_of ls) j
 command_grows (Ask ls) j = all_grow (names_of ls) j
 command_grows (Hide names) j = hidden_grow names j
@@ -171,7 +171,7 @@ command_grows (Sample names) j = set_grow Sampled names j
 after_grows : (c : Command) (j : ScriptState) → j.identity_count ≤ (after_command c j).identity_count
 after_grows c j = go (is_some (refusal_of j c))
   where
-    go : (b : Bool) → j.identity_count ≤ (cond b j (accepted c j)).identity_count
+    go : (b : Bool) → j.identity_count ≤ (cond b j (state_after_accepted c j)).identity_count
     go true = omega arith
     go false = command_grows c j
 
@@ -182,7 +182,7 @@ script_grows (c ∷ cs) j = let r = script_grows cs (after_command c j) in let q
 -- NAMES THAT A SOLVER INTRODUCES
 
 -- the solver introduces at most as many names as the script state
-introduced : (n : Variables) (steps : List Step) (j : ScriptState) (live : Live) (users : List ℕ) → NamesAgree n steps j live → j.identity_count + coming n users ≤ (bring_all (map (λ u. u + 1) users) j).identity_count
+introduced : (n : Variables) (steps : List Step) (j : ScriptState) (live : LiveVariables) (users : List ℕ) → NamesAgree n steps j live → j.identity_count + introduced_count n users ≤ (introduce_all (map (λ u. u + 1) users) j).identity_count
 introduced n steps j live users agree =
     let used = names_used n in
     let h = brings users used j agree.judged.first_unused in
@@ -199,27 +199,27 @@ introduced n steps j live users agree =
 -- MISSING VARIABLES
 
 -- if variables are missing for names, introducing them leads to more identities than there can be variables
-all_need : (n : Variables) (steps : List Step) (j : ScriptState) (live : Live) (users : List ℕ) → NamesAgree n steps j live → (HasVariablesFor n users → ⊥) → var_limit < (bring_all (map (λ u. u + 1) users) j).identity_count
+all_need : (n : Variables) (steps : List Step) (j : ScriptState) (live : LiveVariables) (users : List ℕ) → NamesAgree n steps j live → (HasVariablesFor n users → ⊥) → var_limit < (introduce_all (map (λ u. u + 1) users) j).identity_count
 all_need n steps j live users agree lacks =
     let h = introduced n steps j live users agree in
     let l = count_le (variables_used n) (is_live n) in
     let i = agree.judged.identities in
     let g = all_grow (map (λ u. u + 1) users) j in
-    elim (cases_lt var_limit (live_count n + coming n users)) [ inl lt ↦ omega arith | inr le ↦ absurd (lacks le) ]
+    elim (cases_lt var_limit (live_count n + introduced_count n users)) [ inl lt ↦ omega arith | inr le ↦ absurd (lacks le) ]
 
 -- the proof variables in use
-abbrev vars : Live → List ℕ
+abbrev vars : LiveVariables → List ℕ
 vars live = map (λ (p : ℕ × ℕ). p.0) live
 
-other_in : (v : ℕ) (live : Live) → AllByRecursion (λ (q : ℕ × ℕ). q.0 ≡ v → ⊥) live → is_among (vars live) v ≡ false
+other_in : (v : ℕ) (live : LiveVariables) → AllByRecursion (λ (q : ℕ × ℕ). q.0 ≡ v → ⊥) live → is_among (vars live) v ≡ false
 other_in v [] h = refl
 other_in v (q ∷ qs) h = ap (λ b. b || is_among (vars qs) v) (ne_eqb q.0 v h.0) ∙ other_in v qs h.1
 
-apart_once : (live : Live) → AreDistinctVariables live → NoRepeats (vars live)
+apart_once : (live : LiveVariables) → AreDistinctVariables live → NoRepeats (vars live)
 apart_once [] h = tt
 apart_once (p ∷ ps) h = (other_in p.0 ps h.0, apart_once ps h.1)
 
-known_vars : (steps : List Step) (live : Live) → AllByRecursion (λ (p : ℕ × ℕ). checker_rules.knows steps p.0 ≡ true) live → AllByRecursion (λ v. checker_rules.knows steps v ≡ true) (vars live)
+known_vars : (steps : List Step) (live : LiveVariables) → AllByRecursion (λ (p : ℕ × ℕ). checker_rules.knows steps p.0 ≡ true) live → AllByRecursion (λ v. checker_rules.knows steps v ≡ true) (vars live)
 known_vars steps [] h = tt
 known_vars steps (p ∷ ps) h = (h.0, known_vars steps ps h.1)
 
@@ -244,15 +244,15 @@ differ_once (suc m) i f g h = elim (cases_eq m i) [
     one true = omega arith
     one false = omega arith
 
-other_given : (p : ℕ × ℕ) (ps : Live) (v : ℕ) → v ≢ p.0 → is_some (given (p ∷ ps) v) ≡ is_some (given ps v)
+other_given : (p : ℕ × ℕ) (ps : LiveVariables) (v : ℕ) → v ≢ p.0 → is_some (given (p ∷ ps) v) ≡ is_some (given ps v)
 other_given p ps v ne = ap (λ b. is_some (cond b (Some p.1) (given ps v))) (ne_eqb p.0 v (λ e. ne (sym e)))
 
-given_few : (m : ℕ) (live : Live) → count_to m (λ v. is_some (given live v)) ≤ length live
+given_few : (m : ℕ) (live : LiveVariables) → count_to m (λ v. is_some (given live v)) ≤ length live
 given_few m [] = let e = no_one m in omega arith
 given_few m (p ∷ ps) = let d = differ_once m p.0 (λ v. is_some (given (p ∷ ps) v)) (λ v. is_some (given ps v)) (other_given p ps) in let r = given_few m ps in omega arith
 
 -- if the solver lacks variables for names, so do its steps
-lacks_variables : (n : Variables) (steps : List Step) (j : ScriptState) (live : Live) (users : List ℕ) → NamesAgree n steps j live → (HasVariablesFor n users → ⊥) → LacksVariables steps (introduced_for (map (λ u. u + 1) users) j)
+lacks_variables : (n : Variables) (steps : List Step) (j : ScriptState) (live : LiveVariables) (users : List ℕ) → NamesAgree n steps j live → (HasVariablesFor n users → ⊥) → LacksVariables steps (introduced_for (map (λ u. u + 1) users) j)
 lacks_variables n steps j live users agree lacks = record {
   in_use = vars live;
   once = apart_once live agree.judged.once;
@@ -262,7 +262,7 @@ lacks_variables n steps j live users agree lacks = record {
       let s = count_same (variables_used n) (is_live n) (λ v. is_some (given live v)) (λ v lt. sym (agree.judged.in_use v)) in
       let f = given_few (variables_used n) live in
       let l : length (vars live) ≡ length live = length-map live (λ (p : ℕ × ℕ). p.0) in
-      elim (cases_lt var_limit (live_count n + coming n users)) [ inl lt ↦ omega arith | inr le ↦ absurd (lacks le) ];
+      elim (cases_lt var_limit (live_count n + introduced_count n users)) [ inl lt ↦ omega arith | inr le ↦ absurd (lacks le) ];
 }
 
 lacks_more : (steps : List Step) (k l : ℕ) → k ≤ l → LacksVariables steps k → LacksVariables steps l
@@ -282,16 +282,16 @@ module _ {C : Type 0} (s t : Solver C) where
   steps_same : t ≡ s → steps_in s ≡ steps_in t
   steps_same e = ap (λ (x : Solver C). steps_in x) (sym e)
 
-  both_need : (users : List ℕ) → RefusedForRoom s t users → (j : ScriptState) (live : Live) → NamesAgree s.names (steps_in s) j live
-      → (var_limit < (bring_all (map (λ u. u + 1) users) j).identity_count) × LacksVariables (steps_in t) (introduced_for (map (λ u. u + 1) users) j)
+  both_need : (users : List ℕ) → RefusedForRoom s t users → (j : ScriptState) (live : LiveVariables) → NamesAgree s.names (steps_in s) j live
+      → (var_limit < (introduce_all (map (λ u. u + 1) users) j).identity_count) × LacksVariables (steps_in t) (introduced_for (map (λ u. u + 1) users) j)
   both_need users h j live agree = (
     all_need s.names (steps_in s) j live users agree h.0,
     subst (λ steps. LacksVariables steps (introduced_for (map (λ u. u + 1) users) j)) (steps_same h.1) (lacks_variables s.names (steps_in s) j live users agree h.0),
   )
 
-  literals_need : (ls : List ℕ) → RefusedForRoom s t (user_vars_in ls) → (j : ScriptState) (live : Live) → NamesAgree s.names (steps_in s) j live
-      → (var_limit < (bring_all (names_of (named_literals ls)) j).identity_count) × LacksVariables (steps_in t) (introduced_for (names_of (named_literals ls)) j)
-  literals_need ls h j live agree = subst (λ names. (var_limit < (bring_all names j).identity_count) × LacksVariables (steps_in t) (introduced_for names j)) (names_of_users ls) (both_need (user_vars_in ls) h j live agree)
+  literals_need : (ls : List ℕ) → RefusedForRoom s t (user_vars_in ls) → (j : ScriptState) (live : LiveVariables) → NamesAgree s.names (steps_in s) j live
+      → (var_limit < (introduce_all (names_of (named_literals ls)) j).identity_count) × LacksVariables (steps_in t) (introduced_for (names_of (named_literals ls)) j)
+  literals_need ls h j live agree = subst (λ names. (var_limit < (introduce_all names j).identity_count) × LacksVariables (steps_in t) (introduced_for names j)) (names_of_users ls) (both_need (user_vars_in ls) h j live agree)
 
   pub clause_needs : (ls : List ℕ) → RefusedForRoom s t (user_vars_in ls) → LacksFor s t (Clause (named_literals ls))
   clause_needs ls h j live agree = literals_need ls h j live agree
@@ -300,13 +300,13 @@ module _ {C : Type 0} (s t : Solver C) where
   ask_needs ls h j live agree = literals_need ls h j live agree
 
 -- a command about one name creates the identities that introducing the name creates
-one_needs : (st : NameState) (name : ℕ) (j : ScriptState) → var_limit < (bring_all (name ∷ []) j).identity_count → var_limit < (accepted (command_to st (name ∷ [])) j).identity_count
+one_needs : (st : NameState) (name : ℕ) (j : ScriptState) → var_limit < (introduce_all (name ∷ []) j).identity_count → var_limit < (state_after_accepted (command_to st (name ∷ [])) j).identity_count
 one_needs state.Hidden name j h = h
 one_needs state.Sampled name j h = h
 one_needs state.Witnessed name j h = h
 
 next_lacks : (st : NameState) (names : List ℕ) (j : ScriptState) (steps : List Step) (first : List ℕ) (name : ℕ) (following : List ℕ) → names ≡ first ++ (name ∷ following)
-    → LacksVariables steps (introduced_for (name ∷ []) (accepted (command_to st first) j)) → CommandLacks j (command_to st names) steps
+    → LacksVariables steps (introduced_for (name ∷ []) (state_after_accepted (command_to st first) j)) → CommandLacks j (command_to st names) steps
 next_lacks state.Hidden names j steps first name following e h = record { first = first; name = name; following = following; whole = e; lacks = h }
 next_lacks state.Sampled names j steps first name following e h = record { first = first; name = name; following = following; whole = e; lacks = h }
 next_lacks state.Witnessed names j steps first name following e h = record { first = first; name = name; following = following; whole = e; lacks = h }
@@ -316,10 +316,10 @@ pub names_need_more : {C : Type 0} (seen : C → Writer) (st : NameState) (xs zs
     → LacksFor a c (command_to st (xs ++ ((user + 1) ∷ zs)))
 names_need_more seen st xs zs user a b c done refused j live agree =
     let k = done.keeps j live agree in
-    let mid = accepted (command_to st xs) j in
+    let mid = state_after_accepted (command_to st xs) j in
     let both = both_need b c (user ∷ []) refused mid k.0 k.1 in
     let h = one_needs st (user + 1) mid both.0 in
-    let g = command_grows (command_to st zs) (accepted (command_to st ((user + 1) ∷ [])) mid) in (
+    let g = command_grows (command_to st zs) (state_after_accepted (command_to st ((user + 1) ∷ [])) mid) in (
       subst (λ i. var_limit < i.identity_count) (sym (accepted_both st xs ((user + 1) ∷ zs) j ∙ accepted_both st ((user + 1) ∷ []) zs mid)) (omega arith),
       next_lacks st (xs ++ ((user + 1) ∷ zs)) j (steps_in c) xs (user + 1) zs refl both.1,
     )
@@ -329,6 +329,6 @@ pub none_needs : {C : Type 0} (seen : C → Writer) (a b c d : Solver C) (user :
     → LacksFor a d (Ask (named_literals user))
 none_needs seen a b c d user budget report opened s refused j live agree =
     let n = agree_still seen a b c user budget report opened s j live agree in
-    let both = both_need c d [] refused (bring_all (names_in user) j) n.0 n.1 in
-    subst (λ names. (var_limit < (bring_all names j).identity_count) × LacksVariables (steps_in d) (introduced_for names j)) (sym (names_same user))
-    (both.0, lacks_more (steps_in d) (introduced_for [] (bring_all (names_in user) j)) (introduced_for (names_in user) j) (omega arith) both.1)
+    let both = both_need c d [] refused (introduce_all (names_in user) j) n.0 n.1 in
+    subst (λ names. (var_limit < (introduce_all names j).identity_count) × LacksVariables (steps_in d) (introduced_for names j)) (sym (names_same user))
+    (both.0, lacks_more (steps_in d) (introduced_for [] (introduce_all (names_in user) j)) (introduced_for (names_in user) j) (omega arith) both.1)

@@ -3,7 +3,7 @@ use Rattle.std.proofs.Common.{ℕ, ◌+◌, ◌≡◌, ◌∙◌, Some, None, []
 use Rattle.std.proofs.lemmas.List.{append-nil}
 use Rattle.sat_base.specs.device.Device.{Writer}
 use Rattle.sat_base.specs.script.Script.{Command}
-use Rattle.sat_base.specs.script.ScriptState.{ScriptState, Refusal, accepted, after_command, refusal_of, start}
+use Rattle.sat_base.specs.script.ScriptState.{ScriptState, Refusal, state_after_accepted, after_command, refusal_of, initial_state}
 use Rattle.sat_solver.specs.variables.Calls.{NamesAgree}
 use Rattle.sat_solver.specs.session.Making.{ComesBySteps}
 use Rattle.sat_solver.specs.solver.Whole.{steps_in}
@@ -24,10 +24,10 @@ abbrev pub counted : {C : Type 0} → RunState C → RunState C
 counted s = record s { commands = s.commands + 1 }
 
 -- before the first command
-pub starts_at : {C : Type 0} (s : RunState C) → NamesAgree s.solver.names [] start [] → steps_in s.solver ≡ [] → NamesHaveState s.names start → HasStateBetweenCommands s start
-starts_at s agree none names = record { live = []; means = record { agree = subst (λ steps. NamesAgree s.solver.names steps start []) (sym none) agree; kept = start_kept }; names = names }
+pub starts_at : {C : Type 0} (s : RunState C) → NamesAgree s.solver.names [] initial_state [] → steps_in s.solver ≡ [] → NamesHaveState s.names initial_state → HasStateBetweenCommands s initial_state
+starts_at s agree none names = record { live = []; means = record { agree = subst (λ steps. NamesAgree s.solver.names steps initial_state []) (sym none) agree; kept = start_kept }; names = names }
 
-pub after_accepted : (j : ScriptState) (c : Command) → refusal_of j c ≡ None → after_command c j ≡ accepted c j
+pub after_accepted : (j : ScriptState) (c : Command) → refusal_of j c ≡ None → after_command c j ≡ state_after_accepted c j
 after_accepted j c e = rw e refl
 
 after_refused : (j : ScriptState) (c : Command) (r : Refusal) → refusal_of j c ≡ Some r → after_command c j ≡ j
@@ -35,8 +35,8 @@ after_refused j c r e = rw e refl
 
 module _ {C : Type 0} (seen : C → Writer) (old new : RunState C) (c : Command) (before after : Writer) (on : RunGoesOn old) where
   -- the command was accepted
-  module _ (carried : CarriedOut seen (counted old) new c before after) (allowed : NamesAllow old.names c) (valid : (j : ScriptState) → NamesHaveState old.names j → NamesHaveState new.names (accepted c j)) where
-    taken_at : (j : ScriptState) → HasStateBetweenCommands old j → HasStateBetweenCommands new (accepted c j) × Serves old.budget (place_in old j) (place_in new (accepted c j)) (c ∷ []) carried.text carried.reports 0
+  module _ (carried : CarriedOut seen (counted old) new c before after) (allowed : NamesAllow old.names c) (valid : (j : ScriptState) → NamesHaveState old.names j → NamesHaveState new.names (state_after_accepted c j)) where
+    taken_at : (j : ScriptState) → HasStateBetweenCommands old j → HasStateBetweenCommands new (state_after_accepted c j) × Serves old.budget (place_in old j) (place_in new (state_after_accepted c j)) (c ∷ []) carried.text carried.reports 0
     taken_at j at =
         let s = carried.serves j at.live at.means (allowed j at.names) in
         (record { live = s.0; means = record { agree = s.1; kept = accepted_kept c j (allowed j at.names) at.means.kept }; names = valid j at.names }, s.2)
@@ -47,7 +47,7 @@ module _ {C : Type 0} (seen : C → Writer) (old new : RunState C) (c : Command)
         ready = carried.ready;
         free = carried.free;
         counted = let a = carried.refused in let b = carried.commands in let n = on.counted in omega arith;
-        judge = accepted c on.judge;
+        judge = state_after_accepted c on.judge;
         at = (taken_at on.judge on.at).0;
       };
       took = carried.took;

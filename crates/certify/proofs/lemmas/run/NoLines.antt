@@ -3,14 +3,14 @@ use Rattle.std.proofs.Common.{◌≡◌, ◌∙◌, Bool, false, true, Option, S
 use Rattle.sat_base.specs.device.Device.{Writer}
 use Rattle.sat_base.specs.steps.Steps.{Step}
 use Rattle.sat_solver.specs.declared.proof.hash_bits.Counting.{Counting}
-use Rattle.sat_solver.specs.declared.proof.output.Output.{Output}
+use Rattle.sat_solver.specs.declared.proof.output.ProofOutput.{ProofOutput}
 use Rattle.sat_solver.specs.session.Making.{ComesBySteps}
 use Rattle.sat_solver.specs.proof.ProofView.{Target, Closed, Open, Broken, TargetTakes, is_drat, target_in, target_of}
 use Rattle.certify.specs.run.SolverCalls.{HasNoLines}
 use Rattle.certify.specs.run.Quiet.{Proof}
 
 -- whether lines of DRAT are written does not depend on how the writer is viewed
-alike : {C : Type 0} (a b : C → Writer) (o : Option (Output C)) (broken : Bool) (c : Counting) → is_drat (target_in a o broken c) ≡ is_drat (target_in b o broken c)
+alike : {C : Type 0} (a b : C → Writer) (o : Option (ProofOutput C)) (broken : Bool) (c : Counting) → is_drat (target_in a o broken c) ≡ is_drat (target_in b o broken c)
 alike a b None broken c = refl
 alike a b (Some o) false c = refl
 alike a b (Some o) true c = refl

@@ -4,14 +4,14 @@ use Rattle.std.proofs.lemmas.List.{map-append, take_more}
 use Rattle.sat_base.specs.device.Device.{Writer}
 use Rattle.sat_base.specs.values.Literals.{variable}
 use Rattle.sat_base.specs.script.Script.{Clause, Among}
-use Rattle.sat_base.specs.script.ScriptState.{ScriptState, NameMode, Sampled, Witnessed, accepted, bring_in, hide_all, new_names, set_all, with_mode, without_name}
+use Rattle.sat_base.specs.script.ScriptState.{ScriptState, NameMode, Sampled, Witnessed, state_after_accepted, introduce, hide_all, new_names, set_all, with_mode, without_name}
 use Rattle.sat_base.specs.steps.Steps.{Step}
 use Rattle.sat_checker.specs.matching.Expected.{NewName, NoName, hiding, setting}
 use Rattle.sat_checker.specs.matching.ProofChecking.{checker_rules}
 use Rattle.sat_solver.specs.variables.Calls.{NamesAgree}
 use Rattle.sat_solver.specs.variables.Refusing.{names_in}
 use Rattle.sat_solver.specs.solver.Adding.{Added}
-use Rattle.sat_solver.specs.solver.Naming.{Renamed}
+use Rattle.sat_solver.specs.solver.Naming.{NameCallEffect}
 use Rattle.sat_solver.specs.solver.Whole.{steps_in}
 use Rattle.sat_solver.proofs.lemmas.session.ComingLemmas.{comes_both, comes_map, comes_none}
 use Rattle.certify.specs.answers.AnswerForms.{named_literals}
@@ -21,7 +21,7 @@ use Rattle.sat_solver.specs.solver.View.{proof_in}
 use Rattle.certify.specs.run.SolverCalls.{IsReadySolver}
 use Rattle.certify.specs.run.Obeying.{Obeyed, command_to, due_to, may_to}
 use Rattle.sat_checker.specs.matching.Traces.{HasTrace, no_step}
-use Rattle.certify.specs.run.Stretches.{IsNoAsk, MayFor, due_for}
+use Rattle.certify.specs.run.Stretches.{IsNoAsk, IsCommandStep, due_for}
 use Rattle.certify.proofs.lemmas.run.ClauseServed.{clause_agrees, clause_stretch}
 use Rattle.sat_checker.proofs.lemmas.matching.Traces.{traces_both}
 use Rattle.certify.proofs.lemmas.run.RunStateCalls.{took_both, took_none}
@@ -31,31 +31,31 @@ use Rattle.certify.specs.run.Quiet.{Solver}
 
 hidden_both : (xs ys : List ℕ) (j : ScriptState) → hide_all (xs ++ ys) j ≡ hide_all ys (hide_all xs j)
 hidden_both [] ys j = refl
-hidden_both (x ∷ xs) ys j = hidden_both xs ys (without_name x (bring_in x j))
+hidden_both (x ∷ xs) ys j = hidden_both xs ys (without_name x (introduce x j))
 
 set_both : (mode : NameMode) (xs ys : List ℕ) (j : ScriptState) → set_all mode (xs ++ ys) j ≡ set_all mode ys (set_all mode xs j)
 set_both mode [] ys j = refl
-set_both mode (x ∷ xs) ys j = set_both mode xs ys (with_mode mode x (bring_in x j))
+set_both mode (x ∷ xs) ys j = set_both mode xs ys (with_mode mode x (introduce x j))
 
 hiding_both : (xs ys : List ℕ) (j : ScriptState) → hiding (xs ++ ys) j ≡ hiding xs j ++ hiding ys (hide_all xs j)
 hiding_both [] ys j = refl
 hiding_both (x ∷ xs) ys j =
-    let next = without_name x (bring_in x j) in
+    let next = without_name x (introduce x j) in
     ap (λ es. map NewName (new_names x j) ++ (NoName x ∷ es)) (hiding_both xs ys next) ∙ sym (append_assoc (map NewName (new_names x j)) (NoName x ∷ hiding xs next) (hiding ys (hide_all xs next)))
 
 setting_both : (mode : NameMode) (xs ys : List ℕ) (j : ScriptState) → setting mode (xs ++ ys) j ≡ setting mode xs j ++ setting mode ys (set_all mode xs j)
 setting_both mode [] ys j = refl
 setting_both mode (x ∷ xs) ys j =
-    let next = with_mode mode x (bring_in x j) in
+    let next = with_mode mode x (introduce x j) in
     ap (λ es. map NewName (new_names x j) ++ es) (setting_both mode xs ys next) ∙ sym (append_assoc (map NewName (new_names x j)) (setting mode xs next) (setting mode ys (set_all mode xs next)))
 
-pub accepted_both : (st : NameState) (xs ys : List ℕ) (j : ScriptState) → accepted (command_to st (xs ++ ys)) j ≡ accepted (command_to st ys) (accepted (command_to st xs) j)
+pub accepted_both : (st : NameState) (xs ys : List ℕ) (j : ScriptState) → state_after_accepted (command_to st (xs ++ ys)) j ≡ state_after_accepted (command_to st ys) (state_after_accepted (command_to st xs) j)
 accepted_both state.Hidden xs ys j = hidden_both xs ys j
 accepted_both state.Sampled xs ys j = set_both Sampled xs ys j
 accepted_both state.Witnessed xs ys j = set_both Witnessed xs ys j
 
 -- recorded unsat does not matter for commands about names
-due_both : (st : NameState) (u v : Bool) (xs ys : List ℕ) (j : ScriptState) → due_for u (command_to st (xs ++ ys)) j ≡ due_for u (command_to st xs) j ++ due_for v (command_to st ys) (accepted (command_to st xs) j)
+due_both : (st : NameState) (u v : Bool) (xs ys : List ℕ) (j : ScriptState) → due_for u (command_to st (xs ++ ys)) j ≡ due_for u (command_to st xs) j ++ due_for v (command_to st ys) (state_after_accepted (command_to st xs) j)
 due_both state.Hidden u v xs ys j = hiding_both xs ys j
 due_both state.Sampled u v xs ys j = setting_both Sampled xs ys j
 due_both state.Witnessed u v xs ys j = setting_both Witnessed xs ys j
@@ -74,17 +74,17 @@ back_among : (x : ℕ) (xs ys : List ℕ) → Among x ys → Among x (xs ++ ys)
 back_among x [] ys m = m
 back_among x (y ∷ xs) ys m = inr (back_among x xs ys m)
 
-may_one : (st : NameState) (name : ℕ) (earlier : List Step) (step : Step) → may_to st name earlier step → MayFor (command_to st (name ∷ [])) earlier step
+may_one : (st : NameState) (name : ℕ) (earlier : List Step) (step : Step) → may_to st name earlier step → IsCommandStep (command_to st (name ∷ [])) earlier step
 may_one state.Hidden name earlier step m = m
 may_one state.Sampled name earlier step m = (name, inl refl, m)
 may_one state.Witnessed name earlier step m = (name, inl refl, m)
 
-may_front : (st : NameState) (xs ys : List ℕ) (earlier : List Step) (step : Step) → MayFor (command_to st xs) earlier step → MayFor (command_to st (xs ++ ys)) earlier step
+may_front : (st : NameState) (xs ys : List ℕ) (earlier : List Step) (step : Step) → IsCommandStep (command_to st xs) earlier step → IsCommandStep (command_to st (xs ++ ys)) earlier step
 may_front state.Hidden xs ys earlier step m = m
 may_front state.Sampled xs ys earlier step m = (m.0, front_among m.0 xs ys m.1, m.2)
 may_front state.Witnessed xs ys earlier step m = (m.0, front_among m.0 xs ys m.1, m.2)
 
-may_back : (st : NameState) (xs ys : List ℕ) (earlier : List Step) (step : Step) → MayFor (command_to st ys) earlier step → MayFor (command_to st (xs ++ ys)) earlier step
+may_back : (st : NameState) (xs ys : List ℕ) (earlier : List Step) (step : Step) → IsCommandStep (command_to st ys) earlier step → IsCommandStep (command_to st (xs ++ ys)) earlier step
 may_back state.Hidden xs ys earlier step m = m
 may_back state.Sampled xs ys earlier step m = (m.0, back_among m.0 xs ys m.1, m.2)
 may_back state.Witnessed xs ys earlier step m = (m.0, back_among m.0 xs ys m.1, m.2)
@@ -94,7 +94,7 @@ names_ask_nothing state.Hidden names = tt
 names_ask_nothing state.Sampled names = tt
 names_ask_nothing state.Witnessed names = tt
 
-none_accepted : (st : NameState) (j : ScriptState) → accepted (command_to st []) j ≡ j
+none_accepted : (st : NameState) (j : ScriptState) → state_after_accepted (command_to st []) j ≡ j
 none_accepted state.Hidden j = refl
 none_accepted state.Sampled j = refl
 none_accepted state.Witnessed j = refl
@@ -112,7 +112,7 @@ name_more codes k code v within at e =
 
 module _ {C : Type 0} (seen : C → Writer) where
   -- a name was hidden, or its mode was set
-  pub name_obeyed : (st : NameState) (name : ℕ) (a b : Solver C) → IsReadySolver b → Renamed seen a b (accepted (command_to st (name ∷ []))) (due_to st (name ∷ [])) (may_to st name) → Obeyed seen (command_to st (name ∷ [])) a b
+  pub name_obeyed : (st : NameState) (name : ℕ) (a b : Solver C) → IsReadySolver b → NameCallEffect seen a b (state_after_accepted (command_to st (name ∷ []))) (due_to st (name ∷ [])) (may_to st name) → Obeyed seen (command_to st (name ∷ [])) a b
   name_obeyed st name a b ready r = record {
     ready = ready;
     took = r.did.took;
@@ -126,7 +126,7 @@ module _ {C : Type 0} (seen : C → Writer) where
           k.agree,
           record {
             due = subst (HasTrace checker_rules (steps_in a) (steps_in b)) (due_same st u (name ∷ []) j) k.trace;
-            comes = comes_map (may_to st name) (MayFor c) (may_one st name) (steps_in a) (steps_in b) r.comes;
+            comes = comes_map (may_to st name) (IsCommandStep c) (may_one st name) (steps_in a) (steps_in b) r.comes;
           },
         );
   }
@@ -142,7 +142,7 @@ module _ {C : Type 0} (seen : C → Writer) where
       subst (λ k. NamesAgree a.names (steps_in a) k live) (sym (none_accepted st j)) agree,
       record {
         due = subst (HasTrace checker_rules (steps_in a) (steps_in a)) (sym (none_due st (checker_rules.unsat (steps_in a)) j)) no_step;
-        comes = comes_none (MayFor (command_to st [])) (steps_in a);
+        comes = comes_none (IsCommandStep (command_to st [])) (steps_in a);
       },
     );
   }
@@ -155,14 +155,14 @@ module _ {C : Type 0} (seen : C → Writer) where
     clock = g.clock ∙ f.clock;
     keeps = λ j live agree.
         let x = f.keeps j live agree in
-        let y = g.keeps (accepted (command_to st xs) j) x.0 x.1 in (
+        let y = g.keeps (state_after_accepted (command_to st xs) j) x.0 x.1 in (
           y.0,
           subst (λ k. NamesAgree c.names (steps_in c) k y.0) (sym (accepted_both st xs ys j)) y.1,
           record {
             due = subst (HasTrace checker_rules (steps_in a) (steps_in c)) (sym (due_both st (checker_rules.unsat (steps_in a)) (checker_rules.unsat (steps_in b)) xs ys j)) (traces_both x.2.due y.2.due);
-            comes = comes_both (MayFor (command_to st (xs ++ ys))) (steps_in a) (steps_in b) (steps_in c)
-                (comes_map (MayFor (command_to st xs)) (MayFor (command_to st (xs ++ ys))) (may_front st xs ys) (steps_in a) (steps_in b) x.2.comes)
-                (comes_map (MayFor (command_to st ys)) (MayFor (command_to st (xs ++ ys))) (may_back st xs ys) (steps_in b) (steps_in c) y.2.comes);
+            comes = comes_both (IsCommandStep (command_to st (xs ++ ys))) (steps_in a) (steps_in b) (steps_in c)
+                (comes_map (IsCommandStep (command_to st xs)) (IsCommandStep (command_to st (xs ++ ys))) (may_front st xs ys) (steps_in a) (steps_in b) x.2.comes)
+                (comes_map (IsCommandStep (command_to st ys)) (IsCommandStep (command_to st (xs ++ ys))) (may_back st xs ys) (steps_in b) (steps_in c) y.2.comes);
           },
         );
   }

@@ -22,14 +22,14 @@ use Rattle.sat_solver.proofs.lemmas.session.CutsLemmas.{cuts_are_free}
 use Rattle.sat_solver.proofs.lemmas.session.StepLemmas.{sessions_are_accepted}
 use Rattle.sat_solver.proofs.lemmas.session.PrefixLemmas.{went_added, went_failed, went_more}
 use Rattle.sat_solver.proofs.lemmas.solver.PrefixLemmas.{calls_go_on}
-use Rattle.certify.specs.run.Unfinished.{StepsFront}
+use Rattle.certify.specs.run.Unfinished.{StepsPrefix}
 use Rattle.sat_solver.specs.solver.View.{proof_in}
-use Rattle.certify.specs.run.Ending.{GivesFront}
+use Rattle.certify.specs.run.Ending.{GivesPrefix}
 use Rattle.certify.specs.run.Quiet.{Solver}
 
 -- PREFIXES
 
-front_of : (from given : Writer) (made : List Step) → PrefixText Varisat from given made → StepsFront from given
+front_of : (from given : Writer) (made : List Step) → PrefixText Varisat from given made → StepsPrefix from given
 front_of from given made h = record {
   made = made;
   steps = h.written;
@@ -43,7 +43,7 @@ front_of from given made h = record {
 }
 
 -- the writer received the complete text
-whole_of : (from given : Writer) (now : List Step) → TookAcceptedSteps Varisat from given [] now → StepsFront from given
+whole_of : (from given : Writer) (now : List Step) → TookAcceptedSteps Varisat from given [] now → StepsPrefix from given
 whole_of from given now h = record {
   made = h.since.steps;
   steps = h.since.took.written;
@@ -58,7 +58,7 @@ whole_of from given now h = record {
 
 -- the writer received a prefix of the text of allowed steps
 pub carried_front : (from given : Writer) (steps : List Step) (now : Target) → AreAllowedSteps steps → TargetTakes (Open Varisat uncounted (empty_sink from)) steps now → GivesWriter now (Some given)
-    → (k : StepsFront from given) × (k.made ≡ steps)
+    → (k : StepsPrefix from given) × (k.made ≡ steps)
 carried_front from given steps now may h g =
     let q : Some given ≡ Some h.1.writer = subst (λ (z : Target). GivesWriter z (Some given)) h.2 g in
     let same : h.1.writer ≡ given = cc in
@@ -92,21 +92,21 @@ module _ {C : Type 0} (seen : C → Writer) where
   -- THE RETURNED WRITER
 
   -- the writer is returned without any further call
-  pub returned_prefix : (s : Solver C) (returned : Option C) (given : C) → returned ≡ Some given → ReturnsAcceptedPrefix seen returned s → GivesFront seen s given
+  pub returned_prefix : (s : Solver C) (returned : Option C) (given : C) → returned ≡ Some given → ReturnsAcceptedPrefix seen returned s → GivesPrefix seen s given
   returned_prefix s returned given is h = record {
     front = λ opened from open_then none went.
         ∥∥₁_elim (h opened Varisat from given is open_then (ap has_begun none) went) ∥∥₁_prop (λ k. ∣ front_of from (seen given) k.steps k.front ∣₁);
   }
 
   -- the writer is returned after closing the proof failed
-  pub front_after : (s new : Solver C) (given : C) (e : SolverError) → ClosesProof seen (Err e) s new → GivesFront seen new given → GivesFront seen s given
+  pub front_after : (s new : Solver C) (given : C) (e : SolverError) → ClosesProof seen (Err e) s new → GivesPrefix seen new given → GivesPrefix seen s given
   front_after s new given e h g = record {
     front = λ opened from open_then none went.
         g.front opened from open_then none (went_more seen (proof_in opened) (proof_in s) (proof_in new) went ((calls_go_on seen s new).closing_fails e h));
   }
 
   -- the writer is returned after the proof was closed
-  pub front_closed : (s new : Solver C) (given : C) → ClosesProof seen (Ok (Some given)) s new → GivesFront seen s given
+  pub front_closed : (s new : Solver C) (given : C) → ClosesProof seen (Ok (Some given)) s new → GivesPrefix seen s given
   front_closed s new given h = record {
     front = λ opened from open_then none went.
         let now = target_of seen (proof_in s) in

@@ -5,9 +5,9 @@ use Rattle.sat_base.specs.steps.Steps.{Step}
 use Rattle.sat_checker.specs.matching.ProofChecking.{checker_rules}
 use Rattle.sat_checker.proofs.lemmas.meaning.Answers.{unsat_means_none}
 use Rattle.sat_solver.specs.session.Session.{AreAllowedSteps, session_after}
-use Rattle.sat_solver.specs.declared.state.State.{State}
-use Rattle.sat_solver.specs.declared.state.State.TheVariants as states
-use Rattle.sat_solver.specs.solver.Whole.{SolverInvariant, StateSays, steps_in, session_in}
+use Rattle.sat_solver.specs.declared.state.SatState.{SatState}
+use Rattle.sat_solver.specs.declared.state.SatState.TheVariants as states
+use Rattle.sat_solver.specs.solver.Whole.{SolverInvariant, HoldsInState, steps_in, session_in}
 use Rattle.sat_solver.proofs.lemmas.session.StepLemmas.{sessions_are_accepted}
 use Rattle.certify.specs.run.Certifies.{IsRecorded}
 use Rattle.certify.specs.run.Quiet.{Solver}
@@ -21,9 +21,9 @@ recorded_at steps may u = record { recorded = u; none = λ a h. unsat_means_none
 module _ {C : Type 0} (s : Solver C) (whole : SolverInvariant s) where
   -- unsat is recorded if the solver's state is `Unsat`
   pub known_unsat : s.state ≡ states.Unsat → checker_rules.unsat (steps_in s) ≡ true
-  known_unsat e = unsat_as (steps_in s) whole.valid.may ∙ subst (λ st. StateSays st s.core s.names s.asked s.assumed.items s.reported.failed_core.items) e whole.says
+  known_unsat e = unsat_as (steps_in s) whole.valid.may ∙ subst (λ st. HoldsInState st s.core s.names s.asked s.assumed.items s.reported.failed_core.items) e whole.says
 
-  going_by : (st : State) → (st ≡ states.Unsat → ⊥) → StateSays st s.core s.names s.asked s.assumed.items s.reported.failed_core.items → (session_in s).unsat ≡ false
+  going_by : (st : SatState) → (st ≡ states.Unsat → ⊥) → HoldsInState st s.core s.names s.asked s.assumed.items s.reported.failed_core.items → (session_in s).unsat ≡ false
   going_by states.Unknown n h = h.joined.sound.search.valid.fits.consistent
   going_by states.Sat n h = h.0.joined.sound.search.valid.fits.consistent
   going_by states.UnsatUnderAssumptions n h = h.0.joined.sound.search.valid.fits.consistent
@@ -37,7 +37,7 @@ module _ {C : Type 0} (s : Solver C) (whole : SolverInvariant s) where
   pub unsat_known : checker_rules.unsat (steps_in s) ≡ true → s.state ≡ states.Unsat
   unsat_known u = at s.state refl
     where
-      at : (st : State) → s.state ≡ st → s.state ≡ states.Unsat
+      at : (st : SatState) → s.state ≡ st → s.state ≡ states.Unsat
       at states.Unsat e = e
       at states.Unknown e = absurd (both_ways (checker_rules.unsat (steps_in s)) (going_on (λ f. apart (sym e ∙ f))) u)
         where

@@ -1,11 +1,11 @@
 -- The effect of the parts of a run on its writers.
 use Rattle.std.proofs.Common.{ℕ, ◌+◌, ◌≡◌, List, [], ◌∷◌, ◌++◌, is_some, None, Result, Ok, Err, OnErr, OnOk, IfErr, refl, sym, ap, subst, ◌∙◌}
-use Rattle.sat_base.specs.device.Device.{Writer, WriterBreaks, WriterTakes}
+use Rattle.sat_base.specs.device.Device.{Writer, WriterFails, WriterAccepts}
 use Rattle.sat_base.specs.script.Script.{Command, Ask}
-use Rattle.sat_base.specs.script.Language.{Reading, onto_commands}
-use Rattle.sat_base.specs.script.ScriptState.{ScriptState, accepted, bring_all, refusal_of}
+use Rattle.sat_base.specs.script.Language.{Reading, prepend_commands}
+use Rattle.sat_base.specs.script.ScriptState.{ScriptState, state_after_accepted, introduce_all, refusal_of}
 use Rattle.sat_solver.specs.variables.Calls as solver
-use Rattle.sat_checker.specs.matching.Bridge.{Live}
+use Rattle.sat_checker.specs.matching.Bridge.{LiveVariables}
 use Rattle.sat_checker.specs.matching.Expected.{Unknown, Expected}
 use Rattle.sat_solver.specs.variables.Refusing.{names_in}
 use Rattle.sat_solver.specs.session.Making.{ComesBySteps, BreaksEmitting}
@@ -22,7 +22,7 @@ use Rattle.certify.specs.declared.run.session.RunState.{RunState}
 use Rattle.certify.specs.declared.summary.AskReport.{AskReport}
 use Rattle.certify.specs.answers.RightAnswers.{IsRight}
 use Rattle.certify.specs.run.FinishedRun.{IsBounded, SpendsWithinBudget, answer_kind}
-use Rattle.certify.specs.run.Unfinished.{TookAnswersFront}
+use Rattle.certify.specs.run.Unfinished.{TookAnswersPrefix}
 use Rattle.certify.specs.run.Asking.{AskEffect}
 use Rattle.sat_solver.specs.solver.View.{proof_in}
 use Rattle.certify.specs.run.SolverCalls.{FaultSays, FailsSolver, IsAllowed, IsReadySolver, Searched}
@@ -67,22 +67,22 @@ ask_took seen a b c user budget report opened s = took_both seen (proof_in a) (p
 
 -- after an ask, the solver agrees with the state after the names of the ask were introduced
 pub agree_still : {C : Type 0} (seen : C → Writer) (a b c : Solver C) (user : List ℕ) (budget : ℕ) (report : AskReport) → ReplacesAssumptions seen a b user → Searched seen budget report b c
-    → (j : ScriptState) (live : Live) → solver.NamesAgree a.names (steps_in a) j live → (then : Live) × solver.NamesAgree c.names (steps_in c) (bring_all (names_in user) j) then
+    → (j : ScriptState) (live : LiveVariables) → solver.NamesAgree a.names (steps_in a) j live → (then : LiveVariables) × solver.NamesAgree c.names (steps_in c) (introduce_all (names_in user) j) then
 agree_still seen a b c user budget report opened s j live agree =
     let k = (opened.did Unknown).does.kept j live agree in
-    let at = subst (λ ns. solver.NamesAgree ns (steps_in s.mid) (bring_all (names_in user) j) k.live) (sym s.limited.names) (subst (λ (p : Proof _). solver.NamesAgree b.names (steps_of p) (bring_all (names_in user) j) k.live) (sym s.limited.proof) k.agree) in
-    let n = s.solved.answered.did.does.kept (bring_all (names_in user) j) k.live at in
+    let at = subst (λ ns. solver.NamesAgree ns (steps_in s.mid) (introduce_all (names_in user) j) k.live) (sym s.limited.names) (subst (λ (p : Proof _). solver.NamesAgree b.names (steps_of p) (introduce_all (names_in user) j) k.live) (sym s.limited.proof) k.agree) in
+    let n = s.solved.answered.did.does.kept (introduce_all (names_in user) j) k.live at in
     (n.live, n.agree)
 
 -- after an ask, setting no assumptions is allowed
 pub allowed_still : {C : Type 0} (seen : C → Writer) (a b c : Solver C) (user : List ℕ) (budget : ℕ) (report : AskReport) → IsAllowed a user → ReplacesAssumptions seen a b user → Searched seen budget report b c → IsAllowed c []
 allowed_still seen a b c user budget report allowed opened s =
     let n = agree_still seen a b c user budget report opened s allowed.0 allowed.1 allowed.2 in
-    (bring_all (names_in user) allowed.0, n.0, n.1, refl)
+    (introduce_all (names_in user) allowed.0, n.0, n.1, refl)
 
 -- an answer was written, and the assumptions were removed
 pub asked_of : {C : Type 0} (seen : C → Writer) (old new : RunState C) (now : Solver C) (user text : List ℕ) (report : AskReport) (before after : Writer)
-    → AskEffect seen old.budget report user text old.solver now → WriterTakes before after text → ReplacesAssumptions seen now new.solver [] → new.commands ≡ old.commands → new.refused ≡ old.refused → new.budget ≡ old.budget → new.asks.items ≡ old.asks.items ++ report ∷ []
+    → AskEffect seen old.budget report user text old.solver now → WriterAccepts before after text → ReplacesAssumptions seen now new.solver [] → new.commands ≡ old.commands → new.refused ≡ old.refused → new.budget ≡ old.budget → new.asks.items ≡ old.asks.items ++ report ∷ []
     → CarriedOut seen old new (Ask (named_literals user)) before after
 asked_of seen old new now user text report before after effect written closed commands refused budget asks = record {
   ready = did_ready seen now new.solver _ _ (searched_ready seen old.budget report effect.mid now effect.searched) (closed.did Unknown);
@@ -114,8 +114,8 @@ asked_of seen old new now user text report before after effect written closed co
 
 -- the answer that was found is correct, and a prefix of its text was written
 module _ {C : Type 0} (seen : C → Writer) (old : RunState C) (now : Solver C) (user text : List ℕ) (report : AskReport) (before after : Writer) (effect : AskEffect seen old.budget report user text old.solver now)
-    (left : Reading) (j : ScriptState) (live : Live) (means : AgreesWithState old.solver j live) (free : refusal_of j (Ask (named_literals user)) ≡ None) where
-  right : IsRight (accepted (Ask (named_literals user)) j) (named_literals user) (outcome_for report.answer now)
+    (left : Reading) (j : ScriptState) (live : LiveVariables) (means : AgreesWithState old.solver j live) (free : refusal_of j (Ask (named_literals user)) ≡ None) where
+  right : IsRight (state_after_accepted (Ask (named_literals user)) j) (named_literals user) (outcome_for report.answer now)
   right = ask_right seen old.solver effect.mid now user old.budget report effect.opened effect.searched effect.right j live means free
 
   kind_is : report.answer ≡ answer_kind (outcome_for report.answer now)
@@ -124,25 +124,25 @@ module _ {C : Type 0} (seen : C → Writer) (old : RunState C) (now : Solver C) 
   spends : SpendsWithinBudget old.budget old.solver.clock.rounds report
   spends = ask_spent seen old.solver effect.mid now user old.budget report effect.opened effect.searched effect.right
 
-  bounded : IsBounded (accepted (Ask (named_literals user)) j).identity_count old.budget old.solver.clock.rounds report
+  bounded : IsBounded (state_after_accepted (Ask (named_literals user)) j).identity_count old.budget old.solver.clock.rounds report
   bounded = ask_bounded seen old.solver effect.mid now user old.budget report effect.opened effect.searched effect.right j live means free
 
-  pub ask_reported : WriterTakes before after text → TookAnswersFront old.budget old.solver.clock.rounds old.commands j (onto_commands (Ask (named_literals user) ∷ []) left) before after
-  ask_reported t = front_answered old.budget old.solver.clock.rounds old.commands j (named_literals user) (outcome_for report.answer now) report left before after free right kind_is spends bounded (subst (WriterTakes before after) effect.text_is t)
+  pub ask_reported : WriterAccepts before after text → TookAnswersPrefix old.budget old.solver.clock.rounds old.commands j (prepend_commands (Ask (named_literals user) ∷ []) left) before after
+  ask_reported t = front_answered old.budget old.solver.clock.rounds old.commands j (named_literals user) (outcome_for report.answer now) report left before after free right kind_is spends bounded (subst (WriterAccepts before after) effect.text_is t)
 
-  pub ask_cut : WriterBreaks before after text → TookAnswersFront old.budget old.solver.clock.rounds old.commands j (onto_commands (Ask (named_literals user) ∷ []) left) before after
-  ask_cut b = front_cut old.budget old.solver.clock.rounds old.commands j (named_literals user) (outcome_for report.answer now) report left before after free right kind_is spends bounded (subst (WriterBreaks before after) effect.text_is b)
+  pub ask_cut : WriterFails before after text → TookAnswersPrefix old.budget old.solver.clock.rounds old.commands j (prepend_commands (Ask (named_literals user) ∷ []) left) before after
+  ask_cut b = front_cut old.budget old.solver.clock.rounds old.commands j (named_literals user) (outcome_for report.answer now) report left before after free right kind_is spends bounded (subst (WriterFails before after) effect.text_is b)
 
 -- a command that was carried out
 pub carried_stops : {C : Type 0} (seen : C → Writer) (old new : RunState C) (c : Command) (before after : Writer) (left : Reading) → CarriedOut seen old new c before after
-    → (j : ScriptState) (live : Live) → AgreesWithState old.solver j live → refusal_of j c ≡ None → TookAnswersFront old.budget old.solver.clock.rounds old.commands j (onto_commands (c ∷ []) left) before after
+    → (j : ScriptState) (live : LiveVariables) → AgreesWithState old.solver j live → refusal_of j c ≡ None → TookAnswersPrefix old.budget old.solver.clock.rounds old.commands j (prepend_commands (c ∷ []) left) before after
 carried_stops seen old new c before after left h j live means free =
-    front_served old.budget (last_place old j) (place_in new (accepted c j)) (c ∷ []) left h.text h.reports 0 before after (h.serves j live means free).2 h.written
+    front_served old.budget (last_place old j) (place_in new (state_after_accepted c j)) (c ∷ []) left h.text h.reports 0 before after (h.serves j live means free).2 h.written
 
 -- nothing was written
 pub nothing_stops : {T C : Type 0} (r : Result T RunFault) (old : RunState C) (c : Command) (left : Reading) (w : Writer) → StopsCarrying r old c left w w
 nothing_stops (Ok x) old c left w = tt
-nothing_stops (Err e) old c left w = λ j live means free. front_none old.budget old.solver.clock.rounds old.commands j (onto_commands (c ∷ []) left) w
+nothing_stops (Err e) old c left w = λ j live means free. front_none old.budget old.solver.clock.rounds old.commands j (prepend_commands (c ∷ []) left) w
 
 -- what holds for every result holds for a fault
 pub on_err : {T : Type 0} (r : Result T RunFault) (P : Type 0) → P → OnErr r P
@@ -176,11 +176,11 @@ memory_says seen e before after a b m n t = subst (λ x. Says seen x before afte
 pub ask_writes : {C : Type 0} (seen : C → Writer) (a c : Solver C) (user text : List ℕ) (budget : ℕ) (report : AskReport) → AskEffect seen budget report user text a c → ComesBySteps seen (proof_in a) (proof_in c)
 ask_writes seen a c user text budget report s = ask_took seen a s.mid c user budget report s.opened s.searched
 
-pub takes_none : (a b : Writer) (text : List ℕ) → WriterTakes a b text → NoneFailed a b
+pub takes_none : (a b : Writer) (text : List ℕ) → WriterAccepts a b text → NoneFailed a b
 takes_none a b text t = (t.failures, t.loans)
 
 -- a text was written to the answers, and the solver wrote nothing
-pub written_of : {C : Type 0} (seen : C → Writer) (r : Result (Unit {0}) RunFault) (before after : Writer) (s : Solver C) (text : List ℕ) → OnOk r (WriterTakes before after text) → IfErr r (λ e. (e ≡ fault.AnswersWrite) × OneFailed before after) → WritesBoth r seen before after s s
+pub written_of : {C : Type 0} (seen : C → Writer) (r : Result (Unit {0}) RunFault) (before after : Writer) (s : Solver C) (text : List ℕ) → OnOk r (WriterAccepts before after text) → IfErr r (λ e. (e ≡ fault.AnswersWrite) × OneFailed before after) → WritesBoth r seen before after s s
 written_of seen (Ok x) before after s text t f = (takes_none before after text t, took_none seen (proof_in s))
 written_of seen (Err e) before after s text t f = answers_say seen e before after s s f.0 f.1 (took_none seen (proof_in s))
 

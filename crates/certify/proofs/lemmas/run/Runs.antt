@@ -2,10 +2,10 @@
 use Rattle.std.proofs.Common.{ℕ, ◌+◌, ◌≤◌, ◌≡◌, ◌∙◌, true, false, Option, Some, None, List, [], ◌∷◌, ◌++◌, map, length, Result, Ok, Err, OnErr, OnOk, IfOk, inl, inr, refl, sym, ap, subst, arith, append-nil}
 use Rattle.std.specs.Prelude.{IsErrOf}
 use Rattle.std.proofs.Math.Logic.{∥∥₁_elim, ∥∥₁_prop}
-use Rattle.sat_base.specs.device.Device.{Reader, Writer, GaveEnough, WriterTakes, lent_writer, most_reads}
-use Rattle.sat_base.specs.device.Reading.{Source, unread}
+use Rattle.sat_base.specs.device.Device.{Reader, Writer, GaveEnough, WriterAccepts, lent_writer, most_reads}
+use Rattle.sat_base.specs.device.Reading.{Source, new_source}
 use Rattle.sat_base.specs.device.Sink.{empty_sink}
-use Rattle.sat_base.specs.script.ScriptState.{accepted_of, start}
+use Rattle.sat_base.specs.script.ScriptState.{accepted_commands, initial_state}
 use Rattle.sat_base.specs.steps.Steps.{Step, End}
 use Rattle.sat_base.proofs.lemmas.device.Writes as writes
 use Rattle.sat_checker.specs.matching.Expected.{Finish, expected, finish}
@@ -32,15 +32,15 @@ use Rattle.certify.specs.declared.summary.AskReport.{AskReport}
 use Rattle.certify.specs.declared.summary.Summary.{Summary}
 use Rattle.certify.specs.declared.script.ahead.LastPiece.{LastPiece}
 use Rattle.certify.specs.script.LastPiece.{source_in, waiting_bytes}
-use Rattle.sat_base.specs.script.Language.{Reading, reading, written}
+use Rattle.sat_base.specs.script.Language.{Reading, reading, plain_reading}
 use Rattle.certify.specs.run.FinishedRun.{WritesAnswers, AnswersRightly, CertificateGuarantee, ReportsRightly, TookCertificate, rounds_of_asks, identities_given, malformed_at, AreWithinBudget}
 use Rattle.certify.specs.run.Running.{ReadsFew, FinishesOrFaults, WritesRun}
-use Rattle.certify.specs.run.Unfinished.{CounterEnds, Exceeds, ExceedsWritten, StepsFront, TookAnswersFront, TookSteps, Unfinished}
+use Rattle.certify.specs.run.Unfinished.{CounterEnds, Exceeds, ExceedsWritten, StepsPrefix, TookAnswersPrefix, TookSteps, Unfinished}
 use Rattle.sat_solver.specs.solver.View.{proof_in}
 use Rattle.certify.specs.run.SolverCalls.{IsCaused, FaultSays, IsReadySolver}
 use Rattle.certify.specs.run.Lacking.{OneLacks}
 use Rattle.certify.specs.run.Certifies.{Certifies, complete, ordered}
-use Rattle.certify.specs.run.Ending.{ClosedBy, EndsRun, GivenBack, GivesFront, HasTarget, HasOpenTarget, SumsUp}
+use Rattle.certify.specs.run.Ending.{ClosedBy, EndsRun, GivenBack, GivesPrefix, HasTarget, HasOpenTarget, SumsUp}
 use Rattle.certify.specs.run.BetweenCommands.{place_in}
 use Rattle.certify.specs.run.Stretches.{ServesCommands}
 use Rattle.certify.specs.run.ServedScript.{ServesScript, FailsWhole, ServesWhole}
@@ -70,7 +70,7 @@ enough_so : (x y : Reader) (P Q : List ℕ → Type 0) → ((text : List ℕ) �
 enough_so x y P Q f h = record { text = h.text; front = h.front; over = h.over; few = h.few; holds = λ rest k. f (h.text ++ rest) (h.holds rest k) }
 
 -- a reader from which nothing was read ahead
-pub fresh_source : {R : Type 0} (seen : R → Reader) (r : R) (a : LastPiece) → waiting_bytes a ≡ [] → a.reads ≡ 0 → source_in seen r a ≡ unread (seen r)
+pub fresh_source : {R : Type 0} (seen : R → Reader) (r : R) (a : LastPiece) → waiting_bytes a ≡ [] → a.reads ≡ 0 → source_in seen r a ≡ new_source (seen r)
 fresh_source seen r a e f = rw (e, f) refl
 
 -- WHAT A TARGET RECEIVED
@@ -118,7 +118,7 @@ module _ {C : Type 0} (seen : C → Writer) (w : Writer) (p q : Proof C) (opened
 -- A RUN THAT WAS FINISHED
 
 module _ {C : Type 0} (seen : C → Writer) (budget : ℕ) (w : Writer) (s t : RunState C) (fresh : IsNew seen budget w s) (text : List ℕ) (at : Option ℕ) (summary : Summary) (given : C) (u v z : Writer)
-    (serves : ServesWhole seen start (reading text) (length (written text).0) at s t u v) (closed : ClosedBy seen t.solver given) (took : WriterTakes v z []) (sums : SumsUp at t summary) where
+    (serves : ServesWhole seen initial_state (reading text) (length (plain_reading text).0) at s t u v) (closed : ClosedBy seen t.solver given) (took : WriterAccepts v z []) (sums : SumsUp at t summary) where
   made_all : steps_in t.solver ≡ serves.took.0
   made_all = serves.took.1.history ∙ ap (λ xs. serves.took.0 ++ xs) fresh.steps ∙ append-nil serves.took.0
 
@@ -132,7 +132,7 @@ module _ {C : Type 0} (seen : C → Writer) (budget : ℕ) (w : Writer) (s t : R
   asks_are = ap (λ (x : _). x.items) sums.asks ∙ serves.asks ∙ ap (λ rs. rs ++ serves.reports) fresh.asks
 
   says : serves.text ≡ answers_text (reading text).0 (reading text).1 serves.serves.outcomes
-  says = sym (ap (λ (n : ℕ). answers_from (n + 1) start (reading text).0 (reading text).1 serves.serves.outcomes) (sym fresh.commands) ∙ serves.serves.says)
+  says = sym (ap (λ (n : ℕ). answers_from (n + 1) initial_state (reading text).0 (reading text).1 serves.serves.outcomes) (sym fresh.commands) ∙ serves.serves.says)
 
   abbrev is_answered : AnswersRightly text budget summary serves.text
   is_answered = record {
@@ -144,23 +144,23 @@ module _ {C : Type 0} (seen : C → Writer) (budget : ℕ) (w : Writer) (s t : R
     malformed = sums.ends ∙ serves.ends ∙ ap (λ (n : ℕ). malformed_at n (reading text).1) (let c = fresh.commands in let e : s.commands + length (reading text).0 + 1 ≡ length (reading text).0 + 1 = omega arith in e);
     kinds = ap (λ rs. map (λ (r : AskReport). r.answer) rs) asks_are ∙ serves.serves.kinds;
     spent =
-        let given = identities_given start (accepted_of start (reading text).0) in
+        let given = identities_given initial_state (accepted_commands initial_state (reading text).0) in
         subst (λ rs. AreWithinBudget budget 0 given rs) (sym asks_are)
         (subst (λ n. AreWithinBudget n 0 given serves.reports) fresh.budget_is (subst (λ n. AreWithinBudget s.budget n given serves.reports) fresh.rounds serves.serves.spent));
   }
 
-  followed : ServesCommands start [] (steps_in t.solver) (accepted_of start (reading text).0) serves.serves.outcomes (rounds_of_asks serves.reports)
-  followed = subst (λ (xs : List Step). ServesCommands start xs (steps_in t.solver) (accepted_of start (reading text).0) serves.serves.outcomes (rounds_of_asks serves.reports)) fresh.steps serves.serves.follows
+  followed : ServesCommands initial_state [] (steps_in t.solver) (accepted_commands initial_state (reading text).0) serves.serves.outcomes (rounds_of_asks serves.reports)
+  followed = subst (λ (xs : List Step). ServesCommands initial_state xs (steps_in t.solver) (accepted_commands initial_state (reading text).0) serves.serves.outcomes (rounds_of_asks serves.reports)) fresh.steps serves.serves.follows
 
-  certified_made : Certifies checker_rules (End ∷ serves.took.0) None [] (expected start (accepted_of start (reading text).0) serves.serves.outcomes) (rounds_of_asks serves.reports)
+  certified_made : Certifies checker_rules (End ∷ serves.took.0) None [] (expected initial_state (accepted_commands initial_state (reading text).0) serves.serves.outcomes) (rounds_of_asks serves.reports)
   certified_made =
       let all = End ∷ serves.took.0 in
       let last : Certifies checker_rules all None (steps_in t.solver) (Finish ∷ []) [] = subst (λ (xs : List Step). Certifies checker_rules all None xs (Finish ∷ []) []) (sym made_all) (ordered tt finish complete) in
       made_certifies all followed (subst AreAllowedSteps (sym made_all) may.0) last
 
-  follows : ServesCommands start [] serves.took.0 (accepted_of start (reading text).0) serves.serves.outcomes (rounds_of_asks summary.asks.items)
-  follows = subst (λ rs. ServesCommands start [] serves.took.0 (accepted_of start (reading text).0) serves.serves.outcomes (rounds_of_asks rs)) (sym asks_are)
-      (subst (λ (xs : List Step). ServesCommands start [] xs (accepted_of start (reading text).0) serves.serves.outcomes (rounds_of_asks serves.reports)) made_all followed)
+  follows : ServesCommands initial_state [] serves.took.0 (accepted_commands initial_state (reading text).0) serves.serves.outcomes (rounds_of_asks summary.asks.items)
+  follows = subst (λ rs. ServesCommands initial_state [] serves.took.0 (accepted_commands initial_state (reading text).0) serves.serves.outcomes (rounds_of_asks rs)) (sym asks_are)
+      (subst (λ (xs : List Step). ServesCommands initial_state [] xs (accepted_commands initial_state (reading text).0) serves.serves.outcomes (rounds_of_asks serves.reports)) made_all followed)
 
   guarantee : CertificateGuarantee text budget summary serves.text (text_in Varisat text_of.written)
   guarantee = record {
@@ -168,8 +168,8 @@ module _ {C : Type 0} (seen : C → Writer) (budget : ℕ) (w : Writer) (s t : R
     steps = text_of.written;
     certificate = text_of.spells refl;
     accepted = (sessions_are_accepted text_of.written (cuts_are_free (End ∷ serves.took.0) text_of.written text_of.counting text_of.cuts may).may).0;
-    certifies = subst (λ rs. Certifies checker_rules text_of.written None [] (expected start (accepted_of start (reading text).0) serves.serves.outcomes) (rounds_of_asks rs)) (sym asks_are)
-        (written_certifies (End ∷ serves.took.0) text_of.written text_of.counting (expected start (accepted_of start (reading text).0) serves.serves.outcomes) (rounds_of_asks serves.reports) text_of.cuts may certified_made);
+    certifies = subst (λ rs. Certifies checker_rules text_of.written None [] (expected initial_state (accepted_commands initial_state (reading text).0) serves.serves.outcomes) (rounds_of_asks rs)) (sym asks_are)
+        (written_certifies (End ∷ serves.took.0) text_of.written text_of.counting (expected initial_state (accepted_commands initial_state (reading text).0) serves.serves.outcomes) (rounds_of_asks serves.reports) text_of.cuts may certified_made);
     made = serves.took.0;
     follows = follows;
     counting = text_of.counting;
@@ -182,7 +182,7 @@ module _ {C : Type 0} (seen : C → Writer) (budget : ℕ) (w : Writer) (s t : R
   wrote_text = record {
     answered = serves.text;
     certified = text_in Varisat text_of.written;
-    writes_answers = subst (WriterTakes u z) (append-nil serves.text) (writes.took_more u v z serves.text [] serves.written took);
+    writes_answers = subst (WriterAccepts u z) (append-nil serves.text) (writes.took_more u v z serves.text [] serves.written took);
     certifies = text_of.takes;
     guarantee = guarantee;
   }
@@ -203,42 +203,42 @@ one_both u v w n m = (let a = n.0 in let b = m.0 in omega arith, m.1, m.2 ∙ n.
 
 module _ {C : Type 0} (seen : C → Writer) (budget : ℕ) (w : Writer) (s t : RunState C) (fresh : IsNew seen budget w s) (x : Reader) (b : Source) (bounded : b.reads ≤ most_reads) (given : C) (u v z : Writer) where
   -- the script was served, but the run could not be ended
-  ended_fault : (e : RunFault) (at : Option ℕ) → ServesScript seen start reading written (Ok at) (unread x) b s t u v → FaultSays e (OneFailed v z × ClosedBy seen t.solver given) (NoneFailed v z × GivenBack seen BreaksEmitting t.solver given) (NoneFailed v z × GivenBack seen ComesBySteps t.solver given)
+  ended_fault : (e : RunFault) (at : Option ℕ) → ServesScript seen initial_state reading plain_reading (Ok at) (new_source x) b s t u v → FaultSays e (OneFailed v z × ClosedBy seen t.solver given) (NoneFailed v z × GivenBack seen BreaksEmitting t.solver given) (NoneFailed v z × GivenBack seen ComesBySteps t.solver given)
       → FinishesOrFaults (Err e) budget (x, b.reader) (u, z) (w, seen given)
   ended_fault fault.ScriptRead at h f = absurd f
   ended_fault fault.AnswersWrite at h f =
       let k = h.2 b.reader.given (covers_given b) in
       let text = closed_text seen w (proof_in s.solver) (proof_in t.solver) fresh.target (seen given) k.took f.1.takes in
-      ((took_kept false (unread x) b h.0).0, one_both u v z (k.written.failures, k.written.loans) f.0, (text.takes.failures, text.takes.loans))
+      ((took_kept false (new_source x) b h.0).0, one_both u v z (k.written.failures, k.written.loans) f.0, (text.takes.failures, text.takes.loans))
   ended_fault fault.CertificateWrite at h f =
       let k = h.2 b.reader.given (covers_given b) in
-      ((took_kept false (unread x) b h.0).0, none_both u v z (k.written.failures, k.written.loans) f.0, given_one seen w (proof_in s.solver) f.1.proof fresh.target (seen given) (broke_later seen (proof_in s.solver) (proof_in t.solver) f.1.proof k.took f.1.goes) f.1.gives)
+      ((took_kept false (new_source x) b h.0).0, none_both u v z (k.written.failures, k.written.loans) f.0, given_one seen w (proof_in s.solver) f.1.proof fresh.target (seen given) (broke_later seen (proof_in s.solver) (proof_in t.solver) f.1.proof k.took f.1.goes) f.1.gives)
   ended_fault fault.OutOfMemory at h f =
       let k = h.2 b.reader.given (covers_given b) in
-      ((took_kept false (unread x) b h.0).0, none_both u v z (k.written.failures, k.written.loans) f.0, given_none seen w (proof_in s.solver) f.1.proof fresh.target (seen given) (took_both seen (proof_in s.solver) (proof_in t.solver) f.1.proof k.took f.1.goes) f.1.gives)
+      ((took_kept false (new_source x) b h.0).0, none_both u v z (k.written.failures, k.written.loans) f.0, given_none seen w (proof_in s.solver) f.1.proof fresh.target (seen given) (took_both seen (proof_in s.solver) (proof_in t.solver) f.1.proof k.took f.1.goes) f.1.gives)
   ended_fault fault.StoreFull at h f =
       let k = h.2 b.reader.given (covers_given b) in
-      ((took_kept false (unread x) b h.0).0, none_both u v z (k.written.failures, k.written.loans) f.0, given_none seen w (proof_in s.solver) f.1.proof fresh.target (seen given) (took_both seen (proof_in s.solver) (proof_in t.solver) f.1.proof k.took f.1.goes) f.1.gives)
+      ((took_kept false (new_source x) b h.0).0, none_both u v z (k.written.failures, k.written.loans) f.0, given_none seen w (proof_in s.solver) f.1.proof fresh.target (seen given) (took_both seen (proof_in s.solver) (proof_in t.solver) f.1.proof k.took f.1.goes) f.1.gives)
   ended_fault fault.CounterEnd at h f =
       let k = h.2 b.reader.given (covers_given b) in
-      ((took_kept false (unread x) b h.0).0, none_both u v z (k.written.failures, k.written.loans) f.0, given_none seen w (proof_in s.solver) f.1.proof fresh.target (seen given) (took_both seen (proof_in s.solver) (proof_in t.solver) f.1.proof k.took f.1.goes) f.1.gives)
+      ((took_kept false (new_source x) b h.0).0, none_both u v z (k.written.failures, k.written.loans) f.0, given_none seen w (proof_in s.solver) f.1.proof fresh.target (seen given) (took_both seen (proof_in s.solver) (proof_in t.solver) f.1.proof k.took f.1.goes) f.1.gives)
 
   -- the script was not served to its end
-  served_fault : (e : RunFault) → FailsWhole seen e (unread x) b s.solver t.solver u v → z ≡ v → GivesWriter (target_of seen (proof_in t.solver)) (Some (seen given)) → FinishesOrFaults (Err e) budget (x, b.reader) (u, z) (w, seen given)
+  served_fault : (e : RunFault) → FailsWhole seen e (new_source x) b s.solver t.solver u v → z ≡ v → GivesWriter (target_of seen (proof_in t.solver)) (Some (seen given)) → FinishesOrFaults (Err e) budget (x, b.reader) (u, z) (w, seen given)
   served_fault fault.ScriptRead h same g = (read_fails x b h.0.0 bounded h.0.1, subst (NoneFailed u) (sym same) h.1, given_none seen w (proof_in s.solver) (proof_in t.solver) fresh.target (seen given) h.2 g)
   served_fault fault.AnswersWrite h same g = (h.0.1.failures, subst (OneFailed u) (sym same) h.1, given_none seen w (proof_in s.solver) (proof_in t.solver) fresh.target (seen given) h.2 g)
   served_fault fault.CertificateWrite h same g = (h.0.1.failures, subst (NoneFailed u) (sym same) h.1, given_one seen w (proof_in s.solver) (proof_in t.solver) fresh.target (seen given) h.2 g)
   served_fault e h same g = (h.0.1.failures, subst (NoneFailed u) (sym same) h.1, given_none seen w (proof_in s.solver) (proof_in t.solver) fresh.target (seen given) h.2 g)
 
-  pub runs_so : (served : Result (Option ℕ) RunFault) (r : Result Summary RunFault) → ServesScript seen start reading written served (unread x) b s t u v → EndsRun seen served r t given v z → FinishesOrFaults r budget (x, b.reader) (u, z) (w, seen given)
+  pub runs_so : (served : Result (Option ℕ) RunFault) (r : Result Summary RunFault) → ServesScript seen initial_state reading plain_reading served (new_source x) b s t u v → EndsRun seen served r t given v z → FinishesOrFaults r budget (x, b.reader) (u, z) (w, seen given)
   runs_so (Ok at) (Ok summary) h f =
       let k = h.2 b.reader.given (covers_given b) in
-      let all = rest_in b.reader.given (unread x) in
+      let all = rest_in b.reader.given (new_source x) in
       let n = none_certified seen budget w s t fresh all at summary given u v z k f.0.0 f.0.1 f.1 in
       record {
         wrote = gave_enough x b h.0.0.0 (λ text. WritesRun text budget summary (u, z) (w, seen given)) h.0.0.1 h.0.1
-            (λ total c. wrote_text seen budget w s t fresh (rest_in total (unread x)) at summary given u v z (h.2 total c) f.0.0 f.0.1 f.1);
-        read = (took_kept false (unread x) b h.0).0;
+            (λ total c. wrote_text seen budget w s t fresh (rest_in total (new_source x)) at summary given u v z (h.2 total c) f.0.0 f.0.1 f.1);
+        read = (took_kept false (new_source x) b h.0).0;
         answered = none_both u v z (k.written.failures, k.written.loans) (f.0.1.failures, f.0.1.loans);
         certified = n;
         answers_flushed = f.0.2;
@@ -249,28 +249,28 @@ module _ {C : Type 0} (seen : C → Writer) (budget : ℕ) (w : Writer) (s t : R
 
   -- that the writer received a prefix of correct answers
   abbrev Front : List ℕ → Writer → Type 0
-  Front text w = TookAnswersFront budget 0 1 start (reading text) u w
+  Front text w = TookAnswersPrefix budget 0 1 initial_state (reading text) u w
 
-  first_command : (text : List ℕ) (w : Writer) → TookAnswersFront s.budget s.solver.clock.rounds (s.commands + 1) start (reading text) u w → Front text w
+  first_command : (text : List ℕ) (w : Writer) → TookAnswersPrefix s.budget s.solver.clock.rounds (s.commands + 1) initial_state (reading text) u w → Front text w
   first_command text w k =
-      subst (λ (m : ℕ). TookAnswersFront m 0 1 start (reading text) u w) fresh.budget_is
-      (subst (λ (m : ℕ). TookAnswersFront s.budget m 1 start (reading text) u w) fresh.rounds (subst (λ (n : ℕ). TookAnswersFront s.budget s.solver.clock.rounds (n + 1) start (reading text) u w) fresh.commands k))
+      subst (λ (m : ℕ). TookAnswersPrefix m 0 1 initial_state (reading text) u w) fresh.budget_is
+      (subst (λ (m : ℕ). TookAnswersPrefix s.budget m 1 initial_state (reading text) u w) fresh.rounds (subst (λ (n : ℕ). TookAnswersPrefix s.budget s.solver.clock.rounds (n + 1) initial_state (reading text) u w) fresh.commands k))
 
-  served_front : (e : RunFault) → FailsWhole seen e (unread x) b s.solver t.solver u v → ((total : List ℕ) → Covers b total → Front (rest_in total (unread x)) z) → Unfinished budget (x, b.reader) (u, z)
+  served_front : (e : RunFault) → FailsWhole seen e (new_source x) b s.solver t.solver u v → ((total : List ℕ) → Covers b total → Front (rest_in total (new_source x)) z) → Unfinished budget (x, b.reader) (u, z)
   served_front fault.ScriptRead h f = faulted_front x b h.0.0 (λ text. Front text z) h.0.1 f
   served_front e h f = passed_front 1 x b h.0.0 (λ text. Front text z) h.0.1 f
 
-  pub unfinished_so : (served : Result (Option ℕ) RunFault) (r : Result Summary RunFault) → ServesScript seen start reading written served (unread x) b s t u v → EndsRun seen served r t given v z → OnErr r (Unfinished budget (x, b.reader) (u, z))
+  pub unfinished_so : (served : Result (Option ℕ) RunFault) (r : Result Summary RunFault) → ServesScript seen initial_state reading plain_reading served (new_source x) b s t u v → EndsRun seen served r t given v z → OnErr r (Unfinished budget (x, b.reader) (u, z))
   unfinished_so (Ok at) (Ok summary) h f = tt
   unfinished_so (Ok at) (Err e) h f = passed_front 1 x b h.0.0.0 (λ text. Front text z) h.0.0.1
       (λ total k.
       let all = h.2 total k in
-      first_command (rest_in total (unread x)) z (front_whole s.budget (place_in s start) (reading (rest_in total (unread x))) (steps_in t.solver) all.text all.reports all.refused u v z all.serves all.written f.1))
+      first_command (rest_in total (new_source x)) z (front_whole s.budget (place_in s initial_state) (reading (rest_in total (new_source x))) (steps_in t.solver) all.text all.reports all.refused u v z all.serves all.written f.1))
   unfinished_so (Err e) r h f = subst (λ (q : Result Summary RunFault). OnErr q (Unfinished budget (x, b.reader) (u, z))) (sym f.0)
-      (served_front e h.0 (λ total k. subst (λ (w : Writer). Front (rest_in total (unread x)) w) (sym f.1) (first_command (rest_in total (unread x)) v (h.1 total k))))
+      (served_front e h.0 (λ total k. subst (λ (w : Writer). Front (rest_in total (new_source x)) w) (sym f.1) (first_command (rest_in total (new_source x)) v (h.1 total k))))
 
   -- the certificate's writer received a prefix of the text of the steps that were made
-  made_front : ComesBySteps seen (proof_in s.solver) (proof_in t.solver) → GivesWriter (target_of seen (proof_in t.solver)) (Some (seen given)) → ∥ ((k : StepsFront w (seen given)) × (k.made ≡ steps_in t.solver)) ∥₁
+  made_front : ComesBySteps seen (proof_in s.solver) (proof_in t.solver) → GivesWriter (target_of seen (proof_in t.solver)) (Some (seen given)) → ∥ ((k : StepsPrefix w (seen given)) × (k.made ≡ steps_in t.solver)) ∥₁
   made_front took gives =
       let all : steps_in t.solver ≡ took.0 = took.1.history ∙ ap (λ xs. took.0 ++ xs) fresh.steps ∙ append-nil took.0 in
       ∥∥₁_elim (proof_in t.solver).made.may ∥∥₁_prop (λ may.
@@ -278,57 +278,57 @@ module _ {C : Type 0} (seen : C → Writer) (budget : ℕ) (w : Writer) (s t : R
       ∣ (front.0, front.1 ∙ sym all) ∣₁)
 
   -- the reason if a counter has ended
-  served_end : (e : RunFault) → e ≡ fault.CounterEnd → FailsWhole seen e (unread x) b s.solver t.solver u v → GivesWriter (target_of seen (proof_in t.solver)) (Some (seen given))
-      → IsCaused e (HasFullStore t.solver) ((total : List ℕ) → Covers b total → Exceeds s.commands start (reading (rest_in total (unread x))) (steps_in t.solver)) → CounterEnds (x, b.reader) (w, seen given)
+  served_end : (e : RunFault) → e ≡ fault.CounterEnd → FailsWhole seen e (new_source x) b s.solver t.solver u v → GivesWriter (target_of seen (proof_in t.solver)) (Some (seen given))
+      → IsCaused e (HasFullStore t.solver) ((total : List ℕ) → Covers b total → Exceeds s.commands initial_state (reading (rest_in total (new_source x))) (steps_in t.solver)) → CounterEnds (x, b.reader) (w, seen given)
   served_end fault.CounterEnd q h gives k =
       let front = made_front h.2 gives in
       passed_front 1 x b h.0.0 (λ text. ExceedsWritten (reading text) (w, seen given)) h.0.1
       (λ total y.
-      elim (subst (λ n. Exceeds n start (reading (rest_in total (unread x))) (steps_in t.solver)) fresh.commands (k total y)) [
+      elim (subst (λ n. Exceeds n initial_state (reading (rest_in total (new_source x))) (steps_in t.solver)) fresh.commands (k total y)) [
         | inl many ↦ inl (omega arith)
-        | inr (needs, one) ↦ inr (∥∥₁_elim front ∥∥₁_prop (λ f. ∣ (f.0, needs, subst (OneLacks start (reading (rest_in total (unread x))).0) (sym f.1) one) ∣₁))
+        | inr (needs, one) ↦ inr (∥∥₁_elim front ∥∥₁_prop (λ f. ∣ (f.0, needs, subst (OneLacks initial_state (reading (rest_in total (new_source x))).0) (sym f.1) one) ∣₁))
       ])
   served_end e q h gives k = absurd (cc)
 
-  pub counter_so : (served : Result (Option ℕ) RunFault) (r : Result Summary RunFault) → ServesScript seen start reading written served (unread x) b s t u v → EndsRun seen served r t given v z → IsErrOf r fault.CounterEnd → CounterEnds (x, b.reader) (w, seen given)
+  pub counter_so : (served : Result (Option ℕ) RunFault) (r : Result Summary RunFault) → ServesScript seen initial_state reading plain_reading served (new_source x) b s t u v → EndsRun seen served r t given v z → IsErrOf r fault.CounterEnd → CounterEnds (x, b.reader) (w, seen given)
   counter_so (Ok at) (Ok summary) h f q = absurd (cc)
   counter_so (Ok at) (Err e) h f q = let k : e ≡ fault.CounterEnd = cc in absurd (subst (λ i. IsCaused i ⊥ ⊥) k f.2)
   counter_so (Err e) r h f q = let k : ◌≡◌ {A = Result Summary RunFault} (Err e) (Err fault.CounterEnd) = sym f.0 ∙ q in served_end e (cc) h.0 f.2 h.2
 
   -- a run that failed reached the solver's state by steps
-  fails_went : (e : RunFault) → FailsWhole seen e (unread x) b s.solver t.solver u v → ReachesBySteps seen s.solver t.solver
+  fails_went : (e : RunFault) → FailsWhole seen e (new_source x) b s.solver t.solver u v → ReachesBySteps seen s.solver t.solver
   fails_went fault.CertificateWrite h = went_broke seen s.solver t.solver h.2
   fails_went e h = went_took seen s.solver t.solver h.2
 
-  pub steps_so : (served : Result (Option ℕ) RunFault) → ServesScript seen start reading written served (unread x) b s t u v → GivesFront seen t.solver given → TookSteps (w, seen given)
+  pub steps_so : (served : Result (Option ℕ) RunFault) → ServesScript seen initial_state reading plain_reading served (new_source x) b s t u v → GivesPrefix seen t.solver given → TookSteps (w, seen given)
   steps_so (Ok at) h g = g.front s.solver w fresh.target fresh.steps (went_took seen s.solver t.solver (h.2 b.reader.given (covers_given b)).took)
   steps_so (Err e) h g = g.front s.solver w fresh.target fresh.steps (fails_went e h.0)
 
   few_by : b.reader.calls + 0 ≡ x.calls + b.reads → ReadsFew (x, b.reader)
   few_by e = omega arith
 
-  few_faults : (e : RunFault) → FailsWhole seen e (unread x) b s.solver t.solver u v → ReadsFew (x, b.reader)
+  few_faults : (e : RunFault) → FailsWhole seen e (new_source x) b s.solver t.solver u v → ReadsFew (x, b.reader)
   few_faults fault.ScriptRead h = few_by h.0.1.calls
   few_faults e h = few_by h.0.1.calls
 
-  pub reads_few : (served : Result (Option ℕ) RunFault) → ServesScript seen start reading written served (unread x) b s t u v → ReadsFew (x, b.reader)
-  reads_few (Ok at) h = few_by (took_kept false (unread x) b h.0).1
+  pub reads_few : (served : Result (Option ℕ) RunFault) → ServesScript seen initial_state reading plain_reading served (new_source x) b s t u v → ReadsFew (x, b.reader)
+  reads_few (Ok at) h = few_by (took_kept false (new_source x) b h.0).1
   reads_few (Err e) h = few_faults e h.0
 
   -- the target isn't closed yet
-  fails_some : (e : RunFault) → FailsWhole seen e (unread x) b s.solver t.solver u v → HasTarget seen t.solver
+  fails_some : (e : RunFault) → FailsWhole seen e (new_source x) b s.solver t.solver u v → HasTarget seen t.solver
   fails_some fault.CertificateWrite h = broke_target seen w (proof_in s.solver) (proof_in t.solver) fresh.target h.2
   fails_some e h = took_target seen w (proof_in s.solver) (proof_in t.solver) fresh.target h.2
 
-  pub has_target : (served : Result (Option ℕ) RunFault) → ServesScript seen start reading written served (unread x) b s t u v → HasTarget seen t.solver
+  pub has_target : (served : Result (Option ℕ) RunFault) → ServesScript seen initial_state reading plain_reading served (new_source x) b s t u v → HasTarget seen t.solver
   has_target (Ok at) h = took_target seen w (proof_in s.solver) (proof_in t.solver) fresh.target (h.2 b.reader.given (covers_given b)).took
   has_target (Err e) h = fails_some e h.0
 
-  pub is_open_yet : (served : Result (Option ℕ) RunFault) → ServesScript seen start reading written served (unread x) b s t u v → OnOk served (HasOpenTarget seen t.solver)
+  pub is_open_yet : (served : Result (Option ℕ) RunFault) → ServesScript seen initial_state reading plain_reading served (new_source x) b s t u v → OnOk served (HasOpenTarget seen t.solver)
   is_open_yet (Ok at) h = took_open_target seen w (proof_in s.solver) (proof_in t.solver) fresh.target (h.2 b.reader.given (covers_given b)).took
   is_open_yet (Err e) h = tt
 
-  pub is_ready : (served : Result (Option ℕ) RunFault) → ServesScript seen start reading written served (unread x) b s t u v → OnOk served (IsReadySolver t.solver)
+  pub is_ready : (served : Result (Option ℕ) RunFault) → ServesScript seen initial_state reading plain_reading served (new_source x) b s t u v → OnOk served (IsReadySolver t.solver)
   is_ready (Ok at) h = h.1
   is_ready (Err e) h = tt
 
@@ -340,7 +340,7 @@ unlent_names a b given back loans = let h : ◌≡◌ {A = List ℕ} (back ∷ b
 unlent_loans : (a b : Writer) (given back : ℕ) → (lent_writer back b).loans ≡ (lent_writer given a).loans → b.loans ≡ a.loans
 unlent_loans a b given back loans = let h : ◌≡◌ {A = List ℕ} (back ∷ b.loans) (given ∷ a.loans) = loans in cc
 
-unlent_takes : (a b : Writer) (given back : ℕ) (text : List ℕ) → WriterTakes (lent_writer given a) (lent_writer back b) text → WriterTakes a b text
+unlent_takes : (a b : Writer) (given back : ℕ) (text : List ℕ) → WriterAccepts (lent_writer given a) (lent_writer back b) text → WriterAccepts a b text
 unlent_takes a b given back text p = record { taken = p.taken; known_bytes = p.known_bytes; failures = p.failures; calls = p.calls; few = p.few; loans = unlent_loans a b given back p.loans }
 
 module _ (budget : ℕ) (x y : Reader) (u z a b : Writer) (given back : ℕ) where
@@ -389,7 +389,7 @@ runs_lent seen budget x y u z a c v given back same r h =
     let is_back : c ≡ v = same (unlent_names (seen a) (seen v) given back (loans_kept budget x y u z (seen a) (seen v) given back r h)) in
     subst (λ (k : _). FinishesOrFaults r budget (x, y) (u, z) (seen a, seen k)) (sym is_back) (unlent budget x y u z (seen a) (seen v) given back r h)
 
-unlent_front : (a b : Writer) (given back : ℕ) → StepsFront (lent_writer given a) (lent_writer back b) → StepsFront a b
+unlent_front : (a b : Writer) (given back : ℕ) → StepsPrefix (lent_writer given a) (lent_writer back b) → StepsPrefix a b
 unlent_front a b given back k = record {
   made = k.made;
   steps = k.steps;
@@ -403,7 +403,7 @@ unlent_front a b given back k = record {
 }
 
 unlent_steps : (a b : Writer) (given back : ℕ) → TookSteps (lent_writer given a, lent_writer back b) → TookSteps (a, b)
-unlent_steps a b given back h = ∥∥₁_elim h ∥∥₁_prop (λ (k : StepsFront (lent_writer given a) (lent_writer back b)). ∣ unlent_front a b given back k ∣₁)
+unlent_steps a b given back h = ∥∥₁_elim h ∥∥₁_prop (λ (k : StepsPrefix (lent_writer given a) (lent_writer back b)). ∣ unlent_front a b given back k ∣₁)
 
 -- the same for the steps that the writer received
 pub steps_lent : {C : Type 0} (seen : C → Writer) (budget : ℕ) (x y : Reader) (u z : Writer) (a c v : C) (given back : ℕ) → (given ≡ back → c ≡ v) → (r : Result Summary RunFault)
@@ -432,9 +432,9 @@ counter_lent seen budget x y u z a c v given back same r h k =
 
 module _ (budget : ℕ) (x y : Reader) (u z a b : Writer) where
   pub answered_if : (r : Result Summary RunFault) → FinishesOrFaults r budget (x, y) (u, z) (a, b) → IfOk r (λ s. WritesAnswers budget s (x, y) (u, z))
-  answered_if (Ok s) h = enough_so x y (λ text. WritesRun text budget s (u, z) (a, b)) (λ text. (answered : List ℕ) × WriterTakes u z answered × ReportsRightly text budget s answered) (λ text k. (k.answered, k.writes_answers, (same_reports text budget s k.answered).1 k.guarantee.is_answered)) h.wrote
+  answered_if (Ok s) h = enough_so x y (λ text. WritesRun text budget s (u, z) (a, b)) (λ text. (answered : List ℕ) × WriterAccepts u z answered × ReportsRightly text budget s answered) (λ text k. (k.answered, k.writes_answers, (same_reports text budget s k.answered).1 k.guarantee.is_answered)) h.wrote
   answered_if (Err e) h = tt
 
   pub guaranteed_if : (r : Result Summary RunFault) → FinishesOrFaults r budget (x, y) (u, z) (a, b) → IfOk r (λ s. TookCertificate budget s (x, y) (u, z) (a, b))
-  guaranteed_if (Ok s) h = enough_so x y (λ text. WritesRun text budget s (u, z) (a, b)) (λ text. (answered : List ℕ) × (certified : List ℕ) × WriterTakes u z answered × WriterTakes a b certified × CertificateGuarantee text budget s answered certified) (λ text k. (k.answered, k.certified, k.writes_answers, k.certifies, k.guarantee)) h.wrote
+  guaranteed_if (Ok s) h = enough_so x y (λ text. WritesRun text budget s (u, z) (a, b)) (λ text. (answered : List ℕ) × (certified : List ℕ) × WriterAccepts u z answered × WriterAccepts a b certified × CertificateGuarantee text budget s answered certified) (λ text k. (k.answered, k.certified, k.writes_answers, k.certifies, k.guarantee)) h.wrote
   guaranteed_if (Err e) h = tt

@@ -2,7 +2,7 @@
 use Rattle.std.proofs.Common.{ℕ, ◌+◌, ◌≡◌, ◌∙◌, List, [], ◌++◌, map, refl, sym, ap, subst, arith, append_assoc}
 use Rattle.std.proofs.lemmas.List.{map-append}
 use Rattle.sat_base.specs.script.Script.{Command}
-use Rattle.sat_base.specs.script.ScriptState.{accepted_of}
+use Rattle.sat_base.specs.script.ScriptState.{accepted_commands}
 use Rattle.sat_checker.specs.matching.Expected.{Outcome}
 use Rattle.certify.specs.answers.Answers.{answers_from}
 use Rattle.certify.specs.answers.RightAnswers.{AreRight}
@@ -27,7 +27,7 @@ pub serves_then : (budget : ℕ) (a b c : RunPlace) (xs ys : List Command) (s t 
 serves_then budget a b c xs ys s t rs qs k l f g = record {
   outcomes = f.outcomes ++ g.outcomes;
   right = λ left rest x.
-      let P : List Command → List Outcome → Type 0 = λ cs os. AreRight a.judge (accepted_of a.judge cs) os in
+      let P : List Command → List Outcome → Type 0 = λ cs os. AreRight a.judge (accepted_commands a.judge cs) os in
       subst (λ cs. P cs ((f.outcomes ++ g.outcomes) ++ rest)) (sym (append_assoc xs ys left))
       (subst (λ os. P (xs ++ (ys ++ left)) os) (sym (append_assoc f.outcomes g.outcomes rest)) (f.right (ys ++ left) (g.outcomes ++ rest) (g.right left rest x)));
   says = λ left ending rest.
@@ -39,11 +39,11 @@ serves_then budget a b c xs ys s t rs qs k l f g = record {
       ap (refused_count a.judge) (append_assoc xs ys left) ∙ (let x : refused_count a.judge (xs ++ (ys ++ left)) ≡ k + l + refused_count c.judge left = omega arith in x);
   kinds = map-append (λ (r : AskReport). r.answer) rs qs ∙ ap (λ ks. ks ++ map (λ (r : AskReport). r.answer) qs) f.kinds ∙ ap (λ ks. map answer_kind f.outcomes ++ ks) g.kinds ∙ sym (map-append answer_kind f.outcomes g.outcomes);
   spent = λ left rest x.
-      let P : List Command → List AskReport → Type 0 = λ cs ps. AreWithinBudget budget a.rounds (identities_given a.judge (accepted_of a.judge cs)) ps in
+      let P : List Command → List AskReport → Type 0 = λ cs ps. AreWithinBudget budget a.rounds (identities_given a.judge (accepted_commands a.judge cs)) ps in
       subst (λ cs. P cs ((rs ++ qs) ++ rest)) (sym (append_assoc xs ys left))
       (subst (λ ps. P (xs ++ (ys ++ left)) ps) (sym (append_assoc rs qs rest)) (f.spent (ys ++ left) (qs ++ rest) (g.spent left rest x)));
   follows = λ to left rest counts x.
-      let P : List Command → List Outcome → List ℕ → Type 0 = λ cs os ns. ServesCommands a.judge a.steps to (accepted_of a.judge cs) os ns in
+      let P : List Command → List Outcome → List ℕ → Type 0 = λ cs os ns. ServesCommands a.judge a.steps to (accepted_commands a.judge cs) os ns in
       let whole = f.follows to (ys ++ left) (g.outcomes ++ rest) (rounds_of_asks qs ++ counts) (g.follows to left rest counts x) in
       let n : rounds_of_asks rs ++ (rounds_of_asks qs ++ counts) ≡ rounds_of_asks (rs ++ qs) ++ counts = sym (append_assoc (rounds_of_asks rs) (rounds_of_asks qs) counts) ∙ ap (λ ns. ns ++ counts) (sym (map-append (λ (r : AskReport). r.steps) rs qs)) in
       subst (λ cs. P cs ((f.outcomes ++ g.outcomes) ++ rest) (rounds_of_asks (rs ++ qs) ++ counts)) (sym (append_assoc xs ys left))

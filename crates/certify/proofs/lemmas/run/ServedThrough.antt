@@ -3,11 +3,11 @@ use Rattle.std.proofs.Common.{ℕ, ◌+◌, ◌≡◌, ◌∙◌, true, false, O
 use Rattle.std.proofs.lemmas.List.{map-append}
 use Rattle.sat_base.specs.declared.device.whole.ReadError.{ReadError}
 use Rattle.sat_base.specs.declared.device.whole.ReadError.TheVariants as errors
-use Rattle.sat_base.specs.device.Device.{Writer, WriterTakes}
+use Rattle.sat_base.specs.device.Device.{Writer, WriterAccepts}
 use Rattle.sat_base.specs.device.Reading.{Source, AtEnd}
 use Rattle.sat_base.specs.script.Script.{Command, Ask, ScriptEnding, Clean, Malformed}
-use Rattle.sat_base.specs.script.Language.{Reading, onto_commands}
-use Rattle.sat_base.specs.script.ScriptState.{ScriptState, accepted, accepted_of, after_command}
+use Rattle.sat_base.specs.script.Language.{Reading, prepend_commands}
+use Rattle.sat_base.specs.script.ScriptState.{ScriptState, state_after_accepted, accepted_commands, after_command}
 use Rattle.sat_base.specs.steps.Steps.{Step}
 use Rattle.sat_base.proofs.lemmas.device.Writes as writes
 use Rattle.sat_checker.specs.matching.Expected.{Outcome}
@@ -26,9 +26,9 @@ use Rattle.certify.specs.declared.run.session.RunState.{RunState}
 use Rattle.certify.specs.declared.summary.AskReport.{AskReport}
 use Rattle.certify.specs.script.LastPiece.{TakesSomeOrEnds, TakesSome as TookOf}
 use Rattle.certify.specs.script.Commands.{HasWhole, ReaderMeans, MeansIf, ReachesCommand, end_reading, end_if}
-use Rattle.certify.specs.script.Streaming.{Arrives, NextComes}
+use Rattle.certify.specs.script.Streaming.{Arrives, NextCommandResult}
 use Rattle.certify.specs.run.FinishedRun.{malformed_at, answer_kind, rounds_of_asks}
-use Rattle.certify.specs.run.Unfinished.{Exceeds, TookAnswersFront}
+use Rattle.certify.specs.run.Unfinished.{Exceeds, TookAnswersPrefix}
 use Rattle.sat_solver.specs.solver.View.{proof_in}
 use Rattle.certify.specs.run.SolverCalls.{FaultSays, IsCaused, IsReadySolver}
 use Rattle.certify.specs.run.Serving.{RunPlace, Serves}
@@ -58,7 +58,7 @@ to_end budget a ending = record {
 }
 
 pub to_then : (budget : ℕ) (a b : RunPlace) (cs : List Command) (script : Reading) (to : List Step) (s t : List ℕ) (rs qs : List AskReport) (k l : ℕ)
-    → Serves budget a b cs s rs k → ServesTo budget b script to t qs l → ServesTo budget a (onto_commands cs script) to (s ++ t) (rs ++ qs) (k + l)
+    → Serves budget a b cs s rs k → ServesTo budget b script to t qs l → ServesTo budget a (prepend_commands cs script) to (s ++ t) (rs ++ qs) (k + l)
 to_then budget a b cs script to s t rs qs k l f g = record {
   outcomes = f.outcomes ++ g.outcomes;
   right = f.right script.0 g.outcomes g.right;
@@ -67,7 +67,7 @@ to_then budget a b cs script to s t rs qs k l f g = record {
   kinds = map-append (λ (r : AskReport). r.answer) rs qs ∙ ap (λ ks. ks ++ map (λ (r : AskReport). r.answer) qs) f.kinds ∙ ap (λ ks. map answer_kind f.outcomes ++ ks) g.kinds ∙ sym (map-append answer_kind f.outcomes g.outcomes);
   spent = f.spent script.0 qs g.spent;
   follows =
-      subst (λ ns. ServesCommands a.judge a.steps to (accepted_of a.judge (cs ++ script.0)) (f.outcomes ++ g.outcomes) ns) (sym (map-append (λ (r : AskReport). r.steps) rs qs))
+      subst (λ ns. ServesCommands a.judge a.steps to (accepted_commands a.judge (cs ++ script.0)) (f.outcomes ++ g.outcomes) ns) (sym (map-append (λ (r : AskReport). r.steps) rs qs))
       (f.follows to script.0 g.outcomes (rounds_of_asks qs) g.follows);
 }
 
@@ -116,7 +116,7 @@ module _ {C : Type 0} (seen : C → Writer) where
       }
 
   -- commands were served, and then the rest of the script
-  pub served_whole : (j : ScriptState) (cs : List Command) (script : Reading) (k : ℕ) (at : Option ℕ) (a b d : RunState C) (u v w : Writer) → (f : ServedAll seen j cs a b u v) → ServesWhole seen f.judge script k at b d v w → ServesWhole seen j (onto_commands cs script) (length cs + k) at a d u w
+  pub served_whole : (j : ScriptState) (cs : List Command) (script : Reading) (k : ℕ) (at : Option ℕ) (a b d : RunState C) (u v w : Writer) → (f : ServedAll seen j cs a b u v) → ServesWhole seen f.judge script k at b d v w → ServesWhole seen j (prepend_commands cs script) (length cs + k) at a d u w
   served_whole j cs script k at a b d u v w f g =
       let m = f.counted in let n = g.counted in
       let p = f.refusals in let q = g.refusals in
@@ -137,12 +137,12 @@ module _ {C : Type 0} (seen : C → Writer) where
       }
 
   -- the last command was served
-  pub served_last : (j : ScriptState) (c : Command) (script : Reading) (at : Option ℕ) (a b d : RunState C) (u v w : Writer) → HasStateBetweenCommands a j → ServedNext seen a b c u v → ((i : ScriptState) → HasStateBetweenCommands b i → ServesWhole seen i script 0 at b d v w) → ServesWhole seen j (onto_commands (c ∷ []) script) 1 at a d u w
+  pub served_last : (j : ScriptState) (c : Command) (script : Reading) (at : Option ℕ) (a b d : RunState C) (u v w : Writer) → HasStateBetweenCommands a j → ServedNext seen a b c u v → ((i : ScriptState) → HasStateBetweenCommands b i → ServesWhole seen i script 0 at b d v w) → ServesWhole seen j (prepend_commands (c ∷ []) script) 1 at a d u w
   served_last j c script at a b d u v w is f g =
       let h : ServedAll seen j (c ∷ []) a b u v = served_more j [] c a a b u u v (served_none j a u is) f in
       served_whole j (c ∷ []) script 0 at a b d u v w h (g h.judge h.at)
 
-  pub served_last_if : (j : ScriptState) (c : Command) (script : Reading) (r : Result (Option ℕ) RunFault) (a b d : RunState C) (u v w : Writer) → HasStateBetweenCommands a j → ServedNext seen a b c u v → ((i : ScriptState) → HasStateBetweenCommands b i → IfOk r (λ at. ServesWhole seen i script 0 at b d v w)) → IfOk r (λ at. ServesWhole seen j (onto_commands (c ∷ []) script) 1 at a d u w)
+  pub served_last_if : (j : ScriptState) (c : Command) (script : Reading) (r : Result (Option ℕ) RunFault) (a b d : RunState C) (u v w : Writer) → HasStateBetweenCommands a j → ServedNext seen a b c u v → ((i : ScriptState) → HasStateBetweenCommands b i → IfOk r (λ at. ServesWhole seen i script 0 at b d v w)) → IfOk r (λ at. ServesWhole seen j (prepend_commands (c ∷ []) script) 1 at a d u w)
   served_last_if j c script (Ok at) a b d u v w is f g = served_last j c script at a b d u v w is f g
   served_last_if j c script (Err e) a b d u v w is f g = tt
 
@@ -164,13 +164,13 @@ module _ {C : Type 0} (seen : C → Writer) where
   }
 
   -- the last line is written at a malformed end
-  pub ends_malformed : (j : ScriptState) (a b : RunState C) (u v : Writer) (number : ℕ) → number ≡ a.commands + 1 → b.solver ≡ a.solver → b.commands ≡ a.commands → b.refused ≡ a.refused → b.asks ≡ a.asks → WriterTakes u v (malformed_line number) → ServesWhole seen j ([], Malformed) 0 (Some number) a b u v
+  pub ends_malformed : (j : ScriptState) (a b : RunState C) (u v : Writer) (number : ℕ) → number ≡ a.commands + 1 → b.solver ≡ a.solver → b.commands ≡ a.commands → b.refused ≡ a.refused → b.asks ≡ a.asks → WriterAccepts u v (malformed_line number) → ServesWhole seen j ([], Malformed) 0 (Some number) a b u v
   ends_malformed j a b u v number e solver commands refused asks written = record {
     took = subst (λ x. ComesBySteps seen (proof_in a.solver) (proof_in x)) (sym solver) (took_none seen (proof_in a.solver));
     counted = omega (arith, commands);
     ends = ap Some (let x : number ≡ a.commands + 0 + 1 = omega (arith, e) in x);
     text = malformed_line (a.commands + 1);
-    written = subst (λ n. WriterTakes u v (malformed_line n)) e written;
+    written = subst (λ n. WriterAccepts u v (malformed_line n)) e written;
     reports = [];
     asks = ap (λ (rs : _). rs.items) asks ∙ sym (append-nil a.asks.items);
     refused = 0;
@@ -205,7 +205,7 @@ module _ {C : Type 0} (seen : C → Writer) where
   pub ends_asked : (j : ScriptState) (a b : RunState C) (u v : Writer) → HasStateBetweenCommands a j → CarriedOut seen a b (Ask []) u v → ServesWhole seen j (Ask [] ∷ [], Clean) 0 None a b u v
   ends_asked j a b u v at h =
       let k = h.serves j at.live at.means refl in
-      let place = place_in b (accepted (Ask []) j) in
+      let place = place_in b (state_after_accepted (Ask []) j) in
       let s : ServesTo a.budget (last_place a j) (Ask [] ∷ [], Clean) (steps_in b.solver) (h.text ++ []) (h.reports ++ []) 0 = to_then a.budget (last_place a j) place (Ask [] ∷ []) ([], Clean) (steps_in b.solver) h.text [] h.reports [] 0 0 k.2 (to_end a.budget place Clean) in
       let c = h.commands in let r = h.refused in
       let t : ServesTo a.budget (last_place a j) (Ask [] ∷ [], Clean) (steps_in b.solver) h.text h.reports 0 =
@@ -235,12 +235,12 @@ module _ {C : Type 0} (seen : C → Writer) where
   -- FAULTS
 
   -- a fault after one command was served
-  pub stops_following : {T : Type 0} (r : Result T RunFault) (c : Command) (script : Reading) (a b : RunState C) (u v w : Writer) → ServedNext seen a b c u v → StopsOver r b script v w → StopsOver r a (onto_commands (c ∷ []) script) u w
+  pub stops_following : {T : Type 0} (r : Result T RunFault) (c : Command) (script : Reading) (a b : RunState C) (u v w : Writer) → ServedNext seen a b c u v → StopsOver r b script v w → StopsOver r a (prepend_commands (c ∷ []) script) u w
   stops_following (Ok x) c script a b u v w f g = tt
   stops_following (Err e) c script a b u v w f g = λ j at.
       let h = f.serves j at in
       front_later a.budget (place_in a j) (place_in b (after_command c j)) (c ∷ []) script f.text f.reports f.refused u v w h.1 f.written
-      (subst (λ budget. TookAnswersFront budget b.solver.clock.rounds (b.commands + 1) (after_command c j) script v w) f.budget (g (after_command c j) h.0))
+      (subst (λ budget. TookAnswersPrefix budget b.solver.clock.rounds (b.commands + 1) (after_command c j) script v w) f.budget (g (after_command c j) h.0))
 
   -- a fault of a part of a run, after parts that succeeded
   pub fails_then : (e : RunFault) (a b : Source) (p q r : Solver C) (u v w : Writer) → TakesSomeOrEnds a b → NoneFailed u v → ComesBySteps seen (proof_in p) (proof_in q)
@@ -286,15 +286,15 @@ module _ {C : Type 0} (seen : C → Writer) (j : ScriptState) (text counted : Li
 
   -- a prefix of correct answers, after those to the commands that were served
   following : (c : Source) (script : List ℕ → Reading) (w : Writer) → ((total : List ℕ) → Covers c total → Covers b total) → ((total : List ℕ) → Covers c total → through.left (rest_in total b) ≡ script total)
-      → ((total : List ℕ) → Covers c total → TookAnswersFront mid.budget mid.solver.clock.rounds (mid.commands + 1) through.served.judge (script total) v w)
-      → (total : List ℕ) → Covers c total → TookAnswersFront old.budget old.solver.clock.rounds (old.commands + 1) j (text (rest_in total a)) u w
+      → ((total : List ℕ) → Covers c total → TookAnswersPrefix mid.budget mid.solver.clock.rounds (mid.commands + 1) through.served.judge (script total) v w)
+      → (total : List ℕ) → Covers c total → TookAnswersPrefix old.budget old.solver.clock.rounds (old.commands + 1) j (text (rest_in total a)) u w
   following c script w back is front total k =
       let f = through.served in
-      subst (λ s. TookAnswersFront old.budget old.solver.clock.rounds (old.commands + 1) j s u w) (sym (through.reads total (back total k) ∙ ap (onto_commands through.commands) (is total k)))
+      subst (λ s. TookAnswersPrefix old.budget old.solver.clock.rounds (old.commands + 1) j s u w) (sym (through.reads total (back total k) ∙ ap (prepend_commands through.commands) (is total k)))
       (front_later old.budget (place_in old j) (place_in mid f.judge) through.commands (script total) f.text f.reports f.refused u v w f.serves f.written
-      (subst (λ budget. TookAnswersFront budget mid.solver.clock.rounds (mid.commands + 1) f.judge (script total) v w) f.budget (front total k)))
+      (subst (λ budget. TookAnswersPrefix budget mid.solver.clock.rounds (mid.commands + 1) f.judge (script total) v w) f.budget (front total k)))
 
-  served_so_far : (c : Source) → ((total : List ℕ) → Covers c total → Covers b total) → (total : List ℕ) → Covers c total → TookAnswersFront old.budget old.solver.clock.rounds (old.commands + 1) j (text (rest_in total a)) u v
+  served_so_far : (c : Source) → ((total : List ℕ) → Covers c total → Covers b total) → (total : List ℕ) → Covers c total → TookAnswersPrefix old.budget old.solver.clock.rounds (old.commands + 1) j (text (rest_in total a)) u v
   served_so_far c back = following c (λ total. through.left (rest_in total b)) v back (λ total k. refl) (λ total k. front_none mid.budget mid.solver.clock.rounds (mid.commands + 1) through.served.judge (through.left (rest_in total b)) v)
 
   -- why no further command was served, except for device and allocation failures
@@ -303,11 +303,11 @@ module _ {C : Type 0} (seen : C → Writer) (j : ScriptState) (text counted : Li
   caused e c new script back is h =
       let f = through.served in
       caused_map e (HasFullStore new.solver) ((total : List ℕ) (i : ScriptState) → HasStateBetweenCommands mid i → Exceeds mid.commands i (script total) (steps_in new.solver)) (HasFullStore new.solver) ((total : List ℕ) → Covers c total → Exceeds old.commands j (text (rest_in total a)) (steps_in new.solver)) (λ x. x)
-      (λ k total y. subst (λ s. Exceeds old.commands j s (steps_in new.solver)) (sym (through.reads total (back total y) ∙ ap (onto_commands through.commands) (is total y)))
+      (λ k total y. subst (λ s. Exceeds old.commands j s (steps_in new.solver)) (sym (through.reads total (back total y) ∙ ap (prepend_commands through.commands) (is total y)))
       (exceeds_later old.commands mid.commands through.commands (script total) j (steps_in new.solver) f.counted (subst (λ i. Exceeds mid.commands i (script total) (steps_in new.solver)) f.judges (k total f.judge f.at)))) h
 
   -- the script cannot be read any further
-  pub unread : (e : ReadError) (c : Source) → NextComes (Err e) b c reader after_reader → ServesScript seen j text counted (Err (run_fault e)) a c old mid u v
+  pub unread : (e : ReadError) (c : Source) → NextCommandResult (Err e) b c reader after_reader → ServesScript seen j text counted (Err (run_fault e)) a c old mid u v
   unread errors.Failed c f = ((failed_then a b c through.took f, none_failed, through.served.took), served_so_far c (λ total k. covers_fault b c f.0 total mid_open f.1 k), tt)
   unread errors.OutOfMemory c f = ((took_passed true a c (took_then true a b c through.took f), none_failed, through.served.took), served_so_far c (λ total k. covers_took true b c total mid_open f k), tt)
 
@@ -319,10 +319,10 @@ module _ {C : Type 0} (seen : C → Writer) (j : ScriptState) (text counted : Li
       ready,
       λ total k.
           let before = covers_took false b c total mid_open took k in
-          let script : text (rest_in total a) ≡ onto_commands through.commands left = through.reads total before ∙ ap (onto_commands through.commands) (is total k) in
+          let script : text (rest_in total a) ≡ prepend_commands through.commands left = through.reads total before ∙ ap (prepend_commands through.commands) (is total k) in
           let count : length (counted (rest_in total a)).0 ≡ length through.commands + length plain.0 = through.holds total before ∙ ap (λ (z : Reading). length through.commands + length z.0) (is_plain total k) in
           subst (λ (z : Reading). ServesWhole seen j z (length (counted (rest_in total a)).0) at old new u w) (sym script)
-          (subst (λ (n : ℕ). ServesWhole seen j (onto_commands through.commands left) n at old new u w) (sym count) (served_whole seen j through.commands left (length plain.0) at old mid new u v w through.served serves)),
+          (subst (λ (n : ℕ). ServesWhole seen j (prepend_commands through.commands left) n at old new u w) (sym count) (served_whole seen j through.commands left (length plain.0) at old mid new u v w through.served serves)),
     )
     whole (Err e) ready serves both front cause = (
       fails_then seen e a c old.solver mid.solver new.solver u v w (took_passed false a c (took_then false a b c through.took took)) none_failed through.served.took both,
@@ -342,17 +342,17 @@ module _ {C : Type 0} (seen : C → Writer) (j : ScriptState) (text counted : Li
       (subst (λ (n : ℕ). IfOk r (λ at. ServesWhole seen through.served.judge (end_reading e) n at mid new v w)) (sym (no_commands e)) (serves through.served.judge through.served.at)) both front cause
 
   pub ends_last : (c : Source) (new : RunState C) (w : Writer) (e : ScriptEnd) (r : Result (Option ℕ) RunFault) → Arrives (next.Last e) b c reader after_reader → OnOk r (IsReadySolver new.solver)
-      → ((x : Command) → HasWhole after_reader x → (i : ScriptState) → HasStateBetweenCommands mid i → IfOk r (λ at. ServesWhole seen i (onto_commands (x ∷ []) (end_reading e)) 1 at mid new v w)) → WritesBoth r seen v w mid.solver new.solver
-      → ((x : Command) → HasWhole after_reader x → StopsOver r mid (onto_commands (x ∷ []) (end_reading e)) v w)
-      → ((x : Command) → HasWhole after_reader x → CausedOver r mid new (onto_commands (x ∷ []) (end_reading e))) → ServesScript seen j text counted r a c old new u w
+      → ((x : Command) → HasWhole after_reader x → (i : ScriptState) → HasStateBetweenCommands mid i → IfOk r (λ at. ServesWhole seen i (prepend_commands (x ∷ []) (end_reading e)) 1 at mid new v w)) → WritesBoth r seen v w mid.solver new.solver
+      → ((x : Command) → HasWhole after_reader x → StopsOver r mid (prepend_commands (x ∷ []) (end_reading e)) v w)
+      → ((x : Command) → HasWhole after_reader x → CausedOver r mid new (prepend_commands (x ∷ []) (end_reading e))) → ServesScript seen j text counted r a c old new u w
   ends_last c new w e r came ready serves both front cause =
       let k = came.2 true through.left through.means in
       let n = came.2 false through.plain through.counts in
       let none = no_commands e in
       let one : length (n.0 ∷ (end_if false e).0) ≡ 1 = omega arith in
-      whole c new w ((came.0, came.1.0), λ h. all_over c came.1.1) (onto_commands (k.0 ∷ []) (end_reading e)) (onto_commands (n.0 ∷ []) (end_if false e))
+      whole c new w ((came.0, came.1.0), λ h. all_over c came.1.1) (prepend_commands (k.0 ∷ []) (end_reading e)) (prepend_commands (n.0 ∷ []) (end_if false e))
       (λ total x. ap through.left (nothing_after b c came.0 total came.1 x) ∙ k.2) (λ total x. ap through.plain (nothing_after b c came.0 total came.1 x) ∙ n.2) r ready
-      (subst (λ (i : ℕ). IfOk r (λ at. ServesWhole seen through.served.judge (onto_commands (k.0 ∷ []) (end_reading e)) i at mid new v w)) (sym one) (serves k.0 k.1 through.served.judge through.served.at)) both (front k.0 k.1) (cause k.0 k.1)
+      (subst (λ (i : ℕ). IfOk r (λ at. ServesWhole seen through.served.judge (prepend_commands (k.0 ∷ []) (end_reading e)) i at mid new v w)) (sym one) (serves k.0 k.1 through.served.judge through.served.at)) both (front k.0 k.1) (cause k.0 k.1)
 
   -- a command
   module _ (c : Source) (new : RunState C) (w : Writer) (came : Arrives next.Command b c reader after_reader) where
@@ -379,7 +379,7 @@ module _ {C : Type 0} (seen : C → Writer) (j : ScriptState) (text counted : Li
           took = took_then true a b c through.took took;
           reads = λ total k.
               let before = covers_took true b c total mid_open took k in
-              through.reads total before ∙ ap (onto_commands cs) (ap through.left (taken_front 0 b c came.0 total came.1 k) ∙ reaches.reads (rest_in total c))
+              through.reads total before ∙ ap (prepend_commands cs) (ap through.left (taken_front 0 b c came.0 total came.1 k) ∙ reaches.reads (rest_in total c))
               ∙ onto-onto cs (x ∷ []) (reaches.after (rest_in total c));
           holds = λ total k.
               let before = covers_took true b c total mid_open took k in
@@ -391,20 +391,20 @@ module _ {C : Type 0} (seen : C → Writer) (j : ScriptState) (text counted : Li
           served = served_more seen j cs x old mid new u v w through.served s;
         }
       where
-        onto-onto : (xs ys : List Command) (r : Reading) → onto_commands xs (onto_commands ys r) ≡ onto_commands (xs ++ ys) r
+        onto-onto : (xs ys : List Command) (r : Reading) → prepend_commands xs (prepend_commands ys r) ≡ prepend_commands (xs ++ ys) r
         onto-onto xs ys r = ap (λ (zs : List Command). (zs, r.1)) (sym (append_assoc xs ys r.0))
 
-    pub stops : (e : RunFault) → WritesBoth {T = Unit {0}} (Err e) seen v w mid.solver new.solver → ((x : Command) → HasWhole after_reader x → (left : Reading) → StopsOver {T = Unit {0}} (Err e) mid (onto_commands (x ∷ []) left) v w)
-        → ((x : Command) → HasWhole after_reader x → (left : Reading) → CausedOver {T = Unit {0}} (Err e) mid new (onto_commands (x ∷ []) left))
+    pub stops : (e : RunFault) → WritesBoth {T = Unit {0}} (Err e) seen v w mid.solver new.solver → ((x : Command) → HasWhole after_reader x → (left : Reading) → StopsOver {T = Unit {0}} (Err e) mid (prepend_commands (x ∷ []) left) v w)
+        → ((x : Command) → HasWhole after_reader x → (left : Reading) → CausedOver {T = Unit {0}} (Err e) mid new (prepend_commands (x ∷ []) left))
         → ServesScript seen j text counted (Err e) a c old new u w
     stops e both front cause = (
       fails_then seen e a c old.solver mid.solver new.solver u v w (took_passed true a c (took_then true a b c through.took took)) none_failed through.served.took both,
-      following c (λ total. onto_commands (reaches.command ∷ []) (reaches.after (rest_in total c))) w (λ total k. covers_took true b c total mid_open took k)
+      following c (λ total. prepend_commands (reaches.command ∷ []) (reaches.after (rest_in total c))) w (λ total k. covers_took true b c total mid_open took k)
           (λ total k. ap through.left (taken_front 0 b c came.0 total came.1 k) ∙ reaches.reads (rest_in total c))
           (λ total k. front reaches.command reaches.whole (reaches.after (rest_in total c)) through.served.judge through.served.at),
-      caused e c new (λ total. onto_commands (reaches.command ∷ []) (reaches.after (rest_in total c))) (λ total k. covers_took true b c total mid_open took k)
+      caused e c new (λ total. prepend_commands (reaches.command ∷ []) (reaches.after (rest_in total c))) (λ total k. covers_took true b c total mid_open took k)
           (λ total k. ap through.left (taken_front 0 b c came.0 total came.1 k) ∙ reaches.reads (rest_in total c))
-          (caused_map e (HasFullStore new.solver) ((left : Reading) (i : ScriptState) → HasStateBetweenCommands mid i → Exceeds mid.commands i (onto_commands (reaches.command ∷ []) left) (steps_in new.solver)) (HasFullStore new.solver)
-          ((total : List ℕ) (i : ScriptState) → HasStateBetweenCommands mid i → Exceeds mid.commands i (onto_commands (reaches.command ∷ []) (reaches.after (rest_in total c))) (steps_in new.solver)) (λ x. x) (λ k total. k (reaches.after (rest_in total c)))
-          (caused_all e (HasFullStore new.solver) Reading (λ left. (i : ScriptState) → HasStateBetweenCommands mid i → Exceeds mid.commands i (onto_commands (reaches.command ∷ []) left) (steps_in new.solver)) ([], Clean) (cause reaches.command reaches.whole))),
+          (caused_map e (HasFullStore new.solver) ((left : Reading) (i : ScriptState) → HasStateBetweenCommands mid i → Exceeds mid.commands i (prepend_commands (reaches.command ∷ []) left) (steps_in new.solver)) (HasFullStore new.solver)
+          ((total : List ℕ) (i : ScriptState) → HasStateBetweenCommands mid i → Exceeds mid.commands i (prepend_commands (reaches.command ∷ []) (reaches.after (rest_in total c))) (steps_in new.solver)) (λ x. x) (λ k total. k (reaches.after (rest_in total c)))
+          (caused_all e (HasFullStore new.solver) Reading (λ left. (i : ScriptState) → HasStateBetweenCommands mid i → Exceeds mid.commands i (prepend_commands (reaches.command ∷ []) left) (steps_in new.solver)) ([], Clean) (cause reaches.command reaches.whole))),
     )

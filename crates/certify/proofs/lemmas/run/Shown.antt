@@ -7,7 +7,7 @@ use Rattle.sat_base.specs.steps.Steps.{Step, Assumptions}
 use Rattle.sat_base.specs.steps.StepText.{SpellsSteps}
 use Rattle.sat_checker.specs.matching.Expected.{Outcome, Sat, Unsat, Unknown}
 use Rattle.sat_checker.specs.matching.ProofChecking.{checker_rules}
-use Rattle.certify.specs.run.Advancing.{AdvanceTimesStored}
+use Rattle.certify.specs.run.Advancing.{CountsEmpoweringFor}
 use Rattle.certify.specs.run.Learning.{EachLearns, assumed_times}
 use Rattle.certify.specs.run.Stretches.{LearnsEachRound}
 
@@ -42,7 +42,7 @@ ends (s ∷ a) (t ∷ b) x y e h = let f : a ++ x ≡ b ++ y = cc in ends a b x 
 
 -- ROUND BY ROUND
 
-few_learned : (earlier steps : List Step) (k : ℕ) → AdvanceTimesStored earlier steps k → k ≤ length steps
+few_learned : (earlier steps : List Step) (k : ℕ) → CountsEmpoweringFor earlier steps k → k ≤ length steps
 few_learned earlier [] k h = omega (arith, h)
 few_learned earlier (step ∷ steps) k (inl h) = let rest = few_learned earlier steps k h.0 in omega (arith, rest)
 few_learned earlier (step ∷ steps) k (inr h) = let rest = few_learned earlier steps h.0 h.3 in omega (arith, rest, h.1)

@@ -1,8 +1,8 @@
 -- A search, and the rounds that it made.
 use Rattle.std.proofs.Common.{ℕ, ◌-◌, ◌≡◌, ◌∙◌, refl, sym, arith}
 use Rattle.sat_base.specs.device.Device.{Writer}
-use Rattle.sat_solver.specs.declared.state.State.{State}
-use Rattle.sat_solver.specs.declared.state.State.TheVariants as states
+use Rattle.sat_solver.specs.declared.state.SatState.{SatState}
+use Rattle.sat_solver.specs.declared.state.SatState.TheVariants as states
 use Rattle.certify.specs.declared.summary.Answer.{Answer}
 use Rattle.certify.specs.declared.summary.Answer.TheVariants as kind
 use Rattle.certify.specs.run.SolverCalls.{AnswerIs, Limited, Searched, Solved}
@@ -22,7 +22,7 @@ searched seen budget answer old mid new before after limited at now solved = rec
   rounds = let c = solved.answered.counts.on.more in let r = limited.rounds in omega arith;
 }
   where
-    unknown_state : (st : State) (a : Answer) → AnswerIs st a → a ≡ kind.Unknown → st ≡ states.Unknown
+    unknown_state : (st : SatState) (a : Answer) → AnswerIs st a → a ≡ kind.Unknown → st ≡ states.Unknown
     unknown_state states.Unknown a h e = refl
     unknown_state states.Sat a h e = absurd (let x : kind.Sat ≡ kind.Unknown = sym h ∙ e in apart_sat x)
       where

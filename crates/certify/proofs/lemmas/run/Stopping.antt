@@ -3,10 +3,10 @@ use Rattle.std.proofs.Common.{ℕ, ◌+◌, ◌*◌, ◌≡◌, ◌∙◌, Optio
 use Rattle.std.proofs.lemmas.List.{append-nil, map-append}
 use Rattle.std.proofs.lemmas.Nat.{pow_pos}
 use Rattle.std.specs.Io.KnownBytes.{Appends, Keeps}
-use Rattle.sat_base.specs.device.Device.{Writer, FlushesOnce, WriterTakes, WriterBreaks}
+use Rattle.sat_base.specs.device.Device.{Writer, FlushesOnce, WriterAccepts, WriterFails}
 use Rattle.sat_base.specs.script.Script.{Literal, Command, Clause, Ask, Hide, Witness, Sample, Malformed}
-use Rattle.sat_base.specs.script.Language.{Reading, onto_commands}
-use Rattle.sat_base.specs.script.ScriptState.{ScriptState, Refusal, accepted, accepted_of, refusal_of}
+use Rattle.sat_base.specs.script.Language.{Reading, prepend_commands}
+use Rattle.sat_base.specs.script.ScriptState.{ScriptState, Refusal, state_after_accepted, accepted_commands, refusal_of}
 use Rattle.sat_base.proofs.lemmas.device.Known.{appends_none, appends_more}
 use Rattle.sat_base.specs.steps.Steps.{Step}
 use Rattle.sat_checker.specs.matching.Expected.{Outcome, Unknown}
@@ -15,7 +15,7 @@ use Rattle.certify.specs.answers.RightAnswers.{AreRight, IsRight}
 use Rattle.certify.specs.declared.summary.Answer.TheVariants as kind
 use Rattle.certify.specs.declared.summary.AskReport.{AskReport}
 use Rattle.certify.specs.run.FinishedRun.{AreWithinBudget, IsBounded, SpendsWithinBudget, answer_kind, identities_given}
-use Rattle.certify.specs.run.Unfinished.{AreSpentSoFar, BeginAnswers, TookBytes, TookAnswersFront}
+use Rattle.certify.specs.run.Unfinished.{AreSpentSoFar, BeginAnswers, TookBytes, TookAnswersPrefix}
 use Rattle.certify.specs.run.Serving.{RunPlace, Serves}
 use Rattle.certify.specs.run.ServedScript.{ServesTo}
 use Rattle.certify.proofs.lemmas.run.ServedOnce.{accepted_next, accepted_refused}
@@ -32,11 +32,11 @@ unknowns (Sample names ∷ commands) = unknowns commands
 
 unknowns_right : (j : ScriptState) (commands : List Command) → AreRight j commands (unknowns commands)
 unknowns_right j [] = tt
-unknowns_right j (Ask ls ∷ commands) = (tt, unknowns_right (accepted (Ask ls) j) commands)
-unknowns_right j (Clause ls ∷ commands) = unknowns_right (accepted (Clause ls) j) commands
-unknowns_right j (Hide names ∷ commands) = unknowns_right (accepted (Hide names) j) commands
-unknowns_right j (Witness names ∷ commands) = unknowns_right (accepted (Witness names) j) commands
-unknowns_right j (Sample names ∷ commands) = unknowns_right (accepted (Sample names) j) commands
+unknowns_right j (Ask ls ∷ commands) = (tt, unknowns_right (state_after_accepted (Ask ls) j) commands)
+unknowns_right j (Clause ls ∷ commands) = unknowns_right (state_after_accepted (Clause ls) j) commands
+unknowns_right j (Hide names ∷ commands) = unknowns_right (state_after_accepted (Hide names) j) commands
+unknowns_right j (Witness names ∷ commands) = unknowns_right (state_after_accepted (Witness names) j) commands
+unknowns_right j (Sample names ∷ commands) = unknowns_right (state_after_accepted (Sample names) j) commands
 
 -- ROUNDS OF THE FIRST ASKS
 
@@ -72,8 +72,8 @@ module _ (budget before n : ℕ) (j : ScriptState) where
   pub begins_none : (script : Reading) → BeginAnswers budget before n j script []
   begins_none script = record {
     answered = [];
-    later = unknowns (accepted_of j script.0);
-    right = unknowns_right j (accepted_of j script.0);
+    later = unknowns (accepted_commands j script.0);
+    right = unknowns_right j (accepted_commands j script.0);
     begins = λ others e. (answers_from n j script.0 script.1 others, refl);
     reports = [];
     kinds = refl;
@@ -92,23 +92,23 @@ module _ (budget before n : ℕ) (j : ScriptState) where
   }
 
   -- the answer to an ask, which is correct, is a prefix of correct answers
-  begins_ask : (ls : List Literal) (o : Outcome) (report : AskReport) (left : Reading) → refusal_of j (Ask ls) ≡ None → IsRight (accepted (Ask ls) j) ls o → report.answer ≡ answer_kind o → SpendsWithinBudget budget before report
-      → IsBounded (accepted (Ask ls) j).identity_count budget before report → BeginAnswers budget before n j (onto_commands (Ask ls ∷ []) left) (outcome_text o)
+  begins_ask : (ls : List Literal) (o : Outcome) (report : AskReport) (left : Reading) → refusal_of j (Ask ls) ≡ None → IsRight (state_after_accepted (Ask ls) j) ls o → report.answer ≡ answer_kind o → SpendsWithinBudget budget before report
+      → IsBounded (state_after_accepted (Ask ls) j).identity_count budget before report → BeginAnswers budget before n j (prepend_commands (Ask ls ∷ []) left) (outcome_text o)
   begins_ask ls o report left e right same spends bounded =
-      let later = accepted_of (accepted (Ask ls) j) left.0 in
+      let later = accepted_commands (state_after_accepted (Ask ls) j) left.0 in
       record {
         answered = o ∷ [];
         later = unknowns later;
-        right = subst (λ cs. AreRight j cs (o ∷ unknowns later)) (sym (accepted_next j (Ask ls) left.0 e)) (right, unknowns_right (accepted (Ask ls) j) later);
-        begins = λ others e2. (answers_from (n + 1) (accepted (Ask ls) j) left.0 left.1 others, rw e refl);
+        right = subst (λ cs. AreRight j cs (o ∷ unknowns later)) (sym (accepted_next j (Ask ls) left.0 e)) (right, unknowns_right (state_after_accepted (Ask ls) j) later);
+        begins = λ others e2. (answers_from (n + 1) (state_after_accepted (Ask ls) j) left.0 left.1 others, rw e refl);
         reports = report ∷ [];
         kinds = ap (λ k. k ∷ []) same;
         spent = subst (λ cs. AreSpentSoFar budget before (identities_given j cs) (report ∷ [])) (sym (accepted_next j (Ask ls) left.0 e)) (spends, bounded, tt);
       }
 
-  begins_refused : (c : Command) (r : Refusal) (left : Reading) → refusal_of j c ≡ Some r → BeginAnswers budget before n j (onto_commands (c ∷ []) left) (refused_line n r)
+  begins_refused : (c : Command) (r : Refusal) (left : Reading) → refusal_of j c ≡ Some r → BeginAnswers budget before n j (prepend_commands (c ∷ []) left) (refused_line n r)
   begins_refused c r left e =
-      let later = accepted_of j left.0 in
+      let later = accepted_commands j left.0 in
       record {
         answered = [];
         later = unknowns later;
@@ -132,15 +132,15 @@ module _ (budget before n : ℕ) (j : ScriptState) where
 
 -- the answers to earlier commands, and then a prefix of those to the later ones
 begins_later : (budget : ℕ) (a b : RunPlace) (cs : List Command) (script : Reading) (text bytes : List ℕ) (rs : List AskReport) (k : ℕ)
-    → Serves budget a b cs text rs k → BeginAnswers budget b.rounds b.number b.judge script bytes → BeginAnswers budget a.rounds a.number a.judge (onto_commands cs script) (text ++ bytes)
+    → Serves budget a b cs text rs k → BeginAnswers budget b.rounds b.number b.judge script bytes → BeginAnswers budget a.rounds a.number a.judge (prepend_commands cs script) (text ++ bytes)
 begins_later budget a b cs script text bytes rs k f g =
-    let whole = padded budget b.rounds (identities_given b.judge (accepted_of b.judge script.0)) g.reports g.spent in
-    let given = identities_given a.judge (accepted_of a.judge (cs ++ script.0)) in
+    let whole = padded budget b.rounds (identities_given b.judge (accepted_commands b.judge script.0)) g.reports g.spent in
+    let given = identities_given a.judge (accepted_commands a.judge (cs ++ script.0)) in
     let spent = f.spent script.0 (g.reports ++ whole.0) whole.1 in
     record {
       answered = f.outcomes ++ g.answered;
       later = g.later;
-      right = subst (AreRight a.judge (accepted_of a.judge (cs ++ script.0))) (sym (append_assoc f.outcomes g.answered g.later)) (f.right script.0 (g.answered ++ g.later) g.right);
+      right = subst (AreRight a.judge (accepted_commands a.judge (cs ++ script.0))) (sym (append_assoc f.outcomes g.answered g.later)) (f.right script.0 (g.answered ++ g.later) g.right);
       begins = λ others e.
           let h = g.begins others e in
           (h.0, ap (answers_from a.number a.judge (cs ++ script.0) script.1) (append_assoc f.outcomes g.answered others) ∙ f.says script.0 script.1 (g.answered ++ others) ∙ ap (λ u. text ++ u) h.1 ∙ sym (append_assoc text bytes h.0));
@@ -160,13 +160,13 @@ none_left (o ∷ os) e = absurd (cc)
 pub bytes_none : (w : Writer) → TookBytes w w []
 bytes_none w = record { taken = sym (append-nil w.taken); known_bytes = appends_none w.contents }
 
-pub bytes_taken : (u v : Writer) (text : List ℕ) → WriterTakes u v text → TookBytes u v text
+pub bytes_taken : (u v : Writer) (text : List ℕ) → WriterAccepts u v text → TookBytes u v text
 bytes_taken u v text t = record { taken = t.taken; known_bytes = t.known_bytes }
 
-pub bytes_broken : (u v : Writer) (text : List ℕ) → (b : WriterBreaks u v text) → TookBytes u v b.front
+pub bytes_broken : (u v : Writer) (text : List ℕ) → (b : WriterFails u v text) → TookBytes u v b.front
 bytes_broken u v text b = record { taken = b.taken; known_bytes = b.known_bytes }
 
-pub bytes_later : (u v w : Writer) (text bytes : List ℕ) → WriterTakes u v text → TookBytes v w bytes → TookBytes u w (text ++ bytes)
+pub bytes_later : (u v w : Writer) (text bytes : List ℕ) → WriterAccepts u v text → TookBytes v w bytes → TookBytes u w (text ++ bytes)
 bytes_later u v w text bytes t b = record {
   taken = b.taken ∙ ap (λ (z : List ℕ). z ++ bytes) t.taken ∙ append_assoc u.taken text bytes;
   known_bytes = appends_more u.contents v.contents w.contents text bytes t.known_bytes b.known_bytes;
@@ -176,35 +176,35 @@ bytes_later u v w text bytes t b = record {
 
 module _ (budget before n : ℕ) (j : ScriptState) where
   -- nothing was written
-  pub front_none : (script : Reading) (w : Writer) → TookAnswersFront budget before n j script w w
+  pub front_none : (script : Reading) (w : Writer) → TookAnswersPrefix budget before n j script w w
   front_none script w = record { bytes = []; took = bytes_none w; front = begins_none budget before n j script }
 
-  front_all : (script : Reading) (u v : Writer) (text : List ℕ) → BeginAnswers budget before n j script text → WriterTakes u v text → TookAnswersFront budget before n j script u v
+  front_all : (script : Reading) (u v : Writer) (text : List ℕ) → BeginAnswers budget before n j script text → WriterAccepts u v text → TookAnswersPrefix budget before n j script u v
   front_all script u v text h t = record { bytes = text; took = bytes_taken u v text t; front = h }
 
-  front_broken : (script : Reading) (u v : Writer) (text : List ℕ) → BeginAnswers budget before n j script text → WriterBreaks u v text → TookAnswersFront budget before n j script u v
+  front_broken : (script : Reading) (u v : Writer) (text : List ℕ) → BeginAnswers budget before n j script text → WriterFails u v text → TookAnswersPrefix budget before n j script u v
   front_broken script u v text h b = record { bytes = b.front; took = bytes_broken u v text b; front = begins_less budget before n j script b.front b.following (subst (BeginAnswers budget before n j script) b.whole h) }
 
   -- a part of the line of a refusal was written
-  pub front_refused : (c : Command) (r : Refusal) (left : Reading) (u v : Writer) → refusal_of j c ≡ Some r → WriterBreaks u v (refused_line n r) → TookAnswersFront budget before n j (onto_commands (c ∷ []) left) u v
-  front_refused c r left u v e b = front_broken (onto_commands (c ∷ []) left) u v (refused_line n r) (begins_refused budget before n j c r left e) b
+  pub front_refused : (c : Command) (r : Refusal) (left : Reading) (u v : Writer) → refusal_of j c ≡ Some r → WriterFails u v (refused_line n r) → TookAnswersPrefix budget before n j (prepend_commands (c ∷ []) left) u v
+  front_refused c r left u v e b = front_broken (prepend_commands (c ∷ []) left) u v (refused_line n r) (begins_refused budget before n j c r left e) b
 
   -- a part of the last line for a malformed text was written
-  pub front_malformed : (u v : Writer) → WriterBreaks u v (malformed_line n) → TookAnswersFront budget before n j ([], Malformed) u v
+  pub front_malformed : (u v : Writer) → WriterFails u v (malformed_line n) → TookAnswersPrefix budget before n j ([], Malformed) u v
   front_malformed u v b = front_broken ([], Malformed) u v (malformed_line n) (begins_malformed budget before n j) b
 
   -- the answer to an ask, or a prefix of it, was written
-  module _ (ls : List Literal) (o : Outcome) (report : AskReport) (left : Reading) (u v : Writer) (e : refusal_of j (Ask ls) ≡ None) (right : IsRight (accepted (Ask ls) j) ls o) (same : report.answer ≡ answer_kind o)
-      (spends : SpendsWithinBudget budget before report) (bounded : IsBounded (accepted (Ask ls) j).identity_count budget before report) where
-    pub front_answered : WriterTakes u v (outcome_text o) → TookAnswersFront budget before n j (onto_commands (Ask ls ∷ []) left) u v
-    front_answered t = front_all (onto_commands (Ask ls ∷ []) left) u v (outcome_text o) (begins_ask budget before n j ls o report left e right same spends bounded) t
+  module _ (ls : List Literal) (o : Outcome) (report : AskReport) (left : Reading) (u v : Writer) (e : refusal_of j (Ask ls) ≡ None) (right : IsRight (state_after_accepted (Ask ls) j) ls o) (same : report.answer ≡ answer_kind o)
+      (spends : SpendsWithinBudget budget before report) (bounded : IsBounded (state_after_accepted (Ask ls) j).identity_count budget before report) where
+    pub front_answered : WriterAccepts u v (outcome_text o) → TookAnswersPrefix budget before n j (prepend_commands (Ask ls ∷ []) left) u v
+    front_answered t = front_all (prepend_commands (Ask ls ∷ []) left) u v (outcome_text o) (begins_ask budget before n j ls o report left e right same spends bounded) t
 
-    pub front_cut : WriterBreaks u v (outcome_text o) → TookAnswersFront budget before n j (onto_commands (Ask ls ∷ []) left) u v
-    front_cut b = front_broken (onto_commands (Ask ls ∷ []) left) u v (outcome_text o) (begins_ask budget before n j ls o report left e right same spends bounded) b
+    pub front_cut : WriterFails u v (outcome_text o) → TookAnswersPrefix budget before n j (prepend_commands (Ask ls ∷ []) left) u v
+    front_cut b = front_broken (prepend_commands (Ask ls ∷ []) left) u v (outcome_text o) (begins_ask budget before n j ls o report left e right same spends bounded) b
 
 -- a prefix was written after the answers to commands that were served
 pub front_later : (budget : ℕ) (a b : RunPlace) (cs : List Command) (script : Reading) (text : List ℕ) (rs : List AskReport) (k : ℕ) (u v w : Writer)
-    → Serves budget a b cs text rs k → WriterTakes u v text → TookAnswersFront budget b.rounds b.number b.judge script v w → TookAnswersFront budget a.rounds a.number a.judge (onto_commands cs script) u w
+    → Serves budget a b cs text rs k → WriterAccepts u v text → TookAnswersPrefix budget b.rounds b.number b.judge script v w → TookAnswersPrefix budget a.rounds a.number a.judge (prepend_commands cs script) u w
 front_later budget a b cs script text rs k u v w f t g = record {
   bytes = text ++ g.bytes;
   took = bytes_later u v w text g.bytes t g.took;
@@ -213,25 +213,25 @@ front_later budget a b cs script text rs k u v w f t g = record {
 
 -- only the answers to commands that were served were written
 pub front_served : (budget : ℕ) (a b : RunPlace) (cs : List Command) (script : Reading) (text : List ℕ) (rs : List AskReport) (k : ℕ) (u v : Writer)
-    → Serves budget a b cs text rs k → WriterTakes u v text → TookAnswersFront budget a.rounds a.number a.judge (onto_commands cs script) u v
+    → Serves budget a b cs text rs k → WriterAccepts u v text → TookAnswersPrefix budget a.rounds a.number a.judge (prepend_commands cs script) u v
 front_served budget a b cs script text rs k u v f t = front_later budget a b cs script text rs k u v v f t (front_none budget b.rounds b.number b.judge script v)
 
 -- the answers to the complete script were written, and nothing more
 pub front_whole : (budget : ℕ) (a : RunPlace) (script : Reading) (to : List Step) (text : List ℕ) (rs : List AskReport) (k : ℕ) (u v w : Writer)
-    → ServesTo budget a script to text rs k → WriterTakes u v text → TookBytes v w [] → TookAnswersFront budget a.rounds a.number a.judge script u w
+    → ServesTo budget a script to text rs k → WriterAccepts u v text → TookBytes v w [] → TookAnswersPrefix budget a.rounds a.number a.judge script u w
 front_whole budget a script to text rs k u v w f t b = record {
   bytes = text ++ [];
   took = bytes_later u v w text [] t b;
   front = record {
     answered = f.outcomes;
     later = [];
-    right = subst (AreRight a.judge (accepted_of a.judge script.0)) (sym (append-nil f.outcomes)) f.right;
+    right = subst (AreRight a.judge (accepted_commands a.judge script.0)) (sym (append-nil f.outcomes)) f.right;
     begins = λ others e.
         let same = ap (λ os. f.outcomes ++ os) (none_left others e) ∙ append-nil f.outcomes in
         ([], ap (answers_from a.number a.judge script.0 script.1) same ∙ f.says ∙ sym (append-nil text) ∙ sym (append-nil (text ++ [])));
     reports = rs;
     kinds = f.kinds;
-    spent = spent_first budget a.rounds (identities_given a.judge (accepted_of a.judge script.0)) rs [] (subst (AreWithinBudget budget a.rounds (identities_given a.judge (accepted_of a.judge script.0))) (sym (append-nil rs)) f.spent);
+    spent = spent_first budget a.rounds (identities_given a.judge (accepted_commands a.judge script.0)) rs [] (subst (AreWithinBudget budget a.rounds (identities_given a.judge (accepted_commands a.judge script.0))) (sym (append-nil rs)) f.spent);
   };
 }
 

@@ -3,14 +3,14 @@ use Rattle.std.proofs.Common.{ℕ, ◌≡◌, ◌≢◌, Bool, true, false, ◌|
 use Rattle.std.specs.List.{AllByRecursion}
 use Rattle.sat_base.specs.values.Literals.{variable, negated}
 use Rattle.sat_base.specs.script.Script.{Literal, Command, Clause, Ask, Hide, Witness, Sample, names_of}
-use Rattle.sat_base.specs.script.ScriptState.{ScriptState, NameMode, Sampled, Witnessed, new_names, bring_in, without_name, with_mode, accepted}
+use Rattle.sat_base.specs.script.ScriptState.{ScriptState, NameMode, Sampled, Witnessed, new_names, introduce, without_name, with_mode, state_after_accepted}
 use Rattle.sat_base.specs.steps.Steps.{Redundant, Step, SolverVarName, UserVarName, DeleteVar, ChangeSamplingMode, AddClause, AtClause, UnitClauses, DeleteClause, ChangeHashBits, Model, Assumptions, FailedAssumptions, End}
 use Rattle.sat_checker.specs.LiteralSets.{is_among, is_tautology, canonical}
 use Rattle.sat_checker.specs.Stored.{Variable}
 use Rattle.sat_checker.specs.Stored as stored
 use Rattle.sat_checker.specs.Laws.{has_delete_var}
 use Rattle.sat_checker.specs.matching.Checking.{CheckerRules, is_ordered}
-use Rattle.sat_checker.specs.matching.Expected.{Outcome, Sat, Unsat, Unknown, Expected, NewName, NoName, Adds, Opens, Finish, Fits, new_name, no_name, adds, opens, shows, fails, closes, finish, bringing, hiding, setting}
+use Rattle.sat_checker.specs.matching.Expected.{Outcome, Sat, Unsat, Unknown, Expected, NewName, NoName, Adds, Opens, Finish, Fits, new_name, no_name, adds, opens, shows, fails, closes, finish, introducing, hiding, setting}
 use Rattle.sat_checker.specs.matching.ProofChecking.{checker_rules}
 use Rattle.sat_checker.specs.matching.Traces.{HasTrace, no_step, silent, visible}
 use Rattle.sat_solver.specs.session.Session.{Session, with_fact, session_after, AreAllowedSteps}
@@ -91,22 +91,22 @@ module _ (hides : Bool) where
   new_spare [] = tt
   new_spare (name ∷ names) = (tt, new_spare names)
 
-  bringing_spares : (names : List ℕ) (j : ScriptState) → AllSpare hides (bringing names j)
+  bringing_spares : (names : List ℕ) (j : ScriptState) → AllSpare hides (introducing names j)
   bringing_spares [] j = tt
-  bringing_spares (name ∷ names) j = both_spare (map NewName (new_names name j)) (bringing names (bring_in name j)) (new_spare (new_names name j)) (bringing_spares names (bring_in name j))
+  bringing_spares (name ∷ names) j = both_spare (map NewName (new_names name j)) (introducing names (introduce name j)) (new_spare (new_names name j)) (bringing_spares names (introduce name j))
 
   hiding_spares : hides ≡ true → (names : List ℕ) (j : ScriptState) → AllSpare hides (hiding names j)
   hiding_spares h [] j = tt
   hiding_spares h (name ∷ names) j =
-      both_spare (map NewName (new_names name j)) (NoName name ∷ hiding names (without_name name (bring_in name j))) (new_spare (new_names name j)) (h, hiding_spares h names (without_name name (bring_in name j)))
+      both_spare (map NewName (new_names name j)) (NoName name ∷ hiding names (without_name name (introduce name j))) (new_spare (new_names name j)) (h, hiding_spares h names (without_name name (introduce name j)))
 
   setting_spares : (mode : NameMode) (names : List ℕ) (j : ScriptState) → AllSpare hides (setting mode names j)
   setting_spares mode [] j = tt
-  setting_spares mode (name ∷ names) j = both_spare (map NewName (new_names name j)) (setting mode names (with_mode mode name (bring_in name j))) (new_spare (new_names name j)) (setting_spares mode names (with_mode mode name (bring_in name j)))
+  setting_spares mode (name ∷ names) j = both_spare (map NewName (new_names name j)) (setting mode names (with_mode mode name (introduce name j))) (new_spare (new_names name j)) (setting_spares mode names (with_mode mode name (introduce name j)))
 
   due_spares : (unsat : Bool) (c : Command) (j : ScriptState) → Allows hides c → AllSpare hides (due_for unsat c j)
-  due_spares true (Clause ls) j h = both_spare (bringing (names_of ls) j) [] (bringing_spares (names_of ls) j) tt
-  due_spares false (Clause ls) j h = both_spare (bringing (names_of ls) j) (Adds ls ∷ []) (bringing_spares (names_of ls) j) (tt, tt)
+  due_spares true (Clause ls) j h = both_spare (introducing (names_of ls) j) [] (bringing_spares (names_of ls) j) tt
+  due_spares false (Clause ls) j h = both_spare (introducing (names_of ls) j) (Adds ls ∷ []) (bringing_spares (names_of ls) j) (tt, tt)
   due_spares unsat (Ask ls) j h = tt
   due_spares unsat (Hide []) j h = tt
   due_spares unsat (Hide (name ∷ names)) j h = hiding_spares h (name ∷ names) j
@@ -123,8 +123,8 @@ module _ (hides : Bool) where
   made_plain made_none h p = p
   made_plain {j} {s} (made_one {c = c} mid n stretch more) h p = made_plain more h.1 (makes_plain stretch.due (due_spares (checker_rules.unsat s) c j h.0) p)
   made_plain {j} {s} (made_ask {ls = ls} {o = o} mid a more) h p =
-      let opened = makes_plain a.opens.due (both_spare (bringing (names_of ls) j) (Opens ls o ∷ []) (bringing_spares (names_of ls) j) (tt, tt)) p in
-      let shown = makes_plain a.searches.due (showing_spares (checker_rules.unsat a.shown) (accepted (Ask ls) j) ls o) opened in
+      let opened = makes_plain a.opens.due (both_spare (introducing (names_of ls) j) (Opens ls o ∷ []) (bringing_spares (names_of ls) j) (tt, tt)) p in
+      let shown = makes_plain a.searches.due (showing_spares (checker_rules.unsat a.shown) (state_after_accepted (Ask ls) j) ls o) opened in
       made_plain more h.1 (makes_plain a.closes.due (tt, tt) shown)
 
 -- NO VARIABLE IS HIDDEN

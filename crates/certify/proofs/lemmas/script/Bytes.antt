@@ -6,12 +6,12 @@ use Rattle.std.proofs.lemmas.List.{length-take, take-take}
 use Rattle.sat_base.specs.declared.text.Token.{Token as CodeToken}
 use Rattle.sat_base.specs.declared.text.Tokenizer.{Tokenizer}
 use Rattle.sat_base.specs.text.Text.{Token, Number, Letter, Header, Wrong, Scan, scan, tokens, header_first, header_from, dimacs_header}
-use Rattle.sat_base.specs.text.Tokenizing.{TakesFront, IsPositionedBefore, GivesLast, held_token}
+use Rattle.sat_base.specs.text.Tokenizing.{ReceivesPrefix, IsPositionedBefore, GivesLast, capped_token}
 use Rattle.sat_base.specs.text.WrongWords.{HasNoValidContinuation}
 use Rattle.sat_base.specs.text.Chunks.{Follows, IgnoresRest}
 use Rattle.sat_base.proofs.lemmas.text.HeaderFirst.{IsWord, AreWords, AreScript, text_is}
-use Rattle.sat_base.specs.script.Language.{Reading, spoken, CommandHand, Nothing, commands_of, with_ask, written, reading}
-use Rattle.certify.specs.script.Commands.{HoldsHand, any_header, meaning, TakesToken, ReaderMeans, MeansIf, TakesBytes, EndsSo, EndsLast}
+use Rattle.sat_base.specs.script.Language.{Reading, without_lines, PartialCommand, Nothing, commands_of, with_ask, plain_reading, reading}
+use Rattle.certify.specs.script.Commands.{HoldsPartialCommand, any_header, remaining_reading, TakesToken, ReaderMeans, MeansIf, TakesBytes, EndsSo, EndsLast}
 use Rattle.certify.specs.declared.script.Reached.{Reached}
 use Rattle.certify.specs.declared.script.Reached.TheVariants as reached
 use Rattle.certify.specs.declared.script.ScriptEnd.{ScriptEnd}
@@ -22,23 +22,23 @@ use Rattle.certify.proofs.lemmas.script.Tokens.{fails}
 abbrev pub reader : Tokenizer → Commands → ScriptReader
 reader tokenizer commands = record { tokenizer = tokenizer; commands = commands }
 
-pub bytes_go : (old : ScriptReader) (bytes : List ℕ) (next : Tokenizer) → TakesFront old.tokenizer bytes None next → (asks : Bool) → Follows (MeansIf asks) old bytes (reader next old.commands)
+pub bytes_go : (old : ScriptReader) (bytes : List ℕ) (next : Tokenizer) → ReceivesPrefix old.tokenizer bytes None next → (asks : Bool) → Follows (MeansIf asks) old bytes (reader next old.commands)
 bytes_go old bytes next t asks before m =
     let h = t m.scan_of m.valid in (
-      λ rest. meaning asks old.commands m.hand (spoken (h.0 rest).tokens),
+      λ rest. remaining_reading asks old.commands m.hand (without_lines (h.0 rest).tokens),
       record { hand = m.hand; holds = m.holds; scan_of = h.0; valid = h.1; reads = λ rest. refl },
-      λ rest. m.reads (bytes ++ rest) ∙ ap (λ (s : Scan). meaning asks old.commands m.hand (spoken s.tokens)) (h.2 rest),
+      λ rest. m.reads (bytes ++ rest) ∙ ap (λ (s : Scan). remaining_reading asks old.commands m.hand (without_lines s.tokens)) (h.2 rest),
     )
 
-pub bytes_take : (r : Reached) (old : ScriptReader) (bytes : List ℕ) (t : CodeToken) (next : Tokenizer) (new : Commands) → TakesFront old.tokenizer bytes (Some t) next
-    → ((given : Token) → t ≡ held_token given → TakesToken r old.commands given new) → TakesBytes r old bytes (reader next new)
+pub bytes_take : (r : Reached) (old : ScriptReader) (bytes : List ℕ) (t : CodeToken) (next : Tokenizer) (new : Commands) → ReceivesPrefix old.tokenizer bytes (Some t) next
+    → ((given : Token) → t ≡ capped_token given → TakesToken r old.commands given new) → TakesBytes r old bytes (reader next new)
 bytes_take reached.More old bytes t next new k r = λ asks before m.
     let h = k m.scan_of m.valid in
     let given = h.2.0 in
     let n = r given h.2.1 m.hand m.holds in (
-      λ rest. meaning asks new n.0 (spoken (h.0 rest).tokens),
+      λ rest. remaining_reading asks new n.0 (without_lines (h.0 rest).tokens),
       record { hand = n.0; holds = n.1; scan_of = h.0; valid = h.1; reads = λ rest. refl },
-      λ rest. m.reads (bytes ++ rest) ∙ ap (λ (s : Scan). meaning asks old.commands m.hand (spoken s.tokens)) (h.2.2 rest) ∙ n.2 asks (spoken (h.0 rest).tokens),
+      λ rest. m.reads (bytes ++ rest) ∙ ap (λ (s : Scan). remaining_reading asks old.commands m.hand (without_lines s.tokens)) (h.2.2 rest) ∙ n.2 asks (without_lines (h.0 rest).tokens),
     )
 bytes_take reached.Command old bytes t next new k r = λ asks before m.
     let h = k m.scan_of m.valid in
@@ -47,22 +47,22 @@ bytes_take reached.Command old bytes t next new k r = λ asks before m.
     record {
       command = n.0;
       whole = record { whole = n.1 };
-      after = λ rest. meaning asks new Nothing (spoken (h.0 rest).tokens);
+      after = λ rest. remaining_reading asks new Nothing (without_lines (h.0 rest).tokens);
       valid = record { hand = Nothing; holds = n.2; scan_of = h.0; valid = h.1; reads = λ rest. refl };
-      reads = λ rest. m.reads (bytes ++ rest) ∙ ap (λ (s : Scan). meaning asks old.commands m.hand (spoken s.tokens)) (h.2.2 rest) ∙ n.3 asks (spoken (h.0 rest).tokens);
+      reads = λ rest. m.reads (bytes ++ rest) ∙ ap (λ (s : Scan). remaining_reading asks old.commands m.hand (without_lines s.tokens)) (h.2.2 rest) ∙ n.3 asks (without_lines (h.0 rest).tokens);
     }
 bytes_take reached.Malformed old bytes t next new k r = λ asks before m rest.
     let h = k m.scan_of m.valid in
-    m.reads (bytes ++ rest) ∙ ap (λ (s : Scan). meaning asks old.commands m.hand (spoken s.tokens)) (h.2.2 rest) ∙ r h.2.0 h.2.1 m.hand m.holds asks (spoken (h.0 rest).tokens)
+    m.reads (bytes ++ rest) ∙ ap (λ (s : Scan). remaining_reading asks old.commands m.hand (without_lines s.tokens)) (h.2.2 rest) ∙ r h.2.0 h.2.1 m.hand m.holds asks (without_lines (h.0 rest).tokens)
 
 -- a text is malformed if no valid word can continue after the bytes
-pub bytes_wrong : (old : ScriptReader) (bytes : List ℕ) (next : Tokenizer) → TakesFront old.tokenizer bytes None next → ((after : List ℕ → Scan) → IsPositionedBefore next after → HasNoValidContinuation after)
+pub bytes_wrong : (old : ScriptReader) (bytes : List ℕ) (next : Tokenizer) → ReceivesPrefix old.tokenizer bytes None next → ((after : List ℕ → Scan) → IsPositionedBefore next after → HasNoValidContinuation after)
     → TakesBytes reached.Malformed old bytes (reader next old.commands)
 bytes_wrong old bytes next t w = λ asks before m rest.
     let h = t m.scan_of m.valid in
     let wrong = w h.0 h.1 rest in
-    m.reads (bytes ++ rest) ∙ ap (λ (s : Scan). meaning asks old.commands m.hand (spoken s.tokens)) (h.2 rest)
-    ∙ ap (λ (ts : List (ℕ × Token)). meaning asks old.commands m.hand (spoken ts)) wrong.1 ∙ fails old.commands m.hand Wrong refl asks (spoken wrong.0)
+    m.reads (bytes ++ rest) ∙ ap (λ (s : Scan). remaining_reading asks old.commands m.hand (without_lines s.tokens)) (h.2 rest)
+    ∙ ap (λ (ts : List (ℕ × Token)). remaining_reading asks old.commands m.hand (without_lines ts)) wrong.1 ∙ fails old.commands m.hand Wrong refl asks (without_lines wrong.0)
 
 -- the effect of some bytes, and then of others
 pub followed : (r : Reached) (a b c : ScriptReader) (xs ys : List ℕ) → ((asks : Bool) → Follows (MeansIf asks) a xs b) → TakesBytes r b ys c → TakesBytes r a (xs ++ ys) c
@@ -101,28 +101,28 @@ followed_front r a b c xs n k h i f t =
 
 -- THE END
 pub ends_none : (asks : Bool) (old : ScriptReader) (before : List ℕ → Reading) (r : Reading) → ((scan_of : List ℕ → Scan) → IsPositionedBefore old.tokenizer scan_of → GivesLast None (scan_of [])) → MeansIf asks old before
-    → ((hand : CommandHand) → HoldsHand old.commands.draft hand → r ≡ meaning asks old.commands hand []) → before [] ≡ r
-ends_none asks old before r k m e = m.reads [] ∙ ap (λ (ts : List (ℕ × Token)). meaning asks old.commands m.hand (spoken ts)) (k m.scan_of m.valid) ∙ sym (e m.hand m.holds)
+    → ((hand : PartialCommand) → HoldsPartialCommand old.commands.draft hand → r ≡ remaining_reading asks old.commands hand []) → before [] ≡ r
+ends_none asks old before r k m e = m.reads [] ∙ ap (λ (ts : List (ℕ × Token)). remaining_reading asks old.commands m.hand (without_lines ts)) (k m.scan_of m.valid) ∙ sym (e m.hand m.holds)
 
 -- the rest of the text is ignored, and no token is pending
 pub ends_over : (asks : Bool) (old : ScriptReader) (before : List ℕ → Reading) (r : Reading) → ((scan_of : List ℕ → Scan) → IsPositionedBefore old.tokenizer scan_of → IgnoresRest scan_of)
     → ((scan_of : List ℕ → Scan) → IsPositionedBefore old.tokenizer scan_of → (scan_of []).tokens ≡ []) → MeansIf asks old before
-    → ((hand : CommandHand) → HoldsHand old.commands.draft hand → r ≡ meaning asks old.commands hand []) → (rest : List ℕ) → before rest ≡ r
+    → ((hand : PartialCommand) → HoldsPartialCommand old.commands.draft hand → r ≡ remaining_reading asks old.commands hand []) → (rest : List ℕ) → before rest ≡ r
 ends_over asks old before r over none m e rest =
-    m.reads rest ∙ ap (λ (s : Scan). meaning asks old.commands m.hand (spoken s.tokens)) (over m.scan_of m.valid rest)
-    ∙ ap (λ (ts : List (ℕ × Token)). meaning asks old.commands m.hand (spoken ts)) (none m.scan_of m.valid) ∙ sym (e m.hand m.holds)
+    m.reads rest ∙ ap (λ (s : Scan). remaining_reading asks old.commands m.hand (without_lines s.tokens)) (over m.scan_of m.valid rest)
+    ∙ ap (λ (ts : List (ℕ × Token)). remaining_reading asks old.commands m.hand (without_lines ts)) (none m.scan_of m.valid) ∙ sym (e m.hand m.holds)
 
 lasts : (asks completes : Bool) (e : ScriptEnd) (new : ScriptReader) (r : Reading) → EndsSo asks completes e new.commands r → EndsLast asks completes e new r
 lasts asks true e new r h = (h.0, record { whole = h.1 }, h.2)
 lasts asks false e new r h = h
 
 pub ends_some : (asks : Bool) (old new : ScriptReader) (t : CodeToken) (completes : Bool) (e : ScriptEnd) (before : List ℕ → Reading) → ((scan_of : List ℕ → Scan) → IsPositionedBefore old.tokenizer scan_of → GivesLast (Some t) (scan_of [])) → MeansIf asks old before
-    → ((given : Token) → t ≡ held_token given → (hand : CommandHand) → HoldsHand old.commands.draft hand → EndsSo asks completes e new.commands (meaning asks old.commands hand (given ∷ [])))
+    → ((given : Token) → t ≡ capped_token given → (hand : PartialCommand) → HoldsPartialCommand old.commands.draft hand → EndsSo asks completes e new.commands (remaining_reading asks old.commands hand (given ∷ [])))
     → EndsLast asks completes e new (before [])
 ends_some asks old new t completes e before k m r =
     let h = k m.scan_of m.valid in
-    let same : before [] ≡ meaning asks old.commands m.hand (h.0 ∷ []) = m.reads [] ∙ ap (λ (ts : List (ℕ × Token)). meaning asks old.commands m.hand (spoken ts)) h.2 in
-    subst (λ (x : Reading). EndsLast asks completes e new x) (sym same) (lasts asks completes e new (meaning asks old.commands m.hand (h.0 ∷ [])) (r h.0 h.1 m.hand m.holds))
+    let same : before [] ≡ remaining_reading asks old.commands m.hand (h.0 ∷ []) = m.reads [] ∙ ap (λ (ts : List (ℕ × Token)). remaining_reading asks old.commands m.hand (without_lines ts)) h.2 in
+    subst (λ (x : Reading). EndsLast asks completes e new x) (sym same) (lasts asks completes e new (remaining_reading asks old.commands m.hand (h.0 ∷ [])) (r h.0 h.1 m.hand m.holds))
 
 -- COMPLETE TEXTS
 words_none : (ts : List Token) → AreWords ts → any_header ts ≡ false
@@ -136,7 +136,7 @@ word_none : (t : Token) → IsWord t → is_some (header_from t) ≡ false
 word_none (Header v c) w = absurd w
 word_none e w = refl
 
-first_none : (ts : List (ℕ × Token)) → AreWords (spoken ts) → is_some (header_first ts) ≡ false
+first_none : (ts : List (ℕ × Token)) → AreWords (without_lines ts) → is_some (header_first ts) ≡ false
 first_none [] w = refl
 first_none (t ∷ ts) w = word_none t.1 w.0
 
@@ -144,35 +144,35 @@ abbrev first_of : List Token → Token
 first_of [] = Wrong
 first_of (t ∷ ts) = t
 
-first_header : (ts : List (ℕ × Token)) (v c : ℕ) (rest : List Token) → spoken ts ≡ Header v c ∷ rest → is_some (header_first ts) ≡ true
+first_header : (ts : List (ℕ × Token)) (v c : ℕ) (rest : List Token) → without_lines ts ≡ Header v c ∷ rest → is_some (header_first ts) ≡ true
 first_header [] v c rest e = absurd (cc)
 first_header (t ∷ ts) v c rest e = let h : t.1 ≡ Header v c = ap first_of e in rw h refl
 
 -- a script contains a header exactly if it begins with one
-headed_by : (ts : List (ℕ × Token)) → AreScript (spoken ts) → any_header (spoken ts) ≡ is_some (header_first ts)
-headed_by ts (inl w) = words_none (spoken ts) w ∙ sym (first_none ts w)
+headed_by : (ts : List (ℕ × Token)) → AreScript (without_lines ts) → any_header (without_lines ts) ≡ is_some (header_first ts)
+headed_by ts (inl w) = words_none (without_lines ts) w ∙ sym (first_none ts w)
 headed_by ts (inr (v, c, rest, w, e)) = ap any_header e ∙ sym (first_header ts v c rest e)
 
-reading_is : (text : List ℕ) → reading text ≡ with_ask (is_some (dimacs_header text)) (commands_of Nothing (spoken (tokens text)))
-unfolding reading written
+reading_is : (text : List ℕ) → reading text ≡ with_ask (is_some (dimacs_header text)) (commands_of Nothing (without_lines (tokens text)))
+unfolding reading plain_reading
 reading_is text = refl
 
 and_true : (b : Bool) → (b && true) ≡ b
 and_true true = refl
 and_true false = refl
 
-pub read_from_start : (c : Commands) (text : List ℕ) → c.headed ≡ false → c.asked ≡ false → reading text ≡ meaning true c Nothing (spoken (scan text).tokens)
+pub read_from_start : (c : Commands) (text : List ℕ) → c.headed ≡ false → c.asked ≡ false → reading text ≡ remaining_reading true c Nothing (without_lines (scan text).tokens)
 read_from_start c text h a =
     reading_is text
-    ∙ ap (λ (b : Bool). with_ask b (commands_of Nothing (spoken (tokens text)))) (sym (headed_by (tokens text) (text_is text)) ∙ sym (and_true (any_header (spoken (tokens text)))))
+    ∙ ap (λ (b : Bool). with_ask b (commands_of Nothing (without_lines (tokens text)))) (sym (headed_by (tokens text) (text_is text)) ∙ sym (and_true (any_header (without_lines (tokens text)))))
     ∙ sym (rw (h, a) refl)
 
-pub means_first : (tokenizer : Tokenizer) (commands : Commands) → IsPositionedBefore tokenizer scan → HoldsHand commands.draft Nothing → commands.headed ≡ false → commands.asked ≡ false → ReaderMeans (reader tokenizer commands) reading
+pub means_first : (tokenizer : Tokenizer) (commands : Commands) → IsPositionedBefore tokenizer scan → HoldsPartialCommand commands.draft Nothing → commands.headed ≡ false → commands.asked ≡ false → ReaderMeans (reader tokenizer commands) reading
 means_first tokenizer commands s n h a = record { hand = Nothing; holds = n; scan_of = scan; valid = s; reads = λ text. read_from_start commands text h a }
 
-written_is : (text : List ℕ) → written text ≡ commands_of Nothing (spoken (tokens text))
-unfolding written
+written_is : (text : List ℕ) → plain_reading text ≡ commands_of Nothing (without_lines (tokens text))
+unfolding plain_reading
 written_is text = refl
 
-pub counts_first : (tokenizer : Tokenizer) (commands : Commands) → IsPositionedBefore tokenizer scan → HoldsHand commands.draft Nothing → MeansIf false (reader tokenizer commands) written
+pub counts_first : (tokenizer : Tokenizer) (commands : Commands) → IsPositionedBefore tokenizer scan → HoldsPartialCommand commands.draft Nothing → MeansIf false (reader tokenizer commands) plain_reading
 counts_first tokenizer commands s n = record { hand = Nothing; holds = n; scan_of = scan; valid = s; reads = λ text. written_is text }

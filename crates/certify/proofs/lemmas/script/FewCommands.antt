@@ -1,14 +1,14 @@
 -- A text has at most two more commands than bytes.
 use Rattle.std.proofs.Common.{ℕ, ◌+◌, ◌≤◌, ◌<◌, ◌≡◌, ◌∙◌, Bool, true, false, not, ◌&&◌, cond, nat_eq, is_some, List, [], ◌∷◌, ◌++◌, length, length-append, refl, sym, subst, arith}
 use Rattle.std.proofs.lemmas.List.{length-map}
-use Rattle.sat_base.specs.text.Text.{Token, is_blank, goes_on, begins_with, header_if, dimacs_header, is_none, lines, onto_first, on_line, words, token, tokens, tokens_of, scan}
+use Rattle.sat_base.specs.text.Text.{Token, is_blank, goes_on, begins_with, header_if, dimacs_header, is_none, lines, prepend_to_first, on_line, words, token, tokens, tokens_of, scan}
 use Rattle.sat_base.specs.script.Script.{Command, Ask, Clean, Malformed, has_ask, is_clean}
-use Rattle.sat_base.specs.script.Language.{Reading, CommandHand, Nothing, Within, CommandTurn, GoesOn, Ends, Fails, command_at_end, after_command_turn, commands_of, onto_commands, reading, spoken, command_turn, with_ask, written}
-use Rattle.certify.specs.confirm.VerdictPromises.{numbers}
+use Rattle.sat_base.specs.script.Language.{Reading, PartialCommand, Nothing, Within, CommandTokenEffect, GoesOn, Ends, Fails, command_at_end, after_command_token_effect, commands_of, prepend_commands, reading, without_lines, command_token_effect, with_ask, plain_reading}
+use Rattle.certify.specs.confirm.VerdictPromises.{command_count}
 
 -- WORDS AND LINES
 
-firsts : (b : ℕ) (ws : List (List ℕ)) → length (onto_first b ws) ≤ length ws + 1
+firsts : (b : ℕ) (ws : List (List ℕ)) → length (prepend_to_first b ws) ≤ length ws + 1
 firsts b [] = omega arith
 firsts b (w ∷ ws) = omega arith
 
@@ -16,7 +16,7 @@ words_next : (b : ℕ) (bs : List ℕ) → length (words (b ∷ bs)) ≤ length 
 unfolding words
 words_next b bs = go (is_blank b) (goes_on bs)
   where
-    go : (x y : Bool) → length (cond x (words bs) (cond y (onto_first b (words bs)) ((b ∷ []) ∷ words bs))) ≤ length (words bs) + 1
+    go : (x y : Bool) → length (cond x (words bs) (cond y (prepend_to_first b (words bs)) ((b ∷ []) ∷ words bs))) ≤ length (words bs) + 1
     go true y = omega arith
     go false true = firsts b (words bs)
     go false false = omega arith
@@ -34,7 +34,7 @@ abbrev total : List (List ℕ) → ℕ
 total [] = 0
 total (line ∷ ls) = length line + total ls
 
-firsts_total : (b : ℕ) (ls : List (List ℕ)) → total (onto_first b ls) ≤ total ls + 1
+firsts_total : (b : ℕ) (ls : List (List ℕ)) → total (prepend_to_first b ls) ≤ total ls + 1
 firsts_total b [] = omega arith
 firsts_total b (line ∷ ls) = omega arith
 
@@ -42,7 +42,7 @@ lines_next : (b : ℕ) (bs : List ℕ) → total (lines (b ∷ bs)) ≤ total (l
 unfolding lines
 lines_next b bs = go (nat_eq b 10)
   where
-    go : (x : Bool) → total (cond x ((b ∷ []) ∷ lines bs) (onto_first b (lines bs))) ≤ total (lines bs) + 1
+    go : (x : Bool) → total (cond x ((b ∷ []) ∷ lines bs) (prepend_to_first b (lines bs))) ≤ total (lines bs) + 1
     go true = omega arith
     go false = firsts_total b (lines bs)
 
@@ -97,57 +97,57 @@ few_scanned text = both (length (tokens text)) (total (lines text)) (length text
 
 -- COMMANDS
 
-least : (r : Reading) → length r.0 ≤ numbers r
+least : (r : Reading) → length r.0 ≤ command_count r
 least (cs, Clean) = omega arith
 least (cs, Malformed) = omega arith
 
-one_more : (c : Command) (r : Reading) → numbers (onto_commands (c ∷ []) r) ≡ numbers r + 1
+one_more : (c : Command) (r : Reading) → command_count (prepend_commands (c ∷ []) r) ≡ command_count r + 1
 one_more c (cs, Clean) = omega arith
 one_more c (cs, Malformed) = omega arith
 
-commands_none : (hand : CommandHand) → commands_of hand [] ≡ ([], command_at_end hand)
+commands_none : (hand : PartialCommand) → commands_of hand [] ≡ ([], command_at_end hand)
 unfolding commands_of
 commands_none hand = refl
 
-commands_next : (hand : CommandHand) (t : Token) (ts : List Token) → commands_of hand (t ∷ ts) ≡ after_command_turn (command_turn hand t) (λ h. commands_of h ts)
+commands_next : (hand : PartialCommand) (t : Token) (ts : List Token) → commands_of hand (t ∷ ts) ≡ after_command_token_effect (command_token_effect hand t) (λ h. commands_of h ts)
 unfolding commands_of
 commands_next hand t ts = refl
 
-few_none : (hand : CommandHand) → numbers ([], command_at_end hand) ≤ 1
+few_none : (hand : PartialCommand) → command_count ([], command_at_end hand) ≤ 1
 few_none Nothing = omega arith
 few_none (Within k ls) = omega arith
 
-few_turn : (u : CommandTurn) (more : CommandHand → Reading) (n : ℕ) → ((h : CommandHand) → numbers (more h) ≤ n + 1) → numbers (after_command_turn u more) ≤ n + 1 + 1
+few_turn : (u : CommandTokenEffect) (more : PartialCommand → Reading) (n : ℕ) → ((h : PartialCommand) → command_count (more h) ≤ n + 1) → command_count (after_command_token_effect u more) ≤ n + 1 + 1
 few_turn (GoesOn hand) more n f = let h = f hand in omega arith
 few_turn (Ends c) more n f = let h = f Nothing in let e = one_more c (more Nothing) in omega arith
 few_turn Fails more n f = omega arith
 
-few_commands : (hand : CommandHand) (ts : List Token) → numbers (commands_of hand ts) ≤ length ts + 1
-few_commands hand [] = subst (λ (r : Reading). numbers r ≤ 1) (sym (commands_none hand)) (few_none hand)
+few_commands : (hand : PartialCommand) (ts : List Token) → command_count (commands_of hand ts) ≤ length ts + 1
+few_commands hand [] = subst (λ (r : Reading). command_count r ≤ 1) (sym (commands_none hand)) (few_none hand)
 few_commands hand (t ∷ ts) =
-    let h : numbers (commands_of hand (t ∷ ts)) ≤ length ts + 1 + 1 = subst (λ (r : Reading). numbers r ≤ length ts + 1 + 1) (sym (commands_next hand t ts)) (few_turn (command_turn hand t) (λ k. commands_of k ts) (length ts) (λ k. few_commands k ts)) in
+    let h : command_count (commands_of hand (t ∷ ts)) ≤ length ts + 1 + 1 = subst (λ (r : Reading). command_count r ≤ length ts + 1 + 1) (sym (commands_next hand t ts)) (few_turn (command_token_effect hand t) (λ k. commands_of k ts) (length ts) (λ k. few_commands k ts)) in
     omega arith
 
-few_asked : (due : Bool) (r : Reading) → numbers (with_ask due r) ≤ numbers r + 1
+few_asked : (due : Bool) (r : Reading) → command_count (with_ask due r) ≤ command_count r + 1
 few_asked due r = go (due && (is_clean r.1 && not (has_ask r.0)))
   where
-    go : (b : Bool) → numbers (cond b (r.0 ++ Ask [] ∷ [], Clean) r) ≤ numbers r + 1
+    go : (b : Bool) → command_count (cond b (r.0 ++ Ask [] ∷ [], Clean) r) ≤ command_count r + 1
     go true = let h = least r in let l = length-append r.0 (Ask [] ∷ []) in omega arith
     go false = omega arith
 
 one_past : (a b c : ℕ) → a ≤ b + 1 → b ≤ c → a ≤ c + 1
 one_past a b c h k = omega arith
 
-few_spoken : (text : List ℕ) → length (spoken (tokens text)) ≤ length text
+few_spoken : (text : List ℕ) → length (without_lines (tokens text)) ≤ length text
 few_spoken text = subst (λ k. k ≤ length text) (sym (length-map (tokens text) (λ t. t.1))) (few_scanned text)
 
-few_written : (text : List ℕ) → numbers (written text) ≤ length text + 1
-unfolding written
-few_written text = one_past (numbers (written text)) (length (spoken (tokens text))) (length text) (few_commands Nothing (spoken (tokens text))) (few_spoken text)
+few_written : (text : List ℕ) → command_count (plain_reading text) ≤ length text + 1
+unfolding plain_reading
+few_written text = one_past (command_count (plain_reading text)) (length (without_lines (tokens text))) (length text) (few_commands Nothing (without_lines (tokens text))) (few_spoken text)
 
 two_past : (a b c : ℕ) → a ≤ b + 1 → b ≤ c + 1 → a ≤ c + 2
 two_past a b c h k = omega arith
 
-pub few_read : (text : List ℕ) → numbers (reading text) ≤ length text + 2
+pub few_read : (text : List ℕ) → command_count (reading text) ≤ length text + 2
 unfolding reading
-few_read text = two_past (numbers (reading text)) (numbers (written text)) (length text) (few_asked (is_some (dimacs_header text)) (written text)) (few_written text)
+few_read text = two_past (command_count (reading text)) (command_count (plain_reading text)) (length text) (few_asked (is_some (dimacs_header text)) (plain_reading text)) (few_written text)

@@ -12,7 +12,7 @@ use Rattle.sat_base.proofs.lemmas.device.ReadLemmas.{gave_some, gave_nothing, pa
 use Rattle.certify.specs.confirm.Streams.{rest_in}
 use Rattle.certify.specs.script.LastPiece.{RefillsAhead, TakesSome, source_in, waiting_bytes}
 use Rattle.certify.specs.script.Commands.{EndsLast, EndsWhateverFollows, MeansIf, TakesBytes, end_if}
-use Rattle.certify.specs.script.Streaming.{Arrives, Brings, NextComes, FinishesText, TakesWaiting}
+use Rattle.certify.specs.script.Streaming.{Arrives, Brings, NextCommandResult, FinishesText, TakesWaiting}
 use Rattle.certify.specs.declared.script.ahead.LastPiece.{LastPiece}
 use Rattle.certify.specs.declared.script.Reached.{Reached}
 use Rattle.certify.specs.declared.script.Reached.TheVariants as reached
@@ -95,7 +95,7 @@ brings_over a reader e open_yet ends = (took_halted a a open_yet (took_none a), 
 -- ONE AFTER ANOTHER
 
 module _ (a b c : Source) (old mid new : ScriptReader) (text : List ℕ) (open_yet : AtEnd a → ⊥) (p : ConsumesBytes a b text) (f : (asks : Bool) → Follows (MeansIf asks) old text mid) where
-  pub brings_then : (e : ReadError) → Brings (Err e) b c mid new → NextComes (Err e) a c old new
+  pub brings_then : (e : ReadError) → Brings (Err e) b c mid new → NextCommandResult (Err e) a c old new
   brings_then errors.Failed h = failed_then a b c (text, p) h
   brings_then errors.OutOfMemory h = took_then true a b c (text, p) h
 

@@ -4,11 +4,11 @@ use Rattle.std.specs.Prelude.{nat_eq, not, ◌&&◌, ◌||◌}
 use Rattle.std.proofs.lemmas.Bool.Decides.{nat_tests}
 use Rattle.sat_base.specs.declared.text.Token.TheVariants as code
 use Rattle.sat_base.specs.text.Text.{Token, Number, Letter, Header, Wrong}
-use Rattle.sat_base.specs.text.Tokenizing.{held, held_token}
+use Rattle.sat_base.specs.text.Tokenizing.{capped, capped_token}
 use Rattle.sat_base.specs.script.Script.{Literal, Command, Ask, ScriptEnding, Clean, Malformed, has_ask, is_clean}
-use Rattle.sat_base.specs.script.Language.{Reading, onto_commands, Kind, OfClause, command_of, CommandHand, Nothing, Within, CommandTurn, GoesOn, Ends, Fails, command_in, may_stand, turn_with_literal, kind_of_letter, beginning, with_letter, command_turn, command_at_end, after_command_turn, commands_of, with_ask}
+use Rattle.sat_base.specs.script.Language.{Reading, prepend_commands, Kind, OfClause, command_of, PartialCommand, Nothing, Within, CommandTokenEffect, GoesOn, Ends, Fails, command_in, allows_sign, literal_effect, kind_of_letter, beginning, with_letter, command_token_effect, command_at_end, after_command_token_effect, commands_of, with_ask}
 use Rattle.sat_base.proofs.lemmas.script.ScriptSpellings.{commands_of_nil, commands_of_cons}
-use Rattle.certify.specs.script.Commands.{kind_of, is_ask_kind, IsWholeCommand, HoldsHand, opened, is_header, any_header, meaning, TakesToken, end_if}
+use Rattle.certify.specs.script.Commands.{kind_of, is_ask_kind, IsWholeCommand, HoldsPartialCommand, opened, is_header, any_header, remaining_reading, TakesToken, end_if}
 use Rattle.certify.specs.declared.script.Reached.TheVariants as reached
 use Rattle.certify.specs.declared.script.ScriptEnd.TheVariants as ends
 use Rattle.certify.specs.declared.script.draft.Draft.{Draft}
@@ -46,19 +46,19 @@ has_one true cs Malformed ls = refl
 has_one false cs e ls = refl
 
 -- a command that is no ask
-plain_onto : (due : Bool) (c : Command) (r : Reading) → has_ask (c ∷ r.0) ≡ has_ask r.0 → with_ask due (onto_commands (c ∷ []) r) ≡ onto_commands (c ∷ []) (with_ask due r)
+plain_onto : (due : Bool) (c : Command) (r : Reading) → has_ask (c ∷ r.0) ≡ has_ask r.0 → with_ask due (prepend_commands (c ∷ []) r) ≡ prepend_commands (c ∷ []) (with_ask due r)
 plain_onto due c r e = rw e (go (due && (is_clean r.1 && not (has_ask r.0))))
   where
-    go : (b : Bool) → cond b ((c ∷ r.0) ++ Ask [] ∷ [], Clean) (c ∷ r.0, r.1) ≡ onto_commands (c ∷ []) (cond b (r.0 ++ Ask [] ∷ [], Clean) r)
+    go : (b : Bool) → cond b ((c ∷ r.0) ++ Ask [] ∷ [], Clean) (c ∷ r.0, r.1) ≡ prepend_commands (c ∷ []) (cond b (r.0 ++ Ask [] ∷ [], Clean) r)
     go true = refl
     go false = refl
 
-ask_onto : (h a : Bool) (c : Command) (r : Reading) → with_ask (h && not a) (onto_commands (c ∷ []) r) ≡ onto_commands (c ∷ []) (with_ask (h && not (a || is_ask c)) r)
-ask_onto h a (Ask ls) r = has_one (h && not a) r.0 r.1 ls ∙ ap (onto_commands (Ask ls ∷ [])) (sym (undue (h && not (a || true)) r (asked_no_more h a)))
+ask_onto : (h a : Bool) (c : Command) (r : Reading) → with_ask (h && not a) (prepend_commands (c ∷ []) r) ≡ prepend_commands (c ∷ []) (with_ask (h && not (a || is_ask c)) r)
+ask_onto h a (Ask ls) r = has_one (h && not a) r.0 r.1 ls ∙ ap (prepend_commands (Ask ls ∷ [])) (sym (undue (h && not (a || true)) r (asked_no_more h a)))
 ask_onto h a e r = rw (or_false a) (plain_onto (h && not a) e r refl)
 
 -- whether the ask of a header is due after a command
-ask_onto_if : (asks h a : Bool) (c : Command) (r : Reading) → with_ask (asks && (h && not a)) (onto_commands (c ∷ []) r) ≡ onto_commands (c ∷ []) (with_ask (asks && (h && not (a || is_ask c))) r)
+ask_onto_if : (asks h a : Bool) (c : Command) (r : Reading) → with_ask (asks && (h && not a)) (prepend_commands (c ∷ []) r) ≡ prepend_commands (c ∷ []) (with_ask (asks && (h && not (a || is_ask c))) r)
 ask_onto_if true h a c r = ask_onto h a c r
 ask_onto_if false h a c r = refl
 
@@ -67,17 +67,17 @@ is_asked OfClause ls = refl
 is_asked e ls = refl
 
 -- TOKENS
-following : (asks : Bool) (old : Commands) (hand : CommandHand) (t : Token) (k : CommandTurn) (ts : List Token) → command_turn hand t ≡ k
-    → meaning asks old hand (t ∷ ts) ≡ with_ask (asks && ((old.headed || (is_header t || any_header ts)) && not old.asked)) (after_command_turn k (λ d. commands_of d ts))
+following : (asks : Bool) (old : Commands) (hand : PartialCommand) (t : Token) (k : CommandTokenEffect) (ts : List Token) → command_token_effect hand t ≡ k
+    → remaining_reading asks old hand (t ∷ ts) ≡ with_ask (asks && ((old.headed || (is_header t || any_header ts)) && not old.asked)) (after_command_token_effect k (λ d. commands_of d ts))
 following asks old hand t k ts e =
-    ap (with_ask (asks && ((old.headed || (is_header t || any_header ts)) && not old.asked))) (commands_of_cons hand t ts ∙ ap (λ (j : CommandTurn). after_command_turn j (λ d. commands_of d ts)) e)
+    ap (with_ask (asks && ((old.headed || (is_header t || any_header ts)) && not old.asked))) (commands_of_cons hand t ts ∙ ap (λ (j : CommandTokenEffect). after_command_token_effect j (λ d. commands_of d ts)) e)
 
 -- a token that is no header and leaves the command unfinished
-pub goes_on : (old new : Commands) (hand next : CommandHand) (t : Token) → is_header t ≡ false → new.headed ≡ old.headed → new.asked ≡ old.asked → command_turn hand t ≡ GoesOn next
-    → (asks : Bool) (ts : List Token) → meaning asks old hand (t ∷ ts) ≡ meaning asks new next ts
+pub goes_on : (old new : Commands) (hand next : PartialCommand) (t : Token) → is_header t ≡ false → new.headed ≡ old.headed → new.asked ≡ old.asked → command_token_effect hand t ≡ GoesOn next
+    → (asks : Bool) (ts : List Token) → remaining_reading asks old hand (t ∷ ts) ≡ remaining_reading asks new next ts
 goes_on old new hand next t w h a e asks ts = following asks old hand t (GoesOn next) ts e ∙ rw (w, h, a) refl
 
-pub fails : (old : Commands) (hand : CommandHand) (t : Token) → command_turn hand t ≡ Fails → (asks : Bool) (ts : List Token) → meaning asks old hand (t ∷ ts) ≡ ([], Malformed)
+pub fails : (old : Commands) (hand : PartialCommand) (t : Token) → command_token_effect hand t ≡ Fails → (asks : Bool) (ts : List Token) → remaining_reading asks old hand (t ∷ ts) ≡ ([], Malformed)
 fails old hand t e asks ts = following asks old hand t Fails ts e ∙ malformed_if (asks && ((old.headed || (is_header t || any_header ts)) && not old.asked))
 
 -- a header
@@ -87,8 +87,8 @@ header_taken old new v c e hand h =
     rw e (hand, h, whole)
 
 -- a zero
-pub zero_taken : (old new : Commands) (negative : Bool) → new.headed ≡ old.headed → new.asked ≡ (old.asked || is_ask_kind (kind_of new.draft.kind)) → HoldsHand new.draft Nothing
-    → ((hand : CommandHand) → HoldsHand old.draft hand → IsWholeCommand new.draft (command_in hand)) → TakesToken reached.Command old (Number negative 0) new
+pub zero_taken : (old new : Commands) (negative : Bool) → new.headed ≡ old.headed → new.asked ≡ (old.asked || is_ask_kind (kind_of new.draft.kind)) → HoldsPartialCommand new.draft Nothing
+    → ((hand : PartialCommand) → HoldsPartialCommand old.draft hand → IsWholeCommand new.draft (command_in hand)) → TakesToken reached.Command old (Number negative 0) new
 zero_taken old new negative h a none whole hand holds =
     let c = command_in hand in
     let w = whole hand holds in
@@ -97,63 +97,63 @@ zero_taken old new negative h a none whole hand holds =
     let read = λ (asks : Bool) (ts : List Token).
     following asks old hand (Number negative 0) (Ends c) ts refl
     ∙ ask_onto_if asks (old.headed || any_header ts) old.asked c (commands_of Nothing ts)
-    ∙ ap (λ (b : Bool). onto_commands (c ∷ []) (with_ask (asks && ((old.headed || any_header ts) && not b)) (commands_of Nothing ts))) (sym asked)
-    ∙ ap (λ (b : Bool). onto_commands (c ∷ []) (with_ask (asks && ((b || any_header ts) && not new.asked)) (commands_of Nothing ts))) (sym h) in
+    ∙ ap (λ (b : Bool). prepend_commands (c ∷ []) (with_ask (asks && ((old.headed || any_header ts) && not b)) (commands_of Nothing ts))) (sym asked)
+    ∙ ap (λ (b : Bool). prepend_commands (c ∷ []) (with_ask (asks && ((b || any_header ts) && not new.asked)) (commands_of Nothing ts))) (sym h) in
     (c, w, none, read)
 
 -- a literal
-pub turn_number : (hand : CommandHand) (negative : Bool) (value : ℕ) → 0 < value → command_turn hand (Number negative value) ≡ turn_with_literal hand (record { name = value; positive = not negative })
+pub turn_number : (hand : PartialCommand) (negative : Bool) (value : ℕ) → 0 < value → command_token_effect hand (Number negative value) ≡ literal_effect hand (record { name = value; positive = not negative })
 turn_number hand negative value some = let e : nat_eq value 0 ≡ false = grind (arith, nat_tests) in rw e refl
 
 -- a literal that the command may contain
-pub valid : (d : Draft) (hand : CommandHand) (l : Literal) → HoldsHand d (opened hand) → may_stand (kind_of d.kind) l.positive ≡ true
-    → (kind : Kind) × (ls : List Literal) × HoldsHand d (Within kind ls) × (turn_with_literal hand l ≡ GoesOn (Within kind (ls ++ l ∷ [])))
+pub valid : (d : Draft) (hand : PartialCommand) (l : Literal) → HoldsPartialCommand d (opened hand) → allows_sign (kind_of d.kind) l.positive ≡ true
+    → (kind : Kind) × (ls : List Literal) × HoldsPartialCommand d (Within kind ls) × (literal_effect hand l ≡ GoesOn (Within kind (ls ++ l ∷ [])))
 valid d Nothing l h m = (OfClause, [], h, refl)
-valid d (Within kind ls) l h m = (kind, ls, h, let e : may_stand kind l.positive ≡ true = ap (λ (k : Kind). may_stand k l.positive) h.1 ∙ m in rw e refl)
+valid d (Within kind ls) l h m = (kind, ls, h, let e : allows_sign kind l.positive ≡ true = ap (λ (k : Kind). allows_sign k l.positive) h.1 ∙ m in rw e refl)
 
-pub misplaced : (d : Draft) (hand : CommandHand) (l : Literal) → HoldsHand d (opened hand) → may_stand (kind_of d.kind) l.positive ≡ false → turn_with_literal hand l ≡ Fails
-misplaced d Nothing l h m = absurd (let e : may_stand OfClause l.positive ≡ may_stand (kind_of d.kind) l.positive = ap (λ (k : Kind). may_stand k l.positive) h.1 in cc)
-misplaced d (Within kind ls) l h m = let e : may_stand kind l.positive ≡ false = ap (λ (k : Kind). may_stand k l.positive) h.1 ∙ m in rw e refl
+pub misplaced : (d : Draft) (hand : PartialCommand) (l : Literal) → HoldsPartialCommand d (opened hand) → allows_sign (kind_of d.kind) l.positive ≡ false → literal_effect hand l ≡ Fails
+misplaced d Nothing l h m = absurd (let e : allows_sign OfClause l.positive ≡ allows_sign (kind_of d.kind) l.positive = ap (λ (k : Kind). allows_sign k l.positive) h.1 in cc)
+misplaced d (Within kind ls) l h m = let e : allows_sign kind l.positive ≡ false = ap (λ (k : Kind). allows_sign k l.positive) h.1 ∙ m in rw e refl
 
 -- a letter within a command is an error
-pub letter_inside : (d : Draft) (hand : CommandHand) (b : ℕ) → d.is_open ≡ true → HoldsHand d hand → with_letter hand b ≡ Fails
+pub letter_inside : (d : Draft) (hand : PartialCommand) (b : ℕ) → d.is_open ≡ true → HoldsPartialCommand d hand → with_letter hand b ≡ Fails
 letter_inside d Nothing b o h = absurd (cc)
 letter_inside d (Within kind ls) b o h = refl
 
 -- a letter that begins no command is an error
-pub letter_unknown : (hand : CommandHand) (b : ℕ) → kind_of_letter b ≡ None → with_letter hand b ≡ Fails
+pub letter_unknown : (hand : PartialCommand) (b : ℕ) → kind_of_letter b ≡ None → with_letter hand b ≡ Fails
 letter_unknown Nothing b e = ap beginning e
 letter_unknown (Within kind ls) b e = refl
 
-pub letter_begins : (d : Draft) (hand : CommandHand) (b : ℕ) (k : Kind) → d.is_open ≡ false → HoldsHand d hand → kind_of_letter b ≡ Some k → with_letter hand b ≡ GoesOn (Within k [])
+pub letter_begins : (d : Draft) (hand : PartialCommand) (b : ℕ) (k : Kind) → d.is_open ≡ false → HoldsPartialCommand d hand → kind_of_letter b ≡ Some k → with_letter hand b ≡ GoesOn (Within k [])
 letter_begins d Nothing b k o h e = ap beginning e
 letter_begins d (Within kind ls) b k o h e = absurd (cc (h.0))
 
 -- THE CODE'S TOKENS
-pub number_is : (t : Token) (negative : Bool) (value : ℕ) → code.Number negative value ≡ held_token t → (v : ℕ) × (t ≡ Number negative v) × (value ≡ held v)
-number_is (Number n v) negative value e = (v, let x : negative ≡ n = cc in ap (λ (b : Bool). Number b v) (sym x), let y : value ≡ held v = cc in y)
+pub number_is : (t : Token) (negative : Bool) (value : ℕ) → code.Number negative value ≡ capped_token t → (v : ℕ) × (t ≡ Number negative v) × (value ≡ capped v)
+number_is (Number n v) negative value e = (v, let x : negative ≡ n = cc in ap (λ (b : Bool). Number b v) (sym x), let y : value ≡ capped v = cc in y)
 number_is z negative value e = absurd (cc)
 
-pub letter_is : (t : Token) (b : ℕ) → code.Letter b ≡ held_token t → t ≡ Letter b
+pub letter_is : (t : Token) (b : ℕ) → code.Letter b ≡ capped_token t → t ≡ Letter b
 letter_is (Letter d) b e = let x : b ≡ d = cc in ap Letter (sym x)
 letter_is z b e = absurd (cc)
 
-pub header_is : (t : Token) (v c : ℕ) → code.Header v c ≡ held_token t → (x : ℕ) × (y : ℕ) × (t ≡ Header x y)
+pub header_is : (t : Token) (v c : ℕ) → code.Header v c ≡ capped_token t → (x : ℕ) × (y : ℕ) × (t ≡ Header x y)
 header_is (Header x y) v c e = (x, y, refl)
 header_is z v c e = absurd (cc)
 
-pub wrong_is : (t : Token) → code.Wrong ≡ held_token t → t ≡ Wrong
+pub wrong_is : (t : Token) → code.Wrong ≡ capped_token t → t ≡ Wrong
 wrong_is Wrong e = refl
 wrong_is x e = absurd (cc)
 
-pub held_zero : (v : ℕ) → 0 ≡ held v → v ≡ 0
+pub held_zero : (v : ℕ) → 0 ≡ capped v → v ≡ 0
 held_zero v e = omega arith
 
-pub held_some : (v name : ℕ) → name ≡ held v → 0 < name → 0 < v
+pub held_some : (v name : ℕ) → name ≡ capped v → 0 < name → 0 < v
 held_some v name e h = omega arith
 
 -- THE END
-ends_at : (asks : Bool) (commands : Commands) (hand : CommandHand) → meaning asks commands hand [] ≡ with_ask (asks && (commands.headed && not commands.asked)) ([], command_at_end hand)
+ends_at : (asks : Bool) (commands : Commands) (hand : PartialCommand) → remaining_reading asks commands hand [] ≡ with_ask (asks && (commands.headed && not commands.asked)) ([], command_at_end hand)
 ends_at asks commands hand = ap (λ (b : Bool). with_ask (asks && (b && not commands.asked)) (commands_of hand [])) (or_false commands.headed) ∙ ap (with_ask (asks && (commands.headed && not commands.asked))) (commands_of_nil hand)
 
 -- a malformed text has the same end with and without the ask of a header
@@ -161,49 +161,49 @@ pub end_malformed : (asks : Bool) → end_if asks ends.Malformed ≡ ([], Malfor
 end_malformed true = refl
 end_malformed false = refl
 
-pub ends_inside : (asks : Bool) (commands : Commands) (hand : CommandHand) → commands.draft.is_open ≡ true → HoldsHand commands.draft hand → end_if asks ends.Malformed ≡ meaning asks commands hand []
+pub ends_inside : (asks : Bool) (commands : Commands) (hand : PartialCommand) → commands.draft.is_open ≡ true → HoldsPartialCommand commands.draft hand → end_if asks ends.Malformed ≡ remaining_reading asks commands hand []
 ends_inside asks commands Nothing o h = absurd (cc)
 ends_inside asks commands (Within kind ls) o h = end_malformed asks ∙ sym (ends_at asks commands (Within kind ls) ∙ malformed_if (asks && (commands.headed && not commands.asked)))
 
-pub ends_due : (asks : Bool) (commands : Commands) (hand : CommandHand) → commands.draft.is_open ≡ false → HoldsHand commands.draft hand → (commands.headed && not commands.asked) ≡ true → end_if asks ends.Asked ≡ meaning asks commands hand []
+pub ends_due : (asks : Bool) (commands : Commands) (hand : PartialCommand) → commands.draft.is_open ≡ false → HoldsPartialCommand commands.draft hand → (commands.headed && not commands.asked) ≡ true → end_if asks ends.Asked ≡ remaining_reading asks commands hand []
 ends_due true commands Nothing o h e = sym (ends_at true commands Nothing ∙ rw e refl)
 ends_due false commands Nothing o h e = sym (ends_at false commands Nothing)
 ends_due asks commands (Within kind ls) o h e = absurd (cc (h.0))
 
-pub ends_clean : (asks : Bool) (commands : Commands) (hand : CommandHand) → commands.draft.is_open ≡ false → HoldsHand commands.draft hand → (commands.headed && not commands.asked) ≡ false → end_if asks ends.Clean ≡ meaning asks commands hand []
+pub ends_clean : (asks : Bool) (commands : Commands) (hand : PartialCommand) → commands.draft.is_open ≡ false → HoldsPartialCommand commands.draft hand → (commands.headed && not commands.asked) ≡ false → end_if asks ends.Clean ≡ remaining_reading asks commands hand []
 ends_clean true commands Nothing o h e = sym (ends_at true commands Nothing ∙ rw e refl)
 ends_clean false commands Nothing o h e = sym (ends_at false commands Nothing)
 ends_clean asks commands (Within kind ls) o h e = absurd (cc (h.0))
 
 -- the text is malformed if its last token leaves a command unfinished
-pub ends_with : (asks : Bool) (commands : Commands) (hand : CommandHand) (t : Token) → ((kind : Kind) × (ls : List Literal) × (command_turn hand t ≡ GoesOn (Within kind ls))) → end_if asks ends.Malformed ≡ meaning asks commands hand (t ∷ [])
+pub ends_with : (asks : Bool) (commands : Commands) (hand : PartialCommand) (t : Token) → ((kind : Kind) × (ls : List Literal) × (command_token_effect hand t ≡ GoesOn (Within kind ls))) → end_if asks ends.Malformed ≡ remaining_reading asks commands hand (t ∷ [])
 ends_with asks commands hand t x =
     end_malformed asks ∙ sym (following asks commands hand t (GoesOn (Within x.0 x.1)) [] x.2 ∙ ap (with_ask (asks && ((commands.headed || (is_header t || false)) && not commands.asked))) (commands_of_nil (Within x.0 x.1)) ∙ malformed_if (asks && ((commands.headed || (is_header t || false)) && not commands.asked)))
 
-pub ends_wrong : (asks : Bool) (commands : Commands) (hand : CommandHand) (t : Token) → command_turn hand t ≡ Fails → end_if asks ends.Malformed ≡ meaning asks commands hand (t ∷ [])
+pub ends_wrong : (asks : Bool) (commands : Commands) (hand : PartialCommand) (t : Token) → command_token_effect hand t ≡ Fails → end_if asks ends.Malformed ≡ remaining_reading asks commands hand (t ∷ [])
 ends_wrong asks commands hand t e = end_malformed asks ∙ sym (fails commands hand t e asks [])
 
-number_at : (asks : Bool) (commands : Commands) (kind : Kind) (ls : List Literal) (l : Literal) (t : Token) (hand : CommandHand) (b : Bool) → may_stand kind l.positive ≡ b → command_turn hand t ≡ cond b (GoesOn (Within kind (ls ++ l ∷ []))) Fails → end_if asks ends.Malformed ≡ meaning asks commands hand (t ∷ [])
+number_at : (asks : Bool) (commands : Commands) (kind : Kind) (ls : List Literal) (l : Literal) (t : Token) (hand : PartialCommand) (b : Bool) → allows_sign kind l.positive ≡ b → command_token_effect hand t ≡ cond b (GoesOn (Within kind (ls ++ l ∷ []))) Fails → end_if asks ends.Malformed ≡ remaining_reading asks commands hand (t ∷ [])
 number_at asks commands kind ls l t hand true m e = ends_with asks commands hand t (kind, ls ++ l ∷ [], e)
 number_at asks commands kind ls l t hand false m e = ends_wrong asks commands hand t e
 
-pub number_ends : (asks : Bool) (commands : Commands) (hand : CommandHand) (negative : Bool) (value : ℕ) → 0 < value → end_if asks ends.Malformed ≡ meaning asks commands hand (Number negative value ∷ [])
+pub number_ends : (asks : Bool) (commands : Commands) (hand : PartialCommand) (negative : Bool) (value : ℕ) → 0 < value → end_if asks ends.Malformed ≡ remaining_reading asks commands hand (Number negative value ∷ [])
 number_ends asks commands Nothing negative value some =
     ends_with asks commands Nothing (Number negative value) (OfClause, record { name = value; positive = not negative } ∷ [], turn_number Nothing negative value some)
 number_ends asks commands (Within kind ls) negative value some =
     let l : Literal = record { name = value; positive = not negative } in
-    number_at asks commands kind ls l (Number negative value) (Within kind ls) (may_stand kind l.positive) refl (turn_number (Within kind ls) negative value some)
+    number_at asks commands kind ls l (Number negative value) (Within kind ls) (allows_sign kind l.positive) refl (turn_number (Within kind ls) negative value some)
 
-letter_at : (asks : Bool) (commands : Commands) (b : ℕ) (o : Option Kind) → with_letter Nothing b ≡ beginning o → end_if asks ends.Malformed ≡ meaning asks commands Nothing (Letter b ∷ [])
+letter_at : (asks : Bool) (commands : Commands) (b : ℕ) (o : Option Kind) → with_letter Nothing b ≡ beginning o → end_if asks ends.Malformed ≡ remaining_reading asks commands Nothing (Letter b ∷ [])
 letter_at asks commands b None e = ends_wrong asks commands Nothing (Letter b) e
 letter_at asks commands b (Some kind) e = ends_with asks commands Nothing (Letter b) (kind, [], e)
 
-pub letter_ends : (asks : Bool) (commands : Commands) (hand : CommandHand) (b : ℕ) → end_if asks ends.Malformed ≡ meaning asks commands hand (Letter b ∷ [])
+pub letter_ends : (asks : Bool) (commands : Commands) (hand : PartialCommand) (b : ℕ) → end_if asks ends.Malformed ≡ remaining_reading asks commands hand (Letter b ∷ [])
 letter_ends asks commands Nothing b = letter_at asks commands b (kind_of_letter b) refl
 letter_ends asks commands (Within kind ls) b = ends_wrong asks commands (Within kind ls) (Letter b) refl
 
 -- a header as the last token
-pub header_ends : (asks : Bool) (old new : Commands) (hand : CommandHand) (v c : ℕ) → new ≡ record old { headed = true } → meaning asks old hand (Header v c ∷ []) ≡ meaning asks new hand []
+pub header_ends : (asks : Bool) (old new : Commands) (hand : PartialCommand) (v c : ℕ) → new ≡ record old { headed = true } → remaining_reading asks old hand (Header v c ∷ []) ≡ remaining_reading asks new hand []
 header_ends asks old new hand v c e =
     let whole = following asks old hand (Header v c) (GoesOn hand) [] refl ∙ ap (λ (b : Bool). with_ask (asks && (b && not old.asked)) (commands_of hand [])) (or_true old.headed) in
     rw e whole

@@ -1,8 +1,8 @@
 use Rattle.std.proofs.Common.{subst}
-use Rattle.sat_base.specs.device.Reading.{Source, unread}
-use Rattle.sat_base.specs.script.ScriptState.{start}
+use Rattle.sat_base.specs.device.Reading.{Source, new_source}
+use Rattle.sat_base.specs.script.ScriptState.{initial_state}
 use Rattle.certify.specs.script.LastPiece.{source_in}
-use Rattle.sat_base.specs.script.Language.{reading, written}
+use Rattle.sat_base.specs.script.Language.{reading, plain_reading}
 use Rattle.certify.specs.run.ServedScript.{ServesScript}
 use Rattle.certify.proofs.lemmas.run.Runs.{IsNew, counter_so, fresh_source, has_target, is_open_yet, runs_so, steps_so, unfinished_so}
 use Rattle.certify.proofs.run.answer.Given.{Over}
@@ -17,9 +17,9 @@ module _ (g : Over) (c : After-serve_all-served g) where
   abbrev left : Source
   left = source_in g.S.CountedRead.seen c.serve_all-served.new.script c.serve_all-served.new.stream.ahead
 
-  ends : ServesScript g.C.CountedWrite.seen start reading written c.serve_all-served.result (unread (g.S.CountedRead.seen c.args.script.now)) left c.new-session.result c.serve_all-served.new.session (g.A.CountedWrite.seen c.args.answers.now) (g.A.CountedWrite.seen c.serve_all-served.new.answers)
+  ends : ServesScript g.C.CountedWrite.seen initial_state reading plain_reading c.serve_all-served.result (new_source (g.S.CountedRead.seen c.args.script.now)) left c.new-session.result c.serve_all-served.new.session (g.A.CountedWrite.seen c.args.answers.now) (g.A.CountedWrite.seen c.serve_all-served.new.answers)
   ends =
-      subst (λ (a : Source). ServesScript g.C.CountedWrite.seen start reading written c.serve_all-served.result a left c.new-session.result c.serve_all-served.new.session (g.A.CountedWrite.seen c.args.answers.now) (g.A.CountedWrite.seen c.serve_all-served.new.answers))
+      subst (λ (a : Source). ServesScript g.C.CountedWrite.seen initial_state reading plain_reading c.serve_all-served.result a left c.new-session.result c.serve_all-served.new.session (g.A.CountedWrite.seen c.args.answers.now) (g.A.CountedWrite.seen c.serve_all-served.new.answers))
       (fresh_source g.S.CountedRead.seen c.args.script.now c.new-stream.result.ahead c.new-stream.ensures.waiting c.new-stream.ensures.reads) c.serve_all-served.ensures
 
 pub end_run-requires-clause-target : goal.end_run-requires-clause-target

@@ -30,7 +30,7 @@ impl LastPiece {
     }
 
     /// Consumes the first `count` bytes that have not been consumed yet. There must be at least that many.
-    pub fn take(&mut self, count: usize)
+    pub fn consume(&mut self, count: usize)
         requires { count ≤ length (waiting_bytes self.old) }
         ensures waiting { waiting_bytes self.new ≡ drop count (waiting_bytes self.old) }
         ensures reads { self.new.reads ≡ self.old.reads }

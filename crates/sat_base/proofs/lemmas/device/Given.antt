@@ -4,21 +4,21 @@ use Rattle.std.proofs.lemmas.List.{append-nil}
 use Rattle.std.proofs.lemmas.Grind.{common_steps}
 use Rattle.std.specs.Prelude.{IfSome}
 use Rattle.std.specs.Io.KnownBytes.{Consumes, Keeps, IsAtEnd}
-use Rattle.sat_base.specs.device.Device.{Reader, ReadsOnce, FewReads, GaveFront, GaveAll, GaveEnough, most_reads}
+use Rattle.sat_base.specs.device.Device.{Reader, ReadsOnce, FewReads, GavePrefix, GaveAll, GaveEnough, most_reads}
 use Rattle.sat_base.proofs.lemmas.device.Known.{consumes_none, consumes_more}
 
-pub gave_none : (r : Reader) → GaveFront r r []
+pub gave_none : (r : Reader) → GavePrefix r r []
 gave_none r = record { gave = sym (append-nil r.given); known_bytes = consumes_none r.to_come; loans = refl }
 
 -- at most one more read than bytes given
 pub few_reads : (a c : Reader) (xs : List ℕ) → c.given ≡ a.given ++ xs → c.calls ≤ a.calls + length xs + 1 → FewReads a c
 few_reads a c xs e h = let k : length c.given ≡ length a.given + length xs = ap length e ∙ length-append a.given xs in omega arith
 
-pub few_front : (a c : Reader) (xs : List ℕ) → GaveFront a c xs → c.calls ≤ a.calls + length xs + 1 → FewReads a c
+pub few_front : (a c : Reader) (xs : List ℕ) → GavePrefix a c xs → c.calls ≤ a.calls + length xs + 1 → FewReads a c
 few_front a c xs g h = few_reads a c xs g.gave h
 
 -- one more read extends what the reader gave
-pub gave_more : {E : Type 0} (a b c : Reader) (xs : List ℕ) (n : ℕ) (room : List ℕ) → GaveFront a b xs → ReadsOnce {E = E} (Ok n) room b c → GaveFront a c (xs ++ take n room)
+pub gave_more : {E : Type 0} (a b c : Reader) (xs : List ℕ) (n : ℕ) (room : List ℕ) → GavePrefix a b xs → ReadsOnce {E = E} (Ok n) room b c → GavePrefix a c (xs ++ take n room)
 gave_more a b c xs n room p r = record {
   gave = r.given ∙ ap (λ (z : List ℕ). z ++ take n room) p.gave ∙ append_assoc a.given xs (take n room);
   known_bytes = consumes_more a.to_come b.to_come c.to_come xs (take n room) p.known_bytes r.known_bytes.0;
@@ -32,17 +32,17 @@ consumed_still (Some s) (Some t) None xs h k = absurd k
 consumed_still (Some s) (Some t) (Some u) xs h k = h ∙ ap (λ (z : List ℕ). xs ++ z) (sym k)
 
 -- a failed read gives nothing
-pub gave_still : {E : Type 0} (e : E) (a b c : Reader) (xs room : List ℕ) → GaveFront a b xs → ReadsOnce {E = E} (Err e) room b c → GaveFront a c xs
+pub gave_still : {E : Type 0} (e : E) (a b c : Reader) (xs room : List ℕ) → GavePrefix a b xs → ReadsOnce {E = E} (Err e) room b c → GavePrefix a c xs
 gave_still e a b c xs room p r = record {
   gave = r.given ∙ p.gave;
   known_bytes = consumed_still a.to_come b.to_come c.to_come xs p.known_bytes r.known_bytes;
   loans = r.loans ∙ p.loans;
 }
 
-gave_nothing : {E : Type 0} (a b c : Reader) (xs : List ℕ) (n : ℕ) (room : List ℕ) → GaveFront a b xs → ReadsOnce {E = E} (Ok n) room b c → n ≡ 0 → GaveFront a c xs
+gave_nothing : {E : Type 0} (a b c : Reader) (xs : List ℕ) (n : ℕ) (room : List ℕ) → GavePrefix a b xs → ReadsOnce {E = E} (Ok n) room b c → n ≡ 0 → GavePrefix a c xs
 gave_nothing a b c xs n room p r e =
     let f : xs ++ take n room ≡ xs = ap (λ (k : ℕ). xs ++ take k room) e ∙ append-nil xs in
-    subst (GaveFront a c) f (gave_more a b c xs n room p r)
+    subst (GavePrefix a c) f (gave_more a b c xs n room p r)
 
 at_end : (n : ℕ) (room : List ℕ) → n ≡ 0 → 0 < length room → (nat_eq n 0 && nat_lt 0 (length room)) ≡ true
 at_end n room e h = grind (arith, common_steps)
@@ -51,7 +51,7 @@ not_at_end : (n : ℕ) (room : List ℕ) → 0 < n → (nat_eq n 0 && nat_lt 0 (
 not_at_end n room h = grind (arith, common_steps)
 
 -- a read that found the end: the reader gave everything
-pub gave_to_end : {E : Type 0} (a b c : Reader) (xs : List ℕ) (n : ℕ) (room : List ℕ) → GaveFront a b xs → ReadsOnce {E = E} (Ok n) room b c → n ≡ 0 → 0 < length room
+pub gave_to_end : {E : Type 0} (a b c : Reader) (xs : List ℕ) (n : ℕ) (room : List ℕ) → GavePrefix a b xs → ReadsOnce {E = E} (Ok n) room b c → n ≡ 0 → 0 < length room
     → a.calls ≤ b.calls → b.calls ≤ a.calls + length xs → GaveAll a c xs
 gave_to_end a b c xs n room p r e h some few =
     let g = gave_nothing a b c xs n room p r e in
@@ -66,18 +66,18 @@ gave_to_end a b c xs n room p r e h some few =
     }
 
 -- the same if every earlier read gave at least one byte
-pub end_after : {E : Type 0} (a b c : Reader) (xs : List ℕ) (n k : ℕ) (room : List ℕ) → GaveFront a b xs → ReadsOnce {E = E} (Ok n) room b c → n ≡ 0 → 0 < length room
+pub end_after : {E : Type 0} (a b c : Reader) (xs : List ℕ) (n k : ℕ) (room : List ℕ) → GavePrefix a b xs → ReadsOnce {E = E} (Ok n) room b c → n ≡ 0 → 0 < length room
     → b.calls ≡ a.calls + k → k ≤ length xs → GaveAll a c xs
 end_after a b c xs n k room p r e h calls some = gave_to_end a b c xs n room p r e h (omega arith) (omega arith)
 
-pub few_after : (a b c : Reader) (xs : List ℕ) (k : ℕ) → GaveFront a c xs → c.calls ≡ b.calls + 1 → b.calls ≡ a.calls + k → k ≤ length xs → FewReads a c
+pub few_after : (a b c : Reader) (xs : List ℕ) (k : ℕ) → GavePrefix a c xs → c.calls ≡ b.calls + 1 → b.calls ≡ a.calls + k → k ≤ length xs → FewReads a c
 few_after a b c xs k g once calls some = few_front a c xs g (omega arith)
 
-pub few_before : (a b : Reader) (xs : List ℕ) (k : ℕ) → GaveFront a b xs → b.calls ≡ a.calls + k → k ≤ length xs → FewReads a b
+pub few_before : (a b : Reader) (xs : List ℕ) (k : ℕ) → GavePrefix a b xs → b.calls ≡ a.calls + k → k ≤ length xs → FewReads a b
 few_before a b xs k g calls some = few_front a b xs g (omega arith)
 
 -- the reader gave at least one byte
-pub some_given : (a c : Reader) (xs ys : List ℕ) → GaveFront a c (xs ++ ys) → 0 < length ys → length a.given < length c.given
+pub some_given : (a c : Reader) (xs ys : List ℕ) → GavePrefix a c (xs ++ ys) → 0 < length ys → length a.given < length c.given
 some_given a c xs ys g h = let e = ap length g.gave in let f = length-append a.given (xs ++ ys) in let k = length-append xs ys in omega arith
 
 -- the number of calls after one more call
@@ -126,7 +126,7 @@ enough_all a c P xs g p = record {
   holds = λ rest f. subst P (sym (ap (λ (z : List ℕ). xs ++ z) (f g.called g.ends) ∙ append-nil xs)) p;
 }
 
-pub enough_front : (a c : Reader) (P : List ℕ → Type 0) (xs : List ℕ) → GaveFront a c xs → c.ended ≡ false → c.calls ≤ a.calls + length xs + 1
+pub enough_front : (a c : Reader) (P : List ℕ → Type 0) (xs : List ℕ) → GavePrefix a c xs → c.ended ≡ false → c.calls ≤ a.calls + length xs + 1
     → ((rest : List ℕ) → P (xs ++ rest)) → GaveEnough a c P
 enough_front a c P xs g e few p = record {
   text = xs;

@@ -7,7 +7,7 @@ use Rattle.std.specs.Io.KnownBytes.{Consumes, IsAtEnd, Keeps, prepend_known}
 use Rattle.sat_base.specs.device.Device.{Reader, ReadsOnce, most_reads}
 use Rattle.sat_base.specs.declared.steps.error.StepError.{StepError}
 use Rattle.sat_base.specs.declared.steps.error.StepError.TheVariants as errors
-use Rattle.sat_base.specs.steps.Formats.{BeginsText}
+use Rattle.sat_base.specs.steps.Formats.{IsPrefixOfText}
 use Rattle.sat_base.specs.steps.Numbers.{IsBelow}
 use Rattle.sat_base.specs.device.Reading.{Source, to_come, ConsumesWithReads, ConsumesBytes, ConsumesToEnd, none_given, ConsumesAndFails, Refills, NextByte, ByteWithin, ReadsValue}
 use Rattle.sat_base.proofs.lemmas.device.Known.{consumes_none, consumes_more}
@@ -184,7 +184,7 @@ groups_stop limit value place old mid new errors.Read g h = (g.text, faults_ther
 groups_stop limit value place old mid new errors.Cut g h = groups_cut limit value place old mid new g h
 groups_stop limit value place old mid new e g h = absurd h
 
-pub groups_bad : (limit value place b : ℕ) (old mid new : Source) → (g : Groups limit value place old mid) → ConsumesBytes mid new (b ∷ []) → (BeginsText (IsBelow limit) (g.text ++ b ∷ []) → ⊥) → ReadsValue (IsBelow limit) (Err errors.BadByte) old new
+pub groups_bad : (limit value place b : ℕ) (old mid new : Source) → (g : Groups limit value place old mid) → ConsumesBytes mid new (b ∷ []) → (IsPrefixOfText (IsBelow limit) (g.text ++ b ∷ []) → ⊥) → ReadsValue (IsBelow limit) (Err errors.BadByte) old new
 groups_bad limit value place b old mid new g h k = (g.text, b, passes_more old mid new g.text (b ∷ []) g.passes h, live limit g.text value place g.front g.small, k)
 
 -- a first group of 0 is the complete number

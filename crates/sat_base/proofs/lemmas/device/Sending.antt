@@ -4,7 +4,7 @@ use Rattle.std.proofs.lemmas.List.{append-nil}
 use Rattle.std.specs.Borrow.{MutBor}
 use Rattle.std.specs.Prelude.{OnOk}
 use Rattle.sat_base.specs.declared.device.output.Output.{Output}
-use Rattle.sat_base.specs.device.Device.{Writer, FlushesOnce, WriterTakes, WriterBreaks, WritesText, lent_writer}
+use Rattle.sat_base.specs.device.Device.{Writer, FlushesOnce, WriterAccepts, WriterFails, WritesText, lent_writer}
 use Rattle.sat_base.specs.device.Sink.{Sink, AddsToSink, SinkFails, SendsText, Flushes, sink_of, empty_sink}
 use Rattle.sat_base.proofs.lemmas.device.Writes.{took_none, took_more, breaks_later, breaks_within, lent_puts, flush_takes, flush_fails}
 
@@ -23,13 +23,13 @@ sent_more a b c xs ys p q = record {
 
 -- if sending the first part fails, sending the text fails
 pub sends_stops : (a b : Sink) (xs ys : List ℕ) → SinkFails a b xs → SinkFails a b (xs ++ ys)
-sends_stops a b xs ys q = record { breaks = subst (WriterBreaks a.writer b.writer) (append_assoc a.waiting xs ys) (breaks_within a.writer b.writer (a.waiting ++ xs) ys q.breaks); none = q.none }
+sends_stops a b xs ys q = record { breaks = subst (WriterFails a.writer b.writer) (append_assoc a.waiting xs ys) (breaks_within a.writer b.writer (a.waiting ++ xs) ys q.breaks); none = q.none }
 
 -- the same for a later part
 pub sends_breaks : (a b c : Sink) (xs ys : List ℕ) → AddsToSink a b xs → SinkFails b c ys → SinkFails a c (xs ++ ys)
 sends_breaks a b c xs ys p q =
     let e : p.fresh ++ (b.waiting ++ ys) ≡ a.waiting ++ (xs ++ ys) = sym (append_assoc p.fresh b.waiting ys) ∙ ap (λ (z : List ℕ). z ++ ys) (sym p.flows) ∙ append_assoc a.waiting xs ys in
-    record { breaks = subst (WriterBreaks a.writer c.writer) e (breaks_later a.writer b.writer c.writer p.fresh (b.waiting ++ ys) p.takes q.breaks); none = q.none }
+    record { breaks = subst (WriterFails a.writer c.writer) e (breaks_later a.writer b.writer c.writer p.fresh (b.waiting ++ ys) p.takes q.breaks); none = q.none }
 
 -- sending one part and then another
 pub sends_more : {E : Type 0} (a b c : Sink) (xs ys : List ℕ) (r : Result (Unit {0}) E) → AddsToSink a b xs → SendsText ys r b c → SendsText (xs ++ ys) r a c
@@ -44,8 +44,8 @@ sends_same a b xs ys r e w = subst (λ (z : List ℕ). SendsText z r a b) e w
 pub all_out : {E : Type 0} (a b : Sink) (xs : List ℕ) (r : Result (Unit {0}) E) → a.waiting ≡ [] → b.waiting ≡ [] → SendsText xs r a b → WritesText xs r a.writer b.writer
 all_out a b xs (Ok u) e f w =
     let g : xs ≡ w.fresh = ap (λ (z : List ℕ). z ++ xs) (sym e) ∙ w.flows ∙ ap (λ (z : List ℕ). w.fresh ++ z) f ∙ append-nil w.fresh in
-    subst (WriterTakes a.writer b.writer) (sym g) w.takes
-all_out a b xs (Err e) d f w = subst (λ (z : List ℕ). WriterBreaks a.writer b.writer (z ++ xs)) d w.breaks
+    subst (WriterAccepts a.writer b.writer) (sym g) w.takes
+all_out a b xs (Err e) d f w = subst (λ (z : List ℕ). WriterFails a.writer b.writer (z ++ xs)) d w.breaks
 
 -- a piece appended to the pending bytes
 pub piece_waits : (w : Writer) (xs ys piece : List ℕ) (a : Sink) → AddsToSink a (record { writer = w; waiting = xs }) [] → ys ≡ xs ++ piece → AddsToSink a (record { writer = w; waiting = ys }) piece
@@ -55,7 +55,7 @@ piece_waits w xs ys piece a p e =
 -- writing the pending bytes
 pub out_sends : {E : Type 0} (v w : Writer) (xs ys piece : List ℕ) (r : Result (Unit {0}) E) → piece ≡ xs → ys ≡ [] → WritesText piece r v w → SendsText [] r (record { writer = v; waiting = xs }) (record { writer = w; waiting = ys })
 out_sends v w xs ys piece (Ok u) e f q = record { fresh = piece; flows = ap (λ (z : List ℕ). z ++ []) (sym e) ∙ ap (λ (z : List ℕ). piece ++ z) (sym f); takes = q }
-out_sends v w xs ys piece (Err x) e f q = record { breaks = subst (WriterBreaks v w) (e ∙ sym (append-nil xs)) q; none = f }
+out_sends v w xs ys piece (Err x) e f q = record { breaks = subst (WriterFails v w) (e ∙ sym (append-nil xs)) q; none = f }
 
 -- if nothing is pending, a piece is written directly
 pub sends_direct : {E : Type 0} (a : Sink) (v w : Writer) (piece bytes : List ℕ) (r : Result (Unit {0}) E) → bytes ≡ [] → AddsToSink a (record { writer = v; waiting = bytes }) [] → WritesText piece r v w
@@ -64,7 +64,7 @@ sends_direct a v w piece bytes (Ok u) f p q =
     sent_more a (record { writer = v; waiting = bytes }) (record { writer = w; waiting = bytes }) [] piece p
     (record { fresh = piece; flows = ap (λ (z : List ℕ). z ++ piece) f ∙ sym (append-nil piece) ∙ ap (λ (z : List ℕ). piece ++ z) (sym f); takes = q })
 sends_direct a v w piece bytes (Err x) f p q =
-    sends_breaks a (record { writer = v; waiting = bytes }) (record { writer = w; waiting = bytes }) [] piece p (record { breaks = subst (λ (z : List ℕ). WriterBreaks v w (z ++ piece)) (sym f) q; none = f })
+    sends_breaks a (record { writer = v; waiting = bytes }) (record { writer = w; waiting = bytes }) [] piece p (record { breaks = subst (λ (z : List ℕ). WriterFails v w (z ++ piece)) (sym f) q; none = f })
 
 -- PART BY PART
 
@@ -118,7 +118,7 @@ sends_flush a v w bytes (Ok u) f p q = record {
   flushed = q.flushed;
 }
 sends_flush a v w bytes (Err x) f p q =
-    sends_breaks a (record { writer = v; waiting = bytes }) (record { writer = w; waiting = bytes }) [] [] p (record { breaks = subst (λ (z : List ℕ). WriterBreaks v w (z ++ [])) (sym f) (flush_fails x v w q); none = f })
+    sends_breaks a (record { writer = v; waiting = bytes }) (record { writer = w; waiting = bytes }) [] [] p (record { breaks = subst (λ (z : List ℕ). WriterFails v w (z ++ [])) (sym f) (flush_fails x v w q); none = f })
 
 -- A LENT WRITER
 
@@ -130,9 +130,9 @@ pub lent_out : {E W P : Type 0} (seen : W → Writer) (waiting : P → List ℕ)
 lent_out {E} {W} {P} seen waiting a z r first last given text (Ok u) back start same sends none =
     let S : MutBor W → Writer = λ (w : MutBor W). lent_writer w.ghost_name (seen w.now) in
     let s : AddsToSink (empty_sink (lent_writer given (seen a))) (sink_of S waiting last) text = subst (λ (o : Sink). AddsToSink o (sink_of S waiting last) text) start sends in
-    let p : WriterTakes (lent_writer given (seen a)) (S last.writer) text = all_out {E = E} (empty_sink (lent_writer given (seen a))) (sink_of S waiting last) text (Ok u) refl none s in
-    lent_puts {E = E} seen a z r.now given r.ghost_name text (Ok u) back (subst (λ (w : MutBor W). WriterTakes (lent_writer given (seen a)) (S w) text) (sym same) p)
+    let p : WriterAccepts (lent_writer given (seen a)) (S last.writer) text = all_out {E = E} (empty_sink (lent_writer given (seen a))) (sink_of S waiting last) text (Ok u) refl none s in
+    lent_puts {E = E} seen a z r.now given r.ghost_name text (Ok u) back (subst (λ (w : MutBor W). WriterAccepts (lent_writer given (seen a)) (S w) text) (sym same) p)
 lent_out {E} {W} {P} seen waiting a z r first last given text (Err e) back start same sends none =
     let S : MutBor W → Writer = λ (w : MutBor W). lent_writer w.ghost_name (seen w.now) in
-    let s : WriterBreaks (lent_writer given (seen a)) (S last.writer) text = subst (λ (o : Sink). WriterBreaks o.writer (S last.writer) (o.waiting ++ text)) start sends.breaks in
-    lent_puts {E = E} seen a z r.now given r.ghost_name text (Err e) back (subst (λ (w : MutBor W). WriterBreaks (lent_writer given (seen a)) (S w) text) (sym same) s)
+    let s : WriterFails (lent_writer given (seen a)) (S last.writer) text = subst (λ (o : Sink). WriterFails o.writer (S last.writer) (o.waiting ++ text)) start sends.breaks in
+    lent_puts {E = E} seen a z r.now given r.ghost_name text (Err e) back (subst (λ (w : MutBor W). WriterFails (lent_writer given (seen a)) (S w) text) (sym same) s)

@@ -4,13 +4,13 @@ use Rattle.std.proofs.lemmas.List.{append-nil, take-append-drop, length-take-le}
 use Rattle.std.proofs.lemmas.Grind.{common_steps}
 use Rattle.std.proofs.Math.Seq.{take-add}
 use Rattle.std.specs.Io.KnownBytes.{Appends, Keeps}
-use Rattle.sat_base.specs.device.Device.{Writer, WritesOnce, FlushesOnce, WriterTakes, WriterBreaks, WritesText, takes_none, lent_writer}
+use Rattle.sat_base.specs.device.Device.{Writer, WritesOnce, FlushesOnce, WriterAccepts, WriterFails, WritesText, takes_none, lent_writer}
 use Rattle.sat_base.proofs.lemmas.device.Known.{appends_none, appends_more, rest_is}
 
-pub took_none : (w : Writer) → WriterTakes w w []
+pub took_none : (w : Writer) → WriterAccepts w w []
 took_none w = record { taken = sym (append-nil w.taken); known_bytes = appends_none w.contents; failures = refl; calls = omega arith; few = omega arith; loans = refl }
 
-pub took_more : (a b c : Writer) (xs ys : List ℕ) → WriterTakes a b xs → WriterTakes b c ys → WriterTakes a c (xs ++ ys)
+pub took_more : (a b c : Writer) (xs ys : List ℕ) → WriterAccepts a b xs → WriterAccepts b c ys → WriterAccepts a c (xs ++ ys)
 took_more a b c xs ys p q = record {
   taken = q.taken ∙ ap (λ (z : List ℕ). z ++ ys) p.taken ∙ append_assoc a.taken xs ys;
   known_bytes = appends_more a.contents b.contents c.contents xs ys p.known_bytes q.known_bytes;
@@ -21,7 +21,7 @@ took_more a b c xs ys p q = record {
 }
 
 -- a failure after some bytes were accepted
-pub breaks_later : (a b c : Writer) (xs ys : List ℕ) → WriterTakes a b xs → WriterBreaks b c ys → WriterBreaks a c (xs ++ ys)
+pub breaks_later : (a b c : Writer) (xs ys : List ℕ) → WriterAccepts a b xs → WriterFails b c ys → WriterFails a c (xs ++ ys)
 breaks_later a b c xs ys p q = record {
   front = xs ++ q.front;
   following = q.following;
@@ -36,7 +36,7 @@ breaks_later a b c xs ys p q = record {
 }
 
 -- a failure while a prefix of the text is written
-pub breaks_within : (a b : Writer) (xs ys : List ℕ) → WriterBreaks a b xs → WriterBreaks a b (xs ++ ys)
+pub breaks_within : (a b : Writer) (xs ys : List ℕ) → WriterFails a b xs → WriterFails a b (xs ++ ys)
 breaks_within a b xs ys q = record {
   front = q.front;
   following = q.following ++ ys;
@@ -66,7 +66,7 @@ counted_one : (t : Bool) (old new : ℕ) → new ≡ (if t then old + 1 else old
 counted_one true old new h e = h
 counted_one false old new h e = absurd (let k : ◌≡◌ {A = Bool} false true = e in cc)
 
-pub wrote_some : {E : Type 0} (a b : Writer) (rest : List ℕ) (n : ℕ) → WritesOnce {E = E} (Ok n) rest a b → n ≤ length rest → (n ≡ 0 → ⊥) → WriterTakes a b (take n rest)
+pub wrote_some : {E : Type 0} (a b : Writer) (rest : List ℕ) (n : ℕ) → WritesOnce {E = E} (Ok n) rest a b → n ≤ length rest → (n ≡ 0 → ⊥) → WriterAccepts a b (take n rest)
 wrote_some a b rest n w k h = record {
   taken = w.taken;
   known_bytes = w.known_bytes;
@@ -84,7 +84,7 @@ keeps_appends (Some x) (Some y) h = h ∙ sym (append-nil x)
 none_at : (n : ℕ) (rest : List ℕ) → n ≡ 0 → take n rest ≡ []
 none_at n rest h = ap (λ (k : ℕ). take k rest) h
 
-pub wrote_none : {E : Type 0} (a b : Writer) (rest : List ℕ) (n : ℕ) → WritesOnce {E = E} (Ok n) rest a b → n ≡ 0 → 0 < length rest → WriterBreaks a b rest
+pub wrote_none : {E : Type 0} (a b : Writer) (rest : List ℕ) (n : ℕ) → WritesOnce {E = E} (Ok n) rest a b → n ≡ 0 → 0 < length rest → WriterFails a b rest
 wrote_none a b rest n w h k = record {
   front = [];
   following = rest;
@@ -98,7 +98,7 @@ wrote_none a b rest n w h k = record {
   loans = w.loans;
 }
 
-pub write_fails : {E : Type 0} (e : E) (a b : Writer) (rest : List ℕ) → WritesOnce {E = E} (Err e) rest a b → WriterBreaks a b rest
+pub write_fails : {E : Type 0} (e : E) (a b : Writer) (rest : List ℕ) → WritesOnce {E = E} (Err e) rest a b → WriterFails a b rest
 write_fails e a b rest w = record {
   front = [];
   following = rest;
@@ -114,7 +114,7 @@ write_fails e a b rest w = record {
 
 -- ONE FLUSH
 
-pub flush_takes : {E : Type 0} {u : Unit {0}} (a b : Writer) → FlushesOnce {E = E} (Ok u) a b → WriterTakes a b []
+pub flush_takes : {E : Type 0} {u : Unit {0}} (a b : Writer) → FlushesOnce {E = E} (Ok u) a b → WriterAccepts a b []
 flush_takes a b f = record {
   taken = f.taken ∙ sym (append-nil a.taken);
   known_bytes = keeps_appends a.contents b.contents f.known_bytes;
@@ -124,7 +124,7 @@ flush_takes a b f = record {
   loans = f.loans;
 }
 
-pub flush_fails : {E : Type 0} (e : E) (a b : Writer) → FlushesOnce {E = E} (Err e) a b → WriterBreaks a b []
+pub flush_fails : {E : Type 0} (e : E) (a b : Writer) → FlushesOnce {E = E} (Err e) a b → WriterFails a b []
 flush_fails e a b f = record {
   front = [];
   following = [];
@@ -140,16 +140,16 @@ flush_fails e a b f = record {
 
 -- THE NEXT PART OF A PIECE
 
-pub took_next : {E : Type 0} (a b c : Writer) (piece : List ℕ) (i n : ℕ) → WriterTakes a b (take i piece) → WritesOnce {E = E} (Ok n) (take (length piece - i) (drop i piece)) b c
-    → n ≤ length (take (length piece - i) (drop i piece)) → (n ≡ 0 → ⊥) → WriterTakes a c (take (i + n) piece)
+pub took_next : {E : Type 0} (a b c : Writer) (piece : List ℕ) (i n : ℕ) → WriterAccepts a b (take i piece) → WritesOnce {E = E} (Ok n) (take (length piece - i) (drop i piece)) b c
+    → n ≤ length (take (length piece - i) (drop i piece)) → (n ≡ 0 → ⊥) → WriterAccepts a c (take (i + n) piece)
 took_next a b c piece i n p w k h =
     let e : take i piece ++ take n (take (length piece - i) (drop i piece)) ≡ take (i + n) piece = ap (λ (z : List ℕ). take i piece ++ take n z) (rest_is piece i) ∙ sym (take-add i n piece) in
-    subst (WriterTakes a c) e (took_more a b c (take i piece) (take n (take (length piece - i) (drop i piece))) p (wrote_some b c (take (length piece - i) (drop i piece)) n w k h))
+    subst (WriterAccepts a c) e (took_more a b c (take i piece) (take n (take (length piece - i) (drop i piece))) p (wrote_some b c (take (length piece - i) (drop i piece)) n w k h))
 
-pub breaks_next : (a b c : Writer) (piece : List ℕ) (i : ℕ) → WriterTakes a b (take i piece) → WriterBreaks b c (take (length piece - i) (drop i piece)) → WriterBreaks a c piece
+pub breaks_next : (a b c : Writer) (piece : List ℕ) (i : ℕ) → WriterAccepts a b (take i piece) → WriterFails b c (take (length piece - i) (drop i piece)) → WriterFails a c piece
 breaks_next a b c piece i p q =
     let e : take i piece ++ take (length piece - i) (drop i piece) ≡ piece = ap (λ (z : List ℕ). take i piece ++ z) (rest_is piece i) ∙ take-append-drop i piece in
-    subst (WriterBreaks a c) e (breaks_later a b c (take i piece) (take (length piece - i) (drop i piece)) p q)
+    subst (WriterFails a c) e (breaks_later a b c (take i piece) (take (length piece - i) (drop i piece)) p q)
 
 pub rest_some : (piece : List ℕ) (i : ℕ) → i < length piece → 0 < length (take (length piece - i) (drop i piece))
 rest_some piece i h = let e = ap length (rest_is piece i) in omega (arith, length-drop i piece)
@@ -159,7 +159,7 @@ rest_some piece i h = let e = ap length (rest_is piece i) in omega (arith, lengt
 loans_end : (W : Type 0) (z v : W) (given back : ℕ) (xs ys : List ℕ) → (given ≡ back → z ≡ v) → ◌≡◌ {A = List ℕ} (back ∷ ys) (given ∷ xs) → z ≡ v
 loans_end W z v given back xs ys h e = h (let k : given ≡ back = cc in k)
 
-lent_takes : (a b : Writer) (given back : ℕ) (text : List ℕ) → WriterTakes (lent_writer given a) (lent_writer back b) text → WriterTakes a b text
+lent_takes : (a b : Writer) (given back : ℕ) (text : List ℕ) → WriterAccepts (lent_writer given a) (lent_writer back b) text → WriterAccepts a b text
 lent_takes a b given back text p = record {
   taken = p.taken;
   known_bytes = p.known_bytes;
@@ -169,7 +169,7 @@ lent_takes a b given back text p = record {
   loans = let k = p.loans in cc;
 }
 
-lent_breaks : (a b : Writer) (given back : ℕ) (text : List ℕ) → WriterBreaks (lent_writer given a) (lent_writer back b) text → WriterBreaks a b text
+lent_breaks : (a b : Writer) (given back : ℕ) (text : List ℕ) → WriterFails (lent_writer given a) (lent_writer back b) text → WriterFails a b text
 lent_breaks a b given back text p = record {
   front = p.front;
   following = p.following;
@@ -186,6 +186,6 @@ lent_breaks a b given back text p = record {
 -- a text written through a lent writer was written to the lender's writer
 pub lent_puts : {E W : Type 0} (seen : W → Writer) (a z v : W) (given back : ℕ) (text : List ℕ) (r : Result (Unit {0}) E) → (given ≡ back → z ≡ v) → WritesText text r (lent_writer given (seen a)) (lent_writer back (seen v)) → WritesText text r (seen a) (seen z)
 lent_puts {E} {W} seen a z v given back text (Ok u) h p =
-    subst (λ (x : W). WriterTakes (seen a) (seen x) text) (sym (loans_end W z v given back (seen a).loans (seen v).loans h p.loans)) (lent_takes (seen a) (seen v) given back text p)
+    subst (λ (x : W). WriterAccepts (seen a) (seen x) text) (sym (loans_end W z v given back (seen a).loans (seen v).loans h p.loans)) (lent_takes (seen a) (seen v) given back text p)
 lent_puts {E} {W} seen a z v given back text (Err e) h p =
-    subst (λ (x : W). WriterBreaks (seen a) (seen x) text) (sym (loans_end W z v given back (seen a).loans (seen v).loans h p.loans)) (lent_breaks (seen a) (seen v) given back text p)
+    subst (λ (x : W). WriterFails (seen a) (seen x) text) (sym (loans_end W z v given back (seen a).loans (seen v).loans h p.loans)) (lent_breaks (seen a) (seen v) given back text p)

@@ -3,10 +3,10 @@ use Rattle.std.proofs.Common.{◌≡◌, ℕ, ◌+◌, ◌*◌, ◌-◌, ◌%◌
 use Rattle.std.specs.Prelude.{nat_eq, nat_lt, not, ◌↔◌, ◌⊎◌}
 use Rattle.std.proofs.lemmas.List.{append-nil}
 use Rattle.std.proofs.lemmas.Bool.Decides.{nat_tests}
-use Rattle.sat_base.specs.values.Literals.{variable, is_positive, coded, var_limit}
+use Rattle.sat_base.specs.values.Literals.{variable, is_positive, mk_lit, var_limit}
 use Rattle.sat_base.specs.text.Text.{Token, Number, Letter, Header, Wrong, tokens, scan}
-use Rattle.sat_base.specs.script.Language.{spoken}
-use Rattle.sat_base.specs.dimacs.Dimacs.{Ending, Clean, Malformed, Limit, Dimacs, Hand, Turn, GoesOn, Ends, literals_in, with_number, turn, at_end, after_turn, clauses_of, dimacs}
+use Rattle.sat_base.specs.script.Language.{without_lines}
+use Rattle.sat_base.specs.dimacs.Dimacs.{Ending, Clean, Malformed, Limit, Dimacs, PartialClause, TokenEffect, GoesOn, Ends, literals_in, with_number, token_effect, at_end, after_token_effect, clauses_of, dimacs}
 use Rattle.sat_base.specs.script.ScriptSpelling.{IsZero}
 use Rattle.sat_base.specs.dimacs.DimacsSpelling.{signed_number, AreWithinLimit, SpellsClauses, SpellsFormula, OneFormula, CleanIfSpelled}
 use Rattle.sat_base.proofs.lemmas.dimacs.WrittenIsRead.{clauses_nil, clauses_cons, coded_back}
@@ -28,24 +28,24 @@ pub record SpellsRest (done : List ℕ) (cs : List (List ℕ)) (ts : List Token)
   pub whole : ts ≡ (map signed_number literals ++ last ∷ []) ++ later
   pub rest : SpellsClauses clauses later
 
-abbrev SpellsFrom : Hand → List (List ℕ) → List Token → Type 0
+abbrev SpellsFrom : PartialClause → List (List ℕ) → List Token → Type 0
 SpellsFrom None cs ts = SpellsClauses cs ts
 SpellsFrom (Some done) cs ts = SpellsRest done cs ts
 
 -- that the next token is a zero, which ends the unfinished clause, and the rest spells the other clauses
-pub record ByZero (h : Hand) (cs : List (List ℕ)) (t : Token) (ts : List Token) : Type 0 where
+pub record ByZero (h : PartialClause) (cs : List (List ℕ)) (t : Token) (ts : List Token) : Type 0 where
   pub more : List (List ℕ)
   pub is_zero : IsZero t
   pub first : cs ≡ literals_in h ∷ more
   pub rest : SpellsClauses more ts
 
-pub record ByLiteral (h : Hand) (cs : List (List ℕ)) (t : Token) (ts : List Token) : Type 0 where
+pub record ByLiteral (h : PartialClause) (cs : List (List ℕ)) (t : Token) (ts : List Token) : Type 0 where
   pub literal : ℕ
   pub is_literal : t ≡ signed_number literal
   pub within : variable literal < var_limit
   pub rest : SpellsRest (literals_in h ++ literal ∷ []) cs ts
 
-abbrev Next : Hand → List (List ℕ) → Token → List Token → Type 0
+abbrev Next : PartialClause → List (List ℕ) → Token → List Token → Type 0
 Next h cs t ts = ByZero h cs t ts ⊎ ByLiteral h cs t ts
 
 abbrev first_of : List Token → Token
@@ -57,7 +57,7 @@ rest_of [] = []
 rest_of (t ∷ ts) = ts
 
 -- FROM A SPELLING TO ITS NEXT TOKEN
-rest_next : (h : Hand) (literals : List ℕ) (last : Token) (later : List Token) (clauses cs : List (List ℕ)) (t : Token) (ts : List Token)
+rest_next : (h : PartialClause) (literals : List ℕ) (last : Token) (later : List Token) (clauses cs : List (List ℕ)) (t : Token) (ts : List Token)
     → IsZero last → AreWithinLimit literals → cs ≡ (literals_in h ++ literals) ∷ clauses → t ∷ ts ≡ (map signed_number literals ++ last ∷ []) ++ later → SpellsClauses clauses later → Next h cs t ts
 rest_next h [] last later clauses cs t ts z w f e s =
     let same : t ≡ last = ap first_of e in
@@ -81,13 +81,13 @@ rest_next h (l ∷ ls) last later clauses cs t ts z w f e s =
       };
     })
 
-next_of : (h : Hand) (cs : List (List ℕ)) (t : Token) (ts : List Token) → SpellsFrom h cs (t ∷ ts) → Next h cs t ts
+next_of : (h : PartialClause) (cs : List (List ℕ)) (t : Token) (ts : List Token) → SpellsFrom h cs (t ∷ ts) → Next h cs t ts
 next_of None [] t ts s = absurd (cc)
 next_of None (c ∷ cs) t ts s = rest_next None c s.2.0 s.1 cs (c ∷ cs) t ts s.2.1 s.2.2 refl (s.4 ∙ ap (λ (us : List Token). us ++ s.1) s.2.3) s.3
 next_of (Some done) cs t ts s = rest_next (Some done) s.literals s.last s.later s.clauses cs t ts s.is_last s.within s.first s.whole s.rest
 
 -- FROM THE NEXT TOKEN TO A SPELLING
-by_zero : (h : Hand) (cs : List (List ℕ)) (t : Token) (ts : List Token) → ByZero h cs t ts → SpellsFrom h cs (t ∷ ts)
+by_zero : (h : PartialClause) (cs : List (List ℕ)) (t : Token) (ts : List Token) → ByZero h cs t ts → SpellsFrom h cs (t ∷ ts)
 by_zero None cs t ts z = subst (λ (ds : List (List ℕ)). SpellsClauses ds (t ∷ ts)) (sym z.first) (t ∷ [], ts, (t, z.is_zero, tt, refl), z.rest, refl)
 by_zero (Some done) cs t ts z = record {
   literals = [];
@@ -101,7 +101,7 @@ by_zero (Some done) cs t ts z = record {
   rest = z.rest;
 }
 
-by_literal : (h : Hand) (cs : List (List ℕ)) (t : Token) (ts : List Token) → ByLiteral h cs t ts → SpellsFrom h cs (t ∷ ts)
+by_literal : (h : PartialClause) (cs : List (List ℕ)) (t : Token) (ts : List Token) → ByLiteral h cs t ts → SpellsFrom h cs (t ∷ ts)
 by_literal None cs t ts n =
     let s = n.rest in
     subst (λ (ds : List (List ℕ)). SpellsClauses ds (t ∷ ts)) (sym s.first)
@@ -119,11 +119,11 @@ by_literal (Some done) cs t ts n = let s = n.rest in record {
 }
 
 -- EFFECTS OF TOKENS
-variable_coded : (v : ℕ) (b : Bool) → variable (coded v b) ≡ v
+variable_coded : (v : ℕ) (b : Bool) → variable (mk_lit v b) ≡ v
 variable_coded v true = omega arith
 variable_coded v false = omega arith
 
-positive_coded : (v : ℕ) (b : Bool) → is_positive (coded v b) ≡ b
+positive_coded : (v : ℕ) (b : Bool) → is_positive (mk_lit v b) ≡ b
 positive_coded v true = let e : (2 * v + 0) % 2 ≡ 0 = omega arith in rw e refl
 positive_coded v false = let e : (2 * v + 1) % 2 ≡ 1 = omega arith in rw e refl
 
@@ -132,56 +132,56 @@ twice_not true = refl
 twice_not false = refl
 
 -- a number other than 0 is the token of a literal
-number_is : (negative : Bool) (value : ℕ) → 0 < value → Number negative value ≡ signed_number (coded (value - 1) (not negative))
+number_is : (negative : Bool) (value : ℕ) → 0 < value → Number negative value ≡ signed_number (mk_lit (value - 1) (not negative))
 number_is negative value some =
-    let v : variable (coded (value - 1) (not negative)) ≡ value - 1 = variable_coded (value - 1) (not negative) in
-    let p : not (is_positive (coded (value - 1) (not negative))) ≡ negative = ap not (positive_coded (value - 1) (not negative)) ∙ twice_not negative in
+    let v : variable (mk_lit (value - 1) (not negative)) ≡ value - 1 = variable_coded (value - 1) (not negative) in
+    let p : not (is_positive (mk_lit (value - 1) (not negative))) ≡ negative = ap not (positive_coded (value - 1) (not negative)) ∙ twice_not negative in
     let back : value - 1 + 1 ≡ value = omega arith in
     sym (ap₂ Number p (ap (λ (n : ℕ). n + 1) v ∙ back))
 
-turn_zero : (h : Hand) (line : ℕ) (t : Token) → IsZero t → turn h line t ≡ Ends (literals_in h)
+turn_zero : (h : PartialClause) (line : ℕ) (t : Token) → IsZero t → token_effect h line t ≡ Ends (literals_in h)
 turn_zero h line (Number negative value) z = rw z refl
 turn_zero h line e z = absurd z
 
-turn_literal : (h : Hand) (line l : ℕ) → variable l < var_limit → turn h line (signed_number l) ≡ GoesOn (Some (literals_in h ++ l ∷ []))
+turn_literal : (h : PartialClause) (line l : ℕ) → variable l < var_limit → token_effect h line (signed_number l) ≡ GoesOn (Some (literals_in h ++ l ∷ []))
 turn_literal h line l w =
     let v = variable l + 1 in
     let some : nat_eq v 0 ≡ false = grind (arith, nat_tests) in
     let within : nat_lt var_limit v ≡ false = grind (arith, nat_tests) in
-    let spelled : turn h line (Number (not (is_positive l)) v) ≡ GoesOn (Some (literals_in h ++ coded (v - 1) (not (not (is_positive l))) ∷ [])) = rw (some, within) refl in
+    let spelled : token_effect h line (Number (not (is_positive l)) v) ≡ GoesOn (Some (literals_in h ++ mk_lit (v - 1) (not (not (is_positive l))) ∷ [])) = rw (some, within) refl in
     spelled ∙ ap (λ (x : ℕ). GoesOn (Some (literals_in h ++ x ∷ []))) (coded_back l)
 
 -- SPELLED CLAUSES ARE READ
 abbrev AllRead : ℕ → List (ℕ × Token) → Type 0
-AllRead last ts = (h : Hand) (cs : List (List ℕ)) → SpellsFrom h cs (spoken ts) → clauses_of h last ts ≡ clean cs
+AllRead last ts = (h : PartialClause) (cs : List (List ℕ)) → SpellsFrom h cs (without_lines ts) → clauses_of h last ts ≡ clean cs
 
 -- a clause has at least its zero
 none_whole : (ls : List ℕ) (last : Token) (later : List Token) → [] ≡ (map signed_number ls ++ last ∷ []) ++ later → ⊥
 none_whole [] last later e = cc
 none_whole (l ∷ ls) last later e = cc
 
-none_read : (h : Hand) (last : ℕ) (cs : List (List ℕ)) → SpellsFrom h cs [] → record { clauses = []; ending = at_end h last } ≡ clean cs
+none_read : (h : PartialClause) (last : ℕ) (cs : List (List ℕ)) → SpellsFrom h cs [] → record { clauses = []; ending = at_end h last } ≡ clean cs
 none_read None last [] s = refl
 none_read None last (c ∷ cs) s = let e : [] ≡ (map signed_number c ++ s.2.0 ∷ []) ++ s.1 = s.4 ∙ ap (λ (us : List Token). us ++ s.1) s.2.3 in absurd (none_whole c s.2.0 s.1 e)
 none_read (Some done) last cs s = absurd (none_whole s.literals s.last s.later s.whole)
 
-next_read : (h : Hand) (last : ℕ) (cs : List (List ℕ)) (t : ℕ × Token) (ts : List (ℕ × Token)) → AllRead last ts → Next h cs t.1 (spoken ts) → after_turn (turn h t.0 t.1) (λ k. clauses_of k last ts) ≡ clean cs
+next_read : (h : PartialClause) (last : ℕ) (cs : List (List ℕ)) (t : ℕ × Token) (ts : List (ℕ × Token)) → AllRead last ts → Next h cs t.1 (without_lines ts) → after_token_effect (token_effect h t.0 t.1) (λ k. clauses_of k last ts) ≡ clean cs
 next_read h last cs t ts ih (inl z) =
-    ap (λ (k : Turn). after_turn k (λ k. clauses_of k last ts)) (turn_zero h t.0 t.1 z.is_zero)
+    ap (λ (k : TokenEffect). after_token_effect k (λ k. clauses_of k last ts)) (turn_zero h t.0 t.1 z.is_zero)
     ∙ ap (λ (d : Dimacs). record { clauses = literals_in h ∷ d.clauses; ending = d.ending }) (ih None z.more z.rest)
     ∙ ap clean (sym z.first)
 next_read h last cs t ts ih (inr n) =
-    ap (λ (u : Token). after_turn (turn h t.0 u) (λ k. clauses_of k last ts)) n.is_literal
-    ∙ ap (λ (k : Turn). after_turn k (λ k. clauses_of k last ts)) (turn_literal h t.0 n.literal n.within)
+    ap (λ (u : Token). after_token_effect (token_effect h t.0 u) (λ k. clauses_of k last ts)) n.is_literal
+    ∙ ap (λ (k : TokenEffect). after_token_effect k (λ k. clauses_of k last ts)) (turn_literal h t.0 n.literal n.within)
     ∙ ih (Some (literals_in h ++ n.literal ∷ [])) cs n.rest
 
 all_read : (last : ℕ) (ts : List (ℕ × Token)) → AllRead last ts
 all_read last [] h cs s = clauses_nil h last ∙ none_read h last cs s
-all_read last (t ∷ ts) h cs s = clauses_cons h last t ts ∙ next_read h last cs t ts (all_read last ts) (next_of h cs t.1 (spoken ts) s)
+all_read last (t ∷ ts) h cs s = clauses_cons h last t ts ∙ next_read h last cs t ts (all_read last ts) (next_of h cs t.1 (without_lines ts) s)
 
 -- CLAUSES THAT ARE READ ARE SPELLED
 abbrev AllSpelled : ℕ → List (ℕ × Token) → Type 0
-AllSpelled last ts = (h : Hand) (cs : List (List ℕ)) → clauses_of h last ts ≡ clean cs → SpellsFrom h cs (spoken ts)
+AllSpelled last ts = (h : PartialClause) (cs : List (List ℕ)) → clauses_of h last ts ≡ clean cs → SpellsFrom h cs (without_lines ts)
 
 unclean : {A : Type 0} (line : ℕ) (cs : List (List ℕ)) → record { clauses = []; ending = Malformed line } ≡ clean cs → A
 unclean line cs e = let f : Malformed line ≡ Clean = ap (λ (d : Dimacs). d.ending) e in absurd (cc)
@@ -189,12 +189,12 @@ unclean line cs e = let f : Malformed line ≡ Clean = ap (λ (d : Dimacs). d.en
 past : {A : Type 0} (line : ℕ) (cs : List (List ℕ)) → record { clauses = []; ending = Limit line } ≡ clean cs → A
 past line cs e = let f : Limit line ≡ Clean = ap (λ (d : Dimacs). d.ending) e in absurd (cc)
 
-none_spelled : (h : Hand) (last : ℕ) (cs : List (List ℕ)) → record { clauses = []; ending = at_end h last } ≡ clean cs → SpellsFrom h cs []
+none_spelled : (h : PartialClause) (last : ℕ) (cs : List (List ℕ)) → record { clauses = []; ending = at_end h last } ≡ clean cs → SpellsFrom h cs []
 none_spelled None last cs e = subst (λ (ds : List (List ℕ)). SpellsClauses ds []) (ap (λ (d : Dimacs). d.clauses) e) refl
 none_spelled (Some done) last cs e = unclean last cs e
 
-zero_spelled : (h : Hand) (last : ℕ) (cs : List (List ℕ)) (t : Token) (ts : List (ℕ × Token)) → IsZero t → AllSpelled last ts
-    → record { clauses = literals_in h ∷ (clauses_of None last ts).clauses; ending = (clauses_of None last ts).ending } ≡ clean cs → Next h cs t (spoken ts)
+zero_spelled : (h : PartialClause) (last : ℕ) (cs : List (List ℕ)) (t : Token) (ts : List (ℕ × Token)) → IsZero t → AllSpelled last ts
+    → record { clauses = literals_in h ∷ (clauses_of None last ts).clauses; ending = (clauses_of None last ts).ending } ≡ clean cs → Next h cs t (without_lines ts)
 zero_spelled h last cs t ts z ih e =
     let more = clauses_of None last ts in
     let ends : more.ending ≡ Clean = ap (λ (d : Dimacs). d.ending) e in
@@ -205,17 +205,17 @@ zero_spelled h last cs t ts z ih e =
       rest = ih None more.clauses (ap (λ (end : Ending). record { clauses = more.clauses; ending = end }) ends);
     })
 
-literal_spelled : (h : Hand) (last line : ℕ) (cs : List (List ℕ)) (negative : Bool) (value : ℕ) (ts : List (ℕ × Token)) (is_past : Bool) → nat_lt var_limit value ≡ is_past → 0 < value → AllSpelled last ts
-    → after_turn (with_number h line negative value) (λ k. clauses_of k last ts) ≡ clean cs → Next h cs (Number negative value) (spoken ts)
+literal_spelled : (h : PartialClause) (last line : ℕ) (cs : List (List ℕ)) (negative : Bool) (value : ℕ) (ts : List (ℕ × Token)) (is_past : Bool) → nat_lt var_limit value ≡ is_past → 0 < value → AllSpelled last ts
+    → after_token_effect (with_number h line negative value) (λ k. clauses_of k last ts) ≡ clean cs → Next h cs (Number negative value) (without_lines ts)
 literal_spelled h last line cs negative value ts true p some ih e = past line cs (rw p at e)
 literal_spelled h last line cs negative value ts false p some ih e =
-    let l = coded (value - 1) (not negative) in
+    let l = mk_lit (value - 1) (not negative) in
     let v : variable l ≡ value - 1 = variable_coded (value - 1) (not negative) in
     let bound : value ≤ var_limit = grind (arith, nat_tests) in
     inr (record { literal = l; is_literal = number_is negative value some; within = omega (arith, v); rest = ih (Some (literals_in h ++ l ∷ [])) cs (rw p at e) })
 
-number_spelled : (h : Hand) (last line : ℕ) (cs : List (List ℕ)) (negative : Bool) (value : ℕ) (ts : List (ℕ × Token)) (zero : Bool) → nat_eq value 0 ≡ zero → AllSpelled last ts
-    → after_turn (turn h line (Number negative value)) (λ k. clauses_of k last ts) ≡ clean cs → Next h cs (Number negative value) (spoken ts)
+number_spelled : (h : PartialClause) (last line : ℕ) (cs : List (List ℕ)) (negative : Bool) (value : ℕ) (ts : List (ℕ × Token)) (zero : Bool) → nat_eq value 0 ≡ zero → AllSpelled last ts
+    → after_token_effect (token_effect h line (Number negative value)) (λ k. clauses_of k last ts) ≡ clean cs → Next h cs (Number negative value) (without_lines ts)
 number_spelled h last line cs negative value ts true z ih e =
     let same : value ≡ 0 = grind (arith, nat_tests) in
     zero_spelled h last cs (Number negative value) ts same ih (rw z at e)
@@ -223,21 +223,21 @@ number_spelled h last line cs negative value ts false z ih e =
     let some : 0 < value = grind (arith, nat_tests) in
     literal_spelled h last line cs negative value ts (nat_lt var_limit value) refl some ih (rw z at e)
 
-token_spelled : (h : Hand) (last line : ℕ) (cs : List (List ℕ)) (t : Token) (ts : List (ℕ × Token)) → IsWord t → AllSpelled last ts
-    → after_turn (turn h line t) (λ k. clauses_of k last ts) ≡ clean cs → Next h cs t (spoken ts)
+token_spelled : (h : PartialClause) (last line : ℕ) (cs : List (List ℕ)) (t : Token) (ts : List (ℕ × Token)) → IsWord t → AllSpelled last ts
+    → after_token_effect (token_effect h line t) (λ k. clauses_of k last ts) ≡ clean cs → Next h cs t (without_lines ts)
 token_spelled h last line cs (Number negative value) ts w ih e = number_spelled h last line cs negative value ts (nat_eq value 0) refl ih e
 token_spelled h last line cs (Letter b) ts w ih e = unclean line cs e
 token_spelled h last line cs (Header v c) ts w ih e = absurd w
 token_spelled h last line cs Wrong ts w ih e = unclean line cs e
 
-put_together : (h : Hand) (cs : List (List ℕ)) (t : Token) (ts : List Token) → Next h cs t ts → SpellsFrom h cs (t ∷ ts)
+put_together : (h : PartialClause) (cs : List (List ℕ)) (t : Token) (ts : List Token) → Next h cs t ts → SpellsFrom h cs (t ∷ ts)
 put_together h cs t ts (inl z) = by_zero h cs t ts z
 put_together h cs t ts (inr n) = by_literal h cs t ts n
 
-all_spelled : (last : ℕ) (ts : List (ℕ × Token)) → AreWords (spoken ts) → AllSpelled last ts
+all_spelled : (last : ℕ) (ts : List (ℕ × Token)) → AreWords (without_lines ts) → AllSpelled last ts
 all_spelled last [] w h cs e = none_spelled h last cs (sym (clauses_nil h last) ∙ e)
 all_spelled last (t ∷ ts) w h cs e =
-    put_together h cs t.1 (spoken ts) (token_spelled h last t.0 cs t.1 ts w.0 (all_spelled last ts w.1) (sym (clauses_cons h last t ts) ∙ e))
+    put_together h cs t.1 (without_lines ts) (token_spelled h last t.0 cs t.1 ts w.0 (all_spelled last ts w.1) (sym (clauses_cons h last t ts) ∙ e))
 
 -- WITH A HEADER
 -- the tokens that spell clauses contain no header
@@ -251,27 +251,27 @@ none_headed {A} cs v c ts s = go (next_of None cs (Header v c) ts s)
     go (inl z) = absurd z.is_zero
     go (inr n) = number_no_header v c n.literal n.is_literal
 
-headless : (last : ℕ) (ts : List (ℕ × Token)) (cs : List (List ℕ)) → AreWords (spoken ts) → (clauses_of None last ts ≡ clean cs) ↔ SpellsFormula cs (spoken ts)
+headless : (last : ℕ) (ts : List (ℕ × Token)) (cs : List (List ℕ)) → AreWords (without_lines ts) → (clauses_of None last ts ≡ clean cs) ↔ SpellsFormula cs (without_lines ts)
 headless last ts cs w = ((λ e. inl (all_spelled last ts w None cs e)), to)
   where
-    to : SpellsFormula cs (spoken ts) → clauses_of None last ts ≡ clean cs
+    to : SpellsFormula cs (without_lines ts) → clauses_of None last ts ≡ clean cs
     to (inl s) = all_read last ts None cs s
     to (inr (v, c, rest, e, s)) = absurd (let h : AreWords (Header v c ∷ rest) = rw e at w in h.0)
 
-headed : (last : ℕ) (v c : ℕ) (t : ℕ × Token) (ts : List (ℕ × Token)) (cs : List (List ℕ)) → t.1 ≡ Header v c → AreWords (spoken ts) → (clauses_of None last (t ∷ ts) ≡ clean cs) ↔ SpellsFormula cs (spoken (t ∷ ts))
+headed : (last : ℕ) (v c : ℕ) (t : ℕ × Token) (ts : List (ℕ × Token)) (cs : List (List ℕ)) → t.1 ≡ Header v c → AreWords (without_lines ts) → (clauses_of None last (t ∷ ts) ≡ clean cs) ↔ SpellsFormula cs (without_lines (t ∷ ts))
 headed last v c t ts cs is w = (
-  λ e. inr (v, c, spoken ts, ap (λ (u : Token). u ∷ spoken ts) is, all_spelled last ts w None cs (sym goes_on ∙ e)),
+  λ e. inr (v, c, without_lines ts, ap (λ (u : Token). u ∷ without_lines ts) is, all_spelled last ts w None cs (sym goes_on ∙ e)),
   to,
 )
   where
     goes_on : clauses_of None last (t ∷ ts) ≡ clauses_of None last ts
-    goes_on = clauses_cons None last t ts ∙ ap (λ (u : Token). after_turn (turn None t.0 u) (λ k. clauses_of k last ts)) is
+    goes_on = clauses_cons None last t ts ∙ ap (λ (u : Token). after_token_effect (token_effect None t.0 u) (λ k. clauses_of k last ts)) is
 
-    to : SpellsFormula cs (spoken (t ∷ ts)) → clauses_of None last (t ∷ ts) ≡ clean cs
-    to (inl s) = none_headed cs v c (spoken ts) (subst (λ (u : Token). SpellsClauses cs (u ∷ spoken ts)) is s)
+    to : SpellsFormula cs (without_lines (t ∷ ts)) → clauses_of None last (t ∷ ts) ≡ clean cs
+    to (inl s) = none_headed cs v c (without_lines ts) (subst (λ (u : Token). SpellsClauses cs (u ∷ without_lines ts)) is s)
     to (inr (u, d, rest, e, s)) = goes_on ∙ all_read last ts None cs (subst (SpellsClauses cs) (sym (ap rest_of e)) s)
 
-formula_if : (last : ℕ) (ts : List (ℕ × Token)) (cs : List (List ℕ)) → AreScript (spoken ts) → (clauses_of None last ts ≡ clean cs) ↔ SpellsFormula cs (spoken ts)
+formula_if : (last : ℕ) (ts : List (ℕ × Token)) (cs : List (List ℕ)) → AreScript (without_lines ts) → (clauses_of None last ts ≡ clean cs) ↔ SpellsFormula cs (without_lines ts)
 formula_if last ts cs (inl w) = headless last ts cs w
 formula_if last [] cs (inr (v, c, rest, w, e)) = absurd (cc)
 formula_if last (t ∷ ts) cs (inr (v, c, rest, w, e)) = headed last v c t ts cs (ap first_of e) (subst AreWords (sym (ap rest_of e)) w)

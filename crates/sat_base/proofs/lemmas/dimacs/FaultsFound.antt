@@ -8,10 +8,10 @@ use Rattle.sat_base.specs.declared.text.Tokenizer.{Tokenizer}
 use Rattle.sat_base.specs.declared.dimacs.error.DimacsError.{DimacsError}
 use Rattle.sat_base.specs.declared.dimacs.error.DimacsError.TheVariants as errors
 use Rattle.sat_base.specs.text.Text.{is_blank, Token, Wrong, Scan, scan, tokens}
-use Rattle.sat_base.specs.text.Position.{onto}
+use Rattle.sat_base.specs.text.Position.{prepend_tokens}
 use Rattle.sat_base.specs.text.WrongWords.{HasValidContinuation, HasNoValidContinuation}
-use Rattle.sat_base.specs.text.Tokenizing.{held, held_token, IsPositionedBefore}
-use Rattle.sat_base.specs.dimacs.Dimacs.{Hand, Turn, GoesOn, Ends, Fails, Ending, Malformed, Limit, Dimacs, turn, clauses_of, dimacs}
+use Rattle.sat_base.specs.text.Tokenizing.{capped, capped_token, IsPositionedBefore}
+use Rattle.sat_base.specs.dimacs.Dimacs.{PartialClause, TokenEffect, GoesOn, Ends, Fails, Ending, Malformed, Limit, Dimacs, token_effect, clauses_of, dimacs}
 use Rattle.sat_base.specs.dimacs.Collecting.{token_of}
 use Rattle.sat_base.specs.dimacs.Parsing.{Progress, NoFault, unless_fault, whole_lines, EndsAtFault, FeedsPiece, HasFaultOn, RefusesPiece}
 use Rattle.sat_base.specs.dimacs.ParserPlaces.{HaveTakenTokens}
@@ -22,13 +22,13 @@ use Rattle.sat_base.proofs.lemmas.dimacs.Parsed.{fault_ends}
 
 module _ (text : List ℕ) (b : ℕ) (old new : Tokenizer) (h : HasTakenSoundly text old) where
   abbrev Left : List (ℕ × Token) → (List ℕ → Scan) → Type 0
-  Left xs after = (rest : List ℕ) → h.left_of (b ∷ rest) ≡ onto xs (after rest)
+  Left xs after = (rest : List ℕ) → h.left_of (b ∷ rest) ≡ prepend_tokens xs (after rest)
 
   next_scan : (xs : List (ℕ × Token)) (after : List ℕ → Scan) → Left xs after → (scan (text ++ b ∷ [])).tokens ≡ (h.before ++ xs) ++ (after []).tokens
   next_scan xs after gives =
       ap (λ (z : List ℕ). (scan z).tokens) (sym (append-nil (text ++ b ∷ []))) ∙ ap (λ (s : Scan). s.tokens) (scans_next text b h.before xs h.left_of after h.scans gives [])
 
-  next_sound : (xs : List (ℕ × Token)) (after : List ℕ → Scan) (all : List (List ℕ)) (hand : Hand) → Left xs after → (b ≡ 10 → (after []).tokens ≡ []) → HaveTakenTokens (h.before ++ xs) all hand
+  next_sound : (xs : List (ℕ × Token)) (after : List ℕ → Scan) (all : List (List ℕ)) (hand : PartialClause) → Left xs after → (b ≡ 10 → (after []).tokens ≡ []) → HaveTakenTokens (h.before ++ xs) all hand
       → (is_LF : Bool) → nat_eq b 10 ≡ is_LF → NoFault None (tokens (whole_lines (text ++ b ∷ [])))
   next_sound xs after all hand gives ended m true e =
       let n : b ≡ 10 = grind (arith, nat_tests) in
@@ -38,7 +38,7 @@ module _ (text : List ℕ) (b : ℕ) (old new : Tokenizer) (h : HasTakenSoundly 
       subst (NoFault None) (sym same) here
   next_sound xs after all hand gives ended m false e = subst (λ (z : List ℕ). NoFault None (tokens z)) (sym (whole_inside text b e)) h.sound
 
-  next_with : (xs : List (ℕ × Token)) (after : List ℕ → Scan) (all : List (List ℕ)) (hand : Hand) → IsPositionedBefore new after → Left xs after → (b ≡ 10 → (after []).tokens ≡ []) → HaveTakenTokens (h.before ++ xs) all hand → HasValidContinuation after
+  next_with : (xs : List (ℕ × Token)) (after : List ℕ → Scan) (all : List (List ℕ)) (hand : PartialClause) → IsPositionedBefore new after → Left xs after → (b ≡ 10 → (after []).tokens ≡ []) → HaveTakenTokens (h.before ++ xs) all hand → HasValidContinuation after
       → HasTakenSoundly (text ++ b ∷ []) new
   next_with xs after all hand st gives ended m r = record {
     before = h.before ++ xs;
@@ -60,7 +60,7 @@ module _ (text : List ℕ) (b : ℕ) (old new : Tokenizer) (h : HasTakenSoundly 
       next_with [] q.0 h.all h.hand q.1 q.2 (λ k. p.ended k q.0 q.1) m (r q.0 q.1)
 
   -- a byte that makes the unfinished word wrong
-  pub next_wrong : (line : ℕ) → Pushed old new b None → ((after : List ℕ → Scan) → IsPositionedBefore new after → HasNoValidContinuation after) → ((after : List ℕ → Scan) → IsPositionedBefore new after → line ≡ held (after []).last)
+  pub next_wrong : (line : ℕ) → Pushed old new b None → ((after : List ℕ → Scan) → IsPositionedBefore new after → HasNoValidContinuation after) → ((after : List ℕ → Scan) → IsPositionedBefore new after → line ≡ capped (after []).last)
       → FindsFault (Err (errors.Malformed line)) (text ++ b ∷ []) new
   next_wrong line p w l =
       let q = p.takes h.left_of h.valid in
@@ -78,39 +78,39 @@ module _ (text : List ℕ) (b : ℕ) (old new : Tokenizer) (h : HasTakenSoundly 
       )
 
   module _ (t : CodeToken) (p : Pushed old new b (Some t)) where
-    turned_next : (n : ℕ) (given : Token) (k : Turn) → turn h.hand n given ≡ k → unless_fault k (λ g. Unit {0}) → (all : List (List ℕ)) × (hand : Hand) × HaveTakenTokens (h.before ++ (n, given) ∷ []) all hand
+    turned_next : (n : ℕ) (given : Token) (k : TokenEffect) → token_effect h.hand n given ≡ k → unless_fault k (λ g. Unit {0}) → (all : List (List ℕ)) × (hand : PartialClause) × HaveTakenTokens (h.before ++ (n, given) ∷ []) all hand
     turned_next n given (GoesOn g) e u = (h.all, g, turned_goes h.before h.all h.hand n given h.turned g e)
     turned_next n given (Ends c) e u = (h.all ++ c ∷ [], None, turned_ends h.before h.all h.hand n given h.turned c e)
     turned_next n given (Fails ending) e u = absurd u
 
-    turn_same : (given : Token) → t ≡ held_token given → (n : ℕ) → turn h.hand n (token_of t) ≡ turn h.hand n given
-    turn_same given e n = ap (λ (k : CodeToken). turn h.hand n (token_of k)) e ∙ turn-held h.hand n given
+    turn_same : (given : Token) → t ≡ capped_token given → (n : ℕ) → token_effect h.hand n (token_of t) ≡ token_effect h.hand n given
+    turn_same given e n = ap (λ (k : CodeToken). token_effect h.hand n (token_of k)) e ∙ turn-held h.hand n given
 
     -- a byte that ends a token without a fault
-    next_some : ((hand : Hand) (n : ℕ) → unless_fault (turn hand n (token_of t)) (λ g. Unit {0})) → HasTakenSoundly (text ++ b ∷ []) new
+    next_some : ((hand : PartialClause) (n : ℕ) → unless_fault (token_effect hand n (token_of t)) (λ g. Unit {0})) → HasTakenSoundly (text ++ b ∷ []) new
     next_some judged =
         let q = p.takes h.left_of h.valid in
         let n = (q.0 []).last in
         let given = q.2.0 in
-        let m = turned_next n given (turn h.hand n given) refl (subst (λ (k : Turn). unless_fault k (λ g. Unit {0})) (turn_same given q.2.1 n) (judged h.hand n)) in
+        let m = turned_next n given (token_effect h.hand n given) refl (subst (λ (k : TokenEffect). unless_fault k (λ g. Unit {0})) (turn_same given q.2.1 n) (judged h.hand n)) in
         let blank : is_blank b ≡ true = not_false (is_blank b) (λ k. let z = p.inside k in cc) in
         next_with ((n, given) ∷ []) q.0 m.0 m.1 q.1 q.2.2 (λ k. p.ended k q.0 q.1) m.2 (p.right blank q.0 q.1)
 
     -- a byte that ends a token with a fault
-    next_fails : (ending : ℕ → Ending) (line : ℕ) → ((hand : Hand) (n : ℕ) → turn hand n (token_of t) ≡ Fails (ending n)) → ((after : List ℕ → Scan) → IsPositionedBefore new after → line ≡ held (after []).last)
-        → (n : ℕ) × (line ≡ held n) × ((rest : List ℕ) → (dimacs ((text ++ b ∷ []) ++ rest)).ending ≡ ending n)
+    next_fails : (ending : ℕ → Ending) (line : ℕ) → ((hand : PartialClause) (n : ℕ) → token_effect hand n (token_of t) ≡ Fails (ending n)) → ((after : List ℕ → Scan) → IsPositionedBefore new after → line ≡ capped (after []).last)
+        → (n : ℕ) × (line ≡ capped n) × ((rest : List ℕ) → (dimacs ((text ++ b ∷ []) ++ rest)).ending ≡ ending n)
     next_fails ending line judged l =
         let q = p.takes h.left_of h.valid in
         let n = (q.0 []).last in
         let given = q.2.0 in
-        let e : turn h.hand n given ≡ Fails (ending n) = sym (turn_same given q.2.1 n) ∙ judged h.hand n in (
+        let e : token_effect h.hand n given ≡ Fails (ending n) = sym (turn_same given q.2.1 n) ∙ judged h.hand n in (
           n,
           l q.0 q.1,
           λ rest. ap (λ (d : Dimacs). d.ending) (dimacs_is ((text ++ b ∷ []) ++ rest) (h.before ++ (n, given) ∷ []) (q.0 rest) (scans_next text b h.before ((n, given) ∷ []) h.left_of q.0 h.scans q.2.2 rest)
               ∙ fails_there h.before h.all h.hand n given h.turned (ending n) e (q.0 rest).last (q.0 rest).tokens),
         )
 
-    pub next_judged : (r : Result (Unit {0}) DimacsError) (line : ℕ) → JudgesToken r line (token_of t) → ((after : List ℕ → Scan) → IsPositionedBefore new after → line ≡ held (after []).last) → FindsFault r (text ++ b ∷ []) new
+    pub next_judged : (r : Result (Unit {0}) DimacsError) (line : ℕ) → JudgesToken r line (token_of t) → ((after : List ℕ → Scan) → IsPositionedBefore new after → line ≡ capped (after []).last) → FindsFault r (text ++ b ∷ []) new
     next_judged (Ok u) line j l = next_some j
     next_judged (Err (errors.Malformed k)) line j l = let f = next_fails Malformed line j.1 l in (f.0, j.0 ∙ f.1, f.2)
     next_judged (Err (errors.Limit k)) line j l = let f = next_fails Limit line j.1 l in (f.0, j.0 ∙ f.1, f.2)
@@ -136,7 +136,7 @@ taken_more text xs i m h s =
     subst (λ (z : List ℕ). HasTakenSoundly z m) e s
 
 -- if a parser stops at a fault, the text has this fault, however it continues
-fault_on : (line : ℕ) (ending : ℕ → Ending) (piece : List ℕ) (p q : Progress) (n : ℕ) → line ≡ held n → EndsAtFault (ending n) piece p q → HasFaultOn line ending (p.fed ++ piece)
+fault_on : (line : ℕ) (ending : ℕ → Ending) (piece : List ℕ) (p q : Progress) (n : ℕ) → line ≡ capped n → EndsAtFault (ending n) piece p q → HasFaultOn line ending (p.fed ++ piece)
 fault_on line ending piece p q n e f = (n, e, fault_ends (ending n) p.fed piece p q refl f)
 
 stopped_by : (e : DimacsError) (piece : List ℕ) (p q : Progress) → FeedsPiece (Err e) piece p q → (e ≡ errors.OutOfMemory → ⊥) → RefusesPiece e piece p

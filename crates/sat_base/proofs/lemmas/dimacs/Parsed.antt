@@ -9,8 +9,8 @@ use Rattle.sat_base.specs.declared.dimacs.error.DimacsError.TheVariants as error
 use Rattle.sat_base.specs.declared.dimacs.error.IncrementalError.{IncrementalError}
 use Rattle.sat_base.specs.declared.dimacs.error.IncrementalError.TheVariants as parts
 use Rattle.sat_base.specs.dimacs.Dimacs.{Clean, Dimacs, Ending, Limit, Malformed, dimacs}
-use Rattle.sat_base.specs.dimacs.Parsing.{Calls, EndsWell, FallsShort, EndsAtFault, FeedsPiece, Finishes, GoesWell, HasReadCleanly, IsSoundText, IsWholeText, KeepsText, Parses, Progress, at_its_end, no_progress, with_fed}
-use Rattle.sat_base.specs.device.Device.{Reader, GaveFront}
+use Rattle.sat_base.specs.dimacs.Parsing.{Calls, EndsWell, RunsOutWithinPiece, EndsAtFault, FeedsPiece, Finishes, GoesWell, HasReadCleanly, IsSoundText, FormulaIsDetermined, OnlyTakesClauses, Parses, Progress, at_its_end, no_progress, with_fed}
+use Rattle.sat_base.specs.device.Device.{Reader, GavePrefix}
 use Rattle.sat_base.specs.text.Text.{dimacs_header, scan, tokens_of, lines}
 
 -- a text with a fault ends with this fault, however it continues
@@ -23,7 +23,7 @@ fault_ends ending fed piece p q e f rest =
     ap (λ (k : List ℕ). (dimacs k).ending) text ∙ ap (λ (d : Dimacs). d.ending) (f.ends (f.following ++ rest))
 
 -- if memory ran out within a piece, it ran out within the text
-pub short_on : (fed piece : List ℕ) (p q : Progress) → p.fed ≡ fed → FallsShort piece p q → (rest : List ℕ)
+pub short_on : (fed piece : List ℕ) (p q : Progress) → p.fed ≡ fed → RunsOutWithinPiece piece p q → (rest : List ℕ)
     → (front : List ℕ) × (byte : ℕ) × (following : List ℕ) × ((fed ++ piece) ++ rest ≡ front ++ byte ∷ following) × GoesWell front byte
 short_on fed piece p q e f rest = (
   fed ++ f.front,
@@ -62,12 +62,12 @@ parts_clean fed p q r is kept f =
     (ap (λ (z : Progress). z.fed) e ∙ fed_is, ap (λ (z : Progress). z.stopped) e, ap (λ (z : Progress). z.ended) e, ap (λ (z : List ℕ). (dimacs z).ending) (sym fed_is) ∙ f.1)
 
 -- a closure keeps the text if every call changes only which clauses were taken
-pub keeps_always : {F E : Type 0} (calls : Calls F E) → ((f g : F) (p q : MutBor Progress) (answer : Result (Unit {0}) E) → calls f p answer q g → q.now ≡ record p.now { taken = q.now.taken }) → (f : F) → KeepsText calls f
+pub keeps_always : {F E : Type 0} (calls : Calls F E) → ((f g : F) (p q : MutBor Progress) (answer : Result (Unit {0}) E) → calls f p answer q g → q.now ≡ record p.now { taken = q.now.taken }) → (f : F) → OnlyTakesClauses calls f
 keeps_always calls k f [] = tt
 keeps_always calls k f (p ∷ ps) = λ answer q g h. (k f g p q answer h, keeps_always calls k g ps)
 
 -- after a call, a closure that keeps the text still does, and the parser has the same text
-pub keeps_next : {F E : Type 0} (calls : Calls F E) (f g : F) (p q : MutBor Progress) (answer : Result (Unit {0}) E) → KeepsText calls f → calls f p answer q g → KeepsText calls g × (q.now ≡ record p.now { taken = q.now.taken })
+pub keeps_next : {F E : Type 0} (calls : Calls F E) (f g : F) (p q : MutBor Progress) (answer : Result (Unit {0}) E) → OnlyTakesClauses calls f → calls f p answer q g → OnlyTakesClauses calls g × (q.now ≡ record p.now { taken = q.now.taken })
 keeps_next calls f g p q answer k h = ((λ ps. (k (p ∷ ps) answer q g h).1), (k (p ∷ []) answer q g h).0)
 
 joined_more : (pieces : List (List ℕ)) (piece : List ℕ) → concat pieces ++ piece ≡ concat (pieces ++ (piece ∷ []))
@@ -80,15 +80,15 @@ fed_and_kept pieces piece p q r is f kept =
     ∙ ap (λ (z : List ℕ). record (with_fed z no_progress) { taken = r.taken }) (joined_more pieces piece)
 
 -- the pieces that were given, and one more
-pub front_joined : (old new : Reader) (pieces : List (List ℕ)) (piece : List ℕ) → GaveFront old new (concat pieces ++ piece) → GaveFront old new (concat (pieces ++ (piece ∷ [])))
-front_joined old new pieces piece f = subst (GaveFront old new) (joined_more pieces piece) f
+pub front_joined : (old new : Reader) (pieces : List (List ℕ)) (piece : List ℕ) → GavePrefix old new (concat pieces ++ piece) → GavePrefix old new (concat (pieces ++ (piece ∷ [])))
+front_joined old new pieces piece f = subst (GavePrefix old new) (joined_more pieces piece) f
 
 -- the pieces that were given, and no more
-pub front_alone : (old new : Reader) (pieces : List (List ℕ)) → GaveFront old new (concat pieces) → GaveFront old new (concat pieces ++ [])
-front_alone old new pieces f = subst (GaveFront old new) (sym (append-nil (concat pieces))) f
+pub front_alone : (old new : Reader) (pieces : List (List ℕ)) → GavePrefix old new (concat pieces) → GavePrefix old new (concat pieces ++ [])
+front_alone old new pieces f = subst (GavePrefix old new) (sym (append-nil (concat pieces))) f
 
 -- a text is complete if its reader is at its end
-pub whole_at_end : (a c : Reader) (text : List ℕ) → a.calls < c.calls → c.ended ≡ true → IsWholeText a c text
+pub whole_at_end : (a c : Reader) (text : List ℕ) → a.calls < c.calls → c.ended ≡ true → FormulaIsDetermined a c text
 whole_at_end a c text called e rest f =
     let k : text ++ rest ≡ text = ap (λ (z : List ℕ). text ++ z) (f called e) ∙ append-nil text in
     (ap dimacs k, ap dimacs_header k)

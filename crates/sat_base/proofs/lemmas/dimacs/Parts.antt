@@ -5,8 +5,8 @@ use Rattle.sat_base.specs.declared.dimacs.error.DimacsError.{DimacsError}
 use Rattle.sat_base.specs.declared.dimacs.error.DimacsError.TheVariants as errors
 use Rattle.sat_base.specs.declared.dimacs.error.IncrementalError.{IncrementalError}
 use Rattle.sat_base.specs.declared.dimacs.error.IncrementalError.TheVariants as parts
-use Rattle.sat_base.specs.device.Device.{Reader, GaveFront}
-use Rattle.sat_base.specs.dimacs.Parsing.{Calls, FeedsPiece, Finishes, IsSoundSoFar, IsWholeText, LastVisit, Parses, ParsesInParts, Progress, Visits}
+use Rattle.sat_base.specs.device.Device.{Reader, GavePrefix}
+use Rattle.sat_base.specs.dimacs.Parsing.{Calls, FeedsPiece, Finishes, IsSoundSoFar, FormulaIsDetermined, LastVisit, Parses, ParsesInParts, Progress, Visits}
 use Rattle.sat_base.specs.dimacs.ParserPlaces.{with_parser}
 use Rattle.sat_base.proofs.lemmas.device.Given.{enough_front}
 use Rattle.sat_base.proofs.lemmas.dimacs.Parsed.{HasAccepted, ends_by, stops_on, parts_clean, no_read, no_read_called, no_read_ended, no_read_fed}
@@ -27,7 +27,7 @@ refusal_is (Ok u) (Ok v) r h k l = l
 -- AT THE END
 
 pub last_at_end : {F E : Type 0} (calls : Calls F E) (seen : Result (Unit {0}) E) (answer : Result (Unit {0}) DimacsError) (r : Result (Unit {0}) (IncrementalError E)) (reader : Reader × Reader) (f h : F) (p q s : Progress)
-    → r ≡ refusal_or seen answer → IsWholeText reader.0 reader.1 p.fed → Finishes answer p q → Visits calls (f, q) seen (h, s) → LastVisit calls [] reader (with_parser s r) (f, p)
+    → r ≡ refusal_or seen answer → FormulaIsDetermined reader.0 reader.1 p.fed → Finishes answer p q → Visits calls (f, q) seen (h, s) → LastVisit calls [] reader (with_parser s r) (f, p)
 last_at_end calls (Err e) answer r reader f h p q s is whole ends seen = rw is (answer, q, (h, s), inr (refl, whole, ends), seen)
 last_at_end calls (Ok u) (Err e) r reader f h p q s is whole ends seen = rw is (inr (q, (h, s), inr (refl, whole, ends), seen))
 last_at_end calls (Ok u) (Ok v) r reader f h p q s is whole ends seen = rw is (refl, whole, q, h, ends, seen)
@@ -57,7 +57,7 @@ last_at_piece calls (Ok u) (Err d) r e reader piece f h p q s is err some feeds 
 last_at_piece calls (Ok u) (Ok v) r e reader piece f h p q s is err some feeds seen = absurd cc
 
 pub parsed_at_piece : {E : Type 0} (seen : Result (Unit {0}) E) (answer : Result (Unit {0}) DimacsError) (r : Result (Unit {0}) (IncrementalError E)) (e : IncrementalError E) (a c : Reader) (fed piece : List ℕ) (p q s : Progress)
-    → r ≡ refusal_or seen answer → r ≡ Err e → GaveFront a c (fed ++ piece) → c.ended ≡ false → c.calls ≤ a.calls + length (fed ++ piece) + 1 → HasAccepted fed p → FeedsPiece answer piece p q
+    → r ≡ refusal_or seen answer → r ≡ Err e → GavePrefix a c (fed ++ piece) → c.ended ≡ false → c.calls ≤ a.calls + length (fed ++ piece) + 1 → HasAccepted fed p → FeedsPiece answer piece p q
     → ParsesInParts a c (with_parser s r)
 parsed_at_piece (Err d) answer r e a c fed piece p q s is err front going few valid feeds = rw is tt
 parsed_at_piece (Ok u) (Err d) r e a c fed piece p q s is err front going few valid feeds =

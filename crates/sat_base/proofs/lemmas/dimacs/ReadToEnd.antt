@@ -7,11 +7,11 @@ use Rattle.std.specs.Io.KnownBytes.{IsAtEnd}
 use Rattle.std.specs.List.{FoldsTo, concat}
 use Rattle.sat_base.specs.declared.dimacs.error.DimacsError.{DimacsError}
 use Rattle.sat_base.specs.declared.dimacs.error.DimacsError.TheVariants as errors
-use Rattle.sat_base.specs.device.Device.{Reader, ReadsOnce, GaveFront, GaveAll, GaveEnough, most_reads, piece_size}
+use Rattle.sat_base.specs.device.Device.{Reader, ReadsOnce, GavePrefix, GaveAll, GaveEnough, most_reads, piece_size}
 use Rattle.sat_base.specs.text.Text.{HasEnded, scan, header_first, Scan}
 use Rattle.sat_base.specs.values.Formulas.{Formula}
 use Rattle.sat_base.specs.dimacs.Dimacs.{Dimacs, dimacs, dimacs_of}
-use Rattle.sat_base.specs.dimacs.Parsing.{Finishes, Parses, IsSoundText, GaveSound, IsWholeText, RefusesPiece, Progress, Calls, FeedsAndVisits, no_progress, with_fed, EndsInLastPiece, SaysEnded}
+use Rattle.sat_base.specs.dimacs.Parsing.{Finishes, Parses, IsSoundText, GaveSound, FormulaIsDetermined, RefusesPiece, Progress, Calls, FeedsAndVisits, no_progress, with_fed, EndsInLastPiece, ReportsEnded}
 use Rattle.sat_base.specs.dimacs.Faults.{ReadsNext}
 use Rattle.sat_base.proofs.lemmas.text.TextRuns.{standing, stands_first, open_looks}
 use Rattle.sat_base.proofs.lemmas.device.Given.{end_after, enough_all, enough_front, still_open}
@@ -20,7 +20,7 @@ use Rattle.sat_base.specs.declared.text.Place.TheVariants as at
 
 -- that reading stopped early, because a line has ended the text
 pub record StopsEarly (a c : Reader) (gave text : List ℕ) : Type 0 where
-  pub front : GaveFront a c gave
+  pub front : GavePrefix a c gave
   pub going : c.ended ≡ false
   pub few : c.calls ≤ a.calls + length gave + 1
   pub ended : HasEnded text
@@ -51,13 +51,13 @@ pub next_most : {E : Type 0} (n : ℕ) (room text : List ℕ) (a b c : Reader) (
 next_most n room text a b c k m r e h = let s = next_calls n room text b c r in omega arith
 
 -- THE END
-pub read_to_end : {E : Type 0} (a b c : Reader) (gave text : List ℕ) (n k : ℕ) (room : List ℕ) → GaveFront a b gave → ReadsNext {E = E} (Ok n) room text b c → n ≡ 0 → 0 < length room → b.calls ≡ a.calls + k → k ≤ length gave
+pub read_to_end : {E : Type 0} (a b c : Reader) (gave text : List ℕ) (n k : ℕ) (room : List ℕ) → GavePrefix a b gave → ReadsNext {E = E} (Ok n) room text b c → n ≡ 0 → 0 < length room → b.calls ≡ a.calls + k → k ≤ length gave
     → (HasEnded text → b.ended ≡ false) → ReadToEnd a c gave text
 read_to_end a b c gave text n k room g (inl r) z some calls few going = inl (end_after a b c gave n k room g r z some calls few)
 read_to_end a b c gave text n k room g (inr s) z some calls few going =
     let e : c.calls ≡ b.calls = ap (λ (r : Reader). r.calls) s.1 in
     inr (record {
-      front = subst (λ (r : Reader). GaveFront a r gave) (sym s.1) g;
+      front = subst (λ (r : Reader). GavePrefix a r gave) (sym s.1) g;
       going = ap (λ (r : Reader). r.ended) s.1 ∙ going s.2;
       few = omega arith;
       ended = s.2;
@@ -67,11 +67,11 @@ read_to_end a b c gave text n k room g (inr s) z some calls few going =
 pub none_has_ended : HasEnded [] → ⊥
 none_has_ended h = open_looks (standing (at.Fresh true) 0) (λ e. absurd cc) scan stands_first h
 
-pub read_front : (a c : Reader) (gave text : List ℕ) → ReadToEnd a c gave text → GaveFront a c gave
+pub read_front : (a c : Reader) (gave text : List ℕ) → ReadToEnd a c gave text → GavePrefix a c gave
 read_front a c gave text (inl all) = record { gave = all.gave; known_bytes = all.known_bytes; loans = all.loans }
 read_front a c gave text (inr s) = s.front
 
-pub read_pieces : (a c : Reader) (pieces : List (List ℕ)) (text : List ℕ) → ReadToEnd a c (concat pieces) text → GaveFront a c (concat pieces ++ [])
+pub read_pieces : (a c : Reader) (pieces : List (List ℕ)) (text : List ℕ) → ReadToEnd a c (concat pieces) text → GavePrefix a c (concat pieces ++ [])
 read_pieces a c pieces text r = front_alone a c pieces (read_front a c (concat pieces) text r)
 
 pub read_over : (a c : Reader) (gave text : List ℕ) → ReadToEnd a c gave text → c.ended ≡ true → IsAtEnd c.to_come
@@ -82,7 +82,7 @@ same_dimacs : (text rest : List ℕ) → HasEnded text → dimacs (text ++ rest)
 unfolding dimacs
 same_dimacs text rest h = ap (dimacs_of None) (h rest)
 
-pub read_whole : (a c : Reader) (gave text : List ℕ) → ReadToEnd a c gave text → IsWholeText a c text
+pub read_whole : (a c : Reader) (gave text : List ℕ) → ReadToEnd a c gave text → FormulaIsDetermined a c text
 read_whole a c gave text (inl all) = whole_at_end a c text all.called all.ends
 read_whole a c gave text (inr s) = λ rest f. (same_dimacs text rest s.ended, ap (λ (k : Scan). header_first k.tokens) (s.ended rest))
 
@@ -113,11 +113,11 @@ refused_on errors.HasFailed fed piece p e o f rest = absurd (let g : ◌≡◌ {
 refused_on errors.Read fed piece p e o f rest = absurd f
 
 -- TEXTS WITHOUT A FAULT
-pub sound_end : {T : Type 0} (r : Result T DimacsError) (e : DimacsError) (a c : Reader) (text : List ℕ) (p q : Progress) → r ≡ Err e → p.fed ≡ text → Finishes (Err e) p q → GaveFront a c text → IsSoundText text → r ≡ Err errors.OutOfMemory → GaveSound a c
+pub sound_end : {T : Type 0} (r : Result T DimacsError) (e : DimacsError) (a c : Reader) (text : List ℕ) (p q : Progress) → r ≡ Err e → p.fed ≡ text → Finishes (Err e) p q → GavePrefix a c text → IsSoundText text → r ≡ Err errors.OutOfMemory → GaveSound a c
 sound_end {T} r errors.OutOfMemory a c text p q k e f g s h = (text, g, s, λ called ends. ap (λ (z : List ℕ). (dimacs z).ending) (sym e) ∙ f.2.clean)
 sound_end {T} r e a c text p q k i f g s h = absurd (let z : ◌≡◌ {A = Result T DimacsError} (Err e) (Err errors.OutOfMemory) = sym k ∙ h in cc)
 
-pub sound_piece : {T : Type 0} (r : Result T DimacsError) (e : DimacsError) (a c : Reader) (fed piece : List ℕ) (p : Progress) → r ≡ Err e → p.fed ≡ fed → RefusesPiece e piece p → GaveFront a c (fed ++ piece) → c.ended ≡ false → r ≡ Err errors.OutOfMemory → GaveSound a c
+pub sound_piece : {T : Type 0} (r : Result T DimacsError) (e : DimacsError) (a c : Reader) (fed piece : List ℕ) (p : Progress) → r ≡ Err e → p.fed ≡ fed → RefusesPiece e piece p → GavePrefix a c (fed ++ piece) → c.ended ≡ false → r ≡ Err errors.OutOfMemory → GaveSound a c
 sound_piece {T} r errors.OutOfMemory a c fed piece p k e f g o h = (fed ++ piece, g, subst (λ (z : List ℕ). IsSoundText (z ++ piece)) e f.1, λ called ends. still_open c _ o ends)
 sound_piece {T} r e a c fed piece p k i f g o h = absurd (let z : ◌≡◌ {A = Result T DimacsError} (Err e) (Err errors.OutOfMemory) = sym k ∙ h in cc)
 
@@ -158,6 +158,6 @@ pub short_piece : (n : ℕ) (buf : List ℕ) → n ≤ length buf → length buf
 short_piece n buf h e = let l = length-take-le n buf h in omega arith
 
 -- the text of a parser that continues has not ended
-pub going_on : (p : Progress) (text : List ℕ) → p ≡ with_fed text no_progress → SaysEnded false p → HasEnded text → ⊥
+pub going_on : (p : Progress) (text : List ℕ) → p ≡ with_fed text no_progress → ReportsEnded false p → HasEnded text → ⊥
 going_on p text e (inl stopped) h = absurd (let g : ◌≡◌ {A = Bool} true false = sym stopped ∙ ap (λ (k : Progress). k.stopped) e in cc)
 going_on p text e (inr going) h = going (subst HasEnded (sym (ap (λ (k : Progress). k.fed) e)) h)

@@ -5,10 +5,10 @@ use Rattle.std.specs.List.{AllByRecursion}
 use Rattle.std.proofs.lemmas.List.{append-nil}
 use Rattle.std.proofs.lemmas.Bool.Decides.{nat_tests}
 use Rattle.std.proofs.lemmas.Fmt.{decimal_by_steps}
-use Rattle.sat_base.specs.values.Literals.{variable, is_positive, coded, var_limit}
+use Rattle.sat_base.specs.values.Literals.{variable, is_positive, mk_lit, var_limit}
 use Rattle.sat_base.specs.values.Formulas.{vars_in, vars_of}
-use Rattle.sat_base.specs.text.Text.{is_blank, is_digit, onto_first, lines, goes_on, words, begins_with, Token, Number, Header, digits, minus, token, header_in, with_numbers, header_if, on_line, is_none, tokens_of, last_line, scan, header_first}
-use Rattle.sat_base.specs.dimacs.Dimacs.{Clean, Dimacs, Hand, Turn, GoesOn, Ends, literals_in, turn, at_end, after_turn, clauses_of, dimacs}
+use Rattle.sat_base.specs.text.Text.{is_blank, is_digit, prepend_to_first, lines, goes_on, words, begins_with, Token, Number, Header, digits, negative_token, token, header_in, with_numbers, header_if, on_line, is_none, tokens_of, last_line, scan, header_first}
+use Rattle.sat_base.specs.dimacs.Dimacs.{Clean, Dimacs, PartialClause, TokenEffect, GoesOn, Ends, literals_in, token_effect, at_end, after_token_effect, clauses_of, dimacs}
 use Rattle.sat_base.specs.dimacs.DimacsText.{number_text, clause_line, clause_lines, header_line, dimacs_text}
 use Rattle.sat_base.specs.dimacs.WrittenDimacs.{WrittenIsRead}
 use Rattle.sat_base.proofs.lemmas.text.Words.{word_plain, word_minus, no_minus_digit, no_letter_digit}
@@ -82,7 +82,7 @@ words_blank : (b : ℕ) (bs : List ℕ) → is_blank b ≡ true → words (b ∷
 unfolding words
 words_blank b bs e = rw e refl
 
-words_on : (b : ℕ) (bs : List ℕ) → is_blank b ≡ false → goes_on bs ≡ true → words (b ∷ bs) ≡ onto_first b (words bs)
+words_on : (b : ℕ) (bs : List ℕ) → is_blank b ≡ false → goes_on bs ≡ true → words (b ∷ bs) ≡ prepend_to_first b (words bs)
 unfolding words
 words_on b bs e g = rw (e, g) refl
 
@@ -99,7 +99,7 @@ first_word : (x : ℕ) (w : List ℕ) (b : ℕ) (rest : List ℕ) → is_blank x
 first_word x [] b rest e s f =
     words_stop x (b ∷ rest) e (ap not f) ∙ ap (λ (ws : List (List ℕ)). (x ∷ []) ∷ ws) (words_blank b rest f)
 first_word x (y ∷ w) b rest e s f =
-    words_on x ((y ∷ w) ++ b ∷ rest) e (ap not s.0) ∙ ap (onto_first x) (first_word y w b rest s.0 s.1 f)
+    words_on x ((y ∷ w) ++ b ∷ rest) e (ap not s.0) ∙ ap (prepend_to_first x) (first_word y w b rest s.0 s.1 f)
 
 word : (w : List ℕ) (b : ℕ) (rest : List ℕ) → (w ≡ [] → ⊥) → Solid w → is_blank b ≡ true → words (w ++ b ∷ rest) ≡ w ∷ words rest
 word [] b rest n s f = absurd (n refl)
@@ -113,7 +113,7 @@ solid_on_line : (w : List ℕ) → Solid w → OnLine w
 solid_on_line [] s = tt
 solid_on_line (b ∷ w) s = ((let e = s.0 in grind (arith, nat_tests)), solid_on_line w s.1)
 
-lines_other : (b : ℕ) (bs : List ℕ) → nat_eq b 10 ≡ false → lines (b ∷ bs) ≡ onto_first b (lines bs)
+lines_other : (b : ℕ) (bs : List ℕ) → nat_eq b 10 ≡ false → lines (b ∷ bs) ≡ prepend_to_first b (lines bs)
 unfolding lines
 lines_other b bs e = rw e refl
 
@@ -128,7 +128,7 @@ lines_nil = refl
 -- bytes without LF are added to the start of the first line
 lines_front : (w bs line : List ℕ) (more : List (List ℕ)) → OnLine w → lines bs ≡ line ∷ more → lines (w ++ bs) ≡ (w ++ line) ∷ more
 lines_front [] bs line more o e = e
-lines_front (b ∷ w) bs line more o e = lines_other b (w ++ bs) o.0 ∙ ap (onto_first b) (lines_front w bs line more o.1 e)
+lines_front (b ∷ w) bs line more o e = lines_other b (w ++ bs) o.0 ∙ ap (prepend_to_first b) (lines_front w bs line more o.1 e)
 
 -- THE FIRST BYTE OF A LINE
 begins : (c b : ℕ) (bs : List ℕ) → is_blank b ≡ false → begins_with c (b ∷ bs) ≡ nat_eq b c
@@ -148,7 +148,7 @@ token_signed true n h k = token_plain (decimal n) n (says_decimal n k)
 token_signed false n h k =
     let s = says_decimal n k in
     let e : nat_eq n 0 ≡ false = grind (arith, nat_tests) in
-    word_minus (decimal n) n s.value s.some ∙ (let r : minus (Some n) ≡ Number true n = rw e refl in r)
+    word_minus (decimal n) n s.value s.some ∙ (let r : negative_token (Some n) ≡ Number true n = rw e refl in r)
 
 signed_solid : (positive : Bool) (n : ℕ) → n < 2 ^ 64 → Solid (signed_text positive n)
 signed_solid true n k = digits_solid (decimal n) (says_decimal n k).all
@@ -219,11 +219,11 @@ tokens_clause n ls rest w =
     ∙ ap (λ (ws : List (List ℕ)). on_line (n + 1) ws ++ tokens_of false (n + 1) (lines rest)) (words_clause ls w)
 
 -- CLAUSES OF TOKENS
-pub clauses_nil : (hand : Hand) (last : ℕ) → clauses_of hand last [] ≡ record { clauses = []; ending = at_end hand last }
+pub clauses_nil : (hand : PartialClause) (last : ℕ) → clauses_of hand last [] ≡ record { clauses = []; ending = at_end hand last }
 unfolding clauses_of
 clauses_nil hand last = refl
 
-pub clauses_cons : (hand : Hand) (last : ℕ) (t : ℕ × Token) (ts : List (ℕ × Token)) → clauses_of hand last (t ∷ ts) ≡ after_turn (turn hand t.0 t.1) (λ h. clauses_of h last ts)
+pub clauses_cons : (hand : PartialClause) (last : ℕ) (t : ℕ × Token) (ts : List (ℕ × Token)) → clauses_of hand last (t ∷ ts) ≡ after_token_effect (token_effect hand t.0 t.1) (λ h. clauses_of h last ts)
 unfolding clauses_of
 clauses_cons hand last t ts = refl
 
@@ -231,37 +231,37 @@ clauses_cons hand last t ts = refl
 abbrev ended : List ℕ → Dimacs → Dimacs
 ended clause more = record { clauses = clause ∷ more.clauses; ending = more.ending }
 
-pub coded_back : (l : ℕ) → coded (variable l + 1 - 1) (not (not (is_positive l))) ≡ l
+pub coded_back : (l : ℕ) → mk_lit (variable l + 1 - 1) (not (not (is_positive l))) ≡ l
 coded_back l = go (is_positive l) refl
   where
-    go : (b : Bool) → is_positive l ≡ b → coded (variable l + 1 - 1) (not (not b)) ≡ l
+    go : (b : Bool) → is_positive l ≡ b → mk_lit (variable l + 1 - 1) (not (not b)) ≡ l
     go true e = let h : l % 2 ≡ 0 = grind (arith, nat_tests) in omega arith
     go false e = let h : l % 2 ≡ 1 = grind (arith, nat_tests) in omega arith
 
-turn_literal : (hand : Hand) (k l : ℕ) → variable l < var_limit → turn hand k (token (number_text l)) ≡ GoesOn (Some (literals_in hand ++ l ∷ []))
+turn_literal : (hand : PartialClause) (k l : ℕ) → variable l < var_limit → token_effect hand k (token (number_text l)) ≡ GoesOn (Some (literals_in hand ++ l ∷ []))
 turn_literal hand k l w =
     let v = variable l + 1 in
     let some : nat_eq v 0 ≡ false = grind (arith, nat_tests) in
     let within : nat_lt var_limit v ≡ false = grind (arith, nat_tests) in
-    let spelled : turn hand k (Number (not (is_positive l)) v) ≡ GoesOn (Some (literals_in hand ++ coded (v - 1) (not (not (is_positive l))) ∷ [])) = rw (some, within) refl in
-    ap (turn hand k) (token_signed (is_positive l) v (omega arith) (fits l w)) ∙ spelled ∙ ap (λ (x : ℕ). GoesOn (Some (literals_in hand ++ x ∷ []))) (coded_back l)
+    let spelled : token_effect hand k (Number (not (is_positive l)) v) ≡ GoesOn (Some (literals_in hand ++ mk_lit (v - 1) (not (not (is_positive l))) ∷ [])) = rw (some, within) refl in
+    ap (token_effect hand k) (token_signed (is_positive l) v (omega arith) (fits l w)) ∙ spelled ∙ ap (λ (x : ℕ). GoesOn (Some (literals_in hand ++ x ∷ []))) (coded_back l)
 
 zero_token : token (48 ∷ []) ≡ Number false 0
 zero_token = token_plain (48 ∷ []) 0 (says_one 0 (omega arith))
 
-turn_zero : (hand : Hand) (k : ℕ) → turn hand k (token (48 ∷ [])) ≡ Ends (literals_in hand)
-turn_zero hand k = ap (turn hand k) zero_token
+turn_zero : (hand : PartialClause) (k : ℕ) → token_effect hand k (token (48 ∷ [])) ≡ Ends (literals_in hand)
+turn_zero hand k = ap (token_effect hand k) zero_token
 
-reads_clause : (hand : Hand) (last k : ℕ) (ls : List ℕ) (rest : List (ℕ × Token)) → Within ls
+reads_clause : (hand : PartialClause) (last k : ℕ) (ls : List ℕ) (rest : List (ℕ × Token)) → Within ls
     → clauses_of hand last (on_line k (clause_words ls) ++ rest) ≡ ended (literals_in hand ++ ls) (clauses_of None last rest)
 reads_clause hand last k [] rest w =
     clauses_cons hand last (k, token (48 ∷ [])) rest
-    ∙ ap (λ (t : Turn). after_turn t (λ h. clauses_of h last rest)) (turn_zero hand k)
+    ∙ ap (λ (t : TokenEffect). after_token_effect t (λ h. clauses_of h last rest)) (turn_zero hand k)
     ∙ ap (λ (c : List ℕ). ended c (clauses_of None last rest)) (sym (append-nil (literals_in hand)))
 reads_clause hand last k (l ∷ ls) rest w =
     let more = on_line k (clause_words ls) ++ rest in
     clauses_cons hand last (k, token (number_text l)) more
-    ∙ ap (λ (t : Turn). after_turn t (λ h. clauses_of h last more)) (turn_literal hand k l w.0)
+    ∙ ap (λ (t : TokenEffect). after_token_effect t (λ h. clauses_of h last more)) (turn_literal hand k l w.0)
     ∙ reads_clause (Some (literals_in hand ++ l ∷ [])) last k ls rest w.1
     ∙ ap (λ (c : List ℕ). ended c (clauses_of None last rest)) (append_assoc (literals_in hand) (l ∷ []) ls)
 

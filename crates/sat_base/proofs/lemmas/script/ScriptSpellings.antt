@@ -5,20 +5,20 @@ use Rattle.std.proofs.lemmas.List.{append-nil}
 use Rattle.std.proofs.lemmas.Bool.Decides.{nat_tests}
 use Rattle.sat_base.specs.text.Text.{Token, Number, Letter, Header, Wrong, tokens, header_from, header_first, dimacs_header}
 use Rattle.sat_base.specs.script.Script.{Literal, Command, ScriptEnding, Clean, Malformed, has_ask}
-use Rattle.sat_base.specs.script.Language.{Reading, onto_commands, spoken, Kind, OfClause, OfAsk, OfHide, OfWitness, OfSample, command_of, CommandHand, Nothing, Within, CommandTurn, GoesOn, Ends, command_in, may_stand, turn_with_literal, kind_of_letter, beginning, with_letter, command_turn, command_at_end, after_command_turn, commands_of, with_ask, written, reading}
-use Rattle.sat_base.specs.script.ScriptSpelling.{OneReading, number_of, AreNamesOfKind, IsZero, letter_of, SpellsCommand, SpellsCommands, BeginsNone, SpellsTo, asked, SpellsScript, ReadIfSpelled}
+use Rattle.sat_base.specs.script.Language.{Reading, prepend_commands, without_lines, Kind, OfClause, OfAsk, OfHide, OfWitness, OfSample, command_of, PartialCommand, Nothing, Within, CommandTokenEffect, GoesOn, Ends, command_in, allows_sign, literal_effect, kind_of_letter, beginning, with_letter, command_token_effect, command_at_end, after_command_token_effect, commands_of, with_ask, plain_reading, reading}
+use Rattle.sat_base.specs.script.ScriptSpelling.{OneReading, number_of, AreNamesOfKind, IsZero, letter_of, SpellsCommand, SpellsCommands, BeginsNone, SpellsTo, with_final_ask, SpellsScript, ReadIfSpelled}
 use Rattle.sat_base.proofs.lemmas.text.HeaderFirst.{IsWord, AreWords, AreScript, text_is}
 
-pub commands_of_nil : (h : CommandHand) → commands_of h [] ≡ ([], command_at_end h)
+pub commands_of_nil : (h : PartialCommand) → commands_of h [] ≡ ([], command_at_end h)
 unfolding commands_of
 commands_of_nil h = refl
 
-pub commands_of_cons : (h : CommandHand) (t : Token) (ts : List Token) → commands_of h (t ∷ ts) ≡ after_command_turn (command_turn h t) (λ k. commands_of k ts)
+pub commands_of_cons : (h : PartialCommand) (t : Token) (ts : List Token) → commands_of h (t ∷ ts) ≡ after_command_token_effect (command_token_effect h t) (λ k. commands_of k ts)
 unfolding commands_of
 commands_of_cons h t ts = refl
 
 -- the unfinished command of this kind with these literals so far
-abbrev hand_of : Kind → List Literal → CommandHand
+abbrev hand_of : Kind → List Literal → PartialCommand
 hand_of OfClause [] = Nothing
 hand_of OfClause (l ∷ ls) = Within OfClause (l ∷ ls)
 hand_of e ls = Within e ls
@@ -28,7 +28,7 @@ hand_ends OfClause [] = refl
 hand_ends OfClause (d ∷ ds) = refl
 hand_ends e ds = refl
 
-hand_more : (k : Kind) (done : List Literal) (l : Literal) → may_stand k l.positive ≡ true → turn_with_literal (hand_of k done) l ≡ GoesOn (hand_of k (done ++ l ∷ []))
+hand_more : (k : Kind) (done : List Literal) (l : Literal) → allows_sign k l.positive ≡ true → literal_effect (hand_of k done) l ≡ GoesOn (hand_of k (done ++ l ∷ []))
 hand_more OfClause [] l m = refl
 hand_more OfClause (d ∷ ds) l m = refl
 hand_more OfAsk ds l m = refl
@@ -37,26 +37,26 @@ hand_more e ds l m = rw m refl
 same_literal : (l : Literal) → record { name = l.name; positive = not (not l.positive) } ≡ l
 same_literal l = elim l.positive as (λ (b : Bool). record { name = l.name; positive = not (not b) } ≡ record { name = l.name; positive = b }) [ true ↦ refl | false ↦ refl ]
 
-turn_number : (h : CommandHand) (l : Literal) → 0 < l.name → command_turn h (number_of l) ≡ turn_with_literal h l
-turn_number h l n = let e : nat_eq l.name 0 ≡ false = grind (arith, nat_tests) in rw e (ap (turn_with_literal h) (same_literal l))
+turn_number : (h : PartialCommand) (l : Literal) → 0 < l.name → command_token_effect h (number_of l) ≡ literal_effect h l
+turn_number h l n = let e : nat_eq l.name 0 ≡ false = grind (arith, nat_tests) in rw e (ap (literal_effect h) (same_literal l))
 
-turn_zero : (h : CommandHand) (t : Token) → IsZero t → command_turn h t ≡ Ends (command_in h)
+turn_zero : (h : PartialCommand) (t : Token) → IsZero t → command_token_effect h t ≡ Ends (command_in h)
 turn_zero h (Number negative value) z = rw z refl
 turn_zero h e z = absurd z
 
 -- SPELLED COMMANDS ARE READ
-reads_zero : (h : CommandHand) (t : Token) (ts : List Token) → IsZero t → commands_of h (t ∷ ts) ≡ onto_commands (command_in h ∷ []) (commands_of Nothing ts)
-reads_zero h t ts z = commands_of_cons h t ts ∙ ap (λ (k : CommandTurn). after_command_turn k (λ k. commands_of k ts)) (turn_zero h t z)
+reads_zero : (h : PartialCommand) (t : Token) (ts : List Token) → IsZero t → commands_of h (t ∷ ts) ≡ prepend_commands (command_in h ∷ []) (commands_of Nothing ts)
+reads_zero h t ts z = commands_of_cons h t ts ∙ ap (λ (k : CommandTokenEffect). after_command_token_effect k (λ k. commands_of k ts)) (turn_zero h t z)
 
 reads_literals : (k : Kind) (done ls : List Literal) (t : Token) (ts : List Token) → AreNamesOfKind k ls → IsZero t
-    → commands_of (hand_of k done) ((map number_of ls ++ t ∷ []) ++ ts) ≡ onto_commands (command_of k (done ++ ls) ∷ []) (commands_of Nothing ts)
+    → commands_of (hand_of k done) ((map number_of ls ++ t ∷ []) ++ ts) ≡ prepend_commands (command_of k (done ++ ls) ∷ []) (commands_of Nothing ts)
 reads_literals k done [] t ts n z =
-    reads_zero (hand_of k done) t ts z ∙ ap (λ (c : Command). onto_commands (c ∷ []) (commands_of Nothing ts)) (hand_ends k done ∙ ap (command_of k) (sym (append-nil done)))
+    reads_zero (hand_of k done) t ts z ∙ ap (λ (c : Command). prepend_commands (c ∷ []) (commands_of Nothing ts)) (hand_ends k done ∙ ap (command_of k) (sym (append-nil done)))
 reads_literals k done (l ∷ ls) t ts n z =
     commands_of_cons (hand_of k done) (number_of l) ((map number_of ls ++ t ∷ []) ++ ts)
-    ∙ ap (λ (j : CommandTurn). after_command_turn j (λ d. commands_of d ((map number_of ls ++ t ∷ []) ++ ts))) (turn_number (hand_of k done) l n.0.0 ∙ hand_more k done l n.0.1)
+    ∙ ap (λ (j : CommandTokenEffect). after_command_token_effect j (λ d. commands_of d ((map number_of ls ++ t ∷ []) ++ ts))) (turn_number (hand_of k done) l n.0.0 ∙ hand_more k done l n.0.1)
     ∙ reads_literals k (done ++ l ∷ []) ls t ts n.1 z
-    ∙ ap (λ (ks : List Literal). onto_commands (command_of k ks ∷ []) (commands_of Nothing ts)) (append_assoc done (l ∷ []) ls)
+    ∙ ap (λ (ks : List Literal). prepend_commands (command_of k ks ∷ []) (commands_of Nothing ts)) (append_assoc done (l ∷ []) ls)
 
 begins_hand : (k : Kind) (ts : List Token) → commands_of Nothing (letter_of k ++ ts) ≡ commands_of (hand_of k []) ts
 begins_hand OfClause ts = refl
@@ -65,21 +65,21 @@ begins_hand OfHide ts = commands_of_cons Nothing (Letter 104) ts
 begins_hand OfWitness ts = commands_of_cons Nothing (Letter 119) ts
 begins_hand OfSample ts = commands_of_cons Nothing (Letter 115) ts
 
-reads_command : (c : Command) (front ts : List Token) → SpellsCommand c front → commands_of Nothing (front ++ ts) ≡ onto_commands (c ∷ []) (commands_of Nothing ts)
+reads_command : (c : Command) (front ts : List Token) → SpellsCommand c front → commands_of Nothing (front ++ ts) ≡ prepend_commands (c ∷ []) (commands_of Nothing ts)
 reads_command c front ts s =
     ap (λ (us : List Token). commands_of Nothing (us ++ ts)) s.whole
     ∙ ap (commands_of Nothing) (append_assoc (letter_of s.kind) (map number_of s.literals ++ s.last ∷ []) ts)
     ∙ begins_hand s.kind ((map number_of s.literals ++ s.last ∷ []) ++ ts)
     ∙ reads_literals s.kind [] s.literals s.last ts s.named s.is_last
-    ∙ ap (λ (d : Command). onto_commands (d ∷ []) (commands_of Nothing ts)) (sym s.is)
+    ∙ ap (λ (d : Command). prepend_commands (d ∷ []) (commands_of Nothing ts)) (sym s.is)
 
-reads_spelled : (cs : List Command) (front ts : List Token) → SpellsCommands cs front → commands_of Nothing (front ++ ts) ≡ onto_commands cs (commands_of Nothing ts)
+reads_spelled : (cs : List Command) (front ts : List Token) → SpellsCommands cs front → commands_of Nothing (front ++ ts) ≡ prepend_commands cs (commands_of Nothing ts)
 reads_spelled [] front ts s = rw s refl
 reads_spelled (c ∷ cs) front ts s =
     ap (λ (us : List Token). commands_of Nothing (us ++ ts)) s.4
     ∙ ap (commands_of Nothing) (append_assoc s.0 s.1 ts)
     ∙ reads_command c s.0 (s.1 ++ ts) s.2
-    ∙ ap (onto_commands (c ∷ [])) (reads_spelled cs s.1 ts s.3)
+    ∙ ap (prepend_commands (c ∷ [])) (reads_spelled cs s.1 ts s.3)
 
 -- COMMANDS THAT ARE READ ARE SPELLED
 -- that the tokens finish the unfinished command, and the rest is read as the other commands
@@ -100,12 +100,12 @@ pub record First (c : Command) (cs : List Command) (end : ScriptEnding) (ts : Li
   pub whole : ts ≡ front ++ later
   pub left : commands_of Nothing later ≡ (cs, end)
 
-abbrev From : CommandHand → Command → List Command → ScriptEnding → List Token → Type 0
+abbrev From : PartialCommand → Command → List Command → ScriptEnding → List Token → Type 0
 From Nothing c cs end ts = First c cs end ts
 From (Within k done) c cs end ts = Firstly k done c cs end ts
 
 abbrev AllFirst : List Token → Type 0
-AllFirst ts = (h : CommandHand) (c : Command) (cs : List Command) (end : ScriptEnding) → commands_of h ts ≡ (c ∷ cs, end) → From h c cs end ts
+AllFirst ts = (h : PartialCommand) (c : Command) (cs : List Command) (end : ScriptEnding) → commands_of h ts ≡ (c ∷ cs, end) → From h c cs end ts
 
 none_read : {A : Type 0} (d end : ScriptEnding) (c : Command) (cs : List Command) → ◌≡◌ {A = Reading} ([], d) (c ∷ cs, end) → A
 none_read d end c cs e = let f : [] ≡ c ∷ cs = ap (λ (r : Reading). r.0) e in absurd (cc)
@@ -117,7 +117,7 @@ same_tail : (b c : Command) (bs cs : List Command) → ◌≡◌ {A = List Comma
 same_tail b c bs cs e = cc
 
 -- the next token is a zero
-zero_first : (h : CommandHand) (t : Token) (ts : List Token) (cs : List Command) (end : ScriptEnding) → IsZero t → commands_of Nothing ts ≡ (cs, end) → From h (command_in h) cs end (t ∷ ts)
+zero_first : (h : PartialCommand) (t : Token) (ts : List Token) (cs : List Command) (end : ScriptEnding) → IsZero t → commands_of Nothing ts ≡ (cs, end) → From h (command_in h) cs end (t ∷ ts)
 zero_first Nothing t ts cs end z e = record {
   front = t ∷ [];
   later = ts;
@@ -130,8 +130,8 @@ zero_first (Within k done) t ts cs end z e = record { literals = []; last = t; l
 pair : (r : Reading) (cs : List Command) (end : ScriptEnding) → r.0 ≡ cs → r.1 ≡ end → r ≡ (cs, end)
 pair r cs end a b = ap (λ (xs : List Command). (xs, r.1)) a ∙ ap (λ (d : ScriptEnding). (cs, d)) b
 
-ends_first : (h : CommandHand) (t : Token) (ts : List Token) (c : Command) (cs : List Command) (end : ScriptEnding) → IsZero t
-    → onto_commands (command_in h ∷ []) (commands_of Nothing ts) ≡ (c ∷ cs, end) → From h c cs end (t ∷ ts)
+ends_first : (h : PartialCommand) (t : Token) (ts : List Token) (c : Command) (cs : List Command) (end : ScriptEnding) → IsZero t
+    → prepend_commands (command_in h ∷ []) (commands_of Nothing ts) ≡ (c ∷ cs, end) → From h c cs end (t ∷ ts)
 ends_first h t ts c cs end z e =
     let r = commands_of Nothing ts in
     let both : ◌≡◌ {A = List Command} (command_in h ∷ r.0) (c ∷ cs) = ap (λ (x : Reading). x.0) e in
@@ -153,7 +153,7 @@ clause_first t l ts c cs end e n s = record {
   left = s.left;
 }
 
-literal_first : (k : Kind) (t : Token) (l : Literal) (done : List Literal) (ts : List Token) (c : Command) (cs : List Command) (end : ScriptEnding) → t ≡ number_of l → 0 < l.name → may_stand k l.positive ≡ true
+literal_first : (k : Kind) (t : Token) (l : Literal) (done : List Literal) (ts : List Token) (c : Command) (cs : List Command) (end : ScriptEnding) → t ≡ number_of l → 0 < l.name → allows_sign k l.positive ≡ true
     → Firstly k (done ++ l ∷ []) c cs end ts → Firstly k done c cs end (t ∷ ts)
 literal_first k t l done ts c cs end e n m s = record {
   literals = l ∷ s.literals;
@@ -166,18 +166,18 @@ literal_first k t l done ts c cs end e n m s = record {
   left = s.left;
 }
 
-within_left : (k : Kind) (done : List Literal) (t : Token) (l : Literal) (ts : List Token) (c : Command) (cs : List Command) (end : ScriptEnding) (valid : Bool) → may_stand k l.positive ≡ valid
-    → t ≡ number_of l → 0 < l.name → AllFirst ts → after_command_turn (turn_with_literal (Within k done) l) (λ j. commands_of j ts) ≡ (c ∷ cs, end) → Firstly k done c cs end (t ∷ ts)
+within_left : (k : Kind) (done : List Literal) (t : Token) (l : Literal) (ts : List Token) (c : Command) (cs : List Command) (end : ScriptEnding) (valid : Bool) → allows_sign k l.positive ≡ valid
+    → t ≡ number_of l → 0 < l.name → AllFirst ts → after_command_token_effect (literal_effect (Within k done) l) (λ j. commands_of j ts) ≡ (c ∷ cs, end) → Firstly k done c cs end (t ∷ ts)
 within_left k done t l ts c cs end true m e n ih f = literal_first k t l done ts c cs end e n m (ih (Within k (done ++ l ∷ [])) c cs end (rw m at f))
 within_left k done t l ts c cs end false m e n ih f = none_read Malformed end c cs (rw m at f)
 
-literal_left : (h : CommandHand) (t : Token) (l : Literal) (ts : List Token) (c : Command) (cs : List Command) (end : ScriptEnding) → t ≡ number_of l → 0 < l.name → AllFirst ts
-    → after_command_turn (turn_with_literal h l) (λ j. commands_of j ts) ≡ (c ∷ cs, end) → From h c cs end (t ∷ ts)
+literal_left : (h : PartialCommand) (t : Token) (l : Literal) (ts : List Token) (c : Command) (cs : List Command) (end : ScriptEnding) → t ≡ number_of l → 0 < l.name → AllFirst ts
+    → after_command_token_effect (literal_effect h l) (λ j. commands_of j ts) ≡ (c ∷ cs, end) → From h c cs end (t ∷ ts)
 literal_left Nothing t l ts c cs end e n ih f = clause_first t l ts c cs end e n (ih (Within OfClause (l ∷ [])) c cs end f)
-literal_left (Within k done) t l ts c cs end e n ih f = within_left k done t l ts c cs end (may_stand k l.positive) refl e n ih f
+literal_left (Within k done) t l ts c cs end e n ih f = within_left k done t l ts c cs end (allows_sign k l.positive) refl e n ih f
 
-number_left : (h : CommandHand) (negative : Bool) (value : ℕ) (ts : List Token) (c : Command) (cs : List Command) (end : ScriptEnding) (zero : Bool) → nat_eq value 0 ≡ zero → AllFirst ts
-    → after_command_turn (command_turn h (Number negative value)) (λ j. commands_of j ts) ≡ (c ∷ cs, end) → From h c cs end (Number negative value ∷ ts)
+number_left : (h : PartialCommand) (negative : Bool) (value : ℕ) (ts : List Token) (c : Command) (cs : List Command) (end : ScriptEnding) (zero : Bool) → nat_eq value 0 ≡ zero → AllFirst ts
+    → after_command_token_effect (command_token_effect h (Number negative value)) (λ j. commands_of j ts) ≡ (c ∷ cs, end) → From h c cs end (Number negative value ∷ ts)
 number_left h negative value ts c cs end true z ih f =
     let same : value ≡ 0 = grind (arith, nat_tests) in
     ends_first h (Number negative value) ts c cs end same (rw z at f)
@@ -199,18 +199,18 @@ letter_is : (b n : ℕ) → nat_eq b n ≡ true → ◌≡◌ {A = List Token} (
 letter_is b n e = let same : b ≡ n = grind (arith, nat_tests) in ap (λ (m : ℕ). Letter m ∷ []) same
 
 letter_left : (b : ℕ) (ts : List Token) (c : Command) (cs : List Command) (end : ScriptEnding) (is_a is_h is_w is_s : Bool) → nat_eq b 97 ≡ is_a → nat_eq b 104 ≡ is_h → nat_eq b 119 ≡ is_w → nat_eq b 115 ≡ is_s → AllFirst ts
-    → after_command_turn (with_letter Nothing b) (λ j. commands_of j ts) ≡ (c ∷ cs, end) → First c cs end (Letter b ∷ ts)
+    → after_command_token_effect (with_letter Nothing b) (λ j. commands_of j ts) ≡ (c ∷ cs, end) → First c cs end (Letter b ∷ ts)
 letter_left b ts c cs end true is_h is_w is_s p q u v ih f = begun OfAsk b ts c cs end (letter_is b 97 p) (ih (Within OfAsk []) c cs end (rw p at f))
 letter_left b ts c cs end false true is_w is_s p q u v ih f = begun OfHide b ts c cs end (letter_is b 104 q) (ih (Within OfHide []) c cs end (rw (p, q) at f))
 letter_left b ts c cs end false false true is_s p q u v ih f = begun OfWitness b ts c cs end (letter_is b 119 u) (ih (Within OfWitness []) c cs end (rw (p, q, u) at f))
 letter_left b ts c cs end false false false true p q u v ih f = begun OfSample b ts c cs end (letter_is b 115 v) (ih (Within OfSample []) c cs end (rw (p, q, u, v) at f))
 letter_left b ts c cs end false false false false p q u v ih f = none_read Malformed end c cs (rw (p, q, u, v) at f)
 
-in_hand_left : (h : CommandHand) (b : ℕ) (ts : List Token) (c : Command) (cs : List Command) (end : ScriptEnding) → AllFirst ts → after_command_turn (with_letter h b) (λ j. commands_of j ts) ≡ (c ∷ cs, end) → From h c cs end (Letter b ∷ ts)
+in_hand_left : (h : PartialCommand) (b : ℕ) (ts : List Token) (c : Command) (cs : List Command) (end : ScriptEnding) → AllFirst ts → after_command_token_effect (with_letter h b) (λ j. commands_of j ts) ≡ (c ∷ cs, end) → From h c cs end (Letter b ∷ ts)
 in_hand_left Nothing b ts c cs end ih f = letter_left b ts c cs end (nat_eq b 97) (nat_eq b 104) (nat_eq b 119) (nat_eq b 115) refl refl refl refl ih f
 in_hand_left (Within k done) b ts c cs end ih f = none_read Malformed end c cs f
 
-token_left : (h : CommandHand) (t : Token) (ts : List Token) (c : Command) (cs : List Command) (end : ScriptEnding) → IsWord t → AllFirst ts → after_command_turn (command_turn h t) (λ j. commands_of j ts) ≡ (c ∷ cs, end) → From h c cs end (t ∷ ts)
+token_left : (h : PartialCommand) (t : Token) (ts : List Token) (c : Command) (cs : List Command) (end : ScriptEnding) → IsWord t → AllFirst ts → after_command_token_effect (command_token_effect h t) (λ j. commands_of j ts) ≡ (c ∷ cs, end) → From h c cs end (t ∷ ts)
 token_left h (Number negative value) ts c cs end w ih f = number_left h negative value ts c cs end (nat_eq value 0) refl ih f
 token_left h (Letter b) ts c cs end w ih f = in_hand_left h b ts c cs end ih f
 token_left h (Header v x) ts c cs end w ih f = absurd w
@@ -254,56 +254,56 @@ clean_or_malformed : {A : Type 0} (cs ds : List Command) → ◌≡◌ {A = Read
 clean_or_malformed cs ds e = let f : Clean ≡ Malformed = ap (λ (r : Reading). r.1) e in absurd (cc)
 
 -- that only the empty list of tokens, without an unfinished command, is read as no command and a clean ending
-abbrev NoneClean : CommandHand → List Token → Type 0
+abbrev NoneClean : PartialCommand → List Token → Type 0
 NoneClean h ts = commands_of h ts ≡ ([], Clean) → (h ≡ Nothing) × (ts ≡ [])
 
-onto_some : {A : Type 0} (c : Command) (r : Reading) (end : ScriptEnding) → onto_commands (c ∷ []) r ≡ ([], end) → A
+onto_some : {A : Type 0} (c : Command) (r : Reading) (end : ScriptEnding) → prepend_commands (c ∷ []) r ≡ ([], end) → A
 onto_some c r end e = let f : ◌≡◌ {A = List Command} (c ∷ r.0) [] = ap (λ (x : Reading). x.0) e in absurd (cc)
 
 malformed : {A : Type 0} → ◌≡◌ {A = Reading} ([], Malformed) ([], Clean) → A
 malformed e = let f : Malformed ≡ Clean = ap (λ (r : Reading). r.1) e in absurd (cc)
 
-within_none : {A : Type 0} (k : Kind) (ls : List Literal) → ◌≡◌ {A = CommandHand} (Within k ls) Nothing → A
+within_none : {A : Type 0} (k : Kind) (ls : List Literal) → ◌≡◌ {A = PartialCommand} (Within k ls) Nothing → A
 within_none k ls e = absurd (cc)
 
-none_within : (k : Kind) (done : List Literal) (l : Literal) (ts : List Token) (valid : Bool) → may_stand k l.positive ≡ valid → ((h : CommandHand) → NoneClean h ts)
-    → after_command_turn (turn_with_literal (Within k done) l) (λ j. commands_of j ts) ≡ ([], Clean) → ⊥
+none_within : (k : Kind) (done : List Literal) (l : Literal) (ts : List Token) (valid : Bool) → allows_sign k l.positive ≡ valid → ((h : PartialCommand) → NoneClean h ts)
+    → after_command_token_effect (literal_effect (Within k done) l) (λ j. commands_of j ts) ≡ ([], Clean) → ⊥
 none_within k done l ts true m ih f = within_none k (done ++ l ∷ []) (ih (Within k (done ++ l ∷ [])) (rw m at f)).0
 none_within k done l ts false m ih f = malformed (rw m at f)
 
-none_literal : (h : CommandHand) (l : Literal) (ts : List Token) → ((h : CommandHand) → NoneClean h ts) → after_command_turn (turn_with_literal h l) (λ j. commands_of j ts) ≡ ([], Clean) → ⊥
+none_literal : (h : PartialCommand) (l : Literal) (ts : List Token) → ((h : PartialCommand) → NoneClean h ts) → after_command_token_effect (literal_effect h l) (λ j. commands_of j ts) ≡ ([], Clean) → ⊥
 none_literal Nothing l ts ih f = within_none OfClause (l ∷ []) (ih (Within OfClause (l ∷ [])) f).0
-none_literal (Within k done) l ts ih f = none_within k done l ts (may_stand k l.positive) refl ih f
+none_literal (Within k done) l ts ih f = none_within k done l ts (allows_sign k l.positive) refl ih f
 
-none_number : (h : CommandHand) (negative : Bool) (value : ℕ) (ts : List Token) (zero : Bool) → nat_eq value 0 ≡ zero → ((h : CommandHand) → NoneClean h ts)
-    → after_command_turn (command_turn h (Number negative value)) (λ j. commands_of j ts) ≡ ([], Clean) → ⊥
+none_number : (h : PartialCommand) (negative : Bool) (value : ℕ) (ts : List Token) (zero : Bool) → nat_eq value 0 ≡ zero → ((h : PartialCommand) → NoneClean h ts)
+    → after_command_token_effect (command_token_effect h (Number negative value)) (λ j. commands_of j ts) ≡ ([], Clean) → ⊥
 none_number h negative value ts true z ih f = onto_some (command_in h) (commands_of Nothing ts) Clean (rw z at f)
 none_number h negative value ts false z ih f = none_literal h (record { name = value; positive = not negative }) ts ih (rw z at f)
 
-none_begun : (o : Option Kind) (ts : List Token) → ((h : CommandHand) → NoneClean h ts) → after_command_turn (beginning o) (λ j. commands_of j ts) ≡ ([], Clean) → ⊥
+none_begun : (o : Option Kind) (ts : List Token) → ((h : PartialCommand) → NoneClean h ts) → after_command_token_effect (beginning o) (λ j. commands_of j ts) ≡ ([], Clean) → ⊥
 none_begun None ts ih f = malformed f
 none_begun (Some k) ts ih f = within_none k [] (ih (Within k []) f).0
 
-none_letter : (h : CommandHand) (b : ℕ) (ts : List Token) → ((h : CommandHand) → NoneClean h ts) → after_command_turn (with_letter h b) (λ j. commands_of j ts) ≡ ([], Clean) → ⊥
+none_letter : (h : PartialCommand) (b : ℕ) (ts : List Token) → ((h : PartialCommand) → NoneClean h ts) → after_command_token_effect (with_letter h b) (λ j. commands_of j ts) ≡ ([], Clean) → ⊥
 none_letter Nothing b ts ih f = none_begun (kind_of_letter b) ts ih f
 none_letter (Within k done) b ts ih f = malformed f
 
-none_token : (h : CommandHand) (t : Token) (ts : List Token) → IsWord t → ((h : CommandHand) → NoneClean h ts) → after_command_turn (command_turn h t) (λ j. commands_of j ts) ≡ ([], Clean) → ⊥
+none_token : (h : PartialCommand) (t : Token) (ts : List Token) → IsWord t → ((h : PartialCommand) → NoneClean h ts) → after_command_token_effect (command_token_effect h t) (λ j. commands_of j ts) ≡ ([], Clean) → ⊥
 none_token h (Number negative value) ts w ih f = none_number h negative value ts (nat_eq value 0) refl ih f
 none_token h (Letter b) ts w ih f = none_letter h b ts ih f
 none_token h (Header v c) ts w ih f = absurd w
 none_token h Wrong ts w ih f = malformed f
 
-none_nil : (h : CommandHand) → ◌≡◌ {A = Reading} ([], command_at_end h) ([], Clean) → (h ≡ Nothing) × (◌≡◌ {A = List Token} [] [])
+none_nil : (h : PartialCommand) → ◌≡◌ {A = Reading} ([], command_at_end h) ([], Clean) → (h ≡ Nothing) × (◌≡◌ {A = List Token} [] [])
 none_nil Nothing e = (refl, refl)
 none_nil (Within k done) e = malformed e
 
-none_left : (ts : List Token) → AreWords ts → (h : CommandHand) → NoneClean h ts
+none_left : (ts : List Token) → AreWords ts → (h : PartialCommand) → NoneClean h ts
 none_left [] w h e = none_nil h (sym (commands_of_nil h) ∙ e)
 none_left (t ∷ ts) w h e = absurd (none_token h t ts w.0 (none_left ts w.1) (sym (commands_of_cons h t ts) ∙ e))
 
 -- CLEAN AND MALFORMED ENDINGS
-onto_is : (c : Command) (r : Reading) (end : ScriptEnding) {A : Type 0} → ◌≡◌ {A = Reading} ([], end) (onto_commands (c ∷ []) r) → A
+onto_is : (c : Command) (r : Reading) (end : ScriptEnding) {A : Type 0} → ◌≡◌ {A = Reading} ([], end) (prepend_commands (c ∷ []) r) → A
 onto_is c r end e = onto_some c r end (sym e)
 
 begins_none : (rest : List Token) → commands_of Nothing rest ≡ ([], Malformed) → BeginsNone rest
@@ -326,22 +326,22 @@ to_spelled cs Clean ts s =
     subst (SpellsCommands cs) (sym (s.whole ∙ ap (λ (us : List Token). s.front ++ us) none ∙ append-nil s.front)) s.spelled
 to_spelled cs Malformed ts s = (s.front, s.rest, s.spelled, begins_none s.rest s.left, s.whole)
 
-onto_none : (cs : List Command) (end : ScriptEnding) → onto_commands cs ([], end) ≡ (cs, end)
+onto_none : (cs : List Command) (end : ScriptEnding) → prepend_commands cs ([], end) ≡ (cs, end)
 onto_none cs end = ap (λ (xs : List Command). (xs, end)) (append-nil cs)
 
 to_read : (cs : List Command) (end : ScriptEnding) (ts : List Token) → AreWords ts → SpellsTo cs end ts → commands_of Nothing ts ≡ (cs, end)
 to_read cs Clean ts w s =
-    ap (commands_of Nothing) (sym (append-nil ts)) ∙ reads_spelled cs ts [] s ∙ ap (onto_commands cs) (commands_of_nil Nothing) ∙ onto_none cs Clean
+    ap (commands_of Nothing) (sym (append-nil ts)) ∙ reads_spelled cs ts [] s ∙ ap (prepend_commands cs) (commands_of_nil Nothing) ∙ onto_none cs Clean
 to_read cs Malformed ts w s =
     let v : AreWords s.1 = words_after s.0 s.1 (subst AreWords s.4 w) in
-    ap (commands_of Nothing) s.4 ∙ reads_spelled cs s.0 s.1 s.2 ∙ ap (onto_commands cs) (broken_reads s.1 v s.3) ∙ onto_none cs Malformed
+    ap (commands_of Nothing) s.4 ∙ reads_spelled cs s.0 s.1 s.2 ∙ ap (prepend_commands cs) (broken_reads s.1 v s.3) ∙ onto_none cs Malformed
 
 -- WITH A HEADER
-written_is : (text : List ℕ) → written text ≡ commands_of Nothing (spoken (tokens text))
-unfolding written
+written_is : (text : List ℕ) → plain_reading text ≡ commands_of Nothing (without_lines (tokens text))
+unfolding plain_reading
 written_is text = refl
 
-reading_is : (text : List ℕ) → reading text ≡ with_ask (is_some (dimacs_header text)) (written text)
+reading_is : (text : List ℕ) → reading text ≡ with_ask (is_some (dimacs_header text)) (plain_reading text)
 unfolding reading
 reading_is text = refl
 
@@ -349,12 +349,12 @@ abbrev headed : List Token → Bool
 headed [] = false
 headed (t ∷ ts) = is_some (header_from t)
 
-headed_is : (ts : List (ℕ × Token)) → is_some (header_first ts) ≡ headed (spoken ts)
+headed_is : (ts : List (ℕ × Token)) → is_some (header_first ts) ≡ headed (without_lines ts)
 headed_is [] = refl
 headed_is (t ∷ ts) = refl
 
-reading_of : (text : List ℕ) → reading text ≡ with_ask (headed (spoken (tokens text))) (commands_of Nothing (spoken (tokens text)))
-reading_of text = reading_is text ∙ ap (λ (b : Bool). with_ask b (written text)) (headed_is (tokens text)) ∙ ap (with_ask (headed (spoken (tokens text)))) (written_is text)
+reading_of : (text : List ℕ) → reading text ≡ with_ask (headed (without_lines (tokens text))) (commands_of Nothing (without_lines (tokens text)))
+reading_of text = reading_is text ∙ ap (λ (b : Bool). with_ask b (plain_reading text)) (headed_is (tokens text)) ∙ ap (with_ask (headed (without_lines (tokens text)))) (written_is text)
 
 no_header : (ts : List Token) → AreWords ts → headed ts ≡ false
 no_header [] w = refl
@@ -378,11 +378,11 @@ headless ts cs end w =
     )
 
 -- after a header
-asked_clean : (w : List Command) (ask : Bool) → has_ask w ≡ ask → with_ask true (w, Clean) ≡ (asked w Clean, Clean)
+asked_clean : (w : List Command) (ask : Bool) → has_ask w ≡ ask → with_ask true (w, Clean) ≡ (with_final_ask w Clean, Clean)
 asked_clean w true a = rw a refl
 asked_clean w false a = rw a refl
 
-asked_is : (w : List Command) (end : ScriptEnding) → with_ask true (w, end) ≡ (asked w end, end)
+asked_is : (w : List Command) (end : ScriptEnding) → with_ask true (w, end) ≡ (with_final_ask w end, end)
 asked_is w Clean = asked_clean w (has_ask w) refl
 asked_is w Malformed = refl
 
@@ -398,7 +398,7 @@ headed_script v c ts cs end w =
     let goes_on : commands_of Nothing (Header v c ∷ ts) ≡ commands_of Nothing ts = commands_of_cons Nothing (Header v c) ts in
     let r = commands_of Nothing ts in (
       λ e.
-          let h : ◌≡◌ {A = Reading} (asked r.0 r.1, r.1) (cs, end) = sym (asked_is r.0 r.1) ∙ sym (ap (with_ask true) goes_on) ∙ e in
+          let h : ◌≡◌ {A = Reading} (with_final_ask r.0 r.1, r.1) (cs, end) = sym (asked_is r.0 r.1) ∙ sym (ap (with_ask true) goes_on) ∙ e in
           let last : r.1 ≡ end = ap (λ (x : Reading). x.1) h in
           inr (
             v,
@@ -407,7 +407,7 @@ headed_script v c ts cs end w =
             r.0,
             refl,
             subst (λ (d : ScriptEnding). SpellsTo r.0 d ts) last (to_spelled r.0 r.1 ts (all_spelled r.0 r.1 ts w refl)),
-            sym (ap (λ (x : Reading). x.0) h) ∙ ap (asked r.0) last,
+            sym (ap (λ (x : Reading). x.0) h) ∙ ap (with_final_ask r.0) last,
           ),
       λ s. ap (with_ask true) goes_on ∙ headed_read v c ts cs end w s,
     )
@@ -418,7 +418,7 @@ script_if ts cs end (inr (v, c, rest, w, e)) = rw e (headed_script v c rest cs e
 
 pub read_if_spelled : ReadIfSpelled
 read_if_spelled text cs end =
-    let h = script_if (spoken (tokens text)) cs end (text_is text) in
+    let h = script_if (without_lines (tokens text)) cs end (text_is text) in
     (λ e. h.0 (sym (reading_of text) ∙ e), λ s. reading_of text ∙ h.1 s)
 
 pub one_reading : OneReading

@@ -3,26 +3,26 @@ use Rattle.std.proofs.Common.{ℕ, zero, suc, ◌+◌, ◌-◌, ◌≤◌, ◌<�
 use Rattle.std.proofs.Math.ListN.{length-set}
 use Rattle.std.proofs.lemmas.Bool.{ltb-true, ltb-false, eqb-false, ne_eqb}
 use Rattle.std.specs.List.{AllByRecursion}
-use Rattle.sat_base.specs.values.Literals.{var_limit, variable, coded}
+use Rattle.sat_base.specs.values.Literals.{var_limit, variable, mk_lit}
 use Rattle.sat_base.specs.values.Clauses.{Valuation, literal_true, clause_true, EachHolds}
 use Rattle.sat_base.specs.script.Script.{Literal, Command, Clause, Ask, Hide, Witness, Sample, names_of}
-use Rattle.sat_base.specs.script.ScriptState.{ScriptState, Named, NameMode, Sampled, Witnessed, identity_in, identity_of, placed, with_name, with_names, names_from, new_names, over, bring_in, bring_all, without_name, with_mode, hide_all, set_all, accepted, Refusal, PastLimit, WitnessName, refused_literal, first_refusal, has_witness, refusal_of, after_command, after_script, start}
+use Rattle.sat_base.specs.script.ScriptState.{ScriptState, Named, NameMode, Sampled, Witnessed, identity_in, identity_of, insert_by_name, with_name, with_names, names_from, new_names, identity_lit, introduce, introduce_all, without_name, with_mode, hide_all, set_all, state_after_accepted, Refusal, PastLimit, WitnessName, refused_literal, first_refusal, has_witness, refusal_of, after_command, after_script, initial_state}
 use Rattle.sat_base.specs.script.ScriptStateLaws.{NamesIncrease, ScriptStateInvariant, ScriptStateInvariantHolds, only_below, GivenIdentitiesSuffice}
 use Rattle.sat_base.proofs.lemmas.script.LiteralValues.{all_map, coded_half}
 
-pub placed_all : (P : Named → Type 0) (new : Named) (ns : List Named) → P new → AllByRecursion P ns → AllByRecursion P (placed new ns)
+pub placed_all : (P : Named → Type 0) (new : Named) (ns : List Named) → P new → AllByRecursion P ns → AllByRecursion P (insert_by_name new ns)
 placed_all P new [] p h = (p, tt)
 placed_all P new (n ∷ ns) p h = go (ltb n.name new.name) (placed_all P new ns p h.1)
   where
-    go : (b : Bool) → AllByRecursion P (placed new ns) → AllByRecursion P (cond b (n ∷ placed new ns) (new ∷ n ∷ ns))
+    go : (b : Bool) → AllByRecursion P (insert_by_name new ns) → AllByRecursion P (cond b (n ∷ insert_by_name new ns) (new ∷ n ∷ ns))
     go true ih = (h.0, ih)
     go false ih = (p, h)
 
-pub placed_order : (new : Named) (ns : List Named) → identity_in ns new.name ≡ None → NamesIncrease ns → NamesIncrease (placed new ns)
+pub placed_order : (new : Named) (ns : List Named) → identity_in ns new.name ≡ None → NamesIncrease ns → NamesIncrease (insert_by_name new ns)
 placed_order new [] e h = (tt, tt)
 placed_order new (n ∷ ns) e h = go (ltb n.name new.name) refl (eqb n.name new.name) refl e (placed_order new ns)
   where
-    go : (b : Bool) → ltb n.name new.name ≡ b → (d : Bool) → eqb n.name new.name ≡ d → cond d (Some n.identity) (identity_in ns new.name) ≡ None → (identity_in ns new.name ≡ None → NamesIncrease ns → NamesIncrease (placed new ns)) → NamesIncrease (cond b (n ∷ placed new ns) (new ∷ n ∷ ns))
+    go : (b : Bool) → ltb n.name new.name ≡ b → (d : Bool) → eqb n.name new.name ≡ d → cond d (Some n.identity) (identity_in ns new.name) ≡ None → (identity_in ns new.name ≡ None → NamesIncrease ns → NamesIncrease (insert_by_name new ns)) → NamesIncrease (cond b (n ∷ insert_by_name new ns) (new ∷ n ∷ ns))
     go b x true y f ih = absurd (cc)
     go true x false y f ih = (placed_all (λ m. n.name < m.name) new ns (ltb-true n.name new.name x) h.0, ih f h.1)
     go false x false y f ih =
@@ -68,7 +68,7 @@ fresh_kept (suc count) name j low e h =
     let at : max j.first_unused (name + 1) ≡ name + 1 = omega arith in
     fresh_kept count (name + 1) (with_name name j) (omega arith) at (name_kept name j (omega arith) none h)
 
-bring_kept : (name : ℕ) (j : ScriptState) → name ≤ var_limit → ScriptStateInvariant j → ScriptStateInvariant (bring_in name j)
+bring_kept : (name : ℕ) (j : ScriptState) → name ≤ var_limit → ScriptStateInvariant j → ScriptStateInvariant (introduce name j)
 bring_kept name j low h = go (ltb name j.first_unused) refl (identity_of j name) refl
   where
     go : (b : Bool) → ltb name j.first_unused ≡ b → (o : Option ℕ) → identity_of j name ≡ o → ScriptStateInvariant (with_names (cond b (cond (is_some o) [] (name ∷ [])) (names_from (name + 1 - j.first_unused) j.first_unused)) j)
@@ -92,17 +92,17 @@ mode_kept mode name j h = record { limit = h.limit; order = h.order; used = h.us
 abbrev Within : List ℕ → Type 0
 Within = AllByRecursion (λ n. n ≤ var_limit)
 
-bring_all_kept : (names : List ℕ) (j : ScriptState) → Within names → ScriptStateInvariant j → ScriptStateInvariant (bring_all names j)
+bring_all_kept : (names : List ℕ) (j : ScriptState) → Within names → ScriptStateInvariant j → ScriptStateInvariant (introduce_all names j)
 bring_all_kept [] j w h = h
-bring_all_kept (n ∷ ns) j w h = bring_all_kept ns (bring_in n j) w.1 (bring_kept n j w.0 h)
+bring_all_kept (n ∷ ns) j w h = bring_all_kept ns (introduce n j) w.1 (bring_kept n j w.0 h)
 
 hide_all_kept : (names : List ℕ) (j : ScriptState) → Within names → ScriptStateInvariant j → ScriptStateInvariant (hide_all names j)
 hide_all_kept [] j w h = h
-hide_all_kept (n ∷ ns) j w h = hide_all_kept ns (without_name n (bring_in n j)) w.1 (hide_kept n (bring_in n j) (bring_kept n j w.0 h))
+hide_all_kept (n ∷ ns) j w h = hide_all_kept ns (without_name n (introduce n j)) w.1 (hide_kept n (introduce n j) (bring_kept n j w.0 h))
 
 set_all_kept : (mode : NameMode) (names : List ℕ) (j : ScriptState) → Within names → ScriptStateInvariant j → ScriptStateInvariant (set_all mode names j)
 set_all_kept mode [] j w h = h
-set_all_kept mode (n ∷ ns) j w h = set_all_kept mode ns (with_mode mode n (bring_in n j)) w.1 (mode_kept mode n (bring_in n j) (bring_kept n j w.0 h))
+set_all_kept mode (n ∷ ns) j w h = set_all_kept mode ns (with_mode mode n (introduce n j)) w.1 (mode_kept mode n (introduce n j) (bring_kept n j w.0 h))
 
 -- names that are not refused are within the limit
 within_literals : (names : List ℕ) (j : ScriptState) → refused_literal j names ≡ None → Within names
@@ -136,42 +136,42 @@ grows : (names : List ℕ) (j : ScriptState) → j.identity_count ≤ (with_name
 grows [] j = omega arith
 grows (n ∷ ns) j = let r = grows ns (with_name n j) in omega arith
 
-grows_all : (names : List ℕ) (j : ScriptState) → j.identity_count ≤ (bring_all names j).identity_count
+grows_all : (names : List ℕ) (j : ScriptState) → j.identity_count ≤ (introduce_all names j).identity_count
 grows_all [] j = omega arith
-grows_all (n ∷ ns) j = let r = grows_all ns (bring_in n j) in let q = grows (new_names n j) j in omega arith
+grows_all (n ∷ ns) j = let r = grows_all ns (introduce n j) in let q = grows (new_names n j) j in omega arith
 
 -- after a name is introduced, there is at least one identity
-some_given : (name : ℕ) (j : ScriptState) → ScriptStateInvariant j → 0 < (bring_in name j).identity_count
+some_given : (name : ℕ) (j : ScriptState) → ScriptStateInvariant j → 0 < (introduce name j).identity_count
 some_given name j h = go (ltb name j.first_unused) refl (identity_of j name) refl
   where
-    from : (count start : ℕ) → 0 < count → 0 < (with_names (names_from count start) j).identity_count
-    from zero start x = absurd (omega arith)
-    from (suc count) start x = let r = grows (names_from count (start + 1)) (with_name start j) in omega arith
+    from : (count initial_state : ℕ) → 0 < count → 0 < (with_names (names_from count initial_state) j).identity_count
+    from zero initial_state x = absurd (omega arith)
+    from (suc count) initial_state x = let r = grows (names_from count (initial_state + 1)) (with_name initial_state j) in omega arith
 
     go : (b : Bool) → ltb name j.first_unused ≡ b → (o : Option ℕ) → identity_of j name ≡ o → 0 < (with_names (cond b (cond (is_some o) [] (name ∷ [])) (names_from (name + 1 - j.first_unused) j.first_unused)) j).identity_count
     go true x (Some i) e = let r = given_at j.in_use name i j.identity_count h.given e in omega arith
     go true x None e = omega arith
     go false x o e = let past = ltb-false name j.first_unused x in from (name + 1 - j.first_unused) j.first_unused (omega arith)
 
-literal_given : (j : ScriptState) (l : Literal) → ScriptStateInvariant j → 0 < j.identity_count → variable (over j l) < j.identity_count
+literal_given : (j : ScriptState) (l : Literal) → ScriptStateInvariant j → 0 < j.identity_count → variable (identity_lit j l) < j.identity_count
 literal_given j l h some = go (identity_of j l.name) refl
   where
-    go : (o : Option ℕ) → identity_of j l.name ≡ o → variable (coded (unwrap_or o 0) l.positive) < j.identity_count
+    go : (o : Option ℕ) → identity_of j l.name ≡ o → variable (mk_lit (unwrap_or o 0) l.positive) < j.identity_count
     go None e = let x = coded_half 0 l.positive in omega arith
     go (Some i) e = let x = coded_half i l.positive in let y = given_at j.in_use l.name i j.identity_count h.given e in omega arith
 
-clause_given : (ls : List Literal) (j : ScriptState) → ScriptStateInvariant j → 0 < j.identity_count → AllByRecursion (λ l. variable l < j.identity_count) (map (over j) ls)
+clause_given : (ls : List Literal) (j : ScriptState) → ScriptStateInvariant j → 0 < j.identity_count → AllByRecursion (λ l. variable l < j.identity_count) (map (identity_lit j) ls)
 clause_given [] j h some = tt
 clause_given (l ∷ ls) j h some = (literal_given j l h some, clause_given ls j h some)
 
-new_clause_given : (ls : List Literal) (j : ScriptState) → Within (names_of ls) → ScriptStateInvariant j → AllByRecursion (λ l. variable l < (bring_all (names_of ls) j).identity_count) (map (over (bring_all (names_of ls) j)) ls)
+new_clause_given : (ls : List Literal) (j : ScriptState) → Within (names_of ls) → ScriptStateInvariant j → AllByRecursion (λ l. variable l < (introduce_all (names_of ls) j).identity_count) (map (identity_lit (introduce_all (names_of ls) j)) ls)
 new_clause_given [] j w h = tt
 new_clause_given (l ∷ ls) j w h =
     let a = some_given l.name j h in
-    let b = grows_all (names_of ls) (bring_in l.name j) in
-    clause_given (l ∷ ls) (bring_all (names_of (l ∷ ls)) j) (bring_all_kept (names_of (l ∷ ls)) j w h) (omega arith)
+    let b = grows_all (names_of ls) (introduce l.name j) in
+    clause_given (l ∷ ls) (introduce_all (names_of (l ∷ ls)) j) (bring_all_kept (names_of (l ∷ ls)) j w h) (omega arith)
 
-pub accepted_kept : (command : Command) (j : ScriptState) → refusal_of j command ≡ None → ScriptStateInvariant j → ScriptStateInvariant (accepted command j)
+pub accepted_kept : (command : Command) (j : ScriptState) → refusal_of j command ≡ None → ScriptStateInvariant j → ScriptStateInvariant (state_after_accepted command j)
 accepted_kept (Clause ls) j e h =
     let w = within_literals (names_of ls) j e in
     let b = bring_all_kept (names_of ls) j w h in
@@ -184,7 +184,7 @@ accepted_kept (Sample names) j e h = set_all_kept Sampled names j (within_names 
 command_kept : (command : Command) (j : ScriptState) → ScriptStateInvariant j → ScriptStateInvariant (after_command command j)
 command_kept command j h = go (refusal_of j command) refl
   where
-    go : (r : Option Refusal) → refusal_of j command ≡ r → ScriptStateInvariant (cond (is_some r) j (accepted command j))
+    go : (r : Option Refusal) → refusal_of j command ≡ r → ScriptStateInvariant (cond (is_some r) j (state_after_accepted command j))
     go (Some r) e = h
     go None e = accepted_kept command j e h
 
@@ -192,11 +192,11 @@ script_kept : (commands : List Command) (j : ScriptState) → ScriptStateInvaria
 script_kept [] j h = h
 script_kept (c ∷ cs) j h = script_kept cs (after_command c j) (command_kept c j h)
 
-pub start_kept : ScriptStateInvariant start
+pub start_kept : ScriptStateInvariant initial_state
 start_kept = record { limit = omega arith; order = tt; used = tt; given = tt; modes = refl; clauses = tt }
 
 pub judge_kept : ScriptStateInvariantHolds
-judge_kept commands = script_kept commands start start_kept
+judge_kept commands = script_kept commands initial_state start_kept
 
 -- making a valuation false from variable n on does not change literals below n
 same_below : (n : ℕ) (a : Valuation) (l : ℕ) → variable l < n → literal_true (only_below n a) l ≡ literal_true a l
@@ -212,12 +212,12 @@ all_same_below n a (c ∷ cs) h = let r = all_same_below n a cs h.1 in let e = s
 
 pub given_suffice : GivenIdentitiesSuffice
 given_suffice commands a =
-    let j = after_script commands start in
+    let j = after_script commands initial_state in
     let h = judge_kept commands in (
       all_same_below j.identity_count a j.clauses h.clauses,
       (λ l i e.
           let g = given_at j.in_use l.name i j.identity_count h.given e in
           let x = coded_half i l.positive in
-          let o : over j l ≡ coded i l.positive = ap (λ y. coded (unwrap_or y 0) l.positive) e in
-          same_below j.identity_count a (over j l) (subst (λ y. variable y < j.identity_count) (sym o) (omega arith))),
+          let o : identity_lit j l ≡ mk_lit i l.positive = ap (λ y. mk_lit (unwrap_or y 0) l.positive) e in
+          same_below j.identity_count a (identity_lit j l) (subst (λ y. variable y < j.identity_count) (sym o) (omega arith))),
     )

@@ -3,17 +3,17 @@ use Rattle.std.proofs.Common.{◌≡◌, ℕ, suc, List, [], ◌∷◌, ◌++◌
 use Rattle.std.proofs.lemmas.List.{append-nil}
 use Rattle.sat_base.specs.declared.steps.error.StepError.{StepError}
 use Rattle.sat_base.specs.declared.steps.error.StepError.TheVariants as errors
-use Rattle.sat_base.specs.steps.Formats.{Format, BeginsText, Then, Times, ListOf, IsUniquelyDecodable}
+use Rattle.sat_base.specs.steps.Formats.{Format, IsPrefixOfText, Then, Times, ListOf, IsUniquelyDecodable}
 use Rattle.sat_base.specs.device.Reading.{Source, ConsumesBytes, ReadsValue, giving, valued}
 use Rattle.sat_base.proofs.lemmas.steps.Formats.{HasText, live_first, shut_first, live_second, shut_second, Times_text, to_items, from_items}
 use Rattle.sat_base.proofs.lemmas.device.ReadLemmas.{passes_none, passes_more, faults_later}
 
-open_first : {A B : Type 0} (F : Format A) (G : A → Format B) (front : List ℕ) → ((x : A) → HasText (G x)) → BeginsText F front → BeginsText (Then F G) front
+open_first : {A B : Type 0} (F : Format A) (G : A → Format B) (front : List ℕ) → ((x : A) → HasText (G x)) → IsPrefixOfText F front → IsPrefixOfText (Then F G) front
 open_first F G front some o =
     let t = some o.0 in
     ((o.0, t.0), o.1 ++ t.1, (front ++ o.1, t.1, o.2, t.2, sym (append_assoc front o.1 t.1)))
 
-open_second : {A B : Type 0} (F : Format A) (G : A → Format B) (x : A) (a front : List ℕ) → F x a → BeginsText (G x) front → BeginsText (Then F G) (a ++ front)
+open_second : {A B : Type 0} (F : Format A) (G : A → Format B) (x : A) (a front : List ℕ) → F x a → IsPrefixOfText (G x) front → IsPrefixOfText (Then F G) (a ++ front)
 open_second F G x a front f o = ((x, o.0), o.1, (a, front ++ o.1, f, o.2, append_assoc a front o.1))
 
 pub first_fails : {A B : Type 0} (F : Format A) (G : A → Format B) → IsUniquelyDecodable F → ((x : A) → HasText (G x)) → (e : StepError) (old new : Source) → ReadsValue F (Err e) old new → ReadsValue (Then F G) (Err e) old new

@@ -1,7 +1,7 @@
 -- Formats that are composed of others: which bytes begin a text, and with which byte no text continues.
 use Rattle.std.proofs.Common.{◌≡◌, ℕ, zero, suc, List, [], ◌∷◌, ◌++◌, length, length-append, ◌⊎◌, inl, inr, append_assoc, refl, sym, ap, subst, ◌∙◌, arith}
 use Rattle.std.proofs.lemmas.List.{append-nil}
-use Rattle.sat_base.specs.steps.Formats.{Format, BeginsText, IsProperFront, Then, Times, IsUniquelyDecodable}
+use Rattle.sat_base.specs.steps.Formats.{Format, IsPrefixOfText, IsProperPrefix, Then, Times, IsUniquelyDecodable}
 
 -- some value has a text
 abbrev pub HasText : {A : Type 0} → Format A → Type 0
@@ -23,7 +23,7 @@ meet (x ∷ a) s (y ∷ c) t e =
     ]
 
 -- a proper prefix of a text does not begin with a complete text
-short : {A : Type 0} (F : Format A) → IsUniquelyDecodable F → (front : List ℕ) (b : ℕ) (x : A) (a : List ℕ) → IsProperFront F front → F x a → (c : ℕ) (d : List ℕ) → front ++ b ∷ [] ≡ a ++ c ∷ d → ⊥
+short : {A : Type 0} (F : Format A) → IsUniquelyDecodable F → (front : List ℕ) (b : ℕ) (x : A) (a : List ℕ) → IsProperPrefix F front → F x a → (c : ℕ) (d : List ℕ) → front ++ b ∷ [] ≡ a ++ c ∷ d → ⊥
 short F one front b x a l f c d e =
     let size = sym (length-append front (b ∷ [])) ∙ ap length e ∙ length-append a (c ∷ d) in
     elim (meet a (c ∷ d) front (b ∷ []) (sym e)) [
@@ -37,7 +37,7 @@ short F one front b x a l f c d e =
     ]
 
 -- a text that agrees with a proper prefix and the next byte begins with both
-past : {A : Type 0} (F : Format A) → IsUniquelyDecodable F → (front : List ℕ) (b : ℕ) (x : A) (a s more : List ℕ) → IsProperFront F front → F x a → (front ++ b ∷ []) ++ more ≡ a ++ s → BeginsText F (front ++ b ∷ [])
+past : {A : Type 0} (F : Format A) → IsUniquelyDecodable F → (front : List ℕ) (b : ℕ) (x : A) (a s more : List ℕ) → IsProperPrefix F front → F x a → (front ++ b ∷ []) ++ more ≡ a ++ s → IsPrefixOfText F (front ++ b ∷ [])
 past F one front b x a s more l f e =
     elim (meet (front ++ b ∷ []) more a s e) [
       | inl k ↦ (x, k.0, subst (F x) k.1 f)
@@ -45,19 +45,19 @@ past F one front b x a s more l f e =
     ]
 
 -- THE FIRST PART
-pub live_first : {A B : Type 0} (F : Format A) (G : A → Format B) (front : List ℕ) → ((x : A) → HasText (G x)) → IsProperFront F front → IsProperFront (Then F G) front
+pub live_first : {A B : Type 0} (F : Format A) (G : A → Format B) (front : List ℕ) → ((x : A) → HasText (G x)) → IsProperPrefix F front → IsProperPrefix (Then F G) front
 live_first F G front some l =
     let t = some l.0 in
     ((l.0, t.0), l.1, l.2 ++ t.1, (front ++ l.1 ∷ l.2, t.1, l.3, t.2, sym (append_assoc front (l.1 ∷ l.2) t.1)))
 
-pub shut_first : {A B : Type 0} (F : Format A) (G : A → Format B) → IsUniquelyDecodable F → (front : List ℕ) (b : ℕ) → IsProperFront F front → (BeginsText F (front ++ b ∷ []) → ⊥) → BeginsText (Then F G) (front ++ b ∷ []) → ⊥
+pub shut_first : {A B : Type 0} (F : Format A) (G : A → Format B) → IsUniquelyDecodable F → (front : List ℕ) (b : ℕ) → IsProperPrefix F front → (IsPrefixOfText F (front ++ b ∷ []) → ⊥) → IsPrefixOfText (Then F G) (front ++ b ∷ []) → ⊥
 shut_first F G one front b l h o = h (past F one front b o.0.0 o.2.0 o.2.1 o.1 l o.2.2 o.2.4)
 
 -- THE SECOND PART
-pub live_second : {A B : Type 0} (F : Format A) (G : A → Format B) (x : A) (a front : List ℕ) → F x a → IsProperFront (G x) front → IsProperFront (Then F G) (a ++ front)
+pub live_second : {A B : Type 0} (F : Format A) (G : A → Format B) (x : A) (a front : List ℕ) → F x a → IsProperPrefix (G x) front → IsProperPrefix (Then F G) (a ++ front)
 live_second F G x a front f l = ((x, l.0), l.1, l.2, (a, front ++ l.1 ∷ l.2, f, l.3, append_assoc a front (l.1 ∷ l.2)))
 
-pub shut_second : {A B : Type 0} (F : Format A) (G : A → Format B) → IsUniquelyDecodable F → (x : A) (a front : List ℕ) (b : ℕ) → F x a → (BeginsText (G x) (front ++ b ∷ []) → ⊥) → BeginsText (Then F G) ((a ++ front) ++ b ∷ []) → ⊥
+pub shut_second : {A B : Type 0} (F : Format A) (G : A → Format B) → IsUniquelyDecodable F → (x : A) (a front : List ℕ) (b : ℕ) → F x a → (IsPrefixOfText (G x) (front ++ b ∷ []) → ⊥) → IsPrefixOfText (Then F G) ((a ++ front) ++ b ∷ []) → ⊥
 shut_second {A} {B} F G one x a front b f h o =
     let e : a ++ ((front ++ b ∷ []) ++ o.1) ≡ o.2.0 ++ o.2.1 = sym (append_assoc a (front ++ b ∷ []) o.1) ∙ ap (λ (z : List ℕ). z ++ o.1) (sym (append_assoc a front (b ∷ []))) ∙ o.2.4 in
     let s = one x o.0.0 a o.2.0 ((front ++ b ∷ []) ++ o.1) o.2.1 f o.2.2 e in

@@ -1,7 +1,7 @@
 -- Numbers, read from the lowest group.
 use Rattle.std.proofs.Common.{◌≡◌, ℕ, ◌+◌, ◌*◌, ◌-◌, ◌<◌, ◌≤◌, List, [], ◌∷◌, ◌++◌, ◌⊎◌, inl, inr, append_assoc, refl, sym, ap, subst, ◌∙◌, arith}
 use Rattle.std.proofs.Math.Nat.{mul-le-mul_left}
-use Rattle.sat_base.specs.steps.Formats.{IsProperFront, BeginsText, IsUniquelyDecodable}
+use Rattle.sat_base.specs.steps.Formats.{IsProperPrefix, IsPrefixOfText, IsUniquelyDecodable}
 use Rattle.sat_base.proofs.lemmas.steps.Formats.{HasText}
 use Rattle.sat_base.specs.steps.Numbers.{IsNumber, IsBelow}
 
@@ -50,7 +50,7 @@ front_more front value place b p q f = record {
 }
 
 -- WHERE THE READER STOPS, after the groups in `front`
-pub live : (limit : ℕ) (front : List ℕ) (value place : ℕ) → Front front value place → value + place < limit → IsProperFront (IsBelow limit) front
+pub live : (limit : ℕ) (front : List ℕ) (value place : ℕ) → Front front value place → value + place < limit → IsProperPrefix (IsBelow limit) front
 live limit front value place f h =
     (value + place * 1, 1, [], (f.completes 1 (1 ∷ []) (omega arith, refl) (inr (omega arith)), omega arith))
 
@@ -63,21 +63,21 @@ alone : (b m : ℕ) (tail : List ℕ) → b < 128 → IsNumber m (b ∷ tail) �
 alone b m [] p h = h.1
 alone b m (c ∷ tail) p h = absurd (omega (arith, h.0))
 
-shut_by : (limit : ℕ) (front : List ℕ) (value place b : ℕ) → Front front value place → ((m : ℕ) (tail : List ℕ) → IsNumber m (b ∷ tail) → (front ≡ []) ⊎ (0 < m) → value + place * m < limit → ⊥) → BeginsText (IsBelow limit) (front ++ b ∷ []) → ⊥
+shut_by : (limit : ℕ) (front : List ℕ) (value place b : ℕ) → Front front value place → ((m : ℕ) (tail : List ℕ) → IsNumber m (b ∷ tail) → (front ≡ []) ⊎ (0 < m) → value + place * m < limit → ⊥) → IsPrefixOfText (IsBelow limit) (front ++ b ∷ []) → ⊥
 shut_by limit front value place b f g o =
     let k = f.only o.0 (b ∷ o.1) (subst (IsNumber o.0) (append_assoc front (b ∷ []) o.1) o.2.0) in
     g k.0 o.1 k.1 k.3 (subst (λ (n : ℕ). n < limit) k.2 o.2.1)
 
 -- no number ends with a group of 0 after another group
-pub shut_zero : (limit : ℕ) (front : List ℕ) (value place b : ℕ) → Front front value place → (front ≡ [] → ⊥) → b ≡ 0 → BeginsText (IsBelow limit) (front ++ b ∷ []) → ⊥
+pub shut_zero : (limit : ℕ) (front : List ℕ) (value place b : ℕ) → Front front value place → (front ≡ [] → ⊥) → b ≡ 0 → IsPrefixOfText (IsBelow limit) (front ++ b ∷ []) → ⊥
 shut_zero limit front value place b f n z = shut_by limit front value place b f (λ m tail h k l. zero_case front b m n z (alone b m tail (omega arith) h) k)
 
 -- no text continues with a last group that makes the number too large
-pub shut_large : (limit : ℕ) (front : List ℕ) (value place b : ℕ) → Front front value place → b < 128 → limit ≤ value + place * b → BeginsText (IsBelow limit) (front ++ b ∷ []) → ⊥
+pub shut_large : (limit : ℕ) (front : List ℕ) (value place b : ℕ) → Front front value place → b < 128 → limit ≤ value + place * b → IsPrefixOfText (IsBelow limit) (front ++ b ∷ []) → ⊥
 shut_large limit front value place b f p h = shut_by limit front value place b f (λ m tail g k l. let e = alone b m tail p g in let d : value + place * m ≡ value + place * b = ap (λ (x : ℕ). value + place * x) e in omega arith)
 
 -- no text continues with a group after which every number is too large
-pub shut_on : (limit : ℕ) (front : List ℕ) (value place b : ℕ) → Front front value place → 128 ≤ b → limit ≤ (value + place * (b - 128)) + place * 128 → BeginsText (IsBelow limit) (front ++ b ∷ []) → ⊥
+pub shut_on : (limit : ℕ) (front : List ℕ) (value place b : ℕ) → Front front value place → 128 ≤ b → limit ≤ (value + place * (b - 128)) + place * 128 → IsPrefixOfText (IsBelow limit) (front ++ b ∷ []) → ⊥
 shut_on limit front value place b f p h =
     shut_by limit front value place b f (λ m tail g k l. let j = ungroup b m tail p g in
     let e : value + place * m ≡ (value + place * (b - 128)) + (place * 128) * j.0 = ap (λ (x : ℕ). value + place * x) j.2 ∙ spread value place (b - 128) j.0 in

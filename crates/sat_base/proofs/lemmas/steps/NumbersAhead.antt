@@ -2,7 +2,7 @@
 use Rattle.std.proofs.Common.{◌≡◌, ℕ, zero, suc, ◌+◌, ◌*◌, ◌-◌, ◌<◌, ◌≤◌, List, [], ◌∷◌, ◌++◌, ◌⊎◌, inl, inr, Option, Some, None, append_assoc, refl, sym, ap, subst, ◌∙◌, arith}
 use Rattle.std.proofs.Math.Nat.{mul-le-mul_left}
 use Rattle.sat_base.specs.declared.device.ahead.Ahead.{Ahead}
-use Rattle.sat_base.specs.device.TakenAhead.{IsEncodedBetween, from}
+use Rattle.sat_base.specs.device.TakenAhead.{IsEncodedBetween, buffered_from}
 use Rattle.sat_base.specs.steps.Numbers.{IsBelow}
 use Rattle.sat_base.proofs.lemmas.steps.Numbers.{Front, front_none, front_more, last_read}
 
@@ -60,13 +60,13 @@ stands_between limit m n at after following a e s =
     subst (λ (k : ℕ). IsEncodedBetween limit k at following a) f (subst (λ (k : ℕ). IsEncodedBetween limit m at k a) g s)
 
 -- a last group completes the number between two indices
-pub stands_last : (limit value place b n at next following : ℕ) (a : Ahead) (rest : List ℕ) → LookedAt value place (from at a) rest → rest ≡ b ∷ from next a → b < 128 → (0 < b) ⊎ (place ≤ 1) → value + place * b ≡ n → n < limit → next ≡ following
+pub stands_last : (limit value place b n at next following : ℕ) (a : Ahead) (rest : List ℕ) → LookedAt value place (buffered_from at a) rest → rest ≡ b ∷ buffered_from next a → b < 128 → (0 < b) ⊎ (place ≤ 1) → value + place * b ≡ n → n < limit → next ≡ following
     → IsEncodedBetween limit n at following a
 stands_last limit value place b n at next following a rest l e p z v h w =
-    subst (λ (k : ℕ). IsEncodedBetween limit k at following a) v (subst (λ (k : ℕ). IsEncodedBetween limit (value + place * b) at k a) w (looked_at_last limit value place b (from at a) rest (from next a) l e p z (omega (arith, v, h))))
+    subst (λ (k : ℕ). IsEncodedBetween limit k at following a) v (subst (λ (k : ℕ). IsEncodedBetween limit (value + place * b) at k a) w (looked_at_last limit value place b (buffered_from at a) rest (buffered_from next a) l e p z (omega (arith, v, h))))
 
 -- a group that is not the last
-pub looked_on : (value place b at next after : ℕ) (a : Ahead) (rest : List ℕ) → LookedAt value place (from at a) rest → rest ≡ b ∷ from next a → 128 ≤ b → b < 256 → next ≡ after
-    → LookedAt (value + place * (b - 128)) (place * 128) (from at a) (from after a)
+pub looked_on : (value place b at next after : ℕ) (a : Ahead) (rest : List ℕ) → LookedAt value place (buffered_from at a) rest → rest ≡ b ∷ buffered_from next a → 128 ≤ b → b < 256 → next ≡ after
+    → LookedAt (value + place * (b - 128)) (place * 128) (buffered_from at a) (buffered_from after a)
 looked_on value place b at next after a rest l e p q w =
-    subst (λ (k : ℕ). LookedAt (value + place * (b - 128)) (place * 128) (from at a) (from k a)) w (looked_at_more value place b (from at a) rest (from next a) l e p q)
+    subst (λ (k : ℕ). LookedAt (value + place * (b - 128)) (place * 128) (buffered_from at a) (buffered_from k a)) w (looked_at_more value place b (buffered_from at a) rest (buffered_from next a) l e p q)

@@ -1,7 +1,7 @@
 -- Bytes that begin with no complete text: they end too early, or have a byte with which no text continues.
 use Rattle.std.proofs.Common.{◌≡◌, ℕ, List, [], ◌∷◌, ◌++◌, length, length-append, append_assoc, sym, ap, ◌∙◌, arith}
 use Rattle.std.proofs.lemmas.List.{append-nil}
-use Rattle.sat_base.specs.steps.Formats.{Format, BeginsText, IsProperFront, IsUniquelyDecodable}
+use Rattle.sat_base.specs.steps.Formats.{Format, IsPrefixOfText, IsProperPrefix, IsUniquelyDecodable}
 use Rattle.sat_base.proofs.lemmas.steps.Formats.{shut_first}
 
 -- that the bytes begin with no complete text
@@ -11,7 +11,7 @@ BeginsNo {A} F bytes = (x : A) (text rest : List ℕ) → bytes ≡ text ++ rest
 long : (text rest : List ℕ) (b : ℕ) (more : List ℕ) → text ≡ (text ++ rest) ++ b ∷ more → ⊥
 long text rest b more e = omega (arith, ap length e ∙ length-append (text ++ rest) (b ∷ more), length-append text rest)
 
-pub no_whole : {A : Type 0} (F : Format A) → IsUniquelyDecodable F → (bytes : List ℕ) → IsProperFront F bytes → BeginsNo F bytes
+pub no_whole : {A : Type 0} (F : Format A) → IsUniquelyDecodable F → (bytes : List ℕ) → IsProperPrefix F bytes → BeginsNo F bytes
 no_whole {A} F one bytes l x text rest e f =
     let u : text ++ (rest ++ l.1 ∷ l.2) ≡ (bytes ++ l.1 ∷ l.2) ++ [] = sym (append_assoc text rest (l.1 ∷ l.2)) ∙ ap (λ (z : List ℕ). z ++ l.1 ∷ l.2) (sym e) ∙ sym (append-nil (bytes ++ l.1 ∷ l.2)) in
     let s = one x l.0 text (bytes ++ l.1 ∷ l.2) (rest ++ l.1 ∷ l.2) [] f l.3 u in
@@ -20,6 +20,6 @@ no_whole {A} F one bytes l x text rest e f =
 abbrev Any : Format (Unit {0})
 Any x bytes = Unit {0}
 
-pub no_way : {A : Type 0} (F : Format A) → IsUniquelyDecodable F → (bytes front following : List ℕ) (b : ℕ) → bytes ≡ front ++ b ∷ following → IsProperFront F front → (BeginsText F (front ++ b ∷ []) → ⊥) → BeginsNo F bytes
+pub no_way : {A : Type 0} (F : Format A) → IsUniquelyDecodable F → (bytes front following : List ℕ) (b : ℕ) → bytes ≡ front ++ b ∷ following → IsProperPrefix F front → (IsPrefixOfText F (front ++ b ∷ []) → ⊥) → BeginsNo F bytes
 no_way F one bytes front following b e l shut x text rest w f =
     shut_first F (λ _. Any) one front b l shut ((x, tt), following, (text, rest, f, tt, append_assoc front (b ∷ []) following ∙ sym e ∙ w))

@@ -1,8 +1,8 @@
 -- Only the first token of a text can be a header.
 use Rattle.std.proofs.Common.{◌≡◌, ℕ, ◌+◌, List, [], ◌∷◌, ◌++◌, Bool, true, false, cond, Option, Some, None, refl, sym, subst, ◌⊎◌, inl, inr}
 use Rattle.std.specs.Prelude.{nat_eq, ◌&&◌}
-use Rattle.sat_base.specs.text.Text.{words, begins_with, is_letter, digits, plain, minus, after_minus, alone, token, header_if, is_none, on_line, Token, Number, Header, Wrong, tokens_of, lines, scan, tokens}
-use Rattle.sat_base.specs.script.Language.{spoken}
+use Rattle.sat_base.specs.text.Text.{words, begins_with, is_letter, digits, unsigned_token, negative_token, after_minus, letter_token, token, header_if, is_none, on_line, Token, Number, Header, Wrong, tokens_of, lines, scan, tokens}
+use Rattle.sat_base.specs.script.Language.{without_lines}
 
 -- any token but a header
 abbrev pub IsWord : Token → Type 0
@@ -20,7 +20,7 @@ either : (b : Bool) (t u : Token) → IsWord t → IsWord u → IsWord (cond b t
 either true t u h k = h
 either false t u h k = k
 
-minus_word : (o : Option ℕ) → IsWord (minus o)
+minus_word : (o : Option ℕ) → IsWord (negative_token o)
 minus_word None = tt
 minus_word (Some n) = either (nat_eq n 0) Wrong (Number true n) tt tt
 
@@ -28,11 +28,11 @@ after_minus_word : (w : List ℕ) → IsWord (after_minus w)
 after_minus_word [] = tt
 after_minus_word (b ∷ bs) = minus_word (digits 0 (b ∷ bs))
 
-plain_word : (o : Option ℕ) → IsWord (plain o)
+plain_word : (o : Option ℕ) → IsWord (unsigned_token o)
 plain_word None = tt
 plain_word (Some n) = tt
 
-alone_word : (b : ℕ) (bs : List ℕ) → IsWord (alone b bs)
+alone_word : (b : ℕ) (bs : List ℕ) → IsWord (letter_token b bs)
 alone_word b [] = tt
 alone_word b (c ∷ bs) = tt
 
@@ -41,7 +41,7 @@ unfolding token
 word_token [] = tt
 word_token (b ∷ bs) = either (nat_eq b 45) _ _ (after_minus_word bs) (either (is_letter b) _ _ (alone_word b bs) (plain_word (digits 0 (b ∷ bs))))
 
-line_words : (n : ℕ) (ws : List (List ℕ)) (more : List (ℕ × Token)) → AreWords (spoken more) → AreWords (spoken (on_line n ws ++ more))
+line_words : (n : ℕ) (ws : List (List ℕ)) (more : List (ℕ × Token)) → AreWords (without_lines more) → AreWords (without_lines (on_line n ws ++ more))
 line_words n [] more h = h
 line_words n (w ∷ ws) more h = (word_token w, line_words n ws more h)
 
@@ -66,29 +66,29 @@ chosen P false false true none later headed worded a b c d = c
 chosen P false false false none later headed worded a b c d = d
 
 -- lines where no header is allowed
-late : (n : ℕ) (ls : List (List ℕ)) → AreWords (spoken (tokens_of false n ls))
+late : (n : ℕ) (ls : List (List ℕ)) → AreWords (without_lines (tokens_of false n ls))
 late n [] = rw (of_none false n) tt
 late n (line ∷ ls) =
     let rest = late (n + 1) ls in
-    subst (λ (ts : List (ℕ × Token)). AreWords (spoken ts)) (sym (of_line false n line ls))
-    (chosen (λ ts. AreWords (spoken ts)) (begins_with 37 line) (begins_with 99 line) (begins_with 112 line) _ _ _ _ tt rest (tt, rest) (line_words (n + 1) (words line) _ rest))
+    subst (λ (ts : List (ℕ × Token)). AreWords (without_lines ts)) (sym (of_line false n line ls))
+    (chosen (λ ts. AreWords (without_lines ts)) (begins_with 37 line) (begins_with 99 line) (begins_with 112 line) _ _ _ _ tt rest (tt, rest) (line_words (n + 1) (words line) _ rest))
 
 after_header : (t : Token) (ts : List Token) → AreWords ts → AreScript (t ∷ ts)
 after_header (Header v c) ts h = inr (v, c, ts, h, refl)
 after_header e ts h = inl (tt, h)
 
-after_words : (n : ℕ) (ws : List (List ℕ)) (ls : List (List ℕ)) → AreScript (spoken (tokens_of true n ls)) → AreScript (spoken (on_line n ws ++ tokens_of (is_none ws) n ls))
+after_words : (n : ℕ) (ws : List (List ℕ)) (ls : List (List ℕ)) → AreScript (without_lines (tokens_of true n ls)) → AreScript (without_lines (on_line n ws ++ tokens_of (is_none ws) n ls))
 after_words n [] ls h = h
 after_words n (w ∷ ws) ls h = inl (line_words n (w ∷ ws) _ (late n ls))
 
 -- lines where a header is allowed
-early : (n : ℕ) (ls : List (List ℕ)) → AreScript (spoken (tokens_of true n ls))
+early : (n : ℕ) (ls : List (List ℕ)) → AreScript (without_lines (tokens_of true n ls))
 early n [] = rw (of_none true n) (inl tt)
 early n (line ∷ ls) =
     let rest = early (n + 1) ls in
-    subst (λ (ts : List (ℕ × Token)). AreScript (spoken ts)) (sym (of_line true n line ls))
-    (chosen (λ ts. AreScript (spoken ts)) (begins_with 37 line) (begins_with 99 line) (begins_with 112 line) _ _ _ _ (inl tt) rest (after_header _ _ (late (n + 1) ls)) (after_words (n + 1) (words line) ls rest))
+    subst (λ (ts : List (ℕ × Token)). AreScript (without_lines ts)) (sym (of_line true n line ls))
+    (chosen (λ ts. AreScript (without_lines ts)) (begins_with 37 line) (begins_with 99 line) (begins_with 112 line) _ _ _ _ (inl tt) rest (after_header _ _ (late (n + 1) ls)) (after_words (n + 1) (words line) ls rest))
 
-pub text_is : (text : List ℕ) → AreScript (spoken (tokens text))
+pub text_is : (text : List ℕ) → AreScript (without_lines (tokens text))
 unfolding scan
 text_is text = early 0 (lines text)

@@ -9,8 +9,8 @@ use Rattle.sat_base.specs.declared.text.header.Stage.TheVariants as stage
 use Rattle.sat_base.specs.declared.text.Token.{Token as CodeToken}
 use Rattle.sat_base.specs.declared.text.Token.TheVariants as code
 use Rattle.sat_base.specs.text.Text.{is_blank, is_digit, digits, Token, Header}
-use Rattle.sat_base.specs.text.Position.{Stage, Begun, Named, Format, Vars, Both, with_value, stage_end, after_word, Position, HeaderWithin, Spoilt, HasNoBlank, in_hand, after_header_word}
-use Rattle.sat_base.specs.text.Tokenizing.{held_token, BeginsSpoilt, IsAtHeader, MovesPosition, MovesHeader, BeganHeader, grown, IsHeldToken, SaysInHand, ended_stage, IsStageIf, LeadsAfter}
+use Rattle.sat_base.specs.text.Position.{Stage, Begun, Named, Format, Vars, Both, with_value, stage_end, after_word, Position, HeaderWithin, Spoilt, HasNoBlank, unfinished_token, after_header_word}
+use Rattle.sat_base.specs.text.Tokenizing.{capped_token, BeginsSpoilt, IsAtHeader, MovesPosition, MovesHeader, BeganHeader, with_digit, IsCappedToken, SaysInHand, ended_stage, IsStageIf, LeadsAfter}
 use Rattle.sat_base.proofs.lemmas.text.Positions.{Solid-more, header_between_word, header_within_more, header_spoilt}
 use Rattle.sat_base.proofs.lemmas.text.Words.{SpellsHeld_one, SpellsHeld_more, digits_stop, digits_wrong_in}
 use Rattle.sat_base.proofs.lemmas.text.Places.{no_LF, after_word_in_header}
@@ -78,7 +78,7 @@ p_more b f spot e = rw e (spoilt_by Begun 112 [] b (refl, tt) f (λ more. refl))
 pub cnf_more : (b : ℕ) → is_blank b ≡ false → MovesHeader header.Cnf b None
 cnf_more b f spot e = rw e (spoilt_by Named 99 (110 ∷ 102 ∷ []) b (refl, (refl, (refl, tt))) f (λ more. refl))
 
-pub vars_digit : (value b : ℕ) → is_blank b ≡ false → is_digit b ≡ true → MovesHeader (header.Vars value) b (Some (header.Vars (grown value b)))
+pub vars_digit : (value b : ℕ) → is_blank b ≡ false → is_digit b ≡ true → MovesHeader (header.Vars value) b (Some (header.Vars (with_digit value b)))
 vars_digit value b f d spot (x, w, s, h, e) =
     rw e (HeaderWithin Format x (w ++ b ∷ []), (x, w ++ b ∷ [], Solid-more (x ∷ w) b s f, SpellsHeld_more (x ∷ w) value b h d, refl), goes_on_within Format x w b f)
 
@@ -86,7 +86,7 @@ pub vars_no_digit : (value b : ℕ) → is_blank b ≡ false → is_digit b ≡ 
 vars_no_digit value b f d spot (x, w, s, (m, h, k), e) =
     rw e (spoilt_by Format x w b s f (λ more. ap (with_value Vars) (digits_wrong_in m b (x ∷ w) more h d)))
 
-pub clauses_digit : (vars value b : ℕ) → is_blank b ≡ false → is_digit b ≡ true → MovesHeader (header.Clauses vars value) b (Some (header.Clauses vars (grown value b)))
+pub clauses_digit : (vars value b : ℕ) → is_blank b ≡ false → is_digit b ≡ true → MovesHeader (header.Clauses vars value) b (Some (header.Clauses vars (with_digit value b)))
 clauses_digit vars value b f d spot (v, x, w, k, s, h, e) =
     rw e (HeaderWithin (Vars v) x (w ++ b ∷ []), (v, x, w ++ b ∷ [], k, Solid-more (x ∷ w) b s f, SpellsHeld_more (x ∷ w) value b h d, refl), goes_on_within (Vars v) x w b f)
 
@@ -105,13 +105,13 @@ abbrev pub EndsAs : HeaderPlace → Option CodeStage → Type 0
 EndsAs place o = (spot : Position) → IsAtHeader place spot → IsStageIf o (ended_stage spot)
 
 -- the end of the line
-in_hand_is : (p : HeaderPlace) (spot : Position) (n : ℕ) → IsAtHeader p spot → in_hand spot n ≡ (n + 1, after_word (ended_stage spot) stage_end) ∷ []
+in_hand_is : (p : HeaderPlace) (spot : Position) (n : ℕ) → IsAtHeader p spot → unfinished_token spot n ≡ (n + 1, after_word (ended_stage spot) stage_end) ∷ []
 in_hand_is (header.Between ended) spot n (s, h, e) = rw e refl
 in_hand_is (header.Vars value) spot n (x, w, s, h, e) = rw e refl
 in_hand_is (header.Clauses vars value) spot n (v, x, w, k, s, h, e) = rw e refl
 in_hand_is z spot n e = rw e refl
 
-given_at_end : (p : HeaderPlace) (spot : Position) (t : Token) (given : CodeToken) → IsAtHeader p spot → given ≡ held_token t → after_word (ended_stage spot) stage_end ≡ t → IsHeldToken (Some given) (in_hand spot)
+given_at_end : (p : HeaderPlace) (spot : Position) (t : Token) (given : CodeToken) → IsAtHeader p spot → given ≡ capped_token t → after_word (ended_stage spot) stage_end ≡ t → IsCappedToken (Some given) (unfinished_token spot)
 given_at_end p spot t given i h e = (t, h, λ n. in_hand_is p spot n i ∙ ap (λ (u : Token). (n + 1, u) ∷ []) e)
 
 pub says_header : (p : HeaderPlace) (vars clauses : ℕ) → EndsAs p (Some (stage.Both vars clauses)) → SaysInHand (Some (code.Header vars clauses)) (at.Header p)

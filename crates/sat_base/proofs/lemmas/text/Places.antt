@@ -8,9 +8,9 @@ use Rattle.sat_base.specs.declared.text.header.HeaderPlace.{HeaderPlace}
 use Rattle.sat_base.specs.declared.text.header.HeaderPlace.TheVariants as header
 use Rattle.sat_base.specs.declared.text.Token.{Token as CodeToken}
 use Rattle.sat_base.specs.declared.text.Token.TheVariants as code
-use Rattle.sat_base.specs.text.Text.{is_blank, is_digit, minus, token, Token, Number, Letter, Wrong}
-use Rattle.sat_base.specs.text.Position.{Stage, Position, Fresh, Leading, Comment, Within, HeaderWithin, Spoilt, Over, IsPosition, in_hand, after_header_word, following_blank, line_at}
-use Rattle.sat_base.specs.text.Tokenizing.{held, held_token, IsAtHeader, IsAt, MovesPosition, MovesPlace, Began, grown, IsHeldToken, SaysInHand, ended_stage, LeadsAfter, LeadsBelow, may_come}
+use Rattle.sat_base.specs.text.Text.{is_blank, is_digit, negative_token, token, Token, Number, Letter, Wrong}
+use Rattle.sat_base.specs.text.Position.{Stage, Position, Fresh, Leading, Comment, Within, HeaderWithin, Spoilt, Over, IsPosition, unfinished_token, after_header_word, following_blank, line_at}
+use Rattle.sat_base.specs.text.Tokenizing.{capped, capped_token, IsAtHeader, IsAt, MovesPosition, MovesPlace, Began, with_digit, IsCappedToken, SaysInHand, ended_stage, LeadsAfter, LeadsBelow, may_come}
 use Rattle.sat_base.proofs.lemmas.text.Positions.{Solid-more, fresh_leads, leading_comment, leading_end, leading_header, leading_late_header, leading_word, comment_more, between_word, within_more, spoilt_more, over_more}
 use Rattle.sat_base.proofs.lemmas.text.Words.{SpellsHeld_one, SpellsHeld_more, BeginsWrong_more, BeginsWrong_letter, BeginsWrong_plain, BeginsWrong_minus, BeginsWrong_negative, word_plain, word_minus, word_bare, word_letter, word_wrong}
 
@@ -62,7 +62,7 @@ moves_minus_digit b f d small spot e = rw e (Within 45 (b ∷ []), (b ∷ [], (f
 pub moves_minus_bad : (b : ℕ) → is_blank b ≡ false → is_digit b ≡ false → MovesPlace at.Minus b at.Bad
 moves_minus_bad b f d spot e = rw e (Within 45 (b ∷ []), (45, b ∷ [], (refl, (f, tt)), BeginsWrong_minus b d, refl), goes_on_within 45 [] b f)
 
-pub moves_digit : (negative : Bool) (v b : ℕ) → is_blank b ≡ false → is_digit b ≡ true → MovesPlace (at.Digits negative v) b (at.Digits negative (grown v b))
+pub moves_digit : (negative : Bool) (v b : ℕ) → is_blank b ≡ false → is_digit b ≡ true → MovesPlace (at.Digits negative v) b (at.Digits negative (with_digit v b))
 moves_digit false v b f d spot (x, w, s, h, n, l, e) =
     rw e (Within x (w ++ b ∷ []), (x, w ++ b ∷ [], Solid-more (x ∷ w) b s f, SpellsHeld_more (x ∷ w) v b h d, n, l, refl), goes_on_within x w b f)
 moves_digit true v b f d spot (w, s, some_w, h, e) =
@@ -100,7 +100,7 @@ IsSpot_of (at.Header place) spot h = IsSpot_header place spot h
 IsSpot_of z spot e = rw e tt
 
 -- if a token is unfinished, so is its line
-pub line-in_hand : (spot : Position) (n : ℕ) (t : ℕ × Token) → in_hand spot n ≡ t ∷ [] → line_at spot n ≡ n + 1
+pub line-in_hand : (spot : Position) (n : ℕ) (t : ℕ × Token) → unfinished_token spot n ≡ t ∷ [] → line_at spot n ≡ n + 1
 line-in_hand (Fresh may) n t e = absurd (cc)
 line-in_hand x n t e = refl
 
@@ -157,7 +157,7 @@ abbrev one : Token → ℕ → List (ℕ × Token)
 one t n = (n + 1, t) ∷ []
 
 -- the token of an unfinished word when the line ends
-given_word : (x : ℕ) (w : List ℕ) (t : Token) (given : CodeToken) (spot : Position) → token (x ∷ w) ≡ t → given ≡ held_token t → spot ≡ Within x w → IsHeldToken (Some given) (in_hand spot)
+given_word : (x : ℕ) (w : List ℕ) (t : Token) (given : CodeToken) (spot : Position) → token (x ∷ w) ≡ t → given ≡ capped_token t → spot ≡ Within x w → IsCappedToken (Some given) (unfinished_token spot)
 given_word x w t given spot e h s = rw s (t, h, λ n. ap (λ (u : Token). one u n) e)
 
 pub says_minus : SaysInHand (Some code.Wrong) at.Minus
@@ -169,10 +169,10 @@ says_bad spot (x, w, s, h, e) = given_word x w Wrong code.Wrong spot (word_wrong
 pub says_letter : (b : ℕ) → SaysInHand (Some (code.Letter b)) (at.Letter b)
 says_letter b spot ((s, l), e) = given_word b [] (Letter b) (code.Letter b) spot (word_letter b l) refl e
 
-minus_zero : (m : ℕ) → m ≡ 0 → minus (Some m) ≡ Wrong
+minus_zero : (m : ℕ) → m ≡ 0 → negative_token (Some m) ≡ Wrong
 minus_zero m e = rw e refl
 
-minus_some : (m : ℕ) → 0 < m → minus (Some m) ≡ Number true m
+minus_some : (m : ℕ) → 0 < m → negative_token (Some m) ≡ Number true m
 minus_some m h = let e : nat_eq m 0 ≡ false = grind (arith, nat_tests) in rw e refl
 
 pub says_zero : (v : ℕ) → v ≡ 0 → SaysInHand (Some code.Wrong) (at.Digits true v)
@@ -185,5 +185,5 @@ says_number true v z spot (w, s, some_w, (m, d, h), e) =
 says_number false v z spot (x, w, s, (m, d, h), n, l, e) =
     given_word x w (Number false m) (code.Number false v) spot (word_plain x w m d n l) (ap (code.Number false) h) e
 
-pub held_next : (lines n k : ℕ) → lines ≡ held n → k ≡ min (lines + 1) (2 ^ 64 - 1) → k ≡ held (n + 1)
+pub held_next : (lines n k : ℕ) → lines ≡ capped n → k ≡ min (lines + 1) (2 ^ 64 - 1) → k ≡ capped (n + 1)
 held_next lines n k h e = omega (arith, h, e)

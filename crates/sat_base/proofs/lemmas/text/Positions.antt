@@ -2,8 +2,8 @@
 use Rattle.std.proofs.Common.{◌≡◌, ℕ, ◌+◌, List, [], ◌∷◌, ◌++◌, Bool, true, false, Option, Some, None, refl, sym, ap, ◌∙◌, append_assoc}
 use Rattle.std.specs.Prelude.{nat_eq, not, ◌&&◌}
 use Rattle.std.proofs.lemmas.List.{append-nil}
-use Rattle.sat_base.specs.text.Text.{is_blank, onto_first, lines, goes_on, words, begins_with, header_if, is_none, on_line, last_line, Wrong, tokens_of, Scan, scan}
-use Rattle.sat_base.specs.text.Position.{first_line, later_lines, Stage, Begun, stage_after, stage_end, after_word, stage_token, Position, Fresh, Leading, Comment, Between, Within, HeaderBetween, HeaderWithin, Spoilt, Over, HasNoBlank, IsPosition, left, in_hand, after_LF, lines_after, after_header_word, following_blank, spoils, ended_by_blank, line_at, onto}
+use Rattle.sat_base.specs.text.Text.{is_blank, prepend_to_first, lines, goes_on, words, begins_with, header_if, is_none, on_line, last_line, Wrong, tokens_of, Scan, scan}
+use Rattle.sat_base.specs.text.Position.{first_line, later_lines, Stage, Begun, stage_after, stage_end, after_word, stage_token, Position, Fresh, Leading, Comment, Between, Within, HeaderBetween, HeaderWithin, Spoilt, Over, HasNoBlank, IsPosition, remaining_scan, unfinished_token, after_LF, lines_after, after_header_word, following_blank, spoils, ended_by_blank, line_at, prepend_tokens}
 use Rattle.sat_base.specs.text.Tokenizing.{BeginsSpoilt}
 use Rattle.sat_base.proofs.lemmas.text.Headers.{stage_nil, stage_cons, header_in_is}
 
@@ -11,7 +11,7 @@ lines_LF : (bs : List ℕ) → lines (10 ∷ bs) ≡ (10 ∷ []) ∷ lines bs
 unfolding lines
 lines_LF bs = refl
 
-onto_first_is : (b : ℕ) (ls : List (List ℕ)) → onto_first b ls ≡ (b ∷ first_line ls) ∷ later_lines ls
+onto_first_is : (b : ℕ) (ls : List (List ℕ)) → prepend_to_first b ls ≡ (b ∷ first_line ls) ∷ later_lines ls
 onto_first_is b [] = refl
 onto_first_is b (l ∷ ls) = refl
 
@@ -35,7 +35,7 @@ words_blank b bs e = rw e refl
 words_blank_one : (b : ℕ) → is_blank b ≡ true → words (b ∷ []) ≡ []
 words_blank_one b e = words_blank b [] e ∙ words_nil
 
-words_more : (b : ℕ) (bs : List ℕ) → is_blank b ≡ false → goes_on bs ≡ true → words (b ∷ bs) ≡ onto_first b (words bs)
+words_more : (b : ℕ) (bs : List ℕ) → is_blank b ≡ false → goes_on bs ≡ true → words (b ∷ bs) ≡ prepend_to_first b (words bs)
 unfolding words
 words_more b bs e g = rw (e, g) refl
 
@@ -66,18 +66,18 @@ Solid-more (x ∷ w) b s e = (s.0, Solid-more w b s.1 e)
 -- a word ends where the line does
 word_ends : (x : ℕ) (w : List ℕ) → HasNoBlank (x ∷ w) → words (x ∷ w) ≡ (x ∷ w) ∷ []
 word_ends x [] s = words_one x [] s.0 refl ∙ ap (λ (ws : List (List ℕ)). (x ∷ []) ∷ ws) words_nil
-word_ends x (y ∷ w) s = words_more x (y ∷ w) s.0 (ap not s.1.0) ∙ ap (onto_first x) (word_ends y w s.1)
+word_ends x (y ∷ w) s = words_more x (y ∷ w) s.0 (ap not s.1.0) ∙ ap (prepend_to_first x) (word_ends y w s.1)
 
 -- a word ends at a blank
 word_cut : (x : ℕ) (w : List ℕ) (b : ℕ) (bs : List ℕ) → HasNoBlank (x ∷ w) → is_blank b ≡ true → words ((x ∷ w) ++ b ∷ bs) ≡ (x ∷ w) ∷ words bs
 word_cut x [] b bs s e = words_one x (b ∷ bs) s.0 (ap not e) ∙ ap (λ (ws : List (List ℕ)). (x ∷ []) ∷ ws) (words_blank b bs e)
-word_cut x (y ∷ w) b bs s e = words_more x ((y ∷ w) ++ b ∷ bs) s.0 (ap not s.1.0) ∙ ap (onto_first x) (word_cut y w b bs s.1 e)
+word_cut x (y ∷ w) b bs s e = words_more x ((y ∷ w) ++ b ∷ bs) s.0 (ap not s.1.0) ∙ ap (prepend_to_first x) (word_cut y w b bs s.1 e)
 
 -- that the first word of the bytes `(x ∷ w) ++ bs` begins with `x ∷ w`
 abbrev pub BeginsWord : ℕ → List ℕ → List ℕ → Type 0
 BeginsWord x w bs = (more : List ℕ) × (ws : List (List ℕ)) × (words ((x ∷ w) ++ bs) ≡ ((x ∷ w) ++ more) ∷ ws)
 
-onto_some : (x : ℕ) (ws : List (List ℕ)) → (more : List ℕ) × (us : List (List ℕ)) × (onto_first x ws ≡ (x ∷ more) ∷ us)
+onto_some : (x : ℕ) (ws : List (List ℕ)) → (more : List ℕ) × (us : List (List ℕ)) × (prepend_to_first x ws ≡ (x ∷ more) ∷ us)
 onto_some x [] = ([], [], refl)
 onto_some x (w ∷ ws) = (w, ws, refl)
 
@@ -87,7 +87,7 @@ first_word_if x bs false e g = ([], words bs, words_one x bs e g)
 
 pub first_word : (x : ℕ) (w bs : List ℕ) → HasNoBlank (x ∷ w) → BeginsWord x w bs
 first_word x [] bs s = first_word_if x bs (goes_on bs) s.0 refl
-first_word x (y ∷ w) bs s = let h = first_word y w bs s.1 in (h.0, h.1, words_more x ((y ∷ w) ++ bs) s.0 (ap not s.1.0) ∙ ap (onto_first x) h.2)
+first_word x (y ∷ w) bs s = let h = first_word y w bs s.1 in (h.0, h.1, words_more x ((y ∷ w) ++ bs) s.0 (ap not s.1.0) ∙ ap (prepend_to_first x) h.2)
 
 -- bytes that begin with a nonblank byte have a word
 some_words : (x : ℕ) (bs : List ℕ) → is_blank x ≡ false → is_none (words (x ∷ bs)) ≡ false
@@ -166,8 +166,8 @@ unfolding last_line
 last_skips n b l ls e = rw (begins_blank 37 b l e) refl
 
 -- THE START
-pub start : (text : List ℕ) → scan text ≡ left (Fresh true) 0 text
-unfolding left scan
+pub start : (text : List ℕ) → scan text ≡ remaining_scan (Fresh true) 0 text
+unfolding remaining_scan scan
 start text = refl
 
 -- the last word of a header line
@@ -179,8 +179,8 @@ stage_one : (stage : Stage) (w : List ℕ) → stage_token stage (w ∷ []) ≡ 
 stage_one stage w = stage_cons stage w [] ∙ last_word (stage_after stage w)
 
 -- LF ends the line and completes the unfinished token
-pub LF_left : (spot : Position) (n : ℕ) (bs : List ℕ) → IsPosition spot → left spot n (10 ∷ bs) ≡ onto (in_hand spot n) (left (after_LF spot) (lines_after spot n) bs)
-unfolding left
+pub LF_left : (spot : Position) (n : ℕ) (bs : List ℕ) → IsPosition spot → remaining_scan spot n (10 ∷ bs) ≡ prepend_tokens (unfinished_token spot n) (remaining_scan (after_LF spot) (lines_after spot n) bs)
+unfolding remaining_scan
 LF_left (Fresh may) n bs s = rw (lines_LF bs, of_blanks may n (10 ∷ []) (lines bs) LF_begins (words_blank_one 10 refl), last_line_cons n (10 ∷ []) (lines bs) (LF_begins.ends)) refl
 LF_left (Leading may) n bs s = rw (lines_LF bs, of_blanks may n (10 ∷ []) (lines bs) LF_begins (words_blank_one 10 refl), last_line_cons n (10 ∷ []) (lines bs) (LF_begins.ends)) refl
 LF_left (Comment may) n bs s = rw (lines_LF bs) refl
@@ -192,26 +192,26 @@ LF_left Spoilt n bs s = rw (lines_LF bs) refl
 LF_left Over n bs s = refl
 
 -- any other byte at the start of a line has the same effect as after blanks
-pub fresh_leads : (may : Bool) (n b : ℕ) (bs : List ℕ) → nat_eq b 10 ≡ false → left (Fresh may) n (b ∷ bs) ≡ left (Leading may) n (b ∷ bs)
-unfolding left
+pub fresh_leads : (may : Bool) (n b : ℕ) (bs : List ℕ) → nat_eq b 10 ≡ false → remaining_scan (Fresh may) n (b ∷ bs) ≡ remaining_scan (Leading may) n (b ∷ bs)
+unfolding remaining_scan
 fresh_leads may n b bs e = rw (lines_more b bs e) refl
 
-leading_blank : (may : Bool) (n b : ℕ) (bs : List ℕ) → nat_eq b 10 ≡ false → is_blank b ≡ true → left (Leading may) n (b ∷ bs) ≡ left (Leading may) n bs
-unfolding left
+leading_blank : (may : Bool) (n b : ℕ) (bs : List ℕ) → nat_eq b 10 ≡ false → is_blank b ≡ true → remaining_scan (Leading may) n (b ∷ bs) ≡ remaining_scan (Leading may) n bs
+unfolding remaining_scan
 leading_blank may n b bs e f =
     rw (lines_more b bs e, skips may n b (first_line (lines bs)) (later_lines (lines bs)) f, last_skips n b (first_line (lines bs)) (later_lines (lines bs)) f) refl
 
 -- a blank after a word of a header line
 header_blank : (o : Option Stage) (n : ℕ) (bs : List ℕ)
     → record { tokens = (n + 1, after_word o (λ s. stage_token s (words (first_line (lines bs))))) ∷ tokens_of false (n + 1) (later_lines (lines bs)); last = last_line (n + 1) (later_lines (lines bs)) }
-    ≡ onto (spoils o n) (left (after_header_word o) n bs)
-unfolding left
+    ≡ prepend_tokens (spoils o n) (remaining_scan (after_header_word o) n bs)
+unfolding remaining_scan
 header_blank None n bs = refl
 header_blank (Some stage) n bs = refl
 
 -- a blank other than LF ends the unfinished word
-pub blank_left : (spot : Position) (n b : ℕ) (bs : List ℕ) → IsPosition spot → nat_eq b 10 ≡ false → is_blank b ≡ true → left spot n (b ∷ bs) ≡ onto (ended_by_blank spot n) (left (following_blank spot) n bs)
-unfolding left
+pub blank_left : (spot : Position) (n b : ℕ) (bs : List ℕ) → IsPosition spot → nat_eq b 10 ≡ false → is_blank b ≡ true → remaining_scan spot n (b ∷ bs) ≡ prepend_tokens (ended_by_blank spot n) (remaining_scan (following_blank spot) n bs)
+unfolding remaining_scan
 blank_left (Fresh may) n b bs s e f = fresh_leads may n b bs e ∙ leading_blank may n b bs e f
 blank_left (Leading may) n b bs s e f = leading_blank may n b bs e f
 blank_left (Comment may) n b bs s e f = rw (lines_more b bs e) refl
@@ -228,26 +228,26 @@ blank_left Over n b bs s e f = refl
 abbrev line_with : ℕ → List ℕ → List ℕ
 line_with b bs = b ∷ first_line (lines bs)
 
-pub leading_comment : (may : Bool) (n : ℕ) (bs : List ℕ) → left (Leading may) n (99 ∷ bs) ≡ left (Comment may) n bs
-unfolding left
+pub leading_comment : (may : Bool) (n : ℕ) (bs : List ℕ) → remaining_scan (Leading may) n (99 ∷ bs) ≡ remaining_scan (Comment may) n bs
+unfolding remaining_scan
 leading_comment may n bs =
     let b = byte_begins 99 (first_line (lines bs)) refl in
     rw (lines_more 99 bs refl, of_comment may n (line_with 99 bs) (later_lines (lines bs)) b.ends b.comments, last_line_cons n (line_with 99 bs) (later_lines (lines bs)) b.ends) refl
 
-pub leading_end : (may : Bool) (n : ℕ) (bs : List ℕ) → left (Leading may) n (37 ∷ bs) ≡ left Over n bs
-unfolding left
+pub leading_end : (may : Bool) (n : ℕ) (bs : List ℕ) → remaining_scan (Leading may) n (37 ∷ bs) ≡ remaining_scan Over n bs
+unfolding remaining_scan
 leading_end may n bs =
     let b = byte_begins 37 (first_line (lines bs)) refl in
     rw (lines_more 37 bs refl, of_end may n (line_with 37 bs) (later_lines (lines bs)) b.ends, last_line_end n (line_with 37 bs) (later_lines (lines bs)) b.ends) refl
 
-pub leading_header : (n : ℕ) (bs : List ℕ) → left (Leading true) n (112 ∷ bs) ≡ left (HeaderWithin Begun 112 []) n bs
-unfolding left
+pub leading_header : (n : ℕ) (bs : List ℕ) → remaining_scan (Leading true) n (112 ∷ bs) ≡ remaining_scan (HeaderWithin Begun 112 []) n bs
+unfolding remaining_scan
 leading_header n bs =
     let b = byte_begins 112 (first_line (lines bs)) refl in
     rw (lines_more 112 bs refl, of_header true n (line_with 112 bs) (later_lines (lines bs)) b, last_line_cons n (line_with 112 bs) (later_lines (lines bs)) b.ends, header_in_is (words (line_with 112 bs))) refl
 
-pub leading_late_header : (n : ℕ) (bs : List ℕ) → left (Leading false) n (112 ∷ bs) ≡ left Spoilt n bs
-unfolding left
+pub leading_late_header : (n : ℕ) (bs : List ℕ) → remaining_scan (Leading false) n (112 ∷ bs) ≡ remaining_scan Spoilt n bs
+unfolding remaining_scan
 leading_late_header n bs =
     let b = byte_begins 112 (first_line (lines bs)) refl in
     rw (lines_more 112 bs refl, of_header false n (line_with 112 bs) (later_lines (lines bs)) b, last_line_cons n (line_with 112 bs) (later_lines (lines bs)) b.ends) refl
@@ -261,33 +261,33 @@ of_word may n b l ls e f =
     ∙ ap (λ (m : Bool). on_line (n + 1) (words (b ∷ l)) ++ tokens_of m (n + 1) ls) (and_false may)
 
 pub leading_word : (may : Bool) (n b : ℕ) (bs : List ℕ) → nat_eq b 10 ≡ false → is_blank b ≡ false → nat_eq b 37 ≡ false → nat_eq b 99 ≡ false → nat_eq b 112 ≡ false
-    → left (Leading may) n (b ∷ bs) ≡ left (Within b []) n bs
-unfolding left
+    → remaining_scan (Leading may) n (b ∷ bs) ≡ remaining_scan (Within b []) n bs
+unfolding remaining_scan
 leading_word may n b bs e f g h k =
     let l = first_line (lines bs) in
     let starts : Begins (b ∷ l) false false false = record { ends = begins_at 37 b l f ∙ g; comments = begins_at 99 b l f ∙ h; heads = begins_at 112 b l f ∙ k } in
     rw (lines_more b bs e, of_word may n b l (later_lines (lines bs)) starts f, last_line_cons n (b ∷ l) (later_lines (lines bs)) starts.ends) refl
 
-pub comment_more : (may : Bool) (n b : ℕ) (bs : List ℕ) → nat_eq b 10 ≡ false → left (Comment may) n (b ∷ bs) ≡ left (Comment may) n bs
-unfolding left
+pub comment_more : (may : Bool) (n b : ℕ) (bs : List ℕ) → nat_eq b 10 ≡ false → remaining_scan (Comment may) n (b ∷ bs) ≡ remaining_scan (Comment may) n bs
+unfolding remaining_scan
 comment_more may n b bs e = rw (lines_more b bs e) refl
 
-pub between_word : (n b : ℕ) (bs : List ℕ) → nat_eq b 10 ≡ false → left Between n (b ∷ bs) ≡ left (Within b []) n bs
-unfolding left
+pub between_word : (n b : ℕ) (bs : List ℕ) → nat_eq b 10 ≡ false → remaining_scan Between n (b ∷ bs) ≡ remaining_scan (Within b []) n bs
+unfolding remaining_scan
 between_word n b bs e = rw (lines_more b bs e) refl
 
-pub within_more : (x : ℕ) (w : List ℕ) (n b : ℕ) (bs : List ℕ) → nat_eq b 10 ≡ false → left (Within x w) n (b ∷ bs) ≡ left (Within x (w ++ b ∷ [])) n bs
-unfolding left
+pub within_more : (x : ℕ) (w : List ℕ) (n b : ℕ) (bs : List ℕ) → nat_eq b 10 ≡ false → remaining_scan (Within x w) n (b ∷ bs) ≡ remaining_scan (Within x (w ++ b ∷ [])) n bs
+unfolding remaining_scan
 within_more x w n b bs e = rw (lines_more b bs e, sym (append_assoc w (b ∷ []) (first_line (lines bs)))) refl
 
 -- in a header line
-pub header_between_word : (stage : Stage) (n b : ℕ) (bs : List ℕ) → nat_eq b 10 ≡ false → left (HeaderBetween stage) n (b ∷ bs) ≡ left (HeaderWithin stage b []) n bs
-unfolding left
+pub header_between_word : (stage : Stage) (n b : ℕ) (bs : List ℕ) → nat_eq b 10 ≡ false → remaining_scan (HeaderBetween stage) n (b ∷ bs) ≡ remaining_scan (HeaderWithin stage b []) n bs
+unfolding remaining_scan
 header_between_word stage n b bs e = rw (lines_more b bs e) refl
 
 pub header_within_more : (stage : Stage) (x : ℕ) (w : List ℕ) (n b : ℕ) (bs : List ℕ) → nat_eq b 10 ≡ false
-    → left (HeaderWithin stage x w) n (b ∷ bs) ≡ left (HeaderWithin stage x (w ++ b ∷ [])) n bs
-unfolding left
+    → remaining_scan (HeaderWithin stage x w) n (b ∷ bs) ≡ remaining_scan (HeaderWithin stage x (w ++ b ∷ [])) n bs
+unfolding remaining_scan
 header_within_more stage x w n b bs e = rw (lines_more b bs e, sym (append_assoc w (b ∷ []) (first_line (lines bs)))) refl
 
 spoils_line : (stage : Stage) (x : ℕ) (w bs : List ℕ) → HasNoBlank (x ∷ w) → BeginsSpoilt stage (x ∷ w) → stage_token stage (words ((x ∷ w) ++ bs)) ≡ Wrong
@@ -295,22 +295,22 @@ spoils_line stage x w bs s h =
     let front = first_word x w bs s in
     ap (stage_token stage) front.2 ∙ stage_cons stage ((x ∷ w) ++ front.0) front.1 ∙ ap (λ (o : Option Stage). after_word o (λ s. stage_token s front.1)) (h front.0)
 
-pub header_spoilt : (stage : Stage) (x : ℕ) (w : List ℕ) (n : ℕ) (bs : List ℕ) → HasNoBlank (x ∷ w) → BeginsSpoilt stage (x ∷ w) → left (HeaderWithin stage x w) n bs ≡ left Spoilt n bs
-unfolding left
+pub header_spoilt : (stage : Stage) (x : ℕ) (w : List ℕ) (n : ℕ) (bs : List ℕ) → HasNoBlank (x ∷ w) → BeginsSpoilt stage (x ∷ w) → remaining_scan (HeaderWithin stage x w) n bs ≡ remaining_scan Spoilt n bs
+unfolding remaining_scan
 header_spoilt stage x w n bs s h = rw (spoils_line stage x w (first_line (lines bs)) s h) refl
 
-pub spoilt_more : (n b : ℕ) (bs : List ℕ) → nat_eq b 10 ≡ false → left Spoilt n (b ∷ bs) ≡ left Spoilt n bs
-unfolding left
+pub spoilt_more : (n b : ℕ) (bs : List ℕ) → nat_eq b 10 ≡ false → remaining_scan Spoilt n (b ∷ bs) ≡ remaining_scan Spoilt n bs
+unfolding remaining_scan
 spoilt_more n b bs e = rw (lines_more b bs e) refl
 
-pub over_more : (n b : ℕ) (bs : List ℕ) → left Over n (b ∷ bs) ≡ left Over n bs
-unfolding left
+pub over_more : (n b : ℕ) (bs : List ℕ) → remaining_scan Over n (b ∷ bs) ≡ remaining_scan Over n bs
+unfolding remaining_scan
 over_more n b bs = refl
 
 -- THE END
 -- the end of the text completes the unfinished token, on the line of the last byte
-pub end_left : (spot : Position) (n : ℕ) → IsPosition spot → left spot n [] ≡ record { tokens = in_hand spot n; last = line_at spot n }
-unfolding left
+pub end_left : (spot : Position) (n : ℕ) → IsPosition spot → remaining_scan spot n [] ≡ record { tokens = unfinished_token spot n; last = line_at spot n }
+unfolding remaining_scan
 end_left (Fresh may) n s = rw (lines_nil, of_none may n, last_line_nil n) refl
 end_left (Leading may) n s = rw (lines_nil, of_blanks may n [] [] no_words_begin words_nil, of_none may (n + 1), last_line_cons n [] [] no_words_begin.ends, last_line_nil (n + 1)) refl
 end_left (Comment may) n s = rw (lines_nil, of_none may (n + 1), last_line_nil (n + 1)) refl
@@ -322,5 +322,5 @@ end_left Spoilt n s = rw (lines_nil, of_none false (n + 1), last_line_nil (n + 1
 end_left Over n s = refl
 
 -- if the text ends here, its last line is that of the last byte
-pub last_left_end : (spot : Position) (n : ℕ) → IsPosition spot → (left spot n []).last ≡ line_at spot n
+pub last_left_end : (spot : Position) (n : ℕ) → IsPosition spot → (remaining_scan spot n []).last ≡ line_at spot n
 last_left_end spot n s = ap (λ (r : Scan). r.last) (end_left spot n s)

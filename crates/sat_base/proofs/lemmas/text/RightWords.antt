@@ -10,30 +10,30 @@ use Rattle.sat_base.specs.declared.text.Token.{Token as CodeToken}
 use Rattle.sat_base.specs.declared.text.Token.TheVariants as code
 use Rattle.sat_base.specs.declared.text.Tokenizer.{Tokenizer}
 use Rattle.sat_base.specs.text.Text.{is_blank, lines, on_line, tokens_of, Token, Wrong, Scan}
-use Rattle.sat_base.specs.text.Position.{first_line, later_lines, Stage, Named, Format, Position, Within, Spoilt, HasNoBlank, left, in_hand, spoils, ended_by_blank, following_blank}
+use Rattle.sat_base.specs.text.Position.{first_line, later_lines, Stage, Named, Format, Position, Within, Spoilt, HasNoBlank, remaining_scan, unfinished_token, spoils, ended_by_blank, following_blank}
 use Rattle.sat_base.specs.text.WrongWords.{HaveNoWrongWord, HasValidContinuation, HasNoValidContinuation}
-use Rattle.sat_base.specs.text.Tokenizing.{held_token, BeginsWrong, IsAtHeader, IsAt, MovesPlace, BeganHeader, grown, IsHeldToken, SaysInHand, SaysAtBlank, ended_stage, LeadsAfter, IsQuiet, IsPositionedBefore}
+use Rattle.sat_base.specs.text.Tokenizing.{capped_token, BeginsWrong, IsAtHeader, IsAt, MovesPlace, BeganHeader, with_digit, IsCappedToken, SaysInHand, SaysAtBlank, ended_stage, LeadsAfter, IsBetweenWords, IsPositionedBefore}
 use Rattle.sat_base.proofs.lemmas.text.Positions.{first_word, blank_left, end_left, last_left_end}
 use Rattle.sat_base.proofs.lemmas.text.Places.{IsSpot_of, moves_minus_digit, moves_digit, says_letter, says_number}
 use Rattle.sat_base.proofs.lemmas.text.HeaderPlaces.{EndsAs, begun_c, begun_vars, begun_clauses, between_moves, c_n, cn_f, ended_vars, ended_clauses, says_header, after_ended}
 
 -- that a text can continue from this place without a wrong word
 abbrev MayBeRight : Place → Type 0
-MayBeRight p = (spot : Position) → IsAt p spot → (n : ℕ) → HasValidContinuation (left spot n)
+MayBeRight p = (spot : Position) → IsAt p spot → (n : ℕ) → HasValidContinuation (remaining_scan spot n)
 
 -- that the token is not wrong, or there is none
 abbrev IsRight : Option CodeToken → Type 0
 IsRight None = Unit {0}
 IsRight (Some t) = t ≡ code.Wrong → ⊥
 
-right_in_hand : (given : Option CodeToken) (tokens : ℕ → List (ℕ × Token)) (n : ℕ) → IsHeldToken given tokens → IsRight given → HaveNoWrongWord (tokens n)
+right_in_hand : (given : Option CodeToken) (tokens : ℕ → List (ℕ × Token)) (n : ℕ) → IsCappedToken given tokens → IsRight given → HaveNoWrongWord (tokens n)
 right_in_hand None tokens n e r = rw (e n) tt
-right_in_hand (Some t) tokens n g r = rw (g.2 n) ((λ e. r (g.1 ∙ ap held_token e)), tt)
+right_in_hand (Some t) tokens n g r = rw (g.2 n) ((λ e. r (g.1 ∙ ap capped_token e)), tt)
 
 -- the text may end here
 right_at_end : (p : Place) (given : Option CodeToken) → SaysInHand given p → IsRight given → MayBeRight p
 right_at_end p given says r spot i n =
-    ([], subst HaveNoWrongWord (sym (ap (λ (s : Scan). s.tokens) (end_left spot n (IsSpot_of p spot i)))) (right_in_hand given (in_hand spot) n (says spot i) r))
+    ([], subst HaveNoWrongWord (sym (ap (λ (s : Scan). s.tokens) (end_left spot n (IsSpot_of p spot i)))) (right_in_hand given (unfinished_token spot) n (says spot i) r))
 
 -- a byte may follow
 right_before : (p q : Place) (b : ℕ) → MovesPlace p b q → MayBeRight q → MayBeRight p
@@ -58,7 +58,7 @@ number_right negative v z = right_at_end (at.Digits negative v) (Some (code.Numb
 -- a number with a minus sign may still get a digit that isn't 0
 digits_right : (negative : Bool) (v : ℕ) → MayBeRight (at.Digits negative v)
 digits_right false v = number_right false v (λ e. absurd (cc))
-digits_right true v = right_before (at.Digits true v) (at.Digits true (grown v 49)) 49 (moves_digit true v 49 refl refl) (number_right true (grown v 49) (λ e. omega arith))
+digits_right true v = right_before (at.Digits true v) (at.Digits true (with_digit v 49)) 49 (moves_digit true v 49 refl refl) (number_right true (with_digit v 49) (λ e. omega arith))
 
 minus_right : MayBeRight at.Minus
 minus_right = right_before at.Minus (at.Digits true 1) 49 (moves_minus_digit 49 refl refl (omega arith)) (number_right true 1 (λ e. omega arith))
@@ -161,26 +161,26 @@ right_ahead machine b s before (spot, n, i, l, e) =
     apart p b s w = w
 
 -- no word is unfinished
-pub right_after : (machine : Tokenizer) → IsQuiet machine.place → (before : List ℕ → Scan) → IsPositionedBefore machine before → HasValidContinuation before
-right_after machine q = right_ahead machine (λ e. subst IsQuiet e q) (λ e. subst IsQuiet e q)
+pub right_after : (machine : Tokenizer) → IsBetweenWords machine.place → (before : List ℕ → Scan) → IsPositionedBefore machine before → HasValidContinuation before
+right_after machine q = right_ahead machine (λ e. subst IsBetweenWords e q) (λ e. subst IsBetweenWords e q)
 
 -- WRONG WORDS
 -- if the unfinished word is wrong however it continues, the next token is wrong
-word_wrong : (x : ℕ) (w : List ℕ) (n : ℕ) (rest : List ℕ) → HasNoBlank (x ∷ w) → BeginsWrong (x ∷ w) → (more : List (ℕ × Token)) × ((left (Within x w) n rest).tokens ≡ (n + 1, Wrong) ∷ more)
-unfolding left
+word_wrong : (x : ℕ) (w : List ℕ) (n : ℕ) (rest : List ℕ) → HasNoBlank (x ∷ w) → BeginsWrong (x ∷ w) → (more : List (ℕ × Token)) × ((remaining_scan (Within x w) n rest).tokens ≡ (n + 1, Wrong) ∷ more)
+unfolding remaining_scan
 word_wrong x w n rest s h =
     let ls = lines rest in
     let f = first_word x w (first_line ls) s in
     let more = on_line (n + 1) f.1 ++ tokens_of false (n + 1) (later_lines ls) in
     (more, ap (λ (ws : List (List ℕ)). on_line (n + 1) ws ++ tokens_of false (n + 1) (later_lines ls)) f.2 ∙ ap (λ (t : Token). (n + 1, t) ∷ more) (h f.0))
 
-line_wrong : (n : ℕ) (rest : List ℕ) → (more : List (ℕ × Token)) × ((left Spoilt n rest).tokens ≡ (n + 1, Wrong) ∷ more)
-unfolding left
+line_wrong : (n : ℕ) (rest : List ℕ) → (more : List (ℕ × Token)) × ((remaining_scan Spoilt n rest).tokens ≡ (n + 1, Wrong) ∷ more)
+unfolding remaining_scan
 line_wrong n rest = (tokens_of false (n + 1) (later_lines (lines rest)), refl)
 
 -- on the line of the last byte
-on_last : (before : List ℕ → Scan) (spot : Position) (n : ℕ) → ((rest : List ℕ) → before rest ≡ left spot n rest) → (left spot n []).last ≡ n + 1
-    → ((rest : List ℕ) → (more : List (ℕ × Token)) × ((left spot n rest).tokens ≡ (n + 1, Wrong) ∷ more)) → HasNoValidContinuation before
+on_last : (before : List ℕ → Scan) (spot : Position) (n : ℕ) → ((rest : List ℕ) → before rest ≡ remaining_scan spot n rest) → (remaining_scan spot n []).last ≡ n + 1
+    → ((rest : List ℕ) → (more : List (ℕ × Token)) × ((remaining_scan spot n rest).tokens ≡ (n + 1, Wrong) ∷ more)) → HasNoValidContinuation before
 on_last before spot n e l h rest =
     let k = h rest in
     let last : n + 1 ≡ (before []).last = sym (ap (λ (s : Scan). s.last) (e []) ∙ l) in
@@ -190,14 +190,14 @@ pub wrong_word : (machine : Tokenizer) → machine.place ≡ at.Bad → (before 
 unfolding IsPositionedBefore
 wrong_word machine p before (spot, n, i, l, e) = let j : IsAt at.Bad spot = rw p at i in of_word spot n e j
   where
-    of_word : (spot : Position) (n : ℕ) → ((rest : List ℕ) → before rest ≡ left spot n rest) → IsAt at.Bad spot → HasNoValidContinuation before
+    of_word : (spot : Position) (n : ℕ) → ((rest : List ℕ) → before rest ≡ remaining_scan spot n rest) → IsAt at.Bad spot → HasNoValidContinuation before
     of_word spot n e (x, w, s, h, f) =
-        let g : (rest : List ℕ) → before rest ≡ left (Within x w) n rest = λ rest. e rest ∙ ap (λ (k : Position). left k n rest) f in
+        let g : (rest : List ℕ) → before rest ≡ remaining_scan (Within x w) n rest = λ rest. e rest ∙ ap (λ (k : Position). remaining_scan k n rest) f in
         on_last before (Within x w) n g (last_left_end (Within x w) n s) (λ rest. word_wrong x w n rest s h)
 
 pub wrong_line : (machine : Tokenizer) → machine.place ≡ at.Spoilt → (before : List ℕ → Scan) → IsPositionedBefore machine before → HasNoValidContinuation before
 unfolding IsPositionedBefore
 wrong_line machine p before (spot, n, i, l, e) =
     let j : spot ≡ Spoilt = rw p at i in
-    let g : (rest : List ℕ) → before rest ≡ left Spoilt n rest = λ rest. e rest ∙ ap (λ (k : Position). left k n rest) j in
+    let g : (rest : List ℕ) → before rest ≡ remaining_scan Spoilt n rest = λ rest. e rest ∙ ap (λ (k : Position). remaining_scan k n rest) j in
     on_last before Spoilt n g (last_left_end Spoilt n tt) (line_wrong n)

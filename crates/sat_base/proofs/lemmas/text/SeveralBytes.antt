@@ -9,9 +9,9 @@ use Rattle.sat_base.specs.declared.text.Place.TheVariants as at
 use Rattle.sat_base.specs.declared.text.Token.{Token as CodeToken}
 use Rattle.sat_base.specs.declared.text.Tokenizer.{Tokenizer}
 use Rattle.sat_base.specs.text.Text.{is_blank, is_digit}
-use Rattle.sat_base.specs.text.Position.{left}
+use Rattle.sat_base.specs.text.Position.{remaining_scan}
 use Rattle.sat_base.specs.text.Chunks.{Follows}
-use Rattle.sat_base.specs.text.Tokenizing.{MovesPlace, MovesBy, BeginsWord, Began, grown, IsPositionedBefore, TakesByte, TakesFront}
+use Rattle.sat_base.specs.text.Tokenizing.{MovesPlace, MovesBy, BeginsWord, Began, with_digit, IsPositionedBefore, ReceivesByte, ReceivesPrefix}
 use Rattle.sat_base.proofs.lemmas.text.Words.{SpellsHeld_one, no_minus_digit, no_letter_digit}
 use Rattle.sat_base.proofs.lemmas.text.Places.{moves_word, moves_fresh, moves_between, moves_minus_digit, moves_digit}
 
@@ -20,7 +20,7 @@ pub moves_more : (a b c : Place) (xs : List ℕ) (y : ℕ) → MovesBy a xs b �
 moves_more a b c xs y f g spot i =
     let h = f spot i in
     let k = g h.0 h.1 in
-    (k.0, k.1, λ n rest. ap (λ (bs : List ℕ). left spot n bs) (append_assoc xs (y ∷ []) rest) ∙ h.2 n (y ∷ rest) ∙ k.2 n rest)
+    (k.0, k.1, λ n rest. ap (λ (bs : List ℕ). remaining_scan spot n bs) (append_assoc xs (y ∷ []) rest) ∙ h.2 n (y ∷ rest) ∙ k.2 n rest)
 
 -- one more byte at the start
 pub moves_first : (a b c : Place) (x : ℕ) (ys : List ℕ) → MovesPlace a x b → MovesBy b ys c → MovesBy a (x ∷ ys) c
@@ -50,11 +50,11 @@ pub moves_digit_after_minus : (b : ℕ) → is_digit b ≡ true → MovesPlace a
 moves_digit_after_minus b d = moves_minus_digit b (grind (arith, nat_tests)) d (grind (arith, nat_tests))
 
 -- one more digit
-pub moves_further_digit : (a : Place) (negative : Bool) (v : ℕ) (xs : List ℕ) (i : ℕ) → i < length xs → is_digit (get_or xs i 0) ≡ true → MovesBy a (take i xs) (at.Digits negative v) → MovesBy a (take (i + 1) xs) (at.Digits negative (grown v (get_or xs i 0)))
+pub moves_further_digit : (a : Place) (negative : Bool) (v : ℕ) (xs : List ℕ) (i : ℕ) → i < length xs → is_digit (get_or xs i 0) ≡ true → MovesBy a (take i xs) (at.Digits negative v) → MovesBy a (take (i + 1) xs) (at.Digits negative (with_digit v (get_or xs i 0)))
 moves_further_digit a negative v xs i small d m =
     let b = get_or xs i 0 in
     let f : is_blank b ≡ false = grind (arith, nat_tests) in
-    subst (λ (bs : List ℕ). MovesBy a bs (at.Digits negative (grown v b))) (sym (take_more xs i 0 small)) (moves_more a (at.Digits negative v) (at.Digits negative (grown v b)) (take i xs) b m (moves_digit negative v b f d))
+    subst (λ (bs : List ℕ). MovesBy a bs (at.Digits negative (with_digit v b))) (sym (take_more xs i 0 small)) (moves_more a (at.Digits negative v) (at.Digits negative (with_digit v b)) (take i xs) b m (moves_digit negative v b f d))
 
 first_of_some : (xs : List ℕ) (k : ℕ) → 0 < length xs → take (k + 1) xs ≡ get_or xs 0 0 ∷ take k (drop 1 xs)
 first_of_some xs k h = grind (arith, common_steps)
@@ -73,13 +73,13 @@ pub follows_by : (old : Tokenizer) (bytes : List ℕ) (place : Place) → MovesB
 unfolding IsPositionedBefore
 follows_by old bytes place m before (spot, n, i, l, e) =
     let k = m spot i in
-    (left k.0 n, (k.0, n, k.1, l, λ rest. refl), λ rest. e (bytes ++ rest) ∙ k.2 n rest)
+    (remaining_scan k.0 n, (k.0, n, k.1, l, λ rest. refl), λ rest. e (bytes ++ rest) ∙ k.2 n rest)
 
 -- one more byte after bytes that end no token
-pub takes_front : (a b c : Tokenizer) (xs : List ℕ) (i : ℕ) (given : Option CodeToken) → i < length xs → Follows IsPositionedBefore a (take i xs) b → TakesByte b (get_or xs i 0) given c → TakesFront a (take (i + 1) xs) given c
-takes_front a b c xs i given small f t = subst (λ (bs : List ℕ). TakesFront a bs given c) (sym (take_more xs i 0 small)) (following given t)
+pub takes_front : (a b c : Tokenizer) (xs : List ℕ) (i : ℕ) (given : Option CodeToken) → i < length xs → Follows IsPositionedBefore a (take i xs) b → ReceivesByte b (get_or xs i 0) given c → ReceivesPrefix a (take (i + 1) xs) given c
+takes_front a b c xs i given small f t = subst (λ (bs : List ℕ). ReceivesPrefix a bs given c) (sym (take_more xs i 0 small)) (following given t)
   where
-    following : (g : Option CodeToken) → TakesByte b (get_or xs i 0) g c → TakesFront a (take i xs ++ get_or xs i 0 ∷ []) g c
+    following : (g : Option CodeToken) → ReceivesByte b (get_or xs i 0) g c → ReceivesPrefix a (take i xs ++ get_or xs i 0 ∷ []) g c
     following None k before m =
         let h = f before m in
         let j = k h.0 h.1 in
@@ -90,5 +90,5 @@ takes_front a b c xs i given small f t = subst (λ (bs : List ℕ). TakesFront a
         (j.0, j.1, (j.2.0, j.2.1, λ rest. ap before (append_assoc (take i xs) (get_or xs i 0 ∷ []) rest) ∙ h.2 (get_or xs i 0 ∷ rest) ∙ j.2.2 rest))
 
 -- the first byte
-pub takes_first : (a c : Tokenizer) (xs : List ℕ) (given : Option CodeToken) → 0 < length xs → TakesByte a (get_or xs 0 0) given c → TakesFront a (take 1 xs) given c
+pub takes_first : (a c : Tokenizer) (xs : List ℕ) (given : Option CodeToken) → 0 < length xs → ReceivesByte a (get_or xs 0 0) given c → ReceivesPrefix a (take 1 xs) given c
 takes_first a c xs given some t = takes_front a a c xs 0 given some (λ before m. (before, m, λ rest. refl)) t

@@ -2,8 +2,8 @@
 use Rattle.std.proofs.Common.{◌≡◌, ℕ, ◌+◌, ◌*◌, ◌-◌, ◌<◌, List, [], ◌∷◌, ◌++◌, Bool, true, false, cond, eqb, Option, Some, None, refl, sym, ap, subst, ◌∙◌, append_assoc, arith}
 use Rattle.std.proofs.lemmas.List.{append-nil}
 use Rattle.std.proofs.lemmas.Bool.Decides.{nat_tests}
-use Rattle.sat_base.specs.text.Text.{is_digit, is_letter, digits, plain, minus, after_minus, alone, token, Number, Letter, Wrong}
-use Rattle.sat_base.specs.text.Tokenizing.{SpellsHeld, BeginsWrong, grown}
+use Rattle.sat_base.specs.text.Text.{is_digit, is_letter, digits, unsigned_token, negative_token, after_minus, letter_token, token, Number, Letter, Wrong}
+use Rattle.sat_base.specs.text.Tokenizing.{SpellsCapped, BeginsWrong, with_digit}
 
 digits_cons : (n d : ℕ) (ds : List ℕ) → is_digit d ≡ true → digits n (d ∷ ds) ≡ digits (10 * n + (d - 48)) ds
 unfolding digits
@@ -45,16 +45,16 @@ pub digits_wrong_in : (m d : ℕ) (ds more : List ℕ) → digits 0 ds ≡ Some 
 digits_wrong_in m d ds more h e = ap (digits 0) (append_assoc ds (d ∷ []) more) ∙ digits_wrong 0 m d ds more h e
 
 -- a single digit
-pub SpellsHeld_one : (d : ℕ) → is_digit d ≡ true → d < 256 → SpellsHeld (d ∷ []) (d - 48)
+pub SpellsHeld_one : (d : ℕ) → is_digit d ≡ true → d < 256 → SpellsCapped (d ∷ []) (d - 48)
 SpellsHeld_one d e b = (d - 48, digits_cons 0 d [] e ∙ digits_nil (10 * 0 + (d - 48)) ∙ ap (λ (k : ℕ). Some k) (omega arith), omega arith)
 
-pub SpellsHeld_more : (ds : List ℕ) (v d : ℕ) → SpellsHeld ds v → is_digit d ≡ true → SpellsHeld (ds ++ d ∷ []) (grown v d)
+pub SpellsHeld_more : (ds : List ℕ) (v d : ℕ) → SpellsCapped ds v → is_digit d ≡ true → SpellsCapped (ds ++ d ∷ []) (with_digit v d)
 SpellsHeld_more ds v d s e = (10 * s.0 + (d - 48), digits_more 0 s.0 d ds s.1 e, omega (arith, s.2))
 
 not_eqb : (x y : ℕ) → (x ≡ y → ⊥) → eqb x y ≡ false
 not_eqb x y h = grind (arith, nat_tests)
 
-token_plain : (x : ℕ) (w : List ℕ) → (x ≡ 45 → ⊥) → is_letter x ≡ false → token (x ∷ w) ≡ plain (digits 0 (x ∷ w))
+token_plain : (x : ℕ) (w : List ℕ) → (x ≡ 45 → ⊥) → is_letter x ≡ false → token (x ∷ w) ≡ unsigned_token (digits 0 (x ∷ w))
 unfolding token
 token_plain x w n l = rw (not_eqb x 45 n, l) refl
 
@@ -62,7 +62,7 @@ token_minus : (w : List ℕ) → token (45 ∷ w) ≡ after_minus w
 unfolding token
 token_minus w = refl
 
-token_letter : (x : ℕ) (w : List ℕ) → (x ≡ 45 → ⊥) → is_letter x ≡ true → token (x ∷ w) ≡ alone x w
+token_letter : (x : ℕ) (w : List ℕ) → (x ≡ 45 → ⊥) → is_letter x ≡ true → token (x ∷ w) ≡ letter_token x w
 unfolding token
 token_letter x w n l = rw (not_eqb x 45 n, l) refl
 
@@ -80,22 +80,22 @@ BeginsWrong_more w b h more = ap token (append_assoc w (b ∷ []) more) ∙ h (b
 
 -- a first byte other than a digit, a letter or `-`
 pub BeginsWrong_first : (b : ℕ) → is_digit b ≡ false → is_letter b ≡ false → (b ≡ 45 → ⊥) → BeginsWrong (b ∷ [])
-BeginsWrong_first b e l n more = token_plain b more n l ∙ ap plain (digits_stop 0 b more e)
+BeginsWrong_first b e l n more = token_plain b more n l ∙ ap unsigned_token (digits_stop 0 b more e)
 
 -- a letter before another byte
 pub BeginsWrong_letter : (b c : ℕ) → is_letter b ≡ true → BeginsWrong (b ∷ c ∷ [])
 BeginsWrong_letter b c l more = token_letter b (c ∷ more) (no_minus_letter b l) l
 
 -- after digits, a byte other than a digit
-pub BeginsWrong_plain : (x : ℕ) (w : List ℕ) (v b : ℕ) → SpellsHeld (x ∷ w) v → (x ≡ 45 → ⊥) → is_letter x ≡ false → is_digit b ≡ false → BeginsWrong ((x ∷ w) ++ b ∷ [])
+pub BeginsWrong_plain : (x : ℕ) (w : List ℕ) (v b : ℕ) → SpellsCapped (x ∷ w) v → (x ≡ 45 → ⊥) → is_letter x ≡ false → is_digit b ≡ false → BeginsWrong ((x ∷ w) ++ b ∷ [])
 BeginsWrong_plain x w v b s n l e more =
-    ap token (append_assoc (x ∷ w) (b ∷ []) more) ∙ token_plain x (w ++ b ∷ more) n l ∙ ap plain (digits_wrong 0 s.0 b (x ∷ w) more s.1 e)
+    ap token (append_assoc (x ∷ w) (b ∷ []) more) ∙ token_plain x (w ++ b ∷ more) n l ∙ ap unsigned_token (digits_wrong 0 s.0 b (x ∷ w) more s.1 e)
 
 -- after `-`, a byte other than a digit
 pub BeginsWrong_minus : (b : ℕ) → is_digit b ≡ false → BeginsWrong (45 ∷ b ∷ [])
-BeginsWrong_minus b e more = token_minus (b ∷ more) ∙ ap minus (digits_stop 0 b more e)
+BeginsWrong_minus b e more = token_minus (b ∷ more) ∙ ap negative_token (digits_stop 0 b more e)
 
-after_minus_is : (w : List ℕ) → (w ≡ [] → ⊥) → after_minus w ≡ minus (digits 0 w)
+after_minus_is : (w : List ℕ) → (w ≡ [] → ⊥) → after_minus w ≡ negative_token (digits 0 w)
 after_minus_is [] h = absurd (h refl)
 after_minus_is (d ∷ w) h = refl
 
@@ -103,16 +103,16 @@ some_more : (w : List ℕ) (b : ℕ) (more : List ℕ) → w ++ b ∷ more ≡ [
 some_more [] b more e = cc
 some_more (x ∷ w) b more e = cc
 
-pub BeginsWrong_negative : (w : List ℕ) (v b : ℕ) → SpellsHeld w v → is_digit b ≡ false → BeginsWrong ((45 ∷ w) ++ b ∷ [])
+pub BeginsWrong_negative : (w : List ℕ) (v b : ℕ) → SpellsCapped w v → is_digit b ≡ false → BeginsWrong ((45 ∷ w) ++ b ∷ [])
 BeginsWrong_negative w v b s e more =
-    ap token (append_assoc (45 ∷ w) (b ∷ []) more) ∙ token_minus (w ++ b ∷ more) ∙ after_minus_is (w ++ b ∷ more) (some_more w b more) ∙ ap minus (digits_wrong 0 s.0 b w more s.1 e)
+    ap token (append_assoc (45 ∷ w) (b ∷ []) more) ∙ token_minus (w ++ b ∷ more) ∙ after_minus_is (w ++ b ∷ more) (some_more w b more) ∙ ap negative_token (digits_wrong 0 s.0 b w more s.1 e)
 
 -- the token of an unfinished word that ends
 pub word_plain : (x : ℕ) (w : List ℕ) (m : ℕ) → digits 0 (x ∷ w) ≡ Some m → (x ≡ 45 → ⊥) → is_letter x ≡ false → token (x ∷ w) ≡ Number false m
-word_plain x w m e n l = token_plain x w n l ∙ ap plain e
+word_plain x w m e n l = token_plain x w n l ∙ ap unsigned_token e
 
-pub word_minus : (w : List ℕ) (m : ℕ) → digits 0 w ≡ Some m → (w ≡ [] → ⊥) → token (45 ∷ w) ≡ minus (Some m)
-word_minus w m e n = token_minus w ∙ after_minus_is w n ∙ ap minus e
+pub word_minus : (w : List ℕ) (m : ℕ) → digits 0 w ≡ Some m → (w ≡ [] → ⊥) → token (45 ∷ w) ≡ negative_token (Some m)
+word_minus w m e n = token_minus w ∙ after_minus_is w n ∙ ap negative_token e
 
 pub word_bare : token (45 ∷ []) ≡ Wrong
 word_bare = token_minus []

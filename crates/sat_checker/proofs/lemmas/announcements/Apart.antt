@@ -5,7 +5,7 @@ use Rattle.sat_base.specs.values.Literals.{variable, negated}
 use Rattle.sat_checker.specs.LiteralSets.{is_among, mentions}
 use Rattle.sat_checker.specs.Stored.{StoredUnit, Stored, is_unit, unit_literals}
 use Rattle.sat_checker.specs.Storing.{with_unit, with_contradiction, with_new_unit, with_units}
-use Rattle.sat_checker.specs.Accepts.{VariablesApart}
+use Rattle.sat_checker.specs.Accepts.{VariablesDistinct}
 
 abbrev literals_in : List StoredUnit → List ℕ
 literals_in = map (λ u. u.literal)
@@ -25,20 +25,20 @@ mentioned_none : (us : List StoredUnit) (u : StoredUnit) (v : ℕ) → mentions 
 mentioned_none [] u v n e = or_from (eqb (variable u.literal) v) false e refl
 mentioned_none (w ∷ ws) u v n e = let p = or_parts (eqb (variable w.literal) v) (mentions (literals_in ws) v) n in or_from (eqb (variable w.literal) v) (mentions (literals_in (ws ++ u ∷ [])) v) p.0 (mentioned_none ws u v p.1 e)
 
-apart_push : (us : List StoredUnit) (u : StoredUnit) → VariablesApart (literals_in us) → mentions (literals_in us) (variable u.literal) ≡ false → VariablesApart (literals_in (us ++ u ∷ []))
+apart_push : (us : List StoredUnit) (u : StoredUnit) → VariablesDistinct (literals_in us) → mentions (literals_in us) (variable u.literal) ≡ false → VariablesDistinct (literals_in (us ++ u ∷ []))
 apart_push [] u p n = (refl, tt)
 apart_push (w ∷ ws) u p n =
     let x = or_parts (eqb (variable w.literal) (variable u.literal)) (mentions (literals_in ws) (variable u.literal)) n in
     (mentioned_none ws u (variable w.literal) p.0 (ne_eqb (variable u.literal) (variable w.literal) (λ e. eqb-false (variable w.literal) (variable u.literal) x.0 (sym e))), apart_push ws u p.1 x.1)
 
-apart_unit : (l : ℕ) (f : Stored) → VariablesApart (unit_literals f) → VariablesApart (unit_literals (with_unit l f))
+apart_unit : (l : ℕ) (f : Stored) → VariablesDistinct (unit_literals f) → VariablesDistinct (unit_literals (with_unit l f))
 apart_unit l f p = go (is_unit f l) refl (is_unit f (negated l)) refl
   where
-    go : (b : Bool) → is_unit f l ≡ b → (d : Bool) → is_unit f (negated l) ≡ d → VariablesApart (unit_literals (cond b f (cond d (with_contradiction l f) (with_new_unit l f))))
+    go : (b : Bool) → is_unit f l ≡ b → (d : Bool) → is_unit f (negated l) ≡ d → VariablesDistinct (unit_literals (cond b f (cond d (with_contradiction l f) (with_new_unit l f))))
     go true n d m = p
     go false n true m = p
     go false n false m = apart_push f.units (record { id = f.next_id; literal = l }) p (not_mentioned (unit_literals f) l n m)
 
-pub apart_units : (ls : List ℕ) (f : Stored) → VariablesApart (unit_literals f) → VariablesApart (unit_literals (with_units ls f))
+pub apart_units : (ls : List ℕ) (f : Stored) → VariablesDistinct (unit_literals f) → VariablesDistinct (unit_literals (with_units ls f))
 apart_units [] f p = p
 apart_units (l ∷ ls) f p = apart_units ls (with_unit l f) (apart_unit l f p)

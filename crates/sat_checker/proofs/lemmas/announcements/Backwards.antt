@@ -7,8 +7,8 @@ use Rattle.sat_checker.specs.LiteralSets.{is_among}
 use Rattle.sat_checker.specs.inner.Marks.{NoRepeats}
 use Rattle.sat_checker.specs.Propagation.{IsFalsified, IsUnit}
 use Rattle.sat_checker.specs.Stored.{StoredClause}
-use Rattle.sat_checker.specs.inner.Walk.{Verdict, falsified, opens, rests, verdict, verdict_of_open, not_false, walk, walk_on, and_then}
-use Rattle.sat_checker.specs.announcements.Needed.{ConflictCauses, others_denied, causes_by, conflict_causes}
+use Rattle.sat_checker.specs.inner.Walk.{ClauseState, falsified, becomes_unit, neither, clause_state, state_by_open, not_false, walk, walk_on, and_then}
+use Rattle.sat_checker.specs.announcements.Needed.{ConflictCauses, negations_except, causes_by, conflict_causes}
 use Rattle.sat_checker.specs.announcements.Promises.{IsOneOf, Reason, is_conflict, is_unit, is_neither, IsNeededLiteral, of_last, of_reason, IsConflictCauses}
 use Rattle.sat_checker.proofs.lemmas.meaning.Clauses.{literals_of}
 use Rattle.sat_checker.proofs.lemmas.sets.Members.{each_at}
@@ -70,7 +70,7 @@ among_either (x ∷ xs) ys m e =
       | inr k ↦ elim (among_either xs ys m k) [ inl a ↦ inl (or_right (eqb x m) (is_among xs m) a) | inr b ↦ inr b ]
     ]
 
--- if all literals of a clause are false, none is left; a clause with verdict `rests` is neither falsified nor unit
+-- if all literals of a clause are false, none is left; a clause with verdict `neither` is neither falsified nor unit
 all_gone : (assumed clause : List ℕ) → IsFalsified assumed clause → not_false assumed clause ≡ []
 all_gone assumed [] h = refl
 all_gone assumed (l ∷ ls) h = rw h.0 (all_gone assumed ls h.1)
@@ -91,13 +91,13 @@ one_stays assumed (l ∷ ls) o n m f h = go (λ k. one_stays assumed ls o n.1 k 
         rw (f', none) (ap (λ x. x ∷ []) same)
     go ih false s k = let t : is_among assumed (negated l) ≡ true = elim h.0 [ inl e ↦ absurd (eqb-false l o s e) | inr x ↦ x ] in rw t (ih k)
 
-never_falsified : (assumed clause : List ℕ) → verdict assumed clause ≡ rests → IsFalsified assumed clause → ⊥
-never_falsified assumed clause e h = let k : verdict_of_open assumed [] ≡ rests = subst (λ ls. verdict_of_open assumed ls ≡ rests) (all_gone assumed clause h) e in absurd cc
+never_falsified : (assumed clause : List ℕ) → clause_state assumed clause ≡ neither → IsFalsified assumed clause → ⊥
+never_falsified assumed clause e h = let k : state_by_open assumed [] ≡ neither = subst (λ ls. state_by_open assumed ls ≡ neither) (all_gone assumed clause h) e in absurd cc
 
-never_unit : (assumed clause : List ℕ) → NoRepeats clause → verdict assumed clause ≡ rests → (o : ℕ) → IsUnit assumed clause o → ⊥
+never_unit : (assumed clause : List ℕ) → NoRepeats clause → clause_state assumed clause ≡ neither → (o : ℕ) → IsUnit assumed clause o → ⊥
 never_unit assumed clause n e o u =
-    let k : cond (is_among assumed o) rests (opens o) ≡ rests = subst (λ ls. verdict_of_open assumed ls ≡ rests) (one_stays assumed clause o n u.within u.not_false u.others) e in
-    let j : opens o ≡ rests = subst (λ b. cond b rests (opens o) ≡ rests) u.not_true k in
+    let k : cond (is_among assumed o) neither (becomes_unit o) ≡ neither = subst (λ ls. state_by_open assumed ls ≡ neither) (one_stays assumed clause o n u.within u.not_false u.others) e in
+    let j : becomes_unit o ≡ neither = subst (λ b. cond b neither (becomes_unit o) ≡ neither) u.not_true k in
     absurd cc
 
 -- a needed literal is still needed after another reason is added
@@ -162,7 +162,7 @@ module _ (assumed : List ℕ) (c : StoredClause) (cs : List StoredClause) where
     fresh_still = map_each (λ r. is_among (o ∷ assumed) r.literal ≡ false) (λ r. is_among assumed r.literal ≡ false) d.is_ground.reasons (λ r e. (or_parts (eqb o r.literal) (is_among assumed r.literal) e).1) d.fresh
 
     -- the negations of all literals of the unit clause but the implied one are assumed
-    others_assumed : (m : ℕ) → is_among (others_denied o c.literals) m ≡ true → is_among assumed m ≡ true
+    others_assumed : (m : ℕ) → is_among (negations_except o c.literals) m ≡ true → is_among assumed m ≡ true
     others_assumed m e =
         let n = from_negated (filter (λ x. not (eqb x o)) c.literals) m e in
         let b = from_but o c.literals n.literal n.within in
@@ -192,7 +192,7 @@ module _ (assumed : List ℕ) (c : StoredClause) (cs : List StoredClause) where
             go ih (inl s) = absurd (both_ways (is_among g.literals o) n (subst (λ x. is_among g.literals x.literal ≡ true) s ih))
             go ih (inr t) = (d.is_ground.literals (negated l)).1 (of_reason r l t ((d.is_ground.literals r.literal).0 ih) h e)
 
-    followed_taken : is_among g.literals o ≡ true → Followed assumed (c ∷ cs) (record { literals = others_denied o c.literals ++ g.literals; clauses = c ∷ g.clauses })
+    followed_taken : is_among g.literals o ≡ true → Followed assumed (c ∷ cs) (record { literals = negations_except o c.literals ++ g.literals; clauses = c ∷ g.clauses })
     unfolding this
     followed_taken n = record {
       is_ground = record {
@@ -200,25 +200,25 @@ module _ (assumed : List ℕ) (c : StoredClause) (cs : List StoredClause) where
         last = d.is_ground.last;
         passing = is_unit assumed c cs o d.is_ground.reasons d.is_ground.last u d.is_ground.passing;
         literals = λ m. (forth m, back m);
-        clauses = ap (λ xs. c ∷ xs) (d.is_ground.clauses ∙ ap (λ xs. map (λ r. r.clause) xs ++ d.is_ground.last ∷ []) (filter_same (keeps g.literals) (keeps (others_denied o c.literals ++ g.literals)) d.is_ground.reasons
-            (map_each (λ r. is_among assumed r.literal ≡ false) (λ r. keeps g.literals r ≡ keeps (others_denied o c.literals ++ g.literals) r) d.is_ground.reasons (λ r e. same r.literal e) fresh_still)))
-            ∙ ap (λ b. map (λ r. r.clause) (cond b (this ∷ filter (keeps (others_denied o c.literals ++ g.literals)) d.is_ground.reasons) (filter (keeps (others_denied o c.literals ++ g.literals)) d.is_ground.reasons)) ++ d.is_ground.last ∷ []) (sym (among_after (others_denied o c.literals) g.literals o n));
+        clauses = ap (λ xs. c ∷ xs) (d.is_ground.clauses ∙ ap (λ xs. map (λ r. r.clause) xs ++ d.is_ground.last ∷ []) (filter_same (keeps g.literals) (keeps (negations_except o c.literals ++ g.literals)) d.is_ground.reasons
+            (map_each (λ r. is_among assumed r.literal ≡ false) (λ r. keeps g.literals r ≡ keeps (negations_except o c.literals ++ g.literals) r) d.is_ground.reasons (λ r e. same r.literal e) fresh_still)))
+            ∙ ap (λ b. map (λ r. r.clause) (cond b (this ∷ filter (keeps (negations_except o c.literals ++ g.literals)) d.is_ground.reasons) (filter (keeps (negations_except o c.literals ++ g.literals)) d.is_ground.reasons)) ++ d.is_ground.last ∷ []) (sym (among_after (negations_except o c.literals) g.literals o n));
       };
       fresh = (u.not_true, fresh_still);
     }
       where
-        same : (m : ℕ) → is_among assumed m ≡ false → is_among g.literals m ≡ is_among (others_denied o c.literals ++ g.literals) m
+        same : (m : ℕ) → is_among assumed m ≡ false → is_among g.literals m ≡ is_among (negations_except o c.literals ++ g.literals) m
         same m e = go (is_among g.literals m) refl
           where
-            go : (b : Bool) → is_among g.literals m ≡ b → b ≡ is_among (others_denied o c.literals ++ g.literals) m
-            go true t = sym (among_after (others_denied o c.literals) g.literals m t)
-            go false t = sym (false_from_ne_true (is_among (others_denied o c.literals ++ g.literals) m) (λ k. elim (among_either (others_denied o c.literals) g.literals m k) [
+            go : (b : Bool) → is_among g.literals m ≡ b → b ≡ is_among (negations_except o c.literals ++ g.literals) m
+            go true t = sym (among_after (negations_except o c.literals) g.literals m t)
+            go false t = sym (false_from_ne_true (is_among (negations_except o c.literals ++ g.literals) m) (λ k. elim (among_either (negations_except o c.literals) g.literals m k) [
               | inl a ↦ both_ways (is_among assumed m) e (others_assumed m a)
               | inr b ↦ both_ways (is_among g.literals m) t b
             ]))
 
-        forth : (m : ℕ) → is_among (others_denied o c.literals ++ g.literals) m ≡ true → IsNeededLiteral (this ∷ d.is_ground.reasons) d.is_ground.last m
-        forth m e = elim (among_either (others_denied o c.literals) g.literals m e) [
+        forth : (m : ℕ) → is_among (negations_except o c.literals ++ g.literals) m ≡ true → IsNeededLiteral (this ∷ d.is_ground.reasons) d.is_ground.last m
+        forth m e = elim (among_either (negations_except o c.literals) g.literals m e) [
           | inl a ↦
               let k = from_negated (filter (λ x. not (eqb x o)) c.literals) m a in
               let b = from_but o c.literals k.literal k.within in
@@ -227,16 +227,16 @@ module _ (assumed : List ℕ) (c : StoredClause) (cs : List StoredClause) where
           | inr b ↦ still_needed this d.is_ground.reasons d.is_ground.last m ((d.is_ground.literals m).0 b)
         ]
 
-        back : (m : ℕ) → IsNeededLiteral (this ∷ d.is_ground.reasons) d.is_ground.last m → is_among (others_denied o c.literals ++ g.literals) m ≡ true
-        back m (of_last l k) = among_after (others_denied o c.literals) g.literals (negated l) ((d.is_ground.literals (negated l)).1 (of_last l k))
+        back : (m : ℕ) → IsNeededLiteral (this ∷ d.is_ground.reasons) d.is_ground.last m → is_among (negations_except o c.literals ++ g.literals) m ≡ true
+        back m (of_last l k) = among_after (negations_except o c.literals) g.literals (negated l) ((d.is_ground.literals (negated l)).1 (of_last l k))
         back m (of_reason r l k w h e) = go (back r.literal w) k
           where
-            go : is_among (others_denied o c.literals ++ g.literals) r.literal ≡ true → (r ≡ this) ⊎ IsOneOf r d.is_ground.reasons → is_among (others_denied o c.literals ++ g.literals) (negated l) ≡ true
-            go ih (inl s) = among_front (others_denied o c.literals) g.literals (negated l)
+            go : is_among (negations_except o c.literals ++ g.literals) r.literal ≡ true → (r ≡ this) ⊎ IsOneOf r d.is_ground.reasons → is_among (negations_except o c.literals ++ g.literals) (negated l) ≡ true
+            go ih (inl s) = among_front (negations_except o c.literals) g.literals (negated l)
                 (among_negated (filter (λ x. not (eqb x o)) c.literals) l (to_but o c.literals l (subst (λ x. is_among x.clause.literals l ≡ true) s h) (ne_eqb l o (λ q. e (q ∙ ap (λ x. x.literal) (sym s))))))
-            go ih (inr t) = elim (among_either (others_denied o c.literals) g.literals r.literal ih) [
+            go ih (inr t) = elim (among_either (negations_except o c.literals) g.literals r.literal ih) [
               | inl a ↦ absurd (both_ways (is_among assumed r.literal) (each_reason (λ x. is_among assumed x.literal ≡ false) d.is_ground.reasons r fresh_still t) (others_assumed r.literal a))
-              | inr b ↦ among_after (others_denied o c.literals) g.literals (negated l) ((d.is_ground.literals (negated l)).1 (of_reason r l t ((d.is_ground.literals r.literal).0 b) h e))
+              | inr b ↦ among_after (negations_except o c.literals) g.literals (negated l) ((d.is_ground.literals (negated l)).1 (of_reason r l t ((d.is_ground.literals r.literal).0 b) h e))
             ]
 
 abbrev Follow : List StoredClause → Type 0
@@ -244,14 +244,14 @@ Follow cs = (assumed : List ℕ) → walk assumed (literals_of cs) ≡ None → 
 
 pub followed : (cs : List StoredClause) (assumed : List ℕ) → AllByRecursion (λ c. NoRepeats c.literals) cs → walk assumed (literals_of cs) ≡ None → Followed assumed cs (conflict_causes assumed cs)
 followed [] assumed n e = absurd cc
-followed (c ∷ cs) assumed n e = go (λ m. followed cs m n.1) (verdict assumed c.literals) refl (verdict_says assumed c.literals) e
+followed (c ∷ cs) assumed n e = go (λ m. followed cs m n.1) (clause_state assumed c.literals) refl (verdict_says assumed c.literals) e
   where
     opened : Follow cs → (o : ℕ) → IsUnit assumed c.literals o → walk (o ∷ assumed) (literals_of cs) ≡ None → (b : Bool) → is_among (conflict_causes (o ∷ assumed) cs).literals o ≡ b
-        → Followed assumed (c ∷ cs) (cond b (record { literals = others_denied o c.literals ++ (conflict_causes (o ∷ assumed) cs).literals; clauses = c ∷ (conflict_causes (o ∷ assumed) cs).clauses }) (conflict_causes (o ∷ assumed) cs))
+        → Followed assumed (c ∷ cs) (cond b (record { literals = negations_except o c.literals ++ (conflict_causes (o ∷ assumed) cs).literals; clauses = c ∷ (conflict_causes (o ∷ assumed) cs).clauses }) (conflict_causes (o ∷ assumed) cs))
     opened ih o u w true k = followed_taken assumed c cs o u (conflict_causes (o ∷ assumed) cs) (ih (o ∷ assumed) w) k
     opened ih o u w false k = followed_left assumed c cs o u (conflict_causes (o ∷ assumed) cs) (ih (o ∷ assumed) w) k
 
-    go : Follow cs → (v : Verdict) → verdict assumed c.literals ≡ v → Says assumed c.literals v → and_then (walk_on v assumed) (λ more. walk more (literals_of cs)) ≡ None → Followed assumed (c ∷ cs) (causes_by v c assumed (λ more. conflict_causes more cs))
+    go : Follow cs → (v : ClauseState) → clause_state assumed c.literals ≡ v → Says assumed c.literals v → and_then (walk_on v assumed) (λ more. walk more (literals_of cs)) ≡ None → Followed assumed (c ∷ cs) (causes_by v c assumed (λ more. conflict_causes more cs))
     go ih falsified q s w = followed_conflict assumed c cs s
-    go ih (opens o) q s w = opened ih o s w (is_among (conflict_causes (o ∷ assumed) cs).literals o) refl
-    go ih rests q s w = followed_over assumed c cs (never_falsified assumed c.literals q) (never_unit assumed c.literals n.0 q) (conflict_causes assumed cs) (ih assumed w)
+    go ih (becomes_unit o) q s w = opened ih o s w (is_among (conflict_causes (o ∷ assumed) cs).literals o) refl
+    go ih neither q s w = followed_over assumed c cs (never_falsified assumed c.literals q) (never_unit assumed c.literals n.0 q) (conflict_causes assumed cs) (ih assumed w)

@@ -3,13 +3,13 @@ use Rattle.std.proofs.Common.{ℕ, ◌≡◌, Bool, true, false, cond, eqb, List
 use Rattle.std.proofs.lemmas.Bool.{both_ways, eqb-true}
 use Rattle.std.specs.List.{AllByRecursion, list_any}
 use Rattle.sat_base.specs.values.Literals.{negated}
-use Rattle.sat_checker.specs.LiteralSets.{is_among, is_part, canonical}
+use Rattle.sat_checker.specs.LiteralSets.{is_among, is_subset_of, canonical}
 use Rattle.sat_checker.specs.Propagation.{IsFalsified}
 use Rattle.sat_checker.specs.Stored.{StoredClause, StoredUnit, Last, NoneYet, Empty, UnitClause, LongClause, Stored, unit_literals}
 use Rattle.sat_checker.specs.Storing.{clause_numbered, unit_numbered, last_literals, settled_by}
 use Rattle.sat_checker.specs.Accepts.{IsStrictSubset, ready_after, stored_after}
 use Rattle.sat_checker.specs.announcements.Needed.{true_unit}
-use Rattle.sat_checker.specs.announcements.Announcements.{one, last_id, delayed}
+use Rattle.sat_checker.specs.announcements.Announcements.{option_to_list, last_id, delayed}
 use Rattle.sat_checker.specs.announcements.Promises.{IsOneOf, RestsOn, IsNoEmpty, DeletionsRest, NoticesInOrder}
 use Rattle.sat_checker.proofs.lemmas.sets.Canonical.{canonical_among}
 use Rattle.sat_checker.proofs.lemmas.sets.Subsets.{each_true, some_of}
@@ -48,14 +48,14 @@ signed id ls (c ∷ cs) e = go (signed id ls cs) (eqb c.id id) refl e
     go ih false s k = let w = ih k in record { clause = w.clause; stored = inr w.stored; id_is = w.id_is; literals_are = w.literals_are }
 
 -- if all literals of a clause are false, every part of it is falsified
-part_falsified : (part clause : List ℕ) → is_part part clause ≡ true → IsFalsified (map negated clause) part
+part_falsified : (part clause : List ℕ) → is_subset_of part clause ≡ true → IsFalsified (map negated clause) part
 part_falsified part clause e = go part (each_true (is_among clause) part e)
   where
     go : (ls : List ℕ) → AllByRecursion (λ l. is_among clause l ≡ true) ls → IsFalsified (map negated clause) ls
     go [] h = tt
     go (l ∷ ls) h = (among_negated clause l h.0, go ls h.1)
 
-by_unit : (f : Stored) (clause ls : List ℕ) (id : ℕ) → UnitNumbered f.units id ls → is_part ls clause ≡ true → RestsOn f clause (id ∷ [])
+by_unit : (f : Stored) (clause ls : List ℕ) (id : ℕ) → UnitNumbered f.units id ls → is_subset_of ls clause ≡ true → RestsOn f clause (id ∷ [])
 by_unit f clause ls id u p = record {
   units = u.unit ∷ [];
   clauses = [];
@@ -63,10 +63,10 @@ by_unit f clause ls id u p = record {
   units_stored = (u.stored, tt);
   clauses_stored = tt;
   increasing = (tt, tt);
-  conflict = part_falsified (u.unit.literal ∷ []) clause (subst (λ x. is_part x clause ≡ true) (sym u.literals_are) p);
+  conflict = part_falsified (u.unit.literal ∷ []) clause (subst (λ x. is_subset_of x clause ≡ true) (sym u.literals_are) p);
 }
 
-by_clause : (f : Stored) (clause ls : List ℕ) (id : ℕ) → ClauseNumbered f.clauses id ls → is_part ls clause ≡ true → RestsOn f clause (id ∷ [])
+by_clause : (f : Stored) (clause ls : List ℕ) (id : ℕ) → ClauseNumbered f.clauses id ls → is_subset_of ls clause ≡ true → RestsOn f clause (id ∷ [])
 by_clause f clause ls id c p = record {
   units = [];
   clauses = c.clause ∷ [];
@@ -74,10 +74,10 @@ by_clause f clause ls id c p = record {
   units_stored = tt;
   clauses_stored = (c.stored, tt);
   increasing = tt;
-  conflict = part_falsified c.clause.literals clause (subst (λ x. is_part x clause ≡ true) (sym c.literals_are) p);
+  conflict = part_falsified c.clause.literals clause (subst (λ x. is_subset_of x clause ≡ true) (sym c.literals_are) p);
 }
 
-by_last : (f : Stored) (clause : List ℕ) (last : Last) → IsStrictSubset (last_literals last f) clause → IsNoEmpty last → RestsOn f clause (one (last_id last))
+by_last : (f : Stored) (clause : List ℕ) (last : Last) → IsStrictSubset (last_literals last f) clause → IsNoEmpty last → RestsOn f clause (option_to_list (last_id last))
 by_last f clause NoneYet s n = absurd s
 by_last f clause (Empty id) s n = absurd (n id refl)
 by_last f clause (UnitClause id) s n = go (unit_numbered id f.units) refl s
@@ -94,7 +94,7 @@ by_last f clause (LongClause id) s n = go (clause_numbered id f.clauses) refl s
 pub deletions : DeletionsRest
 deletions steps clause ok = ((λ a. satisfied (true_unit (canonical clause) (ready_after steps).units) refl a.1), (λ a n. by_last (ready_after steps) clause (ready_after steps).last a.1 n))
   where
-    satisfied : (x : Option ℕ) → true_unit (canonical clause) (ready_after steps).units ≡ x → list_any (is_among (unit_literals (ready_after steps))) clause ≡ true → RestsOn (ready_after steps) clause (one x)
+    satisfied : (x : Option ℕ) → true_unit (canonical clause) (ready_after steps).units ≡ x → list_any (is_among (unit_literals (ready_after steps))) clause ≡ true → RestsOn (ready_after steps) clause (option_to_list x)
     satisfied (Some id) e h = rests_on_unit (ready_after steps) clause [] (sorted_ready steps) (means_ready steps ok).coherent.apart id e
     satisfied None e h =
         let s = some_of (is_among (unit_literals (ready_after steps))) clause h in

@@ -7,7 +7,7 @@ use Rattle.sat_checker.specs.LiteralSets.{is_among, is_tautology, canonical}
 use Rattle.sat_checker.specs.inner.Marks.{IsIncreasing, NoRepeats}
 use Rattle.sat_checker.specs.Stored.{StoredClause, StoredUnit, Stored, unit_literals}
 use Rattle.sat_checker.specs.Storing.{with_units}
-use Rattle.sat_checker.specs.Accepts.{VariablesApart, PassesByHashes, ready_after}
+use Rattle.sat_checker.specs.Accepts.{VariablesDistinct, PassesByHashes, ready_after}
 use Rattle.sat_checker.specs.announcements.Needed.{conflict_causes, clauses_named, conflict_ids, true_unit, unit_alone, propagations}
 use Rattle.sat_checker.specs.announcements.Promises.{IsOneOf, IsConflictCauses, PropagationsInTurn, ConflictIsFollowedBackwards}
 use Rattle.sat_checker.proofs.lemmas.sets.Canonical.{canonical_among}
@@ -54,7 +54,7 @@ module _ (f : Stored) (clause hashes : List ℕ) (sorted : Sorted f) where
       let ids : List ℕ = conflict_ids (map negated clause) (conflict_causes (map negated clause ++ unit_literals f) (clauses_named hashes f)) f.units in
       ap (λ b. cond b [] (unit_alone (true_unit (canonical clause) f.units) ids)) t ∙ ap (λ x. unit_alone x ids) (no_true_unit n)
 
-  is_exact : VariablesApart (unit_literals f) → PassesByHashes f clause hashes → is_tautology clause ≡ false → list_any (is_among (unit_literals f)) clause ≡ false → IsConflictCauses (map negated clause ++ unit_literals f) (clauses_named hashes f) (conflict_causes (map negated clause ++ unit_literals f) (clauses_named hashes f))
+  is_exact : VariablesDistinct (unit_literals f) → PassesByHashes f clause hashes → is_tautology clause ≡ false → list_any (is_among (unit_literals f)) clause ≡ false → IsConflictCauses (map negated clause ++ unit_literals f) (clauses_named hashes f) (conflict_causes (map negated clause ++ unit_literals f) (clauses_named hashes f))
   is_exact apart p t n =
       (followed (clauses_named hashes f) (map negated clause ++ unit_literals f) (each_named (λ c. NoRepeats c.literals) (clauses_named hashes f) (λ c k. once c.literals (one_holds (λ d. IsIncreasing d.literals) f.clauses c sorted.sets (named_stored hashes f c k))))
       (met f clause hashes sorted apart (no_unit n) t p)).is_ground

@@ -6,8 +6,8 @@ use Rattle.sat_base.specs.values.Literals.{negated}
 use Rattle.sat_checker.specs.LiteralSets.{is_among}
 use Rattle.sat_checker.specs.Propagation.{IsFalsified, IsUnit, UnitInTurn}
 use Rattle.sat_checker.specs.Stored.{StoredClause}
-use Rattle.sat_checker.specs.inner.Walk.{Verdict, falsified, opens, rests, verdict, verdict_of_open, not_false, walk, walk_on, and_then}
-use Rattle.sat_checker.specs.announcements.Needed.{ConflictCauses, others_denied, causes_by, conflict_causes}
+use Rattle.sat_checker.specs.inner.Walk.{ClauseState, falsified, becomes_unit, neither, clause_state, state_by_open, not_false, walk, walk_on, and_then}
+use Rattle.sat_checker.specs.announcements.Needed.{ConflictCauses, negations_except, causes_by, conflict_causes}
 use Rattle.sat_checker.proofs.lemmas.propagation.Greedy.{Within}
 use Rattle.sat_checker.proofs.lemmas.sets.Members.{each_at}
 use Rattle.sat_checker.proofs.lemmas.meaning.Clauses.{literals_of}
@@ -35,10 +35,10 @@ among_filter p (l ∷ ls) m e t = go (λ k. among_filter p ls m k t) (p l) refl 
     go ih false x (inr k) = ih k
 
 -- what the verdict on a clause says
-abbrev pub Says : List ℕ → List ℕ → Verdict → Type 0
+abbrev pub Says : List ℕ → List ℕ → ClauseState → Type 0
 Says assumed clause falsified = IsFalsified assumed clause
-Says assumed clause (opens l) = IsUnit assumed clause l
-Says assumed clause rests = Unit {0}
+Says assumed clause (becomes_unit l) = IsUnit assumed clause l
+Says assumed clause neither = Unit {0}
 
 abbrev IsFalse : List ℕ → ℕ → Type 0
 IsFalse assumed l = is_among assumed (negated l) ≡ true
@@ -75,14 +75,14 @@ one_left assumed (l ∷ ls) o e = go (one_left assumed ls o) (is_among assumed (
           others = (inl same, all_of ls (none_left assumed ls rest));
         }
 
-pub verdict_says : (assumed clause : List ℕ) → Says assumed clause (verdict assumed clause)
+pub verdict_says : (assumed clause : List ℕ) → Says assumed clause (clause_state assumed clause)
 verdict_says assumed clause = go (not_false assumed clause) refl
   where
-    marked : (o : ℕ) → not_false assumed clause ≡ o ∷ [] → (b : Bool) → is_among assumed o ≡ b → Says assumed clause (cond b rests (opens o))
+    marked : (o : ℕ) → not_false assumed clause ≡ o ∷ [] → (b : Bool) → is_among assumed o ≡ b → Says assumed clause (cond b neither (becomes_unit o))
     marked o e true m = tt
     marked o e false m = let k = one_left assumed clause o e in record { within = k.within; not_true = m; not_false = k.not_false; others = k.others }
 
-    go : (ls : List ℕ) → not_false assumed clause ≡ ls → Says assumed clause (verdict_of_open assumed ls)
+    go : (ls : List ℕ) → not_false assumed clause ≡ ls → Says assumed clause (state_by_open assumed ls)
     go [] e = none_left assumed clause e
     go (o ∷ []) e = marked o e (is_among assumed o) refl
     go (o ∷ p ∷ ls) e = tt
@@ -105,7 +105,7 @@ falsified_known : (known assumed clause : List ℕ) → Covers known assumed (ma
 falsified_known known assumed clause k f =
     each_from (λ l. is_among known (negated l) ≡ true) clause (λ m e. k.enough (negated m) (among_negated clause m e) (each_at (λ l. is_among assumed (negated l) ≡ true) clause m f e))
 
-unit_known : (known assumed clause following : List ℕ) (o : ℕ) → Covers known assumed (others_denied o clause ++ following) → IsUnit assumed clause o → IsUnit known clause o
+unit_known : (known assumed clause following : List ℕ) (o : ℕ) → Covers known assumed (negations_except o clause ++ following) → IsUnit assumed clause o → IsUnit known clause o
 unit_known known assumed clause following o k u = record {
   within = u.within;
   not_true = not_within known assumed o k.within u.not_true;
@@ -122,7 +122,7 @@ unit_known known assumed clause following o k u = record {
     other m e false s =
         elim (each_at (λ l. (l ≡ o) ⊎ (is_among assumed (negated l) ≡ true)) clause m u.others e) [
           | inl t ↦ inl t
-          | inr t ↦ inr (k.enough (negated m) (front (others_denied o clause) following (negated m) (among_negated (filter (λ x. not (eqb x o)) clause) m (among_filter (λ x. not (eqb x o)) clause m e (rw s refl)))) t)
+          | inr t ↦ inr (k.enough (negated m) (front (negations_except o clause) following (negated m) (among_negated (filter (λ x. not (eqb x o)) clause) m (among_filter (λ x. not (eqb x o)) clause m e (rw s refl)))) t)
         ]
 
 after_covers : (known assumed front following : List ℕ) (o : ℕ) → Covers known assumed (front ++ following) → Covers (o ∷ known) (o ∷ assumed) following
@@ -157,18 +157,18 @@ Run cs = (assumed known : List ℕ) → walk assumed (literals_of cs) ≡ None �
 -- the needed clauses are unit in turn, and the last is falsified
 pub grounds_run : (cs : List StoredClause) (assumed known : List ℕ) → walk assumed (literals_of cs) ≡ None → Covers known assumed (conflict_causes assumed cs).literals → UnitInTurn known (literals_of (conflict_causes assumed cs).clauses)
 grounds_run [] assumed known e k = absurd cc
-grounds_run (c ∷ cs) assumed known e k = go (grounds_run cs) (verdict assumed c.literals) (verdict_says assumed c.literals) e k
+grounds_run (c ∷ cs) assumed known e k = go (grounds_run cs) (clause_state assumed c.literals) (verdict_says assumed c.literals) e k
   where
     opened : Run cs → (o : ℕ) → IsUnit assumed c.literals o → walk (o ∷ assumed) (literals_of cs) ≡ None → (b : Bool) → is_among (conflict_causes (o ∷ assumed) cs).literals o ≡ b
-        → Covers known assumed (cond b (record { literals = others_denied o c.literals ++ (conflict_causes (o ∷ assumed) cs).literals; clauses = c ∷ (conflict_causes (o ∷ assumed) cs).clauses }) (conflict_causes (o ∷ assumed) cs)).literals
-        → Turns known (cond b (record { literals = others_denied o c.literals ++ (conflict_causes (o ∷ assumed) cs).literals; clauses = c ∷ (conflict_causes (o ∷ assumed) cs).clauses }) (conflict_causes (o ∷ assumed) cs))
+        → Covers known assumed (cond b (record { literals = negations_except o c.literals ++ (conflict_causes (o ∷ assumed) cs).literals; clauses = c ∷ (conflict_causes (o ∷ assumed) cs).clauses }) (conflict_causes (o ∷ assumed) cs)).literals
+        → Turns known (cond b (record { literals = negations_except o c.literals ++ (conflict_causes (o ∷ assumed) cs).literals; clauses = c ∷ (conflict_causes (o ∷ assumed) cs).clauses }) (conflict_causes (o ∷ assumed) cs))
     opened ih o u w true n k' =
         unit_front known c.literals o (literals_of (conflict_causes (o ∷ assumed) cs).clauses) (unit_known known assumed c.literals (conflict_causes (o ∷ assumed) cs).literals o k' u)
-        (ih (o ∷ assumed) (o ∷ known) w (after_covers known assumed (others_denied o c.literals) (conflict_causes (o ∷ assumed) cs).literals o k'))
+        (ih (o ∷ assumed) (o ∷ known) w (after_covers known assumed (negations_except o c.literals) (conflict_causes (o ∷ assumed) cs).literals o k'))
     opened ih o u w false n k' = ih (o ∷ assumed) known w (aside_covers known assumed (conflict_causes (o ∷ assumed) cs).literals o n k')
 
-    go : Run cs → (v : Verdict) → Says assumed c.literals v → and_then (walk_on v assumed) (λ more. walk more (literals_of cs)) ≡ None
+    go : Run cs → (v : ClauseState) → Says assumed c.literals v → and_then (walk_on v assumed) (λ more. walk more (literals_of cs)) ≡ None
         → Covers known assumed (causes_by v c assumed (λ more. conflict_causes more cs)).literals → Turns known (causes_by v c assumed (λ more. conflict_causes more cs))
     go ih falsified s w k' = falsified_known known assumed c.literals k' s
-    go ih (opens o) s w k' = opened ih o s w (is_among (conflict_causes (o ∷ assumed) cs).literals o) refl k'
-    go ih rests s w k' = ih assumed known w k'
+    go ih (becomes_unit o) s w k' = opened ih o s w (is_among (conflict_causes (o ∷ assumed) cs).literals o) refl k'
+    go ih neither s w k' = ih assumed known w k'

@@ -4,12 +4,12 @@ use Rattle.std.proofs.lemmas.Bool.{or_parts}
 use Rattle.std.specs.List.{AllByRecursion}
 use Rattle.sat_base.specs.values.Literals.{variable, negated}
 use Rattle.sat_base.specs.steps.Steps.{Redundant, Simplified, Satisfied, Step, SolverVarName, UserVarName, DeleteVar, AddClause, AtClause, UnitClauses, DeleteClause, Model, FailedAssumptions}
-use Rattle.sat_checker.specs.LiteralSets.{is_among, is_part, is_tautology, canonical, same_literals}
+use Rattle.sat_checker.specs.LiteralSets.{is_among, is_subset_of, is_tautology, canonical, same_literals}
 use Rattle.sat_checker.specs.Stored.{StoredClause, StoredUnit, Last, NoneYet, Empty, UnitClause, LongClause, Stored, is_unit}
-use Rattle.sat_checker.specs.Storing.{with_count, with_stored_clause, clause_with, without_count, unless_gone, without_clause, unit_id, first_conflict, with_unit, with_contradiction, with_new_unit, settled, settled_by, with_set, unit_at, long_at, place_of, with_canonical, with_stored, with_input, with_units, with_known, with_literals_known, clause_numbered, unit_numbered, last_literals}
+use Rattle.sat_checker.specs.Storing.{with_count, with_stored_clause, clause_with, without_count, unless_gone, without_clause, unit_id, first_conflict, with_unit, with_contradiction, with_new_unit, with_conflict_settled, settled_by, with_set, unit_at, long_at, place_of, with_canonical, with_stored, with_input, with_units, with_known, with_literals_known, clause_numbered, unit_numbered, last_literals}
 use Rattle.sat_checker.specs.Accepts.{IsStrictSubset, effect, stored_after, ready_after}
 use Rattle.sat_checker.specs.announcements.Needed.{propagations}
-use Rattle.sat_checker.specs.announcements.Announcements.{Announcement, id_of, id_of_set, input_set, input, derived_set, derived, derived_units, one, last_id, announced, delayed_by, delayed, Notice, notices_over, notices_after, all_notices_after}
+use Rattle.sat_checker.specs.announcements.Announcements.{Announcement, id_of, id_of_set, input_set, input, derived_set, derived, derived_units, option_to_list, last_id, announced, delayed_by, delayed, Notice, notices_over, notices_after, all_notices_after}
 use Rattle.sat_checker.specs.announcements.Announcements as announcements
 use Rattle.sat_checker.specs.announcements.Promises.{IsOneOf, IsAnnouncedAs, IsAnnounced, AreAnnounced, IdsAreAnnounced, ConflictIsAnnounced, SimplifiedIsAnnounced}
 use Rattle.sat_checker.proofs.lemmas.propagation.Soundness.{negated-negated}
@@ -270,7 +270,7 @@ module _ (reported : List Notice) where
   effect_announced (FailedAssumptions core hs) f n w a = a
   effect_announced step f n w a = aside f (effect step f) refl refl refl refl a
 
-  settled_announced : (f : Stored) → AreAnnounced f reported → AreAnnounced (settled f) reported
+  settled_announced : (f : Stored) → AreAnnounced f reported → AreAnnounced (with_conflict_settled f) reported
   settled_announced f a = go f.conflict
     where
       go : (x : Option (ℕ × ℕ)) → AreAnnounced (settled_by x f) reported
@@ -315,10 +315,10 @@ conflict_named steps id i j e = go f.conflict refl e
 
 -- there is one id, and a part of the clause was announced under it
 abbrev NamesPart : List Notice → List ℕ → List ℕ → Type 0
-NamesPart reported clause ids = (id : ℕ) × (part : List ℕ) × (ids ≡ id ∷ []) × (is_part part clause ≡ true) × IsAnnounced id part reported
+NamesPart reported clause ids = (id : ℕ) × (part : List ℕ) × (ids ≡ id ∷ []) × (is_subset_of part clause ≡ true) × IsAnnounced id part reported
 
 -- the last irredundant clause was announced under its id, if it is a part of the clause
-last_named : (f : Stored) (reported : List Notice) → AreAnnounced f reported → (clause : List ℕ) (last : Last) → f.last ≡ last → IsStrictSubset (last_literals last f) clause → NamesPart reported clause (one (last_id last))
+last_named : (f : Stored) (reported : List Notice) → AreAnnounced f reported → (clause : List ℕ) (last : Last) → f.last ≡ last → IsStrictSubset (last_literals last f) clause → NamesPart reported clause (option_to_list (last_id last))
 last_named f reported a clause NoneYet is s = absurd s
 last_named f reported a clause (Empty id) is s = (id, [], refl, s.0, a.last id is)
 last_named f reported a clause (UnitClause id) is s = go (unit_numbered id f.units) refl s

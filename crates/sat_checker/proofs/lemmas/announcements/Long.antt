@@ -5,7 +5,7 @@ use Rattle.sat_base.specs.values.Literals.{negated}
 use Rattle.sat_base.specs.steps.Steps.{Redundant, Simplified, Satisfied, Step, SolverVarName, UserVarName, AddClause, AtClause, UnitClauses, DeleteClause}
 use Rattle.sat_checker.specs.LiteralSets.{is_tautology, canonical, same_literals}
 use Rattle.sat_checker.specs.Stored.{StoredClause, Stored, is_unit}
-use Rattle.sat_checker.specs.Storing.{with_count, with_stored_clause, clause_with, without_count, unless_gone, without_clause, with_unit, with_contradiction, with_new_unit, settled, settled_by, with_set, with_canonical, with_stored, with_input, with_units, with_literals_known}
+use Rattle.sat_checker.specs.Storing.{with_count, with_stored_clause, clause_with, without_count, unless_gone, without_clause, with_unit, with_contradiction, with_new_unit, with_conflict_settled, settled_by, with_set, with_canonical, with_stored, with_input, with_units, with_literals_known}
 use Rattle.sat_checker.specs.Accepts.{effect, stored_after, ready_after}
 use Rattle.sat_checker.specs.listeners.AnnouncingView as announcing
 use Rattle.sat_checker.proofs.lemmas.meaning.Clauses.{same}
@@ -83,7 +83,7 @@ long_effect (DeleteClause c Satisfied) f h = long_without false (canonical c) f.
 long_effect (DeleteClause c Simplified) f h = long_without false (canonical c) f.clauses h
 long_effect step f h = h
 
-long_settled : (f : Stored) → EachLong f.clauses → EachLong (settled f).clauses
+long_settled : (f : Stored) → EachLong f.clauses → EachLong (with_conflict_settled f).clauses
 long_settled f h = go f.conflict
   where
     go : (x : Option (ℕ × ℕ)) → EachLong (settled_by x f).clauses
@@ -92,7 +92,7 @@ long_settled f h = go f.conflict
 
 long_after : (steps : List Step) → EachLong (stored_after steps).clauses
 long_after [] = tt
-long_after (step ∷ earlier) = long_effect step (settled (stored_after earlier)) (long_settled (stored_after earlier) (long_after earlier))
+long_after (step ∷ earlier) = long_effect step (with_conflict_settled (stored_after earlier)) (long_settled (stored_after earlier) (long_after earlier))
 
 no_unit : (l : ℕ) (cs : List StoredClause) → EachLong cs → clause_with (l ∷ []) cs ≡ None
 no_unit l [] h = refl

@@ -9,7 +9,7 @@ use Rattle.sat_checker.specs.announcements.Following.{followed_back}
 use Rattle.sat_checker.specs.declared.rup.passed.Reason as noted
 use Rattle.sat_checker.specs.LiteralSets.{is_among}
 use Rattle.sat_checker.specs.Stored.{StoredClause}
-use Rattle.sat_checker.specs.announcements.Needed.{ConflictCauses, others_denied, with_cause}
+use Rattle.sat_checker.specs.announcements.Needed.{ConflictCauses, negations_except, with_cause}
 use Rattle.sat_checker.specs.inner.NeededView.{IsFollowed}
 use Rattle.sat_checker.specs.inner.AssumedRoom.{AssumesOnce, LiteralsAndRoom, with_room}
 use Rattle.sat_checker.specs.inner.WalkNotes.{WalkNotes}
@@ -49,16 +49,16 @@ module _ (clause marked new all old : List ℕ) (i : ℕ) (inside : i < length c
   pub mark_next : MarksLeft (map negated (drop i clause)) marked all old → ((m : ℕ) → is_among new m ≡ (eqb (negated (get_or clause i 0)) m || is_among marked m)) → MarksLeft (map negated (drop (i + 1) clause)) new all old
   mark_next h k = mark_one (negated (get_or clause i 0)) (map negated (drop (i + 1) clause)) marked new all old (subst (λ xs. MarksLeft (map negated xs) marked all old) (drop_more clause i 0 inside) h) k
 
-  pub mark_other : (o : ℕ) → MarksLeft (others_denied o (drop i clause)) marked all old → eqb (get_or clause i 0) o ≡ false → ((m : ℕ) → is_among new m ≡ (eqb (negated (get_or clause i 0)) m || is_among marked m)) → MarksLeft (others_denied o (drop (i + 1) clause)) new all old
+  pub mark_other : (o : ℕ) → MarksLeft (negations_except o (drop i clause)) marked all old → eqb (get_or clause i 0) o ≡ false → ((m : ℕ) → is_among new m ≡ (eqb (negated (get_or clause i 0)) m || is_among marked m)) → MarksLeft (negations_except o (drop (i + 1) clause)) new all old
   mark_other o h d k =
-      let here : others_denied o (drop i clause) ≡ negated (get_or clause i 0) ∷ others_denied o (drop (i + 1) clause) =
-      ap (others_denied o) (drop_more clause i 0 inside) ∙ ap (λ b. map negated (cond (not b) (get_or clause i 0 ∷ filter (λ m. not (eqb m o)) (drop (i + 1) clause)) (filter (λ m. not (eqb m o)) (drop (i + 1) clause)))) d in
-      mark_one (negated (get_or clause i 0)) (others_denied o (drop (i + 1) clause)) marked new all old (subst (λ xs. MarksLeft xs marked all old) here h) k
+      let here : negations_except o (drop i clause) ≡ negated (get_or clause i 0) ∷ negations_except o (drop (i + 1) clause) =
+      ap (negations_except o) (drop_more clause i 0 inside) ∙ ap (λ b. map negated (cond (not b) (get_or clause i 0 ∷ filter (λ m. not (eqb m o)) (drop (i + 1) clause)) (filter (λ m. not (eqb m o)) (drop (i + 1) clause)))) d in
+      mark_one (negated (get_or clause i 0)) (negations_except o (drop (i + 1) clause)) marked new all old (subst (λ xs. MarksLeft xs marked all old) here h) k
 
-  pub mark_open : (o : ℕ) → MarksLeft (others_denied o (drop i clause)) marked all old → eqb (get_or clause i 0) o ≡ true → MarksLeft (others_denied o (drop (i + 1) clause)) marked all old
+  pub mark_open : (o : ℕ) → MarksLeft (negations_except o (drop i clause)) marked all old → eqb (get_or clause i 0) o ≡ true → MarksLeft (negations_except o (drop (i + 1) clause)) marked all old
   mark_open o h d =
-      let here : others_denied o (drop i clause) ≡ others_denied o (drop (i + 1) clause) =
-      ap (others_denied o) (drop_more clause i 0 inside) ∙ ap (λ b. map negated (cond (not b) (get_or clause i 0 ∷ filter (λ m. not (eqb m o)) (drop (i + 1) clause)) (filter (λ m. not (eqb m o)) (drop (i + 1) clause)))) d in
+      let here : negations_except o (drop i clause) ≡ negations_except o (drop (i + 1) clause) =
+      ap (negations_except o) (drop_more clause i 0 inside) ∙ ap (λ b. map negated (cond (not b) (get_or clause i 0 ∷ filter (λ m. not (eqb m o)) (drop (i + 1) clause)) (filter (λ m. not (eqb m o)) (drop (i + 1) clause)))) d in
       subst (λ xs. MarksLeft xs marked all old) here h
 
 pub ruleset marking = (mark_next, mark_other, mark_open)
@@ -82,11 +82,11 @@ begins ss place needed marked e h k = record {
 
 module _ (old new : Needed) (c : StoredClause) (l : ℕ) (g : ConflictCauses) (f : IsFollowed old g) where
   pub not_needed : is_among old.marked.literals l ≡ false → IsFollowed old (with_cause l c g)
-  not_needed n = subst (λ b. IsFollowed old (cond b (record { literals = others_denied l c.literals ++ g.literals; clauses = c ∷ g.clauses }) g)) (sym (sym (f.marked l) ∙ n)) f
+  not_needed n = subst (λ b. IsFollowed old (cond b (record { literals = negations_except l c.literals ++ g.literals; clauses = c ∷ g.clauses }) g)) (sym (sym (f.marked l) ∙ n)) f
 
-  pub is_needed : is_among old.marked.literals l ≡ true → ((m : ℕ) → is_among new.marked.literals m ≡ (is_among (others_denied l c.literals) m || is_among old.marked.literals m)) → new.ids.items ≡ old.ids.items ++ c.id ∷ [] → IsFollowed new (with_cause l c g)
-  is_needed t h k = subst (λ b. IsFollowed new (cond b (record { literals = others_denied l c.literals ++ g.literals; clauses = c ∷ g.clauses }) g)) (sym (sym (f.marked l) ∙ t)) (record {
-    marked = λ m. h m ∙ ap (λ b. is_among (others_denied l c.literals) m || b) (f.marked m) ∙ sym (among-append (others_denied l c.literals) g.literals m);
+  pub is_needed : is_among old.marked.literals l ≡ true → ((m : ℕ) → is_among new.marked.literals m ≡ (is_among (negations_except l c.literals) m || is_among old.marked.literals m)) → new.ids.items ≡ old.ids.items ++ c.id ∷ [] → IsFollowed new (with_cause l c g)
+  is_needed t h k = subst (λ b. IsFollowed new (cond b (record { literals = negations_except l c.literals ++ g.literals; clauses = c ∷ g.clauses }) g)) (sym (sym (f.marked l) ∙ t)) (record {
+    marked = λ m. h m ∙ ap (λ b. is_among (negations_except l c.literals) m || b) (f.marked m) ∙ sym (among-append (negations_except l c.literals) g.literals m);
     ids = k ∙ ap (λ xs. xs ++ c.id ∷ []) f.ids ∙ sym (reverse_more c.id (map (λ x. x.id) g.clauses));
   })
     where

@@ -7,7 +7,7 @@ use Rattle.sat_checker.specs.Looks.{total_length}
 use Rattle.sat_checker.specs.Stored.{StoredClause}
 use Rattle.sat_base.specs.values.Literals.{negated}
 use Rattle.sat_checker.specs.LiteralSets.{is_among, is_tautology}
-use Rattle.sat_checker.specs.inner.Walk.{Verdict, falsified, opens, rests, verdict, verdict_of_open, not_false, denied_in_turn}
+use Rattle.sat_checker.specs.inner.Walk.{ClauseState, falsified, becomes_unit, neither, clause_state, state_by_open, not_false, denied_in_turn}
 use Rattle.sat_checker.specs.announcements.Needed.{with_cause, causes_by, conflict_causes}
 use Rattle.sat_checker.specs.announcements.Following.{followed_back}
 use Rattle.sat_checker.specs.inner.SlotView.{Slot, slot_at, literals_at, is_filed, places_from, places_of}
@@ -28,7 +28,7 @@ length_push ss (x ∷ xs) r = let e : total_length (map (λ y. literals_at ss y.
 
 -- the notes after one clause, by its verdict
 module _ (ss : List Slot) (old new : WalkNotes) (assumed : List ℕ) (place : ℕ) (inside : place < length ss) where
-  pub leads_open : (l : ℕ) → verdict assumed (literals_at ss place) ≡ opens l → new.reasons ≡ old.reasons ++ (record { place = place; lit = l }) ∷ [] → KeepsGround ss old assumed (clause_at ss place ∷ []) new (l ∷ assumed) []
+  pub leads_open : (l : ℕ) → clause_state assumed (literals_at ss place) ≡ becomes_unit l → new.reasons ≡ old.reasons ++ (record { place = place; lit = l }) ∷ [] → KeepsGround ss old assumed (clause_at ss place ∷ []) new (l ∷ assumed) []
   leads_open l v e =
       let r : noted.Reason = record { place = place; lit = l } in
       let notes : reasons_in ss new ≡ reasons_in ss old ++ reason_in ss r ∷ [] = ap (map (reason_in ss)) e ∙ map-append (reason_in ss) old.reasons (r ∷ []) in
@@ -38,13 +38,13 @@ module _ (ss : List Slot) (old new : WalkNotes) (assumed : List ℕ) (place : �
         there = λ h. subst (AllByRecursion (λ x. x.place < length ss)) (sym e) (all_push (λ x. x.place < length ss) old.reasons r h inside);
       }
 
-  pub leads_over : verdict assumed (literals_at ss place) ≡ rests → KeepsGround ss old assumed (clause_at ss place ∷ []) old assumed []
+  pub leads_over : clause_state assumed (literals_at ss place) ≡ neither → KeepsGround ss old assumed (clause_at ss place ∷ []) old assumed []
   leads_over v = record {
     same = λ rest. passed_over (followed_back (reasons_in ss old) (conflict_causes assumed (clause_at ss place ∷ rest))) (reasons_in ss old) assumed (clause_at ss place) rest refl v;
     there = λ h. h;
   }
 
-  pub ends_there : verdict assumed (literals_at ss place) ≡ falsified → new.reasons ≡ old.reasons → new.conflict ≡ Some place → MeetsConflict ss old assumed (clause_at ss place ∷ []) new
+  pub ends_there : clause_state assumed (literals_at ss place) ≡ falsified → new.reasons ≡ old.reasons → new.conflict ≡ Some place → MeetsConflict ss old assumed (clause_at ss place ∷ []) new
   ends_there v e k = record {
     same = λ rest. passed_conflict (followed_back (reasons_in ss old) (conflict_causes assumed (clause_at ss place ∷ rest))) (reasons_in ss old) assumed (clause_at ss place) rest refl v
         ∙ ap (λ rs. followed_back (map (reason_in ss) rs) (conflict_at ss (Some place))) (sym e) ∙ ap (λ c. followed_back (reasons_in ss new) (conflict_at ss c)) (sym k);
@@ -157,21 +157,21 @@ not_false_same us vs [] same = refl
 not_false_same us vs (l ∷ ls) same =
     ap (λ b. cond (not b) (l ∷ not_false us ls) (not_false us ls)) (same (negated l)) ∙ ap (λ xs. cond (not (is_among vs (negated l))) (l ∷ xs) xs) (not_false_same us vs ls same)
 
-open_same : (us vs ls : List ℕ) → SameMembers us vs → verdict_of_open us ls ≡ verdict_of_open vs ls
+open_same : (us vs ls : List ℕ) → SameMembers us vs → state_by_open us ls ≡ state_by_open vs ls
 open_same us vs [] same = refl
-open_same us vs (l ∷ []) same = ap (λ b. cond b rests (opens l)) (same l)
+open_same us vs (l ∷ []) same = ap (λ b. cond b neither (becomes_unit l)) (same l)
 open_same us vs (l ∷ m ∷ ls) same = refl
 
 pub ground_same : (cs : List StoredClause) (us vs : List ℕ) → ((l : ℕ) → is_among us l ≡ is_among vs l) → conflict_causes us cs ≡ conflict_causes vs cs
 ground_same [] us vs same = refl
 ground_same (c ∷ cs) us vs same =
-    ap (λ v. causes_by v c us (λ more. conflict_causes more cs)) (ap (verdict_of_open us) (not_false_same us vs c.literals same) ∙ open_same us vs (not_false vs c.literals) same)
-    ∙ go (ground_same cs) (verdict vs c.literals)
+    ap (λ v. causes_by v c us (λ more. conflict_causes more cs)) (ap (state_by_open us) (not_false_same us vs c.literals same) ∙ open_same us vs (not_false vs c.literals) same)
+    ∙ go (ground_same cs) (clause_state vs c.literals)
   where
-    go : ((xs ys : List ℕ) → SameMembers xs ys → conflict_causes xs cs ≡ conflict_causes ys cs) → (v : Verdict) → causes_by v c us (λ more. conflict_causes more cs) ≡ causes_by v c vs (λ more. conflict_causes more cs)
+    go : ((xs ys : List ℕ) → SameMembers xs ys → conflict_causes xs cs ≡ conflict_causes ys cs) → (v : ClauseState) → causes_by v c us (λ more. conflict_causes more cs) ≡ causes_by v c vs (λ more. conflict_causes more cs)
     go ih falsified = refl
-    go ih (opens l) = ap (with_cause l c) (ih (l ∷ us) (l ∷ vs) (λ m. ap (λ b. eqb l m || b) (same m)))
-    go ih rests = ih us vs same
+    go ih (becomes_unit l) = ap (with_cause l c) (ih (l ∷ us) (l ∷ vs) (λ m. ap (λ b. eqb l m || b) (same m)))
+    go ih neither = ih us vs same
 
 both_same : (a b : Bool) → (a ≡ true → b ≡ true) → (b ≡ true → a ≡ true) → a ≡ b
 both_same true b f g = sym (f refl)

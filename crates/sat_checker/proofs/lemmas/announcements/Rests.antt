@@ -8,8 +8,8 @@ use Rattle.sat_checker.specs.inner.Marks.{IsIncreasing, NoRepeats}
 use Rattle.sat_checker.specs.Propagation.{UnitInTurn, tautology, unit_true, conflict, clauses_in}
 use Rattle.sat_checker.specs.Stored.{StoredClause, StoredUnit, Stored, unit_literals, hash_by, bucket}
 use Rattle.sat_checker.specs.Storing.{unit_id}
-use Rattle.sat_checker.specs.Accepts.{VariablesApart, PassesByHashes}
-use Rattle.sat_checker.specs.inner.Walk.{Verdict, falsified, opens, rests, verdict, walk, walk_on, and_then, walk_buckets, if_conflict}
+use Rattle.sat_checker.specs.Accepts.{VariablesDistinct, PassesByHashes}
+use Rattle.sat_checker.specs.inner.Walk.{ClauseState, falsified, becomes_unit, neither, clause_state, walk, walk_on, and_then, walk_buckets, if_conflict}
 use Rattle.sat_checker.specs.announcements.Needed.{ConflictCauses, causes_by, conflict_causes, clauses_named, needed_units, conflict_ids, or_else, true_unit, unit_alone, propagations}
 use Rattle.sat_checker.specs.announcements.Promises.{IsOneOf, RestsOn, TautologiesRestOnNothing}
 use Rattle.sat_checker.proofs.lemmas.sets.Order.{among-append}
@@ -56,7 +56,7 @@ still_open known u (w ∷ ws) o n = (
     later true e = absurd (true≢false e)
     later false e = e
 
-units_run : (us : List StoredUnit) (known : List ℕ) (rest : List (List ℕ)) → AreOpen known us → VariablesApart (literals_in us) → UnitInTurn (pushed us known) rest → UnitInTurn known (map (λ u. u.literal ∷ []) us ++ rest)
+units_run : (us : List StoredUnit) (known : List ℕ) (rest : List (List ℕ)) → AreOpen known us → VariablesDistinct (literals_in us) → UnitInTurn (pushed us known) rest → UnitInTurn known (map (λ u. u.literal ∷ []) us ++ rest)
 units_run [] known rest o p r = r
 units_run (u ∷ us) known rest o p r =
     unit_front known (u.literal ∷ []) u.literal (map (λ w. w.literal ∷ []) us ++ rest)
@@ -98,11 +98,11 @@ module _ (p : StoredUnit → Bool) where
       go ih true false s k = rw s (ih k)
       go ih false false s k = ih k
 
-  few_apart : (us : List StoredUnit) → VariablesApart (literals_in us) → VariablesApart (literals_in (filter p us))
+  few_apart : (us : List StoredUnit) → VariablesDistinct (literals_in us) → VariablesDistinct (literals_in (filter p us))
   few_apart [] h = tt
   few_apart (u ∷ us) h = go (few_apart us h.1) (p u)
     where
-      go : VariablesApart (literals_in (filter p us)) → (b : Bool) → VariablesApart (literals_in (cond b (u ∷ filter p us) (filter p us)))
+      go : VariablesDistinct (literals_in (filter p us)) → (b : Bool) → VariablesDistinct (literals_in (cond b (u ∷ filter p us) (filter p us)))
       go ih true = (few_mention (variable u.literal) us h.0, ih)
       go ih false = ih
 
@@ -200,7 +200,7 @@ named_clauses (h ∷ hs) f =
 
 walk_both : (xs ys : List (List ℕ)) (assumed : List ℕ) → walk assumed (xs ++ ys) ≡ and_then (walk assumed xs) (λ more. walk more ys)
 walk_both [] ys assumed = refl
-walk_both (c ∷ cs) ys assumed = go (walk_both cs ys) (walk_on (verdict assumed c) assumed)
+walk_both (c ∷ cs) ys assumed = go (walk_both cs ys) (walk_on (clause_state assumed c) assumed)
   where
     go : ((m : List ℕ) → walk m (cs ++ ys) ≡ and_then (walk m cs) (λ more. walk more ys)) → (o : Option (List ℕ)) → and_then o (λ m. walk m (cs ++ ys)) ≡ and_then (and_then o (λ m. walk m cs)) (λ more. walk more ys)
     go ih None = refl
@@ -251,16 +251,16 @@ named_stored (k ∷ ks) f c h =
 
 grounds_among : (P : StoredClause → Type 0) (cs : List StoredClause) (assumed : List ℕ) → ((c : StoredClause) → IsOneOf c cs → P c) → AllByRecursion P (conflict_causes assumed cs).clauses
 grounds_among P [] assumed h = tt
-grounds_among P (c ∷ cs) assumed h = go (λ m. grounds_among P cs m (λ d k. h d (inr k))) (verdict assumed c.literals)
+grounds_among P (c ∷ cs) assumed h = go (λ m. grounds_among P cs m (λ d k. h d (inr k))) (clause_state assumed c.literals)
   where
     opened : (o : ℕ) (g : ConflictCauses) → AllByRecursion P g.clauses → (b : Bool) → AllByRecursion P (cond b (record { literals = map negated (filter (λ m. not (eqb m o)) c.literals) ++ g.literals; clauses = c ∷ g.clauses }) g).clauses
     opened o g ih true = (h c (inl refl), ih)
     opened o g ih false = ih
 
-    go : ((m : List ℕ) → AllByRecursion P (conflict_causes m cs).clauses) → (v : Verdict) → AllByRecursion P (causes_by v c assumed (λ more. conflict_causes more cs)).clauses
+    go : ((m : List ℕ) → AllByRecursion P (conflict_causes m cs).clauses) → (v : ClauseState) → AllByRecursion P (causes_by v c assumed (λ more. conflict_causes more cs)).clauses
     go ih falsified = (h c (inl refl), tt)
-    go ih (opens o) = opened o (conflict_causes (o ∷ assumed) cs) (ih (o ∷ assumed)) (is_among (conflict_causes (o ∷ assumed) cs).literals o)
-    go ih rests = ih assumed
+    go ih (becomes_unit o) = opened o (conflict_causes (o ∷ assumed) cs) (ih (o ∷ assumed)) (is_among (conflict_causes (o ∷ assumed) cs).literals o)
+    go ih neither = ih assumed
 
 unnegated : (ls : List ℕ) (m : ℕ) → is_among (map negated ls) (negated m) ≡ true → is_among ls m ≡ true
 unnegated [] m e = e
@@ -293,7 +293,7 @@ each_imp P Q [] w h = tt
 each_imp P Q (u ∷ us) w h = (w u h.0, each_imp P Q us w h.1)
 
 -- if no unit satisfies the clause and the walk meets a conflict, the clause rests on its causes
-module _ (f : Stored) (clause hashes : List ℕ) (sorted : Sorted f) (apart : VariablesApart (unit_literals f)) where
+module _ (f : Stored) (clause hashes : List ℕ) (sorted : Sorted f) (apart : VariablesDistinct (unit_literals f)) where
   rests_on_conflict : ((m : ℕ) → is_among clause m ≡ true → is_among (unit_literals f) m ≡ false) → walk (map negated clause ++ unit_literals f) (literals_of (clauses_named hashes f)) ≡ None
       → RestsOn f clause (conflict_ids (map negated clause) (conflict_causes (map negated clause ++ unit_literals f) (clauses_named hashes f)) f.units)
   rests_on_conflict none e =

@@ -6,7 +6,7 @@ use Rattle.sat_base.specs.steps.Steps.{Redundant, Simplified, Satisfied, Step, S
 use Rattle.sat_checker.specs.LiteralSets.{is_tautology, canonical, same_literals}
 use Rattle.sat_checker.specs.inner.Marks.{IsIncreasing}
 use Rattle.sat_checker.specs.Stored.{StoredClause, StoredUnit, Stored, is_unit}
-use Rattle.sat_checker.specs.Storing.{with_count, with_stored_clause, clause_with, without_count, unless_gone, without_clause, with_unit, with_contradiction, with_new_unit, settled, settled_by, with_long, with_set, with_canonical, with_stored, with_input, with_units, with_literals_known}
+use Rattle.sat_checker.specs.Storing.{with_count, with_stored_clause, clause_with, without_count, unless_gone, without_clause, with_unit, with_contradiction, with_new_unit, with_conflict_settled, settled_by, with_long, with_set, with_canonical, with_stored, with_input, with_units, with_literals_known}
 use Rattle.sat_checker.specs.Accepts.{effect, stored_after, ready_after}
 use Rattle.sat_checker.proofs.lemmas.sets.Canonical.{canonical_increasing}
 use Rattle.sat_checker.proofs.lemmas.meaning.Orderly.{below_more, increasing_push}
@@ -158,7 +158,7 @@ sorted_effect (Model ls) f s = sorted_known ls f s
 sorted_effect (FailedAssumptions c hs) f s = s
 sorted_effect step f s = aside f (effect step f) refl refl (λ k h. h) s
 
-sorted_settled : (f : Stored) → Sorted f → Sorted (settled f)
+sorted_settled : (f : Stored) → Sorted f → Sorted (with_conflict_settled f)
 sorted_settled f s = go f.conflict
   where
     go : (x : Option (ℕ × ℕ)) → Sorted (settled_by x f)
@@ -167,7 +167,7 @@ sorted_settled f s = go f.conflict
 
 sorted_after : (steps : List Step) → Sorted (stored_after steps)
 sorted_after [] = record { sets = tt; increasing = tt; below = tt }
-sorted_after (step ∷ earlier) = sorted_effect step (settled (stored_after earlier)) (sorted_settled (stored_after earlier) (sorted_after earlier))
+sorted_after (step ∷ earlier) = sorted_effect step (with_conflict_settled (stored_after earlier)) (sorted_settled (stored_after earlier) (sorted_after earlier))
 
 pub sorted_ready : (steps : List Step) → Sorted (ready_after steps)
 sorted_ready steps = sorted_settled (stored_after steps) (sorted_after steps)

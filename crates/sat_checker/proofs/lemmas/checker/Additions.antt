@@ -3,7 +3,7 @@ use Rattle.std.proofs.Common.{ℕ, ◌+◌, ◌≤◌, ◌≡◌, Bool, true, fa
 use Rattle.std.proofs.lemmas.List.{append-nil}
 use Rattle.sat_base.specs.steps.Steps.{Step, AddClause}
 use Rattle.sat_checker.specs.Stored.{Stored}
-use Rattle.sat_checker.specs.Storing.{settled, settled_by}
+use Rattle.sat_checker.specs.Storing.{with_conflict_settled, settled_by}
 use Rattle.sat_checker.specs.Accepts.{MayBeAdded, ready_after}
 use Rattle.sat_checker.specs.Looks.{most_looks}
 use Rattle.sat_checker.specs.KernelView.{LooksAtMost, KeepsAfter}
@@ -14,7 +14,7 @@ use Rattle.sat_checker.specs.announcements.Announcements.{Notice}
 use Rattle.sat_checker.specs.declared.processing.ProcessingError.{ProcessingError}
 use Rattle.sat_checker.specs.declared.error.CheckerError.{CheckerError}
 use Rattle.sat_checker.specs.declared.error.CheckerError.TheVariants as errors
-use Rattle.sat_checker.specs.declared.state.State.{State}
+use Rattle.sat_checker.specs.declared.state.CheckerState.{CheckerState}
 use Rattle.sat_checker.proofs.lemmas.checker.Proofs.{taken_one, looks_one, looks_more}
 use Rattle.sat_checker.proofs.lemmas.listeners.Settling.{ready_of}
 
@@ -29,14 +29,14 @@ cost_one : (cs : List (List ℕ)) (c : List ℕ) (earlier : List Step) → most_
 cost_one cs c earlier = ap (λ (z : List Step). most_looks_after z earlier) (additions_one cs c) ∙ looks_one (additions cs) (AddClause c) earlier
 
 -- a clause that may be added may still be added after a unit conflict is settled
-may_settle : (f : Stored) (c : List ℕ) → MayBeAdded f c → MayBeAdded (settled f) c
+may_settle : (f : Stored) (c : List ℕ) → MayBeAdded f c → MayBeAdded (with_conflict_settled f) c
 may_settle f c h = go f.conflict
   where
     go : (x : Option (ℕ × ℕ)) → MayBeAdded (settled_by x f) c
     go None = h
     go (Some units) = h
 
-pub may_add : (state : State) (steps : List Step) (kept : KeepsAfter state steps) (c : List ℕ) → MayBeAdded kept.formula c → MayBeAdded (ready_after steps) c
+pub may_add : (state : CheckerState) (steps : List Step) (kept : KeepsAfter state steps) (c : List ℕ) → MayBeAdded kept.formula c → MayBeAdded (ready_after steps) c
 may_add state steps kept c h = subst (λ f. MayBeAdded f c) (ready_of state steps kept) (may_settle kept.formula c h)
 
 module _ {L : Type 0} (Hears : L → Notice → Result Unit ProcessingError → L → Type 0) (before : List Notice) (begun : L) where

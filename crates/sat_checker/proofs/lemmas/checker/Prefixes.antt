@@ -4,9 +4,9 @@ use Rattle.std.specs.Prelude.{nat_eq, ◌||◌}
 use Rattle.std.proofs.lemmas.List.{append-nil}
 use Rattle.std.proofs.lemmas.Bool.Decides.{nat_tests}
 use Rattle.sat_base.specs.text.Text.{is_blank, Token, Scan, scan}
-use Rattle.sat_base.specs.text.Position.{Stage, Begun, stage_end, stage_after, Position, Fresh, Leading, Comment, Between, Within, HeaderBetween, HeaderWithin, Spoilt, Over, IsPosition, left, in_hand, after_LF, lines_after, after_header_word, following_blank, ended_by_blank, onto}
-use Rattle.sat_base.specs.text.Tokenizing.{HoldsNoWord}
-use Rattle.sat_base.specs.dimacs.Dimacs.{Hand, Turn, GoesOn, Ends, Fails, Dimacs, turn, after_turn, clauses_of, dimacs, has_blank, up_to_last_blank}
+use Rattle.sat_base.specs.text.Position.{Stage, Begun, stage_end, stage_after, Position, Fresh, Leading, Comment, Between, Within, HeaderBetween, HeaderWithin, Spoilt, Over, IsPosition, remaining_scan, unfinished_token, after_LF, lines_after, after_header_word, following_blank, ended_by_blank, prepend_tokens}
+use Rattle.sat_base.specs.text.Tokenizing.{HasNoNumberOrLetter}
+use Rattle.sat_base.specs.dimacs.Dimacs.{PartialClause, TokenEffect, GoesOn, Ends, Fails, Dimacs, token_effect, after_token_effect, clauses_of, dimacs, has_blank, up_to_last_blank}
 use Rattle.sat_base.proofs.lemmas.text.Positions.{Solid-more, start, LF_left, fresh_leads, blank_left, leading_comment, leading_end, leading_header, leading_late_header, leading_word, comment_more, between_word, within_more, header_between_word, header_within_more, spoilt_more, over_more, end_left}
 use Rattle.sat_base.proofs.lemmas.text.TextRuns.{QuietTokens, of_header}
 use Rattle.sat_base.proofs.lemmas.dimacs.Collected.{clauses_of_cons, dimacs_is, quiet_clauses}
@@ -21,13 +21,13 @@ record Stepped (spot : Position) (n b : ℕ) : Type 0 where
   next : Position
   lines : ℕ
   good : IsPosition next
-  leaves : (rest : List ℕ) → left spot n (b ∷ rest) ≡ onto gives (left next lines rest)
+  leaves : (rest : List ℕ) → remaining_scan spot n (b ∷ rest) ≡ prepend_tokens gives (remaining_scan next lines rest)
 
 LF_good : (spot : Position) → IsPosition (after_LF spot)
 LF_good (Fresh may) = tt
 LF_good e = tt
 
-LF_quiet : (spot : Position) (n : ℕ) → in_hand (after_LF spot) n ≡ []
+LF_quiet : (spot : Position) (n : ℕ) → unfinished_token (after_LF spot) n ≡ []
 LF_quiet (Fresh may) n = refl
 LF_quiet e n = refl
 
@@ -35,7 +35,7 @@ header_good : (o : Option Stage) → IsPosition (after_header_word o)
 header_good None = tt
 header_good (Some stage) = tt
 
-header_quiet : (o : Option Stage) (n : ℕ) → QuietTokens (in_hand (after_header_word o) n)
+header_quiet : (o : Option Stage) (n : ℕ) → QuietTokens (unfinished_token (after_header_word o) n)
 header_quiet None n = inl refl
 header_quiet (Some stage) n = inr (n + 1, stage_end stage, of_header stage, refl)
 
@@ -43,7 +43,7 @@ blank_good : (spot : Position) → IsPosition (following_blank spot)
 blank_good (HeaderWithin stage x w) = header_good (stage_after stage (x ∷ w))
 blank_good e = tt
 
-blank_quiet : (spot : Position) (n : ℕ) → QuietTokens (in_hand (following_blank spot) n)
+blank_quiet : (spot : Position) (n : ℕ) → QuietTokens (unfinished_token (following_blank spot) n)
 blank_quiet (HeaderBetween stage) n = inr (n + 1, stage_end stage, of_header stage, refl)
 blank_quiet (HeaderWithin stage x w) n = header_quiet (stage_after stage (x ∷ w)) n
 blank_quiet e n = inl refl
@@ -51,18 +51,18 @@ blank_quiet e n = inl refl
 -- a blank ends the current word
 record Blanked (spot : Position) (n b : ℕ) : Type 0 where
   step : Stepped spot n b
-  quiet : QuietTokens (in_hand step.next step.lines)
+  quiet : QuietTokens (unfinished_token step.next step.lines)
 
 by_blank : (spot : Position) (n b : ℕ) (is_LF : Bool) → nat_eq b 10 ≡ is_LF → is_blank b ≡ true → IsPosition spot → Blanked spot n b
 by_blank spot n b true e f g =
     let ten : b ≡ 10 = grind (arith, nat_tests) in
     record {
       step = record {
-        gives = in_hand spot n;
+        gives = unfinished_token spot n;
         next = after_LF spot;
         lines = lines_after spot n;
         good = LF_good spot;
-        leaves = λ rest. ap (λ (k : ℕ). left spot n (k ∷ rest)) ten ∙ LF_left spot n rest g;
+        leaves = λ rest. ap (λ (k : ℕ). remaining_scan spot n (k ∷ rest)) ten ∙ LF_left spot n rest g;
       };
       quiet = inl (LF_quiet spot (lines_after spot n));
     }
@@ -78,21 +78,21 @@ by_blank spot n b false e f g = record {
 }
 
 -- a byte that completes no token
-leads : (spot next : Position) (n b : ℕ) → IsPosition next → ((rest : List ℕ) → left spot n (b ∷ rest) ≡ left next n rest) → Stepped spot n b
+leads : (spot next : Position) (n b : ℕ) → IsPosition next → ((rest : List ℕ) → remaining_scan spot n (b ∷ rest) ≡ remaining_scan next n rest) → Stepped spot n b
 leads spot next n b good h = record { gives = []; next = next; lines = n; good = good; leaves = h }
 
 same_byte : (b c : ℕ) → nat_eq b c ≡ true → b ≡ c
 same_byte b c e = grind (arith, nat_tests)
 
 at_header : (may : Bool) (n b : ℕ) → b ≡ 112 → Stepped (Leading may) n b
-at_header true n b e = leads (Leading true) (HeaderWithin Begun 112 []) n b (refl, tt) (λ rest. ap (λ (k : ℕ). left (Leading true) n (k ∷ rest)) e ∙ leading_header n rest)
-at_header false n b e = leads (Leading false) Spoilt n b tt (λ rest. ap (λ (k : ℕ). left (Leading false) n (k ∷ rest)) e ∙ leading_late_header n rest)
+at_header true n b e = leads (Leading true) (HeaderWithin Begun 112 []) n b (refl, tt) (λ rest. ap (λ (k : ℕ). remaining_scan (Leading true) n (k ∷ rest)) e ∙ leading_header n rest)
+at_header false n b e = leads (Leading false) Spoilt n b tt (λ rest. ap (λ (k : ℕ). remaining_scan (Leading false) n (k ∷ rest)) e ∙ leading_late_header n rest)
 
 at_line : (may : Bool) (n b : ℕ) (percent comment header : Bool) → nat_eq b 37 ≡ percent → nat_eq b 99 ≡ comment → nat_eq b 112 ≡ header → nat_eq b 10 ≡ false → is_blank b ≡ false → Stepped (Leading may) n b
 at_line may n b true comment header p c h e f =
-    leads (Leading may) Over n b tt (λ rest. ap (λ (k : ℕ). left (Leading may) n (k ∷ rest)) (same_byte b 37 p) ∙ leading_end may n rest)
+    leads (Leading may) Over n b tt (λ rest. ap (λ (k : ℕ). remaining_scan (Leading may) n (k ∷ rest)) (same_byte b 37 p) ∙ leading_end may n rest)
 at_line may n b false true header p c h e f =
-    leads (Leading may) (Comment may) n b tt (λ rest. ap (λ (k : ℕ). left (Leading may) n (k ∷ rest)) (same_byte b 99 c) ∙ leading_comment may n rest)
+    leads (Leading may) (Comment may) n b tt (λ rest. ap (λ (k : ℕ). remaining_scan (Leading may) n (k ∷ rest)) (same_byte b 99 c) ∙ leading_comment may n rest)
 at_line may n b false false true p c h e f = at_header may n b (same_byte b 112 h)
 at_line may n b false false false p c h e f = leads (Leading may) (Within b []) n b (f, tt) (λ rest. leading_word may n b rest e f p c h)
 
@@ -125,9 +125,9 @@ record Reached (spot : Position) (n : ℕ) (text : List ℕ) : Type 0 where
   next : Position
   lines : ℕ
   good : IsPosition next
-  leaves : (rest : List ℕ) → left spot n (text ++ rest) ≡ onto gives (left next lines rest)
+  leaves : (rest : List ℕ) → remaining_scan spot n (text ++ rest) ≡ prepend_tokens gives (remaining_scan next lines rest)
 
-onto_both : (xs ys : List (ℕ × Token)) (s : Scan) → onto xs (onto ys s) ≡ onto (xs ++ ys) s
+onto_both : (xs ys : List (ℕ × Token)) (s : Scan) → prepend_tokens xs (prepend_tokens ys s) ≡ prepend_tokens (xs ++ ys) s
 onto_both xs ys s = ap (λ (ts : List (ℕ × Token)). record { tokens = ts; last = s.last }) (sym (append_assoc xs ys s.tokens))
 
 reach : (text : List ℕ) (spot : Position) (n : ℕ) → IsPosition spot → Reached spot n text
@@ -140,17 +140,17 @@ reach (b ∷ bs) spot n g =
       next = r.next;
       lines = r.lines;
       good = r.good;
-      leaves = λ rest. s.leaves (bs ++ rest) ∙ ap (onto s.gives) (r.leaves rest) ∙ onto_both s.gives r.gives (left r.next r.lines rest);
+      leaves = λ rest. s.leaves (bs ++ rest) ∙ ap (prepend_tokens s.gives) (r.leaves rest) ∙ onto_both s.gives r.gives (remaining_scan r.next r.lines rest);
     }
 
 -- all words of this text have ended
 record Rests (text : List ℕ) : Type 0 where
   gives : List (ℕ × Token)
   left_of : List ℕ → Scan
-  scans : (rest : List ℕ) → scan (text ++ rest) ≡ onto gives (left_of rest)
-  quiet : HoldsNoWord (left_of [])
+  scans : (rest : List ℕ) → scan (text ++ rest) ≡ prepend_tokens gives (left_of rest)
+  quiet : HasNoNumberOrLetter (left_of [])
 
-quiet_at : (spot : Position) (n : ℕ) → IsPosition spot → QuietTokens (in_hand spot n) → HoldsNoWord (left spot n [])
+quiet_at : (spot : Position) (n : ℕ) → IsPosition spot → QuietTokens (unfinished_token spot n) → HasNoNumberOrLetter (remaining_scan spot n [])
 quiet_at spot n g q = subst QuietTokens (sym (ap (λ (s : Scan). s.tokens) (end_left spot n g))) q
 
 rests : (front : List ℕ) (b : ℕ) → is_blank b ≡ true → Rests (front ++ b ∷ [])
@@ -159,24 +159,24 @@ rests front b e =
     let s = by_blank r.next r.lines b (nat_eq b 10) refl e r.good in
     record {
       gives = r.gives ++ s.step.gives;
-      left_of = left s.step.next s.step.lines;
-      scans = λ rest. ap scan (append_assoc front (b ∷ []) rest) ∙ start (front ++ b ∷ rest) ∙ r.leaves (b ∷ rest) ∙ ap (onto r.gives) (s.step.leaves rest)
-          ∙ onto_both r.gives s.step.gives (left s.step.next s.step.lines rest);
+      left_of = remaining_scan s.step.next s.step.lines;
+      scans = λ rest. ap scan (append_assoc front (b ∷ []) rest) ∙ start (front ++ b ∷ rest) ∙ r.leaves (b ∷ rest) ∙ ap (prepend_tokens r.gives) (s.step.leaves rest)
+          ∙ onto_both r.gives s.step.gives (remaining_scan s.step.next s.step.lines rest);
       quiet = quiet_at s.step.next s.step.lines s.step.good s.quiet;
     }
 
 -- CLAUSES
 
 -- the clauses of these tokens are the same whatever follows
-record Keeps (hand : Hand) (before : List (ℕ × Token)) : Type 0 where
+record Keeps (hand : PartialClause) (before : List (ℕ × Token)) : Type 0 where
   clauses : List (List ℕ)
-  more : (last : ℕ) (ts : List (ℕ × Token)) → (left : List (List ℕ)) × ((clauses_of hand last (before ++ ts)).clauses ≡ clauses ++ left)
-  quiet : (s : Scan) → HoldsNoWord s → (clauses_of hand s.last (before ++ s.tokens)).clauses ≡ clauses
+  more : (last : ℕ) (ts : List (ℕ × Token)) → (remaining_scan : List (List ℕ)) × ((clauses_of hand last (before ++ ts)).clauses ≡ clauses ++ remaining_scan)
+  quiet : (s : Scan) → HasNoNumberOrLetter s → (clauses_of hand s.last (before ++ s.tokens)).clauses ≡ clauses
 
-turned : (hand : Hand) (t : ℕ × Token) (ts : List (ℕ × Token)) (k : Turn) → turn hand t.0 t.1 ≡ k → (last : ℕ) → (clauses_of hand last (t ∷ ts)).clauses ≡ (after_turn k (λ h. clauses_of h last ts)).clauses
-turned hand t ts k e last = ap (λ (d : Dimacs). d.clauses) (clauses_of_cons hand last t ts ∙ ap (λ (j : Turn). after_turn j (λ h. clauses_of h last ts)) e)
+turned : (hand : PartialClause) (t : ℕ × Token) (ts : List (ℕ × Token)) (k : TokenEffect) → token_effect hand t.0 t.1 ≡ k → (last : ℕ) → (clauses_of hand last (t ∷ ts)).clauses ≡ (after_token_effect k (λ h. clauses_of h last ts)).clauses
+turned hand t ts k e last = ap (λ (d : Dimacs). d.clauses) (clauses_of_cons hand last t ts ∙ ap (λ (j : TokenEffect). after_token_effect j (λ h. clauses_of h last ts)) e)
 
-keeps_turn : (hand : Hand) (t : ℕ × Token) (ts : List (ℕ × Token)) → ((h : Hand) → Keeps h ts) → (k : Turn) → turn hand t.0 t.1 ≡ k → Keeps hand (t ∷ ts)
+keeps_turn : (hand : PartialClause) (t : ℕ × Token) (ts : List (ℕ × Token)) → ((h : PartialClause) → Keeps h ts) → (k : TokenEffect) → token_effect hand t.0 t.1 ≡ k → Keeps hand (t ∷ ts)
 keeps_turn hand t ts later (GoesOn h) e =
     let k = later h in
     record {
@@ -197,13 +197,13 @@ keeps_turn hand t ts later (Fails ending) e = record {
   quiet = λ s q. turned hand t (ts ++ s.tokens) (Fails ending) e s.last;
 }
 
-keeps : (before : List (ℕ × Token)) (hand : Hand) → Keeps hand before
+keeps : (before : List (ℕ × Token)) (hand : PartialClause) → Keeps hand before
 keeps [] hand = record {
   clauses = [];
   more = λ last ts. ((clauses_of hand last ts).clauses, refl);
   quiet = λ s q. quiet_clauses hand s q;
 }
-keeps (t ∷ ts) hand = keeps_turn hand t ts (λ h. keeps ts h) (turn hand t.0 t.1) refl
+keeps (t ∷ ts) hand = keeps_turn hand t ts (λ h. keeps ts h) (token_effect hand t.0 t.1) refl
 
 after_rest : (text rest : List ℕ) → Rests text → AreFirst (dimacs text).clauses (text ++ rest)
 after_rest text rest r =

@@ -11,9 +11,9 @@ use Rattle.sat_base.specs.declared.steps.error.StepError.TheVariants as unread_b
 use Rattle.sat_base.specs.declared.steps.reader.StepReader.{StepReader}
 use Rattle.sat_base.specs.declared.steps.reader.Buffers.{Buffers}
 use Rattle.sat_base.specs.device.Device.{Reader, IsOver, ReadFails, most_reads, piece_size}
-use Rattle.sat_base.specs.device.Reading.{Source, ConsumesWithReads, ConsumesBytes, ConsumesAndFails, AllTaken, AtEnd, giving, unread}
-use Rattle.sat_base.specs.steps.Formats.{Format, Items, IsProperFront}
-use Rattle.sat_base.specs.steps.StepReading.{reader_source, AnswersUnlessFailed, Next}
+use Rattle.sat_base.specs.device.Reading.{Source, ConsumesWithReads, ConsumesBytes, ConsumesAndFails, AllTaken, AtEnd, giving, new_source}
+use Rattle.sat_base.specs.steps.Formats.{Format, Items, IsProperPrefix}
+use Rattle.sat_base.specs.steps.StepReading.{reader_source, AnswersUnlessFailed, AdvanceEffect}
 use Rattle.sat_base.specs.steps.StepReading as reading
 use Rattle.sat_base.specs.steps.Steps.{Step, End}
 use Rattle.sat_base.specs.steps.StepText.{tag_of, SpellsStep, SpellsSteps}
@@ -33,7 +33,7 @@ use Rattle.sat_checker.specs.declared.error.CheckerError.TheVariants as errors
 
 -- NO STEP READ YET
 
-live_none : IsProperFront SpellsStep []
+live_none : IsProperPrefix SpellsStep []
 live_none = (End, 13, [], ([], refl, refl))
 
 -- STEPS READ ONE BY ONE
@@ -79,7 +79,7 @@ some_byte step text h = let e : length text ≡ length h.0 + 1 = ap length h.1 �
 pub step_takes : (s t : Source) (step : Step) (text : List ℕ) → ConsumesBytes s t text → SpellsStep step text → t.reads ≤ most_reads → bytes_left t < bytes_left s
 step_takes s t step text p h k = less_left most_reads s.reads t.reads (length s.waiting) (length t.waiting) (length text) (length p.fresh) p.room (flowed s.waiting p.fresh text t.waiting p.flows) (some_byte step text h) k
 
-pub none_read : (s : Source) → s ≡ unread s.reader → s.reads ≤ most_reads
+pub none_read : (s : Source) → s ≡ new_source s.reader → s.reads ≤ most_reads
 none_read s e = let z : s.reads ≡ 0 = ap (λ (t : Source). t.reads) e in small s.reads most_reads z
   where
     small : (n m : ℕ) → n ≡ 0 → n ≤ m
@@ -119,7 +119,7 @@ pub error_of_err : {A : Type 0} {x y : CheckerError} → ◌≡◌ {A = Result A
 error_of_err e = cc
 
 -- a source from which nothing was read is not at its end
-pub fresh_unended : (s : Source) → s ≡ unread s.reader → AtEnd s → ⊥
+pub fresh_unended : (s : Source) → s ≡ new_source s.reader → AtEnd s → ⊥
 fresh_unended s e h = let z : s.reads ≡ 0 = ap (λ (t : Source). t.reads) e in let k : 0 < s.reads = h.0 in absurd (omega arith)
 
 pub fresh_counts : (s : Source) → CountsReads s s
@@ -128,7 +128,7 @@ fresh_counts s = refl
 pub counts_more : (s t u : Source) → CountsReads s t → CountsReads t u → CountsReads s u
 counts_more s t u h k = omega (arith, h, k)
 
-pub none_found : (s t : Source) → s ≡ unread s.reader → CountsReads s t → (AtEnd t → ⊥) → FoundNoEnd s.reader t.reader
+pub none_found : (s t : Source) → s ≡ new_source s.reader → CountsReads s t → (AtEnd t → ⊥) → FoundNoEnd s.reader t.reader
 none_found s t e c n = λ h k. n (let z : s.reads ≡ 0 = ap (λ (x : Source). x.reads) e in omega (arith, z, c, h), k)
 
 -- THE READER'S BYTES
@@ -147,7 +147,7 @@ few_calls rc tc tr m e h = omega arith
 few_bytes : (r : ℕ) (fresh bytes : List ℕ) → length fresh + piece_size * 0 ≤ piece_size * r → r ≤ most_reads → fresh ≡ bytes → length bytes ≤ most_bytes
 few_bytes r fresh bytes h k e = let l : length fresh ≡ length bytes = ap length e in omega arith
 
-gave_steps : (n : ℕ) (r : Reader) (t : Source) (steps : List Step) (text more : List ℕ) → n ≤ 1 → t.reads ≤ most_reads → ConsumesWithReads n (unread r) t (text ++ more) → SpellsSteps steps text → GaveSteps r t.reader steps (more ++ t.waiting)
+gave_steps : (n : ℕ) (r : Reader) (t : Source) (steps : List Step) (text more : List ℕ) → n ≤ 1 → t.reads ≤ most_reads → ConsumesWithReads n (new_source r) t (text ++ more) → SpellsSteps steps text → GaveSteps r t.reader steps (more ++ t.waiting)
 gave_steps n r t steps text more h b p spelt =
     let fresh : p.fresh ≡ text ++ (more ++ t.waiting) = p.flows ∙ append_assoc text more t.waiting in
     record {
@@ -163,7 +163,7 @@ gave_steps n r t steps text more h b p spelt =
       bytes = few_bytes t.reads p.fresh (text ++ (more ++ t.waiting)) p.room b fresh;
     }
 
-faulted_steps : (r : Reader) (t : Source) (steps : List Step) (text more : List ℕ) → t.reads ≤ most_reads → ConsumesAndFails (unread r) t (text ++ more) → SpellsSteps steps text → GaveSteps r t.reader steps more
+faulted_steps : (r : Reader) (t : Source) (steps : List Step) (text more : List ℕ) → t.reads ≤ most_reads → ConsumesAndFails (new_source r) t (text ++ more) → SpellsSteps steps text → GaveSteps r t.reader steps more
 faulted_steps r t steps text more b p spelt = record {
   text = text;
   spelt = spelt;
@@ -180,13 +180,13 @@ faulted_steps r t steps text more b p spelt = record {
 read_out : (rc tc tr m : ℕ) → tc + 0 ≡ rc + tr → m ≤ tr → tr ≤ m → tc ≡ rc + m
 read_out rc tc tr m e h k = omega arith
 
-read_fails : (r : Reader) (t : Source) (text : List ℕ) → t.reads ≤ most_reads → ConsumesAndFails (unread r) t text → ReadFails r t.reader
+read_fails : (r : Reader) (t : Source) (text : List ℕ) → t.reads ≤ most_reads → ConsumesAndFails (new_source r) t text → ReadFails r t.reader
 read_fails r t text b p = (
   elim p.cause [ inl h ↦ inl (h.0, h.1) | inr h ↦ inr (h.0, read_out r.calls t.reader.calls t.reads most_reads p.calls h.1 b) ],
   few_of 1 r.calls t.reader.calls t.reads 0 r.given t.reader.given p.fresh (omega arith) p.calls p.few p.gave,
 )
 
-from_start : (P : Source → Type 0) (s : Source) → s ≡ unread s.reader → P s → P (unread s.reader)
+from_start : (P : Source → Type 0) (s : Source) → s ≡ new_source s.reader → P s → P (new_source s.reader)
 from_start P s e h = subst P e h
 
 looks_still : (a b c m n : ℕ) → b ≤ a + m → c ≡ b → n ≡ m → c ≤ a + n
@@ -195,8 +195,8 @@ looks_still a b c m n h e f = omega arith
 none_following : (xs earlier : List Step) → most_looks_after (xs ++ []) earlier ≡ most_looks_after xs earlier
 none_following xs earlier = ap (λ (z : List Step). most_looks_after z earlier) (append-nil xs)
 
-live_still : (more waiting : List ℕ) → waiting ≡ [] → IsProperFront SpellsStep more → IsProperFront SpellsStep (more ++ waiting)
-live_still more waiting e h = subst (IsProperFront SpellsStep) (sym (ap (λ (z : List ℕ). more ++ z) e ∙ append-nil more)) h
+live_still : (more waiting : List ℕ) → waiting ≡ [] → IsProperPrefix SpellsStep more → IsProperPrefix SpellsStep (more ++ waiting)
+live_still more waiting e h = subst (IsProperPrefix SpellsStep) (sym (ap (λ (z : List ℕ). more ++ z) e ∙ append-nil more)) h
 
 none_waits : (known : Option (List ℕ)) (ws : List ℕ) → ws ≡ [] → IsAtEnd (prepend_known ws known) → IsAtEnd known
 none_waits None ws e h = tt
@@ -217,7 +217,7 @@ module _ {L : Type 0} (Hears : L → Notice → Result Unit ProcessingError → 
   }
 
   pub unread_answer : {R : Type 0} (seen : R → Reader) (c : CheckerView L) (s t : StepReader R Buffers) (e : StepError) (step : Step) (earlier : List Step)
-      → has_failed c ≡ false → reading.has_reader_failed s ≡ false → Next seen s t (giving step (Err e)) → HasAccepted Hears before begun c earlier
+      → has_failed c ≡ false → reading.has_reader_failed s ≡ false → AdvanceEffect seen s t (giving step (Err e)) → HasAccepted Hears before begun c earlier
       → StepsOn Hears before begun (Err (read_error e)) (at_source c (reader_source seen s)) (at_source (with_flag (is_final e) c) (reader_source seen t)) earlier
   unread_answer seen c s t unread_by.Ends step earlier h k n valid = ([], n.answer, live_none, record { goes_on = unfailed c earlier h valid; looks = refl })
   unread_answer seen c s t unread_by.Cut step earlier h k n valid = let a = n.answer in (a.0 ∷ a.1, a.2, a.3, record { goes_on = unfailed c earlier h valid; looks = refl })
@@ -244,21 +244,21 @@ module _ {L : Type 0} (Hears : L → Notice → Result Unit ProcessingError → 
   }
 
   -- the steps before the last one, the last one, and the bytes after it were read
-  went_tried : (a b c : CheckerAtSource L) (earlier xs : List Step) (x : Step) → a.source ≡ unread a.source.reader → has_failed a.checker ≡ false → c.source.reads ≤ most_reads
+  went_tried : (a b c : CheckerAtSource L) (earlier xs : List Step) (x : Step) → a.source ≡ new_source a.source.reader → has_failed a.checker ≡ false → c.source.reads ≤ most_reads
       → TakesStepsBeforeEnd Hears before begun a b earlier xs → TriesStep b c (taken_after xs earlier) x → ReadsProofPart a.checker c.checker a.source.reader c.source.reader earlier xs (x ∷ []) ([] ++ c.source.waiting)
   went_tried a b c earlier xs x e h k p t =
       let both : ConsumesBytes a.source c.source (p.text ++ t.text) = passes_more a.source b.source c.source p.text t.text p.passes t.passes in
       record {
         well = h;
         steps = gave_steps 0 a.source.reader c.source (xs ++ x ∷ []) (p.text ++ t.text) [] (omega arith) k
-            (subst (ConsumesWithReads 0 (unread a.source.reader) c.source) (sym (append-nil (p.text ++ t.text))) (from_start (λ s. ConsumesBytes s c.source (p.text ++ t.text)) a.source e both))
+            (subst (ConsumesWithReads 0 (new_source a.source.reader) c.source) (sym (append-nil (p.text ++ t.text))) (from_start (λ s. ConsumesBytes s c.source (p.text ++ t.text)) a.source e both))
             (items_one SpellsStep xs x p.text t.text p.spelt t.spelt);
         unended = p.unended;
         looks = tried_looks a b c earlier xs x p t;
       }
 
   -- the steps and bytes that form no complete step were read
-  went_waiting : (n : ℕ) (a b c : CheckerAtSource L) (earlier xs : List Step) (more : List ℕ) → n ≤ 1 → a.source ≡ unread a.source.reader → has_failed a.checker ≡ false → c.source.reads ≤ most_reads
+  went_waiting : (n : ℕ) (a b c : CheckerAtSource L) (earlier xs : List Step) (more : List ℕ) → n ≤ 1 → a.source ≡ new_source a.source.reader → has_failed a.checker ≡ false → c.source.reads ≤ most_reads
       → looks_of c.checker ≡ looks_of b.checker → TakesStepsBeforeEnd Hears before begun a b earlier xs → ConsumesWithReads n b.source c.source more → ReadsProofPart a.checker c.checker a.source.reader c.source.reader earlier xs [] (more ++ c.source.waiting)
   went_waiting n a b c earlier xs more m e h k l p w = record {
     well = h;
@@ -269,7 +269,7 @@ module _ {L : Type 0} (Hears : L → Notice → Result Unit ProcessingError → 
     looks = looks_still (looks_of a.checker) (looks_of b.checker) (looks_of c.checker) _ _ p.looks l (none_following xs earlier);
   }
 
-  went_faulted : (a b c : CheckerAtSource L) (earlier xs : List Step) (more : List ℕ) → a.source ≡ unread a.source.reader → has_failed a.checker ≡ false → c.source.reads ≤ most_reads
+  went_faulted : (a b c : CheckerAtSource L) (earlier xs : List Step) (more : List ℕ) → a.source ≡ new_source a.source.reader → has_failed a.checker ≡ false → c.source.reads ≤ most_reads
       → looks_of c.checker ≡ looks_of b.checker → TakesStepsBeforeEnd Hears before begun a b earlier xs → ConsumesAndFails b.source c.source more → ReadsProofPart a.checker c.checker a.source.reader c.source.reader earlier xs [] more
   went_faulted a b c earlier xs more e h k l p w = record {
     well = h;
@@ -285,7 +285,7 @@ module _ {L : Type 0} (Hears : L → Notice → Result Unit ProcessingError → 
   kept_by n a b c earlier xs more p w = w.failures ∙ p.passes.failures
 
   -- the result if an error follows accepted steps
-  pub stops : (a b c : CheckerAtSource L) (e : CheckerError) (earlier xs : List Step) → a.source ≡ unread a.source.reader → has_failed a.checker ≡ false → c.source.reads ≤ most_reads
+  pub stops : (a b c : CheckerAtSource L) (e : CheckerError) (earlier xs : List Step) → a.source ≡ new_source a.source.reader → has_failed a.checker ≡ false → c.source.reads ≤ most_reads
       → TakesStepsBeforeEnd Hears before begun a b earlier xs → StepsOn Hears before begun (Err e) b c (taken_after xs earlier) → AnswersProof Hears before begun (Err e) a.checker c.checker a.source.reader c.source.reader earlier
   stops a b c errors.CheckFailed earlier xs e h k p s =
       (xs, s.0, [] ++ c.source.waiting, went_tried a b c earlier xs s.0 e h k p s.1, kept_by 0 a b c earlier xs _ p s.1.passes, s.2, s.3)
@@ -342,7 +342,7 @@ module _ {L : Type 0} (Hears : L → Notice → Result Unit ProcessingError → 
   settled_end steps c h s = let k = s.kernel.kept h in none_pending c.kernel (End ∷ steps) k (end_settled steps)
 
   -- the result if the end follows accepted steps
-  pub finishes : (a b c : CheckerAtSource L) (earlier xs : List Step) (x : Step) → a.source ≡ unread a.source.reader → has_failed a.checker ≡ false → c.source.reads ≤ most_reads
+  pub finishes : (a b c : CheckerAtSource L) (earlier xs : List Step) (x : Step) → a.source ≡ new_source a.source.reader → has_failed a.checker ≡ false → c.source.reads ≤ most_reads
       → TakesStepsBeforeEnd Hears before begun a b earlier xs → TriesStep b c (taken_after xs earlier) x → x ≡ End → HasAcceptedUnfailed Hears before begun c.checker (x ∷ taken_after xs earlier) → AnswersProof Hears before begun (Ok tt) a.checker c.checker a.source.reader c.source.reader earlier
   finishes a b c earlier xs x e h k p t is g =
       let on : HasAcceptedUnfailed Hears before begun c.checker (End ∷ taken_after xs earlier) = subst (λ (z : Step). HasAcceptedUnfailed Hears before begun c.checker (z ∷ taken_after xs earlier)) is g in (

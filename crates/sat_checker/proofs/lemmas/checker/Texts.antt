@@ -2,10 +2,10 @@
 use Rattle.std.proofs.Common.{ℕ, ◌+◌, ◌≤◌, ◌≡◌, true, false, List, [], ◌∷◌, ◌++◌, append_assoc, length, Result, Ok, Err, OnOk, inl, inr, refl, sym, ap, subst, ◌∙◌, arith}
 use Rattle.std.proofs.lemmas.Bool.{true≢false}
 use Rattle.std.proofs.lemmas.List.{append-nil, map-append}
-use Rattle.sat_base.specs.device.Device.{Reader, GaveAll, GaveEnough, GaveFront, ReadFails}
+use Rattle.sat_base.specs.device.Device.{Reader, GaveAll, GaveEnough, GavePrefix, ReadFails}
 use Rattle.sat_base.specs.text.Text.{scan, tokens_of, lines}
 use Rattle.sat_base.specs.dimacs.Dimacs.{Dimacs, Ending, Clean, Malformed, Limit, clauses_of, dimacs, up_to_last_blank, IsDimacs}
-use Rattle.sat_base.specs.dimacs.Parsing.{Progress, no_progress, with_fed, cut_short, at_its_end, clauses_read, all_taken, EndsAtFault, FallsShort, FeedsPiece, Finishes, IsSoundSoFar, IsSoundText}
+use Rattle.sat_base.specs.dimacs.Parsing.{Progress, no_progress, with_fed, cut_short, at_its_end, clauses_read, all_taken, EndsAtFault, RunsOutWithinPiece, FeedsPiece, Finishes, IsSoundSoFar, IsSoundText}
 use Rattle.sat_base.specs.declared.dimacs.error.DimacsError.{DimacsError}
 use Rattle.sat_base.specs.declared.dimacs.error.DimacsError.TheVariants as texts
 use Rattle.sat_base.proofs.lemmas.device.Given.{enough_all, enough_front}
@@ -16,9 +16,9 @@ use Rattle.sat_checker.specs.CheckerView.{CheckerView, has_failed, looks_of, Has
 use Rattle.sat_checker.specs.announcements.Announcements.{Notice}
 use Rattle.sat_checker.specs.ProofView.{taken_after, most_looks_after, NoReadFailed, HasAcceptedUnfailed}
 use Rattle.sat_checker.specs.ClausesView.{additions, AddsFirstClauses, after_additions, AnswersClauses}
-use Rattle.sat_checker.specs.DimacsView.{AreOfFront, AreRead, FailsAfter, ContinuesAfter, AnswersDimacs, AddsDimacs}
+use Rattle.sat_checker.specs.DimacsView.{AreOfPrefix, AreRead, FailsAfter, ContinuesAfter, AnswersDimacs, AddsDimacs}
 use Rattle.sat_checker.specs.inner.DimacsPieces.{is_out_of_memory, with_flag, AddsRead}
-use Rattle.sat_checker.specs.Spent.{SpentBy}
+use Rattle.sat_checker.specs.Counters.{ExhaustsCounters}
 use Rattle.sat_checker.specs.declared.processing.ProcessingError.{ProcessingError}
 use Rattle.sat_checker.specs.declared.processing.ProcessingError.TheVariants as faults
 use Rattle.sat_checker.specs.declared.error.CheckerError.{CheckerError}
@@ -86,7 +86,7 @@ fault_says ending text piece p q is f rest =
     ap dimacs all ∙ f.ends (f.following ++ rest)
 
 -- if memory ran out, the clauses read are those of a prefix of the text
-short_says : (text piece : List ℕ) (p q : Progress) → HasFed text p → FallsShort piece p q → (rest : List ℕ) → AreOfFront ((text ++ piece) ++ rest) (clauses_read q)
+short_says : (text piece : List ℕ) (p q : Progress) → HasFed text p → RunsOutWithinPiece piece p q → (rest : List ℕ) → AreOfPrefix ((text ++ piece) ++ rest) (clauses_read q)
 short_says text piece p q is f rest = (
   text ++ f.front,
   (f.byte ∷ f.following) ++ rest,
@@ -115,7 +115,7 @@ pub clean_by_end : (text : List ℕ) (p q : Progress) → HasFed text p → Fini
 clean_by_end text p q is f = has_ending (dimacs text) (clauses_read q) Clean (over_read text p q is f.1) (ap (λ (z : List ℕ). (dimacs z).ending) (sym (fed_of text p is)) ∙ f.2)
 
 -- what an error of the parser says about the text
-pub fails_by_piece : (e : DimacsError) (from to : Reader) (text piece : List ℕ) (p q : Progress) → HasFed text p → FeedsPiece (Err e) piece p q → NoReadFailed from to → GaveFront from to (text ++ piece) → to.ended ≡ false
+pub fails_by_piece : (e : DimacsError) (from to : Reader) (text piece : List ℕ) (p q : Progress) → HasFed text p → FeedsPiece (Err e) piece p q → NoReadFailed from to → GavePrefix from to (text ++ piece) → to.ended ≡ false
     → to.calls ≤ from.calls + length (text ++ piece) + 1 → FailsAfter e from to (clauses_read q)
 fails_by_piece (texts.Malformed line) from to text piece p q is f n g o few = (n, enough_front from to _ (text ++ piece) g o few (λ rest. (f.1, f.2, fault_says (Malformed f.1) text piece p q is f.3 rest)))
 fails_by_piece (texts.Limit line) from to text piece p q is f n g o few = (n, enough_front from to _ (text ++ piece) g o few (λ rest. (f.1, f.2, fault_says (Limit f.1) text piece p q is f.3 rest)))
@@ -173,7 +173,7 @@ module _ {L : Type 0} (Hears : L → Notice → Result Unit ProcessingError → 
     cs ++ q.0,
     q.1,
     adds_joined a b d cs ds q.0 (q.1 ∷ []) earlier p.0 q.2,
-    subst (λ (z : List Step). SpentBy (AddClause q.1) (stored_after z)) (sym (after_joined cs q.0 earlier)) q.3,
+    subst (λ (z : List Step). ExhaustsCounters (AddClause q.1) (stored_after z)) (sym (after_joined cs q.0 earlier)) q.3,
     subst (FailsBeforeStep Hears before begun d) (sym (after_joined cs q.0 earlier)) q.4,
   )
   joined (Err errors.OutOfMemory) a b d cs ds earlier p q = (
@@ -249,7 +249,7 @@ module _ {L : Type 0} (Hears : L → Notice → Result Unit ProcessingError → 
 
   -- the result if reading stops in a chunk
   pub piece_answers : (e : CheckerDimacsError) (answer : Result Unit DimacsError) (old cur new : CheckerView L) (from to : Reader) (text piece : List ℕ) (p q : Progress) → HasFed text p → FeedsPiece answer piece p q → NoReadFailed from to
-      → GaveFront from to (text ++ piece) → to.ended ≡ false → to.calls ≤ from.calls + length (text ++ piece) + 1 → AddedBefore old cur p → AddsRead Hears (Err e) answer q cur new → AddsDimacs Hears (Err e) old new from to
+      → GavePrefix from to (text ++ piece) → to.ended ≡ false → to.calls ≤ from.calls + length (text ++ piece) + 1 → AddedBefore old cur p → AddsRead Hears (Err e) answer q cur new → AddsDimacs Hears (Err e) old new from to
   piece_answers e answer old cur new from to text piece p q is f n g o few added a = λ before begun earlier valid. answers_dimacs Hears before begun (Err e) answer old cur new from to q earlier n (first_of old cur p q added (taken_by_piece answer text piece p q is f) before begun earlier valid)
       (λ no. let k : ◌≡◌ {A = Result Unit CheckerDimacsError} (Err e) (Ok tt) = no in absurd cc)
       (λ d s. fails_by_piece d from to text piece p q is (subst (λ (z : Result Unit DimacsError). FeedsPiece z piece p q) s f) n g o few)
@@ -266,6 +266,6 @@ module _ {L : Type 0} (Hears : L → Notice → Result Unit ProcessingError → 
       a
 
   -- the result if a read failed
-  pub read_answers : (old cur : CheckerView L) (from to : Reader) (text : List ℕ) (p : Progress) → HasFed text p → ReadFails from to → GaveFront from to text → IsSoundSoFar p → p.taken ≡ (dimacs (up_to_last_blank text)).clauses → AddedBefore old cur p
+  pub read_answers : (old cur : CheckerView L) (from to : Reader) (text : List ℕ) (p : Progress) → HasFed text p → ReadFails from to → GavePrefix from to text → IsSoundSoFar p → p.taken ≡ (dimacs (up_to_last_blank text)).clauses → AddedBefore old cur p
       → AddsDimacs Hears (Err (refused.Dimacs texts.Read)) old cur from to
   read_answers old cur from to text p is r g s t added = λ before begun earlier valid. let all = added before begun earlier valid in (p.taken, (r, text, g, subst IsSoundText (fed_of text p is) s, t), all.0, all.1)

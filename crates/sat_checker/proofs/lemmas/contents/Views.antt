@@ -5,7 +5,7 @@ use Rattle.sat_base.specs.values.Literals.{variable, negated}
 use Rattle.sat_base.specs.steps.Steps.{Redundant, Simplified, Satisfied, Step, SolverVarName, UserVarName, DeleteVar, AddClause, AtClause, UnitClauses, DeleteClause}
 use Rattle.sat_checker.specs.LiteralSets.{is_among, is_tautology, canonical}
 use Rattle.sat_checker.specs.Stored.{StoredUnit, unknown, Stored, is_unit}
-use Rattle.sat_checker.specs.Storing.{with_contradiction, with_new_unit, with_unit, with_units, settled_by, settled, with_set, with_canonical, with_stored, with_input, with_literals_known}
+use Rattle.sat_checker.specs.Storing.{with_contradiction, with_new_unit, with_unit, with_units, settled_by, with_conflict_settled, with_set, with_canonical, with_stored, with_input, with_literals_known}
 use Rattle.sat_checker.specs.Accepts.{effect}
 use Rattle.sat_checker.specs.Contents.{ProofState, Contents, stored_state, contents, unit_more, units_more, set_more, clause_more, literals_known, contents_after}
 use Rattle.sat_checker.specs.Invariants.{EachOnce, ContentsFollow, ContentsAreSettled}
@@ -95,7 +95,7 @@ view_changed (DeleteClause clause Simplified) f h = λ i. onto (λ s. record s {
 view_changed (DeleteClause clause Satisfied) f h = λ i. onto (λ s. record s { counts = λ q other. count_less false q (canonical clause) other f.clauses h i }) (contents f)
 view_changed step f h = refl
 
-pub view_settled : (f : Stored) → contents (settled f) ≡ contents f
+pub view_settled : (f : Stored) → contents (with_conflict_settled f) ≡ contents f
 view_settled f = go f.conflict
   where
     go : (o : Option (ℕ × ℕ)) → contents (settled_by o f) ≡ contents f

@@ -3,10 +3,10 @@ use Rattle.std.proofs.Common.{ℕ, ◌+◌, ◌^◌, max, inl, inr, ◌≤◌, �
 use Rattle.sat_checker.specs.Stored.{Stored, StoredClause}
 use Rattle.sat_checker.specs.Storing.{clause_with, with_input, with_stored}
 use Rattle.sat_checker.specs.announcements.Announcements.{MakeIrredundant, derived_set, id_of, id_of_set, redundant_alone}
-use Rattle.sat_checker.specs.inner.FormulaView.{KeepsOrSpends}
+use Rattle.sat_checker.specs.inner.FormulaView.{StoredOrExhausted}
 use Rattle.sat_checker.specs.inner.StoreView.{StoreEffect, store_count_in, id_in}
 use Rattle.sat_checker.specs.listeners.AnnouncingView.{stored_as, change_in, AreLong}
-use Rattle.sat_checker.specs.declared.announce.announcing.Change.TheVariants as changes
+use Rattle.sat_checker.specs.declared.announce.step_announcements.Change.TheVariants as changes
 use Rattle.sat_checker.specs.declared.store.Placed.{Placed}
 use Rattle.sat_checker.specs.declared.store.Store.{Store}
 use Rattle.sat_checker.specs.declared.store.StoreError.{StoreError}
@@ -55,7 +55,7 @@ below_max : (a b : ℕ) → 2 ^ 64 ≤ a → 2 ^ 64 ≤ max a b
 below_max a b h = omega arith
 
 -- an error of storing a clause means the same for an input clause
-pub input_refused : (T U : Type 0) (e : StoreError) (K L : Type 0) (c : List ℕ) (f : Stored) → KeepsOrSpends {T = T} (Err e) K (with_stored false c f) → KeepsOrSpends {T = U} (Err e) L (with_input c f)
+pub input_refused : (T U : Type 0) (e : StoreError) (K L : Type 0) (c : List ℕ) (f : Stored) → StoredOrExhausted {T = T} (Err e) K (with_stored false c f) → StoredOrExhausted {T = U} (Err e) L (with_input c f)
 input_refused T U OutOfMemory K L c f k = tt
 input_refused T U CounterEnd K L c f k = elim k [
   | inl h ↦ inl (below_max (with_stored false c f).next_id (f.next_id + 1) h)
@@ -63,6 +63,6 @@ input_refused T U CounterEnd K L c f k = elim k [
 ]
 
 -- an error means the same for results of another type
-pub spent_as : (T U : Type 0) (e : StoreError) (K L : Type 0) (g : Stored) → KeepsOrSpends {T = T} (Err e) K g → KeepsOrSpends {T = U} (Err e) L g
+pub spent_as : (T U : Type 0) (e : StoreError) (K L : Type 0) (g : Stored) → StoredOrExhausted {T = T} (Err e) K g → StoredOrExhausted {T = U} (Err e) L g
 spent_as T U OutOfMemory K L g k = tt
 spent_as T U CounterEnd K L g k = k

@@ -5,14 +5,14 @@ use Rattle.std.proofs.lemmas.List.{map-append}
 use Rattle.std.specs.Bool.{MatchBool}
 use Rattle.std.specs.List.{AllByRecursion}
 use Rattle.std.specs.Option.{option_eq}
-use Rattle.sat_checker.specs.LiteralSets.{is_part}
+use Rattle.sat_checker.specs.LiteralSets.{is_subset_of}
 use Rattle.sat_checker.specs.Stored.{Stored, StoredUnit, NoneYet}
 use Rattle.sat_checker.specs.Storing.{unit_id, unit_numbered, clause_numbered, last_literals}
 use Rattle.sat_checker.specs.Accepts.{IsStrictSubset}
 use Rattle.sat_checker.specs.inner.Marks.{IsIncreasing}
 use Rattle.sat_checker.specs.inner.SlotView.{Slot, slot_ids, live}
 use Rattle.sat_checker.specs.inner.StoreView.{PlacesIds, AreIdsInOrder, KeepsIds}
-use Rattle.sat_checker.specs.inner.FormulaView.{RestOfStored, IsIdOfUnit, LastUnitIsPut, AreNumbered, RepresentsFormula, last_in}
+use Rattle.sat_checker.specs.inner.FormulaView.{StoredStatus, IsIdOfUnit, LastUnitIsPut, AreNumbered, RepresentsFormula, last_in}
 use Rattle.sat_checker.specs.declared.state.status.LastClause.{LastClause}
 use Rattle.sat_checker.specs.declared.state.status.LastClause.TheVariants as code
 use Rattle.sat_checker.specs.declared.formula.Formula.{Formula}
@@ -191,7 +191,7 @@ id_missed (Some x) id e q = let k : x ≡ id = cc in true≢false (e ∙ ap not 
 -- the last irredundant clause is the one that was recorded, unless it was removed
 module _ (F : Formula) (f : Stored) (k : RepresentsFormula F f) where
   last_is : (last : LastClause) → F.status.last ≡ last → last_literals f.last f ≡ last_literals (last_in last) f
-  last_is last e = ap (λ (s : RestOfStored). last_literals s.last f) (sym k.status) ∙ ap (λ x. last_literals (last_in x) f) e
+  last_is last e = ap (λ (s : StoredStatus). last_literals s.last f) (sym k.status) ∙ ap (λ x. last_literals (last_in x) f) e
 
   put_is : (last : LastClause) → F.status.last ≡ last → LastUnitIsPut last f.units f.next_id
   put_is last e = subst (λ x. LastUnitIsPut x f.units f.next_id) e k.numbered.put
@@ -208,10 +208,10 @@ module _ (F : Formula) (f : Stored) (k : RepresentsFormula F f) where
 pub strict_same : (b : Bool) (x y : Option (List ℕ)) (ls : List ℕ) → x ≡ y → MatchBool b (IsStrictSubset y ls) (IsStrictSubset y ls → ⊥) → MatchBool b (IsStrictSubset x ls) (IsStrictSubset x ls → ⊥)
 strict_same b x y ls e m = subst (λ z. MatchBool b (IsStrictSubset z ls) (IsStrictSubset z ls → ⊥)) (sym e) m
 
-pub strict_part : (b : Bool) (xs ls : List ℕ) → b ≡ (is_part xs ls && (not true || not (is_part ls xs))) → MatchBool b (IsStrictSubset (Some xs) ls) (IsStrictSubset (Some xs) ls → ⊥)
-strict_part b xs ls e = go b (is_part xs ls) refl (is_part ls xs) refl e
+pub strict_part : (b : Bool) (xs ls : List ℕ) → b ≡ (is_subset_of xs ls && (not true || not (is_subset_of ls xs))) → MatchBool b (IsStrictSubset (Some xs) ls) (IsStrictSubset (Some xs) ls → ⊥)
+strict_part b xs ls e = go b (is_subset_of xs ls) refl (is_subset_of ls xs) refl e
   where
-    go : (b p : Bool) → is_part xs ls ≡ p → (q : Bool) → is_part ls xs ≡ q → b ≡ (p && (not true || not q)) → MatchBool b (IsStrictSubset (Some xs) ls) (IsStrictSubset (Some xs) ls → ⊥)
+    go : (b p : Bool) → is_subset_of xs ls ≡ p → (q : Bool) → is_subset_of ls xs ≡ q → b ≡ (p && (not true || not q)) → MatchBool b (IsStrictSubset (Some xs) ls) (IsStrictSubset (Some xs) ls → ⊥)
     go true true s false t e = (s, t)
     go true true s true t e = absurd (true≢false e)
     go true false s q t e = absurd (true≢false e)

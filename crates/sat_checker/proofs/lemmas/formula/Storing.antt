@@ -4,14 +4,14 @@ use Rattle.std.proofs.lemmas.Bool.{true≢false, eq-eqb, eqb-true, eqb-false}
 use Rattle.std.specs.Prelude.{MatchResult}
 use Rattle.sat_base.specs.values.Literals.{negated}
 use Rattle.sat_checker.specs.LiteralSets.{is_among, same_literals, is_tautology, canonical}
-use Rattle.sat_checker.specs.Spent.{CountSpent, IsSpent}
+use Rattle.sat_checker.specs.Counters.{CountExhausted, CountersExhausted}
 use Rattle.sat_checker.specs.Stored.{Stored, StoredClause, StoredUnit, Last, UnitClause, LongClause, is_unit}
 use Rattle.sat_checker.specs.Storing.{with_count, new_clause, with_stored_clause, clause_with, irredundant_count, redundant_count, unit_id, unit_at, long_at, with_unit, with_contradiction, with_new_unit, with_set, with_canonical, with_stored, with_input}
 use Rattle.sat_checker.specs.inner.AssumedRoom.{HasClauseRoom, RoomStays, with_room}
 use Rattle.sat_checker.specs.inner.SlotView.{slot_ids}
 use Rattle.sat_checker.specs.inner.StoreView.{RepresentsClauses, StoreEffect, PlacesIds, store_count_in, id_in}
 use Rattle.sat_checker.specs.inner.UnitView.{UnitsAndRoom}
-use Rattle.sat_checker.specs.inner.FormulaView.{RestOfStored, standing_of, standing_in, AreNumbered, RepresentsFormula, KeepsOrSpends}
+use Rattle.sat_checker.specs.inner.FormulaView.{StoredStatus, status_of, status_in_code, AreNumbered, RepresentsFormula, StoredOrExhausted}
 use Rattle.sat_checker.specs.declared.store.Placed.{Placed}
 use Rattle.sat_checker.specs.declared.store.Store.{Store}
 use Rattle.sat_checker.specs.declared.store.StoreError.{StoreError}
@@ -55,8 +55,8 @@ single_noted F false l id f e k u = record {
   clauses = k.clauses;
   units = k.units;
   status =
-      ap (λ (s : RestOfStored). record s { last = UnitClause id }) k.status
-      ∙ ap (λ o. record (standing_of (with_unit l f)) { last = o }) (sym (unit_there l id (with_unit l f).units f.last (ap (unit_id l) (sym k.units) ∙ u)));
+      ap (λ (s : StoredStatus). record s { last = UnitClause id }) k.status
+      ∙ ap (λ o. record (status_of (with_unit l f)) { last = o }) (sym (unit_there l id (with_unit l f).units f.last (ap (unit_id l) (sym k.units) ∙ u)));
   numbered = unit_noted (slot_ids F.store.clauses) (with_unit l f).units F.status.last (with_unit l f).next_id l id (ap (unit_id l) (sym k.units) ∙ u) k.numbered;
   room = k.room;
   marks = k.marks;
@@ -69,7 +69,7 @@ single_passed F false l f e k u = record {
   units = k.units;
   status =
       k.status
-      ∙ ap (λ o. record (standing_of (with_unit l f)) { last = o }) (last_same l f ∙ sym (unit_none l (with_unit l f).units f.last (ap (unit_id l) (sym k.units) ∙ u)));
+      ∙ ap (λ o. record (status_of (with_unit l f)) { last = o }) (last_same l f ∙ sym (unit_none l (with_unit l f).units f.last (ap (unit_id l) (sym k.units) ∙ u)));
   numbered = k.numbered;
   room = k.room;
   marks = k.marks;
@@ -103,7 +103,7 @@ count_more r n ls (c ∷ cs) = go r (same_literals c.literals ls) refl (count_mo
     go false true e ih = ap (λ b. irredundant_count (cond b (Some (with_count false c)) (clause_with ls cs))) e
     go r false e ih = ap (λ b. store_count_in r (cond b (Some c) (clause_with ls (with_stored_clause r n ls cs)))) e ∙ ih
 
-counts_spent : (f : Stored) (r : Bool) (ls : List ℕ) → 2 ^ 64 ≤ store_count_in r (clause_with ls f.clauses) → CountSpent f
+counts_spent : (f : Stored) (r : Bool) (ls : List ℕ) → 2 ^ 64 ≤ store_count_in r (clause_with ls f.clauses) → CountExhausted f
 counts_spent f true ls h = record { literals = ls; past = inr h }
 counts_spent f false ls h = record { literals = ls; past = inl h }
 
@@ -111,7 +111,7 @@ abbrev noted : Bool → Placed → Status → Status
 noted r p s = cond r s (record s { last = code.Long p.id })
 
 next_of : (F : Formula) (f : Stored) → RepresentsFormula F f → F.status.next_id ≡ f.next_id
-next_of F f k = ap (λ (s : RestOfStored). s.next_id) k.status
+next_of F f k = ap (λ (s : StoredStatus). s.next_id) k.status
 
 -- storing a new unit
 pub unit_stored : (F : Formula) (f : Stored) (l id : ℕ) (units : UnitsAndRoom) (status : Status) → RepresentsFormula F f → is_among (map (λ u. u.literal) F.units.units) l ≡ false → is_among (map (λ u. u.literal) F.units.units) (negated l) ≡ false → units ≡ record { units = F.units.units ++ (record { id = id; literal = l }) ∷ []; room = with_room l F.units.room }
@@ -123,7 +123,7 @@ unit_stored F f l id units status k a b u s =
     subst (RepresentsFormula (record F { units = units; status = status })) (sym e) (record {
       clauses = k.clauses;
       units = ap (λ (w : UnitsAndRoom). w.units) u ∙ ap (λ us. us ++ (record { id = id; literal = l }) ∷ []) k.units ∙ ap (λ n. f.units ++ (record { id = n; literal = l }) ∷ []) (s.0 ∙ next_of F f k);
-      status = ap standing_in s.1 ∙ ap (λ (t : RestOfStored). record t { next_id = t.next_id + 1 }) k.status;
+      status = ap status_in_code s.1 ∙ ap (λ (t : StoredStatus). record t { next_id = t.next_id + 1 }) k.status;
       numbered = subst (λ x. AreNumbered (slot_ids F.store.clauses) (with_new_unit l f).units x (f.next_id + 1)) (sym (ap (λ (t : Status). t.last) s.1)) (numbered_unit (slot_ids F.store.clauses) f.units F.status.last f.next_id l k.numbered);
       room = stored_stays F.units.room units.room f.clauses (subst (RoomStays F.units.room) (sym (ap (λ (w : UnitsAndRoom). w.room) u)) (room_stays l F.units.room)) k.room;
       marks = k.marks;
@@ -157,8 +157,8 @@ module _ (F : Formula) (store : Store) (f : Stored) (x y : ℕ) (ls : List ℕ) 
     clauses = kept_so true s.stored;
     units = k.units;
     status =
-        ap standing_in e ∙ ap (λ (t : RestOfStored). record t { next_id = cond p.is_new (t.next_id + 1) t.next_id }) k.status
-        ∙ ap (λ n. record (standing_of f) { next_id = n }) (next_swap (is_some there) p.is_new f.next_id s.new_is);
+        ap status_in_code e ∙ ap (λ (t : StoredStatus). record t { next_id = cond p.is_new (t.next_id + 1) t.next_id }) k.status
+        ∙ ap (λ n. record (status_of f) { next_id = n }) (next_swap (is_some there) p.is_new f.next_id s.new_is);
     numbered = subst (λ l. AreNumbered (slot_ids store.clauses) f.units l (cond (is_some there) f.next_id (f.next_id + 1))) (sym (ap (λ (t : Status). t.last) e)) (numbered_so h s.new_is);
     room = stored_with F.units.room true f.next_id all f.clauses roomy.0 k.room;
     marks = stored_with F.marks.room true f.next_id all f.clauses roomy.1 k.marks;
@@ -167,9 +167,9 @@ module _ (F : Formula) (store : Store) (f : Stored) (x y : ℕ) (ls : List ℕ) 
     clauses = kept_so false s.stored;
     units = k.units;
     status =
-        ap standing_in e ∙ ap (λ (t : RestOfStored). record t { last = LongClause p.id; next_id = cond p.is_new (t.next_id + 1) t.next_id }) k.status
-        ∙ ap (λ n. record (standing_of f) { last = LongClause p.id; next_id = n }) (next_swap (is_some there) p.is_new f.next_id s.new_is)
-        ∙ ap (λ l. record (standing_of f) { last = l; next_id = cond (is_some there) f.next_id (f.next_id + 1) }) (
+        ap status_in_code e ∙ ap (λ (t : StoredStatus). record t { last = LongClause p.id; next_id = cond p.is_new (t.next_id + 1) t.next_id }) k.status
+        ∙ ap (λ n. record (status_of f) { last = LongClause p.id; next_id = n }) (next_swap (is_some there) p.is_new f.next_id s.new_is)
+        ∙ ap (λ l. record (status_of f) { last = l; next_id = cond (is_some there) f.next_id (f.next_id + 1) }) (
         ap LongClause (s.id_is ∙ ap (id_in there) (next_of F f k)) ∙ sym (long_there false f.next_id all f.clauses f.last)
         );
     numbered =
@@ -183,11 +183,11 @@ module _ (F : Formula) (store : Store) (f : Stored) (x y : ℕ) (ls : List ℕ) 
   next_noted true = next_of F f k
   next_noted false = next_of F f k
 
-  long_spent : (r : Bool) → p.is_new ≡ not (is_some there) → p.is_new ≡ true → 2 ^ 64 ≤ (noted r p F.status).next_id + 1 → IsSpent (with_canonical r all f)
+  long_spent : (r : Bool) → p.is_new ≡ not (is_some there) → p.is_new ≡ true → 2 ^ 64 ≤ (noted r p F.status).next_id + 1 → CountersExhausted (with_canonical r all f)
   long_spent true n t h = inl (let a = next_noted true in let b = next_swap (is_some there) p.is_new f.next_id n in let d : cond p.is_new (f.next_id + 1) f.next_id ≡ f.next_id + 1 = ap (λ c. cond c (f.next_id + 1) f.next_id) t in omega (arith, a, b, d, h))
   long_spent false n t h = inl (let a = next_noted false in let b = next_swap (is_some there) p.is_new f.next_id n in let d : cond p.is_new (f.next_id + 1) f.next_id ≡ f.next_id + 1 = ap (λ c. cond c (f.next_id + 1) f.next_id) t in omega (arith, a, b, d, h))
 
-  count_spent : (r : Bool) → 2 ^ 64 ≤ store_count_in r there + 1 → IsSpent (with_canonical r all f)
+  count_spent : (r : Bool) → 2 ^ 64 ≤ store_count_in r there + 1 → CountersExhausted (with_canonical r all f)
   count_spent true h = inr (counts_spent (with_canonical true all f) true all (let e = count_more true f.next_id all f.clauses in omega (arith, e, h)))
   count_spent false h = inr (counts_spent (with_canonical false all f) false all (let e = count_more false f.next_id all f.clauses in omega (arith, e, h)))
 
@@ -197,26 +197,26 @@ Takes result old needed new =
     MatchResult result (λ x. new ≡ record old { next_id = cond needed (old.next_id + 1) old.next_id }) (λ e. (e ≡ CounterEnd) × (needed ≡ true) × (2 ^ 64 ≤ old.next_id + 1))
 
 pub long_stored : {T : Type 0} (result : Result T StoreError) (F : Formula) (store : Store) (was status : Status) (f : Stored) (r : Bool) (ls : List ℕ) (p : Placed) → 2 ≤ length ls → RepresentsFormula F f → HasClauseRoom F.units.room ls × HasClauseRoom F.marks.room ls → StoreEffect store f F.status.next_id r ls p.id p.is_new → PlacesIds F.store.clauses store.clauses F.status.next_id p.is_new
-    → was ≡ noted r p F.status → Takes result was p.is_new status → KeepsOrSpends result (RepresentsFormula (record F { store = store; status = status }) (with_canonical r ls f)) (with_canonical r ls f)
+    → was ≡ noted r p F.status → Takes result was p.is_new status → StoredOrExhausted result (RepresentsFormula (record F { store = store; status = status }) (with_canonical r ls f)) (with_canonical r ls f)
 long_stored result F store was status f r [] p l k q s h w m = absurd (omega arith)
 long_stored result F store was status f r (x ∷ []) p l k q s h w m = absurd (omega arith)
 long_stored {T = T} result F store was status f r (x ∷ y ∷ ls) p l k q s h w m = go result (subst (λ t. Takes result t p.is_new status) w m)
   where
-    go : (result : Result T StoreError) → Takes result (noted r p F.status) p.is_new status → KeepsOrSpends result (RepresentsFormula (record F { store = store; status = status }) (with_canonical r (x ∷ y ∷ ls) f)) (with_canonical r (x ∷ y ∷ ls) f)
+    go : (result : Result T StoreError) → Takes result (noted r p F.status) p.is_new status → StoredOrExhausted result (RepresentsFormula (record F { store = store; status = status }) (with_canonical r (x ∷ y ∷ ls) f)) (with_canonical r (x ∷ y ∷ ls) f)
     go (Ok v) m = long_done F store f x y ls p k r status q s h m
     go (Err e) m =
-        subst (λ d. KeepsOrSpends {T = T} (Err d) (RepresentsFormula (record F { store = store; status = status }) (with_canonical r (x ∷ y ∷ ls) f)) (with_canonical r (x ∷ y ∷ ls) f)) (sym m.0) (long_spent F store f x y ls p k r s.new_is m.1 m.2)
+        subst (λ d. StoredOrExhausted {T = T} (Err d) (RepresentsFormula (record F { store = store; status = status }) (with_canonical r (x ∷ y ∷ ls) f)) (with_canonical r (x ∷ y ∷ ls) f)) (sym m.0) (long_spent F store f x y ls p k r s.new_is m.1 m.2)
 
 long_fails : (e : StoreError) (T K : Type 0) (F : Formula) (f : Stored) (r : Bool) (ls : List ℕ) → 2 ≤ length ls → RepresentsFormula F f
-    → (e ≡ CounterEnd → 2 ^ 64 ≤ store_count_in r (clause_with ls f.clauses) + 1) → KeepsOrSpends {T = T} (Err e) K (with_canonical r ls f)
+    → (e ≡ CounterEnd → 2 ^ 64 ≤ store_count_in r (clause_with ls f.clauses) + 1) → StoredOrExhausted {T = T} (Err e) K (with_canonical r ls f)
 long_fails e T K F f r [] l k h = absurd (omega arith)
 long_fails e T K F f r (x ∷ []) l k h = absurd (omega arith)
 long_fails OutOfMemory T K F f r (x ∷ y ∷ ls) l k h = tt
 long_fails CounterEnd T K F f r (x ∷ y ∷ ls) l k h = count_spent F F.store f x y ls (record { id = 0; is_new = true; irredundant = 0 }) k r (h refl)
 
 pub long_refused : {T : Type 0} (result : Result T StoreError) (d e : StoreError) → result ≡ Err d → d ≡ e → (K : Type 0) (F : Formula) (f : Stored) (r : Bool) (ls : List ℕ) → 2 ≤ length ls → RepresentsFormula F f
-    → (e ≡ CounterEnd → 2 ^ 64 ≤ store_count_in r (clause_with ls f.clauses) + 1) → KeepsOrSpends result K (with_canonical r ls f)
-long_refused {T = T} result d e i s K F f r ls l k h = subst (λ x. KeepsOrSpends x K (with_canonical r ls f)) (sym (i ∙ ap Err s)) (long_fails e T K F f r ls l k h)
+    → (e ≡ CounterEnd → 2 ^ 64 ≤ store_count_in r (clause_with ls f.clauses) + 1) → StoredOrExhausted result K (with_canonical r ls f)
+long_refused {T = T} result d e i s K F f r ls l k h = subst (λ x. StoredOrExhausted x K (with_canonical r ls f)) (sym (i ∙ ap Err s)) (long_fails e T K F f r ls l k h)
 
 -- the next id does not decrease
 next_unit : (l : ℕ) (f : Stored) → f.next_id ≤ (with_unit l f).next_id
@@ -253,17 +253,17 @@ next_input n m true l e = let h : m ≡ n = eqb-true m n (sym e) in omega arith
 next_input n m false l e = let h : (m ≡ n → ⊥) = eqb-false m n (sym e) in omega arith
 
 pub input_stored : {T : Type 0} (result : Result T StoreError) (F G : Formula) (status : Status) (f : Stored) (c : List ℕ) (b : Bool) → RepresentsFormula F f → RepresentsFormula G (with_stored false c f) → b ≡ eqb G.status.next_id F.status.next_id
-    → Takes result G.status b status → KeepsOrSpends result (RepresentsFormula (record G { status = status }) (with_input c f)) (with_input c f)
+    → Takes result G.status b status → StoredOrExhausted result (RepresentsFormula (record G { status = status }) (with_input c f)) (with_input c f)
 input_stored {T = T} result F G status f c b k g e m = go result m
   where
     same : cond b ((with_stored false c f).next_id + 1) (with_stored false c f).next_id ≡ max (with_stored false c f).next_id (f.next_id + 1)
     same = next_input f.next_id (with_stored false c f).next_id b (next_stored false c f) (e ∙ ap (λ n. eqb n F.status.next_id) (next_of G (with_stored false c f) g) ∙ ap (eqb (with_stored false c f).next_id) (next_of F f k))
 
-    go : (result : Result T StoreError) → Takes result G.status b status → KeepsOrSpends result (RepresentsFormula (record G { status = status }) (with_input c f)) (with_input c f)
+    go : (result : Result T StoreError) → Takes result G.status b status → StoredOrExhausted result (RepresentsFormula (record G { status = status }) (with_input c f)) (with_input c f)
     go (Ok v) m = record {
       clauses = g.clauses;
       units = g.units;
-      status = ap standing_in m ∙ ap (λ (t : RestOfStored). record t { next_id = cond b (t.next_id + 1) t.next_id }) g.status ∙ ap (λ n. record (standing_of (with_stored false c f)) { next_id = n }) same;
+      status = ap status_in_code m ∙ ap (λ (t : StoredStatus). record t { next_id = cond b (t.next_id + 1) t.next_id }) g.status ∙ ap (λ n. record (status_of (with_stored false c f)) { next_id = n }) same;
       numbered =
           subst (λ l. AreNumbered (slot_ids G.store.clauses) (with_stored false c f).units l (with_input c f).next_id) (sym (ap (λ (t : Status). t.last) m))
           (numbered_more (slot_ids G.store.clauses) (with_stored false c f).units G.status.last (with_stored false c f).next_id (with_input c f).next_id (omega arith) g.numbered);
@@ -271,7 +271,7 @@ input_stored {T = T} result F G status f c b k g e m = go result m
       marks = g.marks;
     }
     go (Err e) m =
-        subst (λ d. KeepsOrSpends {T = T} (Err d) (RepresentsFormula (record G { status = status }) (with_input c f)) (with_input c f)) (sym m.0)
+        subst (λ d. StoredOrExhausted {T = T} (Err d) (RepresentsFormula (record G { status = status }) (with_input c f)) (with_input c f)) (sym m.0)
         (inl (let a = next_of G (with_stored false c f) g in let t = ap (λ x. cond x ((with_stored false c f).next_id + 1) (with_stored false c f).next_id) m.1 in omega (arith, a, t, same, m.2)))
 
 -- cases by the number of literals

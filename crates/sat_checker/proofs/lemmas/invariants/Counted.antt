@@ -4,7 +4,7 @@ use Rattle.sat_base.specs.values.Literals.{negated}
 use Rattle.sat_base.specs.steps.Steps.{Redundant, Simplified, Satisfied, Step, SolverVarName, UserVarName, AddClause, AtClause, UnitClauses, DeleteClause}
 use Rattle.sat_checker.specs.LiteralSets.{is_tautology, canonical}
 use Rattle.sat_checker.specs.Stored.{StoredClause, Stored, is_unit}
-use Rattle.sat_checker.specs.Storing.{with_unit, with_units, with_contradiction, with_new_unit, settled_by, settled, with_canonical, with_set, without_clause, with_stored, with_input, with_literals_known}
+use Rattle.sat_checker.specs.Storing.{with_unit, with_units, with_contradiction, with_new_unit, settled_by, with_conflict_settled, with_canonical, with_set, without_clause, with_stored, with_input, with_literals_known}
 use Rattle.sat_checker.specs.Accepts.{effect, stored_after, ready_after}
 use Rattle.sat_checker.specs.Invariants.{EachOnce, EachCounted}
 use Rattle.sat_checker.proofs.lemmas.contents.Counts.{once_more, once_less, counted_more, counted_less}
@@ -60,7 +60,7 @@ tidy_effect (DeleteClause clause Simplified) f h = tidy_less false (canonical cl
 tidy_effect (DeleteClause clause Satisfied) f h = tidy_less false (canonical clause) f.clauses h
 tidy_effect step f h = h
 
-pub tidy_settled : (f : Stored) → TidyClauses f.clauses → TidyClauses (settled f).clauses
+pub tidy_settled : (f : Stored) → TidyClauses f.clauses → TidyClauses (with_conflict_settled f).clauses
 tidy_settled f h = go f.conflict
   where
     go : (o : Option (ℕ × ℕ)) → TidyClauses (settled_by o f).clauses

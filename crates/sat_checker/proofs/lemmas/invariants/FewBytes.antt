@@ -8,11 +8,11 @@ use Rattle.sat_base.specs.steps.Steps.{Redundant, Simplified, Satisfied, Step, S
 use Rattle.sat_base.specs.steps.StepText.{IsLiteral, IsHash, AreLiterals, SpellsFields, SpellsStep, SpellsSteps, tag_of}
 use Rattle.sat_checker.specs.LiteralSets.{is_tautology, canonical, same_literals}
 use Rattle.sat_checker.specs.Stored.{StoredClause, Stored, is_unit}
-use Rattle.sat_checker.specs.Storing.{with_count, with_stored_clause, clause_with, irredundant_count, redundant_count, without_count, unless_gone, without_clause, with_unit, with_units, with_contradiction, with_new_unit, settled_by, settled, with_set, with_canonical, with_stored, with_input, with_literals_known}
+use Rattle.sat_checker.specs.Storing.{with_count, with_stored_clause, clause_with, irredundant_count, redundant_count, without_count, unless_gone, without_clause, with_unit, with_units, with_contradiction, with_new_unit, settled_by, with_conflict_settled, with_set, with_canonical, with_stored, with_input, with_literals_known}
 use Rattle.sat_checker.specs.Accepts.{effect, stored_after}
 use Rattle.sat_checker.specs.ProofView.{most_bytes, taken_after}
-use Rattle.sat_checker.specs.Spent.{IsSpent}
-use Rattle.sat_checker.specs.FewBytes.{IdsWithinBytes, NoneIsSpent}
+use Rattle.sat_checker.specs.Counters.{CountersExhausted}
+use Rattle.sat_checker.specs.FewBytes.{IdsWithinBytes, CountersNeverExhausted}
 use Rattle.sat_checker.proofs.lemmas.checker.Proofs.{taken_one}
 
 -- IDS
@@ -86,21 +86,21 @@ effect_more (UnitClauses us) f =
 effect_more (DeleteClause clause Redundant) f = none_more f.next_id
 effect_more step f = none_more f.next_id
 
-settled_more : (f : Stored) → (settled f).next_id ≤ f.next_id + 1
+settled_more : (f : Stored) → (with_conflict_settled f).next_id ≤ f.next_id + 1
 settled_more f = go f.conflict
   where
     go : (o : Option (ℕ × ℕ)) → (settled_by o f).next_id ≤ f.next_id + 1
     go None = omega arith
     go (Some units) = omega arith
 
-settled_least : (f : Stored) → f.next_id ≤ (settled f).next_id
+settled_least : (f : Stored) → f.next_id ≤ (with_conflict_settled f).next_id
 settled_least f = go f.conflict
   where
     go : (o : Option (ℕ × ℕ)) → f.next_id ≤ (settled_by o f).next_id
     go None = omega arith
     go (Some units) = omega arith
 
-settled_clauses : (f : Stored) → (settled f).clauses ≡ f.clauses
+settled_clauses : (f : Stored) → (with_conflict_settled f).clauses ≡ f.clauses
 settled_clauses f = go f.conflict
   where
     go : (o : Option (ℕ × ℕ)) → (settled_by o f).clauses ≡ f.clauses
@@ -248,19 +248,19 @@ step_takes step bytes h = let a = fields_take step h.0 h.2 in let e : length byt
 
 -- STEPS AND THEIR BYTES
 record Within (f : Stored) (n : ℕ) : Type 0 where
-  ids : (settled f).next_id ≤ n
+  ids : (with_conflict_settled f).next_id ≤ n
   counts : CountsWithin n f.clauses
 
-one_within : (step : Step) (f : Stored) (bytes : List ℕ) (n : ℕ) → SpellsStep step bytes → Within f n → Within (effect step (settled f)) (n + length bytes)
+one_within : (step : Step) (f : Stored) (bytes : List ℕ) (n : ℕ) → SpellsStep step bytes → Within f n → Within (effect step (with_conflict_settled f)) (n + length bytes)
 one_within step f bytes n s w =
     let t = step_takes step bytes s in
-    let a = effect_more step (settled f) in
-    let b = settled_more (effect step (settled f)) in
+    let a = effect_more step (with_conflict_settled f) in
+    let b = settled_more (effect step (with_conflict_settled f)) in
     let i = w.ids in
     record {
       ids = omega arith;
-      counts = within_more (n + 1) (n + length bytes) (effect step (settled f)).clauses (omega arith)
-          (within_effect n step (settled f) (subst (CountsWithin n) (sym (settled_clauses f)) w.counts));
+      counts = within_more (n + 1) (n + length bytes) (effect step (with_conflict_settled f)).clauses (omega arith)
+          (within_effect n step (with_conflict_settled f) (subst (CountsWithin n) (sym (settled_clauses f)) w.counts));
     }
 
 all_within : (steps earlier : List Step) (text : List ℕ) (n : ℕ) → SpellsSteps steps text → Within (stored_after earlier) n → Within (stored_after (taken_after steps earlier)) (n + length text)
@@ -281,7 +281,7 @@ within_bytes steps text s = subst (Within (stored_after (taken_after steps [])))
     none_before : (n : ℕ) → 0 + n ≡ n
     none_before n = omega arith
 
-not_spent : (f : Stored) (n : ℕ) → f.next_id ≤ n → CountsWithin n f.clauses → n ≤ most_bytes → IsSpent f → ⊥
+not_spent : (f : Stored) (n : ℕ) → f.next_id ≤ n → CountsWithin n f.clauses → n ≤ most_bytes → CountersExhausted f → ⊥
 not_spent f n i c l spent = elim spent [
   | inl h ↦ absurd (let e : most_bytes < 2 ^ 64 = omega arith in omega arith)
   | inr h ↦ elim h.past [
@@ -308,16 +308,16 @@ front_of (step ∷ steps) others text s =
     let l = k.shorter in
     record { bytes = s.0 ++ k.bytes; spelt = (s.0, k.bytes, s.2, k.spelt, refl); shorter = omega arith }
 
-pub none_is_spent : NoneIsSpent
+pub none_is_spent : CountersNeverExhausted
 none_is_spent steps step text s l spent = elim spent [
   | inl h ↦ (
       let k = front_of steps (step ∷ []) text s in
       let w = within_bytes steps k.bytes k.spelt in
       let f : Stored = stored_after (taken_after steps []) in
-      not_spent (settled f) (length k.bytes) w.ids (subst (CountsWithin (length k.bytes)) (sym (settled_clauses f)) w.counts) (let e = k.shorter in omega arith) h
+      not_spent (with_conflict_settled f) (length k.bytes) w.ids (subst (CountsWithin (length k.bytes)) (sym (settled_clauses f)) w.counts) (let e = k.shorter in omega arith) h
       )
   | inr h ↦ (
-      let g : Stored = effect step (settled (stored_after (taken_after steps []))) in
+      let g : Stored = effect step (with_conflict_settled (stored_after (taken_after steps []))) in
       let w : Within g (length text) = subst (λ z. Within (stored_after z) (length text)) (taken_one steps step []) (within_bytes (steps ++ step ∷ []) text s) in
       not_spent g (length text) (let i = w.ids in let a = settled_least g in omega arith) w.counts l h.1
       )

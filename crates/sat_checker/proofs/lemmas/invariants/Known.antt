@@ -6,7 +6,7 @@ use Rattle.sat_base.specs.values.Literals.{variable}
 use Rattle.sat_base.specs.steps.Steps.{Redundant, Simplified, Satisfied, Step, SolverVarName, UserVarName, DeleteVar, AddClause, AtClause, UnitClauses, DeleteClause, ChangeHashBits, Model, Assumptions, FailedAssumptions, End}
 use Rattle.sat_checker.specs.LiteralSets.{is_among, mentions, canonical}
 use Rattle.sat_checker.specs.Stored.{StoredClause, StoredUnit, unknown, Stored, unit_literals, long_clauses, is_known}
-use Rattle.sat_checker.specs.Storing.{settled_by, settled, with_stored, with_input, with_units, with_literals_known, without_variable}
+use Rattle.sat_checker.specs.Storing.{settled_by, with_conflict_settled, with_stored, with_input, with_units, with_literals_known, without_variable}
 use Rattle.sat_checker.specs.Accepts.{MayBeDeleted, Accepts, AcceptsAll, effect, stored_after, ready_after}
 use Rattle.sat_checker.specs.Invariants.{AllKnown}
 use Rattle.sat_checker.proofs.lemmas.sets.Members.{canonical_each, each_member, each_weaker}
@@ -142,7 +142,7 @@ module _ (f : Stored) (k : KnowsAll f) where
   knows_effect End a = record { clauses_known = k.clauses_known; units_known = k.units_known; assumed_known = k.assumed_known }
   knows_effect step a = stays step (λ w e. absurd cc)
 
-knows_settled : (f : Stored) → KnowsAll f → KnowsAll (settled f)
+knows_settled : (f : Stored) → KnowsAll f → KnowsAll (with_conflict_settled f)
 knows_settled f k = go f.conflict
   where
     go : (o : Option (ℕ × ℕ)) → KnowsAll (settled_by o f)

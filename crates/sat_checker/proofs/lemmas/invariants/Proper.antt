@@ -6,7 +6,7 @@ use Rattle.sat_base.specs.values.Literals.{negated}
 use Rattle.sat_base.specs.steps.Steps.{Redundant, Simplified, Satisfied, Step, SolverVarName, UserVarName, AddClause, AtClause, UnitClauses, DeleteClause}
 use Rattle.sat_checker.specs.LiteralSets.{is_tautology, canonical}
 use Rattle.sat_checker.specs.Stored.{Stored, long_clauses}
-use Rattle.sat_checker.specs.Storing.{settled_by, settled, with_input, with_literals_known}
+use Rattle.sat_checker.specs.Storing.{settled_by, with_conflict_settled, with_input, with_literals_known}
 use Rattle.sat_checker.specs.Accepts.{effect, stored_after, ready_after}
 use Rattle.sat_checker.specs.Invariants.{IsProper}
 use Rattle.sat_checker.proofs.lemmas.sets.Canonical.{canonical_among, canonical_increasing, tautology_from, both_signs}
@@ -39,7 +39,7 @@ proper_effect (DeleteClause clause Simplified) f h = each_without IsProper false
 proper_effect (DeleteClause clause Satisfied) f h = each_without IsProper false (canonical clause) f.clauses h
 proper_effect step f h = h
 
-proper_settled : (f : Stored) → AllByRecursion IsProper (long_clauses f) → AllByRecursion IsProper (long_clauses (settled f))
+proper_settled : (f : Stored) → AllByRecursion IsProper (long_clauses f) → AllByRecursion IsProper (long_clauses (with_conflict_settled f))
 proper_settled f h = go f.conflict
   where
     go : (o : Option (ℕ × ℕ)) → AllByRecursion IsProper (long_clauses (settled_by o f))

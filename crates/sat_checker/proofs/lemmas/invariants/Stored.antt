@@ -7,7 +7,7 @@ use Rattle.sat_checker.specs.Stored.{Stored, is_unit}
 use Rattle.sat_checker.specs.Storing.{clause_with, irredundant_count, redundant_count, with_contradiction, with_new_unit, with_unit, with_units, with_set, with_canonical, with_stored, with_input, with_literals_known}
 use Rattle.sat_checker.specs.Accepts.{stored_after}
 use Rattle.sat_checker.specs.Contents.{count_of}
-use Rattle.sat_checker.specs.Invariants.{AlwaysTidy, UnsatStays, AllClausesHold, TakingCounts, CountedIsStored}
+use Rattle.sat_checker.specs.Invariants.{StoredInvariantHolds, UnsatStays, AllClausesHold, TakingCounts, CountedIsStored}
 use Rattle.sat_checker.proofs.lemmas.meaning.Meaning.{means_ready}
 use Rattle.sat_checker.proofs.lemmas.meaning.Orderly.{orderly_settled}
 use Rattle.sat_checker.proofs.lemmas.meaning.OrderlySteps.{orderly}
@@ -16,7 +16,7 @@ use Rattle.sat_checker.proofs.lemmas.invariants.Counted.{tidy_clauses}
 use Rattle.sat_checker.proofs.lemmas.invariants.Proper.{all_proper}
 use Rattle.sat_checker.proofs.lemmas.invariants.Known.{all_known}
 
-pub always_tidy : AlwaysTidy
+pub always_tidy : StoredInvariantHolds
 always_tidy steps ok =
     let c = tidy_clauses steps in
     let o = orderly_settled (stored_after steps) (orderly steps ok) in

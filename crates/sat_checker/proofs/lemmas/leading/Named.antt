@@ -5,10 +5,10 @@ use Rattle.std.proofs.lemmas.Bool.{both_ways, eq-eqb, true≢false}
 use Rattle.std.specs.List.{AllByRecursion}
 use Rattle.sat_base.specs.values.Literals.{negated}
 use Rattle.sat_checker.specs.LiteralSets.{canonical, same_literals}
-use Rattle.sat_checker.specs.Propagation.{IsSubsequence, LeadToConflict, clauses_in, conflict}
+use Rattle.sat_checker.specs.Propagation.{IsSubsequence, BucketsConflict, clauses_in, conflict}
 use Rattle.sat_checker.specs.Stored.{StoredClause, Stored, unit_literals, long_clauses, hash_by, bucket}
 use Rattle.sat_checker.specs.Storing.{clause_with}
-use Rattle.sat_checker.specs.Leading.{LeadsToConflict, AreStoredByHash, denied, LeadingPasses}
+use Rattle.sat_checker.specs.Leading.{PropagatesToConflict, AreStoredByHash, stored_rup_assumptions, LeadingPasses}
 use Rattle.sat_checker.proofs.lemmas.sets.Order.{among-append}
 use Rattle.sat_checker.proofs.lemmas.meaning.Clauses.{same}
 use Rattle.sat_checker.proofs.lemmas.leading.AnyOrder.{hash_any_order}
@@ -89,9 +89,9 @@ in_buckets f (c ∷ cs) [] h = absurd h
 in_buckets f (c ∷ cs) (k ∷ ks) h =
     (in_bucket f (canonical c) k (has_found (canonical c) f.clauses h.0.stored) (hash_any_order f.solver_names f.width c h.0.once ∙ sym h.0.hash), in_buckets f cs ks h.1)
 
-lead_to_conflict : (f : Stored) (clause hashes : List ℕ) (named : List (List ℕ)) → AreStoredByHash f named hashes → LeadsToConflict (denied f clause) named → LeadToConflict (map negated clause ++ unit_literals f) (map (bucket f) hashes)
+lead_to_conflict : (f : Stored) (clause hashes : List ℕ) (named : List (List ℕ)) → AreStoredByHash f named hashes → PropagatesToConflict (stored_rup_assumptions f clause) named → BucketsConflict (map negated clause ++ unit_literals f) (map (bucket f) hashes)
 lead_to_conflict f clause hashes named n lead =
-    let r = picked_from (map canonical named) (denied f clause) (map negated clause ++ unit_literals f) (λ l. sym (among-append (map negated clause) (unit_literals f) l)) (sorted_lead named (denied f clause) lead) in
+    let r = picked_from (map canonical named) (stored_rup_assumptions f clause) (map negated clause ++ unit_literals f) (λ l. sym (among-append (map negated clause) (unit_literals f) l)) (sorted_lead named (stored_rup_assumptions f clause) lead) in
     let s = in_buckets f named hashes n in
     record {
       first = map (bucket f) hashes;

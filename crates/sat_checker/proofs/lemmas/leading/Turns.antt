@@ -5,7 +5,7 @@ use Rattle.std.specs.List.{AllByRecursion}
 use Rattle.sat_base.specs.values.Literals.{negated}
 use Rattle.sat_checker.specs.LiteralSets.{is_among, canonical}
 use Rattle.sat_checker.specs.Propagation.{IsFalsified, UnitInTurn, IsSubsequence}
-use Rattle.sat_checker.specs.Leading.{LeadsToConflict, TurnsLead, TurnsConflict, LeadsOnMore}
+use Rattle.sat_checker.specs.Leading.{PropagatesToConflict, TurnsLead, TurnsConflict, LeadsOnMore}
 use Rattle.sat_checker.proofs.lemmas.sets.Canonical.{canonical_among}
 use Rattle.sat_checker.proofs.lemmas.sets.Members.{canonical_each}
 use Rattle.sat_checker.proofs.lemmas.propagation.Soundness.{conflict_never}
@@ -45,13 +45,13 @@ unit_first assumed c o rest w t f others r = go r.picked r.chosen r.conflict
     go (d ∷ ds) s k = record { picked = c ∷ d ∷ ds; chosen = inl (refl, s); conflict = (o, record { within = w; not_true = t; not_false = f; others = others }, k) }
 
 -- The picked clauses are unit in turn: those whose open literal has no value, up to the first falsified clause.
-pub picked_from : (cs : List (List ℕ)) (holds : ℕ → Bool) (assumed : List ℕ) → HoldsAs holds assumed → LeadsToConflict holds cs → Picked assumed cs
+pub picked_from : (cs : List (List ℕ)) (holds : ℕ → Bool) (assumed : List ℕ) → HoldsAs holds assumed → PropagatesToConflict holds cs → Picked assumed cs
 picked_from [] holds assumed same h = absurd h
 picked_from (c ∷ []) holds assumed same h = record { picked = c ∷ []; chosen = inl (refl, tt); conflict = falsified_by holds assumed c same h }
 picked_from (c ∷ d ∷ cs) holds assumed same h = go (picked_from (d ∷ cs)) (is_among assumed h.0) refl (is_among assumed (negated h.0)) refl
   where
     Rest : Type 0
-    Rest = (holds : ℕ → Bool) (assumed : List ℕ) → HoldsAs holds assumed → LeadsToConflict holds (d ∷ cs) → Picked assumed (d ∷ cs)
+    Rest = (holds : ℕ → Bool) (assumed : List ℕ) → HoldsAs holds assumed → PropagatesToConflict holds (d ∷ cs) → Picked assumed (d ∷ cs)
 
     already : is_among assumed h.0 ≡ true → HoldsAs (λ l. eqb h.0 l || holds l) assumed
     already t l = pick (eqb h.0 l) refl
@@ -63,12 +63,12 @@ picked_from (c ∷ d ∷ cs) holds assumed same h = go (picked_from (d ∷ cs)) 
     skip : Picked assumed (d ∷ cs) → Picked assumed (c ∷ d ∷ cs)
     skip r = record { picked = r.picked; chosen = longer r.picked c (d ∷ cs) r.chosen; conflict = r.conflict }
 
-    go : ((holds : ℕ → Bool) (assumed : List ℕ) → HoldsAs holds assumed → LeadsToConflict holds (d ∷ cs) → Picked assumed (d ∷ cs)) → (b : Bool) → is_among assumed h.0 ≡ b → (e : Bool) → is_among assumed (negated h.0) ≡ e → Picked assumed (c ∷ d ∷ cs)
+    go : ((holds : ℕ → Bool) (assumed : List ℕ) → HoldsAs holds assumed → PropagatesToConflict holds (d ∷ cs) → Picked assumed (d ∷ cs)) → (b : Bool) → is_among assumed h.0 ≡ b → (e : Bool) → is_among assumed (negated h.0) ≡ e → Picked assumed (c ∷ d ∷ cs)
     go ih true t e f = skip (ih (λ l. eqb h.0 l || holds l) assumed (already t) h.3)
     go ih false t true f = record { picked = c ∷ []; chosen = inl (refl, tt); conflict = all_false holds assumed c h.0 same f h.1 }
     go ih false t false f = unit_first assumed c h.0 (d ∷ cs) h.2 t f (others_by holds assumed c h.0 same h.1) (ih (λ l. eqb h.0 l || holds l) (h.0 ∷ assumed) (λ l. ap (λ b. eqb h.0 l || b) (same l)) h.3)
 
-pub sorted_lead : (cs : List (List ℕ)) (holds : ℕ → Bool) → LeadsToConflict holds cs → LeadsToConflict holds (map canonical cs)
+pub sorted_lead : (cs : List (List ℕ)) (holds : ℕ → Bool) → PropagatesToConflict holds cs → PropagatesToConflict holds (map canonical cs)
 sorted_lead [] holds h = h
 sorted_lead (c ∷ []) holds h = canonical_each (λ l. holds (negated l) ≡ true) c h
 sorted_lead (c ∷ d ∷ cs) holds h =

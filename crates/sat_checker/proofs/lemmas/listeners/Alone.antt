@@ -3,7 +3,7 @@ use Rattle.std.proofs.Common.{ℕ, ◌≡◌, List, [], ◌∷◌, Result, Ok, E
 use Rattle.anyhow.specs.declared.error.Error.{Error}
 use Rattle.sat_base.specs.device.Device.{Reader}
 use Rattle.sat_base.specs.steps.Steps.{Step}
-use Rattle.sat_checker.specs.CheckerView.{CheckerView, seen, HasAccepted, Fails, FailsRefusing, FailsBeforeStep, FailsAtListener, BreaksAt, RunsOutOfMemoryAt, AnswersStep, AnswersDelayed}
+use Rattle.sat_checker.specs.CheckerView.{CheckerView, seen, HasAccepted, Fails, FailsRefusing, FailsBeforeStep, FailsByListenerFault, BreaksAt, RunsOutOfMemoryAt, AnswersStep, AnswersDelayed}
 use Rattle.sat_checker.specs.ProofView.{ReadsProofPart, HasAcceptedUnfailed, AnswersProof}
 use Rattle.sat_checker.specs.announcements.Announcements.{Notice}
 use Rattle.sat_checker.specs.listeners.Hearing.{Hearers, hearers, takes_all, HearsAll, HearsUpTo, HearsSince, HearsSinceUpTo, HearsFirst}
@@ -66,7 +66,7 @@ module _ {V L : Type 0} (Hears : L → Notice → Result Unit ProcessingError �
       heard = elim f.heard [ inl h ↦ inl (since_down before _ (hearers nobody begun) c.listeners h) | inr h ↦ inr (since_down before _ (hearers nobody begun) c.listeners h) ];
     }
 
-    breaks_down : (e : ProcessingError) (ts : List Notice) (c : CheckerView (Hearers V L)) (steps : List Step) → FailsAtListener (HearsFirst takes_all Hears) before (hearers nobody begun) e ts c steps → FailsAtListener Hears before begun e ts (others_of c) steps
+    breaks_down : (e : ProcessingError) (ts : List Notice) (c : CheckerView (Hearers V L)) (steps : List Step) → FailsByListenerFault (HearsFirst takes_all Hears) before (hearers nobody begun) e ts c steps → FailsByListenerFault Hears before begun e ts (others_of c) steps
     breaks_down e ts c steps f = record { fails = fails_down c steps f.fails; heard = since_down_to e before ts (hearers nobody begun) c.listeners f.heard }
 
     breaks_at_down : (e : ProcessingError) (c : CheckerView (Hearers V L)) (step : Step) (steps : List Step) → BreaksAt (HearsFirst takes_all Hears) before (hearers nobody begun) e c step steps → BreaksAt Hears before begun e (others_of c) step steps

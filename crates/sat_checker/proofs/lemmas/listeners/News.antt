@@ -3,9 +3,9 @@ use Rattle.std.proofs.Common.{ℕ, zero, suc, ◌<◌, ◌≡◌, List, [], ◌�
 use Rattle.std.proofs.lemmas.List.{get_or-map, get_or_append_left, get_or_at, length-map, map-append, take-map}
 use Rattle.std.specs.List.{All}
 use Rattle.sat_checker.specs.announcements.Announcements.{Announcement}
-use Rattle.sat_checker.specs.listeners.NewsView.{announcement_with, announcement_at, IsItem}
-use Rattle.sat_checker.specs.declared.announce.news.Kind.{Kind}
-use Rattle.sat_checker.specs.declared.announce.news.Item.{Item}
+use Rattle.sat_checker.specs.listeners.PendingView.{announcement_with, announcement_at, IsItem}
+use Rattle.sat_checker.specs.declared.announce.pending.AnnouncementKind.{AnnouncementKind}
+use Rattle.sat_checker.specs.declared.announce.pending.Item.{Item}
 
 abbrev pub Lists : Type 0
 Lists = List (List ℕ)
@@ -35,7 +35,7 @@ all_pushed P [] i right p (suc k) d l = absurd (omega arith)
 all_pushed P (x ∷ is) i right p zero d l = right 0 d (omega arith)
 all_pushed P (x ∷ is) i right p (suc k) d l = all_pushed P is i (λ j e m. right (suc j) e (omega arith)) p k d (omega arith)
 
-pub items_pushed : (ls ids new newer : Lists) (l p : List ℕ) (kind : Kind) (a b : ℕ) (is js : List Item) → All (IsItem ls ids) is → new ≡ ls ++ l ∷ [] → newer ≡ ids ++ p ∷ [] → a ≡ length ls → b ≡ length ids
+pub items_pushed : (ls ids new newer : Lists) (l p : List ℕ) (kind : AnnouncementKind) (a b : ℕ) (is js : List Item) → All (IsItem ls ids) is → new ≡ ls ++ l ∷ [] → newer ≡ ids ++ p ∷ [] → a ≡ length ls → b ≡ length ids
     → js ≡ is ++ (record { kind = kind; literals = a; ids = b }) ∷ [] → All (IsItem new newer) js
 items_pushed ls ids new newer l p kind a b is js right n m e f j =
     rw (n, m, j)
@@ -54,7 +54,7 @@ pub seen_more : (ls ids new newer more less : Lists) (is js : List Item) (value 
 seen_more ls ids new newer more less is js value right v n m j = rw (n, m, j) (same_items ls ids more less is right ∙ v)
 
 -- one more announcement is appended
-pub seen_pushed : (ls ids new newer : Lists) (l p : List ℕ) (kind : Kind) (a b : ℕ) (is js : List Item) (value : List Announcement) → All (IsItem ls ids) is → map (announcement_at ls ids) is ≡ value →
+pub seen_pushed : (ls ids new newer : Lists) (l p : List ℕ) (kind : AnnouncementKind) (a b : ℕ) (is js : List Item) (value : List Announcement) → All (IsItem ls ids) is → map (announcement_at ls ids) is ≡ value →
     new ≡ ls ++ l ∷ [] → newer ≡ ids ++ p ∷ [] → a ≡ length ls → b ≡ length ids → js ≡ is ++ (record { kind = kind; literals = a; ids = b }) ∷ [] →
     map (announcement_at new newer) js ≡ value ++ announcement_with kind l p ∷ []
 seen_pushed ls ids new newer l p kind a b is js value right v n m e f j =

@@ -7,7 +7,7 @@ use Rattle.sat_checker.specs.Storing.{clause_with, with_unit, with_contradiction
 use Rattle.sat_checker.specs.announcements.Announcements.{derived, derived_units}
 use Rattle.sat_checker.specs.inner.FormulaView.{RepresentsFormula}
 use Rattle.sat_checker.specs.listeners.AnnouncingView.{AreLong}
-use Rattle.sat_checker.specs.listeners.NotedView.{AppendsNews}
+use Rattle.sat_checker.specs.listeners.NotedView.{AppendsAnnouncements}
 use Rattle.sat_checker.specs.declared.formula.Formula.{Formula}
 use Rattle.sat_checker.specs.declared.announce.notes.Notes.{Notes}
 use Rattle.sat_checker.proofs.lemmas.store.Buckets.{looks_more, looks_rest, looks_within}
@@ -31,7 +31,7 @@ clauses_stay l f = go (is_unit f l) (is_unit f (negated l))
 
 -- the announcements of the next unit are noted
 pub noted_more : (F : Formula) (f : Stored) (all : List (ℕ × ℕ)) (i : ℕ) (u : ℕ × ℕ) (inside : i < length all) (is : u ≡ get_or all i u) (before notes : Notes) (noted : Noted F f all (drop i all) before notes) (G : Formula) (more : Notes) → more.hears ≡ notes.hears
-    → AppendsNews notes (derived false (u.0 ∷ []) (u.1 ∷ []) noted.now) more → RepresentsFormula G (with_unit u.0 noted.now) → Noted G f all (drop (i + 1) all) before more
+    → AppendsAnnouncements notes (derived false (u.0 ∷ []) (u.1 ∷ []) noted.now) more → RepresentsFormula G (with_unit u.0 noted.now) → Noted G f all (drop (i + 1) all) before more
 noted_more F f all i u inside is before notes noted G more h e k = record {
   now = with_unit u.0 noted.now;
   kept = k;
@@ -45,7 +45,7 @@ noted_more F f all i u inside is before notes noted G more h e k = record {
 }
 
 -- no unit remains
-pub noted_all : (F : Formula) (f : Stored) (all : List (ℕ × ℕ)) (i : ℕ) (before notes : Notes) → length all ≤ i → Noted F f all (drop i all) before notes → AppendsNews before (derived_units all f) notes
+pub noted_all : (F : Formula) (f : Stored) (all : List (ℕ × ℕ)) (i : ℕ) (before notes : Notes) → length all ≤ i → Noted F f all (drop i all) before notes → AppendsAnnouncements before (derived_units all f) notes
 noted_all F f all i before notes l noted = λ t. sym (none_following notes.news) ∙ ap (λ us. notes.news ++ derived_units us noted.now) (sym (past all i l)) ∙ noted.reported t
   where
     past : (xs : List (ℕ × ℕ)) (i : ℕ) → length xs ≤ i → drop i xs ≡ []

@@ -8,11 +8,11 @@ use Rattle.sat_checker.specs.LiteralSets.{canonical, is_tautology}
 use Rattle.sat_checker.specs.announcements.Announcements.{Announcement, TautologicalClause, announced, derived, derived_set, id_of_set, input, input_set}
 use Rattle.sat_checker.specs.announcements.Needed.{propagations}
 use Rattle.sat_checker.specs.listeners.AnnouncingView.{stored_as, deletion_announced}
-use Rattle.sat_checker.specs.listeners.NotedView.{AppendsNews, Announces}
-use Rattle.sat_checker.specs.declared.announce.announcing.Change.{Change}
-use Rattle.sat_checker.specs.declared.announce.announcing.Deletion.{Deletion}
+use Rattle.sat_checker.specs.listeners.NotedView.{AppendsAnnouncements, Announces}
+use Rattle.sat_checker.specs.declared.announce.step_announcements.Change.{Change}
+use Rattle.sat_checker.specs.declared.announce.step_announcements.Deletion.{Deletion}
 use Rattle.sat_checker.specs.declared.announce.notes.Notes.{Notes}
-use Rattle.sat_checker.specs.declared.state.State.{State}
+use Rattle.sat_checker.specs.declared.state.CheckerState.{CheckerState}
 use Rattle.sat_checker.specs.declared.store.StoreError.{StoreError}
 use Rattle.sat_checker.proofs.lemmas.sets.Canonical.{canonical_tautology}
 
@@ -20,18 +20,18 @@ pub none_following : (xs : List Announcement) → xs ++ [] ≡ xs
 none_following [] = refl
 none_following (x ∷ xs) = ap (λ ys. x ∷ ys) (none_following xs)
 
-pub none_added : (notes : Notes) → AppendsNews notes [] notes
+pub none_added : (notes : Notes) → AppendsAnnouncements notes [] notes
 none_added notes = λ h. sym (none_following notes.news)
 
-pub nothing_noted : (r : Result Bool StoreError) (old : State) (step : Step) (notes : Notes) → ((f : Stored) → announced f step ≡ []) → Announces r old step notes notes
+pub nothing_noted : (r : Result Bool StoreError) (old : CheckerState) (step : Step) (notes : Notes) → ((f : Stored) → announced f step ≡ []) → Announces r old step notes notes
 nothing_noted (Ok b) old step notes e = λ _ f k a h. none_added notes h ∙ ap (λ x. notes.news ++ x) (sym (e f))
 nothing_noted (Err d) old step notes e = tt
 
 -- what is noted about an input clause, given whether unsat is recorded
-pub input_noted : (f : Stored) (clause : List ℕ) (before after : Notes) → f.unsat ≡ false → AppendsNews before (input clause f) after → AppendsNews before (announced f (AddClause clause)) after
+pub input_noted : (f : Stored) (clause : List ℕ) (before after : Notes) → f.unsat ≡ false → AppendsAnnouncements before (input clause f) after → AppendsAnnouncements before (announced f (AddClause clause)) after
 input_noted f clause before after e a = λ h. a h ∙ ap (λ b. before.news ++ cond b [] (input clause f)) (sym e)
 
-pub unsat_noted : (f : Stored) (clause : List ℕ) (notes : Notes) → f.unsat ≡ true → AppendsNews notes (announced f (AddClause clause)) notes
+pub unsat_noted : (f : Stored) (clause : List ℕ) (notes : Notes) → f.unsat ≡ true → AppendsAnnouncements notes (announced f (AddClause clause)) notes
 unsat_noted f clause notes e = λ h. none_added notes h ∙ ap (λ b. notes.news ++ cond b [] (input clause f)) (sym e)
 
 -- the announcement of an input clause, given its sorted literals
@@ -44,8 +44,8 @@ input_reported new old id both same ls clause f e next signs is set =
     ∙ ap (λ b. old ++ cond b (TautologicalClause f.next_id (canonical clause) ∷ []) (input_set f.next_id (canonical clause) (id_of_set (canonical clause) f))) (canonical_tautology clause)
 
 -- the announcement of a deletion
-pub deletion_noted : (f : Stored) (clause : List ℕ) (proof : steps.Deletion) (literals : List ℕ) (deletion : Deletion) (before after : Notes) → (IsTrue before.hears → deletion_announced literals deletion ≡ announced f (DeleteClause clause proof)) → AppendsNews before (deletion_announced literals deletion) after
-    → AppendsNews before (announced f (DeleteClause clause proof)) after
+pub deletion_noted : (f : Stored) (clause : List ℕ) (proof : steps.Deletion) (literals : List ℕ) (deletion : Deletion) (before after : Notes) → (IsTrue before.hears → deletion_announced literals deletion ≡ announced f (DeleteClause clause proof)) → AppendsAnnouncements before (deletion_announced literals deletion) after
+    → AppendsAnnouncements before (announced f (DeleteClause clause proof)) after
 deletion_noted f clause proof literals deletion before after e a = λ h. a h ∙ ap (λ x. before.news ++ x) (e h)
 
 pub on_ok : {A E : Type 0} (r : Result A E) (P Q : Type 0) → (P → Q) → OnOk r P → OnOk r Q
@@ -77,5 +77,5 @@ pub looks_followed : (before old mid noted len n l : ℕ) → old ≤ before + l
 looks_followed before old mid noted len n l b h r k = let e = once_more n l in omega arith
 
 -- what was noted after notes with the same news
-pub noted_after : (before mid after : Notes) (reported : List Announcement) → mid.hears ≡ before.hears → mid.news ≡ before.news → AppendsNews mid reported after → AppendsNews before reported after
+pub noted_after : (before mid after : Notes) (reported : List Announcement) → mid.hears ≡ before.hears → mid.news ≡ before.news → AppendsAnnouncements mid reported after → AppendsAnnouncements before reported after
 noted_after before mid after reported h n a = λ t. a (subst IsTrue (sym h) t) ∙ ap (λ xs. xs ++ reported) n

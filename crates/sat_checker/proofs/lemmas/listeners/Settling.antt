@@ -2,21 +2,21 @@
 use Rattle.std.proofs.Common.{ℕ, ◌≡◌, true, false, is_some, Option, None, Some, List, ◌∷◌, inl, inr, refl, sym, ap, ◌∙◌}
 use Rattle.sat_base.specs.steps.Steps.{Step, End}
 use Rattle.sat_checker.specs.Stored.{Stored}
-use Rattle.sat_checker.specs.Storing.{settled, settled_by}
+use Rattle.sat_checker.specs.Storing.{with_conflict_settled, settled_by}
 use Rattle.sat_checker.specs.Accepts.{stored_after, ready_after}
 use Rattle.sat_checker.specs.KernelView.{KeepsAfter}
-use Rattle.sat_checker.specs.inner.FormulaView.{RestOfStored}
+use Rattle.sat_checker.specs.inner.FormulaView.{StoredStatus}
 use Rattle.sat_checker.specs.declared.kernel.Kernel.{Kernel}
-use Rattle.sat_checker.specs.declared.state.State.{State}
+use Rattle.sat_checker.specs.declared.state.CheckerState.{CheckerState}
 
-pub settled_none : (f : Stored) → (settled f).conflict ≡ None
+pub settled_none : (f : Stored) → (with_conflict_settled f).conflict ≡ None
 settled_none f = go f.conflict refl
   where
     go : (c : Option (ℕ × ℕ)) → f.conflict ≡ c → (settled_by c f).conflict ≡ None
     go None e = e
     go (Some units) e = refl
 
-pub settled_already : (f : Stored) → f.conflict ≡ None → settled f ≡ f
+pub settled_already : (f : Stored) → f.conflict ≡ None → with_conflict_settled f ≡ f
 settled_already f e = ap (λ (c : Option (ℕ × ℕ)). settled_by c f) e
 
 pub is_none_none : (c : Option (ℕ × ℕ)) → is_some c ≡ false → c ≡ None
@@ -28,7 +28,7 @@ end_settled steps = settled_none (stored_after steps)
 
 module _ (k : Kernel) (steps : List Step) (kept : KeepsAfter k.state steps) where
   pub conflict_of : k.state.formula.status.conflict ≡ kept.formula.conflict
-  conflict_of = ap (λ (s : RestOfStored). s.conflict) kept.keeps.formula.status
+  conflict_of = ap (λ (s : StoredStatus). s.conflict) kept.keeps.formula.status
 
   pub none_pending : (stored_after steps).conflict ≡ None → k.state.formula.status.conflict ≡ None
   none_pending n = elim kept.left [
@@ -51,8 +51,8 @@ module _ (k : Kernel) (steps : List Step) (kept : KeepsAfter k.state steps) wher
   ]
 
 -- once settled, the stored formula is the one that judges the next step
-pub ready_of : (state : State) (steps : List Step) (kept : KeepsAfter state steps) → settled kept.formula ≡ ready_after steps
+pub ready_of : (state : CheckerState) (steps : List Step) (kept : KeepsAfter state steps) → with_conflict_settled kept.formula ≡ ready_after steps
 ready_of state steps kept = elim kept.left [
-  | inl e ↦ ap settled e
-  | inr e ↦ ap settled e ∙ settled_already (ready_after steps) (settled_none (stored_after steps))
+  | inl e ↦ ap with_conflict_settled e
+  | inr e ↦ ap with_conflict_settled e ∙ settled_already (ready_after steps) (settled_none (stored_after steps))
 ]

@@ -5,23 +5,23 @@ use Rattle.std.specs.Result.{is_err, OnOk, OnErr, IsErrOf}
 use Rattle.std.proofs.lemmas.List.{append-nil}
 use Rattle.sat_base.specs.steps.Steps.{Step, UserVarName, DeleteVar, ChangeSamplingMode}
 use Rattle.sat_checker.specs.Stored.{Stored, Variable}
-use Rattle.sat_checker.specs.Spent.{IsSpent}
-use Rattle.sat_checker.specs.Storing.{settled}
+use Rattle.sat_checker.specs.Counters.{CountersExhausted}
+use Rattle.sat_checker.specs.Storing.{with_conflict_settled}
 use Rattle.sat_checker.specs.Accepts.{Accepts, effect, stored_after, ready_after}
 use Rattle.sat_checker.specs.KernelView as kernels
 use Rattle.sat_checker.specs.KernelView.{KeepsAfter, LeavesConflict, records_of}
 use Rattle.sat_checker.specs.CheckerView.{CheckerView, seen, has_failed, Fails, AnswersStep, AnswersDelayed}
 use Rattle.sat_checker.specs.announcements.Announcements.{Announcement, AtClause, Notice, announced, delayed, delayed_by, notices_over, notices_after, all_notices_after}
-use Rattle.sat_checker.specs.inner.FormulaView.{RepresentsFormula, refiled_in, FormulaEffectIf, RestOfStored, KeepsOrSpends}
+use Rattle.sat_checker.specs.inner.FormulaView.{RepresentsFormula, rehashed_in, FormulaEffectIf, StoredStatus, StoredOrExhausted}
 use Rattle.sat_checker.specs.inner.StateView.{RepresentsStored}
 use Rattle.sat_checker.specs.inner.NotifyingSteps.{announced_by, changed_by, put_back, failure_of, fault_of, records_in, NotifiesAndKeepsState}
 use Rattle.sat_checker.specs.inner.VariablesView.{variable_at}
 use Rattle.sat_checker.specs.listeners.Hearing.{SameNotice, HearsSame, HearsAll, HearsUpTo, HearsSince, HearsSinceUpTo, notices_by}
-use Rattle.sat_checker.specs.listeners.NotedView.{AppendsNews}
+use Rattle.sat_checker.specs.listeners.NotedView.{AppendsAnnouncements}
 use Rattle.sat_checker.specs.declared.kernel.Kernel.{Kernel}
 use Rattle.sat_checker.specs.declared.kernel.StepRefusal.{StepRefusal}
 use Rattle.sat_checker.specs.declared.announce.notes.Notes.{Notes}
-use Rattle.sat_checker.specs.declared.state.State.{State}
+use Rattle.sat_checker.specs.declared.state.CheckerState.{CheckerState}
 use Rattle.sat_checker.specs.declared.error.CheckerError.{CheckerError}
 use Rattle.sat_checker.specs.declared.error.CheckerError.TheVariants as errors
 use Rattle.sat_checker.specs.declared.processing.ProcessingError.{ProcessingError}
@@ -69,20 +69,20 @@ module _ (old : Kernel) (steps : List Step) (s : kernels.HasAccepted old steps) 
   is_stored = stored_is old steps kept (one, other) waits
 
   -- after the unit conflict is settled, the same steps are accepted
-  pub settled_stands : (new : Kernel) → (RepresentsFormula (refiled_in old.state.formula) kept.formula → RepresentsFormula (refiled_in new.state.formula) (settled kept.formula))
+  pub settled_stands : (new : Kernel) → (RepresentsFormula (rehashed_in old.state.formula) kept.formula → RepresentsFormula (rehashed_in new.state.formula) (with_conflict_settled kept.formula))
       → new.state.variables ≡ old.state.variables → new.state.assumed ≡ old.state.assumed → new.records ≡ old.records → kernels.HasAccepted new steps
   settled_stands new k v a r = record {
     accepted = s.accepted;
     records = r ∙ s.records;
     kept = λ e. record {
-      formula = settled kept.formula;
+      formula = with_conflict_settled kept.formula;
       keeps = settled_kept old.state new.state kept.formula kept.keeps (k kept.keeps.formula) v a;
-      left = inr (ap settled is_stored);
+      left = inr (ap with_conflict_settled is_stored);
     };
   }
 
-  pub settled_spent : IsSpent (settled kept.formula) → IsSpent (ready_after steps)
-  settled_spent h = subst (λ f. IsSpent (settled f)) is_stored h
+  pub settled_spent : CountersExhausted (with_conflict_settled kept.formula) → CountersExhausted (ready_after steps)
+  settled_spent h = subst (λ f. CountersExhausted (with_conflict_settled f)) is_stored h
 
   settled_fails : (new : Kernel) → new.records ≡ old.records → kernels.kernel_has_failed new ≡ true → kernels.Fails new steps
   settled_fails new r f = record { valid = record { accepted = s.accepted; records = r ∙ s.records; kept = λ e. absurd (true≢false (sym f ∙ e)) }; failed = f }
@@ -95,14 +95,14 @@ module _ (old : Kernel) (steps : List Step) (s : kernels.HasAccepted old steps) 
 
   -- the conflict was not settled, or not announced
   module _ (new : Kernel) (looks : kernels.kernel_looks new ≡ kernels.kernel_looks old) (same : new.records ≡ old.records) (failed : kernels.kernel_has_failed new ≡ true) where
-    pub unsettled_judges : IsSpent (settled kept.formula) → kernels.AnswersDelayed (Err errors.CounterEnd) old new steps
+    pub unsettled_judges : CountersExhausted (with_conflict_settled kept.formula) → kernels.AnswersDelayed (Err errors.CounterEnd) old new steps
     unsettled_judges h = (well, looks, settled_spent h, settled_fails new same failed)
 
     pub unreported_judges : (f : ProcessingError) → kernels.AnswersDelayed (Err (fault_of f)) old new steps
     unreported_judges faults.OutOfMemory = (well, looks, leaves_conflict, settled_fails new same failed)
     unreported_judges (faults.ProofProcessorError cause) = (well, looks, leaves_conflict, settled_fails new same failed)
 
-    pub unsettled_notifies : {L : Type 0} (Hears : L → Notice → Result Unit ProcessingError → L → Type 0) (before : List Notice) (begun l : L) → HearsSince Hears before (notices_by old.state.formula.status.conflict steps) begun l → IsSpent (settled kept.formula)
+    pub unsettled_notifies : {L : Type 0} (Hears : L → Notice → Result Unit ProcessingError → L → Type 0) (before : List Notice) (begun l : L) → HearsSince Hears before (notices_by old.state.formula.status.conflict steps) begun l → CountersExhausted (with_conflict_settled kept.formula)
         → AnswersDelayed Hears before begun (Err errors.CounterEnd) (seen old l) (seen new l) steps
     unsettled_notifies Hears before begun l heard h = (
       well,
@@ -118,7 +118,7 @@ module _ (old : Kernel) (steps : List Step) (s : kernels.HasAccepted old steps) 
   conflict_reported =
       subst (λ f. delayed f ≡ AtClause old.state.formula.status.next_id false [] (one ∷ other ∷ []) ∷ []) is_stored
       (ap (λ c. delayed_by kept.formula.next_id c) (sym (conflict_of old steps kept) ∙ waits)
-      ∙ ap (λ n. AtClause n false [] (one ∷ other ∷ []) ∷ []) (sym (ap (λ (z : RestOfStored). z.next_id) kept.keeps.formula.status)))
+      ∙ ap (λ n. AtClause n false [] (one ∷ other ∷ []) ∷ []) (sym (ap (λ (z : StoredStatus). z.next_id) kept.keeps.formula.status)))
 
   module _ {L : Type 0} (Hears : L → Notice → Result Unit ProcessingError → L → Type 0) (before : List Notice) (begun l : L) (heard : HearsSince Hears before (notices_by old.state.formula.status.conflict steps) begun l) (names : ℕ → Variable) (each : (v : ℕ) → names v ≡ variable_at old.state.variables v) where
     so_far : HearsSince Hears before (notices_after steps) begun l
@@ -146,8 +146,8 @@ changed_same (DeleteVar v) g h e = ap (λ (x : Variable). Some (v, x)) (e v)
 changed_same (ChangeSamplingMode v sample) g h e = ap (λ (x : Variable). Some (v, x)) (e v)
 changed_same step g h e = refl
 
-records_same : (new : Kernel) (g : Stored) → RepresentsFormula (refiled_in new.state.formula) g → records_in new.state.formula.status ≡ records_of g
-records_same new g k = ap (λ (z : RestOfStored). record { unsat = z.unsat; ended = z.ended; var_deleted = z.var_deleted }) k.status
+records_same : (new : Kernel) (g : Stored) → RepresentsFormula (rehashed_in new.state.formula) g → records_in new.state.formula.status ≡ records_of g
+records_same new g k = ap (λ (z : StoredStatus). record { unsat = z.unsat; ended = z.ended; var_deleted = z.var_deleted }) k.status
 
 -- the notices so far, whether or not a unit conflict is pending
 reported_now : (c : Option (ℕ × ℕ)) (steps : List Step) → (stored_after steps).conflict ≡ c → notices_after steps ≡ notices_by c steps
@@ -195,7 +195,7 @@ module _ (old : Kernel) (steps : List Step) (s : kernels.HasAccepted old steps) 
         step_heard c m e h =
             let reported : HearsAll Hears (notices_over (ready_after steps) (announced (ready_after steps) step)) l m =
             subst (λ xs. HearsAll Hears (notices_over (ready_after steps) xs) l m) noted (all_alike Hears names (ready_after steps).variables looked news l m h) in
-            subst (λ ts. HearsSince Hears before ts begun m) (reported_step step steps ∙ reported_now c (step ∷ steps) (sym (ap (λ (z : RestOfStored). z.conflict) k.formula.status) ∙ e))
+            subst (λ ts. HearsSince Hears before ts begun m) (reported_step step steps ∙ reported_now c (step ∷ steps) (sym (ap (λ (z : StoredStatus). z.conflict) k.formula.status) ∙ e))
             (since_more Hears before (all_notices_after steps) (notices_over (ready_after steps) (announced (ready_after steps) step)) begun l m all_before reported)
 
         pub step_broken : (e : ProcessingError) (m : L) → HearsUpTo Hears e (announced_by names news) l m → HearsSinceUpTo Hears e before (notices_after (step ∷ steps)) begun m
@@ -214,7 +214,7 @@ taken_from Hears reported old mid l new m (Ok x) s k t = (record { state = t.0.s
 taken_from Hears reported old mid l new m (Err e) s k t = (record { state = t.0.state ∙ s; looks = t.0.looks ∙ k }, t.1)
 
 -- if there is a listener, exactly what was noted is announced
-pub noted_reported : (begun noted : Notes) (hears : Bool) (step : Step) (f : Stored) (old new : ℕ → Variable) (was : Option (ℕ × Variable)) → begun.hears ≡ hears → (hears ≡ true → begun.news ≡ []) → (hears ≡ true → was ≡ changed_by old step) → AppendsNews begun (announced f step) noted
+pub noted_reported : (begun noted : Notes) (hears : Bool) (step : Step) (f : Stored) (old new : ℕ → Variable) (was : Option (ℕ × Variable)) → begun.hears ≡ hears → (hears ≡ true → begun.news ≡ []) → (hears ≡ true → was ≡ changed_by old step) → AppendsAnnouncements begun (announced f step) noted
     → hears ≡ true → announced_by (put_back (changed_by old step) new) (announced f step) ≡ announced_by (put_back was new) noted.news
 noted_reported begun noted hears step f old new was same none put adds h =
     ap (λ w. announced_by (put_back w new) (announced f step)) (sym (put h))
@@ -278,7 +278,7 @@ module _ (old : Kernel) (steps : List Step) (s : kernels.HasAccepted old steps) 
           accepts = accepts;
           valid = record {
             kernel = step_stands old steps s well none step new accepts (subst (λ z. RepresentsStored z (effect step (ready_after steps))) (sym t.0.state) k) t.1.1;
-            heard = λ e. step_heard old steps s well none step Hears before begun l heard mid k news noted was put new.state.formula.status.conflict m (ap (λ (z : State). z.formula.status.conflict) (sym t.0.state)) t.1.2;
+            heard = λ e. step_heard old steps s well none step Hears before begun l heard mid k news noted was put new.state.formula.status.conflict m (ap (λ (z : CheckerState). z.formula.status.conflict) (sym t.0.state)) t.1.2;
           };
           goes_on = t.1.0;
         },
@@ -293,7 +293,7 @@ module _ (old : Kernel) (steps : List Step) (s : kernels.HasAccepted old steps) 
           go (faults.ProofProcessorError cause) u = (well, inr (accepts, record { fails = fails; heard = step_broken old steps s well none step Hears before begun l heard mid k news noted was put (faults.ProofProcessorError cause) m u }))
 
 -- what the result of a change means: `Ok`, or below `CounterEnd`
-pub turned : (r : Result Unit StoreError) (K : Type 0) (g : Stored) → is_err r ≡ false → KeepsOrSpends r K g → K
+pub turned : (r : Result Unit StoreError) (K : Type 0) (g : Stored) → is_err r ≡ false → StoredOrExhausted r K g → K
 turned (Ok x) K g e t = t
 turned (Err d) K g e t = absurd (true≢false e)
 
@@ -301,7 +301,7 @@ pub turned_none : (r : Result Unit StoreError) (P : Type 0) → is_err r ≡ fal
 turned_none (Ok x) P e p = p
 turned_none (Err d) P e p = absurd (true≢false e)
 
-pub turned_spent : (r : Result Unit StoreError) (K : Type 0) (g : Stored) → is_err r ≡ true → OnErr r (IsErrOf r stores.CounterEnd) → KeepsOrSpends r K g → IsSpent g
+pub turned_spent : (r : Result Unit StoreError) (K : Type 0) (g : Stored) → is_err r ≡ true → OnErr r (IsErrOf r stores.CounterEnd) → StoredOrExhausted r K g → CountersExhausted g
 turned_spent (Ok x) K g e h t = absurd (true≢false (sym e))
 turned_spent (Err stores.OutOfMemory) K g e h t = absurd cc
 turned_spent (Err stores.CounterEnd) K g e h t = t

@@ -2,18 +2,18 @@
 use Rattle.std.proofs.Common.{ℕ, ◌+◌, ◌/◌, ◌<◌, ◌≡◌, Bool, true, false, not, cond, eqb, List, [], ◌∷◌, map, filter, Option, Some, None, refl, sym, ◌∙◌, ap, subst, arith, ◌⊎◌, inl, inr, unwrap_or}
 use Rattle.std.proofs.lemmas.Bool.{both_ways, eqb-true, eqb-false, eq-eqb, ne_eqb}
 use Rattle.std.specs.List.{AllByRecursion}
-use Rattle.sat_base.specs.values.Literals.{coded}
+use Rattle.sat_base.specs.values.Literals.{mk_lit}
 use Rattle.sat_base.specs.values.Clauses.{Valuation, literal_true, clause_true, flipped, EachTrue}
 use Rattle.sat_base.specs.script.Script.{Literal, Among}
-use Rattle.sat_base.specs.script.ScriptState.{ScriptState, Named, identity_in, identity_of, over, with_name, without_name, with_clause, start}
+use Rattle.sat_base.specs.script.ScriptState.{ScriptState, Named, identity_in, identity_of, identity_lit, with_name, without_name, with_clause, initial_state}
 use Rattle.sat_base.specs.steps.Steps.{Step, UserVarName, AddClause, DeleteVar}
 use Rattle.sat_checker.specs.Fold.{Holds}
 use Rattle.sat_checker.specs.matching.Checking.{is_variable, variable_of, CheckerRules, IsSound}
 use Rattle.sat_checker.specs.matching.Expected.{Spells, EachSpelt, SameSet}
-use Rattle.sat_checker.specs.matching.Bridge.{Live, AgreesOnLive, AreDistinctVariables, IsBridge}
+use Rattle.sat_checker.specs.matching.Bridge.{LiveVariables, AgreesOnLive, AreDistinctVariables, IsBridge}
 use Rattle.sat_base.proofs.lemmas.script.LiteralValues.{coded_half, literal_same, among_true, some_true, some_mapped, among_mapped, all_at, all_map, updated, Below, updated_clauses, placed_found, removed_found, removed_gone}
 
-pub begun : (k : CheckerRules) → IsBridge k start [] []
+pub begun : (k : CheckerRules) → IsBridge k initial_state [] []
 begun k = record {
   accepted = tt;
   once = tt;
@@ -28,41 +28,41 @@ begun k = record {
 }
 
 -- a literal and its identity have the same value
-module _ (k : CheckerRules) (j : ScriptState) (earlier : List Step) (live : Live) (bridge : IsBridge k j earlier live) (a b : Valuation) (agrees : AgreesOnLive live a b) where
-  pub value : (l : Literal) (code : ℕ) → Spells (variable_of earlier) l code → literal_true a code ≡ literal_true b (over j l)
+module _ (k : CheckerRules) (j : ScriptState) (earlier : List Step) (live : LiveVariables) (bridge : IsBridge k j earlier live) (a b : Valuation) (agrees : AgreesOnLive live a b) where
+  pub value : (l : Literal) (code : ℕ) → Spells (variable_of earlier) l code → literal_true a code ≡ literal_true b (identity_lit j l)
   value l code s =
       let p = bridge.named l.name s.variable s.named in
       let e : a s.variable ≡ b p.0 = all_at (λ q. a q.0 ≡ b q.1) (s.variable, p.0) live agrees p.2 in
-      let o : over j l ≡ coded p.0 l.positive = ap (λ x. coded (unwrap_or x 0) l.positive) p.1 in
+      let o : identity_lit j l ≡ mk_lit p.0 l.positive = ap (λ x. mk_lit (unwrap_or x 0) l.positive) p.1 in
       ap (literal_true a) s.is ∙ literal_same a b s.variable p.0 l.positive e ∙ sym (ap (literal_true b) o)
 
-  pub clause_to : (ls : List Literal) (c : List ℕ) → SameSet (variable_of earlier) ls c → clause_true a c ≡ true → clause_true b (map (over j) ls) ≡ true
+  pub clause_to : (ls : List Literal) (c : List ℕ) → SameSet (variable_of earlier) ls c → clause_true a c ≡ true → clause_true b (map (identity_lit j) ls) ≡ true
   clause_to ls c same t =
       let x = some_true a c t in
       let l = all_at (λ code. (l : Literal) × Spells (variable_of earlier) l code × Among l ls) x.0 c same.1 x.1 in
-      among_true b (over j l.0) (map (over j) ls) (among_mapped (over j) l.0 ls l.2) (sym (value l.0 x.0 l.1) ∙ x.2)
+      among_true b (identity_lit j l.0) (map (identity_lit j) ls) (among_mapped (identity_lit j) l.0 ls l.2) (sym (value l.0 x.0 l.1) ∙ x.2)
 
-  pub clause_back : (ls : List Literal) (c : List ℕ) → EachSpelt (variable_of earlier) ls c → clause_true b (map (over j) ls) ≡ true → clause_true a c ≡ true
+  pub clause_back : (ls : List Literal) (c : List ℕ) → EachSpelt (variable_of earlier) ls c → clause_true b (map (identity_lit j) ls) ≡ true → clause_true a c ≡ true
   clause_back ls c spelt t =
-      let l = some_mapped b (over j) ls t in
+      let l = some_mapped b (identity_lit j) ls t in
       let x = all_at (λ l. (code : ℕ) × Spells (variable_of earlier) l code × Among code c) l.0 ls spelt l.1 in
       among_true a x.0 c x.2 (value l.0 x.0 x.1 ∙ l.2)
 
   -- if the literals of the model are true, so are those of its line
-  pub line_true : (ls : List Literal) (c : List ℕ) → EachSpelt (variable_of earlier) ls c → EachTrue a c → AllByRecursion (λ l. literal_true b (over j l) ≡ true) ls
-  line_true ls c spelt t = all_map (λ l. (code : ℕ) × Spells (variable_of earlier) l code × Among code c) (λ l. literal_true b (over j l) ≡ true) ls
+  pub line_true : (ls : List Literal) (c : List ℕ) → EachSpelt (variable_of earlier) ls c → EachTrue a c → AllByRecursion (λ l. literal_true b (identity_lit j l) ≡ true) ls
+  line_true ls c spelt t = all_map (λ l. (code : ℕ) × Spells (variable_of earlier) l code × Among code c) (λ l. literal_true b (identity_lit j l) ≡ true) ls
       (λ l x. sym (value l x.0 x.1) ∙ all_at (λ y. literal_true a y ≡ true) x.0 c t x.2) spelt
 
-  pub core_true : (ls : List Literal) (c : List ℕ) → SameSet (variable_of earlier) ls c → AllByRecursion (λ l. literal_true b (over j l) ≡ true) ls → EachTrue a c
+  pub core_true : (ls : List Literal) (c : List ℕ) → SameSet (variable_of earlier) ls c → AllByRecursion (λ l. literal_true b (identity_lit j l) ≡ true) ls → EachTrue a c
   core_true ls c same t = all_map (λ code. (l : Literal) × Spells (variable_of earlier) l code × Among l ls) (λ y. literal_true a y ≡ true) c
-      (λ code l. value l.0 code l.1 ∙ all_at (λ l. literal_true b (over j l) ≡ true) l.0 ls t l.2) same.1
+      (λ code l. value l.0 code l.1 ∙ all_at (λ l. literal_true b (identity_lit j l) ≡ true) l.0 ls t l.2) same.1
 
 -- the valuation of the live proof variables that a valuation of identities gives
-abbrev pub pulled : Live → Valuation → Valuation
+abbrev pub pulled : LiveVariables → Valuation → Valuation
 pulled [] b = λ x. false
 pulled (p ∷ ps) b = λ x. cond (eqb x p.0) (b p.1) (pulled ps b x)
 
-pub pulled_agrees : (live : Live) (b : Valuation) → AreDistinctVariables live → AgreesOnLive live (pulled live b) b
+pub pulled_agrees : (live : LiveVariables) (b : Valuation) → AreDistinctVariables live → AgreesOnLive live (pulled live b) b
 pulled_agrees [] b once = tt
 pulled_agrees (p ∷ ps) b once = (here, all_map (λ q. (q.0 ≡ p.0 → ⊥) × (pulled ps b q.0 ≡ b q.1)) (λ q. pulled (p ∷ ps) b q.0 ≡ b q.1) ps there (both ps once.0 (pulled_agrees ps b once.1)))
   where
@@ -72,15 +72,15 @@ pulled_agrees (p ∷ ps) b once = (here, all_map (λ q. (q.0 ≡ p.0 → ⊥) ×
     there : (q : ℕ × ℕ) → (q.0 ≡ p.0 → ⊥) × (pulled ps b q.0 ≡ b q.1) → pulled (p ∷ ps) b q.0 ≡ b q.1
     there q h = let e : eqb q.0 p.0 ≡ false = ne_eqb q.0 p.0 h.0 in rw e h.1
 
-    both : (qs : Live) → AllByRecursion (λ q. q.0 ≡ p.0 → ⊥) qs → AllByRecursion (λ q. pulled ps b q.0 ≡ b q.1) qs → AllByRecursion (λ q. (q.0 ≡ p.0 → ⊥) × (pulled ps b q.0 ≡ b q.1)) qs
+    both : (qs : LiveVariables) → AllByRecursion (λ q. q.0 ≡ p.0 → ⊥) qs → AllByRecursion (λ q. pulled ps b q.0 ≡ b q.1) qs → AllByRecursion (λ q. (q.0 ≡ p.0 → ⊥) × (pulled ps b q.0 ≡ b q.1)) qs
     both [] x y = tt
     both (q ∷ qs) x y = ((x.0, y.0), both qs x.1 y.1)
 
 -- the live variables except `v`
-abbrev pub without : ℕ → Live → Live
+abbrev pub without : ℕ → LiveVariables → LiveVariables
 without v = filter (λ p. not (eqb p.0 v))
 
-all_without : (v : ℕ) (P Q : ℕ × ℕ → Type 0) (live : Live) → ((p : ℕ × ℕ) → P p → (p.0 ≡ v → ⊥) → Q p) → AllByRecursion P live → AllByRecursion Q (without v live)
+all_without : (v : ℕ) (P Q : ℕ × ℕ → Type 0) (live : LiveVariables) → ((p : ℕ × ℕ) → P p → (p.0 ≡ v → ⊥) → Q p) → AllByRecursion P live → AllByRecursion Q (without v live)
 all_without v P Q [] f h = tt
 all_without v P Q (p ∷ ps) f h = go (eqb p.0 v) refl (all_without v P Q ps f h.1)
   where
@@ -88,7 +88,7 @@ all_without v P Q (p ∷ ps) f h = go (eqb p.0 v) refl (all_without v P Q ps f h
     go true e ih = ih
     go false e ih = (f p h.0 (eqb-false p.0 v e), ih)
 
-apart_without : (v : ℕ) (live : Live) → AreDistinctVariables live → AreDistinctVariables (without v live)
+apart_without : (v : ℕ) (live : LiveVariables) → AreDistinctVariables live → AreDistinctVariables (without v live)
 apart_without v [] h = tt
 apart_without v (p ∷ ps) h = go (eqb p.0 v) (apart_without v ps h.1)
   where
@@ -96,7 +96,7 @@ apart_without v (p ∷ ps) h = go (eqb p.0 v) (apart_without v ps h.1)
     go true ih = ih
     go false ih = (all_without v (λ q. q.0 ≡ p.0 → ⊥) (λ q. q.0 ≡ p.0 → ⊥) ps (λ q x n. x) h.0, ih)
 
-among_without : (v : ℕ) (q : ℕ × ℕ) (live : Live) → (q.0 ≡ v → ⊥) → Among q live → Among q (without v live)
+among_without : (v : ℕ) (q : ℕ × ℕ) (live : LiveVariables) → (q.0 ≡ v → ⊥) → Among q live → Among q (without v live)
 among_without v q [] n m = m
 among_without v q (p ∷ ps) n m = go (eqb p.0 v) refl (among_without v q ps n) m
   where
@@ -110,7 +110,7 @@ elsewhere : (v : ℕ) (a : Valuation) (w : ℕ) → (w ≡ v → ⊥) → flippe
 elsewhere v a w n = let e : eqb w v ≡ false = ne_eqb w v n in rw e refl
 
 -- if `v` is not live, flipping its value preserves the agreement
-none_of : (v : ℕ) (a b : Valuation) (ps : Live) → AllByRecursion (λ q. q.0 ≡ v → ⊥) ps → AgreesOnLive (without v ps) a b → AgreesOnLive ps a b × AgreesOnLive ps (flipped v a) b
+none_of : (v : ℕ) (a b : Valuation) (ps : LiveVariables) → AllByRecursion (λ q. q.0 ≡ v → ⊥) ps → AgreesOnLive (without v ps) a b → AgreesOnLive ps a b × AgreesOnLive ps (flipped v a) b
 none_of v a b [] n h = (tt, tt)
 none_of v a b (p ∷ ps) n h =
     let e : eqb p.0 v ≡ false = ne_eqb p.0 v n.0 in
@@ -124,7 +124,7 @@ same_or_not true false = inr refl
 same_or_not false true = inr refl
 same_or_not false false = inl refl
 
-either : (v : ℕ) (a b : Valuation) (live : Live) → AreDistinctVariables live → AgreesOnLive (without v live) a b → AgreesOnLive live a b ⊎ AgreesOnLive live (flipped v a) b
+either : (v : ℕ) (a b : Valuation) (live : LiveVariables) → AreDistinctVariables live → AgreesOnLive (without v live) a b → AgreesOnLive live a b ⊎ AgreesOnLive live (flipped v a) b
 either v a b [] once h = inl tt
 either v a b (p ∷ ps) once h = go (eqb p.0 v) refl (either v a b ps once.1) h
   where
@@ -137,7 +137,7 @@ either v a b (p ∷ ps) once h = go (eqb p.0 v) refl (either v a b ps once.1) h
     go false e ih x = elim (ih x.1) [ inl y ↦ inl (x.0, y) | inr y ↦ inr (elsewhere v a p.0 (eqb-false p.0 v e) ∙ x.0, y) ]
 
 -- Every kind of step preserves the relation.
-module _ (k : CheckerRules) (sound : IsSound k) (j : ScriptState) (earlier : List Step) (live : Live) (bridge : IsBridge k j earlier live) where
+module _ (k : CheckerRules) (sound : IsSound k) (j : ScriptState) (earlier : List Step) (live : LiveVariables) (bridge : IsBridge k j earlier live) where
   -- all live variables are still known
   still_known : (step : Step) → k.Accepts earlier step → ((v : ℕ) → step ≡ DeleteVar v → ⊥) → AllByRecursion (λ p. k.knows (step ∷ earlier) p.0 ≡ true) live
   still_known step acc keeps = all_map (λ p. k.knows earlier p.0 ≡ true) (λ p. k.knows (step ∷ earlier) p.0 ≡ true) live (λ p h. elim (sound.keeps earlier step p.0 acc h) [ inl t ↦ t | inr e ↦ absurd (keeps p.0 e) ]) bridge.known
@@ -170,15 +170,15 @@ module _ (k : CheckerRules) (sound : IsSound k) (j : ScriptState) (earlier : Lis
     back = λ a m. (bridge.back a (m.0, m.1, m.2.1), clause_back k j earlier live bridge a m.0 m.1 ls c same.0 m.2.0);
   }
     where
-      low : (ks : List Literal) → EachSpelt (variable_of earlier) ks c → Below j.identity_count (map (over j) ks)
+      low : (ks : List Literal) → EachSpelt (variable_of earlier) ks c → Below j.identity_count (map (identity_lit j) ks)
       low [] h = tt
       low (l ∷ ks) h = (one l h.0.0 h.0.1, low ks h.1)
         where
-          one : (l : Literal) (code : ℕ) → Spells (variable_of earlier) l code → over j l / 2 < j.identity_count
+          one : (l : Literal) (code : ℕ) → Spells (variable_of earlier) l code → identity_lit j l / 2 < j.identity_count
           one l code s =
               let p = bridge.named l.name s.variable s.named in
               let h : p.0 < j.identity_count = all_at (λ q. q.1 < j.identity_count) (s.variable, p.0) live bridge.below p.2 in
-              let e : over j l / 2 ≡ p.0 = ap (λ x. coded (unwrap_or x 0) l.positive / 2) p.1 ∙ coded_half p.0 l.positive in
+              let e : identity_lit j l / 2 ≡ p.0 = ap (λ x. mk_lit (unwrap_or x 0) l.positive / 2) p.1 ∙ coded_half p.0 l.positive in
               rw e h
 
   pub named_new : (name v index : ℕ) → index + 1 ≡ name → k.knows earlier v ≡ false → k.Accepts earlier (UserVarName v (Some index)) → IsBridge k (with_name name j) (UserVarName v (Some index) ∷ earlier) ((v, j.identity_count) ∷ live)
@@ -234,7 +234,7 @@ module _ (k : CheckerRules) (sound : IsSound k) (j : ScriptState) (earlier : Lis
       kept : (a b : Valuation) → AgreesOnLive live a b → AgreesOnLive live a (updated j.identity_count (a v) b)
       kept a b ag = both live ag bridge.below
         where
-          both : (ps : Live) → AgreesOnLive ps a b → AllByRecursion (λ p. p.1 < j.identity_count) ps → AgreesOnLive ps a (updated j.identity_count (a v) b)
+          both : (ps : LiveVariables) → AgreesOnLive ps a b → AllByRecursion (λ p. p.1 < j.identity_count) ps → AgreesOnLive ps a (updated j.identity_count (a v) b)
           both [] x y = tt
           both (p ∷ ps) x y = (let e : eqb p.1 j.identity_count ≡ false = ne_eqb p.1 j.identity_count (λ z. let lt = y.0 in omega arith) in rw e x.0, both ps x.1 y.1)
 

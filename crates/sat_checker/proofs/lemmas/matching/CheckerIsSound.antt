@@ -8,7 +8,7 @@ use Rattle.sat_base.specs.steps.Steps.{Redundant, Step, SolverVarName, UserVarNa
 use Rattle.sat_checker.specs.Accepts.{Accepts, AcceptsAll, effect, stored_after, ready_after}
 use Rattle.sat_checker.specs.LiteralSets.{is_among}
 use Rattle.sat_checker.specs.Stored.{Stored, Variable, Sample, Witness, Hide, unknown, is_known}
-use Rattle.sat_checker.specs.Storing.{settled, with_stored, with_input, with_units, with_literals_known}
+use Rattle.sat_checker.specs.Storing.{with_conflict_settled, with_stored, with_input, with_units, with_literals_known}
 use Rattle.sat_checker.proofs.lemmas.meaning.Answers.{unsat_means_none, models_extend, cores_fail, cores_assumed}
 use Rattle.sat_checker.proofs.lemmas.meaning.Names.{SameVariables, stored_same, units_same, settled_same, named_is_known, known_stays}
 use Rattle.sat_checker.specs.matching.Checking.{is_variable, variable_of, assumed, Accepted, IsSound}
@@ -133,7 +133,7 @@ names_after (step ∷ earlier) ok =
 
 -- THE KNOWN VARIABLES
 
-known_ready : (f : Stored) (v : ℕ) → is_known v f ≡ true → is_known v (settled f) ≡ true
+known_ready : (f : Stored) (v : ℕ) → is_known v f ≡ true → is_known v (with_conflict_settled f) ≡ true
 known_ready f v h = ap (λ k. (k v).known) (settled_same f).variables ∙ h
 
 stays_known : (earlier : List Step) (step : Step) (v : ℕ) → is_known v (ready_after earlier) ≡ true → (is_known v (ready_after (step ∷ earlier)) ≡ true) ⊎ (step ≡ DeleteVar v)

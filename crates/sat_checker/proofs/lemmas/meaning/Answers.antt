@@ -6,7 +6,7 @@ use Rattle.sat_base.specs.values.Literals.{variable, negated}
 use Rattle.sat_base.specs.values.Clauses.{Valuation, literal_true, clause_true, EachTrue}
 use Rattle.sat_checker.specs.LiteralSets.{is_among, mentions}
 use Rattle.sat_checker.specs.Stored.{Stored, StoredClause, Satisfies, unit_literals}
-use Rattle.sat_checker.specs.Accepts.{VariablesApart, FitsModel, ready_after}
+use Rattle.sat_checker.specs.Accepts.{VariablesDistinct, FitsModel, ready_after}
 use Rattle.sat_checker.specs.Laws.{FormulaIsFold, UnsatMeansNone, ModelsExtend, CoresFail, CoresAssumed}
 use Rattle.sat_checker.proofs.lemmas.sets.Subsets.{each_true, some_of}
 use Rattle.sat_checker.proofs.lemmas.propagation.Soundness.{negated_value, negated-negated, derived_hold, member_true}
@@ -44,7 +44,7 @@ other_variable (x ∷ xs) v l n e s =
       | inr k ↦ other_variable xs v l parts.1 k s
     ]
 
-no_two : (xs : List ℕ) (l : ℕ) → VariablesApart xs → is_among xs l ≡ true → is_among xs (negated l) ≡ true → ⊥
+no_two : (xs : List ℕ) (l : ℕ) → VariablesDistinct xs → is_among xs l ≡ true → is_among xs (negated l) ≡ true → ⊥
 no_two [] l p e f = true≢false (sym e)
 no_two (x ∷ xs) l p e f =
     elim (or_cases (eqb x l) (is_among xs l) e) [
@@ -91,7 +91,7 @@ among_all : (P : ℕ → Type 0) (xs : List ℕ) (x : ℕ) → AllByRecursion P 
 among_all P [] x h e = absurd (true≢false (sym e))
 among_all P (y ∷ ys) x h e = elim (or_cases (eqb y x) (is_among ys x) e) [ inl s ↦ subst P (eqb-true y x s) h.0 | inr m ↦ among_all P ys x h.1 m ]
 
-module _ (ls us : List ℕ) (apart : VariablesApart ls) (units_apart : VariablesApart us) (agree : AllByRecursion (λ u. is_among ls (negated u) ≡ false) us) where
+module _ (ls us : List ℕ) (apart : VariablesDistinct ls) (units_apart : VariablesDistinct us) (agree : AllByRecursion (λ u. is_among ls (negated u) ≡ false) us) where
   listed : (l : ℕ) → is_among ls l ≡ true → literal_true (λ x. is_among ls (2 * x) || is_among us (2 * x)) l ≡ true
   listed l e =
       made_true ls us l (or_left (is_among ls l) (is_among us l) e) (false_from_ne_true (is_among ls (negated l)) (λ t. no_two ls l apart e t))

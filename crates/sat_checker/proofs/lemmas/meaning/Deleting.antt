@@ -6,7 +6,7 @@ use Rattle.sat_base.specs.values.Literals.{variable}
 use Rattle.sat_base.specs.values.Clauses.{Valuation, literal_true, clause_true, flipped, EachTrue, EachHolds}
 use Rattle.sat_checker.specs.LiteralSets.{mentions}
 use Rattle.sat_checker.specs.Stored.{StoredClause, StoredUnit}
-use Rattle.sat_checker.specs.Accepts.{VariablesApart}
+use Rattle.sat_checker.specs.Accepts.{VariablesDistinct}
 use Rattle.sat_checker.proofs.lemmas.meaning.Clauses.{Kept, literals_of}
 
 -- flipping a variable does not change literals of other variables
@@ -90,7 +90,7 @@ none_of a v (u ∷ us) n h =
     let rest = none_of a v us parts.1 k.1 in
     ((k.0, rest.0), (other_value a v u parts.0 ∙ k.0, rest.1))
 
-pub units_either : (a : Valuation) (v : ℕ) (us : List ℕ) → VariablesApart us → EachTrue a (left v us) → EachTrue a us ⊎ EachTrue (flipped v a) us
+pub units_either : (a : Valuation) (v : ℕ) (us : List ℕ) → VariablesDistinct us → EachTrue a (left v us) → EachTrue a us ⊎ EachTrue (flipped v a) us
 units_either a v [] p h = inl tt
 units_either a v (u ∷ us) p h = go (units_either a v us p.1) (eqb (variable u) v) refl h
   where
@@ -111,10 +111,10 @@ few v w (u ∷ us) h =
     go ih e true = rw e ih
     go ih e false = ih
 
-pub apart_left : (v : ℕ) (us : List ℕ) → VariablesApart us → VariablesApart (left v us)
+pub apart_left : (v : ℕ) (us : List ℕ) → VariablesDistinct us → VariablesDistinct (left v us)
 apart_left v [] p = tt
 apart_left v (u ∷ us) p = go (apart_left v us p.1) (not (eqb (variable u) v))
   where
-    go : VariablesApart (left v us) → (b : Bool) → VariablesApart (cond b (u ∷ left v us) (left v us))
+    go : VariablesDistinct (left v us) → (b : Bool) → VariablesDistinct (cond b (u ∷ left v us) (left v us))
     go ih true = (few v (variable u) us p.0, ih)
     go ih false = ih

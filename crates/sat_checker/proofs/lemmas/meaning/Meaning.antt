@@ -4,10 +4,10 @@ use Rattle.std.proofs.lemmas.Bool.{cases_Bool, or_cases, or_left, or_parts, both
 use Rattle.sat_base.specs.values.Literals.{variable, negated}
 use Rattle.sat_base.specs.values.Clauses.{Valuation, literal_true, clause_true, flipped, EachTrue, EachHolds}
 use Rattle.sat_base.specs.steps.Steps.{Redundant, Simplified, Satisfied, Step, SolverVarName, UserVarName, DeleteVar, ChangeSamplingMode, AddClause, AtClause, UnitClauses, DeleteClause, ChangeHashBits, Model, Assumptions, FailedAssumptions, End}
-use Rattle.sat_checker.specs.LiteralSets.{is_among, mentions, is_part, is_tautology, canonical}
+use Rattle.sat_checker.specs.LiteralSets.{is_among, mentions, is_subset_of, is_tautology, canonical}
 use Rattle.sat_checker.specs.Stored.{Stored, StoredUnit, Last, NoneYet, Empty, UnitClause, LongClause, Satisfies, is_unit, unit_literals, long_clauses}
 use Rattle.sat_checker.specs.Storing.{irredundant_count, without_clause, with_unit, with_contradiction, with_new_unit, settled_by, with_set, place_of, with_canonical, with_stored, with_input, with_units, with_literals_known, without_variable, unit_numbered, last_literals}
-use Rattle.sat_checker.specs.Accepts.{VariablesApart, IsStrictSubset, PassInTurn, PassesByHashes, MayBeDeleted, AcceptsAll, effect, stored_after, ready_after}
+use Rattle.sat_checker.specs.Accepts.{VariablesDistinct, IsStrictSubset, PassInTurn, PassesByHashes, MayBeDeleted, AcceptsAll, effect, stored_after, ready_after}
 use Rattle.sat_checker.specs.Fold.{Holds}
 use Rattle.sat_checker.proofs.lemmas.sets.Subsets.{superset_true}
 use Rattle.sat_checker.proofs.lemmas.propagation.Soundness.{true_among, negated_value, unit_in_clause, tautology_true, derived_hold}
@@ -66,7 +66,7 @@ module _ (f : Stored) (a : Valuation) where
       go false false = h
   set_true r (l ∷ m ∷ ls) h t = more_true a r f.next_id (l ∷ m ∷ ls) f.clauses h t
 
-apart_push : (us : List StoredUnit) (u : StoredUnit) → VariablesApart (map (λ w. w.literal) us) → is_among (map (λ w. w.literal) us) u.literal ≡ false → is_among (map (λ w. w.literal) us) (negated u.literal) ≡ false → VariablesApart (map (λ w. w.literal) (us ++ u ∷ []))
+apart_push : (us : List StoredUnit) (u : StoredUnit) → VariablesDistinct (map (λ w. w.literal) us) → is_among (map (λ w. w.literal) us) u.literal ≡ false → is_among (map (λ w. w.literal) us) (negated u.literal) ≡ false → VariablesDistinct (map (λ w. w.literal) (us ++ u ∷ []))
 apart_push [] u p n m = (refl, tt)
 apart_push (w ∷ ws) u p n m =
     let x = or_parts (eqb w.literal u.literal) (is_among (map (λ v. v.literal) ws) u.literal) n in
@@ -82,11 +82,11 @@ apart_push (w ∷ ws) u p n m =
     push [] h t = rw t refl
     push (v ∷ vs) h t = let k = or_parts (eqb (variable v.literal) (variable w.literal)) (mentions (map (λ x. x.literal) vs) (variable w.literal)) h in rw k.0 (push vs k.1 t)
 
-apart_set : (f : Stored) (r : Bool) (c : List ℕ) → VariablesApart (unit_literals f) → VariablesApart (unit_literals (with_set r c f))
+apart_set : (f : Stored) (r : Bool) (c : List ℕ) → VariablesDistinct (unit_literals f) → VariablesDistinct (unit_literals (with_set r c f))
 apart_set f r [] p = p
 apart_set f r (l ∷ []) p = go (is_unit f l) refl (is_unit f (negated l)) refl
   where
-    go : (b : Bool) → is_unit f l ≡ b → (d : Bool) → is_unit f (negated l) ≡ d → VariablesApart (unit_literals (cond b f (cond d (with_contradiction l f) (with_new_unit l f))))
+    go : (b : Bool) → is_unit f l ≡ b → (d : Bool) → is_unit f (negated l) ≡ d → VariablesDistinct (unit_literals (cond b f (cond d (with_contradiction l f) (with_new_unit l f))))
     go true n d m = p
     go false n true m = p
     go false n false m = apart_push f.units (record { id = f.next_id; literal = l }) p n m
@@ -95,7 +95,7 @@ apart_set f r (l ∷ m ∷ ls) p = p
 -- every stored clause follows from the irredundant ones and the units, and no variable has two units
 pub record IsCoherent (f : Stored) : Type 0 where
   pub follows : (a : Valuation) → Satisfies f a → EachHolds a (long_clauses f)
-  pub apart : VariablesApart (unit_literals f)
+  pub apart : VariablesDistinct (unit_literals f)
 
 -- the state is coherent, and exactly these valuations satisfy it
 pub record Does (g : Stored) (Meant : Valuation → Type 0) : Type 0 where
@@ -111,7 +111,7 @@ aside : (f g : Stored) (Meant : Valuation → Type 0) → g.unsat ≡ f.unsat �
 aside f g Meant u c l d = record {
   coherent = record {
     follows = λ a s. subst (λ x. EachHolds a (literals_of x)) (sym c) (d.coherent.follows a (aside_to g f a (sym u) (sym c) (sym l) s));
-    apart = subst (λ us. VariablesApart (map (λ w. w.literal) us)) (sym l) d.coherent.apart;
+    apart = subst (λ us. VariablesDistinct (map (λ w. w.literal) us)) (sym l) d.coherent.apart;
   };
   to = λ a h. aside_to f g a u c l (d.to a h);
   back = λ a s. d.back a (aside_to g f a (sym u) (sym c) (sym l) s);
@@ -204,11 +204,11 @@ unit_found a id ls (u ∷ us) e h = go (λ k. unit_found a id ls us k h.1) (eqb 
 last_true : (f : Stored) (c : List ℕ) (a : Valuation) → Orderly f → IsStrictSubset (last_literals f.last f) c → Satisfies (record f { clauses = without_clause false (canonical c) f.clauses }) a → clause_true a c ≡ true
 last_true f c a o p h = go f.last o.last_holds p
   where
-    by_found : (x : Option (List ℕ)) → IsStrictSubset x c → ((ms : List ℕ) → x ≡ Some ms → is_part c ms ≡ false → clause_true a ms ≡ true) → clause_true a c ≡ true
+    by_found : (x : Option (List ℕ)) → IsStrictSubset x c → ((ms : List ℕ) → x ≡ Some ms → is_subset_of c ms ≡ false → clause_true a ms ≡ true) → clause_true a c ≡ true
     by_found None p w = absurd p
     by_found (Some ms) p w = superset_true a ms c p.0 (w ms refl p.1)
 
-    supported : (ms : List ℕ) → is_part c ms ≡ false → Supported (unit_literals f) f.clauses ms → clause_true a ms ≡ true
+    supported : (ms : List ℕ) → is_subset_of c ms ≡ false → Supported (unit_literals f) f.clauses ms → clause_true a ms ≡ true
     supported ms n (inl t) = unit_in_clause a (unit_literals f) ms h.units t
     supported ms n (inr k) = counted_true a ms (without_clause false (canonical c) f.clauses) h.kept (subst (λ x. 0 < irredundant_count x) (sym (others_stay false ms (canonical c) f.clauses (strict_differs ms c n))) k)
 
@@ -222,7 +222,7 @@ drops : (f : Stored) (v : ℕ) → IsCoherent f → MayBeDeleted f v → Does (w
 drops f v s free = record {
   coherent = record {
     follows = λ a h. elim (back a h) [ inl k ↦ s.follows a k | inr k ↦ true_by_flip (flipped v a) a v f.clauses (from_flipped a v) free.unused (s.follows (flipped v a) k) ];
-    apart = subst VariablesApart (sym (units_of_left v f.units)) (apart_left v (unit_literals f) s.apart);
+    apart = subst VariablesDistinct (sym (units_of_left v f.units)) (apart_left v (unit_literals f) s.apart);
   };
   to = λ a e. elim e [
     | inl k ↦ record { consistent = k.consistent; kept = k.kept; units = subst (EachTrue a) (sym (units_of_left v f.units)) (units_left a v (unit_literals f) k.units) }

@@ -5,10 +5,10 @@ use Rattle.sat_base.specs.values.Literals.{variable, negated}
 use Rattle.sat_base.specs.steps.Steps.{Redundant, Step, SolverVarName, UserVarName, DeleteVar, ChangeSamplingMode, AddClause, AtClause, UnitClauses, DeleteClause, Model, Assumptions}
 use Rattle.sat_checker.specs.LiteralSets.{is_among, is_tautology, canonical}
 use Rattle.sat_checker.specs.Stored.{Stored, Variable, Sample, Witness, Hide, unknown, is_known, is_unit}
-use Rattle.sat_checker.specs.Storing.{with_set, with_canonical, with_stored, with_input, with_unit, with_contradiction, with_new_unit, with_units, settled, settled_by, with_known, with_literals_known}
+use Rattle.sat_checker.specs.Storing.{with_set, with_canonical, with_stored, with_input, with_unit, with_contradiction, with_new_unit, with_units, with_conflict_settled, settled_by, with_known, with_literals_known}
 use Rattle.sat_checker.specs.Accepts.{Accepts, AcceptsAll, effect, stored_after, ready_after}
 pub use Rattle.sat_checker.specs.Invariants.{SameVariables}
-use Rattle.sat_checker.specs.Laws.{NamedIsKnown, KnownStays, DeletedIsNameless, NamesApart, UnknownIsUnknown, has_delete_var, DeletionIsSeen}
+use Rattle.sat_checker.specs.Laws.{NamedIsKnown, KnownStays, DeletedIsNameless, NamesDistinct, UnknownIsUnknown, has_delete_var, DeletionIsSeen}
 
 -- STORING DOES NOT CHANGE VARIABLES
 
@@ -40,7 +40,7 @@ pub units_same : (ls : List ℕ) (f : Stored) → SameVariables f (with_units ls
 units_same [] f = record { variables = refl; deleted = refl; assumed = refl }
 units_same (l ∷ ls) f = let s = unit_same l f in let t = units_same ls (with_unit l f) in record { variables = t.variables ∙ s.variables; deleted = t.deleted ∙ s.deleted; assumed = t.assumed ∙ s.assumed }
 
-pub settled_same : (f : Stored) → SameVariables f (settled f)
+pub settled_same : (f : Stored) → SameVariables f (with_conflict_settled f)
 settled_same f = go f.conflict
   where
     go : (x : Option (ℕ × ℕ)) → SameVariables f (settled_by x f)
@@ -166,8 +166,8 @@ tidy_effect (Model ls) f a t = tidy_known f.variables t (map variable ls)
 tidy_effect (Assumptions ls) f a t = tidy_known f.variables t (map variable ls)
 tidy_effect step f a t = t
 
-tidy_ready : (f : Stored) → AreTidy f.variables → AreTidy (settled f).variables
-tidy_ready f t = tidy_same f (settled f) (settled_same f) t
+tidy_ready : (f : Stored) → AreTidy f.variables → AreTidy (with_conflict_settled f).variables
+tidy_ready f t = tidy_same f (with_conflict_settled f) (settled_same f) t
 
 pub tidy : (steps : List Step) → AcceptsAll steps → AreTidy (ready_after steps).variables
 tidy [] ok = record { apart = λ v w name m n. absurd (none_some name m); unknowns = λ v k. refl }
@@ -176,7 +176,7 @@ tidy [] ok = record { apart = λ v w name m n. absurd (none_some name m); unknow
     none_some name e = cc
 tidy (step ∷ earlier) ok = tidy_ready (stored_after (step ∷ earlier)) (tidy_effect step (ready_after earlier) ok.1 (tidy earlier ok.0))
 
-pub names_apart : NamesApart
+pub names_apart : NamesDistinct
 names_apart steps v w name ok m n = (tidy steps ok).apart v w name m n
 
 pub unknown_is_unknown : UnknownIsUnknown

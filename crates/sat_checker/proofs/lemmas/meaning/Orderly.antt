@@ -5,7 +5,7 @@ use Rattle.std.specs.List.{AllByRecursion}
 use Rattle.sat_base.specs.values.Literals.{negated}
 use Rattle.sat_checker.specs.LiteralSets.{is_among, same_literals}
 use Rattle.sat_checker.specs.Stored.{StoredClause, StoredUnit, Last, NoneYet, Empty, UnitClause, LongClause, Stored, is_unit, unit_literals}
-use Rattle.sat_checker.specs.Storing.{with_count, with_stored_clause, clause_with, irredundant_count, with_unit, with_contradiction, with_new_unit, settled, settled_by, with_long, with_set, clause_numbered}
+use Rattle.sat_checker.specs.Storing.{with_count, with_stored_clause, clause_with, irredundant_count, with_unit, with_contradiction, with_new_unit, with_conflict_settled, settled_by, with_long, with_set, clause_numbered}
 pub use Rattle.sat_checker.specs.Invariants.{Supported, LastHolds, LastBelow, Orderly}
 use Rattle.sat_checker.specs.inner.Marks.{IsIncreasing}
 use Rattle.sat_checker.proofs.lemmas.sets.Subsets.{any_true, some_of}
@@ -213,7 +213,7 @@ stored_count n ls (c ∷ cs) = go (stored_count n ls cs) (same_literals c.litera
     go ih true e = subst (λ b. 0 < irredundant_count (cond b (Some (with_count false c)) (clause_with ls cs))) (sym e) (omega arith)
     go ih false e = subst (λ b. 0 < irredundant_count (cond b (Some c) (clause_with ls (with_stored_clause false n ls cs)))) (sym e) ih
 
-pub orderly_settled : (f : Stored) → Orderly f → Orderly (settled f)
+pub orderly_settled : (f : Stored) → Orderly f → Orderly (with_conflict_settled f)
 orderly_settled f o = go f.conflict
   where
     go : (x : Option (ℕ × ℕ)) → Orderly (settled_by x f)

@@ -4,9 +4,9 @@ use Rattle.std.proofs.lemmas.Bool.{or_cases, or_left, or_right, or_parts, both_w
 use Rattle.std.specs.List.{AllByRecursion, list_any}
 use Rattle.sat_base.specs.values.Literals.{variable, negated}
 use Rattle.sat_base.specs.steps.Steps.{Redundant, Simplified, Satisfied, Step, SolverVarName, UserVarName, DeleteVar, AddClause, AtClause, UnitClauses, DeleteClause, Model, FailedAssumptions}
-use Rattle.sat_checker.specs.LiteralSets.{is_among, mentions, is_part, is_tautology, same_literals, canonical}
+use Rattle.sat_checker.specs.LiteralSets.{is_among, mentions, is_subset_of, is_tautology, same_literals, canonical}
 use Rattle.sat_checker.specs.Stored.{StoredClause, StoredUnit, Last, NoneYet, Empty, UnitClause, LongClause, Stored, is_unit, unit_literals}
-use Rattle.sat_checker.specs.Storing.{clause_with, irredundant_count, without_count, unless_gone, without_clause, with_unit, with_contradiction, with_new_unit, settled, with_set, unit_at, long_at, with_canonical, with_stored, with_input, with_units, with_literals_known, without_variable, clause_numbered, last_literals}
+use Rattle.sat_checker.specs.Storing.{clause_with, irredundant_count, without_count, unless_gone, without_clause, with_unit, with_contradiction, with_new_unit, with_conflict_settled, with_set, unit_at, long_at, with_canonical, with_stored, with_input, with_units, with_literals_known, without_variable, clause_numbered, last_literals}
 use Rattle.sat_checker.specs.Accepts.{IsStrictSubset, Accepts, AcceptsAll, effect, stored_after, ready_after}
 use Rattle.sat_checker.specs.inner.Marks.{IsIncreasing}
 use Rattle.sat_checker.proofs.lemmas.sets.Subsets.{subset_canonical, any_true, some_of, any_canonical}
@@ -172,11 +172,11 @@ others_supported us ms ls r cs n (inl t) = inl t
 others_supported us ms ls r cs n (inr k) = inr (subst (λ x. 0 < irredundant_count x) (sym (others_stay r ms ls cs n)) k)
 
 -- a strict part of a clause is a different set
-pub strict_differs : (ms c : List ℕ) → is_part c ms ≡ false → same_literals ms (canonical c) ≡ false
+pub strict_differs : (ms c : List ℕ) → is_subset_of c ms ≡ false → same_literals ms (canonical c) ≡ false
 strict_differs ms c s = go (same_literals ms (canonical c)) refl
   where
     go : (b : Bool) → same_literals ms (canonical c) ≡ b → b ≡ false
-    go true e = absurd (both_ways (is_part c ms) s (subst (λ x. is_part c x ≡ true) (sym (same ms (canonical c) e)) (subset_canonical c)))
+    go true e = absurd (both_ways (is_subset_of c ms) s (subst (λ x. is_subset_of c x ≡ true) (sym (same ms (canonical c) e)) (subset_canonical c)))
     go false e = refl
 
 satisfied_supports : (f : Stored) (c : List ℕ) → list_any (is_unit f) c ≡ true → (ms : List ℕ) → Supported (unit_literals f) f.clauses ms → Supported (unit_literals f) (without_clause false (canonical c) f.clauses) ms
@@ -253,7 +253,7 @@ orderly_effect step f a o = aside f (effect step f) refl refl refl refl refl o
 
 pub orderly : (steps : List Step) → AcceptsAll steps → Orderly (stored_after steps)
 orderly [] a = record { increasing = tt; below = tt; last_below = tt; last_holds = tt }
-orderly (step ∷ earlier) a = orderly_effect step (settled (stored_after earlier)) a.1 (orderly_settled (stored_after earlier) (orderly earlier a.0))
+orderly (step ∷ earlier) a = orderly_effect step (with_conflict_settled (stored_after earlier)) a.1 (orderly_settled (stored_after earlier) (orderly earlier a.0))
 
 pub empty_is_given : (steps : List Step) (id : ℕ) → AcceptsAll steps → (ready_after steps).last ≡ Empty id → id < (ready_after steps).next_id
 empty_is_given steps id a e = subst (LastBelow (ready_after steps).next_id) e (orderly_settled (stored_after steps) (orderly steps a)).last_below

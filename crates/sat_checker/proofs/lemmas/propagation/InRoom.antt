@@ -5,7 +5,7 @@ use Rattle.std.proofs.lemmas.List.{map-append}
 use Rattle.std.specs.List.{AllByRecursion, list_any}
 use Rattle.sat_base.specs.values.Literals.{negated, negated_if}
 use Rattle.sat_checker.specs.LiteralSets.{is_among, is_tautology}
-use Rattle.sat_checker.specs.Propagation.{clauses_in, LeadToConflict, PassesCheck, tautology, unit_true, conflict}
+use Rattle.sat_checker.specs.Propagation.{clauses_in, BucketsConflict, PassesCheck, tautology, unit_true, conflict}
 use Rattle.sat_checker.specs.inner.Marks.{NoRepeats}
 use Rattle.sat_checker.specs.inner.AssumedRoom.{LiteralsAndRoom, AgreesOn, HasClauseRoom, HasClausesRoom, DeniedInRoom, signed}
 use Rattle.sat_checker.specs.inner.Walk.{walk_buckets}
@@ -135,7 +135,7 @@ module _ (old mid : LiteralsAndRoom) (negate : Bool) (ls before : List ℕ) (i l
       (λ m r. same m (subst (λ xs. is_among xs m ≡ true) (sym room) r) ∙ ap (λ o. eqb o m || is_among mid.literals m) e))
 
 -- a conflict depends only on the literals that have room
-pub rule_same : (room us vs : List ℕ) (buckets : List (List (List ℕ))) → AgreesOn room us vs → AllByRecursion (HasClausesRoom room) buckets → LeadToConflict us buckets → LeadToConflict vs buckets
+pub rule_same : (room us vs : List ℕ) (buckets : List (List (List ℕ))) → AgreesOn room us vs → AllByRecursion (HasClausesRoom room) buckets → BucketsConflict us buckets → BucketsConflict vs buckets
 rule_same room us vs buckets same roomy k = record {
   first = k.first;
   rest = k.rest;

@@ -10,19 +10,19 @@ use Rattle.sat_checker.specs.inner.Look.{AssumesMore}
 use Rattle.sat_checker.specs.inner.AssumedRoom.{LiteralsAndRoom, with_room, RoomStays, HasClauseRoom, HasClausesRoom}
 use Rattle.sat_checker.proofs.lemmas.sets.Members.{each_at, each_mapped}
 use Rattle.sat_checker.proofs.lemmas.sets.Rooms.{room_stays}
-use Rattle.sat_checker.specs.inner.Walk.{opens, rests, verdict, verdict_of_open, not_false, walk, walk_on, and_then, walk_buckets, if_conflict}
+use Rattle.sat_checker.specs.inner.Walk.{becomes_unit, neither, clause_state, state_by_open, not_false, walk, walk_on, and_then, walk_buckets, if_conflict}
 
 -- the open literal of a unit clause is not assumed yet
-opens_from : (assumed ls : List ℕ) (l : ℕ) → verdict_of_open assumed ls ≡ opens l → is_among assumed l ≡ false
+opens_from : (assumed ls : List ℕ) (l : ℕ) → state_by_open assumed ls ≡ becomes_unit l → is_among assumed l ≡ false
 opens_from assumed [] l e = absurd cc
 opens_from assumed (m ∷ []) l e = go (is_among assumed m) refl e
   where
-    go : (b : Bool) → is_among assumed m ≡ b → cond b rests (opens m) ≡ opens l → is_among assumed l ≡ false
+    go : (b : Bool) → is_among assumed m ≡ b → cond b neither (becomes_unit m) ≡ becomes_unit l → is_among assumed l ≡ false
     go true h e' = absurd cc
     go false h e' = let same : m ≡ l = cc in subst (λ x. is_among assumed x ≡ false) same h
 opens_from assumed (m ∷ n ∷ ls) l e = absurd cc
 
-pub opens_new : (assumed clause : List ℕ) (l : ℕ) → verdict assumed clause ≡ opens l → is_among assumed l ≡ false
+pub opens_new : (assumed clause : List ℕ) (l : ℕ) → clause_state assumed clause ≡ becomes_unit l → is_among assumed l ≡ false
 opens_new assumed clause l e = opens_from assumed (not_false assumed clause) l e
 
 -- the open literal is in the clause
@@ -34,24 +34,24 @@ filter_among test (m ∷ ms) l h = go (filter_among test ms l) (test m) h
     go ih true k = elim (or_cases (eqb m l) (is_among (filter test ms) l) k) [ inl e ↦ or_left (eqb m l) (is_among ms l) e | inr r ↦ or_right (eqb m l) (is_among ms l) (ih r) ]
     go ih false k = or_right (eqb m l) (is_among ms l) (ih k)
 
-among_open : (assumed ls : List ℕ) (l : ℕ) → verdict_of_open assumed ls ≡ opens l → is_among ls l ≡ true
+among_open : (assumed ls : List ℕ) (l : ℕ) → state_by_open assumed ls ≡ becomes_unit l → is_among ls l ≡ true
 among_open assumed [] l e = absurd cc
 among_open assumed (m ∷ []) l e = go (is_among assumed m) e
   where
-    go : (b : Bool) → cond b rests (opens m) ≡ opens l → is_among (m ∷ []) l ≡ true
+    go : (b : Bool) → cond b neither (becomes_unit m) ≡ becomes_unit l → is_among (m ∷ []) l ≡ true
     go true e' = absurd cc
     go false e' = let same : m ≡ l = cc in or_left (eqb m l) false (eq-eqb m l same)
 among_open assumed (m ∷ n ∷ ls) l e = absurd cc
 
-pub opens_among : (assumed clause : List ℕ) (l : ℕ) → verdict assumed clause ≡ opens l → is_among clause l ≡ true
+pub opens_among : (assumed clause : List ℕ) (l : ℕ) → clause_state assumed clause ≡ becomes_unit l → is_among clause l ≡ true
 opens_among assumed clause l e = filter_among (λ m. not (is_among assumed (negated m))) clause l (among_open assumed (not_false assumed clause) l e)
 
 -- if there is room for the clause, there is room for its open literal
-pub opens_roomy : (room assumed clause : List ℕ) (l : ℕ) → verdict assumed clause ≡ opens l → HasClauseRoom room clause → is_among room l ≡ true
+pub opens_roomy : (room assumed clause : List ℕ) (l : ℕ) → clause_state assumed clause ≡ becomes_unit l → HasClauseRoom room clause → is_among room l ≡ true
 opens_roomy room assumed clause l e h = (each_at (λ m. (is_among room m ≡ true) × (is_among room (negated m) ≡ true)) clause l h (opens_among assumed clause l e)).0
 
 -- assuming the open literal then needs no more room
-pub opens_same : (room assumed clause : List ℕ) (l : ℕ) → verdict assumed clause ≡ opens l → HasClauseRoom room clause → with_room l room ≡ room
+pub opens_same : (room assumed clause : List ℕ) (l : ℕ) → clause_state assumed clause ≡ becomes_unit l → HasClauseRoom room clause → with_room l room ≡ room
 opens_same room assumed clause l e h = ap (λ b. cond b room (l ∷ negated l ∷ room)) (opens_roomy room assumed clause l e h)
 
 -- a clause that has room still has it if more literals have room
@@ -97,18 +97,18 @@ module _ (literals : ℕ → List ℕ) (places : List ℕ) (i : ℕ) (inside : i
   sum_next = ap (total_length) next_place
 
 -- the walk after one clause, by its verdict
-pub walk-met : (assumed clause : List ℕ) (rest : List (List ℕ)) (more : List ℕ) → walk_on (verdict assumed clause) assumed ≡ Some more → walk assumed (clause ∷ rest) ≡ walk more rest
+pub walk-met : (assumed clause : List ℕ) (rest : List (List ℕ)) (more : List ℕ) → walk_on (clause_state assumed clause) assumed ≡ Some more → walk assumed (clause ∷ rest) ≡ walk more rest
 walk-met assumed clause rest more e = ap (λ o. and_then o (λ m. walk m rest)) e
 
-pub walk-conflict : (assumed clause : List ℕ) (rest : List (List ℕ)) → walk_on (verdict assumed clause) assumed ≡ None → walk assumed (clause ∷ rest) ≡ None
+pub walk-conflict : (assumed clause : List ℕ) (rest : List (List ℕ)) → walk_on (clause_state assumed clause) assumed ≡ None → walk assumed (clause ∷ rest) ≡ None
 walk-conflict assumed clause rest e = ap (λ o. and_then o (λ m. walk m rest)) e
 
 -- the walk visits the clause at index `i`, and those after it remain
 module _ (literals : ℕ → List ℕ) (places : List ℕ) (i : ℕ) (inside : i < length places) where
-  pub walk_more : (whole : Option (List ℕ)) (mid more : List ℕ) → whole ≡ walk mid (map literals (drop i places)) → walk_on (verdict mid (literals (get_or places i 0))) mid ≡ Some more → whole ≡ walk more (map literals (drop (i + 1) places))
+  pub walk_more : (whole : Option (List ℕ)) (mid more : List ℕ) → whole ≡ walk mid (map literals (drop i places)) → walk_on (clause_state mid (literals (get_or places i 0))) mid ≡ Some more → whole ≡ walk more (map literals (drop (i + 1) places))
   walk_more whole mid more h e = h ∙ walk_next literals places i inside mid ∙ walk-met mid (literals (get_or places i 0)) (map literals (drop (i + 1) places)) more e
 
-  pub walk_ends : (whole : Option (List ℕ)) (mid : List ℕ) → whole ≡ walk mid (map literals (drop i places)) → walk_on (verdict mid (literals (get_or places i 0))) mid ≡ None → whole ≡ None
+  pub walk_ends : (whole : Option (List ℕ)) (mid : List ℕ) → whole ≡ walk mid (map literals (drop i places)) → walk_on (clause_state mid (literals (get_or places i 0))) mid ≡ None → whole ≡ None
   walk_ends whole mid h e = h ∙ walk_next literals places i inside mid ∙ walk-conflict mid (literals (get_or places i 0)) (map literals (drop (i + 1) places)) e
 
   pub looks_more : (most before after : ℕ) → before + total_length (map literals (drop i places)) ≡ most → after ≡ before + length (literals (get_or places i 0)) → after + total_length (map literals (drop (i + 1) places)) ≡ most

@@ -3,18 +3,18 @@ use Rattle.std.proofs.Common.{ℕ, suc, ◌+◌, ◌*◌, ◌/◌, ◌%◌, ◌<
 use Rattle.std.proofs.Math.Seq.{drop-cons}
 use Rattle.std.specs.Int.Bits.{bit_xor, xor_assoc}
 use Rattle.std.proofs.lemmas.Bool.{eqb-true, eqb-false}
-use Rattle.sat_base.specs.values.Literals.{coded, is_positive, variable}
+use Rattle.sat_base.specs.values.Literals.{mk_lit, is_positive, variable}
 use Rattle.sat_base.specs.values.Hashes.{hash_of, literal_hash}
 use Rattle.sat_checker.specs.Stored.{solver_literal}
 
-pub sign_of : (l v : ℕ) → coded v (is_positive l) ≡ 2 * v + l % 2
+pub sign_of : (l v : ℕ) → mk_lit v (is_positive l) ≡ 2 * v + l % 2
 sign_of l v = go (eqb (l % 2) 0) refl
   where
     go : (b : Bool) → eqb (l % 2) 0 ≡ b → 2 * v + cond b 0 1 ≡ 2 * v + l % 2
     go true e = let z = eqb-true (l % 2) 0 e in omega arith
     go false e = let z = eqb-false (l % 2) 0 e in omega arith
 
-pub named_some : (names : ℕ → Option ℕ) (l v : ℕ) → names (variable l) ≡ Some v → coded v (is_positive l) ≡ solver_literal names l
+pub named_some : (names : ℕ → Option ℕ) (l v : ℕ) → names (variable l) ≡ Some v → mk_lit v (is_positive l) ≡ solver_literal names l
 named_some names l v e = sign_of l v ∙ sym (rw e refl)
 
 pub named_none : (names : ℕ → Option ℕ) (l : ℕ) → names (variable l) ≡ None → l ≡ solver_literal names l

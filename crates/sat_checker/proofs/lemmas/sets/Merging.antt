@@ -3,7 +3,7 @@ use Rattle.std.proofs.Common.{ℕ, zero, suc, ◌+◌, ◌<◌, ◌≤◌, ◌�
 use Rattle.std.proofs.lemmas.Bool.{eq-eqb, ne_eqb}
 use Rattle.std.proofs.lemmas.List.{drop_more}
 use Rattle.std.specs.List.{AllByRecursion, list_all}
-use Rattle.sat_checker.specs.LiteralSets.{is_among, is_part}
+use Rattle.sat_checker.specs.LiteralSets.{is_among, is_subset_of}
 use Rattle.sat_checker.specs.inner.Marks.{IsIncreasing}
 use Rattle.sat_checker.proofs.lemmas.sets.Marks.{below_all}
 
@@ -20,7 +20,7 @@ all_after x xs (m ∷ ms) h =
     let e : eqb x m ≡ false = ne_eqb x m (λ q. let k : x < m = h.0 in omega arith) in
     rw e (ap (λ b. is_among xs m && b) (all_after x xs ms h.1))
 
-part_same : (s : ℕ) (ss xs : List ℕ) → AllByRecursion (λ m. s < m) ss → is_part (s ∷ ss) (s ∷ xs) ≡ is_part ss xs
+part_same : (s : ℕ) (ss xs : List ℕ) → AllByRecursion (λ m. s < m) ss → is_subset_of (s ∷ ss) (s ∷ xs) ≡ is_subset_of ss xs
 part_same s ss xs h = let e : eqb s s ≡ true = eq-eqb s s refl in rw e (all_after s xs ss h)
 
 above_all : (x s : ℕ) (ss : List ℕ) → x < s → AllByRecursion (λ m. s < m) ss → AllByRecursion (λ m. x < m) ss
@@ -30,7 +30,7 @@ above_all x s (m ∷ ms) l h = (let k : s < m = h.0 in omega arith, above_all x 
 lower_or_higher : (s x : ℕ) → s ≢ x → (x < s) ⊎ (s < x)
 lower_or_higher s x n = grind arith
 
-part_past : (s x : ℕ) (ss xs : List ℕ) → s ≢ x → IsIncreasing (s ∷ ss) → IsIncreasing (x ∷ xs) → is_part (s ∷ ss) (x ∷ xs) ≡ is_part (s ∷ ss) xs
+part_past : (s x : ℕ) (ss xs : List ℕ) → s ≢ x → IsIncreasing (s ∷ ss) → IsIncreasing (x ∷ xs) → is_subset_of (s ∷ ss) (x ∷ xs) ≡ is_subset_of (s ∷ ss) xs
 part_past s x ss xs n h k = elim (lower_or_higher s x n) [
   | inl l ↦ all_after x xs (s ∷ ss) (l, above_all x s ss l h.0)
   | inr l ↦
@@ -46,10 +46,10 @@ nothing_left (x ∷ xs) zero h = absurd (omega arith)
 nothing_left (x ∷ xs) (suc i) h = nothing_left xs i (omega arith)
 
 module _ (part whole : List ℕ) (met : ℕ) where
-  pub met_all : length part ≤ met → (i : ℕ) → is_part (drop met part) (drop i whole) ≡ true
+  pub met_all : length part ≤ met → (i : ℕ) → is_subset_of (drop met part) (drop i whole) ≡ true
   met_all h i = rw (nothing_left part met h) refl
 
-  pub none_left : met < length part → (i : ℕ) → length whole ≤ i → is_part (drop met part) (drop i whole) ≡ false
+  pub none_left : met < length part → (i : ℕ) → length whole ≤ i → is_subset_of (drop met part) (drop i whole) ≡ false
   none_left m i h = rw (nothing_left whole i h, drop_more part met 0 m) refl
 
   module _ (i : ℕ) (inside : i < length whole) (more : met < length part) (part_increasing : IsIncreasing part) (whole_increasing : IsIncreasing whole) where
@@ -59,14 +59,14 @@ module _ (part whole : List ℕ) (met : ℕ) where
     first_in : IsIncreasing (get_or whole i 0 ∷ drop (i + 1) whole)
     first_in = subst IsIncreasing (drop_more whole i 0 inside) (increasing_drop whole i whole_increasing)
 
-    pub met_one : get_or part met 0 ≡ get_or whole i 0 → is_part (drop met part) (drop i whole) ≡ is_part (drop (met + 1) part) (drop (i + 1) whole)
+    pub met_one : get_or part met 0 ≡ get_or whole i 0 → is_subset_of (drop met part) (drop i whole) ≡ is_subset_of (drop (met + 1) part) (drop (i + 1) whole)
     met_one e =
-        ap (λ p. is_part p (drop i whole)) (drop_more part met 0 more) ∙ ap (λ w. is_part (get_or part met 0 ∷ drop (met + 1) part) w) (drop_more whole i 0 inside)
-        ∙ ap (λ x. is_part (get_or part met 0 ∷ drop (met + 1) part) (x ∷ drop (i + 1) whole)) (sym e) ∙ part_same (get_or part met 0) (drop (met + 1) part) (drop (i + 1) whole) first_of.0
+        ap (λ p. is_subset_of p (drop i whole)) (drop_more part met 0 more) ∙ ap (λ w. is_subset_of (get_or part met 0 ∷ drop (met + 1) part) w) (drop_more whole i 0 inside)
+        ∙ ap (λ x. is_subset_of (get_or part met 0 ∷ drop (met + 1) part) (x ∷ drop (i + 1) whole)) (sym e) ∙ part_same (get_or part met 0) (drop (met + 1) part) (drop (i + 1) whole) first_of.0
 
-    pub passed_one : get_or part met 0 ≢ get_or whole i 0 → is_part (drop met part) (drop i whole) ≡ is_part (drop met part) (drop (i + 1) whole)
+    pub passed_one : get_or part met 0 ≢ get_or whole i 0 → is_subset_of (drop met part) (drop i whole) ≡ is_subset_of (drop met part) (drop (i + 1) whole)
     passed_one n =
-        ap (λ p. is_part p (drop i whole)) (drop_more part met 0 more) ∙ ap (λ w. is_part (get_or part met 0 ∷ drop (met + 1) part) w) (drop_more whole i 0 inside)
-        ∙ part_past (get_or part met 0) (get_or whole i 0) (drop (met + 1) part) (drop (i + 1) whole) n first_of first_in ∙ ap (λ p. is_part p (drop (i + 1) whole)) (sym (drop_more part met 0 more))
+        ap (λ p. is_subset_of p (drop i whole)) (drop_more part met 0 more) ∙ ap (λ w. is_subset_of (get_or part met 0 ∷ drop (met + 1) part) w) (drop_more whole i 0 inside)
+        ∙ part_past (get_or part met 0) (get_or whole i 0) (drop (met + 1) part) (drop (i + 1) whole) n first_of first_in ∙ ap (λ p. is_subset_of p (drop (i + 1) whole)) (sym (drop_more part met 0 more))
 
 pub ruleset merging = (met_all, none_left, met_one, passed_one)

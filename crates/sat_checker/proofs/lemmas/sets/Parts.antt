@@ -4,7 +4,7 @@ use Rattle.std.proofs.lemmas.Bool.{and_parts, or_cases, or_left, or_right, eqb-t
 use Rattle.std.proofs.lemmas.Bool.Decides.{nat_tests}
 use Rattle.std.proofs.lemmas.List.{drop_more}
 use Rattle.std.specs.List.{list_all}
-use Rattle.sat_checker.specs.LiteralSets.{is_among, is_part, canonical, same_literals}
+use Rattle.sat_checker.specs.LiteralSets.{is_among, is_subset_of, canonical, same_literals}
 use Rattle.sat_checker.specs.inner.Marks.{NoRepeats, IsIncreasing}
 use Rattle.sat_checker.proofs.lemmas.meaning.Clauses.{same, same_from}
 use Rattle.sat_checker.proofs.lemmas.sets.Canonical.{canonical_among, canonical_increasing, same_increasing}
@@ -29,42 +29,42 @@ pub record Missing (xs ys : List ℕ) : Type 0 where
   pub within : is_among xs literal ≡ true
   pub outside : is_among ys literal ≡ false
 
-pub missing : (xs ys : List ℕ) → is_part xs ys ≡ false → Missing xs ys
+pub missing : (xs ys : List ℕ) → is_subset_of xs ys ≡ false → Missing xs ys
 missing [] ys h = absurd (true≢false h)
 missing (x ∷ xs) ys h = go (is_among ys x) refl h (missing xs ys)
   where
-    go : (b : Bool) → is_among ys x ≡ b → (b && is_part xs ys) ≡ false → (is_part xs ys ≡ false → Missing xs ys) → Missing (x ∷ xs) ys
+    go : (b : Bool) → is_among ys x ≡ b → (b && is_subset_of xs ys) ≡ false → (is_subset_of xs ys ≡ false → Missing xs ys) → Missing (x ∷ xs) ys
     go false e k ih = record { literal = x; within = or_left (eqb x x) (is_among xs x) (eq-eqb x x refl); outside = e }
     go true e k ih = let m = ih k in record { literal = m.literal; within = or_right (eqb x m.literal) (is_among xs m.literal) m.within; outside = m.outside }
 
-pub member : (xs ys : List ℕ) (l : ℕ) → is_part xs ys ≡ true → is_among xs l ≡ true → is_among ys l ≡ true
+pub member : (xs ys : List ℕ) (l : ℕ) → is_subset_of xs ys ≡ true → is_among xs l ≡ true → is_among ys l ≡ true
 member [] ys l h k = absurd (true≢false (sym k))
-member (x ∷ xs) ys l h k = let p = and_parts (is_among ys x) (is_part xs ys) h in elim (or_cases (eqb x l) (is_among xs l) k) [ inl e ↦ subst (λ y. is_among ys y ≡ true) (eqb-true x l e) p.0 | inr m ↦ member xs ys l p.1 m ]
+member (x ∷ xs) ys l h k = let p = and_parts (is_among ys x) (is_subset_of xs ys) h in elim (or_cases (eqb x l) (is_among xs l) k) [ inl e ↦ subst (λ y. is_among ys y ≡ true) (eqb-true x l e) p.0 | inr m ↦ member xs ys l p.1 m ]
 
 -- a part that is at least as long contains everything
-pub whole : (xs ys : List ℕ) → NoRepeats xs → is_part xs ys ≡ true → length ys ≤ length xs → is_part ys xs ≡ true
-whole xs ys n p l = go (is_part ys xs) refl
+pub whole : (xs ys : List ℕ) → NoRepeats xs → is_subset_of xs ys ≡ true → length ys ≤ length xs → is_subset_of ys xs ≡ true
+whole xs ys n p l = go (is_subset_of ys xs) refl
   where
-    go : (b : Bool) → is_part ys xs ≡ b → b ≡ true
+    go : (b : Bool) → is_subset_of ys xs ≡ b → b ≡ true
     go true e = refl
     go false e =
         let m = missing ys xs e in
         let k : suc (length xs) ≤ length ys = few (m.literal ∷ xs) ys (m.outside, n) (λ l h. elim (or_cases (eqb m.literal l) (is_among xs l) h) [ inl e ↦ subst (λ y. is_among ys y ≡ true) (eqb-true m.literal l e) m.within | inr a ↦ member xs ys l p a ]) in
         absurd (omega (arith, l, k))
 
-shorter : (xs ys : List ℕ) → NoRepeats xs → is_part xs ys ≡ true → length xs ≤ length ys
+shorter : (xs ys : List ℕ) → NoRepeats xs → is_subset_of xs ys ≡ true → length xs ≤ length ys
 shorter xs ys n p = few xs ys n (λ l. member xs ys l p)
 
 -- lists of equal length are the same set if one is a part of the other
-pub same_set : (xs ys : List ℕ) → IsIncreasing xs → NoRepeats ys → length xs ≡ length ys → is_part xs ys ≡ same_literals xs (canonical ys)
-same_set xs ys up n e = same_tests (is_part xs ys) (same_literals xs (canonical ys)) to back
+pub same_set : (xs ys : List ℕ) → IsIncreasing xs → NoRepeats ys → length xs ≡ length ys → is_subset_of xs ys ≡ same_literals xs (canonical ys)
+same_set xs ys up n e = same_tests (is_subset_of xs ys) (same_literals xs (canonical ys)) to back
   where
-    to : is_part xs ys ≡ true → same_literals xs (canonical ys) ≡ true
+    to : is_subset_of xs ys ≡ true → same_literals xs (canonical ys) ≡ true
     to p =
         let q = whole xs ys (once xs up) p (omega (arith, e)) in
         same_from xs (canonical ys) (same_increasing xs (canonical ys) up (canonical_increasing ys) (λ l. same_tests (is_among xs l) (is_among ys l) (member xs ys l p) (member ys xs l q) ∙ sym (canonical_among ys l)))
 
-    back : same_literals xs (canonical ys) ≡ true → is_part xs ys ≡ true
+    back : same_literals xs (canonical ys) ≡ true → is_subset_of xs ys ≡ true
     back s = all_true (is_among ys) xs (λ l m. sym (canonical_among ys l) ∙ ap (λ zs. is_among zs l) (sym (same xs (canonical ys) s)) ∙ m)
 
 pub other_length : (xs ys : List ℕ) → NoRepeats ys → (length xs ≡ length ys → ⊥) → same_literals xs (canonical ys) ≡ false
@@ -83,18 +83,18 @@ pub not_less : (x y : ℕ) → y ≤ x → ltb x y ≡ false
 not_less x y l = grind (arith, nat_tests)
 
 -- a shorter part is a strict part
-pub strict_part : (xs ys : List ℕ) → NoRepeats ys → length xs < length ys → is_part xs ys ≡ (is_part xs ys && not (is_part ys xs))
-strict_part xs ys n l = go (is_part xs ys) (is_part ys xs) refl
+pub strict_part : (xs ys : List ℕ) → NoRepeats ys → length xs < length ys → is_subset_of xs ys ≡ (is_subset_of xs ys && not (is_subset_of ys xs))
+strict_part xs ys n l = go (is_subset_of xs ys) (is_subset_of ys xs) refl
   where
-    go : (p q : Bool) → is_part ys xs ≡ q → p ≡ (p && not q)
+    go : (p q : Bool) → is_subset_of ys xs ≡ q → p ≡ (p && not q)
     go false q b = refl
     go true false b = refl
     go true true b = let k = shorter ys xs n b in absurd (omega (arith, l, k))
 
-pub no_strict_part : (xs ys : List ℕ) → NoRepeats xs → length ys ≤ length xs → false ≡ (is_part xs ys && not (is_part ys xs))
-no_strict_part xs ys n l = go (is_part xs ys) refl
+pub no_strict_part : (xs ys : List ℕ) → NoRepeats xs → length ys ≤ length xs → false ≡ (is_subset_of xs ys && not (is_subset_of ys xs))
+no_strict_part xs ys n l = go (is_subset_of xs ys) refl
   where
-    go : (p : Bool) → is_part xs ys ≡ p → false ≡ (p && not (is_part ys xs))
+    go : (p : Bool) → is_subset_of xs ys ≡ p → false ≡ (p && not (is_subset_of ys xs))
     go false a = refl
     go true a = ap not (sym (whole xs ys n a l))
 

@@ -3,7 +3,7 @@ use Rattle.std.proofs.Common.{ℕ, ◌≡◌, Bool, true, eqb, List, [], ◌∷�
 use Rattle.std.proofs.lemmas.Bool.{or_cases, or_left, or_right, and_parts, true≢false, eqb-true, eq-eqb}
 use Rattle.std.specs.List.{AllByRecursion, list_any, list_all}
 use Rattle.sat_base.specs.values.Clauses.{Valuation, literal_true, clause_true}
-use Rattle.sat_checker.specs.LiteralSets.{is_among, is_part, canonical}
+use Rattle.sat_checker.specs.LiteralSets.{is_among, is_subset_of, canonical}
 use Rattle.sat_checker.proofs.lemmas.sets.Canonical.{canonical_among}
 
 pub all_true : (test : ℕ → Bool) (ls : List ℕ) → ((l : ℕ) → is_among ls l ≡ true → test l ≡ true) → list_all test ls ≡ true
@@ -18,7 +18,7 @@ each_true test [] h = tt
 each_true test (l ∷ ls) h = let p = and_parts (test l) (list_all test ls) h in (p.0, each_true test ls p.1)
 
 -- a clause is a part of its canonical form
-pub subset_canonical : (ls : List ℕ) → is_part ls (canonical ls) ≡ true
+pub subset_canonical : (ls : List ℕ) → is_subset_of ls (canonical ls) ≡ true
 subset_canonical ls = all_true (is_among (canonical ls)) ls (λ l h. canonical_among ls l ∙ h)
 
 -- `list_any` is true if a member passes the test
@@ -44,10 +44,10 @@ pub any_canonical : (test : ℕ → Bool) (ls : List ℕ) → list_any test ls �
 any_canonical test ls h = let s = some_of test ls h in any_true test (canonical ls) s.literal (canonical_among ls s.literal ∙ s.within) s.passes
 
 -- a clause is true if a part of it is
-pub superset_true : (a : Valuation) (part ls : List ℕ) → is_part part ls ≡ true → clause_true a part ≡ true → clause_true a ls ≡ true
+pub superset_true : (a : Valuation) (part ls : List ℕ) → is_subset_of part ls ≡ true → clause_true a part ≡ true → clause_true a ls ≡ true
 superset_true a [] ls s t = absurd (true≢false (sym t))
 superset_true a (x ∷ xs) ls s t =
-    let p = and_parts (is_among ls x) (is_part xs ls) s in
+    let p = and_parts (is_among ls x) (is_subset_of xs ls) s in
     elim (or_cases (literal_true a x) (clause_true a xs) t) [ inl k ↦ member_true ls x p.0 k | inr k ↦ superset_true a xs ls p.1 k ]
   where
     member_true : (ms : List ℕ) (l : ℕ) → is_among ms l ≡ true → literal_true a l ≡ true → clause_true a ms ≡ true

@@ -10,7 +10,7 @@ use Rattle.sat_base.specs.values.Tables.{HasPlaceFor}
 use Rattle.sat_base.proofs.lemmas.values.TableLemmas.{has_room}
 use Rattle.sat_checker.specs.LiteralSets.{is_among}
 use Rattle.sat_checker.specs.inner.LitNumbers.{unless_largest, number_at, AreTrailPlaces}
-use Rattle.sat_checker.specs.inner.Marks.{NoRepeats, LosesAt}
+use Rattle.sat_checker.specs.inner.Marks.{NoRepeats, IsSwapRemoved}
 use Rattle.sat_checker.specs.declared.units.lit_numbers.LitNumbers.{LitNumbers}
 use Rattle.sat_checker.proofs.lemmas.sets.Canonical.{among_from_contains, contains_from_among}
 use Rattle.sat_checker.proofs.lemmas.sets.Distinct.{once_permuted, once_reversed}
@@ -44,7 +44,7 @@ module _ (trail rest : List ℕ) (place x : ℕ) (inside : place < length trail)
       go false s = sym (among_permuted trail (x ∷ rest) permuted l ∙ ap (λ b. b || is_among rest l) s)
 
 pub lost : (trail rest : List ℕ) (place : ℕ) → length rest + 1 ≡ length trail → ((d : ℕ) → place + 1 < length trail → get_or rest place d ≡ get_or trail (length trail - 1) d)
-    → ((k d : ℕ) → k ≢ place → k + 1 < length trail → get_or rest k d ≡ get_or trail k d) → LosesAt place trail rest
+    → ((k d : ℕ) → k ≢ place → k + 1 < length trail → get_or rest k d ≡ get_or trail k d) → IsSwapRemoved place trail rest
 lost trail rest place n at others = record { count = n; each = λ i h. go i h (eqb i place) refl }
   where
     go : (i : ℕ) → i < length rest → (b : Bool) → eqb i place ≡ b → get_or rest i 0 ≡ cond b (get_or trail (length trail - 1) 0) (get_or trail i 0)
@@ -86,7 +86,7 @@ stands_at places trail l n placed among e =
     (subst (λ k. k < length trail) same s.inside, subst (λ k. get_or trail k 0 ≡ l) same s.there)
 
 -- the newest literal gets the place of the removed one
-pub placed_without : (places new : LitNumbers) (trail rest : List ℕ) (place newest : ℕ) → AreTrailPlaces places trail → LosesAt place trail rest → newest ≡ get_or trail (length trail - 1) 0
+pub placed_without : (places new : LitNumbers) (trail rest : List ℕ) (place newest : ℕ) → AreTrailPlaces places trail → IsSwapRemoved place trail rest → newest ≡ get_or trail (length trail - 1) 0
     → ((k : ℕ) → number_at new k ≡ cond (eqb k newest) (Some place) (number_at places k)) → AreTrailPlaces new rest
 placed_without places new trail rest place newest placed loses is numbers i inside = ap (number_at new) (loses.each i inside) ∙ go (eqb i place) refl
   where

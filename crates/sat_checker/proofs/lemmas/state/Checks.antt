@@ -4,7 +4,7 @@ use Rattle.std.specs.Result.{OnErr}
 use Rattle.sat_checker.specs.Propagation.{PassesCheck}
 use Rattle.sat_checker.specs.Stored.{Stored, StoredUnit, bucket}
 use Rattle.sat_checker.specs.Accepts.{PassesByHashes}
-use Rattle.sat_checker.specs.inner.FormulaView.{ChecksAs, ChecksBeside, RepresentsFormula, AreNumbered, standing_in}
+use Rattle.sat_checker.specs.inner.FormulaView.{ChecksAs, ChecksBeside, RepresentsFormula, AreNumbered, status_in_code}
 use Rattle.sat_checker.specs.inner.AssumedRoom.{HasStoredRoom}
 use Rattle.sat_checker.specs.inner.SlotView.{slot_ids}
 use Rattle.sat_checker.specs.inner.StoreView.{RepresentsClauses}
@@ -21,7 +21,7 @@ pub kept_beside : (F G : Formula) (f : Stored) → ChecksBeside F G → Represen
 kept_beside F G f e k = record {
   clauses = subst (λ s. RepresentsClauses s f) (sym e.store) k.clauses;
   units = e.units ∙ k.units;
-  status = ap standing_in e.status ∙ k.status;
+  status = ap status_in_code e.status ∙ k.status;
   numbered = subst (λ s. AreNumbered (slot_ids s.clauses) f.units G.status.last f.next_id) (sym e.store) (subst (λ (s : Status). AreNumbered (slot_ids F.store.clauses) f.units s.last f.next_id) (sym e.status) k.numbered);
   room = stored_stays F.units.room G.units.room f.clauses e.room k.room;
   marks = stored_stays F.marks.room G.marks.room f.clauses e.marks k.marks;

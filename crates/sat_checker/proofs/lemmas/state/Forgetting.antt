@@ -14,7 +14,7 @@ use Rattle.sat_checker.specs.inner.StateView.{RepresentsStored}
 use Rattle.sat_checker.specs.inner.UnitView.{UnitsInvariant}
 use Rattle.sat_checker.specs.inner.VariablesView.{variable_of_data, variable_at}
 use Rattle.sat_checker.specs.declared.units.lit_numbers.LitNumbers.{LitNumbers}
-use Rattle.sat_checker.specs.declared.state.State.{State}
+use Rattle.sat_checker.specs.declared.state.CheckerState.{CheckerState}
 use Rattle.sat_checker.specs.declared.variables.VarData.{VarData}
 use Rattle.sat_checker.proofs.lemmas.sets.Subsets.{any_true, some_of}
 use Rattle.sat_checker.proofs.lemmas.sets.Canonical.{canonical_among}
@@ -159,7 +159,7 @@ mentions_set ls v = implies_same (mentions (canonical ls) v) (mentions ls v)
     (λ h. let s = some_of (λ l. eqb (variable l) v) ls h in any_true (λ l. eqb (variable l) v) (canonical ls) s.literal (canonical_among ls s.literal ∙ s.within) s.passes)
 
 -- when a variable may be deleted
-module _ (state : State) (f : Stored) (k : RepresentsStored state f) (v : ℕ) where
+module _ (state : CheckerState) (f : Stored) (k : RepresentsStored state f) (v : ℕ) where
   pub assumed_same : mentions state.assumed v ≡ mentions f.assumed v
   assumed_same = ap (λ xs. mentions xs v) k.assumed ∙ mentions_set f.assumed v
 

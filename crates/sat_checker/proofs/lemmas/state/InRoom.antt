@@ -5,14 +5,14 @@ use Rattle.std.proofs.lemmas.Bool.Decides.{nat_tests}
 use Rattle.std.specs.Bool.{MatchBool}
 use Rattle.std.specs.List.{list_any}
 use Rattle.sat_base.specs.steps.Steps.{DeleteClause, Deletion, Redundant, Satisfied, Simplified}
-use Rattle.sat_checker.specs.LiteralSets.{is_among, is_part, canonical, same_literals}
+use Rattle.sat_checker.specs.LiteralSets.{is_among, is_subset_of, canonical, same_literals}
 use Rattle.sat_checker.specs.Stored.{Stored, StoredClause}
 use Rattle.sat_checker.specs.Storing.{clause_with}
 use Rattle.sat_checker.specs.Accepts.{Accepts, FitsModel, IsStrictSubset}
-use Rattle.sat_checker.specs.inner.FormulaView.{ChecksBeside, RepresentsFormula, refiled_in}
+use Rattle.sat_checker.specs.inner.FormulaView.{ChecksBeside, RepresentsFormula, rehashed_in}
 use Rattle.sat_checker.specs.inner.ModelTests.{are_all_true}
 use Rattle.sat_checker.specs.inner.AssumedRoom.{LiteralsAndRoom, RoomStays, AgreesOn, HasClauseRoom, HasStoredRoom}
-use Rattle.sat_checker.specs.inner.StoreView.{store_count_in, refiled}
+use Rattle.sat_checker.specs.inner.StoreView.{store_count_in, rehashed}
 use Rattle.sat_checker.specs.declared.formula.Formula.{Formula}
 use Rattle.sat_checker.proofs.lemmas.meaning.Clauses.{same}
 use Rattle.sat_checker.proofs.lemmas.sets.Canonical.{canonical_among}
@@ -45,13 +45,13 @@ room_found room ls c (d ∷ ds) e h = go (same_literals d.literals ls) refl e (r
     go false n e ih = ih e h.1
 
 -- a clause with a literal that has no room is not stored
-pub no_room : (room c : List ℕ) (cs : List StoredClause) → is_part c room ≡ false → HasStoredRoom room cs → (r : Bool) → 0 < store_count_in r (clause_with (canonical c) cs) → ⊥
+pub no_room : (room c : List ℕ) (cs : List StoredClause) → is_subset_of c room ≡ false → HasStoredRoom room cs → (r : Bool) → 0 < store_count_in r (clause_with (canonical c) cs) → ⊥
 no_room room c cs n h r k = go (clause_with (canonical c) cs) refl r k
   where
     go : (o : Option StoredClause) → clause_with (canonical c) cs ≡ o → (r : Bool) → 0 < store_count_in r o → ⊥
     go None e true k = absurd (omega arith)
     go None e false k = absurd (omega arith)
-    go (Some d) e r k = both_ways (is_part c room) n (all_true (is_among room) c (λ l m. roomy room (canonical c) l (room_found room (canonical c) d cs e h) (canonical_among c l ∙ m)))
+    go (Some d) e r k = both_ways (is_subset_of c room) n (all_true (is_among room) c (λ l m. roomy room (canonical c) l (room_found room (canonical c) d cs e h) (canonical_among c l ∙ m)))
 
 pub refused : (f : Stored) (c : List ℕ) (p : Deletion) → ((r : Bool) → 0 < store_count_in r (clause_with (canonical c) f.clauses) → ⊥) → Accepts f (DeleteClause c p) → ⊥
 refused f c Redundant n h = n true h
@@ -72,7 +72,7 @@ strict_same_set None xs ys e h = h
 strict_same_set (Some ms) xs ys e h = (same_part ms xs ms ys (λ l. refl) (λ l. sym (e l)) ∙ h.0, same_part xs ms ys ms (λ l. sym (e l)) (λ l. refl) ∙ h.1)
 
 -- if all literals of a clause have room, restricting it to literals with room changes nothing
-pub within_room : (room c : List ℕ) (l : ℕ) → is_part c room ≡ true → (is_among room l && is_among c l) ≡ is_among c l
+pub within_room : (room c : List ℕ) (l : ℕ) → is_subset_of c room ≡ true → (is_among room l && is_among c l) ≡ is_among c l
 within_room room c l h = go (is_among c l) refl
   where
     none : (b : Bool) → (b && false) ≡ false
@@ -84,10 +84,10 @@ within_room room c l h = go (is_among c l) refl
     go false e = none (is_among room l)
 
 -- a check changes only notes, marks and room, so the formula still represents the same
-pub refiled_beside : (F G : Formula) (f : Stored) → ChecksBeside F G → RepresentsFormula (refiled_in F) f → RepresentsFormula (refiled_in G) f
-refiled_beside F G f e k = kept_beside (refiled_in F) (refiled_in G) f (record { store = ap refiled e.store; status = e.status; units = e.units; room = e.room; marks = e.marks }) k
+pub refiled_beside : (F G : Formula) (f : Stored) → ChecksBeside F G → RepresentsFormula (rehashed_in F) f → RepresentsFormula (rehashed_in G) f
+refiled_beside F G f e k = kept_beside (rehashed_in F) (rehashed_in G) f (record { store = ap rehashed e.store; status = e.status; units = e.units; room = e.room; marks = e.marks }) k
 
-pub marks_kept : (F : Formula) (marks : LiteralsAndRoom) (f : Stored) → RoomStays F.marks.room marks.room → RepresentsFormula (refiled_in F) f → RepresentsFormula (refiled_in (record F { marks = marks })) f
+pub marks_kept : (F : Formula) (marks : LiteralsAndRoom) (f : Stored) → RoomStays F.marks.room marks.room → RepresentsFormula (rehashed_in F) f → RepresentsFormula (rehashed_in (record F { marks = marks })) f
 marks_kept F marks f s k = record { clauses = k.clauses; units = k.units; status = k.status; numbered = k.numbered; room = k.room; marks = stored_stays F.marks.room marks.room f.clauses s k.marks }
 
 pub stays_through : (old mid left : LiteralsAndRoom) (room : List ℕ) → mid ≡ old → left.room ≡ mid.room → RoomStays left.room room → RoomStays old.room room

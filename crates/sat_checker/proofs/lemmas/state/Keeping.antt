@@ -3,17 +3,17 @@ use Rattle.std.proofs.Common.{ℕ, ◌≡◌, Bool, false, cond, List, [], ◌�
 use Rattle.std.specs.List.{AllByRecursion}
 use Rattle.sat_base.specs.values.Literals.{variable}
 use Rattle.sat_base.specs.steps.Steps.{SolverVarName, AddClause, DeleteClause, Deletion, Redundant, Satisfied, Simplified}
-use Rattle.sat_checker.specs.LiteralSets.{canonical, is_part}
+use Rattle.sat_checker.specs.LiteralSets.{canonical, is_subset_of}
 use Rattle.sat_checker.specs.Stored.{Stored, Variable, Sample, mode_of}
-use Rattle.sat_checker.specs.Storing.{settled, with_stored, with_input, with_literals_known, with_solver_name, with_known}
+use Rattle.sat_checker.specs.Storing.{with_conflict_settled, with_stored, with_input, with_literals_known, with_solver_name, with_known}
 use Rattle.sat_checker.specs.Accepts.{effect, IsStrictSubset}
-use Rattle.sat_checker.specs.Spent.{IsSpent}
-use Rattle.sat_checker.specs.inner.FormulaView.{RepresentsFormula, refiled_in, FormulaEffectIf, KeepsOrSpends}
+use Rattle.sat_checker.specs.Counters.{CountersExhausted}
+use Rattle.sat_checker.specs.inner.FormulaView.{RepresentsFormula, rehashed_in, FormulaEffectIf, StoredOrExhausted}
 use Rattle.sat_checker.specs.inner.StateView.{RepresentsStored, with_added_clause}
 use Rattle.sat_checker.specs.inner.VariablesView.{KeepsVariables, AreSampling}
 use Rattle.sat_checker.specs.declared.store.StoreError.{StoreError}
 use Rattle.sat_checker.specs.declared.store.StoreError.TheVariants.{OutOfMemory, CounterEnd}
-use Rattle.sat_checker.specs.declared.state.State.{State}
+use Rattle.sat_checker.specs.declared.state.CheckerState.{CheckerState}
 use Rattle.sat_checker.specs.declared.variables.Variables.{Variables}
 use Rattle.sat_checker.proofs.lemmas.sets.Canonical.{canonical_among}
 use Rattle.sat_checker.proofs.lemmas.state.Refiled.{loosened}
@@ -21,10 +21,10 @@ use Rattle.sat_checker.proofs.lemmas.state.Scanning.{same_part}
 use Rattle.sat_checker.proofs.lemmas.meaning.Names.{SameVariables, stored_same, settled_same}
 
 -- an error is passed on
-pub decides_err : {T : Type 0} (first : Result T StoreError) (result : Result Bool StoreError) (d e : StoreError) → first ≡ Err e → result ≡ Err d → d ≡ e → (K A L : Type 0) (g h : Stored) → A → (IsSpent g → IsSpent h) → KeepsOrSpends first K g → FormulaEffectIf result A L h
-decides_err {T = T} first result d e a b s K A L g h p w t = subst (λ x. FormulaEffectIf x A L h) (sym (b ∙ ap Err s)) (go e (subst (λ x. KeepsOrSpends x K g) a t))
+pub decides_err : {T : Type 0} (first : Result T StoreError) (result : Result Bool StoreError) (d e : StoreError) → first ≡ Err e → result ≡ Err d → d ≡ e → (K A L : Type 0) (g h : Stored) → A → (CountersExhausted g → CountersExhausted h) → StoredOrExhausted first K g → FormulaEffectIf result A L h
+decides_err {T = T} first result d e a b s K A L g h p w t = subst (λ x. FormulaEffectIf x A L h) (sym (b ∙ ap Err s)) (go e (subst (λ x. StoredOrExhausted x K g) a t))
   where
-    go : (e : StoreError) → KeepsOrSpends {T = T} (Err e) K g → FormulaEffectIf (Err e) A L h
+    go : (e : StoreError) → StoredOrExhausted {T = T} (Err e) K g → FormulaEffectIf (Err e) A L h
     go OutOfMemory t = p
     go CounterEnd t = (p, w t)
 
@@ -33,33 +33,33 @@ sampling_kept vs f [] k h = tt
 sampling_kept vs f (l ∷ ls) k h = (sym (ap (λ (x : Variable). x.mode) (k.each (variable l))) ∙ h.0, sampling_kept vs f ls k h.1)
 
 -- the claim about what is stored may be weakened
-pub turns_then : {T : Type 0} (result : Result T StoreError) (K L : Type 0) (g : Stored) → (K → L) → KeepsOrSpends result K g → KeepsOrSpends result L g
+pub turns_then : {T : Type 0} (result : Result T StoreError) (K L : Type 0) (g : Stored) → (K → L) → StoredOrExhausted result K g → StoredOrExhausted result L g
 turns_then (Ok x) K L g f k = f k
 turns_then (Err OutOfMemory) K L g f k = tt
 turns_then (Err CounterEnd) K L g f k = k
 
 -- the state after a derived clause
-pub derived : (new : State) (f : Stored) (r : Bool) (c : List ℕ) → RepresentsFormula new.formula (with_stored r c (with_literals_known c f)) → KeepsVariables new.variables (with_literals_known c f).variables → new.assumed ≡ canonical f.assumed
+pub derived : (new : CheckerState) (f : Stored) (r : Bool) (c : List ℕ) → RepresentsFormula new.formula (with_stored r c (with_literals_known c f)) → KeepsVariables new.variables (with_literals_known c f).variables → new.assumed ≡ canonical f.assumed
     → RepresentsStored new (with_stored r c (with_literals_known c f))
 derived new f r c F V a = let s = stored_same r c (with_literals_known c f) in record { formula = loosened new.formula (with_stored r c (with_literals_known c f)) F; variables = subst (KeepsVariables new.variables) (sym s.variables) V; assumed = a ∙ ap canonical (sym s.assumed) }
 
 -- the state after an input clause
-pub input_kept : (new : State) (f : Stored) (c : List ℕ) → RepresentsFormula new.formula (with_input c (with_literals_known c f)) → KeepsVariables new.variables (with_literals_known c f).variables → new.assumed ≡ canonical f.assumed → RepresentsStored new (with_added_clause c f)
+pub input_kept : (new : CheckerState) (f : Stored) (c : List ℕ) → RepresentsFormula new.formula (with_input c (with_literals_known c f)) → KeepsVariables new.variables (with_literals_known c f).variables → new.assumed ≡ canonical f.assumed → RepresentsStored new (with_added_clause c f)
 input_kept new f c F V a =
     let s = stored_same false c (with_literals_known c f) in record { formula = loosened new.formula (with_input c (with_literals_known c f)) F; variables = subst (KeepsVariables new.variables) (sym s.variables) V; assumed = a ∙ ap canonical (sym s.assumed) }
 
-pub added : (new : State) (f : Stored) (c : List ℕ) → f.unsat ≡ false → RepresentsStored new (with_added_clause c f) → RepresentsStored new (effect (AddClause c) f)
+pub added : (new : CheckerState) (f : Stored) (c : List ℕ) → f.unsat ≡ false → RepresentsStored new (with_added_clause c f) → RepresentsStored new (effect (AddClause c) f)
 added new f c e k = subst (λ b. RepresentsStored new (cond b f (with_added_clause c f))) (sym e) k
 
-pub added_spent : (f : Stored) (c : List ℕ) → f.unsat ≡ false → IsSpent (with_added_clause c f) → IsSpent (effect (AddClause c) f)
-added_spent f c e k = subst (λ b. IsSpent (cond b f (with_added_clause c f))) (sym e) k
+pub added_spent : (f : Stored) (c : List ℕ) → f.unsat ≡ false → CountersExhausted (with_added_clause c f) → CountersExhausted (effect (AddClause c) f)
+added_spent f c e k = subst (λ b. CountersExhausted (cond b f (with_added_clause c f))) (sym e) k
 
 -- the state after a solver name is set or removed
-pub renamed : (new : State) (f : Stored) (v : ℕ) (name : Option ℕ) (n : ℕ) → name ≡ Some n → RepresentsFormula (refiled_in new.formula) (with_solver_name v (Some n) f) → KeepsVariables new.variables (with_known (v ∷ []) f).variables → new.assumed ≡ canonical f.assumed
+pub renamed : (new : CheckerState) (f : Stored) (v : ℕ) (name : Option ℕ) (n : ℕ) → name ≡ Some n → RepresentsFormula (rehashed_in new.formula) (with_solver_name v (Some n) f) → KeepsVariables new.variables (with_known (v ∷ []) f).variables → new.assumed ≡ canonical f.assumed
     → RepresentsStored new (effect (SolverVarName v name) f)
 renamed new f v name n e F V a = subst (λ o. RepresentsStored new (effect (SolverVarName v o) f)) (sym e) (record { formula = F; variables = V; assumed = a })
 
-pub unnamed : (new : State) (f : Stored) (v : ℕ) (name : Option ℕ) → name ≡ None → RepresentsFormula (refiled_in new.formula) (with_solver_name v None f) → KeepsVariables new.variables f.variables → new.assumed ≡ canonical f.assumed → RepresentsStored new (effect (SolverVarName v name) f)
+pub unnamed : (new : CheckerState) (f : Stored) (v : ℕ) (name : Option ℕ) → name ≡ None → RepresentsFormula (rehashed_in new.formula) (with_solver_name v None f) → KeepsVariables new.variables f.variables → new.assumed ≡ canonical f.assumed → RepresentsStored new (effect (SolverVarName v name) f)
 unnamed new f v name e F V a = subst (λ o. RepresentsStored new (effect (SolverVarName v o) f)) (sym e) (record { formula = F; variables = V; assumed = a })
 
 -- a strict part of a clause is a strict part of its sorted literals
@@ -73,8 +73,8 @@ strict_back (Some ms) c ls e h =
     let k = subst (IsStrictSubset (Some ms)) e h in (sym (same_part ms c ms (canonical c) (λ l. refl) (canonical_among c)) ∙ k.0, sym (same_part c ms (canonical c) ms (canonical_among c) (λ l. refl)) ∙ k.1)
 
 -- whether a core is among the assumptions
-pub within_assumed : (b : Bool) (core assumed whole : List ℕ) → whole ≡ canonical assumed → b ≡ is_part core whole → b ≡ is_part core assumed
-within_assumed b core assumed whole w e = e ∙ ap (is_part core) w ∙ same_part core assumed core (canonical assumed) (λ l. refl) (canonical_among assumed)
+pub within_assumed : (b : Bool) (core assumed whole : List ℕ) → whole ≡ canonical assumed → b ≡ is_subset_of core whole → b ≡ is_subset_of core assumed
+within_assumed b core assumed whole w e = e ∙ ap (is_subset_of core) w ∙ same_part core assumed core (canonical assumed) (λ l. refl) (canonical_among assumed)
 
 -- a deletion changes only clauses
 pub deletion_same : (f : Stored) (c : List ℕ) (p : Deletion) → SameVariables f (effect (DeleteClause c p) f)
@@ -82,7 +82,7 @@ deletion_same f c Redundant = record { variables = refl; deleted = refl; assumed
 deletion_same f c Satisfied = record { variables = refl; deleted = refl; assumed = refl }
 deletion_same f c Simplified = record { variables = refl; deleted = refl; assumed = refl }
 
-pub deleted_kept : (old new : State) (f : Stored) (c : List ℕ) (p : Deletion) → RepresentsStored old f → RepresentsFormula new.formula (effect (DeleteClause c p) f) → new.variables ≡ old.variables → new.assumed ≡ old.assumed → RepresentsStored new (effect (DeleteClause c p) f)
+pub deleted_kept : (old new : CheckerState) (f : Stored) (c : List ℕ) (p : Deletion) → RepresentsStored old f → RepresentsFormula new.formula (effect (DeleteClause c p) f) → new.variables ≡ old.variables → new.assumed ≡ old.assumed → RepresentsStored new (effect (DeleteClause c p) f)
 deleted_kept old new f c p k F v a = let s = deletion_same f c p in record {
   formula = loosened new.formula (effect (DeleteClause c p) f) F;
   variables = subst (λ vs. KeepsVariables vs (effect (DeleteClause c p) f).variables) (sym v) (subst (KeepsVariables old.variables) (sym s.variables) k.variables);
@@ -90,9 +90,9 @@ deleted_kept old new f c p k F v a = let s = deletion_same f c p in record {
 }
 
 -- the state after a unit conflict is settled
-pub settled_kept : (old new : State) (f : Stored) → RepresentsStored old f → RepresentsFormula (refiled_in new.formula) (settled f) → new.variables ≡ old.variables → new.assumed ≡ old.assumed → RepresentsStored new (settled f)
+pub settled_kept : (old new : CheckerState) (f : Stored) → RepresentsStored old f → RepresentsFormula (rehashed_in new.formula) (with_conflict_settled f) → new.variables ≡ old.variables → new.assumed ≡ old.assumed → RepresentsStored new (with_conflict_settled f)
 settled_kept old new f k F v a = let s = settled_same f in record {
   formula = F;
-  variables = subst (λ vs. KeepsVariables vs (settled f).variables) (sym v) (subst (KeepsVariables old.variables) (sym s.variables) k.variables);
+  variables = subst (λ vs. KeepsVariables vs (with_conflict_settled f).variables) (sym v) (subst (KeepsVariables old.variables) (sym s.variables) k.variables);
   assumed = a ∙ k.assumed ∙ ap canonical (sym s.assumed);
 }

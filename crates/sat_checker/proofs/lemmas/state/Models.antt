@@ -6,7 +6,7 @@ use Rattle.std.specs.List.{AllByRecursion, list_any}
 use Rattle.sat_base.specs.values.Literals.{negated, variable}
 use Rattle.sat_checker.specs.LiteralSets.{is_among, mentions}
 use Rattle.sat_checker.specs.Stored.{Stored, StoredClause, StoredUnit}
-use Rattle.sat_checker.specs.Accepts.{VariablesApart, FitsModel}
+use Rattle.sat_checker.specs.Accepts.{VariablesDistinct, FitsModel}
 use Rattle.sat_checker.specs.inner.ModelTests.{are_all_true}
 
 same_variable : (x l : ℕ) → x ≡ negated l → variable x ≡ variable l
@@ -48,7 +48,7 @@ var_not_among (x ∷ xs) l a b = go (eqb x l) refl (eqb x (negated l)) refl (var
         apart : variable x ≡ variable l → ⊥
         apart s = both_ways (eqb x (negated l)) f (eq-eqb x (negated l) (two_literals x l s (λ same. both_ways (eqb x l) e (eq-eqb x l same))))
 
-apart_drop : (ls : List ℕ) (i : ℕ) → VariablesApart ls → VariablesApart (drop i ls)
+apart_drop : (ls : List ℕ) (i : ℕ) → VariablesDistinct ls → VariablesDistinct (drop i ls)
 apart_drop [] zero h = tt
 apart_drop [] (suc i) h = tt
 apart_drop (l ∷ ls) zero h = h
@@ -56,25 +56,25 @@ apart_drop (l ∷ ls) (suc i) h = apart_drop ls i h.1
 
 -- one more literal, from the last to the first
 module _ (ls : List ℕ) (i : ℕ) (inside : i < length ls) where
-  pub apart_more : is_among (drop (i + 1) ls) (get_or ls i 0) ≡ false → is_among (drop (i + 1) ls) (negated (get_or ls i 0)) ≡ false → VariablesApart (drop (i + 1) ls) → VariablesApart (drop i ls)
+  pub apart_more : is_among (drop (i + 1) ls) (get_or ls i 0) ≡ false → is_among (drop (i + 1) ls) (negated (get_or ls i 0)) ≡ false → VariablesDistinct (drop (i + 1) ls) → VariablesDistinct (drop i ls)
   apart_more a b h = rw (drop_more ls i 0 inside) ((var_not_among (drop (i + 1) ls) (get_or ls i 0) a b, h))
 
   pub drop_back : drop i ls ≡ get_or ls i 0 ∷ drop (i + 1) ls
   drop_back = drop_more ls i 0 inside
 
-  clash : (is_among (drop (i + 1) ls) (get_or ls i 0) ≡ true) ⊎ (is_among (drop (i + 1) ls) (negated (get_or ls i 0)) ≡ true) → VariablesApart ls → ⊥
+  clash : (is_among (drop (i + 1) ls) (get_or ls i 0) ≡ true) ⊎ (is_among (drop (i + 1) ls) (negated (get_or ls i 0)) ≡ true) → VariablesDistinct ls → ⊥
   clash t h =
-      let k : VariablesApart (get_or ls i 0 ∷ drop (i + 1) ls) = subst VariablesApart (drop_more ls i 0 inside) (apart_drop ls i h) in
+      let k : VariablesDistinct (get_or ls i 0 ∷ drop (i + 1) ls) = subst VariablesDistinct (drop_more ls i 0 inside) (apart_drop ls i h) in
       both_ways (mentions (drop (i + 1) ls) (variable (get_or ls i 0))) k.0 (var_among (drop (i + 1) ls) (get_or ls i 0) t)
 
 pub ruleset setting_apart = (apart_more, drop_back)
 
 -- if the literal at `i`, or its negation, is among the later literals, a variable occurs twice
-pub met_same : (ls assigned : List ℕ) (i p l : ℕ) → i + 1 ≡ p → i < length ls → l ≡ get_or ls i l → assigned ≡ drop p ls → true ≡ is_among assigned l → VariablesApart ls → ⊥
+pub met_same : (ls assigned : List ℕ) (i p l : ℕ) → i + 1 ≡ p → i < length ls → l ≡ get_or ls i l → assigned ≡ drop p ls → true ≡ is_among assigned l → VariablesDistinct ls → ⊥
 met_same ls assigned i p l e inside read set t =
     clash ls i inside (inl (ap (is_among (drop (i + 1) ls)) (sym (get_or_read ls i l inside read 0)) ∙ ap (λ n. is_among (drop n ls) l) e ∙ ap (λ xs. is_among xs l) (sym set) ∙ sym t))
 
-pub met_negated : (ls assigned : List ℕ) (i p l m : ℕ) → i + 1 ≡ p → i < length ls → l ≡ get_or ls i l → assigned ≡ drop p ls → m ≡ negated l → true ≡ is_among assigned m → VariablesApart ls → ⊥
+pub met_negated : (ls assigned : List ℕ) (i p l m : ℕ) → i + 1 ≡ p → i < length ls → l ≡ get_or ls i l → assigned ≡ drop p ls → m ≡ negated l → true ≡ is_among assigned m → VariablesDistinct ls → ⊥
 met_negated ls assigned i p l m e inside read set n t =
     clash ls i inside (inr (ap (λ x. is_among (drop (i + 1) ls) (negated x)) (sym (get_or_read ls i l inside read 0)) ∙ ap (is_among (drop (i + 1) ls)) (sym n) ∙ ap (λ k. is_among (drop k ls) m) e ∙ ap (λ xs. is_among xs m) (sym set) ∙ sym t))
 
@@ -112,13 +112,13 @@ true_each ls (c ∷ cs) h = ap (λ b. b && are_all_true ls cs) (first h.0) ∙ t
     first (inl e) = ap (λ b. b || list_any (is_among ls) c.literals) (eq-eqb c.irredundant 0 e)
     first (inr t) = or_right (eqb c.irredundant 0) (list_any (is_among ls) c.literals) t
 
-pub fits_model : (f : Stored) (ls : List ℕ) → f.unsat ≡ false → VariablesApart ls → is_contradicted ls f.units ≡ false → are_all_true ls f.clauses ≡ true → FitsModel f ls
+pub fits_model : (f : Stored) (ls : List ℕ) → f.unsat ≡ false → VariablesDistinct ls → is_contradicted ls f.units ≡ false → are_all_true ls f.clauses ≡ true → FitsModel f ls
 fits_model f ls u a n t = record { consistent = u; apart = a; units = not_contradicted ls f.units n; clauses = all_true ls f.clauses t }
 
 pub fits_tests : (f : Stored) (ls : List ℕ) → FitsModel f ls → (is_contradicted ls f.units ≡ false) × (are_all_true ls f.clauses ≡ true)
 fits_tests f ls h = (uncontradicted ls f.units h.units, true_each ls f.clauses h.clauses)
 
-pub met_fits : (b : Bool) (f : Stored) (ls : List ℕ) → f.unsat ≡ false → VariablesApart ls → b ≡ (not (is_contradicted ls f.units) && are_all_true ls f.clauses) → (b ≡ true) ↔ FitsModel f ls
+pub met_fits : (b : Bool) (f : Stored) (ls : List ℕ) → f.unsat ≡ false → VariablesDistinct ls → b ≡ (not (is_contradicted ls f.units) && are_all_true ls f.clauses) → (b ≡ true) ↔ FitsModel f ls
 met_fits b f ls u a e = (to, back)
   where
     to : b ≡ true → FitsModel f ls

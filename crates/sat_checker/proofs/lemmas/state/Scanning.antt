@@ -4,7 +4,7 @@ use Rattle.std.proofs.lemmas.Bool.{eqb-true, or_cases, true≢false}
 use Rattle.std.proofs.lemmas.List.{drop_more}
 use Rattle.std.specs.List.{list_any, AllByRecursion}
 use Rattle.sat_base.specs.values.Literals.{negated}
-use Rattle.sat_checker.specs.LiteralSets.{is_among, is_part}
+use Rattle.sat_checker.specs.LiteralSets.{is_among, is_subset_of}
 use Rattle.sat_checker.proofs.lemmas.sets.Subsets.{all_true, each_true}
 
 module _ (test : ℕ → Bool) (ls : List ℕ) (i : ℕ) (inside : i < length ls) where
@@ -37,7 +37,7 @@ negated_all (x ∷ xs) (suc i) l = ap (λ ys. negated x ∷ ys) (negated_all xs 
 
 pub ruleset negating = (negated_more, negated_all)
 
--- flags that imply each other are equal; `is_part` depends only on the members
+-- flags that imply each other are equal; `is_subset_of` depends only on the members
 implies_same : (a b : Bool) → (a ≡ true → b ≡ true) → (b ≡ true → a ≡ true) → a ≡ b
 implies_same true true f g = refl
 implies_same false false f g = refl
@@ -48,8 +48,8 @@ one_of : (test : ℕ → Bool) (ls : List ℕ) (l : ℕ) → AllByRecursion (λ 
 one_of test [] l h k = absurd (true≢false (sym k))
 one_of test (x ∷ xs) l h k = elim (or_cases (eqb x l) (is_among xs l) k) [ inl e ↦ subst (λ y. test y ≡ true) (eqb-true x l e) h.0 | inr m ↦ one_of test xs l h.1 m ]
 
-part_of : (xs ys us vs : List ℕ) → ((l : ℕ) → is_among us l ≡ is_among xs l) → ((l : ℕ) → is_among vs l ≡ is_among ys l) → is_part xs ys ≡ true → is_part us vs ≡ true
+part_of : (xs ys us vs : List ℕ) → ((l : ℕ) → is_among us l ≡ is_among xs l) → ((l : ℕ) → is_among vs l ≡ is_among ys l) → is_subset_of xs ys ≡ true → is_subset_of us vs ≡ true
 part_of xs ys us vs s t h = all_true (is_among vs) us (λ l m. t l ∙ one_of (is_among ys) xs l (each_true (is_among ys) xs h) (sym (s l) ∙ m))
 
-pub same_part : (xs ys us vs : List ℕ) → ((l : ℕ) → is_among us l ≡ is_among xs l) → ((l : ℕ) → is_among vs l ≡ is_among ys l) → is_part us vs ≡ is_part xs ys
-same_part xs ys us vs s t = implies_same (is_part us vs) (is_part xs ys) (part_of us vs xs ys (λ l. sym (s l)) (λ l. sym (t l))) (part_of xs ys us vs s t)
+pub same_part : (xs ys us vs : List ℕ) → ((l : ℕ) → is_among us l ≡ is_among xs l) → ((l : ℕ) → is_among vs l ≡ is_among ys l) → is_subset_of us vs ≡ is_subset_of xs ys
+same_part xs ys us vs s t = implies_same (is_subset_of us vs) (is_subset_of xs ys) (part_of us vs xs ys (λ l. sym (s l)) (λ l. sym (t l))) (part_of xs ys us vs s t)

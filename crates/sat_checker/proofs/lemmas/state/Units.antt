@@ -6,7 +6,7 @@ use Rattle.sat_base.specs.values.Literals.{variable, negated}
 use Rattle.sat_base.specs.steps.Steps.{UnitClauses}
 use Rattle.sat_checker.specs.LiteralSets.{canonical}
 use Rattle.sat_checker.specs.Looks.{literal_count}
-use Rattle.sat_checker.specs.Spent.{IsSpent}
+use Rattle.sat_checker.specs.Counters.{CountersExhausted}
 use Rattle.sat_checker.specs.Stored.{Stored, is_unit}
 use Rattle.sat_checker.specs.Storing.{with_unit, with_contradiction, with_new_unit, with_units, with_known, with_literals_known}
 use Rattle.sat_checker.specs.Accepts.{PassesByHashes, PassInTurn, effect}
@@ -17,7 +17,7 @@ use Rattle.sat_checker.specs.inner.VariablesView.{KeepsVariables}
 use Rattle.sat_checker.specs.declared.store.StoreError.{StoreError}
 use Rattle.sat_checker.specs.declared.store.StoreError.TheVariants.{OutOfMemory, CounterEnd}
 use Rattle.sat_checker.specs.declared.formula.Formula.{Formula}
-use Rattle.sat_checker.specs.declared.state.State.{State}
+use Rattle.sat_checker.specs.declared.state.CheckerState.{CheckerState}
 use Rattle.sat_checker.proofs.lemmas.meaning.Names.{units_same}
 use Rattle.sat_checker.proofs.lemmas.state.Refiled.{loosened}
 
@@ -42,17 +42,17 @@ count_unit l f = go (is_unit f l) (is_unit f (negated l))
     go false false = refl
 
 -- a number that does not fit still does not fit after units are added
-spent_unit : (l : ℕ) (f : Stored) → IsSpent f → IsSpent (with_unit l f)
+spent_unit : (l : ℕ) (f : Stored) → CountersExhausted f → CountersExhausted (with_unit l f)
 spent_unit l f h = go (is_unit f l) (is_unit f (negated l)) h
   where
-    go : (b d : Bool) → IsSpent f → IsSpent (cond b f (cond d (with_contradiction l f) (with_new_unit l f)))
+    go : (b d : Bool) → CountersExhausted f → CountersExhausted (cond b f (cond d (with_contradiction l f) (with_new_unit l f)))
     go true d h = h
     go false true (inl h) = inl (omega arith)
     go false true (inr s) = inr (record { literals = s.literals; past = s.past })
     go false false (inl h) = inl (omega arith)
     go false false (inr s) = inr (record { literals = s.literals; past = s.past })
 
-spent_units : (ls : List ℕ) (f : Stored) → IsSpent f → IsSpent (with_units ls f)
+spent_units : (ls : List ℕ) (f : Stored) → CountersExhausted f → CountersExhausted (with_units ls f)
 spent_units [] f h = h
 spent_units (l ∷ ls) f h = spent_units ls (with_unit l f) (spent_unit l f h)
 
@@ -80,8 +80,8 @@ module _ (F : Formula) (f : Stored) (all : List (ℕ × ℕ)) (i : ℕ) (u : ℕ
   pub stopped : (PassesByHashes left.now (u.0 ∷ []) (u.1 ∷ []) → ⊥) → PassInTurn f all → ⊥
   stopped n q = n (subst (PassInTurn left.now) split (left.back q)).0
 
-  pub spent_then : IsSpent (with_unit u.0 left.now) → IsSpent (with_units (firsts all) f)
-  spent_then s = subst IsSpent (ap (λ us. with_units (firsts us) left.now) (sym split) ∙ left.same) (spent_units (firsts (drop (i + 1) all)) (with_unit u.0 left.now) s)
+  pub spent_then : CountersExhausted (with_unit u.0 left.now) → CountersExhausted (with_units (firsts all) f)
+  spent_then s = subst CountersExhausted (ap (λ us. with_units (firsts us) left.now) (sym split) ∙ left.same) (spent_units (firsts (drop (i + 1) all)) (with_unit u.0 left.now) s)
 
 -- no unit remains
 pub finished : (F : Formula) (f : Stored) (all : List (ℕ × ℕ)) (i : ℕ) → length all ≤ i → Left F f all (drop i all) → PassInTurn f all × RepresentsFormula F (with_units (firsts all) f)
@@ -94,7 +94,7 @@ finished F f all i l left = let e = past all i l in (left.on (subst (PassInTurn 
     past (x ∷ xs) (suc i) l = past xs i (omega arith)
 
 -- After an error at a unit, the later units decide whether the units are refused or the error is returned.
-pub failed : (r : Result Bool StoreError) (fault : StoreError) (A B P K L : Type 0) (g h : Stored) → FormulaEffectIf (Err fault) A K g → (IsSpent g → IsSpent h) → (A → P → B) → (B → P)
+pub failed : (r : Result Bool StoreError) (fault : StoreError) (A B P K L : Type 0) (g h : Stored) → FormulaEffectIf (Err fault) A K g → (CountersExhausted g → CountersExhausted h) → (A → P → B) → (B → P)
     → MatchResult r (λ passes. (passes ≡ false) × (P → ⊥)) (λ e. (e ≡ fault) × P) → FormulaEffectIf r B L h
 failed (Ok true) fault A B P K L g h t spent on back m = absurd (let e : true ≡ false = m.0 in cc)
 failed (Ok false) fault A B P K L g h t spent on back m = λ b. m.1 (back b)
@@ -117,7 +117,7 @@ pub known_units : (vs ls : List ℕ) (f : Stored) → with_units ls (with_known 
 known_units vs [] f = refl
 known_units vs (l ∷ ls) f = ap (with_units ls) (known_unit vs l f) ∙ known_units vs ls (with_unit l f)
 
-pub units_stored : (new : State) (f : Stored) (us : List (ℕ × ℕ)) → RepresentsFormula new.formula (with_units (firsts us) f) → KeepsVariables new.variables (with_literals_known (firsts us) f).variables → new.assumed ≡ canonical f.assumed → RepresentsStored new (effect (UnitClauses us) f)
+pub units_stored : (new : CheckerState) (f : Stored) (us : List (ℕ × ℕ)) → RepresentsFormula new.formula (with_units (firsts us) f) → KeepsVariables new.variables (with_literals_known (firsts us) f).variables → new.assumed ≡ canonical f.assumed → RepresentsStored new (effect (UnitClauses us) f)
 units_stored new f us F V a =
     let s = units_same (firsts us) f in
     subst (RepresentsStored new) (sym (known_units (map variable (firsts us)) (firsts us) f)) (record {

@@ -11,7 +11,7 @@ use Rattle.sat_checker.specs.inner.Marks.{IsIncreasing}
 use Rattle.sat_checker.specs.inner.IndexView.{IndexesSlots, pairs_from}
 use Rattle.sat_checker.specs.inner.PairView.{Indexed, inserted, inserted_all, places_in, mixed}
 use Rattle.sat_checker.specs.inner.OccurrenceView.{times_in, times_stored, SlotsInvariant}
-use Rattle.sat_checker.specs.inner.SlotView.{Slot, unstored, slot_at, stored_slot, is_gone, is_filed, places_from, gone_count, slots_present, MayDrop, live, slot_ids, slot_count, with_count_at, without_count_at, all_hashed_by}
+use Rattle.sat_checker.specs.inner.SlotView.{Slot, unstored, slot_at, stored_slot, is_gone, is_filed, places_from, gone_count, slots_present, CompactsOrKeeps, live, slot_ids, slot_count, with_count_at, without_count_at, all_hashed_by}
 use Rattle.sat_checker.specs.inner.StoreView.{AreHashed, RepresentsClauses, AreIdsInOrder, KeepsIds}
 use Rattle.sat_checker.specs.declared.hash.ClauseHasher.{ClauseHasher}
 use Rattle.sat_checker.specs.declared.store.occurrences.Occurrences.{Occurrences}
@@ -156,7 +156,7 @@ kept_standing ss new index next o k e f = record {
 }
 
 -- the store still represents the same after removed clauses are dropped
-pub keeps_dropped : (store : Store) (new : List Slot) (f : Stored) → MayDrop store.clauses new → RepresentsClauses store f → RepresentsClauses (record store { clauses = new }) f
+pub keeps_dropped : (store : Store) (new : List Slot) (f : Stored) → CompactsOrKeeps store.clauses new → RepresentsClauses store f → RepresentsClauses (record store { clauses = new }) f
 keeps_dropped store new f (inl e) k = record {
   clauses = ap live e ∙ k.clauses;
   hashed = subst (AreHashed store.hasher) (sym e) k.hashed;
@@ -170,7 +170,7 @@ keeps_dropped store new f (inr e) k = record {
   width = k.width;
 }
 
-pub ids_dropped : (old new : List Slot) → MayDrop old new → KeepsIds old new
+pub ids_dropped : (old new : List Slot) → CompactsOrKeeps old new → KeepsIds old new
 ids_dropped old new (inl e) n h = subst (λ ss. AreIdsInOrder (slot_ids ss) n) (sym e) h
 ids_dropped old new (inr e) n h =
     subst (λ ss. AreIdsInOrder (slot_ids ss) n) (sym e) (record { increasing = rising_standing old h.increasing; below = each_standing (λ i. i < n) old h.below })

@@ -12,7 +12,7 @@ use Rattle.sat_checker.specs.Storing.{with_solver_name}
 use Rattle.sat_checker.specs.HasherView.{solver_name_of, width_of}
 use Rattle.sat_checker.specs.inner.OccurrenceView.{times_in, times_stored}
 use Rattle.sat_checker.specs.inner.SlotView.{Slot, is_gone, live, hashed_anew}
-use Rattle.sat_checker.specs.inner.StoreView.{AreHashed, RepresentsClauses, refiled}
+use Rattle.sat_checker.specs.inner.StoreView.{AreHashed, RepresentsClauses, rehashed}
 use Rattle.sat_checker.specs.declared.hash.ClauseHasher.{ClauseHasher}
 use Rattle.sat_checker.specs.declared.store.Store.{Store}
 use Rattle.sat_checker.proofs.lemmas.store.Rehashing.{all_hashed, refiled_live, stored_live}
@@ -116,8 +116,8 @@ module _ (v : ℕ) where
             (λ m. k.0 m ∙ same_hash s.clause.literals p.0, rest p.1)
 
 -- a variable that is in no clause gets another solver name
-pub named_still : (store : Store) (f : Stored) (g : ClauseHasher) (v : ℕ) (name : Option ℕ) → RepresentsClauses (refiled store) f → ((w : ℕ) → solver_name_of g w ≡ cond (eqb w v) name (solver_name_of store.hasher w)) → width_of g ≡ width_of store.hasher
-    → list_any (λ c. mentions c.literals v) (live store.clauses) ≡ false → RepresentsClauses (refiled (record store { hasher = g })) (with_solver_name v name f)
+pub named_still : (store : Store) (f : Stored) (g : ClauseHasher) (v : ℕ) (name : Option ℕ) → RepresentsClauses (rehashed store) f → ((w : ℕ) → solver_name_of g w ≡ cond (eqb w v) name (solver_name_of store.hasher w)) → width_of g ≡ width_of store.hasher
+    → list_any (λ c. mentions c.literals v) (live store.clauses) ≡ false → RepresentsClauses (rehashed (record store { hasher = g })) (with_solver_name v name f)
 named_still store f g v name k names width none = record {
   clauses = refiled_live (record store { hasher = g }) ∙ stored_live store f k;
   hashed = go store.stale k.hashed;

@@ -9,7 +9,7 @@ use Rattle.sat_checker.specs.Stored.{Stored, hash_by}
 use Rattle.sat_checker.specs.Storing.{unless_gone}
 use Rattle.sat_checker.specs.Looks.{total_length, literal_count}
 use Rattle.sat_checker.specs.HasherView.{solver_name_of, width_of}
-use Rattle.sat_checker.specs.inner.StoreView.{AreHashed, RepresentsClauses, refiled}
+use Rattle.sat_checker.specs.inner.StoreView.{AreHashed, RepresentsClauses, rehashed}
 use Rattle.sat_checker.specs.declared.hash.ClauseHasher.{ClauseHasher}
 use Rattle.sat_checker.specs.declared.store.Store.{Store}
 use Rattle.sat_checker.proofs.lemmas.store.Ids.{ids_hashed}
@@ -179,17 +179,17 @@ all_hashed h (s ∷ ss) = (go (is_gone s) refl, all_hashed h ss)
     go false g n = refl
 
 -- the stored clauses stay the same while they are not yet filed again
-pub refiled_live : (store : Store) → live (refiled store).clauses ≡ live store.clauses
+pub refiled_live : (store : Store) → live (rehashed store).clauses ≡ live store.clauses
 refiled_live store = go store.stale
   where
     go : (b : Bool) → live (cond b (hashed_anew store.hasher store.clauses) store.clauses) ≡ live store.clauses
     go true = live_hashed (solver_name_of store.hasher) (width_of store.hasher) store.clauses
     go false = refl
 
-pub stored_live : (store : Store) (f : Stored) → RepresentsClauses (refiled store) f → live store.clauses ≡ f.clauses
+pub stored_live : (store : Store) (f : Stored) → RepresentsClauses (rehashed store) f → live store.clauses ≡ f.clauses
 stored_live store f k = sym (refiled_live store) ∙ k.clauses
 
-pub refiled_ids : (store : Store) → slot_ids (refiled store).clauses ≡ slot_ids store.clauses
+pub refiled_ids : (store : Store) → slot_ids (rehashed store).clauses ≡ slot_ids store.clauses
 refiled_ids store = go store.stale
   where
     go : (b : Bool) → slot_ids (cond b (hashed_anew store.hasher store.clauses) store.clauses) ≡ slot_ids store.clauses
@@ -201,7 +201,7 @@ filed_already : (h : ClauseHasher) (ss : List Slot) (b : Bool) → AreHashed h s
 filed_already h ss true k = all_hashed h ss
 filed_already h ss false k = k
 
-pub refiled_kept : (store : Store) (f : Stored) → RepresentsClauses store f → RepresentsClauses (refiled store) f
+pub refiled_kept : (store : Store) (f : Stored) → RepresentsClauses store f → RepresentsClauses (rehashed store) f
 refiled_kept store f k = record {
   clauses = refiled_live store ∙ k.clauses;
   hashed = filed_already store.hasher store.clauses store.stale k.hashed;
@@ -210,8 +210,8 @@ refiled_kept store f k = record {
 }
 
 -- after the names or the width change, all clauses must be filed again
-pub hashes_changed : (store : Store) (f : Stored) (h : ClauseHasher) (names : ℕ → Option ℕ) (width : ℕ) → RepresentsClauses (refiled store) f → ((v : ℕ) → solver_name_of h v ≡ names v) → width_of h ≡ width
-    → RepresentsClauses (refiled (record store { hasher = h; stale = true })) (record f { solver_names = names; width = width })
+pub hashes_changed : (store : Store) (f : Stored) (h : ClauseHasher) (names : ℕ → Option ℕ) (width : ℕ) → RepresentsClauses (rehashed store) f → ((v : ℕ) → solver_name_of h v ≡ names v) → width_of h ≡ width
+    → RepresentsClauses (rehashed (record store { hasher = h; stale = true })) (record f { solver_names = names; width = width })
 hashes_changed store f h names width k e w = record {
   clauses = live_hashed (solver_name_of h) (width_of h) store.clauses ∙ stored_live store f k;
   hashed = all_hashed h store.clauses;
@@ -220,13 +220,13 @@ hashes_changed store f h names width k e w = record {
 }
 
 -- a store that is not stale is already filed
-pub filed_still : (store : Store) → store.stale ≡ false → store ≡ refiled store
+pub filed_still : (store : Store) → store.stale ≡ false → store ≡ rehashed store
 filed_still store e = ap (λ b. record store { stale = b }) e ∙ ap (λ b. record store { clauses = cond b (hashed_anew store.hasher store.clauses) store.clauses; stale = false }) (sym e)
 
-pub filed_anew : (store : Store) (new : List Slot) → store.stale ≡ true → new ≡ hashed_anew store.hasher store.clauses → record store { clauses = new; stale = false } ≡ refiled store
+pub filed_anew : (store : Store) (new : List Slot) → store.stale ≡ true → new ≡ hashed_anew store.hasher store.clauses → record store { clauses = new; stale = false } ≡ rehashed store
 filed_anew store new e n = ap (λ ss. record store { clauses = ss; stale = false }) n ∙ ap (λ b. record store { clauses = cond b (hashed_anew store.hasher store.clauses) store.clauses; stale = false }) (sym e)
 
-pub looks_anew : (store : Store) (old new : ℕ) → new ≤ old + live_length store.clauses → (f : Stored) → RepresentsClauses (refiled store) f → new ≤ old + literal_count f
+pub looks_anew : (store : Store) (old new : ℕ) → new ≤ old + live_length store.clauses → (f : Stored) → RepresentsClauses (rehashed store) f → new ≤ old + literal_count f
 looks_anew store old new h f k =
     let b : live_length store.clauses ≡ literal_count f = ap (λ cs. total_length (map (λ c. c.literals) cs)) (stored_live store f k) in
     omega arith

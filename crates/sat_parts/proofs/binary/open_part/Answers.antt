@@ -3,14 +3,14 @@ use Rattle.std.proofs.Common.{ℕ, ◌≡◌, ◌+◌, ◌-◌, ◌<◌, Bool, L
 use Rattle.std.proofs.lemmas.List.{get_or-drop, length-drop, drop-set-add, take-set-le}
 use Rattle.std.proofs.lemmas.List.Filters.{FiltersInPlace, FiltersInPlace-more_set, FiltersInPlace-more_no}
 use Rattle.sat_base.specs.values.Literals.{variable}
-use Rattle.sat_parts.specs.prop.Values.{is_unset}
+use Rattle.sat_parts.specs.prop.Values.{is_unassigned_var}
 use Rattle.sat_parts.proofs.lemmas.prop.PlaceLemmas.{rest_by}
 use Rattle.sat_parts.proofs.binary.open_part.Goals as goal
 use Rattle.sat_parts.proofs.binary.open_part.Goals.{then-is_unset, else-is_unset}
 
 pub loop-at-preserved : goal.loop-at-preserved
 loop-at-preserved c =
-    let p : ℕ → Bool = λ x. is_unset c.args.assignment.now.current (variable x) in
+    let p : ℕ → Bool = λ x. is_unassigned_var c.args.assignment.now.current (variable x) in
     let start : ℕ = c.args.place.start in
     let old : List ℕ = c.args.lits.now.items in
     let cur : List ℕ = c.loop-at.lits.items in
@@ -19,8 +19,8 @@ loop-at-preserved c =
     let read : c.index-lit.result.now ≡ get_or (drop c.args.place.start c.loop-at.lits.items) c.loop-at.at c.index-lit.result.now = c.index-lit.ensures ∙ sym (get_or-drop start cur c.loop-at.at x) in
     let m : length (drop c.args.place.start c.args.lits.now.items) ≡ length c.args.lits.now.items - c.args.place.start = length-drop start old in
     let lt : c.loop-at.at < length (drop c.args.place.start c.loop-at.lits.items) = omega (arith, m, h.long, c.requires, c.loop-at-test.true) in
-    let value : is_unset c.args.assignment.now.current (variable c.index-lit.result.now) ≡ c.is_unset-in-loop-at.result =
-    sym (c.is_unset-in-loop-at.ensures ∙ ap (λ v. is_unset c.args.assignment.now.current v) c.index.ensures.value) in
+    let value : is_unassigned_var c.args.assignment.now.current (variable c.index-lit.result.now) ≡ c.is_unset-in-loop-at.result =
+    sym (c.is_unset-in-loop-at.ensures ∙ ap (λ v. is_unassigned_var c.args.assignment.now.current v) c.index.ensures.value) in
     elim c.if-is_unset.branch [
       | then-is_unset w ↦
           let k : FiltersInPlace p (drop c.args.place.start c.args.lits.now.items) (set (drop c.args.place.start c.loop-at.lits.items) c.loop-at.left c.index-lit.result.now) (c.loop-at.left + 1) (c.loop-at.at + 1) =

@@ -10,7 +10,7 @@ use Rattle.sat_store.specs.clause.Header.{Header, index_of}
 use Rattle.sat_store.specs.declared.clause.tier.Tier.{Tier}
 use Rattle.sat_store.specs.declared.clause.tier.Tier.TheVariants.{Irred}
 use Rattle.sat_store.proofs.lemmas.clause.HeldClauses.{same_count, clause_within, kept_below}
-use Rattle.sat_parts.specs.clause.Db.{Db, is_live, live_refs, is_live_of, garbage_of, AreRising, DbMatchesBuffer, tier_count_more, tier_count_less, AddsLongClause, PutsHeader, DeletesClause, MovesClause, ShortensClause}
+use Rattle.sat_parts.specs.clause.Db.{Db, is_live, live_refs, is_live_in_tier, garbage_of, AreStrictlyIncreasing, DbMatchesBuffer, tier_count_more, tier_count_less, AddsLongClause, PutsHeader, DeletesClause, MovesClause, ShortensClause}
 use Rattle.sat_parts.proofs.lemmas.prop.BuildLemmas.{live_in, live_same}
 use Rattle.sat_parts.proofs.lemmas.clause.ListLemmas.{rising_push, sum_same, sum_changed, count_less, counted_some, filter_without, filter_same}
 
@@ -38,17 +38,17 @@ puts_header words words' refs o h holds_clauses has len header lits change = rec
 }
 
 -- whether a clause counts for a tier, given its header
-counted_live : (words : List ℕ) (t : Tier) (o : ℕ) (tier : Tier) → is_live words o ≡ true → (header_at words o).tier ≡ tier → is_live_of words t o ≡ (index_of tier == index_of t)
+counted_live : (words : List ℕ) (t : Tier) (o : ℕ) (tier : Tier) → is_live words o ≡ true → (header_at words o).tier ≡ tier → is_live_in_tier words t o ≡ (index_of tier == index_of t)
 counted_live words t o tier live is = ap (λ b. b && (index_of (header_at words o).tier == index_of t)) live ∙ ap (λ x. index_of x == index_of t) is
 
-counted_dead : (words : List ℕ) (t : Tier) (o : ℕ) → is_live words o ≡ false → is_live_of words t o ≡ false
+counted_dead : (words : List ℕ) (t : Tier) (o : ℕ) → is_live words o ≡ false → is_live_in_tier words t o ≡ false
 counted_dead words t o dead = ap (λ b. b && (index_of (header_at words o).tier == index_of t)) dead
 
 abbrev one : Bool → ℕ
 one b = cond b 1 0
 
 -- unchanged clauses count as before
-kept_counted : (words words' : List ℕ) (t : Tier) (p : ℕ) → header_at words' p ≡ header_at words p → is_live_of words' t p ≡ is_live_of words t p
+kept_counted : (words words' : List ℕ) (t : Tier) (p : ℕ) → header_at words' p ≡ header_at words p → is_live_in_tier words' t p ≡ is_live_in_tier words t p
 kept_counted words words' t p e = ap (λ (h : Header). not h.deleted && (index_of h.tier == index_of t)) e
 
 kept_garbage : (words words' : List ℕ) (p : ℕ) → SameClauseAt words words' p → garbage_of words' p ≡ garbage_of words p
@@ -56,13 +56,13 @@ kept_garbage words words' p k =
     ap (λ (h : Header). cond (not h.deleted) 0 (length (lits_at words' p) + 3)) k.header ∙ ap (λ (ls : List ℕ). cond (is_live words p) 0 (length ls + 3)) k.lits
 
 -- the counts by tier when the header of one clause changes
-counts_changed : (words words' refs : List ℕ) (o : ℕ) (h : Header) (t : Tier) → AreRising refs → Contains refs o → PutsHeader words words' refs o h →
-    count_by (is_live_of words' t) refs + one (is_live_of words t o) ≡ count_by (is_live_of words t) refs + one (is_live_of words' t o)
+counts_changed : (words words' refs : List ℕ) (o : ℕ) (h : Header) (t : Tier) → AreStrictlyIncreasing refs → Contains refs o → PutsHeader words words' refs o h →
+    count_by (is_live_in_tier words' t) refs + one (is_live_in_tier words t o) ≡ count_by (is_live_in_tier words t) refs + one (is_live_in_tier words' t o)
 counts_changed words words' refs o h t rising has put =
-    sum_changed (λ p. one (is_live_of words t p)) (λ p. one (is_live_of words' t p)) refs o rising has
+    sum_changed (λ p. one (is_live_in_tier words t p)) (λ p. one (is_live_in_tier words' t p)) refs o rising has
     (λ p c n. ap (λ b. one b) (kept_counted words words' t p (put.others p c n).header))
 
-garbage_changed : (words words' refs : List ℕ) (o : ℕ) (h : Header) → AreRising refs → Contains refs o → PutsHeader words words' refs o h →
+garbage_changed : (words words' refs : List ℕ) (o : ℕ) (h : Header) → AreStrictlyIncreasing refs → Contains refs o → PutsHeader words words' refs o h →
     sum_by (garbage_of words') refs + garbage_of words o ≡ sum_by (garbage_of words) refs + garbage_of words' o
 garbage_changed words words' refs o h rising has put =
     sum_changed (garbage_of words) (garbage_of words') refs o rising has (λ p c n. kept_garbage words words' p (put.others p c n))
@@ -72,8 +72,8 @@ pub counted_one : (words : List ℕ) (db : Db) (o : ℕ) → DbMatchesBuffer wor
 counted_one words db o h c = elim (cases_eq (get_or db.counts (index_of (header_at words o).tier) 0) 0) [
   | inl e ↦
       let tier : Tier = (header_at words o).tier in
-      let yes : is_live_of words (header_at words o).tier o ≡ true = counted_live words tier o tier (live_is words db.refs o c) refl ∙ eq-eqb (index_of tier) (index_of tier) refl in
-      let some : 0 < count_by (is_live_of words (header_at words o).tier) db.refs = counted_some (is_live_of words (header_at words o).tier) db.refs o (live_in words db.refs o c) yes in
+      let yes : is_live_in_tier words (header_at words o).tier o ≡ true = counted_live words tier o tier (live_is words db.refs o c) refl ∙ eq-eqb (index_of tier) (index_of tier) refl in
+      let some : 0 < count_by (is_live_in_tier words (header_at words o).tier) db.refs = counted_some (is_live_in_tier words (header_at words o).tier) db.refs o (live_in words db.refs o c) yes in
       absurd (omega (arith, h.counts (header_at words o).tier))
   | inr n ↦ omega arith
 ]
@@ -120,16 +120,16 @@ deletes words db words' o h c put =
         rising = h.rising;
         tiers = length-set db.counts (index_of tier) (get_or db.counts (index_of tier) 0 - 1) ∙ h.tiers;
         counts = λ t.
-            let q : count_by (is_live_of words' t) db.refs + one (is_live_of words t o) ≡ count_by (is_live_of words t) db.refs + one (is_live_of words' t o) =
+            let q : count_by (is_live_in_tier words' t) db.refs + one (is_live_in_tier words t o) ≡ count_by (is_live_in_tier words t) db.refs + one (is_live_in_tier words' t o) =
             counts_changed words words' db.refs o (record (header_at words o) { deleted = true }) t h.rising has put in
-            let gone : one (is_live_of words' t o) ≡ 0 = ap (λ b. one b) (counted_dead words' t o dead) in
+            let gone : one (is_live_in_tier words' t o) ≡ 0 = ap (λ b. one b) (counted_dead words' t o dead) in
             elim (cases_eq (index_of tier) (index_of t)) [
               | inl e ↦
-                  let yes : one (is_live_of words t o) ≡ 1 = ap (λ b. one b) (counted_live words t o tier live refl ∙ eq-eqb (index_of tier) (index_of t) e) in
+                  let yes : one (is_live_in_tier words t o) ≡ 1 = ap (λ b. one b) (counted_live words t o tier live refl ∙ eq-eqb (index_of tier) (index_of t) e) in
                   let same : get_or db.counts (index_of tier) 0 ≡ get_or db.counts (index_of t) 0 = ap (λ k. get_or db.counts k 0) e in
                   omega (arith, set_there db.counts tier t (get_or db.counts (index_of tier) 0 - 1) h.tiers e, h.counts t, q, gone, yes, same)
               | inr n ↦
-                  let no : one (is_live_of words t o) ≡ 0 = ap (λ b. one b) (counted_live words t o tier live refl ∙ ne_eqb (index_of tier) (index_of t) n) in
+                  let no : one (is_live_in_tier words t o) ≡ 0 = ap (λ b. one b) (counted_live words t o tier live refl ∙ ne_eqb (index_of tier) (index_of t) n) in
                   omega (arith, set_elsewhere db.counts tier t (get_or db.counts (index_of tier) 0 - 1) n, h.counts t, q, gone, no)
             ];
         garbage =
@@ -163,7 +163,7 @@ live_put words words' refs o h e put = filter_same (is_live words) (is_live word
   | inr n ↦ ap (λ (y : Header). not y.deleted) (put.others x d n).header
 ])
 
-garbage_put : (words words' refs : List ℕ) (o : ℕ) (h : Header) → AreRising refs → Contains refs o → is_live words o ≡ true → is_live words' o ≡ true → PutsHeader words words' refs o h →
+garbage_put : (words words' refs : List ℕ) (o : ℕ) (h : Header) → AreStrictlyIncreasing refs → Contains refs o → is_live words o ≡ true → is_live words' o ≡ true → PutsHeader words words' refs o h →
     sum_by (garbage_of words') refs ≡ sum_by (garbage_of words) refs
 garbage_put words words' refs o h rising has live live' put =
     let q : sum_by (garbage_of words') refs + garbage_of words o ≡ sum_by (garbage_of words) refs + garbage_of words' o = garbage_changed words words' refs o h rising has put in
@@ -187,29 +187,29 @@ moves words db words' o tier h c differ put =
         rising = h.rising;
         tiers = length-set less (index_of tier) (get_or less (index_of tier) 0 + 1) ∙ size;
         counts = λ t.
-            let q : count_by (is_live_of words' t) db.refs + one (is_live_of words t o) ≡ count_by (is_live_of words t) db.refs + one (is_live_of words' t o) =
+            let q : count_by (is_live_in_tier words' t) db.refs + one (is_live_in_tier words t o) ≡ count_by (is_live_in_tier words t) db.refs + one (is_live_in_tier words' t o) =
             counts_changed words words' db.refs o (record (header_at words o) { tier = tier }) t h.rising has put in
-            let was : is_live_of words t o ≡ (index_of old == index_of t) = counted_live words t o old live refl in
-            let is : is_live_of words' t o ≡ (index_of tier == index_of t) = counted_live words' t o tier live' (ap (λ (x : Header). x.tier) put.header_there) in
+            let was : is_live_in_tier words t o ≡ (index_of old == index_of t) = counted_live words t o old live refl in
+            let is : is_live_in_tier words' t o ≡ (index_of tier == index_of t) = counted_live words' t o tier live' (ap (λ (x : Header). x.tier) put.header_there) in
             elim (cases_eq (index_of tier) (index_of t)) [
               | inl e ↦
                   let n : index_of old ≢ index_of t = λ f. differ (f ∙ sym e) in
-                  let no : one (is_live_of words t o) ≡ 0 = ap (λ b. one b) (was ∙ ne_eqb (index_of old) (index_of t) n) in
-                  let yes : one (is_live_of words' t o) ≡ 1 = ap (λ b. one b) (is ∙ eq-eqb (index_of tier) (index_of t) e) in
+                  let no : one (is_live_in_tier words t o) ≡ 0 = ap (λ b. one b) (was ∙ ne_eqb (index_of old) (index_of t) n) in
+                  let yes : one (is_live_in_tier words' t o) ≡ 1 = ap (λ b. one b) (is ∙ eq-eqb (index_of tier) (index_of t) e) in
                   let same : get_or less (index_of tier) 0 ≡ get_or less (index_of t) 0 = ap (λ k. get_or less k 0) e in
                   let kept : get_or less (index_of t) 0 ≡ get_or db.counts (index_of t) 0 = set_elsewhere db.counts old t (get_or db.counts (index_of old) 0 - 1) n in
                   omega (arith, set_there less tier t (get_or less (index_of tier) 0 + 1) size e, h.counts t, q, no, yes, same, kept)
               | inr m ↦
-                  let none : one (is_live_of words' t o) ≡ 0 = ap (λ b. one b) (is ∙ ne_eqb (index_of tier) (index_of t) m) in
+                  let none : one (is_live_in_tier words' t o) ≡ 0 = ap (λ b. one b) (is ∙ ne_eqb (index_of tier) (index_of t) m) in
                   let there : get_or (set less (index_of tier) (get_or less (index_of tier) 0 + 1)) (index_of t) 0 ≡ get_or less (index_of t) 0 = set_elsewhere less tier t (get_or less (index_of tier) 0 + 1) m in
                   elim (cases_eq (index_of old) (index_of t)) [
                     | inl e ↦
-                        let yes : one (is_live_of words t o) ≡ 1 = ap (λ b. one b) (was ∙ eq-eqb (index_of old) (index_of t) e) in
+                        let yes : one (is_live_in_tier words t o) ≡ 1 = ap (λ b. one b) (was ∙ eq-eqb (index_of old) (index_of t) e) in
                         let same : get_or db.counts (index_of old) 0 ≡ get_or db.counts (index_of t) 0 = ap (λ k. get_or db.counts k 0) e in
                         let taken : get_or less (index_of t) 0 ≡ get_or db.counts (index_of old) 0 - 1 = set_there db.counts old t (get_or db.counts (index_of old) 0 - 1) h.tiers e in
                         omega (arith, there, taken, h.counts t, q, yes, none, same)
                     | inr n ↦
-                        let no : one (is_live_of words t o) ≡ 0 = ap (λ b. one b) (was ∙ ne_eqb (index_of old) (index_of t) n) in
+                        let no : one (is_live_in_tier words t o) ≡ 0 = ap (λ b. one b) (was ∙ ne_eqb (index_of old) (index_of t) n) in
                         let kept : get_or less (index_of t) 0 ≡ get_or db.counts (index_of t) 0 = set_elsewhere db.counts old t (get_or db.counts (index_of old) 0 - 1) n in
                         omega (arith, there, kept, h.counts t, q, no, none)
                   ]
@@ -243,17 +243,17 @@ adds words db words' o header lits h new three few added =
         rising = rising_push db.refs o h.rising (λ p c. omega (arith, clause_within words p (h.holds_clauses.clauses p c), added.place));
         tiers = length-set db.counts (index_of tier) (get_or db.counts (index_of tier) 0 + 1) ∙ h.tiers;
         counts = λ t.
-            let q : count_by (is_live_of words' t) (db.refs ++ o ∷ []) ≡ count_by (is_live_of words' t) db.refs + one (is_live_of words' t o) = sum_by_push (λ p. one (is_live_of words' t p)) db.refs o in
-            let same : count_by (is_live_of words' t) db.refs ≡ count_by (is_live_of words t) db.refs =
-            sum_same (λ p. one (is_live_of words t p)) (λ p. one (is_live_of words' t p)) db.refs (λ p c. ap (λ b. one b) (kept_counted words words' t p (keeps p c).header)) in
-            let is : is_live_of words' t o ≡ (index_of tier == index_of t) = counted_live words' t o tier live (ap (λ (x : Header). x.tier) added.header_there) in
+            let q : count_by (is_live_in_tier words' t) (db.refs ++ o ∷ []) ≡ count_by (is_live_in_tier words' t) db.refs + one (is_live_in_tier words' t o) = sum_by_push (λ p. one (is_live_in_tier words' t p)) db.refs o in
+            let same : count_by (is_live_in_tier words' t) db.refs ≡ count_by (is_live_in_tier words t) db.refs =
+            sum_same (λ p. one (is_live_in_tier words t p)) (λ p. one (is_live_in_tier words' t p)) db.refs (λ p c. ap (λ b. one b) (kept_counted words words' t p (keeps p c).header)) in
+            let is : is_live_in_tier words' t o ≡ (index_of tier == index_of t) = counted_live words' t o tier live (ap (λ (x : Header). x.tier) added.header_there) in
             elim (cases_eq (index_of tier) (index_of t)) [
               | inl e ↦
-                  let yes : one (is_live_of words' t o) ≡ 1 = ap (λ b. one b) (is ∙ eq-eqb (index_of tier) (index_of t) e) in
+                  let yes : one (is_live_in_tier words' t o) ≡ 1 = ap (λ b. one b) (is ∙ eq-eqb (index_of tier) (index_of t) e) in
                   let there : get_or db.counts (index_of tier) 0 ≡ get_or db.counts (index_of t) 0 = ap (λ k. get_or db.counts k 0) e in
                   omega (arith, set_there db.counts tier t (get_or db.counts (index_of tier) 0 + 1) h.tiers e, h.counts t, q, same, yes, there)
               | inr n ↦
-                  let no : one (is_live_of words' t o) ≡ 0 = ap (λ b. one b) (is ∙ ne_eqb (index_of tier) (index_of t) n) in
+                  let no : one (is_live_in_tier words' t o) ≡ 0 = ap (λ b. one b) (is ∙ ne_eqb (index_of tier) (index_of t) n) in
                   omega (arith, set_elsewhere db.counts tier t (get_or db.counts (index_of tier) 0 + 1) n, h.counts t, q, same, no)
             ];
         garbage =
@@ -282,8 +282,8 @@ pub room_in_tier : (words : List ℕ) (db : Db) (o : ℕ) (tier : Tier) → DbMa
     get_or (tier_count_less (header_at words o).tier db.counts) (index_of tier) 0 + 1 < 2 ^ 64
 room_in_tier words db o tier h c differ =
     let old : Tier = (header_at words o).tier in
-    let no : is_live_of words tier o ≡ false = counted_live words tier o old (live_is words db.refs o c) refl ∙ ne_eqb (index_of old) (index_of tier) differ in
-    let less : count_by (is_live_of words tier) db.refs < length db.refs = count_less (is_live_of words tier) db.refs o (live_in words db.refs o c) no in
+    let no : is_live_in_tier words tier o ≡ false = counted_live words tier o old (live_is words db.refs o c) refl ∙ ne_eqb (index_of old) (index_of tier) differ in
+    let less : count_by (is_live_in_tier words tier) db.refs < length db.refs = count_less (is_live_in_tier words tier) db.refs o (live_in words db.refs o c) no in
     omega (arith, set_elsewhere db.counts old tier (get_or db.counts (index_of old) 0 - 1) differ, h.counts tier, less, h.few)
 
 -- deletion, with the length from the header
@@ -335,7 +335,7 @@ shortens words db words' o len h c long fits header lits change =
         tiers = h.tiers;
         counts = λ t.
             h.counts t
-            ∙ sym (sum_same (λ p. one (is_live_of words t p)) (λ p. one (is_live_of words' t p)) db.refs
+            ∙ sym (sum_same (λ p. one (is_live_in_tier words t p)) (λ p. one (is_live_in_tier words' t p)) db.refs
             (λ p d. ap (λ b. one (b && (index_of (header_at words' p).tier == index_of t))) (flags p d).0 ∙ ap (λ x. one (is_live words p && (index_of x == index_of t))) (flags p d).1));
         garbage = h.garbage
             ∙ ap (λ x. min x (2 ^ 64 - 1)) (sym (sum_same (garbage_of words) (garbage_of words') db.refs (λ p d. elim (cases_eq p o) [

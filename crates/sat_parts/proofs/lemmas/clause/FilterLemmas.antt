@@ -6,7 +6,7 @@ use Rattle.std.specs.List.{Contains, items_where_true}
 use Rattle.std.specs.List.Retain.{ReturnsInTurn, IsFiltered}
 use Rattle.sat_store.specs.clause.Buffer.{HoldsClauses, SameClauseAt, header_at}
 use Rattle.sat_store.specs.clause.Header.{Header}
-use Rattle.sat_parts.specs.clause.Db.{AreRising, PutsHeader, is_live, live_refs}
+use Rattle.sat_parts.specs.clause.Db.{AreStrictlyIncreasing, PutsHeader, is_live, live_refs}
 use Rattle.sat_parts.specs.clause.Filtered.{SameClausesAt, FilterInvariant}
 use Rattle.sat_parts.proofs.lemmas.clause.ListLemmas.{place_in, at_place, in_head, in_tail, there, rising_distinct, filter_same}
 use Rattle.sat_parts.proofs.lemmas.clause.DbLemmas.{live_is}
@@ -111,7 +111,7 @@ filtering_keep R f f' f'' old new refs at p h lt is live asked =
     }
 
 -- the test returns false, and the clause is deleted
-pub filtering_drop : {F : Type 0} (R : F → ℕ → Bool → F → Type 0) (f f' f'' : F) (old new new' refs : List ℕ) (at p : ℕ) → AreRising refs → FilterInvariant R f old new refs at f' → at < length refs →
+pub filtering_drop : {F : Type 0} (R : F → ℕ → Bool → F → Type 0) (f f' f'' : F) (old new new' refs : List ℕ) (at p : ℕ) → AreStrictlyIncreasing refs → FilterInvariant R f old new refs at f' → at < length refs →
     p ≡ get_or refs at 0 → is_live new p ≡ true → R f' p false f'' → PutsHeader new new' refs p (record (header_at new p) { deleted = true }) →
     FilterInvariant R f old new' refs (at + 1) f''
 filtering_drop R f f' f'' old new new' refs at p rising h lt is live asked puts =

@@ -12,7 +12,7 @@ use Rattle.sat_store.proofs.lemmas.clause.HeldClauses.{same_count, clause_within
 use Rattle.sat_parts.specs.declared.prop.graph.ImplNode.{ImplNode}
 use Rattle.sat_parts.specs.declared.prop.graph.Reason.{Reason}
 use Rattle.sat_parts.specs.declared.prop.graph.Reason.TheVariants.{Unit as NoCause, Binary, Long}
-use Rattle.sat_parts.specs.clause.Db.{Db, is_live, live_refs, is_live_of, garbage_of, AreRising, DbMatchesBuffer}
+use Rattle.sat_parts.specs.clause.Db.{Db, is_live, live_refs, is_live_in_tier, garbage_of, AreStrictlyIncreasing, DbMatchesBuffer}
 use Rattle.sat_parts.specs.clause.Stored.{lit_of}
 use Rattle.sat_parts.specs.clause.Collected.{Copies, CopyInvariant, words_of, FollowsClause, FollowsFirst, AreFollowed, AreFirsts, Collects, after_collection}
 use Rattle.sat_parts.specs.prop.Graphs.{node_of, with_node, new_node}
@@ -40,7 +40,7 @@ in_dropped refs i p c =
     let e : get_or refs (i + c.0) 0 ≡ p = sym (get_or-drop i refs c.0 0) ∙ at_place (drop i refs) p c in
     subst (λ z. Contains refs z) e (place_in refs (i + c.0) (omega (arith, c.1)))
 
-rising_dropped : (refs : List ℕ) (i p : ℕ) → AreRising refs → i < length refs → Contains (drop (i + 1) refs) p → get_or refs i 0 < p
+rising_dropped : (refs : List ℕ) (i p : ℕ) → AreStrictlyIncreasing refs → i < length refs → Contains (drop (i + 1) refs) p → get_or refs i 0 < p
 rising_dropped refs i p rising lt c =
     let n : length (drop (i + 1) refs) ≡ length refs - (i + 1) = length-drop (i + 1) refs in
     let e : get_or refs (i + 1 + c.0) 0 ≡ p = sym (get_or-drop (i + 1) refs c.0 0) ∙ at_place (drop (i + 1) refs) p c in
@@ -98,7 +98,7 @@ copies_more words live w r w2 c o h holds_clauses clause added =
       ];
     }
 
-pub copying_more : (words refs w r w2 : List ℕ) (i c o : ℕ) → HoldsClauses words refs → AreRising refs → CopyInvariant words refs w r i → i < length refs → o ≡ get_or refs i 0 → is_live words o ≡ true →
+pub copying_more : (words refs w r w2 : List ℕ) (i c o : ℕ) → HoldsClauses words refs → AreStrictlyIncreasing refs → CopyInvariant words refs w r i → i < length refs → o ≡ get_or refs i 0 → is_live words o ≡ true →
     AppendsClause w w2 c (header_at words o) (lits_at words o) → CopyInvariant words refs w2 (r ++ c ∷ []) (i + 1)
 copying_more words refs w r w2 i c o holds_clauses rising h lt o_is live added =
     let live_i : List ℕ = live_refs words (take i refs) in
@@ -310,10 +310,10 @@ holds_copies words w r db i h x e =
       rising = x.rising;
       tiers = h.tiers;
       counts = λ t.
-          let q : count_by (is_live_of words t) (live_refs words db.refs) ≡ count_by (is_live_of words t) db.refs =
+          let q : count_by (is_live_in_tier words t) (live_refs words db.refs) ≡ count_by (is_live_in_tier words t) db.refs =
           count_filtered (is_live words) (λ p. index_of (header_at words p).tier == index_of t) db.refs in
-          let s : count_by (is_live_of w t) r ≡ count_by (is_live_of words t) (live_refs words db.refs) =
-          sums_along (λ p. cond (is_live_of words t p) 1 0) (λ p. cond (is_live_of w t p) 1 0) (live_refs words db.refs) r c.size
+          let s : count_by (is_live_in_tier w t) r ≡ count_by (is_live_in_tier words t) (live_refs words db.refs) =
+          sums_along (λ p. cond (is_live_in_tier words t p) 1 0) (λ p. cond (is_live_in_tier w t p) 1 0) (live_refs words db.refs) r c.size
           (λ k lt. ap (λ (y : Header). cond (not y.deleted && (index_of y.tier == index_of t)) 1 0) (c.headers k lt)) in
           h.counts t ∙ sym q ∙ sym s;
       garbage = ap (λ z. min z (2 ^ 64 - 1)) (sym (sum_none (garbage_of w) r (λ p d. cond-true (is_live w p) 0 (length (lits_at w p) + 3) (live p d))));
@@ -348,19 +348,19 @@ collected words w r lits db i n nodes nodes' h x e firsts f all =
 in_filter : (p : ℕ → Bool) (xs : List ℕ) (x : ℕ) → Contains (filter p xs) x → Contains xs x
 in_filter p xs x c = All-contains (Contains xs) (filter p xs) x (All-filter p (Contains xs) xs (All-contains_itself xs)) c
 
-rising_cons : (x : ℕ) (xs : List ℕ) → AreRising xs → ((p : ℕ) → Contains xs p → x < p) → AreRising (x ∷ xs)
+rising_cons : (x : ℕ) (xs : List ℕ) → AreStrictlyIncreasing xs → ((p : ℕ) → Contains xs p → x < p) → AreStrictlyIncreasing (x ∷ xs)
 rising_cons x xs h above zero zero a b = absurd (omega arith)
 rising_cons x xs h above zero (suc k) a b = above (get_or xs k 0) (place_in xs k (omega arith))
 rising_cons x xs h above (suc j) zero a b = absurd (omega arith)
 rising_cons x xs h above (suc j) (suc k) a b = h j k (omega arith) (omega arith)
 
-rising_kept : (p : ℕ → Bool) (x : ℕ) (xs : List ℕ) (b : Bool) → p x ≡ b → AreRising (x ∷ xs) → AreRising (filter p xs) → AreRising (filter p (x ∷ xs))
+rising_kept : (p : ℕ → Bool) (x : ℕ) (xs : List ℕ) (b : Bool) → p x ≡ b → AreStrictlyIncreasing (x ∷ xs) → AreStrictlyIncreasing (filter p xs) → AreStrictlyIncreasing (filter p (x ∷ xs))
 rising_kept p x xs true e h r =
-    subst (λ (zs : List ℕ). AreRising zs) (sym (ap (λ b. cond b (x ∷ filter p xs) (filter p xs)) e)) (rising_cons x (filter p xs) r (λ q c. rising_above x xs q h (in_filter p xs q c)))
-rising_kept p x xs false e h r = subst (λ (zs : List ℕ). AreRising zs) (sym (ap (λ b. cond b (x ∷ filter p xs) (filter p xs)) e)) r
+    subst (λ (zs : List ℕ). AreStrictlyIncreasing zs) (sym (ap (λ b. cond b (x ∷ filter p xs) (filter p xs)) e)) (rising_cons x (filter p xs) r (λ q c. rising_above x xs q h (in_filter p xs q c)))
+rising_kept p x xs false e h r = subst (λ (zs : List ℕ). AreStrictlyIncreasing zs) (sym (ap (λ b. cond b (x ∷ filter p xs) (filter p xs)) e)) r
 
 -- filtering keeps a rising list rising
-rising_filter : (p : ℕ → Bool) (xs : List ℕ) → AreRising xs → AreRising (filter p xs)
+rising_filter : (p : ℕ → Bool) (xs : List ℕ) → AreStrictlyIncreasing xs → AreStrictlyIncreasing (filter p xs)
 rising_filter p [] h = h
 rising_filter p (x ∷ xs) h = rising_kept p x xs (p x) refl h (rising_filter p xs (rising_tail x xs h))
 
@@ -371,7 +371,7 @@ pub followed_by : (words : List ℕ) (db : Db) (refs' lits : List ℕ) (n first 
     ((node_of one (variable first)).reason ≡ Long from → two ≡ with_node (variable first) (record (node_of one (variable first)) { reason = Long to }) one) →
     (((node_of one (variable first)).reason ≡ Long from → ⊥) → two ≡ one) → AreFollowed (live_refs words db.refs) refs' lits (n + 1) nodes two
 followed_by words db refs' lits n first from to nodes one two h size low f firsts lt from_is first_is to_is moved kept =
-    let rising : AreRising (live_refs words db.refs) = rising_filter (is_live words) db.refs h.rising in
+    let rising : AreStrictlyIncreasing (live_refs words db.refs) = rising_filter (is_live words) db.refs h.rising in
     followed_more words (live_refs words db.refs) refs' lits n first nodes one two f firsts (first_is ∙ ap (λ z. lit_of words z 0) from_is)
     (λ k b. omega (arith, low k (omega arith), rising k n b (omega arith)))
     (λ e. moved (e ∙ ap (λ z. Long z) (sym from_is)) ∙ ap (λ z. with_node (variable first) (record (node_of one (variable first)) { reason = Long z }) one) to_is)

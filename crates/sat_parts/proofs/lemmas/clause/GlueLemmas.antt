@@ -10,7 +10,7 @@ use Rattle.std.specs.List.{IsDistinct, list_any}
 use Rattle.sat_base.specs.values.Literals.{variable}
 use Rattle.sat_parts.specs.declared.prop.graph.ImplNode.{ImplNode}
 use Rattle.sat_parts.specs.prop.Graphs.{node_of}
-use Rattle.sat_parts.specs.clause.Glue.{different, levels_of}
+use Rattle.sat_parts.specs.clause.Glue.{count_distinct, levels_of}
 
 -- whether a number is in a list
 abbrev pub among : ℕ → List ℕ → Bool
@@ -78,7 +78,7 @@ marked_new flags levels i glue x h lt x_is b unseen =
     }
 
 pub marked_all : (flags : List Bool) (levels : List ℕ) (i glue : ℕ) → AreMarked flags levels i glue → i ≡ length levels →
-    (glue ≡ different levels) × ((q : ℕ) → q < length flags → get_or flags q false ≡ among q levels)
+    (glue ≡ count_distinct levels) × ((q : ℕ) → q < length flags → get_or flags q false ≡ among q levels)
 marked_all flags levels i glue h e =
     let all : take i levels ≡ levels = take_all i levels (omega arith) in (
       sym h.counted ∙ length-from_keys nat_eq_equiv h.keys levels h.distinct (λ q. h.same q ∙ ap (λ xs. among q xs) all),
@@ -118,17 +118,17 @@ keys_more levels i n h lt =
           (n + 1, (omega arith, grown))
     ]
 
-keys_least : (levels : List ℕ) (k i n : ℕ) → HasKeys levels i n → i + k ≡ length levels → n ≤ different levels
+keys_least : (levels : List ℕ) (k i n : ℕ) → HasKeys levels i n → i + k ≡ length levels → n ≤ count_distinct levels
 keys_least levels zero i n h e =
-    let d : length h.keys ≡ different levels = length-from_keys nat_eq_equiv h.keys levels h.distinct (λ q. h.same q ∙ ap (λ xs. among q xs) (take_all i levels (omega arith))) in
+    let d : length h.keys ≡ count_distinct levels = length-from_keys nat_eq_equiv h.keys levels h.distinct (λ q. h.same q ∙ ap (λ xs. among q xs) (take_all i levels (omega arith))) in
     omega (arith, d, h.counted)
 keys_least levels (suc k) i n h e =
     let more = keys_more levels i n h (omega arith) in
-    let rest : more.0 ≤ different levels = keys_least levels k (i + 1) more.0 more.1.1 (omega arith) in
+    let rest : more.0 ≤ count_distinct levels = keys_least levels k (i + 1) more.0 more.1.1 (omega arith) in
     omega (arith, more.1.0, rest)
 
 -- the first levels have at most as many different ones as all levels
-pub marked_least : (flags : List Bool) (levels : List ℕ) (i glue : ℕ) → AreMarked flags levels i glue → i < length levels → glue ≤ different levels
+pub marked_least : (flags : List Bool) (levels : List ℕ) (i glue : ℕ) → AreMarked flags levels i glue → i < length levels → glue ≤ count_distinct levels
 marked_least flags levels i glue h lt =
     keys_least levels (length levels - i) i glue (record { keys = h.keys; distinct = h.distinct; counted = h.counted; same = h.same }) (omega arith)
 

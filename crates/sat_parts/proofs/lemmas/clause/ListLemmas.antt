@@ -4,7 +4,7 @@ use Rattle.std.proofs.lemmas.Bool.{cases_eq, cases_lt, ne_eqb, eq-eqb}
 use Rattle.std.proofs.lemmas.List.{get_or_default, length_push, get_or_append_left, get_or_push}
 use Rattle.std.proofs.lemmas.List.Sums.{sum_by-cons, count_by-le-length}
 use Rattle.std.specs.List.{Contains, filter, sum_by, count_by}
-use Rattle.sat_parts.specs.clause.Db.{AreRising, without}
+use Rattle.sat_parts.specs.clause.Db.{AreStrictlyIncreasing, without}
 
 pub in_tail : (x : ℕ) (xs : List ℕ) (p : ℕ) → Contains xs p → Contains (x ∷ xs) p
 in_tail x xs p h = (suc h.0, omega (arith, h.1), h.2)
@@ -19,16 +19,16 @@ at_place xs p h = get_or_default xs h.0 0 p h.1 ∙ h.2
 pub place_in : (xs : List ℕ) (k : ℕ) → k < length xs → Contains xs (get_or xs k 0)
 place_in xs k lt = (k, lt, get_or_default xs k (get_or xs k 0) 0 lt)
 
-pub rising_tail : (x : ℕ) (xs : List ℕ) → AreRising (x ∷ xs) → AreRising xs
+pub rising_tail : (x : ℕ) (xs : List ℕ) → AreStrictlyIncreasing (x ∷ xs) → AreStrictlyIncreasing xs
 rising_tail x xs h j k a b = h (suc j) (suc k) (omega arith) (omega arith)
 
-pub rising_above : (x : ℕ) (xs : List ℕ) (p : ℕ) → AreRising (x ∷ xs) → Contains xs p → x < p
+pub rising_above : (x : ℕ) (xs : List ℕ) (p : ℕ) → AreStrictlyIncreasing (x ∷ xs) → Contains xs p → x < p
 rising_above x xs p h c =
     let lt : x < get_or xs c.0 0 = h 0 (suc c.0) (omega arith) (omega (arith, c.1)) in
     omega (arith, at_place xs p c)
 
 -- appending a greater number to a rising list
-pub rising_push : (xs : List ℕ) (x : ℕ) → AreRising xs → ((p : ℕ) → Contains xs p → p < x) → AreRising (xs ++ x ∷ [])
+pub rising_push : (xs : List ℕ) (x : ℕ) → AreStrictlyIncreasing xs → ((p : ℕ) → Contains xs p → p < x) → AreStrictlyIncreasing (xs ++ x ∷ [])
 rising_push xs x h above j k a b =
     let n : length (xs ++ x ∷ []) ≡ length xs + 1 = length_push xs x in
     let j_is : get_or (xs ++ x ∷ []) j 0 ≡ get_or xs j 0 = get_or_append_left xs (x ∷ []) 0 j (omega arith) in
@@ -42,7 +42,7 @@ rising_push xs x h above j k a b =
     ]
 
 -- a rising list has no item twice
-pub rising_distinct : (xs : List ℕ) (j k : ℕ) → AreRising xs → j < length xs → k < length xs → get_or xs j 0 ≡ get_or xs k 0 → j ≡ k
+pub rising_distinct : (xs : List ℕ) (j k : ℕ) → AreStrictlyIncreasing xs → j < length xs → k < length xs → get_or xs j 0 ≡ get_or xs k 0 → j ≡ k
 rising_distinct xs j k h a b e = elim (cases_eq j k) [
   | inl q ↦ q
   | inr n ↦ elim (cases_lt j k) [
@@ -67,7 +67,7 @@ sum_same f g (x ∷ xs) h =
     omega (arith, sum_by-cons g x xs, sum_by-cons f x xs)
 
 -- a sum when the value of one item changes
-pub sum_changed : (f g : ℕ → ℕ) (xs : List ℕ) (o : ℕ) → AreRising xs → Contains xs o → ((p : ℕ) → Contains xs p → p ≢ o → g p ≡ f p) → sum_by g xs + f o ≡ sum_by f xs + g o
+pub sum_changed : (f g : ℕ → ℕ) (xs : List ℕ) (o : ℕ) → AreStrictlyIncreasing xs → Contains xs o → ((p : ℕ) → Contains xs p → p ≢ o → g p ≡ f p) → sum_by g xs + f o ≡ sum_by f xs + g o
 sum_changed f g [] o rising c h = absurd (omega (arith, c.1))
 sum_changed f g (x ∷ xs) o rising c h = elim (cases_eq x o) [
   | inl e ↦

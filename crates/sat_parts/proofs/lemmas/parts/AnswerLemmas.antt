@@ -4,12 +4,12 @@ use Rattle.sat_base.specs.values.Literals.{variable}
 use Rattle.sat_parts.specs.clause.Stored.{lit_of}
 use Rattle.sat_parts.specs.prop.Values.{value_of}
 use Rattle.sat_parts.proofs.lemmas.prop.StateLemmas.{level_low}
-use Rattle.sat_parts.specs.declared.parts.Parts.{Parts}
-use Rattle.sat_parts.specs.parts.Whole.{state, PartsInvariant, IsFullyPropagated, AllAssigned, IsModelled}
+use Rattle.sat_parts.specs.declared.parts.SearchState.{SearchState}
+use Rattle.sat_parts.specs.parts.Whole.{state, SearchStateInvariant, IsFullyPropagated, AllAssigned, ClausesAreSatisfied}
 use Rattle.sat_parts.proofs.lemmas.parts.ValueLemmas.{open_or_true}
 use Rattle.sat_parts.proofs.lemmas.parts.LevelLemmas.{model_found, complete_now}
 
-pub is_modelled : (p : Parts) → PartsInvariant p → IsFullyPropagated p → AllAssigned p → IsModelled p
+pub is_modelled : (p : SearchState) → SearchStateInvariant p → IsFullyPropagated p → AllAssigned p → ClausesAreSatisfied p
 is_modelled p h done all = record {
   long = λ o c.
       model_found p.clauses p.db.refs p.watchlists p.binary.implied (state p) o h.below.asks done c

@@ -7,9 +7,9 @@ use Rattle.sat_base.specs.values.Literals.{variable}
 use Rattle.sat_parts.specs.declared.prop.graph.ImplNode.{ImplNode}
 use Rattle.sat_parts.specs.declared.prop.graph.Reason.TheVariants.{Unit as NoCause}
 use Rattle.sat_parts.specs.prop.Graphs.{node_at}
-use Rattle.sat_parts.specs.prop.Values.{IsTrueLit, IsOpenLit}
+use Rattle.sat_parts.specs.prop.Values.{IsTrueLit, IsUnassignedLit}
 use Rattle.sat_parts.specs.prop.Trails.{LevelIs, with_level}
-use Rattle.sat_parts.specs.prop.State.{State, node, level, lit_at, StateIsConsistent}
+use Rattle.sat_parts.specs.prop.State.{PropagationState, node, level, lit_at, StateIsConsistent}
 use Rattle.sat_parts.specs.prop.TrailWord.{IsLevelled, BeginsNoLevel, decided_on}
 use Rattle.sat_parts.proofs.lemmas.prop.StateLemmas.{level_low, lit_last, node_new, true_new}
 use Rattle.sat_parts.proofs.lemmas.clause.ListLemmas.{place_in}
@@ -17,7 +17,7 @@ use Rattle.sat_parts.specs.parts.Frame.{KeepsTo}
 use Rattle.sat_parts.specs.parts.Assumed.{variables_of_lits, IsPlaced, AreDecided}
 
 -- true assumptions are passed
-pub placed_passed : (ls below : List ℕ) (place next : ℕ) (s : State) → StateIsConsistent s → IsPlaced ls below place s → place ≤ next → next ≤ length ls →
+pub placed_passed : (ls below : List ℕ) (place next : ℕ) (s : PropagationState) → StateIsConsistent s → IsPlaced ls below place s → place ≤ next → next ≤ length ls →
     ((k : ℕ) → place ≤ k → k < next → IsTrueLit s.values (get_or ls k 0)) → IsPlaced ls below next s
 placed_passed ls below place next s h x le within holds = elim (cases_lt (length below) (length s.trail.starts)) [
   | inl lt ↦ subst (λ k. IsPlaced ls below k s) (let e : place ≡ next = omega (arith, x.all lt) in e) x
@@ -36,7 +36,7 @@ placed_passed ls below place next s h x le within holds = elim (cases_lt (length
 ]
 
 -- the places stay right if the levels that assumptions began are kept
-pub placed_kept : (ls below : List ℕ) (place top : ℕ) (s s' : State) → IsPlaced ls below place s → KeepsTo top s s' → length below ≤ top → length below ≤ length s'.trail.starts →
+pub placed_kept : (ls below : List ℕ) (place top : ℕ) (s s' : PropagationState) → IsPlaced ls below place s → KeepsTo top s s' → length below ≤ top → length below ≤ length s'.trail.starts →
     (length below < length s'.trail.starts → place ≡ length ls) → IsPlaced ls below place s'
 placed_kept ls below place top s s' x k high deep more = record {
   levels = deep;
@@ -49,7 +49,7 @@ placed_kept ls below place top s s' x k high deep more = record {
 }
 
 -- at least one level that an assumption began is undone
-pub placed_cut : (ls below : List ℕ) (place top : ℕ) (s s' : State) → IsPlaced ls below place s → KeepsTo top s s' → top < length below → length s'.trail.starts ≡ top →
+pub placed_cut : (ls below : List ℕ) (place top : ℕ) (s s' : PropagationState) → IsPlaced ls below place s → KeepsTo top s s' → top < length below → length s'.trail.starts ≡ top →
     IsPlaced ls (take top below) (get_or below top 0) s'
 placed_cut ls below place top s s' x k lt at =
     let size : length (take top below) ≡ top = length-take-le top below (omega arith) in
@@ -65,11 +65,11 @@ placed_cut ls below place top s s' x k lt at =
     }
 
 -- a level begins with the next assumption
-pub placed_next : (ls below : List ℕ) (place l : ℕ) (s : State) → IsPlaced ls below place s → place < length ls → get_or ls place 0 ≡ l → StateIsConsistent s → IsOpenLit s.values l → variable l < length s.values →
+pub placed_next : (ls below : List ℕ) (place l : ℕ) (s : PropagationState) → IsPlaced ls below place s → place < length ls → get_or ls place 0 ≡ l → StateIsConsistent s → IsUnassignedLit s.values l → variable l < length s.values →
     KeepsTo (length s.trail.starts) s (decided_on l s) → IsPlaced ls (below ++ place ∷ []) (place + 1) (decided_on l s)
 placed_next ls below place l s x lt is h free there k =
-    let s' : State = decided_on l s in
-    let r : State = record s { trail = with_level s.trail } in
+    let s' : PropagationState = decided_on l s in
+    let r : PropagationState = record s { trail = with_level s.trail } in
     let now : length below ≡ length s.trail.starts = elim (cases_lt (length below) (length s.trail.starts)) [ inl less ↦ absurd (omega (arith, x.all less)) | inr ge ↦ omega (arith, x.levels) ] in
     let size : length (below ++ place ∷ []) ≡ length below + 1 = length_push below place in
     let deeper : length (s.trail.starts ++ length s.trail.lits ∷ []) ≡ length s.trail.starts + 1 = length_push s.trail.starts (length s.trail.lits) in
@@ -123,11 +123,11 @@ begins_or_not (x ∷ xs) i = elim (cases_eq x i) [
 ]
 
 -- while an assumption is left, assumptions began all levels
-pub levels_assumed : (ls below : List ℕ) (place : ℕ) (s : State) → IsPlaced ls below place s → place < length ls → length below ≡ length s.trail.starts
+pub levels_assumed : (ls below : List ℕ) (place : ℕ) (s : PropagationState) → IsPlaced ls below place s → place < length ls → length below ≡ length s.trail.starts
 levels_assumed ls below place s x lt = elim (cases_lt (length below) (length s.trail.starts)) [ inl less ↦ absurd (omega (arith, x.all less)) | inr ge ↦ omega (arith, x.levels) ]
 
 -- while an assumption is left, every literal above level 0 without a clause as its reason is an assumption
-pub decided_assumed : (ls below : List ℕ) (place : ℕ) (s : State) → StateIsConsistent s → IsLevelled s → IsPlaced ls below place s → place < length ls → AreDecided ls s
+pub decided_assumed : (ls below : List ℕ) (place : ℕ) (s : PropagationState) → StateIsConsistent s → IsLevelled s → IsPlaced ls below place s → place < length ls → AreDecided ls s
 decided_assumed ls below place s h levelled x lt i b high unit = elim (begins_or_not s.trail.starts i) [
   | inl y ↦ subst (λ j. Contains ls (lit_at s j)) y.1.1 (x.begun y.0 (elim (cases_lt (length below) (length s.trail.starts)) [ inl less ↦ absurd (omega (arith, x.all less)) | inr ge ↦ omega (arith, y.1.0) ]))
   | inr none ↦

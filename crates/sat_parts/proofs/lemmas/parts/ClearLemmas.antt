@@ -11,11 +11,11 @@ use Rattle.sat_parts.specs.declared.prop.graph.Reason.TheVariants.{Unit as NoCau
 use Rattle.sat_parts.specs.clause.Db.{Db, live_refs}
 use Rattle.sat_parts.specs.clause.Stored.{AreClauses, lit_of}
 use Rattle.sat_parts.specs.prop.Binaries.{Binaries, implied_by}
-use Rattle.sat_parts.specs.prop.Values.{Values, value_of, IsTrueLit, IsOpenLit}
+use Rattle.sat_parts.specs.prop.Values.{Values, value_of, IsTrueLit, IsUnassignedLit}
 use Rattle.sat_parts.specs.prop.Trails.{Trailed, with_lit, with_cleared}
 use Rattle.sat_parts.specs.prop.Graphs.{with_node, node_at, node_of, removed_node, new_node}
 use Rattle.sat_parts.specs.prop.WatchLists.{Watching}
-use Rattle.sat_parts.specs.prop.State.{State, node, level, lit_at, IsRemoved, HasLeftQueue, StateIsConsistent, IsSatisfied, enqueued}
+use Rattle.sat_parts.specs.prop.State.{PropagationState, node, level, lit_at, IsRemoved, HasLeftQueue, StateIsConsistent, IsSatisfied, enqueued}
 use Rattle.sat_parts.specs.prop.Reasons.{Implies, AreUnitInTurn}
 use Rattle.sat_parts.specs.prop.Ready.{state_of, AreWatched, AreLists}
 use Rattle.sat_parts.proofs.lemmas.prop.StateLemmas.{level_low, left_true, true_back, true_new, node_new, lit_front, agrees_enqueued, lit_from_parts}
@@ -69,7 +69,7 @@ removed_or (l ∷ ls) g v = elim (removed_or ls (with_node (variable l) removed_
 -- once the trail is cleared, every true literal is a unit taken off it
 pub all_removed : (a : Values) (g : List ImplNode) (t : Trailed) (l : ℕ) → StateIsConsistent (state_of a g t) → IsTrueLit a.current l → IsRemoved (state_of a (removed t.lits g) (with_cleared t)) l
 all_removed a g t l h holds =
-    let s : State = state_of a g t in
+    let s : PropagationState = state_of a g t in
     let there : variable l < length a.current = below_from_value a.current (variable l) _ holds in
     let node_is : node_of (removed t.lits g) (variable l) ≡ removed_node ⊎ ((node_of (removed t.lits g) (variable l)).depth ≡ 4294967295) × ((node_of (removed t.lits g) (variable l)).level ≡ 0) =
     elim (h.known l holds) [
@@ -110,8 +110,8 @@ agrees_cleared a g t h e =
 pub sound_cleared : (words : List ℕ) (db : Db) (w : Watching) (b : Binaries) (a : Values) (g : List ImplNode) (t : Trailed) (q : Queue) →
     IsSoundBelow words db w b a g t q (length t.starts + 1) → t.starts ≡ [] → t.head ≡ length t.lits → RoundInvariant words db w b a (removed t.lits g) (with_cleared t) q
 sound_cleared words db w b a g t q h e done =
-    let s : State = state_of a g t in
-    let s' : State = state_of a (removed t.lits g) (with_cleared t) in
+    let s : PropagationState = state_of a g t in
+    let s' : PropagationState = state_of a (removed t.lits g) (with_cleared t) in
     let old : StateIsConsistent (state_of a g t) = h.asks.agrees in
     let agrees : StateIsConsistent (state_of a (removed t.lits g) (with_cleared t)) = agrees_cleared a g t old e in
     let n : length t.starts ≡ 0 = no_starts t e in
@@ -150,12 +150,12 @@ sound_cleared words db w b a g t q h e done =
     }
 
 -- at level 0 no reason is a clause, so reasons are unit in the order of the trail
-pub turns_of_units : (words live : List ℕ) (implied : List (List ℕ)) (s : State) → StateIsConsistent s → length s.trail.starts ≡ 0 → UnitsHaveNoReason s → AreUnitInTurn words live implied s 0
+pub turns_of_units : (words live : List ℕ) (implied : List (List ℕ)) (s : PropagationState) → StateIsConsistent s → length s.trail.starts ≡ 0 → UnitsHaveNoReason s → AreUnitInTurn words live implied s 0
 turns_of_units words live implied s h n x i le b =
     subst (λ (r : Reason). Implies words live implied s i r) (sym (x i b (omega (arith, (h.levels i b).within)))) tt
 
 -- a true literal is a unit taken off the trail if its depth says so
-pub removed_by : (s : State) (l : ℕ) → StateIsConsistent s → IsTrueLit s.values l → (node s l).depth ≡ 4294967295 → IsRemoved s l
+pub removed_by : (s : PropagationState) (l : ℕ) → StateIsConsistent s → IsTrueLit s.values l → (node s l).depth ≡ 4294967295 → IsRemoved s l
 removed_by s l h holds d = elim (h.known l holds) [
   | inl x ↦
       let e : x.place + 1 ≡ 4294967295 = sym (h.depths x.place x.within) ∙ ap (λ m. (node s m).depth) x.there ∙ d in
@@ -164,29 +164,29 @@ removed_by s l h holds d = elim (h.known l holds) [
 ]
 
 -- the state in which a unit taken off the trail has no value
-abbrev pub dropped : ℕ → State → State
+abbrev pub dropped : ℕ → PropagationState → PropagationState
 dropped l s = record s { values = set s.values (variable l) None }
 
 some_same : (x y : Bool) → Some x ≡ Some y → x ≡ y
 some_same x y e = cc
 
 -- different true literals have different variables
-other_variable : (s : State) (l m : ℕ) → IsTrueLit s.values l → IsTrueLit s.values m → m ≢ l → variable m ≢ variable l
+other_variable : (s : PropagationState) (l m : ℕ) → IsTrueLit s.values l → IsTrueLit s.values m → m ≢ l → variable m ≢ variable l
 other_variable s l m f g n e = n (lit_from_parts m l e (some_same (is_positive m) (is_positive l) (sym g ∙ ap (λ v. value_of s.values v) e ∙ f)))
 
-dropped_true : (s : State) (l m : ℕ) → variable l < length s.values → IsTrueLit (dropped l s).values m → (variable m ≢ variable l) × IsTrueLit s.values m
+dropped_true : (s : PropagationState) (l m : ℕ) → variable l < length s.values → IsTrueLit (dropped l s).values m → (variable m ≢ variable l) × IsTrueLit s.values m
 dropped_true s l m below h = elim (cases_eq (variable m) (variable l)) [
   | inl e ↦ absurd (some_none h (ap (λ v. value_of (set s.values (variable l) None) v) e ∙ get_or-set_same s.values (variable l) None None below))
   | inr n ↦ (n, sym (get_or-set_other s.values (variable l) (variable m) None None n) ∙ h)
 ]
 
 -- no literal on the trail has the variable of a unit taken off it
-pub apart_removed : (s : State) (l i : ℕ) → StateIsConsistent s → IsRemoved s l → i < length s.trail.lits → variable (lit_at s i) ≢ variable l
+pub apart_removed : (s : PropagationState) (l i : ℕ) → StateIsConsistent s → IsRemoved s l → i < length s.trail.lits → variable (lit_at s i) ≢ variable l
 apart_removed s l i h x b e =
     let d : i + 1 ≡ 4294967295 = sym (h.depths i b) ∙ ap (λ v. (node_of s.nodes v).depth) e ∙ x.depth in
     omega (arith, h.trail.fits, h.trail.small)
 
-pub agrees_dropped : (s : State) (l : ℕ) → StateIsConsistent s → IsRemoved s l → StateIsConsistent (dropped l s)
+pub agrees_dropped : (s : PropagationState) (l : ℕ) → StateIsConsistent s → IsRemoved s l → StateIsConsistent (dropped l s)
 agrees_dropped s l h x =
     let size : length (set s.values (variable l) None) ≡ length s.values = length-set s.values (variable l) None in
     let below : variable l < length s.values = below_from_value s.values (variable l) _ x.holds in
@@ -204,7 +204,7 @@ agrees_dropped s l h x =
     }
 
 -- a unit is put back: true literals stay true, and it is in the queue
-pub again_true : (s : State) (l m : ℕ) → StateIsConsistent s → IsRemoved s l → IsTrueLit s.values m → IsTrueLit (enqueued l NoCause (dropped l s)).values m
+pub again_true : (s : PropagationState) (l m : ℕ) → StateIsConsistent s → IsRemoved s l → IsTrueLit s.values m → IsTrueLit (enqueued l NoCause (dropped l s)).values m
 again_true s l m h x holds =
     let below : variable l < length s.values = below_from_value s.values (variable l) _ x.holds in
     let size : length (set s.values (variable l) None) ≡ length s.values = length-set s.values (variable l) None in
@@ -215,7 +215,7 @@ again_true s l m h x holds =
           get_or-set_other (set s.values (variable l) None) (variable l) (variable m) (Some (is_positive l)) None d ∙ get_or-set_other s.values (variable l) (variable m) None None d ∙ holds
     ]
 
-pub again_back : (s : State) (l m : ℕ) → IsRemoved s l → IsTrueLit (enqueued l NoCause (dropped l s)).values m → (m ≡ l) ⊎ ((variable m ≢ variable l) × IsTrueLit s.values m)
+pub again_back : (s : PropagationState) (l m : ℕ) → IsRemoved s l → IsTrueLit (enqueued l NoCause (dropped l s)).values m → (m ≡ l) ⊎ ((variable m ≢ variable l) × IsTrueLit s.values m)
 again_back s l m x holds =
     let below : variable l < length s.values = below_from_value s.values (variable l) _ x.holds in
     let size : length (set s.values (variable l) None) ≡ length s.values = length-set s.values (variable l) None in
@@ -224,7 +224,7 @@ again_back s l m x holds =
       | inr y ↦ inr (dropped_true s l m below y.1)
     ]
 
-again_open : (s : State) (l v : ℕ) → IsRemoved s l → value_of (enqueued l NoCause (dropped l s)).values v ≡ None → value_of s.values v ≡ None
+again_open : (s : PropagationState) (l v : ℕ) → IsRemoved s l → value_of (enqueued l NoCause (dropped l s)).values v ≡ None → value_of s.values v ≡ None
 again_open s l v x none =
     let below : variable l < length s.values = below_from_value s.values (variable l) _ x.holds in
     let size : length (set s.values (variable l) None) ≡ length s.values = length-set s.values (variable l) None in
@@ -233,7 +233,7 @@ again_open s l v x none =
       | inr d ↦ sym (get_or-set_other s.values (variable l) v None None d) ∙ sym (get_or-set_other (set s.values (variable l) None) (variable l) v (Some (is_positive l)) None d) ∙ none
     ]
 
-pub again_level : (s : State) (l m : ℕ) → StateIsConsistent s → IsRemoved s l → length s.trail.starts ≡ 0 → level (enqueued l NoCause (dropped l s)) m ≡ level s m
+pub again_level : (s : PropagationState) (l m : ℕ) → StateIsConsistent s → IsRemoved s l → length s.trail.starts ≡ 0 → level (enqueued l NoCause (dropped l s)) m ≡ level s m
 again_level s l m h x n = elim (cases_eq (variable m) (variable l)) [
   | inl e ↦
       let below : variable l < length s.values = below_from_value s.values (variable l) _ x.holds in
@@ -243,9 +243,9 @@ again_level s l m h x n = elim (cases_eq (variable m) (variable l)) [
 ]
 
 -- then every literal that has left the queue had left it before, and is not the unit
-pub again_left : (s : State) (l m : ℕ) → StateIsConsistent s → IsRemoved s l → HasLeftQueue (enqueued l NoCause (dropped l s)) m → HasLeftQueue s m × (m ≢ l)
+pub again_left : (s : PropagationState) (l m : ℕ) → StateIsConsistent s → IsRemoved s l → HasLeftQueue (enqueued l NoCause (dropped l s)) m → HasLeftQueue s m × (m ≢ l)
 again_left s l m h x left =
-    let t : State = enqueued l NoCause (dropped l s) in
+    let t : PropagationState = enqueued l NoCause (dropped l s) in
     let below : variable l < length s.values = below_from_value s.values (variable l) _ x.holds in
     let new : (node (enqueued l NoCause (dropped l s)) l).depth ≡ length s.trail.lits + 1 = ap (λ (z : ImplNode). z.depth) (node_new (dropped l s) l NoCause (omega (arith, h.nodes))) in
     elim left [
@@ -270,9 +270,9 @@ pub sound_again : (words : List ℕ) (db : Db) (w : Watching) (b : Binaries) (a 
     RoundInvariant words db w b a g t q → t.starts ≡ [] → IsRemoved (state_of a g t) l →
     RoundInvariant words db w b (again l a) (with_node (variable l) (node_at t NoCause) g) (with_lit l t) q
 sound_again words db w b a g t q l h e x =
-    let s : State = state_of a g t in
-    let u : State = dropped l s in
-    let s' : State = enqueued l NoCause (dropped l (state_of a g t)) in
+    let s : PropagationState = state_of a g t in
+    let u : PropagationState = dropped l s in
+    let s' : PropagationState = enqueued l NoCause (dropped l (state_of a g t)) in
     let y : IsSoundBelow words db w b a g t q (length t.starts + 1) = h.below in
     let old : StateIsConsistent (state_of a g t) = y.asks.agrees in
     let below : variable l < length a.current = below_from_value a.current (variable l) _ x.holds in
@@ -280,7 +280,7 @@ sound_again words db w b a g t q l h e x =
     let two : length (set (set a.current (variable l) None) (variable l) (Some (is_positive l))) ≡ length (set a.current (variable l) None) = length-set (set a.current (variable l) None) (variable l) (Some (is_positive l)) in
     let size : length (again l a).current ≡ length a.current = two ∙ one in
     let n : length t.starts ≡ 0 = no_starts t e in
-    let free : IsOpenLit (dropped l (state_of a g t)).values l = get_or-set_same a.current (variable l) None None below in
+    let free : IsUnassignedLit (dropped l (state_of a g t)).values l = get_or-set_same a.current (variable l) None None below in
     let mid : StateIsConsistent (dropped l (state_of a g t)) = agrees_dropped s l old x in
     let agrees : StateIsConsistent (enqueued l NoCause (dropped l (state_of a g t))) = agrees_enqueued u l NoCause mid free (omega arith) (room_for u l NoCause mid free (omega arith)) in
     let longer : length (t.lits ++ l ∷ []) ≡ length t.lits + 1 = length_push t.lits l in
@@ -321,7 +321,7 @@ sound_again words db w b a g t q l h e x =
       base = record { above = λ some. absurd (omega arith); bottom = h.base.bottom };
     }
 
-pub again_values : (s : State) (l v : ℕ) → IsRemoved s l → value_of (enqueued l NoCause (dropped l s)).values v ≡ value_of s.values v
+pub again_values : (s : PropagationState) (l v : ℕ) → IsRemoved s l → value_of (enqueued l NoCause (dropped l s)).values v ≡ value_of s.values v
 again_values s l v x =
     let below : variable l < length s.values = below_from_value s.values (variable l) _ x.holds in
     let size : length (set s.values (variable l) None) ≡ length s.values = length-set s.values (variable l) None in
@@ -330,5 +330,5 @@ again_values s l v x =
       | inr d ↦ get_or-set_other (set s.values (variable l) None) (variable l) v (Some (is_positive l)) None d ∙ get_or-set_other s.values (variable l) v None None d
     ]
 
-pub again_size : (s : State) (l : ℕ) → length (enqueued l NoCause (dropped l s)).values ≡ length s.values
+pub again_size : (s : PropagationState) (l : ℕ) → length (enqueued l NoCause (dropped l s)).values ≡ length s.values
 again_size s l = length-set (set s.values (variable l) None) (variable l) (Some (is_positive l)) ∙ length-set s.values (variable l) None

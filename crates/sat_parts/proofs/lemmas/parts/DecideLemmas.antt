@@ -8,19 +8,19 @@ use Rattle.sat_parts.specs.declared.prop.graph.ImplNode.{ImplNode}
 use Rattle.sat_parts.specs.declared.prop.graph.Reason.TheVariants.{Unit as NoCause, Long}
 use Rattle.sat_parts.specs.clause.Db.{Db, live_refs}
 use Rattle.sat_parts.specs.prop.Binaries.{Binaries}
-use Rattle.sat_parts.specs.prop.Values.{Values, value_of, made_true, IsOpenLit}
+use Rattle.sat_parts.specs.prop.Values.{Values, value_of, with_true_lit, IsUnassignedLit}
 use Rattle.sat_parts.specs.prop.Trails.{Trailed, with_lit, with_level}
 use Rattle.sat_parts.specs.prop.Graphs.{with_node, node_at}
 use Rattle.sat_parts.specs.prop.WatchLists.{Watching}
-use Rattle.sat_parts.specs.prop.State.{State, StateIsConsistent}
+use Rattle.sat_parts.specs.prop.State.{PropagationState, StateIsConsistent}
 use Rattle.sat_parts.specs.prop.Ready.{state_of}
-use Rattle.sat_parts.specs.prop.Asks.{PropagationPrecondition}
+use Rattle.sat_parts.specs.prop.Propagation.{PropagationPrecondition}
 use Rattle.sat_parts.specs.prop.TrailWord.{IsLevelled}
 use Rattle.sat_parts.proofs.lemmas.prop.RoomLemmas.{room_for}
 use Rattle.sat_parts.proofs.lemmas.prop.StepLemmas.{raised, agrees_raised, asks_raised, asks_for_reason, asks_enqueued}
 use Rattle.sat_parts.proofs.lemmas.prop.WordLemmas.{levels_stay}
 use Rattle.sat_parts.proofs.lemmas.parts.ValueLemmas.{some_none}
-use Rattle.sat_parts.specs.parts.Round.{AreReady, IsBased, KeepsPicks, IsSoundBelow, RoundInvariant}
+use Rattle.sat_parts.specs.parts.Round.{AreReady, LevelZeroInvariant, KeepsPicks, IsSoundBelow, RoundInvariant}
 use Rattle.sat_parts.proofs.lemmas.parts.TurnLemmas.{turns_enqueued, turns_raised, units_enqueued}
 
 pub still_open : (values : List (Option Bool)) (l u : ℕ) (b : Bool) → variable l < length values → value_of (set values (variable l) (Some b)) u ≡ None → (u ≢ variable l) × (value_of values u ≡ None)
@@ -39,12 +39,12 @@ pub no_long : (o : ℕ) → NoCause ≡ Long o → ⊥
 no_long o e = cc
 
 -- level k + 1 begins at position k or later
-ladder : (s : State) → IsLevelled s → (k : ℕ) → k < length s.trail.starts → k ≤ get_or s.trail.starts k 0
+ladder : (s : PropagationState) → IsLevelled s → (k : ℕ) → k < length s.trail.starts → k ≤ get_or s.trail.starts k 0
 ladder s x zero b = omega arith
 ladder s x (suc k) b = omega (arith, ladder s x k (omega arith), x.strict k (suc k) (omega arith) b)
 
 -- while a variable is unassigned, there are few enough levels for one more
-pub few_levels : (s : State) (l : ℕ) → StateIsConsistent s → IsLevelled s → IsOpenLit s.values l → variable l < length s.values → length s.trail.starts + 1 < 2 ^ 32
+pub few_levels : (s : PropagationState) (l : ℕ) → StateIsConsistent s → IsLevelled s → IsUnassignedLit s.values l → variable l < length s.values → length s.trail.starts + 1 < 2 ^ 32
 few_levels s l h x n below =
     let reach : (k : ℕ) → k < length s.trail.starts → k ≤ get_or s.trail.starts k 0 = ladder s x in
     let room : length s.trail.lits < s.trail.room = room_for s l NoCause h n below in
@@ -55,7 +55,7 @@ few_levels s l h x n below =
           omega (arith, reach (length s.trail.starts - 1) (omega arith), x.begun (length s.trail.starts - 1) (omega arith), h.trail.small)
     ]
 
-based_raised : (t : Trailed) (l : ℕ) → IsBased t → t.head ≡ length t.lits → IsBased (with_lit l (with_level t))
+based_raised : (t : Trailed) (l : ℕ) → LevelZeroInvariant t → t.head ≡ length t.lits → LevelZeroInvariant (with_lit l (with_level t))
 based_raised t l h done =
     let more : length (t.starts ++ length t.lits ∷ []) ≡ length t.starts + 1 = length_push t.starts (length t.lits) in
     record {
@@ -70,13 +70,13 @@ based_raised t l h done =
 
 -- an unassigned literal is decided
 pub sound_decided : (words : List ℕ) (db : Db) (w : Watching) (b : Binaries) (a : Values) (g : List ImplNode) (t : Trailed) (q q' : Queue) (l : ℕ) →
-    RoundInvariant words db w b a g t q → t.head ≡ length t.lits → IsOpenLit a.current l → variable l < length a.current → KeepsPicks a.current q q' (variable l) → length q'.available ≡ length q.available →
-    RoundInvariant words db w b (made_true l a) (with_node (variable l) (node_at (with_level t) NoCause) g) (with_lit l (with_level t)) q'
+    RoundInvariant words db w b a g t q → t.head ≡ length t.lits → IsUnassignedLit a.current l → variable l < length a.current → KeepsPicks a.current q q' (variable l) → length q'.available ≡ length q.available →
+    RoundInvariant words db w b (with_true_lit l a) (with_node (variable l) (node_at (with_level t) NoCause) g) (with_lit l (with_level t)) q'
 sound_decided words db w b a g t q q' l h done n below keeps size =
-    let s : State = state_of a g t in
+    let s : PropagationState = state_of a g t in
     let x : IsSoundBelow words db w b a g t q (length t.starts + 1) = h.below in
     let few : length t.starts + 1 < 2 ^ 32 = few_levels s l x.asks.agrees x.levelled n below in
-    let r : State = raised (state_of a g t) in
+    let r : PropagationState = raised (state_of a g t) in
     let up : PropagationPrecondition words db.refs w b.implied (raised (state_of a g t)) = asks_raised words db.refs w b.implied s few done x.asks in
     let agrees : StateIsConsistent (raised (state_of a g t)) = agrees_raised s x.asks.agrees few in
     let more : length (t.starts ++ length t.lits ∷ []) ≡ length t.starts + 1 = length_push t.starts (length t.lits) in

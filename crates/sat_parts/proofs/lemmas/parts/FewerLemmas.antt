@@ -17,12 +17,12 @@ use Rattle.sat_parts.specs.clause.Db.{Db, DbMatchesBuffer, live_refs, without, P
 use Rattle.sat_parts.specs.clause.Activity.{PutsHeaders, Scale, StaysBelow, ReachesRescale, BumpsOne, BumpsAll, DecaysAll, later_bump, shifted, raised, with_activity, bumped_shifted}
 use Rattle.sat_parts.specs.clause.Collected.{FollowsClause, Collects, CollectsNothing}
 use Rattle.sat_parts.specs.clause.Stored.{lit_of}
-use Rattle.sat_parts.specs.prop.Binaries.{Binaries, implied_by, open_among, RemovesAssigned}
-use Rattle.sat_parts.specs.prop.Graphs.{is_unit_reason}
-use Rattle.sat_parts.specs.prop.Values.{Values, is_unset, IsTrueLit}
+use Rattle.sat_parts.specs.prop.Binaries.{Binaries, implied_by, unassigned_among, RemovesAssigned}
+use Rattle.sat_parts.specs.prop.Graphs.{has_no_clause}
+use Rattle.sat_parts.specs.prop.Values.{Values, is_unassigned_var, IsTrueLit}
 use Rattle.sat_parts.specs.prop.Trails.{Trailed}
 use Rattle.sat_parts.specs.prop.WatchLists.{Watching, watches_of, no_watch}
-use Rattle.sat_parts.specs.prop.State.{State, node, lit_at}
+use Rattle.sat_parts.specs.prop.State.{PropagationState, node, lit_at}
 use Rattle.sat_parts.specs.prop.Reasons.{IsFalseBefore, Implies}
 use Rattle.sat_parts.specs.prop.Ready.{state_of, AreWatched, HasWatch}
 use Rattle.sat_parts.specs.prop.TrailWord.{IsLevelled}
@@ -38,7 +38,7 @@ abbrev pub LeavesClauses : (words refs words' refs' : List ℕ) → Type 0
 LeavesClauses words refs words' refs' = (o : ℕ) → Contains (live_refs words' refs') o → Contains (live_refs words refs) o × (lits_at words' o ≡ lits_at words o)
 
 -- that the reasons on the trail are live
-abbrev pub KeepsReasons : (words' refs' : List ℕ) (s : State) → Type 0
+abbrev pub KeepsReasons : (words' refs' : List ℕ) (s : PropagationState) → Type 0
 KeepsReasons words' refs' s = (i o : ℕ) → i < length s.trail.lits → (node s (lit_at s i)).reason ≡ Long o → Contains (live_refs words' refs') o
 
 unused_fewer : (words refs words' refs' : List ℕ) (implied : List (List ℕ)) (v : ℕ) → LeavesClauses words refs words' refs' → IsUnused words (live_refs words refs) implied v → IsUnused words' (live_refs words' refs') implied v
@@ -51,7 +51,7 @@ pub sound_fewer : (words words' : List ℕ) (db db' : Db) (w w' : Watching) (b :
     RoundInvariant words db w b a g t q → DbMatchesBuffer words' db' → LeavesClauses words db.refs words' db'.refs → KeepsReasons words' db'.refs (state_of a g t) → length w'.lists ≡ length w.lists →
     (w'.enabled ≡ true → AreWatched words' (live_refs words' db'.refs) w'.lists (length a.current)) → RoundInvariant words' db' w' b a g t q
 sound_fewer words words' db db' w w' b a g t q h held same reasons size watched =
-    let s : State = state_of a g t in
+    let s : PropagationState = state_of a g t in
     let x : IsSoundBelow words db w b a g t q (length t.starts + 1) = h.below in
     record {
       below = record {
@@ -104,7 +104,7 @@ sound_without words words' db db' w w' b a g t q o h x to_w free =
 pub sound_deleted : (words words' : List ℕ) (db db' : Db) (w w' : Watching) (b : Binaries) (a : Values) (g : List ImplNode) (t : Trailed) (q : Queue) (o : ℕ) →
     RoundInvariant words db w b a g t q → DeletesClause words db words' db' o → w' ≡ record w { enabled = false } → (IsLockedClause words a.current g o → ⊥) → RoundInvariant words' db' w' b a g t q
 sound_deleted words words' db db' w w' b a g t q o h x to_w free =
-    let s : State = state_of a g t in
+    let s : PropagationState = state_of a g t in
     let y : IsSoundBelow words db w b a g t q (length t.starts + 1) = h.below in
     let asserted : (i p : ℕ) → i < length t.lits → (node s (lit_at s i)).reason ≡ Long p → p ≢ o = λ i p lt e q.
     let f : Contains (live_refs words db.refs) p × (lit_of words p 0 ≡ lit_at s i) = y.asks.firsts i p lt e in
@@ -113,14 +113,14 @@ sound_deleted words words' db db' w w' b a g t q o h x to_w free =
     sound_without words words' db db' w w' b a g t q o h x to_w asserted
 
 -- reasons after a garbage collection
-false_collected : (words : List ℕ) (db : Db) (s : State) (words' : List ℕ) (db' : Db) (nodes' : List ImplNode) (i m : ℕ) → Collects words db s.nodes s.trail.lits words' db' nodes' →
+false_collected : (words : List ℕ) (db : Db) (s : PropagationState) (words' : List ℕ) (db' : Db) (nodes' : List ImplNode) (i m : ℕ) → Collects words db s.nodes s.trail.lits words' db' nodes' →
     IsFalseBefore s i m → IsFalseBefore (with_graph s nodes') i m
 false_collected words db s words' db' nodes' i m x h = elim h [
   | inl b ↦ inl (record { place = b.place; before = b.before; within = b.within; there = b.there })
   | inr r ↦ inr (record { holds = r.holds; depth = x.depths (variable (negated m)) ∙ r.depth; bottom = x.levels (variable (negated m)) ∙ r.bottom })
 ]
 
-implies_followed : (words : List ℕ) (db : Db) (s : State) (words' : List ℕ) (db' : Db) (nodes' : List ImplNode) (implied : List (List ℕ)) (i : ℕ) (r r' : Reason) → Collects words db s.nodes s.trail.lits words' db' nodes' →
+implies_followed : (words : List ℕ) (db : Db) (s : PropagationState) (words' : List ℕ) (db' : Db) (nodes' : List ImplNode) (implied : List (List ℕ)) (i : ℕ) (r r' : Reason) → Collects words db s.nodes s.trail.lits words' db' nodes' →
     FollowsClause (live_refs words db.refs) db'.refs r r' → Implies words (live_refs words db.refs) implied s i r → Implies words' (live_refs words' db'.refs) implied (with_graph s nodes') i r'
 implies_followed words db s words' db' nodes' implied i NoCause r' x f h = subst (λ (z : Reason). Implies words' (live_refs words' db'.refs) implied (with_graph s nodes') i z) (sym f) tt
 implies_followed words db s words' db' nodes' implied i (Binary ls) r' x f h =
@@ -136,12 +136,12 @@ implies_followed words db s words' db' nodes' implied i (Long o) r' x f h =
           (false_collected words db s words' db' nodes' i (lit_of words o k) x (h.2 k some (subst (λ (ls : List ℕ). k < length ls) same b))),
     )
 
-unit_followed : (live refs' : List ℕ) (r r' : Reason) → FollowsClause live refs' r r' → is_unit_reason r' ≡ is_unit_reason r
-unit_followed live refs' NoCause r' f = ap (λ (z : Reason). is_unit_reason z) f
-unit_followed live refs' (Binary ls) r' f = ap (λ (z : Reason). is_unit_reason z) f
-unit_followed live refs' (Long o) r' f = ap (λ (z : Reason). is_unit_reason z) f.1.2
+unit_followed : (live refs' : List ℕ) (r r' : Reason) → FollowsClause live refs' r r' → has_no_clause r' ≡ has_no_clause r
+unit_followed live refs' NoCause r' f = ap (λ (z : Reason). has_no_clause z) f
+unit_followed live refs' (Binary ls) r' f = ap (λ (z : Reason). has_no_clause z) f
+unit_followed live refs' (Long o) r' f = ap (λ (z : Reason). has_no_clause z) f.1.2
 
-levelled_collected : (words : List ℕ) (db : Db) (s : State) (words' : List ℕ) (db' : Db) (nodes' : List ImplNode) → Collects words db s.nodes s.trail.lits words' db' nodes' → IsLevelled s → IsLevelled (with_graph s nodes')
+levelled_collected : (words : List ℕ) (db : Db) (s : PropagationState) (words' : List ℕ) (db' : Db) (nodes' : List ImplNode) → Collects words db s.nodes s.trail.lits words' db' nodes' → IsLevelled s → IsLevelled (with_graph s nodes')
 levelled_collected words db s words' db' nodes' x h = record {
   strict = h.strict;
   begun = h.begun;
@@ -152,7 +152,7 @@ levelled_collected words db s words' db' nodes' x h = record {
 pub sound_collected : (words words' : List ℕ) (db db' : Db) (w w' : Watching) (b : Binaries) (a : Values) (g g' : List ImplNode) (t : Trailed) (q : Queue) →
     RoundInvariant words db w b a g t q → Collects words db g t.lits words' db' g' → w' ≡ record w { enabled = false } → RoundInvariant words' db' w' b a g' t q
 sound_collected words words' db db' w w' b a g g' t q h x to_w =
-    let s : State = state_of a g t in
+    let s : PropagationState = state_of a g t in
     let y : IsSoundBelow words db w b a g t q (length t.starts + 1) = h.below in
     record {
       below = record {
@@ -258,16 +258,16 @@ sound_clause_decayed words words' db w b a g t q c c' h later all held live = el
   | inr le ↦ sound_put words words' db db w b a g t q (shifted words) h held (all le).1 refl live
 ]
 
--- the literals that `open_among` keeps are in the list
-open_in : (values : List (Option Bool)) (v m : ℕ) (ls : List ℕ) → Contains (open_among values v ls) m → Contains ls m
+-- the literals that `unassigned_among` keeps are in the list
+open_in : (values : List (Option Bool)) (v m : ℕ) (ls : List ℕ) → Contains (unassigned_among values v ls) m → Contains ls m
 open_in values v m ls c =
-    elim (cases_Bool (is_unset values v)) [
+    elim (cases_Bool (is_unassigned_var values v)) [
       | inl on ↦
-          let e : open_among values v ls ≡ filter (λ l. is_unset values (variable l)) ls = cond-true (is_unset values v) (filter (λ l. is_unset values (variable l)) ls) [] on in
-          All-contains (Contains ls) (filter (λ l. is_unset values (variable l)) ls) m
-          (All-filter (λ l. is_unset values (variable l)) (Contains ls) ls (All-contains_itself ls)) (subst (λ (xs : List ℕ). Contains xs m) e c)
+          let e : unassigned_among values v ls ≡ filter (λ l. is_unassigned_var values (variable l)) ls = cond-true (is_unassigned_var values v) (filter (λ l. is_unassigned_var values (variable l)) ls) [] on in
+          All-contains (Contains ls) (filter (λ l. is_unassigned_var values (variable l)) ls) m
+          (All-filter (λ l. is_unassigned_var values (variable l)) (Contains ls) ls (All-contains_itself ls)) (subst (λ (xs : List ℕ). Contains xs m) e c)
       | inr off ↦
-          let e : open_among values v ls ≡ [] = cond-false (is_unset values v) (filter (λ l. is_unset values (variable l)) ls) [] off in
+          let e : unassigned_among values v ls ≡ [] = cond-false (is_unassigned_var values v) (filter (λ l. is_unassigned_var values (variable l)) ls) [] off in
           absurd (omega (arith, (subst (λ (xs : List ℕ). Contains xs m) e c).1))
     ]
 
@@ -275,7 +275,7 @@ open_in values v m ls c =
 pub sound_removed : (words : List ℕ) (db : Db) (w : Watching) (b b' : Binaries) (a : Values) (g : List ImplNode) (t : Trailed) (q : Queue) →
     RoundInvariant words db w b a g t q → t.lits ≡ [] → RemovesAssigned a.current b b' → RoundInvariant words db w b' a g t q
 sound_removed words db w b b' a g t q h empty x =
-    let s : State = state_of a g t in
+    let s : PropagationState = state_of a g t in
     let y : IsSoundBelow words db w b a g t q (length t.starts + 1) = h.below in
     let none : length t.lits ≡ 0 = ap (λ (xs : List ℕ). length xs) empty in
     record {

@@ -6,10 +6,10 @@ use Rattle.sat_base.specs.values.Literals.{variable}
 use Rattle.sat_parts.specs.declared.prop.graph.ImplNode.{ImplNode}
 use Rattle.sat_parts.specs.declared.prop.graph.Reason.{Reason}
 use Rattle.sat_parts.specs.declared.prop.graph.Reason.TheVariants.{Unit as NoCause}
-use Rattle.sat_parts.specs.prop.Graphs.{is_unit_reason, node_at}
-use Rattle.sat_parts.specs.prop.Values.{Values, IsTrueLit, IsOpenLit}
+use Rattle.sat_parts.specs.prop.Graphs.{has_no_clause, node_at}
+use Rattle.sat_parts.specs.prop.Values.{Values, IsTrueLit, IsUnassignedLit}
 use Rattle.sat_parts.specs.prop.Trails.{Trailed, with_level}
-use Rattle.sat_parts.specs.prop.State.{State, node, level, lit_at, StateIsConsistent, TrailGrows, enqueued}
+use Rattle.sat_parts.specs.prop.State.{PropagationState, node, level, lit_at, StateIsConsistent, TrailGrows, enqueued}
 use Rattle.sat_parts.specs.prop.Ready.{state_of}
 use Rattle.sat_parts.proofs.lemmas.prop.StateLemmas.{grows_enqueued, lit_last, node_new}
 use Rattle.sat_parts.proofs.lemmas.prop.RoomLemmas.{room_for}
@@ -24,8 +24,8 @@ use Rattle.sat_parts.specs.parts.Units.{removed}
 use Rattle.sat_parts.specs.parts.Frame.{AddsNoUnit, TakesOffUnits}
 
 -- all new literals are above level 0, or have clauses as their reasons
-pub carries_grown : (s s' : State) → StateIsConsistent s → TrailGrows s s' →
-    ((i : ℕ) → length s.trail.lits ≤ i → i < length s'.trail.lits → level s' (lit_at s' i) ≡ 0 → is_unit_reason (node s' (lit_at s' i)).reason ≡ true → ⊥) → AddsNoUnit s s'
+pub carries_grown : (s s' : PropagationState) → StateIsConsistent s → TrailGrows s s' →
+    ((i : ℕ) → length s.trail.lits ≤ i → i < length s'.trail.lits → level s' (lit_at s' i) ≡ 0 → has_no_clause (node s' (lit_at s' i)).reason ≡ true → ⊥) → AddsNoUnit s s'
 carries_grown s s' a g new = record {
   size = g.size;
   units = λ l u. elim u [
@@ -40,16 +40,16 @@ carries_grown s s' a g new = record {
             within = lt;
             there = there;
             bottom = ap (λ (n : ImplNode). n.level) (sym same) ∙ b.bottom;
-            none = ap (λ (n : ImplNode). is_unit_reason n.reason) (sym same) ∙ b.none;
+            none = ap (λ (n : ImplNode). has_no_clause n.reason) (sym same) ∙ b.none;
           })
-      | inr ge ↦ absurd (new b.place ge b.within (ap (λ m. level s' m) b.there ∙ b.bottom) (ap (λ m. is_unit_reason (node s' m).reason) b.there ∙ b.none))
+      | inr ge ↦ absurd (new b.place ge b.within (ap (λ m. level s' m) b.there ∙ b.bottom) (ap (λ m. has_no_clause (node s' m).reason) b.there ∙ b.none))
     ]
   ];
   bottom = λ l t z. (g.kept l t, ap (λ (n : ImplNode). n.level) (g.nodes l t) ∙ z);
 }
 
 -- an unassigned literal becomes true by a clause, or above level 0
-pub carries_enqueued : (s : State) (l : ℕ) (r : Reason) → StateIsConsistent s → IsOpenLit s.values l → variable l < length s.values → (is_unit_reason r ≡ false) ⊎ (0 < length s.trail.starts) → AddsNoUnit s (enqueued l r s)
+pub carries_enqueued : (s : PropagationState) (l : ℕ) (r : Reason) → StateIsConsistent s → IsUnassignedLit s.values l → variable l < length s.values → (has_no_clause r ≡ false) ⊎ (0 < length s.trail.starts) → AddsNoUnit s (enqueued l r s)
 carries_enqueued s l r a free below why =
     let size : length (s.trail.lits ++ l ∷ []) ≡ length s.trail.lits + 1 = length_push s.trail.lits l in
     carries_grown s (enqueued l r s) a (grows_enqueued s l r a free below (room_for s l r a free below)) (λ i ge lt z u.
@@ -57,12 +57,12 @@ carries_enqueued s l r a free below why =
     let at : lit_at (enqueued l r s) i ≡ l = ap (λ k. lit_at (enqueued l r s) k) last ∙ lit_last s l r in
     let its : node (enqueued l r s) (lit_at (enqueued l r s) i) ≡ node_at s.trail r = ap (λ m. node (enqueued l r s) m) at ∙ node_new s l r (omega (arith, a.nodes)) in
     elim why [
-      | inl n ↦ true≢false (sym u ∙ ap (λ (x : ImplNode). is_unit_reason x.reason) its ∙ n)
+      | inl n ↦ true≢false (sym u ∙ ap (λ (x : ImplNode). has_no_clause x.reason) its ∙ n)
       | inr some ↦ (let e : length s.trail.starts ≡ 0 = sym (ap (λ (x : ImplNode). x.level) its) ∙ z in omega arith)
     ])
 
 -- a level begins
-carries_level : (s : State) → AddsNoUnit s (record s { trail = with_level s.trail })
+carries_level : (s : PropagationState) → AddsNoUnit s (record s { trail = with_level s.trail })
 carries_level s = record {
   size = refl;
   units = λ l u. elim u [
@@ -72,20 +72,20 @@ carries_level s = record {
   bottom = λ l t z. (t, z);
 }
 
-pub carries_trans : (a b c : State) → AddsNoUnit a b → AddsNoUnit b c → AddsNoUnit a c
+pub carries_trans : (a b c : PropagationState) → AddsNoUnit a b → AddsNoUnit b c → AddsNoUnit a c
 carries_trans a b c x y = record {
   size = y.size ∙ x.size;
   units = λ l u. x.units l (y.units l u);
   bottom = λ l t z. let k = x.bottom l t z in y.bottom l k.0 k.1;
 }
 
-pub carries_refl : (s : State) → AddsNoUnit s s
+pub carries_refl : (s : PropagationState) → AddsNoUnit s s
 carries_refl s = record { size = refl; units = λ l u. u; bottom = λ l t z. (t, z) }
 
 -- a literal is decided, on a new level
-pub carries_decided : (s : State) (l : ℕ) → StateIsConsistent (record s { trail = with_level s.trail }) → IsOpenLit s.values l → variable l < length s.values → AddsNoUnit s (enqueued l NoCause (record s { trail = with_level s.trail }))
+pub carries_decided : (s : PropagationState) (l : ℕ) → StateIsConsistent (record s { trail = with_level s.trail }) → IsUnassignedLit s.values l → variable l < length s.values → AddsNoUnit s (enqueued l NoCause (record s { trail = with_level s.trail }))
 carries_decided s l a free below =
-    let r : State = record s { trail = with_level s.trail } in
+    let r : PropagationState = record s { trail = with_level s.trail } in
     let size : length (s.trail.starts ++ length s.trail.lits ∷ []) ≡ length s.trail.starts + 1 = length_push s.trail.starts (length s.trail.lits) in
     carries_trans s r (enqueued l NoCause r) (carries_level s) (carries_enqueued r l NoCause a free below (inr (omega arith)))
 
@@ -106,7 +106,7 @@ removed_level (l ∷ ls) g v z = removed_level ls (with_node (variable l) remove
 -- units are taken off the trail
 pub clears_cleared : (a : Values) (g : List ImplNode) (t : Trailed) → StateIsConsistent (state_of a g t) → t.starts ≡ [] → TakesOffUnits (state_of a g t) (state_of a (removed t.lits g) (with_cleared t))
 clears_cleared a g t h bottom =
-    let s : State = state_of a g t in
+    let s : PropagationState = state_of a g t in
     let none : length t.starts ≡ 0 = ap (λ (xs : List ℕ). length xs) bottom in
     record {
       size = refl;

@@ -5,23 +5,23 @@ use Rattle.std.proofs.lemmas.List.{get_or-replicate, length-replicate, get_or_pa
 use Rattle.std.specs.List.{Contains}
 use Rattle.sat_base.specs.values.Literals.{var_limit, variable, negated}
 use Rattle.sat_store.specs.clause.Buffer.{lits_at}
-use Rattle.sat_store.specs.heap.Vsids.{Queue, may_pick, with_variables}
+use Rattle.sat_store.specs.heap.Vsids.{Queue, is_available, with_variables}
 use Rattle.sat_parts.specs.declared.prop.graph.ImplNode.{ImplNode}
 use Rattle.sat_parts.specs.declared.prop.graph.Reason.{Reason}
 use Rattle.sat_parts.specs.declared.prop.watch.Watch.{Watch}
 use Rattle.sat_parts.specs.clause.Db.{Db, live_refs}
 use Rattle.sat_parts.specs.clause.Stored.{lit_of}
 use Rattle.sat_parts.specs.prop.Binaries.{Binaries, implied_by, with_binary_lists}
-use Rattle.sat_parts.specs.prop.Graphs.{with_nodes, new_node, node_of, is_unit_reason}
+use Rattle.sat_parts.specs.prop.Graphs.{with_nodes, new_node, node_of, has_no_clause}
 use Rattle.sat_parts.specs.prop.Trails.{Trailed, LevelIs}
 use Rattle.sat_parts.specs.prop.Values.{Values, value_of, with_var_count, IsTrueLit}
 use Rattle.sat_parts.specs.prop.WatchLists.{Watching, watches_of, no_watch, with_lists}
-use Rattle.sat_parts.specs.prop.State.{State, node, level, lit_at, HasLeftQueue, IsRemoved, StateIsConsistent, IsSatisfied}
+use Rattle.sat_parts.specs.prop.State.{PropagationState, node, level, lit_at, HasLeftQueue, IsRemoved, StateIsConsistent, IsSatisfied}
 use Rattle.sat_parts.specs.prop.Reasons.{Implies}
 use Rattle.sat_parts.specs.prop.Ready.{state_of, AreWatched, HasWatch, IsSoundWatch}
 use Rattle.sat_parts.specs.parts.Round.{IsSoundBelow, RoundInvariant}
-use Rattle.sat_parts.specs.declared.parts.Parts.{Parts}
-use Rattle.sat_parts.specs.parts.Whole.{PartsInvariant}
+use Rattle.sat_parts.specs.declared.parts.SearchState.{SearchState}
+use Rattle.sat_parts.specs.parts.Whole.{SearchStateInvariant}
 use Rattle.sat_parts.specs.parts.Frame.{IsUnitLit, KeepsTo, AddsVars}
 use Rattle.sat_parts.proofs.lemmas.parts.TurnLemmas.{implies_by}
 
@@ -53,7 +53,7 @@ listed implied l k lt = elim (cases_lt l (length implied)) [
 ]
 
 -- the state with n variables
-abbrev pub grown : ℕ → Values → List ImplNode → Trailed → State
+abbrev pub grown : ℕ → Values → List ImplNode → Trailed → PropagationState
 grown n a g t = state_of (with_var_count n a) (with_nodes n g) (record t { room = max t.room n })
 
 value_same : (n : ℕ) (a : Values) (v : ℕ) → length a.current ≤ n → value_of (with_var_count n a).current v ≡ value_of a.current v
@@ -81,7 +81,7 @@ left_shrunk n a g t l le small h = elim h [
 
 agrees_grown : (n : ℕ) (a : Values) (g : List ImplNode) (t : Trailed) → StateIsConsistent (state_of a g t) → length a.current ≤ n → n ≤ var_limit → StateIsConsistent (grown n a g t)
 agrees_grown n a g t h le top =
-    let s : State = state_of a g t in
+    let s : PropagationState = state_of a g t in
     let small : length g ≤ n = omega (arith, h.nodes) in
     let size : length (with_var_count n a).current ≡ n = grown_length a.current None n le in
     let node_at_place : (i : ℕ) → node_of (with_nodes n g) (variable (lit_at s i)) ≡ node_of g (variable (lit_at s i)) = λ i. node_same n g (variable (lit_at s i)) small in
@@ -103,8 +103,8 @@ pub sound_grown : (words : List ℕ) (db : Db) (w : Watching) (b : Binaries) (a 
     RoundInvariant words db w b a g t q → length a.current ≤ n → n ≤ var_limit →
     RoundInvariant words db (with_lists (2 * n) w) (with_binary_lists (2 * n) b) (with_var_count n a) (with_nodes n g) (record t { room = max t.room n }) (with_variables n q)
 sound_grown words db w b a g t q n h le top =
-    let s : State = state_of a g t in
-    let s' : State = grown n a g t in
+    let s : PropagationState = state_of a g t in
+    let s' : PropagationState = grown n a g t in
     let y : IsSoundBelow words db w b a g t q (length t.starts + 1) = h.below in
     let old : StateIsConsistent (state_of a g t) = y.asks.agrees in
     let small : length g ≤ n = omega (arith, old.nodes) in
@@ -164,8 +164,8 @@ sound_grown words db w b a g t q n h le top =
         levelled = record {
           strict = y.levelled.strict;
           begun = y.levelled.begun;
-          decided = λ k lt. ap (λ (r : Reason). is_unit_reason r) (reason_is (get_or t.starts k 0)) ∙ y.levelled.decided k lt;
-          caused = λ i k lt p bound none. ap (λ (r : Reason). is_unit_reason r) (reason_is i) ∙ y.levelled.caused i k lt p bound none;
+          decided = λ k lt. ap (λ (r : Reason). has_no_clause r) (reason_is (get_or t.starts k 0)) ∙ y.levelled.decided k lt;
+          caused = λ i k lt p bound none. ap (λ (r : Reason). has_no_clause r) (reason_is i) ∙ y.levelled.caused i k lt p bound none;
         };
         queue = queue_size ∙ sym size;
         ready = λ v lt none. elim (cases_lt v (length a.current)) [
@@ -205,7 +205,7 @@ grown_units n a g t l le small h =
         within = x.within;
         there = x.there;
         bottom = sym (ap (λ (z : ImplNode). z.level) same) ∙ x.bottom;
-        none = sym (ap (λ (z : ImplNode). is_unit_reason z.reason) same) ∙ x.none;
+        none = sym (ap (λ (z : ImplNode). has_no_clause z.reason) same) ∙ x.none;
       })
     ]
 
@@ -215,10 +215,10 @@ grown_keeps top n a g t le small = record {
   begun = λ j b lt. (lt, refl);
 }
 
-pub grown_picks : (n : ℕ) (q : Queue) (v : ℕ) → may_pick (with_variables n q) v ≡ may_pick q v
+pub grown_picks : (n : ℕ) (q : Queue) (v : ℕ) → is_available (with_variables n q) v ≡ is_available q v
 grown_picks n q v = appended_reads q.available (n - length q.available) false v
 
-pub grown_frame : (p : Parts) (n : ℕ) (w : Watching) → PartsInvariant p → length p.assignment.current ≤ n →
+pub grown_frame : (p : SearchState) (n : ℕ) (w : Watching) → SearchStateInvariant p → length p.assignment.current ≤ n →
     AddsVars p (record p { watchlists = w; binary = with_binary_lists (2 * n) p.binary; assignment = with_var_count n p.assignment; graph = with_nodes n p.graph; trail = record p.trail { room = max p.trail.room n }; vsids = with_variables n p.vsids }) n
 grown_frame p n w h le =
     let small : length p.graph ≤ n = omega (arith, h.below.asks.agrees.nodes) in

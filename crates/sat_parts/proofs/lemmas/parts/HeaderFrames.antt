@@ -17,18 +17,18 @@ use Rattle.sat_parts.specs.clause.Collected.{Copies, Collects, FollowsClause, Co
 use Rattle.sat_parts.specs.clause.Db.{Db, live_refs, PutsHeader}
 use Rattle.sat_parts.specs.clause.Orders.{PermutesClause, PermutesClauses, SameUpToOrder}
 use Rattle.sat_parts.specs.clause.Reduced.{reduced}
-use Rattle.sat_parts.specs.prop.Graphs.{is_unit_reason}
+use Rattle.sat_parts.specs.prop.Graphs.{has_no_clause}
 use Rattle.sat_parts.specs.prop.Values.{Values}
 use Rattle.sat_parts.specs.prop.Trails.{Trailed}
 use Rattle.sat_parts.specs.prop.WatchLists.{Watching}
-use Rattle.sat_parts.specs.prop.State.{State, node, lit_at}
+use Rattle.sat_parts.specs.prop.State.{PropagationState, node, lit_at}
 use Rattle.sat_parts.specs.prop.Ready.{state_of}
 use Rattle.sat_parts.proofs.lemmas.clause.OrderLemmas.{reorders_one}
 use Rattle.sat_parts.proofs.lemmas.prop.BuildLemmas.{live_in}
 use Rattle.sat_parts.proofs.lemmas.prop.BuildLemmas.{live_same}
-use Rattle.sat_parts.specs.declared.parts.Parts.{Parts}
-use Rattle.sat_parts.specs.parts.Whole.{state, PartsInvariant}
-use Rattle.sat_parts.specs.parts.Frame.{AddsNoUnit, KeepsTo, SameSearch, ReordersLits, ChangesHeaders, MovesLongClauses}
+use Rattle.sat_parts.specs.declared.parts.SearchState.{SearchState}
+use Rattle.sat_parts.specs.parts.Whole.{state, SearchStateInvariant}
+use Rattle.sat_parts.specs.parts.Frame.{AddsNoUnit, KeepsTo, SameExceptLongClauses, ReordersLits, ChangesHeaders, MovesLongClauses}
 
 -- that literals are unchanged, and no clause became or ceased to be a learned one
 pub record SidesStay (words words' refs : List ℕ) : Type 0 where
@@ -82,7 +82,7 @@ sides_decayed words words' refs c c' later all = elim (cases_lt (later_bump c) (
   | inr le ↦ sides_all words words' refs (shifted words) (all le).1 (λ p k. refl)
 ]
 
-pub headed_by : (p p' : Parts) → live_refs p'.clauses p'.db.refs ≡ live_refs p.clauses p.db.refs → SidesStay p.clauses p'.clauses p.db.refs → SameSearch p p' → ChangesHeaders p p'
+pub headed_by : (p p' : SearchState) → live_refs p'.clauses p'.db.refs ≡ live_refs p.clauses p.db.refs → SidesStay p.clauses p'.clauses p.db.refs → SameExceptLongClauses p p' → ChangesHeaders p p'
 headed_by p p' live x same = record {
   live = live;
   lits = λ o c. x.lits o (live_in p.clauses p.db.refs o c);
@@ -92,10 +92,10 @@ headed_by p p' live x same = record {
 
 -- GARBAGE COLLECTION
 
-unit_followed : (live refs' : List ℕ) (r r' : Reason) → FollowsClause live refs' r r' → is_unit_reason r' ≡ is_unit_reason r
-unit_followed live refs' NoCause r' f = ap (λ (z : Reason). is_unit_reason z) f
-unit_followed live refs' (Binary ls) r' f = ap (λ (z : Reason). is_unit_reason z) f
-unit_followed live refs' (Long o) r' f = ap (λ (z : Reason). is_unit_reason z) f.1.2
+unit_followed : (live refs' : List ℕ) (r r' : Reason) → FollowsClause live refs' r r' → has_no_clause r' ≡ has_no_clause r
+unit_followed live refs' NoCause r' f = ap (λ (z : Reason). has_no_clause z) f
+unit_followed live refs' (Binary ls) r' f = ap (λ (z : Reason). has_no_clause z) f
+unit_followed live refs' (Long o) r' f = ap (λ (z : Reason). has_no_clause z) f.1.2
 
 copies_refl : (words live : List ℕ) → Copies words live words live
 copies_refl words live = record { size = refl; headers = λ k b. refl; lits = λ k b. refl }
@@ -106,9 +106,9 @@ carries_collected words db a g g' t words' db' x = record {
   units = λ l u. elim u [
     | inl r ↦ inl (record { holds = r.holds; depth = sym (x.depths (variable l)) ∙ r.depth; bottom = sym (x.levels (variable l)) ∙ r.bottom })
     | inr b ↦
-        let s : State = state_of a g t in
-        let s' : State = state_of a g' t in
-        let same : is_unit_reason (node s' l).reason ≡ is_unit_reason (node s l).reason = subst (λ m. is_unit_reason (node s' m).reason ≡ is_unit_reason (node s m).reason) b.there
+        let s : PropagationState = state_of a g t in
+        let s' : PropagationState = state_of a g' t in
+        let same : has_no_clause (node s' l).reason ≡ has_no_clause (node s l).reason = subst (λ m. has_no_clause (node s' m).reason ≡ has_no_clause (node s m).reason) b.there
         (unit_followed (live_refs words db.refs) db'.refs (node s (lit_at s b.place)).reason (node s' (lit_at s b.place)).reason (x.reasons b.place b.within)) in
         inr (record { place = b.place; within = b.within; there = b.there; bottom = sym (x.levels (variable l)) ∙ b.bottom; none = sym same ∙ b.none })
   ];
@@ -118,14 +118,14 @@ carries_collected words db a g g' t words' db' x = record {
 keeps_collected : (top : ℕ) (words : List ℕ) (db : Db) (a : Values) (g g' : List ImplNode) (t : Trailed) (words' : List ℕ) (db' : Db) → Collects words db g t.lits words' db' g' → KeepsTo top (state_of a g t) (state_of a g' t)
 keeps_collected top words db a g g' t words' db' x = record { low = λ l h b. (h, x.levels (variable l)); begun = λ j b lt. (lt, refl) }
 
-carries_stayed : (s : State) → AddsNoUnit s s
+carries_stayed : (s : PropagationState) → AddsNoUnit s s
 carries_stayed s = record { size = refl; units = λ l u. u; bottom = λ l h z. (h, z) }
 
-keeps_stayed : (top : ℕ) (s : State) → KeepsTo top s s
+keeps_stayed : (top : ℕ) (s : PropagationState) → KeepsTo top s s
 keeps_stayed top s = record { low = λ l h b. (h, refl); begun = λ j b lt. (lt, refl) }
 
 -- a garbage collection that succeeds
-copied_due : (p : Parts) (words' : List ℕ) (db' : Db) (w' : Watching) (g' : List ImplNode) → Collects p.clauses p.db p.graph p.trail.lits words' db' g' → MovesLongClauses p (record p { clauses = words'; db = db'; watchlists = w'; graph = g' })
+copied_due : (p : SearchState) (words' : List ℕ) (db' : Db) (w' : Watching) (g' : List ImplNode) → Collects p.clauses p.db p.graph p.trail.lits words' db' g' → MovesLongClauses p (record p { clauses = words'; db = db'; watchlists = w'; graph = g' })
 copied_due p words' db' w' g' x = record {
   copies = subst (λ (xs : List ℕ). Copies p.clauses (live_refs p.clauses p.db.refs) words' xs) (sym x.live) x.copies;
   binary = refl;
@@ -137,7 +137,7 @@ copied_due p words' db' w' g' x = record {
 }
 
 -- a garbage collection that is not due, or fails
-copied_none : (p : Parts) (words' : List ℕ) (db' : Db) (w' : Watching) (g' : List ImplNode) → CollectsNothing p.clauses p.db p.graph p.watchlists words' db' g' w' → MovesLongClauses p (record p { clauses = words'; db = db'; watchlists = w'; graph = g' })
+copied_none : (p : SearchState) (words' : List ℕ) (db' : Db) (w' : Watching) (g' : List ImplNode) → CollectsNothing p.clauses p.db p.graph p.watchlists words' db' g' w' → MovesLongClauses p (record p { clauses = words'; db = db'; watchlists = w'; graph = g' })
 copied_none p words' db' w' g' x = rw (x.0, x.1, x.2) record {
   copies = copies_refl p.clauses (live_refs p.clauses p.db.refs);
   binary = refl;
@@ -148,7 +148,7 @@ copied_none p words' db' w' g' x = rw (x.0, x.1, x.2) record {
   keeps = λ top. keeps_stayed top (state p);
 }
 
-pub copied_collect : (p : Parts) (words' : List ℕ) (db' : Db) (w' : Watching) (g' : List ImplNode) (r : Result (Unit {0}) StoreError) →
+pub copied_collect : (p : SearchState) (words' : List ℕ) (db' : Db) (w' : Watching) (g' : List ImplNode) (r : Result (Unit {0}) StoreError) →
     (length p.clauses / 2 < p.db.garbage → OnOk r (Collects p.clauses p.db p.graph p.trail.lits words' db' g')) →
     (p.db.garbage ≤ length p.clauses / 2 → CollectsNothing p.clauses p.db p.graph p.watchlists words' db' g' w') → OnErr r (CollectsNothing p.clauses p.db p.graph p.watchlists words' db' g' w') →
     MovesLongClauses p (record p { clauses = words'; db = db'; watchlists = w'; graph = g' })
@@ -160,7 +160,7 @@ copied_collect p words' db' w' g' (Err e) due not_due same = copied_none p words
 
 -- ORDER OF LITERALS
 
-pub moved_shuffled : (p : Parts) (words' : List ℕ) (o : ℕ) → PartsInvariant p → Contains (live_refs p.clauses p.db.refs) o → PermutesClause p.clauses words' o → ReordersLits p (record p { clauses = words' })
+pub moved_shuffled : (p : SearchState) (words' : List ℕ) (o : ℕ) → SearchStateInvariant p → Contains (live_refs p.clauses p.db.refs) o → PermutesClause p.clauses words' o → ReordersLits p (record p { clauses = words' })
 moved_shuffled p words' o h c x =
     let r : PermutesClauses p.clauses words' (live_refs p.clauses p.db.refs) = reorders_one p.clauses words' (live_refs p.clauses p.db.refs) o c x in
     let k : SameUpToOrder p.clauses words' p.db.refs = r.all p.db.refs (λ q d. live_in p.clauses p.db.refs q d) h.below.asks.holds_clauses in

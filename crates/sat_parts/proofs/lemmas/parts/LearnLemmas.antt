@@ -12,14 +12,14 @@ use Rattle.sat_parts.specs.declared.prop.graph.Reason.TheVariants.{Unit as NoCau
 use Rattle.sat_parts.specs.clause.Db.{Db, DbMatchesBuffer, live_refs, AddsLongClause}
 use Rattle.sat_parts.specs.clause.Stored.{lit_of}
 use Rattle.sat_parts.specs.prop.Binaries.{Binaries}
-use Rattle.sat_parts.specs.prop.Values.{Values, value_of, made_true, IsFalseLit, IsOpenLit}
+use Rattle.sat_parts.specs.prop.Values.{Values, value_of, with_true_lit, IsFalseLit, IsUnassignedLit}
 use Rattle.sat_parts.specs.prop.Trails.{Trailed, with_lit}
 use Rattle.sat_parts.specs.prop.Graphs.{with_node, node_at, node_of}
 use Rattle.sat_parts.specs.prop.WatchLists.{Watching, with_firsts}
-use Rattle.sat_parts.specs.prop.State.{State, level, current_level, HasLeftQueue, StateIsConsistent, TrailGrows, IsSatisfied, enqueued}
+use Rattle.sat_parts.specs.prop.State.{PropagationState, level, current_level, HasLeftQueue, StateIsConsistent, TrailGrows, IsSatisfied, enqueued}
 use Rattle.sat_parts.specs.prop.Reasons.{IsFalseBefore, Implies, AreUnitInTurn}
 use Rattle.sat_parts.specs.prop.Ready.{state_of}
-use Rattle.sat_parts.specs.prop.Asks.{IsOwnLong}
+use Rattle.sat_parts.specs.prop.Propagation.{IsOwnLong}
 use Rattle.sat_parts.proofs.lemmas.prop.StateLemmas.{grows_enqueued, true_from_false, negated_variable, left_true, lit_last}
 use Rattle.sat_parts.proofs.lemmas.prop.ReasonLemmas.{false_before_forth}
 use Rattle.sat_parts.proofs.lemmas.prop.BuildLemmas.{live_in}
@@ -29,7 +29,7 @@ use Rattle.sat_parts.proofs.lemmas.prop.CallLemmas.{asks_added}
 use Rattle.sat_parts.proofs.lemmas.prop.WalkLemmas.{at_two}
 use Rattle.sat_parts.proofs.lemmas.prop.WordLemmas.{levels_stay}
 use Rattle.sat_parts.specs.parts.Round.{IsUnused, IsSoundBelow, RoundInvariant}
-use Rattle.sat_parts.specs.parts.Learned.{IsPending}
+use Rattle.sat_parts.specs.parts.Learned.{IsUnitAfterBacktracking}
 use Rattle.sat_parts.proofs.lemmas.parts.ValueLemmas.{some_none, not_false}
 use Rattle.sat_parts.proofs.lemmas.parts.TurnLemmas.{turns_by, turns_enqueued, units_enqueued}
 use Rattle.sat_parts.proofs.lemmas.parts.DecideLemmas.{ready_enqueued, still_open, no_long}
@@ -38,24 +38,24 @@ long_place : (o p : ℕ) → Long o ≡ Long p → o ≡ p
 long_place o p e = cc
 
 -- a false literal is false before the end of the trail
-pub false_at_end : (s : State) (m : ℕ) → StateIsConsistent s → IsFalseLit s.values m → IsFalseBefore s (length s.trail.lits) m
+pub false_at_end : (s : PropagationState) (m : ℕ) → StateIsConsistent s → IsFalseLit s.values m → IsFalseBefore s (length s.trail.lits) m
 false_at_end s m h f = h.known (negated m) (true_from_false s.values m f)
 
-pub level_same : (s : State) (m : ℕ) → level s (negated m) ≡ level s m
+pub level_same : (s : PropagationState) (m : ℕ) → level s (negated m) ≡ level s m
 level_same s m = ap (λ u. (node_of s.nodes u).level) (negated_variable m)
 
 -- the negation of an unassigned literal has not left the queue
-pub open_not_left : (s : State) (m : ℕ) → StateIsConsistent s → IsOpenLit s.values m → HasLeftQueue s (negated m) → ⊥
+pub open_not_left : (s : PropagationState) (m : ℕ) → StateIsConsistent s → IsUnassignedLit s.values m → HasLeftQueue s (negated m) → ⊥
 open_not_left s m h n x = some_none (left_true s (negated m) h x) (ap (λ u. value_of s.values u) (negated_variable m) ∙ n)
 
-pub pending_below : (s : State) (q : Queue) (ls : List ℕ) → IsPending s q ls → (k : ℕ) → k < length ls → get_or ls k 0 < 2 * length s.values
+pub pending_below : (s : PropagationState) (q : Queue) (ls : List ℕ) → IsUnitAfterBacktracking s q ls → (k : ℕ) → k < length ls → get_or ls k 0 < 2 * length s.values
 pending_below s q ls x k b = elim (cases_eq k 0) [
   | inl e ↦ (let f : get_or ls k 0 ≡ get_or ls 0 0 = ap (λ i. get_or ls i 0) e in omega (arith, x.there))
   | inr n ↦ (let v : variable (get_or ls k 0) < length s.values = below_from_value s.values (variable (get_or ls k 0)) _ (x.rest k (omega arith) b) in omega arith)
 ]
 
 -- adding a long clause keeps reasons unit in the order of the trail
-pub turns_added : (words words' : List ℕ) (db db' : Db) (o : ℕ) (header : Header) (lits : List ℕ) (implied : List (List ℕ)) (s : State) → DbMatchesBuffer words db → AddsLongClause words db words' db' o header lits →
+pub turns_added : (words words' : List ℕ) (db db' : Db) (o : ℕ) (header : Header) (lits : List ℕ) (implied : List (List ℕ)) (s : PropagationState) → DbMatchesBuffer words db → AddsLongClause words db words' db' o header lits →
     AreUnitInTurn words (live_refs words db.refs) implied s 0 → AreUnitInTurn words' (live_refs words' db'.refs) implied s 0
 turns_added words words' db db' o header lits implied s held x h =
     turns_by words words' (live_refs words db.refs) (live_refs words' db'.refs) implied implied s
@@ -81,18 +81,18 @@ unused_added words words' db db' o header lits implied v held x apart u = record
 }
 
 -- a pending clause has no unassigned variable besides that of its first literal
-pending_apart : (s : State) (q : Queue) (ls : List ℕ) (u : ℕ) → IsPending s q ls → u ≢ variable (get_or ls 0 0) → value_of s.values u ≡ None → (k : ℕ) → k < length ls → variable (get_or ls k 0) ≢ u
+pending_apart : (s : PropagationState) (q : Queue) (ls : List ℕ) (u : ℕ) → IsUnitAfterBacktracking s q ls → u ≢ variable (get_or ls 0 0) → value_of s.values u ≡ None → (k : ℕ) → k < length ls → variable (get_or ls k 0) ≢ u
 pending_apart s q ls u x n none k b e = elim (cases_eq k 0) [
   | inl z ↦ n (sym e ∙ ap (λ i. variable (get_or ls i 0)) z)
   | inr d ↦ not_false s.values u (get_or ls k 0) none e (x.rest k (omega arith) b)
 ]
 
-long_reason : (words words' : List ℕ) (db db' : Db) (o : ℕ) (header : Header) (ls : List ℕ) (implied : List (List ℕ)) (s : State) (q : Queue) → StateIsConsistent s → IsPending s q ls →
+long_reason : (words words' : List ℕ) (db db' : Db) (o : ℕ) (header : Header) (ls : List ℕ) (implied : List (List ℕ)) (s : PropagationState) (q : Queue) → StateIsConsistent s → IsUnitAfterBacktracking s q ls →
     AddsLongClause words db words' db' o header ls →
     Implies words' (live_refs words' db'.refs) implied (enqueued (get_or ls 0 0) (Long o) s) (length s.trail.lits) (Long o)
 long_reason words words' db db' o header ls implied s q h x added =
     let l : ℕ = get_or ls 0 0 in
-    let t : State = enqueued (get_or ls 0 0) (Long o) s in
+    let t : PropagationState = enqueued (get_or ls 0 0) (Long o) s in
     let g : TrailGrows s (enqueued (get_or ls 0 0) (Long o) s) = grows_enqueued s (get_or ls 0 0) (Long o) h x.open_first x.there (room_for s (get_or ls 0 0) (Long o) h x.open_first x.there) in
     let there : lits_at words' o ≡ ls = added.added.lits_there in (
       subst (λ (xs : List ℕ). Contains xs o) (sym added.live) (Contains-push (live_refs words db.refs) o),
@@ -104,11 +104,11 @@ long_reason words words' db db' o header ls implied s q h x added =
 
 -- a learned long clause
 pub sound_long : (words words' : List ℕ) (db db' : Db) (w : Watching) (b : Binaries) (a : Values) (g : List ImplNode) (t : Trailed) (q : Queue) (ls : List ℕ) (o : ℕ) (header : Header) →
-    RoundInvariant words db w b a g t q → IsPending (state_of a g t) q ls → 3 ≤ length ls → AddsLongClause words db words' db' o header ls →
-    RoundInvariant words' db' (with_firsts o ls w) b (made_true (get_or ls 0 0) a) (with_node (variable (get_or ls 0 0)) (node_at t (Long o)) g) (with_lit (get_or ls 0 0) t) q
+    RoundInvariant words db w b a g t q → IsUnitAfterBacktracking (state_of a g t) q ls → 3 ≤ length ls → AddsLongClause words db words' db' o header ls →
+    RoundInvariant words' db' (with_firsts o ls w) b (with_true_lit (get_or ls 0 0) a) (with_node (variable (get_or ls 0 0)) (node_at t (Long o)) g) (with_lit (get_or ls 0 0) t) q
 sound_long words words' db db' w b a g t q ls o header h x three added =
     let l : ℕ = get_or ls 0 0 in
-    let s : State = state_of a g t in
+    let s : PropagationState = state_of a g t in
     let y : IsSoundBelow words db w b a g t q (length t.starts + 1) = h.below in
     let agrees : StateIsConsistent (state_of a g t) = y.asks.agrees in
     let own : (i : ℕ) → i < 2 → HasLeftQueue s (negated (get_or ls i 0)) → level s (negated (get_or ls i 0)) < length t.starts + 1 →
@@ -141,10 +141,10 @@ sound_long words words' db db' w b a g t q ls o header h x three added =
 
 -- a learned unit, at level 0
 pub sound_unit : (words : List ℕ) (db : Db) (w : Watching) (b : Binaries) (a : Values) (g : List ImplNode) (t : Trailed) (q : Queue) (l : ℕ) →
-    RoundInvariant words db w b a g t q → t.starts ≡ [] → IsOpenLit a.current l → variable l < length a.current →
-    RoundInvariant words db w b (made_true l a) (with_node (variable l) (node_at t NoCause) g) (with_lit l t) q
+    RoundInvariant words db w b a g t q → t.starts ≡ [] → IsUnassignedLit a.current l → variable l < length a.current →
+    RoundInvariant words db w b (with_true_lit l a) (with_node (variable l) (node_at t NoCause) g) (with_lit l t) q
 sound_unit words db w b a g t q l h bottom n below =
-    let s : State = state_of a g t in
+    let s : PropagationState = state_of a g t in
     let y : IsSoundBelow words db w b a g t q (length t.starts + 1) = h.below in
     let agrees : StateIsConsistent (state_of a g t) = y.asks.agrees in
     record {

@@ -8,13 +8,13 @@ use Rattle.sat_parts.specs.clause.Db.{live_refs}
 use Rattle.sat_parts.specs.clause.Stored.{lit_of, size_of}
 use Rattle.sat_parts.specs.prop.Values.{value_of, IsTrueLit, IsFalseLit}
 use Rattle.sat_parts.specs.prop.WatchLists.{Watching}
-use Rattle.sat_parts.specs.prop.State.{State, level, current_level, HasLeftQueue, StateIsConsistent, IsSatisfied}
-use Rattle.sat_parts.specs.prop.Asks.{PropagationInvariant, PropagationPrecondition}
+use Rattle.sat_parts.specs.prop.State.{PropagationState, level, current_level, HasLeftQueue, StateIsConsistent, IsSatisfied}
+use Rattle.sat_parts.specs.prop.Propagation.{PropagationInvariant, PropagationPrecondition}
 use Rattle.sat_parts.proofs.lemmas.prop.StateLemmas.{level_low, true_from_false}
 use Rattle.sat_parts.specs.parts.Levels.{IsTrueAt, IsCompleteAt}
 
 -- if the queue is empty, every true literal has left it
-pub left_all : (s : State) (l : ℕ) → StateIsConsistent s → s.trail.head ≡ length s.trail.lits → IsTrueLit s.values l → HasLeftQueue s l
+pub left_all : (s : PropagationState) (l : ℕ) → StateIsConsistent s → s.trail.head ≡ length s.trail.lits → IsTrueLit s.values l → HasLeftQueue s l
 left_all s l h done x = elim (h.known l x) [
   | inl y ↦ inl (record { place = y.place; before = omega (arith, y.within); within = y.within; there = y.there })
   | inr y ↦ inr y
@@ -23,7 +23,7 @@ left_all s l h done x = elim (h.known l x) [
 other_of_two : (m : ℕ) → (i : ℕ) × ((i < 2) × (i ≢ m))
 other_of_two m = elim (cases_eq m 0) [ inl e ↦ (1, (omega arith, λ f. omega arith)) | inr n ↦ (0, (omega arith, λ f. n (sym f))) ]
 
-complete_where : (words refs : List ℕ) (w : Watching) (implied : List (List ℕ)) (s : State) (top j : ℕ) → PropagationInvariant words refs w implied s top → j < top → ((l : ℕ) → IsTrueAt s j l → HasLeftQueue s l) →
+complete_where : (words refs : List ℕ) (w : Watching) (implied : List (List ℕ)) (s : PropagationState) (top j : ℕ) → PropagationInvariant words refs w implied s top → j < top → ((l : ℕ) → IsTrueAt s j l → HasLeftQueue s l) →
     IsCompleteAt words (live_refs words refs) implied s j
 complete_where words refs w implied s top j h below left = record {
   long = λ o m c all.
@@ -38,7 +38,7 @@ complete_where words refs w implied s top j h below left = record {
 }
 
 -- if the queue is empty, propagation is complete at the current level
-pub complete_now : (words refs : List ℕ) (w : Watching) (implied : List (List ℕ)) (s : State) → PropagationPrecondition words refs w implied s → s.trail.head ≡ length s.trail.lits →
+pub complete_now : (words refs : List ℕ) (w : Watching) (implied : List (List ℕ)) (s : PropagationState) → PropagationPrecondition words refs w implied s → s.trail.head ≡ length s.trail.lits →
     IsCompleteAt words (live_refs words refs) implied s (current_level s)
 complete_now words refs w implied s h done = complete_where words refs w implied s (current_level s + 1) (current_level s) h (omega arith) (λ l x. left_all s l h.agrees done x.0)
 
@@ -66,7 +66,7 @@ some_true values ls (suc n) all =
     ]
 
 -- if the queue is empty, a live clause with all its variables assigned has a true literal
-pub model_found : (words refs : List ℕ) (w : Watching) (implied : List (List ℕ)) (s : State) (o : ℕ) → PropagationPrecondition words refs w implied s → s.trail.head ≡ length s.trail.lits → Contains (live_refs words refs) o →
+pub model_found : (words refs : List ℕ) (w : Watching) (implied : List (List ℕ)) (s : PropagationState) (o : ℕ) → PropagationPrecondition words refs w implied s → s.trail.head ≡ length s.trail.lits → Contains (live_refs words refs) o →
     ((k : ℕ) → k < size_of words o → (b : Bool) × (value_of s.values (variable (lit_of words o k)) ≡ Some b)) → (k : ℕ) × ((k < size_of words o) × IsTrueLit s.values (lit_of words o k))
 model_found words refs w implied s o h done c all =
     elim (some_true s.values (lits_at words o) (size_of words o) all) [

@@ -4,16 +4,16 @@ use Rattle.std.proofs.lemmas.Bool.{cases_Bool, cases_eq, true≢false}
 use Rattle.sat_base.specs.values.Literals.{variable, negated}
 use Rattle.sat_store.specs.clause.Buffer.{lits_at}
 use Rattle.sat_store.specs.clause.Header.{Header}
-use Rattle.sat_store.specs.heap.Vsids.{Queue, may_pick, with_available}
+use Rattle.sat_store.specs.heap.Vsids.{Queue, is_available, with_available}
 use Rattle.sat_parts.specs.declared.prop.graph.ImplNode.{ImplNode}
 use Rattle.sat_parts.specs.declared.prop.graph.Reason.TheVariants.{Unit as NoCause}
 use Rattle.sat_parts.specs.clause.Db.{Db, live_refs, AddsLongClause}
 use Rattle.sat_parts.specs.clause.Stored.{AreClauses, lit_of}
 use Rattle.sat_parts.specs.prop.Binaries.{Binaries, implied_by, with_binary}
-use Rattle.sat_parts.specs.prop.Values.{Values, value_of, assigned, IsTrueLit}
+use Rattle.sat_parts.specs.prop.Values.{Values, value_of, with_value, IsTrueLit}
 use Rattle.sat_parts.specs.prop.Trails.{Trailed}
 use Rattle.sat_parts.specs.prop.WatchLists.{Watching, with_firsts}
-use Rattle.sat_parts.specs.prop.State.{State, level, HasLeftQueue, StateIsConsistent, IsSatisfied}
+use Rattle.sat_parts.specs.prop.State.{PropagationState, level, HasLeftQueue, StateIsConsistent, IsSatisfied}
 use Rattle.sat_parts.specs.prop.Ready.{state_of, AreWatched, AreLists}
 use Rattle.sat_parts.proofs.lemmas.prop.CallLemmas.{asks_added, asks_of_unit}
 use Rattle.sat_parts.proofs.lemmas.prop.WordLemmas.{levels_stay}
@@ -24,15 +24,15 @@ use Rattle.sat_parts.proofs.lemmas.parts.LearnLemmas.{turns_added, unused_added}
 use Rattle.sat_parts.proofs.lemmas.parts.BinaryLemmas.{asks_binary_added, turns_binary, unused_binary}
 
 -- an unassigned variable that may not be picked is not in a loadable clause
-not_in : (s : State) (q : Queue) (ls : List ℕ) (u : ℕ) → IsLoadable s q ls → value_of s.values u ≡ None → may_pick q u ≡ false → (k : ℕ) → k < length ls → variable (get_or ls k 0) ≢ u
+not_in : (s : PropagationState) (q : Queue) (ls : List ℕ) (u : ℕ) → IsLoadable s q ls → value_of s.values u ≡ None → is_available q u ≡ false → (k : ℕ) → k < length ls → variable (get_or ls k 0) ≢ u
 not_in s q ls u x none not k b e =
-    true≢false (sym (x.ready k b (ap (λ v. value_of s.values v) e ∙ none)) ∙ ap (λ v. may_pick q v) e ∙ not)
+    true≢false (sym (x.ready k b (ap (λ v. value_of s.values v) e ∙ none)) ∙ ap (λ v. is_available q v) e ∙ not)
 
 pub sound_loaded_long : (words words' : List ℕ) (db db' : Db) (w : Watching) (b : Binaries) (a : Values) (g : List ImplNode) (t : Trailed) (q : Queue) (ls : List ℕ) (o : ℕ) (header : Header) →
     RoundInvariant words db w b a g t q → IsLoadable (state_of a g t) q ls → 3 ≤ length ls → AddsLongClause words db words' db' o header ls →
     RoundInvariant words' db' (with_firsts o ls w) b a g t q
 sound_loaded_long words words' db db' w b a g t q ls o header h x three added =
-    let s : State = state_of a g t in
+    let s : PropagationState = state_of a g t in
     let y : IsSoundBelow words db w b a g t q (length t.starts + 1) = h.below in
     record {
       below = record {
@@ -42,7 +42,7 @@ sound_loaded_long words words' db db' w b a g t q ls o header h x three added =
         turns = turns_added words words' db db' o header ls b.implied s y.held added y.turns;
         levelled = y.levelled;
         queue = y.queue;
-        ready = λ u lt none. elim (cases_Bool (may_pick q u)) [
+        ready = λ u lt none. elim (cases_Bool (is_available q u)) [
           | inl p ↦ inl p
           | inr not ↦ elim (y.ready u lt none) [ inl p ↦ inl p | inr v ↦ inr (unused_added words words' db db' o header ls b.implied u y.held added (not_in s q ls u x none not) v) ]
         ];
@@ -55,7 +55,7 @@ pub sound_loaded_binary : (words : List ℕ) (db : Db) (w : Watching) (x : Binar
     RoundInvariant words db w x a g t q → IsLoadable (state_of a g t) q ls → length ls ≡ 2 →
     RoundInvariant words db w (with_binary (get_or ls 0 0) (get_or ls 1 0) x) a g t q
 sound_loaded_binary words db w x a g t q ls h p two =
-    let s : State = state_of a g t in
+    let s : PropagationState = state_of a g t in
     let y : IsSoundBelow words db w x a g t q (length t.starts + 1) = h.below in
     let c : ℕ = get_or ls 0 0 in
     let d : ℕ = get_or ls 1 0 in
@@ -72,7 +72,7 @@ sound_loaded_binary words db w x a g t q ls h p two =
         turns = turns_binary words (live_refs words db.refs) x s (get_or ls 0 0) (get_or ls 1 0) first second y.turns;
         levelled = y.levelled;
         queue = y.queue;
-        ready = λ u lt none. elim (cases_Bool (may_pick q u)) [
+        ready = λ u lt none. elim (cases_Bool (is_available q u)) [
           | inl e ↦ inl e
           | inr not ↦ elim (y.ready u lt none) [
             | inl e ↦ inl e
@@ -85,10 +85,10 @@ sound_loaded_binary words db w x a g t q ls h p two =
     }
 
 -- the state in which a variable has no value
-abbrev lost_value : ℕ → State → State
+abbrev lost_value : ℕ → PropagationState → PropagationState
 lost_value v s = record s { values = set s.values v None }
 
-lost_true : (s : State) (v m : ℕ) → v < length s.values → IsTrueLit (lost_value v s).values m → (variable m ≢ v) × IsTrueLit s.values m
+lost_true : (s : PropagationState) (v m : ℕ) → v < length s.values → IsTrueLit (lost_value v s).values m → (variable m ≢ v) × IsTrueLit s.values m
 lost_true s v m below h = elim (cases_eq (variable m) v) [
   | inl e ↦ absurd (some_none h (ap (λ u. value_of (set s.values v None) u) e ∙ get_or-set_same s.values v None None below))
   | inr n ↦ (n, sym (get_or-set_other s.values v (variable m) None None n) ∙ h)
@@ -97,10 +97,10 @@ lost_true s v m below h = elim (cases_eq (variable m) v) [
 -- a variable in no clause is freed while the trail is empty
 pub sound_freed : (words : List ℕ) (db : Db) (w : Watching) (b : Binaries) (a : Values) (g : List ImplNode) (t : Trailed) (q : Queue) (v : ℕ) →
     RoundInvariant words db w b a g t q → t.starts ≡ [] → t.lits ≡ [] → v < length a.current → IsUnused words (live_refs words db.refs) b.implied v →
-    RoundInvariant words db w b (assigned v None a) g t (with_available v false q)
+    RoundInvariant words db w b (with_value v None a) g t (with_available v false q)
 sound_freed words db w b a g t q v h bottom empty below unused =
-    let s : State = state_of a g t in
-    let s' : State = lost_value v (state_of a g t) in
+    let s : PropagationState = state_of a g t in
+    let s' : PropagationState = lost_value v (state_of a g t) in
     let y : IsSoundBelow words db w b a g t q (length t.starts + 1) = h.below in
     let old : StateIsConsistent (state_of a g t) = y.asks.agrees in
     let none : length t.lits ≡ 0 = ap (λ (xs : List ℕ). length xs) empty in

@@ -13,24 +13,24 @@ use Rattle.sat_parts.specs.prop.Binaries.{Binaries}
 use Rattle.sat_parts.specs.prop.Values.{Values, value_of}
 use Rattle.sat_parts.specs.prop.Trails.{Trailed, LevelIs}
 use Rattle.sat_parts.specs.prop.WatchLists.{Watching}
-use Rattle.sat_parts.specs.prop.State.{State, node, level, lit_at, StateIsConsistent, TrailGrows}
+use Rattle.sat_parts.specs.prop.State.{PropagationState, node, level, lit_at, StateIsConsistent, TrailGrows}
 use Rattle.sat_parts.specs.prop.Reasons.{AreUnitInTurn, PropagatesOn}
 use Rattle.sat_parts.specs.prop.Ready.{state_of, IsConflict}
-use Rattle.sat_parts.specs.prop.Asks.{PropagationInvariant, PropagationResult}
+use Rattle.sat_parts.specs.prop.Propagation.{PropagationInvariant, PropagationResult}
 use Rattle.sat_parts.proofs.lemmas.prop.BuildLemmas.{live_in}
 use Rattle.sat_parts.proofs.lemmas.prop.WordLemmas.{levels_stay}
 use Rattle.sat_parts.proofs.lemmas.clause.HeldLemmas.{held_reordered}
-use Rattle.sat_parts.specs.parts.Round.{AreReady, UnitsHaveNoReason, IsBased, IsSoundBelow}
+use Rattle.sat_parts.specs.parts.Round.{AreReady, UnitsHaveNoReason, LevelZeroInvariant, IsSoundBelow}
 use Rattle.sat_parts.proofs.lemmas.parts.ValueLemmas.{open_or_true, not_true}
 
 -- a variable that is unassigned after propagation was unassigned before
-pub open_back : (s s' : State) (v : ℕ) → TrailGrows s s' → value_of s'.values v ≡ None → value_of s.values v ≡ None
+pub open_back : (s s' : PropagationState) (v : ℕ) → TrailGrows s s' → value_of s'.values v ≡ None → value_of s.values v ≡ None
 open_back s s' v g none = elim (open_or_true s.values v) [
   | inl e ↦ e
   | inr x ↦ absurd (not_true s'.values v x.0 none x.1.0 (g.kept x.0 x.1.1))
 ]
 
-ready_moved : (words words' refs : List ℕ) (implied : List (List ℕ)) (s s' : State) (q : Queue) → PropagatesOn (live_refs words refs) implied words s words' s' → SameUpToOrder words words' refs →
+ready_moved : (words words' refs : List ℕ) (implied : List (List ℕ)) (s s' : PropagationState) (q : Queue) → PropagatesOn (live_refs words refs) implied words s words' s' → SameUpToOrder words words' refs →
     live_refs words' refs ≡ live_refs words refs → AreReady words (live_refs words refs) implied s.values q → AreReady words' (live_refs words' refs) implied s'.values q
 ready_moved words words' refs implied s s' q m kept e h v b none = elim (h v (omega (arith, m.grows.size)) (open_back s s' v m.grows none)) [
   | inl p ↦ inl p
@@ -49,8 +49,8 @@ pub sound_moved : (words words' : List ℕ) (db : Db) (w w' : Watching) (b : Bin
     live_refs words' db.refs ≡ live_refs words db.refs → PropagationInvariant words' db.refs w' b.implied (state_of a' g' t') top' →
     IsSoundBelow words' db w' b a' g' t' q top'
 sound_moved words words' db w w' b a a' g g' t t' q top top' h held m e asks =
-    let s : State = state_of a g t in
-    let s' : State = state_of a' g' t' in
+    let s : PropagationState = state_of a g t in
+    let s' : PropagationState = state_of a' g' t' in
     record {
       held = held;
       asks = asks;
@@ -72,13 +72,13 @@ sound_propagated words words' db w w' b a a' g g' t t' q (Err x) h given = (
   given.outcome.1,
 )
 
-pub agrees_given : (words words' refs : List ℕ) (implied : List (List ℕ)) (s s' : State) (w' : Watching) (r : Result (Unit {0}) Conflict) → PropagationResult refs implied words s words' s' w' r → StateIsConsistent s'
+pub agrees_given : (words words' refs : List ℕ) (implied : List (List ℕ)) (s s' : PropagationState) (w' : Watching) (r : Result (Unit {0}) Conflict) → PropagationResult refs implied words s words' s' w' r → StateIsConsistent s'
 agrees_given words words' refs implied s s' w' (Ok x) given = given.outcome.0.agrees
 agrees_given words words' refs implied s s' w' (Err x) given = given.outcome.0.agrees
 
 -- above level 0, the trail still has no literals of level 0
 pub base_given : (words words' refs : List ℕ) (implied : List (List ℕ)) (a a' : Values) (g g' : List ImplNode) (t t' : Trailed) (w' : Watching) (r : Result (Unit {0}) Conflict) →
-    PropagationResult refs implied words (state_of a g t) words' (state_of a' g' t') w' r → 0 < length t.starts → IsBased t → IsBased t'
+    PropagationResult refs implied words (state_of a g t) words' (state_of a' g' t') w' r → 0 < length t.starts → LevelZeroInvariant t → LevelZeroInvariant t'
 base_given words words' refs implied a a' g g' t t' w' r given some h =
     let n : length t'.starts ≡ length t.starts = ap (λ (xs : List ℕ). length xs) given.moves.grows.starts in
     record {
@@ -87,7 +87,7 @@ base_given words words' refs implied a a' g g' t t' w' r given some h =
     }
 
 -- above level 0, literals of level 0 still have no clause as their reason
-pub units_moved : (live : List ℕ) (implied : List (List ℕ)) (words words' : List ℕ) (s s' : State) → StateIsConsistent s → StateIsConsistent s' → PropagatesOn live implied words s words' s' → 0 < length s.trail.starts → UnitsHaveNoReason s → UnitsHaveNoReason s'
+pub units_moved : (live : List ℕ) (implied : List (List ℕ)) (words words' : List ℕ) (s s' : PropagationState) → StateIsConsistent s → StateIsConsistent s' → PropagatesOn live implied words s words' s' → 0 < length s.trail.starts → UnitsHaveNoReason s → UnitsHaveNoReason s'
 units_moved live implied words words' s s' h h' m some x i b e = elim (cases_lt i (length s.trail.lits)) [
   | inl lt ↦
       let same : node s' (lit_at s' i) ≡ node s (lit_at s i) = ap (λ l. node s' l) (m.grows.front i lt) ∙ m.grows.nodes (lit_at s i) (h.holds i lt) in

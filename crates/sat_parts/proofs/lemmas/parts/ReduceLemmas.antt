@@ -8,7 +8,7 @@ use Rattle.std.specs.List.Sorted.{IsPermutation, IsNonDecreasingBy}
 use Rattle.sat_store.specs.declared.clause.tier.Tier.{Tier}
 use Rattle.sat_store.specs.clause.Header.{index_of}
 use Rattle.sat_store.specs.clause.Buffer.{header_at}
-use Rattle.sat_parts.specs.clause.Db.{live_refs, is_live, is_live_of, AreRising}
+use Rattle.sat_parts.specs.clause.Db.{live_refs, is_live, is_live_in_tier, AreStrictlyIncreasing}
 use Rattle.sat_parts.specs.clause.Orders.{AreDistinct, IsReordering}
 use Rattle.sat_parts.proofs.lemmas.clause.ListLemmas.{there, in_head, in_tail, place_in, rising_distinct}
 use Rattle.sat_parts.specs.parts.Reducing.{clause_rank, ranked}
@@ -48,9 +48,9 @@ first_true true b e = refl
 first_true false b e = e
 
 -- a live clause of one tier is a live clause
-pub live_of : (words refs : List ℕ) (tier : Tier) (o : ℕ) → Contains (filter (is_live_of words tier) refs) o → Contains (live_refs words refs) o
+pub live_of : (words refs : List ℕ) (tier : Tier) (o : ℕ) → Contains (filter (is_live_in_tier words tier) refs) o → Contains (live_refs words refs) o
 live_of words refs tier o c =
-    let x = filter_in (is_live_of words tier) refs o c in
+    let x = filter_in (is_live_in_tier words tier) refs o c in
     in_filter (is_live words) refs o x.0 (first_true (is_live words o) (index_of (header_at words o).tier == index_of tier) x.1)
 
 distinct_more : (x : ℕ) (xs : List ℕ) → (Contains xs x → ⊥) → AreDistinct xs → AreDistinct (x ∷ xs)
@@ -78,14 +78,14 @@ distinct_filter p (x ∷ xs) d = elim (cases_Bool (p x)) [
 ]
 
 -- a permutation of the live clauses of one tier has no repeats
-pub listed_once : (words refs list : List ℕ) (tier : Tier) → AreRising refs → IsPermutation (filter (is_live_of words tier) refs) list → AreDistinct list
+pub listed_once : (words refs list : List ℕ) (tier : Tier) → AreStrictlyIncreasing refs → IsPermutation (filter (is_live_in_tier words tier) refs) list → AreDistinct list
 listed_once words refs list tier rising p =
-    let x : IsReordering (filter (is_live_of words tier) refs) list = shuffled_by (filter (is_live_of words tier) refs) list p in
-    x.apart (distinct_filter (is_live_of words tier) refs (λ j k a b e. rising_distinct refs j k rising a b e))
+    let x : IsReordering (filter (is_live_in_tier words tier) refs) list = shuffled_by (filter (is_live_in_tier words tier) refs) list p in
+    x.apart (distinct_filter (is_live_in_tier words tier) refs (λ j k a b e. rising_distinct refs j k rising a b e))
 
-pub listed_live : (words refs list : List ℕ) (tier : Tier) → IsPermutation (filter (is_live_of words tier) refs) list → (k : ℕ) → k < length list → Contains (live_refs words refs) (get_or list k 0)
+pub listed_live : (words refs list : List ℕ) (tier : Tier) → IsPermutation (filter (is_live_in_tier words tier) refs) list → (k : ℕ) → k < length list → Contains (live_refs words refs) (get_or list k 0)
 listed_live words refs list tier p k b =
-    live_of words refs tier (get_or list k 0) (Contains-permutation list (filter (is_live_of words tier) refs) (get_or list k 0) (IsPermutation-sym (filter (is_live_of words tier) refs) list p) (place_in list k b))
+    live_of words refs tier (get_or list k 0) (Contains-permutation list (filter (is_live_in_tier words tier) refs) (get_or list k 0) (IsPermutation-sym (filter (is_live_in_tier words tier) refs) list p) (place_in list k b))
 
 -- RANKS
 

@@ -3,7 +3,7 @@ use Rattle.std.proofs.Common.{ℕ, ◌≡◌, ◌≢◌, ◌+◌, ◌*◌, ◌<�
 use Rattle.std.proofs.lemmas.Bool.{true≢false}
 use Rattle.sat_base.specs.values.Literals.{variable, negated, is_positive}
 use Rattle.sat_store.specs.clause.Buffer.{lits_at}
-use Rattle.sat_store.specs.heap.Vsids.{Queue, may_pick}
+use Rattle.sat_store.specs.heap.Vsids.{Queue, is_available}
 use Rattle.sat_parts.specs.declared.prop.graph.ImplNode.{ImplNode}
 use Rattle.sat_parts.specs.declared.prop.graph.Reason.{Reason}
 use Rattle.sat_parts.specs.declared.prop.graph.Reason.TheVariants.{Unit as NoCause}
@@ -11,10 +11,10 @@ use Rattle.sat_parts.specs.clause.Db.{Db, live_refs}
 use Rattle.sat_parts.specs.clause.Stored.{AreClauses, lit_of}
 use Rattle.sat_parts.specs.prop.Binaries.{Binaries, implied_by}
 use Rattle.sat_parts.specs.prop.Graphs.{removed_node, with_node, new_node}
-use Rattle.sat_parts.specs.prop.Values.{Values, made_true, IsTrueLit, IsOpenLit}
+use Rattle.sat_parts.specs.prop.Values.{Values, with_true_lit, IsTrueLit, IsUnassignedLit}
 use Rattle.sat_parts.specs.prop.Trails.{Trailed, LevelIs}
 use Rattle.sat_parts.specs.prop.WatchLists.{Watching}
-use Rattle.sat_parts.specs.prop.State.{State, node, level, lit_at, HasLeftQueue, IsRemoved, StateIsConsistent, IsSatisfied}
+use Rattle.sat_parts.specs.prop.State.{PropagationState, node, level, lit_at, HasLeftQueue, IsRemoved, StateIsConsistent, IsSatisfied}
 use Rattle.sat_parts.specs.prop.Ready.{state_of, AreWatched, AreLists}
 use Rattle.sat_parts.specs.prop.Reasons.{Implies}
 use Rattle.sat_parts.proofs.lemmas.prop.StateLemmas.{left_true, negated_variable, open_other, true_kept, true_back, true_new}
@@ -24,44 +24,44 @@ use Rattle.sat_parts.proofs.lemmas.parts.TurnLemmas.{implies_by}
 use Rattle.sat_parts.proofs.lemmas.parts.DecideLemmas.{still_open}
 
 -- the state in which an unassigned literal became true as a unit taken off the trail
-abbrev pub restored : ℕ → State → State
+abbrev pub restored : ℕ → PropagationState → PropagationState
 restored l s = record s { values = set s.values (variable l) (Some (is_positive l)); nodes = with_node (variable l) removed_node s.nodes }
 
-other_node : (s : State) (l m : ℕ) → variable m ≢ variable l → node (restored l s) m ≡ node s m
+other_node : (s : PropagationState) (l m : ℕ) → variable m ≢ variable l → node (restored l s) m ≡ node s m
 other_node s l m n = get_or-set_other s.nodes (variable l) (variable m) removed_node new_node n
 
 -- literals that were true keep their nodes
-old_node : (s : State) (l m : ℕ) → IsOpenLit s.values l → IsTrueLit s.values m → node (restored l s) m ≡ node s m
+old_node : (s : PropagationState) (l m : ℕ) → IsUnassignedLit s.values l → IsTrueLit s.values m → node (restored l s) m ≡ node s m
 old_node s l m free h = other_node s l m (open_other s.values l m free h)
 
-same_level : (s : State) (l m : ℕ) → IsOpenLit s.values l → IsTrueLit s.values m → level (restored l s) m ≡ level s m
+same_level : (s : PropagationState) (l m : ℕ) → IsUnassignedLit s.values l → IsTrueLit s.values m → level (restored l s) m ≡ level s m
 same_level s l m free h = ap (λ (z : ImplNode). z.level) (old_node s l m free h)
 
-pub is_restored : (s : State) (l : ℕ) → variable l < length s.values → length s.nodes ≡ length s.values → IsRemoved (restored l s) l
+pub is_restored : (s : PropagationState) (l : ℕ) → variable l < length s.values → length s.nodes ≡ length s.values → IsRemoved (restored l s) l
 is_restored s l below size =
     let itself : node (restored l s) l ≡ removed_node = get_or-set_same s.nodes (variable l) removed_node new_node (omega arith) in
     record { holds = true_new s l NoCause below; depth = ap (λ (z : ImplNode). z.depth) itself; bottom = ap (λ (z : ImplNode). z.level) itself }
 
-removed_kept : (s : State) (l m : ℕ) → IsOpenLit s.values l → IsRemoved s m → IsRemoved (restored l s) m
+removed_kept : (s : PropagationState) (l m : ℕ) → IsUnassignedLit s.values l → IsRemoved s m → IsRemoved (restored l s) m
 removed_kept s l m free x = record {
   holds = true_kept s l m NoCause free x.holds;
   depth = ap (λ (z : ImplNode). z.depth) (old_node s l m free x.holds) ∙ x.depth;
   bottom = same_level s l m free x.holds ∙ x.bottom;
 }
 
-removed_back : (s : State) (l m : ℕ) → variable l < length s.values → IsRemoved (restored l s) m → (m ≡ l) ⊎ IsRemoved s m
+removed_back : (s : PropagationState) (l m : ℕ) → variable l < length s.values → IsRemoved (restored l s) m → (m ≡ l) ⊎ IsRemoved s m
 removed_back s l m below x = elim (true_back s l m NoCause below x.holds) [
   | inl e ↦ inl e
   | inr y ↦ inr (record { holds = y.1; depth = sym (ap (λ (z : ImplNode). z.depth) (other_node s l m y.0)) ∙ x.depth; bottom = sym (ap (λ (z : ImplNode). z.level) (other_node s l m y.0)) ∙ x.bottom })
 ]
 
-left_back : (s : State) (l m : ℕ) → variable l < length s.values → HasLeftQueue (restored l s) m → (m ≡ l) ⊎ HasLeftQueue s m
+left_back : (s : PropagationState) (l m : ℕ) → variable l < length s.values → HasLeftQueue (restored l s) m → (m ≡ l) ⊎ HasLeftQueue s m
 left_back s l m below h = elim h [
   | inl x ↦ inr (inl (record { place = x.place; before = x.before; within = x.within; there = x.there }))
   | inr x ↦ elim (removed_back s l m below x) [ inl e ↦ inl e | inr y ↦ inr (inr y) ]
 ]
 
-agrees_restored : (s : State) (l : ℕ) → StateIsConsistent s → IsOpenLit s.values l → variable l < length s.values → StateIsConsistent (restored l s)
+agrees_restored : (s : PropagationState) (l : ℕ) → StateIsConsistent s → IsUnassignedLit s.values l → variable l < length s.values → StateIsConsistent (restored l s)
 agrees_restored s l h free below =
     let size : length (set s.values (variable l) (Some (is_positive l))) ≡ length s.values = length-set s.values (variable l) (Some (is_positive l)) in
     let nodes : length (with_node (variable l) removed_node s.nodes) ≡ length s.nodes = length-set s.nodes (variable l) removed_node in
@@ -83,11 +83,11 @@ agrees_restored s l h free below =
 
 -- the unit of a freed variable is true again
 pub sound_restored : (words : List ℕ) (db : Db) (w : Watching) (b : Binaries) (a : Values) (g : List ImplNode) (t : Trailed) (q : Queue) (l : ℕ) →
-    RoundInvariant words db w b a g t q → t.starts ≡ [] → variable l < length a.current → IsOpenLit a.current l → may_pick q (variable l) ≡ false →
-    RoundInvariant words db w b (made_true l a) (with_node (variable l) removed_node g) t q
+    RoundInvariant words db w b a g t q → t.starts ≡ [] → variable l < length a.current → IsUnassignedLit a.current l → is_available q (variable l) ≡ false →
+    RoundInvariant words db w b (with_true_lit l a) (with_node (variable l) removed_node g) t q
 sound_restored words db w b a g t q l h bottom below free not =
-    let s : State = state_of a g t in
-    let s' : State = restored l (state_of a g t) in
+    let s : PropagationState = state_of a g t in
+    let s' : PropagationState = restored l (state_of a g t) in
     let y : IsSoundBelow words db w b a g t q (length t.starts + 1) = h.below in
     let old : StateIsConsistent (state_of a g t) = y.asks.agrees in
     let size : length (set a.current (variable l) (Some (is_positive l))) ≡ length a.current = length-set a.current (variable l) (Some (is_positive l)) in

@@ -18,10 +18,10 @@ use Rattle.sat_parts.specs.prop.Values.{Values, IsTrueLit}
 use Rattle.sat_parts.specs.declared.prop.watch.Watch.{Watch}
 use Rattle.sat_parts.specs.prop.Trails.{Trailed}
 use Rattle.sat_parts.specs.prop.WatchLists.{Watching, watches_of, no_watch}
-use Rattle.sat_parts.specs.prop.State.{State, node, level, lit_at, HasLeftQueue, IsSatisfied}
+use Rattle.sat_parts.specs.prop.State.{PropagationState, node, level, lit_at, HasLeftQueue, IsSatisfied}
 use Rattle.sat_parts.specs.prop.Reasons.{IsFalseBefore, Implies, PropagatesOn}
 use Rattle.sat_parts.specs.prop.Ready.{state_of, AreWatched, HasWatch}
-use Rattle.sat_parts.specs.prop.Asks.{PropagationInvariant}
+use Rattle.sat_parts.specs.prop.Propagation.{PropagationInvariant}
 use Rattle.sat_parts.proofs.lemmas.clause.OrderLemmas.{reorders_one, kept_clauses}
 use Rattle.sat_parts.proofs.lemmas.clause.HeldLemmas.{held_reordered}
 use Rattle.sat_parts.proofs.lemmas.prop.BuildLemmas.{live_in, live_same}
@@ -32,7 +32,7 @@ use Rattle.sat_parts.specs.parts.Round.{IsSoundBelow, RoundInvariant}
 use Rattle.sat_parts.proofs.lemmas.parts.MoveLemmas.{sound_moved}
 
 -- the literals of one clause after the first two are permuted
-pub asks_shuffled : (words words' refs : List ℕ) (w : Watching) (implied : List (List ℕ)) (s : State) (top o : ℕ) → PropagationInvariant words refs w implied s top → Contains (live_refs words refs) o → PermutesClause words words' o →
+pub asks_shuffled : (words words' refs : List ℕ) (w : Watching) (implied : List (List ℕ)) (s : PropagationState) (top o : ℕ) → PropagationInvariant words refs w implied s top → Contains (live_refs words refs) o → PermutesClause words words' o →
     lit_of words' o 0 ≡ lit_of words o 0 → lit_of words' o 1 ≡ lit_of words o 1 → PropagationInvariant words' refs w implied s top
 asks_shuffled words words' refs w implied s top o h c x first second =
     let live : List ℕ = live_refs words refs in
@@ -84,7 +84,7 @@ asks_shuffled words words' refs w implied s top o h c x first second =
 pub sound_shuffled : (words words' : List ℕ) (db : Db) (w : Watching) (b : Binaries) (a : Values) (g : List ImplNode) (t : Trailed) (q : Queue) (o : ℕ) →
     RoundInvariant words db w b a g t q → Contains (live_refs words db.refs) o → PermutesClause words words' o → lit_of words' o 0 ≡ lit_of words o 0 → lit_of words' o 1 ≡ lit_of words o 1 → RoundInvariant words' db w b a g t q
 sound_shuffled words words' db w b a g t q o h c x first second =
-    let s : State = state_of a g t in
+    let s : PropagationState = state_of a g t in
     let y : IsSoundBelow words db w b a g t q (length t.starts + 1) = h.below in
     let m : PropagatesOn (live_refs words db.refs) b.implied words s words' s = moves_shuffled (live_refs words db.refs) b.implied words s words' o (length a.current) y.asks.agrees y.asks.clauses c x (λ _. first) in
     let k : SameUpToOrder words words' db.refs = m.reorders.all db.refs (λ p d. live_in words db.refs p d) y.asks.holds_clauses in
@@ -100,7 +100,7 @@ distinct_taken ls n le d j k a b e =
     let size : length (take n ls) ≡ n = length-take-le n ls le in
     d j k (omega arith) (omega arith) (sym (get_or-take n ls j 0 (omega arith)) ∙ e ∙ get_or-take n ls k 0 (omega arith))
 
-shorter_turn : (words words' live live' : List ℕ) (implied : List (List ℕ)) (s : State) (i o len : ℕ) (r : Reason) → live' ≡ live →
+shorter_turn : (words words' live live' : List ℕ) (implied : List (List ℕ)) (s : PropagationState) (i o len : ℕ) (r : Reason) → live' ≡ live →
     ((p : ℕ) → Contains live' p → (k : ℕ) → k < size_of words' p → (lit_of words' p k ≡ lit_of words p k) × (k < size_of words p)) →
     ((p : ℕ) → Contains live' p → lit_of words' p 0 ≡ lit_of words p 0) →
     Implies words live implied s i r → Implies words' live' implied s i r
@@ -118,7 +118,7 @@ pub sound_shortened : (words words' : List ℕ) (db : Db) (w w' : Watching) (b :
     RoundInvariant words db w b a g t q → Contains (live_refs words db.refs) o → 3 ≤ len → len ≤ size_of words o → ShortensClause words db words' o len → w' ≡ record w { enabled = false } →
     ((i : ℕ) → i < 2 → HasLeftQueue (state_of a g t) (negated (lit_of words o i)) → ⊥) → RoundInvariant words' db w' b a g t q
 sound_shortened words words' db w w' b a g t q o len h c three le x to_w fresh =
-    let s : State = state_of a g t in
+    let s : PropagationState = state_of a g t in
     let y : IsSoundBelow words db w b a g t q (length t.starts + 1) = h.below in
     let size : length (take len (lits_at words o)) ≡ len = length-take-le len (lits_at words o) le in
     let off : w'.enabled ≡ false = ap (λ (z : Watching). z.enabled) to_w in
@@ -181,7 +181,7 @@ sound_shortened words words' db w w' b a g t q o len h c three le x to_w fresh =
 pub fresh_unsatisfied : (words : List ℕ) (db : Db) (w : Watching) (b : Binaries) (a : Values) (g : List ImplNode) (t : Trailed) (q : Queue) (o : ℕ) → RoundInvariant words db w b a g t q → Contains (live_refs words db.refs) o →
     ((k : ℕ) → k < size_of words o → IsTrueLit a.current (lit_of words o k) → ⊥) → (i : ℕ) → i < 2 → HasLeftQueue (state_of a g t) (negated (lit_of words o i)) → ⊥
 fresh_unsatisfied words db w b a g t q o h c none i lt left =
-    let s : State = state_of a g t in
+    let s : PropagationState = state_of a g t in
     let m : ℕ = negated (lit_of words o i) in
     let z : IsSatisfied s (lits_at words o) (level s (negated (lit_of words o i))) = h.below.asks.settled o i c lt left (omega (arith, level_low s m h.below.asks.agrees (left_true s m h.below.asks.agrees left))) in
     none z.place z.within z.holds

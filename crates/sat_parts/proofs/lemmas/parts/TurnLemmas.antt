@@ -9,9 +9,9 @@ use Rattle.sat_parts.specs.declared.prop.graph.ImplNode.{ImplNode}
 use Rattle.sat_parts.specs.declared.prop.graph.Reason.{Reason}
 use Rattle.sat_parts.specs.declared.prop.graph.Reason.TheVariants.{Unit as NoCause, Binary, Long}
 use Rattle.sat_parts.specs.clause.Stored.{lit_of}
-use Rattle.sat_parts.specs.prop.Values.{IsOpenLit}
+use Rattle.sat_parts.specs.prop.Values.{IsUnassignedLit}
 use Rattle.sat_parts.specs.prop.Binaries.{implied_by}
-use Rattle.sat_parts.specs.prop.State.{State, node, level, lit_at, StateIsConsistent, TrailGrows, enqueued}
+use Rattle.sat_parts.specs.prop.State.{PropagationState, node, level, lit_at, StateIsConsistent, TrailGrows, enqueued}
 use Rattle.sat_parts.specs.prop.Reasons.{IsFalseBefore, Implies, AreUnitInTurn}
 use Rattle.sat_parts.proofs.lemmas.prop.StateLemmas.{grows_enqueued, lit_front, lit_last, node_kept, node_new}
 use Rattle.sat_parts.proofs.lemmas.prop.ReasonLemmas.{implies_forth}
@@ -20,7 +20,7 @@ use Rattle.sat_parts.proofs.lemmas.prop.StepLemmas.{raised}
 use Rattle.sat_parts.specs.parts.Round.{UnitsHaveNoReason}
 
 -- a reason stays unit if its clause stays and the literals false before it stay false
-pub implies_by : (words words' live live' : List ℕ) (implied implied' : List (List ℕ)) (s s' : State) (i : ℕ) (r : Reason) → lit_at s' i ≡ lit_at s i →
+pub implies_by : (words words' live live' : List ℕ) (implied implied' : List (List ℕ)) (s s' : PropagationState) (i : ℕ) (r : Reason) → lit_at s' i ≡ lit_at s i →
     ((m : ℕ) → IsFalseBefore s i m → IsFalseBefore s' i m) →
     ((o : ℕ) → r ≡ Long o → Contains live o → Contains live' o × (lits_at words' o ≡ lits_at words o)) →
     ((ls : List ℕ) → r ≡ Binary ls → Contains (implied_by implied (negated (get_or ls 0 0))) (lit_at s i) → Contains (implied_by implied' (negated (get_or ls 0 0))) (lit_at s i)) →
@@ -37,7 +37,7 @@ implies_by words words' live live' implied implied' s s' i (Long o) e f long bin
     )
 
 -- the same for all reasons on the trail, if only clauses change
-pub turns_by : (words words' live live' : List ℕ) (implied implied' : List (List ℕ)) (s : State) →
+pub turns_by : (words words' live live' : List ℕ) (implied implied' : List (List ℕ)) (s : PropagationState) →
     ((i o : ℕ) → i < length s.trail.lits → (node s (lit_at s i)).reason ≡ Long o → Contains live o → Contains live' o × (lits_at words' o ≡ lits_at words o)) →
     ((i : ℕ) (ls : List ℕ) → i < length s.trail.lits → (node s (lit_at s i)).reason ≡ Binary ls →
     Contains (implied_by implied (negated (get_or ls 0 0))) (lit_at s i) → Contains (implied_by implied' (negated (get_or ls 0 0))) (lit_at s i)) →
@@ -46,10 +46,10 @@ turns_by words words' live live' implied implied' s long binary h i p b =
     implies_by words words' live live' implied implied' s s i (node s (lit_at s i)).reason refl (λ m x. x) (λ o e. long i o b e) (λ ls e. binary i ls b e) (h i p b)
 
 -- an unassigned literal becomes true by a unit clause
-pub turns_enqueued : (words live : List ℕ) (implied : List (List ℕ)) (s : State) (l : ℕ) (r : Reason) → StateIsConsistent s → IsOpenLit s.values l → variable l < length s.values →
+pub turns_enqueued : (words live : List ℕ) (implied : List (List ℕ)) (s : PropagationState) (l : ℕ) (r : Reason) → StateIsConsistent s → IsUnassignedLit s.values l → variable l < length s.values →
     Implies words live implied (enqueued l r s) (length s.trail.lits) r → AreUnitInTurn words live implied s 0 → AreUnitInTurn words live implied (enqueued l r s) 0
 turns_enqueued words live implied s l r h n below cause x i p y =
-    let t : State = enqueued l r s in
+    let t : PropagationState = enqueued l r s in
     let g : TrailGrows s t = grows_enqueued s l r h n below (room_for s l r h n below) in
     let size : length (s.trail.lits ++ l ∷ []) ≡ length s.trail.lits + 1 = length_push s.trail.lits l in
     elim (cases_eq i (length s.trail.lits)) [
@@ -63,7 +63,7 @@ turns_enqueued words live implied s l r h n below cause x i p y =
     ]
 
 -- a level begins
-pub turns_raised : (words live : List ℕ) (implied : List (List ℕ)) (s : State) → AreUnitInTurn words live implied s 0 → AreUnitInTurn words live implied (raised s) 0
+pub turns_raised : (words live : List ℕ) (implied : List (List ℕ)) (s : PropagationState) → AreUnitInTurn words live implied s 0 → AreUnitInTurn words live implied (raised s) 0
 turns_raised words live implied s h i p b =
     implies_by words words live live implied implied s (raised s) i (node s (lit_at s i)).reason refl
     (λ m x. elim x [
@@ -73,9 +73,9 @@ turns_raised words live implied s h i p b =
     (λ o e c. (c, refl)) (λ ls e c. c) (h i p b)
 
 -- a literal becomes true, at level 0 without a clause as its reason
-pub units_enqueued : (s : State) (l : ℕ) (r : Reason) → StateIsConsistent s → IsOpenLit s.values l → variable l < length s.values → (length s.trail.starts ≡ 0 → r ≡ NoCause) → UnitsHaveNoReason s → UnitsHaveNoReason (enqueued l r s)
+pub units_enqueued : (s : PropagationState) (l : ℕ) (r : Reason) → StateIsConsistent s → IsUnassignedLit s.values l → variable l < length s.values → (length s.trail.starts ≡ 0 → r ≡ NoCause) → UnitsHaveNoReason s → UnitsHaveNoReason (enqueued l r s)
 units_enqueued s l r h n below bottom x i b e =
-    let t : State = enqueued l r s in
+    let t : PropagationState = enqueued l r s in
     let size : length (s.trail.lits ++ l ∷ []) ≡ length s.trail.lits + 1 = length_push s.trail.lits l in
     elim (cases_eq i (length s.trail.lits)) [
       | inl q ↦

@@ -3,7 +3,7 @@ use Rattle.std.proofs.Common.{ℕ, ◌≡◌, ◌+◌, ◌-◌, ◌<◌, ◌≤�
 use Rattle.std.proofs.lemmas.Bool.{cases_lt}
 use Rattle.std.proofs.lemmas.List.{get_or-drop, get_or-take, length-take-le}
 use Rattle.sat_base.specs.values.Literals.{variable, negated}
-use Rattle.sat_store.specs.heap.Vsids.{Queue, may_pick}
+use Rattle.sat_store.specs.heap.Vsids.{Queue, is_available}
 use Rattle.sat_parts.specs.declared.prop.graph.ImplNode.{ImplNode}
 use Rattle.sat_parts.specs.clause.Db.{Db}
 use Rattle.sat_parts.specs.prop.Binaries.{Binaries}
@@ -12,22 +12,22 @@ use Rattle.sat_parts.specs.prop.Values.{Values, value_of, IsTrueLit, IsFalseLit}
 use Rattle.sat_parts.specs.prop.Trails.{Trailed, LevelIs, cut_to}
 use Rattle.sat_parts.specs.prop.Undone.{undone_to, undone_lits, all_available}
 use Rattle.sat_parts.specs.prop.WatchLists.{Watching}
-use Rattle.sat_parts.specs.prop.State.{State, node, level, lit_at, StateIsConsistent}
+use Rattle.sat_parts.specs.prop.State.{PropagationState, node, level, lit_at, StateIsConsistent}
 use Rattle.sat_parts.specs.prop.Ready.{state_of}
-use Rattle.sat_parts.specs.prop.Backtracked.{KeepsLow}
+use Rattle.sat_parts.specs.prop.Backtracked.{BacktrackEffect}
 use Rattle.sat_parts.proofs.lemmas.prop.BacktrackLemmas.{asks_after, turns_after, keeps_low, undone_length}
 use Rattle.sat_parts.proofs.lemmas.prop.StateLemmas.{true_from_false, false_from_true, negated_variable, negated_twice}
 use Rattle.sat_parts.proofs.lemmas.prop.RoomLemmas.{below_from_value}
 use Rattle.sat_parts.proofs.lemmas.prop.WordLemmas.{levels_stay}
-use Rattle.sat_parts.specs.parts.Round.{UnitsHaveNoReason, IsBased, IsSoundBelow}
-use Rattle.sat_parts.specs.parts.Learned.{IsAnalyzedClause, IsPending}
+use Rattle.sat_parts.specs.parts.Round.{UnitsHaveNoReason, LevelZeroInvariant, IsSoundBelow}
+use Rattle.sat_parts.specs.parts.Learned.{IsAnalyzedClause, IsUnitAfterBacktracking}
 use Rattle.sat_parts.proofs.lemmas.parts.ValueLemmas.{open_or_true, not_true, available_kept, available_length, available_there}
 
 -- the variable of an undone literal may be picked
 pub undone_available : (v : ℕ) (a : Values) (g : List ImplNode) (t : Trailed) (q : Queue) (l : ℕ) → StateIsConsistent (state_of a g t) → v < length t.starts → length q.available ≡ length a.current →
-    IsTrueLit a.current l → v < level (state_of a g t) l → may_pick (all_available (undone_lits v t) q) (variable l) ≡ true
+    IsTrueLit a.current l → v < level (state_of a g t) l → is_available (all_available (undone_lits v t) q) (variable l) ≡ true
 undone_available v a g t q l h lt size holds high =
-    let s : State = state_of a g t in
+    let s : PropagationState = state_of a g t in
     elim (h.known l holds) [
       | inl x ↦
           let at : level s (lit_at s x.place) ≡ level s l = ap (λ m. level s m) x.there in
@@ -38,7 +38,7 @@ undone_available v a g t q l h lt size holds high =
           let e : get_or (drop (get_or t.starts v 0) t.lits) (x.place - get_or t.starts v 0) 0 ≡ l =
           get_or-drop (get_or t.starts v 0) t.lits (x.place - get_or t.starts v 0) 0 ∙ ap (λ k. lit_at s k) p ∙ x.there in
           let there : variable l < length a.current = below_from_value a.current (variable l) _ holds in
-          subst (λ m. may_pick (all_available (undone_lits v t) q) (variable m) ≡ true) e
+          subst (λ m. is_available (all_available (undone_lits v t) q) (variable m) ≡ true) e
           (available_there (undone_lits v t) q (x.place - get_or t.starts v 0) (omega (arith, x.within)) (omega (arith, ap (λ m. variable m) e)))
       | inr x ↦ absurd (omega (arith, x.bottom))
     ]
@@ -47,8 +47,8 @@ pub sound_undone : (words : List ℕ) (db : Db) (w : Watching) (b : Binaries) (a
     IsSoundBelow words db w b a g t q top → v < length t.starts → v < top →
     IsSoundBelow words db w b (undone_to v t a) g (cut_to v t) (all_available (undone_lits v t) q) (length (cut_to v t).starts + 1)
 sound_undone words db w b a g t q top v h lt below =
-    let s : State = state_of a g t in
-    let k : KeepsLow v (state_of a g t) (state_of (undone_to v t a) g (cut_to v t)) = keeps_low v a g t h.asks.agrees lt in
+    let s : PropagationState = state_of a g t in
+    let k : BacktrackEffect v (state_of a g t) (state_of (undone_to v t a) g (cut_to v t)) = keeps_low v a g t h.asks.agrees lt in
     record {
       held = h.held;
       asks = asks_after words db.refs w b.implied v a g t top h.asks lt below;
@@ -58,7 +58,7 @@ sound_undone words db w b a g t q top v h lt below =
       ready = λ u in_range none. elim (open_or_true a.current u) [
         | inl e ↦ elim (h.ready u (omega (arith, undone_length (undone_lits v t) a)) e) [ inl p ↦ inl (available_kept (undone_lits v t) q u p) | inr x ↦ inr x ]
         | inr x ↦ elim (cases_lt v (level s x.0)) [
-          | inl high ↦ inl (subst (λ m. may_pick (all_available (undone_lits v t) q) m ≡ true) x.1.0 (undone_available v a g t q x.0 h.asks.agrees lt h.queue x.1.1 high))
+          | inl high ↦ inl (subst (λ m. is_available (all_available (undone_lits v t) q) m ≡ true) x.1.0 (undone_available v a g t q x.0 h.asks.agrees lt h.queue x.1.1 high))
           | inr low ↦ absurd (not_true (undone_to v t a).current u x.0 none x.1.0 (k.low_kept x.0 x.1.1 low))
         ]
       ];
@@ -66,12 +66,12 @@ sound_undone words db w b a g t q top v h lt below =
 
 pub units_undone : (a : Values) (g : List ImplNode) (t : Trailed) (v : ℕ) → StateIsConsistent (state_of a g t) → v < length t.starts → UnitsHaveNoReason (state_of a g t) → UnitsHaveNoReason (state_of (undone_to v t a) g (cut_to v t))
 units_undone a g t v h lt x i b e =
-    let s : State = state_of a g t in
-    let k : KeepsLow v (state_of a g t) (state_of (undone_to v t a) g (cut_to v t)) = keeps_low v a g t h lt in
+    let s : PropagationState = state_of a g t in
+    let k : BacktrackEffect v (state_of a g t) (state_of (undone_to v t a) g (cut_to v t)) = keeps_low v a g t h lt in
     let same : lit_at (state_of (undone_to v t a) g (cut_to v t)) i ≡ lit_at s i = k.places i b in
     ap (λ l. (node s l).reason) same ∙ x i (omega (arith, k.shorter)) (ap (λ l. level s l) (sym same) ∙ e)
 
-pub based_undone : (t : Trailed) (v : ℕ) → v < length t.starts → IsBased t → IsBased (cut_to v t)
+pub based_undone : (t : Trailed) (v : ℕ) → v < length t.starts → LevelZeroInvariant t → LevelZeroInvariant (cut_to v t)
 based_undone t v lt h =
     let size : length (take v t.starts) ≡ v = length-take-le v t.starts (omega arith) in
     record {
@@ -79,16 +79,16 @@ based_undone t v lt h =
       bottom = λ e. (let z : v ≡ 0 = omega arith in ap (λ k. get_or t.starts k 0) z ∙ h.above (omega arith));
     }
 
-level_negated : (s : State) (m : ℕ) → level s (negated m) ≡ level s m
+level_negated : (s : PropagationState) (m : ℕ) → level s (negated m) ≡ level s m
 level_negated s m = ap (λ u. (node_of s.nodes u).level) (negated_variable m)
 
 -- a learned clause after backtracking
 pub pending_undone : (a : Values) (g : List ImplNode) (t : Trailed) (q : Queue) (ls : List ℕ) (v : ℕ) → StateIsConsistent (state_of a g t) → length q.available ≡ length a.current → IsAnalyzedClause (state_of a g t) ls v →
-    IsPending (state_of (undone_to v t a) g (cut_to v t)) (all_available (undone_lits v t) q) ls
+    IsUnitAfterBacktracking (state_of (undone_to v t a) g (cut_to v t)) (all_available (undone_lits v t) q) ls
 pending_undone a g t q ls v h size x =
-    let s : State = state_of a g t in
-    let s' : State = state_of (undone_to v t a) g (cut_to v t) in
-    let k : KeepsLow v (state_of a g t) (state_of (undone_to v t a) g (cut_to v t)) = keeps_low v a g t h x.below in
+    let s : PropagationState = state_of a g t in
+    let s' : PropagationState = state_of (undone_to v t a) g (cut_to v t) in
+    let k : BacktrackEffect v (state_of a g t) (state_of (undone_to v t a) g (cut_to v t)) = keeps_low v a g t h x.below in
     let first : IsTrueLit a.current (negated (get_or ls 0 0)) = true_from_false a.current (get_or ls 0 0) (x.falsified 0 (omega (arith, x.some))) in
     let high : v < level s (negated (get_or ls 0 0)) = omega (arith, x.below, x.first, level_negated s (get_or ls 0 0)) in
     let fewer : length (take v t.starts) ≡ v = length-take-le v t.starts (omega (arith, x.below)) in
@@ -99,7 +99,7 @@ pending_undone a g t q ls v h size x =
       distinct = x.distinct;
       there = omega (arith, in_range, undone_length (undone_lits v t) a);
       open_first = ap (λ u. value_of (undone_to v t a).current u) (sym (negated_variable (get_or ls 0 0))) ∙ k.opened (negated (get_or ls 0 0)) first high;
-      ready = subst (λ u. may_pick (all_available (undone_lits v t) q) u ≡ true) (negated_variable (get_or ls 0 0)) (undone_available v a g t q (negated (get_or ls 0 0)) h x.below size first high);
+      ready = subst (λ u. is_available (all_available (undone_lits v t) q) u ≡ true) (negated_variable (get_or ls 0 0)) (undone_available v a g t q (negated (get_or ls 0 0)) h x.below size first high);
       rest = λ i some b.
           let m : ℕ = get_or ls i 0 in
           let holds : IsTrueLit (undone_to v t a).current (negated (get_or ls i 0)) =

@@ -3,7 +3,7 @@ use Rattle.std.proofs.Common.{ℕ, ◌≡◌, ◌≢◌, ◌+◌, ◌-◌, ◌<�
 use Rattle.std.specs.Prelude.{replicate, OnOk, OnErr}
 use Rattle.sat_parts.specs.declared.prop.graph.Conflict.{Conflict}
 use Rattle.sat_store.specs.declared.clause.alloc.StoreError.{StoreError}
-use Rattle.sat_parts.specs.prop.Asks.{PropagationResult}
+use Rattle.sat_parts.specs.prop.Propagation.{PropagationResult}
 use Rattle.sat_parts.specs.clause.Collected.{Collects, CollectsNothing}
 use Rattle.sat_parts.proofs.lemmas.parts.MoveLemmas.{sound_propagated}
 use Rattle.std.specs.List.{Contains}
@@ -13,7 +13,7 @@ use Rattle.std.proofs.lemmas.Map.Keys.{IsDistinct-from_apart}
 use Rattle.std.proofs.lemmas.Map.Steps.{length-le_from_distinct_below}
 use Rattle.std.proofs.lemmas.Map.Views.{Contains-from_any}
 use Rattle.sat_base.specs.values.Literals.{variable, is_positive}
-use Rattle.sat_store.specs.heap.Vsids.{Queue, may_pick, with_available}
+use Rattle.sat_store.specs.heap.Vsids.{Queue, is_available, with_available}
 use Rattle.sat_parts.specs.declared.prop.graph.ImplNode.{ImplNode}
 use Rattle.sat_parts.specs.declared.prop.graph.Reason.{Reason}
 use Rattle.sat_parts.specs.declared.prop.graph.Reason.TheVariants.{Unit as NoCause, Binary, Long}
@@ -22,25 +22,25 @@ use Rattle.sat_parts.specs.clause.Orders.{AreDistinct, SameUpToOrder}
 use Rattle.sat_parts.specs.clause.Stored.{size_of}
 use Rattle.sat_parts.specs.prop.Binaries.{Binaries}
 use Rattle.sat_parts.specs.prop.WatchLists.{Watching}
-use Rattle.sat_parts.specs.prop.Values.{Values, value_of, assigned, IsTrueLit, IsOpenLit}
-use Rattle.sat_parts.specs.prop.Graphs.{is_unit_reason}
+use Rattle.sat_parts.specs.prop.Values.{Values, value_of, with_value, IsTrueLit, IsUnassignedLit}
+use Rattle.sat_parts.specs.prop.Graphs.{has_no_clause}
 use Rattle.sat_parts.specs.prop.Trails.{Trailed, with_lit, with_level, with_cleared, cut_to}
-use Rattle.sat_parts.specs.prop.State.{State, lit_at, TrailGrows, StateIsConsistent, enqueued}
+use Rattle.sat_parts.specs.prop.State.{PropagationState, lit_at, TrailGrows, StateIsConsistent, enqueued}
 use Rattle.sat_parts.specs.prop.Reasons.{Implies, PropagatesOn}
 use Rattle.sat_parts.specs.prop.Ready.{state_of}
 use Rattle.sat_parts.specs.prop.Undone.{undone_to, undone_lits, all_available}
-use Rattle.sat_parts.specs.prop.Backtracked.{KeepsLow}
+use Rattle.sat_parts.specs.prop.Backtracked.{BacktrackEffect}
 use Rattle.sat_parts.specs.prop.TrailWord.{Letter, D, P, letter, letters, IsLowerWord, IsLevelled, decided_on}
 use Rattle.sat_parts.proofs.lemmas.prop.WordLemmas.{words_rise}
 use Rattle.sat_parts.proofs.lemmas.prop.StateLemmas.{removed_forth, true_kept, node_kept}
 use Rattle.sat_parts.proofs.lemmas.prop.RoomLemmas.{places_apart, below_from_value}
 use Rattle.sat_parts.proofs.lemmas.prop.BacktrackLemmas.{keeps_low, undone_length}
 use Rattle.sat_parts.proofs.lemmas.prop.BuildLemmas.{live_in}
-use Rattle.sat_parts.specs.declared.parts.Parts.{Parts}
+use Rattle.sat_parts.specs.declared.parts.SearchState.{SearchState}
 use Rattle.sat_parts.specs.parts.Whole.{state}
 use Rattle.sat_parts.specs.parts.Round.{IsUnused, IsSoundBelow}
 use Rattle.sat_parts.specs.parts.Units.{removed}
-use Rattle.sat_parts.specs.parts.Words.{Begins, trail_letters, IsIdle, IsGone, GoneAndIdleStay, IsWord, WordExtends, WordRises, Words, TrailWordStays, TrailWordExtends, TrailWordRises, TrailWordExtendsFor, TrailWordRisesFor}
+use Rattle.sat_parts.specs.parts.Words.{IsPrefix, trail_letters, IsIdle, IsGone, GoneAndIdleStay, IsWord, WordExtends, WordRises, IsTrailWord, TrailWordStays, TrailWordExtends, TrailWordRises, TrailWordExtendsFor, TrailWordRisesFor}
 use Rattle.sat_parts.proofs.lemmas.parts.ValueLemmas.{open_or_true, not_true}
 use Rattle.sat_parts.proofs.lemmas.parts.ClearLemmas.{all_removed, apart_removed}
 
@@ -48,10 +48,10 @@ append_none : (u : List Letter) → u ++ [] ≡ u
 append_none [] = refl
 append_none (x ∷ u) = ap (λ (v : List Letter). x ∷ v) (append_none u)
 
-pub begins_refl : (u : List Letter) → Begins u u
+pub begins_refl : (u : List Letter) → IsPrefix u u
 begins_refl u = ([], sym (append_none u))
 
-pub begins_trans : (u v w : List Letter) → Begins u v → Begins v w → Begins u w
+pub begins_trans : (u v w : List Letter) → IsPrefix u v → IsPrefix v w → IsPrefix u w
 begins_trans u v w x y = (x.0 ++ y.0, y.1 ∙ ap (λ (z : List Letter). z ++ y.0) x.1 ∙ append_assoc u x.0 y.0)
 
 -- a prefix of a lower word is lower
@@ -71,7 +71,7 @@ below_after : (k : ℕ) (u v : List Letter) → IsLowerWord u v → IsLowerWord 
 below_after zero u v h = h
 below_after (suc k) u v h = below_after k u v h
 
-begins_after : (k : ℕ) (u v : List Letter) → Begins u v → Begins (replicate k P ++ u) (replicate k P ++ v)
+begins_after : (k : ℕ) (u v : List Letter) → IsPrefix u v → IsPrefix (replicate k P ++ u) (replicate k P ++ v)
 begins_after k u v x = (x.0, ap (λ (z : List Letter). replicate k P ++ z) x.1 ∙ sym (append_assoc (replicate k P) u x.0))
 
 -- letters depend only on positions
@@ -91,7 +91,7 @@ letters_count starts [] at = refl
 letters_count starts (x ∷ xs) at = ap (λ n. suc n) (letters_count starts xs (at + 1))
 
 -- appending literals extends the word
-pub standing_grown : (s s' : State) → TrailGrows s s' → Begins (trail_letters s.trail) (trail_letters s'.trail)
+pub standing_grown : (s s' : PropagationState) → TrailGrows s s' → IsPrefix (trail_letters s.trail) (trail_letters s'.trail)
 standing_grown s s' g =
     let n : ℕ = length s.trail.lits in
     let starts : List ℕ = s.trail.starts in
@@ -103,38 +103,38 @@ standing_grown s s' g =
     )
 
 -- the state with no literal counted as cleared, whose word has only the letters of its trail
-abbrev from_now : State → State
+abbrev from_now : PropagationState → PropagationState
 from_now s = record s { trail = record s.trail { cleared = 0 } }
 
-levelled_now : (s : State) → IsLevelled s → IsLevelled (from_now s)
+levelled_now : (s : PropagationState) → IsLevelled s → IsLevelled (from_now s)
 levelled_now s x = record { strict = x.strict; begun = x.begun; decided = x.decided; caused = x.caused }
 
-pub standing_decided : (s : State) (l : ℕ) → IsLevelled s → Begins (trail_letters s.trail) (trail_letters (with_lit l (with_level s.trail)))
+pub standing_decided : (s : PropagationState) (l : ℕ) → IsLevelled s → IsPrefix (trail_letters s.trail) (trail_letters (with_lit l (with_level s.trail)))
 standing_decided s l x = (D ∷ [], words_rise.decided (from_now s) l (levelled_now s x))
 
-pub standing_learned : (s : State) (l v : ℕ) → IsLevelled s → v < length s.trail.starts → IsLowerWord (trail_letters s.trail) (trail_letters (with_lit l (cut_to v s.trail)))
+pub standing_learned : (s : PropagationState) (l v : ℕ) → IsLevelled s → v < length s.trail.starts → IsLowerWord (trail_letters s.trail) (trail_letters (with_lit l (cut_to v s.trail)))
 standing_learned s l v x lt = words_rise.rises (from_now s) l v (levelled_now s x) lt
 
 -- no literal on the trail has a variable that is gone
-gone_off : (am : List ℕ) → (s : State) (q : Queue) (v i : ℕ) → StateIsConsistent s → IsGone am s q v → i < length s.trail.lits → variable (lit_at s i) ≢ v
+gone_off : (am : List ℕ) → (s : PropagationState) (q : Queue) (v i : ℕ) → StateIsConsistent s → IsGone am s q v → i < length s.trail.lits → variable (lit_at s i) ≢ v
 gone_off am s q v i h x b e = elim x.1 [
   | inl r ↦ apart_removed s r.0 i h r.1.1 b (e ∙ sym r.1.0)
   | inr n ↦ not_true s.values v (lit_at s i) n.0 e (h.holds i b)
 ]
 
 -- the variables on the trail, and those that are gone
-abbrev taken : State → List ℕ → List ℕ
+abbrev taken : PropagationState → List ℕ → List ℕ
 taken s gone = map (λ l. variable l) s.trail.lits ++ gone
 
-taken_length : (s : State) (gone : List ℕ) → length (taken s gone) ≡ length s.trail.lits + length gone
+taken_length : (s : PropagationState) (gone : List ℕ) → length (taken s gone) ≡ length s.trail.lits + length gone
 taken_length s gone = length-append (map (λ l. variable l) s.trail.lits) gone ∙ ap (λ n. n + length gone) (length-map s.trail.lits (λ l. variable l))
 
-taken_front : (s : State) (gone : List ℕ) (i d : ℕ) → i < length s.trail.lits → get_or (taken s gone) i d ≡ variable (lit_at s i)
+taken_front : (s : PropagationState) (gone : List ℕ) (i d : ℕ) → i < length s.trail.lits → get_or (taken s gone) i d ≡ variable (lit_at s i)
 taken_front s gone i d b =
     get_or_append_left (map (λ l. variable l) s.trail.lits) gone d i (omega (arith, length-map s.trail.lits (λ l. variable l)))
     ∙ get_or-map (λ l. variable l) s.trail.lits i 0 d b
 
-taken_back : (s : State) (gone : List ℕ) (i d : ℕ) → length s.trail.lits ≤ i → get_or (taken s gone) i d ≡ get_or gone (i - length s.trail.lits) d
+taken_back : (s : PropagationState) (gone : List ℕ) (i d : ℕ) → length s.trail.lits ≤ i → get_or (taken s gone) i d ≡ get_or gone (i - length s.trail.lits) d
 taken_back s gone i d b =
     get_or-append_right (map (λ l. variable l) s.trail.lits) gone (length s.trail.lits) i d (length-map s.trail.lits (λ l. variable l)) b
 
@@ -144,7 +144,7 @@ default_free (x ∷ xs) zero d e b = refl
 default_free (x ∷ xs) (suc i) d e b = default_free xs i d e (omega arith)
 
 -- all of them are different
-taken_distinct : (am : List ℕ) → (s : State) (q : Queue) (gone : List ℕ) → StateIsConsistent s → AreDistinct gone → ((k : ℕ) → k < length gone → IsGone am s q (get_or gone k 0)) → AreDistinct (taken s gone)
+taken_distinct : (am : List ℕ) → (s : PropagationState) (q : Queue) (gone : List ℕ) → StateIsConsistent s → AreDistinct gone → ((k : ℕ) → k < length gone → IsGone am s q (get_or gone k 0)) → AreDistinct (taken s gone)
 taken_distinct am s q gone h distinct each i j p r e =
     let n : length (taken s gone) ≡ length s.trail.lits + length gone = taken_length s gone in
     elim (cases_lt i (length s.trail.lits)) [
@@ -160,7 +160,7 @@ taken_distinct am s q gone h distinct each i j p r e =
       ]
     ]
 
-taken_there : (am : List ℕ) → (s : State) (q : Queue) (gone : List ℕ) (i : ℕ) → StateIsConsistent s → ((k : ℕ) → k < length gone → IsGone am s q (get_or gone k 0)) → i < length (taken s gone) → get_or (taken s gone) i 0 < length s.values
+taken_there : (am : List ℕ) → (s : PropagationState) (q : Queue) (gone : List ℕ) (i : ℕ) → StateIsConsistent s → ((k : ℕ) → k < length gone → IsGone am s q (get_or gone k 0)) → i < length (taken s gone) → get_or (taken s gone) i 0 < length s.values
 taken_there am s q gone i h each b =
     let n : length (taken s gone) ≡ length s.trail.lits + length gone = taken_length s gone in
     elim (cases_lt i (length s.trail.lits)) [
@@ -180,7 +180,7 @@ fits_below xs n distinct below =
     subst (λ (z : ℕ). z < n) (default_free xs c.0 0 q c.1 ∙ c.2) (below c.0 c.1))
 
 -- a word has at most one letter for every variable
-pub word_fits : (am : List ℕ) → (s : State) (q : Queue) (w : List Letter) → StateIsConsistent s → IsWord am s q w → length w ≤ length s.values
+pub word_fits : (am : List ℕ) → (s : PropagationState) (q : Queue) (w : List Letter) → StateIsConsistent s → IsWord am s q w → length w ≤ length s.values
 word_fits am s q w h x =
     let n : length (taken s x.gone) ≡ length s.trail.lits + length x.gone = taken_length s x.gone in
     let all : length (taken s x.gone) ≤ length s.values = fits_below (taken s x.gone) (length s.values) (taken_distinct am s q x.gone h x.distinct x.each) (λ i b. taken_there am s q x.gone i h x.each b) in
@@ -191,11 +191,11 @@ word_fits am s q w h x =
     count_of (suc k) = ap (λ n. suc n) (count_of k)
 
 -- variables that are gone stay so when a literal becomes true whose variable may be picked or is assumed
-module _ (am : List ℕ) (s : State) (q : Queue) (l : ℕ) (r : Reason) (unset : IsOpenLit s.values l) (picks : (may_pick q (variable l) ≡ true) ⊎ Contains am (variable l)) where
+module _ (am : List ℕ) (s : PropagationState) (q : Queue) (l : ℕ) (r : Reason) (unset : IsUnassignedLit s.values l) (picks : (is_available q (variable l) ≡ true) ⊎ Contains am (variable l)) where
   idle_enqueued : (v : ℕ) → IsIdle am s q v → IsIdle am (enqueued l r s) q v
   idle_enqueued v y =
       let other : v ≢ variable l = λ e. elim picks [
-        | inl p ↦ true≢false (sym (ap (λ u. may_pick q u) e ∙ p) ∙ y.1)
+        | inl p ↦ true≢false (sym (ap (λ u. is_available q u) e ∙ p) ∙ y.1)
         | inr c ↦ y.2 (subst (λ u. Contains am u) (sym e) c)
       ] in
       (get_or-set_other s.values (variable l) v (Some (is_positive l)) None other ∙ y.0, y.1, y.2)
@@ -224,7 +224,7 @@ module _ (am : List ℕ) (s : State) (q : Queue) (l : ℕ) (r : Reason) (unset :
   }
 
 -- the same for a decision
-pub gone_decided : (am : List ℕ) → (s : State) (q q' : Queue) (l : ℕ) → IsOpenLit s.values l → (may_pick q (variable l) ≡ true) ⊎ Contains am (variable l) → ((u : ℕ) → may_pick q u ≡ false → may_pick q' u ≡ false) → GoneAndIdleStay am s q (decided_on l s) q'
+pub gone_decided : (am : List ℕ) → (s : PropagationState) (q q' : Queue) (l : ℕ) → IsUnassignedLit s.values l → (is_available q (variable l) ≡ true) ⊎ Contains am (variable l) → ((u : ℕ) → is_available q u ≡ false → is_available q' u ≡ false) → GoneAndIdleStay am s q (decided_on l s) q'
 gone_decided am s q q' l unset picks less =
     let f : GoneAndIdleStay am (record s { trail = with_level s.trail }) q (decided_on l s) q = gone_enqueued am (record s { trail = with_level s.trail }) q l NoCause unset picks in
     record {
@@ -242,7 +242,7 @@ gone_decided am s q q' l unset picks less =
     }
 
 -- a clause does not make a variable true that is in no clause
-implied_used : (words live : List ℕ) (implied : List (List ℕ)) (s : State) (i : ℕ) (r : Reason) → is_unit_reason r ≡ false → ((o : ℕ) → Contains live o → 3 ≤ size_of words o) → Implies words live implied s i r →
+implied_used : (words live : List ℕ) (implied : List (List ℕ)) (s : PropagationState) (i : ℕ) (r : Reason) → has_no_clause r ≡ false → ((o : ℕ) → Contains live o → 3 ≤ size_of words o) → Implies words live implied s i r →
     IsUnused words live implied (variable (lit_at s i)) → ⊥
 implied_used words live implied s i NoCause clause sizes h u = true≢false clause
 implied_used words live implied s i (Binary ls) clause sizes h u = (u.binary _ h.0.0 h.0.1).1 (ap (λ l. variable l) (default_free _ h.0.0 0 _ h.0.1 ∙ h.0.2))
@@ -275,13 +275,13 @@ gone_moved am words words' db w w' b a a' g g' t t' q top top' h h' m e = record
   idle = idle;
 }
   where
-    s : State
+    s : PropagationState
     s = state_of a g t
 
-    s' : State
+    s' : PropagationState
     s' = state_of a' g' t'
 
-    found : (v : ℕ) → v < length a.current → value_of a.current v ≡ None → may_pick q v ≡ false → (l : ℕ) → variable l ≡ v → IsTrueLit a'.current l → ⊥
+    found : (v : ℕ) → v < length a.current → value_of a.current v ≡ None → is_available q v ≡ false → (l : ℕ) → variable l ≡ v → IsTrueLit a'.current l → ⊥
     found v there none shut l at holds = elim (h'.asks.agrees.known l holds) [
       | inl y ↦ elim (cases_lt y.place (length t.lits)) [
         | inl lt ↦ not_true a.current v (lit_at (state_of a g t) y.place) none (ap (λ z. variable z) (sym (m.grows.front y.place lt) ∙ y.there) ∙ at) (h.asks.agrees.holds y.place lt)
@@ -309,7 +309,7 @@ gone_moved am words words' db w w' b a a' g g' t t' q top top' h h' m e = record
       y.2,
     )
 
-available_other : (ls : List ℕ) (q : Queue) (v : ℕ) → ((k : ℕ) → k < length ls → variable (get_or ls k 0) ≢ v) → may_pick (all_available ls q) v ≡ may_pick q v
+available_other : (ls : List ℕ) (q : Queue) (v : ℕ) → ((k : ℕ) → k < length ls → variable (get_or ls k 0) ≢ v) → is_available (all_available ls q) v ≡ is_available q v
 available_other [] q v h = refl
 available_other (l ∷ ls) q v h =
     available_other ls (with_available (variable l) true q) v (λ k b. h (suc k) (omega arith)) ∙ get_or-set_other q.available (variable l) v true false (λ e. h 0 (omega arith) (sym e))
@@ -329,7 +329,7 @@ gone_undone am top a g t q h lt = record {
   idle = idle;
 }
   where
-    k : KeepsLow top (state_of a g t) (state_of (undone_to top t a) g (cut_to top t))
+    k : BacktrackEffect top (state_of a g t) (state_of (undone_to top t a) g (cut_to top t))
     k = keeps_low top a g t h lt
 
     idle : (v : ℕ) → IsIdle am (state_of a g t) q v → IsIdle am (state_of (undone_to top t a) g (cut_to top t)) (all_available (undone_lits top t) q) v
@@ -360,19 +360,19 @@ gone_cleared am a g t q h = record {
   idle = λ v y. y;
 }
 
-pub word_goes : (am : List ℕ) → (s : State) (q : Queue) (s' : State) (q' : Queue) → GoneAndIdleStay am s q s' q' → Begins (trail_letters s.trail) (trail_letters s'.trail) → WordExtends am s q s' q'
+pub word_goes : (am : List ℕ) → (s : PropagationState) (q : Queue) (s' : PropagationState) (q' : Queue) → GoneAndIdleStay am s q s' q' → IsPrefix (trail_letters s.trail) (trail_letters s'.trail) → WordExtends am s q s' q'
 word_goes am s q s' q' stay more = (
   stay,
   λ w x. (
     replicate (length x.gone) P ++ trail_letters s'.trail,
     (
       record { gone = x.gone; distinct = x.distinct; each = λ k b. stay.gone (get_or x.gone k 0) (x.each k b); is = refl },
-      subst (λ (u : List Letter). Begins u (replicate (length x.gone) P ++ trail_letters s'.trail)) (sym x.is) (begins_after (length x.gone) (trail_letters s.trail) (trail_letters s'.trail) more),
+      subst (λ (u : List Letter). IsPrefix u (replicate (length x.gone) P ++ trail_letters s'.trail)) (sym x.is) (begins_after (length x.gone) (trail_letters s.trail) (trail_letters s'.trail) more),
     ),
   ),
 )
 
-pub word_rises : (am : List ℕ) → (s : State) (q : Queue) (s' : State) (q' : Queue) → GoneAndIdleStay am s q s' q' → IsLowerWord (trail_letters s.trail) (trail_letters s'.trail) → WordRises am s q s' q'
+pub word_rises : (am : List ℕ) → (s : PropagationState) (q : Queue) (s' : PropagationState) (q' : Queue) → GoneAndIdleStay am s q s' q' → IsLowerWord (trail_letters s.trail) (trail_letters s'.trail) → WordRises am s q s' q'
 word_rises am s q s' q' stay more = (
   stay,
   λ w x. (
@@ -398,8 +398,8 @@ pub word_cleared : (am : List ℕ) → (a : Values) (g : List ImplNode) (t : Tra
 word_cleared am a g t q h e = (
   gone_cleared am a g t q h,
   λ w x.
-      let s : State = state_of a g t in
-      let s' : State = state_of a (removed t.lits g) (with_cleared t) in
+      let s : PropagationState = state_of a g t in
+      let s' : PropagationState = state_of a (removed t.lits g) (with_cleared t) in
       let n : length (taken (state_of a g t) x.gone) ≡ length t.lits + length x.gone = taken_length (state_of a g t) x.gone in (
         w,
         (
@@ -424,19 +424,19 @@ word_cleared am a g t q h e = (
 )
 
 -- when an ask begins, the word is that of the trail
-pub word_begins : (am : List ℕ) (p : Parts) → Words am p (trail_letters p.trail)
+pub word_begins : (am : List ℕ) (p : SearchState) → IsTrailWord am p (trail_letters p.trail)
 word_begins am p = record { gone = []; distinct = λ i j a b e. absurd (omega arith); each = λ k b. absurd (omega arith); is = refl }
 
-pub goes_refl : (am : List ℕ) → (s : State) (q : Queue) → GoneAndIdleStay am s q s q
+pub goes_refl : (am : List ℕ) → (s : PropagationState) (q : Queue) → GoneAndIdleStay am s q s q
 goes_refl am s q = record { size = refl; gone = λ v x. x; idle = λ v x. x }
 
-pub goes_trans : (am : List ℕ) → (s : State) (q : Queue) (s' : State) (q' : Queue) (s'' : State) (q'' : Queue) → GoneAndIdleStay am s q s' q' → GoneAndIdleStay am s' q' s'' q'' → GoneAndIdleStay am s q s'' q''
+pub goes_trans : (am : List ℕ) → (s : PropagationState) (q : Queue) (s' : PropagationState) (q' : Queue) (s'' : PropagationState) (q'' : Queue) → GoneAndIdleStay am s q s' q' → GoneAndIdleStay am s' q' s'' q'' → GoneAndIdleStay am s q s'' q''
 goes_trans am s q s' q' s'' q'' x y = record { size = y.size ∙ x.size; gone = λ v z. y.gone v (x.gone v z); idle = λ v z. y.idle v (x.idle v z) }
 
-pub extends_refl : (p : Parts) → TrailWordExtends p p
+pub extends_refl : (p : SearchState) → TrailWordExtends p p
 extends_refl p am = (goes_refl am (state p) p.vsids, λ w x. (w, (x, begins_refl w)))
 
-pub extends_after : (am : List ℕ) (p q r : Parts) → TrailWordExtendsFor am p q → TrailWordExtendsFor am q r → TrailWordExtendsFor am p r
+pub extends_after : (am : List ℕ) (p q r : SearchState) → TrailWordExtendsFor am p q → TrailWordExtendsFor am q r → TrailWordExtendsFor am p r
 extends_after am p q r x y = (
   goes_trans am (state p) p.vsids (state q) q.vsids (state r) r.vsids x.0 y.0,
   λ w h.
@@ -445,11 +445,11 @@ extends_after am p q r x y = (
       (b.0, (b.1.0, begins_trans w a.0 b.0 a.1.1 b.1.1)),
 )
 
-pub extends_trans : (p q r : Parts) → TrailWordExtends p q → TrailWordExtends q r → TrailWordExtends p r
+pub extends_trans : (p q r : SearchState) → TrailWordExtends p q → TrailWordExtends q r → TrailWordExtends p r
 extends_trans p q r x y am = extends_after am p q r (x am) (y am)
 
 -- a word that is extended and then rises has risen
-pub rises_after : (am : List ℕ) (p q r : Parts) → TrailWordExtendsFor am p q → TrailWordRisesFor am q r → TrailWordRisesFor am p r
+pub rises_after : (am : List ℕ) (p q r : SearchState) → TrailWordExtendsFor am p q → TrailWordRisesFor am q r → TrailWordRisesFor am p r
 rises_after am p q r x y = (
   goes_trans am (state p) p.vsids (state q) q.vsids (state r) r.vsids x.0 y.0,
   λ w h.
@@ -459,7 +459,7 @@ rises_after am p q r x y = (
 )
 
 -- fewer variables may be picked
-pub extends_fewer : (am : List ℕ) → (s : State) (q q' : Queue) → ((u : ℕ) → may_pick q u ≡ false → may_pick q' u ≡ false) → WordExtends am s q s q'
+pub extends_fewer : (am : List ℕ) → (s : PropagationState) (q q' : Queue) → ((u : ℕ) → is_available q u ≡ false → is_available q' u ≡ false) → WordExtends am s q s q'
 extends_fewer am s q q' less =
     word_goes am s q s q' (record {
       size = refl;
@@ -467,7 +467,7 @@ extends_fewer am s q q' less =
       idle = λ v y. (y.0, less v y.1, y.2);
     }) (begins_refl (trail_letters s.trail))
 
-pub extends_decided : (am : List ℕ) → (s : State) (q q' : Queue) (l : ℕ) → IsOpenLit s.values l → (may_pick q (variable l) ≡ true) ⊎ Contains am (variable l) → ((u : ℕ) → may_pick q u ≡ false → may_pick q' u ≡ false) → IsLevelled s → WordExtends am s q (decided_on l s) q'
+pub extends_decided : (am : List ℕ) → (s : PropagationState) (q q' : Queue) (l : ℕ) → IsUnassignedLit s.values l → (is_available q (variable l) ≡ true) ⊎ Contains am (variable l) → ((u : ℕ) → is_available q u ≡ false → is_available q' u ≡ false) → IsLevelled s → WordExtends am s q (decided_on l s) q'
 extends_decided am s q q' l unset picks less levels = word_goes am s q (decided_on l s) q' (gone_decided am s q q' l unset picks less) (standing_decided s l levels)
 
 pub extends_propagated : (am : List ℕ) → (words words' : List ℕ) (db : Db) (w w' : Watching) (b : Binaries) (a a' : Values) (g g' : List ImplNode) (t t' : Trailed) (q : Queue) (r : Result (Unit {0}) Conflict) →
@@ -505,19 +505,19 @@ extends_collect am words words' db db' w w' a g g' t q (Ok x) due not_due same =
 extends_collect am words words' db db' w w' a g g' t q (Err x) due not_due same = rw same.2 (extends_fewer am (state_of a g t) q q (λ u e. e))
 
 -- undoing levels and enqueueing a literal raises the word
-pub rises_learned : (am : List ℕ) → (s : State) (q : Queue) (s' : State) (q' : Queue) (l top : ℕ) → GoneAndIdleStay am s q s' q' → IsLevelled s → top < length s.trail.starts → s'.trail ≡ with_lit l (cut_to top s.trail) → WordRises am s q s' q'
+pub rises_learned : (am : List ℕ) → (s : PropagationState) (q : Queue) (s' : PropagationState) (q' : Queue) (l top : ℕ) → GoneAndIdleStay am s q s' q' → IsLevelled s → top < length s.trail.starts → s'.trail ≡ with_lit l (cut_to top s.trail) → WordRises am s q s' q'
 rises_learned am s q s' q' l top stay levels lt e =
     word_rises am s q s' q' stay (subst (λ (t : Trailed). IsLowerWord (trail_letters s.trail) (trail_letters t)) (sym e) (standing_learned s l top levels lt))
 
 -- the same if the levels are undone first, and the learned literal is enqueued later
-pub rises_taken : (p u n : Parts) (l top : ℕ) → TrailWordStays p u → TrailWordStays u n → u.trail ≡ cut_to top p.trail → n.trail ≡ with_lit l u.trail → IsLevelled (state p) → top < length p.trail.starts → TrailWordRises p n
+pub rises_taken : (p u n : SearchState) (l top : ℕ) → TrailWordStays p u → TrailWordStays u n → u.trail ≡ cut_to top p.trail → n.trail ≡ with_lit l u.trail → IsLevelled (state p) → top < length p.trail.starts → TrailWordRises p n
 rises_taken p u n l top undone stay cut last levelled lt am =
     rises_learned am (state p) p.vsids (state n) n.vsids l top (goes_trans am (state p) p.vsids (state u) u.vsids (state n) n.vsids (undone am) (stay am)) levelled lt
     (last ∙ ap (λ (t : Trailed). with_lit l t) cut)
 
 -- a variable that is not assumed is freed
 pub gone_freed : (am : List ℕ) (a : Values) (g : List ImplNode) (t : Trailed) (q : Queue) (u : ℕ) → u < length q.available → length q.available ≡ length a.current → (Contains am u → ⊥) →
-    GoneAndIdleStay am (state_of a g t) q (state_of (assigned u None a) g t) (with_available u false q)
+    GoneAndIdleStay am (state_of a g t) q (state_of (with_value u None a) g t) (with_available u false q)
 gone_freed am a g t q u there same free = record {
   size = length-set a.current u None;
   gone = λ v x. (
@@ -543,14 +543,14 @@ gone_freed am a g t q u there same free = record {
   idle = λ v y. elim (cases_eq v u) [ inl e ↦ its v e | inr n ↦ others v n y ];
 }
   where
-    its : (v : ℕ) → v ≡ u → IsIdle am (state_of (assigned u None a) g t) (with_available u false q) v
+    its : (v : ℕ) → v ≡ u → IsIdle am (state_of (with_value u None a) g t) (with_available u false q) v
     its v e = (
       ap (λ z. value_of (set a.current u None) z) e ∙ get_or-set_same a.current u None None (omega arith),
-      ap (λ z. may_pick (with_available u false q) z) e ∙ get_or-set_same q.available u false false there,
+      ap (λ z. is_available (with_available u false q) z) e ∙ get_or-set_same q.available u false false there,
       λ c. free (subst (λ z. Contains am z) e c),
     )
 
-    others : (v : ℕ) → v ≢ u → IsIdle am (state_of a g t) q v → IsIdle am (state_of (assigned u None a) g t) (with_available u false q) v
+    others : (v : ℕ) → v ≢ u → IsIdle am (state_of a g t) q v → IsIdle am (state_of (with_value u None a) g t) (with_available u false q) v
     others v n y = (get_or-set_other a.current u v None None n ∙ y.0, get_or-set_other q.available u v false false n ∙ y.1, y.2)
 
 pub propagated_extends : (words words' : List ℕ) (db : Db) (w w' : Watching) (b : Binaries) (a a' : Values) (g g' : List ImplNode) (t t' : Trailed) (q : Queue) (r : Result (Unit {0}) Conflict) →

@@ -7,13 +7,13 @@ use Rattle.sat_parts.specs.clause.Orders.{SameUpToOrder}
 use Rattle.sat_parts.specs.clause.Db.{live_refs}
 use Rattle.sat_parts.specs.clause.Stored.{AreClauses}
 use Rattle.sat_parts.specs.prop.WatchLists.{Watching}
-use Rattle.sat_parts.specs.prop.State.{State, level, current_level}
+use Rattle.sat_parts.specs.prop.State.{PropagationState, level, current_level}
 use Rattle.sat_parts.specs.prop.Reasons.{HaveFirsts}
 use Rattle.sat_parts.specs.prop.Ready.{AreWatched, AreSettled, ReadyBelow, Propagated, IsUnitFixpoint, IsConflict}
-use Rattle.sat_parts.specs.prop.Asks.{PropagationInvariant, PropagationResult}
+use Rattle.sat_parts.specs.prop.Propagation.{PropagationInvariant, PropagationResult}
 use Rattle.sat_parts.proofs.lemmas.prop.BuildLemmas.{live_in, live_same}
 
-pub ready_from : (words refs : List ℕ) (w w' : Watching) (implied : List (List ℕ)) (s : State) (top : ℕ) → PropagationInvariant words refs w implied s top →
+pub ready_from : (words refs : List ℕ) (w w' : Watching) (implied : List (List ℕ)) (s : PropagationState) (top : ℕ) → PropagationInvariant words refs w implied s top →
     AreWatched words (live_refs words refs) w'.lists (length s.values) → ReadyBelow words (live_refs words refs) w'.lists implied s top
 ready_from words refs w w' implied s top h x = record {
   long = record { clauses = h.clauses; watches = x; agrees = h.agrees; queue = h.queue; settled = h.settled };
@@ -22,7 +22,7 @@ ready_from words refs w w' implied s top h x = record {
   firsts = h.firsts;
 }
 
-asks_from : (words refs : List ℕ) (w : Watching) (implied : List (List ℕ)) (s : State) (top : ℕ) (live : List ℕ) → HoldsClauses words refs → live_refs words refs ≡ live →
+asks_from : (words refs : List ℕ) (w : Watching) (implied : List (List ℕ)) (s : PropagationState) (top : ℕ) (live : List ℕ) → HoldsClauses words refs → live_refs words refs ≡ live →
     ReadyBelow words live w.lists implied s top → PropagationInvariant words refs w implied s top
 asks_from words refs w implied s top live holds_clauses e h = record {
   holds_clauses = holds_clauses;
@@ -37,7 +37,7 @@ asks_from words refs w implied s top live holds_clauses e h = record {
   binary = h.binary;
 }
 
-pub gives_from : (refs : List ℕ) (implied : List (List ℕ)) (words : List ℕ) (s : State) (words' : List ℕ) (s' : State) (w : Watching) (r : Result (Unit {0}) Conflict) →
+pub gives_from : (refs : List ℕ) (implied : List (List ℕ)) (words : List ℕ) (s : PropagationState) (words' : List ℕ) (s' : PropagationState) (w : Watching) (r : Result (Unit {0}) Conflict) →
     HoldsClauses words refs → Propagated (live_refs words refs) implied words s words' s' w.lists r → PropagationResult refs implied words s words' s' w r
 gives_from refs implied words s words' s' w (Ok x) holds_clauses h =
     let k : SameUpToOrder words words' refs = h.moves.reorders.all refs (λ o g. live_in words refs o g) holds_clauses in
@@ -64,7 +64,7 @@ gives_from refs implied words s words' s' w (Err x) holds_clauses h =
     }
 
 -- the watch lists are right once they are enabled
-pub watched_now : (words refs : List ℕ) (w w' : Watching) (implied : List (List ℕ)) (s : State) (top : ℕ) → PropagationInvariant words refs w implied s top →
+pub watched_now : (words refs : List ℕ) (w w' : Watching) (implied : List (List ℕ)) (s : PropagationState) (top : ℕ) → PropagationInvariant words refs w implied s top →
     (w.enabled ≡ true → w' ≡ w) → (w.enabled ≡ false → AreWatched words (live_refs words refs) w'.lists (length w.lists / 2)) →
     AreWatched words (live_refs words refs) w'.lists (length s.values)
 watched_now words refs w w' implied s top h same built =

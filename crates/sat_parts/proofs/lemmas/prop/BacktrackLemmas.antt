@@ -10,17 +10,17 @@ use Rattle.sat_parts.specs.declared.prop.graph.Reason.{Reason}
 use Rattle.sat_parts.specs.declared.prop.graph.Reason.TheVariants.{Unit as NoCause, Binary, Long}
 use Rattle.sat_parts.specs.clause.Db.{live_refs}
 use Rattle.sat_parts.specs.clause.Stored.{AreClauses, lit_of}
-use Rattle.sat_parts.specs.prop.Values.{Values, IsTrueLit, IsOpenLit, value_of}
+use Rattle.sat_parts.specs.prop.Values.{Values, IsTrueLit, IsUnassignedLit, value_of}
 use Rattle.sat_parts.specs.prop.Trails.{Trailed, LevelIs, cut_to}
 use Rattle.sat_parts.specs.prop.Graphs.{node_of}
 use Rattle.sat_parts.specs.prop.Undone.{lost, undone, undone_to}
 use Rattle.sat_parts.specs.prop.Binaries.{implied_by}
 use Rattle.sat_parts.specs.prop.WatchLists.{Watching}
-use Rattle.sat_parts.specs.prop.Backtracked.{KeepsLow}
-use Rattle.sat_parts.specs.prop.State.{State, node, level, lit_at, IsRemoved, IsBefore, HasLeftQueue, StateIsConsistent, IsQueueCurrent, IsSatisfied}
+use Rattle.sat_parts.specs.prop.Backtracked.{BacktrackEffect}
+use Rattle.sat_parts.specs.prop.State.{PropagationState, node, level, lit_at, IsRemoved, IsBefore, HasLeftQueue, StateIsConsistent, IsQueueCurrent, IsSatisfied}
 use Rattle.sat_parts.specs.prop.Reasons.{IsFalseBefore, Implies, AreUnitInTurn}
 use Rattle.sat_parts.specs.prop.Ready.{AreWatched, AreLists}
-use Rattle.sat_parts.specs.prop.Asks.{PropagationInvariant, PropagationPrecondition}
+use Rattle.sat_parts.specs.prop.Propagation.{PropagationInvariant, PropagationPrecondition}
 use Rattle.sat_parts.proofs.lemmas.prop.StateLemmas.{left_true}
 use Rattle.sat_parts.proofs.lemmas.prop.RoomLemmas.{places_apart}
 
@@ -76,10 +76,10 @@ undone_back (l ∷ ls) a v b e =
     ]
 
 -- the state before, and the state after the levels above this one are undone
-abbrev pub before : Values → List ImplNode → Trailed → State
+abbrev pub before : Values → List ImplNode → Trailed → PropagationState
 before a nodes t = record { values = a.current; nodes = nodes; trail = t }
 
-abbrev pub after : ℕ → Values → List ImplNode → Trailed → State
+abbrev pub after : ℕ → Values → List ImplNode → Trailed → PropagationState
 after level a nodes t = record { values = (undone_to level t a).current; nodes = nodes; trail = cut_to level t }
 
 -- the position where the levels above this one begin
@@ -107,7 +107,7 @@ not_undone : (v : ℕ) (a : Values) (nodes : List ImplNode) (t : Trailed) (m k :
     k < length (drop (cut_at v t) t.lits) → variable (get_or (drop (cut_at v t) t.lits) k 0) ≢ variable m
 not_undone v a nodes t m k h lt kept b e =
     let n : length (drop (cut_at v t) t.lits) ≡ length t.lits - cut_at v t = length-drop (cut_at v t) t.lits in
-    let s : State = before a nodes t in
+    let s : PropagationState = before a nodes t in
     let in_lits : cut_at v t + k < length t.lits = omega arith in
     let f : variable (lit_at s (cut_at v t + k)) ≡ variable m = ap (λ z. variable z) (sym (undone_lit v a nodes t k)) ∙ e in
     elim kept [
@@ -126,7 +126,7 @@ kept_true v a nodes t m h lt kept holds = undone_other (drop (cut_at v t) t.lits
 pub true_kept : (v : ℕ) (a : Values) (nodes : List ImplNode) (t : Trailed) (m : ℕ) → StateIsConsistent (before a nodes t) → v < length t.starts →
     IsTrueLit (after v a nodes t).values m → IsTrueLit a.current m × IsKept v a nodes t m
 true_kept v a nodes t m h lt holds =
-    let s : State = before a nodes t in
+    let s : PropagationState = before a nodes t in
     let old : IsTrueLit a.current m = undone_back (drop (cut_at v t) t.lits) a (variable m) (is_positive m) holds in
     let n : length (drop (cut_at v t) t.lits) ≡ length t.lits - cut_at v t = length-drop (cut_at v t) t.lits in (
       old,
@@ -161,7 +161,7 @@ removed_cut v a nodes t m h lt x = record { holds = kept_true v a nodes t m h lt
 pub cut_level : (v : ℕ) (a : Values) (nodes : List ImplNode) (t : Trailed) (i : ℕ) → StateIsConsistent (before a nodes t) → v < length t.starts → i < cut_at v t →
     level (before a nodes t) (lit_at (before a nodes t) i) ≤ v
 cut_level v a nodes t i h lt b =
-    let s : State = before a nodes t in
+    let s : PropagationState = before a nodes t in
     let w : cut_at v t ≤ length t.lits = cut_within v a nodes t h lt in
     let l : LevelIs t.starts i (level s (lit_at s i)) = h.levels i (omega arith) in
     elim (cases_lt v (level s (lit_at s i))) [
@@ -181,7 +181,7 @@ pub low_kept : (v : ℕ) (a : Values) (nodes : List ImplNode) (t : Trailed) (m :
     level (before a nodes t) m ≤ v → IsKept v a nodes t m
 low_kept v a nodes t m h lt holds low = elim (h.known m holds) [
   | inl x ↦
-      let s : State = before a nodes t in
+      let s : PropagationState = before a nodes t in
       let l : LevelIs t.starts x.place (level s (lit_at s x.place)) = h.levels x.place x.within in
       let e : level s (lit_at s x.place) ≡ level s m = ap (λ z. level s z) x.there in
       inl (record { place = x.place; before = l.not_begun v (omega arith) lt; within = x.within; there = x.there })
@@ -194,7 +194,7 @@ agrees_after v a nodes t h lt =
     let n : length (take (cut_at v t) t.lits) ≡ cut_at v t = cut_length v a nodes t h lt in
     let k : length (take v t.starts) ≡ v = length-take-le v t.starts (omega arith) in
     let size : length (undone_to v t a).current ≡ length a.current = undone_length (drop (cut_at v t) t.lits) a in
-    let s : State = before a nodes t in
+    let s : PropagationState = before a nodes t in
     record {
       trail = record {
         queue = omega arith;
@@ -238,7 +238,7 @@ agrees_after v a nodes t h lt =
 
 -- an undone literal is unassigned
 undone_open : (v : ℕ) (a : Values) (nodes : List ImplNode) (t : Trailed) (m : ℕ) → StateIsConsistent (before a nodes t) → v < length t.starts → IsTrueLit a.current m →
-    v < level (before a nodes t) m → IsOpenLit (after v a nodes t).values m
+    v < level (before a nodes t) m → IsUnassignedLit (after v a nodes t).values m
 undone_open v a nodes t m h lt holds high = elim (h.known m holds) [
   | inl x ↦ elim (cases_lt x.place (cut_at v t)) [
     | inl b ↦
@@ -255,9 +255,9 @@ undone_open v a nodes t m h lt holds high = elim (h.known m holds) [
 ]
 
 -- what remains when the levels above this one are undone
-pub keeps_low : (v : ℕ) (a : Values) (nodes : List ImplNode) (t : Trailed) → StateIsConsistent (before a nodes t) → v < length t.starts → KeepsLow v (before a nodes t) (after v a nodes t)
+pub keeps_low : (v : ℕ) (a : Values) (nodes : List ImplNode) (t : Trailed) → StateIsConsistent (before a nodes t) → v < length t.starts → BacktrackEffect v (before a nodes t) (after v a nodes t)
 keeps_low v a nodes t h lt =
-    let s : State = before a nodes t in
+    let s : PropagationState = before a nodes t in
     let n : length (take (cut_at v t) t.lits) ≡ cut_at v t = cut_length v a nodes t h lt in
     record {
       agrees = agrees_after v a nodes t h lt;
@@ -278,7 +278,7 @@ keeps_low v a nodes t h lt =
 head_after : (v : ℕ) (a : Values) (nodes : List ImplNode) (t : Trailed) → StateIsConsistent (before a nodes t) → IsQueueCurrent (before a nodes t) → v < length t.starts → cut_at v t ≤ t.head
 head_after v a nodes t h q lt = elim (cases_lt t.head (length t.lits)) [
   | inl b ↦
-      let s : State = before a nodes t in
+      let s : PropagationState = before a nodes t in
       let l : LevelIs t.starts t.head (level s (lit_at s t.head)) = h.levels t.head b in
       l.begun v (omega (arith, q t.head (omega arith) b))
   | inr le ↦ omega (arith, cut_within v a nodes t h lt)
@@ -309,7 +309,7 @@ satisfied_after v a nodes t ls bound h lt le x = record {
 pub asks_after : (words refs : List ℕ) (w : Watching) (implied : List (List ℕ)) (v : ℕ) (a : Values) (nodes : List ImplNode) (t : Trailed) (top : ℕ) →
     PropagationInvariant words refs w implied (before a nodes t) top → v < length t.starts → v < top → PropagationPrecondition words refs w implied (after v a nodes t)
 asks_after words refs w implied v a nodes t top h lt below =
-    let s : State = before a nodes t in
+    let s : PropagationState = before a nodes t in
     let n : length (take (cut_at v t) t.lits) ≡ cut_at v t = cut_length v a nodes t h.agrees lt in
     let size : length (undone_to v t a).current ≡ length a.current = undone_length (drop (cut_at v t) t.lits) a in
     record {
@@ -361,6 +361,6 @@ pub turns_after : (words live : List ℕ) (implied : List (List ℕ)) (v : ℕ) 
 turns_after words live implied v a nodes t from h lt x i le b =
     let n : length (take (cut_at v t) t.lits) ≡ cut_at v t = cut_length v a nodes t h lt in
     let q : i < cut_at v t = omega arith in
-    let s : State = before a nodes t in
+    let s : PropagationState = before a nodes t in
     subst (λ (z : Reason). Implies words live implied (after v a nodes t) i z) (ap (λ z. (node s z).reason) (sym (cut_lit v a nodes t i q)))
     (implies_after words live implied v a nodes t i (node s (lit_at s i)).reason h lt q (x i le (omega (arith, cut_within v a nodes t h lt))))

@@ -6,9 +6,9 @@ use Rattle.std.specs.List.{Contains}
 use Rattle.sat_base.specs.values.Literals.{negated, variable, is_positive}
 use Rattle.sat_parts.specs.declared.prop.graph.Reason.{Reason}
 use Rattle.sat_parts.specs.declared.prop.graph.Reason.TheVariants.{Binary}
-use Rattle.sat_parts.specs.prop.Values.{IsTrueLit, IsFalseLit, IsOpenLit, value_of}
+use Rattle.sat_parts.specs.prop.Values.{IsTrueLit, IsFalseLit, IsUnassignedLit, value_of}
 use Rattle.sat_parts.specs.prop.Binaries.{implied_by}
-use Rattle.sat_parts.specs.prop.State.{State, level, current_level, lit_at, IsRemoved, IsBefore, HasLeftQueue, StateIsConsistent, IsQueueCurrent, enqueued, TrailGrows}
+use Rattle.sat_parts.specs.prop.State.{PropagationState, level, current_level, lit_at, IsRemoved, IsBefore, HasLeftQueue, StateIsConsistent, IsQueueCurrent, enqueued, TrailGrows}
 use Rattle.sat_parts.specs.prop.Reasons.{Implies}
 use Rattle.sat_parts.specs.prop.Ready.{AreLists}
 use Rattle.sat_parts.specs.prop.Walk.{BinaryWalkInvariant}
@@ -16,7 +16,7 @@ use Rattle.sat_parts.proofs.lemmas.prop.StateLemmas.{negated_twice, false_from_t
 use Rattle.sat_parts.proofs.lemmas.prop.RoomLemmas.{room_for}
 use Rattle.sat_parts.proofs.lemmas.prop.ReasonLemmas.{moves_refl, moves_enqueued, moves_trans}
 
-pub binary_open : (implied : List (List ℕ)) (lit : ℕ) (s : State) → StateIsConsistent s → IsQueueCurrent s → HasLeftQueue s lit → level s lit ≡ current_level s → BinaryWalkInvariant implied lit s s 0
+pub binary_open : (implied : List (List ℕ)) (lit : ℕ) (s : PropagationState) → StateIsConsistent s → IsQueueCurrent s → HasLeftQueue s lit → level s lit ≡ current_level s → BinaryWalkInvariant implied lit s s 0
 binary_open implied lit s a q left top = record {
   agrees = a;
   queue = q;
@@ -28,7 +28,7 @@ binary_open implied lit s a q left top = record {
 }
 
 -- the literal at index `at` is already true
-pub binary_true : (implied : List (List ℕ)) (lit : ℕ) (s t : State) (at : ℕ) → BinaryWalkInvariant implied lit s t at →
+pub binary_true : (implied : List (List ℕ)) (lit : ℕ) (s t : PropagationState) (at : ℕ) → BinaryWalkInvariant implied lit s t at →
     IsTrueLit t.values (get_or (implied_by implied lit) at 0) → BinaryWalkInvariant implied lit s t (at + 1)
 binary_true implied lit s t at h holds = record {
   agrees = h.agrees;
@@ -46,20 +46,20 @@ binary_true implied lit s t at h holds = record {
 }
 
 -- a literal that has left the queue is on the trail, or was taken off it
-so_far : (s : State) (l : ℕ) → HasLeftQueue s l → IsBefore s (length s.trail.lits) l ⊎ IsRemoved s l
+so_far : (s : PropagationState) (l : ℕ) → HasLeftQueue s l → IsBefore s (length s.trail.lits) l ⊎ IsRemoved s l
 so_far s l h = elim h [
   | inl b ↦ inl (record { place = b.place; before = b.within; within = b.within; there = b.there })
   | inr r ↦ inr r
 ]
 
 -- the literal at index `at` is unassigned, and becomes true
-pub binary_enqueued : (implied : List (List ℕ)) (lit : ℕ) (s t : State) (at x f : ℕ) → BinaryWalkInvariant implied lit s t at →
-    at < length (implied_by implied lit) → x ≡ get_or (implied_by implied lit) at 0 → f ≡ negated lit → IsOpenLit t.values x → variable x < length t.values →
+pub binary_enqueued : (implied : List (List ℕ)) (lit : ℕ) (s t : PropagationState) (at x f : ℕ) → BinaryWalkInvariant implied lit s t at →
+    at < length (implied_by implied lit) → x ≡ get_or (implied_by implied lit) at 0 → f ≡ negated lit → IsUnassignedLit t.values x → variable x < length t.values →
     BinaryWalkInvariant implied lit s (enqueued x (Binary (f ∷ [])) t) (at + 1)
 binary_enqueued implied lit s t at x f h lt x_is f_is open_x small =
     let r : Reason = Binary (f ∷ []) in
     let room : length t.trail.lits < t.trail.room = room_for t x (Binary (f ∷ [])) h.agrees open_x small in
-    let u : State = enqueued x (Binary (f ∷ [])) t in
+    let u : PropagationState = enqueued x (Binary (f ∷ [])) t in
     let g : TrailGrows t (enqueued x (Binary (f ∷ [])) t) = grows_enqueued t x (Binary (f ∷ [])) h.agrees open_x small room in
     let a : StateIsConsistent (enqueued x (Binary (f ∷ [])) t) = agrees_enqueued t x (Binary (f ∷ [])) h.agrees open_x small room in
     let twice : negated f ≡ lit = ap (λ z. negated z) f_is ∙ negated_twice lit in
@@ -93,7 +93,7 @@ binary_enqueued implied lit s t at x f h lt x_is f_is open_x small =
     }
 
 -- the loop stops at a false literal
-pub binary_stopped : (implied : List (List ℕ)) (lit : ℕ) (s t : State) (at : ℕ) → BinaryWalkInvariant implied lit s t at → BinaryWalkInvariant implied lit s t 0
+pub binary_stopped : (implied : List (List ℕ)) (lit : ℕ) (s t : PropagationState) (at : ℕ) → BinaryWalkInvariant implied lit s t at → BinaryWalkInvariant implied lit s t 0
 binary_stopped implied lit s t at h = record {
   agrees = h.agrees;
   queue = h.queue;
@@ -105,7 +105,7 @@ binary_stopped implied lit s t at h = record {
 }
 
 -- both literals of the clause are false
-pub binary_conflict : (implied : List (List ℕ)) (lit : ℕ) (s t : State) (at x f : ℕ) → BinaryWalkInvariant implied lit s t at →
+pub binary_conflict : (implied : List (List ℕ)) (lit : ℕ) (s t : PropagationState) (at x f : ℕ) → BinaryWalkInvariant implied lit s t at →
     at < length (implied_by implied lit) → x ≡ get_or (implied_by implied lit) at 0 → f ≡ negated lit → IsFalseLit t.values x →
     Contains (implied_by implied (negated f)) x × IsFalseLit t.values x × IsFalseLit t.values f
 binary_conflict implied lit s t at x f h lt x_is f_is false_x =
@@ -124,7 +124,7 @@ open_cases (Some false) true t f = absurd (f refl)
 open_cases (Some false) false t f = absurd (t refl)
 
 -- a literal that is neither true nor false is unassigned
-pub open_from_not : (values : List (Option Bool)) (l : ℕ) → (IsTrueLit values l → ⊥) → (IsFalseLit values l → ⊥) → IsOpenLit values l
+pub open_from_not : (values : List (Option Bool)) (l : ℕ) → (IsTrueLit values l → ⊥) → (IsFalseLit values l → ⊥) → IsUnassignedLit values l
 open_from_not values l t f = open_cases (value_of values (variable l)) (is_positive l) t f
 
 -- implied literals are in range

@@ -15,19 +15,19 @@ use Rattle.sat_parts.specs.declared.prop.watch.Watch.{Watch}
 use Rattle.sat_parts.specs.clause.Db.{Db, live_refs, AddsLongClause}
 use Rattle.sat_parts.specs.clause.Filtered.{SameClausesAt}
 use Rattle.sat_parts.specs.clause.Stored.{lit_of}
-use Rattle.sat_parts.specs.prop.Values.{is_unset, IsTrueLit}
-use Rattle.sat_parts.specs.prop.Binaries.{Binaries, implied_by, open_among, RemovesAssigned}
+use Rattle.sat_parts.specs.prop.Values.{is_unassigned_var, IsTrueLit}
+use Rattle.sat_parts.specs.prop.Binaries.{Binaries, implied_by, unassigned_among, RemovesAssigned}
 use Rattle.sat_parts.specs.prop.WatchLists.{Watching, no_watch, watch_on, watches_of, more_at, with_watch, with_clause_watches}
-use Rattle.sat_parts.specs.prop.State.{State, node, level, current_level, lit_at, HasLeftQueue, IsSatisfied}
+use Rattle.sat_parts.specs.prop.State.{PropagationState, node, level, current_level, lit_at, HasLeftQueue, IsSatisfied}
 use Rattle.sat_parts.specs.prop.Ready.{IsSoundWatch, HasWatch, AreWatched}
-use Rattle.sat_parts.specs.prop.Asks.{PropagationInvariant, EnqueuePrecondition, IsOwnLong}
+use Rattle.sat_parts.specs.prop.Propagation.{PropagationInvariant, EnqueuePrecondition, IsOwnLong}
 use Rattle.sat_parts.proofs.lemmas.clause.ListLemmas.{place_in, at_place}
 use Rattle.sat_parts.proofs.lemmas.clause.FilterLemmas.{filtered_in}
 use Rattle.sat_parts.proofs.lemmas.prop.BuildLemmas.{live_in}
 use Rattle.sat_parts.proofs.lemmas.prop.WalkLemmas.{more_watch, new_watch, good_lists, at_two}
 
 -- fewer clauses are live, with the same literals, and every reason on the trail is one of them
-pub asks_fewer : (words refs words' refs' : List ℕ) (w w' : Watching) (implied : List (List ℕ)) (s : State) (top : ℕ) → PropagationInvariant words refs w implied s top → HoldsClauses words' refs' →
+pub asks_fewer : (words refs words' refs' : List ℕ) (w w' : Watching) (implied : List (List ℕ)) (s : PropagationState) (top : ℕ) → PropagationInvariant words refs w implied s top → HoldsClauses words' refs' →
     ((o : ℕ) → Contains (live_refs words' refs') o → Contains (live_refs words refs) o × (lits_at words' o ≡ lits_at words o)) →
     length w'.lists ≡ length w.lists → (w'.enabled ≡ true → AreWatched words' (live_refs words' refs') w'.lists (length s.values)) →
     ((i o : ℕ) → i < length s.trail.lits → (node s (lit_at s i)).reason ≡ Long o → Contains (live_refs words' refs') o) →
@@ -55,7 +55,7 @@ asks_fewer words refs words' refs' w w' implied s top h holds_clauses same room 
 }
 
 -- if the reason is not a clause, the precondition of enqueueing is the invariant
-pub asks_of_unit : (words refs : List ℕ) (w : Watching) (implied : List (List ℕ)) (s : State) (top lit : ℕ) → EnqueuePrecondition lit NoCause words refs w implied s top → PropagationInvariant words refs w implied s top
+pub asks_of_unit : (words refs : List ℕ) (w : Watching) (implied : List (List ℕ)) (s : PropagationState) (top lit : ℕ) → EnqueuePrecondition lit NoCause words refs w implied s top → PropagationInvariant words refs w implied s top
 asks_of_unit words refs w implied s top lit h = record {
   holds_clauses = h.holds_clauses;
   clauses = h.clauses;
@@ -132,7 +132,7 @@ watched_added words words' db db' o count header lits w x holds_clauses three be
 
 -- a long clause was added, which may be the reason of the next literal. If a watched literal is false and has
 -- left the queue, the clause is satisfied, or it is that reason and the literal is at the current level
-pub asks_added : (words words' : List ℕ) (db db' : Db) (o : ℕ) (header : Header) (lits : List ℕ) (w : Watching) (implied : List (List ℕ)) (s : State) (top lit : ℕ) (r : Reason) →
+pub asks_added : (words words' : List ℕ) (db db' : Db) (o : ℕ) (header : Header) (lits : List ℕ) (w : Watching) (implied : List (List ℕ)) (s : PropagationState) (top lit : ℕ) (r : Reason) →
     PropagationInvariant words db.refs w implied s top → AddsLongClause words db words' db' o header lits → AreDistinct lits → 3 ≤ length lits → ((k : ℕ) → k < length lits → get_or lits k 0 < 2 * length s.values) →
     ((i : ℕ) → i < 2 → HasLeftQueue s (negated (get_or lits i 0)) → level s (negated (get_or lits i 0)) < top →
     IsSatisfied s lits (level s (negated (get_or lits i 0))) ⊎ (IsOwnLong r o × (current_level s ≤ level s (negated (get_or lits i 0))))) →
@@ -172,21 +172,21 @@ asks_added words words' db db' o header lits w implied s top lit r h x apart thr
       binary = λ l k f g b. inl (h.binary l k f g b);
     }
 
--- the literals that `open_among` keeps are in the list
-open_in : (values : List (Option Bool)) (v m : ℕ) (ls : List ℕ) → Contains (open_among values v ls) m → Contains ls m
+-- the literals that `unassigned_among` keeps are in the list
+open_in : (values : List (Option Bool)) (v m : ℕ) (ls : List ℕ) → Contains (unassigned_among values v ls) m → Contains ls m
 open_in values v m ls c =
-    elim (cases_Bool (is_unset values v)) [
+    elim (cases_Bool (is_unassigned_var values v)) [
       | inl on ↦
-          let e : open_among values v ls ≡ filter (λ l. is_unset values (variable l)) ls = cond-true (is_unset values v) (filter (λ l. is_unset values (variable l)) ls) [] on in
-          All-contains (Contains ls) (filter (λ l. is_unset values (variable l)) ls) m
-          (All-filter (λ l. is_unset values (variable l)) (Contains ls) ls (All-contains_itself ls)) (subst (λ (xs : List ℕ). Contains xs m) e c)
+          let e : unassigned_among values v ls ≡ filter (λ l. is_unassigned_var values (variable l)) ls = cond-true (is_unassigned_var values v) (filter (λ l. is_unassigned_var values (variable l)) ls) [] on in
+          All-contains (Contains ls) (filter (λ l. is_unassigned_var values (variable l)) ls) m
+          (All-filter (λ l. is_unassigned_var values (variable l)) (Contains ls) ls (All-contains_itself ls)) (subst (λ (xs : List ℕ). Contains xs m) e c)
       | inr off ↦
-          let e : open_among values v ls ≡ [] = cond-false (is_unset values v) (filter (λ l. is_unset values (variable l)) ls) [] off in
+          let e : unassigned_among values v ls ≡ [] = cond-false (is_unassigned_var values v) (filter (λ l. is_unassigned_var values (variable l)) ls) [] off in
           absurd (omega (arith, (subst (λ (xs : List ℕ). Contains xs m) e c).1))
     ]
 
 -- the binary clauses with an assigned variable were removed
-pub asks_removed : (words refs : List ℕ) (w : Watching) (old new : Binaries) (s : State) (top : ℕ) → PropagationInvariant words refs w old.implied s top → RemovesAssigned s.values old new →
+pub asks_removed : (words refs : List ℕ) (w : Watching) (old new : Binaries) (s : PropagationState) (top : ℕ) → PropagationInvariant words refs w old.implied s top → RemovesAssigned s.values old new →
     PropagationInvariant words refs w new.implied s top
 asks_removed words refs w old new s top h x =
     let was : (l k : ℕ) → k < length (implied_by new.implied l) → Contains (implied_by old.implied l) (get_or (implied_by new.implied l) k 0) = λ l k b.
@@ -212,7 +212,7 @@ asks_removed words refs w old new s top h x =
     }
 
 -- a pass over the clauses kept the reasons on the trail
-pub asks_filtered : {F : Type 0} (R : F → ℕ → Bool → F → Type 0) (f : F) (words refs words' : List ℕ) (w : Watching) (implied : List (List ℕ)) (s : State) (top : ℕ) →
+pub asks_filtered : {F : Type 0} (R : F → ℕ → Bool → F → Type 0) (f : F) (words refs words' : List ℕ) (w : Watching) (implied : List (List ℕ)) (s : PropagationState) (top : ℕ) →
     PropagationInvariant words refs w implied s top → IsFiltered R f (live_refs words refs) (live_refs words' refs) → SameClausesAt words words' (live_refs words' refs) → HoldsClauses words' refs →
     ((i o : ℕ) → i < length s.trail.lits → (node s (lit_at s i)).reason ≡ Long o → Contains (live_refs words' refs) o) →
     PropagationInvariant words' refs (record w { enabled = false }) implied s top

@@ -14,32 +14,32 @@ use Rattle.sat_parts.specs.clause.Collected.{FollowsClause, Collects}
 use Rattle.sat_parts.specs.clause.Stored.{lit_of}
 use Rattle.sat_parts.specs.prop.Trails.{LevelIs}
 use Rattle.sat_parts.specs.prop.WatchLists.{Watching}
-use Rattle.sat_parts.specs.prop.State.{State, node, level, lit_at, IsRemoved, HasLeftQueue, StateIsConsistent, IsSatisfied}
-use Rattle.sat_parts.specs.prop.Asks.{PropagationInvariant}
+use Rattle.sat_parts.specs.prop.State.{PropagationState, node, level, lit_at, IsRemoved, HasLeftQueue, StateIsConsistent, IsSatisfied}
+use Rattle.sat_parts.specs.prop.Propagation.{PropagationInvariant}
 use Rattle.sat_parts.proofs.lemmas.prop.BuildLemmas.{live_in}
 use Rattle.sat_parts.proofs.lemmas.clause.ListLemmas.{at_place, place_in}
 use Rattle.sat_parts.proofs.lemmas.clause.GcLemmas.{long_same}
 
 -- the state with other nodes
-abbrev pub with_graph : State → List ImplNode → State
+abbrev pub with_graph : PropagationState → List ImplNode → PropagationState
 with_graph s nodes = record s { nodes = nodes }
 
-removed_back : (words : List ℕ) (db : Db) (s : State) (words' : List ℕ) (db' : Db) (nodes' : List ImplNode) (l : ℕ) → Collects words db s.nodes s.trail.lits words' db' nodes' →
+removed_back : (words : List ℕ) (db : Db) (s : PropagationState) (words' : List ℕ) (db' : Db) (nodes' : List ImplNode) (l : ℕ) → Collects words db s.nodes s.trail.lits words' db' nodes' →
     IsRemoved (with_graph s nodes') l → IsRemoved s l
 removed_back words db s words' db' nodes' l x r = record { holds = r.holds; depth = sym (x.depths (variable l)) ∙ r.depth; bottom = sym (x.levels (variable l)) ∙ r.bottom }
 
-removed_on : (words : List ℕ) (db : Db) (s : State) (words' : List ℕ) (db' : Db) (nodes' : List ImplNode) (l : ℕ) → Collects words db s.nodes s.trail.lits words' db' nodes' →
+removed_on : (words : List ℕ) (db : Db) (s : PropagationState) (words' : List ℕ) (db' : Db) (nodes' : List ImplNode) (l : ℕ) → Collects words db s.nodes s.trail.lits words' db' nodes' →
     IsRemoved s l → IsRemoved (with_graph s nodes') l
 removed_on words db s words' db' nodes' l x r = record { holds = r.holds; depth = x.depths (variable l) ∙ r.depth; bottom = x.levels (variable l) ∙ r.bottom }
 
-left_back : (words : List ℕ) (db : Db) (s : State) (words' : List ℕ) (db' : Db) (nodes' : List ImplNode) (l : ℕ) → Collects words db s.nodes s.trail.lits words' db' nodes' →
+left_back : (words : List ℕ) (db : Db) (s : PropagationState) (words' : List ℕ) (db' : Db) (nodes' : List ImplNode) (l : ℕ) → Collects words db s.nodes s.trail.lits words' db' nodes' →
     HasLeftQueue (with_graph s nodes') l → HasLeftQueue s l
 left_back words db s words' db' nodes' l x h = elim h [
   | inl b ↦ inl (record { place = b.place; before = b.before; within = b.within; there = b.there })
   | inr r ↦ inr (removed_back words db s words' db' nodes' l x r)
 ]
 
-agrees_collected : (words : List ℕ) (db : Db) (s : State) (words' : List ℕ) (db' : Db) (nodes' : List ImplNode) → Collects words db s.nodes s.trail.lits words' db' nodes' → StateIsConsistent s →
+agrees_collected : (words : List ℕ) (db : Db) (s : PropagationState) (words' : List ℕ) (db' : Db) (nodes' : List ImplNode) → Collects words db s.nodes s.trail.lits words' db' nodes' → StateIsConsistent s →
     StateIsConsistent (with_graph s nodes')
 agrees_collected words db s words' db' nodes' x h = record {
   trail = h.trail;
@@ -65,12 +65,12 @@ followed_first words live words' refs' lit o (Long p) r' n same first h e =
       ap (λ z. lit_of words' z 0) (sym q) ∙ ap (λ (ls : List ℕ). get_or ls 0 0) (same h.0 h.1.0) ∙ ap (λ z. lit_of words z 0) h.1.1 ∙ first p refl,
     )
 
-pub asks_collected : (words : List ℕ) (db : Db) (s : State) (words' : List ℕ) (db' : Db) (nodes' : List ImplNode) (w w' : Watching) (implied : List (List ℕ)) (top : ℕ) →
+pub asks_collected : (words : List ℕ) (db : Db) (s : PropagationState) (words' : List ℕ) (db' : Db) (nodes' : List ImplNode) (w w' : Watching) (implied : List (List ℕ)) (top : ℕ) →
     Collects words db s.nodes s.trail.lits words' db' nodes' → w'.enabled ≡ false → length w'.lists ≡ length w.lists → PropagationInvariant words db.refs w implied s top →
     PropagationInvariant words' db'.refs w' implied (with_graph s nodes') top
 asks_collected words db s words' db' nodes' w w' implied top x off size h =
     let live : List ℕ = live_refs words db.refs in
-    let t : State = with_graph s nodes' in
+    let t : PropagationState = with_graph s nodes' in
     let from : (P : List ℕ → Type 0) → ((p : ℕ) → Contains (live_refs words db.refs) p → P (lits_at words p)) → (p : ℕ) → Contains (live_refs words' db'.refs) p → P (lits_at words' p) = λ P old p c.
     let d : Contains db'.refs p = subst (λ (xs : List ℕ). Contains xs p) x.live c in
     let lt : d.0 < length (live_refs words db.refs) = omega (arith, d.1, x.copies.size) in

@@ -9,14 +9,14 @@ use Rattle.sat_parts.specs.clause.Orders.{IsReordering, PermutesClause}
 use Rattle.sat_parts.specs.clause.Stored.{AreClauses, lit_of, size_of}
 use Rattle.sat_parts.specs.prop.Values.{IsTrueLit, IsFalseLit}
 use Rattle.sat_parts.specs.prop.WatchLists.{no_watch, watch_on, more_at}
-use Rattle.sat_parts.specs.prop.State.{State, level, HasLeftQueue, StateIsConsistent, IsQueueCurrent, IsSatisfied, TrailGrows}
+use Rattle.sat_parts.specs.prop.State.{PropagationState, level, HasLeftQueue, StateIsConsistent, IsQueueCurrent, IsSatisfied, TrailGrows}
 use Rattle.sat_parts.specs.prop.Ready.{HasLit}
 use Rattle.sat_parts.specs.prop.Walk.{HasWatchFrom, AreWalked, WalkInvariant, IsOther}
 use Rattle.sat_parts.proofs.lemmas.clause.OrderLemmas.{kept_clauses, reorders_one}
 use Rattle.sat_parts.proofs.lemmas.prop.StateLemmas.{negated_twice, false_from_true, left_true, left_back, left_forth, level_kept, satisfied_forth}
 use Rattle.sat_parts.proofs.lemmas.prop.WalkLemmas.{same_lits, shuffled_all, first_two, KeepsFirstTwo, at_two, walked_kept, walked_stale, walked_moved, not_watched, first_other}
 
-pub satisfied_order : (s : State) (ls ms : List ℕ) (bound : ℕ) → IsReordering ls ms → IsSatisfied s ls bound → IsSatisfied s ms bound
+pub satisfied_order : (s : PropagationState) (ls ms : List ℕ) (bound : ℕ) → IsReordering ls ms → IsSatisfied s ls bound → IsSatisfied s ms bound
 satisfied_order s ls ms bound e h =
     let m : (j : ℕ) × ((j < length ls) × (get_or ms j 0 ≡ get_or ls h.place 0)) = e.forth h.place h.within in
     record {
@@ -27,12 +27,12 @@ satisfied_order s ls ms bound e h =
     }
 
 -- a watch is on a live clause
-pub place_live : (w live : List ℕ) (s : State) (lists : List (List Watch)) (list : List Watch) (lit kept at p : ℕ) →
+pub place_live : (w live : List ℕ) (s : PropagationState) (lists : List (List Watch)) (list : List Watch) (lit kept at p : ℕ) →
     WalkInvariant w live s lists list lit kept at → at < length list → p ≡ (get_or list at no_watch).cref → Contains live p
 place_live w live s lists list lit kept at p h lt at_p = subst (λ (z : ℕ). Contains live z) (sym at_p) (h.walked.mine at lt).0
 
 -- the clause is satisfied, and its watch at index `at` moves to index `kept`
-pub half_kept : (w v live : List ℕ) (s : State) (lists : List (List Watch)) (list : List Watch) (lit kept at p l : ℕ) →
+pub half_kept : (w v live : List ℕ) (s : PropagationState) (lists : List (List Watch)) (list : List Watch) (lit kept at p l : ℕ) →
     WalkInvariant w live s lists list lit kept at → at < length list → p ≡ (get_or list at no_watch).cref →
     PermutesClause w v p → KeepsFirstTwo w v p → HasLit v p l → IsSatisfied s (lits_at v p) (level s lit) →
     WalkInvariant v live s lists (set list kept (watch_on p l)) lit (kept + 1) (at + 1)
@@ -65,7 +65,7 @@ half_kept w v live s lists list lit kept at p l h lt at_p e two has sat =
     }
 
 -- the watch at index `at` is dropped, because its clause does not watch the negation of lit
-pub half_stale : (w live : List ℕ) (s : State) (lists : List (List Watch)) (list : List Watch) (lit kept at p : ℕ) →
+pub half_stale : (w live : List ℕ) (s : PropagationState) (lists : List (List Watch)) (list : List Watch) (lit kept at p : ℕ) →
     WalkInvariant w live s lists list lit kept at → at < length list → p ≡ (get_or list at no_watch).cref →
     lit_of w p 0 ≢ negated lit → lit_of w p 1 ≢ negated lit →
     WalkInvariant w live s lists list lit kept (at + 1)
@@ -88,7 +88,7 @@ half_stale w live s lists list lit kept at p h lt at_p n0 n1 = record {
 }
 
 -- the watch at index `at` is dropped; its clause watches its new second literal instead, which is not false
-pub half_moved : (w v live : List ℕ) (s : State) (lists : List (List Watch)) (list : List Watch) (lit kept at p : ℕ) →
+pub half_moved : (w v live : List ℕ) (s : PropagationState) (lists : List (List Watch)) (list : List Watch) (lit kept at p : ℕ) →
     WalkInvariant w live s lists list lit kept at → at < length list → p ≡ (get_or list at no_watch).cref →
     PermutesClause w v p → IsOther w v p (negated lit) → (IsFalseLit s.values (lit_of v p 1) → ⊥) →
     WalkInvariant v live s (more_at (negated (lit_of v p 1)) (watch_on p (lit_of v p 0)) lists) list lit kept (at + 1)
@@ -131,7 +131,7 @@ half_moved w v live s lists list lit kept at p h lt at_p e other opened =
     }
 
 -- unassigned literals become true
-pub half_grows : (w live : List ℕ) (s t : State) (lists : List (List Watch)) (list : List Watch) (lit kept at : ℕ) →
+pub half_grows : (w live : List ℕ) (s t : PropagationState) (lists : List (List Watch)) (list : List Watch) (lit kept at : ℕ) →
     WalkInvariant w live s lists list lit kept at → TrailGrows s t → t.trail.head ≡ s.trail.head → StateIsConsistent t → IsQueueCurrent t → WalkInvariant w live t lists list lit kept at
 half_grows w live s t lists list lit kept at h g e a q =
     let lt : IsTrueLit s.values lit = left_true s lit h.agrees h.left in

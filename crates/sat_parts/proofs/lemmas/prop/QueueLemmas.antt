@@ -11,7 +11,7 @@ use Rattle.sat_parts.specs.declared.prop.watch.Watch.{Watch}
 use Rattle.sat_parts.specs.clause.Stored.{AreClauses, lit_of, size_of}
 use Rattle.sat_parts.specs.prop.Values.{IsTrueLit, IsFalseLit}
 use Rattle.sat_parts.specs.prop.Binaries.{implied_by}
-use Rattle.sat_parts.specs.prop.State.{State, node, level, current_level, lit_at, IsRemoved, IsBefore, HasLeftQueue, StateIsConsistent, IsQueueCurrent, IsSatisfied, TrailGrows}
+use Rattle.sat_parts.specs.prop.State.{PropagationState, node, level, current_level, lit_at, IsRemoved, IsBefore, HasLeftQueue, StateIsConsistent, IsQueueCurrent, IsSatisfied, TrailGrows}
 use Rattle.sat_parts.specs.prop.Reasons.{HaveFirsts, PropagatesOn}
 use Rattle.sat_parts.specs.prop.Ready.{AreImplied, AreWatched, AreLists, LongReady, ReadyBelow, IsReadyToPropagate, IsUnitFixpoint, IsConflict}
 use Rattle.sat_parts.specs.prop.Walk.{BinaryWalkInvariant, WatchWalkEffect, due_after}
@@ -20,13 +20,13 @@ use Rattle.sat_parts.proofs.lemmas.prop.StateLemmas.{true_from_false, not_both, 
 use Rattle.sat_parts.proofs.lemmas.prop.ReasonLemmas.{moves_trans, implies_forth, firsts_moved}
 
 -- the state after the next literal left the queue
-abbrev pub popped : State → State
+abbrev pub popped : PropagationState → PropagationState
 popped s = record s { trail = record s.trail { head = s.trail.head + 1 } }
 
-pub popped_removed : (s : State) (l : ℕ) → IsRemoved (popped s) l → IsRemoved s l
+pub popped_removed : (s : PropagationState) (l : ℕ) → IsRemoved (popped s) l → IsRemoved s l
 popped_removed s l r = record { holds = r.holds; depth = r.depth; bottom = r.bottom }
 
-pub grows_popped : (s : State) → TrailGrows s (popped s)
+pub grows_popped : (s : PropagationState) → TrailGrows s (popped s)
 grows_popped s = record {
   size = refl;
   starts = refl;
@@ -39,7 +39,7 @@ grows_popped s = record {
   removed = λ l r. popped_removed s l r;
 }
 
-pub agrees_popped : (s : State) → StateIsConsistent s → s.trail.head < length s.trail.lits → StateIsConsistent (popped s)
+pub agrees_popped : (s : PropagationState) → StateIsConsistent s → s.trail.head < length s.trail.lits → StateIsConsistent (popped s)
 agrees_popped s h lt = record {
   trail = record { queue = omega arith; levels = h.trail.levels; fits = h.trail.fits; small = h.trail.small; counted = h.trail.counted };
   nodes = h.nodes;
@@ -53,7 +53,7 @@ agrees_popped s h lt = record {
   ];
 }
 
-pub moves_popped : (live : List ℕ) (implied : List (List ℕ)) (words : List ℕ) (s : State) → PropagatesOn live implied words s words (popped s)
+pub moves_popped : (live : List ℕ) (implied : List (List ℕ)) (words : List ℕ) (s : PropagationState) → PropagatesOn live implied words s words (popped s)
 moves_popped live implied words s = record {
   grows = grows_popped s;
   reorders = reorders_refl words live;
@@ -63,16 +63,16 @@ moves_popped live implied words s = record {
 }
 
 -- the next literal of the queue
-pub next_there : (s : State) (l : ℕ) → slice_get s.trail.lits s.trail.head ≡ Some l → (s.trail.head < length s.trail.lits) × (lit_at s s.trail.head ≡ l)
+pub next_there : (s : PropagationState) (l : ℕ) → slice_get s.trail.lits s.trail.head ≡ Some l → (s.trail.head < length s.trail.lits) × (lit_at s s.trail.head ≡ l)
 next_there s l e =
     let lt : s.trail.head < length s.trail.lits = slice_get_within s.trail.lits s.trail.head l e in
     (lt, (let x : Some (lit_at s s.trail.head) ≡ Some l = sym (slice_get-get_or s.trail.lits s.trail.head 0 lt) ∙ e in cc))
 
-pub popped_left : (s : State) (l : ℕ) → s.trail.head < length s.trail.lits → lit_at s s.trail.head ≡ l → HasLeftQueue (popped s) l
+pub popped_left : (s : PropagationState) (l : ℕ) → s.trail.head < length s.trail.lits → lit_at s s.trail.head ≡ l → HasLeftQueue (popped s) l
 popped_left s l lt e = inl (record { place = s.trail.head; before = omega arith; within = lt; there = e })
 
 -- every other literal that has left the queue had left it before
-pub popped_back : (s : State) (l m : ℕ) → lit_at s s.trail.head ≡ l → HasLeftQueue (popped s) m → m ≢ l → HasLeftQueue s m
+pub popped_back : (s : PropagationState) (l m : ℕ) → lit_at s s.trail.head ≡ l → HasLeftQueue (popped s) m → m ≢ l → HasLeftQueue s m
 popped_back s l m e h n = elim h [
   | inl b ↦ elim (cases_eq b.place s.trail.head) [
     | inl q ↦ absurd (n (sym b.there ∙ ap (λ i. lit_at s i) q ∙ e))
@@ -81,14 +81,14 @@ popped_back s l m e h n = elim h [
   | inr r ↦ inr (popped_removed s m r)
 ]
 
-pub queue_popped : (s : State) → IsQueueCurrent s → IsQueueCurrent (popped s)
+pub queue_popped : (s : PropagationState) → IsQueueCurrent s → IsQueueCurrent (popped s)
 queue_popped s q i x y = q i (omega arith) y
 
 -- every literal that has left the queue is at the current level or lower
-all_due : (s : State) (l : ℕ) → StateIsConsistent s → HasLeftQueue s l → level s l < current_level s + 1
+all_due : (s : PropagationState) (l : ℕ) → StateIsConsistent s → HasLeftQueue s l → level s l < current_level s + 1
 all_due s l a h = omega (arith, level_low s l a (left_true s l a h))
 
-pub long_popped : (w live : List ℕ) (lists : List (List Watch)) (s : State) (l : ℕ) → LongReady w live lists s (λ m. level s m < current_level s + 1) →
+pub long_popped : (w live : List ℕ) (lists : List (List Watch)) (s : PropagationState) (l : ℕ) → LongReady w live lists s (λ m. level s m < current_level s + 1) →
     s.trail.head < length s.trail.lits → lit_at s s.trail.head ≡ l → LongReady w live lists (popped s) (λ m. m ≢ l)
 long_popped w live lists s l h lt e = record {
   clauses = h.clauses;
@@ -100,14 +100,14 @@ long_popped w live lists s l h lt e = record {
       satisfied_forth s (popped s) (lits_at w o) (level s (negated (lit_of w o i))) (grows_popped s) (h.settled o i ho hi x (all_due s (negated (lit_of w o i)) h.agrees x));
 }
 
-pub implied_popped : (implied : List (List ℕ)) (s : State) (l : ℕ) → StateIsConsistent s → AreImplied implied s (λ m. level s m < current_level s + 1) →
+pub implied_popped : (implied : List (List ℕ)) (s : PropagationState) (l : ℕ) → StateIsConsistent s → AreImplied implied s (λ m. level s m < current_level s + 1) →
     lit_at s s.trail.head ≡ l → AreImplied implied (popped s) (λ m. m ≢ l)
 implied_popped implied s l a h e m k f n b =
     let x : HasLeftQueue s m = popped_back s l m e f n in
     h m k x (all_due s m a x) b
 
 -- unassigned literals become true, and propagated clauses stay so
-pub long_grows : (w live : List ℕ) (lists : List (List Watch)) (s t : State) (due : ℕ → Type 0) → LongReady w live lists s due →
+pub long_grows : (w live : List ℕ) (lists : List (List Watch)) (s t : PropagationState) (due : ℕ → Type 0) → LongReady w live lists s due →
     TrailGrows s t → t.trail.head ≡ s.trail.head → StateIsConsistent t → IsQueueCurrent t → LongReady w live lists t due
 long_grows w live lists s t due h g e a q = record {
   clauses = subst (λ (n : ℕ). AreClauses w live n) (sym g.size) h.clauses;
@@ -121,7 +121,7 @@ long_grows w live lists s t due h g e a q = record {
       (subst (λ (n : ℕ). IsSatisfied s (lits_at w o) n) (sym same) (h.settled o i ho hi x d));
 }
 
-pub implied_grows : (implied : List (List ℕ)) (s t : State) (due : ℕ → Type 0) → StateIsConsistent s → AreImplied implied s due →
+pub implied_grows : (implied : List (List ℕ)) (s t : PropagationState) (due : ℕ → Type 0) → StateIsConsistent s → AreImplied implied s due →
     TrailGrows s t → t.trail.head ≡ s.trail.head → AreImplied implied t due
 implied_grows implied s t due a h g e m k f d b =
     let x : HasLeftQueue s m = left_back s t m g e a.trail f in
@@ -131,7 +131,7 @@ implied_grows implied s t due a h g e m k f d b =
     )
 
 -- fewer literals are due
-pub long_due : (w live : List ℕ) (lists : List (List Watch)) (s : State) (due due' : ℕ → Type 0) → LongReady w live lists s due →
+pub long_due : (w live : List ℕ) (lists : List (List Watch)) (s : PropagationState) (due due' : ℕ → Type 0) → LongReady w live lists s due →
     ((m : ℕ) → HasLeftQueue s m → due' m → due m) → LongReady w live lists s due'
 long_due w live lists s due due' h fewer = record {
   clauses = h.clauses;
@@ -142,7 +142,7 @@ long_due w live lists s due due' h fewer = record {
 }
 
 -- the literals that l implies are true: implications hold for all literals that have left the queue
-pub binary_settled : (implied : List (List ℕ)) (s t : State) (l : ℕ) → StateIsConsistent s → AreImplied implied s (λ m. m ≢ l) →
+pub binary_settled : (implied : List (List ℕ)) (s t : PropagationState) (l : ℕ) → StateIsConsistent s → AreImplied implied s (λ m. m ≢ l) →
     BinaryWalkInvariant implied l s t (length (implied_by implied l)) → AreImplied implied t (λ m. level t m < current_level t + 1)
 binary_settled implied s t l a h w m k f d b =
     let g : TrailGrows s t = (w.moves [] []).grows in
@@ -155,13 +155,13 @@ binary_settled implied s t l a h w m k f d b =
     ]
 
 -- the loop over binary clauses stopped: implications hold below the current level
-pub binary_below : (implied : List (List ℕ)) (s t : State) (l : ℕ) → StateIsConsistent s → AreImplied implied s (λ m. m ≢ l) →
+pub binary_below : (implied : List (List ℕ)) (s t : PropagationState) (l : ℕ) → StateIsConsistent s → AreImplied implied s (λ m. m ≢ l) →
     BinaryWalkInvariant implied l s t 0 → AreImplied implied t (λ m. level t m < current_level t)
 binary_below implied s t l a h w m k f d b =
     let n : m ≢ l = λ e. (let x : level t m ≡ level t l = ap (λ z. level t z) e in omega (arith, w.top)) in
     implied_grows implied s t (λ z. z ≢ l) a h (w.moves [] []).grows w.head m k f n b
 
-pub binary_long : (w live : List ℕ) (lists : List (List Watch)) (implied : List (List ℕ)) (s t : State) (l at : ℕ) →
+pub binary_long : (w live : List ℕ) (lists : List (List Watch)) (implied : List (List ℕ)) (s t : PropagationState) (l at : ℕ) →
     LongReady w live lists s (λ m. m ≢ l) → BinaryWalkInvariant implied l s t at → LongReady w live lists t (λ m. m ≢ l)
 binary_long w live lists implied s t l at h b = long_grows w live lists s t (λ m. m ≢ l) h (b.moves [] []).grows b.head b.agrees b.queue
 
@@ -170,7 +170,7 @@ binary_names words live implied values (Binary ls) h = h
 binary_names words live implied values (Long o) h = absurd (omega (arith, h.0.1))
 
 -- the state after a falsified binary clause was found
-pub stopped_binary : (w live : List ℕ) (lists : List (List Watch)) (implied : List (List ℕ)) (s t : State) (l : ℕ) →
+pub stopped_binary : (w live : List ℕ) (lists : List (List Watch)) (implied : List (List ℕ)) (s t : PropagationState) (l : ℕ) →
     LongReady w live lists s (λ m. m ≢ l) → AreLists implied (length s.values) → AreImplied implied s (λ m. m ≢ l) → HaveFirsts w live s →
     BinaryWalkInvariant implied l s t 0 → ReadyBelow w live lists implied t (current_level t)
 stopped_binary w live lists implied s t l h ranges i firsts b = record {
@@ -182,7 +182,7 @@ stopped_binary w live lists implied s t l h ranges i firsts b = record {
 }
 
 -- the state after the long clauses were visited without a conflict
-pub ready_again : (w v live : List ℕ) (lists : List (List Watch)) (implied : List (List ℕ)) (s t : State) →
+pub ready_again : (w v live : List ℕ) (lists : List (List Watch)) (implied : List (List ℕ)) (s t : PropagationState) →
     StateIsConsistent s → AreLists implied (length s.values) → AreImplied implied s (λ m. level s m < current_level s + 1) → HaveFirsts w live s →
     WatchWalkEffect live w s v t lists None → IsReadyToPropagate v live lists implied t
 ready_again w v live lists implied s t a ranges i firsts x =
@@ -194,7 +194,7 @@ ready_again w v live lists implied s t a ranges i firsts x =
       firsts = firsts_moved live implied w s v t a (x.moves implied) firsts;
     }
 
-pub stopped_long : (w v live : List ℕ) (lists : List (List Watch)) (implied : List (List ℕ)) (s t : State) (o : ℕ) →
+pub stopped_long : (w v live : List ℕ) (lists : List (List Watch)) (implied : List (List ℕ)) (s t : PropagationState) (o : ℕ) →
     StateIsConsistent s → AreLists implied (length s.values) → AreImplied implied s (λ m. level s m < current_level s + 1) → HaveFirsts w live s →
     WatchWalkEffect live w s v t lists (Some o) → ReadyBelow v live lists implied t (current_level t)
 stopped_long w v live lists implied s t o a ranges i firsts x =
@@ -207,21 +207,21 @@ stopped_long w v live lists implied s t o a ranges i firsts x =
     }
 
 -- if the queue is empty, every true literal has left it
-all_left : (s : State) (l : ℕ) → StateIsConsistent s → s.trail.head ≡ length s.trail.lits → IsTrueLit s.values l → HasLeftQueue s l
+all_left : (s : PropagationState) (l : ℕ) → StateIsConsistent s → s.trail.head ≡ length s.trail.lits → IsTrueLit s.values l → HasLeftQueue s l
 all_left s l a e t = elim (a.known l t) [
   | inl b ↦ inl (subst (λ (n : ℕ). IsBefore s n l) (sym e) b)
   | inr r ↦ inr r
 ]
 
 -- if the queue is empty, a clause with a false literal among its first two is satisfied
-settled_by : (w live : List ℕ) (lists : List (List Watch)) (s : State) (o i : ℕ) → LongReady w live lists s (λ m. level s m < current_level s + 1) → s.trail.head ≡ length s.trail.lits →
+settled_by : (w live : List ℕ) (lists : List (List Watch)) (s : PropagationState) (o i : ℕ) → LongReady w live lists s (λ m. level s m < current_level s + 1) → s.trail.head ≡ length s.trail.lits →
     Contains live o → i < 2 → IsFalseLit s.values (lit_of w o i) → IsSatisfied s (lits_at w o) (level s (negated (lit_of w o i)))
 settled_by w live lists s o i h e ho hi f =
     let x : HasLeftQueue s (negated (lit_of w o i)) = all_left s (negated (lit_of w o i)) h.agrees e (true_from_false s.values (lit_of w o i) f) in
     h.settled o i ho hi x (all_due s (negated (lit_of w o i)) h.agrees x)
 
 -- if the queue is empty, no clause is falsified or unit
-pub complete : (w live : List ℕ) (lists : List (List Watch)) (implied : List (List ℕ)) (s : State) → IsReadyToPropagate w live lists implied s → s.trail.head ≡ length s.trail.lits →
+pub complete : (w live : List ℕ) (lists : List (List Watch)) (implied : List (List ℕ)) (s : PropagationState) → IsReadyToPropagate w live lists implied s → s.trail.head ≡ length s.trail.lits →
     IsUnitFixpoint w live implied s.values
 complete w live lists implied s h e = record {
   not_falsified = λ o ho f.
@@ -246,39 +246,39 @@ complete w live lists implied s h e = record {
 }
 
 -- the next literal of the queue, as `pop_queue` returns it
-abbrev pub IsNext : State → ℕ → Type 0
+abbrev pub IsNext : PropagationState → ℕ → Type 0
 IsNext s l = slice_get s.trail.lits s.trail.head ≡ Some l
 
 -- what propagation over binary clauses requires
-pub next_agrees : (s : State) (l : ℕ) → StateIsConsistent s → IsNext s l → StateIsConsistent (popped s)
+pub next_agrees : (s : PropagationState) (l : ℕ) → StateIsConsistent s → IsNext s l → StateIsConsistent (popped s)
 next_agrees s l a e = agrees_popped s a (next_there s l e).0
 
-pub next_left : (s : State) (l : ℕ) → IsNext s l → HasLeftQueue (popped s) l
+pub next_left : (s : PropagationState) (l : ℕ) → IsNext s l → HasLeftQueue (popped s) l
 next_left s l e = popped_left s l (next_there s l e).0 (next_there s l e).1
 
-pub next_top : (s : State) (l : ℕ) → IsQueueCurrent s → IsNext s l → level (popped s) l ≡ current_level (popped s)
+pub next_top : (s : PropagationState) (l : ℕ) → IsQueueCurrent s → IsNext s l → level (popped s) l ≡ current_level (popped s)
 next_top s l q e = ap (λ m. level s m) (sym (next_there s l e).1) ∙ q s.trail.head (omega arith) (next_there s l e).0
 
 -- what propagation over long clauses requires
-pub next_long : (w live : List ℕ) (lists : List (List Watch)) (implied : List (List ℕ)) (s t : State) (l : ℕ) →
+pub next_long : (w live : List ℕ) (lists : List (List Watch)) (implied : List (List ℕ)) (s t : PropagationState) (l : ℕ) →
     IsReadyToPropagate w live lists implied s → IsNext s l → BinaryWalkInvariant implied l (popped s) t (length (implied_by implied l)) →
     LongReady w live lists t (λ m. m ≢ l)
 next_long w live lists implied s t l h e b =
     binary_long w live lists implied (popped s) t l (length (implied_by implied l)) (long_popped w live lists s l h.long (next_there s l e).0 (next_there s l e).1) b
 
-pub next_stops_binary : (w live : List ℕ) (lists : List (List Watch)) (implied : List (List ℕ)) (s t : State) (l : ℕ) →
+pub next_stops_binary : (w live : List ℕ) (lists : List (List Watch)) (implied : List (List ℕ)) (s t : PropagationState) (l : ℕ) →
     IsReadyToPropagate w live lists implied s → IsNext s l → BinaryWalkInvariant implied l (popped s) t 0 → ReadyBelow w live lists implied t (current_level t)
 next_stops_binary w live lists implied s t l h e b =
     stopped_binary w live lists implied (popped s) t l (long_popped w live lists s l h.long (next_there s l e).0 (next_there s l e).1) h.ranges
     (implied_popped implied s l h.long.agrees h.binary (next_there s l e).1) h.firsts b
 
 -- after propagation over binary clauses
-middle_binary : (implied : List (List ℕ)) (s t : State) (l : ℕ) → StateIsConsistent s → AreImplied implied s (λ m. level s m < current_level s + 1) → IsNext s l →
+middle_binary : (implied : List (List ℕ)) (s t : PropagationState) (l : ℕ) → StateIsConsistent s → AreImplied implied s (λ m. level s m < current_level s + 1) → IsNext s l →
     BinaryWalkInvariant implied l (popped s) t (length (implied_by implied l)) → AreImplied implied t (λ m. level t m < current_level t + 1)
 middle_binary implied s t l a i e b =
     binary_settled implied (popped s) t l (next_agrees s l a e) (implied_popped implied s l a i (next_there s l e).1) b
 
-pub next_goes_on : (w v live : List ℕ) (lists lists' : List (List Watch)) (implied : List (List ℕ)) (s t u : State) (l : ℕ) →
+pub next_goes_on : (w v live : List ℕ) (lists lists' : List (List Watch)) (implied : List (List ℕ)) (s t u : PropagationState) (l : ℕ) →
     IsReadyToPropagate w live lists implied s → IsNext s l → BinaryWalkInvariant implied l (popped s) t (length (implied_by implied l)) → WatchWalkEffect live w t v u lists' None →
     IsReadyToPropagate v live lists' implied u
 next_goes_on w v live lists lists' implied s t u l h e b x =
@@ -287,7 +287,7 @@ next_goes_on w v live lists lists' implied s t u l h e b x =
     (middle_binary implied s t l h.long.agrees h.binary e b)
     (firsts_moved live implied w (popped s) w t (next_agrees s l h.long.agrees e) (b.moves w live) h.firsts) x
 
-pub next_stops_long : (w v live : List ℕ) (lists lists' : List (List Watch)) (implied : List (List ℕ)) (s t u : State) (l o : ℕ) →
+pub next_stops_long : (w v live : List ℕ) (lists lists' : List (List Watch)) (implied : List (List ℕ)) (s t u : PropagationState) (l o : ℕ) →
     IsReadyToPropagate w live lists implied s → IsNext s l → BinaryWalkInvariant implied l (popped s) t (length (implied_by implied l)) → WatchWalkEffect live w t v u lists' (Some o) →
     ReadyBelow v live lists' implied u (current_level u)
 next_stops_long w v live lists lists' implied s t u l o h e b x =
@@ -297,18 +297,18 @@ next_stops_long w v live lists lists' implied s t u l o h e b x =
     (firsts_moved live implied w (popped s) w t (next_agrees s l h.long.agrees e) (b.moves w live) h.firsts) x
 
 -- one iteration is a stretch of propagation
-pub next_moves_binary : (live : List ℕ) (implied : List (List ℕ)) (w0 : List ℕ) (s0 : State) (w : List ℕ) (s t : State) (l at : ℕ) →
+pub next_moves_binary : (live : List ℕ) (implied : List (List ℕ)) (w0 : List ℕ) (s0 : PropagationState) (w : List ℕ) (s t : PropagationState) (l at : ℕ) →
     PropagatesOn live implied w0 s0 w s → BinaryWalkInvariant implied l (popped s) t at → PropagatesOn live implied w0 s0 w t
 next_moves_binary live implied w0 s0 w s t l at m b =
     moves_trans live implied w0 s0 w (popped s) w t (moves_trans live implied w0 s0 w s w (popped s) m (moves_popped live implied w s)) (b.moves w live)
 
-pub next_moves : (live : List ℕ) (implied : List (List ℕ)) (w0 : List ℕ) (s0 : State) (w v : List ℕ) (s t u : State) (lists : List (List Watch)) (found : Option ℕ) (l at : ℕ) →
+pub next_moves : (live : List ℕ) (implied : List (List ℕ)) (w0 : List ℕ) (s0 : PropagationState) (w v : List ℕ) (s t u : PropagationState) (lists : List (List Watch)) (found : Option ℕ) (l at : ℕ) →
     PropagatesOn live implied w0 s0 w s → BinaryWalkInvariant implied l (popped s) t at → WatchWalkEffect live w t v u lists found → PropagatesOn live implied w0 s0 v u
 next_moves live implied w0 s0 w v s t u lists found l at m b x =
     moves_trans live implied w0 s0 w t v u (next_moves_binary live implied w0 s0 w s t l at m b) (x.moves implied)
 
 -- one iteration advances the head of the queue
-pub next_smaller : (live w : List ℕ) (implied : List (List ℕ)) (s t u : State) (v : List ℕ) (lists : List (List Watch)) (l at : ℕ) →
+pub next_smaller : (live w : List ℕ) (implied : List (List ℕ)) (s t u : PropagationState) (v : List ℕ) (lists : List (List Watch)) (l at : ℕ) →
     StateIsConsistent s → IsNext s l → BinaryWalkInvariant implied l (popped s) t at → WatchWalkEffect live w t v u lists None →
     u.trail.room - u.trail.head < s.trail.room - s.trail.head
 next_smaller live w implied s t u v lists l at a e b x =

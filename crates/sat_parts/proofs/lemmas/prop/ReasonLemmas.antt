@@ -10,20 +10,20 @@ use Rattle.sat_parts.specs.declared.prop.graph.Reason.{Reason}
 use Rattle.sat_parts.specs.declared.prop.graph.Reason.TheVariants.{Unit as NoCause, Binary, Long}
 use Rattle.sat_parts.specs.clause.Orders.{PermutesClause}
 use Rattle.sat_parts.specs.clause.Stored.{AreClauses, lit_of, size_of}
-use Rattle.sat_parts.specs.prop.Values.{IsTrueLit, IsOpenLit}
-use Rattle.sat_parts.specs.prop.Graphs.{is_unit_reason}
-use Rattle.sat_parts.specs.prop.State.{State, node, lit_at, StateIsConsistent, TrailGrows, enqueued}
+use Rattle.sat_parts.specs.prop.Values.{IsTrueLit, IsUnassignedLit}
+use Rattle.sat_parts.specs.prop.Graphs.{has_no_clause}
+use Rattle.sat_parts.specs.prop.State.{PropagationState, node, lit_at, StateIsConsistent, TrailGrows, enqueued}
 use Rattle.sat_parts.specs.prop.Reasons.{HasClauseReason, IsFalseBefore, Implies, AreUnitInTurn, HaveFirsts, PropagatesOn}
 use Rattle.sat_parts.proofs.lemmas.clause.OrderLemmas.{reorders_refl, reorders_trans, reorders_one}
 use Rattle.sat_parts.proofs.lemmas.prop.StateLemmas.{before_forth, removed_forth, grows_refl, grows_trans, grows_enqueued, lit_front, lit_last, node_kept, node_new, true_new}
 
-pub false_before_forth : (a b : State) (bound l : ℕ) → TrailGrows a b → IsFalseBefore a bound l → IsFalseBefore b bound l
+pub false_before_forth : (a b : PropagationState) (bound l : ℕ) → TrailGrows a b → IsFalseBefore a bound l → IsFalseBefore b bound l
 false_before_forth a b bound l g h = elim h [
   | inl x ↦ inl (before_forth a b bound (negated l) g x)
   | inr x ↦ inr (removed_forth a b (negated l) g x)
 ]
 
-pub implies_forth : (words live : List ℕ) (implied : List (List ℕ)) (a b : State) (i : ℕ) (r : Reason) → TrailGrows a b → i < length a.trail.lits → Implies words live implied a i r → Implies words live implied b i r
+pub implies_forth : (words live : List ℕ) (implied : List (List ℕ)) (a b : PropagationState) (i : ℕ) (r : Reason) → TrailGrows a b → i < length a.trail.lits → Implies words live implied a i r → Implies words live implied b i r
 implies_forth words live implied a b i NoCause g p h = tt
 implies_forth words live implied a b i (Binary ls) g p h =
     (subst (λ (m : ℕ). Contains (get_or implied (negated (get_or ls 0 0)) []) m) (sym (g.front i p)) h.0, false_before_forth a b i (get_or ls 0 0) g h.1)
@@ -31,14 +31,14 @@ implies_forth words live implied a b i (Long o) g p h =
     (h.0, h.1 ∙ sym (g.front i p), λ k x y. false_before_forth a b i (lit_of words o k) g (h.2 k x y))
 
 -- a literal on the trail keeps its reason while the trail grows
-pub caused_forth : (a b : State) (i : ℕ) → TrailGrows a b → i < length a.trail.lits → HasClauseReason a i → HasClauseReason b i
+pub caused_forth : (a b : PropagationState) (i : ℕ) → TrailGrows a b → i < length a.trail.lits → HasClauseReason a i → HasClauseReason b i
 caused_forth a b i g p h =
     let e : lit_at b i ≡ lit_at a i = g.front i p in (
       subst (λ (m : ℕ). IsTrueLit b.values m) (sym e) (g.kept (lit_at a i) h.0),
-      ap (λ m. is_unit_reason (node b m).reason) e ∙ ap (λ (z : ImplNode). is_unit_reason z.reason) (g.nodes (lit_at a i) h.0) ∙ h.1,
+      ap (λ m. has_no_clause (node b m).reason) e ∙ ap (λ (z : ImplNode). has_no_clause z.reason) (g.nodes (lit_at a i) h.0) ∙ h.1,
     )
 
-pub moves_refl : (live : List ℕ) (implied : List (List ℕ)) (words : List ℕ) (s : State) → PropagatesOn live implied words s words s
+pub moves_refl : (live : List ℕ) (implied : List (List ℕ)) (words : List ℕ) (s : PropagationState) → PropagatesOn live implied words s words s
 moves_refl live implied words s = record {
   grows = grows_refl s;
   reorders = reorders_refl words live;
@@ -47,7 +47,7 @@ moves_refl live implied words s = record {
   turns = λ from p h. h;
 }
 
-pub moves_trans : (live : List ℕ) (implied : List (List ℕ)) (u : List ℕ) (a : State) (v : List ℕ) (b : State) (w : List ℕ) (c : State) → PropagatesOn live implied u a v b → PropagatesOn live implied v b w c → PropagatesOn live implied u a w c
+pub moves_trans : (live : List ℕ) (implied : List (List ℕ)) (u : List ℕ) (a : PropagationState) (v : List ℕ) (b : PropagationState) (w : List ℕ) (c : PropagationState) → PropagatesOn live implied u a v b → PropagatesOn live implied v b w c → PropagatesOn live implied u a w c
 moves_trans live implied u a v b w c x y = record {
   grows = grows_trans a b c x.grows y.grows;
   reorders = reorders_trans u v w live x.reorders y.reorders;
@@ -62,12 +62,12 @@ moves_trans live implied u a v b w c x y = record {
 }
 
 -- an unassigned literal becomes true by a unit clause
-pub moves_enqueued : (live : List ℕ) (implied : List (List ℕ)) (words : List ℕ) (s : State) (l : ℕ) (r : Reason) →
-    StateIsConsistent s → IsOpenLit s.values l → variable l < length s.values → length s.trail.lits < s.trail.room →
-    is_unit_reason r ≡ false → Implies words live implied (enqueued l r s) (length s.trail.lits) r →
+pub moves_enqueued : (live : List ℕ) (implied : List (List ℕ)) (words : List ℕ) (s : PropagationState) (l : ℕ) (r : Reason) →
+    StateIsConsistent s → IsUnassignedLit s.values l → variable l < length s.values → length s.trail.lits < s.trail.room →
+    has_no_clause r ≡ false → Implies words live implied (enqueued l r s) (length s.trail.lits) r →
     PropagatesOn live implied words s words (enqueued l r s)
 moves_enqueued live implied words s l r h n below room clause cause =
-    let t : State = enqueued l r s in
+    let t : PropagationState = enqueued l r s in
     let g : TrailGrows s t = grows_enqueued s l r h n below room in
     let size : length (s.trail.lits ++ l ∷ []) ≡ length s.trail.lits + 1 = length_push s.trail.lits l in
     record {
@@ -78,7 +78,7 @@ moves_enqueued live implied words s l r h n below room clause cause =
           let e : i ≡ length s.trail.lits = omega arith in
           let there : lit_at t i ≡ l = ap (λ m. lit_at t m) e ∙ lit_last s l r in (
             subst (λ (m : ℕ). IsTrueLit t.values m) (sym there) (true_new s l r below),
-            ap (λ m. is_unit_reason (node t m).reason) there ∙ ap (λ (z : ImplNode). is_unit_reason z.reason) (node_new s l r (omega (arith, h.nodes))) ∙ clause,
+            ap (λ m. has_no_clause (node t m).reason) there ∙ ap (λ (z : ImplNode). has_no_clause z.reason) (node_new s l r (omega (arith, h.nodes))) ∙ clause,
           );
       turns = λ from p q i x y. elim (cases_eq i (length s.trail.lits)) [
         | inl e ↦
@@ -92,7 +92,7 @@ moves_enqueued live implied words s l r h n below room clause cause =
     }
 
 -- the literals of one clause are permuted, and a true first literal stays first
-pub implies_shuffled : (words words' live : List ℕ) (implied : List (List ℕ)) (s : State) (p i : ℕ) (r : Reason) (count : ℕ) →
+pub implies_shuffled : (words words' live : List ℕ) (implied : List (List ℕ)) (s : PropagationState) (p i : ℕ) (r : Reason) (count : ℕ) →
     AreClauses words live count → Contains live p → PermutesClause words words' p →
     (IsTrueLit s.values (lit_of words p 0) → lit_of words' p 0 ≡ lit_of words p 0) → IsTrueLit s.values (lit_at s i) →
     Implies words live implied s i r → Implies words' live implied s i r
@@ -126,7 +126,7 @@ implies_shuffled words words' live implied s p i (Long o) count c g e first hold
       )
 ]
 
-pub moves_shuffled : (live : List ℕ) (implied : List (List ℕ)) (words : List ℕ) (s : State) (words' : List ℕ) (p count : ℕ) →
+pub moves_shuffled : (live : List ℕ) (implied : List (List ℕ)) (words : List ℕ) (s : PropagationState) (words' : List ℕ) (p count : ℕ) →
     StateIsConsistent s → AreClauses words live count → Contains live p → PermutesClause words words' p →
     (IsTrueLit s.values (lit_of words p 0) → lit_of words' p 0 ≡ lit_of words p 0) →
     PropagatesOn live implied words s words' s
@@ -141,13 +141,13 @@ moves_shuffled live implied words s words' p count a c g e first = record {
   turns = λ from x h i y z. implies_shuffled words words' live implied s p i (node s (lit_at s i)).reason count c g e first (a.holds i z) (h i y z);
 }
 
-from_long : (words live : List ℕ) (implied : List (List ℕ)) (s : State) (i o : ℕ) (r : Reason) → r ≡ Long o → Implies words live implied s i r → Contains live o × (lit_of words o 0 ≡ lit_at s i)
+from_long : (words live : List ℕ) (implied : List (List ℕ)) (s : PropagationState) (i o : ℕ) (r : Reason) → r ≡ Long o → Implies words live implied s i r → Contains live o × (lit_of words o 0 ≡ lit_at s i)
 from_long words live implied s i o r e h =
     let f : Implies words live implied s i (Long o) = subst (λ (x : Reason). Implies words live implied s i x) e h in
     (f.0, f.1)
 
 -- propagation keeps the literals of long reasons first
-pub firsts_moved : (live : List ℕ) (implied : List (List ℕ)) (words : List ℕ) (s : State) (words' : List ℕ) (s' : State) →
+pub firsts_moved : (live : List ℕ) (implied : List (List ℕ)) (words : List ℕ) (s : PropagationState) (words' : List ℕ) (s' : PropagationState) →
     StateIsConsistent s → PropagatesOn live implied words s words' s' → HaveFirsts words live s → HaveFirsts words' live s'
 firsts_moved live implied words s words' s' a m h i o p e = elim (cases_lt i (length s.trail.lits)) [
   | inl lt ↦

@@ -8,9 +8,9 @@ use Rattle.std.proofs.lemmas.Map.Views.{Contains-from_any}
 use Rattle.std.specs.List.{list_any, Contains}
 use Rattle.sat_base.specs.values.Literals.{variable, is_positive}
 use Rattle.sat_parts.specs.declared.prop.graph.Reason.{Reason}
-use Rattle.sat_parts.specs.prop.Values.{IsOpenLit, value_of}
+use Rattle.sat_parts.specs.prop.Values.{IsUnassignedLit, value_of}
 use Rattle.sat_parts.specs.prop.Graphs.{node_of}
-use Rattle.sat_parts.specs.prop.State.{State, lit_at, StateIsConsistent, enqueued}
+use Rattle.sat_parts.specs.prop.State.{PropagationState, lit_at, StateIsConsistent, enqueued}
 use Rattle.sat_parts.proofs.lemmas.prop.StateLemmas.{open_other, lit_front, lit_last}
 
 -- an assigned variable exists
@@ -21,29 +21,29 @@ below_from_value values v b e = elim (cases_lt v (length values)) [
 ]
 
 -- the variables on the trail, and that of one more literal
-abbrev variables : State → ℕ → List ℕ
+abbrev variables : PropagationState → ℕ → List ℕ
 variables s l = map (λ m. variable m) (s.trail.lits ++ l ∷ [])
 
-variables_length : (s : State) (l : ℕ) → length (variables s l) ≡ length s.trail.lits + 1
+variables_length : (s : PropagationState) (l : ℕ) → length (variables s l) ≡ length s.trail.lits + 1
 variables_length s l = length-map (s.trail.lits ++ l ∷ []) (λ m. variable m) ∙ length_push s.trail.lits l
 
-variables_front : (s : State) (l : ℕ) (r : Reason) (k d : ℕ) → k < length s.trail.lits → get_or (variables s l) k d ≡ variable (lit_at s k)
+variables_front : (s : PropagationState) (l : ℕ) (r : Reason) (k d : ℕ) → k < length s.trail.lits → get_or (variables s l) k d ≡ variable (lit_at s k)
 variables_front s l r k d h =
     let n : length (s.trail.lits ++ l ∷ []) ≡ length s.trail.lits + 1 = length_push s.trail.lits l in
     get_or-map (λ m. variable m) (s.trail.lits ++ l ∷ []) k 0 d (omega arith) ∙ ap (λ m. variable m) (lit_front s l r k h)
 
-variables_last : (s : State) (l : ℕ) (r : Reason) (k d : ℕ) → k ≡ length s.trail.lits → get_or (variables s l) k d ≡ variable l
+variables_last : (s : PropagationState) (l : ℕ) (r : Reason) (k d : ℕ) → k ≡ length s.trail.lits → get_or (variables s l) k d ≡ variable l
 variables_last s l r k d e =
     let n : length (s.trail.lits ++ l ∷ []) ≡ length s.trail.lits + 1 = length_push s.trail.lits l in
     get_or-map (λ m. variable m) (s.trail.lits ++ l ∷ []) k 0 d (omega arith) ∙ ap (λ m. variable m) (ap (λ x. lit_at (enqueued l r s) x) e ∙ lit_last s l r)
 
 -- literals at different positions of the trail have different variables
-pub places_apart : (s : State) (i j : ℕ) → StateIsConsistent s → i < length s.trail.lits → j < length s.trail.lits → variable (lit_at s i) ≡ variable (lit_at s j) → i ≡ j
+pub places_apart : (s : PropagationState) (i j : ℕ) → StateIsConsistent s → i < length s.trail.lits → j < length s.trail.lits → variable (lit_at s i) ≡ variable (lit_at s j) → i ≡ j
 places_apart s i j h p q e =
     let d : i + 1 ≡ j + 1 = sym (h.depths i p) ∙ ap (λ v. (node_of s.nodes v).depth) e ∙ h.depths j q in
     omega arith
 
-apart : (s : State) (l : ℕ) (r : Reason) (i j d : ℕ) → StateIsConsistent s → IsOpenLit s.values l → i < j → j < length (variables s l) → eqb (get_or (variables s l) i d) (get_or (variables s l) j d) ≡ false
+apart : (s : PropagationState) (l : ℕ) (r : Reason) (i j d : ℕ) → StateIsConsistent s → IsUnassignedLit s.values l → i < j → j < length (variables s l) → eqb (get_or (variables s l) i d) (get_or (variables s l) j d) ≡ false
 apart s l r i j d h n lt b =
     let size : length (variables s l) ≡ length s.trail.lits + 1 = variables_length s l in
     let p : i < length s.trail.lits = omega arith in
@@ -57,7 +57,7 @@ apart s l r i j d h n lt b =
           omega arith
     ])
 
-below : (s : State) (l : ℕ) (r : Reason) (q : ℕ) → StateIsConsistent s → variable l < length s.values → list_any (eqb q) (variables s l) ≡ true → q < length s.values
+below : (s : PropagationState) (l : ℕ) (r : Reason) (q : ℕ) → StateIsConsistent s → variable l < length s.values → list_any (eqb q) (variables s l) ≡ true → q < length s.values
 below s l r q h small any =
     let size : length (variables s l) ≡ length s.trail.lits + 1 = variables_length s l in
     let c : Contains (variables s l) q = Contains-from_any {eq = eqb} (λ x y e. eqb-true x y e) q (variables s l) any in
@@ -70,7 +70,7 @@ below s l r q h small any =
     ]
 
 -- the trail has room for an unassigned literal
-pub room_for : (s : State) (l : ℕ) (r : Reason) → StateIsConsistent s → IsOpenLit s.values l → variable l < length s.values → length s.trail.lits < s.trail.room
+pub room_for : (s : PropagationState) (l : ℕ) (r : Reason) → StateIsConsistent s → IsUnassignedLit s.values l → variable l < length s.values → length s.trail.lits < s.trail.room
 room_for s l r h n small =
     let size : length (variables s l) ≡ length s.trail.lits + 1 = variables_length s l in
     let all : length (variables s l) ≤ length s.values =

@@ -6,10 +6,10 @@ use Rattle.std.proofs.lemmas.List.{get_or_append_left, get_or_push, length_push}
 use Rattle.sat_base.specs.values.Literals.{variable, is_positive, negated}
 use Rattle.sat_parts.specs.declared.prop.graph.ImplNode.{ImplNode}
 use Rattle.sat_parts.specs.declared.prop.graph.Reason.{Reason}
-use Rattle.sat_parts.specs.prop.Values.{IsTrueLit, IsFalseLit, IsOpenLit, value_of}
+use Rattle.sat_parts.specs.prop.Values.{IsTrueLit, IsFalseLit, IsUnassignedLit, value_of}
 use Rattle.sat_parts.specs.prop.Trails.{IsTrail, LevelIs}
 use Rattle.sat_parts.specs.prop.Graphs.{node_at, new_node}
-use Rattle.sat_parts.specs.prop.State.{State, node, level, current_level, lit_at, IsRemoved, IsBefore, HasLeftQueue, StateIsConsistent, IsQueueCurrent, enqueued, TrailGrows, IsSatisfied}
+use Rattle.sat_parts.specs.prop.State.{PropagationState, node, level, current_level, lit_at, IsRemoved, IsBefore, HasLeftQueue, StateIsConsistent, IsQueueCurrent, enqueued, TrailGrows, IsSatisfied}
 
 pub negated_variable : (l : ℕ) → variable (negated l) ≡ variable l
 negated_variable l = omega arith
@@ -43,33 +43,33 @@ some_none : {b : Bool} {o : Option Bool} → o ≡ Some b → o ≡ None → ⊥
 some_none p q = (let e : Some _ ≡ None = sym p ∙ q in cc)
 
 -- an assigned literal and an unassigned one have different variables
-pub open_other : (values : List (Option Bool)) (l m : ℕ) → IsOpenLit values l → IsTrueLit values m → variable m ≢ variable l
+pub open_other : (values : List (Option Bool)) (l m : ℕ) → IsUnassignedLit values l → IsTrueLit values m → variable m ≢ variable l
 open_other values l m n t e = some_none t (ap (λ v. value_of values v) e ∙ n)
 
 pub lit_from_parts : (m l : ℕ) → variable m ≡ variable l → is_positive m ≡ is_positive l → m ≡ l
 lit_from_parts m l v p = grind (arith, nat_tests)
 
 -- the literals on the trail stay, and l is appended
-pub lit_front : (s : State) (l : ℕ) (r : Reason) (i : ℕ) → i < length s.trail.lits → lit_at (enqueued l r s) i ≡ lit_at s i
+pub lit_front : (s : PropagationState) (l : ℕ) (r : Reason) (i : ℕ) → i < length s.trail.lits → lit_at (enqueued l r s) i ≡ lit_at s i
 lit_front s l r i h = get_or_append_left s.trail.lits (l ∷ []) 0 i h
 
-pub lit_last : (s : State) (l : ℕ) (r : Reason) → lit_at (enqueued l r s) (length s.trail.lits) ≡ l
+pub lit_last : (s : PropagationState) (l : ℕ) (r : Reason) → lit_at (enqueued l r s) (length s.trail.lits) ≡ l
 lit_last s l r = get_or_push s.trail.lits l 0 (length s.trail.lits) refl
 
-pub true_kept : (s : State) (l m : ℕ) (r : Reason) → IsOpenLit s.values l → IsTrueLit s.values m → IsTrueLit (enqueued l r s).values m
+pub true_kept : (s : PropagationState) (l m : ℕ) (r : Reason) → IsUnassignedLit s.values l → IsTrueLit s.values m → IsTrueLit (enqueued l r s).values m
 true_kept s l m r n t = get_or-set_other s.values (variable l) (variable m) (Some (is_positive l)) None (open_other s.values l m n t) ∙ t
 
-pub node_kept : (s : State) (l m : ℕ) (r : Reason) → IsOpenLit s.values l → IsTrueLit s.values m → node (enqueued l r s) m ≡ node s m
+pub node_kept : (s : PropagationState) (l m : ℕ) (r : Reason) → IsUnassignedLit s.values l → IsTrueLit s.values m → node (enqueued l r s) m ≡ node s m
 node_kept s l m r n t = get_or-set_other s.nodes (variable l) (variable m) (node_at s.trail r) new_node (open_other s.values l m n t)
 
-pub true_new : (s : State) (l : ℕ) (r : Reason) → variable l < length s.values → IsTrueLit (enqueued l r s).values l
+pub true_new : (s : PropagationState) (l : ℕ) (r : Reason) → variable l < length s.values → IsTrueLit (enqueued l r s).values l
 true_new s l r h = get_or-set_same s.values (variable l) (Some (is_positive l)) None h
 
-pub node_new : (s : State) (l : ℕ) (r : Reason) → variable l < length s.nodes → node (enqueued l r s) l ≡ node_at s.trail r
+pub node_new : (s : PropagationState) (l : ℕ) (r : Reason) → variable l < length s.nodes → node (enqueued l r s) l ≡ node_at s.trail r
 node_new s l r h = get_or-set_same s.nodes (variable l) (node_at s.trail r) new_node h
 
 -- a literal that is true after l became true is l, or was true before
-pub true_back : (s : State) (l m : ℕ) (r : Reason) → variable l < length s.values → IsTrueLit (enqueued l r s).values m → (m ≡ l) ⊎ ((variable m ≢ variable l) × IsTrueLit s.values m)
+pub true_back : (s : PropagationState) (l m : ℕ) (r : Reason) → variable l < length s.values → IsTrueLit (enqueued l r s).values m → (m ≡ l) ⊎ ((variable m ≢ variable l) × IsTrueLit s.values m)
 true_back s l m r h t = elim (cases_eq (variable m) (variable l)) [
   | inl e ↦
       let a : Some (is_positive m) ≡ Some (is_positive l) = sym t ∙ ap (λ v. value_of (enqueued l r s).values v) e ∙ true_new s l r h in
@@ -77,7 +77,7 @@ true_back s l m r h t = elim (cases_eq (variable m) (variable l)) [
   | inr n ↦ inr (n, sym (get_or-set_other s.values (variable l) (variable m) (Some (is_positive l)) None n) ∙ t)
 ]
 
-trail_enqueued : (s : State) (l : ℕ) (r : Reason) → IsTrail s.trail → length s.trail.lits < s.trail.room → IsTrail (enqueued l r s).trail
+trail_enqueued : (s : PropagationState) (l : ℕ) (r : Reason) → IsTrail s.trail → length s.trail.lits < s.trail.room → IsTrail (enqueued l r s).trail
 trail_enqueued s l r t room =
     let n : length (s.trail.lits ++ l ∷ []) ≡ length s.trail.lits + 1 = length_push s.trail.lits l in
     let q : s.trail.head ≤ length s.trail.lits = t.queue in
@@ -89,13 +89,13 @@ trail_enqueued s l r t room =
       counted = t.counted;
     }
 
-pub agrees_enqueued : (s : State) (l : ℕ) (r : Reason) → StateIsConsistent s → IsOpenLit s.values l → variable l < length s.values → length s.trail.lits < s.trail.room → StateIsConsistent (enqueued l r s)
+pub agrees_enqueued : (s : PropagationState) (l : ℕ) (r : Reason) → StateIsConsistent s → IsUnassignedLit s.values l → variable l < length s.values → length s.trail.lits < s.trail.room → StateIsConsistent (enqueued l r s)
 agrees_enqueued s l r h n below room =
     let size : length (s.trail.lits ++ l ∷ []) ≡ length s.trail.lits + 1 = length_push s.trail.lits l in
     let values : length (set s.values (variable l) (Some (is_positive l))) ≡ length s.values = length-set s.values (variable l) (Some (is_positive l)) in
     let nodes : length (set s.nodes (variable l) (node_at s.trail r)) ≡ length s.nodes = length-set s.nodes (variable l) (node_at s.trail r) in
     let in_nodes : variable l < length s.nodes = omega (arith, h.nodes) in
-    let t : State = enqueued l r s in
+    let t : PropagationState = enqueued l r s in
     let last : lit_at t (length s.trail.lits) ≡ l = lit_last s l r in
     let old : (i : ℕ) → i < length s.trail.lits → IsTrueLit s.values (lit_at s i) = h.holds in
     record {
@@ -136,7 +136,7 @@ agrees_enqueued s l r h n below room =
       ];
     }
 
-pub grows_enqueued : (s : State) (l : ℕ) (r : Reason) → StateIsConsistent s → IsOpenLit s.values l → variable l < length s.values → length s.trail.lits < s.trail.room → TrailGrows s (enqueued l r s)
+pub grows_enqueued : (s : PropagationState) (l : ℕ) (r : Reason) → StateIsConsistent s → IsUnassignedLit s.values l → variable l < length s.values → length s.trail.lits < s.trail.room → TrailGrows s (enqueued l r s)
 grows_enqueued s l r h n below room =
     let size : length (s.trail.lits ++ l ∷ []) ≡ length s.trail.lits + 1 = length_push s.trail.lits l in
     let in_nodes : variable l < length s.nodes = omega (arith, h.nodes) in
@@ -161,7 +161,7 @@ grows_enqueued s l r h n below room =
       ];
     }
 
-pub grows_refl : (s : State) → TrailGrows s s
+pub grows_refl : (s : PropagationState) → TrailGrows s s
 grows_refl s = record {
   size = refl;
   starts = refl;
@@ -174,7 +174,7 @@ grows_refl s = record {
   removed = λ l x. x;
 }
 
-pub grows_trans : (a b c : State) → TrailGrows a b → TrailGrows b c → TrailGrows a c
+pub grows_trans : (a b c : PropagationState) → TrailGrows a b → TrailGrows b c → TrailGrows a c
 grows_trans a b c x y = record {
   size = y.size ∙ x.size;
   starts = y.starts ∙ x.starts;
@@ -187,37 +187,37 @@ grows_trans a b c x y = record {
   removed = λ l r. x.removed l (y.removed l r);
 }
 
-pub removed_forth : (a b : State) (l : ℕ) → TrailGrows a b → IsRemoved a l → IsRemoved b l
+pub removed_forth : (a b : PropagationState) (l : ℕ) → TrailGrows a b → IsRemoved a l → IsRemoved b l
 removed_forth a b l g r = record {
   holds = g.kept l r.holds;
   depth = ap (λ (y : ImplNode). y.depth) (g.nodes l r.holds) ∙ r.depth;
   bottom = ap (λ (y : ImplNode). y.level) (g.nodes l r.holds) ∙ r.bottom;
 }
 
-pub before_forth : (a b : State) (bound l : ℕ) → TrailGrows a b → IsBefore a bound l → IsBefore b bound l
+pub before_forth : (a b : PropagationState) (bound l : ℕ) → TrailGrows a b → IsBefore a bound l → IsBefore b bound l
 before_forth a b bound l g h = record { place = h.place; before = h.before; within = omega (arith, h.within, g.longer); there = g.front h.place h.within ∙ h.there }
 
-pub before_back : (a b : State) (bound l : ℕ) → TrailGrows a b → bound ≤ length a.trail.lits → IsBefore b bound l → IsBefore a bound l
+pub before_back : (a b : PropagationState) (bound l : ℕ) → TrailGrows a b → bound ≤ length a.trail.lits → IsBefore b bound l → IsBefore a bound l
 before_back a b bound l g m h =
     let p : h.place < length a.trail.lits = omega (arith, h.before) in
     record { place = h.place; before = h.before; within = p; there = sym (g.front h.place p) ∙ h.there }
 
-pub left_forth : (a b : State) (l : ℕ) → TrailGrows a b → b.trail.head ≡ a.trail.head → HasLeftQueue a l → HasLeftQueue b l
+pub left_forth : (a b : PropagationState) (l : ℕ) → TrailGrows a b → b.trail.head ≡ a.trail.head → HasLeftQueue a l → HasLeftQueue b l
 left_forth a b l g e h = elim h [
   | inl x ↦ inl (subst (λ (y : ℕ). IsBefore b y l) (sym e) (before_forth a b a.trail.head l g x))
   | inr x ↦ inr (removed_forth a b l g x)
 ]
 
-pub left_back : (a b : State) (l : ℕ) → TrailGrows a b → b.trail.head ≡ a.trail.head → IsTrail a.trail → HasLeftQueue b l → HasLeftQueue a l
+pub left_back : (a b : PropagationState) (l : ℕ) → TrailGrows a b → b.trail.head ≡ a.trail.head → IsTrail a.trail → HasLeftQueue b l → HasLeftQueue a l
 left_back a b l g e t h = elim h [
   | inl x ↦ inl (before_back a b a.trail.head l g t.queue (subst (λ (y : ℕ). IsBefore b y l) e x))
   | inr x ↦ inr (g.removed l x)
 ]
 
-pub level_kept : (a b : State) (l : ℕ) → TrailGrows a b → IsTrueLit a.values l → level b l ≡ level a l
+pub level_kept : (a b : PropagationState) (l : ℕ) → TrailGrows a b → IsTrueLit a.values l → level b l ≡ level a l
 level_kept a b l g t = ap (λ (y : ImplNode). y.level) (g.nodes l t)
 
-pub satisfied_forth : (a b : State) (ls : List ℕ) (bound : ℕ) → TrailGrows a b → IsSatisfied a ls bound → IsSatisfied b ls bound
+pub satisfied_forth : (a b : PropagationState) (ls : List ℕ) (bound : ℕ) → TrailGrows a b → IsSatisfied a ls bound → IsSatisfied b ls bound
 satisfied_forth a b ls bound g h = record {
   place = h.place;
   within = h.within;
@@ -226,14 +226,14 @@ satisfied_forth a b ls bound g h = record {
 }
 
 -- a literal that has left the queue is true
-pub left_true : (s : State) (l : ℕ) → StateIsConsistent s → HasLeftQueue s l → IsTrueLit s.values l
+pub left_true : (s : PropagationState) (l : ℕ) → StateIsConsistent s → HasLeftQueue s l → IsTrueLit s.values l
 left_true s l h x = elim x [
   | inl b ↦ subst (λ (m : ℕ). IsTrueLit s.values m) b.there (h.holds b.place b.within)
   | inr r ↦ r.holds
 ]
 
 -- no true literal is above the current level
-pub level_low : (s : State) (l : ℕ) → StateIsConsistent s → IsTrueLit s.values l → level s l ≤ current_level s
+pub level_low : (s : PropagationState) (l : ℕ) → StateIsConsistent s → IsTrueLit s.values l → level s l ≤ current_level s
 level_low s l h t = elim (h.known l t) [
   | inl b ↦
       let e : level s (lit_at s b.place) ≡ level s l = ap (λ m. level s m) b.there in
@@ -241,11 +241,11 @@ level_low s l h t = elim (h.known l t) [
   | inr r ↦ omega (arith, r.bottom)
 ]
 
-pub queue_enqueued : (s : State) (l : ℕ) (r : Reason) → StateIsConsistent s → IsQueueCurrent s → IsOpenLit s.values l → variable l < length s.values → IsQueueCurrent (enqueued l r s)
+pub queue_enqueued : (s : PropagationState) (l : ℕ) (r : Reason) → StateIsConsistent s → IsQueueCurrent s → IsUnassignedLit s.values l → variable l < length s.values → IsQueueCurrent (enqueued l r s)
 queue_enqueued s l r h q n below i p b =
     let size : length (s.trail.lits ++ l ∷ []) ≡ length s.trail.lits + 1 = length_push s.trail.lits l in
     let in_nodes : variable l < length s.nodes = omega (arith, h.nodes) in
-    let t : State = enqueued l r s in
+    let t : PropagationState = enqueued l r s in
     elim (cases_eq i (length s.trail.lits)) [
       | inl e ↦ ap (λ m. (node t m).level) (ap (λ x. lit_at t x) e ∙ lit_last s l r) ∙ ap (λ (x : ImplNode). x.level) (node_new s l r in_nodes)
       | inr d ↦

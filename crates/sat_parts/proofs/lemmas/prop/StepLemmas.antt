@@ -10,21 +10,21 @@ use Rattle.sat_parts.specs.declared.prop.graph.Reason.{Reason}
 use Rattle.sat_parts.specs.declared.prop.graph.Reason.TheVariants.{Unit as NoCause, Binary, Long}
 use Rattle.sat_parts.specs.clause.Db.{live_refs}
 use Rattle.sat_parts.specs.clause.Stored.{AreClauses, lit_of}
-use Rattle.sat_parts.specs.prop.Values.{IsTrueLit, IsOpenLit}
+use Rattle.sat_parts.specs.prop.Values.{IsTrueLit, IsUnassignedLit}
 use Rattle.sat_parts.specs.prop.Trails.{LevelIs, with_level}
 use Rattle.sat_parts.specs.prop.Binaries.{implied_by}
 use Rattle.sat_parts.specs.prop.WatchLists.{Watching}
-use Rattle.sat_parts.specs.prop.State.{State, node, level, lit_at, IsRemoved, HasLeftQueue, StateIsConsistent, IsSatisfied, TrailGrows, enqueued}
+use Rattle.sat_parts.specs.prop.State.{PropagationState, node, level, lit_at, IsRemoved, HasLeftQueue, StateIsConsistent, IsSatisfied, TrailGrows, enqueued}
 use Rattle.sat_parts.specs.prop.Reasons.{HaveFirsts}
 use Rattle.sat_parts.specs.prop.Ready.{AreWatched, AreLists}
-use Rattle.sat_parts.specs.prop.Asks.{PropagationInvariant, EnqueuePrecondition, IsOwnLong, IsOwnBinary, PropagationPrecondition}
+use Rattle.sat_parts.specs.prop.Propagation.{PropagationInvariant, EnqueuePrecondition, IsOwnLong, IsOwnBinary, PropagationPrecondition}
 use Rattle.sat_parts.proofs.lemmas.prop.StateLemmas.{left_true, left_back, level_kept, level_low, satisfied_forth, agrees_enqueued, grows_enqueued, queue_enqueued, lit_front, lit_last, node_kept, node_new, true_new}
 use Rattle.sat_parts.proofs.lemmas.prop.RoomLemmas.{room_for}
 
-firsts_enqueued : (words live : List ℕ) (s : State) (l : ℕ) (r : Reason) → StateIsConsistent s → IsOpenLit s.values l → variable l < length s.values → HaveFirsts words live s →
+firsts_enqueued : (words live : List ℕ) (s : PropagationState) (l : ℕ) (r : Reason) → StateIsConsistent s → IsUnassignedLit s.values l → variable l < length s.values → HaveFirsts words live s →
     ((o : ℕ) → r ≡ Long o → Contains live o × (lit_of words o 0 ≡ l)) → HaveFirsts words live (enqueued l r s)
 firsts_enqueued words live s l r a n below h cause i o b e =
-    let t : State = enqueued l r s in
+    let t : PropagationState = enqueued l r s in
     let size : length (s.trail.lits ++ l ∷ []) ≡ length s.trail.lits + 1 = length_push s.trail.lits l in
     elim (cases_eq i (length s.trail.lits)) [
       | inl q ↦
@@ -49,7 +49,7 @@ own_binary (Binary ls) lit l m h = h.0
 own_binary (Long o) lit l m h = absurd h
 
 -- the invariant gives the precondition of enqueueing
-pub asks_for_reason : (words refs : List ℕ) (w : Watching) (implied : List (List ℕ)) (s : State) (top l : ℕ) (r : Reason) → PropagationInvariant words refs w implied s top → EnqueuePrecondition l r words refs w implied s top
+pub asks_for_reason : (words refs : List ℕ) (w : Watching) (implied : List (List ℕ)) (s : PropagationState) (top l : ℕ) (r : Reason) → PropagationInvariant words refs w implied s top → EnqueuePrecondition l r words refs w implied s top
 asks_for_reason words refs w implied s top l r h = record {
   holds_clauses = h.holds_clauses;
   clauses = h.clauses;
@@ -64,11 +64,11 @@ asks_for_reason words refs w implied s top l r h = record {
 }
 
 -- an unassigned literal becomes true
-pub asks_enqueued : (words refs : List ℕ) (w : Watching) (implied : List (List ℕ)) (s : State) (top l : ℕ) (r : Reason) → IsOpenLit s.values l → variable l < length s.values →
+pub asks_enqueued : (words refs : List ℕ) (w : Watching) (implied : List (List ℕ)) (s : PropagationState) (top l : ℕ) (r : Reason) → IsUnassignedLit s.values l → variable l < length s.values →
     ((o : ℕ) → r ≡ Long o → Contains (live_refs words refs) o × (lit_of words o 0 ≡ l)) → EnqueuePrecondition l r words refs w implied s top → PropagationInvariant words refs w implied (enqueued l r s) top
 asks_enqueued words refs w implied s top l r n below cause h =
     let room : length s.trail.lits < s.trail.room = room_for s l r h.agrees n below in
-    let t : State = enqueued l r s in
+    let t : PropagationState = enqueued l r s in
     let g : TrailGrows s t = grows_enqueued s l r h.agrees n below room in
     let level_new : level t l ≡ length s.trail.starts = ap (λ (z : ImplNode). z.level) (node_new s l r (omega (arith, h.agrees.nodes))) in
     record {
@@ -107,17 +107,17 @@ asks_enqueued words refs w implied s top l r n below cause h =
           ];
     }
 
-pub agrees_by : (s : State) (l : ℕ) (r : Reason) → IsOpenLit s.values l → variable l < length s.values → StateIsConsistent s → StateIsConsistent (enqueued l r s)
+pub agrees_by : (s : PropagationState) (l : ℕ) (r : Reason) → IsUnassignedLit s.values l → variable l < length s.values → StateIsConsistent s → StateIsConsistent (enqueued l r s)
 agrees_by s l r n below a = agrees_enqueued s l r a n below (room_for s l r a n below)
 
 -- the state with one more level
-abbrev pub raised : State → State
+abbrev pub raised : PropagationState → PropagationState
 raised s = record s { trail = with_level s.trail }
 
-grows_raised : (s : State) (l : ℕ) → IsRemoved (raised s) l → IsRemoved s l
+grows_raised : (s : PropagationState) (l : ℕ) → IsRemoved (raised s) l → IsRemoved s l
 grows_raised s l r = record { holds = r.holds; depth = r.depth; bottom = r.bottom }
 
-pub agrees_raised : (s : State) → StateIsConsistent s → length s.trail.starts + 1 < 2 ^ 32 → StateIsConsistent (raised s)
+pub agrees_raised : (s : PropagationState) → StateIsConsistent s → length s.trail.starts + 1 < 2 ^ 32 → StateIsConsistent (raised s)
 agrees_raised s h few =
     let size : length (s.trail.starts ++ length s.trail.lits ∷ []) ≡ length s.trail.starts + 1 = length_push s.trail.starts (length s.trail.lits) in
     let at_end : get_or (s.trail.starts ++ length s.trail.lits ∷ []) (length s.trail.starts) 0 ≡ length s.trail.lits = get_or_push s.trail.starts (length s.trail.lits) 0 (length s.trail.starts) refl in
@@ -162,14 +162,14 @@ agrees_raised s h few =
       ];
     }
 
-left_raised : (s : State) (l : ℕ) → HasLeftQueue (raised s) l → HasLeftQueue s l
+left_raised : (s : PropagationState) (l : ℕ) → HasLeftQueue (raised s) l → HasLeftQueue s l
 left_raised s l h = elim h [
   | inl x ↦ inl (record { place = x.place; before = x.before; within = x.within; there = x.there })
   | inr x ↦ inr (grows_raised s l x)
 ]
 
 -- a level begins while the queue is empty
-pub asks_raised : (words refs : List ℕ) (w : Watching) (implied : List (List ℕ)) (s : State) → length s.trail.starts + 1 < 2 ^ 32 → s.trail.head ≡ length s.trail.lits →
+pub asks_raised : (words refs : List ℕ) (w : Watching) (implied : List (List ℕ)) (s : PropagationState) → length s.trail.starts + 1 < 2 ^ 32 → s.trail.head ≡ length s.trail.lits →
     PropagationPrecondition words refs w implied s → PropagationPrecondition words refs w implied (raised s)
 asks_raised words refs w implied s few empty h = record {
   holds_clauses = h.holds_clauses;

@@ -9,9 +9,9 @@ use Rattle.sat_parts.specs.declared.prop.graph.Reason.TheVariants.{Long}
 use Rattle.sat_parts.specs.declared.prop.watch.Watch.{Watch}
 use Rattle.sat_parts.specs.clause.Orders.{PermutesClause}
 use Rattle.sat_parts.specs.clause.Stored.{AreClauses, lit_of, size_of}
-use Rattle.sat_parts.specs.prop.Values.{IsTrueLit, IsFalseLit, IsOpenLit}
+use Rattle.sat_parts.specs.prop.Values.{IsTrueLit, IsFalseLit, IsUnassignedLit}
 use Rattle.sat_parts.specs.prop.WatchLists.{no_watch, watch_on, watches_of, more_at}
-use Rattle.sat_parts.specs.prop.State.{State, level, current_level, HasLeftQueue, StateIsConsistent, IsQueueCurrent, IsSatisfied, enqueued, TrailGrows}
+use Rattle.sat_parts.specs.prop.State.{PropagationState, level, current_level, HasLeftQueue, StateIsConsistent, IsQueueCurrent, IsSatisfied, enqueued, TrailGrows}
 use Rattle.sat_parts.specs.prop.Reasons.{IsFalseBefore, Implies, PropagatesOn}
 use Rattle.sat_parts.specs.prop.Ready.{HasLit, HasWatch, IsSoundWatch, LongReady}
 use Rattle.sat_parts.specs.prop.Walk.{WalkInvariant, IsOther, WalkInvariantAtClause, WatchWalkEffect}
@@ -23,31 +23,31 @@ use Rattle.sat_parts.proofs.lemmas.prop.WalkLemmas.{shuffled_all, first_two, ori
 use Rattle.sat_parts.proofs.lemmas.prop.HalfLemmas.{satisfied_order, place_live, half_kept, half_stale, half_moved, half_grows}
 
 -- the invariant of a walk that began with the words w0 and the state s0
-pub record Walking (live w0 : List ℕ) (s0 : State) (w : List ℕ) (s : State) (lists : List (List Watch)) (list : List Watch) (lit kept at : ℕ) : Type 0 where
+pub record Walking (live w0 : List ℕ) (s0 : PropagationState) (w : List ℕ) (s : PropagationState) (lists : List (List Watch)) (list : List Watch) (lit kept at : ℕ) : Type 0 where
   pub half : WalkInvariant w live s lists list lit kept at
   pub moves : (implied : List (List ℕ)) → PropagatesOn live implied w0 s0 w s
   pub head : s.trail.head ≡ s0.trail.head
 
 -- the negation of the propagated literal is false
-false_lit : (w live : List ℕ) (s : State) (lists : List (List Watch)) (list : List Watch) (lit kept at : ℕ) → WalkInvariant w live s lists list lit kept at → IsFalseLit s.values (negated lit)
+false_lit : (w live : List ℕ) (s : PropagationState) (lists : List (List Watch)) (list : List Watch) (lit kept at : ℕ) → WalkInvariant w live s lists list lit kept at → IsFalseLit s.values (negated lit)
 false_lit w live s lists list lit kept at h = false_from_true s.values lit (left_true s lit h.agrees h.left)
 
-pub lit_false : (w live : List ℕ) (s : State) (lists : List (List Watch)) (list : List Watch) (lit kept at : ℕ) → WalkInvariant w live s lists list lit kept at → IsFalseLit s.values (negated lit)
+pub lit_false : (w live : List ℕ) (s : PropagationState) (lists : List (List Watch)) (list : List Watch) (lit kept at : ℕ) → WalkInvariant w live s lists list lit kept at → IsFalseLit s.values (negated lit)
 lit_false w live s lists list lit kept at h = false_lit w live s lists list lit kept at h
 
 -- a true first literal stays the first
-first_stays : (w v : List ℕ) (s : State) (p fl : ℕ) → IsFalseLit s.values fl → IsOther w v p fl → IsTrueLit s.values (lit_of w p 0) → lit_of v p 0 ≡ lit_of w p 0
+first_stays : (w v : List ℕ) (s : PropagationState) (p fl : ℕ) → IsFalseLit s.values fl → IsOther w v p fl → IsTrueLit s.values (lit_of w p 0) → lit_of v p 0 ≡ lit_of w p 0
 first_stays w v s p fl f other t = elim other [
   | inl x ↦ x.1
   | inr x ↦ absurd (not_both s.values fl (subst (λ (z : ℕ). IsTrueLit s.values z) x.0 t) f)
 ]
 
 -- a true literal satisfies the clause at the level of lit or lower
-satisfied_by : (s : State) (ls : List ℕ) (lit k : ℕ) → StateIsConsistent s → level s lit ≡ current_level s → k < length ls → IsTrueLit s.values (get_or ls k 0) → IsSatisfied s ls (level s lit)
+satisfied_by : (s : PropagationState) (ls : List ℕ) (lit k : ℕ) → StateIsConsistent s → level s lit ≡ current_level s → k < length ls → IsTrueLit s.values (get_or ls k 0) → IsSatisfied s ls (level s lit)
 satisfied_by s ls lit k a top lt t = record { place = k; within = lt; holds = t; low = omega (arith, level_low s (get_or ls k 0) a t) }
 
 -- the blocking literal is true
-pub step_blocked : (live w0 : List ℕ) (s0 : State) (w : List ℕ) (s : State) (lists : List (List Watch)) (list : List Watch) (lit kept at p b : ℕ) →
+pub step_blocked : (live w0 : List ℕ) (s0 : PropagationState) (w : List ℕ) (s : PropagationState) (lists : List (List Watch)) (list : List Watch) (lit kept at p b : ℕ) →
     Walking live w0 s0 w s lists list lit kept at → at < length list → p ≡ (get_or list at no_watch).cref → b ≡ (get_or list at no_watch).blocking →
     IsTrueLit s.values b →
     Walking live w0 s0 w s lists (set list kept (watch_on p b)) lit (kept + 1) (at + 1)
@@ -62,7 +62,7 @@ step_blocked live w0 s0 w s lists list lit kept at p b h lt at_p at_b t =
       head = h.head;
     }
 
-pub step_stale : (live w0 : List ℕ) (s0 : State) (w : List ℕ) (s : State) (lists : List (List Watch)) (list : List Watch) (lit kept at p : ℕ) →
+pub step_stale : (live w0 : List ℕ) (s0 : PropagationState) (w : List ℕ) (s : PropagationState) (lists : List (List Watch)) (list : List Watch) (lit kept at p : ℕ) →
     Walking live w0 s0 w s lists list lit kept at → at < length list → p ≡ (get_or list at no_watch).cref →
     lit_of w p 0 ≢ negated lit → lit_of w p 1 ≢ negated lit →
     Walking live w0 s0 w s lists list lit kept (at + 1)
@@ -73,7 +73,7 @@ step_stale live w0 s0 w s lists list lit kept at p h lt at_p n0 n1 = record {
 }
 
 -- a visit is a stretch of propagation
-visit_moves : (live w0 : List ℕ) (s0 : State) (w v : List ℕ) (s : State) (lists : List (List Watch)) (list : List Watch) (lit kept at p : ℕ) →
+visit_moves : (live w0 : List ℕ) (s0 : PropagationState) (w v : List ℕ) (s : PropagationState) (lists : List (List Watch)) (list : List Watch) (lit kept at p : ℕ) →
     Walking live w0 s0 w s lists list lit kept at → at < length list → p ≡ (get_or list at no_watch).cref →
     PermutesClause w v p → IsOther w v p (negated lit) →
     (implied : List (List ℕ)) → PropagatesOn live implied w0 s0 v s
@@ -83,7 +83,7 @@ visit_moves live w0 s0 w v s lists list lit kept at p h lt at_p e other implied 
     (moves_shuffled live implied w s v p (length s.values) half.agrees half.clauses (place_live w live s lists list lit kept at p half lt at_p) e
     (first_stays w v s p (negated lit) (lit_false w live s lists list lit kept at half) other))
 
-pub step_moved : (live w0 : List ℕ) (s0 : State) (w v : List ℕ) (s : State) (lists : List (List Watch)) (list : List Watch) (lit kept at p : ℕ) →
+pub step_moved : (live w0 : List ℕ) (s0 : PropagationState) (w v : List ℕ) (s : PropagationState) (lists : List (List Watch)) (list : List Watch) (lit kept at p : ℕ) →
     Walking live w0 s0 w s lists list lit kept at → at < length list → p ≡ (get_or list at no_watch).cref →
     PermutesClause w v p → IsOther w v p (negated lit) → (IsFalseLit s.values (lit_of v p 1) → ⊥) →
     Walking live w0 s0 v s (more_at (negated (lit_of v p 1)) (watch_on p (lit_of v p 0)) lists) list lit kept (at + 1)
@@ -93,14 +93,14 @@ step_moved live w0 s0 w v s lists list lit kept at p h lt at_p e other opened = 
   head = h.head;
 }
 
-first_there : (w v live : List ℕ) (s : State) (lists : List (List Watch)) (list : List Watch) (lit kept at p : ℕ) →
+first_there : (w v live : List ℕ) (s : PropagationState) (lists : List (List Watch)) (list : List Watch) (lit kept at p : ℕ) →
     WalkInvariant w live s lists list lit kept at → Contains live p → PermutesClause w v p → 0 < size_of v p
 first_there w v live s lists list lit kept at p h hp e =
     let long : 3 ≤ size_of w p = h.clauses.long p hp in
     let size : size_of v p ≡ size_of w p = e.lits.size in
     omega arith
 
-pub step_kept : (live w0 : List ℕ) (s0 : State) (w v : List ℕ) (s : State) (lists : List (List Watch)) (list : List Watch) (lit kept at p n : ℕ) →
+pub step_kept : (live w0 : List ℕ) (s0 : PropagationState) (w v : List ℕ) (s : PropagationState) (lists : List (List Watch)) (list : List Watch) (lit kept at p n : ℕ) →
     Walking live w0 s0 w s lists list lit kept at → at < length list → p ≡ (get_or list at no_watch).cref →
     PermutesClause w v p → WalkInvariantAtClause w v p (negated lit) → n ≡ lit_of v p 0 → IsTrueLit s.values (lit_of v p 0) →
     Walking live w0 s0 v s lists (set list kept (watch_on p n)) lit (kept + 1) (at + 1)
@@ -116,23 +116,23 @@ step_kept live w0 s0 w v s lists list lit kept at p n h lt at_p e o n_is t =
     }
 
 -- the literals of a visited clause are in range
-pub lit_below : (w v live : List ℕ) (s : State) (lists : List (List Watch)) (list : List Watch) (lit kept at p k : ℕ) →
+pub lit_below : (w v live : List ℕ) (s : PropagationState) (lists : List (List Watch)) (list : List Watch) (lit kept at p k : ℕ) →
     WalkInvariant w live s lists list lit kept at → Contains live p → PermutesClause w v p → k < size_of v p → variable (lit_of v p k) < length s.values
 lit_below w v live s lists list lit kept at p k h hp e b =
     let c : AreClauses v live (length s.values) = kept_clauses w v live (length s.values) h.clauses (reorders_one w v live p hp e) in
     omega (arith, c.below p k hp b)
 
 -- a false literal was false before the next position of the trail
-false_so_far : (s : State) (l n : ℕ) (r : Reason) → StateIsConsistent s → TrailGrows s (enqueued n r s) → IsFalseLit s.values l → IsFalseBefore (enqueued n r s) (length s.trail.lits) l
+false_so_far : (s : PropagationState) (l n : ℕ) (r : Reason) → StateIsConsistent s → TrailGrows s (enqueued n r s) → IsFalseLit s.values l → IsFalseBefore (enqueued n r s) (length s.trail.lits) l
 false_so_far s l n r a g f = elim (a.known (negated l) (true_from_false s.values l f)) [
   | inl x ↦ inl (before_forth s (enqueued n r s) (length s.trail.lits) (negated l) g x)
   | inr x ↦ inr (removed_forth s (enqueued n r s) (negated l) g x)
 ]
 
-pub step_propagates : (live w0 : List ℕ) (s0 : State) (w v : List ℕ) (s : State) (lists : List (List Watch)) (list : List Watch) (lit kept at p n : ℕ) →
+pub step_propagates : (live w0 : List ℕ) (s0 : PropagationState) (w v : List ℕ) (s : PropagationState) (lists : List (List Watch)) (list : List Watch) (lit kept at p n : ℕ) →
     Walking live w0 s0 w s lists list lit kept at → at < length list → p ≡ (get_or list at no_watch).cref →
     PermutesClause w v p → WalkInvariantAtClause w v p (negated lit) → n ≡ lit_of v p 0 →
-    ((k : ℕ) → 1 ≤ k → k < size_of v p → IsFalseLit s.values (lit_of v p k)) → IsOpenLit s.values n →
+    ((k : ℕ) → 1 ≤ k → k < size_of v p → IsFalseLit s.values (lit_of v p k)) → IsUnassignedLit s.values n →
     Walking live w0 s0 v (enqueued n (Long p) s) lists (set list kept (watch_on p n)) lit (kept + 1) (at + 1)
 step_propagates live w0 s0 w v s lists list lit kept at p n h lt at_p e o n_is others open_n =
     let half : WalkInvariant w live s lists list lit kept at = h.half in
@@ -140,7 +140,7 @@ step_propagates live w0 s0 w v s lists list lit kept at p n h lt at_p e o n_is o
     let b : 0 < size_of v p = first_there w v live s lists list lit kept at p half hp e in
     let small : variable n < length s.values = subst (λ (z : ℕ). variable z < length s.values) (sym n_is) (lit_below w v live s lists list lit kept at p 0 half hp e b) in
     let room : length s.trail.lits < s.trail.room = room_for s n (Long p) half.agrees open_n small in
-    let t : State = enqueued n (Long p) s in
+    let t : PropagationState = enqueued n (Long p) s in
     let g : TrailGrows s (enqueued n (Long p) s) = grows_enqueued s n (Long p) half.agrees open_n small room in
     let a : StateIsConsistent (enqueued n (Long p) s) = agrees_enqueued s n (Long p) half.agrees open_n small room in
     let q : IsQueueCurrent (enqueued n (Long p) s) = queue_enqueued s n (Long p) half.agrees half.queue open_n small in
@@ -157,7 +157,7 @@ step_propagates live w0 s0 w v s lists list lit kept at p n h lt at_p e o n_is o
     }
 
 -- the clause is falsified: the walk ends, and clauses stay propagated below the current level
-pub walk_falsified : (live w0 : List ℕ) (s0 : State) (w v : List ℕ) (s : State) (lists : List (List Watch)) (list : List Watch) (lit kept at p n : ℕ) →
+pub walk_falsified : (live w0 : List ℕ) (s0 : PropagationState) (w v : List ℕ) (s : PropagationState) (lists : List (List Watch)) (list : List Watch) (lit kept at p n : ℕ) →
     Walking live w0 s0 w s lists list lit kept at → at < length list → p ≡ (get_or list at no_watch).cref →
     PermutesClause w v p → WalkInvariantAtClause w v p (negated lit) → n ≡ lit_of v p 0 →
     ((k : ℕ) → k < size_of v p → IsFalseLit s.values (lit_of v p k)) → lit < 2 * length s.values →
@@ -191,7 +191,7 @@ walk_falsified live w0 s0 w v s lists list lit kept at p n h lt at_p e o n_is al
     }
 
 -- no watch is left to visit
-pub walk_done : (live w0 : List ℕ) (s0 : State) (w : List ℕ) (s : State) (lists : List (List Watch)) (list : List Watch) (lit kept at : ℕ) →
+pub walk_done : (live w0 : List ℕ) (s0 : PropagationState) (w : List ℕ) (s : PropagationState) (lists : List (List Watch)) (list : List Watch) (lit kept at : ℕ) →
     Walking live w0 s0 w s lists list lit kept at → at ≡ length list → lit < 2 * length s.values →
     WatchWalkEffect live w0 s0 w s (set lists lit (cut kept at list)) None
 walk_done live w0 s0 w s lists list lit kept at h end small =
@@ -213,7 +213,7 @@ walk_done live w0 s0 w s lists list lit kept at h end small =
     }
 
 -- the watches of lit are taken out, while only the clauses that lit made false are not propagated
-pub walk_open : (live w : List ℕ) (s : State) (lists : List (List Watch)) (lit : ℕ) →
+pub walk_open : (live w : List ℕ) (s : PropagationState) (lists : List (List Watch)) (lit : ℕ) →
     LongReady w live lists s (λ l. l ≢ lit) → HasLeftQueue s lit → level s lit ≡ current_level s → lit < 2 * length s.values →
     Walking live w s w s (set lists lit []) (watches_of lists lit) lit 0 0
 walk_open live w s lists lit h left top small = record {
@@ -236,7 +236,7 @@ walk_open live w s lists lit h left top small = record {
 }
 
 -- the blocking literal of a watch is in range
-pub blocking_below : (w live : List ℕ) (s : State) (lists : List (List Watch)) (list : List Watch) (lit kept at b : ℕ) →
+pub blocking_below : (w live : List ℕ) (s : PropagationState) (lists : List (List Watch)) (list : List Watch) (lit kept at b : ℕ) →
     WalkInvariant w live s lists list lit kept at → at < length list → b ≡ (get_or list at no_watch).blocking → variable b < length s.values
 blocking_below w live s lists list lit kept at b h lt at_b =
     let g : IsSoundWatch w live (get_or list at no_watch) = h.walked.mine at lt in
@@ -244,17 +244,17 @@ blocking_below w live s lists list lit kept at b h lt at_b =
     omega (arith, g.1.1.1)
 
 -- a literal that has left the queue is in range
-pub left_below : (s : State) (l : ℕ) → StateIsConsistent s → HasLeftQueue s l → l < 2 * length s.values
+pub left_below : (s : PropagationState) (l : ℕ) → StateIsConsistent s → HasLeftQueue s l → l < 2 * length s.values
 left_below s l a f =
     let v : variable l < length s.values = below_from_value s.values (variable l) (is_positive l) (left_true s l a f) in
     omega arith
 
-pub walk_small : (w live : List ℕ) (s : State) (lists : List (List Watch)) (list : List Watch) (lit kept at : ℕ) →
+pub walk_small : (w live : List ℕ) (s : PropagationState) (lists : List (List Watch)) (list : List Watch) (lit kept at : ℕ) →
     WalkInvariant w live s lists list lit kept at → lit < 2 * length s.values
 walk_small w live s lists list lit kept at h = left_below s lit h.agrees h.left
 
 -- the first literal of a visited clause is in range
-pub visited_below : (w v live : List ℕ) (s : State) (lists : List (List Watch)) (list : List Watch) (lit kept at p n : ℕ) →
+pub visited_below : (w v live : List ℕ) (s : PropagationState) (lists : List (List Watch)) (list : List Watch) (lit kept at p n : ℕ) →
     WalkInvariant w live s lists list lit kept at → at < length list → p ≡ (get_or list at no_watch).cref → PermutesClause w v p → n ≡ lit_of v p 0 →
     variable n < length s.values
 visited_below w v live s lists list lit kept at p n h lt at_p e n_is =

@@ -7,17 +7,17 @@ use Rattle.sat_base.specs.values.Literals.{variable}
 use Rattle.sat_parts.specs.declared.prop.graph.ImplNode.{ImplNode}
 use Rattle.sat_parts.specs.declared.prop.graph.Reason.{Reason}
 use Rattle.sat_parts.specs.declared.prop.graph.Reason.TheVariants.{Unit as NoCause}
-use Rattle.sat_parts.specs.prop.Graphs.{is_unit_reason}
-use Rattle.sat_parts.specs.prop.Values.{Values, IsOpenLit}
+use Rattle.sat_parts.specs.prop.Graphs.{has_no_clause}
+use Rattle.sat_parts.specs.prop.Values.{Values, IsUnassignedLit}
 use Rattle.sat_parts.specs.prop.Trails.{Trailed, with_lit, with_level, cut_to}
 use Rattle.sat_parts.specs.prop.Undone.{undone_to}
-use Rattle.sat_parts.specs.prop.State.{State, node, lit_at, StateIsConsistent, enqueued}
+use Rattle.sat_parts.specs.prop.State.{PropagationState, node, lit_at, StateIsConsistent, enqueued}
 use Rattle.sat_parts.specs.prop.Reasons.{PropagatesOn}
 use Rattle.sat_parts.specs.prop.Ready.{state_of}
 use Rattle.sat_parts.specs.prop.TrailWord.{Letter, D, P, begins, letter, letters, trail_word, IsLowerWord, BeginsNoLevel, IsLevelled, decided_on, LevelsStay, WordsRise}
 use Rattle.sat_parts.proofs.lemmas.prop.StateLemmas.{lit_front, lit_last, node_kept, node_new}
 
-levels_none : (s : State) → s.trail.starts ≡ [] → IsLevelled s
+levels_none : (s : PropagationState) → s.trail.starts ≡ [] → IsLevelled s
 levels_none s e =
     let n : length s.trail.starts ≡ 0 = ap (λ (xs : List ℕ). length xs) e in
     record {
@@ -28,33 +28,33 @@ levels_none s e =
     }
 
 -- a literal that was on the trail keeps its reason when another becomes true
-reason_kept : (s : State) (l i : ℕ) (r : Reason) → StateIsConsistent s → IsOpenLit s.values l → i < length s.trail.lits →
+reason_kept : (s : PropagationState) (l i : ℕ) (r : Reason) → StateIsConsistent s → IsUnassignedLit s.values l → i < length s.trail.lits →
     (node (enqueued l r s) (lit_at (enqueued l r s) i)).reason ≡ (node s (lit_at s i)).reason
 reason_kept s l i r h n lt =
     ap (λ m. (node (enqueued l r s) m).reason) (lit_front s l r i lt) ∙ ap (λ (x : ImplNode). x.reason) (node_kept s l (lit_at s i) r n (h.holds i lt))
 
-reason_new : (s : State) (l : ℕ) (r : Reason) → StateIsConsistent s → variable l < length s.values → (node (enqueued l r s) (lit_at (enqueued l r s) (length s.trail.lits))).reason ≡ r
+reason_new : (s : PropagationState) (l : ℕ) (r : Reason) → StateIsConsistent s → variable l < length s.values → (node (enqueued l r s) (lit_at (enqueued l r s) (length s.trail.lits))).reason ≡ r
 reason_new s l r h below =
     ap (λ m. (node (enqueued l r s) m).reason) (lit_last s l r) ∙ ap (λ (x : ImplNode). x.reason) (node_new s l r (omega (arith, h.nodes)))
 
-levels_caused : (s : State) (l : ℕ) (r : Reason) → StateIsConsistent s → IsOpenLit s.values l → variable l < length s.values → is_unit_reason r ≡ false → IsLevelled s → IsLevelled (enqueued l r s)
+levels_caused : (s : PropagationState) (l : ℕ) (r : Reason) → StateIsConsistent s → IsUnassignedLit s.values l → variable l < length s.values → has_no_clause r ≡ false → IsLevelled s → IsLevelled (enqueued l r s)
 levels_caused s l r h n below clause x =
     let size : length (s.trail.lits ++ l ∷ []) ≡ length s.trail.lits + 1 = length_push s.trail.lits l in
     record {
       strict = x.strict;
       begun = λ k b. omega (arith, x.begun k b);
-      decided = λ k b. ap (λ (z : Reason). is_unit_reason z) (reason_kept s l (get_or s.trail.starts k 0) r h n (x.begun k b)) ∙ x.decided k b;
+      decided = λ k b. ap (λ (z : Reason). has_no_clause z) (reason_kept s l (get_or s.trail.starts k 0) r h n (x.begun k b)) ∙ x.decided k b;
       caused = λ i k b c d e. elim (cases_eq i (length s.trail.lits)) [
-        | inl q ↦ ap (λ j. is_unit_reason (node (enqueued l r s) (lit_at (enqueued l r s) j)).reason) q ∙ ap (λ (z : Reason). is_unit_reason z) (reason_new s l r h below) ∙ clause
+        | inl q ↦ ap (λ j. has_no_clause (node (enqueued l r s) (lit_at (enqueued l r s) j)).reason) q ∙ ap (λ (z : Reason). has_no_clause z) (reason_new s l r h below) ∙ clause
         | inr m ↦ (let lt : i < length s.trail.lits = omega arith in
-            ap (λ (z : Reason). is_unit_reason z) (reason_kept s l i r h n lt) ∙ x.caused i k b c lt e)
+            ap (λ (z : Reason). has_no_clause z) (reason_kept s l i r h n lt) ∙ x.caused i k b c lt e)
       ];
     }
 
-levels_decided : (s : State) (l : ℕ) → StateIsConsistent s → IsOpenLit s.values l → variable l < length s.values → IsLevelled s → IsLevelled (decided_on l s)
+levels_decided : (s : PropagationState) (l : ℕ) → StateIsConsistent s → IsUnassignedLit s.values l → variable l < length s.values → IsLevelled s → IsLevelled (decided_on l s)
 levels_decided s l h n below x =
-    let u : State = record s { trail = with_level s.trail } in
-    let v : State = decided_on l s in
+    let u : PropagationState = record s { trail = with_level s.trail } in
+    let v : PropagationState = decided_on l s in
     let size : length (s.trail.lits ++ l ∷ []) ≡ length s.trail.lits + 1 = length_push s.trail.lits l in
     let more : length (s.trail.starts ++ length s.trail.lits ∷ []) ≡ length s.trail.starts + 1 = length_push s.trail.starts (length s.trail.lits) in
     let old : (k : ℕ) → k < length s.trail.starts → get_or (s.trail.starts ++ length s.trail.lits ∷ []) k 0 ≡ get_or s.trail.starts k 0 = λ k b.
@@ -76,10 +76,10 @@ levels_decided s l h n below x =
         | inr m ↦ omega (arith, old k (omega arith), x.begun k (omega arith))
       ];
       decided = λ k b. elim (cases_eq k (length s.trail.starts)) [
-        | inl q ↦ ap (λ z. is_unit_reason (node v (lit_at v z)).reason) (ap (λ z. get_or (s.trail.starts ++ length s.trail.lits ∷ []) z 0) q ∙ new) ∙ ap (λ (z : Reason). is_unit_reason z) last
+        | inl q ↦ ap (λ z. has_no_clause (node v (lit_at v z)).reason) (ap (λ z. get_or (s.trail.starts ++ length s.trail.lits ∷ []) z 0) q ∙ new) ∙ ap (λ (z : Reason). has_no_clause z) last
         | inr m ↦
             let lt : k < length s.trail.starts = omega arith in
-            ap (λ z. is_unit_reason (node v (lit_at v z)).reason) (old k lt) ∙ ap (λ (z : Reason). is_unit_reason z) (front (get_or s.trail.starts k 0) (x.begun k lt)) ∙ x.decided k lt
+            ap (λ z. has_no_clause (node v (lit_at v z)).reason) (old k lt) ∙ ap (λ (z : Reason). has_no_clause z) (front (get_or s.trail.starts k 0) (x.begun k lt)) ∙ x.decided k lt
       ];
       caused = λ i k b c d e.
           let apart : i ≢ length s.trail.lits = λ q. e (length s.trail.starts) (omega arith) (new ∙ sym q) in
@@ -89,28 +89,28 @@ levels_decided s l h n below x =
             | inr m ↦
                 let known : k < length s.trail.starts = omega arith in
                 let begun : get_or s.trail.starts k 0 ≤ i = omega (arith, old k known) in
-                ap (λ (z : Reason). is_unit_reason z) (front i lt) ∙ x.caused i k known begun lt (λ j y f. e j (omega arith) (old j y ∙ f))
+                ap (λ (z : Reason). has_no_clause z) (front i lt) ∙ x.caused i k known begun lt (λ j y f. e j (omega arith) (old j y ∙ f))
           ];
     }
 
-levels_moved : (words live words' : List ℕ) (implied : List (List ℕ)) (s s' : State) → StateIsConsistent s → PropagatesOn live implied words s words' s' → IsLevelled s → IsLevelled s'
+levels_moved : (words live words' : List ℕ) (implied : List (List ℕ)) (s s' : PropagationState) → StateIsConsistent s → PropagatesOn live implied words s words' s' → IsLevelled s → IsLevelled s'
 levels_moved words live words' implied s s' h m x =
     let front : (i : ℕ) → i < length s.trail.lits → (node s' (lit_at s' i)).reason ≡ (node s (lit_at s i)).reason = λ i b.
     ap (λ l. (node s' l).reason) (m.grows.front i b) ∙ ap (λ (z : ImplNode). z.reason) (m.grows.nodes (lit_at s i) (h.holds i b)) in
     let longer : length s.trail.lits ≤ length s'.trail.lits = m.grows.longer in
     let begun : (k : ℕ) → k < length s.trail.starts → get_or s.trail.starts k 0 < length s'.trail.lits = λ k b. omega (arith, x.begun k b) in
-    let decided : (k : ℕ) → k < length s.trail.starts → is_unit_reason (node s' (lit_at s' (get_or s.trail.starts k 0))).reason ≡ true = λ k b.
-    ap (λ (z : Reason). is_unit_reason z) (front (get_or s.trail.starts k 0) (x.begun k b)) ∙ x.decided k b in
-    let caused : (i k : ℕ) → k < length s.trail.starts → get_or s.trail.starts k 0 ≤ i → i < length s'.trail.lits → BeginsNoLevel s.trail.starts i → is_unit_reason (node s' (lit_at s' i)).reason ≡ false =
+    let decided : (k : ℕ) → k < length s.trail.starts → has_no_clause (node s' (lit_at s' (get_or s.trail.starts k 0))).reason ≡ true = λ k b.
+    ap (λ (z : Reason). has_no_clause z) (front (get_or s.trail.starts k 0) (x.begun k b)) ∙ x.decided k b in
+    let caused : (i k : ℕ) → k < length s.trail.starts → get_or s.trail.starts k 0 ≤ i → i < length s'.trail.lits → BeginsNoLevel s.trail.starts i → has_no_clause (node s' (lit_at s' i)).reason ≡ false =
     λ i k b c d e. elim (cases_lt i (length s.trail.lits)) [
-      | inl lt ↦ ap (λ (z : Reason). is_unit_reason z) (front i lt) ∙ x.caused i k b c lt e
+      | inl lt ↦ ap (λ (z : Reason). has_no_clause z) (front i lt) ∙ x.caused i k b c lt e
       | inr le ↦ (m.caused i le d).1
     ] in
     let Whole : List ℕ → Type 0 = λ starts.
     ((j k : ℕ) → j < k → k < length starts → get_or starts j 0 < get_or starts k 0)
     × ((k : ℕ) → k < length starts → get_or starts k 0 < length s'.trail.lits)
-    × ((k : ℕ) → k < length starts → is_unit_reason (node s' (lit_at s' (get_or starts k 0))).reason ≡ true)
-    × ((i k : ℕ) → k < length starts → get_or starts k 0 ≤ i → i < length s'.trail.lits → BeginsNoLevel starts i → is_unit_reason (node s' (lit_at s' i)).reason ≡ false) in
+    × ((k : ℕ) → k < length starts → has_no_clause (node s' (lit_at s' (get_or starts k 0))).reason ≡ true)
+    × ((i k : ℕ) → k < length starts → get_or starts k 0 ≤ i → i < length s'.trail.lits → BeginsNoLevel starts i → has_no_clause (node s' (lit_at s' i)).reason ≡ false) in
     let whole : Whole s'.trail.starts = subst Whole (sym m.grows.starts) (x.strict, begun, decided, caused) in
     record { strict = whole.0; begun = whole.1; decided = whole.2; caused = whole.3 }
 
@@ -123,18 +123,18 @@ levels_undone a nodes t level h lt x =
     let fewer : length (take level t.starts) ≡ level = length-take-le level t.starts (omega arith) in
     let old : (k : ℕ) → k < level → get_or (take level t.starts) k 0 ≡ get_or t.starts k 0 = λ k b. get_or-take level t.starts k 0 b in
     let at : (i : ℕ) → i < get_or t.starts level 0 → get_or (take (get_or t.starts level 0) t.lits) i 0 ≡ get_or t.lits i 0 = λ i b. get_or-take (get_or t.starts level 0) t.lits i 0 b in
-    let s : State = state_of a nodes t in
+    let s : PropagationState = state_of a nodes t in
     record {
       strict = λ j k b c. omega (arith, old j (omega arith), old k (omega arith), x.strict j k b (omega arith));
       begun = λ k b. omega (arith, old k (omega arith), x.strict k level (omega arith) lt);
       decided = λ k b.
           let c : k < level = omega arith in
-          ap (λ z. is_unit_reason (node s (get_or (take (get_or t.starts level 0) t.lits) z 0)).reason) (old k c)
-          ∙ ap (λ z. is_unit_reason (node s z).reason) (at (get_or t.starts k 0) (x.strict k level c lt)) ∙ x.decided k (omega arith);
+          ap (λ z. has_no_clause (node s (get_or (take (get_or t.starts level 0) t.lits) z 0)).reason) (old k c)
+          ∙ ap (λ z. has_no_clause (node s z).reason) (at (get_or t.starts k 0) (x.strict k level c lt)) ∙ x.decided k (omega arith);
       caused = λ i k b c d e.
           let f : i < get_or t.starts level 0 = omega arith in
           let g : k < level = omega arith in
-          ap (λ z. is_unit_reason (node s z).reason) (at i f)
+          ap (λ z. has_no_clause (node s z).reason) (at i f)
           ∙ x.caused i k (omega arith) (omega (arith, old k g)) (omega arith) (λ j y q. elim (cases_lt j level) [
             | inl z ↦ e j (omega arith) (old j z ∙ q)
             | inr le ↦ elim (cases_eq j level) [
@@ -188,7 +188,7 @@ letters_append starts [] ys at = ap (λ n. letters starts ys n) (omega arith)
 letters_append starts (x ∷ xs) ys at =
     ap (λ (w : List Letter). letter starts at ∷ w) (letters_append starts xs ys (at + 1) ∙ ap (λ n. letters starts xs (at + 1) ++ letters starts ys n) (omega arith))
 
-word_caused : (s : State) (l : ℕ) → IsLevelled s → trail_word (with_lit l s.trail) ≡ trail_word s.trail ++ P ∷ []
+word_caused : (s : PropagationState) (l : ℕ) → IsLevelled s → trail_word (with_lit l s.trail) ≡ trail_word s.trail ++ P ∷ []
 word_caused s l x =
     let t : Trailed = s.trail in
     let none : begins s.trail.starts (0 + length s.trail.lits) ≡ false = begins_none s.trail.starts (0 + length s.trail.lits) (λ k b e. omega (arith, x.begun k b)) in
@@ -196,7 +196,7 @@ word_caused s l x =
     ap (λ (w : List Letter). replicate t.cleared P ++ w) (letters_append t.starts t.lits (l ∷ []) 0 ∙ ap (λ (w : List Letter). letters t.starts t.lits 0 ++ w) last)
     ∙ sym (append_assoc (replicate t.cleared P) (letters t.starts t.lits 0) (P ∷ []))
 
-word_decided : (s : State) (l : ℕ) → IsLevelled s → trail_word (with_lit l (with_level s.trail)) ≡ trail_word s.trail ++ D ∷ []
+word_decided : (s : PropagationState) (l : ℕ) → IsLevelled s → trail_word (with_lit l (with_level s.trail)) ≡ trail_word s.trail ++ D ∷ []
 word_decided s l x =
     let t : Trailed = s.trail in
     let n : ℕ = length s.trail.lits in
@@ -223,7 +223,7 @@ from_place [] k b = absurd (omega arith)
 from_place (x ∷ xs) zero b = refl
 from_place (x ∷ xs) (suc k) b = from_place xs k (omega arith)
 
-word_rises : (s : State) (l level : ℕ) → IsLevelled s → level < length s.trail.starts → IsLowerWord (trail_word s.trail) (trail_word (with_lit l (cut_to level s.trail)))
+word_rises : (s : PropagationState) (l level : ℕ) → IsLevelled s → level < length s.trail.starts → IsLowerWord (trail_word s.trail) (trail_word (with_lit l (cut_to level s.trail)))
 word_rises s l level x lt =
     let t : Trailed = s.trail in
     let cut : ℕ = get_or s.trail.starts level 0 in

@@ -3,10 +3,10 @@ use Rattle.std.proofs.lemmas.Grind.{common_steps}
 use Rattle.std.proofs.Common.{Ok, Err, subst}
 use Rattle.std.proofs.lemmas.Result.{err_from_is_err_and}
 use Rattle.sat_solver.specs.proof.ProofView.{steps_of, session_of}
-use Rattle.sat_solver.specs.declared.schedule.Outcome.TheVariants as outcomes
+use Rattle.sat_solver.specs.declared.schedule.RoundOutcome.TheVariants as outcomes
 use Rattle.sat_solver.specs.declared.cdcl.find_conflict.FoundConflict.TheVariants.{Falsified, Complete, Failed}
-use Rattle.sat_solver.specs.cdcl.Turns.{StopsSearch}
-use Rattle.sat_solver.specs.cdcl.Rounds.{RoundSays}
+use Rattle.sat_solver.specs.cdcl.Iterations.{StopsSearch}
+use Rattle.sat_solver.specs.cdcl.Rounds.{RoundResult}
 use Rattle.sat_solver.proofs.lemmas.cdcl.EndingLemmas.{ends_refuted, ends_on}
 use Rattle.sat_solver.proofs.lemmas.cdcl.GoingLemmas.{goes_after, goes_failing, goes_or, goes_quietly}
 use Rattle.sat_solver.proofs.lemmas.cdcl.RoundLemmas.{round_from, search_failed}
@@ -44,13 +44,13 @@ returns-in-Failed g c =
 pub returns-in-Falsified : goal.returns-in-Falsified
 returns-in-Falsified g c =
     let q = c.find_conflict.new.proof in
-    let z = c.resolve-in-Falsified.new.proof in
+    let z = c.learn_or_refute-in-Falsified.new.proof in
     let d = c.begin_round.new.search in
     let f = c.find_conflict.new.search in
-    let e = c.resolve-in-Falsified.new.search in
-    ends_on g.W.CountedWrite.seen _ _ _ _ _ _ (rw c.in-None.is at c.in_ok-begun.ensures) c.resolve-in-Falsified.result z e
-    (goes_after g.W.CountedWrite.seen _ c.resolve-in-Falsified.result _ q z _ _ _ c.in_ok-stop.ensures c.resolve-in-Falsified.ensures
+    let e = c.learn_or_refute-in-Falsified.new.search in
+    ends_on g.W.CountedWrite.seen _ _ _ _ _ _ (rw c.in-None.is at c.in_ok-begun.ensures) c.learn_or_refute-in-Falsified.result z e
+    (goes_after g.W.CountedWrite.seen _ c.learn_or_refute-in-Falsified.result _ q z _ _ _ c.in_ok-stop.ensures c.learn_or_refute-in-Falsified.ensures
     (λ xs ys outcome added quiet stopped says.
     let x : StopsSearch (Falsified c.in-Falsified.conflict) (session_of q) d f = subst (λ stop. StopsSearch stop (session_of q) d f) c.in-Falsified.is stopped in
     round_from outcome (steps_of c.begin_round.new.proof) xs ys (session_of z) d f e x.moved x.word quiet
-    (subst (λ zs. RoundSays outcome zs ys (session_of z) f e) added says)))
+    (subst (λ zs. RoundResult outcome zs ys (session_of z) f e) added says)))

@@ -10,7 +10,7 @@ use Rattle.sat_parts.specs.parts.Whole.{state}
 use Rattle.sat_solver.specs.session.Naming.{global_of_index}
 use Rattle.sat_solver.specs.session.FitLaws.{named_hashes}
 use Rattle.sat_solver.proofs.lemmas.fits.UnitLemmas.{empty_may}
-use Rattle.sat_solver.specs.cdcl.Going.{proof_fault}
+use Rattle.sat_solver.specs.cdcl.StepEffects.{proof_fault}
 use Rattle.sat_solver.proofs.lemmas.cdcl.GoingLemmas.{goes_starved, goes_step, goes_broken, goes_after, goes_then_fails}
 use Rattle.sat_solver.proofs.lemmas.cdcl.RoundLemmas.{refutes_later}
 use Rattle.sat_solver.specs.cdcl.Rounds.{LastRefutes}

@@ -14,17 +14,17 @@ use Rattle.sat_parts.specs.prop.Binaries.{implied_by}
 use Rattle.sat_parts.specs.prop.Values.{IsTrueLit, IsFalseLit}
 use Rattle.sat_parts.specs.prop.Causes.{causes, falsified}
 use Rattle.sat_parts.specs.prop.Graphs.{node_of}
-use Rattle.sat_parts.specs.prop.State.{State, node, level, current_level, lit_at, HasLeftQueue, StateIsConsistent, IsQueueCurrent, IsSatisfied}
+use Rattle.sat_parts.specs.prop.State.{PropagationState, node, level, current_level, lit_at, HasLeftQueue, StateIsConsistent, IsQueueCurrent, IsSatisfied}
 use Rattle.sat_parts.specs.prop.Reasons.{IsFalseBefore, Implies, AreUnitInTurn}
 use Rattle.sat_parts.specs.prop.TrailWord.{IsLevelled}
 use Rattle.sat_parts.specs.prop.Ready.{IsConflict, AreAllFalse}
-use Rattle.sat_parts.specs.prop.Asks.{PropagationInvariant}
+use Rattle.sat_parts.specs.prop.Propagation.{PropagationInvariant}
 use Rattle.sat_parts.proofs.lemmas.clause.ListLemmas.{at_place}
 use Rattle.sat_parts.proofs.lemmas.prop.StateLemmas.{negated_variable, true_from_false, not_both, level_low}
-use Rattle.sat_solver.specs.analyze_conflict.Marks.{CanAnalyze, HasTop}
+use Rattle.sat_solver.specs.analyze_conflict.Marks.{CanAnalyze, HasCurrentLevelLit}
 
 -- a true literal below the current level has left the queue
-pub low_left : (s : State) (l : ℕ) → StateIsConsistent s → IsQueueCurrent s → IsTrueLit s.values l → level s l < current_level s → HasLeftQueue s l
+pub low_left : (s : PropagationState) (l : ℕ) → StateIsConsistent s → IsQueueCurrent s → IsTrueLit s.values l → level s l < current_level s → HasLeftQueue s l
 low_left s l a q t low = elim (a.known l t) [
   | inl b ↦ elim (cases_lt b.place s.trail.head) [
     | inl lt ↦ inl (record { place = b.place; before = lt; within = b.within; there = b.there })
@@ -33,14 +33,14 @@ low_left s l a q t low = elim (a.known l t) [
   | inr x ↦ inr x
 ]
 
-false_level : (s : State) (r : ℕ) → StateIsConsistent s → IsFalseLit s.values r → level s r ≢ current_level s → level s (negated r) < current_level s
+false_level : (s : PropagationState) (r : ℕ) → StateIsConsistent s → IsFalseLit s.values r → level s r ≢ current_level s → level s (negated r) < current_level s
 false_level s r a f n =
     let e : level s (negated r) ≡ level s r = ap (λ v. (node_of s.nodes v).level) (negated_variable r) in
     omega (arith, level_low s (negated r) a (true_from_false s.values r f))
 
 -- a conflict after propagation has a literal of the current level
-pub conflict_top : (words refs : List ℕ) (w : Watching) (implied : List (List ℕ)) (s : State) (e : Conflict) → PropagationInvariant words refs w implied s (current_level s) →
-    IsConflict words (live_refs words refs) implied s.values e → HasTop s (falsified words e)
+pub conflict_top : (words refs : List ℕ) (w : Watching) (implied : List (List ℕ)) (s : PropagationState) (e : Conflict) → PropagationInvariant words refs w implied s (current_level s) →
+    IsConflict words (live_refs words refs) implied s.values e → HasCurrentLevelLit s (falsified words e)
 conflict_top words refs w implied s (conflicts.Binary ls) asks c = elim (cases_eq (level s (get_or ls 1 0)) (current_level s)) [
   | inl t ↦ (1, (omega arith, t))
   | inr n ↦
@@ -63,7 +63,7 @@ conflict_top words refs w implied s (conflicts.Long o) asks c =
           absurd (not_both s.values (get_or (lits_at words o) x.place 0) x.holds (c.1 x.place x.within))
     ]
 
-before_by : (words live : List ℕ) (implied : List (List ℕ)) (s : State) (p k : ℕ) (r : Reason) → Implies words live implied s p r → k < length (causes words r) → IsFalseBefore s p (get_or (causes words r) k 0)
+before_by : (words live : List ℕ) (implied : List (List ℕ)) (s : PropagationState) (p k : ℕ) (r : Reason) → Implies words live implied s p r → k < length (causes words r) → IsFalseBefore s p (get_or (causes words r) k 0)
 before_by words live implied s p k NoCause h lt = absurd (omega arith)
 before_by words live implied s p k (Binary ls) h lt =
     let e : 0 ≡ k = omega arith in
@@ -71,7 +71,7 @@ before_by words live implied s p k (Binary ls) h lt =
 before_by words live implied s p k (Long o) h lt =
     subst (λ z. IsFalseBefore s p z) (sym (get_or-drop 1 (lits_at words o) k 0)) (h.2 (1 + k) (omega arith) (omega (arith, length-drop 1 (lits_at words o))))
 
-pub stands_by : (words live : List ℕ) (implied : List (List ℕ)) (s : State) (p o : ℕ) (r : Reason) (count : ℕ) → AreClauses words live count → Implies words live implied s p r → r ≡ Long o → IsClause words o × (0 < length (lits_at words o))
+pub stands_by : (words live : List ℕ) (implied : List (List ℕ)) (s : PropagationState) (p o : ℕ) (r : Reason) (count : ℕ) → AreClauses words live count → Implies words live implied s p r → r ≡ Long o → IsClause words o × (0 < length (lits_at words o))
 stands_by words live implied s p o NoCause count c h e = (let x : NoCause ≡ Long o = e in cc)
 stands_by words live implied s p o (Binary ls) count c h e = (let x : Binary ls ≡ Long o = e in cc)
 stands_by words live implied s p o (Long q) count c h e =
@@ -80,7 +80,7 @@ stands_by words live implied s p o (Long q) count c h e =
 
 -- analysis may begin if the parts agree, reasons are unit in turn above level 0, and every level begins with a
 -- decision
-pub can_analyze : (words live : List ℕ) (implied : List (List ℕ)) (s : State) (count : ℕ) → StateIsConsistent s → IsLevelled s → 0 < current_level s → AreClauses words live count →
+pub can_analyze : (words live : List ℕ) (implied : List (List ℕ)) (s : PropagationState) (count : ℕ) → StateIsConsistent s → IsLevelled s → 0 < current_level s → AreClauses words live count →
     AreUnitInTurn words live implied s (get_or s.trail.starts 0 0) → CanAnalyze words s
 can_analyze words live implied s count a levelled above clauses t = record {
   agrees = a;

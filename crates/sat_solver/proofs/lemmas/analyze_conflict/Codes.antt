@@ -12,23 +12,23 @@ use Rattle.sat_parts.specs.declared.prop.graph.Reason.TheVariants.{Long}
 use Rattle.sat_parts.specs.clause.Orders.{IsReordering}
 use Rattle.sat_parts.specs.prop.Values.{IsTrueLit}
 use Rattle.sat_parts.specs.prop.Graphs.{node_of}
-use Rattle.sat_parts.specs.prop.State.{State, node, level, lit_at, StateIsConsistent}
+use Rattle.sat_parts.specs.prop.State.{PropagationState, node, level, lit_at, StateIsConsistent}
 use Rattle.sat_parts.specs.prop.Reasons.{IsFalseBefore}
 use Rattle.sat_parts.proofs.lemmas.prop.RoomLemmas.{below_from_value}
 use Rattle.sat_parts.proofs.lemmas.clause.OrderLemmas.{other, swapped_at, shuffled_swapped, shuffled_refl, shuffled_trans}
-use Rattle.sat_solver.specs.analyze_conflict.Work.{Work}
+use Rattle.sat_solver.specs.analyze_conflict.AnalysisState.{AnalysisState}
 use Rattle.sat_solver.specs.analyze_conflict.Marks.{causes_at, CanAnalyze, IsReasoned, MarksWork}
 use Rattle.sat_solver.proofs.lemmas.analyze_conflict.InTurn.{above_first}
 use Rattle.sat_solver.proofs.lemmas.analyze_conflict.Meeting.{OpenPlace, open_some, variable_below}
 use Rattle.sat_solver.proofs.lemmas.analyze_conflict.Resolution.{IsLastFlagged}
 
 -- if literals are still to be resolved, some literal of the trail is flagged
-pub some_flagged : (s : State) (top : ℕ) (w : Work) (at : ℕ) (lits : List ℕ) → lits ≡ s.trail.lits → MarksWork s top w at → 0 < w.pending → (p : ℕ) × ((p < at) × (get_or w.flags (variable (get_or lits p 0)) false ≡ true))
+pub some_flagged : (s : PropagationState) (top : ℕ) (w : AnalysisState) (at : ℕ) (lits : List ℕ) → lits ≡ s.trail.lits → MarksWork s top w at → 0 < w.pending → (p : ℕ) × ((p < at) × (get_or w.flags (variable (get_or lits p 0)) false ≡ true))
 some_flagged s top w at lits e m some =
     let x : OpenPlace s top w.flags at = open_some s top w.flags at (omega (arith, m.counted)) in
     (x.place, (x.before, ap (λ (ls : List ℕ). get_or w.flags (variable (get_or ls x.place 0)) false) e ∙ x.flagged))
 
-pub last_place : (s : State) (flags : List Bool) (p at : ℕ) (lits : List ℕ) → lits ≡ s.trail.lits → p < at → get_or flags (variable (get_or lits p 0)) false ≡ true →
+pub last_place : (s : PropagationState) (flags : List Bool) (p at : ℕ) (lits : List ℕ) → lits ≡ s.trail.lits → p < at → get_or flags (variable (get_or lits p 0)) false ≡ true →
     ((q : ℕ) → p < q → q < at → get_or flags (variable (get_or lits q 0)) false ≡ false) → IsLastFlagged s flags p at
 last_place s flags p at lits e lt f others = record {
   before = lt;
@@ -37,28 +37,28 @@ last_place s flags p at lits e lt f others = record {
 }
 
 -- the clause of a long reason above level 0 is in the buffer
-pub taken_stands : (words : List ℕ) (s : State) (p o : ℕ) (r : Reason) → CanAnalyze words s → get_or s.trail.starts 0 0 ≤ p → p < length s.trail.lits → r ≡ (node s (lit_at s p)).reason → r ≡ Long o → IsClause words o × (0 < length (lits_at words o))
+pub taken_stands : (words : List ℕ) (s : PropagationState) (p o : ℕ) (r : Reason) → CanAnalyze words s → get_or s.trail.starts 0 0 ≤ p → p < length s.trail.lits → r ≡ (node s (lit_at s p)).reason → r ≡ Long o → IsClause words o × (0 < length (lits_at words o))
 taken_stands words s p o r can first within r_is e = can.valid p o first within (sym r_is ∙ e)
 
 -- the false literals of a reason above level 0 have nodes
-pub before_nodes : (words : List ℕ) (s : State) (p k : ℕ) (ls : List ℕ) → CanAnalyze words s → get_or s.trail.starts 0 0 ≤ p → p < length s.trail.lits → ls ≡ causes_at words s (lit_at s p) → k < length ls → variable (get_or ls k 0) < length s.nodes
+pub before_nodes : (words : List ℕ) (s : PropagationState) (p k : ℕ) (ls : List ℕ) → CanAnalyze words s → get_or s.trail.starts 0 0 ≤ p → p < length s.trail.lits → ls ≡ causes_at words s (lit_at s p) → k < length ls → variable (get_or ls k 0) < length s.nodes
 before_nodes words s p k ls can first within e lt =
     let b : IsFalseBefore s p (get_or (causes_at words s (lit_at s p)) k 0) = can.before p k first within (subst (λ (xs : List ℕ). k < length xs) e lt) in
     omega (arith, variable_below s p (get_or (causes_at words s (lit_at s p)) k 0) can.agrees b, can.agrees.nodes, ap (λ (xs : List ℕ). variable (get_or xs k 0)) e)
 
 -- the long reason of a used literal is in the buffer
-pub reasoned_stands : (words : List ℕ) (s : State) (l o : ℕ) (r : Reason) → CanAnalyze words s → IsReasoned s 0 l → r ≡ (node s l).reason → r ≡ Long o → IsClause words o × (0 < length (lits_at words o))
+pub reasoned_stands : (words : List ℕ) (s : PropagationState) (l o : ℕ) (r : Reason) → CanAnalyze words s → IsReasoned s 0 l → r ≡ (node s l).reason → r ≡ Long o → IsClause words o × (0 < length (lits_at words o))
 reasoned_stands words s l o r can x r_is e =
     can.valid x.place o (above_first s x.place l can.agrees x.within x.there x.above can.above) x.within (ap (λ z. (node s z).reason) x.there ∙ sym r_is ∙ e)
 
-pub reasoned_nodes : (words : List ℕ) (s : State) (l k : ℕ) (ls : List ℕ) → CanAnalyze words s → IsReasoned s 0 l → ls ≡ causes_at words s l → k < length ls → variable (get_or ls k 0) < length s.nodes
+pub reasoned_nodes : (words : List ℕ) (s : PropagationState) (l k : ℕ) (ls : List ℕ) → CanAnalyze words s → IsReasoned s 0 l → ls ≡ causes_at words s l → k < length ls → variable (get_or ls k 0) < length s.nodes
 reasoned_nodes words s l k ls can x e lt =
     before_nodes words s x.place k ls can (above_first s x.place l can.agrees x.within x.there x.above can.above) x.within (e ∙ ap (λ z. causes_at words s z) (sym x.there)) lt
 
-pub reasoned_variable : (s : State) (l : ℕ) → StateIsConsistent s → IsReasoned s 0 l → variable l < length s.values
+pub reasoned_variable : (s : PropagationState) (l : ℕ) → StateIsConsistent s → IsReasoned s 0 l → variable l < length s.values
 reasoned_variable s l a x = true_variable s x.place l a x.within x.there
   where
-    true_variable : (s : State) (p l : ℕ) → StateIsConsistent s → p < length s.trail.lits → lit_at s p ≡ l → variable l < length s.values
+    true_variable : (s : PropagationState) (p l : ℕ) → StateIsConsistent s → p < length s.trail.lits → lit_at s p ≡ l → variable l < length s.values
     true_variable s p l a within there = below_from_value s.values (variable l) (is_positive l) (subst (λ z. IsTrueLit s.values z) there (a.holds p within))
 
 -- The search for the second literal of a learned clause: each literal of a higher level is swapped with the second
@@ -126,7 +126,7 @@ shuffled_nodes nodes ls ms h inside k lt =
     let o : (j : ℕ) × ((j < length ls) × (get_or ls j 0 ≡ get_or ms k 0)) = h.back k (omega (arith, h.size)) in
     omega (arith, inside o.0 o.1.0, ap (λ z. variable z) o.1.1)
 
-pub place_variable : (s : State) (top : ℕ) (w : Work) (at p : ℕ) → StateIsConsistent s → MarksWork s top w at → p < at → variable (lit_at s p) < length w.flags
+pub place_variable : (s : PropagationState) (top : ℕ) (w : AnalysisState) (at p : ℕ) → StateIsConsistent s → MarksWork s top w at → p < at → variable (lit_at s p) < length w.flags
 place_variable s top w at p a m lt =
     let within : p < length s.trail.lits = omega (arith, m.within) in
     omega (arith, m.size, below_from_value s.values (variable (lit_at s p)) (is_positive (lit_at s p)) (a.holds p within))

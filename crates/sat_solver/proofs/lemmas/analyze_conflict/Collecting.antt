@@ -9,25 +9,25 @@ use Rattle.sat_parts.specs.declared.prop.graph.Conflict.{Conflict}
 use Rattle.sat_parts.specs.clause.Glue.{AreClear}
 use Rattle.sat_parts.specs.clause.Orders.{AreDistinct}
 use Rattle.sat_parts.specs.prop.Causes.{falsified}
-use Rattle.sat_parts.specs.prop.State.{State, node, level, current_level, lit_at, IsBefore, StateIsConsistent}
+use Rattle.sat_parts.specs.prop.State.{PropagationState, node, level, current_level, lit_at, IsBefore, StateIsConsistent}
 use Rattle.sat_parts.specs.prop.Reasons.{IsFalseBefore}
 use Rattle.sat_parts.proofs.lemmas.clause.ListLemmas.{at_place, place_in}
 use Rattle.sat_parts.proofs.lemmas.prop.StateLemmas.{negated_variable}
 use Rattle.sat_parts.proofs.lemmas.prop.RoomLemmas.{places_apart}
-use Rattle.sat_solver.specs.analyze_conflict.Work.{Work, with_met_literal, with_met_literals, long_of, long_falsified, taken_up, begun}
+use Rattle.sat_solver.specs.analyze_conflict.AnalysisState.{AnalysisState, with_seen_literal, with_seen_literals, long_of, long_falsified, with_reason_used, begun_analysis}
 use Rattle.sat_solver.specs.analyze_conflict.Marks.{causes_at}
-use Rattle.sat_solver.specs.analyze_conflict.Involved.{HasAbove, IsMetVariable, met_first, met_cause, longs_of, AreListed, AreMet, HasOther, AreNeeded, CollectionInvariant, CollectionResult}
+use Rattle.sat_solver.specs.analyze_conflict.Involved.{HasAbove, IsSeenVariable, met_first, met_cause, longs_of, AreListed, AreSeen, HasOther, AreNeeded, CollectionInvariant, CollectionResult}
 use Rattle.sat_solver.proofs.lemmas.analyze_conflict.Meeting.{OpenPlace, Meets, at_bottom, is_flagged, is_high, is_lower, counted, listed, meets, stands_before, variable_below, flag_kept, flag_cases}
 use Rattle.sat_solver.proofs.lemmas.analyze_conflict.Minimizing.{distinct_push}
 use Rattle.sat_solver.proofs.lemmas.analyze_conflict.Resolution.{IsLastFlagged, at_current}
 
 -- how the list of met variables has changed after these literals were met
-pub record Lists (s : State) (at : ℕ) (rs : List ℕ) (w w' : Work) : Type 0 where
-  pub listed : AreListed s w'.met w'.flags at
+pub record Lists (s : PropagationState) (at : ℕ) (rs : List ℕ) (w w' : AnalysisState) : Type 0 where
+  pub listed : AreListed s w'.seen w'.flags at
   pub size : length w'.flags ≡ length w.flags
-  pub stays : (v : ℕ) → Contains w.met v → Contains w'.met v
-  pub has : (v : ℕ) → HasAbove s rs v → Contains w'.met v
-  pub only : (v : ℕ) → Contains w'.met v → Contains w.met v ⊎ HasAbove s rs v
+  pub stays : (v : ℕ) → Contains w.seen v → Contains w'.seen v
+  pub has : (v : ℕ) → HasAbove s rs v → Contains w'.seen v
+  pub only : (v : ℕ) → Contains w'.seen v → Contains w.seen v ⊎ HasAbove s rs v
 
 push_cases : (xs : List ℕ) (x y : ℕ) → Contains (xs ++ x ∷ []) y → Contains xs y ⊎ (x ≡ y)
 push_cases xs x y c = elim (Contains-append_cases xs (x ∷ []) y c) [
@@ -38,8 +38,8 @@ push_cases xs x y c = elim (Contains-append_cases xs (x ∷ []) y c) [
 ]
 
 -- a literal that was false before this position, and isn't flagged, isn't listed
-not_listed : (s : State) (met : List ℕ) (flags : List Bool) (at r : ℕ) → StateIsConsistent s → IsFalseBefore s at r → 0 < level s r → AreListed s met flags at → get_or flags (variable r) false ≡ false → Contains met (variable r) → ⊥
-not_listed s met flags at r a h above l f c = elim (l.passed (variable r) c) [
+not_listed : (s : PropagationState) (seen : List ℕ) (flags : List Bool) (at r : ℕ) → StateIsConsistent s → IsFalseBefore s at r → 0 < level s r → AreListed s seen flags at → get_or flags (variable r) false ≡ false → Contains seen (variable r) → ⊥
+not_listed s seen flags at r a h above l f c = elim (l.passed (variable r) c) [
   | inl t ↦ both_ways (get_or flags (variable r) false) f t
   | inr x ↦
       let b : IsBefore s at (negated r) = stands_before s at r h above in
@@ -47,81 +47,81 @@ not_listed s met flags at r a h above l f c = elim (l.passed (variable r) c) [
 ]
 
 -- a literal that was false before this position is flagged and listed
-lists_new : (s : State) (met : List ℕ) (flags : List Bool) (at r : ℕ) → StateIsConsistent s → IsFalseBefore s at r → 0 < level s r → length flags ≡ length s.values → AreListed s met flags at → get_or flags (variable r) false ≡ false →
-    AreListed s (met ++ variable r ∷ []) (set flags (variable r) true) at
-lists_new s met flags at r a h above size l f =
+lists_new : (s : PropagationState) (seen : List ℕ) (flags : List Bool) (at r : ℕ) → StateIsConsistent s → IsFalseBefore s at r → 0 < level s r → length flags ≡ length s.values → AreListed s seen flags at → get_or flags (variable r) false ≡ false →
+    AreListed s (seen ++ variable r ∷ []) (set flags (variable r) true) at
+lists_new s seen flags at r a h above size l f =
     let v : ℕ = variable r in
     let inside : variable r < length s.values = variable_below s at r a h in
     let lt : variable r < length flags = omega arith in
     record {
-      distinct = distinct_push met v l.distinct (λ k b e. not_listed s met flags at r a h above l f (subst (λ z. Contains met z) e (place_in met k b)));
-      within = λ u c. elim (push_cases met v u c) [
+      distinct = distinct_push seen v l.distinct (λ k b e. not_listed s seen flags at r a h above l f (subst (λ z. Contains seen z) e (place_in seen k b)));
+      within = λ u c. elim (push_cases seen v u c) [
         | inl x ↦ l.within u x
         | inr e ↦ subst (λ z. z < length s.values) e inside
       ];
       flagged = λ u e. elim (flag_cases flags v u e) [
-        | inl q ↦ subst (λ z. Contains (met ++ v ∷ []) z) (sym q) (Contains-push met v)
-        | inr g ↦ Contains-append_left met (v ∷ []) u (l.flagged u g)
+        | inl q ↦ subst (λ z. Contains (seen ++ v ∷ []) z) (sym q) (Contains-push seen v)
+        | inr g ↦ Contains-append_left seen (v ∷ []) u (l.flagged u g)
       ];
-      passed = λ u c. elim (push_cases met v u c) [
+      passed = λ u c. elim (push_cases seen v u c) [
         | inl x ↦ elim (l.passed u x) [ inl t ↦ inl (flag_kept flags v u lt t) | inr y ↦ inr y ]
         | inr e ↦ inl (subst (λ z. get_or (set flags v true) z false ≡ true) e (get_or-set_same flags v true false lt))
       ];
     }
 
-one_above : (s : State) (r v : ℕ) → HasAbove s (r ∷ []) v → (0 < level s r) × (variable r ≡ v)
+one_above : (s : PropagationState) (r v : ℕ) → HasAbove s (r ∷ []) v → (0 < level s r) × (variable r ≡ v)
 one_above s r v h =
     let e : h.0 ≡ 0 = omega (arith, h.1.0) in
     (subst (λ k. 0 < level s (get_or (r ∷ []) k 0)) e h.1.1, subst (λ k. variable (get_or (r ∷ []) k 0) ≡ v) e h.1.2)
 
-lists_same : (s : State) (at r : ℕ) (w : Work) → AreListed s w.met w.flags at → (0 < level s r → get_or w.flags (variable r) false ≡ true) → Lists s at (r ∷ []) w w
+lists_same : (s : PropagationState) (at r : ℕ) (w : AnalysisState) → AreListed s w.seen w.flags at → (0 < level s r → get_or w.flags (variable r) false ≡ true) → Lists s at (r ∷ []) w w
 lists_same s at r w l f = record {
   listed = l;
   size = refl;
   stays = λ v c. c;
   has = λ v h.
       let o = one_above s r v h in
-      subst (λ z. Contains w.met z) o.1 (l.flagged (variable r) (f o.0));
+      subst (λ z. Contains w.seen z) o.1 (l.flagged (variable r) (f o.0));
   only = λ v c. inl c;
 }
 
-lists_pushed : (s : State) (at r : ℕ) (w w' : Work) → StateIsConsistent s → IsFalseBefore s at r → 0 < level s r → length w.flags ≡ length s.values → AreListed s w.met w.flags at → get_or w.flags (variable r) false ≡ false →
-    w'.met ≡ w.met ++ variable r ∷ [] → w'.flags ≡ set w.flags (variable r) true → Lists s at (r ∷ []) w w'
-lists_pushed s at r w w' a h above size l f met flags =
-    let new : AreListed s (w.met ++ variable r ∷ []) (set w.flags (variable r) true) at = lists_new s w.met w.flags at r a h above size l f in
+lists_pushed : (s : PropagationState) (at r : ℕ) (w w' : AnalysisState) → StateIsConsistent s → IsFalseBefore s at r → 0 < level s r → length w.flags ≡ length s.values → AreListed s w.seen w.flags at → get_or w.flags (variable r) false ≡ false →
+    w'.seen ≡ w.seen ++ variable r ∷ [] → w'.flags ≡ set w.flags (variable r) true → Lists s at (r ∷ []) w w'
+lists_pushed s at r w w' a h above size l f seen flags =
+    let new : AreListed s (w.seen ++ variable r ∷ []) (set w.flags (variable r) true) at = lists_new s w.seen w.flags at r a h above size l f in
     record {
-      listed = subst (λ (xs : List ℕ). AreListed s xs w'.flags at) (sym met) (subst (λ (fs : List Bool). AreListed s (w.met ++ variable r ∷ []) fs at) (sym flags) new);
+      listed = subst (λ (xs : List ℕ). AreListed s xs w'.flags at) (sym seen) (subst (λ (fs : List Bool). AreListed s (w.seen ++ variable r ∷ []) fs at) (sym flags) new);
       size = ap (λ (fs : List Bool). length fs) flags ∙ length-set w.flags (variable r) true;
-      stays = λ v c. subst (λ (xs : List ℕ). Contains xs v) (sym met) (Contains-append_left w.met (variable r ∷ []) v c);
-      has = λ v x. subst (λ (xs : List ℕ). Contains xs v) (sym met) (subst (λ z. Contains (w.met ++ variable r ∷ []) z) (one_above s r v x).1 (Contains-push w.met (variable r)));
-      only = λ v c. elim (push_cases w.met (variable r) v (subst (λ (xs : List ℕ). Contains xs v) met c)) [
+      stays = λ v c. subst (λ (xs : List ℕ). Contains xs v) (sym seen) (Contains-append_left w.seen (variable r ∷ []) v c);
+      has = λ v x. subst (λ (xs : List ℕ). Contains xs v) (sym seen) (subst (λ z. Contains (w.seen ++ variable r ∷ []) z) (one_above s r v x).1 (Contains-push w.seen (variable r)));
+      only = λ v c. elim (push_cases w.seen (variable r) v (subst (λ (xs : List ℕ). Contains xs v) seen c)) [
         | inl x ↦ inl x
         | inr e ↦ inr (0, (omega arith, above, e))
       ];
     }
 
-lists_one : (s : State) (top at r : ℕ) (w w' : Work) → StateIsConsistent s → IsFalseBefore s at r → length w.flags ≡ length s.values → AreListed s w.met w.flags at → Meets s top r w w' → Lists s at (r ∷ []) w w'
+lists_one : (s : PropagationState) (top at r : ℕ) (w w' : AnalysisState) → StateIsConsistent s → IsFalseBefore s at r → length w.flags ≡ length s.values → AreListed s w.seen w.flags at → Meets s top r w w' → Lists s at (r ∷ []) w w'
 lists_one s top at r w w' a h size l (at_bottom z e) = subst (λ x. Lists s at (r ∷ []) w x) (sym e) (lists_same s at r w l (λ lt. absurd (omega arith)))
 lists_one s top at r w w' a h size l (is_flagged f e) = subst (λ x. Lists s at (r ∷ []) w x) (sym e) (lists_same s at r w l (λ lt. f))
 lists_one s top at r w w' a h size l (is_high above f t e) = subst (λ x. Lists s at (r ∷ []) w x) (sym e) (lists_pushed s at r w (counted r w) a h above size l f refl refl)
 lists_one s top at r w w' a h size l (is_lower above f t e) = subst (λ x. Lists s at (r ∷ []) w x) (sym e) (lists_pushed s at r w (listed r w) a h above size l f refl refl)
 
-above_cons : (s : State) (r v : ℕ) (rs : List ℕ) → HasAbove s (r ∷ rs) v → HasAbove s (r ∷ []) v ⊎ HasAbove s rs v
+above_cons : (s : PropagationState) (r v : ℕ) (rs : List ℕ) → HasAbove s (r ∷ rs) v → HasAbove s (r ∷ []) v ⊎ HasAbove s rs v
 above_cons s r v rs (zero, b) = inl (0, (omega arith, b.1, b.2))
 above_cons s r v rs (suc k, b) = inr (k, (omega (arith, b.0), b.1, b.2))
 
-above_head : (s : State) (r v : ℕ) (rs : List ℕ) → HasAbove s (r ∷ []) v → HasAbove s (r ∷ rs) v
+above_head : (s : PropagationState) (r v : ℕ) (rs : List ℕ) → HasAbove s (r ∷ []) v → HasAbove s (r ∷ rs) v
 above_head s r v rs h = let o = one_above s r v h in (0, (omega arith, o.0, o.1))
 
-above_tail : (s : State) (r v : ℕ) (rs : List ℕ) → HasAbove s rs v → HasAbove s (r ∷ rs) v
+above_tail : (s : PropagationState) (r v : ℕ) (rs : List ℕ) → HasAbove s rs v → HasAbove s (r ∷ rs) v
 above_tail s r v rs h = (suc h.0, (omega (arith, h.1.0), h.1.1, h.1.2))
 
-pub lists_all : (s : State) (top at : ℕ) (rs : List ℕ) (w : Work) → StateIsConsistent s → ((k : ℕ) → k < length rs → IsFalseBefore s at (get_or rs k 0)) → length w.flags ≡ length s.values → AreListed s w.met w.flags at →
-    Lists s at rs w (with_met_literals s.nodes top rs w)
+pub lists_all : (s : PropagationState) (top at : ℕ) (rs : List ℕ) (w : AnalysisState) → StateIsConsistent s → ((k : ℕ) → k < length rs → IsFalseBefore s at (get_or rs k 0)) → length w.flags ≡ length s.values → AreListed s w.seen w.flags at →
+    Lists s at rs w (with_seen_literals s.nodes top rs w)
 lists_all s top at [] w a h size l = record { listed = l; size = refl; stays = λ v c. c; has = λ v x. absurd (omega (arith, x.1.0)); only = λ v c. inl c }
 lists_all s top at (r ∷ rs) w a h size l =
-    let w1 : Work = with_met_literal s.nodes top r w in
-    let w2 : Work = with_met_literals s.nodes top rs w1 in
+    let w1 : AnalysisState = with_seen_literal s.nodes top r w in
+    let w2 : AnalysisState = with_seen_literals s.nodes top rs w1 in
     let x : Lists s at (r ∷ []) w w1 = lists_one s top at r w w1 a (h 0 (omega arith)) size l (meets s top r w) in
     let y : Lists s at rs w1 w2 = lists_all s top at rs w1 a (λ k lt. h (suc k) (omega arith)) (x.size ∙ size) x.listed in
     record {
@@ -148,7 +148,7 @@ lowered flags v u e = elim (cases_eq u v) [
 ]
 
 -- the flag of a literal is cleared when its position is passed
-listed_passed : (s : State) (w : Work) (p at : ℕ) → p < at → at ≤ length s.trail.lits → AreListed s w.met w.flags at → AreListed s w.met (set w.flags (variable (lit_at s p)) false) p
+listed_passed : (s : PropagationState) (w : AnalysisState) (p at : ℕ) → p < at → at ≤ length s.trail.lits → AreListed s w.seen w.flags at → AreListed s w.seen (set w.flags (variable (lit_at s p)) false) p
 listed_passed s w p at lt le l = record {
   distinct = l.distinct;
   within = l.within;
@@ -162,35 +162,35 @@ listed_passed s w p at lt le l = record {
   ];
 }
 
-longs_push : (s : State) (ls : List ℕ) (l : ℕ) → longs_of s (ls ++ l ∷ []) ≡ longs_of s ls ++ long_of (node s l).reason
+longs_push : (s : PropagationState) (ls : List ℕ) (l : ℕ) → longs_of s (ls ++ l ∷ []) ≡ longs_of s ls ++ long_of (node s l).reason
 longs_push s [] l = append-nil (long_of (node s l).reason)
 longs_push s (m ∷ ms) l = ap (λ (xs : List ℕ). long_of (node s m).reason ++ xs) (longs_push s ms l) ∙ sym (append_assoc (long_of (node s m).reason) (longs_of s ms) (long_of (node s l).reason))
 
 -- meeting literals changes neither the used literals nor the involved clauses
-record Same (w w' : Work) : Type 0 where
+record Same (w w' : AnalysisState) : Type 0 where
   used : w'.used ≡ w.used
-  involved : w'.involved ≡ w.involved
+  antecedents : w'.antecedents ≡ w.antecedents
 
-same_one : (s : State) (top r : ℕ) (w w' : Work) → Meets s top r w w' → Same w w'
-same_one s top r w w' (at_bottom z e) = record { used = ap (λ (x : Work). x.used) e; involved = ap (λ (x : Work). x.involved) e }
-same_one s top r w w' (is_flagged f e) = record { used = ap (λ (x : Work). x.used) e; involved = ap (λ (x : Work). x.involved) e }
-same_one s top r w w' (is_high above f t e) = record { used = ap (λ (x : Work). x.used) e; involved = ap (λ (x : Work). x.involved) e }
-same_one s top r w w' (is_lower above f t e) = record { used = ap (λ (x : Work). x.used) e; involved = ap (λ (x : Work). x.involved) e }
+same_one : (s : PropagationState) (top r : ℕ) (w w' : AnalysisState) → Meets s top r w w' → Same w w'
+same_one s top r w w' (at_bottom z e) = record { used = ap (λ (x : AnalysisState). x.used) e; antecedents = ap (λ (x : AnalysisState). x.antecedents) e }
+same_one s top r w w' (is_flagged f e) = record { used = ap (λ (x : AnalysisState). x.used) e; antecedents = ap (λ (x : AnalysisState). x.antecedents) e }
+same_one s top r w w' (is_high above f t e) = record { used = ap (λ (x : AnalysisState). x.used) e; antecedents = ap (λ (x : AnalysisState). x.antecedents) e }
+same_one s top r w w' (is_lower above f t e) = record { used = ap (λ (x : AnalysisState). x.used) e; antecedents = ap (λ (x : AnalysisState). x.antecedents) e }
 
-same_all : (s : State) (top : ℕ) (rs : List ℕ) (w : Work) → Same w (with_met_literals s.nodes top rs w)
-same_all s top [] w = record { used = refl; involved = refl }
+same_all : (s : PropagationState) (top : ℕ) (rs : List ℕ) (w : AnalysisState) → Same w (with_seen_literals s.nodes top rs w)
+same_all s top [] w = record { used = refl; antecedents = refl }
 same_all s top (r ∷ rs) w =
-    let w1 : Work = with_met_literal s.nodes top r w in
+    let w1 : AnalysisState = with_seen_literal s.nodes top r w in
     let x : Same w w1 = same_one s top r w w1 (meets s top r w) in
-    let y : Same w1 (with_met_literals s.nodes top rs w1) = same_all s top rs w1 in
-    record { used = y.used ∙ x.used; involved = y.involved ∙ x.involved }
+    let y : Same w1 (with_seen_literals s.nodes top rs w1) = same_all s top rs w1 in
+    record { used = y.used ∙ x.used; antecedents = y.antecedents ∙ x.antecedents }
 
 -- the invariant holds after the literals of the falsified clause were met
-pub collecting_began : (words : List ℕ) (s : State) (e : Conflict) (w : Work) → StateIsConsistent s → AreClear w.flags → length w.flags ≡ length s.values → ((k : ℕ) → k < length (falsified words e) → IsFalseBefore s (length s.trail.lits) (get_or (falsified words e) k 0)) →
-    CollectionInvariant words s e (with_met_literals s.nodes (current_level s) (falsified words e) (begun e w)) (length s.trail.lits)
+pub collecting_began : (words : List ℕ) (s : PropagationState) (e : Conflict) (w : AnalysisState) → StateIsConsistent s → AreClear w.flags → length w.flags ≡ length s.values → ((k : ℕ) → k < length (falsified words e) → IsFalseBefore s (length s.trail.lits) (get_or (falsified words e) k 0)) →
+    CollectionInvariant words s e (with_seen_literals s.nodes (current_level s) (falsified words e) (begun_analysis e w)) (length s.trail.lits)
 collecting_began words s e w a clear size h =
-    let w1 : Work = begun e w in
-    let w2 : Work = with_met_literals s.nodes (current_level s) (falsified words e) w1 in
+    let w1 : AnalysisState = begun_analysis e w in
+    let w2 : AnalysisState = with_seen_literals s.nodes (current_level s) (falsified words e) w1 in
     let none : AreListed s [] w.flags (length s.trail.lits) = record {
       distinct = λ j k p q i. absurd (omega arith);
       within = λ v c. absurd (omega (arith, c.1));
@@ -201,29 +201,29 @@ collecting_began words s e w a clear size h =
     let m : Same w1 w2 = same_all s (current_level s) (falsified words e) w1 in
     record {
       listed = l.listed;
-      met = record {
+      seen = record {
         only = λ v c. elim (l.only v c) [ inl x ↦ absurd (omega (arith, x.1)) | inr y ↦ met_first y ];
-        all = λ v x. all_began words s (falsified words e) w2.used w2.met v m.used l.has x;
+        all = λ v x. all_began words s (falsified words e) w2.used w2.seen v m.used l.has x;
       };
       needed = λ k lt. absurd (omega (arith, ap (λ (us : List ℕ). length us) m.used));
-      involved = m.involved ∙ sym (append-nil (long_falsified e)) ∙ ap (λ (us : List ℕ). long_falsified e ++ longs_of s us) (sym m.used);
+      antecedents = m.antecedents ∙ sym (append-nil (long_falsified e)) ∙ ap (λ (us : List ℕ). long_falsified e ++ longs_of s us) (sym m.used);
     }
   where
-    all_began : (words : List ℕ) (s : State) (conflict used met : List ℕ) (v : ℕ) → used ≡ [] → ((u : ℕ) → HasAbove s conflict u → Contains met u) → IsMetVariable words s conflict used v → Contains met v
-    all_began words s conflict used met v none has (met_first y) = has v y
-    all_began words s conflict used met v none has (met_cause l c y) = absurd (omega (arith, c.1, ap (λ (xs : List ℕ). length xs) none))
+    all_began : (words : List ℕ) (s : PropagationState) (conflict used seen : List ℕ) (v : ℕ) → used ≡ [] → ((u : ℕ) → HasAbove s conflict u → Contains seen u) → IsSeenVariable words s conflict used v → Contains seen v
+    all_began words s conflict used seen v none has (met_first y) = has v y
+    all_began words s conflict used seen v none has (met_cause l c y) = absurd (omega (arith, c.1, ap (λ (xs : List ℕ). length xs) none))
 
 -- if another literal of the current level is still flagged, it was met
-other_met : (words : List ℕ) (s : State) (e : Conflict) (w : Work) (p at : ℕ) → StateIsConsistent s → CollectionInvariant words s e w at → IsLastFlagged s w.flags p at → at ≤ length s.trail.lits →
+other_met : (words : List ℕ) (s : PropagationState) (e : Conflict) (w : AnalysisState) (p at : ℕ) → StateIsConsistent s → CollectionInvariant words s e w at → IsLastFlagged s w.flags p at → at ≤ length s.trail.lits →
     OpenPlace s (current_level s) (set w.flags (variable (lit_at s p)) false) p → HasOther words s (falsified words e) w.used (lit_at s p)
 other_met words s e w p at a c h le o = record {
   other = lit_at s o.place;
-  met = c.met.only (variable (lit_at s o.place)) (c.listed.flagged (variable (lit_at s o.place)) (lowered w.flags (variable (lit_at s p)) (variable (lit_at s o.place)) o.flagged));
+  seen = c.seen.only (variable (lit_at s o.place)) (c.listed.flagged (variable (lit_at s o.place)) (lowered w.flags (variable (lit_at s p)) (variable (lit_at s o.place)) o.flagged));
   top = at_current s o.place a (omega (arith, o.before, h.before)) o.high;
   before = omega (arith, a.depths o.place (omega (arith, o.before, h.before)), a.depths p (omega (arith, h.before)), o.before);
 }
 
-needed_more : (words : List ℕ) (s : State) (conflict used : List ℕ) (l : ℕ) → AreNeeded words s conflict used → HasOther words s conflict used l → AreNeeded words s conflict (used ++ l ∷ [])
+needed_more : (words : List ℕ) (s : PropagationState) (conflict used : List ℕ) (l : ℕ) → AreNeeded words s conflict used → HasOther words s conflict used l → AreNeeded words s conflict (used ++ l ∷ [])
 needed_more words s conflict used l n o k lt = elim (cases_eq k (length used)) [
   | inl e ↦ subst (λ z. HasOther words s conflict (take k (used ++ l ∷ [])) z) (sym (get_or_push used l 0 k (sym e)))
       (subst (λ (us : List ℕ). HasOther words s conflict us l) (sym (take_at used (l ∷ []) k (sym e))) o)
@@ -234,50 +234,50 @@ needed_more words s conflict used l n o k lt = elim (cases_eq k (length used)) [
 ]
 
 -- resolving one literal preserves the invariant
-pub collecting_taken : (words : List ℕ) (s : State) (e : Conflict) (w : Work) (p at : ℕ) → StateIsConsistent s → CollectionInvariant words s e w at → IsLastFlagged s w.flags p at → at ≤ length s.trail.lits → length w.flags ≡ length s.values →
+pub collecting_taken : (words : List ℕ) (s : PropagationState) (e : Conflict) (w : AnalysisState) (p at : ℕ) → StateIsConsistent s → CollectionInvariant words s e w at → IsLastFlagged s w.flags p at → at ≤ length s.trail.lits → length w.flags ≡ length s.values →
     ((k : ℕ) → k < length (causes_at words s (lit_at s p)) → IsFalseBefore s p (get_or (causes_at words s (lit_at s p)) k 0)) →
     OpenPlace s (current_level s) (set w.flags (variable (lit_at s p)) false) p →
-    CollectionInvariant words s e (with_met_literals s.nodes (current_level s) (causes_at words s (lit_at s p)) (taken_up (node s (lit_at s p)).reason (lit_at s p) w)) p
+    CollectionInvariant words s e (with_seen_literals s.nodes (current_level s) (causes_at words s (lit_at s p)) (with_reason_used (node s (lit_at s p)).reason (lit_at s p) w)) p
 collecting_taken words s e w p at a c h le size before o =
     let l : ℕ = lit_at s p in
     let rs : List ℕ = causes_at words s l in
-    let w1 : Work = taken_up (node s l).reason l w in
-    let w2 : Work = with_met_literals s.nodes (current_level s) rs w1 in
+    let w1 : AnalysisState = with_reason_used (node s l).reason l w in
+    let w2 : AnalysisState = with_seen_literals s.nodes (current_level s) rs w1 in
     let x : Lists s p rs w1 w2 = lists_all s (current_level s) p rs w1 a before (length-set w.flags (variable l) false ∙ size) (listed_passed s w p at h.before le c.listed) in
     let m : Same w1 w2 = same_all s (current_level s) rs w1 in
     let used : w2.used ≡ w.used ++ l ∷ [] = m.used in
     record {
       listed = x.listed;
-      met = record {
-        only = λ v y. subst (λ (us : List ℕ). IsMetVariable words s (falsified words e) us v) (sym used) (elim (x.only v y) [
-          | inl z ↦ met_more words s (falsified words e) w.used l v (c.met.only v z)
+      seen = record {
+        only = λ v y. subst (λ (us : List ℕ). IsSeenVariable words s (falsified words e) us v) (sym used) (elim (x.only v y) [
+          | inl z ↦ met_more words s (falsified words e) w.used l v (c.seen.only v z)
           | inr z ↦ met_cause l (Contains-push w.used l) z
         ]);
-        all = λ v y. all_taken words s (falsified words e) w.used w.met w2.met l v c.met.all x.stays x.has (subst (λ (us : List ℕ). IsMetVariable words s (falsified words e) us v) used y);
+        all = λ v y. all_taken words s (falsified words e) w.used w.seen w2.seen l v c.seen.all x.stays x.has (subst (λ (us : List ℕ). IsSeenVariable words s (falsified words e) us v) used y);
       };
       needed = subst (λ (us : List ℕ). AreNeeded words s (falsified words e) us) (sym used)
           (needed_more words s (falsified words e) w.used l c.needed (other_met words s e w p at a c h le o));
-      involved = m.involved ∙ ap (λ (xs : List ℕ). xs ++ long_of (node s l).reason) c.involved ∙ append_assoc (long_falsified e) (longs_of s w.used) (long_of (node s l).reason)
+      antecedents = m.antecedents ∙ ap (λ (xs : List ℕ). xs ++ long_of (node s l).reason) c.antecedents ∙ append_assoc (long_falsified e) (longs_of s w.used) (long_of (node s l).reason)
           ∙ ap (λ (xs : List ℕ). long_falsified e ++ xs) (sym (longs_push s w.used l)) ∙ ap (λ (us : List ℕ). long_falsified e ++ longs_of s us) (sym used);
     }
   where
-    met_more : (words : List ℕ) (s : State) (conflict used : List ℕ) (l v : ℕ) → IsMetVariable words s conflict used v → IsMetVariable words s conflict (used ++ l ∷ []) v
+    met_more : (words : List ℕ) (s : PropagationState) (conflict used : List ℕ) (l v : ℕ) → IsSeenVariable words s conflict used v → IsSeenVariable words s conflict (used ++ l ∷ []) v
     met_more words s conflict used l v (met_first y) = met_first y
     met_more words s conflict used l v (met_cause q c y) = met_cause q (Contains-append_left used (l ∷ []) q c) y
 
-    all_taken : (words : List ℕ) (s : State) (conflict used old new : List ℕ) (l v : ℕ) → ((u : ℕ) → IsMetVariable words s conflict used u → Contains old u) → ((u : ℕ) → Contains old u → Contains new u) →
-        ((u : ℕ) → HasAbove s (causes_at words s l) u → Contains new u) → IsMetVariable words s conflict (used ++ l ∷ []) v → Contains new v
+    all_taken : (words : List ℕ) (s : PropagationState) (conflict used old new : List ℕ) (l v : ℕ) → ((u : ℕ) → IsSeenVariable words s conflict used u → Contains old u) → ((u : ℕ) → Contains old u → Contains new u) →
+        ((u : ℕ) → HasAbove s (causes_at words s l) u → Contains new u) → IsSeenVariable words s conflict (used ++ l ∷ []) v → Contains new v
     all_taken words s conflict used old new l v before stays has (met_first y) = stays v (before v (met_first y))
     all_taken words s conflict used old new l v before stays has (met_cause q c y) = elim (push_cases used l q c) [
       | inl b ↦ stays v (before v (met_cause q b y))
       | inr i ↦ has v (subst (λ z. HasAbove s (causes_at words s z) v) (sym i) y)
     ]
 
-pub collected : (words : List ℕ) (s : State) (e : Conflict) (w w' : Work) (at : ℕ) → CollectionInvariant words s e w at → w'.met ≡ w.met → w'.used ≡ w.used → w'.involved ≡ w.involved → CollectionResult words s e w'
-collected words s e w w' at c met used involved = record {
-  distinct = subst (λ (xs : List ℕ). AreDistinct xs) (sym met) c.listed.distinct;
-  within = λ v x. c.listed.within v (subst (λ (xs : List ℕ). Contains xs v) met x);
-  met = subst (λ (us : List ℕ). AreMet words s (falsified words e) us w'.met) (sym used) (subst (λ (xs : List ℕ). AreMet words s (falsified words e) w.used xs) (sym met) c.met);
+pub collected : (words : List ℕ) (s : PropagationState) (e : Conflict) (w w' : AnalysisState) (at : ℕ) → CollectionInvariant words s e w at → w'.seen ≡ w.seen → w'.used ≡ w.used → w'.antecedents ≡ w.antecedents → CollectionResult words s e w'
+collected words s e w w' at c seen used antecedents = record {
+  distinct = subst (λ (xs : List ℕ). AreDistinct xs) (sym seen) c.listed.distinct;
+  within = λ v x. c.listed.within v (subst (λ (xs : List ℕ). Contains xs v) seen x);
+  seen = subst (λ (us : List ℕ). AreSeen words s (falsified words e) us w'.seen) (sym used) (subst (λ (xs : List ℕ). AreSeen words s (falsified words e) w.used xs) (sym seen) c.seen);
   needed = subst (λ (us : List ℕ). AreNeeded words s (falsified words e) us) (sym used) c.needed;
-  involved = involved ∙ c.involved ∙ ap (λ (us : List ℕ). long_falsified e ++ longs_of s us) (sym used);
+  antecedents = antecedents ∙ c.antecedents ∙ ap (λ (us : List ℕ). long_falsified e ++ longs_of s us) (sym used);
 }

@@ -15,20 +15,20 @@ use Rattle.sat_parts.specs.clause.Glue.{AreClear}
 use Rattle.sat_parts.specs.clause.Orders.{AreDistinct, IsReordering}
 use Rattle.sat_parts.specs.prop.Values.{IsFalseLit}
 use Rattle.sat_parts.specs.prop.Ready.{AreAllFalse}
-use Rattle.sat_parts.specs.prop.State.{State, level, current_level, lit_at, StateIsConsistent}
+use Rattle.sat_parts.specs.prop.State.{PropagationState, level, current_level, lit_at, StateIsConsistent}
 use Rattle.sat_parts.proofs.lemmas.clause.ListLemmas.{at_place, place_in}
 use Rattle.sat_parts.proofs.lemmas.clause.OrderLemmas.{other, swapped_at, shuffled_swapped}
 use Rattle.sat_parts.proofs.lemmas.prop.StateLemmas.{negated_variable, negated_twice, false_from_true, true_from_false}
 use Rattle.sat_parts.proofs.lemmas.prop.RoomLemmas.{places_apart}
-use Rattle.sat_solver.specs.analyze_conflict.Work.{Work, with_met_literals, passed_by, begun, with_first}
-use Rattle.sat_solver.specs.analyze_conflict.Marks.{causes_at, CanAnalyze, open_below, MarksWork, IsWaiting, IsCovered, covered_unit, covered_clause, covered_reason, covered_core, covered_open, IsReasoned, depth, ResolutionInvariant, HasTop}
+use Rattle.sat_solver.specs.analyze_conflict.AnalysisState.{AnalysisState, with_seen_literals, unflagged, begun_analysis, with_first}
+use Rattle.sat_solver.specs.analyze_conflict.Marks.{causes_at, CanAnalyze, open_below, MarksWork, IsWaiting, IsCovered, covered_unit, covered_clause, covered_reason, covered_core, covered_open, IsReasoned, depth, ResolutionInvariant, HasCurrentLevelLit}
 use Rattle.sat_solver.specs.analyze_conflict.Derivation.{HasKnownCause, grounded_unit, grounded_clause, grounded_reason, HaveKnownCauses, IsUnorderedDerivation, IsAsserting, ResolutionResult}
 use Rattle.sat_solver.proofs.lemmas.analyze_conflict.Meeting.{level_by_variable, open_same, open_some, open_no, Met, met_all}
 use Rattle.sat_solver.proofs.lemmas.analyze_conflict.Minimizing.{distinct_push}
 use Rattle.sat_solver.proofs.lemmas.analyze_conflict.Resolution.{IsLastFlagged, last_high, at_current, marks_passed, passed_waiting}
 
 -- without flags and with an empty clause, no literal is counted
-pub begun_marks : (s : State) (top : ℕ) (w : Work) (at : ℕ) → at ≤ length s.trail.lits → AreClear w.flags → length w.flags ≡ length s.values → w.clause ≡ [] → w.pending ≡ 0 → MarksWork s top w at
+pub begun_marks : (s : PropagationState) (top : ℕ) (w : AnalysisState) (at : ℕ) → at ≤ length s.trail.lits → AreClear w.flags → length w.flags ≡ length s.values → w.clause ≡ [] → w.pending ≡ 0 → MarksWork s top w at
 begun_marks s top w at le clear size none zero = record {
   size = size;
   within = le;
@@ -39,7 +39,7 @@ begun_marks s top w at le clear size none zero = record {
 }
 
 -- before any literal was used, an explained literal of the current level is still to be resolved
-top_waits : (s : State) (w : Work) (at r : ℕ) → MarksWork s (current_level s) w at → w.used ≡ [] → w.core ≡ [] → 0 < current_level s → level s r ≡ current_level s → IsCovered s (current_level s) w at r →
+top_waits : (s : PropagationState) (w : AnalysisState) (at r : ℕ) → MarksWork s (current_level s) w at → w.used ≡ [] → w.core ≡ [] → 0 < current_level s → level s r ≡ current_level s → IsCovered s (current_level s) w at r →
     IsWaiting s (current_level s) w.flags at r
 top_waits s w at r m none bare above top (covered_unit z) = absurd (omega arith)
 top_waits s w at r m none bare above top (covered_clause c) = absurd (omega (arith, (m.lower c.0 c.1).below, ap (λ z. level s z) (at_place w.clause r c)))
@@ -48,7 +48,7 @@ top_waits s w at r m none bare above top (covered_core c) = absurd (omega (arith
 top_waits s w at r m none bare above top (covered_open x) = x
 
 -- if a literal is still to be resolved, some are counted
-pub waiting_counts : (s : State) (top : ℕ) (w : Work) (at r : ℕ) → MarksWork s top w at → IsWaiting s top w.flags at r → 0 < w.pending
+pub waiting_counts : (s : PropagationState) (top : ℕ) (w : AnalysisState) (at r : ℕ) → MarksWork s top w at → IsWaiting s top w.flags at r → 0 < w.pending
 waiting_counts s top w at r m x = elim (cases_eq w.pending 0) [
   | inl e ↦
       let v_is : variable (lit_at s x.before.place) ≡ variable r = ap (λ z. variable z) x.before.there ∙ negated_variable r in
@@ -56,13 +56,13 @@ waiting_counts s top w at r m x = elim (cases_eq w.pending 0) [
   | inr n ↦ omega arith
 ]
 
-pub began : (words : List ℕ) (s : State) (conflict : List ℕ) (e : Conflict) (w : Work) → CanAnalyze words s → AreClear w.flags → length w.flags ≡ length s.values → AreAllFalse s.values conflict → HasTop s conflict →
-    ResolutionInvariant words s conflict (with_met_literals s.nodes (current_level s) conflict (begun e w)) (length s.trail.lits)
+pub began : (words : List ℕ) (s : PropagationState) (conflict : List ℕ) (e : Conflict) (w : AnalysisState) → CanAnalyze words s → AreClear w.flags → length w.flags ≡ length s.values → AreAllFalse s.values conflict → HasCurrentLevelLit s conflict →
+    ResolutionInvariant words s conflict (with_seen_literals s.nodes (current_level s) conflict (begun_analysis e w)) (length s.trail.lits)
 began words s conflict e w can clear size fails top =
     let n : ℕ = length s.trail.lits in
-    let w2 : Work = with_met_literals s.nodes (current_level s) conflict (begun e w) in
-    let m : Met s (current_level s) n conflict (begun e w) w2 =
-    met_all s (current_level s) n conflict (begun e w) can.agrees (λ k lt. can.agrees.known (negated (get_or conflict k 0)) (true_from_false s.values (get_or conflict k 0) (fails k lt))) (begun_marks s (current_level s) (begun e w) (length s.trail.lits) (omega arith) clear size refl refl) in
+    let w2 : AnalysisState = with_seen_literals s.nodes (current_level s) conflict (begun_analysis e w) in
+    let m : Met s (current_level s) n conflict (begun_analysis e w) w2 =
+    met_all s (current_level s) n conflict (begun_analysis e w) can.agrees (λ k lt. can.agrees.known (negated (get_or conflict k 0)) (true_from_false s.values (get_or conflict k 0) (fails k lt))) (begun_marks s (current_level s) (begun_analysis e w) (length s.trail.lits) (omega arith) clear size refl refl) in
     let x : IsWaiting s (current_level s) w2.flags n (get_or conflict top.0 0) = top_waits s w2 n (get_or conflict top.0 0) m.marks m.used m.core can.above top.1.1 (m.covered top.0 top.1.0) in
     let none : length w2.used ≡ 0 = ap (λ (xs : List ℕ). length xs) m.used in
     record {
@@ -127,7 +127,7 @@ old_in : (xs : List ℕ) (r : ℕ) (ys : List ℕ) (x : ℕ) → Joined xs r ys 
 old_in xs r ys x h c = Contains-permutation (xs ++ r ∷ []) ys x h.lits.order (Contains-append_left xs (r ∷ []) x c)
 
 -- if no other flagged literal of the current level is left, every explained literal has a known cause
-last_grounded : (s : State) (w : Work) (p at r : ℕ) (ys : List ℕ) → StateIsConsistent s → at ≤ length s.trail.lits → IsLastFlagged s w.flags p at → open_below s (current_level s) (set w.flags (variable (lit_at s p)) false) p ≡ 0 →
+last_grounded : (s : PropagationState) (w : AnalysisState) (p at r : ℕ) (ys : List ℕ) → StateIsConsistent s → at ≤ length s.trail.lits → IsLastFlagged s w.flags p at → open_below s (current_level s) (set w.flags (variable (lit_at s p)) false) p ≡ 0 →
     w.core ≡ [] → Joined w.clause (negated (lit_at s p)) ys → IsCovered s (current_level s) w at r → HasKnownCause s ys w.used r
 last_grounded s w p at r ys a le h none bare j (covered_unit z) = grounded_unit z
 last_grounded s w p at r ys a le h none bare j (covered_clause c) = grounded_clause (old_in w.clause (negated (lit_at s p)) ys r j c)
@@ -143,10 +143,10 @@ last_grounded s w p at r ys a le h none bare j (covered_open x) = elim (passed_w
 ]
 
 -- the literal of the current level isn't the negation of a literal of the clause
-not_lower : (s : State) (w : Work) (p k : ℕ) → level s (lit_at s p) ≡ current_level s → MarksWork s (current_level s) (passed_by (lit_at s p) w) p → k < length w.clause → get_or w.clause k 0 ≡ negated (lit_at s p) → ⊥
+not_lower : (s : PropagationState) (w : AnalysisState) (p k : ℕ) → level s (lit_at s p) ≡ current_level s → MarksWork s (current_level s) (unflagged (lit_at s p) w) p → k < length w.clause → get_or w.clause k 0 ≡ negated (lit_at s p) → ⊥
 not_lower s w p k top m lt e = omega (arith, (m.lower k lt).below, ap (λ z. level s z) e, level_by_variable s (negated (lit_at s p)) (lit_at s p) (negated_variable (lit_at s p)))
 
-asserting_first : (s : State) (w : Work) (p : ℕ) (ys : List ℕ) → StateIsConsistent s → p < length s.trail.lits → level s (lit_at s p) ≡ current_level s → MarksWork s (current_level s) (passed_by (lit_at s p) w) p →
+asserting_first : (s : PropagationState) (w : AnalysisState) (p : ℕ) (ys : List ℕ) → StateIsConsistent s → p < length s.trail.lits → level s (lit_at s p) ≡ current_level s → MarksWork s (current_level s) (unflagged (lit_at s p) w) p →
     Joined w.clause (negated (lit_at s p)) ys → AreDistinct ys → IsAsserting s ys
 asserting_first s w p ys a within top m j d =
     let n : length (w.clause ++ negated (lit_at s p) ∷ []) ≡ length w.clause + 1 = length_push w.clause (negated (lit_at s p)) in
@@ -163,7 +163,7 @@ asserting_first s w p ys a within top m j d =
       distinct = d;
     }
 
-pub distinct_by_depth : (s : State) (xs : List ℕ) → ((j k : ℕ) → j < k → k < length xs → depth s (get_or xs k 0) < depth s (get_or xs j 0)) → AreDistinct xs
+pub distinct_by_depth : (s : PropagationState) (xs : List ℕ) → ((j k : ℕ) → j < k → k < length xs → depth s (get_or xs k 0) < depth s (get_or xs j 0)) → AreDistinct xs
 distinct_by_depth s xs f j k p q e = elim (cases_eq j k) [
   | inl x ↦ x
   | inr n ↦ elim (cases_lt j k) [
@@ -172,8 +172,8 @@ distinct_by_depth s xs f j k p q e = elim (cases_eq j k) [
   ]
 ]
 
-pub finished : (words : List ℕ) (s : State) (conflict : List ℕ) (w : Work) (p at : ℕ) → CanAnalyze words s → ResolutionInvariant words s conflict w at → w.pending ≡ 1 → IsLastFlagged s w.flags p at → variable (lit_at s p) < length w.flags →
-    ResolutionResult words s conflict (with_first (negated (lit_at s p)) (passed_by (lit_at s p) w))
+pub finished : (words : List ℕ) (s : PropagationState) (conflict : List ℕ) (w : AnalysisState) (p at : ℕ) → CanAnalyze words s → ResolutionInvariant words s conflict w at → w.pending ≡ 1 → IsLastFlagged s w.flags p at → variable (lit_at s p) < length w.flags →
+    ResolutionResult words s conflict (with_first (negated (lit_at s p)) (unflagged (lit_at s p) w))
 finished words s conflict w p at can r one h b =
     let a : StateIsConsistent s = can.agrees in
     let l : ℕ = lit_at s p in
@@ -183,7 +183,7 @@ finished words s conflict w p at can r one h b =
     let within : p < length s.trail.lits = omega (arith, h.before, r.marks.within) in
     let high : current_level s ≤ level s l = last_high s t w.flags p at a r.marks.within h (open_some s t w.flags at (omega (arith, r.marks.counted))) in
     let top : level s l ≡ current_level s = at_current s p a within high in
-    let m : MarksWork s (current_level s) (passed_by l w) p = marks_passed s t w p at a r.marks h high b in
+    let m : MarksWork s (current_level s) (unflagged l w) p = marks_passed s t w p at a r.marks h high b in
     let none : open_below s (current_level s) (set w.flags (variable l) false) p ≡ 0 = omega (arith, m.counted) in
     let d : AreDistinct ys = joined_distinct w.clause (negated l) ys j m.distinct (λ k lt e. not_lower s w p k top m lt e) in
     let ground : (q : ℕ) → IsCovered s (current_level s) w at q → HasKnownCause s ys w.used q = λ q c. last_grounded s w p at q ys a r.marks.within h none r.none j c in
@@ -227,14 +227,14 @@ finished words s conflict w p at can r one h b =
           ap (λ z. get_or (set w.flags (variable l) false) (variable z) false) (sym o.same) ∙ (m.lower o.place o.within).flagged;
     }
   where
-    no_flag : (s : State) (top : ℕ) (flags : List Bool) (n q : ℕ) → open_below s top flags n ≡ 0 → q < n → top ≤ level s (lit_at s q) → get_or flags (variable (lit_at s q)) false ≡ false
+    no_flag : (s : PropagationState) (top : ℕ) (flags : List Bool) (n q : ℕ) → open_below s top flags n ≡ 0 → q < n → top ≤ level s (lit_at s q) → get_or flags (variable (lit_at s q)) false ≡ false
     no_flag s top flags n q e lt t = elim (cases_Bool (get_or flags (variable (lit_at s q)) false)) [
       | inl f ↦ absurd (open_no s top flags n q e lt f t)
       | inr f ↦ f
     ]
 
 -- a derivation stays one if its used literals are permuted
-pub grounds_permuted : (words : List ℕ) (s : State) (conflict learned used used' : List ℕ) → IsPermutation used used' → AreDistinct used' → IsUnorderedDerivation words s conflict learned used → IsUnorderedDerivation words s conflict learned used'
+pub grounds_permuted : (words : List ℕ) (s : PropagationState) (conflict learned used used' : List ℕ) → IsPermutation used used' → AreDistinct used' → IsUnorderedDerivation words s conflict learned used → IsUnorderedDerivation words s conflict learned used'
 grounds_permuted words s conflict learned used used' p d g =
     let back : (l : ℕ) → Contains used' l → Contains used l = λ l c. Contains-permutation used' used l (IsPermutation-sym used used' p) c in
     let forth : (r : ℕ) → HasKnownCause s learned used r → HasKnownCause s learned used' r = λ r x. moved s learned used used' r p x in
@@ -246,7 +246,7 @@ grounds_permuted words s conflict learned used used' p d g =
       distinct = d;
     }
   where
-    moved : (s : State) (learned used used' : List ℕ) (r : ℕ) → IsPermutation used used' → HasKnownCause s learned used r → HasKnownCause s learned used' r
+    moved : (s : PropagationState) (learned used used' : List ℕ) (r : ℕ) → IsPermutation used used' → HasKnownCause s learned used r → HasKnownCause s learned used' r
     moved s learned used used' r p (grounded_unit z) = grounded_unit z
     moved s learned used used' r p (grounded_clause c) = grounded_clause c
     moved s learned used used' r p (grounded_reason c) = grounded_reason (Contains-permutation used used' (negated r) p c)

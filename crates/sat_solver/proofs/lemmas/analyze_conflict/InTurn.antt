@@ -8,7 +8,7 @@ use Rattle.sat_checker.specs.Propagation.{IsFalsified, IsUnit, UnitInTurn}
 use Rattle.sat_checker.proofs.lemmas.sets.Order.{among-append}
 use Rattle.sat_parts.specs.prop.Values.{IsTrueLit, IsFalseLit}
 use Rattle.sat_parts.specs.prop.Graphs.{node_of}
-use Rattle.sat_parts.specs.prop.State.{State, level, current_level, lit_at, StateIsConsistent}
+use Rattle.sat_parts.specs.prop.State.{PropagationState, level, current_level, lit_at, StateIsConsistent}
 use Rattle.sat_parts.specs.prop.Reasons.{IsFalseBefore}
 use Rattle.sat_parts.proofs.lemmas.clause.ListLemmas.{at_place, place_in, in_tail, in_head, there}
 use Rattle.sat_parts.proofs.lemmas.prop.StateLemmas.{negated_variable, negated_twice, false_from_true, true_from_false, not_both}
@@ -16,11 +16,11 @@ use Rattle.sat_solver.specs.analyze_conflict.Marks.{causes_at, CanAnalyze, IsRea
 use Rattle.sat_solver.specs.analyze_conflict.Derivation.{clause_of, AreLevelZeroLits, HasKnownCause, IsDerivation, IsAcceptable, grounded_unit, grounded_clause, grounded_reason}
 
 -- the literal is assumed, or implied by an entry of smaller depth
-abbrev pub Given : (s : State) (known es : List ℕ) (d m : ℕ) → Type 0
+abbrev pub Given : (s : PropagationState) (known es : List ℕ) (d m : ℕ) → Type 0
 Given s known es d m = (is_among known m ≡ true) ⊎ (Contains es m × (depth s m < d))
 
 -- the invariant for the clauses that are still to be visited
-pub record Ready (words : List ℕ) (s : State) (conflict known es : List ℕ) : Type 0 where
+pub record Ready (words : List ℕ) (s : PropagationState) (conflict known es : List ℕ) : Type 0 where
   pub fresh : (k : ℕ) → k < length es → is_among known (get_or es k 0) ≡ false
   pub apart : (k : ℕ) → k < length es → is_among known (negated (get_or es k 0)) ≡ false
   pub holds : (k : ℕ) → k < length es → IsTrueLit s.values (get_or es k 0)
@@ -37,7 +37,7 @@ all_others known [] e h = tt
 all_others known (l ∷ ls) e h = (inr (h 0 (omega arith)), all_others known ls e (λ k lt. h (suc k) (omega arith)))
 
 -- the negated causes of the first entry are assumed: neither the entry itself nor a deeper one can imply them
-first_known : (words : List ℕ) (s : State) (conflict known : List ℕ) (e : ℕ) (es : List ℕ) → Ready words s conflict known (e ∷ es) → (i : ℕ) → i < length (causes_at words s e) →
+first_known : (words : List ℕ) (s : PropagationState) (conflict known : List ℕ) (e : ℕ) (es : List ℕ) → Ready words s conflict known (e ∷ es) → (i : ℕ) → i < length (causes_at words s e) →
     is_among known (negated (get_or (causes_at words s e) i 0)) ≡ true
 first_known words s conflict known e es h i lt = elim (h.causes 0 i (omega arith) lt) [
   | inl k ↦ k
@@ -52,7 +52,7 @@ first_known words s conflict known e es h i lt = elim (h.causes 0 i (omega arith
       ]
 ]
 
-unit_first : (words : List ℕ) (s : State) (conflict known : List ℕ) (e : ℕ) (es : List ℕ) → Ready words s conflict known (e ∷ es) → IsUnit known (clause_of words s e) e
+unit_first : (words : List ℕ) (s : PropagationState) (conflict known : List ℕ) (e : ℕ) (es : List ℕ) → Ready words s conflict known (e ∷ es) → IsUnit known (clause_of words s e) e
 unit_first words s conflict known e es h = record {
   within = or_left (eqb e e) (is_among (causes_at words s e) e) (eq-eqb e e refl);
   not_true = h.fresh 0 (omega arith);
@@ -60,13 +60,13 @@ unit_first words s conflict known e es h = record {
   others = (inl refl, all_others known (causes_at words s e) e (first_known words s conflict known e es h));
 }
 
-given_next : (s : State) (known : List ℕ) (e : ℕ) (es : List ℕ) (m : ℕ) → Contains (e ∷ es) m → (is_among (e ∷ known) m ≡ true) ⊎ Contains es m
+given_next : (s : PropagationState) (known : List ℕ) (e : ℕ) (es : List ℕ) (m : ℕ) → Contains (e ∷ es) m → (is_among (e ∷ known) m ≡ true) ⊎ Contains es m
 given_next s known e es m c = elim (cases_eq e m) [
   | inl q ↦ inl (or_left (eqb e m) (is_among known m) (eq-eqb e m q))
   | inr n ↦ inr (there e es m n c)
 ]
 
-next_ready : (words : List ℕ) (s : State) (conflict known : List ℕ) (e : ℕ) (es : List ℕ) → Ready words s conflict known (e ∷ es) → Ready words s conflict (e ∷ known) es
+next_ready : (words : List ℕ) (s : PropagationState) (conflict known : List ℕ) (e : ℕ) (es : List ℕ) → Ready words s conflict known (e ∷ es) → Ready words s conflict (e ∷ known) es
 next_ready words s conflict known e es h = record {
   fresh = λ k lt.
       let d : depth s e < depth s (get_or es k 0) = h.rising 0 (suc k) (omega arith) (omega arith) in
@@ -90,10 +90,10 @@ next_ready words s conflict known e es h = record {
       ];
 }
 
-last_falsified : (words : List ℕ) (s : State) (conflict known : List ℕ) → Ready words s conflict known [] → IsFalsified known conflict
+last_falsified : (words : List ℕ) (s : PropagationState) (conflict known : List ℕ) → Ready words s conflict known [] → IsFalsified known conflict
 last_falsified words s conflict known h = all_false known conflict (λ k lt. elim (h.start k lt) [ inl t ↦ t | inr c ↦ absurd (omega (arith, c.1)) ])
 
-pub turns : (words : List ℕ) (s : State) (conflict known es : List ℕ) → Ready words s conflict known es → UnitInTurn known (map (clause_of words s) es ++ conflict ∷ [])
+pub turns : (words : List ℕ) (s : PropagationState) (conflict known es : List ℕ) → Ready words s conflict known es → UnitInTurn known (map (clause_of words s) es ++ conflict ∷ [])
 turns words s conflict known [] h = last_falsified words s conflict known h
 turns words s conflict known (e ∷ []) h = (e, unit_first words s conflict known e [] h, turns words s conflict (e ∷ known) [] (next_ready words s conflict known e [] h))
 turns words s conflict known (e ∷ f ∷ fs) h = (e, unit_first words s conflict known e (f ∷ fs) h, turns words s conflict (e ∷ known) (f ∷ fs) (next_ready words s conflict known e (f ∷ fs) h))
@@ -114,31 +114,31 @@ negated_among (l ∷ ls) r c = elim (cases_eq l r) [
 ]
 
 -- the negation of a literal that was false before a position is true
-pub negation_true : (s : State) (p r : ℕ) → StateIsConsistent s → IsFalseBefore s p r → IsTrueLit s.values (negated r)
+pub negation_true : (s : PropagationState) (p r : ℕ) → StateIsConsistent s → IsFalseBefore s p r → IsTrueLit s.values (negated r)
 negation_true s p r a h = elim h [
   | inl b ↦ subst (λ z. IsTrueLit s.values z) b.there (a.holds b.place b.within)
   | inr x ↦ x.holds
 ]
 
-negation_depth : (s : State) (p r : ℕ) → StateIsConsistent s → IsFalseBefore s p r → 0 < level s (negated r) → depth s (negated r) < p + 1
+negation_depth : (s : PropagationState) (p r : ℕ) → StateIsConsistent s → IsFalseBefore s p r → 0 < level s (negated r) → depth s (negated r) < p + 1
 negation_depth s p r a h above = elim h [
   | inl b ↦ omega (arith, b.before, a.depths b.place b.within, ap (λ z. depth s z) b.there)
   | inr x ↦ absurd (omega (arith, x.bottom))
 ]
 
-pub above_first : (s : State) (p l : ℕ) → StateIsConsistent s → p < length s.trail.lits → lit_at s p ≡ l → 0 < level s l → 0 < current_level s → get_or s.trail.starts 0 0 ≤ p
+pub above_first : (s : PropagationState) (p l : ℕ) → StateIsConsistent s → p < length s.trail.lits → lit_at s p ≡ l → 0 < level s l → 0 < current_level s → get_or s.trail.starts 0 0 ≤ p
 above_first s p l a within there above c =
     let e : level s (lit_at s p) ≡ level s l = ap (λ z. level s z) there in
     (a.levels p within).begun 0 (omega arith)
 
-pub causes_before : (words : List ℕ) (s : State) (p l i : ℕ) → CanAnalyze words s → p < length s.trail.lits → lit_at s p ≡ l → get_or s.trail.starts 0 0 ≤ p → i < length (causes_at words s l) →
+pub causes_before : (words : List ℕ) (s : PropagationState) (p l i : ℕ) → CanAnalyze words s → p < length s.trail.lits → lit_at s p ≡ l → get_or s.trail.starts 0 0 ≤ p → i < length (causes_at words s l) →
     IsFalseBefore s p (get_or (causes_at words s l) i 0)
 causes_before words s p l i can within there first b =
     subst (λ z. IsFalseBefore s p (get_or (causes_at words s z) i 0)) there
     (can.before p i first within (subst (λ z. i < length (causes_at words s z)) (sym there) b))
 
 -- an explained literal that was false before a position has a negation that is assumed or implied
-pub given_one : (words : List ℕ) (s : State) (learned used units : List ℕ) (p r : ℕ) → StateIsConsistent s → AreLevelZeroLits s units →
+pub given_one : (words : List ℕ) (s : PropagationState) (learned used units : List ℕ) (p r : ℕ) → StateIsConsistent s → AreLevelZeroLits s units →
     ((k : ℕ) → k < length used → IsReasoned s 0 (get_or used k 0)) → IsFalseBefore s p r → HasKnownCause s learned used r →
     Given s (map negated learned ++ units) used (p + 1) (negated r)
 given_one words s learned used units p r a u reasons before (grounded_unit z) =
@@ -154,7 +154,7 @@ given_one words s learned used units p r a u reasons before (grounded_reason c) 
     inr (c, negation_depth s p r a before (omega (arith, x.above, ap (λ z. level s z) e)))
 
 -- the same for a literal of the falsified clause
-given_start : (s : State) (learned used units : List ℕ) (r : ℕ) → AreLevelZeroLits s units → IsFalseLit s.values r → HasKnownCause s learned used r →
+given_start : (s : PropagationState) (learned used units : List ℕ) (r : ℕ) → AreLevelZeroLits s units → IsFalseLit s.values r → HasKnownCause s learned used r →
     (is_among (map negated learned ++ units) (negated r) ≡ true) ⊎ Contains used (negated r)
 given_start s learned used units r u fails (grounded_unit z) =
     let zero_level : level s (negated r) ≡ 0 = ap (λ v. (node_of s.nodes v).level) (negated_variable r) ∙ z in
@@ -165,7 +165,7 @@ given_start s learned used units r u fails (grounded_clause c) =
     or_left (is_among (map negated learned) (negated r)) (is_among units (negated r)) (negated_among learned r c))
 given_start s learned used units r u fails (grounded_reason c) = inr c
 
-assumed_true : (s : State) (learned units : List ℕ) (l : ℕ) → AreLevelZeroLits s units → ((k : ℕ) → k < length learned → IsFalseLit s.values (get_or learned k 0)) →
+assumed_true : (s : PropagationState) (learned units : List ℕ) (l : ℕ) → AreLevelZeroLits s units → ((k : ℕ) → k < length learned → IsFalseLit s.values (get_or learned k 0)) →
     is_among (map negated learned ++ units) l ≡ true → IsTrueLit s.values l
 assumed_true s learned units l u fails t =
     elim (or_cases (is_among (map negated learned) l) (is_among units l) (sym (among-append (map negated learned) units l) ∙ t)) [
@@ -176,7 +176,7 @@ assumed_true s learned units l u fails t =
       | inr k ↦ (u.only l k).0
     ]
 
-pub not_assumed : (s : State) (learned units : List ℕ) (l : ℕ) → AreLevelZeroLits s units → 0 < level s l → (Contains learned (negated l) → ⊥) → is_among (map negated learned ++ units) l ≡ false
+pub not_assumed : (s : PropagationState) (learned units : List ℕ) (l : ℕ) → AreLevelZeroLits s units → 0 < level s l → (Contains learned (negated l) → ⊥) → is_among (map negated learned ++ units) l ≡ false
 not_assumed s learned units l u above apart = false_from_ne_true (is_among (map negated learned ++ units) l) (λ t.
     elim (or_cases (is_among (map negated learned) l) (is_among units l) (sym (among-append (map negated learned) units l) ∙ t)) [
       | inl n ↦ apart (negation_of learned l n)
@@ -184,7 +184,7 @@ not_assumed s learned units l u above apart = false_from_ne_true (is_among (map 
     ])
 
 -- the checker accepts a derivation
-pub acceptable : (words : List ℕ) (s : State) (conflict learned used : List ℕ) → CanAnalyze words s →
+pub acceptable : (words : List ℕ) (s : PropagationState) (conflict learned used : List ℕ) → CanAnalyze words s →
     ((k : ℕ) → k < length learned → IsFalseLit s.values (get_or learned k 0)) → ((k : ℕ) → k < length conflict → IsFalseLit s.values (get_or conflict k 0)) →
     IsDerivation words s conflict learned used → IsAcceptable words s conflict learned used
 acceptable words s conflict learned used can fails start d units u =

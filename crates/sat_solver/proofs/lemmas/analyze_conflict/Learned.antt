@@ -7,15 +7,15 @@ use Rattle.sat_parts.specs.clause.Glue.{AreClear}
 use Rattle.sat_parts.specs.clause.Orders.{IsReordering}
 use Rattle.sat_parts.specs.prop.Values.{IsFalseLit}
 use Rattle.sat_parts.specs.prop.Ready.{AreAllFalse}
-use Rattle.sat_parts.specs.prop.State.{State, level, current_level}
+use Rattle.sat_parts.specs.prop.State.{PropagationState, level, current_level}
 use Rattle.sat_parts.proofs.lemmas.clause.ListLemmas.{place_in}
-use Rattle.sat_solver.specs.analyze_conflict.Work.{Work}
+use Rattle.sat_solver.specs.analyze_conflict.AnalysisState.{AnalysisState}
 use Rattle.sat_solver.specs.analyze_conflict.Marks.{causes_at, CanAnalyze}
-use Rattle.sat_solver.specs.analyze_conflict.Derivation.{HasKnownCause, grounded_unit, grounded_clause, grounded_reason, IsUnorderedDerivation, IsDerivation, IsAsserting, PutsSecond, Learns}
+use Rattle.sat_solver.specs.analyze_conflict.Derivation.{HasKnownCause, grounded_unit, grounded_clause, grounded_reason, IsUnorderedDerivation, IsDerivation, IsAsserting, PutsSecond, AnalysisResult}
 use Rattle.sat_solver.proofs.lemmas.analyze_conflict.InTurn.{acceptable}
 
 -- a derivation of a clause is one of the reordered clause
-grounds_shuffled : (words : List ℕ) (s : State) (conflict learned learned' used : List ℕ) → IsReordering learned learned' → IsUnorderedDerivation words s conflict learned used → IsUnorderedDerivation words s conflict learned' used
+grounds_shuffled : (words : List ℕ) (s : PropagationState) (conflict learned learned' used : List ℕ) → IsReordering learned learned' → IsUnorderedDerivation words s conflict learned used → IsUnorderedDerivation words s conflict learned' used
 grounds_shuffled words s conflict learned learned' used p g =
     let forth : (r : ℕ) → HasKnownCause s learned used r → HasKnownCause s learned' used r = λ r x. moved s learned learned' used r p x in
     record {
@@ -26,7 +26,7 @@ grounds_shuffled words s conflict learned learned' used p g =
       distinct = g.distinct;
     }
   where
-    moved : (s : State) (learned learned' used : List ℕ) (r : ℕ) → IsReordering learned learned' → HasKnownCause s learned used r → HasKnownCause s learned' used r
+    moved : (s : PropagationState) (learned learned' used : List ℕ) (r : ℕ) → IsReordering learned learned' → HasKnownCause s learned used r → HasKnownCause s learned' used r
     moved s learned learned' used r p (grounded_unit z) = grounded_unit z
     moved s learned learned' used r p (grounded_clause c) = grounded_clause (Contains-permutation learned learned' r p.order c)
     moved s learned learned' used r p (grounded_reason c) = grounded_reason c
@@ -35,7 +35,7 @@ grounds_shuffled words s conflict learned learned' used p g =
 at_other : (ls ms : List ℕ) (k : ℕ) → IsReordering ls ms → k < length ms → (j : ℕ) × ((j < length ls) × (get_or ls j 0 ≡ get_or ms k 0))
 at_other ls ms k p lt = p.back k (omega (arith, p.size))
 
-asserting_shuffled : (s : State) (ls ms : List ℕ) → IsReordering ls ms → get_or ms 0 0 ≡ get_or ls 0 0 → IsAsserting s ls → IsAsserting s ms
+asserting_shuffled : (s : PropagationState) (ls ms : List ℕ) → IsReordering ls ms → get_or ms 0 0 ≡ get_or ls 0 0 → IsAsserting s ls → IsAsserting s ms
 asserting_shuffled s ls ms p first h = record {
   some = omega (arith, p.size, h.some);
   fails = λ k lt.
@@ -53,8 +53,8 @@ asserting_shuffled s ls ms p first h = record {
   distinct = p.apart h.distinct;
 }
 
-pub learned : (words : List ℕ) (s : State) (conflict : List ℕ) (w w' : Work) (back : ℕ) → CanAnalyze words s → AreAllFalse s.values conflict → IsAsserting s w.clause → IsDerivation words s conflict w.clause w'.used →
-    PutsSecond s.nodes w.clause w'.clause back → AreClear w'.flags → Learns words s conflict w' back
+pub learned : (words : List ℕ) (s : PropagationState) (conflict : List ℕ) (w w' : AnalysisState) (back : ℕ) → CanAnalyze words s → AreAllFalse s.values conflict → IsAsserting s w.clause → IsDerivation words s conflict w.clause w'.used →
+    PutsSecond s.nodes w.clause w'.clause back → AreClear w'.flags → AnalysisResult words s conflict w' back
 learned words s conflict w w' back can fails a d p clear =
     let b : IsAsserting s w'.clause = asserting_shuffled s w.clause w'.clause p.lits p.first a in
     let size : length w'.clause ≡ length w.clause = p.lits.size in

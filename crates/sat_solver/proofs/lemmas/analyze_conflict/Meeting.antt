@@ -6,31 +6,31 @@ use Rattle.std.proofs.lemmas.List.Elements.{Contains-append_left}
 use Rattle.sat_base.specs.values.Literals.{variable, negated, is_positive}
 use Rattle.sat_parts.specs.prop.Values.{IsTrueLit, IsFalseLit, value_of}
 use Rattle.sat_parts.specs.prop.Graphs.{node_of}
-use Rattle.sat_parts.specs.prop.State.{State, level, lit_at, IsBefore, StateIsConsistent}
+use Rattle.sat_parts.specs.prop.State.{PropagationState, level, lit_at, IsBefore, StateIsConsistent}
 use Rattle.sat_parts.specs.prop.Reasons.{IsFalseBefore}
 use Rattle.sat_parts.proofs.lemmas.prop.StateLemmas.{negated_variable, negated_twice, false_from_true, true_from_false, lit_from_parts}
 use Rattle.sat_parts.proofs.lemmas.prop.RoomLemmas.{places_apart, below_from_value}
-use Rattle.sat_solver.specs.analyze_conflict.Work.{Work, with_met_literal, with_met_literals}
+use Rattle.sat_solver.specs.analyze_conflict.AnalysisState.{AnalysisState, with_seen_literal, with_seen_literals}
 use Rattle.sat_solver.specs.analyze_conflict.Marks.{is_open_flagged, open_below, HasVariable, IsOpenAt, IsLower, AreFlagsAt, MarksWork, IsCovered, covered_unit, covered_clause, covered_reason, covered_core, covered_open, AreCovered}
 use Rattle.sat_solver.proofs.lemmas.analyze_conflict.InTurn.{negation_true}
 
-pub level_by_variable : (s : State) (l m : ℕ) → variable l ≡ variable m → level s l ≡ level s m
+pub level_by_variable : (s : PropagationState) (l m : ℕ) → variable l ≡ variable m → level s l ≡ level s m
 level_by_variable s l m e = ap (λ v. (node_of s.nodes v).level) e
 
 -- true literals of the same variable are equal, and so are false ones
 some_back : (x y : Bool) → Some x ≡ Some y → x ≡ y
 some_back x y e = cc
 
-pub same_true : (s : State) (l m : ℕ) → IsTrueLit s.values l → IsTrueLit s.values m → variable l ≡ variable m → l ≡ m
+pub same_true : (s : PropagationState) (l m : ℕ) → IsTrueLit s.values l → IsTrueLit s.values m → variable l ≡ variable m → l ≡ m
 same_true s l m t u e = lit_from_parts l m e (some_back (is_positive l) (is_positive m) (sym t ∙ ap (λ v. value_of s.values v) e ∙ u))
 
-pub same_false : (s : State) (l m : ℕ) → IsFalseLit s.values l → IsFalseLit s.values m → variable l ≡ variable m → l ≡ m
+pub same_false : (s : PropagationState) (l m : ℕ) → IsFalseLit s.values l → IsFalseLit s.values m → variable l ≡ variable m → l ≡ m
 same_false s l m t u e =
     let n : negated l ≡ negated m = same_true s (negated l) (negated m) (true_from_false s.values l t) (true_from_false s.values m u) (negated_variable l ∙ e ∙ sym (negated_variable m)) in
     sym (negated_twice l) ∙ ap (λ z. negated z) n ∙ negated_twice m
 
 -- levels do not decrease along the trail
-pub levels_rise : (s : State) (i j : ℕ) → StateIsConsistent s → i ≤ j → j < length s.trail.lits → level s (lit_at s i) ≤ level s (lit_at s j)
+pub levels_rise : (s : PropagationState) (i j : ℕ) → StateIsConsistent s → i ≤ j → j < length s.trail.lits → level s (lit_at s i) ≤ level s (lit_at s j)
 levels_rise s i j a le lt = elim (cases_lt (level s (lit_at s j)) (level s (lit_at s i))) [
   | inl h ↦ absurd (omega (
     arith,
@@ -42,22 +42,22 @@ levels_rise s i j a le lt = elim (cases_lt (level s (lit_at s j)) (level s (lit_
 ]
 
 -- a literal counts 1 if it is flagged and of level `top` or above, otherwise 0
-open_none : (s : State) (top : ℕ) (flags : List Bool) (l : ℕ) → is_open_flagged s top flags l ≡ false → cond {A = ℕ} (is_open_flagged s top flags l) 1 0 ≡ 0
+open_none : (s : PropagationState) (top : ℕ) (flags : List Bool) (l : ℕ) → is_open_flagged s top flags l ≡ false → cond {A = ℕ} (is_open_flagged s top flags l) 1 0 ≡ 0
 open_none s top flags l e = ap (λ (b : Bool). cond {A = ℕ} b 1 0) e
 
-open_one : (s : State) (top : ℕ) (flags : List Bool) (l : ℕ) → is_open_flagged s top flags l ≡ true → cond {A = ℕ} (is_open_flagged s top flags l) 1 0 ≡ 1
+open_one : (s : PropagationState) (top : ℕ) (flags : List Bool) (l : ℕ) → is_open_flagged s top flags l ≡ true → cond {A = ℕ} (is_open_flagged s top flags l) 1 0 ≡ 1
 open_one s top flags l e = ap (λ (b : Bool). cond {A = ℕ} b 1 0) e
 
-unflagged : (s : State) (top : ℕ) (flags : List Bool) (l : ℕ) → get_or flags (variable l) false ≡ false → is_open_flagged s top flags l ≡ false
+unflagged : (s : PropagationState) (top : ℕ) (flags : List Bool) (l : ℕ) → get_or flags (variable l) false ≡ false → is_open_flagged s top flags l ≡ false
 unflagged s top flags l e = and_left (get_or flags (variable l) false) (not (ltb (level s l) top)) e
 
-not_high : (s : State) (top : ℕ) (flags : List Bool) (l : ℕ) → level s l < top → is_open_flagged s top flags l ≡ false
+not_high : (s : PropagationState) (top : ℕ) (flags : List Bool) (l : ℕ) → level s l < top → is_open_flagged s top flags l ≡ false
 not_high s top flags l n = and_right (get_or flags (variable l) false) (not (ltb (level s l) top)) (ap (λ b. not b) (lt-ltb (level s l) top n))
 
-is_high_flagged : (s : State) (top : ℕ) (flags : List Bool) (l : ℕ) → get_or flags (variable l) false ≡ true → top ≤ level s l → is_open_flagged s top flags l ≡ true
+is_high_flagged : (s : PropagationState) (top : ℕ) (flags : List Bool) (l : ℕ) → get_or flags (variable l) false ≡ true → top ≤ level s l → is_open_flagged s top flags l ≡ true
 is_high_flagged s top flags l f t = and_from (get_or flags (variable l) false) (not (ltb (level s l) top)) f (ap (λ b. not b) (le-ltb (level s l) top t))
 
-pub open_at_most : (s : State) (top : ℕ) (flags : List Bool) (n : ℕ) → open_below s top flags n ≤ n
+pub open_at_most : (s : PropagationState) (top : ℕ) (flags : List Bool) (n : ℕ) → open_below s top flags n ≤ n
 open_at_most s top flags zero = omega arith
 open_at_most s top flags (suc n) = elim (cases_Bool (is_open_flagged s top flags (lit_at s n))) [
   | inl t ↦ omega (arith, open_one s top flags (lit_at s n) t, open_at_most s top flags n)
@@ -65,7 +65,7 @@ open_at_most s top flags (suc n) = elim (cases_Bool (is_open_flagged s top flags
 ]
 
 -- if no position from p on is flagged, counting up to n gives the same as counting up to p
-pub open_same : (s : State) (top : ℕ) (flags : List Bool) (p n : ℕ) → p ≤ n → ((q : ℕ) → p ≤ q → q < n → get_or flags (variable (lit_at s q)) false ≡ false) → open_below s top flags n ≡ open_below s top flags p
+pub open_same : (s : PropagationState) (top : ℕ) (flags : List Bool) (p n : ℕ) → p ≤ n → ((q : ℕ) → p ≤ q → q < n → get_or flags (variable (lit_at s q)) false ≡ false) → open_below s top flags n ≡ open_below s top flags p
 open_same s top flags p zero le h = let e : p ≡ 0 = omega arith in ap (λ m. open_below s top flags m) (sym e)
 open_same s top flags p (suc n) le h = elim (cases_eq p (suc n)) [
   | inl e ↦ ap (λ m. open_below s top flags m) (sym e)
@@ -75,17 +75,17 @@ open_same s top flags p (suc n) le h = elim (cases_eq p (suc n)) [
 ]
 
 -- a flagged literal of level `top` or above counts
-pub open_last : (s : State) (top : ℕ) (flags : List Bool) (n : ℕ) → get_or flags (variable (lit_at s n)) false ≡ true → top ≤ level s (lit_at s n) → open_below s top flags (suc n) ≡ 1 + open_below s top flags n
+pub open_last : (s : PropagationState) (top : ℕ) (flags : List Bool) (n : ℕ) → get_or flags (variable (lit_at s n)) false ≡ true → top ≤ level s (lit_at s n) → open_below s top flags (suc n) ≡ 1 + open_below s top flags n
 open_last s top flags n f t = omega (arith, open_one s top flags (lit_at s n) (is_high_flagged s top flags (lit_at s n) f t))
 
 -- the position of a counted literal
-pub record OpenPlace (s : State) (top : ℕ) (flags : List Bool) (n : ℕ) : Type 0 where
+pub record OpenPlace (s : PropagationState) (top : ℕ) (flags : List Bool) (n : ℕ) : Type 0 where
   pub place : ℕ
   pub before : place < n
   pub flagged : get_or flags (variable (lit_at s place)) false ≡ true
   pub high : top ≤ level s (lit_at s place)
 
-pub open_some : (s : State) (top : ℕ) (flags : List Bool) (n : ℕ) → 0 < open_below s top flags n → OpenPlace s top flags n
+pub open_some : (s : PropagationState) (top : ℕ) (flags : List Bool) (n : ℕ) → 0 < open_below s top flags n → OpenPlace s top flags n
 open_some s top flags zero h = absurd (omega arith)
 open_some s top flags (suc n) h = elim (cases_Bool (is_open_flagged s top flags (lit_at s n))) [
   | inl t ↦
@@ -97,7 +97,7 @@ open_some s top flags (suc n) h = elim (cases_Bool (is_open_flagged s top flags 
 ]
 
 -- if the count is 0, no flagged literal of level `top` or above is among those counted
-pub open_no : (s : State) (top : ℕ) (flags : List Bool) (n q : ℕ) → open_below s top flags n ≡ 0 → q < n → get_or flags (variable (lit_at s q)) false ≡ true → top ≤ level s (lit_at s q) → ⊥
+pub open_no : (s : PropagationState) (top : ℕ) (flags : List Bool) (n q : ℕ) → open_below s top flags n ≡ 0 → q < n → get_or flags (variable (lit_at s q)) false ≡ true → top ≤ level s (lit_at s q) → ⊥
 open_no s top flags zero q e lt f t = omega arith
 open_no s top flags (suc n) q e lt f t = elim (cases_eq q n) [
   | inl i ↦ omega (arith, open_one s top flags (lit_at s n) (subst (λ m. is_open_flagged s top flags (lit_at s m) ≡ true) i (is_high_flagged s top flags (lit_at s q) f t)))
@@ -105,11 +105,11 @@ open_no s top flags (suc n) q e lt f t = elim (cases_eq q n) [
 ]
 
 -- setting a flag does not change whether a literal counts, if it has another variable or a level below `top`
-open_kept_one : (s : State) (top : ℕ) (flags : List Bool) (v : ℕ) (b : Bool) (l : ℕ) → (variable l ≢ v) ⊎ (level s l < top) → is_open_flagged s top (set flags v b) l ≡ is_open_flagged s top flags l
+open_kept_one : (s : PropagationState) (top : ℕ) (flags : List Bool) (v : ℕ) (b : Bool) (l : ℕ) → (variable l ≢ v) ⊎ (level s l < top) → is_open_flagged s top (set flags v b) l ≡ is_open_flagged s top flags l
 open_kept_one s top flags v b l (inl n) = ap (λ c. c && not (ltb (level s l) top)) (get_or-set_other flags v (variable l) b false n)
 open_kept_one s top flags v b l (inr n) = not_high s top (set flags v b) l n ∙ sym (not_high s top flags l n)
 
-pub open_kept : (s : State) (top : ℕ) (flags : List Bool) (v : ℕ) (b : Bool) (n : ℕ) → ((q : ℕ) → q < n → (variable (lit_at s q) ≢ v) ⊎ (level s (lit_at s q) < top)) →
+pub open_kept : (s : PropagationState) (top : ℕ) (flags : List Bool) (v : ℕ) (b : Bool) (n : ℕ) → ((q : ℕ) → q < n → (variable (lit_at s q) ≢ v) ⊎ (level s (lit_at s q) < top)) →
     open_below s top (set flags v b) n ≡ open_below s top flags n
 open_kept s top flags v b zero h = refl
 open_kept s top flags v b (suc n) h =
@@ -119,7 +119,7 @@ open_kept s top flags v b (suc n) h =
     omega arith
 
 -- flagging a literal of level `top` or above adds 1 to the count
-pub open_more : (s : State) (top : ℕ) (flags : List Bool) (p n : ℕ) → StateIsConsistent s → p < n → n ≤ length s.trail.lits → top ≤ level s (lit_at s p) →
+pub open_more : (s : PropagationState) (top : ℕ) (flags : List Bool) (p n : ℕ) → StateIsConsistent s → p < n → n ≤ length s.trail.lits → top ≤ level s (lit_at s p) →
     get_or flags (variable (lit_at s p)) false ≡ false → variable (lit_at s p) < length flags →
     open_below s top (set flags (variable (lit_at s p)) true) n ≡ open_below s top flags n + 1
 open_more s top flags p zero a lt le t f b = absurd (omega arith)
@@ -140,24 +140,24 @@ open_more s top flags p (suc n) a lt le t f b = elim (cases_eq p n) [
 ]
 
 -- the work after a literal of level `top` or above was met
-abbrev pub counted : ℕ → Work → Work
-counted r w = record w { flags = set w.flags (variable r) true; met = w.met ++ variable r ∷ []; pending = min (w.pending + 1) (2 ^ 64 - 1) }
+abbrev pub counted : ℕ → AnalysisState → AnalysisState
+counted r w = record w { flags = set w.flags (variable r) true; seen = w.seen ++ variable r ∷ []; pending = min (w.pending + 1) (2 ^ 64 - 1) }
 
-abbrev pub listed : ℕ → Work → Work
-listed r w = record w { flags = set w.flags (variable r) true; met = w.met ++ variable r ∷ []; clause = w.clause ++ r ∷ [] }
+abbrev pub listed : ℕ → AnalysisState → AnalysisState
+listed r w = record w { flags = set w.flags (variable r) true; seen = w.seen ++ variable r ∷ []; clause = w.clause ++ r ∷ [] }
 
-pub data Meets (s : State) (top r : ℕ) (w w' : Work) : Type 0 where
+pub data Meets (s : PropagationState) (top r : ℕ) (w w' : AnalysisState) : Type 0 where
   at_bottom : level s r ≡ 0 → w' ≡ w → Meets s top r w w'
   is_flagged : get_or w.flags (variable r) false ≡ true → w' ≡ w → Meets s top r w w'
   is_high : 0 < level s r → get_or w.flags (variable r) false ≡ false → top ≤ level s r → w' ≡ counted r w → Meets s top r w w'
   is_lower : 0 < level s r → get_or w.flags (variable r) false ≡ false → level s r < top → w' ≡ listed r w → Meets s top r w w'
 
-pub meets : (s : State) (top r : ℕ) (w : Work) → Meets s top r w (with_met_literal s.nodes top r w)
+pub meets : (s : PropagationState) (top r : ℕ) (w : AnalysisState) → Meets s top r w (with_seen_literal s.nodes top r w)
 meets s top r w =
-    let high : Work = counted r w in
-    let lower : Work = listed r w in
-    let inner : Work = cond (ltb (level s r) top) lower high in
-    let middle : Work = cond (get_or w.flags (variable r) false) w inner in
+    let high : AnalysisState = counted r w in
+    let lower : AnalysisState = listed r w in
+    let inner : AnalysisState = cond (ltb (level s r) top) lower high in
+    let middle : AnalysisState = cond (get_or w.flags (variable r) false) w inner in
     elim (cases_Bool (eqb (level s r) 0)) [
       | inl z ↦ at_bottom (eqb-true (level s r) 0 z) (cond-true (eqb (level s r) 0) w middle z)
       | inr n ↦
@@ -174,20 +174,20 @@ meets s top r w =
     ]
 
 -- if a literal above level 0 was false before a position, its negation is before that position
-pub stands_before : (s : State) (at r : ℕ) → IsFalseBefore s at r → 0 < level s r → IsBefore s at (negated r)
+pub stands_before : (s : PropagationState) (at r : ℕ) → IsFalseBefore s at r → 0 < level s r → IsBefore s at (negated r)
 stands_before s at r h above = elim h [
   | inl b ↦ b
   | inr x ↦ absurd (omega (arith, x.bottom, level_by_variable s (negated r) r (negated_variable r)))
 ]
 
-pub false_before : (s : State) (at r : ℕ) → StateIsConsistent s → IsFalseBefore s at r → IsFalseLit s.values r
+pub false_before : (s : PropagationState) (at r : ℕ) → StateIsConsistent s → IsFalseBefore s at r → IsFalseLit s.values r
 false_before s at r a h = subst (λ z. IsFalseLit s.values z) (negated_twice r) (false_from_true s.values (negated r) (negation_true s at r a h))
 
-pub variable_below : (s : State) (at r : ℕ) → StateIsConsistent s → IsFalseBefore s at r → variable r < length s.values
+pub variable_below : (s : PropagationState) (at r : ℕ) → StateIsConsistent s → IsFalseBefore s at r → variable r < length s.values
 variable_below s at r a h = below_from_value s.values (variable r) (not (is_positive r)) (false_before s at r a h)
 
 -- a flagged variable stays explained if the clause grows
-open_grows : (s : State) (top : ℕ) (clause clause' : List ℕ) (at v : ℕ) →
+open_grows : (s : PropagationState) (top : ℕ) (clause clause' : List ℕ) (at v : ℕ) →
     ((u : ℕ) → HasVariable clause u → HasVariable clause' u) → (HasVariable clause v ⊎ IsOpenAt s top at v) → HasVariable clause' v ⊎ IsOpenAt s top at v
 open_grows s top clause clause' at v f (inl h) = inl (f v h)
 open_grows s top clause clause' at v f (inr h) = inr h
@@ -201,10 +201,10 @@ flag_kept flags v u lt e = elim (cases_eq u v) [
   | inr n ↦ get_or-set_other flags v u true false n ∙ e
 ]
 
-lower_kept : (s : State) (top : ℕ) (flags : List Bool) (v r : ℕ) → v < length flags → IsLower s top flags r → IsLower s top (set flags v true) r
+lower_kept : (s : PropagationState) (top : ℕ) (flags : List Bool) (v r : ℕ) → v < length flags → IsLower s top flags r → IsLower s top (set flags v true) r
 lower_kept s top flags v r lt h = record { fails = h.fails; above = h.above; below = h.below; flagged = flag_kept flags v (variable r) lt h.flagged }
 
-marks_high : (s : State) (top : ℕ) (w : Work) (at r : ℕ) → StateIsConsistent s → IsFalseBefore s at r → 0 < level s r → get_or w.flags (variable r) false ≡ false → top ≤ level s r → MarksWork s top w at →
+marks_high : (s : PropagationState) (top : ℕ) (w : AnalysisState) (at r : ℕ) → StateIsConsistent s → IsFalseBefore s at r → 0 < level s r → get_or w.flags (variable r) false ≡ false → top ≤ level s r → MarksWork s top w at →
     AreFlagsAt s top w.clause (set w.flags (variable r) true) (min (w.pending + 1) (2 ^ 64 - 1)) at
 marks_high s top w at r a h above f t m =
     let b : IsBefore s at (negated r) = stands_before s at r h above in
@@ -227,7 +227,7 @@ marks_high s top w at r a h above f t m =
           omega (arith, m.counted, open_at_most s top (set w.flags (variable r) true) at, m.within, a.trail.fits, a.trail.small);
     }
 
-marks_lower : (s : State) (top : ℕ) (w : Work) (at r : ℕ) → StateIsConsistent s → IsFalseBefore s at r → 0 < level s r → get_or w.flags (variable r) false ≡ false → level s r < top → MarksWork s top w at →
+marks_lower : (s : PropagationState) (top : ℕ) (w : AnalysisState) (at r : ℕ) → StateIsConsistent s → IsFalseBefore s at r → 0 < level s r → get_or w.flags (variable r) false ≡ false → level s r < top → MarksWork s top w at →
     AreFlagsAt s top (w.clause ++ r ∷ []) (set w.flags (variable r) true) w.pending at
 marks_lower s top w at r a h above f t m =
     let n : length (w.clause ++ r ∷ []) ≡ length w.clause + 1 = length_push w.clause r in
@@ -273,16 +273,16 @@ marks_lower s top w at r a h above f t m =
     }
 
 -- what meeting these literals preserves, and what it adds
-pub record Met (s : State) (top at : ℕ) (rs : List ℕ) (w w' : Work) : Type 0 where
+pub record Met (s : PropagationState) (top at : ℕ) (rs : List ℕ) (w w' : AnalysisState) : Type 0 where
   pub marks : MarksWork s top w' at
   pub used : w'.used ≡ w.used
   pub core : w'.core ≡ w.core
-  pub involved : w'.involved ≡ w.involved
+  pub antecedents : w'.antecedents ≡ w.antecedents
   pub pending : w.pending ≤ w'.pending
   pub kept : (q : ℕ) → IsCovered s top w at q → IsCovered s top w' at q
   pub covered : AreCovered s top w' at rs
 
-covered_flagged : (s : State) (top : ℕ) (w : Work) (at r : ℕ) → StateIsConsistent s → IsFalseBefore s at r → MarksWork s top w at → get_or w.flags (variable r) false ≡ true → IsCovered s top w at r
+covered_flagged : (s : PropagationState) (top : ℕ) (w : AnalysisState) (at r : ℕ) → StateIsConsistent s → IsFalseBefore s at r → MarksWork s top w at → get_or w.flags (variable r) false ≡ true → IsCovered s top w at r
 covered_flagged s top w at r a h m f = elim (m.flagged (variable r) f) [
   | inl x ↦ covered_clause (x.0, x.1.0, at_any w.clause x.0 r x.1.0 (same_false s (get_or w.clause x.0 0) r (m.lower x.0 x.1.0).fails (false_before s at r a h) x.1.1))
   | inr x ↦
@@ -298,28 +298,28 @@ covered_flagged s top w at r a h m f = elim (m.flagged (variable r) f) [
     at_any : (xs : List ℕ) (k x : ℕ) → k < length xs → get_or xs k 0 ≡ x → get_or xs k x ≡ x
     at_any xs k x lt e = get_or_default xs k x 0 lt ∙ e
 
-one_covered : (s : State) (top : ℕ) (w : Work) (at r : ℕ) → IsCovered s top w at r → AreCovered s top w at (r ∷ [])
+one_covered : (s : PropagationState) (top : ℕ) (w : AnalysisState) (at r : ℕ) → IsCovered s top w at r → AreCovered s top w at (r ∷ [])
 one_covered s top w at r h zero lt = h
 one_covered s top w at r h (suc k) lt = absurd (omega arith)
 
-kept_high : (s : State) (top : ℕ) (w : Work) (at r q : ℕ) → variable r < length w.flags → IsCovered s top w at q → IsCovered s top (counted r w) at q
+kept_high : (s : PropagationState) (top : ℕ) (w : AnalysisState) (at r q : ℕ) → variable r < length w.flags → IsCovered s top w at q → IsCovered s top (counted r w) at q
 kept_high s top w at r q lt (covered_unit z) = covered_unit z
 kept_high s top w at r q lt (covered_clause c) = covered_clause c
 kept_high s top w at r q lt (covered_reason c) = covered_reason c
 kept_high s top w at r q lt (covered_core c) = covered_core c
 kept_high s top w at r q lt (covered_open x) = covered_open (record { flagged = flag_kept w.flags (variable r) (variable q) lt x.flagged; high = x.high; before = x.before })
 
-kept_lower : (s : State) (top : ℕ) (w : Work) (at r q : ℕ) → variable r < length w.flags → IsCovered s top w at q → IsCovered s top (listed r w) at q
+kept_lower : (s : PropagationState) (top : ℕ) (w : AnalysisState) (at r q : ℕ) → variable r < length w.flags → IsCovered s top w at q → IsCovered s top (listed r w) at q
 kept_lower s top w at r q lt (covered_unit z) = covered_unit z
 kept_lower s top w at r q lt (covered_clause c) = covered_clause (Contains-append_left w.clause (r ∷ []) q c)
 kept_lower s top w at r q lt (covered_reason c) = covered_reason c
 kept_lower s top w at r q lt (covered_core c) = covered_core c
 kept_lower s top w at r q lt (covered_open x) = covered_open (record { flagged = flag_kept w.flags (variable r) (variable q) lt x.flagged; high = x.high; before = x.before })
 
-met_same : (s : State) (top at r : ℕ) (w : Work) → MarksWork s top w at → IsCovered s top w at r → Met s top at (r ∷ []) w w
-met_same s top at r w m c = record { marks = m; used = refl; core = refl; involved = refl; pending = omega arith; kept = λ q x. x; covered = one_covered s top w at r c }
+met_same : (s : PropagationState) (top at r : ℕ) (w : AnalysisState) → MarksWork s top w at → IsCovered s top w at r → Met s top at (r ∷ []) w w
+met_same s top at r w m c = record { marks = m; used = refl; core = refl; antecedents = refl; pending = omega arith; kept = λ q x. x; covered = one_covered s top w at r c }
 
-met_by : (s : State) (top at r : ℕ) (w w' : Work) → StateIsConsistent s → IsFalseBefore s at r → MarksWork s top w at → Meets s top r w w' → Met s top at (r ∷ []) w w'
+met_by : (s : PropagationState) (top at r : ℕ) (w w' : AnalysisState) → StateIsConsistent s → IsFalseBefore s at r → MarksWork s top w at → Meets s top r w w' → Met s top at (r ∷ []) w w'
 met_by s top at r w w' a h m (at_bottom z e) = subst (λ x. Met s top at (r ∷ []) w x) (sym e) (met_same s top at r w m (covered_unit z))
 met_by s top at r w w' a h m (is_flagged f e) = subst (λ x. Met s top at (r ∷ []) w x) (sym e) (met_same s top at r w m (covered_flagged s top w at r a h m f))
 met_by s top at r w w' a h m (is_high above f t e) =
@@ -329,7 +329,7 @@ met_by s top at r w w' a h m (is_high above f t e) =
       marks = marks;
       used = refl;
       core = refl;
-      involved = refl;
+      antecedents = refl;
       pending = omega (arith, m.counted, open_at_most s top w.flags at, m.within, a.trail.fits, a.trail.small);
       kept = λ q x. kept_high s top w at r q lt x;
       covered = one_covered s top (counted r w) at r (covered_flagged s top (counted r w) at r a h marks (get_or-set_same w.flags (variable r) true false lt));
@@ -341,30 +341,30 @@ met_by s top at r w w' a h m (is_lower above f t e) =
       marks = marks;
       used = refl;
       core = refl;
-      involved = refl;
+      antecedents = refl;
       pending = omega arith;
       kept = λ q x. kept_lower s top w at r q lt x;
       covered = one_covered s top (listed r w) at r (covered_flagged s top (listed r w) at r a h marks (get_or-set_same w.flags (variable r) true false lt));
     })
 
-covered_cons : (s : State) (top : ℕ) (w : Work) (at r : ℕ) (rs : List ℕ) → IsCovered s top w at r → AreCovered s top w at rs → AreCovered s top w at (r ∷ rs)
+covered_cons : (s : PropagationState) (top : ℕ) (w : AnalysisState) (at r : ℕ) (rs : List ℕ) → IsCovered s top w at r → AreCovered s top w at rs → AreCovered s top w at (r ∷ rs)
 covered_cons s top w at r rs h t zero lt = h
 covered_cons s top w at r rs h t (suc k) lt = t k (omega arith)
 
 -- all these literals were met, one after another
-pub met_all : (s : State) (top at : ℕ) (rs : List ℕ) (w : Work) → StateIsConsistent s → ((k : ℕ) → k < length rs → IsFalseBefore s at (get_or rs k 0)) → MarksWork s top w at →
-    Met s top at rs w (with_met_literals s.nodes top rs w)
-met_all s top at [] w a h m = record { marks = m; used = refl; core = refl; involved = refl; pending = omega arith; kept = λ q x. x; covered = λ k lt. absurd (omega arith) }
+pub met_all : (s : PropagationState) (top at : ℕ) (rs : List ℕ) (w : AnalysisState) → StateIsConsistent s → ((k : ℕ) → k < length rs → IsFalseBefore s at (get_or rs k 0)) → MarksWork s top w at →
+    Met s top at rs w (with_seen_literals s.nodes top rs w)
+met_all s top at [] w a h m = record { marks = m; used = refl; core = refl; antecedents = refl; pending = omega arith; kept = λ q x. x; covered = λ k lt. absurd (omega arith) }
 met_all s top at (r ∷ rs) w a h m =
-    let w1 : Work = with_met_literal s.nodes top r w in
+    let w1 : AnalysisState = with_seen_literal s.nodes top r w in
     let x : Met s top at (r ∷ []) w w1 = met_by s top at r w w1 a (h 0 (omega arith)) m (meets s top r w) in
-    let y : Met s top at rs w1 (with_met_literals s.nodes top rs w1) = met_all s top at rs w1 a (λ k lt. h (suc k) (omega arith)) x.marks in
+    let y : Met s top at rs w1 (with_seen_literals s.nodes top rs w1) = met_all s top at rs w1 a (λ k lt. h (suc k) (omega arith)) x.marks in
     record {
       marks = y.marks;
       used = y.used ∙ x.used;
       core = y.core ∙ x.core;
-      involved = y.involved ∙ x.involved;
+      antecedents = y.antecedents ∙ x.antecedents;
       pending = omega (arith, x.pending, y.pending);
       kept = λ q c. y.kept q (x.kept q c);
-      covered = covered_cons s top (with_met_literals s.nodes top rs w1) at r rs (y.kept r (x.covered 0 (omega arith))) y.covered;
+      covered = covered_cons s top (with_seen_literals s.nodes top rs w1) at r rs (y.kept r (x.covered 0 (omega arith))) y.covered;
     }

@@ -5,12 +5,12 @@ use Rattle.std.specs.List.{Contains}
 use Rattle.sat_base.specs.values.Literals.{variable, negated, is_positive}
 use Rattle.sat_parts.specs.prop.Values.{IsTrueLit, IsFalseLit}
 use Rattle.sat_parts.specs.prop.Ready.{AreAllFalse}
-use Rattle.sat_parts.specs.prop.Graphs.{is_unit_reason, node_of}
-use Rattle.sat_parts.specs.prop.State.{State, node, level, current_level, StateIsConsistent}
+use Rattle.sat_parts.specs.prop.Graphs.{has_no_clause, node_of}
+use Rattle.sat_parts.specs.prop.State.{PropagationState, node, level, current_level, StateIsConsistent}
 use Rattle.sat_parts.proofs.lemmas.clause.ListLemmas.{at_place, place_in}
 use Rattle.sat_parts.proofs.lemmas.prop.StateLemmas.{negated_variable, negated_twice, true_from_false}
 use Rattle.sat_parts.proofs.lemmas.prop.RoomLemmas.{below_from_value}
-use Rattle.sat_solver.specs.analyze_conflict.Work.{Work}
+use Rattle.sat_solver.specs.analyze_conflict.AnalysisState.{AnalysisState}
 use Rattle.sat_solver.specs.analyze_conflict.Marks.{causes_at, CanAnalyze, IsReasoned, IsLower}
 use Rattle.sat_solver.specs.analyze_conflict.Derivation.{HasKnownCause, grounded_unit, grounded_clause, grounded_reason, HaveKnownCauses, IsUnorderedDerivation, ResolutionResult}
 use Rattle.sat_solver.specs.analyze_conflict.Minimal.{IsMarked, marked_unit, marked_first, marked_flag, marked_reason, use_top, Minimal, MayStart}
@@ -18,7 +18,7 @@ use Rattle.sat_solver.proofs.lemmas.analyze_conflict.InTurn.{above_first, causes
 use Rattle.sat_solver.proofs.lemmas.analyze_conflict.Meeting.{level_by_variable, same_true, same_false, false_before}
 
 -- a literal that is explained after resolution is also explained for minimization
-pub marked_from_grounded : (words : List ℕ) (s : State) (conflict : List ℕ) (w : Work) (r : ℕ) → ResolutionResult words s conflict w → HasKnownCause s w.clause w.used r → IsMarked s (get_or w.clause 0 0) w r
+pub marked_from_grounded : (words : List ℕ) (s : PropagationState) (conflict : List ℕ) (w : AnalysisState) (r : ℕ) → ResolutionResult words s conflict w → HasKnownCause s w.clause w.used r → IsMarked s (get_or w.clause 0 0) w r
 marked_from_grounded words s conflict w r h (grounded_unit z) = marked_unit z
 marked_from_grounded words s conflict w r h (grounded_clause c) = elim (cases_eq c.0 0) [
   | inl e ↦ marked_first (ap (λ z. get_or w.clause z 0) (sym e) ∙ at_place w.clause r c)
@@ -26,7 +26,7 @@ marked_from_grounded words s conflict w r h (grounded_clause c) = elim (cases_eq
 ]
 marked_from_grounded words s conflict w r h (grounded_reason c) = marked_reason c
 
-pub minimal_start : (words : List ℕ) (s : State) (conflict : List ℕ) (w : Work) → ResolutionResult words s conflict w → Minimal words s conflict (get_or w.clause 0 0) (length w.used) w.clause w
+pub minimal_start : (words : List ℕ) (s : PropagationState) (conflict : List ℕ) (w : AnalysisState) → ResolutionResult words s conflict w → Minimal words s conflict (get_or w.clause 0 0) (length w.used) w.clause w
 minimal_start words s conflict w h = record {
   searching = record {
     size = h.size;
@@ -55,8 +55,8 @@ minimal_start words s conflict w h = record {
 }
 
 -- a search may begin at a literal of the clause that has a clause as its reason, unless it is the first one
-pub may_start : (words : List ℕ) (s : State) (conflict : List ℕ) (first low : ℕ) (rest : List ℕ) (w : Work) (c : ℕ) → StateIsConsistent s → Minimal words s conflict first low rest w → Contains rest c → c ≢ first →
-    is_unit_reason (node s c).reason ≡ false → MayStart s w c
+pub may_start : (words : List ℕ) (s : PropagationState) (conflict : List ℕ) (first low : ℕ) (rest : List ℕ) (w : AnalysisState) (c : ℕ) → StateIsConsistent s → Minimal words s conflict first low rest w → Contains rest c → c ≢ first →
+    has_no_clause (node s c).reason ≡ false → MayStart s w c
 may_start words s conflict first low rest w c a h in_rest other caused = elim (h.lower c in_rest) [
   | inl e ↦ absurd (other e)
   | inr x ↦
@@ -71,7 +71,7 @@ may_start words s conflict first low rest w c a h in_rest other caused = elim (h
             within = b.within;
             there = b.there;
             above = omega (arith, x.above);
-            caused = ap (λ v. is_unit_reason (node_of s.nodes v).reason) (negated_variable c) ∙ caused;
+            caused = ap (λ v. has_no_clause (node_of s.nodes v).reason) (negated_variable c) ∙ caused;
           }
           | inr y ↦ absurd (omega (arith, y.bottom, x.above))
         ];
@@ -81,7 +81,7 @@ may_start words s conflict first low rest w c a h in_rest other caused = elim (h
 ]
 
 -- at the end, a literal that is explained by its flag is in the clause or used
-ground : (words : List ℕ) (s : State) (conflict : List ℕ) (first low : ℕ) (rest : List ℕ) (w : Work) (r : ℕ) → StateIsConsistent s → IsFalseLit s.values first → Minimal words s conflict first low rest w → IsFalseLit s.values r →
+ground : (words : List ℕ) (s : PropagationState) (conflict : List ℕ) (first low : ℕ) (rest : List ℕ) (w : AnalysisState) (r : ℕ) → StateIsConsistent s → IsFalseLit s.values first → Minimal words s conflict first low rest w → IsFalseLit s.values r →
     IsMarked s first w r → HasKnownCause s rest w.used r
 ground words s conflict first low rest w r a ff h f (marked_unit z) = grounded_unit z
 ground words s conflict first low rest w r a ff h f (marked_first e) = grounded_clause (subst (λ z. Contains rest z) e h.has_first)
@@ -100,7 +100,7 @@ ground words s conflict first low rest w r a ff h f (marked_flag g) = elim (h.on
       grounded_reason (subst (λ z. Contains w.used z) e (place_in w.used x.place x.within))
 ]
 
-pub minimal_grounds : (words : List ℕ) (s : State) (conflict : List ℕ) (first low : ℕ) (rest : List ℕ) (w : Work) → CanAnalyze words s → AreAllFalse s.values conflict → IsFalseLit s.values first →
+pub minimal_grounds : (words : List ℕ) (s : PropagationState) (conflict : List ℕ) (first low : ℕ) (rest : List ℕ) (w : AnalysisState) → CanAnalyze words s → AreAllFalse s.values conflict → IsFalseLit s.values first →
     Minimal words s conflict first low rest w → IsUnorderedDerivation words s conflict rest w.used
 minimal_grounds words s conflict first low rest w can fails ff h = record {
   reasons = λ l c. subst (λ z. IsReasoned s 0 z) (at_place w.used l c) (h.searching.reasons c.0 c.1);
@@ -116,5 +116,5 @@ minimal_grounds words s conflict first low rest w can fails ff h = record {
   distinct = h.searching.distinct;
 }
 
-pub false_variable : (s : State) (r : ℕ) → IsFalseLit s.values r → variable r < length s.values
+pub false_variable : (s : PropagationState) (r : ℕ) → IsFalseLit s.values r → variable r < length s.values
 false_variable s r f = below_from_value s.values (variable r) (not (is_positive r)) f

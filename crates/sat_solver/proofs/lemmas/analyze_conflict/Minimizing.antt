@@ -7,34 +7,34 @@ use Rattle.std.specs.List.{Contains}
 use Rattle.sat_base.specs.values.Literals.{variable, negated}
 use Rattle.sat_store.specs.levels.Levels.{level_passes}
 use Rattle.sat_parts.specs.clause.Orders.{AreDistinct}
-use Rattle.sat_parts.specs.prop.Graphs.{is_unit_reason, node_of}
-use Rattle.sat_parts.specs.prop.State.{State, node, level, current_level, lit_at, IsBefore, StateIsConsistent}
+use Rattle.sat_parts.specs.prop.Graphs.{has_no_clause, node_of}
+use Rattle.sat_parts.specs.prop.State.{PropagationState, node, level, current_level, lit_at, IsBefore, StateIsConsistent}
 use Rattle.sat_parts.specs.prop.Reasons.{IsFalseBefore}
 use Rattle.sat_parts.proofs.lemmas.clause.ListLemmas.{place_in}
 use Rattle.sat_parts.proofs.lemmas.prop.StateLemmas.{negated_variable}
-use Rattle.sat_solver.specs.analyze_conflict.Work.{Work}
+use Rattle.sat_solver.specs.analyze_conflict.AnalysisState.{AnalysisState}
 use Rattle.sat_solver.specs.analyze_conflict.Marks.{causes_at, CanAnalyze, IsReasoned}
 use Rattle.sat_solver.specs.analyze_conflict.Minimal.{IsMarked, marked_unit, marked_first, marked_flag, marked_reason, AreMarked, IsUse, use_top, use_low, MinimizationInvariant, MarksMore, marked, used_up, MayStart, Followed, can_follow, is_settled, followed}
 use Rattle.sat_solver.proofs.lemmas.analyze_conflict.InTurn.{above_first, causes_before}
 use Rattle.sat_solver.proofs.lemmas.analyze_conflict.Meeting.{level_by_variable, levels_rise, stands_before, variable_below, flag_kept}
 
-pub front_at : (w w' : Work) (k d : ℕ) → MarksMore w w' → k < length w.used → get_or w'.used k d ≡ get_or w.used k d
+pub front_at : (w w' : AnalysisState) (k d : ℕ) → MarksMore w w' → k < length w.used → get_or w'.used k d ≡ get_or w.used k d
 front_at w w' k d m lt = sym (get_or-take (length w.used) w'.used k d lt) ∙ ap (λ (xs : List ℕ). get_or xs k d) m.front
 
-pub used_forth : (w w' : Work) (l : ℕ) → MarksMore w w' → Contains w.used l → Contains w'.used l
+pub used_forth : (w w' : AnalysisState) (l : ℕ) → MarksMore w w' → Contains w.used l → Contains w'.used l
 used_forth w w' l m c = (c.0, omega (arith, c.1, m.longer), front_at w w' c.0 l m c.1 ∙ c.2)
 
-marked_forth : (s : State) (first r : ℕ) (w w' : Work) → MarksMore w w' → IsMarked s first w r → IsMarked s first w' r
+marked_forth : (s : PropagationState) (first r : ℕ) (w w' : AnalysisState) → MarksMore w w' → IsMarked s first w r → IsMarked s first w' r
 marked_forth s first r w w' m (marked_unit z) = marked_unit z
 marked_forth s first r w w' m (marked_first e) = marked_first e
 marked_forth s first r w w' m (marked_flag f) = marked_flag (m.kept (variable r) f)
 marked_forth s first r w w' m (marked_reason c) = marked_reason (used_forth w w' (negated r) m c)
 
-pub more_refl : (w : Work) → MarksMore w w
+pub more_refl : (w : AnalysisState) → MarksMore w w
 more_refl w = record {
   clause = refl;
-  met = refl;
-  involved = refl;
+  seen = refl;
+  antecedents = refl;
   core = refl;
   pending = refl;
   size = refl;
@@ -45,11 +45,11 @@ more_refl w = record {
   raised = λ v e. inl e;
 }
 
-pub more_trans : (a b c : Work) → MarksMore a b → MarksMore b c → MarksMore a c
+pub more_trans : (a b c : AnalysisState) → MarksMore a b → MarksMore b c → MarksMore a c
 more_trans a b c x y = record {
   clause = y.clause ∙ x.clause;
-  met = y.met ∙ x.met;
-  involved = y.involved ∙ x.involved;
+  seen = y.seen ∙ x.seen;
+  antecedents = y.antecedents ∙ x.antecedents;
   core = y.core ∙ x.core;
   pending = y.pending ∙ x.pending;
   size = y.size ∙ x.size;
@@ -73,14 +73,14 @@ more_trans a b c x y = record {
     before_was true h = absurd (h refl)
     before_was false h = refl
 
-pub more_one : (r : ℕ) (w : Work) → variable r < length w.flags → get_or w.flags (variable r) false ≡ false → MarksMore w (marked r w)
+pub more_one : (r : ℕ) (w : AnalysisState) → variable r < length w.flags → get_or w.flags (variable r) false ≡ false → MarksMore w (marked r w)
 more_one r w lt f =
     let n : length (w.used ++ negated r ∷ []) ≡ length w.used + 1 = length_push w.used (negated r) in
     let last : get_or (w.used ++ negated r ∷ []) (length w.used) 0 ≡ negated r = get_or_push w.used (negated r) 0 (length w.used) refl in
     record {
       clause = refl;
-      met = refl;
-      involved = refl;
+      seen = refl;
+      antecedents = refl;
       core = refl;
       pending = refl;
       size = length-set w.flags (variable r) true;
@@ -97,21 +97,21 @@ more_one r w lt f =
     }
 
 -- what marking a literal requires
-record CanMark (s : State) (r : ℕ) : Type 0 where
+record CanMark (s : PropagationState) (r : ℕ) : Type 0 where
   reasoned : IsReasoned s 0 (negated r)
   below : level s (negated r) < current_level s
   inside : variable r < length s.values
 
-not_used : (words : List ℕ) (s : State) (conflict : List ℕ) (first low : ℕ) (w : Work) (at r : ℕ) → MinimizationInvariant words s conflict first low w at → get_or w.flags (variable r) false ≡ false →
+not_used : (words : List ℕ) (s : PropagationState) (conflict : List ℕ) (first low : ℕ) (w : AnalysisState) (at r : ℕ) → MinimizationInvariant words s conflict first low w at → get_or w.flags (variable r) false ≡ false →
     level s (negated r) < current_level s → (k : ℕ) → k < length w.used → get_or w.used k 0 ≡ negated r → ⊥
 not_used words s conflict first low w at r h f below k lt e =
     no_use s low w.flags k (get_or w.used k 0) r (h.uses k lt) e f below
   where
-    no_use : (s : State) (low : ℕ) (flags : List Bool) (k l r : ℕ) → IsUse s low flags k l → l ≡ negated r → get_or flags (variable r) false ≡ false → level s (negated r) < current_level s → ⊥
+    no_use : (s : PropagationState) (low : ℕ) (flags : List Bool) (k l r : ℕ) → IsUse s low flags k l → l ≡ negated r → get_or flags (variable r) false ≡ false → level s (negated r) < current_level s → ⊥
     no_use s low flags k l r (use_top b t) e f below = omega (arith, ap (λ z. level s z) e)
     no_use s low flags k l r (use_low b t g) e f below = both_ways (get_or flags (variable r) false) f (ap (λ v. get_or flags v false) (sym (ap (λ z. variable z) e ∙ negated_variable r)) ∙ g)
 
-use_kept : (s : State) (low : ℕ) (w : Work) (r k l : ℕ) → variable r < length w.flags → IsUse s low w.flags k l → IsUse s low (set w.flags (variable r) true) k l
+use_kept : (s : PropagationState) (low : ℕ) (w : AnalysisState) (r k l : ℕ) → variable r < length w.flags → IsUse s low w.flags k l → IsUse s low (set w.flags (variable r) true) k l
 use_kept s low w r k l lt (use_top b t) = use_top b t
 use_kept s low w r k l lt (use_low b t g) = use_low b t (flag_kept w.flags (variable r) (variable l) lt g)
 
@@ -135,7 +135,7 @@ distinct_push xs x d other j k p q e =
           ]
     ]
 
-searching_mark : (words : List ℕ) (s : State) (conflict : List ℕ) (first low : ℕ) (w : Work) (at r : ℕ) → MinimizationInvariant words s conflict first low w at → get_or w.flags (variable r) false ≡ false → CanMark s r →
+searching_mark : (words : List ℕ) (s : PropagationState) (conflict : List ℕ) (first low : ℕ) (w : AnalysisState) (at r : ℕ) → MinimizationInvariant words s conflict first low w at → get_or w.flags (variable r) false ≡ false → CanMark s r →
     MinimizationInvariant words s conflict first low (marked r w) at
 searching_mark words s conflict first low w at r h f c =
     let lt : variable r < length w.flags = omega (arith, c.inside, h.size) in
@@ -168,28 +168,28 @@ searching_mark words s conflict first low w at r h f c =
     }
 
 -- the result of following the literals of a reason
-pub record Follows (words : List ℕ) (s : State) (conflict : List ℕ) (first low at : ℕ) (w : Work) (rs : List ℕ) (f : Followed) : Type 0 where
+pub record Follows (words : List ℕ) (s : PropagationState) (conflict : List ℕ) (first low at : ℕ) (w : AnalysisState) (rs : List ℕ) (f : Followed) : Type 0 where
   pub searching : MinimizationInvariant words s conflict first low f.work at
   pub more : MarksMore w f.work
   pub whole : f.whole ≡ true → AreMarked s first f.work rs
 
-marked_cons : (s : State) (first : ℕ) (w : Work) (r : ℕ) (rs : List ℕ) → IsMarked s first w r → AreMarked s first w rs → AreMarked s first w (r ∷ rs)
+marked_cons : (s : PropagationState) (first : ℕ) (w : AnalysisState) (r : ℕ) (rs : List ℕ) → IsMarked s first w r → AreMarked s first w rs → AreMarked s first w (r ∷ rs)
 marked_cons s first w r rs h t zero lt = h
 marked_cons s first w r rs h t (suc k) lt = t k (omega arith)
 
-settled_marked : (s : State) (first r : ℕ) (w : Work) → is_settled s.nodes r w ≡ true → IsMarked s first w r
+settled_marked : (s : PropagationState) (first r : ℕ) (w : AnalysisState) → is_settled s.nodes r w ≡ true → IsMarked s first w r
 settled_marked s first r w e = elim (or_cases (eqb (level s r) 0) (get_or w.flags (variable r) false) e) [
   | inl z ↦ marked_unit (eqb-true (level s r) 0 z)
   | inr f ↦ marked_flag f
 ]
 
 -- a cause of a literal below the current level may be marked, unless it is of level 0 or cannot follow
-can_mark : (s : State) (filter p r : ℕ) → StateIsConsistent s → p < length s.trail.lits → level s (lit_at s p) < current_level s → IsFalseBefore s p r → level s r ≢ 0 → can_follow s.nodes filter r ≡ true → CanMark s r
+can_mark : (s : PropagationState) (filter p r : ℕ) → StateIsConsistent s → p < length s.trail.lits → level s (lit_at s p) < current_level s → IsFalseBefore s p r → level s r ≢ 0 → can_follow s.nodes filter r ≡ true → CanMark s r
 can_mark s filter p r a within low h above e =
     let b : IsBefore s p (negated r) = stands_before s p r h (omega arith) in
     let same : level s (negated r) ≡ level s r = level_by_variable s (negated r) r (negated_variable r) in
-    let parts = and_parts (not (is_unit_reason (node s r).reason)) (level_passes filter (level s r)) e in
-    let caused : is_unit_reason (node s r).reason ≡ false = not-true (is_unit_reason (node s r).reason) parts.0 in
+    let parts = and_parts (not (has_no_clause (node s r).reason)) (level_passes filter (level s r)) e in
+    let caused : has_no_clause (node s r).reason ≡ false = not-true (has_no_clause (node s r).reason) parts.0 in
     record {
       reasoned = record {
         place = b.place;
@@ -197,13 +197,13 @@ can_mark s filter p r a within low h above e =
         within = b.within;
         there = b.there;
         above = omega arith;
-        caused = ap (λ v. is_unit_reason (node_of s.nodes v).reason) (negated_variable r) ∙ caused;
+        caused = ap (λ v. has_no_clause (node_of s.nodes v).reason) (negated_variable r) ∙ caused;
       };
       below = omega (arith, levels_rise s b.place p a (omega (arith, b.before)) within, ap (λ z. level s z) b.there);
       inside = variable_below s p r a h;
     }
 
-pub follows : (words : List ℕ) (s : State) (conflict : List ℕ) (first low at filter p : ℕ) (rs : List ℕ) (w : Work) → StateIsConsistent s → p < length s.trail.lits → level s (lit_at s p) < current_level s →
+pub follows : (words : List ℕ) (s : PropagationState) (conflict : List ℕ) (first low at filter p : ℕ) (rs : List ℕ) (w : AnalysisState) → StateIsConsistent s → p < length s.trail.lits → level s (lit_at s p) < current_level s →
     ((k : ℕ) → k < length rs → IsFalseBefore s p (get_or rs k 0)) → MinimizationInvariant words s conflict first low w at → Follows words s conflict first low at w rs (followed s.nodes filter rs w)
 follows words s conflict first low at filter p [] w a within below h x = record { searching = x; more = more_refl w; whole = λ e k lt. absurd (omega arith) }
 follows words s conflict first low at filter p (r ∷ rs) w a within below h x =
@@ -245,7 +245,7 @@ follows words s conflict first low at filter p (r ∷ rs) w a within below h x =
     ]
 
 -- the causes of the next used literal are explained
-pub searching_next : (words : List ℕ) (s : State) (conflict : List ℕ) (first low : ℕ) (w : Work) (at : ℕ) → MinimizationInvariant words s conflict first low w at → at < length w.used →
+pub searching_next : (words : List ℕ) (s : PropagationState) (conflict : List ℕ) (first low : ℕ) (w : AnalysisState) (at : ℕ) → MinimizationInvariant words s conflict first low w at → at < length w.used →
     AreMarked s first w (causes_at words s (get_or w.used at 0)) → MinimizationInvariant words s conflict first low w (at + 1)
 searching_next words s conflict first low w at h lt m = record {
   size = h.size;
@@ -262,7 +262,7 @@ searching_next words s conflict first low w at h lt m = record {
 }
 
 -- one step of the search: the causes of a used literal are followed
-pub search_step : (words : List ℕ) (s : State) (conflict : List ℕ) (first low at filter : ℕ) (w : Work) → CanAnalyze words s → MinimizationInvariant words s conflict first low w at → at < length w.used →
+pub search_step : (words : List ℕ) (s : PropagationState) (conflict : List ℕ) (first low at filter : ℕ) (w : AnalysisState) → CanAnalyze words s → MinimizationInvariant words s conflict first low w at → at < length w.used →
     Follows words s conflict first low at w (causes_at words s (get_or w.used at 0)) (followed s.nodes filter (causes_at words s (get_or w.used at 0)) w)
 search_step words s conflict first low at filter w can h lt =
     let l : ℕ = get_or w.used at 0 in
@@ -272,12 +272,12 @@ search_step words s conflict first low at filter w can h lt =
     follows words s conflict first low at filter x.place (causes_at words s l) w can.agrees x.within below
     (λ k b. causes_before words s x.place l k can x.within x.there first_place b) h
   where
-    low_use : (s : State) (low : ℕ) (flags : List Bool) (k l : ℕ) → IsUse s low flags k l → low ≤ k → level s l < current_level s
+    low_use : (s : PropagationState) (low : ℕ) (flags : List Bool) (k l : ℕ) → IsUse s low flags k l → low ≤ k → level s l < current_level s
     low_use s low flags k l (use_top b t) le = absurd (omega arith)
     low_use s low flags k l (use_low b t g) le = t
 
 -- the invariant holds when a search begins
-pub searching_start : (words : List ℕ) (s : State) (conflict : List ℕ) (first low : ℕ) (w : Work) (c : ℕ) → MinimizationInvariant words s conflict first low w (length w.used) → MayStart s w c →
+pub searching_start : (words : List ℕ) (s : PropagationState) (conflict : List ℕ) (first low : ℕ) (w : AnalysisState) (c : ℕ) → MinimizationInvariant words s conflict first low w (length w.used) → MayStart s w c →
     MinimizationInvariant words s conflict first low (used_up (negated c) w) (length w.used)
 searching_start words s conflict first low w c h m =
     let n : length (w.used ++ negated c ∷ []) ≡ length w.used + 1 = length_push w.used (negated c) in
@@ -305,7 +305,7 @@ searching_start words s conflict first low w c h m =
       start = λ i x. forth (get_or conflict i 0) (h.start i x);
     }
   where
-    push_marked : (s : State) (first : ℕ) (w : Work) (l r : ℕ) → IsMarked s first w r → IsMarked s first (used_up l w) r
+    push_marked : (s : PropagationState) (first : ℕ) (w : AnalysisState) (l r : ℕ) → IsMarked s first w r → IsMarked s first (used_up l w) r
     push_marked s first w l r (marked_unit z) = marked_unit z
     push_marked s first w l r (marked_first e) = marked_first e
     push_marked s first w l r (marked_flag f) = marked_flag f

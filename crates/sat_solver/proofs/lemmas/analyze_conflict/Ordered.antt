@@ -6,7 +6,7 @@ use Rattle.std.specs.List.Sorted.{IsPermutation, IsNonDecreasingBy}
 use Rattle.std.proofs.lemmas.List.Edits.{swap_is}
 use Rattle.std.proofs.lemmas.List.Sorted.{IsPermutation-keeps}
 use Rattle.sat_parts.specs.clause.Orders.{AreDistinct}
-use Rattle.sat_parts.specs.prop.State.{State, lit_at, StateIsConsistent}
+use Rattle.sat_parts.specs.prop.State.{PropagationState, lit_at, StateIsConsistent}
 use Rattle.sat_parts.proofs.lemmas.clause.ListLemmas.{place_in}
 use Rattle.sat_parts.proofs.lemmas.clause.OrderLemmas.{shuffled_swapped}
 use Rattle.sat_solver.specs.analyze_conflict.Marks.{IsReasoned, depth}
@@ -21,14 +21,14 @@ pub distinct_permuted : (xs ys : List ℕ) → IsPermutation xs ys → AreDistin
 distinct_permuted xs ys p d = IsPermutation-keeps xs AreDistinct d swap_distinct ys p
 
 -- literals of the same depth that have clauses as reasons are equal
-same_depth : (s : State) (l m : ℕ) → StateIsConsistent s → IsReasoned s 0 l → IsReasoned s 0 m → depth s l ≡ depth s m → l ≡ m
+same_depth : (s : PropagationState) (l m : ℕ) → StateIsConsistent s → IsReasoned s 0 l → IsReasoned s 0 m → depth s l ≡ depth s m → l ≡ m
 same_depth s l m a x y e =
     let p : x.place + 1 ≡ depth s l = sym (a.depths x.place x.within) ∙ ap (λ z. depth s z) x.there in
     let q : y.place + 1 ≡ depth s m = sym (a.depths y.place y.within) ∙ ap (λ z. depth s z) y.there in
     let r : x.place ≡ y.place = omega arith in
     sym x.there ∙ ap (λ z. lit_at s z) r ∙ y.there
 
-pub ordered : (words : List ℕ) (s : State) (conflict learned used used' : List ℕ) → StateIsConsistent s → IsUnorderedDerivation words s conflict learned used → IsPermutation used used' → IsNonDecreasingBy (depth_in s.nodes) used' →
+pub ordered : (words : List ℕ) (s : PropagationState) (conflict learned used used' : List ℕ) → StateIsConsistent s → IsUnorderedDerivation words s conflict learned used → IsPermutation used used' → IsNonDecreasingBy (depth_in s.nodes) used' →
     IsDerivation words s conflict learned used'
 ordered words s conflict learned used used' a g p up =
     let d : AreDistinct used' = distinct_permuted used used' p g.distinct in

@@ -11,10 +11,10 @@ use Rattle.sat_checker.proofs.lemmas.sets.Order.{among-append}
 use Rattle.sat_parts.specs.clause.Orders.{AreDistinct}
 use Rattle.sat_parts.specs.prop.Values.{IsTrueLit, IsFalseLit}
 use Rattle.sat_parts.specs.prop.Reasons.{IsFalseBefore}
-use Rattle.sat_parts.specs.prop.State.{State}
+use Rattle.sat_parts.specs.prop.State.{PropagationState}
 use Rattle.sat_parts.proofs.lemmas.clause.ListLemmas.{at_place, place_in}
 use Rattle.sat_parts.proofs.lemmas.prop.StateLemmas.{negated_twice, false_from_true, not_both}
-use Rattle.sat_solver.specs.analyze_conflict.Work.{Work}
+use Rattle.sat_solver.specs.analyze_conflict.AnalysisState.{AnalysisState}
 use Rattle.sat_solver.specs.analyze_conflict.Marks.{causes_at, CanAnalyze, IsReasoned, depth}
 use Rattle.sat_solver.specs.analyze_conflict.Derivation.{clause_of, AreLevelZeroLits, IsDerivation}
 use Rattle.sat_solver.specs.assumptions.Failing.{IsChosen, IsDistinctCore, IsRefutation, TraceResult}
@@ -36,7 +36,7 @@ map_end f (y ∷ ys) x = ap (λ zs. f y ∷ zs) (map_end f ys x)
 reversed_at : (xs : List ℕ) (k : ℕ) → k < length xs → get_or (reverse xs) k 0 ≡ get_or xs (length xs - 1 - k) 0
 reversed_at xs k lt = get_or-reverse xs k 0 lt
 
-rising_reversed : (s : State) (xs : List ℕ) → ((j k : ℕ) → j < k → k < length xs → depth s (get_or xs k 0) < depth s (get_or xs j 0)) →
+rising_reversed : (s : PropagationState) (xs : List ℕ) → ((j k : ℕ) → j < k → k < length xs → depth s (get_or xs k 0) < depth s (get_or xs j 0)) →
     (j k : ℕ) → j < k → k < length (reverse xs) → depth s (get_or (reverse xs) j 0) < depth s (get_or (reverse xs) k 0)
 rising_reversed s xs f j k lt b =
     let n : length (reverse xs) ≡ length xs = length-reverse xs in
@@ -48,7 +48,7 @@ rising_reversed s xs f j k lt b =
     )
 
 -- the derivation, in which the negation of the failed assumption is last
-record Ordered (words : List ℕ) (s : State) (failed : ℕ) (core used : List ℕ) (last : ℕ) : Type 0 where
+record Ordered (words : List ℕ) (s : PropagationState) (failed : ℕ) (core used : List ℕ) (last : ℕ) : Type 0 where
   size : length used ≡ last + 1
   end : get_or used last 0 ≡ negated failed
   lits : IsDistinctCore s failed core
@@ -59,7 +59,7 @@ abbrev assumed : (core units : List ℕ) → List ℕ
 assumed core units = map negated (map negated core) ++ units
 
 -- a used literal of smaller depth than the last one is among those before it
-in_front : (words : List ℕ) (s : State) (failed : ℕ) (core used : List ℕ) (last m : ℕ) → Ordered words s failed core used last → Contains used m → depth s m < depth s (get_or used last 0) → Contains (take last used) m
+in_front : (words : List ℕ) (s : PropagationState) (failed : ℕ) (core used : List ℕ) (last m : ℕ) → Ordered words s failed core used last → Contains used m → depth s m < depth s (get_or used last 0) → Contains (take last used) m
 in_front words s failed core used last m h c lt =
     let b : c.0 < last = elim (cases_eq c.0 last) [
       | inl e ↦ absurd (omega (arith, ap (λ z. depth s z) (sym (at_place used m c) ∙ ap (λ i. get_or used i 0) e)))
@@ -68,7 +68,7 @@ in_front words s failed core used last m h c lt =
     subst (λ z. Contains (take last used) z) (get_or-take last used c.0 0 b ∙ at_place used m c) (place_in (take last used) c.0 (omega (arith, length-take last used, h.size)))
 
 -- the negation of a used literal before the last one isn't assumed
-not_denied : (words : List ℕ) (s : State) (failed : ℕ) (core used units : List ℕ) (last k : ℕ) → CanAnalyze words s → AreLevelZeroLits s units → Ordered words s failed core used last → k < last → IsTrueLit s.values (get_or used k 0) →
+not_denied : (words : List ℕ) (s : PropagationState) (failed : ℕ) (core used units : List ℕ) (last k : ℕ) → CanAnalyze words s → AreLevelZeroLits s units → Ordered words s failed core used last → k < last → IsTrueLit s.values (get_or used k 0) →
     is_among (assumed core units) (negated (get_or used k 0)) ≡ false
 not_denied words s failed core used units last k can u h lt holds =
     let e : ℕ = get_or used k 0 in
@@ -90,7 +90,7 @@ not_denied words s failed core used units last k can u h lt holds =
     ])
 
 -- every cause of a used literal is assumed, or implied by an earlier used literal
-given_front : (words : List ℕ) (s : State) (failed : ℕ) (core used units : List ℕ) (last l i : ℕ) → CanAnalyze words s → AreLevelZeroLits s units → Ordered words s failed core used last → Contains used l → depth s l ≤ depth s (get_or used last 0) →
+given_front : (words : List ℕ) (s : PropagationState) (failed : ℕ) (core used units : List ℕ) (last l i : ℕ) → CanAnalyze words s → AreLevelZeroLits s units → Ordered words s failed core used last → Contains used l → depth s l ≤ depth s (get_or used last 0) →
     i < length (causes_at words s l) → Given s (assumed core units) (take last used) (depth s l) (negated (get_or (causes_at words s l) i 0))
 given_front words s failed core used units last l i can u h c le b =
     let d : IsDerivation words s (clause_of words s (negated failed)) (map negated core) used = h.derivation in
@@ -105,7 +105,7 @@ given_front words s failed core used units last l i can u h c le b =
     ]
 
 -- the clauses are unit in turn, and the last one is falsified
-turns_to_failure : (words : List ℕ) (s : State) (failed : ℕ) (core used units : List ℕ) (last : ℕ) → CanAnalyze words s → AreLevelZeroLits s units → Ordered words s failed core used last →
+turns_to_failure : (words : List ℕ) (s : PropagationState) (failed : ℕ) (core used units : List ℕ) (last : ℕ) → CanAnalyze words s → AreLevelZeroLits s units → Ordered words s failed core used last →
     UnitInTurn (assumed core units) (map (clause_of words s) (take last used) ++ clause_of words s (negated failed) ∷ [])
 turns_to_failure words s failed core used units last can u h =
     let d : IsDerivation words s (clause_of words s (negated failed)) (map negated core) used = h.derivation in
@@ -128,7 +128,7 @@ turns_to_failure words s failed core used units last can u h =
       start = λ i lt. first_or_cause words s failed core used units last can u h ended i lt;
     })
   where
-    first_or_cause : (words : List ℕ) (s : State) (failed : ℕ) (core used units : List ℕ) (last : ℕ) → CanAnalyze words s → AreLevelZeroLits s units → Ordered words s failed core used last → Contains used (negated failed) → (i : ℕ) →
+    first_or_cause : (words : List ℕ) (s : PropagationState) (failed : ℕ) (core used units : List ℕ) (last : ℕ) → CanAnalyze words s → AreLevelZeroLits s units → Ordered words s failed core used last → Contains used (negated failed) → (i : ℕ) →
         i < length (clause_of words s (negated failed)) → (is_among (assumed core units) (negated (get_or (clause_of words s (negated failed)) i 0)) ≡ true) ⊎ Contains (take last used) (negated (get_or (clause_of words s (negated failed)) i 0))
     first_or_cause words s failed core used units last can u h ended zero lt =
         let c : Contains core failed = subst (λ z. Contains core z) h.lits.lits.first (place_in core 0 h.lits.lits.some) in
@@ -142,7 +142,7 @@ turns_to_failure words s failed core used units last can u h =
         ]
 
 -- the reversed list of used literals is a refutation of the core
-pub refuted : (words : List ℕ) (s : State) (failed : ℕ) (w : Work) → CanAnalyze words s → IsFalseLit s.values failed → TraceResult words s failed w → IsRefutation words s failed w.core (reverse w.used)
+pub refuted : (words : List ℕ) (s : PropagationState) (failed : ℕ) (w : AnalysisState) → CanAnalyze words s → IsFalseLit s.values failed → TraceResult words s failed w → IsRefutation words s failed w.core (reverse w.used)
 refuted words s failed w can f t =
     let used : List ℕ = reverse w.used in
     let n : length (reverse w.used) ≡ length w.used = length-reverse w.used in

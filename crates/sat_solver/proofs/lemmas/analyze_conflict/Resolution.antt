@@ -6,23 +6,23 @@ use Rattle.std.proofs.lemmas.List.Elements.{Contains-append_left, Contains-push}
 use Rattle.std.specs.List.{Contains}
 use Rattle.sat_base.specs.values.Literals.{variable, negated}
 use Rattle.sat_parts.specs.declared.prop.graph.Reason.{Reason}
-use Rattle.sat_parts.specs.prop.Graphs.{is_unit_reason}
-use Rattle.sat_parts.specs.prop.State.{State, node, level, current_level, lit_at, StateIsConsistent}
+use Rattle.sat_parts.specs.prop.Graphs.{has_no_clause}
+use Rattle.sat_parts.specs.prop.State.{PropagationState, node, level, current_level, lit_at, StateIsConsistent}
 use Rattle.sat_parts.proofs.lemmas.prop.StateLemmas.{negated_variable, level_low}
 use Rattle.sat_parts.proofs.lemmas.prop.RoomLemmas.{places_apart}
-use Rattle.sat_solver.specs.analyze_conflict.Work.{Work, with_met_literals, passed_by, taken_up}
+use Rattle.sat_solver.specs.analyze_conflict.AnalysisState.{AnalysisState, with_seen_literals, unflagged, with_reason_used}
 use Rattle.sat_solver.specs.analyze_conflict.Marks.{causes_at, CanAnalyze, open_below, IsLower, MarksWork, IsWaiting, IsCovered, covered_unit, covered_clause, covered_reason, covered_core, covered_open, AreCovered, IsReasoned, depth, AreUsed, ResolutionInvariant}
 use Rattle.sat_solver.proofs.lemmas.analyze_conflict.InTurn.{above_first}
 use Rattle.sat_solver.proofs.lemmas.analyze_conflict.Meeting.{level_by_variable, levels_rise, OpenPlace, open_same, open_last, open_some, open_kept, Met, met_all}
 
 -- p is the last flagged position before `at`
-pub record IsLastFlagged (s : State) (flags : List Bool) (p at : ℕ) : Type 0 where
+pub record IsLastFlagged (s : PropagationState) (flags : List Bool) (p at : ℕ) : Type 0 where
   pub before : p < at
   pub flagged : get_or flags (variable (lit_at s p)) false ≡ true
   pub others : (q : ℕ) → p < q → q < at → get_or flags (variable (lit_at s q)) false ≡ false
 
 -- if a flagged literal of level `top` or above is left, the last flagged literal is of such a level
-pub last_high : (s : State) (top : ℕ) (flags : List Bool) (p at : ℕ) → StateIsConsistent s → at ≤ length s.trail.lits → IsLastFlagged s flags p at → OpenPlace s top flags at → top ≤ level s (lit_at s p)
+pub last_high : (s : PropagationState) (top : ℕ) (flags : List Bool) (p at : ℕ) → StateIsConsistent s → at ≤ length s.trail.lits → IsLastFlagged s flags p at → OpenPlace s top flags at → top ≤ level s (lit_at s p)
 last_high s top flags p at a le h x =
     let in_trail : p < length s.trail.lits = omega (arith, h.before) in
     let following : x.place ≤ p = elim (cases_lt p x.place) [
@@ -32,7 +32,7 @@ last_high s top flags p at a le h x =
     omega (arith, levels_rise s x.place p a following in_trail, x.high)
 
 -- no level is higher than the current one
-pub at_current : (s : State) (p : ℕ) → StateIsConsistent s → p < length s.trail.lits → current_level s ≤ level s (lit_at s p) → level s (lit_at s p) ≡ current_level s
+pub at_current : (s : PropagationState) (p : ℕ) → StateIsConsistent s → p < length s.trail.lits → current_level s ≤ level s (lit_at s p) → level s (lit_at s p) ≡ current_level s
 at_current s p a lt le = omega (arith, level_low s (lit_at s p) a (a.holds p lt))
 
 unset_cases : (flags : List Bool) (v u : ℕ) → v < length flags → get_or (set flags v false) u false ≡ true → (u ≢ v) × (get_or flags u false ≡ true)
@@ -42,8 +42,8 @@ unset_cases flags v u lt e = elim (cases_eq u v) [
 ]
 
 -- the flags are as required once the last flagged literal was passed
-pub marks_passed : (s : State) (top : ℕ) (w : Work) (p at : ℕ) → StateIsConsistent s → MarksWork s top w at → IsLastFlagged s w.flags p at → top ≤ level s (lit_at s p) → variable (lit_at s p) < length w.flags →
-    MarksWork s top (passed_by (lit_at s p) w) p
+pub marks_passed : (s : PropagationState) (top : ℕ) (w : AnalysisState) (p at : ℕ) → StateIsConsistent s → MarksWork s top w at → IsLastFlagged s w.flags p at → top ≤ level s (lit_at s p) → variable (lit_at s p) < length w.flags →
+    MarksWork s top (unflagged (lit_at s p) w) p
 marks_passed s top w p at a m h high b =
     let v : ℕ = variable (lit_at s p) in
     let in_trail : p < length s.trail.lits = omega (arith, h.before, m.within) in
@@ -80,7 +80,7 @@ marks_passed s top w p at a m h high b =
     }
 
 -- after a literal was passed, a literal that was to be resolved still is, unless it is the negation of the passed one
-pub passed_waiting : (s : State) (top : ℕ) (w : Work) (p at r : ℕ) → StateIsConsistent s → at ≤ length s.trail.lits → IsLastFlagged s w.flags p at → IsWaiting s top w.flags at r →
+pub passed_waiting : (s : PropagationState) (top : ℕ) (w : AnalysisState) (p at r : ℕ) → StateIsConsistent s → at ≤ length s.trail.lits → IsLastFlagged s w.flags p at → IsWaiting s top w.flags at r →
     IsWaiting s top (set w.flags (variable (lit_at s p)) false) p r ⊎ (lit_at s p ≡ negated r)
 passed_waiting s top w p at r a le h x =
     let v_is : variable (lit_at s x.before.place) ≡ variable r = ap (λ z. variable z) x.before.there ∙ negated_variable r in
@@ -99,7 +99,7 @@ passed_waiting s top w p at r a le h x =
     ]
 
 -- explained literals stay explained when a literal is used
-pub taken_covered : (s : State) (top : ℕ) (w : Work) (n : Reason) (p at r : ℕ) → StateIsConsistent s → at ≤ length s.trail.lits → IsLastFlagged s w.flags p at → IsCovered s top w at r → IsCovered s top (taken_up n (lit_at s p) w) p r
+pub taken_covered : (s : PropagationState) (top : ℕ) (w : AnalysisState) (n : Reason) (p at r : ℕ) → StateIsConsistent s → at ≤ length s.trail.lits → IsLastFlagged s w.flags p at → IsCovered s top w at r → IsCovered s top (with_reason_used n (lit_at s p) w) p r
 taken_covered s top w n p at r a le h (covered_unit z) = covered_unit z
 taken_covered s top w n p at r a le h (covered_clause c) = covered_clause c
 taken_covered s top w n p at r a le h (covered_reason c) = covered_reason (Contains-append_left w.used (lit_at s p ∷ []) (negated r) c)
@@ -110,17 +110,17 @@ taken_covered s top w n p at r a le h (covered_open x) = elim (passed_waiting s 
 ]
 
 -- a literal of the current level that is after another one isn't a decision
-not_decided : (words : List ℕ) (s : State) (q p : ℕ) → CanAnalyze words s → q < p → p < length s.trail.lits → level s (lit_at s q) ≡ current_level s → is_unit_reason (node s (lit_at s p)).reason ≡ false
+not_decided : (words : List ℕ) (s : PropagationState) (q p : ℕ) → CanAnalyze words s → q < p → p < length s.trail.lits → level s (lit_at s q) ≡ current_level s → has_no_clause (node s (lit_at s p)).reason ≡ false
 not_decided words s q p can lt within top =
     let in_trail : q < length s.trail.lits = omega arith in
     let begun : (k : ℕ) → k < length s.trail.starts → get_or s.trail.starts k 0 ≤ q = λ k b. (can.agrees.levels q in_trail).begun k (omega arith) in
     can.levelled.caused p 0 can.above (omega (arith, begun 0 can.above)) within (λ k b e. omega (arith, begun k b))
 
 -- resolution of one literal preserves the invariant of used literals
-pub uses_next : (words : List ℕ) (s : State) (top : ℕ) (w w1 w2 : Work) (p at : ℕ) → CanAnalyze words s → AreUsed words s top w at → p < at → p < length s.trail.lits →
+pub uses_next : (words : List ℕ) (s : PropagationState) (top : ℕ) (w w1 w2 : AnalysisState) (p at : ℕ) → CanAnalyze words s → AreUsed words s top w at → p < at → p < length s.trail.lits →
     w1.used ≡ w.used ++ lit_at s p ∷ [] → Met s top p (causes_at words s (lit_at s p)) w1 w2 →
     ((r : ℕ) → IsCovered s top w at r → IsCovered s top w1 p r) →
-    0 < top → top ≤ level s (lit_at s p) → is_unit_reason (node s (lit_at s p)).reason ≡ false → AreUsed words s top w2 p
+    0 < top → top ≤ level s (lit_at s p) → has_no_clause (node s (lit_at s p)).reason ≡ false → AreUsed words s top w2 p
 uses_next words s top w w1 w2 p at can u before within used_is m forth some high caused =
     let l : ℕ = lit_at s p in
     let list : w2.used ≡ w.used ++ l ∷ [] = m.used ∙ used_is in
@@ -166,20 +166,20 @@ uses_next words s top w w1 w2 p at can u before within used_is m forth some high
     }
 
 -- what holds when the last flagged literal is used while another one of the current level is left
-pub record Taken (words : List ℕ) (s : State) (w : Work) (p at : ℕ) : Type 0 where
+pub record Taken (words : List ℕ) (s : PropagationState) (w : AnalysisState) (p at : ℕ) : Type 0 where
   pub within : p < length s.trail.lits
   pub top : level s (lit_at s p) ≡ current_level s
-  pub caused : is_unit_reason (node s (lit_at s p)).reason ≡ false
+  pub caused : has_no_clause (node s (lit_at s p)).reason ≡ false
   pub first : get_or s.trail.starts 0 0 ≤ p
-  pub marks : MarksWork s (current_level s) (taken_up (node s (lit_at s p)).reason (lit_at s p) w) p
+  pub marks : MarksWork s (current_level s) (with_reason_used (node s (lit_at s p)).reason (lit_at s p) w) p
   pub other : OpenPlace s (current_level s) (set w.flags (variable (lit_at s p)) false) p
 
-pub taken : (words : List ℕ) (s : State) (w : Work) (p at : ℕ) → CanAnalyze words s → MarksWork s (current_level s) w at → 1 < w.pending → IsLastFlagged s w.flags p at → variable (lit_at s p) < length w.flags → Taken words s w p at
+pub taken : (words : List ℕ) (s : PropagationState) (w : AnalysisState) (p at : ℕ) → CanAnalyze words s → MarksWork s (current_level s) w at → 1 < w.pending → IsLastFlagged s w.flags p at → variable (lit_at s p) < length w.flags → Taken words s w p at
 taken words s w p at can m two h b =
     let t : ℕ = current_level s in
     let within : p < length s.trail.lits = omega (arith, h.before, m.within) in
     let high : current_level s ≤ level s (lit_at s p) = last_high s t w.flags p at can.agrees m.within h (open_some s t w.flags at (omega (arith, m.counted))) in
-    let marks : MarksWork s t (passed_by (lit_at s p) w) p = marks_passed s t w p at can.agrees m h high b in
+    let marks : MarksWork s t (unflagged (lit_at s p) w) p = marks_passed s t w p at can.agrees m h high b in
     let other : OpenPlace s t (set w.flags (variable (lit_at s p)) false) p = open_some s t (set w.flags (variable (lit_at s p)) false) p (omega (arith, marks.counted)) in
     record {
       within = within;
@@ -190,21 +190,21 @@ taken words s w p at can m two h b =
       other = other;
     }
 
-pub resolved : (words : List ℕ) (s : State) (start : List ℕ) (w : Work) (p at : ℕ) → CanAnalyze words s → ResolutionInvariant words s start w at → 1 < w.pending →
+pub resolved : (words : List ℕ) (s : PropagationState) (start : List ℕ) (w : AnalysisState) (p at : ℕ) → CanAnalyze words s → ResolutionInvariant words s start w at → 1 < w.pending →
     IsLastFlagged s w.flags p at → variable (lit_at s p) < length w.flags →
-    ResolutionInvariant words s start (with_met_literals s.nodes (current_level s) (causes_at words s (lit_at s p)) (taken_up (node s (lit_at s p)).reason (lit_at s p) w)) p
+    ResolutionInvariant words s start (with_seen_literals s.nodes (current_level s) (causes_at words s (lit_at s p)) (with_reason_used (node s (lit_at s p)).reason (lit_at s p) w)) p
 resolved words s start w p at can r two h b =
     let l : ℕ = lit_at s p in
     let t : Taken words s w p at = taken words s w p at can r.marks two h b in
-    let w1 : Work = taken_up (node s l).reason l w in
+    let w1 : AnalysisState = with_reason_used (node s l).reason l w in
     let rs : List ℕ = causes_at words s l in
-    let m : Met s (current_level s) p rs w1 (with_met_literals s.nodes (current_level s) rs w1) =
+    let m : Met s (current_level s) p rs w1 (with_seen_literals s.nodes (current_level s) rs w1) =
     met_all s (current_level s) p rs w1 can.agrees (λ k lt. can.before p k t.first t.within lt) t.marks in
     let forth : (q : ℕ) → IsCovered s (current_level s) w at q → IsCovered s (current_level s) w1 p q = λ q c. taken_covered s (current_level s) w (node s l).reason p at q can.agrees r.marks.within h c in
     record {
       marks = m.marks;
       some = omega (arith, m.pending);
       none = m.core ∙ r.none;
-      uses = uses_next words s (current_level s) w w1 (with_met_literals s.nodes (current_level s) rs w1) p at can r.uses h.before t.within refl m forth can.above (omega (arith, t.top)) t.caused;
+      uses = uses_next words s (current_level s) w w1 (with_seen_literals s.nodes (current_level s) rs w1) p at can r.uses h.before t.within refl m forth can.above (omega (arith, t.top)) t.caused;
       start = λ k lt. m.kept (get_or start k 0) (forth (get_or start k 0) (r.start k lt));
     }

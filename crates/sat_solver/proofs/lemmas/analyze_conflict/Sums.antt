@@ -5,7 +5,7 @@ use Rattle.std.proofs.lemmas.List.{length_push}
 use Rattle.sat_base.specs.values.Literals.{variable, negated}
 use Rattle.sat_parts.specs.declared.prop.graph.ImplNode.{ImplNode}
 use Rattle.sat_parts.specs.prop.Graphs.{node_of}
-use Rattle.sat_solver.specs.analyze_conflict.Work.{Work}
+use Rattle.sat_solver.specs.analyze_conflict.AnalysisState.{AnalysisState}
 use Rattle.sat_solver.specs.analyze_conflict.Minimal.{marked, Followed, can_follow, is_settled, followed, unset}
 
 unset_set : (flags : List Bool) (v : ℕ) → v < length flags → get_or flags v false ≡ false → unset (set flags v true) + 1 ≡ unset flags
@@ -14,13 +14,13 @@ unset_set (b ∷ bs) zero lt e = let one : cond {A = ℕ} b 0 1 ≡ 1 = ap (λ (
 unset_set (b ∷ bs) (suc v) lt e = omega (arith, unset_set bs v (omega arith) e)
 
 -- the number of flags that aren't set plus the number of used literals
-abbrev pub total : Work → ℕ
+abbrev pub total : AnalysisState → ℕ
 total w = unset w.flags + length w.used
 
-marked_total : (r : ℕ) (w : Work) → variable r < length w.flags → get_or w.flags (variable r) false ≡ false → total (marked r w) ≡ total w
+marked_total : (r : ℕ) (w : AnalysisState) → variable r < length w.flags → get_or w.flags (variable r) false ≡ false → total (marked r w) ≡ total w
 marked_total r w lt e = omega (arith, unset_set w.flags (variable r) lt e, length_push w.used (negated r))
 
-pub followed_total : (nodes : List ImplNode) (filter : ℕ) (rs : List ℕ) (w : Work) → ((k : ℕ) → k < length rs → variable (get_or rs k 0) < length w.flags) → total (followed nodes filter rs w).work ≡ total w
+pub followed_total : (nodes : List ImplNode) (filter : ℕ) (rs : List ℕ) (w : AnalysisState) → ((k : ℕ) → k < length rs → variable (get_or rs k 0) < length w.flags) → total (followed nodes filter rs w).work ≡ total w
 followed_total nodes filter [] w h = refl
 followed_total nodes filter (r ∷ rs) w h =
     let stop : Followed = record { work = w; whole = false } in

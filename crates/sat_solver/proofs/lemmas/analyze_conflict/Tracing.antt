@@ -8,13 +8,13 @@ use Rattle.sat_base.specs.values.Literals.{variable, negated}
 use Rattle.sat_parts.specs.clause.Glue.{AreClear}
 use Rattle.sat_parts.specs.clause.Orders.{AreDistinct}
 use Rattle.sat_parts.specs.prop.Causes.{causes}
-use Rattle.sat_parts.specs.prop.Graphs.{is_unit_reason, node_of}
+use Rattle.sat_parts.specs.prop.Graphs.{has_no_clause, node_of}
 use Rattle.sat_parts.specs.prop.Reasons.{IsFalseBefore}
 use Rattle.sat_parts.specs.prop.Values.{IsTrueLit, IsFalseLit}
-use Rattle.sat_parts.specs.prop.State.{State, node, level, current_level, lit_at, IsBefore, StateIsConsistent}
+use Rattle.sat_parts.specs.prop.State.{PropagationState, node, level, current_level, lit_at, IsBefore, StateIsConsistent}
 use Rattle.sat_parts.proofs.lemmas.clause.ListLemmas.{at_place, place_in, in_head, in_tail, there}
 use Rattle.sat_parts.proofs.lemmas.prop.StateLemmas.{negated_variable, negated_twice, true_from_false, not_both, level_low}
-use Rattle.sat_solver.specs.analyze_conflict.Work.{Work, with_met_literals, passed_by, taken_up, with_chosen, begun_core}
+use Rattle.sat_solver.specs.analyze_conflict.AnalysisState.{AnalysisState, with_seen_literals, unflagged, with_reason_used, with_core_literal, begun_core}
 use Rattle.sat_solver.specs.analyze_conflict.Marks.{causes_at, CanAnalyze, MarksWork, IsCovered, covered_unit, covered_clause, covered_reason, covered_core, covered_open, IsReasoned, depth}
 use Rattle.sat_solver.specs.analyze_conflict.Derivation.{clause_of, HasKnownCause, grounded_unit, grounded_clause, grounded_reason}
 use Rattle.sat_solver.specs.analyze_conflict.Minimal.{used_up}
@@ -25,36 +25,36 @@ use Rattle.sat_solver.proofs.lemmas.analyze_conflict.Resolution.{IsLastFlagged, 
 use Rattle.sat_solver.proofs.lemmas.analyze_conflict.Ends.{begun_marks, distinct_by_depth}
 
 -- the negation of a false literal above level 0 is on the trail
-pub negation_before : (s : State) (l : ℕ) → StateIsConsistent s → IsFalseLit s.values l → 0 < level s l → IsBefore s (length s.trail.lits) (negated l)
+pub negation_before : (s : PropagationState) (l : ℕ) → StateIsConsistent s → IsFalseLit s.values l → 0 < level s l → IsBefore s (length s.trail.lits) (negated l)
 negation_before s l a f above = elim (a.known (negated l) (true_from_false s.values l f)) [
   | inl b ↦ b
   | inr x ↦ absurd (omega (arith, x.bottom, level_by_variable s (negated l) l (negated_variable l)))
 ]
 
 -- its position is its depth minus 1
-pub place_by_depth : (s : State) (l : ℕ) → StateIsConsistent s → IsFalseLit s.values l → 0 < level s l → (b : IsBefore s (length s.trail.lits) (negated l)) → b.place ≡ depth s l - 1
+pub place_by_depth : (s : PropagationState) (l : ℕ) → StateIsConsistent s → IsFalseLit s.values l → 0 < level s l → (b : IsBefore s (length s.trail.lits) (negated l)) → b.place ≡ depth s l - 1
 place_by_depth s l a f above b =
     omega (arith, a.depths b.place b.within, ap (λ z. depth s z) b.there, ap (λ v. (node_of s.nodes v).depth) (negated_variable l))
 
 -- if literals are resolved from level 1 on, the clause is empty
-pub no_clause : (s : State) (w : Work) (at : ℕ) → MarksWork s 1 w at → length w.clause ≡ 0
+pub no_clause : (s : PropagationState) (w : AnalysisState) (at : ℕ) → MarksWork s 1 w at → length w.clause ≡ 0
 no_clause s w at m = elim (cases_eq (length w.clause) 0) [
   | inl e ↦ e
   | inr n ↦ absurd (omega (arith, (m.lower 0 (omega arith)).above, (m.lower 0 (omega arith)).below))
 ]
 
 -- the causes of a literal were false before its position
-before_here : (words : List ℕ) (s : State) (p : ℕ) (rs : List ℕ) → CanAnalyze words s → get_or s.trail.starts 0 0 ≤ p → p < length s.trail.lits → causes_at words s (lit_at s p) ≡ rs → (k : ℕ) → k < length rs → IsFalseBefore s p (get_or rs k 0)
+before_here : (words : List ℕ) (s : PropagationState) (p : ℕ) (rs : List ℕ) → CanAnalyze words s → get_or s.trail.starts 0 0 ≤ p → p < length s.trail.lits → causes_at words s (lit_at s p) ≡ rs → (k : ℕ) → k < length rs → IsFalseBefore s p (get_or rs k 0)
 before_here words s p rs can first within e k lt =
     subst (λ (ls : List ℕ). IsFalseBefore s p (get_or ls k 0)) e (can.before p k first within (subst (λ (ls : List ℕ). k < length ls) (sym e) lt))
 
 -- the invariant holds after the reason of the failed assumption was used
-pub traced_first : (words : List ℕ) (s : State) (failed p : ℕ) (w : Work) → CanAnalyze words s → AreClear w.flags → length w.flags ≡ length s.values → p < length s.trail.lits → lit_at s p ≡ negated failed → 0 < level s failed →
-    is_unit_reason (node s failed).reason ≡ false → TraceInvariant words s failed (with_met_literals s.nodes 1 (causes_at words s failed) (used_up (negated failed) (begun_core failed w))) p
+pub traced_first : (words : List ℕ) (s : PropagationState) (failed p : ℕ) (w : AnalysisState) → CanAnalyze words s → AreClear w.flags → length w.flags ≡ length s.values → p < length s.trail.lits → lit_at s p ≡ negated failed → 0 < level s failed →
+    has_no_clause (node s failed).reason ≡ false → TraceInvariant words s failed (with_seen_literals s.nodes 1 (causes_at words s failed) (used_up (negated failed) (begun_core failed w))) p
 traced_first words s failed p w can clear size within there above caused =
-    let w1 : Work = used_up (negated failed) (begun_core failed w) in
+    let w1 : AnalysisState = used_up (negated failed) (begun_core failed w) in
     let rs : List ℕ = causes_at words s failed in
-    let w2 : Work = with_met_literals s.nodes 1 rs w1 in
+    let w2 : AnalysisState = with_seen_literals s.nodes 1 rs w1 in
     let v_is : variable (lit_at s p) ≡ variable failed = ap (λ z. variable z) there ∙ negated_variable failed in
     let up : level s (lit_at s p) ≡ level s failed = level_by_variable s (lit_at s p) failed v_is in
     let first : get_or s.trail.starts 0 0 ≤ p = above_first s p (lit_at s p) can.agrees within refl (omega (arith, up)) can.above in
@@ -70,7 +70,7 @@ traced_first words s failed p w can clear size within there above caused =
             let e : k ≡ 0 = omega arith in
             let is : get_or w2.used k 0 ≡ negated failed = ap (λ z. get_or w2.used z 0) e ∙ head in
             subst (λ z. IsReasoned s p z × (1 ≤ level s z)) (there ∙ sym is)
-            (record { place = p; from = omega arith; within = within; there = refl; above = omega (arith, up); caused = ap (λ v. is_unit_reason (node_of s.nodes v).reason) v_is ∙ caused }, omega (arith, up));
+            (record { place = p; from = omega arith; within = within; there = refl; above = omega (arith, up); caused = ap (λ v. has_no_clause (node_of s.nodes v).reason) v_is ∙ caused }, omega (arith, up));
         falling = λ j k a lt. absurd (omega arith);
         causes = λ k lt.
             let e : k ≡ 0 = omega arith in
@@ -88,13 +88,13 @@ traced_first words s failed p w can clear size within there above caused =
     }
 
 -- what is known of the last flagged literal
-pub record Reached (words : List ℕ) (s : State) (w : Work) (p at : ℕ) : Type 0 where
+pub record Reached (words : List ℕ) (s : PropagationState) (w : AnalysisState) (p at : ℕ) : Type 0 where
   pub within : p < length s.trail.lits
   pub above : 0 < level s (lit_at s p)
   pub first : get_or s.trail.starts 0 0 ≤ p
-  pub marks : MarksWork s 1 (passed_by (lit_at s p) w) p
+  pub marks : MarksWork s 1 (unflagged (lit_at s p) w) p
 
-pub reached : (words : List ℕ) (s : State) (w : Work) (p at : ℕ) → CanAnalyze words s → MarksWork s 1 w at → 0 < w.pending → IsLastFlagged s w.flags p at → variable (lit_at s p) < length w.flags → Reached words s w p at
+pub reached : (words : List ℕ) (s : PropagationState) (w : AnalysisState) (p at : ℕ) → CanAnalyze words s → MarksWork s 1 w at → 0 < w.pending → IsLastFlagged s w.flags p at → variable (lit_at s p) < length w.flags → Reached words s w p at
 reached words s w p at can m some h b =
     let within : p < length s.trail.lits = omega (arith, h.before, m.within) in
     let high : 1 ≤ level s (lit_at s p) = last_high s 1 w.flags p at can.agrees m.within h (open_some s 1 w.flags at (omega (arith, m.counted))) in
@@ -105,7 +105,7 @@ reached words s w p at can m some h b =
       marks = marks_passed s 1 w p at can.agrees m h high b;
     }
 
-from_earlier : (s : State) (failed : ℕ) (core : List ℕ) (p at : ℕ) → p ≤ at → IsCoreFrom s failed core at → IsCoreFrom s failed core p
+from_earlier : (s : PropagationState) (failed : ℕ) (core : List ℕ) (p at : ℕ) → p ≤ at → IsCoreFrom s failed core at → IsCoreFrom s failed core p
 from_earlier s failed core p at le h = record {
   some = h.some;
   first = h.first;
@@ -119,15 +119,15 @@ head_kept : (xs : List ℕ) (x h : ℕ) → 0 < length xs → get_or xs 0 0 ≡ 
 head_kept xs x h lt e = get_or_append_left xs (x ∷ []) 0 0 lt ∙ e
 
 -- the last flagged literal has a clause as its reason, which is used
-pub traced_used : (words : List ℕ) (s : State) (failed : ℕ) (w : Work) (p at : ℕ) → CanAnalyze words s → TraceInvariant words s failed w at → 0 < w.pending → IsLastFlagged s w.flags p at → variable (lit_at s p) < length w.flags →
-    is_unit_reason (node s (lit_at s p)).reason ≡ false →
-    TraceInvariant words s failed (with_met_literals s.nodes 1 (causes_at words s (lit_at s p)) (taken_up (node s (lit_at s p)).reason (lit_at s p) w)) p
+pub traced_used : (words : List ℕ) (s : PropagationState) (failed : ℕ) (w : AnalysisState) (p at : ℕ) → CanAnalyze words s → TraceInvariant words s failed w at → 0 < w.pending → IsLastFlagged s w.flags p at → variable (lit_at s p) < length w.flags →
+    has_no_clause (node s (lit_at s p)).reason ≡ false →
+    TraceInvariant words s failed (with_seen_literals s.nodes 1 (causes_at words s (lit_at s p)) (with_reason_used (node s (lit_at s p)).reason (lit_at s p) w)) p
 traced_used words s failed w p at can h some last b caused =
     let l : ℕ = lit_at s p in
     let t : Reached words s w p at = reached words s w p at can h.marks some last b in
-    let w1 : Work = taken_up (node s l).reason l w in
+    let w1 : AnalysisState = with_reason_used (node s l).reason l w in
     let rs : List ℕ = causes_at words s l in
-    let w2 : Work = with_met_literals s.nodes 1 rs w1 in
+    let w2 : AnalysisState = with_seen_literals s.nodes 1 rs w1 in
     let marks : MarksWork s 1 w1 p = record { size = t.marks.size; within = t.marks.within; flagged = t.marks.flagged; lower = t.marks.lower; distinct = t.marks.distinct; counted = t.marks.counted } in
     let m : Met s 1 p rs w1 w2 = met_all s 1 p rs w1 can.agrees (λ k lt. can.before p k t.first t.within lt) marks in
     let forth : (q : ℕ) → IsCovered s 1 w at q → IsCovered s 1 w1 p q = λ q c. taken_covered s 1 w (node s l).reason p at q can.agrees h.marks.within last c in
@@ -140,7 +140,7 @@ traced_used words s failed w p at can h some last b caused =
       head = ap (λ (xs : List ℕ). get_or xs 0 0) m.used ∙ head_kept w.used l (negated failed) h.some h.head;
     }
 
-chosen_covered : (s : State) (w : Work) (p at r : ℕ) → StateIsConsistent s → at ≤ length s.trail.lits → IsLastFlagged s w.flags p at → IsCovered s 1 w at r → IsCovered s 1 (with_chosen (lit_at s p) w) p r
+chosen_covered : (s : PropagationState) (w : AnalysisState) (p at r : ℕ) → StateIsConsistent s → at ≤ length s.trail.lits → IsLastFlagged s w.flags p at → IsCovered s 1 w at r → IsCovered s 1 (with_core_literal (lit_at s p) w) p r
 chosen_covered s w p at r a le h (covered_unit z) = covered_unit z
 chosen_covered s w p at r a le h (covered_clause c) = covered_clause c
 chosen_covered s w p at r a le h (covered_reason c) = covered_reason c
@@ -151,8 +151,8 @@ chosen_covered s w p at r a le h (covered_open x) = elim (passed_waiting s 1 w p
 ]
 
 -- the last flagged literal is a decision, which is added to the core
-pub traced_chosen : (words : List ℕ) (s : State) (failed : ℕ) (w : Work) (p at : ℕ) → CanAnalyze words s → TraceInvariant words s failed w at → 0 < w.pending → IsLastFlagged s w.flags p at → variable (lit_at s p) < length w.flags →
-    is_unit_reason (node s (lit_at s p)).reason ≡ true → TraceInvariant words s failed (with_chosen (lit_at s p) w) p
+pub traced_chosen : (words : List ℕ) (s : PropagationState) (failed : ℕ) (w : AnalysisState) (p at : ℕ) → CanAnalyze words s → TraceInvariant words s failed w at → 0 < w.pending → IsLastFlagged s w.flags p at → variable (lit_at s p) < length w.flags →
+    has_no_clause (node s (lit_at s p)).reason ≡ true → TraceInvariant words s failed (with_core_literal (lit_at s p) w) p
 traced_chosen words s failed w p at can h some last b free =
     let l : ℕ = lit_at s p in
     let t : Reached words s w p at = reached words s w p at can h.marks some last b in
@@ -207,7 +207,7 @@ negation_out (x ∷ xs) r c = elim (cases_eq (negated x) r) [
   | inr n ↦ in_tail x xs (negated r) (negation_out xs r (there (negated x) (map negated xs) r n c))
 ]
 
-core_distinct : (s : State) (failed : ℕ) (core : List ℕ) → StateIsConsistent s → IsFalseLit s.values failed → IsCoreFrom s failed core 0 → AreDistinct core
+core_distinct : (s : PropagationState) (failed : ℕ) (core : List ℕ) → StateIsConsistent s → IsFalseLit s.values failed → IsCoreFrom s failed core 0 → AreDistinct core
 core_distinct s failed core a f h j k p q e = elim (cases_eq j k) [
   | inl x ↦ x
   | inr n ↦ elim (cases_eq j 0) [
@@ -228,7 +228,7 @@ core_distinct s failed core a f h j k p q e = elim (cases_eq j k) [
         not_both s.values failed (subst (λ z. IsTrueLit s.values z) (x.there ∙ is) (a.holds x.place x.within)) f
 
 -- the result once no literal is left to be resolved
-pub traced_end : (words : List ℕ) (s : State) (failed : ℕ) (w : Work) (at : ℕ) → CanAnalyze words s → IsFalseLit s.values failed → TraceInvariant words s failed w at → w.pending ≡ 0 → TraceResult words s failed w
+pub traced_end : (words : List ℕ) (s : PropagationState) (failed : ℕ) (w : AnalysisState) (at : ℕ) → CanAnalyze words s → IsFalseLit s.values failed → TraceInvariant words s failed w at → w.pending ≡ 0 → TraceResult words s failed w
 traced_end words s failed w at can f h done =
     let a : StateIsConsistent s = can.agrees in
     let lits : IsCoreFrom s failed w.core 0 = from_earlier s failed w.core 0 at (omega arith) h.lits in
@@ -270,7 +270,7 @@ traced_end words s failed w at can f h done =
       head = h.head;
     }
   where
-    end_grounded : (s : State) (w : Work) (at r : ℕ) → MarksWork s 1 w at → w.pending ≡ 0 → IsCovered s 1 w at r → HasKnownCause s (map negated w.core) w.used r
+    end_grounded : (s : PropagationState) (w : AnalysisState) (at r : ℕ) → MarksWork s 1 w at → w.pending ≡ 0 → IsCovered s 1 w at r → HasKnownCause s (map negated w.core) w.used r
     end_grounded s w at r m done (covered_unit z) = grounded_unit z
     end_grounded s w at r m done (covered_clause c) = absurd (omega (arith, c.1, no_clause s w at m))
     end_grounded s w at r m done (covered_reason c) = grounded_reason c
@@ -279,7 +279,7 @@ traced_end words s failed w at can f h done =
         let v_is : variable (lit_at s x.before.place) ≡ variable r = ap (λ z. variable z) x.before.there ∙ negated_variable r in
         absurd (open_no s 1 w.flags at x.before.place (sym m.counted ∙ done) x.before.before (ap (λ z. get_or w.flags z false) v_is ∙ x.flagged) (omega (arith, level_by_variable s (lit_at s x.before.place) r v_is, x.high)))
 
-    start_ground : (words : List ℕ) (s : State) (failed : ℕ) (w : Work) (at : ℕ) → TraceInvariant words s failed w at → ((q : ℕ) → IsCovered s 1 w at q → HasKnownCause s (map negated w.core) w.used q) → Contains w.core failed →
+    start_ground : (words : List ℕ) (s : PropagationState) (failed : ℕ) (w : AnalysisState) (at : ℕ) → TraceInvariant words s failed w at → ((q : ℕ) → IsCovered s 1 w at q → HasKnownCause s (map negated w.core) w.used q) → Contains w.core failed →
         (i : ℕ) → i < length (clause_of words s (negated failed)) → HasKnownCause s (map negated w.core) w.used (get_or (clause_of words s (negated failed)) i 0)
     start_ground words s failed w at h ground in_core zero lt = grounded_clause (negation_in w.core (negated failed) (subst (λ z. Contains w.core z) (sym (negated_twice failed)) in_core))
     start_ground words s failed w at h ground in_core (suc i) lt =
@@ -287,13 +287,13 @@ traced_end words s failed w at can f h done =
         (subst (λ z. (j : ℕ) → j < length (causes_at words s z) → IsCovered s 1 w at (get_or (causes_at words s z) j 0)) h.head (h.uses.causes 0 h.some) i (omega arith))
 
 -- the position of the negated assumption on the trail
-pub record Found (words : List ℕ) (s : State) (failed p : ℕ) : Type 0 where
+pub record Found (words : List ℕ) (s : PropagationState) (failed p : ℕ) : Type 0 where
   pub within : p < length s.trail.lits
   pub there : lit_at s p ≡ negated failed
   pub first : get_or s.trail.starts 0 0 ≤ p
   pub node_is : node s failed ≡ node s (lit_at s p)
 
-pub found : (words : List ℕ) (s : State) (failed : ℕ) → CanAnalyze words s → IsFalseLit s.values failed → 0 < level s failed → Found words s failed (depth s failed - 1)
+pub found : (words : List ℕ) (s : PropagationState) (failed : ℕ) → CanAnalyze words s → IsFalseLit s.values failed → 0 < level s failed → Found words s failed (depth s failed - 1)
 found words s failed can f above =
     let b : IsBefore s (length s.trail.lits) (negated failed) = negation_before s failed can.agrees f above in
     let e : b.place ≡ depth s failed - 1 = place_by_depth s failed can.agrees f above b in
@@ -306,5 +306,5 @@ found words s failed can f above =
     })
 
 -- if a literal above level 0 is false, some level is open
-pub some_level : (s : State) (l : ℕ) → StateIsConsistent s → IsFalseLit s.values l → 0 < level s l → 0 < current_level s
+pub some_level : (s : PropagationState) (l : ℕ) → StateIsConsistent s → IsFalseLit s.values l → 0 < level s l → 0 < current_level s
 some_level s l a f above = omega (arith, level_low s (negated l) a (true_from_false s.values l f), level_by_variable s (negated l) l (negated_variable l))

@@ -7,7 +7,7 @@ use Rattle.sat_base.specs.values.Hashes.{hash_of, literal_hash}
 use Rattle.sat_base.specs.values.Literals.{variable}
 use Rattle.sat_parts.specs.clause.Glue.{HaveNodes}
 use Rattle.sat_parts.specs.declared.prop.graph.ImplNode.{ImplNode}
-use Rattle.sat_solver.specs.analyze_conflict.Work.{Work, with_met_literals, with_met_literal}
+use Rattle.sat_solver.specs.analyze_conflict.AnalysisState.{AnalysisState, with_seen_literals, with_seen_literal}
 use Rattle.sat_solver.specs.analyze_conflict.Minimal.{Followed, followed, is_settled, can_follow, marked}
 
 pub nodes_first : (nodes : List ImplNode) (xs ys : List ℕ) → HaveNodes nodes (xs ++ ys) → HaveNodes nodes xs
@@ -23,19 +23,19 @@ nodes_second nodes xs ys h k lt =
     let b = h (length xs + k) (omega (arith, length-append xs ys)) in
     omega (arith, same, b)
 
-pub with_both : (nodes : List ImplNode) (top : ℕ) (xs ys : List ℕ) (w : Work) → with_met_literals nodes top (xs ++ ys) w ≡ with_met_literals nodes top ys (with_met_literals nodes top xs w)
+pub with_both : (nodes : List ImplNode) (top : ℕ) (xs ys : List ℕ) (w : AnalysisState) → with_seen_literals nodes top (xs ++ ys) w ≡ with_seen_literals nodes top ys (with_seen_literals nodes top xs w)
 with_both nodes top [] ys w = refl
-with_both nodes top (x ∷ xs) ys w = with_both nodes top xs ys (with_met_literal nodes top x w)
+with_both nodes top (x ∷ xs) ys w = with_both nodes top xs ys (with_seen_literal nodes top x w)
 
 pub hash_both : (xs ys : List ℕ) → hash_of (xs ++ ys) ≡ bit_xor (hash_of xs) (hash_of ys)
 hash_both [] ys = sym (xor_zero_l (hash_of ys))
 hash_both (x ∷ xs) ys = ap (bit_xor (literal_hash x)) (hash_both xs ys) ∙ sym (xor_assoc (literal_hash x) (hash_of xs) (hash_of ys))
 
-abbrev done : Work → Bool → Followed
+abbrev done : AnalysisState → Bool → Followed
 done w b = record { work = w; whole = b }
 
 -- if the first literal may follow, the rest is followed after it
-follows_one : (nodes : List ImplNode) (filter r : ℕ) (rs : List ℕ) (w v : Work) → followed nodes filter (r ∷ []) w ≡ done v true → followed nodes filter (r ∷ rs) w ≡ followed nodes filter rs v
+follows_one : (nodes : List ImplNode) (filter r : ℕ) (rs : List ℕ) (w v : AnalysisState) → followed nodes filter (r ∷ []) w ≡ done v true → followed nodes filter (r ∷ rs) w ≡ followed nodes filter rs v
 follows_one nodes filter r rs w v e = go (is_settled nodes r w) (can_follow nodes filter r) e
   where
     go : (settled can : Bool) → ◌≡◌ {A = Followed} (cond settled (done w true) (cond can (done (marked r w) true) (done w false))) (done v true) →
@@ -45,7 +45,7 @@ follows_one nodes filter r rs w v e = go (is_settled nodes r w) (can_follow node
     go false false e = absurd (true≢false (sym (ap (λ (f : Followed). f.whole) e)))
 
 -- if the first literal may not follow, following stops there
-follows_none : (nodes : List ImplNode) (filter r : ℕ) (rs : List ℕ) (w v : Work) → followed nodes filter (r ∷ []) w ≡ done v false → followed nodes filter (r ∷ rs) w ≡ done v false
+follows_none : (nodes : List ImplNode) (filter r : ℕ) (rs : List ℕ) (w v : AnalysisState) → followed nodes filter (r ∷ []) w ≡ done v false → followed nodes filter (r ∷ rs) w ≡ done v false
 follows_none nodes filter r rs w v e = go (is_settled nodes r w) (can_follow nodes filter r) e
   where
     go : (settled can : Bool) → ◌≡◌ {A = Followed} (cond settled (done w true) (cond can (done (marked r w) true) (done w false))) (done v false) →
@@ -55,36 +55,36 @@ follows_none nodes filter r rs w v e = go (is_settled nodes r w) (can_follow nod
     go false false e = e
 
 -- the first part is followed, then the second
-followed_both : (nodes : List ImplNode) (filter : ℕ) (xs ys : List ℕ) (w v : Work) → followed nodes filter xs w ≡ done v true → followed nodes filter (xs ++ ys) w ≡ followed nodes filter ys v
+followed_both : (nodes : List ImplNode) (filter : ℕ) (xs ys : List ℕ) (w v : AnalysisState) → followed nodes filter xs w ≡ done v true → followed nodes filter (xs ++ ys) w ≡ followed nodes filter ys v
 followed_both nodes filter [] ys w v e = ap (λ (f : Followed). followed nodes filter ys f.work) e
 followed_both nodes filter (x ∷ xs) ys w v e = go (is_settled nodes x w) (can_follow nodes filter x) (λ u. followed_both nodes filter xs ys u v) e
   where
-    go : (settled can : Bool) → ((u : Work) → followed nodes filter xs u ≡ done v true → followed nodes filter (xs ++ ys) u ≡ followed nodes filter ys v) →
+    go : (settled can : Bool) → ((u : AnalysisState) → followed nodes filter xs u ≡ done v true → followed nodes filter (xs ++ ys) u ≡ followed nodes filter ys v) →
         ◌≡◌ {A = Followed} (cond settled (followed nodes filter xs w) (cond can (followed nodes filter xs (marked x w)) (done w false))) (done v true) →
         ◌≡◌ {A = Followed} (cond settled (followed nodes filter (xs ++ ys) w) (cond can (followed nodes filter (xs ++ ys) (marked x w)) (done w false))) (followed nodes filter ys v)
     go true can ih e = ih w e
     go false true ih e = ih (marked x w) e
     go false false ih e = absurd (true≢false (sym (ap (λ (f : Followed). f.whole) e)))
 
-followed_first : (nodes : List ImplNode) (filter : ℕ) (xs ys : List ℕ) (w v : Work) → followed nodes filter xs w ≡ done v false → followed nodes filter (xs ++ ys) w ≡ done v false
+followed_first : (nodes : List ImplNode) (filter : ℕ) (xs ys : List ℕ) (w v : AnalysisState) → followed nodes filter xs w ≡ done v false → followed nodes filter (xs ++ ys) w ≡ done v false
 followed_first nodes filter [] ys w v e = absurd (true≢false (ap (λ (f : Followed). f.whole) e))
 followed_first nodes filter (x ∷ xs) ys w v e = go (is_settled nodes x w) (can_follow nodes filter x) (λ u. followed_first nodes filter xs ys u v) e
   where
-    go : (settled can : Bool) → ((u : Work) → followed nodes filter xs u ≡ done v false → followed nodes filter (xs ++ ys) u ≡ done v false) →
+    go : (settled can : Bool) → ((u : AnalysisState) → followed nodes filter xs u ≡ done v false → followed nodes filter (xs ++ ys) u ≡ done v false) →
         ◌≡◌ {A = Followed} (cond settled (followed nodes filter xs w) (cond can (followed nodes filter xs (marked x w)) (done w false))) (done v false) →
         ◌≡◌ {A = Followed} (cond settled (followed nodes filter (xs ++ ys) w) (cond can (followed nodes filter (xs ++ ys) (marked x w)) (done w false))) (done v false)
     go true can ih e = ih w e
     go false true ih e = ih (marked x w) e
     go false false ih e = e
 
-module _ (nodes : List ImplNode) (filter : ℕ) (own long ls : List ℕ) (w v : Work) (b : Bool) (both : own ++ long ≡ ls) (first : followed nodes filter own w ≡ done v b) where
+module _ (nodes : List ImplNode) (filter : ℕ) (own long ls : List ℕ) (w v : AnalysisState) (b : Bool) (both : own ++ long ≡ ls) (first : followed nodes filter own w ≡ done v b) where
   pub followed_stops : b ≡ false → followed nodes filter ls w ≡ done v false
   followed_stops e = ap (λ (xs : List ℕ). followed nodes filter xs w) (sym both) ∙ followed_first nodes filter own long w v (first ∙ ap (done v) e)
 
   pub followed_goes : b ≡ true → followed nodes filter ls w ≡ followed nodes filter long v
   followed_goes e = ap (λ (xs : List ℕ). followed nodes filter xs w) (sym both) ∙ followed_both nodes filter own long w v (first ∙ ap (done v) e)
 
-module _ (nodes : List ImplNode) (filter : ℕ) (ls : List ℕ) (at : ℕ) (w v : Work) where
+module _ (nodes : List ImplNode) (filter : ℕ) (ls : List ℕ) (at : ℕ) (w v : AnalysisState) where
   here : at < length ls → followed nodes filter (drop at ls) w ≡ followed nodes filter (get_or ls at 0 ∷ drop (at + 1) ls) w
   here lt = ap (λ (xs : List ℕ). followed nodes filter xs w) (drop_more ls at 0 lt)
 
@@ -98,5 +98,5 @@ module _ (nodes : List ImplNode) (filter : ℕ) (ls : List ℕ) (at : ℕ) (w v 
     follows_end e = here lt ∙ ap (λ r. followed nodes filter (r ∷ drop (at + 1) ls) w) (sym is) ∙ follows_none nodes filter l (drop (at + 1) ls) w v (one ∙ ap (done v) e)
 
 -- no literal is left
-pub follows_all : (nodes : List ImplNode) (filter : ℕ) (ls : List ℕ) (at : ℕ) (w : Work) → length ls ≤ at → followed nodes filter (drop at ls) w ≡ done w true
+pub follows_all : (nodes : List ImplNode) (filter : ℕ) (ls : List ℕ) (at : ℕ) (w : AnalysisState) → length ls ≤ at → followed nodes filter (drop at ls) w ≡ done w true
 follows_all nodes filter ls at w le = ap (λ (xs : List ℕ). followed nodes filter xs w) (drop_all at ls le)

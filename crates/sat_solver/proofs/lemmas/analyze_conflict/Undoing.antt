@@ -3,7 +3,7 @@ use Rattle.std.proofs.Common.{ℕ, ◌≡◌, ◌+◌, ◌<◌, ◌≤◌, ◌�
 use Rattle.std.proofs.lemmas.Bool.{cases_eq, cases_lt, cases_Bool, both_ways}
 use Rattle.std.proofs.lemmas.List.{length_push, take_at, take-take, ext_get_or}
 use Rattle.sat_base.specs.values.Literals.{variable}
-use Rattle.sat_solver.specs.analyze_conflict.Work.{Work}
+use Rattle.sat_solver.specs.analyze_conflict.AnalysisState.{AnalysisState}
 use Rattle.sat_solver.specs.analyze_conflict.Minimal.{MarksMore, used_up, Undoes, SameWork}
 
 abbrev IsNewUseBelow : (used : List ℕ) (from n v : ℕ) → Type 0
@@ -26,7 +26,7 @@ new_use used from (suc n) v le = elim (new_use used from n v (omega arith)) [
   ]
 ]
 
-restored_at : (l : ℕ) (w w' w2 : Work) (v : ℕ) → MarksMore (used_up l w) w' → Undoes (length w.used) w' w2 → get_or w2.flags v false ≡ get_or w.flags v false
+restored_at : (l : ℕ) (w w' w2 : AnalysisState) (v : ℕ) → MarksMore (used_up l w) w' → Undoes (length w.used) w' w2 → get_or w2.flags v false ≡ get_or w.flags v false
 restored_at l w w' w2 v m u =
     let n : length (w.used ++ l ∷ []) ≡ length w.used + 1 = length_push w.used l in
     elim (new_use w'.used (length w.used + 1) (length w'.used) v (omega arith)) [
@@ -45,13 +45,13 @@ restored_at l w w' w2 v m u =
           ]
     ]
 
-pub undone : (l : ℕ) (w w' w2 : Work) → MarksMore (used_up l w) w' → Undoes (length w.used) w' w2 → SameWork w w2
+pub undone : (l : ℕ) (w w' w2 : AnalysisState) → MarksMore (used_up l w) w' → Undoes (length w.used) w' w2 → SameWork w w2
 undone l w w' w2 m u =
     let n : length (w.used ++ l ∷ []) ≡ length w.used + 1 = length_push w.used l in
     record {
       clause = u.clause ∙ m.clause;
-      met = u.met ∙ m.met;
-      involved = u.involved ∙ m.involved;
+      seen = u.seen ∙ m.seen;
+      antecedents = u.antecedents ∙ m.antecedents;
       core = u.core ∙ m.core;
       pending = u.pending ∙ m.pending;
       used = u.used ∙ sym (take-take (length w.used) (length (w.used ++ l ∷ [])) w'.used (omega arith)) ∙ ap (λ (xs : List ℕ). take (length w.used) xs) m.front ∙ take_at w.used (l ∷ []) (length w.used) refl;

@@ -9,7 +9,7 @@ use Rattle.sat_store.specs.clause.Buffer.{IsClause, lits_at}
 use Rattle.sat_checker.specs.declared.processing.ProofProcessor.{Ghosts}
 use Rattle.sat_parts.specs.declared.prop.graph.Reason.TheVariants.{Long}
 use Rattle.sat_parts.specs.clause.Db.{live_refs}
-use Rattle.sat_parts.specs.prop.State.{State, node, lit_at}
+use Rattle.sat_parts.specs.prop.State.{PropagationState, node, lit_at}
 use Rattle.sat_parts.proofs.lemmas.clause.ListLemmas.{place_in, at_place}
 use Rattle.sat_parts.proofs.lemmas.prop.RoomLemmas.{below_from_value}
 use Rattle.sat_solver.specs.session.LiveClauses.{with_var}
@@ -21,28 +21,28 @@ use Rattle.sat_solver.proofs.lemmas.session.ProofLemmas.{adds_none, gains_adds}
 use Rattle.sat_solver.specs.analyze_conflict.Marks.{CanAnalyze, IsReasoned}
 use Rattle.sat_solver.specs.assumptions.Failing.{IsChosen, IsFailedAssumption, fails_bottom, fails_signs, fails_clauses}
 use Rattle.sat_solver.proofs.lemmas.analyze_conflict.Callers.{can_analyze, stands_by}
-use Rattle.sat_parts.specs.declared.parts.Parts.{Parts}
-use Rattle.sat_parts.specs.parts.Whole.{state, PartsInvariant}
+use Rattle.sat_parts.specs.declared.parts.SearchState.{SearchState}
+use Rattle.sat_parts.specs.parts.Whole.{state, SearchStateInvariant}
 use Rattle.sat_parts.specs.parts.Assumed.{AreDecided}
 use Rattle.sat_solver.proofs.lemmas.fits.AnswerParts.{parts_rests}
 use Rattle.sat_solver.specs.declared.error.SolverError.TheVariants as errors
 use Rattle.sat_solver.specs.declared.context.Search.{Search}
 use Rattle.sat_solver.specs.assumptions.Core.{causes_hashes, AreFailed, WritesCoreStep}
-use Rattle.sat_solver.specs.cdcl.Going.{proof_fault}
-use Rattle.sat_solver.specs.cdcl.Joint.{global_in, IsFree, IsSearch, SameVarsAndAssumptions, assumed_indices}
-use Rattle.sat_solver.specs.cdcl.Turns.{IsFailing}
+use Rattle.sat_solver.specs.cdcl.StepEffects.{proof_fault}
+use Rattle.sat_solver.specs.cdcl.Joint.{global_in, IsFree, SearchInvariant, SameVarsAndAssumptions, assumed_indices}
+use Rattle.sat_solver.specs.cdcl.Iterations.{IsFailing}
 use Rattle.sat_solver.proofs.lemmas.cdcl.TurnLemmas.{ready_moved}
 use Rattle.sat_parts.proofs.lemmas.parts.WordSteps.{goes_refl}
 use Rattle.sat_solver.proofs.lemmas.cdcl.GoingLemmas.{check_loss, complaint_kept, went_checked, fault_checked}
 
-pub parts_can : (p : Parts) → PartsInvariant p → 0 < length p.trail.starts → CanAnalyze p.clauses (state p)
+pub parts_can : (p : SearchState) → SearchStateInvariant p → 0 < length p.trail.starts → CanAnalyze p.clauses (state p)
 parts_can p h above =
     can_analyze p.clauses (live_refs p.clauses p.db.refs) p.binary.implied (state p) (length p.assignment.current) h.below.asks.agrees h.below.levelled above h.below.asks.clauses (λ i first lt. h.below.turns i (omega arith) lt)
 
-chosen_assumed : (st : State) (assumed : List ℕ) (l : ℕ) → AreDecided assumed st → IsChosen st 0 l → Contains assumed l
+chosen_assumed : (st : PropagationState) (assumed : List ℕ) (l : ℕ) → AreDecided assumed st → IsChosen st 0 l → Contains assumed l
 chosen_assumed st assumed l decided c = subst (λ m. Contains assumed m) c.there (decided c.place c.within (rw c.there c.above) (rw c.there c.free))
 
-module _ (p : Parts) (assumed : List ℕ) (failed : ℕ) (holds : PartsInvariant p) (failing : IsFailing assumed p failed) where
+module _ (p : SearchState) (assumed : List ℕ) (failed : ℕ) (holds : SearchStateInvariant p) (failing : IsFailing assumed p failed) where
   each : (core : List ℕ) → get_or core 0 0 ≡ failed → ((k : ℕ) → 0 < k → k < length core → IsChosen (state p) 0 (get_or core k 0)) → (k : ℕ) → k < length core → Contains assumed (get_or core k 0)
   each core first chosen k lt = elim (cases_eq k 0) [
     | inl z ↦ subst (λ m. Contains assumed m) (sym first ∙ ap (λ i. get_or core i 0) (sym z)) failing.among
@@ -111,7 +111,7 @@ module _ {W L : Type 0} {G : Ghosts L} (seen : W → Writer) (a b : Proof W L G)
 
   -- the step of the core was written
   pub reports_core : HasAllowedSteps b → (core : List ℕ) → core ≡ map (with_var (global_in c)) c'.analysis.core → (hashes : List ℕ) → hashes ≡ causes_hashes c.parts c'.analysis.used → EmitsChecked seen (FailedAssumptions core hashes ∷ []) a b →
-      IsSearch (session_of a) c → IsFailing c.assumptions.lits.items c.parts c.failed → IsFailedAssumption c.parts.clauses (state c.parts) c.failed c'.analysis.core c'.analysis.used → IsFree c' →
+      SearchInvariant (session_of a) c → IsFailing c.assumptions.lits.items c.parts c.failed → IsFailedAssumption c.parts.clauses (state c.parts) c.failed c'.analysis.core c'.analysis.used → IsFree c' →
       c'.parts ≡ c.parts → c'.globals ≡ c.globals → c'.assumptions ≡ c.assumptions → WritesCoreStep seen (Ok tt) a b c c'
   reports_core keeps core core_is hashes hashes_is adds search failing f free parts globals assumptions = record {
     steps = FailedAssumptions core hashes ∷ [];

@@ -7,7 +7,7 @@ use Rattle.sat_checker.specs.LiteralSets.{is_among, is_tautology, canonical}
 use Rattle.sat_checker.specs.Stored.{Variable}
 use Rattle.sat_solver.specs.session.Session.{Session, with_fact, after, session_after}
 use Rattle.sat_solver.proofs.lemmas.session.Changes.{with_facts, with_sorted, with_live_clause, knowing_literals, session_if}
-use Rattle.sat_solver.specs.cdcl.Going.{is_searched, AreSearched, IsSearched}
+use Rattle.sat_solver.specs.cdcl.StepEffects.{is_searched, AreSearched, IsSearched}
 use Rattle.sat_solver.specs.cdcl.Joint.{SameAssumedAndNames}
 
 -- KINDS OF STEPS

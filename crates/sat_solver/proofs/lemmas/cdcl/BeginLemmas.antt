@@ -2,19 +2,19 @@
 use Rattle.std.proofs.Common.{◌≡◌, [], refl, ap, arith}
 use Rattle.sat_parts.specs.clause.Glue.{AreClear}
 use Rattle.sat_parts.specs.prop.Trails.{Trailed, no_trail}
-use Rattle.sat_parts.specs.prop.State.{State}
-use Rattle.sat_solver.specs.session.Session.{nothing}
+use Rattle.sat_parts.specs.prop.State.{PropagationState}
+use Rattle.sat_solver.specs.session.Session.{empty_session}
 use Rattle.sat_parts.specs.parts.Assumed.{ArePlaced}
-use Rattle.sat_parts.specs.parts.Whole.{state, PartsInvariant}
+use Rattle.sat_parts.specs.parts.Whole.{state, SearchStateInvariant}
 use Rattle.sat_solver.proofs.lemmas.fits.LawLemmas.{nothing_fits}
 use Rattle.sat_solver.specs.declared.context.Search.{Search}
-use Rattle.sat_solver.specs.cdcl.Joint.{global_in, IsSearch}
+use Rattle.sat_solver.specs.cdcl.Joint.{global_in, SearchInvariant}
 
 none_clear : AreClear []
 none_clear k = refl
 
-pub search_begins : (c : Search) → PartsInvariant c.parts → c.parts.db.refs ≡ [] → c.parts.binary.implied ≡ [] → c.parts.trail ≡ no_trail → c.parts.assignment.current ≡ [] → c.globals.items ≡ [] → c.analysis.flags ≡ [] → c.flags.flags.items ≡ [] → c.assumptions.lits.items ≡ [] →
-    ((s : State) → ArePlaced c.assumptions s) → IsSearch nothing c
+pub search_begins : (c : Search) → SearchStateInvariant c.parts → c.parts.db.refs ≡ [] → c.parts.binary.implied ≡ [] → c.parts.trail ≡ no_trail → c.parts.assignment.current ≡ [] → c.globals.items ≡ [] → c.analysis.flags ≡ [] → c.flags.flags.items ≡ [] → c.assumptions.lits.items ≡ [] →
+    ((s : PropagationState) → ArePlaced c.assumptions s) → SearchInvariant empty_session c
 search_begins c holds refs implied trail values globals flags marks lits placed = record {
   valid = record {
     holds = holds;

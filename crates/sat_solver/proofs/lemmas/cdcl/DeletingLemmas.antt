@@ -7,23 +7,23 @@ use Rattle.std.specs.List.{Contains, filter}
 use Rattle.std.specs.List.Sorted.{IsPermutation, IsNonDecreasingBy}
 use Rattle.sat_store.specs.clause.Buffer.{SameClauseAt}
 use Rattle.sat_store.specs.declared.clause.tier.Tier.TheVariants.{Local}
-use Rattle.sat_parts.specs.clause.Db.{live_refs, is_live_of}
+use Rattle.sat_parts.specs.clause.Db.{live_refs, is_live_in_tier}
 use Rattle.sat_parts.proofs.lemmas.clause.ListLemmas.{at_place, in_without}
 use Rattle.sat_parts.proofs.lemmas.prop.BuildLemmas.{live_in}
-use Rattle.sat_parts.specs.declared.parts.Parts.{Parts}
-use Rattle.sat_parts.specs.parts.Frame.{SameSearch, DropsLongClause}
+use Rattle.sat_parts.specs.declared.parts.SearchState.{SearchState}
+use Rattle.sat_parts.specs.parts.Frame.{SameExceptLongClauses, DropsLongClause}
 use Rattle.sat_parts.specs.parts.Reducing.{clause_rank}
 use Rattle.sat_parts.proofs.lemmas.parts.FewerLemmas.{without_there}
 use Rattle.sat_solver.specs.clause.Reduced.{IsReason, DeletesUnlessReason, AreFirstFree, DeletesJustThese, HalvesLocals}
 
-abbrev live : Parts → List ℕ
+abbrev live : SearchState → List ℕ
 live p = live_refs p.clauses p.db.refs
 
-search_trans : (p q r : Parts) → SameSearch p q → SameSearch q r → SameSearch p r
+search_trans : (p q r : SearchState) → SameExceptLongClauses p q → SameExceptLongClauses q r → SameExceptLongClauses p r
 search_trans p q r x y = ((y.0.0 ∙ x.0.0, y.0.1 ∙ x.0.1, y.0.2 ∙ x.0.2), y.1 ∙ x.1, y.2 ∙ x.2)
 
 -- nothing was deleted
-deletes_none : (p : Parts) → ((o : ℕ) → Contains (live p) o → SameClauseAt p.clauses p.clauses o) → DeletesJustThese p p []
+deletes_none : (p : SearchState) → ((o : ℕ) → Contains (live p) o → SameClauseAt p.clauses p.clauses o) → DeletesJustThese p p []
 deletes_none p keeps = record {
   deleted = λ o c. absurd (omega (arith, c.1));
   others = λ o c. inr c;
@@ -32,7 +32,7 @@ deletes_none p keeps = record {
 }
 
 -- one more clause is deleted
-module _ (p q r : Parts) (gone : List ℕ) (o : ℕ) (x : DeletesJustThese p q gone) (here : Contains (live q) o) (d : DropsLongClause q r o) where
+module _ (p q r : SearchState) (gone : List ℕ) (o : ℕ) (x : DeletesJustThese p q gone) (here : Contains (live q) o) (d : DropsLongClause q r o) where
   left_alone : (u : ℕ) → Contains (live r) u → Contains (live q) u × (u ≢ o)
   left_alone u c = in_without o u (live q) (subst (λ os. Contains os u) d.deletes.live c)
 
@@ -66,7 +66,7 @@ module _ (p q r : Parts) (gone : List ℕ) (o : ℕ) (x : DeletesJustThese p q g
   }
 
 -- a clause that is not deleted is a reason only if it was one before
-module _ (p q : Parts) (gone : List ℕ) (o : ℕ) (x : DeletesJustThese p q gone) (here : Contains (live q) o) where
+module _ (p q : SearchState) (gone : List ℕ) (o : ℕ) (x : DeletesJustThese p q gone) (here : Contains (live q) o) where
   reason_before : IsReason q o → IsReason p o
   reason_before h = rw (x.same.0.0, x.same.0.1, (x.stay o here).1.lits) at h
 
@@ -75,15 +75,15 @@ module _ (p q : Parts) (gone : List ℕ) (o : ℕ) (x : DeletesJustThese p q gon
 
 -- The clauses of `list` before `rest` were visited: those in `gone` were deleted, and at most `left` more are deleted
 -- later.
-pub record Halving (p q : Parts) (list rest : List ℕ) (left : ℕ) : Type 0 where
+pub record Halving (p q : SearchState) (list rest : List ℕ) (left : ℕ) : Type 0 where
   pub gone : List ℕ
   pub first : (free : List ℕ) → AreFirstFree p rest left free → AreFirstFree p list (length list / 2) (gone ++ free)
   pub deletes : DeletesJustThese p q gone
 
-pub halving_none : (p : Parts) (list : List ℕ) (left : ℕ) → left ≡ length list / 2 → ((o : ℕ) → Contains (live p) o → SameClauseAt p.clauses p.clauses o) → Halving p p list list left
+pub halving_none : (p : SearchState) (list : List ℕ) (left : ℕ) → left ≡ length list / 2 → ((o : ℕ) → Contains (live p) o → SameClauseAt p.clauses p.clauses o) → Halving p p list list left
 halving_none p list left e keeps = record { gone = []; first = λ free h. rw e at h; deletes = deletes_none p keeps }
 
-pub halving_next : (p q r : Parts) (list rest : List ℕ) (o n left : ℕ) (b : Bool) → Halving p q list (o ∷ rest) (suc n) → Contains (live q) o → DeletesUnlessReason b o q r → left ≡ cond b n (suc n) → Halving p r list rest left
+pub halving_next : (p q r : SearchState) (list rest : List ℕ) (o n left : ℕ) (b : Bool) → Halving p q list (o ∷ rest) (suc n) → Contains (live q) o → DeletesUnlessReason b o q r → left ≡ cond b n (suc n) → Halving p r list rest left
 halving_next p q r list rest o n left true h here t e = record {
   gone = h.gone ++ o ∷ [];
   first = λ free k. subst (λ us. AreFirstFree p list (length list / 2) us) (sym (append_assoc h.gone (o ∷ []) free)) (h.first (o ∷ free) (inr (free_before p q h.gone o h.deletes here t.0, free, refl, rw e at k)));
@@ -95,11 +95,11 @@ halving_next p q r list rest o n left false h here t e = record {
   deletes = rw t.1 h.deletes;
 }
 
-none_free : (p : Parts) (rest : List ℕ) → AreFirstFree p rest 0 []
+none_free : (p : SearchState) (rest : List ℕ) → AreFirstFree p rest 0 []
 none_free p [] = refl
 none_free p (o ∷ rest) = refl
 
-module _ (p q : Parts) (list : List ℕ) (all : IsPermutation (filter (is_live_of p.clauses Local) p.db.refs) list) (rising : IsNonDecreasingBy (clause_rank p.clauses) list) where
+module _ (p q : SearchState) (list : List ℕ) (all : IsPermutation (filter (is_live_in_tier p.clauses Local) p.db.refs) list) (rising : IsNonDecreasingBy (clause_rank p.clauses) list) where
   done : (rest : List ℕ) (left : ℕ) → AreFirstFree p rest left [] → Halving p q list rest left → HalvesLocals p q
   done rest left f h = record {
     locals = list;
@@ -119,7 +119,7 @@ module _ (p q : Parts) (list : List ℕ) (all : IsPermutation (filter (is_live_o
   halved_all rest left e h = done rest left (rw e refl) h
 
 -- one more clause of the list was visited
-pub halving_step : (p q r : Parts) (list : List ℕ) (at o left later : ℕ) (b : Bool) → Halving p q list (drop at list) left → at < length list → o ≡ get_or list at 0 → 0 < left → Contains (live q) o → DeletesUnlessReason b o q r → later ≡ cond b (left - 1) left →
+pub halving_step : (p q r : SearchState) (list : List ℕ) (at o left later : ℕ) (b : Bool) → Halving p q list (drop at list) left → at < length list → o ≡ get_or list at 0 → 0 < left → Contains (live q) o → DeletesUnlessReason b o q r → later ≡ cond b (left - 1) left →
     Halving p r list (drop (at + 1) list) later
 halving_step p q r list at o zero later b h lt here some c t e = absurd (omega arith)
 halving_step p q r list at o (suc n) later b h lt here some c t e =

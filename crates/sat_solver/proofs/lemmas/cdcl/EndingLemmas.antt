@@ -9,8 +9,8 @@ use Rattle.sat_solver.specs.proof.ProofView.{steps_of, session_of}
 use Rattle.sat_solver.specs.session.Session.{Session, AreAllowedSteps}
 use Rattle.sat_solver.specs.declared.proof.Proof.{Proof}
 use Rattle.sat_solver.proofs.lemmas.session.ProofLemmas.{gains_none, gains_more}
-use Rattle.sat_solver.specs.declared.schedule.Outcome.{Outcome}
-use Rattle.sat_solver.specs.declared.schedule.Outcome.TheVariants as outcomes
+use Rattle.sat_solver.specs.declared.schedule.RoundOutcome.{RoundOutcome}
+use Rattle.sat_solver.specs.declared.schedule.RoundOutcome.TheVariants as outcomes
 use Rattle.sat_solver.specs.declared.error.SolverError.{SolverError}
 use Rattle.sat_solver.specs.variables.Calls.{KeepsScriptState}
 use Rattle.sat_solver.specs.declared.variables.Variables.{Variables}
@@ -19,9 +19,9 @@ use Rattle.sat_solver.specs.session.Quiet.{ComesQuietly}
 use Rattle.sat_solver.proofs.lemmas.fits.QuietLemmas.{quiet_comes, comes_quiet}
 use Rattle.sat_parts.specs.parts.Words.{TrailWordExtendsFor}
 use Rattle.sat_parts.specs.parts.Full.{IsFull}
-use Rattle.sat_solver.specs.cdcl.Going.{EmitsStepsOr}
+use Rattle.sat_solver.specs.cdcl.StepEffects.{EmitsStepsOr}
 use Rattle.sat_solver.specs.cdcl.Joint.{assumed_indices, SameVarsAndAssumptions}
-use Rattle.sat_solver.specs.cdcl.Rounds.{RoundSays}
+use Rattle.sat_solver.specs.cdcl.Rounds.{RoundResult}
 use Rattle.sat_solver.specs.cdcl.Ending.{RoundShares, EndsRound}
 use Rattle.sat_solver.specs.declared.context.Search.{Search}
 use Rattle.sat_solver.specs.variables.Shared.{SharesIndices}
@@ -45,14 +45,14 @@ record Reaches {W L : Type 0} {G : Ghosts L} (seen : W → Writer) (n m : Variab
   moved : SameVarsAndAssumptions c d
   word : TrailWordExtendsFor (assumed_indices c) c.parts d.parts
 
-shares_on : (o : Outcome) (earlier steps : List Step) (s : Session) (m : Variables) (d e : Search) → SharesIndices m d → RoundSays o earlier steps s d e → RoundShares o m e
+shares_on : (o : RoundOutcome) (earlier steps : List Step) (s : Session) (m : Variables) (d e : Search) → SharesIndices m d → RoundResult o earlier steps s d e → RoundShares o m e
 shares_on outcomes.Learned earlier steps s m d e h x = shares_moved m d e h x.moved
 shares_on outcomes.Model earlier steps s m d e h x = shares_moved m d e h x.0.moved
 shares_on outcomes.Unsat earlier steps s m d e h x = tt
 shares_on outcomes.Failed earlier steps s m d e h x = shares_moved m d e h x.0.moved
 
 module _ {W L : Type 0} {G : Ghosts L} (seen : W → Writer) (n m : Variables) (p q : Proof W L G) (c d : Search) where
-  ends_after : Reaches seen n m p q c d → (r : Result Outcome SolverError) (z : Proof W L G) (e : Search) → EmitsStepsOr (IsFull e.parts) seen r q z (λ o steps. RoundSays o (steps_of q) steps (session_of z) d e) → EndsRound seen r n m p z c e
+  ends_after : Reaches seen n m p q c d → (r : Result RoundOutcome SolverError) (z : Proof W L G) (e : Search) → EmitsStepsOr (IsFull e.parts) seen r q z (λ o steps. RoundResult o (steps_of q) steps (session_of z) d e) → EndsRound seen r n m p z c e
   ends_after b (Ok o) z e g =
       let may : AreAllowedSteps (g.steps ++ steps_of q) = subst AreAllowedSteps g.went.history g.keeps in
       let quiet : KeepsScriptState m m (steps_of q) (steps_of z) = subst (KeepsScriptState m m (steps_of q)) (sym g.went.history) (nothing_after m (steps_of q) g.steps b.does.valid may g.searched) in
@@ -62,17 +62,17 @@ module _ {W L : Type 0} {G : Ghosts L} (seen : W → Writer) (n m : Variables) (
         keeps = g.keeps;
         does = does_both n m m (steps_of p) (steps_of q) (steps_of z) (λ j. j) (λ j. j) (λ j. []) (λ j. []) b.does quiet;
         asked = record { users = b.asked.users; assumed = (goes_leaves seen o q z _ g).assumed ∙ b.asked.assumed; indices = b.asked.indices };
-        says = round_from o (steps_of p) b.took.0 g.steps (session_of z) c d e b.moved b.word (comes_quiet (steps_of p) (steps_of q) b.took.0 b.quiet b.took.1.history) (subst (λ zs. RoundSays o zs g.steps (session_of z) d e) b.took.1.history g.ends);
+        says = round_from o (steps_of p) b.took.0 g.steps (session_of z) c d e b.moved b.word (comes_quiet (steps_of p) (steps_of q) b.took.0 b.quiet b.took.1.history) (subst (λ zs. RoundResult o zs g.steps (session_of z) d e) b.took.1.history g.ends);
         shares = shares_on o (steps_of q) g.steps (session_of z) m d e b.shares g.ends;
       }
-  ends_after b (Err f) z e g = falls_later seen f p q z b.took (falls_goes seen f q z (λ _ _. ⊥) (goes_failing seen f q z (λ o steps. RoundSays o (steps_of q) steps (session_of z) d e) (λ (_ : Unit {0}) _. ⊥) g))
+  ends_after b (Err f) z e g = falls_later seen f p q z b.took (falls_goes seen f q z (λ _ _. ⊥) (goes_failing seen f q z (λ o steps. RoundResult o (steps_of q) steps (session_of z) d e) (λ (_ : Unit {0}) _. ⊥) g))
 
   -- the round ends after a simplification that found no false clause, or after none
-  pub ends_on : PassesQuietly seen n m p q c d → (r : Result Outcome SolverError) (z : Proof W L G) (e : Search) → EmitsStepsOr (IsFull e.parts) seen r q z (λ o steps. RoundSays o (steps_of q) steps (session_of z) d e) → EndsRound seen r n m p z c e
+  pub ends_on : PassesQuietly seen n m p q c d → (r : Result RoundOutcome SolverError) (z : Proof W L G) (e : Search) → EmitsStepsOr (IsFull e.parts) seen r q z (λ o steps. RoundResult o (steps_of q) steps (session_of z) d e) → EndsRound seen r n m p z c e
   ends_on b = ends_after (record { took = b.took; quiet = b.quiet; does = b.does; asked = b.asked; shares = b.together.shares; moved = b.moved; word = b.word })
 
   -- the round ends after the simplification found a clause that is false at level 0
-  pub ends_refuted : JointInvariant n p c → (f : Conflict) → FindsFalseClause n m p q c d f → (r : Result Outcome SolverError) (z : Proof W L G) (e : Search) → EmitsStepsOr (IsFull e.parts) seen r q z (λ o steps. RoundSays o (steps_of q) steps (session_of z) d e) → EndsRound seen r n m p z c e
+  pub ends_refuted : JointInvariant n p c → (f : Conflict) → FindsFalseClause n m p q c d f → (r : Result RoundOutcome SolverError) (z : Proof W L G) (e : Search) → EmitsStepsOr (IsFull e.parts) seen r q z (λ o steps. RoundResult o (steps_of q) steps (session_of z) d e) → EndsRound seen r n m p z c e
   ends_refuted h f b = ends_after reaches
     where
       here : Reaches seen n n p p c d

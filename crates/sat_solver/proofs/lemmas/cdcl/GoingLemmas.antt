@@ -4,10 +4,10 @@ use Rattle.std.specs.Prelude.{MatchResult, IfErr}
 use Rattle.sat_base.specs.device.Device.{Writer}
 use Rattle.sat_base.specs.steps.Steps.{Step}
 use Rattle.sat_checker.specs.declared.processing.ProofProcessor.{Ghosts}
-use Rattle.sat_solver.specs.proof.ProofView.{EmitsExactly, Complains, FailsCheck, EmitsChecked, EmitsAsAnswered, HasAllowedSteps, is_lost, steps_of, session_of}
+use Rattle.sat_solver.specs.proof.ProofView.{EmitsExactly, CheckerFailed, FailsCheck, EmitsChecked, EmitsAsAnswered, HasAllowedSteps, has_missed_step, steps_of, session_of}
 use Rattle.sat_solver.specs.session.Session.{session_after}
-use Rattle.sat_solver.specs.declared.proof.made.CheckFault.{CheckFault}
-use Rattle.sat_solver.specs.declared.proof.made.CheckFault.TheVariants as checks
+use Rattle.sat_solver.specs.declared.proof.emitted.CheckFault.{CheckFault}
+use Rattle.sat_solver.specs.declared.proof.emitted.CheckFault.TheVariants as checks
 use Rattle.sat_solver.specs.declared.proof.Proof.{Proof}
 use Rattle.sat_solver.specs.declared.proof.ProofError.{ProofError}
 use Rattle.sat_solver.specs.declared.proof.ProofError.TheVariants.{Write, OutOfMemory, Check}
@@ -15,13 +15,13 @@ use Rattle.sat_solver.proofs.lemmas.session.ProofLemmas.{adds_none, adds_more, g
 use Rattle.sat_store.specs.declared.clause.alloc.StoreError.{StoreError}
 use Rattle.sat_store.specs.declared.clause.alloc.StoreError.TheVariants as stores
 use Rattle.sat_solver.specs.Recovery.{buffer_failure}
-use Rattle.sat_solver.specs.proof.Complaints.{IsComplaint}
+use Rattle.sat_solver.specs.proof.ListenerErrors.{IsListenerError}
 use Rattle.sat_solver.specs.cdcl.Faults.{IsKept, NamesLoss}
 use Rattle.sat_solver.specs.declared.error.SolverError.{SolverError}
 use Rattle.sat_solver.specs.declared.error.SolverError.TheVariants as errors
 use Rattle.sat_solver.specs.session.Quiet.{is_quiet, AreQuiet}
 use Rattle.sat_solver.proofs.lemmas.fits.QuietLemmas.{quiet_both}
-use Rattle.sat_solver.specs.cdcl.Going.{AreSearched, IsSearched, AreQuietUnless, check_fault_of, proof_fault, IsFault, IsFaultOr, EmitsUpToFault, EmitsSteps, EmitsStepsOr, EmitsStepsWith}
+use Rattle.sat_solver.specs.cdcl.StepEffects.{AreSearched, IsSearched, AreQuietUnless, check_fault_of, proof_fault, IsFault, IsFaultOr, EmitsUpToFault, EmitsSteps, EmitsStepsOr, EmitsStepsWith}
 use Rattle.sat_solver.proofs.lemmas.cdcl.AskedLemmas.{names_following}
 
 both : (names : ℕ → Option ℕ) (ys xs : List Step) → AreSearched names ys → AreSearched names xs → AreSearched names (ys ++ xs)
@@ -55,26 +55,26 @@ ends_or full (Ok x) P h = h
 ends_or full (Err e) P h = fault_or full e h
 
 -- the proof stores the error of the checker's processor
-pub complaint_kept : {W L : Type 0} {G : Ghosts L} (fault : CheckFault) (p : Proof W L G) → IsComplaint fault p.made.complaint → IsKept (check_fault_of fault) p
+pub complaint_kept : {W L : Type 0} {G : Ghosts L} (fault : CheckFault) (p : Proof W L G) → IsListenerError fault p.made.complaint → IsKept (check_fault_of fault) p
 complaint_kept checks.OutOfMemory p h = tt
 complaint_kept checks.CounterEnd p h = tt
 complaint_kept (checks.Processor cause) p h = h
 
 -- the error for a fault of the checker explains a lost step
-pub check_loss : {W L : Type 0} {G : Ghosts L} (fault : CheckFault) (p q : Proof W L G) → Complains fault q → NamesLoss (check_fault_of fault) p q
+pub check_loss : {W L : Type 0} {G : Ghosts L} (fault : CheckFault) (p q : Proof W L G) → CheckerFailed fault q → NamesLoss (check_fault_of fault) p q
 check_loss checks.OutOfMemory p q h = inr h
 check_loss checks.CounterEnd p q h = tt
 check_loss (checks.Processor cause) p q h = tt
 
 -- the same after a call that lost no step
-pub loss_later : {W L : Type 0} {G : Ghosts L} (e : SolverError) (a b c : Proof W L G) → is_lost b ≡ is_lost a → NamesLoss e b c → NamesLoss e a c
+pub loss_later : {W L : Type 0} {G : Ghosts L} (e : SolverError) (a b c : Proof W L G) → has_missed_step b ≡ has_missed_step a → NamesLoss e b c → NamesLoss e a c
 loss_later (errors.ProofProcessorError cause) a b c same h = tt
 loss_later (errors.ProofIoError cause) a b c same h = tt
 loss_later errors.OutOfMemory a b c same h = elim h [ inl k ↦ inl (k ∙ same) | inr w ↦ inr w ]
 loss_later errors.CounterEnd a b c same h = tt
 loss_later e a b c same h = h ∙ same
 
-loss_after : {A W L : Type 0} {G : Ghosts L} (r : Result A SolverError) (a b c : Proof W L G) → is_lost b ≡ is_lost a → IfErr r (λ e. NamesLoss e b c) → IfErr r (λ e. NamesLoss e a c)
+loss_after : {A W L : Type 0} {G : Ghosts L} (r : Result A SolverError) (a b c : Proof W L G) → has_missed_step b ≡ has_missed_step a → IfErr r (λ e. NamesLoss e b c) → IfErr r (λ e. NamesLoss e a c)
 loss_after (Ok x) a b c same h = tt
 loss_after (Err e) a b c same h = loss_later e a b c same h
 

@@ -7,36 +7,36 @@ use Rattle.sat_parts.specs.prop.Causes.{falsified}
 use Rattle.sat_parts.specs.clause.Db.{live_refs}
 use Rattle.sat_solver.specs.session.Session.{MayDerive, after, session_after}
 use Rattle.sat_solver.specs.session.LiveClauses.{with_var, AreMapped}
-use Rattle.sat_solver.specs.analyze_conflict.Work.{Work}
-use Rattle.sat_solver.specs.analyze_conflict.Derivation.{Learns}
-use Rattle.sat_parts.specs.declared.parts.Parts.{Parts}
-use Rattle.sat_parts.specs.parts.Whole.{state, PartsInvariant, IsRefuted}
+use Rattle.sat_solver.specs.analyze_conflict.AnalysisState.{AnalysisState}
+use Rattle.sat_solver.specs.analyze_conflict.Derivation.{AnalysisResult}
+use Rattle.sat_parts.specs.declared.parts.SearchState.{SearchState}
+use Rattle.sat_parts.specs.parts.Whole.{state, SearchStateInvariant, IsRefuted}
 use Rattle.sat_parts.specs.parts.Words.{TrailWordRises}
 use Rattle.sat_solver.specs.session.FitLaws.{named_hashes}
-use Rattle.sat_solver.specs.session.Fits.{SessionMatchesParts, FlagFits, PartsSessionInvariant, TrueLitsHaveNames}
+use Rattle.sat_solver.specs.session.Fits.{SessionMatchesParts, FlagFits, SearchStateSessionInvariant, TrueLitsHaveNames}
 use Rattle.sat_solver.specs.session.Learning.{FitsAfterLearning}
 use Rattle.sat_solver.proofs.lemmas.fits.MayLemmas.{learned_may}
 use Rattle.sat_solver.proofs.lemmas.fits.AdvanceLemmas.{learned_clause_advances}
 use Rattle.sat_solver.proofs.lemmas.session.UnitLemmas.{units_consistent}
 use Rattle.sat_parts.specs.declared.prop.graph.Reason.{Reason}
-use Rattle.sat_parts.specs.prop.State.{State, enqueued}
+use Rattle.sat_parts.specs.prop.State.{PropagationState, enqueued}
 use Rattle.sat_parts.specs.parts.Assumed.{ArePlaced}
 use Rattle.sat_parts.specs.parts.Frame.{AddsLearnedClause, learnt_unit, learnt_binary, learnt_long, KeepsTo}
-use Rattle.sat_parts.specs.parts.Learned.{IsPending}
+use Rattle.sat_parts.specs.parts.Learned.{IsUnitAfterBacktracking}
 use Rattle.sat_parts.proofs.lemmas.parts.KeepLemmas.{keeps_enqueued}
 use Rattle.sat_solver.specs.declared.context.Search.{Search}
-use Rattle.sat_solver.specs.cdcl.Going.{is_searched}
+use Rattle.sat_solver.specs.cdcl.StepEffects.{is_searched}
 use Rattle.sat_solver.specs.cdcl.Joint.{global_in, IsFree, IsReadySearch, SameVarsAndAssumptions, assumed_indices}
 use Rattle.sat_solver.specs.unit_simplify.Left.{SameSize}
-use Rattle.sat_solver.specs.cdcl.Learning.{LastAdvances, LearnsAndRises}
+use Rattle.sat_solver.specs.cdcl.Learning.{LastIsEmpowering, LearnsAndRises}
 use Rattle.sat_solver.proofs.lemmas.cdcl.AskedLemmas.{leaves_after}
 use Rattle.sat_solver.proofs.lemmas.cdcl.TurnLemmas.{ready_moved}
 use Rattle.sat_base.specs.values.Literals.{variable, negated}
 use Rattle.sat_solver.proofs.lemmas.fits.FitLemmas.{all_at}
 use Rattle.sat_parts.proofs.lemmas.prop.StateLemmas.{negated_variable, true_from_false}
 
-module _ (p : Parts) (e : Conflict) (w : Work) (back : ℕ) (steps : List Step) (global : ℕ → ℕ) (refuted : IsRefuted p e) (above : 0 < length p.trail.starts) (fits : SessionMatchesParts p (session_after steps) global) (names : TrueLitsHaveNames p.assignment.current (session_after steps) global)
-    (learns : Learns p.clauses (state p) (falsified p.clauses e) w back) where
+module _ (p : SearchState) (e : Conflict) (w : AnalysisState) (back : ℕ) (steps : List Step) (global : ℕ → ℕ) (refuted : IsRefuted p e) (above : 0 < length p.trail.starts) (fits : SessionMatchesParts p (session_after steps) global) (names : TrueLitsHaveNames p.assignment.current (session_after steps) global)
+    (learns : AnalysisResult p.clauses (state p) (falsified p.clauses e) w back) where
   clause_named : AreMapped global (session_after steps).solver_names w.clause
   clause_named = all_at (λ l. (session_after steps).solver_names (global (variable l)) ≡ Some (variable l)) w.clause (λ k lt.
       let l : ℕ = get_or w.clause k 0 in
@@ -49,14 +49,14 @@ module _ (p : Parts) (e : Conflict) (w : Work) (back : ℕ) (steps : List Step) 
       (learned_may p.clauses (live_refs p.clauses p.db.refs) p.binary.implied (state p) (session_after steps) global e w back fits refuted.0.asks.agrees refuted.0.asks.clauses (refuted.2 above).0 refuted.0.turns refuted.1 learns)
 
   -- after this step, parts with the stored clause match the session
-  pub learned_stands : (q : Parts) (header : Header) (clause hashes : List ℕ) (flag : Bool) (new : List Step) → clause ≡ map (with_var global) w.clause → FlagFits flag header w.clause →
-      new ≡ AtClause flag clause hashes ∷ steps → PartsInvariant q → FitsAfterLearning p q header w.clause → PartsSessionInvariant q (session_after new) global
+  pub learned_stands : (q : SearchState) (header : Header) (clause hashes : List ℕ) (flag : Bool) (new : List Step) → clause ≡ map (with_var global) w.clause → FlagFits flag header w.clause →
+      new ≡ AtClause flag clause hashes ∷ steps → SearchStateInvariant q → FitsAfterLearning p q header w.clause → SearchStateSessionInvariant q (session_after new) global
   learned_stands q header clause hashes flag new c flags added holds takes = record {
     holds = holds;
     fits = subst (λ t. SessionMatchesParts q t global) (sym (ap session_after added ∙ ap (λ ls. after (AtClause flag ls hashes) (session_after steps)) c)) (takes (session_after steps) global hashes flag flags clause_named fits);
   }
 
-  pub learned_last : (clause hashes : List ℕ) (flag : Bool) → clause ≡ map (with_var global) w.clause → LastAdvances steps (AtClause flag clause hashes ∷ [])
+  pub learned_last : (clause hashes : List ℕ) (flag : Bool) → clause ≡ map (with_var global) w.clause → LastIsEmpowering steps (AtClause flag clause hashes ∷ [])
   learned_last clause hashes flag c = record {
     redundant = flag;
     clause = clause;
@@ -68,7 +68,7 @@ module _ (p : Parts) (e : Conflict) (w : Work) (back : ℕ) (steps : List Step) 
   }
 
 -- the search after a clause was learned
-pub learned_whole : (steps new : List Step) (step : Step) (c c' : Search) → IsReadySearch (session_after steps) c → is_searched step ≡ true → new ≡ step ∷ steps → PartsSessionInvariant c'.parts (session_after new) (global_in c) → TrailWordRises c.parts c'.parts → SameSize c.parts c'.parts → LastAdvances steps (step ∷ []) →
+pub learned_whole : (steps new : List Step) (step : Step) (c c' : Search) → IsReadySearch (session_after steps) c → is_searched step ≡ true → new ≡ step ∷ steps → SearchStateSessionInvariant c'.parts (session_after new) (global_in c) → TrailWordRises c.parts c'.parts → SameSize c.parts c'.parts → LastIsEmpowering steps (step ∷ []) →
     c'.globals ≡ c.globals → c'.assumptions.lits ≡ c.assumptions.lits → ArePlaced c'.assumptions (state c'.parts) → IsFree c' → LearnsAndRises steps (step ∷ []) (session_after new) c c'
 learned_whole steps new step c c' ready s added valid rises size last globals lits placed free =
     let moved : SameVarsAndAssumptions c c' = record { globals = globals; lits = lits; size = size } in
@@ -80,7 +80,7 @@ learned_whole steps new step c c' ready s added valid rises size last globals li
     }
 
 -- enqueuing the first literal preserves the levels up to `top`
-module _ (p q : Parts) (header : Header) (ls : List ℕ) (top : ℕ) (h : PartsInvariant p) (pending : IsPending (state p) p.vsids ls) where
+module _ (p q : SearchState) (header : Header) (ls : List ℕ) (top : ℕ) (h : SearchStateInvariant p) (pending : IsUnitAfterBacktracking (state p) p.vsids ls) where
   enqueued_by : (r : Reason) → state q ≡ enqueued (get_or ls 0 0) r (state p) → KeepsTo top (state p) (state q)
   enqueued_by r e = subst (λ s. KeepsTo top (state p) s) (sym e) (keeps_enqueued top (state p) (get_or ls 0 0) r h.below.asks.agrees h.below.levelled pending.open_first pending.there)
 
@@ -89,7 +89,7 @@ module _ (p q : Parts) (header : Header) (ls : List ℕ) (top : ℕ) (h : PartsI
   keeps_learnt (learnt_binary n cs db b r caused e) = enqueued_by r e
   keeps_learnt (learnt_long n o adds b r caused e) = enqueued_by r e
 
-pub starts_learnt : (p q : Parts) (header : Header) (ls : List ℕ) → AddsLearnedClause p q header ls → q.trail.starts ≡ p.trail.starts
-starts_learnt p q header ls (learnt_unit n same r caused e) = ap (λ (s : State). s.trail.starts) e
-starts_learnt p q header ls (learnt_binary n cs db b r caused e) = ap (λ (s : State). s.trail.starts) e
-starts_learnt p q header ls (learnt_long n o adds b r caused e) = ap (λ (s : State). s.trail.starts) e
+pub starts_learnt : (p q : SearchState) (header : Header) (ls : List ℕ) → AddsLearnedClause p q header ls → q.trail.starts ≡ p.trail.starts
+starts_learnt p q header ls (learnt_unit n same r caused e) = ap (λ (s : PropagationState). s.trail.starts) e
+starts_learnt p q header ls (learnt_binary n cs db b r caused e) = ap (λ (s : PropagationState). s.trail.starts) e
+starts_learnt p q header ls (learnt_long n o adds b r caused e) = ap (λ (s : PropagationState). s.trail.starts) e

@@ -2,11 +2,11 @@
 use Rattle.std.proofs.Common.{ℕ, ◌≡◌, ◌<◌, ◌+◌, ◌∙◌, List, [], ◌∷◌, length, get_or, refl, sym, ap, subst, arith}
 use Rattle.sat_base.specs.steps.Steps.{UnitClauses}
 use Rattle.sat_parts.specs.clause.Db.{live_refs}
-use Rattle.sat_parts.specs.declared.parts.Parts.{Parts}
-use Rattle.sat_parts.specs.parts.Round.{UnitsHaveNoReason, IsBased}
-use Rattle.sat_parts.specs.prop.State.{State}
+use Rattle.sat_parts.specs.declared.parts.SearchState.{SearchState}
+use Rattle.sat_parts.specs.parts.Round.{UnitsHaveNoReason, LevelZeroInvariant}
+use Rattle.sat_parts.specs.prop.State.{PropagationState}
 use Rattle.sat_parts.specs.parts.Assumed.{IsPlaced}
-use Rattle.sat_parts.specs.parts.Whole.{state, PartsInvariant, HoldsBelow, IsFullyPropagated}
+use Rattle.sat_parts.specs.parts.Whole.{state, SearchStateInvariant, SearchStateInvariantBelow, IsFullyPropagated}
 use Rattle.sat_parts.specs.parts.Frame.{SameClauses, TakesOffUnits}
 use Rattle.sat_parts.specs.parts.Words.{TrailWordExtends}
 use Rattle.sat_parts.proofs.lemmas.parts.WordSteps.{extends_refl}
@@ -14,7 +14,7 @@ use Rattle.sat_solver.specs.session.Session.{Session, after}
 use Rattle.sat_solver.specs.session.TrailUnits.{written_units}
 use Rattle.sat_solver.specs.session.Fits.{SessionMatchesParts, TrueLitsHaveNames}
 use Rattle.sat_solver.specs.session.Units.{FitsAll}
-use Rattle.sat_solver.specs.session.Going.{IsOrderly}
+use Rattle.sat_solver.specs.session.WritingUnits.{IsOrderly}
 use Rattle.sat_solver.proofs.lemmas.fits.StepLemmas.{starts_none}
 use Rattle.sat_solver.proofs.lemmas.fits.UnitLemmas.{units_written, fits_cleared}
 use Rattle.sat_solver.specs.unit_simplify.Left.{AllUnits, TakesUnitsOff}
@@ -24,7 +24,7 @@ none_left [] e = refl
 none_left (x ∷ xs) e = absurd (omega arith)
 
 -- if no unit has to be written, the session already has all units
-fits_quiet : (words live : List ℕ) (implied : List (List ℕ)) (p : Parts) (s : Session) (global : ℕ → ℕ) → FitsAll words live implied (state p) (after (UnitClauses []) s) global → FitsAll words live implied (state p) s global
+fits_quiet : (words live : List ℕ) (implied : List (List ℕ)) (p : SearchState) (s : Session) (global : ℕ → ℕ) → FitsAll words live implied (state p) (after (UnitClauses []) s) global → FitsAll words live implied (state p) s global
 fits_quiet words live implied p s global h = record {
   fits = record {
     clauses = record { named = h.fits.clauses.named; once = h.fits.clauses.once; counts = h.fits.clauses.counts };
@@ -37,7 +37,7 @@ fits_quiet words live implied p s global h = record {
   all = h.all;
 }
 
-module _ (p : Parts) (s : Session) (global : ℕ → ℕ) (orderly : IsOrderly p) (bottom : length p.trail.starts ≡ 0) (fits : SessionMatchesParts p s global) (names : TrueLitsHaveNames p.assignment.current s global) where
+module _ (p : SearchState) (s : Session) (global : ℕ → ℕ) (orderly : IsOrderly p) (bottom : length p.trail.starts ≡ 0) (fits : SessionMatchesParts p s global) (names : TrueLitsHaveNames p.assignment.current s global) where
   pub units_step : AllUnits p (after (UnitClauses (written_units p.clauses (state p) 64 global p.trail.lits)) s) global
   units_step = units_written p.clauses (live_refs p.clauses p.db.refs) p.binary.implied (state p) s global fits names orderly.agrees orderly.clauses orderly.turns bottom
 
@@ -46,7 +46,7 @@ module _ (p : Parts) (s : Session) (global : ℕ → ℕ) (orderly : IsOrderly p
       fits_quiet p.clauses (live_refs p.clauses p.db.refs) p.binary.implied p s global (subst (λ us. AllUnits p (after (UnitClauses us) s) global) none units_step)
 
 -- assumptions visited at level 0 stay visited when units are taken off the trail
-placed_cleared : (ls below : List ℕ) (place : ℕ) (s s' : State) → length s.trail.starts ≡ 0 → s'.trail.starts ≡ [] → TakesOffUnits s s' → IsPlaced ls below place s → IsPlaced ls below place s'
+placed_cleared : (ls below : List ℕ) (place : ℕ) (s s' : PropagationState) → length s.trail.starts ≡ 0 → s'.trail.starts ≡ [] → TakesOffUnits s s' → IsPlaced ls below place s → IsPlaced ls below place s'
 placed_cleared ls below place s s' bottom none clears x =
     let flat : length s'.trail.starts ≡ 0 = ap (λ (xs : List ℕ). length xs) none in
     record {
@@ -60,7 +60,7 @@ placed_cleared ls below place s s' bottom none clears x =
     }
 
 -- above level 0 nothing changes
-pub settled_above : (p : Parts) (s : Session) (global : ℕ → ℕ) → 0 < length p.trail.starts → HoldsBelow (length p.trail.starts + 1) p → IsFullyPropagated p → UnitsHaveNoReason (state p) × IsBased p.trail → SessionMatchesParts p s global → TakesUnitsOff p p s global
+pub settled_above : (p : SearchState) (s : Session) (global : ℕ → ℕ) → 0 < length p.trail.starts → SearchStateInvariantBelow (length p.trail.starts + 1) p → IsFullyPropagated p → UnitsHaveNoReason (state p) × LevelZeroInvariant p.trail → SessionMatchesParts p s global → TakesUnitsOff p p s global
 settled_above p s global above h done units fits = record {
   valid = record { holds = record { below = h; units = units.0; base = units.1 }; fits = fits };
   done = done;
@@ -72,7 +72,7 @@ settled_above p s global above h done units fits = record {
 }
 
 -- at level 0 units were taken off the trail
-pub settled_bottom : (p q : Parts) (s : Session) (global : ℕ → ℕ) → AllUnits p s global → length p.trail.starts ≡ 0 → PartsInvariant q → IsFullyPropagated q → q.trail.starts ≡ [] → q.trail.lits ≡ [] → SameClauses p q → TakesOffUnits (state p) (state q) → TrailWordExtends p q → TakesUnitsOff p q s global
+pub settled_bottom : (p q : SearchState) (s : Session) (global : ℕ → ℕ) → AllUnits p s global → length p.trail.starts ≡ 0 → SearchStateInvariant q → IsFullyPropagated q → q.trail.starts ≡ [] → q.trail.lits ≡ [] → SameClauses p q → TakesOffUnits (state p) (state q) → TrailWordExtends p q → TakesUnitsOff p q s global
 settled_bottom p q s global all bottom holds done none empty same clears word = record {
   valid = record { holds = holds; fits = rw (same.0, same.1, same.2) (fits_cleared p.clauses (live_refs p.clauses p.db.refs) p.binary.implied (state p) (state q) s global clears all) };
   done = done;

@@ -4,20 +4,20 @@ use Rattle.sat_base.specs.values.Literals.{variable, negated}
 use Rattle.sat_base.specs.values.Hashes.{hash_of}
 use Rattle.sat_parts.specs.declared.prop.graph.Conflict.{Conflict}
 use Rattle.sat_parts.specs.prop.Causes.{falsified}
-use Rattle.sat_parts.specs.prop.Graphs.{is_unit_reason}
-use Rattle.sat_parts.specs.prop.State.{State, node}
+use Rattle.sat_parts.specs.prop.Graphs.{has_no_clause}
+use Rattle.sat_parts.specs.prop.State.{PropagationState, node}
 use Rattle.sat_parts.proofs.lemmas.prop.StateLemmas.{negated_variable, true_from_false}
 use Rattle.sat_solver.specs.session.LiveClauses.{with_var}
 use Rattle.sat_solver.specs.session.Session.{Session}
 use Rattle.sat_solver.specs.session.TrailEntries.{reason_clause}
 use Rattle.sat_solver.specs.session.TrailUnits.{written_units}
-use Rattle.sat_solver.specs.analyze_conflict.Work.{Work}
-use Rattle.sat_solver.specs.analyze_conflict.Derivation.{Learns}
-use Rattle.sat_parts.specs.declared.parts.Parts.{Parts}
+use Rattle.sat_solver.specs.analyze_conflict.AnalysisState.{AnalysisState}
+use Rattle.sat_solver.specs.analyze_conflict.Derivation.{AnalysisResult}
+use Rattle.sat_parts.specs.declared.parts.SearchState.{SearchState}
 use Rattle.sat_parts.specs.parts.Whole.{state}
 use Rattle.sat_solver.specs.session.Fits.{TrueLitsHaveNames}
-use Rattle.sat_solver.specs.session.Going.{IsOrderly}
-use Rattle.sat_solver.specs.cdcl.Going.{HaveSolverNames}
+use Rattle.sat_solver.specs.session.WritingUnits.{IsOrderly}
+use Rattle.sat_solver.specs.cdcl.StepEffects.{HaveSolverNames}
 
 module _ (names : ℕ → Option ℕ) (global : ℕ → ℕ) where
   one : (l : ℕ) → names (global (variable l)) ≡ Some (variable l) → (x : ℕ) × (names (variable (with_var global l)) ≡ Some x)
@@ -28,24 +28,24 @@ module _ (names : ℕ → Option ℕ) (global : ℕ → ℕ) where
   mapped_named [] h = tt
   mapped_named (l ∷ ls) h = (one l (h 0 (omega arith)), mapped_named ls (λ k lt. h (suc k) (omega arith)))
 
-  module _ (words : List ℕ) (st : State) (width : ℕ) where
+  module _ (words : List ℕ) (st : PropagationState) (width : ℕ) where
     -- the same for the literals that are written as units
     pub written_named : (ls : List ℕ) → ((k : ℕ) → k < length ls → names (global (variable (get_or ls k 0))) ≡ Some (variable (get_or ls k 0))) → HaveSolverNames names (map (λ u. u.0) (written_units words st width global ls))
     written_named [] h = tt
-    written_named (l ∷ ls) h = more (written_units words st width global ls) (hash_of (reason_clause words l (node st l).reason) / 2 ^ (64 - width)) (is_unit_reason (node st l).reason) (one l (h 0 (omega arith))) (written_named ls (λ k lt. h (suc k) (omega arith)))
+    written_named (l ∷ ls) h = more (written_units words st width global ls) (hash_of (reason_clause words l (node st l).reason) / 2 ^ (64 - width)) (has_no_clause (node st l).reason) (one l (h 0 (omega arith))) (written_named ls (λ k lt. h (suc k) (omega arith)))
       where
         more : (us : List (ℕ × ℕ)) (n : ℕ) (b : Bool) → (x : ℕ) × (names (variable (with_var global l)) ≡ Some x) → HaveSolverNames names (map (λ u. u.0) us) → HaveSolverNames names (map (λ u. u.0) (cond b us ((with_var global l, n) ∷ us)))
         more us n true x h = h
         more us n false x h = (x, h)
 
 -- the units of level 0 are over variables with solver names
-pub units_named : (p : Parts) (s : Session) (global : ℕ → ℕ) → TrueLitsHaveNames p.assignment.current s global → IsOrderly p → (us : List (ℕ × ℕ)) → us ≡ written_units p.clauses (state p) 64 global p.trail.lits → HaveSolverNames s.solver_names (map (λ u. u.0) us)
+pub units_named : (p : SearchState) (s : Session) (global : ℕ → ℕ) → TrueLitsHaveNames p.assignment.current s global → IsOrderly p → (us : List (ℕ × ℕ)) → us ≡ written_units p.clauses (state p) 64 global p.trail.lits → HaveSolverNames s.solver_names (map (λ u. u.0) us)
 units_named p s global names orderly us e =
     rw e
     (written_named s.solver_names global p.clauses (state p) 64 p.trail.lits (λ k lt. names (get_or p.trail.lits k 0) (orderly.agrees.holds k lt)))
 
 -- a learned clause is over variables with solver names
-pub learned_named : (p : Parts) (e : Conflict) (w : Work) (back : ℕ) (s : Session) (global : ℕ → ℕ) → TrueLitsHaveNames p.assignment.current s global → Learns p.clauses (state p) (falsified p.clauses e) w back → (clause : List ℕ) → clause ≡ map (with_var global) w.clause →
+pub learned_named : (p : SearchState) (e : Conflict) (w : AnalysisState) (back : ℕ) (s : Session) (global : ℕ → ℕ) → TrueLitsHaveNames p.assignment.current s global → AnalysisResult p.clauses (state p) (falsified p.clauses e) w back → (clause : List ℕ) → clause ≡ map (with_var global) w.clause →
     HaveSolverNames s.solver_names clause
 learned_named p e w back s global names learns clause is =
     rw is

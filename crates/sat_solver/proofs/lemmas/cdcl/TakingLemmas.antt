@@ -3,65 +3,65 @@ use Rattle.std.proofs.Common.{ℕ, ◌≡◌, ◌∙◌, Bool, List, length, get
 use Rattle.sat_store.specs.clause.Header.{Header}
 use Rattle.sat_parts.specs.clause.Activity.{Scale}
 use Rattle.sat_parts.specs.clause.Db.{Db}
-use Rattle.sat_parts.specs.prop.State.{State}
+use Rattle.sat_parts.specs.prop.State.{PropagationState}
 use Rattle.sat_parts.specs.prop.Trails.{Trailed, cut_to, with_lit}
 use Rattle.sat_parts.specs.prop.TrailWord.{IsLevelled}
 use Rattle.sat_store.specs.heap.Vsids.{Queue}
-use Rattle.sat_solver.specs.analyze_conflict.Work.{Work}
-use Rattle.sat_parts.specs.declared.parts.Parts.{Parts}
+use Rattle.sat_solver.specs.analyze_conflict.AnalysisState.{AnalysisState}
+use Rattle.sat_parts.specs.declared.parts.SearchState.{SearchState}
 use Rattle.sat_parts.specs.parts.Frame.{SameClauses, AddsNoUnit, KeepsTo, AddsLearnedClause, ChangesHeaders}
-use Rattle.sat_parts.specs.parts.Learned.{IsAnalyzedClause, IsPending}
-use Rattle.sat_parts.specs.parts.Whole.{state, PartsInvariant}
+use Rattle.sat_parts.specs.parts.Learned.{IsAnalyzedClause, IsUnitAfterBacktracking}
+use Rattle.sat_parts.specs.parts.Whole.{state, SearchStateInvariant}
 use Rattle.sat_parts.specs.parts.Words.{GoneAndIdleStay, TrailWordStays}
 use Rattle.sat_parts.proofs.lemmas.parts.KeepLemmas.{keeps_trans}
 use Rattle.sat_parts.proofs.lemmas.parts.WordSteps.{rises_taken}
 use Rattle.sat_solver.proofs.lemmas.fits.FramedParts.{fits_headed}
 use Rattle.sat_solver.proofs.lemmas.fits.LearnedLemmas.{size_learnt, fits_learnt, fits_undone, false_signs}
-use Rattle.sat_solver.specs.clause.Assessed.{levels_in, BumpsClauses, AreInvolved}
+use Rattle.sat_solver.specs.clause.Assessed.{clause_level_count, BumpsClauses, AreAntecedents}
 use Rattle.sat_solver.specs.declared.context.Search.{Search}
 use Rattle.sat_solver.specs.cdcl.Joint.{IsFree, SameVarsAndAssumptions}
-use Rattle.sat_solver.specs.cdcl.Learning.{UndoesAndLearns, BumpsInvolved}
+use Rattle.sat_solver.specs.cdcl.Learning.{UndoesAndLearns, BumpsAntecedents}
 use Rattle.sat_solver.proofs.lemmas.cdcl.LearningLemmas.{keeps_learnt, starts_learnt}
 
-module _ (p mid q n : Parts) (header : Header) (ls : List ℕ) (top : ℕ) (levelled : IsLevelled (state p)) (learned : IsAnalyzedClause (state p) ls top)
+module _ (p mid q n : SearchState) (header : Header) (ls : List ℕ) (top : ℕ) (levelled : IsLevelled (state p)) (learned : IsAnalyzedClause (state p) ls top)
     (trail : mid.trail ≡ cut_to top p.trail) (starts : length mid.trail.starts ≡ top) (same : SameClauses p mid) (carries : AddsNoUnit (state p) (state mid)) (keeps : KeepsTo top (state p) (state mid)) (stay : TrailWordStays p mid)
-    (pending : IsPending (state mid) mid.vsids ls) (headed : ChangesHeaders mid q) (holds : PartsInvariant q) where
+    (pending : IsUnitAfterBacktracking (state mid) mid.vsids ls) (headed : ChangesHeaders mid q) (holds : SearchStateInvariant q) where
   same_state : state q ≡ state mid
   same_state = rw (headed.same.0.0, headed.same.0.1, headed.same.0.2) (refl {a = state mid})
 
-  pub still_pending : IsPending (state q) q.vsids ls
+  pub still_pending : IsUnitAfterBacktracking (state q) q.vsids ls
   still_pending = rw (same_state, headed.same.2) pending
 
   stay_before : TrailWordStays q n → TrailWordStays mid n
-  stay_before x am = subst (λ (v : Queue). GoneAndIdleStay am (state mid) v (state n) n.vsids) headed.same.2 (subst (λ (s : State). GoneAndIdleStay am s q.vsids (state n) n.vsids) same_state (x am))
+  stay_before x am = subst (λ (v : Queue). GoneAndIdleStay am (state mid) v (state n) n.vsids) headed.same.2 (subst (λ (s : PropagationState). GoneAndIdleStay am s q.vsids (state n) n.vsids) same_state (x am))
 
-  taken : PartsInvariant n → n.trail ≡ with_lit (get_or ls 0 0) q.trail → AddsLearnedClause q n header ls → TrailWordStays q n → UndoesAndLearns p n header ls top
+  taken : SearchStateInvariant n → n.trail ≡ with_lit (get_or ls 0 0) q.trail → AddsLearnedClause q n header ls → TrailWordStays q n → UndoesAndLearns p n header ls top
   taken after last learnt more = record {
     holds = after;
     fits = λ s global hashes flag flags names fits.
         fits_learnt q n s global header ls hashes flag flags (false_signs p.assignment.current ls learned.falsified) names holds still_pending learnt (fits_headed mid q s global (fits_undone p mid s global same carries fits) headed);
     rises = rises_taken p mid n (get_or ls 0 0) top stay (stay_before more) trail (last ∙ ap (λ (t : Trailed). with_lit (get_or ls 0 0) t) headed.same.0.2) levelled learned.below;
-    size = size_learnt q n header ls learnt ∙ ap (λ (s : State). length s.values) same_state ∙ carries.size;
-    keeps = keeps_trans top (state p) (state mid) (state n) keeps (subst (λ (s : State). KeepsTo top s (state n)) same_state (keeps_learnt q n header ls top holds still_pending learnt));
+    size = size_learnt q n header ls learnt ∙ ap (λ (s : PropagationState). length s.values) same_state ∙ carries.size;
+    keeps = keeps_trans top (state p) (state mid) (state n) keeps (subst (λ (s : PropagationState). KeepsTo top s (state n)) same_state (keeps_learnt q n header ls top holds still_pending learnt));
     starts = ap (λ (xs : List ℕ). length xs) (starts_learnt q n header ls learnt) ∙ ap (λ (t : Trailed). length t.starts) headed.same.0.2 ∙ starts;
   }
 
-  pub taken_ok : {E : Type 0} (r : Result (Unit {0}) E) → OnOk r (PartsInvariant n) → OnOk r (n.trail ≡ with_lit (get_or ls 0 0) q.trail) → OnOk r (AddsLearnedClause q n header ls) → OnOk r (TrailWordStays q n) → OnOk r (UndoesAndLearns p n header ls top)
+  pub taken_ok : {E : Type 0} (r : Result (Unit {0}) E) → OnOk r (SearchStateInvariant n) → OnOk r (n.trail ≡ with_lit (get_or ls 0 0) q.trail) → OnOk r (AddsLearnedClause q n header ls) → OnOk r (TrailWordStays q n) → OnOk r (UndoesAndLearns p n header ls top)
   taken_ok (Ok x) a b c d = taken a b c d
   taken_ok (Err e) a b c d = tt
 
 -- undoing levels changes neither clauses nor the levels of nodes
-module _ (p mid : Parts) (same : SameClauses p mid) (graph : mid.graph ≡ p.graph) where
-  pub involved_undone : (flags : List Bool) (os : List ℕ) → AreInvolved p flags os → AreInvolved mid flags os
+module _ (p mid : SearchState) (same : SameClauses p mid) (graph : mid.graph ≡ p.graph) where
+  pub involved_undone : (flags : List Bool) (os : List ℕ) → AreAntecedents p flags os → AreAntecedents mid flags os
   involved_undone flags os x = record {
     live = rw (same.0, same.1) x.live;
     levels = rw (same.0, graph) x.levels;
     clear = x.clear;
   }
 
-  module _ (q n : Parts) (s s' : Scale) (w : Work) (header : Header) where
+  module _ (q n : SearchState) (s s' : Scale) (w : AnalysisState) (header : Header) where
     -- the involved clauses were bumped, and the learned clause was stored
-    pub rated_ok : {E : Type 0} → q.db.refs ≡ mid.db.refs → BumpsClauses (levels_in mid) mid.db.refs w.involved mid.clauses s q.clauses s' → (r : Result (Unit {0}) E) → OnOk r (AddsLearnedClause q n header w.clause) → OnOk r (BumpsInvolved p s w header n s')
+    pub rated_ok : {E : Type 0} → q.db.refs ≡ mid.db.refs → BumpsClauses (clause_level_count mid) mid.db.refs w.involved mid.clauses s q.clauses s' → (r : Result (Unit {0}) E) → OnOk r (AddsLearnedClause q n header w.clause) → OnOk r (BumpsAntecedents p s w header n s')
     rated_ok refs take (Ok x) learnt = record {
       between = q;
       take = rw (same.0, same.1, graph) at take;

@@ -5,11 +5,11 @@ use Rattle.sat_checker.specs.declared.processing.ProofProcessor.{Ghosts}
 use Rattle.sat_parts.specs.declared.prop.graph.Conflict.{Conflict}
 use Rattle.sat_parts.specs.clause.Db.{live_refs}
 use Rattle.sat_parts.specs.prop.Ready.{IsConflict}
-use Rattle.sat_parts.specs.declared.parts.Parts.{Parts}
+use Rattle.sat_parts.specs.declared.parts.SearchState.{SearchState}
 use Rattle.sat_parts.specs.parts.Assumed.{ArePlaced}
 use Rattle.sat_parts.specs.parts.Frame.{ReordersLits, AddsNoUnit, KeepsTo}
-use Rattle.sat_parts.specs.parts.Round.{UnitsHaveNoReason, IsBased}
-use Rattle.sat_parts.specs.parts.Whole.{state, HoldsBelow, IsFullyPropagated}
+use Rattle.sat_parts.specs.parts.Round.{UnitsHaveNoReason, LevelZeroInvariant}
+use Rattle.sat_parts.specs.parts.Whole.{state, SearchStateInvariantBelow, IsFullyPropagated}
 use Rattle.sat_parts.specs.parts.Words.{TrailWordExtends, TrailWordExtendsFor, GoneAndIdleStay}
 use Rattle.sat_parts.proofs.lemmas.parts.AssumeLemmas.{placed_kept}
 use Rattle.sat_parts.proofs.lemmas.parts.WordSteps.{extends_after}
@@ -23,11 +23,11 @@ use Rattle.sat_solver.proofs.lemmas.fits.StepLemmas.{fits_propagated}
 use Rattle.sat_solver.specs.declared.cdcl.find_conflict.FoundConflict.{FoundConflict}
 use Rattle.sat_solver.specs.declared.cdcl.find_conflict.FoundConflict.TheVariants.{Falsified, Complete, Failed}
 use Rattle.sat_solver.specs.declared.context.Search.{Search}
-use Rattle.sat_solver.specs.cdcl.Going.{EmitsSteps}
+use Rattle.sat_solver.specs.cdcl.StepEffects.{EmitsSteps}
 use Rattle.sat_solver.proofs.lemmas.cdcl.AskedLemmas.{leaves_after, kinds_of}
-use Rattle.sat_solver.specs.cdcl.Joint.{global_in, assumed_indices, IsFree, IsReadySearch, IsSearch, SameVarsAndAssumptions, SameAssumedAndNames}
+use Rattle.sat_solver.specs.cdcl.Joint.{global_in, assumed_indices, IsFree, IsReadySearch, SearchInvariant, SameVarsAndAssumptions, SameAssumedAndNames}
 use Rattle.sat_solver.specs.unit_simplify.Left.{TakesUnitsOff}
-use Rattle.sat_solver.specs.cdcl.Turns.{GoesDeeper, IsPropagated, OpensLevelOrStops, TurnSays, TakesTurn, StopsSearch}
+use Rattle.sat_solver.specs.cdcl.Iterations.{GoesDeeper, IsPropagated, OpensLevelOrStops, IterationResult, IterationEffect, StopsSearch}
 use Rattle.sat_base.specs.values.Literals.{variable}
 use Rattle.sat_parts.proofs.lemmas.prop.RoomLemmas.{below_from_value}
 
@@ -82,7 +82,7 @@ pub record Propagation (s : Session) (c d : Search) : Type 0 where
   pub word : TrailWordExtendsFor (assumed_indices c) c.parts d.parts
   pub starts : d.parts.trail.starts ≡ c.parts.trail.starts
 
-module _ (s : Session) (c c' : Search) (search : IsSearch s c) (globals : c'.globals ≡ c.globals) (assumptions : c'.assumptions ≡ c.assumptions) (analysis : c'.analysis ≡ c.analysis) (flags : c'.flags ≡ c.flags)
+module _ (s : Session) (c c' : Search) (search : SearchInvariant s c) (globals : c'.globals ≡ c.globals) (assumptions : c'.assumptions ≡ c.assumptions) (analysis : c'.analysis ≡ c.analysis) (flags : c'.flags ≡ c.flags)
     (starts : c'.parts.trail.starts ≡ c.parts.trail.starts) (moved : ReordersLits c.parts c'.parts) (carries : AddsNoUnit (state c.parts) (state c'.parts)) (word : TrailWordExtends c.parts c'.parts) (keeps : (top : ℕ) → KeepsTo top (state c.parts) (state c'.parts)) where
   pub propagated_moved : SameVarsAndAssumptions c c'
   propagated_moved = record { globals = globals; lits = ap (λ a. a.lits) assumptions; size = carries.size }
@@ -95,14 +95,14 @@ module _ (s : Session) (c c' : Search) (search : IsSearch s c) (globals : c'.glo
       (rw starts a.levels) (rw starts a.all)))
       (free_moved c c' search.ready.free propagated_moved analysis flags)
 
-  propagated_fits : HoldsBelow (length c'.parts.trail.starts) c'.parts → SessionMatchesParts c'.parts s (global_in c')
+  propagated_fits : SearchStateInvariantBelow (length c'.parts.trail.starts) c'.parts → SessionMatchesParts c'.parts s (global_in c')
   propagated_fits holds = rw globals (fits_propagated c.parts c'.parts s (global_in c) moved carries holds.asks.clauses search.valid.fits)
 
-  propagated_fits_all : HoldsBelow (length c'.parts.trail.starts + 1) c'.parts → SessionMatchesParts c'.parts s (global_in c')
+  propagated_fits_all : SearchStateInvariantBelow (length c'.parts.trail.starts + 1) c'.parts → SessionMatchesParts c'.parts s (global_in c')
   propagated_fits_all holds = rw globals (fits_propagated c.parts c'.parts s (global_in c) moved carries holds.asks.clauses search.valid.fits)
 
-  pub propagation : HoldsBelow (length c'.parts.trail.starts + 1) c'.parts → IsFullyPropagated c'.parts → (0 < length c.parts.trail.starts → UnitsHaveNoReason (state c.parts) → UnitsHaveNoReason (state c'.parts)) →
-      (0 < length c.parts.trail.starts → IsBased c.parts.trail → IsBased c'.parts.trail) → Propagation s c c'
+  pub propagation : SearchStateInvariantBelow (length c'.parts.trail.starts + 1) c'.parts → IsFullyPropagated c'.parts → (0 < length c.parts.trail.starts → UnitsHaveNoReason (state c.parts) → UnitsHaveNoReason (state c'.parts)) →
+      (0 < length c.parts.trail.starts → LevelZeroInvariant c.parts.trail → LevelZeroInvariant c'.parts.trail) → Propagation s c c'
   propagation holds done units base = record {
     whole = record {
       holds = holds;
@@ -116,8 +116,8 @@ module _ (s : Session) (c c' : Search) (search : IsSearch s c) (globals : c'.glo
     starts = starts;
   }
 
-  pub falsified_whole : (e : Conflict) → HoldsBelow (length c'.parts.trail.starts) c'.parts → IsConflict c'.parts.clauses (live_refs c'.parts.clauses c'.parts.db.refs) c'.parts.binary.implied c'.parts.assignment.current e →
-      (0 < length c.parts.trail.starts → UnitsHaveNoReason (state c.parts) → UnitsHaveNoReason (state c'.parts)) → (0 < length c.parts.trail.starts → IsBased c.parts.trail → IsBased c'.parts.trail) → TakesTurn (Some (Falsified e)) s c c'
+  pub falsified_whole : (e : Conflict) → SearchStateInvariantBelow (length c'.parts.trail.starts) c'.parts → IsConflict c'.parts.clauses (live_refs c'.parts.clauses c'.parts.db.refs) c'.parts.binary.implied c'.parts.assignment.current e →
+      (0 < length c.parts.trail.starts → UnitsHaveNoReason (state c.parts) → UnitsHaveNoReason (state c'.parts)) → (0 < length c.parts.trail.starts → LevelZeroInvariant c.parts.trail → LevelZeroInvariant c'.parts.trail) → IterationEffect (Some (Falsified e)) s c c'
   falsified_whole e holds conflict units base = record {
     says = record {
       refuted = (holds, conflict, λ some. let old : 0 < length c.parts.trail.starts = rw starts at some in (units old search.valid.holds.units, base old search.valid.holds.base));
@@ -131,27 +131,27 @@ module _ (s : Session) (c c' : Search) (search : IsSearch s c) (globals : c'.glo
 -- A NEW LEVEL, OR THE SEARCH STOPS
 
 -- the result of a turn also holds from an earlier state of the same level
-pub turned_from : (found : Option FoundConflict) (s : Session) (a b c : Search) → SameVarsAndAssumptions a b → TrailWordExtendsFor (assumed_indices a) a.parts b.parts → length b.parts.trail.starts ≡ length a.parts.trail.starts → TakesTurn found s b c → TakesTurn found s a c
+pub turned_from : (found : Option FoundConflict) (s : Session) (a b c : Search) → SameVarsAndAssumptions a b → TrailWordExtendsFor (assumed_indices a) a.parts b.parts → length b.parts.trail.starts ≡ length a.parts.trail.starts → IterationEffect found s b c → IterationEffect found s a c
 turned_from found s a b c moved word starts t = record {
   says = later found t.says;
   moved = moved_trans a b c moved t.moved;
   word = extends_after (assumed_indices a) a.parts b.parts c.parts word (rw moved.lits at t.word);
 }
   where
-    later : (f : Option FoundConflict) → TurnSays f s b c → TurnSays f s a c
+    later : (f : Option FoundConflict) → IterationResult f s b c → IterationResult f s a c
     later None x = (x.0, x.1 ∙ ap (λ n. n + 1) starts)
     later (Some stop) x = x
 
-pub stopped_from : (stop : FoundConflict) (s : Session) (a b c : Search) → SameVarsAndAssumptions a b → TrailWordExtendsFor (assumed_indices a) a.parts b.parts → TakesTurn (Some stop) s b c → StopsSearch stop s a c
+pub stopped_from : (stop : FoundConflict) (s : Session) (a b c : Search) → SameVarsAndAssumptions a b → TrailWordExtendsFor (assumed_indices a) a.parts b.parts → IterationEffect (Some stop) s b c → StopsSearch stop s a c
 stopped_from stop s a b c moved word t = record {
   says = t.says;
   moved = moved_trans a b c moved t.moved;
   word = extends_after (assumed_indices a) a.parts b.parts c.parts word (rw moved.lits at t.word);
 }
 
-module _ (s s' : Session) (c c' : Search) (mid : Parts) (propagated : IsPropagated s c) (leaves : SameAssumedAndNames s s') (settled : TakesUnitsOff c.parts mid s' (global_in c))
+module _ (s s' : Session) (c c' : Search) (mid : SearchState) (propagated : IsPropagated s c) (leaves : SameAssumedAndNames s s') (settled : TakesUnitsOff c.parts mid s' (global_in c))
     (globals : c'.globals ≡ c.globals) (analysis : c'.analysis ≡ c.analysis) (flags : c'.flags ≡ c.flags) where
-  pub gone_on : (found : Option FoundConflict) → GoesDeeper found c.assumptions c'.assumptions mid c'.parts → TakesTurn found s' c c'
+  pub gone_on : (found : Option FoundConflict) → GoesDeeper found c.assumptions c'.assumptions mid c'.parts → IterationEffect found s' c c'
   gone_on found d = record {
     says = says found d.stops;
     moved = moved;
@@ -164,13 +164,13 @@ module _ (s s' : Session) (c c' : Search) (mid : Parts) (propagated : IsPropagat
       moved : SameVarsAndAssumptions c c'
       moved = record { globals = globals; lits = d.lits; size = d.carries.size ∙ settled.size }
 
-      search : IsSearch s' c'
+      search : SearchInvariant s' c'
       search = record {
         valid = record { holds = d.holds; fits = rw globals (fits_undone mid c'.parts s' (global_in c) d.same d.carries settled.valid.fits) };
         ready = ready_moved s s' c c' propagated.ready leaves moved word.0 d.placed (free_moved c c' propagated.ready.free moved analysis flags);
       }
 
-      says : (f : Option FoundConflict) → OpensLevelOrStops f c.assumptions.lits.items mid c'.parts → TurnSays f s' c c'
+      says : (f : Option FoundConflict) → OpensLevelOrStops f c.assumptions.lits.items mid c'.parts → IterationResult f s' c c'
       says None x = (search, x ∙ ap (λ ss. length ss + 1) settled.starts)
       says (Some (Falsified e)) x = absurd x
       says (Some Complete) x = (search, rw d.lits x)
@@ -179,9 +179,9 @@ module _ (s s' : Session) (c c' : Search) (mid : Parts) (propagated : IsPropagat
 -- A TURN
 
 -- a turn: propagation, then units are written, then a level begins or the search stops
-module _ {W L : Type 0} {G : Ghosts L} (seen : W → Writer) (p q : Proof W L G) (c d e : Search) (mid : Parts) (went : Propagation (session_of p) c d) (gs : List ℕ) (same : gs ≡ d.globals.items)
+module _ {W L : Type 0} {G : Ghosts L} (seen : W → Writer) (p q : Proof W L G) (c d e : Search) (mid : SearchState) (went : Propagation (session_of p) c d) (gs : List ℕ) (same : gs ≡ d.globals.items)
     (settles : EmitsSteps {A = Unit {0}} seen (Ok tt) p q (λ _ _. TakesUnitsOff d.parts mid (session_of q) (global_of_index gs))) (globals : e.globals ≡ d.globals) (analysis : e.analysis ≡ d.analysis) (flags : e.flags ≡ d.flags) where
-  pub turned : (found : Option FoundConflict) → GoesDeeper found d.assumptions e.assumptions mid e.parts → TakesTurn found (session_of q) c e
+  pub turned : (found : Option FoundConflict) → GoesDeeper found d.assumptions e.assumptions mid e.parts → IterationEffect found (session_of q) c e
   turned found deeper =
       let leaves : SameAssumedAndNames (session_of p) (session_of q) = subst (λ ss. SameAssumedAndNames (session_of p) (session_after ss)) (sym settles.went.history) (leaves_after settles.steps (steps_of p) (kinds_of (session_of p).solver_names settles.steps settles.searched)) in
       let settled : TakesUnitsOff d.parts mid (session_of q) (global_in d) = subst (λ hs. TakesUnitsOff d.parts mid (session_of q) (global_of_index hs)) same settles.ends in

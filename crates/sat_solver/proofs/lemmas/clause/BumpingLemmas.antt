@@ -5,26 +5,26 @@ use Rattle.sat_store.specs.heap.Vsids.{Queue, bumped}
 use Rattle.sat_base.specs.steps.Steps.{Step}
 use Rattle.sat_parts.specs.prop.TrailWord.{Letter, D, P, IsLowerWord}
 use Rattle.sat_solver.specs.session.Session.{Session}
-use Rattle.sat_parts.specs.declared.parts.Parts.{Parts}
+use Rattle.sat_parts.specs.declared.parts.SearchState.{SearchState}
 use Rattle.sat_parts.specs.parts.Frame.{SameClauses, SameState}
-use Rattle.sat_parts.specs.parts.Whole.{state, PartsInvariant}
+use Rattle.sat_parts.specs.parts.Whole.{state, SearchStateInvariant}
 use Rattle.sat_parts.specs.parts.Words.{TrailWordExtends, TrailWordRises}
 use Rattle.sat_parts.proofs.lemmas.parts.LoadFrames.{carries_same}
 use Rattle.sat_solver.proofs.lemmas.fits.LearnedLemmas.{fits_undone}
 use Rattle.sat_solver.specs.declared.context.Search.{Search}
 use Rattle.sat_solver.specs.clause.Activity.{all_bumped, BumpEffect}
-use Rattle.sat_solver.specs.cdcl.Joint.{global_in, IsSearch}
+use Rattle.sat_solver.specs.cdcl.Joint.{global_in, SearchInvariant}
 use Rattle.sat_solver.specs.cdcl.Learning.{LearnsAndRises}
 use Rattle.sat_solver.specs.unit_simplify.Left.{SameSize}
 use Rattle.sat_solver.proofs.lemmas.clause.ReducingLemmas.{still, still_moved}
 use Rattle.sat_solver.proofs.lemmas.cdcl.TurnLemmas.{moved_trans, leaves_refl}
 use Rattle.sat_parts.proofs.lemmas.parts.WordSteps.{goes_trans}
 
-same_state : (p p' : Parts) → SameState p p' → state p' ≡ state p
+same_state : (p p' : SearchState) → SameState p p' → state p' ≡ state p
 same_state p p' x = rw (x.0, x.1, x.2) refl
 
-pub bumped_same : (s : Session) (c c' : Search) → IsSearch s c → c'.globals ≡ c.globals → c'.assumptions ≡ c.assumptions → c'.analysis ≡ c.analysis → c'.flags ≡ c.flags →
-    PartsInvariant c'.parts → SameClauses c.parts c'.parts → SameState c.parts c'.parts → TrailWordExtends c.parts c'.parts → BumpEffect s c c'
+pub bumped_same : (s : Session) (c c' : Search) → SearchInvariant s c → c'.globals ≡ c.globals → c'.assumptions ≡ c.assumptions → c'.analysis ≡ c.analysis → c'.flags ≡ c.flags →
+    SearchStateInvariant c'.parts → SameClauses c.parts c'.parts → SameState c.parts c'.parts → TrailWordExtends c.parts c'.parts → BumpEffect s c c'
 bumped_same s c c' search globals assumptions analysis flags holds clauses states word =
     let size : SameSize c.parts c'.parts = ap (λ a. length a.current) states.0 in
     record {
@@ -43,7 +43,7 @@ below_more (P ∷ u) (D ∷ v) z h = absurd h
 below_more (D ∷ u) (D ∷ v) z h = below_more u v z h
 below_more (P ∷ u) (P ∷ v) z h = below_more u v z h
 
-rises_on : (p q r : Parts) → TrailWordRises p q → TrailWordExtends q r → TrailWordRises p r
+rises_on : (p q r : SearchState) → TrailWordRises p q → TrailWordExtends q r → TrailWordRises p r
 rises_on p q r x y = λ am. (
   goes_trans am (state p) p.vsids (state q) q.vsids (state r) r.vsids (x am).0 (y am).0,
   λ w h. let v = (x am).1 w h in let u = (y am).1 v.0 v.1.0 in (u.0, (u.1.0, subst (λ z. IsLowerWord w z) (sym u.1.1.1) (below_more w v.0 u.1.1.0 v.1.1))),

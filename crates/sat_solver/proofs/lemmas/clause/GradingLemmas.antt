@@ -10,11 +10,11 @@ use Rattle.sat_parts.specs.clause.Activity.{Scale}
 use Rattle.sat_parts.specs.clause.Db.{live_refs, PutsHeader}
 use Rattle.sat_parts.specs.clause.Glue.{HaveNodes, HaveFlags}
 use Rattle.sat_parts.specs.clause.Stored.{lit_of}
-use Rattle.sat_parts.specs.declared.parts.Parts.{Parts}
+use Rattle.sat_parts.specs.declared.parts.SearchState.{SearchState}
 use Rattle.sat_parts.specs.parts.Frame.{ChangesHeaders}
-use Rattle.sat_parts.specs.parts.Whole.{PartsInvariant}
+use Rattle.sat_parts.specs.parts.Whole.{SearchStateInvariant}
 use Rattle.sat_parts.proofs.lemmas.parts.WordSteps.{extends_refl, extends_trans}
-use Rattle.sat_solver.specs.clause.Assessed.{with_glue, improved, levels_in, BumpsClause, DecaysActivities, BumpsClauses, ChangesOnlyHeaders, AreInvolved}
+use Rattle.sat_solver.specs.clause.Assessed.{with_glue, with_updated_glue, clause_level_count, BumpsClause, DecaysActivities, BumpsClauses, ChangesOnlyHeaders, AreAntecedents}
 
 -- if the header of a clause is written twice, the second one remains
 pub puts_twice : (a b c refs : List ℕ) (o : ℕ) (h k : Header) → PutsHeader a b refs o h → PutsHeader b c refs o k → PutsHeader a c refs o k
@@ -28,10 +28,10 @@ puts_twice a b c refs o h k x y = record {
 
 -- FRAMES
 
-headed_refl : (p : Parts) → ChangesHeaders p p
+headed_refl : (p : SearchState) → ChangesHeaders p p
 headed_refl p = record { live = refl; lits = λ o c. refl; sides = λ o c. refl; same = ((refl, refl, refl), refl, refl) }
 
-headed_trans : (p q r : Parts) → ChangesHeaders p q → ChangesHeaders q r → ChangesHeaders p r
+headed_trans : (p q r : SearchState) → ChangesHeaders p q → ChangesHeaders q r → ChangesHeaders p r
 headed_trans p q r x y = record {
   live = y.live ∙ x.live;
   lits = λ o c. y.lits o (subst (λ os. Contains os o) (sym x.live) c) ∙ x.lits o c;
@@ -39,10 +39,10 @@ headed_trans p q r x y = record {
   same = ((y.same.0.0 ∙ x.same.0.0, y.same.0.1 ∙ x.same.0.1, y.same.0.2 ∙ x.same.0.2), y.same.1 ∙ x.same.1, y.same.2 ∙ x.same.2);
 }
 
-pub rates_refl : (p : Parts) → PartsInvariant p → ChangesOnlyHeaders p p
+pub rates_refl : (p : SearchState) → SearchStateInvariant p → ChangesOnlyHeaders p p
 rates_refl p holds = record { holds = holds; headed = headed_refl p; refs = refl; word = extends_refl p }
 
-pub rates_trans : (p q r : Parts) → ChangesOnlyHeaders p q → ChangesOnlyHeaders q r → ChangesOnlyHeaders p r
+pub rates_trans : (p q r : SearchState) → ChangesOnlyHeaders p q → ChangesOnlyHeaders q r → ChangesOnlyHeaders p r
 rates_trans p q r x y = record {
   holds = y.holds;
   headed = headed_trans p q r x.headed y.headed;
@@ -53,21 +53,21 @@ rates_trans p q r x y = record {
 -- LEVELS
 
 -- every literal of a live clause has a node
-pub clause_nodes : (p : Parts) (o : ℕ) → PartsInvariant p → Contains (live_refs p.clauses p.db.refs) o → HaveNodes p.graph (lits_at p.clauses o)
+pub clause_nodes : (p : SearchState) (o : ℕ) → SearchStateInvariant p → Contains (live_refs p.clauses p.db.refs) o → HaveNodes p.graph (lits_at p.clauses o)
 clause_nodes p o h live k lt = (let b : lit_of p.clauses o k < 2 * length p.assignment.current = h.below.asks.clauses.below o k live lt in omega (arith, b, h.below.asks.agrees.nodes))
 
-module _ (p q : Parts) (h : ChangesHeaders p q) (o : ℕ) (live : Contains (live_refs p.clauses p.db.refs) o) where
+module _ (p q : SearchState) (h : ChangesHeaders p q) (o : ℕ) (live : Contains (live_refs p.clauses p.db.refs) o) where
   pub live_kept : Contains (live_refs q.clauses q.db.refs) o
   live_kept = subst (λ os. Contains os o) (sym h.live) live
 
   pub flags_kept : (flags : List Bool) → HaveFlags p.graph flags (lits_at p.clauses o) → HaveFlags q.graph flags (lits_at q.clauses o)
   flags_kept flags x = rw (h.same.0.1, h.lits o live) x
 
-  pub levels_kept : levels_in q o ≡ levels_in p o
-  levels_kept = rw (h.same.0.1, h.lits o live) (refl {a = levels_in p o})
+  pub levels_kept : clause_level_count q o ≡ clause_level_count p o
+  levels_kept = rw (h.same.0.1, h.lits o live) (refl {a = clause_level_count p o})
 
 -- what bumping requires of involved clauses still holds after headers change
-pub involved_kept : (p q : Parts) (flags : List Bool) (os : List ℕ) → ChangesHeaders p q → AreInvolved p flags os → AreInvolved q flags os
+pub involved_kept : (p q : SearchState) (flags : List Bool) (os : List ℕ) → ChangesHeaders p q → AreAntecedents p flags os → AreAntecedents q flags os
 involved_kept p q flags os h x = record {
   live = λ o c. live_kept p q h o (x.live o c);
   levels = λ o c. flags_kept p q h o (x.live o c) flags (x.levels o c);
@@ -84,7 +84,7 @@ takes_next levels refs os i o words mid words' s t s' lt at one rest =
 
 -- HEADERS
 
-pub improved_fewer : (levels : ℕ) (h : Header) → is_learned h.tier ≡ true → levels < h.glue → improved levels h ≡ with_glue levels (record h { active = true })
+pub improved_fewer : (levels : ℕ) (h : Header) → is_learned h.tier ≡ true → levels < h.glue → with_updated_glue levels h ≡ with_glue levels (record h { active = true })
 improved_fewer levels h e lt = ap (λ b. cond b (with_glue levels (record h { active = true })) (record h { active = true })) (ap (λ b. is_learned h.tier && b) (lt-ltb levels h.glue lt) ∙ ap (λ b. b && true) e)
 
 drop_all : (os : List ℕ) (n : ℕ) → length os ≤ n → drop n os ≡ []
@@ -100,7 +100,7 @@ takes_last levels refs os n words words' s s' le h = subst (λ ps. BumpsClauses 
 -- IMPROVED GLUE
 
 -- an irredundant clause gets the same header for every number of levels
-pub improved_given : (m n : ℕ) (h : Header) → is_learned h.tier ≡ false → improved m h ≡ improved n h
+pub improved_given : (m n : ℕ) (h : Header) → is_learned h.tier ≡ false → with_updated_glue m h ≡ with_updated_glue n h
 improved_given m n h e =
     ap (λ b. cond (b && ltb m h.glue) (with_glue m (record h { active = true })) (record h { active = true })) e
     ∙ sym (ap (λ b. cond (b && ltb n h.glue) (with_glue n (record h { active = true })) (record h { active = true })) e)
@@ -109,13 +109,13 @@ not_below : (k g : ℕ) → g ≤ k → ltb k g ≡ false
 not_below k g le = false_from_ne_true (ltb k g) (λ t. let lt = ltb-true k g t in absurd (omega arith))
 
 -- counting levels beyond the glue does not change the improved header
-pub improved_limit : (m n : ℕ) (h : Header) → m ≡ min h.glue n → improved m h ≡ improved n h
+pub improved_limit : (m n : ℕ) (h : Header) → m ≡ min h.glue n → with_updated_glue m h ≡ with_updated_glue n h
 improved_limit m n h e = elim (cases_lt n h.glue) [
-  | inl lt ↦ ap (λ k. improved k h) (let q : m ≡ n = omega arith in q)
+  | inl lt ↦ ap (λ k. with_updated_glue k h) (let q : m ≡ n = omega arith in q)
   | inr ge ↦ past m (omega arith) ∙ sym (past n ge)
 ]
   where
-    past : (k : ℕ) → h.glue ≤ k → improved k h ≡ record h { active = true }
+    past : (k : ℕ) → h.glue ≤ k → with_updated_glue k h ≡ record h { active = true }
     past k le =
         ap (λ b. cond (is_learned h.tier && b) (with_glue k (record h { active = true })) (record h { active = true })) (not_below k h.glue le)
         ∙ neither (is_learned h.tier)

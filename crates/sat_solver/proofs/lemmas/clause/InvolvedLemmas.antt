@@ -15,21 +15,21 @@ use Rattle.sat_parts.specs.prop.Causes.{falsified}
 use Rattle.sat_parts.specs.prop.Graphs.{node_of}
 use Rattle.sat_parts.specs.prop.Ready.{IsConflict}
 use Rattle.sat_parts.specs.prop.Reasons.{IsFalseBefore, Implies}
-use Rattle.sat_parts.specs.prop.State.{State, node, level, current_level, lit_at, StateIsConsistent}
+use Rattle.sat_parts.specs.prop.State.{PropagationState, node, level, current_level, lit_at, StateIsConsistent}
 use Rattle.sat_parts.specs.prop.Values.{IsTrueLit}
 use Rattle.sat_parts.proofs.lemmas.clause.ListLemmas.{at_place, in_head, in_tail}
 use Rattle.sat_parts.proofs.lemmas.prop.RoomLemmas.{below_from_value}
 use Rattle.sat_parts.proofs.lemmas.prop.StateLemmas.{negated_variable, true_from_false, level_low}
-use Rattle.sat_solver.specs.analyze_conflict.Work.{Work, long_of, long_falsified}
+use Rattle.sat_solver.specs.analyze_conflict.AnalysisState.{AnalysisState, long_of, long_falsified}
 use Rattle.sat_solver.specs.analyze_conflict.Marks.{IsReasoned}
-use Rattle.sat_solver.specs.analyze_conflict.Derivation.{Learns}
+use Rattle.sat_solver.specs.analyze_conflict.Derivation.{AnalysisResult}
 use Rattle.sat_solver.specs.analyze_conflict.Involved.{longs_of, IsResolution}
-use Rattle.sat_parts.specs.declared.parts.Parts.{Parts}
+use Rattle.sat_parts.specs.declared.parts.SearchState.{SearchState}
 use Rattle.sat_parts.specs.parts.Whole.{state, IsRefuted}
-use Rattle.sat_solver.specs.clause.Assessed.{AreInvolved}
+use Rattle.sat_solver.specs.clause.Assessed.{AreAntecedents}
 use Rattle.sat_solver.proofs.lemmas.clause.GlueLemmas.{levels_below}
 
-module _ (words live : List ℕ) (implied : List (List ℕ)) (s : State) (agrees : StateIsConsistent s) where
+module _ (words live : List ℕ) (implied : List (List ℕ)) (s : PropagationState) (agrees : StateIsConsistent s) where
   -- no literal of the clause is of a level above the current one
   abbrev AreLow : ℕ → Type 0
   AreLow o = (k : ℕ) → k < length (lits_at words o) → level s (lit_of words o k) ≤ current_level s
@@ -68,8 +68,8 @@ module _ (words live : List ℕ) (implied : List (List ℕ)) (s : State) (agrees
       subst (λ z. AreLow z) (ap (λ k. get_or (q ∷ []) k 0) e ∙ at_place (q ∷ []) o c) (λ k b. negated_low (lit_of words q k) (true_from_false s.values (lit_of words q k) (h.1 k b)))
 
 -- involved clauses are live, and every level of their literals has a flag
-pub are_involved : (p : Parts) (e : Conflict) (w : Work) (back : ℕ) (flags : List Bool) → IsRefuted p e → Learns p.clauses (state p) (falsified p.clauses e) w back → IsResolution p.clauses (state p) e w →
-    ((o : ℕ) → Contains w.involved o → Contains (live_refs p.clauses p.db.refs) o) → 2 * length p.assignment.current ≤ length flags → AreClear flags → AreInvolved p flags w.involved
+pub are_involved : (p : SearchState) (e : Conflict) (w : AnalysisState) (back : ℕ) (flags : List Bool) → IsRefuted p e → AnalysisResult p.clauses (state p) (falsified p.clauses e) w back → IsResolution p.clauses (state p) e w →
+    ((o : ℕ) → Contains w.antecedents o → Contains (live_refs p.clauses p.db.refs) o) → 2 * length p.assignment.current ≤ length flags → AreClear flags → AreAntecedents p flags w.antecedents
 are_involved p e w back flags refuted learns r live le clear = record {
   live = live;
   levels = λ o c k lt. let low : level (state p) (lit_of p.clauses o k) ≤ current_level (state p) = lows o c k lt in levels_below p e (length flags) refuted some le (level (state p) (lit_of p.clauses o k)) low;
@@ -79,8 +79,8 @@ are_involved p e w back flags refuted learns r live le clear = record {
     some : 0 < length p.assignment.current
     some = (let there : variable (get_or w.clause 0 0) < length p.assignment.current = below_from_value p.assignment.current (variable (get_or w.clause 0 0)) _ (learns.asserting.fails 0 learns.asserting.some) in omega arith)
 
-    lows : (o : ℕ) → Contains w.involved o → AreLow p.clauses (live_refs p.clauses p.db.refs) p.binary.implied (state p) refuted.0.asks.agrees o
-    lows o c = elim (Contains-append_cases (long_falsified e) (longs_of (state p) r.resolved) o (subst (λ (xs : List ℕ). Contains xs o) r.involved c)) [
+    lows : (o : ℕ) → Contains w.antecedents o → AreLow p.clauses (live_refs p.clauses p.db.refs) p.binary.implied (state p) refuted.0.asks.agrees o
+    lows o c = elim (Contains-append_cases (long_falsified e) (longs_of (state p) r.resolved) o (subst (λ (xs : List ℕ). Contains xs o) r.antecedents c)) [
       | inl x ↦ conflict_low p.clauses (live_refs p.clauses p.db.refs) p.binary.implied (state p) refuted.0.asks.agrees o e refuted.1 x
       | inr y ↦ longs_low p.clauses (live_refs p.clauses p.db.refs) p.binary.implied (state p) refuted.0.asks.agrees o r.resolved (λ l d.
           let u : Contains w.used l = (r.forth l d).0 in

@@ -9,15 +9,15 @@ use Rattle.sat_store.specs.clause.Buffer.{IsClause, lits_at, header_at}
 use Rattle.sat_store.specs.clause.Header.{is_learned, index_of}
 use Rattle.sat_store.specs.declared.clause.tier.Tier.{Tier}
 use Rattle.sat_store.specs.declared.clause.tier.Tier.TheVariants.{Irred, Local}
-use Rattle.sat_parts.specs.clause.Db.{live_refs, is_live, is_live_of}
+use Rattle.sat_parts.specs.clause.Db.{live_refs, is_live, is_live_in_tier}
 use Rattle.sat_parts.proofs.lemmas.clause.ListLemmas.{place_in}
 use Rattle.sat_parts.proofs.lemmas.clause.OrderLemmas.{shuffled_eq}
 use Rattle.sat_solver.specs.session.LiveClauses.{with_var}
 use Rattle.sat_solver.specs.session.Session.{Session, IsAllowedStep, after}
-use Rattle.sat_parts.specs.declared.parts.Parts.{Parts}
+use Rattle.sat_parts.specs.declared.parts.SearchState.{SearchState}
 use Rattle.sat_parts.specs.parts.Assumed.{ArePlaced}
 use Rattle.sat_parts.specs.parts.Frame.{SameState, ChangesHeaders, DropsLongClause, MovesLongClauses}
-use Rattle.sat_parts.specs.parts.Whole.{state, PartsInvariant}
+use Rattle.sat_parts.specs.parts.Whole.{state, SearchStateInvariant}
 use Rattle.sat_parts.specs.parts.Words.{TrailWordExtends}
 use Rattle.sat_parts.proofs.lemmas.parts.AssumeLemmas.{placed_kept}
 use Rattle.sat_parts.proofs.lemmas.parts.ReduceLemmas.{filter_in}
@@ -25,17 +25,17 @@ use Rattle.sat_parts.proofs.lemmas.parts.WordSteps.{extends_after, extends_refl}
 use Rattle.sat_solver.specs.session.Fits.{SessionMatchesParts}
 use Rattle.sat_solver.proofs.lemmas.fits.FramedParts.{fits_headed, fits_copied, fits_dropped_redundant}
 use Rattle.sat_solver.specs.declared.context.Search.{Search}
-use Rattle.sat_solver.specs.cdcl.Joint.{global_in, assumed_indices, IsSearch, SameVarsAndAssumptions, SameAssumedAndNames}
+use Rattle.sat_solver.specs.cdcl.Joint.{global_in, assumed_indices, SearchInvariant, SameVarsAndAssumptions, SameAssumedAndNames}
 use Rattle.sat_solver.specs.unit_simplify.Left.{SameSize}
 use Rattle.sat_solver.specs.clause.Reduced.{IsLearnedLong, IsReason, DeletesIf, ReductionEffect}
 use Rattle.sat_solver.proofs.lemmas.cdcl.TurnLemmas.{moved_refl, moved_trans, ready_moved, free_moved, leaves_refl}
 
-same_state : (p p' : Parts) → SameState p p' → state p' ≡ state p
+same_state : (p p' : SearchState) → SameState p p' → state p' ≡ state p
 same_state p p' x = rw (x.0, x.1, x.2) refl
 
 -- LISTS
 
-pub clause_stands : (p : Parts) (o : ℕ) → PartsInvariant p → Contains (live_refs p.clauses p.db.refs) o → IsClause p.clauses o
+pub clause_stands : (p : SearchState) (o : ℕ) → SearchStateInvariant p → Contains (live_refs p.clauses p.db.refs) o → IsClause p.clauses o
 clause_stands p o h live = h.below.asks.clauses.holds_clauses.clauses o live
 
 local_learned : (tier : Tier) → index_of tier ≡ 3 → is_learned tier ≡ true
@@ -47,12 +47,12 @@ second_true true b e = e
 second_true false b e = absurd cc
 
 -- clauses of tier Local are learned
-pub locals_learned : (p : Parts) (list : List ℕ) → IsPermutation (filter (is_live_of p.clauses Local) p.db.refs) list →
+pub locals_learned : (p : SearchState) (list : List ℕ) → IsPermutation (filter (is_live_in_tier p.clauses Local) p.db.refs) list →
     ((k : ℕ) → k < length list → Contains (live_refs p.clauses p.db.refs) (get_or list k 0)) → (k : ℕ) → k < length list → IsLearnedLong p (get_or list k 0)
 locals_learned p list perm live k lt =
-    let there : Contains (filter (is_live_of p.clauses Local) p.db.refs) (get_or list k 0) =
-    Contains-permutation list (filter (is_live_of p.clauses Local) p.db.refs) (get_or list k 0) (IsPermutation-sym (filter (is_live_of p.clauses Local) p.db.refs) list perm) (place_in list k lt) in
-    let both : is_live_of p.clauses Local (get_or list k 0) ≡ true = (filter_in (is_live_of p.clauses Local) p.db.refs (get_or list k 0) there).1 in
+    let there : Contains (filter (is_live_in_tier p.clauses Local) p.db.refs) (get_or list k 0) =
+    Contains-permutation list (filter (is_live_in_tier p.clauses Local) p.db.refs) (get_or list k 0) (IsPermutation-sym (filter (is_live_in_tier p.clauses Local) p.db.refs) list perm) (place_in list k lt) in
+    let both : is_live_in_tier p.clauses Local (get_or list k 0) ≡ true = (filter_in (is_live_in_tier p.clauses Local) p.db.refs (get_or list k 0) there).1 in
     record {
       live = live k lt;
       learned = local_learned (header_at p.clauses (get_or list k 0)).tier (eqb-true (index_of (header_at p.clauses (get_or list k 0)).tier) (index_of Local) (second_true (is_live p.clauses (get_or list k 0)) (index_of (header_at p.clauses (get_or list k 0)).tier == index_of Local) both));
@@ -60,7 +60,7 @@ locals_learned p list perm live k lt =
 
 -- THE REST OF THE SEARCH
 
-pub reduced_refl : (s : Session) (c : Search) → IsSearch s c → ReductionEffect s c c
+pub reduced_refl : (s : Session) (c : Search) → SearchInvariant s c → ReductionEffect s c c
 reduced_refl s c search = record { search = search; moved = moved_refl c; word = extends_refl c.parts (assumed_indices c) }
 
 pub reduced_trans : (s s' : Session) (a b c : Search) → ReductionEffect s a b → ReductionEffect s' b c → ReductionEffect s' a c
@@ -73,19 +73,19 @@ reduced_trans s s' a b c x y = record {
 pub reduced_deleted : (b : Bool) (o : ℕ) (s : Session) (c c' : Search) → DeletesIf b o s c c' → ReductionEffect s c c'
 reduced_deleted b o s c c' d = record { search = d.search; moved = d.moved; word = d.word (assumed_indices c) }
 
-module _ (s s' : Session) (c c' : Search) (search : IsSearch s c) (globals : c'.globals ≡ c.globals) (assumptions : c'.assumptions ≡ c.assumptions) (analysis : c'.analysis ≡ c.analysis) (flags : c'.flags ≡ c.flags) where
+module _ (s s' : Session) (c c' : Search) (search : SearchInvariant s c) (globals : c'.globals ≡ c.globals) (assumptions : c'.assumptions ≡ c.assumptions) (analysis : c'.analysis ≡ c.analysis) (flags : c'.flags ≡ c.flags) where
   pub still_moved : SameSize c.parts c'.parts → SameVarsAndAssumptions c c'
   still_moved size = record { globals = globals; lits = ap (λ a. a.lits) assumptions; size = size }
 
-  pub still : SameAssumedAndNames s s' → PartsInvariant c'.parts → SessionMatchesParts c'.parts s' (global_in c) → SameSize c.parts c'.parts → TrailWordExtends c.parts c'.parts → ArePlaced c.assumptions (state c'.parts) → IsSearch s' c'
+  pub still : SameAssumedAndNames s s' → SearchStateInvariant c'.parts → SessionMatchesParts c'.parts s' (global_in c) → SameSize c.parts c'.parts → TrailWordExtends c.parts c'.parts → ArePlaced c.assumptions (state c'.parts) → SearchInvariant s' c'
   still leaves holds fits size word placed = record {
     valid = record { holds = holds; fits = rw globals fits };
     ready = ready_moved s s' c c' search.ready leaves (still_moved size) (word (assumed_indices c)).0 (rw assumptions placed) (free_moved c c' search.ready.free (still_moved size) analysis flags);
   }
 
-module _ (s : Session) (c c' : Search) (search : IsSearch s c) (globals : c'.globals ≡ c.globals) (assumptions : c'.assumptions ≡ c.assumptions) (analysis : c'.analysis ≡ c.analysis) (flags : c'.flags ≡ c.flags) where
+module _ (s : Session) (c c' : Search) (search : SearchInvariant s c) (globals : c'.globals ≡ c.globals) (assumptions : c'.assumptions ≡ c.assumptions) (analysis : c'.analysis ≡ c.analysis) (flags : c'.flags ≡ c.flags) where
   -- headers changed
-  pub reduced_headed : PartsInvariant c'.parts → ChangesHeaders c.parts c'.parts → TrailWordExtends c.parts c'.parts → ReductionEffect s c c'
+  pub reduced_headed : SearchStateInvariant c'.parts → ChangesHeaders c.parts c'.parts → TrailWordExtends c.parts c'.parts → ReductionEffect s c c'
   reduced_headed holds h word =
       let size : SameSize c.parts c'.parts = ap (λ a. length a.current) h.same.0.0 in
       record {
@@ -95,7 +95,7 @@ module _ (s : Session) (c c' : Search) (search : IsSearch s c) (globals : c'.glo
       }
 
   -- clauses moved in the buffer
-  pub reduced_copied : PartsInvariant c'.parts → MovesLongClauses c.parts c'.parts → TrailWordExtends c.parts c'.parts → ReductionEffect s c c'
+  pub reduced_copied : SearchStateInvariant c'.parts → MovesLongClauses c.parts c'.parts → TrailWordExtends c.parts c'.parts → ReductionEffect s c c'
   reduced_copied holds h word =
       let a = search.ready.placed in
       let size : SameSize c.parts c'.parts = ap (λ a. length a.current) h.values in
@@ -131,7 +131,7 @@ module _ (s : Session) (c c' : Search) (search : IsSearch s c) (globals : c'.glo
     deleted_may clause e = subst (λ (ls : List ℕ). IsAllowedStep s (DeleteClause ls Redundant)) (sym e) both.0
 
     -- deleting the clause leaves the rest of the search unchanged
-    pub deleted_one : (s' : Session) (clause : List ℕ) → clause ≡ map (with_var (global_in c)) (lits_at c.parts.clauses o) → s' ≡ after (DeleteClause clause Redundant) s → PartsInvariant c'.parts → TrailWordExtends c.parts c'.parts →
+    pub deleted_one : (s' : Session) (clause : List ℕ) → clause ≡ map (with_var (global_in c)) (lits_at c.parts.clauses o) → s' ≡ after (DeleteClause clause Redundant) s → SearchStateInvariant c'.parts → TrailWordExtends c.parts c'.parts →
         ((p : ℕ) → p ≢ o → Contains (live_refs c.parts.clauses c.parts.db.refs) p → Contains (live_refs c'.parts.clauses c'.parts.db.refs) p) → (IsReason c.parts o → ⊥) → DeletesIf true o s' c c'
     deleted_one s' clause e its holds word others free =
         let size : SameSize c.parts c'.parts = ap (λ a. length a.current) dropped.same.0.0 in

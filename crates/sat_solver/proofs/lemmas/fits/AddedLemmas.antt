@@ -10,9 +10,9 @@ use Rattle.sat_parts.specs.declared.prop.graph.Reason.{Reason}
 use Rattle.sat_parts.specs.clause.Db.{Db, DbMatchesBuffer, live_refs, AddsLongClause}
 use Rattle.sat_parts.specs.clause.Orders.{AreDistinct, IsReordering}
 use Rattle.sat_parts.specs.prop.Binaries.{Binaries, with_binary}
-use Rattle.sat_parts.specs.prop.Graphs.{is_unit_reason}
+use Rattle.sat_parts.specs.prop.Graphs.{has_no_clause}
 use Rattle.sat_parts.specs.prop.Values.{IsTrueLit, IsFalseLit}
-use Rattle.sat_parts.specs.prop.State.{State, node, level, lit_at, StateIsConsistent}
+use Rattle.sat_parts.specs.prop.State.{PropagationState, node, level, lit_at, StateIsConsistent}
 use Rattle.sat_parts.proofs.lemmas.clause.OrderLemmas.{shuffled_trans}
 use Rattle.sat_parts.proofs.lemmas.prop.StateLemmas.{negated_variable, negated_twice, false_from_true, not_both}
 use Rattle.sat_solver.specs.session.Session.{Session, with_fact, after, IsAllowedStep}
@@ -33,20 +33,20 @@ use Rattle.sat_solver.proofs.lemmas.fits.ListedLemmas.{listed, fits_listed, list
 use Rattle.sat_solver.proofs.lemmas.fits.ChangedLemmas.{added_there, two_came}
 
 -- a unit is a true literal of level 0
-pub unit_true : (st : State) (l : ℕ) → StateIsConsistent st → IsUnitLit st l → IsTrueLit st.values l × (level st l ≡ 0)
+pub unit_true : (st : PropagationState) (l : ℕ) → StateIsConsistent st → IsUnitLit st l → IsTrueLit st.values l × (level st l ≡ 0)
 unit_true st l agrees (inl r) = (r.holds, r.bottom)
 unit_true st l agrees (inr b) = (subst (λ m. IsTrueLit st.values m) b.there (agrees.holds b.place b.within), b.bottom)
 
 -- a true literal of level 0 is a unit if no literal of level 0 has a clause as its reason
-pub true_unit : (st : State) (l : ℕ) → StateIsConsistent st → UnitsHaveNoReason st → IsTrueLit st.values l → level st l ≡ 0 → IsUnitLit st l
+pub true_unit : (st : PropagationState) (l : ℕ) → StateIsConsistent st → UnitsHaveNoReason st → IsTrueLit st.values l → level st l ≡ 0 → IsUnitLit st l
 true_unit st l agrees bare t z = elim (agrees.known l t) [
   | inl b ↦
       let low : level st (lit_at st b.place) ≡ 0 = ap (λ m. level st m) b.there ∙ z in
-      inr (record { place = b.place; within = b.within; there = b.there; bottom = z; none = ap (λ m. is_unit_reason (node st m).reason) (sym b.there) ∙ ap (λ (r : Reason). is_unit_reason r) (bare b.place b.within low) })
+      inr (record { place = b.place; within = b.within; there = b.there; bottom = z; none = ap (λ m. has_no_clause (node st m).reason) (sym b.there) ∙ ap (λ (r : Reason). has_no_clause r) (bare b.place b.within low) })
   | inr r ↦ inl r
 ]
 
-module _ (words live : List ℕ) (implied : List (List ℕ)) (st : State) (s : Session) (global : ℕ → ℕ) (agrees : StateIsConsistent st) (fits : SessionMatches words live implied st s global) where
+module _ (words live : List ℕ) (implied : List (List ℕ)) (st : PropagationState) (s : Session) (global : ℕ → ℕ) (agrees : StateIsConsistent st) (fits : SessionMatches words live implied st s global) where
   abbrev all : List LiveClause
   all = solver_clauses (is_redundant words) words live implied
 
@@ -133,7 +133,7 @@ module _ (words live : List ℕ) (implied : List (List ℕ)) (st : State) (s : S
         (x.0, fits_listed words live implied st (after (DeleteClause (map (with_var global) ns) Satisfied) t) global x.1 fits.paired)
 
 -- a binary clause
-pub fits_added_binary : (words live : List ℕ) (x : Binaries) (st : State) (s : Session) (global : ℕ → ℕ) → StateIsConsistent st → SessionMatches words live x.implied st s global →
+pub fits_added_binary : (words live : List ℕ) (x : Binaries) (st : PropagationState) (s : Session) (global : ℕ → ℕ) → StateIsConsistent st → SessionMatches words live x.implied st s global →
     (ls : List ℕ) (a b : ℕ) → IsReordering ls (a ∷ b ∷ []) → AreDistinct ls → a < 2 * length st.values → b < 2 * length st.values → AreMapped global s.solver_names (a ∷ b ∷ []) → length x.implied ≡ 2 * length st.values → is_tautology ls ≡ false →
     SessionMatches words live (with_binary a b x).implied st (after (AddClause (map (with_var global) ls)) s) global
 fits_added_binary words live x st s global agrees fits ls a b order differ small_a small_b names room taut =
@@ -150,7 +150,7 @@ fits_added_binary words live x st s global agrees fits ls a b order differ small
     (paired_binary x a b first second apart_ab fits.paired)
 
 -- a long clause
-pub fits_added_long_as : (words words' : List ℕ) (db db' : Db) (implied : List (List ℕ)) (st : State) (s : Session) (global : ℕ → ℕ) → StateIsConsistent st → SessionMatches words (live_refs words db.refs) implied st s global →
+pub fits_added_long_as : (words words' : List ℕ) (db db' : Db) (implied : List (List ℕ)) (st : PropagationState) (s : Session) (global : ℕ → ℕ) → StateIsConsistent st → SessionMatches words (live_refs words db.refs) implied st s global →
     (ls ms : List ℕ) (o : ℕ) (header : Header) → DbMatchesBuffer words db → AddsLongClause words db words' db' o header ms → is_learned header.tier ≡ false → IsReordering ls ms → AreDistinct ls → 3 ≤ length ms →
     AreMapped global s.solver_names ms → is_tautology ls ≡ false →
     SessionMatches words' (live_refs words' db'.refs) implied st (after (AddClause (map (with_var global) ls)) s) global

@@ -15,19 +15,19 @@ use Rattle.sat_parts.specs.prop.Graphs.{node_of}
 use Rattle.sat_parts.specs.prop.State.{level}
 use Rattle.sat_parts.proofs.lemmas.clause.ListLemmas.{place_in}
 use Rattle.sat_parts.proofs.lemmas.prop.StateLemmas.{negated_variable, negated_twice, true_from_false, false_from_true, not_both}
-use Rattle.sat_solver.specs.session.Session.{Session, IsLive, denied_in}
+use Rattle.sat_solver.specs.session.Session.{Session, IsLive, rup_assumptions}
 use Rattle.sat_solver.specs.session.LiveClauses.{LiveClause, IsIn, with_var, mapped, AreMapped}
 use Rattle.sat_solver.proofs.lemmas.session.Lists.{counts_in}
 use Rattle.sat_solver.proofs.lemmas.session.Mapped.{negated_mapped, among_mapped, apart}
 use Rattle.sat_solver.specs.session.SolverClauses.{binaries, longs, solver_clauses}
-use Rattle.sat_solver.specs.analyze_conflict.Work.{Work}
-use Rattle.sat_solver.specs.analyze_conflict.Derivation.{Learns}
+use Rattle.sat_solver.specs.analyze_conflict.AnalysisState.{AnalysisState}
+use Rattle.sat_solver.specs.analyze_conflict.Derivation.{AnalysisResult}
 use Rattle.sat_solver.specs.analyze_conflict.Advances.{IsStored, stored_long, stored_pair}
 use Rattle.sat_solver.proofs.lemmas.analyze_conflict.Advancing.{IsLow, OthersLow, stored_low}
-use Rattle.sat_parts.specs.declared.parts.Parts.{Parts}
+use Rattle.sat_parts.specs.declared.parts.SearchState.{SearchState}
 use Rattle.sat_parts.specs.parts.Whole.{state, IsRefuted}
 use Rattle.sat_solver.specs.session.Fits.{is_redundant, SessionMatchesParts, TrueLitsHaveNames}
-use Rattle.sat_solver.specs.session.Advancing.{LeadsOn, StaysNew, Advances, AreConsistent, LearnedAdvancesIn}
+use Rattle.sat_solver.specs.session.Advancing.{UnitPropagates, StaysUnassignedInSession, IsEmpowering, AreConsistent, LearnedIsEmpoweringInSession}
 use Rattle.sat_solver.proofs.lemmas.fits.UsableLemmas.{among_place}
 use Rattle.sat_solver.proofs.lemmas.fits.FitLemmas.{among_at, among_back, in_either, long_of}
 use Rattle.sat_solver.proofs.lemmas.fits.ModelLemmas.{pair_of, IsPairOf, in_map_back}
@@ -36,7 +36,7 @@ each : (P : ℕ → Type 0) (xs : List ℕ) (m : ℕ) → AllByRecursion P xs �
 each P [] m a e = absurd (true≢false (sym e))
 each P (x ∷ xs) m a e = elim (or_cases (eqb x m) (is_among xs m) e) [ inl q ↦ subst P (eqb-true x m q) a.0 | inr k ↦ each P xs m a.1 k ]
 
-module _ (p : Parts) (e : Conflict) (w : Work) (back : ℕ) (s : Session) (global : ℕ → ℕ) (refuted : IsRefuted p e) (fits : SessionMatchesParts p s global) (named_lits : TrueLitsHaveNames p.assignment.current s global) (learns : Learns p.clauses (state p) (falsified p.clauses e) w back) where
+module _ (p : SearchState) (e : Conflict) (w : AnalysisState) (back : ℕ) (s : Session) (global : ℕ → ℕ) (refuted : IsRefuted p e) (fits : SessionMatchesParts p s global) (named_lits : TrueLitsHaveNames p.assignment.current s global) (learns : AnalysisResult p.clauses (state p) (falsified p.clauses e) w back) where
   abbrev all : List LiveClause
   all = solver_clauses (is_redundant p.clauses) p.clauses (live_refs p.clauses p.db.refs) p.binary.implied
 
@@ -100,7 +100,7 @@ module _ (p : Parts) (e : Conflict) (w : Work) (back : ℕ) (s : Session) (globa
         | inr h ↦ inr (low (negated m) (other_named m named) (subst (λ z. holds z ≡ true) (sym (negated_mapped global m)) h))
       ]
 
-  goes_on : (picked : List (List ℕ)) (holds reached : ℕ → Bool) → LowIn holds → LeadsOn s holds picked reached → LowIn reached
+  goes_on : (picked : List (List ℕ)) (holds reached : ℕ → Bool) → LowIn holds → UnitPropagates s holds picked reached → LowIn reached
   goes_on [] holds reached low h = λ l n t. low l n (h (with_var global l) t)
   goes_on (c ∷ cs) holds reached low h =
       let f : Found c = found c h.0 in
@@ -115,7 +115,7 @@ module _ (p : Parts) (e : Conflict) (w : Work) (back : ℕ) (s : Session) (globa
         | inr k ↦ low l m k
       ]) h.1.3
 
-  at_first : LowIn (denied_in s (map (with_var global) (drop 1 w.clause)))
+  at_first : LowIn (rup_assumptions s (map (with_var global) (drop 1 w.clause)))
   at_first l n t = elim (or_cases (is_among (map negated (map (with_var global) (drop 1 w.clause))) (with_var global l)) (s.units (with_var global l)) t) [
     | inl a ↦
         let x = among_back negated (map (with_var global) (drop 1 w.clause)) (with_var global l) a in
@@ -159,27 +159,27 @@ module _ (p : Parts) (e : Conflict) (w : Work) (back : ℕ) (s : Session) (globa
       }
 
   -- this literal and its negation aren't both assumed
-  one_of : (l : ℕ) → Denied l → denied_in s (map (with_var global) (drop 1 w.clause)) l ≡ true → denied_in s (map (with_var global) (drop 1 w.clause)) (negated l) ≡ true → ⊥
+  one_of : (l : ℕ) → Denied l → rup_assumptions s (map (with_var global) (drop 1 w.clause)) l ≡ true → rup_assumptions s (map (with_var global) (drop 1 w.clause)) (negated l) ≡ true → ⊥
   one_of l d t u =
       let q : ℕ = d.literal in
-      let holds : IsLow (state p) back d.literal = at_first q d.named (subst (λ z. denied_in s (map (with_var global) (drop 1 w.clause)) z ≡ true) (sym d.same) t) in
-      let other : IsLow (state p) back (negated d.literal) = at_first (negated q) (other_named q d.named) (subst (λ z. denied_in s (map (with_var global) (drop 1 w.clause)) z ≡ true) (sym (negated_mapped global q ∙ ap negated d.same)) u) in
+      let holds : IsLow (state p) back d.literal = at_first q d.named (subst (λ z. rup_assumptions s (map (with_var global) (drop 1 w.clause)) z ≡ true) (sym d.same) t) in
+      let other : IsLow (state p) back (negated d.literal) = at_first (negated q) (other_named q d.named) (subst (λ z. rup_assumptions s (map (with_var global) (drop 1 w.clause)) z ≡ true) (sym (negated_mapped global q ∙ ap negated d.same)) u) in
       not_both p.assignment.current (negated q) other.holds (false_from_true p.assignment.current q holds.holds)
 
-  pub agrees : AreConsistent s.units → AreConsistent (denied_in s (map (with_var global) (drop 1 w.clause)))
-  agrees consistent l t = false_from_ne_true (denied_in s (map (with_var global) (drop 1 w.clause)) (negated l)) (λ u.
+  pub agrees : AreConsistent s.units → AreConsistent (rup_assumptions s (map (with_var global) (drop 1 w.clause)))
+  agrees consistent l t = false_from_ne_true (rup_assumptions s (map (with_var global) (drop 1 w.clause)) (negated l)) (λ u.
       elim (or_cases (is_among (map negated (map (with_var global) (drop 1 w.clause))) l) (s.units l) t) [
         | inl a ↦ one_of l (denied_by l a) t u
         | inr x ↦ elim (or_cases (is_among (map negated (map (with_var global) (drop 1 w.clause))) (negated l)) (s.units (negated l)) u) [
-          | inl b ↦ one_of (negated l) (denied_by (negated l) b) u (subst (λ z. denied_in s (map (with_var global) (drop 1 w.clause)) z ≡ true) (sym (negated_twice l)) t)
+          | inl b ↦ one_of (negated l) (denied_by (negated l) b) u (subst (λ z. rup_assumptions s (map (with_var global) (drop 1 w.clause)) z ≡ true) (sym (negated_twice l)) t)
           | inr y ↦ true≢false (sym y ∙ consistent l x)
         ]
       ])
 
-  pub advances : (picked : List (List ℕ)) (reached : ℕ → Bool) → LeadsOn s (denied_in s (map (with_var global) (drop 1 w.clause))) picked reached → StaysNew s (with_var global (get_or w.clause 0 0)) reached
+  pub advances : (picked : List (List ℕ)) (reached : ℕ → Bool) → UnitPropagates s (rup_assumptions s (map (with_var global) (drop 1 w.clause))) picked reached → StaysUnassignedInSession s (with_var global (get_or w.clause 0 0)) reached
   advances picked reached h =
       let l : ℕ = get_or w.clause 0 0 in
-      let low : LowIn reached = goes_on picked (denied_in s (map (with_var global) (drop 1 w.clause))) reached at_first h in
+      let low : LowIn reached = goes_on picked (rup_assumptions s (map (with_var global) (drop 1 w.clause))) reached at_first h in
       record {
         not_true = false_from_ne_true (reached (with_var global l)) (λ t. not_low l refl (low l top_named t));
         not_false = false_from_ne_true (reached (negated (with_var global l))) (λ t.
@@ -193,16 +193,16 @@ module _ (p : Parts) (e : Conflict) (w : Work) (back : ℕ) (s : Session) (globa
       all_of [] x = tt
       all_of (m ∷ ms) x = (inr x.0, all_of ms x.1)
 
-pub learned_advances_in : LearnedAdvancesIn
+pub learned_advances_in : LearnedIsEmpoweringInSession
 learned_advances_in p e w back s global picked reached refuted fits names learns h = advances p e w back s global refuted fits names learns picked reached h
 
 -- the clause advances as it is written in the step
-pub learned_clause_advances : (p : Parts) (e : Conflict) (w : Work) (back : ℕ) (s : Session) (global : ℕ → ℕ) → AreConsistent s.units → IsRefuted p e → SessionMatchesParts p s global → TrueLitsHaveNames p.assignment.current s global → Learns p.clauses (state p) (falsified p.clauses e) w back → Advances s (map (with_var global) w.clause)
+pub learned_clause_advances : (p : SearchState) (e : Conflict) (w : AnalysisState) (back : ℕ) (s : Session) (global : ℕ → ℕ) → AreConsistent s.units → IsRefuted p e → SessionMatchesParts p s global → TrueLitsHaveNames p.assignment.current s global → AnalysisResult p.clauses (state p) (falsified p.clauses e) w back → IsEmpowering s (map (with_var global) w.clause)
 learned_clause_advances p e w back s global consistent refuted fits names learns = record {
   some = subst (λ n. 0 < n) (sym (length-map w.clause (with_var global))) learns.asserting.some;
-  agree = subst (λ ls. AreConsistent (denied_in s ls)) (sym (rest_of (with_var global) w.clause)) (agrees p e w back s global refuted fits names learns consistent);
-  stays = λ picked reached h. subst (λ l. StaysNew s l reached) (sym (first_of (with_var global) w.clause learns.asserting.some))
-      (advances p e w back s global refuted fits names learns picked reached (subst (λ ls. LeadsOn s (denied_in s ls) picked reached) (rest_of (with_var global) w.clause) h));
+  agree = subst (λ ls. AreConsistent (rup_assumptions s ls)) (sym (rest_of (with_var global) w.clause)) (agrees p e w back s global refuted fits names learns consistent);
+  stays = λ picked reached h. subst (λ l. StaysUnassignedInSession s l reached) (sym (first_of (with_var global) w.clause learns.asserting.some))
+      (advances p e w back s global refuted fits names learns picked reached (subst (λ ls. UnitPropagates s (rup_assumptions s ls) picked reached) (rest_of (with_var global) w.clause) h));
 }
   where
     first_of : (f : ℕ → ℕ) (ls : List ℕ) → 0 < length ls → get_or (map f ls) 0 0 ≡ f (get_or ls 0 0)

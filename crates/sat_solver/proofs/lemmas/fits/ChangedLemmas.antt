@@ -5,7 +5,7 @@ use Rattle.std.specs.List.{Contains}
 use Rattle.sat_base.specs.values.Literals.{negated}
 use Rattle.sat_store.specs.clause.Buffer.{lits_at}
 use Rattle.sat_store.specs.clause.Header.{Header, is_learned}
-use Rattle.sat_parts.specs.clause.Db.{Db, DbMatchesBuffer, AreRising, is_live, live_refs, without, AddsLongClause, DeletesClause}
+use Rattle.sat_parts.specs.clause.Db.{Db, DbMatchesBuffer, AreStrictlyIncreasing, is_live, live_refs, without, AddsLongClause, DeletesClause}
 use Rattle.sat_parts.specs.clause.Orders.{AreDistinct, IsReordering}
 use Rattle.sat_parts.specs.prop.Binaries.{Binaries, with_binary}
 use Rattle.sat_parts.proofs.lemmas.clause.ListLemmas.{rising_tail, rising_above, rising_distinct, place_in, in_without}
@@ -19,17 +19,17 @@ use Rattle.sat_solver.specs.session.Fits.{is_redundant}
 use Rattle.sat_solver.proofs.lemmas.fits.FitLemmas.{longs_same}
 
 -- the list of live clauses has every reference once, in rising order
-rising_cons : (x : ℕ) (xs : List ℕ) → ((p : ℕ) → Contains xs p → x < p) → AreRising xs → AreRising (x ∷ xs)
+rising_cons : (x : ℕ) (xs : List ℕ) → ((p : ℕ) → Contains xs p → x < p) → AreStrictlyIncreasing xs → AreStrictlyIncreasing (x ∷ xs)
 rising_cons x xs above h zero zero a b = absurd (omega arith)
 rising_cons x xs above h zero (suc k) a b = above (get_or xs k 0) (place_in xs k (omega arith))
 rising_cons x xs above h (suc j) zero a b = absurd (omega arith)
 rising_cons x xs above h (suc j) (suc k) a b = h j k (omega arith) (omega arith)
 
-rising_live : (words refs : List ℕ) → AreRising refs → AreRising (live_refs words refs)
+rising_live : (words refs : List ℕ) → AreStrictlyIncreasing refs → AreStrictlyIncreasing (live_refs words refs)
 rising_live words [] h = h
 rising_live words (x ∷ xs) h = go (is_live words x) (rising_live words xs (rising_tail x xs h))
   where
-    go : (b : Bool) → AreRising (live_refs words xs) → AreRising (cond b (x ∷ live_refs words xs) (live_refs words xs))
+    go : (b : Bool) → AreStrictlyIncreasing (live_refs words xs) → AreStrictlyIncreasing (cond b (x ∷ live_refs words xs) (live_refs words xs))
     go true ih = rising_cons x (live_refs words xs) (λ p c. rising_above x xs p h (live_in words xs p c)) ih
     go false ih = ih
 

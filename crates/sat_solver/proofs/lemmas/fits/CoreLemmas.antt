@@ -4,18 +4,18 @@ use Rattle.std.proofs.lemmas.Bool.{or_cases, or_left, or_right, eq-eqb}
 use Rattle.sat_base.specs.values.Literals.{negated}
 use Rattle.sat_base.specs.values.Hashes.{hash_of}
 use Rattle.sat_base.specs.steps.Steps.{FailedAssumptions}
-use Rattle.sat_checker.specs.LiteralSets.{is_among, is_part, is_tautology}
+use Rattle.sat_checker.specs.LiteralSets.{is_among, is_subset_of, is_tautology}
 use Rattle.sat_checker.specs.Propagation.{UnitInTurn}
 use Rattle.sat_checker.proofs.lemmas.sets.Order.{among-append}
 use Rattle.sat_checker.proofs.lemmas.sets.Canonical.{tautology_from, both_signs}
 use Rattle.sat_parts.specs.clause.Stored.{AreClauses}
-use Rattle.sat_parts.specs.prop.Graphs.{is_unit_reason, node_of}
-use Rattle.sat_parts.specs.prop.State.{State, node, level, StateIsConsistent}
+use Rattle.sat_parts.specs.prop.Graphs.{has_no_clause, node_of}
+use Rattle.sat_parts.specs.prop.State.{PropagationState, node, level, StateIsConsistent}
 use Rattle.sat_parts.specs.prop.Reasons.{AreUnitInTurn}
 use Rattle.sat_parts.specs.prop.Values.{IsFalseLit}
 use Rattle.sat_parts.proofs.lemmas.prop.StateLemmas.{negated_twice, negated_variable, true_from_false}
-use Rattle.sat_checker.specs.Leading.{LeadsToConflict}
-use Rattle.sat_solver.specs.session.Session.{Session, IsAllowedStep, MayDerive, AreLiveByHash, denied_in, by_clauses, by_derivation, by_signs, by_unit}
+use Rattle.sat_checker.specs.Leading.{PropagatesToConflict}
+use Rattle.sat_solver.specs.session.Session.{Session, IsAllowedStep, MayDerive, AreLiveByHash, rup_assumptions, by_clauses, by_derivation, by_signs, by_unit}
 use Rattle.sat_solver.specs.session.LiveClauses.{with_var}
 use Rattle.sat_solver.proofs.lemmas.session.Mapped.{negated_mapped, among_mapped, leads_mapped, Carries}
 use Rattle.sat_solver.specs.session.TrailUnits.{IsUsable}
@@ -34,16 +34,16 @@ hashes_of : (f : ℕ → List ℕ) (ls : List ℕ) → map hash_of (map f ls) �
 hashes_of f [] = refl
 hashes_of f (l ∷ ls) = ap (λ hs. hash_of (f l) ∷ hs) (hashes_of f ls)
 
-one_part : (l : ℕ) (ls : List ℕ) → is_among ls l ≡ true → is_part (l ∷ []) ls ≡ true
+one_part : (l : ℕ) (ls : List ℕ) → is_among ls l ≡ true → is_subset_of (l ∷ []) ls ≡ true
 one_part l ls t = rw t refl
 
 -- the reasons of the used literals refute the core: they are unit in turn under it, and the last one is falsified
-module _ (words live : List ℕ) (implied : List (List ℕ)) (st : State) (s : Session) (global : ℕ → ℕ) (fits : SessionMatches words live implied st s global) (agrees : StateIsConsistent st) (clauses : AreClauses words live (length st.values)) (bare : UnitsHaveNoReason st) (turns : AreUnitInTurn words live implied st 0) where
+module _ (words live : List ℕ) (implied : List (List ℕ)) (st : PropagationState) (s : Session) (global : ℕ → ℕ) (fits : SessionMatches words live implied st s global) (agrees : StateIsConsistent st) (clauses : AreClauses words live (length st.values)) (bare : UnitsHaveNoReason st) (turns : AreUnitInTurn words live implied st 0) where
   all_usable : (used : List ℕ) → ((k : ℕ) → k < length used → IsReasoned st 0 (get_or used k 0)) → AllUsable s global (map (clause_of words st) used)
   all_usable [] r = tt
   all_usable (l ∷ ls) r =
       let x : IsReasoned st 0 l = r 0 (omega arith) in (
-        subst (λ m. IsUsable s global (clause_of words st m)) x.there (place_usable words live implied st s global fits clauses turns x.place x.within (ap (λ m. is_unit_reason (node st m).reason) x.there ∙ x.caused)),
+        subst (λ m. IsUsable s global (clause_of words st m)) x.there (place_usable words live implied st s global fits clauses turns x.place x.within (ap (λ m. has_no_clause (node st m).reason) x.there ∙ x.caused)),
         all_usable ls (λ k lt. r (suc k) (omega arith)),
       )
 
@@ -53,17 +53,17 @@ module _ (words live : List ℕ) (implied : List (List ℕ)) (st : State) (s : S
       let cs : List (List ℕ) = map (clause_of words st) used in
       let known : ℕ → Bool = λ l. is_among core l || is_among (bottom st) l in
       let units : AreLevelZeroLits st (bottom st) = bottom_units st in
-      let leads : LeadsToConflict known (map (clause_of words st) used) =
+      let leads : PropagatesToConflict known (map (clause_of words st) used) =
       leads_from_turns cs known (core ++ bottom st) (λ l k. sym (among-append core (bottom st) l) ∙ k) (acceptable (bottom st) units) in
       let ks : List ℕ = map negated (map (with_var global) core) in
-      let carries : Carries global known (denied_in s ks) = λ l k. elim (or_cases (is_among core l) (is_among (bottom st) l) k) [
+      let carries : Carries global known (rup_assumptions s ks) = λ l k. elim (or_cases (is_among core l) (is_among (bottom st) l) k) [
         | inl t ↦ or_left (is_among (map negated ks) (with_var global l)) (s.units (with_var global l)) (subst (λ ms. is_among ms (with_var global l) ≡ true) (sym (twice (map (with_var global) core))) (among_mapped (with_var global) core l t))
         | inr t ↦ or_right (is_among (map negated ks) (with_var global l)) (s.units (with_var global l)) (let o = units.only l t in bottom_known words live implied st s global fits clauses turns agrees bare l o.0 o.1)
       ] in
       by_clauses (map (map (with_var global)) cs) (subst (AreLiveByHash s (map (map (with_var global)) cs)) (hashes_of (clause_of words st) used) (named_by s global cs fits.width (all_usable used reasons)))
-      (leads_mapped global cs known (denied_in s ks) carries leads)
+      (leads_mapped global cs known (rup_assumptions s ks) carries leads)
 
-  pub core_may : (core used assumed : List ℕ) → s.assumed ≡ map (with_var global) assumed → is_part core assumed ≡ true → ((k : ℕ) → k < length used → IsReasoned st 0 (get_or used k 0)) →
+  pub core_may : (core used assumed : List ℕ) → s.assumed ≡ map (with_var global) assumed → is_subset_of core assumed ≡ true → ((k : ℕ) → k < length used → IsReasoned st 0 (get_or used k 0)) →
       ((units : List ℕ) → AreLevelZeroLits st units → UnitInTurn (core ++ units) (map (clause_of words st) used)) →
       IsAllowedStep s (FailedAssumptions (map (with_var global) core) (map (λ l. hash_of (clause_of words st l)) used))
   core_may core used assumed e within reasons acceptable = (assumed_part s global core assumed e within, by_derivation (core_derives core used reasons acceptable))
@@ -79,7 +79,7 @@ module _ (words live : List ℕ) (implied : List (List ℕ)) (st : State) (s : S
       )
 
 -- assumptions with both signs of a variable are a core without any clause
-pub core_signs_may : (s : Session) (global : ℕ → ℕ) (core assumed hashes : List ℕ) → s.assumed ≡ map (with_var global) assumed → is_part core assumed ≡ true → is_tautology core ≡ true →
+pub core_signs_may : (s : Session) (global : ℕ → ℕ) (core assumed hashes : List ℕ) → s.assumed ≡ map (with_var global) assumed → is_subset_of core assumed ≡ true → is_tautology core ≡ true →
     IsAllowedStep s (FailedAssumptions (map (with_var global) core) hashes)
 core_signs_may s global core assumed hashes e within taut =
     let b = both_signs core taut in
@@ -90,7 +90,7 @@ core_signs_may s global core assumed hashes e within taut =
     (assumed_part s global core assumed e within, by_signs (tautology_from (map negated ks) (negated (with_var global b.literal)) first second))
 
 -- an assumption and its negation are a core
-pub core_pair_may : (s : Session) (global : ℕ → ℕ) (failed : ℕ) (assumed hashes : List ℕ) → s.assumed ≡ map (with_var global) assumed → is_part (failed ∷ negated failed ∷ []) assumed ≡ true →
+pub core_pair_may : (s : Session) (global : ℕ → ℕ) (failed : ℕ) (assumed hashes : List ℕ) → s.assumed ≡ map (with_var global) assumed → is_subset_of (failed ∷ negated failed ∷ []) assumed ≡ true →
     IsAllowedStep s (FailedAssumptions (map (with_var global) (failed ∷ negated failed ∷ [])) hashes)
 core_pair_may s global failed assumed hashes e within =
     core_signs_may s global (failed ∷ negated failed ∷ []) assumed hashes e within

@@ -6,7 +6,7 @@ use Rattle.sat_store.specs.clause.Buffer.{lits_at}
 use Rattle.sat_checker.specs.LiteralSets.{is_among}
 use Rattle.sat_parts.specs.clause.Db.{Db, DbMatchesBuffer, live_refs, DeletesClause}
 use Rattle.sat_parts.specs.clause.Orders.{IsReordering}
-use Rattle.sat_parts.specs.prop.State.{State}
+use Rattle.sat_parts.specs.prop.State.{PropagationState}
 use Rattle.sat_solver.specs.session.Session.{Session, after, IsAllowedStep}
 use Rattle.sat_solver.specs.session.LiveClauses.{LiveClause, with_var}
 use Rattle.sat_solver.specs.session.SolverClauses.{solver_clauses, InsertsClause}
@@ -17,7 +17,7 @@ use Rattle.sat_solver.proofs.lemmas.fits.ListedLemmas.{listed, fits_listed, list
 use Rattle.sat_solver.proofs.lemmas.fits.ChangedLemmas.{deleted_there}
 
 -- the step has the literals of the clause in some order, `ls`
-module _ (words words' : List ℕ) (db db' : Db) (implied : List (List ℕ)) (st : State) (s : Session) (global : ℕ → ℕ) (fits : SessionMatches words (live_refs words db.refs) implied st s global) (held : DbMatchesBuffer words db) (o : ℕ) (there : Contains (live_refs words db.refs) o) (gone : DeletesClause words db words' db' o) (ls : List ℕ) (order : IsReordering ls (lits_at words o)) where
+module _ (words words' : List ℕ) (db db' : Db) (implied : List (List ℕ)) (st : PropagationState) (s : Session) (global : ℕ → ℕ) (fits : SessionMatches words (live_refs words db.refs) implied st s global) (held : DbMatchesBuffer words db) (o : ℕ) (there : Contains (live_refs words db.refs) o) (gone : DeletesClause words db words' db' o) (ls : List ℕ) (order : IsReordering ls (lits_at words o)) where
   abbrev old : List LiveClause
   old = solver_clauses (is_redundant words) words (live_refs words db.refs) implied
 

@@ -14,10 +14,10 @@ use Rattle.sat_parts.specs.declared.prop.graph.ImplNode.{ImplNode}
 use Rattle.sat_parts.specs.declared.prop.graph.Reason.{Reason}
 use Rattle.sat_parts.specs.clause.Orders.{IsReordering, SameUpToOrder}
 use Rattle.sat_parts.specs.clause.Stored.{AreClauses}
-use Rattle.sat_parts.specs.prop.Graphs.{is_unit_reason}
+use Rattle.sat_parts.specs.prop.Graphs.{has_no_clause}
 use Rattle.sat_parts.specs.prop.Binaries.{Binaries, implied_by, with_implied, with_binary}
-use Rattle.sat_parts.specs.prop.Values.{value_of, IsTrueLit, IsOpenLit}
-use Rattle.sat_parts.specs.prop.State.{State, node, level, lit_at, StateIsConsistent, TrailGrows, enqueued}
+use Rattle.sat_parts.specs.prop.Values.{value_of, IsTrueLit, IsUnassignedLit}
+use Rattle.sat_parts.specs.prop.State.{PropagationState, node, level, lit_at, StateIsConsistent, TrailGrows, enqueued}
 use Rattle.sat_parts.proofs.lemmas.clause.ListLemmas.{at_place, place_in}
 use Rattle.sat_parts.proofs.lemmas.prop.StateLemmas.{negated_twice, negated_variable, grows_enqueued, lit_last, node_new, true_new}
 use Rattle.sat_parts.proofs.lemmas.prop.RoomLemmas.{room_for}
@@ -37,7 +37,7 @@ use Rattle.sat_solver.proofs.lemmas.trail.ClauseLemmas.{in_after, long_there}
 
 -- NO NEW UNITS
 
-pub fits_carried : (words live : List ℕ) (implied : List (List ℕ)) (st st' : State) (s : Session) (global : ℕ → ℕ) → AddsNoUnit st st' → SessionMatches words live implied st s global → SessionMatches words live implied st' s global
+pub fits_carried : (words live : List ℕ) (implied : List (List ℕ)) (st st' : PropagationState) (s : Session) (global : ℕ → ℕ) → AddsNoUnit st st' → SessionMatches words live implied st s global → SessionMatches words live implied st' s global
 fits_carried words live implied st st' s global c h = record {
   clauses = h.clauses;
   paired = h.paired;
@@ -156,7 +156,7 @@ of_reordered words words' live implied s global count clauses kept h = record {
       (counts_kept global (is_redundant words) (is_redundant words') words words' live r set (λ o c. (ap (λ (x : Header). is_learned x.tier) (kept.headers o c), kept.lits o c)));
 }
 
-pub fits_reordered : (words words' live : List ℕ) (implied : List (List ℕ)) (st : State) (s : Session) (global : ℕ → ℕ) → AreClauses words' live (length st.values) → SameUpToOrder words words' live →
+pub fits_reordered : (words words' live : List ℕ) (implied : List (List ℕ)) (st : PropagationState) (s : Session) (global : ℕ → ℕ) → AreClauses words' live (length st.values) → SameUpToOrder words words' live →
     SessionMatches words live implied st s global → SessionMatches words' live implied st s global
 fits_reordered words words' live implied st s global clauses kept h = record {
   clauses = of_reordered words words' live implied s global (length st.values) clauses kept h.clauses;
@@ -195,7 +195,7 @@ paired_binary x a b first second differ h =
 -- A LEARNED CLAUSE
 
 -- enqueuing a literal adds no unit except this literal, if no clause is its reason
-pub units_enqueued : (s : State) (l : ℕ) (r : Reason) → StateIsConsistent s → IsOpenLit s.values l → variable l < length s.values → (m : ℕ) → IsUnitLit (enqueued l r s) m → IsUnitLit s m ⊎ ((m ≡ l) × (is_unit_reason r ≡ true))
+pub units_enqueued : (s : PropagationState) (l : ℕ) (r : Reason) → StateIsConsistent s → IsUnassignedLit s.values l → variable l < length s.values → (m : ℕ) → IsUnitLit (enqueued l r s) m → IsUnitLit s m ⊎ ((m ≡ l) × (has_no_clause r ≡ true))
 units_enqueued s l r a free below m (inl x) = inl (inl ((grows_enqueued s l r a free below (room_for s l r a free below)).removed m x))
 units_enqueued s l r a free below m (inr b) =
     let g : TrailGrows s (enqueued l r s) = grows_enqueued s l r a free below (room_for s l r a free below) in
@@ -209,12 +209,12 @@ units_enqueued s l r a free below m (inr b) =
             within = lt;
             there = there;
             bottom = ap (λ (n : ImplNode). n.level) (sym same) ∙ b.bottom;
-            none = ap (λ (n : ImplNode). is_unit_reason n.reason) (sym same) ∙ b.none;
+            none = ap (λ (n : ImplNode). has_no_clause n.reason) (sym same) ∙ b.none;
           }))
       | inr ge ↦
           let last : b.place ≡ length s.trail.lits = omega (arith, b.within) in
           let at : m ≡ l = sym b.there ∙ ap (λ k. lit_at (enqueued l r s) k) last ∙ lit_last s l r in
-          inr (at, ap (λ (n : ImplNode). is_unit_reason n.reason) (sym (ap (λ z. node (enqueued l r s) z) at ∙ node_new s l r (omega (arith, a.nodes)))) ∙ b.none)
+          inr (at, ap (λ (n : ImplNode). has_no_clause n.reason) (sym (ap (λ z. node (enqueued l r s) z) at ∙ node_new s l r (omega (arith, a.nodes)))) ∙ b.none)
     ]
 
 pub alone : (ls : List ℕ) → length ls ≡ 1 → ls ≡ get_or ls 0 0 ∷ []
@@ -236,9 +236,9 @@ fact_unsat l s n = go (s.units l) (s.units (negated l)) n
     go false true e = absurd (true≢false e)
     go false false e = refl
 
-module _ (words live : List ℕ) (implied : List (List ℕ)) (st : State) (s : Session) (global : ℕ → ℕ) (agrees : StateIsConsistent st) (fits : SessionMatches words live implied st s global) where
+module _ (words live : List ℕ) (implied : List (List ℕ)) (st : PropagationState) (s : Session) (global : ℕ → ℕ) (agrees : StateIsConsistent st) (fits : SessionMatches words live implied st s global) where
   -- a learned unit, at level 0
-  pub fits_unit : (l : ℕ) (r : Reason) (flag : Bool) (hashes : List ℕ) → s.solver_names (global (variable l)) ≡ Some (variable l) → IsOpenLit st.values l → variable l < length st.values → st.trail.starts ≡ [] →
+  pub fits_unit : (l : ℕ) (r : Reason) (flag : Bool) (hashes : List ℕ) → s.solver_names (global (variable l)) ≡ Some (variable l) → IsUnassignedLit st.values l → variable l < length st.values → st.trail.starts ≡ [] →
       SessionMatches words live implied (enqueued l r st) (after (AtClause flag (with_var global l ∷ []) hashes) s) global
   fits_unit l r flag hashes its free below bottom =
       let g : TrailGrows st (enqueued l r st) = grows_enqueued st l r agrees free below (room_for st l r agrees free below) in
@@ -268,7 +268,7 @@ module _ (words live : List ℕ) (implied : List (List ℕ)) (st : State) (s : S
       }
 
   -- a longer learned clause, if the list of clauses is as the step says
-  pub fits_long_by : (words' live' : List ℕ) (implied' : List (List ℕ)) (l : ℕ) (r : Reason) (flag : Bool) (c hashes : List ℕ) → IsOpenLit st.values l → variable l < length st.values → is_unit_reason r ≡ false →
+  pub fits_long_by : (words' live' : List ℕ) (implied' : List (List ℕ)) (l : ℕ) (r : Reason) (flag : Bool) (c hashes : List ℕ) → IsUnassignedLit st.values l → variable l < length st.values → has_no_clause r ≡ false →
       NoRepeats c → 1 < length c → is_tautology c ≡ false → ArePaired implied' → AreOf (after (AtClause flag c hashes) s) global (solver_clauses (is_redundant words') words' live' implied') →
       SessionMatches words' live' implied' (enqueued l r st) (after (AtClause flag c hashes) s) global
   fits_long_by words' live' implied' l r flag c hashes free below caused once long taut paired clauses =

@@ -17,9 +17,9 @@ use Rattle.sat_parts.proofs.lemmas.prop.StateLemmas.{level_low}
 use Rattle.sat_solver.specs.session.Session.{Session, after, IsAllowedStep}
 use Rattle.sat_solver.specs.session.LiveClauses.{LiveClause, with_var, AreOf}
 use Rattle.sat_solver.specs.session.SolverClauses.{longs, solver_clauses}
-use Rattle.sat_parts.specs.declared.parts.Parts.{Parts}
+use Rattle.sat_parts.specs.declared.parts.SearchState.{SearchState}
 use Rattle.sat_parts.specs.parts.Round.{IsUnused}
-use Rattle.sat_parts.specs.parts.Whole.{state, PartsInvariant}
+use Rattle.sat_parts.specs.parts.Whole.{state, SearchStateInvariant}
 use Rattle.sat_parts.specs.parts.Frame.{AddsNoUnit, SameState, ChangesHeaders, DropsLongClause, ShortensLongClause, MovesLongClauses, RemovesBinaries, AddsVars, FreesVar, AddsOriginalClause, stores_binary, stores_long, IsUnitLit}
 use Rattle.sat_solver.specs.session.Fits.{ArePaired, is_redundant, SessionMatchesParts}
 use Rattle.sat_solver.specs.session.Listed.{LeftParts, ArePlain}
@@ -34,26 +34,26 @@ use Rattle.sat_solver.proofs.lemmas.fits.DeletedLemmas.{fits_deleted_redundant, 
 use Rattle.sat_solver.proofs.lemmas.fits.RemovedParts.{parts_removal_ends}
 use Rattle.sat_solver.proofs.lemmas.fits.ListedLemmas.{listed, fits_listed}
 
-abbrev clauses_of : Parts → List LiveClause
+abbrev clauses_of : SearchState → List LiveClause
 clauses_of p = solver_clauses (is_redundant p.clauses) p.clauses (live_refs p.clauses p.db.refs) p.binary.implied
 
 -- two steps that may be written one after the other, after which parts and session match
-pub record BothParts (p p' : Parts) (s : Session) (global : ℕ → ℕ) (first second : Step) : Type 0 where
+pub record BothParts (p p' : SearchState) (s : Session) (global : ℕ → ℕ) (first second : Step) : Type 0 where
   pub derive : IsAllowedStep s first
   pub delete : IsAllowedStep (after first s) second
   pub fits : SessionMatchesParts p' (after second (after first s)) global
 
 -- at level 0 every true literal is a unit
-pub bottom_unit : (p : Parts) (l : ℕ) → PartsInvariant p → p.trail.starts ≡ [] → IsTrueLit p.assignment.current l → IsUnitLit (state p) l
+pub bottom_unit : (p : SearchState) (l : ℕ) → SearchStateInvariant p → p.trail.starts ≡ [] → IsTrueLit p.assignment.current l → IsUnitLit (state p) l
 bottom_unit p l holds bottom t =
     let agrees : StateIsConsistent (state p) = holds.below.asks.agrees in
     let none : length p.trail.starts ≡ 0 = ap (λ (xs : List ℕ). length xs) bottom in
     true_unit (state p) l agrees holds.units t (let z : level (state p) l ≤ current_level (state p) = level_low (state p) l agrees t in omega arith)
 
-pub same_state : (p p' : Parts) → SameState p p' → state p' ≡ state p
+pub same_state : (p p' : SearchState) → SameState p p' → state p' ≡ state p
 same_state p p' x = rw (x.0, x.1, x.2) refl
 
-module _ (p p' : Parts) (s : Session) (global : ℕ → ℕ) (fits : SessionMatchesParts p s global) where
+module _ (p p' : SearchState) (s : Session) (global : ℕ → ℕ) (fits : SessionMatchesParts p s global) where
   abbrev live : List ℕ
   live = live_refs p.clauses p.db.refs
 
@@ -74,7 +74,7 @@ module _ (p p' : Parts) (s : Session) (global : ℕ → ℕ) (fits : SessionMatc
       (fits_carried p'.clauses live' p.binary.implied (state p) (state p') s global h.carries
       (fits_longs p.clauses p'.clauses live live' p.binary.implied (state p) s global (longs_copied p.clauses live p'.clauses live' h.copies) fits))
 
-  module _ (holds : PartsInvariant p) (o : ℕ) (there : Contains live o) (ls : List ℕ) (order : IsReordering ls (lits_at p.clauses o)) where
+  module _ (holds : SearchStateInvariant p) (o : ℕ) (there : Contains live o) (ls : List ℕ) (order : IsReordering ls (lits_at p.clauses o)) where
     -- a long clause is deleted
     pub fits_dropped_redundant : DropsLongClause p p' o → is_redundant p.clauses o ≡ true →
         IsAllowedStep s (DeleteClause (map (with_var global) ls) Redundant) × SessionMatchesParts p' (after (DeleteClause (map (with_var global) ls) Redundant) s) global
@@ -98,7 +98,7 @@ module _ (p p' : Parts) (s : Session) (global : ℕ → ℕ) (fits : SessionMatc
             record { derive = x.derive; delete = x.delete; fits = rw (same_state p p' short.same.0, short.same.1, short.db) x.fits }
 
       -- the part has two literals: it is stored, then the clause is deleted
-      module _ (pm : Parts) (two : length part ≡ 2) (stores : AddsOriginalClause p pm part) (drops : DropsLongClause pm p' o) (are : AreTwo (state p) (lits_at p.clauses o) (get_or part 0 0) (get_or part 1 0)) where
+      module _ (pm : SearchState) (two : length part ≡ 2) (stores : AddsOriginalClause p pm part) (drops : DropsLongClause pm p' o) (are : AreTwo (state p) (lits_at p.clauses o) (get_or part 0 0) (get_or part 1 0)) where
         abbrev a : ℕ
         a = get_or part 0 0
 
@@ -136,11 +136,11 @@ module _ (p p' : Parts) (s : Session) (global : ℕ → ℕ) (fits : SessionMatc
             record { derive = x.derive; delete = x.delete; fits = rw m.pairs (fits_carried p'.clauses live' (with_binary a b p.binary).implied (state p) (state p') t global m.carries x.fits) }
 
 -- binary clauses were removed, after their steps
-pub fits_removed : (p p' : Parts) (s : Session) (global : ℕ → ℕ) → PartsInvariant p → ArePaired p.binary.implied → p.trail.starts ≡ [] → p.trail.lits ≡ [] → LeftParts p s global (length p.binary.implied) 0 → RemovesBinaries p p' → SessionMatchesParts p' s global
+pub fits_removed : (p p' : SearchState) (s : Session) (global : ℕ → ℕ) → SearchStateInvariant p → ArePaired p.binary.implied → p.trail.starts ≡ [] → p.trail.lits ≡ [] → LeftParts p s global (length p.binary.implied) 0 → RemovesBinaries p p' → SessionMatchesParts p' s global
 fits_removed p p' s global holds paired bottom empty h r = parts_removal_ends p global holds paired bottom empty p' s h r.removes r.clauses r.db (same_state p p' r.state)
 
 -- variables were added
-pub fits_grown : (p p' : Parts) (count : ℕ) (s : Session) (global : ℕ → ℕ) → PartsInvariant p → length p.assignment.current ≤ count → AddsVars p p' count → SessionMatchesParts p s global → SessionMatchesParts p' s global
+pub fits_grown : (p p' : SearchState) (count : ℕ) (s : Session) (global : ℕ → ℕ) → SearchStateInvariant p → length p.assignment.current ≤ count → AddsVars p p' count → SessionMatchesParts p s global → SessionMatchesParts p' s global
 fits_grown p p' count s global holds more g h =
     let room : length p.binary.implied ≡ 2 * length p.assignment.current = holds.below.asks.ranges.room in
     let fewer : length p.binary.implied ≤ 2 * count = omega arith in
@@ -157,7 +157,7 @@ fits_grown p p' count s global holds more g h =
     }
 
 -- a variable in no clause loses its solver name and its value
-pub fits_freed : (p p' : Parts) (s : Session) (global : ℕ → ℕ) (w x : ℕ) → SessionMatchesParts p s global → FreesVar p p' x → IsUnused p.clauses (live_refs p.clauses p.db.refs) p.binary.implied x → s.solver_names w ≡ Some x → global x ≡ w →
+pub fits_freed : (p p' : SearchState) (s : Session) (global : ℕ → ℕ) (w x : ℕ) → SessionMatchesParts p s global → FreesVar p p' x → IsUnused p.clauses (live_refs p.clauses p.db.refs) p.binary.implied x → s.solver_names w ≡ Some x → global x ≡ w →
     SessionMatchesParts p' (after (SolverVarName w None) s) global
 fits_freed p p' s global w x fits f unused its there =
     let live : List ℕ = live_refs p.clauses p.db.refs in

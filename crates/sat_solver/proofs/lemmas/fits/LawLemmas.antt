@@ -6,10 +6,10 @@ use Rattle.sat_parts.proofs.lemmas.prop.RoomLemmas.{below_from_value}
 use Rattle.sat_parts.specs.prop.Causes.{falsified}
 use Rattle.sat_solver.proofs.lemmas.analyze_conflict.Advancing.{learned_advances}
 use Rattle.sat_parts.specs.parts.Whole.{state}
-use Rattle.sat_solver.specs.session.FitLaws.{ModelMay, LearnedIsNew, NothingFits}
+use Rattle.sat_solver.specs.session.FitLaws.{ModelIsAllowed, LearnedIsNew, NothingFits}
 use Rattle.sat_solver.proofs.lemmas.fits.ModelLemmas as models
 
-pub model_may : ModelMay
+pub model_may : ModelIsAllowed
 model_may p s global ls fits names holds lits all modelled = models.model_may p s global fits names holds.below.asks.ranges.room ls lits all modelled
 
 pub learned_is_new : LearnedIsNew

@@ -18,9 +18,9 @@ use Rattle.sat_parts.specs.declared.prop.graph.Reason.{Reason}
 use Rattle.sat_parts.specs.clause.Db.{Db, DbMatchesBuffer, live_refs, AddsLongClause}
 use Rattle.sat_parts.specs.clause.Orders.{AreDistinct}
 use Rattle.sat_parts.specs.prop.Binaries.{Binaries, with_binary}
-use Rattle.sat_parts.specs.prop.Graphs.{is_unit_reason}
+use Rattle.sat_parts.specs.prop.Graphs.{has_no_clause}
 use Rattle.sat_parts.specs.prop.Values.{IsFalseLit}
-use Rattle.sat_parts.specs.prop.State.{State, level, current_level, StateIsConsistent, enqueued}
+use Rattle.sat_parts.specs.prop.State.{PropagationState, level, current_level, StateIsConsistent, enqueued}
 use Rattle.sat_parts.specs.prop.Ready.{AreAllFalse}
 use Rattle.sat_parts.proofs.lemmas.clause.ListLemmas.{at_place}
 use Rattle.sat_parts.proofs.lemmas.prop.StateLemmas.{true_from_false, not_both}
@@ -32,11 +32,11 @@ use Rattle.sat_solver.proofs.lemmas.session.Mapped.{once_mapped}
 use Rattle.sat_solver.proofs.lemmas.session.StepsOfClauses.{derived_comes, length_mapped}
 use Rattle.sat_solver.specs.session.SolverClauses.{binaries, longs, solver_clauses}
 use Rattle.sat_solver.proofs.lemmas.trail.LearningLemmas.{learned}
-use Rattle.sat_solver.specs.analyze_conflict.Work.{Work}
-use Rattle.sat_solver.specs.analyze_conflict.Derivation.{Learns}
-use Rattle.sat_parts.specs.declared.parts.Parts.{Parts}
-use Rattle.sat_parts.specs.parts.Whole.{state, PartsInvariant}
-use Rattle.sat_parts.specs.parts.Learned.{IsAnalyzedClause, IsPending}
+use Rattle.sat_solver.specs.analyze_conflict.AnalysisState.{AnalysisState}
+use Rattle.sat_solver.specs.analyze_conflict.Derivation.{AnalysisResult}
+use Rattle.sat_parts.specs.declared.parts.SearchState.{SearchState}
+use Rattle.sat_parts.specs.parts.Whole.{state, SearchStateInvariant}
+use Rattle.sat_parts.specs.parts.Learned.{IsAnalyzedClause, IsUnitAfterBacktracking}
 use Rattle.sat_parts.specs.parts.Frame.{SameClauses, AddsLearnedClause, learnt_unit, learnt_binary, learnt_long, AddsNoUnit}
 use Rattle.sat_parts.proofs.lemmas.parts.LearnLemmas.{pending_below}
 use Rattle.sat_solver.specs.session.Fits.{is_redundant, SessionMatches, SessionMatchesParts, FlagFits}
@@ -54,7 +54,7 @@ few_distinct ls n differ below =
     let c : Contains ls q = Contains-from_any {eq = eqb} (λ x y e. eqb-true x y e) q ls any in
     subst (λ z. z < n) (at_place ls q c) (below c.0 c.1))
 
-pub is_learned_clause : (words : List ℕ) (st : State) (conflict : List ℕ) (w : Work) (back : ℕ) → StateIsConsistent st → Learns words st conflict w back → IsAnalyzedClause st w.clause back
+pub is_learned_clause : (words : List ℕ) (st : PropagationState) (conflict : List ℕ) (w : AnalysisState) (back : ℕ) → StateIsConsistent st → AnalysisResult words st conflict w back → IsAnalyzedClause st w.clause back
 is_learned_clause words st conflict w back a h =
     let below : (k : ℕ) → k < length w.clause → get_or w.clause k 0 < 2 * length st.values = λ k lt.
     (let v : variable (get_or w.clause k 0) < length st.values = below_from_value st.values (variable (get_or w.clause k 0)) _ (h.asserting.fails k lt) in omega arith) in
@@ -87,7 +87,7 @@ module _ (s : Session) (global : ℕ → ℕ) (header : Header) (ls hashes : Lis
   mapped_long : 1 < length ls → 1 < length (map (with_var global) ls)
   mapped_long lt = (let e : length (map (with_var global) ls) ≡ length ls = length_mapped (with_var global) ls in omega arith)
 
-  module _ (words : List ℕ) (db : Db) (x : Binaries) (st : State) (q : Queue) (agrees : StateIsConsistent st) (fits : SessionMatches words (live_refs words db.refs) x.implied st s global) (pending : IsPending st q ls) where
+  module _ (words : List ℕ) (db : Db) (x : Binaries) (st : PropagationState) (q : Queue) (agrees : StateIsConsistent st) (fits : SessionMatches words (live_refs words db.refs) x.implied st s global) (pending : IsUnitAfterBacktracking st q ls) where
     once_here : NoRepeats ls
     once_here = once_distinct ls pending.distinct
 
@@ -96,7 +96,7 @@ module _ (s : Session) (global : ℕ → ℕ) (header : Header) (ls hashes : Lis
         subst (λ (c : List ℕ). SessionMatches words (live_refs words db.refs) x.implied (enqueued (get_or ls 0 0) r st) (after (AtClause flag (map (with_var global) c) hashes) s) global) (sym (alone ls one))
         (fits_unit words (live_refs words db.refs) x.implied st s global agrees fits (get_or ls 0 0) r flag hashes (mapped_at global s.solver_names ls 0 mapped_here (omega arith)) pending.open_first pending.there (pending.unit one))
 
-    pub learnt_as_binary : (r : Reason) → is_unit_reason r ≡ false → length ls ≡ 2 → length x.implied ≡ 2 * length st.values →
+    pub learnt_as_binary : (r : Reason) → has_no_clause r ≡ false → length ls ≡ 2 → length x.implied ≡ 2 * length st.values →
         SessionMatches words (live_refs words db.refs) (with_binary (get_or ls 0 0) (get_or ls 1 0) x).implied (enqueued (get_or ls 0 0) r st) now global
     learnt_as_binary r caused two room =
         let a : ℕ = get_or ls 0 0 in
@@ -118,7 +118,7 @@ module _ (s : Session) (global : ℕ → ℕ) (header : Header) (ls hashes : Lis
         fits_long_by words (live_refs words db.refs) x.implied st s global agrees fits words (live_refs words db.refs) (with_binary (get_or ls 0 0) (get_or ls 1 0) x).implied (get_or ls 0 0) r flag (map (with_var global) ls) hashes
         pending.open_first pending.there caused (once_mapped global s.solver_names ls mapped_here once_here) (mapped_long (omega arith)) plain (paired_binary x a b first second differ fits.paired) comes
 
-    pub learnt_as_long : (r : Reason) (words' : List ℕ) (db' : Db) (o : ℕ) → is_unit_reason r ≡ false → 3 ≤ length ls → DbMatchesBuffer words db → AddsLongClause words db words' db' o header ls →
+    pub learnt_as_long : (r : Reason) (words' : List ℕ) (db' : Db) (o : ℕ) → has_no_clause r ≡ false → 3 ≤ length ls → DbMatchesBuffer words db → AddsLongClause words db words' db' o header ls →
         SessionMatches words' (live_refs words' db'.refs) x.implied (enqueued (get_or ls 0 0) r st) now global
     learnt_as_long r words' db' o caused three held adds =
         let live : List ℕ = live_refs words db.refs in
@@ -143,7 +143,7 @@ module _ (s : Session) (global : ℕ → ℕ) (header : Header) (ls hashes : Lis
         pending.open_first pending.there caused (once_mapped global s.solver_names ls mapped_here once_here) (mapped_long (omega arith)) plain fits.paired comes
 
 -- parts and session match after a learned clause of any length
-pub fits_learnt : (p p' : Parts) (s : Session) (global : ℕ → ℕ) (header : Header) (ls hashes : List ℕ) (flag : Bool) → FlagFits flag header ls → is_tautology ls ≡ false → AreMapped global s.solver_names ls → PartsInvariant p → IsPending (state p) p.vsids ls →
+pub fits_learnt : (p p' : SearchState) (s : Session) (global : ℕ → ℕ) (header : Header) (ls hashes : List ℕ) (flag : Bool) → FlagFits flag header ls → is_tautology ls ≡ false → AreMapped global s.solver_names ls → SearchStateInvariant p → IsUnitAfterBacktracking (state p) p.vsids ls →
     AddsLearnedClause p p' header ls → SessionMatchesParts p s global → SessionMatchesParts p' (after (AtClause flag (map (with_var global) ls) hashes) s) global
 fits_learnt p p' s global header ls hashes flag flags taut names holds pending (learnt_unit one same r bare is) fits =
     rw (is, same.0, same.1, same.2) (learnt_as_unit s global header ls hashes flag flags taut names p.clauses p.db p.binary (state p) p.vsids holds.below.asks.agrees fits pending r one)
@@ -153,11 +153,11 @@ fits_learnt p p' s global header ls hashes flag flags taut names holds pending (
     rw (is, b) (learnt_as_long s global header ls hashes flag flags taut names p.clauses p.db p.binary (state p) p.vsids holds.below.asks.agrees fits pending r p'.clauses p'.db o caused three holds.below.held adds)
 
 -- undoing levels preserves the match
-pub fits_undone : (p p' : Parts) (s : Session) (global : ℕ → ℕ) → SameClauses p p' → AddsNoUnit (state p) (state p') → SessionMatchesParts p s global → SessionMatchesParts p' s global
+pub fits_undone : (p p' : SearchState) (s : Session) (global : ℕ → ℕ) → SameClauses p p' → AddsNoUnit (state p) (state p') → SessionMatchesParts p s global → SessionMatchesParts p' s global
 fits_undone p p' s global same carries fits =
     rw (same.0, same.1, same.2) (fits_carried p.clauses (live_refs p.clauses p.db.refs) p.binary.implied (state p) (state p') s global carries fits)
 
-pub size_learnt : (p p' : Parts) (header : Header) (ls : List ℕ) → AddsLearnedClause p p' header ls → length p'.assignment.current ≡ length p.assignment.current
-size_learnt p p' header ls (learnt_unit one same r bare is) = ap (λ (s : State). length s.values) is ∙ length-set p.assignment.current (variable (get_or ls 0 0)) (Some (is_positive (get_or ls 0 0)))
-size_learnt p p' header ls (learnt_binary two a b c r caused is) = ap (λ (s : State). length s.values) is ∙ length-set p.assignment.current (variable (get_or ls 0 0)) (Some (is_positive (get_or ls 0 0)))
-size_learnt p p' header ls (learnt_long three o adds b r caused is) = ap (λ (s : State). length s.values) is ∙ length-set p.assignment.current (variable (get_or ls 0 0)) (Some (is_positive (get_or ls 0 0)))
+pub size_learnt : (p p' : SearchState) (header : Header) (ls : List ℕ) → AddsLearnedClause p p' header ls → length p'.assignment.current ≡ length p.assignment.current
+size_learnt p p' header ls (learnt_unit one same r bare is) = ap (λ (s : PropagationState). length s.values) is ∙ length-set p.assignment.current (variable (get_or ls 0 0)) (Some (is_positive (get_or ls 0 0)))
+size_learnt p p' header ls (learnt_binary two a b c r caused is) = ap (λ (s : PropagationState). length s.values) is ∙ length-set p.assignment.current (variable (get_or ls 0 0)) (Some (is_positive (get_or ls 0 0)))
+size_learnt p p' header ls (learnt_long three o adds b r caused is) = ap (λ (s : PropagationState). length s.values) is ∙ length-set p.assignment.current (variable (get_or ls 0 0)) (Some (is_positive (get_or ls 0 0)))

@@ -7,8 +7,8 @@ use Rattle.sat_checker.specs.LiteralSets.{is_among, is_tautology, canonical}
 use Rattle.sat_checker.specs.SortedSets.{NoRepeats}
 use Rattle.sat_checker.proofs.lemmas.sets.Subsets.{any_true}
 use Rattle.sat_parts.specs.clause.Orders.{IsReordering}
-use Rattle.sat_parts.specs.prop.State.{State}
-use Rattle.sat_solver.specs.session.Session.{Session, after, IsAllowedStep, MayReplace}
+use Rattle.sat_parts.specs.prop.State.{PropagationState}
+use Rattle.sat_solver.specs.session.Session.{Session, after, IsAllowedStep, MayDeleteSimplified}
 use Rattle.sat_solver.proofs.lemmas.session.Changes.{with_live_clause, with_live, without_live, knowing_literals, session_if}
 use Rattle.sat_solver.specs.session.LiveClauses.{LiveClause, IsIn, with_var, mapped, AreMapped, AreOf}
 use Rattle.sat_solver.proofs.lemmas.session.Lists.{in_counts}
@@ -20,14 +20,14 @@ use Rattle.sat_solver.specs.session.Fits.{ArePaired, is_redundant, SessionMatche
 use Rattle.sat_solver.specs.session.Listed.{FitsList, SameFacts}
 use Rattle.sat_solver.proofs.lemmas.fits.SetLemmas.{set_shuffled, taut_shuffled, clause_of_set}
 
-module _ (words live : List ℕ) (implied : List (List ℕ)) (st : State) (s : Session) (global : ℕ → ℕ) where
+module _ (words live : List ℕ) (implied : List (List ℕ)) (st : PropagationState) (s : Session) (global : ℕ → ℕ) where
   pub listed : SessionMatches words live implied st s global → FitsList (solver_clauses (is_redundant words) words live implied) st s global
   listed h = record { clauses = h.clauses; known = h.known; sound = h.sound; consistent = h.consistent; width = h.width }
 
   pub fits_listed : FitsList (solver_clauses (is_redundant words) words live implied) st s global → ArePaired implied → SessionMatches words live implied st s global
   fits_listed h p = record { clauses = h.clauses; paired = p; known = h.known; sound = h.sound; consistent = h.consistent; width = h.width }
 
-module _ (cs : List LiveClause) (st : State) (s : Session) (global : ℕ → ℕ) (h : FitsList cs st s global) where
+module _ (cs : List LiveClause) (st : PropagationState) (s : Session) (global : ℕ → ℕ) (h : FitsList cs st s global) where
   -- the match holds for another session with the same facts and its own clauses
   pub listed_as : (t : Session) (ds : List LiveClause) → SameFacts s t → AreOf t global ds → FitsList ds st t global
   listed_as t ds f a = record {
@@ -39,7 +39,7 @@ module _ (cs : List LiveClause) (st : State) (s : Session) (global : ℕ → ℕ
   }
 
 -- a step that changes neither facts nor live clauses preserves the match
-pub listed_stays : (cs : List LiveClause) (st : State) (s t : Session) (global : ℕ → ℕ) → FitsList cs st s global → SameFacts s t → t.solver_names ≡ s.solver_names → ((r : Bool) (set : List ℕ) → t.live r set ≡ s.live r set) →
+pub listed_stays : (cs : List LiveClause) (st : PropagationState) (s t : Session) (global : ℕ → ℕ) → FitsList cs st s global → SameFacts s t → t.solver_names ≡ s.solver_names → ((r : Bool) (set : List ℕ) → t.live r set ≡ s.live r set) →
     FitsList cs st t global
 listed_stays cs st s t global h f n e = listed_as cs st s global h t cs f (still_of s t global cs e n h.clauses)
 
@@ -69,7 +69,7 @@ module _ (s : Session) (global : ℕ → ℕ) (ls ms : List ℕ) (c : MayCome s.
       let n : 1 < length ms = c.long in omega arith)
       (taut_shuffled (with_var global) ls ms c.order ∙ c.plain)
 
-  module _ (st : State) (old new : List LiveClause) (r : Bool) (i : InsertsClause old new (record { redundant = r; literals = ms })) (h : FitsList old st s global) where
+  module _ (st : PropagationState) (old new : List LiveClause) (r : Bool) (i : InsertsClause old new (record { redundant = r; literals = ms })) (h : FitsList old st s global) where
     pub listed_derived : (hashes : List ℕ) → FitsList new st (after (AtClause r ks hashes) s) global
     listed_derived hashes =
         let d : LiveClause = record { redundant = r; literals = ms } in
@@ -88,7 +88,7 @@ module _ (s : Session) (global : ℕ → ℕ) (ls ms : List ℕ) (c : MayCome s.
         (comes_in s global i.before i.following d from c.mapped c.once)))
 
 -- a clause of the formula changes the session as an irredundant derived one does, unless unsat is recorded
-pub listed_by : (cs : List LiveClause) (st : State) (s : Session) (global : ℕ → ℕ) (ks hashes : List ℕ) → s.unsat ≡ false →
+pub listed_by : (cs : List LiveClause) (st : PropagationState) (s : Session) (global : ℕ → ℕ) (ks hashes : List ℕ) → s.unsat ≡ false →
     FitsList cs st (after (AtClause false ks hashes) s) global → FitsList cs st (after (AddClause ks) s) global
 listed_by cs st s global ks hashes u h =
     let same : session_if s.unsat s (with_live_clause false ks (knowing_literals ks s)) ≡ with_live_clause false ks (knowing_literals ks s) = ap (λ b. session_if b s (with_live_clause false ks (knowing_literals ks s))) u in
@@ -105,7 +105,7 @@ in_mapped_middle : (global : ℕ → ℕ) (xs ys : List LiveClause) (c : LiveCla
 in_mapped_middle global [] ys c = inl refl
 in_mapped_middle global (x ∷ xs) ys c = inr (in_mapped_middle global xs ys c)
 
-module _ (s : Session) (global : ℕ → ℕ) (st : State) (old new : List LiveClause) (r : Bool) (ls ms : List ℕ) (order : IsReordering ls ms) (i : InsertsClause new old (record { redundant = r; literals = ms })) (h : FitsList old st s global) where
+module _ (s : Session) (global : ℕ → ℕ) (st : PropagationState) (old new : List LiveClause) (r : Bool) (ls ms : List ℕ) (order : IsReordering ls ms) (i : InsertsClause new old (record { redundant = r; literals = ms })) (h : FitsList old st s global) where
   abbrev d : LiveClause
   d = record { redundant = r; literals = ms }
 
@@ -143,7 +143,7 @@ module _ (s : Session) (global : ℕ → ℕ) (st : State) (old new : List LiveC
         (λ q set. ap (λ b. (without_live b its s).live q set) (sym e)),
   )
 
-  pub listed_simplified : r ≡ false → MayReplace s (map (with_var global) ls) → IsAllowedStep s (DeleteClause (map (with_var global) ls) Simplified) × FitsList new st (after (DeleteClause (map (with_var global) ls) Simplified) s) global
+  pub listed_simplified : r ≡ false → MayDeleteSimplified s (map (with_var global) ls) → IsAllowedStep s (DeleteClause (map (with_var global) ls) Simplified) × FitsList new st (after (DeleteClause (map (with_var global) ls) Simplified) s) global
   listed_simplified e p = (
     (subst (λ b. 0 < s.live b its) e is_counted, p),
     listed_without (after (DeleteClause (map (with_var global) ls) Simplified) s) (record { names = λ v. refl; units = λ l. refl; unsat = refl; width = refl }) refl

@@ -9,8 +9,8 @@ use Rattle.sat_checker.proofs.lemmas.sets.Canonical.{same_tautology}
 use Rattle.sat_parts.specs.clause.Db.{live_refs}
 use Rattle.sat_parts.specs.clause.Orders.{AreDistinct, IsReordering}
 use Rattle.sat_parts.specs.prop.Binaries.{with_binary}
-use Rattle.sat_parts.specs.prop.Values.{value_of, IsTrueLit, IsOpenLit}
-use Rattle.sat_parts.specs.prop.State.{State, level, current_level, StateIsConsistent}
+use Rattle.sat_parts.specs.prop.Values.{value_of, IsTrueLit, IsUnassignedLit}
+use Rattle.sat_parts.specs.prop.State.{PropagationState, level, current_level, StateIsConsistent}
 use Rattle.sat_parts.proofs.lemmas.clause.OrderLemmas.{shuffled_refl}
 use Rattle.sat_parts.proofs.lemmas.prop.StateLemmas.{negated_variable, true_from_false, level_low}
 use Rattle.sat_solver.specs.session.Session.{Session, with_fact, after}
@@ -20,10 +20,10 @@ use Rattle.sat_solver.proofs.lemmas.session.Mapped.{negated_mapped, apart}
 use Rattle.sat_solver.proofs.lemmas.session.StepsOfClauses.{short_leaves}
 use Rattle.sat_solver.specs.session.SolverClauses.{solver_clauses}
 use Rattle.sat_solver.proofs.lemmas.trail.UnitLemmas.{fact_keeps, fact_gives, fact_only, fact_names, fact_width}
-use Rattle.sat_parts.specs.declared.parts.Parts.{Parts}
+use Rattle.sat_parts.specs.declared.parts.SearchState.{SearchState}
 use Rattle.sat_parts.specs.declared.parts.load.Loaded.{Loaded}
 use Rattle.sat_parts.specs.declared.parts.load.Loaded.TheVariants.{Stored, Unit as One, Satisfied, Falsified}
-use Rattle.sat_parts.specs.parts.Whole.{state, PartsInvariant}
+use Rattle.sat_parts.specs.parts.Whole.{state, SearchStateInvariant}
 use Rattle.sat_parts.specs.parts.Frame.{GainsUnit, AddsOriginalClause, stores_binary, stores_long, IsUnitLit}
 use Rattle.sat_parts.specs.parts.Loading.{LoadEffect}
 use Rattle.sat_solver.specs.session.Fits.{is_redundant, SessionMatches, SessionMatchesParts}
@@ -36,7 +36,7 @@ use Rattle.sat_solver.proofs.lemmas.fits.ListedLemmas.{fits_listed, listed_by}
 use Rattle.sat_solver.proofs.lemmas.fits.AddedLemmas.{true_unit, fits_added_true, added_refutes, added_empty, satisfied_at_once, fits_added_binary, fits_added_long_as}
 
 -- the search gains a unit
-pub fits_gained : (words live : List ℕ) (implied : List (List ℕ)) (st st' : State) (s : Session) (global : ℕ → ℕ) (l : ℕ) → SessionMatches words live implied st s global → s.solver_names (global (variable l)) ≡ Some (variable l) → IsOpenLit st.values l → GainsUnit l st st' →
+pub fits_gained : (words live : List ℕ) (implied : List (List ℕ)) (st st' : PropagationState) (s : Session) (global : ℕ → ℕ) (l : ℕ) → SessionMatches words live implied st s global → s.solver_names (global (variable l)) ≡ Some (variable l) → IsUnassignedLit st.values l → GainsUnit l st st' →
     SessionMatches words live implied st' (after (AddClause (with_var global l ∷ [])) s) global
 fits_gained words live implied st st' s global l fits own free g =
     let all : List LiveClause = solver_clauses (is_redundant words) words live implied in
@@ -76,7 +76,7 @@ alone_shuffled ls ms h one =
     alone ls n ∙ ap (λ l. l ∷ []) (sym j.1.1 ∙ ap (λ k. get_or ms k 0) z)
 
 -- the clause as it was given, and as it is stored
-module _ (p p' : Parts) (s : Session) (global : ℕ → ℕ) (holds : PartsInvariant p) (fits : SessionMatchesParts p s global) (bottom : p.trail.starts ≡ []) (given ls : List ℕ) (order : IsReordering given ls) (differ : AreDistinct given) (small : (k : ℕ) → k < length given → get_or given k 0 < 2 * length p.assignment.current) (plain : is_tautology given ≡ false) (names : AreMapped global s.solver_names given) where
+module _ (p p' : SearchState) (s : Session) (global : ℕ → ℕ) (holds : SearchStateInvariant p) (fits : SessionMatchesParts p s global) (bottom : p.trail.starts ≡ []) (given ls : List ℕ) (order : IsReordering given ls) (differ : AreDistinct given) (small : (k : ℕ) → k < length given → get_or given k 0 < 2 * length p.assignment.current) (plain : is_tautology given ≡ false) (names : AreMapped global s.solver_names given) where
   abbrev live : List ℕ
   live = live_refs p.clauses p.db.refs
 

@@ -10,13 +10,13 @@ use Rattle.sat_checker.proofs.lemmas.sets.Order.{among-append}
 use Rattle.sat_parts.specs.declared.prop.graph.Reason.{Reason}
 use Rattle.sat_parts.specs.clause.Stored.{AreClauses}
 use Rattle.sat_parts.specs.prop.Causes.{falsified}
-use Rattle.sat_parts.specs.prop.Graphs.{is_unit_reason}
+use Rattle.sat_parts.specs.prop.Graphs.{has_no_clause}
 use Rattle.sat_parts.specs.prop.Values.{IsTrueLit}
-use Rattle.sat_parts.specs.prop.State.{State, node, level, lit_at, StateIsConsistent}
+use Rattle.sat_parts.specs.prop.State.{PropagationState, node, level, lit_at, StateIsConsistent}
 use Rattle.sat_parts.specs.prop.Reasons.{AreUnitInTurn}
 use Rattle.sat_parts.proofs.lemmas.prop.RoomLemmas.{below_from_value}
-use Rattle.sat_checker.specs.Leading.{LeadsToConflict}
-use Rattle.sat_solver.specs.session.Session.{Session, AreLiveByHash, denied_in, by_clauses}
+use Rattle.sat_checker.specs.Leading.{PropagatesToConflict}
+use Rattle.sat_solver.specs.session.Session.{Session, AreLiveByHash, rup_assumptions, by_clauses}
 use Rattle.sat_solver.specs.session.LiveClauses.{with_var}
 use Rattle.sat_solver.proofs.lemmas.session.Mapped.{leads_mapped, denied_mapped}
 use Rattle.sat_solver.specs.session.TrailUnits.{IsUsable}
@@ -26,7 +26,7 @@ use Rattle.sat_solver.specs.analyze_conflict.Marks.{IsReasoned}
 use Rattle.sat_solver.specs.analyze_conflict.Derivation.{clause_of, AreLevelZeroLits}
 use Rattle.sat_parts.specs.parts.Round.{UnitsHaveNoReason}
 use Rattle.sat_solver.specs.session.Fits.{SessionMatches}
-use Rattle.sat_solver.specs.session.FitLaws.{named_clauses, LearnedMay}
+use Rattle.sat_solver.specs.session.FitLaws.{named_clauses, LearnedIsAllowed}
 use Rattle.sat_solver.proofs.lemmas.fits.UsableLemmas.{reason_usable, conflict_usable, reason_clauses}
 
 -- THE LITERALS OF LEVEL 0 AS A LIST
@@ -53,13 +53,13 @@ upto_only p (suc n) l t = go (p n) refl t (upto_only p n l)
     go true e k ih = elim (or_cases (eqb n l) (is_among (upto p n) l) k) [ inl q ↦ ap p (sym (eqb-true n l q)) ∙ e | inr r ↦ ih r ]
     go false e k ih = ih k
 
-abbrev is_bottom : State → ℕ → Bool
+abbrev is_bottom : PropagationState → ℕ → Bool
 is_bottom st l = is_true st.values l && eqb (level st l) 0
 
-abbrev pub bottom : State → List ℕ
+abbrev pub bottom : PropagationState → List ℕ
 bottom st = upto (is_bottom st) (2 * length st.values)
 
-pub bottom_units : (st : State) → AreLevelZeroLits st (bottom st)
+pub bottom_units : (st : PropagationState) → AreLevelZeroLits st (bottom st)
 bottom_units st = record {
   all = λ l t z.
       let lt : variable l < length st.values = below_from_value st.values (variable l) _ t in
@@ -79,7 +79,7 @@ others_known : (known : ℕ → Bool) (us c : List ℕ) (o : ℕ) → ((l : ℕ)
 others_known known us [] o m h = tt
 others_known known us (l ∷ ls) o m h = (elim h.0 [ inl e ↦ inl e | inr k ↦ inr (m (negated l) k) ], others_known known us ls o m h.1)
 
-pub leads_from_turns : (cs : List (List ℕ)) (known : ℕ → Bool) (us : List ℕ) → ((l : ℕ) → is_among us l ≡ true → known l ≡ true) → UnitInTurn us cs → LeadsToConflict known cs
+pub leads_from_turns : (cs : List (List ℕ)) (known : ℕ → Bool) (us : List ℕ) → ((l : ℕ) → is_among us l ≡ true → known l ≡ true) → UnitInTurn us cs → PropagatesToConflict known cs
 leads_from_turns [] known us m h = h
 leads_from_turns (c ∷ []) known us m h = all_known known us c m h
 leads_from_turns (c ∷ d ∷ cs) known us m h = (
@@ -103,8 +103,8 @@ pub named_by : (s : Session) (global : ℕ → ℕ) (cs : List (List ℕ)) → s
 named_by s global [] w h = tt
 named_by s global (c ∷ cs) w h = (h.0.live, whole s (hash_of c) w ∙ h.0.hash, named_by s global cs w h.1)
 
-module _ (words live : List ℕ) (implied : List (List ℕ)) (st : State) (s : Session) (global : ℕ → ℕ) (fits : SessionMatches words live implied st s global) (clauses : AreClauses words live (length st.values)) (turns : AreUnitInTurn words live implied st 0) where
-  pub place_usable : (i : ℕ) → i < length st.trail.lits → is_unit_reason (node st (lit_at st i)).reason ≡ false → IsUsable s global (clause_of words st (lit_at st i))
+module _ (words live : List ℕ) (implied : List (List ℕ)) (st : PropagationState) (s : Session) (global : ℕ → ℕ) (fits : SessionMatches words live implied st s global) (clauses : AreClauses words live (length st.values)) (turns : AreUnitInTurn words live implied st 0) where
+  pub place_usable : (i : ℕ) → i < length st.trail.lits → has_no_clause (node st (lit_at st i)).reason ≡ false → IsUsable s global (clause_of words st (lit_at st i))
   place_usable i lt u =
       subst (λ c. IsUsable s global c) (sym (reason_clauses words live implied st i (length st.values) (node st (lit_at st i)).reason clauses u (turns i (omega arith) lt)))
       (reason_usable words live implied s global fits.clauses fits.paired st i (node st (lit_at st i)).reason u (turns i (omega arith) lt))
@@ -113,7 +113,7 @@ module _ (words live : List ℕ) (implied : List (List ℕ)) (st : State) (s : S
   all_used [] c r u = (u, tt)
   all_used (l ∷ ls) c r u =
       let x : IsReasoned st 0 l = r 0 (omega arith) in (
-        subst (λ m. IsUsable s global (clause_of words st m)) x.there (place_usable x.place x.within (ap (λ m. is_unit_reason (node st m).reason) x.there ∙ x.caused)),
+        subst (λ m. IsUsable s global (clause_of words st m)) x.there (place_usable x.place x.within (ap (λ m. has_no_clause (node st m).reason) x.there ∙ x.caused)),
         all_used ls c (λ k lt. r (suc k) (omega arith)) u,
       )
 
@@ -122,7 +122,7 @@ module _ (words live : List ℕ) (implied : List (List ℕ)) (st : State) (s : S
   bottom_known agrees bare l t z = elim (agrees.known l t) [
     | inl b ↦
         let low : level st (lit_at st b.place) ≡ 0 = ap (λ m. level st m) b.there ∙ z in
-        fits.known l (inr (record { place = b.place; within = b.within; there = b.there; bottom = z; none = ap (λ m. is_unit_reason (node st m).reason) (sym b.there) ∙ ap (λ (r : Reason). is_unit_reason r) (bare b.place b.within low) }))
+        fits.known l (inr (record { place = b.place; within = b.within; there = b.there; bottom = z; none = ap (λ m. has_no_clause (node st m).reason) (sym b.there) ∙ ap (λ (r : Reason). has_no_clause r) (bare b.place b.within low) }))
     | inr r ↦ fits.known l (inl r)
   ]
 
@@ -130,15 +130,15 @@ hashes_same : (f : ℕ → List ℕ) (used : List ℕ) (c : List ℕ) → map ha
 hashes_same f [] c = refl
 hashes_same f (l ∷ ls) c = ap (λ hs. hash_of (f l) ∷ hs) (hashes_same f ls c)
 
-pub learned_may : LearnedMay
+pub learned_may : LearnedIsAllowed
 learned_may words live implied st s global e w back fits agrees clauses bare turns conflict learns =
     let us : List ℕ = bottom st in
     let known : ℕ → Bool = λ l. is_among (map negated w.clause) l || is_among (bottom st) l in
     let units : AreLevelZeroLits st (bottom st) = bottom_units st in
     let all : AllUsable s global (named_clauses words st w.used e) =
     all_used words live implied st s global fits clauses turns w.used (falsified words e) learns.reasons (conflict_usable words live implied s global fits.clauses fits.paired st.values e conflict) in
-    let leads : LeadsToConflict known (named_clauses words st w.used e) =
+    let leads : PropagatesToConflict known (named_clauses words st w.used e) =
     leads_from_turns (named_clauses words st w.used e) known (map negated w.clause ++ bottom st) (λ l k. sym (among-append (map negated w.clause) (bottom st) l) ∙ k) (learns.acceptable (bottom st) units) in
     by_clauses (map (map (with_var global)) (named_clauses words st w.used e)) (subst (AreLiveByHash s (map (map (with_var global)) (named_clauses words st w.used e))) (hashes_same (clause_of words st) w.used (falsified words e)) (named_by s global (named_clauses words st w.used e) fits.width all))
-    (leads_mapped global (named_clauses words st w.used e) known (denied_in s (map (with_var global) w.clause))
+    (leads_mapped global (named_clauses words st w.used e) known (rup_assumptions s (map (with_var global) w.clause))
     (denied_mapped global s w.clause (is_among (bottom st)) (λ l k. let o = units.only l k in bottom_known words live implied st s global fits clauses turns agrees bare l o.0 o.1)) leads)

@@ -7,20 +7,20 @@ use Rattle.sat_base.specs.values.Literals.{variable, negated, is_positive}
 use Rattle.sat_store.specs.clause.Buffer.{lits_at}
 use Rattle.sat_checker.specs.LiteralSets.{is_among, mentions}
 use Rattle.sat_checker.specs.SortedSets.{NoRepeats}
-use Rattle.sat_checker.specs.Accepts.{VariablesApart}
+use Rattle.sat_checker.specs.Accepts.{VariablesDistinct}
 use Rattle.sat_checker.proofs.lemmas.sets.Subsets.{any_true}
 use Rattle.sat_parts.specs.clause.Db.{live_refs}
 use Rattle.sat_parts.specs.clause.Stored.{lit_of}
 use Rattle.sat_parts.specs.prop.Binaries.{implied_by}
 use Rattle.sat_parts.specs.prop.Values.{value_of, IsTrueLit}
 use Rattle.sat_parts.proofs.lemmas.prop.StateLemmas.{negated_variable, negated_twice, false_from_true, not_both, lit_from_parts}
-use Rattle.sat_solver.specs.session.Session.{Session, MayShow}
+use Rattle.sat_solver.specs.session.Session.{Session, MayWriteModel}
 use Rattle.sat_solver.specs.session.LiveClauses.{LiveClause, IsIn, with_var, mapped}
 use Rattle.sat_solver.proofs.lemmas.session.Lists.{shows_all}
 use Rattle.sat_solver.proofs.lemmas.session.Mapped.{negated_mapped, among_mapped}
 use Rattle.sat_solver.specs.session.SolverClauses.{pair, binaries_of, binaries_from, binaries, longs, solver_clauses}
-use Rattle.sat_parts.specs.declared.parts.Parts.{Parts}
-use Rattle.sat_parts.specs.parts.Whole.{AllAssigned, IsModelled}
+use Rattle.sat_parts.specs.declared.parts.SearchState.{SearchState}
+use Rattle.sat_parts.specs.parts.Whole.{AllAssigned, ClausesAreSatisfied}
 use Rattle.sat_parts.proofs.lemmas.parts.ValueLemmas.{open_or_true}
 use Rattle.sat_solver.specs.session.Units.{AreTrueLits}
 use Rattle.sat_solver.specs.session.Fits.{is_redundant, SessionMatchesParts, TrueLitsHaveNames}
@@ -84,7 +84,7 @@ among_in : (xs : List ℕ) (a b l : ℕ) → xs ≡ a ∷ b ∷ [] → (l ≡ a)
 among_in xs a b l e (inl q) = subst (λ ys. is_among ys l ≡ true) (sym e) (or_left (eqb a l) (is_among (b ∷ []) l) (eq-eqb a l (sym q)))
 among_in xs a b l e (inr q) = subst (λ ys. is_among ys l ≡ true) (sym e) (or_right (eqb a l) (is_among (b ∷ []) l) (or_left (eqb b l) false (eq-eqb b l (sym q))))
 
-module _ (p : Parts) (s : Session) (global : ℕ → ℕ) (fits : SessionMatchesParts p s global) (names : TrueLitsHaveNames p.assignment.current s global) (room : length p.binary.implied ≡ 2 * length p.assignment.current) where
+module _ (p : SearchState) (s : Session) (global : ℕ → ℕ) (fits : SessionMatchesParts p s global) (names : TrueLitsHaveNames p.assignment.current s global) (room : length p.binary.implied ≡ 2 * length p.assignment.current) where
   named_true : (l : ℕ) → IsTrueLit p.assignment.current l → s.solver_names (global (variable l)) ≡ Some (variable l)
   named_true l t = names l t
 
@@ -99,7 +99,7 @@ module _ (p : Parts) (s : Session) (global : ℕ → ℕ) (fits : SessionMatches
       let c : is_positive l ≡ is_positive m = cc in
       lit_from_parts l m w c
 
-  apart_all : (ls : List ℕ) → ((l : ℕ) → is_among ls l ≡ true → IsTrueLit p.assignment.current l) → NoRepeats ls → VariablesApart (map (with_var global) ls)
+  apart_all : (ls : List ℕ) → ((l : ℕ) → is_among ls l ≡ true → IsTrueLit p.assignment.current l) → NoRepeats ls → VariablesDistinct (map (with_var global) ls)
   apart_all [] only once = tt
   apart_all (l ∷ ls) only once = (
     none ls (λ m t. only m (or_right (eqb l m) (is_among ls m) t)) once.0,
@@ -115,7 +115,7 @@ module _ (p : Parts) (s : Session) (global : ℕ → ℕ) (fits : SessionMatches
           eqb-false m l q.0 (same_lit m l (o m (or_left (eqb m m) (is_among ms m) (eq-eqb m m refl))) (only l (or_left (eqb l l) (is_among ls l) (eq-eqb l l refl))) e)))
           (none ms (λ k t. o k (or_right (eqb m k) (is_among ms k) t)) q.1)
 
-  module _ (ls : List ℕ) (lits : AreTrueLits p.assignment.current ls) (all : AllAssigned p) (modelled : IsModelled p) where
+  module _ (ls : List ℕ) (lits : AreTrueLits p.assignment.current ls) (all : AllAssigned p) (modelled : ClausesAreSatisfied p) where
     shown : (c : LiveClause) (l : ℕ) → is_among c.literals l ≡ true → IsTrueLit p.assignment.current l → list_any (is_among (map (with_var global) ls)) (map (with_var global) c.literals) ≡ true
     shown c l there t = any_true (is_among (map (with_var global) ls)) (map (with_var global) c.literals) (with_var global l) (among_mapped (with_var global) c.literals l there) (among_mapped (with_var global) ls l (lits.all l t))
 
@@ -150,7 +150,7 @@ module _ (p : Parts) (s : Session) (global : ℕ → ℕ) (fits : SessionMatches
             let n : x.place < 0 = subst (λ (ms : List ℕ). x.place < length ms) past x.within in
             omega arith
 
-    pub model_may : MayShow s (map (with_var global) ls)
+    pub model_may : MayWriteModel s (map (with_var global) ls)
     model_may = record {
       consistent = fits.consistent;
       apart = apart_all ls lits.only lits.once;

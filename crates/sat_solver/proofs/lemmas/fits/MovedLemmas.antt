@@ -3,14 +3,14 @@ use Rattle.std.proofs.Common.{ℕ, suc, ◌<◌, ◌≡◌, Bool, List, [], ◌�
 use Rattle.sat_store.specs.clause.Buffer.{lits_at}
 use Rattle.sat_store.specs.clause.Header.{Header, is_learned}
 use Rattle.sat_parts.specs.clause.Collected.{Copies}
-use Rattle.sat_parts.specs.prop.State.{State}
+use Rattle.sat_parts.specs.prop.State.{PropagationState}
 use Rattle.sat_solver.specs.session.Session.{Session}
 use Rattle.sat_solver.specs.session.LiveClauses.{AreOf}
 use Rattle.sat_solver.specs.session.SolverClauses.{binaries, longs}
 use Rattle.sat_solver.specs.session.Fits.{is_redundant, SessionMatches}
 
 -- the match depends only on the list of long clauses
-pub fits_longs : (words words' live live' : List ℕ) (implied : List (List ℕ)) (st : State) (s : Session) (global : ℕ → ℕ) → longs (is_redundant words') words' live' ≡ longs (is_redundant words) words live → SessionMatches words live implied st s global →
+pub fits_longs : (words words' live live' : List ℕ) (implied : List (List ℕ)) (st : PropagationState) (s : Session) (global : ℕ → ℕ) → longs (is_redundant words') words' live' ≡ longs (is_redundant words) words live → SessionMatches words live implied st s global →
     SessionMatches words' live' implied st s global
 fits_longs words words' live live' implied st s global e h = record {
   clauses = subst (λ ds. AreOf s global (binaries implied ++ ds)) (sym e) h.clauses;

@@ -7,7 +7,7 @@ use Rattle.sat_store.specs.clause.Buffer.{lits_at}
 use Rattle.sat_checker.specs.LiteralSets.{mentions}
 use Rattle.sat_parts.specs.prop.Binaries.{implied_by}
 use Rattle.sat_parts.specs.prop.Values.{IsTrueLit}
-use Rattle.sat_parts.specs.prop.State.{State, level}
+use Rattle.sat_parts.specs.prop.State.{PropagationState, level}
 use Rattle.sat_solver.specs.session.Session.{Session, after}
 use Rattle.sat_solver.proofs.lemmas.session.Changes.{session_with_name}
 use Rattle.sat_solver.specs.session.LiveClauses.{LiveClause, IsIn}
@@ -52,13 +52,13 @@ name_other names w u name n = ap (λ b. cond b name (names u)) (ne_eqb u w n)
 -- NAMES ARE REMOVED
 
 -- index x, which is in no clause, loses its proof variable w, and the search may forget its value
-pub record LosesName (st st' : State) (s : Session) (global : ℕ → ℕ) (w x : ℕ) : Type 0 where
+pub record LosesName (st st' : PropagationState) (s : Session) (global : ℕ → ℕ) (w x : ℕ) : Type 0 where
   pub its : s.solver_names w ≡ Some x
   pub there : global x ≡ w
   pub units : (l : ℕ) → IsUnitLit st' l → IsUnitLit st l
   pub kept : (l : ℕ) → variable l ≢ x → IsTrueLit st.values l → level st l ≡ 0 → IsTrueLit st'.values l × (level st' l ≡ 0)
 
-pub listed_unnamed : (cs : List LiveClause) (st st' : State) (s : Session) (global : ℕ → ℕ) (w x : ℕ) → FitsList cs st s global → LosesName st st' s global w x →
+pub listed_unnamed : (cs : List LiveClause) (st st' : PropagationState) (s : Session) (global : ℕ → ℕ) (w x : ℕ) → FitsList cs st s global → LosesName st st' s global w x →
     ((c : LiveClause) → IsIn c cs → mentions c.literals x ≡ false) → FitsList cs st' (after (SolverVarName w None) s) global
 listed_unnamed cs st st' s global w x h g unused =
     let t : Session = after (SolverVarName w None) s in

@@ -11,7 +11,7 @@ use Rattle.sat_parts.specs.clause.Db.{Db, DbMatchesBuffer, live_refs, DeletesCla
 use Rattle.sat_parts.specs.clause.Orders.{AreDistinct, IsReordering}
 use Rattle.sat_parts.specs.clause.Stored.{AreClauses, lit_of}
 use Rattle.sat_parts.specs.prop.Binaries.{Binaries, with_binary}
-use Rattle.sat_parts.specs.prop.State.{State, StateIsConsistent}
+use Rattle.sat_parts.specs.prop.State.{PropagationState, StateIsConsistent}
 use Rattle.sat_parts.proofs.lemmas.clause.OrderLemmas.{shuffled_trans}
 use Rattle.sat_solver.specs.session.Session.{Session, after, IsAllowedStep}
 use Rattle.sat_solver.specs.session.LiveClauses.{LiveClause, with_var}
@@ -69,13 +69,13 @@ two_distinct a b n zero (suc (suc k)) p q e = absurd (omega arith)
 two_distinct a b n (suc zero) (suc (suc k)) p q e = absurd (omega arith)
 
 -- a clause with these two literals, whose other literals are false by units
-pub record AreTwo (st : State) (c : List ℕ) (a b : ℕ) : Type 0 where
+pub record AreTwo (st : PropagationState) (c : List ℕ) (a b : ℕ) : Type 0 where
   pub first : is_among c a ≡ true
   pub second : is_among c b ≡ true
   pub apart : a ≢ b
   pub others : (k : ℕ) → k < length c → get_or c k 0 ≢ a → get_or c k 0 ≢ b → IsUnitLit st (negated (get_or c k 0))
 
-module _ (words words' : List ℕ) (db db' : Db) (x : Binaries) (st : State) (s : Session) (global : ℕ → ℕ) (agrees : StateIsConsistent st) (fits : SessionMatches words (live_refs words db.refs) x.implied st s global) (held : DbMatchesBuffer words db) (clauses : AreClauses words (live_refs words db.refs) (length st.values)) (plain : ArePlain s) (o : ℕ) (there : Contains (live_refs words db.refs) o) (gone : DeletesClause words db words' db' o) (room : length x.implied ≡ 2 * length st.values) (a b : ℕ) (two : AreTwo st (lits_at words o) a b) (ls part : List ℕ) (order : IsReordering ls (lits_at words o)) (part_order : IsReordering part (a ∷ b ∷ [])) (hs : List ℕ) (hash_order : IsReordering hs (lits_at words o)) (hash_distinct : AreDistinct hs) (hash : ℕ) (its : hash ≡ hash_of hs) where
+module _ (words words' : List ℕ) (db db' : Db) (x : Binaries) (st : PropagationState) (s : Session) (global : ℕ → ℕ) (agrees : StateIsConsistent st) (fits : SessionMatches words (live_refs words db.refs) x.implied st s global) (held : DbMatchesBuffer words db) (clauses : AreClauses words (live_refs words db.refs) (length st.values)) (plain : ArePlain s) (o : ℕ) (there : Contains (live_refs words db.refs) o) (gone : DeletesClause words db words' db' o) (room : length x.implied ≡ 2 * length st.values) (a b : ℕ) (two : AreTwo st (lits_at words o) a b) (ls part : List ℕ) (order : IsReordering ls (lits_at words o)) (part_order : IsReordering part (a ∷ b ∷ [])) (hs : List ℕ) (hash_order : IsReordering hs (lits_at words o)) (hash_distinct : AreDistinct hs) (hash : ℕ) (its : hash ≡ hash_of hs) where
   abbrev live : List ℕ
   live = live_refs words db.refs
 

@@ -6,13 +6,13 @@ use Rattle.sat_base.specs.values.Literals.{variable, negated}
 use Rattle.sat_base.specs.values.Hashes.{hash_of}
 use Rattle.sat_base.specs.steps.Steps.{AtClause}
 use Rattle.sat_store.specs.clause.Buffer.{lits_at}
-use Rattle.sat_checker.specs.LiteralSets.{is_among, is_part, canonical}
+use Rattle.sat_checker.specs.LiteralSets.{is_among, is_subset_of, canonical}
 use Rattle.sat_checker.proofs.lemmas.sets.Canonical.{same_tautology}
 use Rattle.sat_checker.proofs.lemmas.sets.Subsets.{all_true}
 use Rattle.sat_parts.specs.clause.Orders.{AreDistinct, IsReordering}
 use Rattle.sat_parts.specs.clause.Stored.{AreClauses}
-use Rattle.sat_parts.specs.prop.State.{State, StateIsConsistent}
-use Rattle.sat_solver.specs.session.Session.{Session, after, MayDerive, MayReplace}
+use Rattle.sat_parts.specs.prop.State.{PropagationState, StateIsConsistent}
+use Rattle.sat_solver.specs.session.Session.{Session, after, MayDerive, MayDeleteSimplified}
 use Rattle.sat_solver.specs.session.LiveClauses.{with_var, AreMapped}
 use Rattle.sat_solver.proofs.lemmas.session.Lists.{solver_hash}
 use Rattle.sat_solver.proofs.lemmas.session.Naming.{live_same}
@@ -30,7 +30,7 @@ use Rattle.sat_solver.proofs.lemmas.fits.ListedLemmas.{MayCome}
 use Rattle.sat_solver.proofs.lemmas.fits.ShortenedLemmas.{may_shorten, may_replace, live_plain}
 
 -- a part of a live clause replaces it: the step derives `part`, the parts store `d`, and literal w was dropped
-module _ (words live : List ℕ) (implied : List (List ℕ)) (st : State) (s : Session) (global : ℕ → ℕ) (agrees : StateIsConsistent st) (fits : SessionMatches words live implied st s global) (clauses : AreClauses words live (length st.values)) (plain : ArePlain s) (o : ℕ) (there : Contains live o) where
+module _ (words live : List ℕ) (implied : List (List ℕ)) (st : PropagationState) (s : Session) (global : ℕ → ℕ) (agrees : StateIsConsistent st) (fits : SessionMatches words live implied st s global) (clauses : AreClauses words live (length st.values)) (plain : ArePlain s) (o : ℕ) (there : Contains live o) where
   abbrev c : List ℕ
   c = lits_at words o
 
@@ -63,7 +63,7 @@ module _ (words live : List ℕ) (implied : List (List ℕ)) (st : State) (s : S
     names_d : AreMapped global s.solver_names d
     names_d = all_named d (λ l t. within l t)
 
-    part_of : (ls : List ℕ) → IsReordering ls c → is_part ks (map (with_var global) ls) ≡ true
+    part_of : (ls : List ℕ) → IsReordering ls c → is_subset_of ks (map (with_var global) ls) ≡ true
     part_of ls shuffled = part_mapped (with_var global) part ls (all_true (is_among ls) part (λ l t. same_shuffled ls c shuffled l ∙ within l (sym (same_shuffled part d order l) ∙ t)))
 
     pub come_shorter : MayCome s.solver_names global part d
@@ -84,7 +84,7 @@ module _ (words live : List ℕ) (implied : List (List ℕ)) (st : State) (s : S
           | inr u ↦ inr (fits.known (negated (get_or c j.0 0)) u)
         ]))
 
-    pub replace_shorter : (ls : List ℕ) (w : ℕ) (hashes : List ℕ) → IsReordering ls c → is_among c w ≡ true → is_among d w ≡ false → MayReplace (after (AtClause false (map (with_var global) part) hashes) s) (map (with_var global) ls)
+    pub replace_shorter : (ls : List ℕ) (w : ℕ) (hashes : List ℕ) → IsReordering ls c → is_among c w ≡ true → is_among d w ≡ false → MayDeleteSimplified (after (AtClause false (map (with_var global) part) hashes) s) (map (with_var global) ls)
     replace_shorter ls w hashes shuffled has missing =
         let size : 1 < length (canonical (map (with_var global) part)) = (
         let e : canonical (map (with_var global) part) ≡ canonical (map (with_var global) d) = set_shuffled (with_var global) part d order in

@@ -3,7 +3,7 @@ use Rattle.std.proofs.Common.{ℕ, ◌<◌, ◌≡◌, Bool, true, false, ◌&&�
 use Rattle.std.proofs.lemmas.Bool.{true≢false, false_from_ne_true}
 use Rattle.sat_base.specs.values.Literals.{negated}
 use Rattle.sat_base.specs.steps.Steps.{Redundant, Simplified, Satisfied, Step, SolverVarName, UserVarName, AddClause, AtClause, UnitClauses, DeleteClause}
-use Rattle.sat_checker.specs.LiteralSets.{is_part, is_tautology, canonical, same_literals}
+use Rattle.sat_checker.specs.LiteralSets.{is_subset_of, is_tautology, canonical, same_literals}
 use Rattle.sat_checker.proofs.lemmas.sets.Canonical.{canonical_tautology, tautology_from, both_signs}
 use Rattle.sat_checker.proofs.lemmas.meaning.Clauses.{same}
 use Rattle.sat_checker.specs.Contents.{same_side, more_if, less_if}
@@ -14,7 +14,7 @@ use Rattle.sat_solver.specs.session.Listed.{ArePlain}
 use Rattle.sat_solver.proofs.lemmas.fits.SetLemmas.{part_has}
 
 -- a part of a clause that is no tautology is none either
-pub part_plain : (xs ys : List ℕ) → is_part xs ys ≡ true → is_tautology ys ≡ false → is_tautology xs ≡ false
+pub part_plain : (xs ys : List ℕ) → is_subset_of xs ys ≡ true → is_tautology ys ≡ false → is_tautology xs ≡ false
 part_plain xs ys p n = false_from_ne_true (is_tautology xs) (λ t.
     let b = both_signs xs t in
     true≢false (sym (tautology_from ys b.literal (part_has xs ys b.literal p b.within) (part_has xs ys (negated b.literal) p b.negation)) ∙ n))

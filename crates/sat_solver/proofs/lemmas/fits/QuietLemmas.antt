@@ -1,4 +1,4 @@
--- Quiet steps derive no clause that advances.
+-- Quiet steps derive no empowering clause.
 use Rattle.std.proofs.Common.{ℕ, ◌≡◌, ◌∙◌, ◌⊎◌, ◌||◌, ◌++◌, Bool, true, false, eqb, cond, List, [], ◌∷◌, map, refl, sym, ap, subst, arith, inl, inr}
 use Rattle.std.proofs.lemmas.Bool.{or_cases, or_left, or_right, eqb-true, true≢false}
 use Rattle.std.proofs.lemmas.List.{append_cancel_right}
@@ -6,12 +6,12 @@ use Rattle.std.specs.List.{AllByRecursion, list_any}
 use Rattle.sat_base.specs.values.Literals.{negated}
 use Rattle.sat_base.specs.steps.Steps.{Step, AtClause}
 use Rattle.sat_checker.specs.LiteralSets.{is_among}
-use Rattle.sat_checker.specs.Leading.{LeadsToConflict}
+use Rattle.sat_checker.specs.Leading.{PropagatesToConflict}
 use Rattle.sat_parts.proofs.lemmas.prop.StateLemmas.{negated_twice}
-use Rattle.sat_solver.specs.session.Session.{Session, IsLive, AreLiveByHash, denied_in, MayDerive, by_unit, by_clauses}
+use Rattle.sat_solver.specs.session.Session.{Session, IsLive, AreLiveByHash, rup_assumptions, MayDerive, by_unit, by_clauses}
 use Rattle.sat_solver.proofs.lemmas.session.Mapped.{among_mapped}
-use Rattle.sat_solver.specs.session.Coming.{EachIsAllowed}
-use Rattle.sat_solver.specs.session.Quiet.{others_of, LeavesLiteralOpen, are_few, is_quiet, AreQuiet, ComesQuietly, QuietNeverAdvances}
+use Rattle.sat_solver.specs.session.AllowedSteps.{EachIsAllowed}
+use Rattle.sat_solver.specs.session.Quiet.{others_of, LeavesLiteralUnassigned, are_few, is_quiet, AreQuiet, ComesQuietly, QuietIsNeverEmpowering}
 
 -- LISTS
 
@@ -84,9 +84,9 @@ unit_in s (x ∷ xs) e = elim (or_cases (s.units x) (list_any s.units xs) e) [
   | inr k ↦ let h = unit_in s xs k in record { unit = h.unit; among = or_right (eqb x h.unit) (is_among xs h.unit) h.among; is = h.is }
 ]
 
-module _ (s : Session) (clause : List ℕ) (l : ℕ) (o : LeavesLiteralOpen s clause l) where
+module _ (s : Session) (clause : List ℕ) (l : ℕ) (o : LeavesLiteralUnassigned s clause l) where
   abbrev holds : ℕ → Bool
-  holds = denied_in s (others_of l clause)
+  holds = rup_assumptions s (others_of l clause)
 
   other_denied : (m : ℕ) → (m ≡ l → ⊥) → is_among clause m ≡ true → holds (negated m) ≡ true
   other_denied m n e = or_left (is_among (map negated (others_of l clause)) (negated m)) (s.units (negated m)) (among_mapped negated (others_of l clause) m (among_others l m clause n e))
@@ -103,7 +103,7 @@ module _ (s : Session) (clause : List ℕ) (l : ℕ) (o : LeavesLiteralOpen s cl
   ]
 
   -- a literal that is false under the negated clause is l, or false under the negations of the other literals
-  one_split : (m : ℕ) → denied_in s clause (negated m) ≡ true → (m ≡ l) ⊎ (holds (negated m) ≡ true)
+  one_split : (m : ℕ) → rup_assumptions s clause (negated m) ≡ true → (m ≡ l) ⊎ (holds (negated m) ≡ true)
   one_split m t = elim (either_way (eqb m l)) [
     | inl q ↦ inl (eqb-true m l q)
     | inr f ↦ inr (elim (or_cases (is_among (map negated clause) (negated m)) (s.units (negated m)) t) [
@@ -112,7 +112,7 @@ module _ (s : Session) (clause : List ℕ) (l : ℕ) (o : LeavesLiteralOpen s cl
     ])
   ]
 
-  all_split : (c : List ℕ) → AllByRecursion (λ m. denied_in s clause (negated m) ≡ true) c → AllByRecursion (λ m. (m ≡ l) ⊎ (holds (negated m) ≡ true)) c
+  all_split : (c : List ℕ) → AllByRecursion (λ m. rup_assumptions s clause (negated m) ≡ true) c → AllByRecursion (λ m. (m ≡ l) ⊎ (holds (negated m) ≡ true)) c
   all_split [] h = tt
   all_split (m ∷ ms) h = (one_split m h.0, all_split ms h.1)
 
@@ -130,7 +130,7 @@ module _ (s : Session) (clause : List ℕ) (l : ℕ) (o : LeavesLiteralOpen s cl
         | inr k ↦ k
       ]
 
-  by_one : (c : List ℕ) → IsLive s c → AllByRecursion (λ m. denied_in s clause (negated m) ≡ true) c → ⊥
+  by_one : (c : List ℕ) → IsLive s c → AllByRecursion (λ m. rup_assumptions s clause (negated m) ≡ true) c → ⊥
   by_one c live h = elim (either_way (is_among c l)) [
     | inl t ↦
         let new = o.stays (c ∷ []) (λ m. eqb l m || holds m) (live, (l, all_split c h, t, λ m k. k)) in
@@ -138,7 +138,7 @@ module _ (s : Session) (clause : List ℕ) (l : ℕ) (o : LeavesLiteralOpen s cl
     | inr f ↦ let new = o.stays [] holds (λ m t. t) in new.no_conflict c live (no_open c f (all_split c h))
   ]
 
-  by_few : (named : List (List ℕ)) (hashes : List ℕ) → are_few hashes ≡ true → AreLiveByHash s named hashes → LeadsToConflict (denied_in s clause) named → ⊥
+  by_few : (named : List (List ℕ)) (hashes : List ℕ) → are_few hashes ≡ true → AreLiveByHash s named hashes → PropagatesToConflict (rup_assumptions s clause) named → ⊥
   by_few [] hashes few n h = h
   by_few (c ∷ []) [] few n h = n
   by_few (c ∷ []) (x ∷ hashes) few n h = by_one c n.0 h
@@ -147,13 +147,13 @@ module _ (s : Session) (clause : List ℕ) (l : ℕ) (o : LeavesLiteralOpen s cl
   by_few (c ∷ d ∷ cs) (x ∷ y ∷ hashes) few n h = true≢false (sym few)
 
 -- a clause derived from a unit or a single clause leaves none of its literals open
-clause_never : (s : Session) (clause hashes : List ℕ) → MayDerive s clause hashes → are_few hashes ≡ true → (l : ℕ) → LeavesLiteralOpen s clause l → ⊥
+clause_never : (s : Session) (clause hashes : List ℕ) → MayDerive s clause hashes → are_few hashes ≡ true → (l : ℕ) → LeavesLiteralUnassigned s clause l → ⊥
 clause_never s clause hashes may few l o = elim may [
   | by_unit u ↦ by_a_unit s clause l o (unit_in s clause u)
   | by_clauses named n h ↦ by_few s clause l o named hashes few n h
 ]
 
-pub quiet_never : QuietNeverAdvances
+pub quiet_never : QuietIsNeverEmpowering
 quiet_never s (AtClause redundant [] hashes) may quiet = λ l o. true≢false (sym o.among)
 quiet_never s (AtClause redundant (k ∷ ks) hashes) may quiet = clause_never s (k ∷ ks) hashes may quiet
 quiet_never s step may quiet = tt

@@ -6,9 +6,9 @@ use Rattle.std.specs.List.{Contains, filter}
 use Rattle.sat_base.specs.values.Literals.{variable, negated}
 use Rattle.sat_base.specs.steps.Steps.{DeleteClause, Satisfied}
 use Rattle.sat_checker.specs.LiteralSets.{is_among}
-use Rattle.sat_parts.specs.prop.Binaries.{Binaries, implied_by, open_among, RemovesAssigned}
-use Rattle.sat_parts.specs.prop.Values.{is_unset, IsTrueLit}
-use Rattle.sat_parts.specs.prop.State.{State, level, current_level, StateIsConsistent}
+use Rattle.sat_parts.specs.prop.Binaries.{Binaries, implied_by, unassigned_among, RemovesAssigned}
+use Rattle.sat_parts.specs.prop.Values.{is_unassigned_var, IsTrueLit}
+use Rattle.sat_parts.specs.prop.State.{PropagationState, level, current_level, StateIsConsistent}
 use Rattle.sat_parts.proofs.lemmas.clause.ListLemmas.{at_place, place_in}
 use Rattle.sat_parts.proofs.lemmas.clause.OrderLemmas.{shuffled_refl}
 use Rattle.sat_parts.proofs.lemmas.prop.StateLemmas.{negated_variable, negated_twice, level_low}
@@ -49,37 +49,37 @@ filter_from p (l ∷ ls) m c t = go (p l) refl (λ k. filter_from p ls m k t) c
     go false e ih (zero, lt, at) = absurd (true≢false (sym t ∙ ap p (sym at) ∙ e))
     go false e ih (suc k, lt, at) = ih (k, omega arith, at)
 
-open_parts : (values : List (Option Bool)) (v m : ℕ) (ls : List ℕ) → Contains (open_among values v ls) m → (is_unset values v ≡ true) × ((is_unset values (variable m) ≡ true) × Contains ls m)
-open_parts values v m ls c = go (is_unset values v) refl c
+open_parts : (values : List (Option Bool)) (v m : ℕ) (ls : List ℕ) → Contains (unassigned_among values v ls) m → (is_unassigned_var values v ≡ true) × ((is_unassigned_var values (variable m) ≡ true) × Contains ls m)
+open_parts values v m ls c = go (is_unassigned_var values v) refl c
   where
-    go : (b : Bool) → is_unset values v ≡ b → Contains (cond b (filter (λ l. is_unset values (variable l)) ls) []) m → (is_unset values v ≡ true) × ((is_unset values (variable m) ≡ true) × Contains ls m)
-    go true e k = (e, filter_parts (λ l. is_unset values (variable l)) ls m k)
+    go : (b : Bool) → is_unassigned_var values v ≡ b → Contains (cond b (filter (λ l. is_unassigned_var values (variable l)) ls) []) m → (is_unassigned_var values v ≡ true) × ((is_unassigned_var values (variable m) ≡ true) × Contains ls m)
+    go true e k = (e, filter_parts (λ l. is_unassigned_var values (variable l)) ls m k)
     go false e k = absurd (omega (arith, k.1))
 
-open_from : (values : List (Option Bool)) (v m : ℕ) (ls : List ℕ) → is_unset values v ≡ true → is_unset values (variable m) ≡ true → Contains ls m → Contains (open_among values v ls) m
-open_from values v m ls e t c = subst (λ b. Contains (cond b (filter (λ l. is_unset values (variable l)) ls) []) m) (sym e) (filter_from (λ l. is_unset values (variable l)) ls m c t)
+open_from : (values : List (Option Bool)) (v m : ℕ) (ls : List ℕ) → is_unassigned_var values v ≡ true → is_unassigned_var values (variable m) ≡ true → Contains ls m → Contains (unassigned_among values v ls) m
+open_from values v m ls e t c = subst (λ b. Contains (cond b (filter (λ l. is_unassigned_var values (variable l)) ls) []) m) (sym e) (filter_from (λ l. is_unassigned_var values (variable l)) ls m c t)
 
 pub paired_open : (values : List (Option Bool)) (x y : Binaries) → RemovesAssigned values x y → ArePaired x.implied → ArePaired y.implied
 paired_open values x y h p =
-    let parts : (a b : ℕ) → Contains (implied_by y.implied (negated a)) b → (is_unset values (variable (negated a)) ≡ true) × ((is_unset values (variable b) ≡ true) × Contains (implied_by x.implied (negated a)) b) = λ a b c.
+    let parts : (a b : ℕ) → Contains (implied_by y.implied (negated a)) b → (is_unassigned_var values (variable (negated a)) ≡ true) × ((is_unassigned_var values (variable b) ≡ true) × Contains (implied_by x.implied (negated a)) b) = λ a b c.
     open_parts values (variable (negated a)) b (implied_by x.implied (negated a)) (subst (λ (ls : List ℕ). Contains ls b) (h.implied (negated a)) c) in
     record {
       back = λ a b c.
           let z = parts a b c in
           subst (λ (ls : List ℕ). Contains ls a) (sym (h.implied (negated b)))
-          (open_from values (variable (negated b)) a (implied_by x.implied (negated b)) (ap (is_unset values) (negated_variable b) ∙ z.1.0) (ap (is_unset values) (sym (negated_variable a)) ∙ z.0) (p.back a b z.1.1));
+          (open_from values (variable (negated b)) a (implied_by x.implied (negated b)) (ap (is_unassigned_var values) (negated_variable b) ∙ z.1.0) (ap (is_unassigned_var values) (sym (negated_variable a)) ∙ z.0) (p.back a b z.1.1));
       apart = λ a b c. p.apart a b (parts a b c).1.1;
     }
 
 -- THE PASS
 
 -- the first k literals of list l, and all lists before it, were visited
-abbrev pub LeftFits : (words live : List ℕ) (x : Binaries) (st : State) (global : ℕ → ℕ) → Session → (l k : ℕ) → Type 0
+abbrev pub LeftFits : (words live : List ℕ) (x : Binaries) (st : PropagationState) (global : ℕ → ℕ) → Session → (l k : ℕ) → Type 0
 LeftFits words live x st global t l k = FitsList (binaries_left st.values x.implied l k ++ longs (is_redundant words) words live) st t global
 
-module _ (words live : List ℕ) (x : Binaries) (st : State) (global : ℕ → ℕ) (agrees : StateIsConsistent st) (bare : UnitsHaveNoReason st) (bottom : length st.trail.starts ≡ 0) (paired : ArePaired x.implied) (complete : (l k : ℕ) → k < length (implied_by x.implied l) → IsTrueLit st.values l → IsTrueLit st.values (get_or (implied_by x.implied l) k 0)) where
+module _ (words live : List ℕ) (x : Binaries) (st : PropagationState) (global : ℕ → ℕ) (agrees : StateIsConsistent st) (bare : UnitsHaveNoReason st) (bottom : length st.trail.starts ≡ 0) (paired : ArePaired x.implied) (complete : (l k : ℕ) → k < length (implied_by x.implied l) → IsTrueLit st.values l → IsTrueLit st.values (get_or (implied_by x.implied l) k 0)) where
   -- an assigned variable makes one of its literals true
-  set_or_open : (a : ℕ) → is_unset st.values (variable a) ≡ false → IsTrueLit st.values a ⊎ IsTrueLit st.values (negated a)
+  set_or_open : (a : ℕ) → is_unassigned_var st.values (variable a) ≡ false → IsTrueLit st.values a ⊎ IsTrueLit st.values (negated a)
   set_or_open a n = elim (open_or_true st.values (variable a)) [
     | inl none ↦ absurd (true≢false (sym (ap is_none none) ∙ n))
     | inr y ↦ elim (cases_eq y.0 a) [
@@ -89,12 +89,12 @@ module _ (words live : List ℕ) (x : Binaries) (st : State) (global : ℕ → �
   ]
 
   some_true : (a m : ℕ) → Contains (implied_by x.implied (negated a)) m → is_open_clause st.values (pair a m) ≡ false → IsTrueLit st.values a ⊎ IsTrueLit st.values m
-  some_true a m c n = elim (and_cases (is_unset st.values (variable a)) (is_unset st.values (variable m) && true) n) [
+  some_true a m c n = elim (and_cases (is_unassigned_var st.values (variable a)) (is_unassigned_var st.values (variable m) && true) n) [
     | inl f ↦ elim (set_or_open a f) [
       | inl t ↦ inl t
       | inr t ↦ inr (subst (λ z. IsTrueLit st.values z) (at_place (implied_by x.implied (negated a)) m c) (complete (negated a) c.0 c.1 t))
     ]
-    | inr f ↦ elim (and_cases (is_unset st.values (variable m)) true f) [
+    | inr f ↦ elim (and_cases (is_unassigned_var st.values (variable m)) true f) [
       | inl g ↦ elim (set_or_open m g) [
         | inl t ↦ inr t
         | inr t ↦ let d = paired.back a m c in inl (subst (λ z. IsTrueLit st.values z) (at_place (implied_by x.implied (negated m)) a d) (complete (negated m) d.0 d.1 t))

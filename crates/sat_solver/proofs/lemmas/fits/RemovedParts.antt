@@ -10,13 +10,13 @@ use Rattle.sat_parts.proofs.lemmas.prop.StateLemmas.{level_low}
 use Rattle.sat_solver.specs.session.Session.{Session, after, IsAllowedStep}
 use Rattle.sat_solver.specs.session.LiveClauses.{with_var}
 use Rattle.sat_solver.specs.session.SolverClauses.{pair, is_open_clause}
-use Rattle.sat_parts.specs.declared.parts.Parts.{Parts}
-use Rattle.sat_parts.specs.parts.Whole.{state, PartsInvariant}
+use Rattle.sat_parts.specs.declared.parts.SearchState.{SearchState}
+use Rattle.sat_parts.specs.parts.Whole.{state, SearchStateInvariant}
 use Rattle.sat_solver.specs.session.Fits.{ArePaired, SessionMatchesParts}
 use Rattle.sat_solver.specs.session.Listed.{LeftParts}
 use Rattle.sat_solver.proofs.lemmas.fits.RemovedLemmas.{removal_begins, removal_goes_on, removal_passes, removal_deletes, removal_ends}
 
-module _ (p : Parts) (global : ℕ → ℕ) (holds : PartsInvariant p) (paired : ArePaired p.binary.implied) (bottom : p.trail.starts ≡ []) (empty : p.trail.lits ≡ []) where
+module _ (p : SearchState) (global : ℕ → ℕ) (holds : SearchStateInvariant p) (paired : ArePaired p.binary.implied) (bottom : p.trail.starts ≡ []) (empty : p.trail.lits ≡ []) where
   abbrev live : List ℕ
   live = live_refs p.clauses p.db.refs
 
@@ -52,5 +52,5 @@ module _ (p : Parts) (global : ℕ → ℕ) (holds : PartsInvariant p) (paired :
     parts_removal_deletes = removal_deletes p.clauses live p.binary (state p) global agrees holds.units none paired complete s l k lt h
 
   -- after all steps, parts without these clauses match the session
-  pub parts_removal_ends : (p' : Parts) (s : Session) → LeftParts p s global (length p.binary.implied) 0 → RemovesAssigned p.assignment.current p.binary p'.binary → p'.clauses ≡ p.clauses → p'.db ≡ p.db → state p' ≡ state p → SessionMatchesParts p' s global
+  pub parts_removal_ends : (p' : SearchState) (s : Session) → LeftParts p s global (length p.binary.implied) 0 → RemovesAssigned p.assignment.current p.binary p'.binary → p'.clauses ≡ p.clauses → p'.db ≡ p.db → state p' ≡ state p → SessionMatchesParts p' s global
   parts_removal_ends p' s h gone words db same = rw (words, db, same) (removal_ends p.clauses live p.binary (state p) global agrees holds.units none paired complete s p'.binary h gone)

@@ -12,7 +12,7 @@ use Rattle.sat_checker.specs.LiteralSets.{is_among}
 use Rattle.sat_parts.specs.clause.Db.{Db, DbMatchesBuffer, live_refs, ShortensClause}
 use Rattle.sat_parts.specs.clause.Orders.{AreDistinct, IsReordering}
 use Rattle.sat_parts.specs.clause.Stored.{AreClauses, lit_of, size_of}
-use Rattle.sat_parts.specs.prop.State.{State, StateIsConsistent}
+use Rattle.sat_parts.specs.prop.State.{PropagationState, StateIsConsistent}
 use Rattle.sat_parts.proofs.lemmas.prop.BuildLemmas.{live_in}
 use Rattle.sat_solver.specs.session.Session.{Session, after, IsAllowedStep}
 use Rattle.sat_solver.specs.session.LiveClauses.{LiveClause, with_var}
@@ -28,7 +28,7 @@ use Rattle.sat_solver.proofs.lemmas.fits.ChangedLemmas.{live_distinct}
 use Rattle.sat_solver.proofs.lemmas.fits.PartLemmas.{come_shorter, derive_shorter, replace_shorter}
 
 -- two steps that may be written one after the other, after which everything matches
-pub record Both (words live : List ℕ) (implied : List (List ℕ)) (st : State) (s : Session) (global : ℕ → ℕ) (first second : Step) : Type 0 where
+pub record Both (words live : List ℕ) (implied : List (List ℕ)) (st : PropagationState) (s : Session) (global : ℕ → ℕ) (first second : Step) : Type 0 where
   pub derive : IsAllowedStep s first
   pub delete : IsAllowedStep (after first s) second
   pub fits : SessionMatches words live implied st (after second (after first s)) global
@@ -69,7 +69,7 @@ shortened_there words words' db implied o len held there short =
 
 -- LONG TO LONG
 
-module _ (words words' : List ℕ) (db : Db) (implied : List (List ℕ)) (st : State) (s : Session) (global : ℕ → ℕ) (agrees : StateIsConsistent st) (fits : SessionMatches words (live_refs words db.refs) implied st s global) (held : DbMatchesBuffer words db) (clauses : AreClauses words (live_refs words db.refs) (length st.values)) (plain : ArePlain s) (o len : ℕ) (there : Contains (live_refs words db.refs) o) (short : ShortensClause words db words' o len) (long : 3 ≤ len) (fewer : len < size_of words o) (false_by : (k : ℕ) → len ≤ k → k < size_of words o → IsUnitLit st (negated (lit_of words o k))) (ls part : List ℕ) (order : IsReordering ls (lits_at words o)) (part_order : IsReordering part (take len (lits_at words o))) (hs : List ℕ) (hash_order : IsReordering hs (lits_at words o)) (hash_distinct : AreDistinct hs) (hash : ℕ) (its : hash ≡ hash_of hs) where
+module _ (words words' : List ℕ) (db : Db) (implied : List (List ℕ)) (st : PropagationState) (s : Session) (global : ℕ → ℕ) (agrees : StateIsConsistent st) (fits : SessionMatches words (live_refs words db.refs) implied st s global) (held : DbMatchesBuffer words db) (clauses : AreClauses words (live_refs words db.refs) (length st.values)) (plain : ArePlain s) (o len : ℕ) (there : Contains (live_refs words db.refs) o) (short : ShortensClause words db words' o len) (long : 3 ≤ len) (fewer : len < size_of words o) (false_by : (k : ℕ) → len ≤ k → k < size_of words o → IsUnitLit st (negated (lit_of words o k))) (ls part : List ℕ) (order : IsReordering ls (lits_at words o)) (part_order : IsReordering part (take len (lits_at words o))) (hs : List ℕ) (hash_order : IsReordering hs (lits_at words o)) (hash_distinct : AreDistinct hs) (hash : ℕ) (its : hash ≡ hash_of hs) where
   abbrev live : List ℕ
   live = live_refs words db.refs
 

@@ -2,7 +2,7 @@
 use Rattle.std.proofs.Common.{ℕ, ◌<◌, ◌≡◌, Bool, true, false, eqb, List, [], ◌∷◌, map, length, refl, sym, ◌∙◌, ap, subst, arith, inl, inr}
 use Rattle.std.proofs.lemmas.Bool.{or_cases, and_parts, eqb-true, true≢false}
 use Rattle.sat_base.specs.values.Literals.{negated}
-use Rattle.sat_checker.specs.LiteralSets.{is_among, is_tautology, is_part, canonical}
+use Rattle.sat_checker.specs.LiteralSets.{is_among, is_tautology, is_subset_of, canonical}
 use Rattle.sat_checker.specs.SortedSets.{NoRepeats}
 use Rattle.sat_checker.proofs.lemmas.sets.Canonical.{canonical_among, canonical_increasing, same_increasing, same_tautology, tautology_from, both_signs}
 use Rattle.sat_checker.proofs.lemmas.sets.Subsets.{all_true}
@@ -60,16 +60,16 @@ taut_carried global ls t =
     (subst (λ z. is_among (map (with_var global) ls) z ≡ true) (negated_mapped global b.literal) (among_mapped (with_var global) ls (negated b.literal) b.negation))
 
 -- every literal of a part is in the clause
-pub part_has : (xs ys : List ℕ) (l : ℕ) → is_part xs ys ≡ true → is_among xs l ≡ true → is_among ys l ≡ true
+pub part_has : (xs ys : List ℕ) (l : ℕ) → is_subset_of xs ys ≡ true → is_among xs l ≡ true → is_among ys l ≡ true
 part_has [] ys l h t = absurd (true≢false (sym t))
 part_has (x ∷ xs) ys l h t =
-    let p = and_parts (is_among ys x) (is_part xs ys) h in
+    let p = and_parts (is_among ys x) (is_subset_of xs ys) h in
     elim (or_cases (eqb x l) (is_among xs l) t) [
       | inl e ↦ subst (λ z. is_among ys z ≡ true) (eqb-true x l e) p.0
       | inr k ↦ part_has xs ys l p.1 k
     ]
 
-pub part_mapped : (f : ℕ → ℕ) (xs ys : List ℕ) → is_part xs ys ≡ true → is_part (map f xs) (map f ys) ≡ true
+pub part_mapped : (f : ℕ → ℕ) (xs ys : List ℕ) → is_subset_of xs ys ≡ true → is_subset_of (map f xs) (map f ys) ≡ true
 part_mapped f xs ys h = all_true (is_among (map f ys)) (map f xs) (λ y t.
     let p = among_back f xs y t in
     subst (λ z. is_among (map f ys) z ≡ true) p.1.1 (among_mapped f ys p.0 (part_has xs ys p.0 h p.1.0)))

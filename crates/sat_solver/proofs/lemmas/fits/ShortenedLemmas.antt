@@ -5,10 +5,10 @@ use Rattle.std.specs.List.{AllByRecursion}
 use Rattle.sat_base.specs.values.Literals.{negated}
 use Rattle.sat_base.specs.values.Hashes.{hash_of}
 use Rattle.sat_base.specs.steps.Steps.{AtClause}
-use Rattle.sat_checker.specs.LiteralSets.{is_among, is_part, is_tautology, canonical}
+use Rattle.sat_checker.specs.LiteralSets.{is_among, is_subset_of, is_tautology, canonical}
 use Rattle.sat_checker.proofs.lemmas.sets.Canonical.{canonical_among, canonical_tautology}
 use Rattle.sat_checker.proofs.lemmas.sets.Subsets.{all_true}
-use Rattle.sat_solver.specs.session.Session.{Session, last_long, after, IsLive, MayDerive, by_clauses, MayReplace, denied_in}
+use Rattle.sat_solver.specs.session.Session.{Session, last_long, after, IsLive, MayDerive, by_clauses, MayDeleteSimplified, rup_assumptions}
 use Rattle.sat_solver.specs.session.LiveClauses.{with_var}
 use Rattle.sat_solver.proofs.lemmas.session.Mapped.{negated_mapped, among_mapped}
 use Rattle.sat_solver.specs.session.TrailUnits.{IsUsable}
@@ -26,7 +26,7 @@ pub may_shorten : (s : Session) (global : ℕ → ℕ) (c part : List ℕ) (hash
 may_shorten s global c part hash width u e each =
     let ks : List ℕ = map (with_var global) part in
     by_clauses (map (with_var global) c ∷ []) (u.live, e ∙ whole s (hash_of c) width ∙ u.hash, tt)
-    (all_of_map (λ l. denied_in s ks (negated l) ≡ true) (with_var global) c (λ k lt.
+    (all_of_map (λ l. rup_assumptions s ks (negated l) ≡ true) (with_var global) c (λ k lt.
     let l : ℕ = get_or c k 0 in
     let w : ℕ = with_var global (get_or c k 0) in
     elim (each k lt) [
@@ -40,12 +40,12 @@ long_some (l ∷ []) n = absurd (omega arith)
 long_some (l ∷ m ∷ ls) n = refl
 
 -- then the part may replace the clause if it lacks one of its literals
-pub may_replace : (s : Session) (ks ms hashes : List ℕ) (w : ℕ) → 1 < length (canonical ks) → is_tautology ks ≡ false → is_part ks ms ≡ true → is_among ms w ≡ true → is_among ks w ≡ false → MayReplace (after (AtClause false ks hashes) s) ms
+pub may_replace : (s : Session) (ks ms hashes : List ℕ) (w : ℕ) → 1 < length (canonical ks) → is_tautology ks ≡ false → is_subset_of ks ms ≡ true → is_among ms w ≡ true → is_among ks w ≡ false → MayDeleteSimplified (after (AtClause false ks hashes) s) ms
 may_replace s ks ms hashes w two plain within there missing = record {
   part = canonical ks;
   last = ap (λ b. cond b None (last_long false (canonical ks))) plain ∙ long_some (canonical ks) two;
   within = all_true (is_among ms) (canonical ks) (λ m t. part_has ks ms m within (sym (canonical_among ks m) ∙ t));
-  strict = false_from_ne_true (is_part ms (canonical ks)) (λ t. true≢false (sym (part_has ms (canonical ks) w t there) ∙ canonical_among ks w ∙ missing));
+  strict = false_from_ne_true (is_subset_of ms (canonical ks)) (λ t. true≢false (sym (part_has ms (canonical ks) w t there) ∙ canonical_among ks w ∙ missing));
 }
 
 -- a live clause is no tautology

@@ -11,19 +11,19 @@ use Rattle.sat_parts.specs.prop.Ready.{IsConflict}
 use Rattle.sat_parts.specs.prop.State.{node, lit_at}
 use Rattle.sat_parts.proofs.lemmas.prop.RoomLemmas.{below_from_value}
 use Rattle.sat_solver.specs.session.Session.{Session}
-use Rattle.sat_solver.specs.analyze_conflict.Work.{Work}
+use Rattle.sat_solver.specs.analyze_conflict.AnalysisState.{AnalysisState}
 use Rattle.sat_solver.specs.analyze_conflict.Marks.{IsReasoned}
-use Rattle.sat_solver.specs.analyze_conflict.Derivation.{Learns}
+use Rattle.sat_solver.specs.analyze_conflict.Derivation.{AnalysisResult}
 use Rattle.sat_solver.proofs.lemmas.analyze_conflict.Callers.{stands_by}
-use Rattle.sat_parts.specs.declared.parts.Parts.{Parts}
-use Rattle.sat_parts.specs.parts.Whole.{state, HoldsBelow, IsRefuted}
+use Rattle.sat_parts.specs.declared.parts.SearchState.{SearchState}
+use Rattle.sat_parts.specs.parts.Whole.{state, SearchStateInvariantBelow, IsRefuted}
 use Rattle.sat_parts.specs.parts.Frame.{AddsNoUnit, ReordersLits}
 use Rattle.sat_solver.specs.session.Fits.{SessionMatchesParts}
-use Rattle.sat_solver.specs.session.Going.{IsOrderly}
+use Rattle.sat_solver.specs.session.WritingUnits.{IsOrderly}
 use Rattle.sat_parts.specs.clause.Stored.{AreClauses}
 use Rattle.sat_solver.proofs.lemmas.fits.FitLemmas.{fits_carried, fits_reordered}
 
-module _ (p : Parts) (e : Conflict) (w : Work) (back : ℕ) (refuted : IsRefuted p e) (learns : Learns p.clauses (state p) (falsified p.clauses e) w back) where
+module _ (p : SearchState) (e : Conflict) (w : AnalysisState) (back : ℕ) (refuted : IsRefuted p e) (learns : AnalysisResult p.clauses (state p) (falsified p.clauses e) w back) where
   valid : (k o : ℕ) → k < length w.used → (node (state p) (get_or w.used k 0)).reason ≡ Long o → IsClause p.clauses o × (0 < length (lits_at p.clauses o))
   valid k o lt r =
       let x : IsReasoned (state p) 0 (get_or w.used k 0) = learns.reasons k lt in
@@ -42,16 +42,16 @@ module _ (p : Parts) (e : Conflict) (w : Work) (back : ℕ) (refuted : IsRefuted
       let v : variable (lit_at (state p) x.place) < length p.assignment.current = below_from_value p.assignment.current (variable (lit_at (state p) x.place)) _ (refuted.0.asks.agrees.holds x.place x.within) in
       subst (λ l. variable l < length p.graph) x.there (omega (arith, refuted.0.asks.agrees.nodes))
 
-pub conflict_clause : (p : Parts) (e : Conflict) → IsRefuted p e → (o : ℕ) → e ≡ conflicts.Long o → IsClause p.clauses o
+pub conflict_clause : (p : SearchState) (e : Conflict) → IsRefuted p e → (o : ℕ) → e ≡ conflicts.Long o → IsClause p.clauses o
 conflict_clause p e refuted o is =
     let c : IsConflict p.clauses (live_refs p.clauses p.db.refs) p.binary.implied p.assignment.current (conflicts.Long o) = subst (λ x. IsConflict p.clauses (live_refs p.clauses p.db.refs) p.binary.implied p.assignment.current x) is refuted.1 in
     refuted.0.asks.clauses.holds_clauses.clauses o c.0
 
-pub clause_below : (p : Parts) (e : Conflict) (w : Work) (back count : ℕ) → length p.assignment.current ≤ count → Learns p.clauses (state p) (falsified p.clauses e) w back → (k : ℕ) → k < length w.clause → variable (get_or w.clause k 0) < count
+pub clause_below : (p : SearchState) (e : Conflict) (w : AnalysisState) (back count : ℕ) → length p.assignment.current ≤ count → AnalysisResult p.clauses (state p) (falsified p.clauses e) w back → (k : ℕ) → k < length w.clause → variable (get_or w.clause k 0) < count
 clause_below p e w back count le learns k lt =
     let v : variable (get_or w.clause k 0) < length p.assignment.current = below_from_value p.assignment.current (variable (get_or w.clause k 0)) _ (learns.asserting.fails k lt) in omega arith
 
-module _ (p : Parts) (h : IsOrderly p) where
+module _ (p : SearchState) (h : IsOrderly p) where
   pub orderly_below : (count : ℕ) → length p.assignment.current ≤ count → (i : ℕ) → i < length p.trail.lits → variable (get_or p.trail.lits i 0) < count
   orderly_below count le i lt = (let v : variable (lit_at (state p) i) < length p.assignment.current = below_from_value p.assignment.current (variable (lit_at (state p) i)) _ (h.agrees.holds i lt) in omega arith)
 
@@ -72,15 +72,15 @@ empty_from : (xs : List ℕ) → length xs ≡ 0 → xs ≡ []
 empty_from [] e = refl
 empty_from (x ∷ xs) e = absurd (omega arith)
 
-pub starts_none : (p : Parts) → length p.trail.starts ≡ 0 → p.trail.starts ≡ []
+pub starts_none : (p : SearchState) → length p.trail.starts ≡ 0 → p.trail.starts ≡ []
 starts_none p e = empty_from p.trail.starts e
 
-pub orderly_from : (p : Parts) (top : ℕ) → HoldsBelow top p → IsOrderly p
+pub orderly_from : (p : SearchState) (top : ℕ) → SearchStateInvariantBelow top p → IsOrderly p
 orderly_from p top h = record { agrees = h.asks.agrees; clauses = h.asks.clauses; turns = h.turns }
 
 -- PROPAGATION
 
-pub fits_propagated : (p p' : Parts) (s : Session) (global : ℕ → ℕ) → ReordersLits p p' → AddsNoUnit (state p) (state p') → AreClauses p'.clauses (live_refs p'.clauses p'.db.refs) (length p'.assignment.current) → SessionMatchesParts p s global → SessionMatchesParts p' s global
+pub fits_propagated : (p p' : SearchState) (s : Session) (global : ℕ → ℕ) → ReordersLits p p' → AddsNoUnit (state p) (state p') → AreClauses p'.clauses (live_refs p'.clauses p'.db.refs) (length p'.assignment.current) → SessionMatchesParts p s global → SessionMatchesParts p' s global
 fits_propagated p p' s global moved carries clauses fits =
     let here : AreClauses p'.clauses (live_refs p.clauses p.db.refs) (length p.assignment.current) = subst (λ n. AreClauses p'.clauses (live_refs p.clauses p.db.refs) n) carries.size (subst (λ os. AreClauses p'.clauses os (length p'.assignment.current)) moved.live clauses) in
     rw (moved.live, moved.binary)

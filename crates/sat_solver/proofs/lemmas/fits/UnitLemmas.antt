@@ -9,13 +9,13 @@ use Rattle.sat_checker.specs.LiteralSets.{is_among}
 use Rattle.sat_parts.specs.declared.prop.graph.Conflict.{Conflict}
 use Rattle.sat_parts.specs.clause.Stored.{AreClauses}
 use Rattle.sat_parts.specs.prop.Causes.{falsified}
-use Rattle.sat_parts.specs.prop.Graphs.{is_unit_reason}
+use Rattle.sat_parts.specs.prop.Graphs.{has_no_clause}
 use Rattle.sat_parts.specs.prop.Values.{IsTrueLit, IsFalseLit}
-use Rattle.sat_parts.specs.prop.State.{State, node, level, lit_at, current_level, StateIsConsistent}
+use Rattle.sat_parts.specs.prop.State.{PropagationState, node, level, lit_at, current_level, StateIsConsistent}
 use Rattle.sat_parts.specs.prop.Reasons.{AreUnitInTurn}
 use Rattle.sat_parts.specs.prop.Ready.{IsConflict}
 use Rattle.sat_parts.proofs.lemmas.prop.StateLemmas.{negated_variable, true_from_false, false_from_true, not_both, level_low}
-use Rattle.sat_solver.specs.session.Session.{Session, with_fact, after, MayProve, MayDerive, by_clauses, denied_in}
+use Rattle.sat_solver.specs.session.Session.{Session, with_fact, after, MayWriteUnits, MayDerive, by_clauses, rup_assumptions}
 use Rattle.sat_solver.proofs.lemmas.session.Changes.{with_facts, knowing_literals}
 use Rattle.sat_solver.specs.session.LiveClauses.{with_var}
 use Rattle.sat_solver.proofs.lemmas.session.Mapped.{negated_mapped, apart}
@@ -32,7 +32,7 @@ use Rattle.sat_solver.specs.session.Units.{written_lits, FitsAll}
 use Rattle.sat_solver.proofs.lemmas.fits.UsableLemmas.{reason_usable, conflict_usable}
 use Rattle.sat_solver.proofs.lemmas.fits.FitLemmas.{fact_unsat, all_at}
 
-module _ (st : State) (global : ℕ → ℕ) where
+module _ (st : PropagationState) (global : ℕ → ℕ) where
   -- every unit of the session is true at level 0
   record Sound (t : Session) : Type 0 where
     sound : (l : ℕ) → t.solver_names (global (variable l)) ≡ Some (variable l) → t.units (with_var global l) ≡ true → IsTrueLit st.values l × (level st l ≡ 0)
@@ -97,7 +97,7 @@ module _ (st : State) (global : ℕ → ℕ) where
   -- the literals of the written units
   written_same : (words : List ℕ) (width : ℕ) (ls : List ℕ) → map (λ u. u.0) (written_units words st width global ls) ≡ map (with_var global) (written_lits st ls)
   written_same words width [] = refl
-  written_same words width (l ∷ ls) = go (is_unit_reason (node st l).reason) (written_same words width ls)
+  written_same words width (l ∷ ls) = go (has_no_clause (node st l).reason) (written_same words width ls)
     where
       go : (b : Bool) → map (λ u. u.0) (written_units words st width global ls) ≡ map (with_var global) (written_lits st ls)
           → map (λ u. u.0) (cond b (written_units words st width global ls) ((with_var global l, hash_of (reason_clause words l (node st l).reason) / 2 ^ (64 - width)) ∷ written_units words st width global ls))
@@ -107,33 +107,33 @@ module _ (st : State) (global : ℕ → ℕ) where
 
   written_all : (P : ℕ → Type 0) (ls : List ℕ) → AllByRecursion P ls → AllByRecursion P (written_lits st ls)
   written_all P [] h = tt
-  written_all P (l ∷ ls) h = go (is_unit_reason (node st l).reason) (written_all P ls h.1)
+  written_all P (l ∷ ls) h = go (has_no_clause (node st l).reason) (written_all P ls h.1)
     where
       go : (b : Bool) → AllByRecursion P (written_lits st ls) → AllByRecursion P (cond b (written_lits st ls) (l ∷ written_lits st ls))
       go true ih = ih
       go false ih = (h.0, ih)
 
-  written_has : (ls : List ℕ) (k : ℕ) → k < length ls → is_unit_reason (node st (get_or ls k 0)).reason ≡ false → is_among (written_lits st ls) (get_or ls k 0) ≡ true
+  written_has : (ls : List ℕ) (k : ℕ) → k < length ls → has_no_clause (node st (get_or ls k 0)).reason ≡ false → is_among (written_lits st ls) (get_or ls k 0) ≡ true
   written_has [] k lt u = absurd (omega arith)
-  written_has (l ∷ ls) zero lt u = go (is_unit_reason (node st l).reason) u
+  written_has (l ∷ ls) zero lt u = go (has_no_clause (node st l).reason) u
     where
       go : (b : Bool) → b ≡ false → is_among (cond b (written_lits st ls) (l ∷ written_lits st ls)) l ≡ true
       go true e = absurd (true≢false e)
       go false e = or_left (eqb l l) (is_among (written_lits st ls) l) (eq-eqb l l refl)
-  written_has (l ∷ ls) (suc k) lt u = go (is_unit_reason (node st l).reason) (written_has ls k (omega arith) u)
+  written_has (l ∷ ls) (suc k) lt u = go (has_no_clause (node st l).reason) (written_has ls k (omega arith) u)
     where
       go : (b : Bool) → is_among (written_lits st ls) (get_or ls k 0) ≡ true → is_among (cond b (written_lits st ls) (l ∷ written_lits st ls)) (get_or ls k 0) ≡ true
       go true ih = ih
       go false ih = or_right (eqb l (get_or ls k 0)) (is_among (written_lits st ls) (get_or ls k 0)) ih
 
-module _ (words live : List ℕ) (implied : List (List ℕ)) (st : State) (s : Session) (global : ℕ → ℕ) (fits : SessionMatches words live implied st s global) (names : TrueLitsHaveNames st.values s global) (agrees : StateIsConsistent st) (clauses : AreClauses words live (length st.values)) (turns : AreUnitInTurn words live implied st 0) (bottom : length st.trail.starts ≡ 0) where
+module _ (words live : List ℕ) (implied : List (List ℕ)) (st : PropagationState) (s : Session) (global : ℕ → ℕ) (fits : SessionMatches words live implied st s global) (names : TrueLitsHaveNames st.values s global) (agrees : StateIsConsistent st) (clauses : AreClauses words live (length st.values)) (turns : AreUnitInTurn words live implied st 0) (bottom : length st.trail.starts ≡ 0) where
   low : (l : ℕ) → IsTrueLit st.values l → level st l ≡ 0
   low l t = (let h : level st l ≤ current_level st = level_low st l agrees t in omega arith)
 
   named_at : (i : ℕ) → i < length st.trail.lits → s.solver_names (global (variable (lit_at st i))) ≡ Some (variable (lit_at st i))
   named_at i lt = names (lit_at st i) (agrees.holds i lt)
 
-  bare_known : (i : ℕ) → i < length st.trail.lits → is_unit_reason (node st (lit_at st i)).reason ≡ true → s.units (with_var global (lit_at st i)) ≡ true
+  bare_known : (i : ℕ) → i < length st.trail.lits → has_no_clause (node st (lit_at st i)).reason ≡ true → s.units (with_var global (lit_at st i)) ≡ true
   bare_known i lt u = fits.known (lit_at st i) (inr (record { place = i; within = lt; there = refl; bottom = low (lit_at st i) (agrees.holds i lt); none = u }))
 
   units_fit : UnitsFit words st s global
@@ -146,8 +146,8 @@ module _ (words live : List ℕ) (implied : List (List ℕ)) (st : State) (s : S
   }
 
   -- these units may be written
-  pub units_may : MayProve s (written_units words st 64 global st.trail.lits)
-  units_may = subst (λ w. MayProve s (written_units words st w global st.trail.lits)) fits.width (trail_units_may words live implied st s global (λ o c. omega (arith, clauses.long o c)) agrees turns units_fit)
+  pub units_may : MayWriteUnits s (written_units words st 64 global st.trail.lits)
+  units_may = subst (λ w. MayWriteUnits s (written_units words st w global st.trail.lits)) fits.width (trail_units_may words live implied st s global (λ o c. omega (arith, clauses.long o c)) agrees turns units_fit)
 
   -- after they are written, every true literal of level 0 is a unit
   pub units_written : FitsAll words live implied st (after (UnitClauses (written_units words st 64 global st.trail.lits)) s) global
@@ -171,7 +171,7 @@ module _ (words live : List ℕ) (implied : List (List ℕ)) (st : State) (s : S
         };
         all = λ l x z. elim (agrees.known l x) [
           | inl b ↦
-              elim (true_or_false (is_unit_reason (node st (lit_at st b.place)).reason)) [
+              elim (true_or_false (has_no_clause (node st (lit_at st b.place)).reason)) [
                 | inl y ↦ f.keeps (with_var global l) (subst (λ m. s.units (with_var global m) ≡ true) b.there (bare_known b.place b.within y))
                 | inr n ↦ f.gives l (subst (λ m. is_among (written_lits st st.trail.lits) m ≡ true) b.there (written_has st global st.trail.lits b.place b.within n))
               ]
@@ -184,7 +184,7 @@ module _ (words live : List ℕ) (implied : List (List ℕ)) (st : State) (s : S
       true_or_false false = inr refl
 
 -- written units are taken off the trail
-pub fits_cleared : (words live : List ℕ) (implied : List (List ℕ)) (st st' : State) (s : Session) (global : ℕ → ℕ) → TakesOffUnits st st' → FitsAll words live implied st s global → SessionMatches words live implied st' s global
+pub fits_cleared : (words live : List ℕ) (implied : List (List ℕ)) (st st' : PropagationState) (s : Session) (global : ℕ → ℕ) → TakesOffUnits st st' → FitsAll words live implied st s global → SessionMatches words live implied st' s global
 fits_cleared words live implied st st' s global c h = record {
   clauses = h.fits.clauses;
   paired = h.fits.paired;
@@ -197,7 +197,7 @@ fits_cleared words live implied st st' s global c h = record {
 -- THE EMPTY CLAUSE
 
 -- at a conflict at level 0, the empty clause may be derived once the units are written
-pub empty_may : (words live : List ℕ) (implied : List (List ℕ)) (st : State) (s : Session) (global : ℕ → ℕ) (e : Conflict) → FitsAll words live implied st s global → StateIsConsistent st → length st.trail.starts ≡ 0 → IsConflict words live implied st.values e →
+pub empty_may : (words live : List ℕ) (implied : List (List ℕ)) (st : PropagationState) (s : Session) (global : ℕ → ℕ) (e : Conflict) → FitsAll words live implied st s global → StateIsConsistent st → length st.trail.starts ≡ 0 → IsConflict words live implied st.values e →
     MayDerive s [] (hash_of (falsified words e) ∷ [])
 empty_may words live implied st s global e h agrees bottom conflict =
     let u : IsUsable s global (falsified words e) = conflict_usable words live implied s global h.fits.clauses h.fits.paired st.values e conflict in
@@ -209,6 +209,6 @@ empty_may words live implied st s global e h agrees bottom conflict =
     let z : level st (negated (get_or (falsified words e) k 0)) ≡ 0 = (let l : level st (negated r) ≤ current_level st = level_low st (negated r) agrees t in omega arith) in
     subst (λ x. s.units x ≡ true) (negated_mapped global r) (h.all (negated r) t z)))
   where
-    all_false : (ls : List ℕ) → ((k : ℕ) → k < length ls → s.units (negated (with_var global (get_or ls k 0))) ≡ true) → AllByRecursion (λ l. denied_in s [] (negated l) ≡ true) (map (with_var global) ls)
+    all_false : (ls : List ℕ) → ((k : ℕ) → k < length ls → s.units (negated (with_var global (get_or ls k 0))) ≡ true) → AllByRecursion (λ l. rup_assumptions s [] (negated l) ≡ true) (map (with_var global) ls)
     all_false [] x = tt
     all_false (l ∷ ls) x = (x 0 (omega arith), all_false ls (λ k lt. x (suc k) (omega arith)))

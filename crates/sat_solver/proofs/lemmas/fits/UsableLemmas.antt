@@ -16,8 +16,8 @@ use Rattle.sat_parts.specs.clause.Orders.{AreDistinct}
 use Rattle.sat_parts.specs.clause.Stored.{AreClauses}
 use Rattle.sat_parts.specs.prop.Binaries.{implied_by}
 use Rattle.sat_parts.specs.prop.Causes.{causes, falsified}
-use Rattle.sat_parts.specs.prop.Graphs.{is_unit_reason}
-use Rattle.sat_parts.specs.prop.State.{State, lit_at}
+use Rattle.sat_parts.specs.prop.Graphs.{has_no_clause}
+use Rattle.sat_parts.specs.prop.State.{PropagationState, lit_at}
 use Rattle.sat_parts.specs.prop.Reasons.{Implies}
 use Rattle.sat_parts.specs.prop.Ready.{IsConflict}
 use Rattle.sat_parts.proofs.lemmas.clause.ListLemmas.{at_place}
@@ -113,7 +113,7 @@ module _ (words live : List ℕ) (implied : List (List ℕ)) (s : Session) (glob
       clauses.named it (in_after it (binaries implied) (longs (is_redundant words) words live) (long_there (is_redundant words) words live o c))
 
   -- the reason of a literal on the trail
-  pub reason_usable : (st : State) (i : ℕ) (r : Reason) → is_unit_reason r ≡ false → Implies words live implied st i r → IsUsable s global (reason_clause words (lit_at st i) r)
+  pub reason_usable : (st : PropagationState) (i : ℕ) (r : Reason) → has_no_clause r ≡ false → Implies words live implied st i r → IsUsable s global (reason_clause words (lit_at st i) r)
   reason_usable st i NoCause u h = absurd (true≢false u)
   reason_usable st i (Binary ls) u h = pair_usable (lit_at st i) (get_or ls 0 0) (paired.back (get_or ls 0 0) (lit_at st i) h.0)
   reason_usable st i (Long o) u h = long_usable o h.0
@@ -124,7 +124,7 @@ module _ (words live : List ℕ) (implied : List (List ℕ)) (s : Session) (glob
   conflict_usable values (conflicts.Long o) c = long_usable o c.0
 
 -- two ways to write the clause of a reason agree
-pub reason_clauses : (words live : List ℕ) (implied : List (List ℕ)) (st : State) (i count : ℕ) (r : Reason) → AreClauses words live count → is_unit_reason r ≡ false → Implies words live implied st i r → lit_at st i ∷ causes words r ≡ reason_clause words (lit_at st i) r
+pub reason_clauses : (words live : List ℕ) (implied : List (List ℕ)) (st : PropagationState) (i count : ℕ) (r : Reason) → AreClauses words live count → has_no_clause r ≡ false → Implies words live implied st i r → lit_at st i ∷ causes words r ≡ reason_clause words (lit_at st i) r
 reason_clauses words live implied st i count NoCause h u x = absurd (true≢false u)
 reason_clauses words live implied st i count (Binary ls) h u x = refl
 reason_clauses words live implied st i count (Long o) h u x = first_rest (lits_at words o) (lit_at st i) (omega (arith, h.long o x.0)) x.1

@@ -11,7 +11,7 @@ use Rattle.sat_solver.proofs.lemmas.fits.AddedLemmas.{fits_added_tautology, unit
 use Rattle.sat_solver.proofs.lemmas.fits.CodeLemmas.{coded_by}
 use Rattle.sat_solver.proofs.lemmas.cdcl.TurnLemmas.{ready_names}
 use Rattle.sat_solver.specs.declared.context.Search.{Search}
-use Rattle.sat_solver.specs.cdcl.Joint.{global_in, IsSearch}
+use Rattle.sat_solver.specs.cdcl.Joint.{global_in, SearchInvariant}
 use Rattle.sat_solver.specs.load.Alike.{LooksAlike}
 use Rattle.sat_solver.specs.load.Loaded.{IsAdded}
 use Rattle.sat_solver.proofs.lemmas.load.LoadingLemmas.{asked_added, leaves_added}
@@ -20,7 +20,7 @@ mapped_alike : (global : ℕ → ℕ) (f h : ℕ → Option ℕ) (ls : List ℕ)
 mapped_alike global f h [] same m = m
 mapped_alike global f h (l ∷ ls) same m = (same (global (variable l)) ∙ m.0, mapped_alike global f h ls same m.1)
 
-pub search_alike : (s t : Session) (c : Search) → IsSearch s c → LooksAlike s t → IsSearch t c
+pub search_alike : (s t : Session) (c : Search) → SearchInvariant s c → LooksAlike s t → SearchInvariant t c
 search_alike s t c x a =
     let fits = x.valid.fits in
     record {
@@ -52,7 +52,7 @@ search_alike s t c x a =
     unit_same l e = ap t.units (sym (coded_by (global_in c) l)) ∙ a.units (global_in c (variable l)) (variable l) (is_positive l) e ∙ ap s.units (coded_by (global_in c) l)
 
 -- a tautology was added
-pub tautology_loads : (steps : List Step) (c : Search) (ls : List ℕ) → IsAdded steps c ls → is_tautology ls ≡ true → IsSearch (session_after steps) c
+pub tautology_loads : (steps : List Step) (c : Search) (ls : List ℕ) → IsAdded steps c ls → is_tautology ls ≡ true → SearchInvariant (session_after steps) c
 tautology_loads steps c ls added both =
     let x = added.search in
     let p = c.parts in

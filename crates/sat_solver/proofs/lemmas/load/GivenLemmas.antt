@@ -4,20 +4,20 @@ use Rattle.std.proofs.Common.{ℕ, zero, suc, take, ◌+◌, ◌*◌, ◌/◌, �
 use Rattle.std.proofs.lemmas.Bool.{cases_lt, true≢false}
 use Rattle.std.proofs.lemmas.List.{get_or_past, get_or_append_left, take_all}
 use Rattle.std.specs.List.{Contains, AllByRecursion}
-use Rattle.sat_base.specs.values.Literals.{coded, variable, is_positive}
-use Rattle.sat_store.specs.heap.Vsids.{may_pick}
+use Rattle.sat_base.specs.values.Literals.{mk_lit, variable, is_positive}
+use Rattle.sat_store.specs.heap.Vsids.{is_available}
 use Rattle.sat_store.specs.variables.Flags.{GrowsFlags}
 use Rattle.sat_parts.specs.clause.Glue.{AreClear}
 use Rattle.sat_parts.specs.clause.Db.{live_refs}
 use Rattle.sat_parts.specs.prop.Values.{value_of, IsTrueLit}
-use Rattle.sat_parts.specs.prop.State.{State, level}
+use Rattle.sat_parts.specs.prop.State.{PropagationState, level}
 use Rattle.sat_solver.specs.session.Session.{Session}
 use Rattle.sat_solver.specs.session.LiveClauses.{LiveClause, IsIn, with_var, mapped, live_count_of, AreMapped, AreOf}
 use Rattle.sat_solver.specs.session.SolverClauses.{solver_clauses}
-use Rattle.sat_parts.specs.declared.parts.Parts.{Parts}
+use Rattle.sat_parts.specs.declared.parts.SearchState.{SearchState}
 use Rattle.sat_parts.specs.parts.Assumed.{IsPlaced, ArePlaced, variables_of_lits}
 use Rattle.sat_parts.specs.parts.Frame.{AddsVars, IsUnitLit}
-use Rattle.sat_parts.specs.parts.Whole.{state, PartsInvariant}
+use Rattle.sat_parts.specs.parts.Whole.{state, SearchStateInvariant}
 use Rattle.sat_parts.specs.parts.Words.{IsIdle}
 use Rattle.sat_solver.specs.session.Fits.{is_redundant, SessionMatchesParts, TrueLitsHaveNames}
 use Rattle.sat_solver.specs.session.Naming.{global_of_index}
@@ -25,10 +25,10 @@ use Rattle.sat_solver.proofs.lemmas.fits.AddedLemmas.{unit_true}
 use Rattle.sat_solver.proofs.lemmas.fits.CodeLemmas.{coded_by}
 use Rattle.sat_solver.proofs.lemmas.fits.FramedParts.{fits_grown}
 use Rattle.sat_solver.specs.variables.Variables.{says_unit}
-use Rattle.sat_solver.specs.variables.Search.{GivenApart, HasGiven}
+use Rattle.sat_solver.specs.variables.Search.{IndicesDistinct, HasGiven}
 use Rattle.sat_solver.specs.declared.variables.solver_vars.Given.{Given}
 use Rattle.sat_solver.specs.declared.context.Search.{Search}
-use Rattle.sat_solver.specs.cdcl.Joint.{global_in, assumed_indices, IsFree, IsSearch}
+use Rattle.sat_solver.specs.cdcl.Joint.{global_in, assumed_indices, IsFree, SearchInvariant}
 use Rattle.sat_solver.proofs.lemmas.cdcl.TurnLemmas.{ready_names}
 use Rattle.sat_solver.specs.load.Restart.{FullyRestarted}
 use Rattle.sat_solver.specs.variables.Initialized.{GivesLit, IsVacant, AreVacant, ActivatesIndices, Renames, IsGivenTo, GivesNames, GivesSearchIndices}
@@ -79,7 +79,7 @@ found globals s t (g ∷ gs) x all (inr k) = found globals s t gs x all.1 k
 lit_unit : (globals : List ℕ) (s t : Session) (gs : List Given) (l : ℕ) → AllByRecursion (IsGivenTo globals s t) gs → GivesLit gs l → s.units (with_var (global_of_index globals) l) ≡ true
 lit_unit globals s t [] l all h = absurd h
 lit_unit globals s t (g ∷ gs) l all (inl e) =
-    ap s.units (sym (coded_by (global_of_index globals) l)) ∙ ap (λ v. s.units (coded (global_of_index globals v) (is_positive l))) (sym e.0)
+    ap s.units (sym (coded_by (global_of_index globals) l)) ∙ ap (λ v. s.units (mk_lit (global_of_index globals v) (is_positive l))) (sym e.0)
     ∙ all.0.unit (is_positive l) ∙ ap (λ u. says_unit u (is_positive l)) e.1 ∙ says_itself (is_positive l)
   where
     says_itself : (b : Bool) → says_unit (Some b) b ≡ true
@@ -90,7 +90,7 @@ lit_unit globals s t (g ∷ gs) l all (inr k) = lit_unit globals s t gs l all.1 
 unit_lit : (globals : List ℕ) (s t : Session) (gs : List Given) (l : ℕ) → AllByRecursion (IsGivenTo globals s t) gs → HasGiven gs (variable l) → s.units (with_var (global_of_index globals) l) ≡ true → GivesLit gs l
 unit_lit globals s t [] l all h u = h
 unit_lit globals s t (g ∷ gs) l all (inl e) u =
-    inl (e, says_only g.unit (is_positive l) (sym (all.0.unit (is_positive l)) ∙ ap (λ v. s.units (coded (global_of_index globals v) (is_positive l))) e ∙ ap s.units (coded_by (global_of_index globals) l) ∙ u))
+    inl (e, says_only g.unit (is_positive l) (sym (all.0.unit (is_positive l)) ∙ ap (λ v. s.units (mk_lit (global_of_index globals v) (is_positive l))) e ∙ ap s.units (coded_by (global_of_index globals) l) ∙ u))
   where
     says_only : (o : Option Bool) (b : Bool) → says_unit o b ≡ true → o ≡ Some b
     says_only None b h = absurd (true≢false (sym h))
@@ -101,7 +101,7 @@ unit_lit globals s t (g ∷ gs) l all (inl e) u =
 unit_lit globals s t (g ∷ gs) l all (inr k) u = inr (unit_lit globals s t gs l all.1 k u)
 
 -- at level 0, visited assumptions stay visited as long as literals of level 0 stay true
-pub placed_bottom : (ls below : List ℕ) (place : ℕ) (s s' : State) → s.trail.starts ≡ [] → s'.trail.starts ≡ [] → ((l : ℕ) → IsTrueLit s.values l → level s l ≡ 0 → IsTrueLit s'.values l × (level s' l ≡ 0)) →
+pub placed_bottom : (ls below : List ℕ) (place : ℕ) (s s' : PropagationState) → s.trail.starts ≡ [] → s'.trail.starts ≡ [] → ((l : ℕ) → IsTrueLit s.values l → level s l ≡ 0 → IsTrueLit s'.values l × (level s' l ≡ 0)) →
     IsPlaced ls below place s → IsPlaced ls below place s'
 placed_bottom ls below place s s' e e' kept h =
     let none : length s.trail.starts ≡ 0 = ap (λ (xs : List ℕ). length xs) e in
@@ -117,8 +117,8 @@ placed_bottom ls below place s s' e e' kept h =
       all = λ lt. absurd (omega arith);
     }
 
-module _ (c c' : Search) (globals : List ℕ) (gs : List Given) (count : ℕ) (holds : PartsInvariant c.parts) (bottom : c.parts.trail.starts ≡ []) (next : length c.globals.items ≡ length c.parts.assignment.current) (more : length c.globals.items ≤ count) (least : length c.globals.items ≤ length globals → count ≤ length globals) (past : AllByRecursion (λ g. g.solver < count) gs)
-    (p : Parts) (grown : AddsVars c.parts p count) (takes : ActivatesIndices gs p c'.parts)
+module _ (c c' : Search) (globals : List ℕ) (gs : List Given) (count : ℕ) (holds : SearchStateInvariant c.parts) (bottom : c.parts.trail.starts ≡ []) (next : length c.globals.items ≡ length c.parts.assignment.current) (more : length c.globals.items ≤ count) (least : length c.globals.items ≤ length globals → count ≤ length globals) (past : AllByRecursion (λ g. g.solver < count) gs)
+    (p : SearchState) (grown : AddsVars c.parts p count) (takes : ActivatesIndices gs p c'.parts)
     (xs : List ℕ) (front : (v : ℕ) → v < length c.globals.items → get_or xs v 0 ≡ get_or c.globals.items v 0) (many : length xs ≡ count) (renamed : Renames gs globals xs c'.globals.items)
     (assumptions : c'.assumptions ≡ c.assumptions) (flags : length c'.analysis.flags ≡ count) (clear : AreClear c.analysis.flags → AreClear c'.analysis.flags) (glue : GrowsFlags count c.flags.flags.items c'.flags.flags.items) where
   abbrev n : ℕ
@@ -136,7 +136,7 @@ module _ (c c' : Search) (globals : List ℕ) (gs : List Given) (count : ℕ) (h
   others : (v : ℕ) → v < length c.globals.items → (HasGiven gs v → ⊥) → get_or c'.globals.items v 0 ≡ get_or c.globals.items v 0
   others v lt out = renamed.others v out ∙ front v lt
 
-  module _ (s t : Session) (x : IsSearch s c) (g : GivesNames globals gs (length c.globals.items) s t) where
+  module _ (s t : Session) (x : SearchInvariant s c) (g : GivesNames globals gs (length c.globals.items) s t) where
     -- a variable that had a solver name keeps it
     old_stays : (v : ℕ) → s.solver_names (global_in c v) ≡ Some v → (global_in c' v ≡ global_in c v) × (t.solver_names (global_in c' v) ≡ Some v)
     old_stays v own =
@@ -233,7 +233,7 @@ module _ (c c' : Search) (globals : List ℕ) (gs : List Given) (count : ℕ) (h
     placed : ArePlaced c'.assumptions (state c'.parts)
     placed = rw assumptions (placed_bottom c.assumptions.lits.items c.assumptions.below.items c.assumptions.place (state c.parts) (state c'.parts) bottom takes.bottom bottom_stays x.ready.placed)
 
-    still : IsSearch t c'
+    still : SearchInvariant t c'
     still = record {
       valid = record { holds = takes.holds; fits = fits };
       ready = record {
@@ -264,13 +264,13 @@ module _ (c c' : Search) (globals : List ℕ) (gs : List Given) (count : ℕ) (h
   }
 
 -- an index that no proof variable has is vacant
-pub idle_index : (s : Session) (c : Search) (x : ℕ) → IsSearch s c → ((v : ℕ) → s.solver_names v ≢ Some x) → (value_of c.parts.assignment.current x ≡ None) × (may_pick c.parts.vsids x ≡ false)
+pub idle_index : (s : Session) (c : Search) (x : ℕ) → SearchInvariant s c → ((v : ℕ) → s.solver_names v ≢ Some x) → (value_of c.parts.assignment.current x ≡ None) × (is_available c.parts.vsids x ≡ false)
 idle_index s c x h none = elim (cases_lt x (length c.parts.assignment.current)) [
   | inl lt ↦ elim (h.ready.used x lt) [ inl own ↦ absurd (none (global_in c x) own) | inr idle ↦ (idle.0, idle.1) ]
   | inr ge ↦ (get_or_past c.parts.assignment.current x None ge, get_or_past c.parts.vsids.available x false (omega (arith, h.valid.holds.below.queue)))
 ]
 
-pub are_vacant : (globals : List ℕ) (s t : Session) (c : Search) (count : ℕ) (gs : List Given) → IsSearch s c → AllByRecursion (IsGivenTo globals s t) gs → AllByRecursion (λ g. g.solver < count) gs → GivenApart gs → AreVacant c.parts count gs
+pub are_vacant : (globals : List ℕ) (s t : Session) (c : Search) (count : ℕ) (gs : List Given) → SearchInvariant s c → AllByRecursion (IsGivenTo globals s t) gs → AllByRecursion (λ g. g.solver < count) gs → IndicesDistinct gs → AreVacant c.parts count gs
 are_vacant globals s t c count gs h each below apart = record { each = go gs each below; apart = apart }
   where
     go : (ks : List Given) → AllByRecursion (IsGivenTo globals s t) ks → AllByRecursion (λ g. g.solver < count) ks → AllByRecursion (IsVacant c.parts count) ks
@@ -288,14 +288,14 @@ vacant_restarted c c' count gs back h = record { each = go gs h.each; apart = h.
         (record { below = a.0.below; open_value = idle.0; unpicked = idle.1 }, go ks a.1)
 
 -- it is still vacant after variables are added
-pub vacant_grown : (p q : Parts) (reach count : ℕ) (gs : List Given) → AddsVars p q count → AllByRecursion (λ g. g.solver < count) gs → AreVacant p reach gs → AreVacant q (length q.assignment.current) gs
+pub vacant_grown : (p q : SearchState) (reach count : ℕ) (gs : List Given) → AddsVars p q count → AllByRecursion (λ g. g.solver < count) gs → AreVacant p reach gs → AreVacant q (length q.assignment.current) gs
 vacant_grown p q reach count gs grown past h = record { each = subst (λ n. AllByRecursion (IsVacant q n) gs) (sym grown.size) (go gs past h.each); apart = h.apart }
   where
     go : (ks : List Given) → AllByRecursion (λ g. g.solver < count) ks → AllByRecursion (IsVacant p reach) ks → AllByRecursion (IsVacant q count) ks
     go [] b a = tt
     go (k ∷ ks) b a = (record { below = b.0; open_value = grown.values k.solver ∙ a.0.open_value; unpicked = grown.picks k.solver ∙ a.0.unpicked }, go ks b.1 a.1)
 
-pub below_all : (p : Parts) (count : ℕ) (gs : List Given) → AllByRecursion (IsVacant p count) gs → AllByRecursion (λ g. g.solver < count) gs
+pub below_all : (p : SearchState) (count : ℕ) (gs : List Given) → AllByRecursion (IsVacant p count) gs → AllByRecursion (λ g. g.solver < count) gs
 below_all p count [] a = tt
 below_all p count (g ∷ gs) a = (a.0.below, below_all p count gs a.1)
 
@@ -307,7 +307,7 @@ front_kept xs zs count m x le e v lt = ap (λ ws. get_or ws v 0) e ∙ ap (λ ws
 -- NO INDICES
 
 -- if only variables without an index got names, the search still agrees with the session
-none_given : (globals : List ℕ) (count : ℕ) (s t : Session) (c : Search) → IsSearch s c → GivesNames globals [] count s t → IsSearch t c
+none_given : (globals : List ℕ) (count : ℕ) (s t : Session) (c : Search) → SearchInvariant s c → GivesNames globals [] count s t → SearchInvariant t c
 none_given globals count s t c x g = record {
   valid = record {
     holds = x.valid.holds;
@@ -334,7 +334,7 @@ none_given globals count s t c x g = record {
 }
 
 -- without new indices, a search at level 0 is unchanged
-pub none_indexed : (globals : List ℕ) (c : Search) → length c.globals.items ≡ length c.parts.assignment.current → c.parts.trail.starts ≡ [] → PartsInvariant c.parts → GivesSearchIndices globals [] c c
+pub none_indexed : (globals : List ℕ) (c : Search) → length c.globals.items ≡ length c.parts.assignment.current → c.parts.trail.starts ≡ [] → SearchStateInvariant c.parts → GivesSearchIndices globals [] c c
 none_indexed globals c next bottom holds = record {
   named = λ v h. absurd h;
   others = λ v lt out. refl;

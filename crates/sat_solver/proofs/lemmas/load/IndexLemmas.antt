@@ -3,13 +3,13 @@ use Rattle.std.proofs.Common.{ℕ, zero, suc, ◌≤◌, ◌+◌, ◌*◌, ◌%�
 use Rattle.std.proofs.lemmas.Bool.{cases_eq}
 use Rattle.std.proofs.lemmas.List.{get_or-set_other}
 use Rattle.std.specs.List.{AllByRecursion}
-use Rattle.sat_base.specs.values.Literals.{coded, variable, is_positive}
-use Rattle.sat_store.specs.heap.Vsids.{may_pick}
-use Rattle.sat_parts.specs.prop.Values.{value_of, IsTrueLit, made_true}
+use Rattle.sat_base.specs.values.Literals.{mk_lit, variable, is_positive}
+use Rattle.sat_store.specs.heap.Vsids.{is_available}
+use Rattle.sat_parts.specs.prop.Values.{value_of, IsTrueLit, with_true_lit}
 use Rattle.sat_parts.specs.prop.State.{level}
 use Rattle.sat_parts.proofs.lemmas.prop.StateLemmas.{lit_from_parts}
-use Rattle.sat_parts.specs.declared.parts.Parts.{Parts}
-use Rattle.sat_parts.specs.parts.Whole.{state, PartsInvariant}
+use Rattle.sat_parts.specs.declared.parts.SearchState.{SearchState}
+use Rattle.sat_parts.specs.parts.Whole.{state, SearchStateInvariant}
 use Rattle.sat_parts.specs.parts.Frame.{SameClauses, SameState, GainsUnit, IsUnitLit}
 use Rattle.sat_solver.specs.variables.Search.{HasGiven}
 use Rattle.sat_solver.specs.declared.variables.solver_vars.Given.{Given}
@@ -36,7 +36,7 @@ none_other : (g : Given) (v : ℕ) → g.solver ≢ v → HasGiven (g ∷ []) v 
 none_other g v n (inl e) = n e
 none_other g v n (inr k) = k
 
-pub takes_none : (p : Parts) → PartsInvariant p → p.trail.starts ≡ [] → ActivatesIndices [] p p
+pub takes_none : (p : SearchState) → SearchStateInvariant p → p.trail.starts ≡ [] → ActivatesIndices [] p p
 takes_none p holds bottom = record {
   holds = holds;
   bottom = bottom;
@@ -50,7 +50,7 @@ takes_none p holds bottom = record {
   its = λ l h. absurd h;
 }
 
-pub takes_cons : (g : Given) (gs : List Given) (p m q : Parts) → AllByRecursion (λ h. h.solver ≢ g.solver) gs → ActivatesIndices (g ∷ []) p m → ActivatesIndices gs m q → ActivatesIndices (g ∷ gs) p q
+pub takes_cons : (g : Given) (gs : List Given) (p m q : SearchState) → AllByRecursion (λ h. h.solver ≢ g.solver) gs → ActivatesIndices (g ∷ []) p m → ActivatesIndices gs m q → ActivatesIndices (g ∷ gs) p q
 takes_cons g gs p m q apart x y = record {
   holds = y.holds;
   bottom = y.bottom;
@@ -73,21 +73,21 @@ takes_cons g gs p m q apart x y = record {
 }
 
 -- the other indices are still vacant
-pub vacant_on : (g : Given) (gs : List Given) (p m : Parts) (count : ℕ) → AllByRecursion (λ h. h.solver ≢ g.solver) gs → ActivatesIndices (g ∷ []) p m → AllByRecursion (IsVacant p count) gs → AllByRecursion (IsVacant m count) gs
+pub vacant_on : (g : Given) (gs : List Given) (p m : SearchState) (count : ℕ) → AllByRecursion (λ h. h.solver ≢ g.solver) gs → ActivatesIndices (g ∷ []) p m → AllByRecursion (IsVacant p count) gs → AllByRecursion (IsVacant m count) gs
 vacant_on g [] p m count apart x h = tt
 vacant_on g (k ∷ ks) p m count apart x h =
     let out : HasGiven (g ∷ []) k.solver → ⊥ = none_other g k.solver (λ e. apart.0 (sym e)) in
     (record { below = h.0.below; open_value = x.values k.solver out ∙ h.0.open_value; unpicked = x.picks k.solver out ∙ h.0.unpicked }, vacant_on g ks p m count apart.1 x h.1)
 
-module _ (p m p' : Parts) (g : Given) (bottom : p.trail.starts ≡ []) (vacant : IsVacant p (length p.assignment.current) g) (same : SameClauses p m × SameState p m) (picks : m.vsids.available ≡ p.vsids.available) (room : length p.vsids.available ≡ length p.assignment.current) (holds : PartsInvariant p') where
-  may_before : (v : ℕ) → may_pick m.vsids v ≡ may_pick p.vsids v
+module _ (p m p' : SearchState) (g : Given) (bottom : p.trail.starts ≡ []) (vacant : IsVacant p (length p.assignment.current) g) (same : SameClauses p m × SameState p m) (picks : m.vsids.available ≡ p.vsids.available) (room : length p.vsids.available ≡ length p.assignment.current) (holds : SearchStateInvariant p') where
+  may_before : (v : ℕ) → is_available m.vsids v ≡ is_available p.vsids v
   may_before v = ap (λ (xs : List Bool). get_or xs v false) picks
 
   same_state : state m ≡ state p
   same_state = rw (same.1.0, same.1.1, same.1.2) refl
 
   -- an index is taken together with its unit
-  pub takes_restored : (l : ℕ) → variable l ≡ g.solver → g.unit ≡ Some (is_positive l) → SameClauses m p' → GainsUnit l (state m) (state p') → p'.assignment ≡ made_true l m.assignment → p'.vsids ≡ m.vsids → p'.trail ≡ m.trail → ActivatesIndices (g ∷ []) p p'
+  pub takes_restored : (l : ℕ) → variable l ≡ g.solver → g.unit ≡ Some (is_positive l) → SameClauses m p' → GainsUnit l (state m) (state p') → p'.assignment ≡ with_true_lit l m.assignment → p'.vsids ≡ m.vsids → p'.trail ≡ m.trail → ActivatesIndices (g ∷ []) p p'
   takes_restored l var unit clauses gains values queue trail =
       let its : (k : ℕ) → variable l ≡ variable k → is_positive l ≡ is_positive k → k ≡ l = λ k e b. lit_from_parts k l (sym e) (sym b) in
       record {
@@ -96,7 +96,7 @@ module _ (p m p' : Parts) (g : Given) (bottom : p.trail.starts ≡ []) (vacant :
         same = (clauses.0 ∙ same.0.0, clauses.1 ∙ same.0.1, clauses.2 ∙ same.0.2);
         size = gains.size ∙ ap (λ a. length a.current) same.1.0;
         values = λ v out. ap (λ a. value_of a.current v) values ∙ get_or-set_other m.assignment.current (variable l) v (Some (is_positive l)) None (λ e. out (inl (sym (e ∙ var)))) ∙ ap (λ a. value_of a.current v) same.1.0;
-        picks = λ v out. ap (λ q. may_pick q v) queue ∙ may_before v;
+        picks = λ v out. ap (λ q. is_available q v) queue ∙ may_before v;
         ready = λ v h n. elim h [
           | inl e ↦ absurd (none_some (is_positive l) (sym n ∙ ap (value_of p'.assignment.current) (sym (var ∙ e)) ∙ gains.holds.0))
           | inr z ↦ absurd z
@@ -138,11 +138,11 @@ renames_cons g gs globals xs ys lt apart r = record {
 
 -- LITERALS OF A VARIABLE
 
-pub coded_variable : (v : ℕ) (b : Bool) → variable (coded v b) ≡ v
+pub coded_variable : (v : ℕ) (b : Bool) → variable (mk_lit v b) ≡ v
 coded_variable v true = omega arith
 coded_variable v false = omega arith
 
-pub coded_sign : (v : ℕ) (b : Bool) → is_positive (coded v b) ≡ b
+pub coded_sign : (v : ℕ) (b : Bool) → is_positive (mk_lit v b) ≡ b
 coded_sign v true = (let e : (2 * v + 0) % 2 ≡ 0 = omega arith in ap (λ r. eqb r 0) e)
 coded_sign v false = (let e : (2 * v + 1) % 2 ≡ 1 = omega arith in ap (λ r. eqb r 0) e)
 

@@ -9,21 +9,21 @@ use Rattle.sat_solver.specs.Recovery.{buffer_failure}
 use Rattle.sat_solver.specs.declared.proof.Proof.{Proof}
 use Rattle.sat_solver.specs.proof.ProofView.{HasAllowedSteps}
 use Rattle.sat_solver.proofs.lemmas.session.ProofLemmas.{adds_none}
-use Rattle.sat_solver.specs.cdcl.Going.{EmitsStepsOr}
+use Rattle.sat_solver.specs.cdcl.StepEffects.{EmitsStepsOr}
 use Rattle.sat_parts.specs.prop.State.{StateIsConsistent}
-use Rattle.sat_parts.specs.declared.parts.Parts.{Parts}
+use Rattle.sat_parts.specs.declared.parts.SearchState.{SearchState}
 use Rattle.sat_parts.specs.declared.parts.load.Loaded.{Loaded}
 use Rattle.sat_parts.specs.declared.parts.load.Loaded.TheVariants.{Stored, Unit as One, Satisfied, Falsified}
 use Rattle.sat_parts.specs.parts.Frame.{SameClauses, SameState}
 use Rattle.sat_parts.specs.parts.Loadable.{false_last}
 use Rattle.sat_parts.specs.parts.Loading.{LoadEffect}
-use Rattle.sat_parts.specs.parts.Whole.{state, PartsInvariant}
+use Rattle.sat_parts.specs.parts.Whole.{state, SearchStateInvariant}
 use Rattle.sat_parts.proofs.lemmas.parts.LoadFrames.{carries_same, says_size, says_units, says_bottom}
 use Rattle.sat_parts.proofs.lemmas.parts.SortLemmas.{shuffled_last}
 use Rattle.sat_parts.proofs.lemmas.parts.WordSteps.{fits_below}
 use Rattle.sat_solver.specs.session.Session.{Session, IsAllowedStep, after, session_after}
 use Rattle.sat_solver.proofs.lemmas.session.Changes.{with_live_clause, knowing_literals, session_if}
-use Rattle.sat_solver.specs.session.Coming.{IsLastAdded}
+use Rattle.sat_solver.specs.session.AllowedSteps.{IsLastAdded}
 use Rattle.sat_solver.specs.session.LiveClauses.{with_var}
 use Rattle.sat_solver.specs.session.Fits.{SessionMatchesParts}
 use Rattle.sat_solver.specs.session.Loads.{LoadFits}
@@ -32,13 +32,13 @@ use Rattle.sat_solver.proofs.lemmas.fits.LearnedLemmas.{fits_undone}
 use Rattle.sat_solver.proofs.lemmas.fits.LoadedParts.{fits_loaded}
 use Rattle.sat_solver.specs.declared.context.Search.{Search}
 use Rattle.sat_solver.specs.declared.context.Scratch.{Scratch}
-use Rattle.sat_solver.specs.cdcl.Joint.{global_in, IsSearch, SameVarsAndAssumptions, SameAssumedAndNames, AreNamedOrIdle, assumed_indices}
+use Rattle.sat_solver.specs.cdcl.Joint.{global_in, SearchInvariant, SameVarsAndAssumptions, SameAssumedAndNames, AreNamedOrIdle, assumed_indices}
 use Rattle.sat_solver.proofs.lemmas.cdcl.AskedLemmas.{asked_after, leaves_after}
 use Rattle.sat_solver.proofs.lemmas.cdcl.TurnLemmas.{free_moved}
-use Rattle.sat_solver.specs.load.Loaded.{MayLoad, IsAdded, IsLoaded}
+use Rattle.sat_solver.specs.load.Loaded.{CanLoad, IsAdded, IsLoaded}
 use Rattle.sat_checker.specs.LiteralSets.{mentions}
 use Rattle.sat_checker.specs.declared.processing.ProofProcessor.{Ghosts}
-use Rattle.sat_store.specs.heap.Vsids.{may_pick}
+use Rattle.sat_store.specs.heap.Vsids.{is_available}
 use Rattle.std.proofs.lemmas.Bool.{or_left, or_right, eq-eqb, cases_Bool, true≢false}
 use Rattle.sat_parts.specs.prop.Values.{value_of, IsTrueLit}
 use Rattle.sat_parts.specs.parts.Words.{IsIdle}
@@ -63,7 +63,7 @@ leaves_added ks earlier consistent = record {
 }
 
 -- a clause of different literals has fewer than 2^32 of them
-pub few_lits : (c : Search) (ls : List ℕ) → PartsInvariant c.parts → MayLoad c ls → length ls < 2 ^ 32
+pub few_lits : (c : Search) (ls : List ℕ) → SearchStateInvariant c.parts → CanLoad c ls → length ls < 2 ^ 32
 few_lits c ls holds may =
     let n : length ls ≤ 2 * length c.parts.assignment.current = fits_below ls (2 * length c.parts.assignment.current) may.differ may.below in
     let a : StateIsConsistent (state c.parts) = holds.below.asks.agrees in
@@ -95,7 +95,7 @@ loaded_scratch s c c' x h =
       bottom = h.bottom;
     }
 
-module _ (c : Search) (ls : List ℕ) (steps : List Step) (added : IsAdded steps c ls) (may : MayLoad c ls) (p1 : Parts) (holds1 : PartsInvariant p1) (ready : SameClauses c.parts p1 × SameState c.parts p1) (others : (v : ℕ) → mentions ls v ≡ false → may_pick p1.vsids v ≡ may_pick c.parts.vsids v) (p2 : Parts) (holds2 : PartsInvariant p2) (kept : (p2.vsids ≡ p1.vsids) × (p2.trail.starts ≡ [])) where
+module _ (c : Search) (ls : List ℕ) (steps : List Step) (added : IsAdded steps c ls) (may : CanLoad c ls) (p1 : SearchState) (holds1 : SearchStateInvariant p1) (ready : SameClauses c.parts p1 × SameState c.parts p1) (others : (v : ℕ) → mentions ls v ≡ false → is_available p1.vsids v ≡ is_available c.parts.vsids v) (p2 : SearchState) (holds2 : SearchStateInvariant p2) (kept : (p2.vsids ≡ p1.vsids) × (p2.trail.starts ≡ [])) where
   abbrev s : Session
   s = session_after added.earlier
 
@@ -136,7 +136,7 @@ module _ (c : Search) (ls : List ℕ) (steps : List Step) (added : IsAdded steps
             true≢false (sym (mentions_at ls j.0 j.1.0) ∙ ap (λ l. mentions ls (variable l)) (j.1.1 ∙ sym y.1) ∙ ap (mentions ls) x.1.0 ∙ out)
       ])
     ],
-    ap (λ q. may_pick q v) kept.0 ∙ others v out ∙ idle.1,
+    ap (λ q. is_available q v) kept.0 ∙ others v out ∙ idle.1,
     idle.2,
   )
 
@@ -154,7 +154,7 @@ module _ (c : Search) (ls : List ℕ) (steps : List Step) (added : IsAdded steps
       placed_bottom c.assumptions.lits.items c.assumptions.below.items c.assumptions.place (state c.parts) (state p2) may.bottom kept.1
       (λ l t z. (let k = (carries_same c.parts p1 ready.1).bottom l t z in says_bottom r p1 p2 ms says l k.0 k.1)) added.search.ready.placed
 
-  whole : (r : Loaded) → LoadEffect r p1 p2 ms → (t : Session) → SameAssumedAndNames s t → SessionMatchesParts p2 t (global_in c) → IsSearch t c'
+  whole : (r : Loaded) → LoadEffect r p1 p2 ms → (t : Session) → SameAssumedAndNames s t → SessionMatchesParts p2 t (global_in c) → SearchInvariant t c'
   whole r says t leaves fits = record {
     valid = record { holds = holds2; fits = fits };
     ready = record {

@@ -13,12 +13,12 @@ use Rattle.sat_solver.proofs.lemmas.session.Changes.{with_live_clause, knowing_l
 use Rattle.sat_solver.proofs.lemmas.fits.FitLemmas.{among_at, all_at}
 use Rattle.sat_solver.specs.load.Literals.{MapsClause, Images, Image}
 use Rattle.sat_solver.specs.declared.variables.Variables.{Variables}
-use Rattle.sat_solver.specs.declared.load.literals.Taken.{Taken}
+use Rattle.sat_solver.specs.declared.load.literals.MappedLits.{MappedLits}
 use Rattle.sat_solver.specs.declared.context.Search.{Search}
-use Rattle.sat_solver.specs.cdcl.Joint.{IsSearch}
-use Rattle.sat_solver.specs.load.Loaded.{MayLoad, IsAdded}
+use Rattle.sat_solver.specs.cdcl.Joint.{SearchInvariant}
+use Rattle.sat_solver.specs.load.Loaded.{CanLoad, IsAdded}
 use Rattle.std.specs.List.{AllByRecursion}
-use Rattle.sat_solver.specs.variables.Variables.{AreTidy, solver_of, global_at}
+use Rattle.sat_solver.specs.variables.Variables.{VariablesInvariant, solver_of, global_at}
 use Rattle.sat_base.proofs.lemmas.script.LiteralValues.{coded_half}
 use Rattle.sat_solver.proofs.lemmas.cdcl.AskedLemmas.{names_added}
 use Rattle.sat_solver.specs.variables.Shared.{SharesIndices}
@@ -46,7 +46,7 @@ all_members P ls (m ∷ ms) h f =
     (member P ls m h (f m (or_left (eqb m m) (is_among ms m) (eq-eqb m m refl))), all_members P ls ms h (λ k t. f k (or_right (eqb m k) (is_among ms k) t)))
 
 -- every literal is over an index
-pub images_over : (n : Variables) (user ls : List ℕ) → AreTidy n → Images n user ls → AreOver n ls
+pub images_over : (n : Variables) (user ls : List ℕ) → VariablesInvariant n → Images n user ls → AreOver n ls
 images_over n user ls tidy i = all_at (λ l. (v : ℕ) × (global_at n (variable l) ≡ Some v)) ls (λ k lt.
     let x : Image n (get_or user k 0) (get_or ls k 0) = i.each k (omega (arith, i.count)) in
     let half : variable (get_or ls k 0) ≡ x.index_is = ap variable x.is ∙ coded_half x.index_is (is_positive (get_or user k 0)) in
@@ -65,12 +65,12 @@ added_names ks s v = ap (λ f. f v) (go s.unsat)
 
 -- THE CLAUSE OF A CALL
 
-module _ (new : Variables) (t : Taken) (user : List ℕ) (between to : List Step) (c : Search) (tidy : AreTidy new) (images : Images new user t.order.items) (maps : MapsClause new t) (shares : SharesIndices new c) where
+module _ (new : Variables) (t : MappedLits) (user : List ℕ) (between to : List Step) (c : Search) (tidy : VariablesInvariant new) (images : Images new user t.order.items) (maps : MapsClause new t) (shares : SharesIndices new c) where
   over : AreOver new t.lits.items
   over = subst (λ ls. AreOver new ls) (sym maps.lits) (set_over new t.order.items (images_over new user t.order.items tidy images))
 
   -- the clause may be loaded
-  pub taken_may : c.parts.trail.starts ≡ [] → is_tautology t.order.items ≡ false → MayLoad c t.lits.items
+  pub taken_may : c.parts.trail.starts ≡ [] → is_tautology t.order.items ≡ false → CanLoad c t.lits.items
   taken_may bottom plain = record {
     bottom = bottom;
     differ = subst (λ ls. AreDistinct ls) (sym maps.lits) (canonical_differ t.order.items);
@@ -79,7 +79,7 @@ module _ (new : Variables) (t : Taken) (user : List ℕ) (between to : List Step
   }
 
   -- the last step added the clause
-  pub taken_added : to ≡ AddClause t.globals.items ∷ between → ((v : ℕ) → (session_after to).solver_names v ≡ solver_of new v) → IsSearch (session_after between) c → IsAdded to c t.lits.items
+  pub taken_added : to ≡ AddClause t.globals.items ∷ between → ((v : ℕ) → (session_after to).solver_names v ≡ solver_of new v) → SearchInvariant (session_after between) c → IsAdded to c t.lits.items
   taken_added written names search = record {
     earlier = between;
     added = written ∙ ap (λ ks. AddClause ks ∷ between) (maps.globals ∙ over_same new c t.lits.items tidy shares over);

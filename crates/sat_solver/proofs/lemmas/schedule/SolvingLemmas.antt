@@ -7,27 +7,27 @@ use Rattle.sat_parts.specs.prop.TrailWord.{Letter}
 use Rattle.sat_solver.specs.proof.ProofView.{EmitsChecked, steps_of, session_of}
 use Rattle.sat_solver.specs.session.Session.{Session, AreAllowedSteps, session_after}
 use Rattle.sat_solver.proofs.lemmas.session.ProofLemmas.{gains_none, gains_more}
-use Rattle.sat_solver.specs.session.Coming.{OnlyAllowedSteps, EndsAtUnsat}
+use Rattle.sat_solver.specs.session.AllowedSteps.{OnlyAllowedSteps, EndsAtUnsat}
 use Rattle.sat_solver.proofs.lemmas.session.ComingLemmas.{comes_open, comes_last}
-use Rattle.sat_parts.specs.declared.parts.Parts.{Parts}
+use Rattle.sat_parts.specs.declared.parts.SearchState.{SearchState}
 use Rattle.sat_parts.specs.parts.Assumed.{variables_of_lits, ArePlaced}
-use Rattle.sat_parts.specs.parts.Whole.{state, PartsInvariant}
-use Rattle.sat_parts.specs.parts.Words.{Words, TrailWordStays, trail_letters}
+use Rattle.sat_parts.specs.parts.Whole.{state, SearchStateInvariant}
+use Rattle.sat_parts.specs.parts.Words.{IsTrailWord, TrailWordStays, trail_letters}
 use Rattle.sat_parts.proofs.lemmas.parts.WordSteps.{word_fits, word_begins}
-use Rattle.sat_solver.specs.session.Advancing.{Advances}
+use Rattle.sat_solver.specs.session.Advancing.{IsEmpowering}
 use Rattle.sat_solver.specs.session.Quiet.{AreQuiet}
 use Rattle.sat_solver.proofs.lemmas.fits.QuietLemmas.{quiet_never}
 use Rattle.sat_solver.specs.schedule.Climbing.{ExtendsEachWord as Goes_up, Climbs}
-use Rattle.sat_solver.specs.declared.schedule.Outcome.{Outcome}
-use Rattle.sat_solver.specs.declared.schedule.Outcome.TheVariants as outcomes
+use Rattle.sat_solver.specs.declared.schedule.RoundOutcome.{RoundOutcome}
+use Rattle.sat_solver.specs.declared.schedule.RoundOutcome.TheVariants as outcomes
 use Rattle.sat_solver.specs.declared.error.SolverError.{SolverError}
 use Rattle.sat_solver.specs.declared.config.SolverConfig.{SolverConfig}
-use Rattle.sat_solver.specs.declared.context.Core.{Core}
+use Rattle.sat_solver.specs.declared.context.Context.{Context}
 use Rattle.sat_solver.specs.variables.Calls.{NamesInvariant, KeepsScriptState}
 use Rattle.sat_solver.specs.declared.variables.Variables.{Variables}
 use Rattle.sat_solver.proofs.lemmas.variables.Doing.{does_none, does_both}
 use Rattle.sat_solver.specs.cdcl.Ending.{RoundShares, EndsRound}
-use Rattle.sat_solver.specs.solver.Joined.{IsJoined, KeepsJoined}
+use Rattle.sat_solver.specs.solver.Joined.{NamesSearchInvariant, KeepsNamesSearchInvariant}
 use Rattle.sat_solver.proofs.lemmas.solver.AnsweredLemmas.{joined_at}
 use Rattle.sat_solver.proofs.lemmas.solver.ReportingLemmas.{shares_moved}
 use Rattle.sat_solver.specs.unit_simplify.Freed.{KeepsAsked}
@@ -36,11 +36,11 @@ use Rattle.sat_solver.proofs.lemmas.unit_simplify.FreedLemmas.{asked_refl, asked
 use Rattle.sat_solver.proofs.lemmas.unit_simplify.PassesLemmas.{passes_goes, falls_goes, falls_later, falls_or}
 use Rattle.sat_solver.specs.declared.context.Search.{Search}
 use Rattle.sat_parts.specs.parts.Full.{IsFull}
-use Rattle.sat_solver.specs.cdcl.Joint.{assumed_indices, SameVarsAndAssumptions, global_in, IsSearch}
-use Rattle.sat_solver.specs.cdcl.Learning.{LastAdvances}
+use Rattle.sat_solver.specs.cdcl.Joint.{assumed_indices, SameVarsAndAssumptions, global_in, SearchInvariant}
+use Rattle.sat_solver.specs.cdcl.Learning.{LastIsEmpowering}
 use Rattle.sat_solver.specs.clause.Reduced.{ReductionEffect, Reduces, ReductionBySteps}
-use Rattle.sat_solver.specs.cdcl.Rounds.{RoundLearns, RoundSays}
-use Rattle.sat_solver.specs.schedule.Solving.{AdvanceTimes, NeverAdvancesByForm, words_in, values_in, ComesByRounds, ReachedByAsManyRounds, EndSays, Ended, BreaksRounds, ReducedAt}
+use Rattle.sat_solver.specs.cdcl.Rounds.{RoundLearns, RoundResult}
+use Rattle.sat_solver.specs.schedule.Solving.{CountsEmpowering, IsNeverEmpoweringByForm, words_in, values_in, ComesByRounds, ReachedByAsManyRounds, HoldsAfterOutcome, Ended, BreaksRounds, ReducedAt}
 use Rattle.sat_solver.proofs.lemmas.cdcl.TurnLemmas.{moved_refl, moved_trans, ready_moved, free_moved, leaves_refl}
 use Rattle.sat_parts.specs.parts.Frame.{SameClauses, AddsNoUnit}
 use Rattle.sat_solver.proofs.lemmas.fits.LearnedLemmas.{fits_undone}
@@ -48,42 +48,42 @@ use Rattle.sat_solver.proofs.lemmas.fits.LearnedLemmas.{fits_undone}
 -- STEPS THAT ADVANCE
 
 -- quiet steps after these do not change how many advanced
-pub times_quiet : (earlier xs ys : List Step) (k : ℕ) → AreAllowedSteps (ys ++ (xs ++ earlier)) → AreQuiet ys → AdvanceTimes earlier xs k → AdvanceTimes earlier (ys ++ xs) k
+pub times_quiet : (earlier xs ys : List Step) (k : ℕ) → AreAllowedSteps (ys ++ (xs ++ earlier)) → AreQuiet ys → CountsEmpowering earlier xs k → CountsEmpowering earlier (ys ++ xs) k
 times_quiet earlier xs [] k may quiet h = h
 times_quiet earlier xs (y ∷ ys) k may quiet h =
     inl (
       times_quiet earlier xs ys k may.0 quiet.1 h,
-      subst (λ zs. NeverAdvancesByForm (session_after zs) y) (sym (append_assoc ys xs earlier)) (record { quiet = quiet.0; never = quiet_never (session_after (ys ++ (xs ++ earlier))) y may.1 quiet.0 }),
+      subst (λ zs. IsNeverEmpoweringByForm (session_after zs) y) (sym (append_assoc ys xs earlier)) (record { quiet = quiet.0; never = quiet_never (session_after (ys ++ (xs ++ earlier))) y may.1 quiet.0 }),
     )
 
 -- an advancing step adds 1 to the number
-times_more : (earlier xs ys : List Step) (k : ℕ) → AreAllowedSteps (ys ++ (xs ++ earlier)) → LastAdvances (xs ++ earlier) ys → AdvanceTimes earlier xs k → AdvanceTimes earlier (ys ++ xs) (k + 1)
+times_more : (earlier xs ys : List Step) (k : ℕ) → AreAllowedSteps (ys ++ (xs ++ earlier)) → LastIsEmpowering (xs ++ earlier) ys → CountsEmpowering earlier xs k → CountsEmpowering earlier (ys ++ xs) (k + 1)
 times_more earlier xs ys k may l h =
-    subst (λ zs. AdvanceTimes earlier (zs ++ xs) (k + 1)) (sym l.is)
+    subst (λ zs. CountsEmpowering earlier (zs ++ xs) (k + 1)) (sym l.is)
     (inr (
       k,
       refl,
-      subst (λ zs. Advances (session_after zs) l.clause) (sym (append_assoc l.rest xs earlier)) l.advances,
+      subst (λ zs. IsEmpowering (session_after zs) l.clause) (sym (append_assoc l.rest xs earlier)) l.advances,
       times_quiet earlier xs l.rest k (subst (λ zs. AreAllowedSteps (zs ++ (xs ++ earlier))) l.is may).0 l.quiet h,
     ))
 
 -- all steps since the start are allowed, as one list
-allowed : {W L : Type 0} {G : Ghosts L} (s a b : Core W L G) (xs ys : List Step) → steps_of a.proof ≡ xs ++ steps_of s.proof → steps_of b.proof ≡ ys ++ steps_of a.proof → AreAllowedSteps (steps_of b.proof) → AreAllowedSteps (ys ++ (xs ++ steps_of s.proof))
+allowed : {W L : Type 0} {G : Ghosts L} (s a b : Context W L G) (xs ys : List Step) → steps_of a.proof ≡ xs ++ steps_of s.proof → steps_of b.proof ≡ ys ++ steps_of a.proof → AreAllowedSteps (steps_of b.proof) → AreAllowedSteps (ys ++ (xs ++ steps_of s.proof))
 allowed s a b xs ys e f may = subst (λ zs. AreAllowedSteps (ys ++ zs)) e (subst AreAllowedSteps f may)
 
 -- WORDS
 
-pub words_stay : (am : List ℕ) (p p' : Parts) → TrailWordStays p p' → (w : List Letter) → Words am p w → (v : List Letter) × Words am p' v
+pub words_stay : (am : List ℕ) (p p' : SearchState) → TrailWordStays p p' → (w : List Letter) → IsTrailWord am p w → (v : List Letter) × IsTrailWord am p' v
 words_stay am p p' stay w x = (_, record { gone = x.gone; distinct = x.distinct; each = λ k b. (stay am).gone _ (x.each k b); is = refl })
 
-words_moved : (p : Parts) (a b : Search) → SameVarsAndAssumptions a b → (v : List Letter) → Words (assumed_indices a) p v → Words (assumed_indices b) p v
-words_moved p a b m v x = subst (λ ls. Words (variables_of_lits ls.items) p v) (sym m.lits) x
+words_moved : (p : SearchState) (a b : Search) → SameVarsAndAssumptions a b → (v : List Letter) → IsTrailWord (assumed_indices a) p v → IsTrailWord (assumed_indices b) p v
+words_moved p a b m v x = subst (λ ls. IsTrailWord (variables_of_lits ls.items) p v) (sym m.lits) x
 
-pub core_word : {W L : Type 0} {G : Ghosts L} (c : Core W L G) → Words (assumed_indices c.search) c.search.parts (trail_letters c.search.parts.trail)
+pub core_word : {W L : Type 0} {G : Ghosts L} (c : Context W L G) → IsTrailWord (assumed_indices c.search) c.search.parts (trail_letters c.search.parts.trail)
 core_word c = word_begins (assumed_indices c.search) c.search.parts
 
 -- undoing decisions preserves the invariant
-pub search_undone : (s : Session) (c : Search) (p : Parts) → IsSearch s c → PartsInvariant p → SameClauses c.parts p → AddsNoUnit (state c.parts) (state p) → TrailWordStays c.parts p → ArePlaced c.assumptions (state p) → IsSearch s (record c { parts = p })
+pub search_undone : (s : Session) (c : Search) (p : SearchState) → SearchInvariant s c → SearchStateInvariant p → SameClauses c.parts p → AddsNoUnit (state c.parts) (state p) → TrailWordStays c.parts p → ArePlaced c.assumptions (state p) → SearchInvariant s (record c { parts = p })
 search_undone s c p h holds same carries stay placed =
     let moved : SameVarsAndAssumptions c (record c { parts = p }) = record { globals = refl; lits = refl; size = carries.size } in
     record {
@@ -94,7 +94,7 @@ search_undone s c p h holds same carries stay placed =
 -- ROUNDS, ONE AFTER ANOTHER
 
 module _ {W L : Type 0} {G : Ghosts L} (seen : W → Writer) where
-  pub gone_none : (a : Core W L G) (n : Variables) → NamesInvariant n (steps_of a.proof) → ComesByRounds seen a n 0 a n
+  pub gone_none : (a : Context W L G) (n : Variables) → NamesInvariant n (steps_of a.proof) → ComesByRounds seen a n 0 a n
   gone_none a n valid = record {
     steps = [];
     adds = gains_none seen a.proof;
@@ -105,9 +105,9 @@ module _ {W L : Type 0} {G : Ghosts L} (seen : W → Writer) where
     times = refl;
   }
 
-  module _ (a b : Core W L G) (na nb : Variables) (config : b.config ≡ a.config) where
+  module _ (a b : Context W L G) (na nb : Variables) (config : b.config ≡ a.config) where
     gone_on : (ys : List Step) → EmitsChecked seen ys a.proof b.proof → KeepsScriptState na nb (steps_of a.proof) (steps_of b.proof) → KeepsAsked na nb (session_of a.proof) (session_of b.proof) → SameVarsAndAssumptions a.search b.search →
-        (s : Core W L G) (n : Variables) (j k : ℕ) → (g : ComesByRounds seen s n k a na) → AdvanceTimes (steps_of s.proof) (ys ++ g.steps) j → ComesByRounds seen s n j b nb
+        (s : Context W L G) (n : Variables) (j k : ℕ) → (g : ComesByRounds seen s n k a na) → CountsEmpowering (steps_of s.proof) (ys ++ g.steps) j → ComesByRounds seen s n j b nb
     gone_on ys adds does asked moved s n j k g times = record {
       steps = ys ++ g.steps;
       adds = gains_more seen g.steps ys s.proof a.proof b.proof g.adds adds;
@@ -119,17 +119,17 @@ module _ {W L : Type 0} {G : Ghosts L} (seen : W → Writer) where
     }
 
     -- a call failed after rounds that succeeded
-    falls : (e : SolverError) → PassFailsOr (IsFull b.search.parts) seen e a.proof b.proof → (s : Core W L G) (n : Variables) (k : ℕ) → ComesByRounds seen s n k a na → BreaksRounds seen s e b
+    falls : (e : SolverError) → PassFailsOr (IsFull b.search.parts) seen e a.proof b.proof → (s : Context W L G) (n : Variables) (k : ℕ) → ComesByRounds seen s n k a na → BreaksRounds seen s e b
     falls e f s n k gone = falls_later seen e s.proof a.proof b.proof (gone.steps, gone.adds) f
 
   -- RESTARTS
 
   -- decisions were undone, down to the levels of assumptions
-  module _ (a : Core W L G) (p : Parts) (holds : PartsInvariant p) (same : SameClauses a.search.parts p) (carries : AddsNoUnit (state a.search.parts) (state p)) (stay : TrailWordStays a.search.parts p) (placed : ArePlaced a.search.assumptions (state p)) where
-    abbrev pub undone : Core W L G
+  module _ (a : Context W L G) (p : SearchState) (holds : SearchStateInvariant p) (same : SameClauses a.search.parts p) (carries : AddsNoUnit (state a.search.parts) (state p)) (stay : TrailWordStays a.search.parts p) (placed : ArePlaced a.search.assumptions (state p)) where
+    abbrev pub undone : Context W L G
     undone = record a { search = record a.search { parts = p } }
 
-    pub undone_joined : KeepsJoined a undone
+    pub undone_joined : KeepsNamesSearchInvariant a undone
     undone_joined n h = record {
       sound = record {
         keeps = h.sound.keeps;
@@ -154,37 +154,37 @@ module _ {W L : Type 0} {G : Ghosts L} (seen : W → Writer) where
 
   -- REDUCTIONS
 
-  module _ (a b : Core W L G) (n : Variables) (round : ℕ) (config : b.config ≡ a.config) (joined : IsJoined n a) where
+  module _ (a b : Context W L G) (n : Variables) (round : ℕ) (config : b.config ≡ a.config) (joined : NamesSearchInvariant n a) where
     abbrev Reduction : Result (Unit {0}) SolverError → Type 0
     Reduction r = ReductionBySteps (Reduces a.config round) seen r a.proof b.proof a.search b.search
 
-    pub reduced_sound : (x : Unit {0}) → Reduction (Ok x) → IsJoined n b
+    pub reduced_sound : (x : Unit {0}) → Reduction (Ok x) → NamesSearchInvariant n b
     reduced_sound x g = joined_at seen n a joined b g.steps g.went g.searched g.keeps g.ends.0.moved g.ends.0.search config
 
     pub reduced_words : (x : Unit {0}) → Reduction (Ok x) → Goes_up words_in a b
     reduced_words x g = λ w h. (let y = g.ends.0.word.1 w h in (y.0, (rw g.ends.0.moved.lits y.1.0, y.1.1)))
 
-    pub reduced_goes : (x : Unit {0}) → Reduction (Ok x) → (s : Core W L G) (m : Variables) (k : ℕ) → ComesByRounds seen s m k a n → ComesByRounds seen s m k b n
+    pub reduced_goes : (x : Unit {0}) → Reduction (Ok x) → (s : Context W L G) (m : Variables) (k : ℕ) → ComesByRounds seen s m k a n → ComesByRounds seen s m k b n
     reduced_goes x g = λ s m k gone.
         (let P : Unit {0} → List Step → Type 0 = λ _ _. ReductionEffect (session_of b.proof) a.search b.search × Reduces a.config round a.search.parts b.search.parts in
         let p : PassesQuietly seen n n a.proof b.proof a.search b.search = passes_goes seen x n a.proof b.proof a.search b.search P joined.valid joined.shares g g.ends.0.search g.ends.0.moved g.ends.0.word in
         gone_on a b n n config g.steps g.went p.does p.asked g.ends.0.moved s m k k gone (times_quiet (steps_of s.proof) gone.steps g.steps k (allowed s a b gone.steps g.steps gone.adds.history g.went.history g.keeps) g.quiet gone.times))
 
-    pub reduced_fails : (e : SolverError) → Reduction (Err e) → (s : Core W L G) (m : Variables) (k : ℕ) → ComesByRounds seen s m k a n → BreaksRounds seen s e b
+    pub reduced_fails : (e : SolverError) → Reduction (Err e) → (s : Context W L G) (m : Variables) (k : ℕ) → ComesByRounds seen s m k a n → BreaksRounds seen s e b
     reduced_fails e g = λ s m k gone.
         (let P : Unit {0} → List Step → Type 0 = λ _ _. ReductionEffect (session_of b.proof) a.search b.search × Reduces a.config round a.search.parts b.search.parts in
         falls a b n n config e (falls_or seen (IsFull b.search.parts) e a.proof b.proof (falls_goes seen e a.proof b.proof P g)) s m k gone)
 
   -- ROUNDS
 
-  module _ (a b : Core W L G) (na nb : Variables) (config : b.config ≡ a.config) (joined : IsJoined na a) where
-    abbrev Round : Result Outcome SolverError → Type 0
+  module _ (a b : Context W L G) (na nb : Variables) (config : b.config ≡ a.config) (joined : NamesSearchInvariant na a) where
+    abbrev Round : Result RoundOutcome SolverError → Type 0
     Round r = EndsRound seen r na nb a.proof b.proof a.search b.search
 
-    learns : (o : Outcome) (steps : List Step) → o ≡ outcomes.Learned → RoundSays o (steps_of a.proof) steps (session_of b.proof) a.search b.search → RoundLearns (steps_of a.proof) steps (session_of b.proof) a.search b.search
-    learns o steps e x = subst (λ z. RoundSays z (steps_of a.proof) steps (session_of b.proof) a.search b.search) e x
+    learns : (o : RoundOutcome) (steps : List Step) → o ≡ outcomes.Learned → RoundResult o (steps_of a.proof) steps (session_of b.proof) a.search b.search → RoundLearns (steps_of a.proof) steps (session_of b.proof) a.search b.search
+    learns o steps e x = subst (λ z. RoundResult z (steps_of a.proof) steps (session_of b.proof) a.search b.search) e x
 
-    pub round_sound : (o : Outcome) → Round (Ok o) → o ≡ outcomes.Learned → IsJoined nb b
+    pub round_sound : (o : RoundOutcome) → Round (Ok o) → o ≡ outcomes.Learned → NamesSearchInvariant nb b
     round_sound o g = λ e. record {
       sound = record {
         keeps = g.keeps;
@@ -196,33 +196,33 @@ module _ {W L : Type 0} {G : Ghosts L} (seen : W → Writer) where
       shares = subst (λ z. RoundShares z nb b.search) e g.shares;
     }
 
-    pub round_most : (o : Outcome) → Round (Ok o) → o ≡ outcomes.Learned → values_in b ≡ values_in a
+    pub round_most : (o : RoundOutcome) → Round (Ok o) → o ≡ outcomes.Learned → values_in b ≡ values_in a
     round_most o g = λ e. (learns o g.steps e g.says).moved.size
 
-    pub round_words : (o : Outcome) → Round (Ok o) → o ≡ outcomes.Learned → Climbs words_in (values_in a) a b
+    pub round_words : (o : RoundOutcome) → Round (Ok o) → o ≡ outcomes.Learned → Climbs words_in (values_in a) a b
     round_words o g = λ e w h.
         (let l : RoundLearns (steps_of a.proof) g.steps (session_of b.proof) a.search b.search = learns o g.steps e g.says in
         let y = l.rises.1 w h in
         let fits : length y.0 ≤ length b.search.parts.assignment.current = word_fits (assumed_indices a.search) (state b.search.parts) b.search.parts.vsids y.0 l.search.valid.holds.below.asks.agrees y.1.0 in
         (y.0, (words_moved b.search.parts a.search b.search l.moved y.0 y.1.0, y.1.1, omega (arith, fits, l.moved.size))))
 
-    pub round_goes : (o : Outcome) → Round (Ok o) → o ≡ outcomes.Learned → (s : Core W L G) (n : Variables) (k : ℕ) → ComesByRounds seen s n k a na → ComesByRounds seen s n (k + 1) b nb
+    pub round_goes : (o : RoundOutcome) → Round (Ok o) → o ≡ outcomes.Learned → (s : Context W L G) (n : Variables) (k : ℕ) → ComesByRounds seen s n k a na → ComesByRounds seen s n (k + 1) b nb
     round_goes o g = λ e s n k gone.
         (let l : RoundLearns (steps_of a.proof) g.steps (session_of b.proof) a.search b.search = learns o g.steps e g.says in
         gone_on a b na nb config g.steps g.adds g.does g.asked l.moved s n (k + 1) k gone
-        (times_more (steps_of s.proof) gone.steps g.steps k (allowed s a b gone.steps g.steps gone.adds.history g.adds.history g.keeps) (subst (λ zs. LastAdvances zs g.steps) gone.adds.history l.last) gone.times))
+        (times_more (steps_of s.proof) gone.steps g.steps k (allowed s a b gone.steps g.steps gone.adds.history g.adds.history g.keeps) (subst (λ zs. LastIsEmpowering zs g.steps) gone.adds.history l.last) gone.times))
 
-    following : (s : Core W L G) (steps before : List Step) → steps_of b.proof ≡ steps ++ steps_of a.proof → steps_of a.proof ≡ before ++ steps_of s.proof → steps_of b.proof ≡ (steps ++ before) ++ steps_of s.proof
+    following : (s : Context W L G) (steps before : List Step) → steps_of b.proof ≡ steps ++ steps_of a.proof → steps_of a.proof ≡ before ++ steps_of s.proof → steps_of b.proof ≡ (steps ++ before) ++ steps_of s.proof
     following s steps before e f = e ∙ ap (λ ss. steps ++ ss) f ∙ sym (append_assoc steps before (steps_of s.proof))
 
-    end_says : (o : Outcome) (earlier steps : List Step) (s : Session) (c : Search) → o ≢ outcomes.Learned → SameVarsAndAssumptions c a.search → RoundSays o earlier steps s a.search b.search → RoundShares o nb b.search → EndSays o s nb c b.search
+    end_says : (o : RoundOutcome) (earlier steps : List Step) (s : Session) (c : Search) → o ≢ outcomes.Learned → SameVarsAndAssumptions c a.search → RoundResult o earlier steps s a.search b.search → RoundShares o nb b.search → HoldsAfterOutcome o s nb c b.search
     end_says outcomes.Learned earlier steps s c n m x shares = absurd (n refl)
     end_says outcomes.Model earlier steps s c n m x shares = (record { search = x.0.search; moved = moved_trans c a.search b.search m x.0.moved; complete = x.0.complete }, shares)
     end_says outcomes.Unsat earlier steps s c n m x shares = x.now
     end_says outcomes.Failed earlier steps s c n m x shares = (record { search = x.0.search; moved = moved_trans c a.search b.search m x.0.moved; failing = x.0.failing }, shares)
 
-    end_comes : (o : Outcome) (steps : List Step) → o ≢ outcomes.Learned → steps_of b.proof ≡ steps ++ steps_of a.proof → RoundSays o (steps_of a.proof) steps (session_of b.proof) a.search b.search →
-        (s : Core W L G) (before : List Step) → steps_of a.proof ≡ before ++ steps_of s.proof → OnlyAllowedSteps EndsAtUnsat (steps_of s.proof) (steps_of b.proof)
+    end_comes : (o : RoundOutcome) (steps : List Step) → o ≢ outcomes.Learned → steps_of b.proof ≡ steps ++ steps_of a.proof → RoundResult o (steps_of a.proof) steps (session_of b.proof) a.search b.search →
+        (s : Context W L G) (before : List Step) → steps_of a.proof ≡ before ++ steps_of s.proof → OnlyAllowedSteps EndsAtUnsat (steps_of s.proof) (steps_of b.proof)
     end_comes outcomes.Learned steps n e x s before f = absurd (n refl)
     end_comes outcomes.Model steps n e x s before f = comes_open (steps_of s.proof) (steps_of b.proof) (steps ++ before) (following s steps before e f) x.0.search.valid.fits.consistent
     end_comes outcomes.Failed steps n e x s before f = comes_open (steps_of s.proof) (steps_of b.proof) (steps ++ before) (following s steps before e f) x.0.search.valid.fits.consistent
@@ -230,13 +230,13 @@ module _ {W L : Type 0} {G : Ghosts L} (seen : W → Writer) where
         comes_last (steps_of s.proof) (x.rest ++ steps_of a.proof) (steps_of b.proof) (x.rest ++ before) x.last (ap (λ ss. x.rest ++ ss) f ∙ sym (append_assoc x.rest before (steps_of s.proof))) x.before
         (e ∙ ap (λ ss. ss ++ steps_of a.proof) x.is)
 
-    end_quiet : (o : Outcome) (earlier steps : List Step) → o ≢ outcomes.Learned → RoundSays o earlier steps (session_of b.proof) a.search b.search → AreQuiet steps
+    end_quiet : (o : RoundOutcome) (earlier steps : List Step) → o ≢ outcomes.Learned → RoundResult o earlier steps (session_of b.proof) a.search b.search → AreQuiet steps
     end_quiet outcomes.Learned earlier steps n x = absurd (n refl)
     end_quiet outcomes.Model earlier steps n x = x.1
     end_quiet outcomes.Unsat earlier steps n x = x.quiet
     end_quiet outcomes.Failed earlier steps n x = x.1
 
-    pub round_ends : (o : Outcome) → Round (Ok o) → o ≢ outcomes.Learned → (s : Core W L G) (n : Variables) (k : ℕ) → ComesByRounds seen s n k a na → Ended seen s n k o b nb
+    pub round_ends : (o : RoundOutcome) → Round (Ok o) → o ≢ outcomes.Learned → (s : Context W L G) (n : Variables) (k : ℕ) → ComesByRounds seen s n k a na → Ended seen s n k o b nb
     round_ends o g = λ not s n k gone. record {
       steps = g.steps ++ gone.steps;
       adds = gains_more seen gone.steps g.steps s.proof a.proof b.proof gone.adds g.adds;
@@ -249,9 +249,9 @@ module _ {W L : Type 0} {G : Ghosts L} (seen : W → Writer) where
       times = times_quiet (steps_of s.proof) gone.steps g.steps k (allowed s a b gone.steps g.steps gone.adds.history g.adds.history g.keeps) (end_quiet o (steps_of a.proof) g.steps not g.says) gone.times;
     }
 
-    pub round_fails : (e : SolverError) → Round (Err e) → (s : Core W L G) (n : Variables) (k : ℕ) → ComesByRounds seen s n k a na → BreaksRounds seen s e b
+    pub round_fails : (e : SolverError) → Round (Err e) → (s : Context W L G) (n : Variables) (k : ℕ) → ComesByRounds seen s n k a na → BreaksRounds seen s e b
     round_fails e g = λ s n k gone. falls a b na nb config e g s n k gone
 
 -- a reduction at this round
-pub reduced_at : {W L : Type 0} {G : Ghosts L} (seen : W → Writer) (a b : Core W L G) (round : ℕ) → b.config ≡ a.config → (x : Unit {0}) → ReductionBySteps (Reduces a.config round) seen (Ok x) a.proof b.proof a.search b.search → ReducedAt seen a round b
+pub reduced_at : {W L : Type 0} {G : Ghosts L} (seen : W → Writer) (a b : Context W L G) (round : ℕ) → b.config ≡ a.config → (x : Unit {0}) → ReductionBySteps (Reduces a.config round) seen (Ok x) a.proof b.proof a.search b.search → ReducedAt seen a round b
 reduced_at seen a b round config x g = record { steps = g.steps; adds = g.went; reduces = g.ends.1; moved = g.ends.0.moved; config = config }

@@ -5,13 +5,13 @@ use Rattle.sat_base.specs.device.Device.{Writer}
 use Rattle.sat_base.specs.steps.Steps.{Step, SolverVarName, UserVarName, DeleteVar, ChangeSamplingMode, AddClause, AtClause, UnitClauses, DeleteClause, ChangeHashBits, Model, Assumptions, FailedAssumptions, End}
 use Rattle.sat_solver.specs.proof.Checked.{has_begun}
 use Rattle.sat_solver.specs.proof.ProofTexts.{TookAcceptedSteps, TookSince}
-use Rattle.sat_solver.specs.session.Session.{IsAllowedStep, AreAllowedSteps, nothing, after, session_after}
+use Rattle.sat_solver.specs.session.Session.{IsAllowedStep, AreAllowedSteps, empty_session, after, session_after}
 use Rattle.sat_solver.specs.declared.proof.format.ProofFormat.{ProofFormat}
 use Rattle.sat_solver.proofs.lemmas.session.CutsLemmas.{cuts_are_free}
 use Rattle.sat_solver.proofs.lemmas.session.StepLemmas.{valid}
 
 -- after ends of proofs only, the session is the empty one
-none_begun : (before : List Step) → has_begun before ≡ false → session_after before ≡ nothing
+none_begun : (before : List Step) → has_begun before ≡ false → session_after before ≡ empty_session
 none_begun [] e = refl
 none_begun (End ∷ steps) e = ap (after End) (none_begun steps e)
 none_begun (SolverVarName v name ∷ steps) e = absurd (true≢false e)
@@ -27,7 +27,7 @@ none_begun (Model ls ∷ steps) e = absurd (true≢false e)
 none_begun (Assumptions ls ∷ steps) e = absurd (true≢false e)
 none_begun (FailedAssumptions core hashes ∷ steps) e = absurd (true≢false e)
 
-module _ (before : List Step) (none : session_after before ≡ nothing) where
+module _ (before : List Step) (none : session_after before ≡ empty_session) where
   session_following : (steps : List Step) → session_after (steps ++ before) ≡ session_after steps
   session_following [] = none
   session_following (step ∷ steps) = ap (after step) (session_following steps)

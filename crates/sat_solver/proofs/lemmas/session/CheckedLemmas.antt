@@ -22,13 +22,13 @@ use Rattle.sat_checker.specs.declared.processing.Processing.{Processing}
 use Rattle.sat_checker.specs.declared.processing.ProcessingError.TheVariants as faults
 use Rattle.sat_checker.proofs.lemmas.listeners.Heard.{nobody_fails}
 use Rattle.sat_checker.specs.declared.processing.ProofProcessor.{Ghosts}
-use Rattle.sat_solver.specs.declared.proof.made.CheckFault.{CheckFault}
-use Rattle.sat_solver.specs.declared.proof.made.CheckFault.TheVariants as checks
-use Rattle.sat_solver.specs.proof.Checked.{is_end, unended, has_begun, who_listens, AreGiven, none_given, one_given, end_given, AreGivenAndWidth, FedUnless, IsFed, IsFedBy, Heard, HeardWhole, FailsWhileHeard, IsCause, cause_in, OkOrCause, TakesStep, TakesWidth, TakesDelayed, FeedsOwnChecker, AddsOwnListener, CheckerRestarts}
+use Rattle.sat_solver.specs.declared.proof.emitted.CheckFault.{CheckFault}
+use Rattle.sat_solver.specs.declared.proof.emitted.CheckFault.TheVariants as checks
+use Rattle.sat_solver.specs.proof.Checked.{is_end, unended, has_begun, listeners_of_checked, AreGiven, none_given, one_given, end_given, AreGivenAndWidth, FedUnless, IsFed, IsFedBy, Heard, HeardWhole, FailsWhileHeard, IsCause, cause_in, OkOrCause, TakesStep, TakesWidth, TakesDelayed, FeedsOwnChecker, AddsOwnListener, CheckerRestarts}
 use Rattle.sat_solver.specs.session.Due.{kept_if}
 use Rattle.sat_solver.specs.proof.Listening.{AreJustListeners, Hears, FailedOf, reads_nothing}
-use Rattle.sat_solver.specs.proof.MadeView.{made_audience, listed_in, MadeReturnsListeners, ReturnsIfChecked, MadeReturnsNotifiedListeners, ReturnsNotifiedIfChecked, HasListeners, AddedAfterHearing, AddedAfterHearingAll, MadeListenersAtRestart, cleared_complaint}
-use Rattle.sat_solver.specs.declared.proof.made.Made.{Made}
+use Rattle.sat_solver.specs.proof.EmittedView.{emitted_listeners, listed_in, EmittedReturnsListeners, ReturnsIfChecked, EmittedReturnsNotifiedListeners, ReturnsNotifiedIfChecked, HasListeners, AddedAfterHearing, AddedAfterHearingAll, MadeListenersAtRestart, emitted_without_listener_error}
+use Rattle.sat_solver.specs.declared.proof.emitted.EmittedSteps.{EmittedSteps}
 use Rattle.sat_solver.specs.session.Session.{AreAllowedSteps}
 use Rattle.sat_solver.specs.proof.Widths.{KeepsWidth, narrowed, IsNarrowedTo, none_yet, width_changes, one_more}
 use Rattle.sat_solver.specs.declared.proof.checker.Checked.{Checked}
@@ -90,11 +90,11 @@ given_ended (step ∷ steps) written bits g e = given_end step steps written bit
 
 module _ {L : Type 0} (takes : L → Notice → Result Unit Error → L → Type 0) where
   -- a new checker with these listeners has received no steps
-  pub fed_first : (own : Checked L) (added : List L) → own.bits ≡ 64 → kernels.HasAccepted (kernel_of own.checker) [] → kernel_has_failed (kernel_of own.checker) ≡ false → kernels.KernelIsSettled (kernel_of own.checker) → AreJustListeners added (who_listens own) → IsFed takes own added []
+  pub fed_first : (own : Checked L) (added : List L) → own.bits ≡ 64 → kernels.HasAccepted (kernel_of own.checker) [] → kernel_has_failed (kernel_of own.checker) ≡ false → kernels.KernelIsSettled (kernel_of own.checker) → AreJustListeners added (listeners_of_checked own) → IsFed takes own added []
   fed_first own added e s g settled listed = record {
     written = [];
     cut = subst (AreGiven [] []) (sym e) none_given;
-    begun = who_listens own;
+    begun = listeners_of_checked own;
     were = listed;
     valid = record { kernel = s; heard = λ f. rw settled ([], refl, refl) };
     going = g;
@@ -105,7 +105,7 @@ module _ {L : Type 0} (takes : L → Notice → Result Unit Error → L → Type
   fed_ended own added steps e fed = record { written = fed.written; cut = given_ended steps fed.written own.bits fed.cut e; begun = fed.begun; were = fed.were; valid = fed.valid; going = fed.going }
 
   -- the listeners have heard what the checker announced
-  pub fed_heard : (own : Checked L) (added : List L) (steps : List Step) → IsFed takes own added steps → Heard takes added (listeners_of (who_listens own)) steps
+  pub fed_heard : (own : Checked L) (added : List L) (steps : List Step) → IsFed takes own added steps → Heard takes added (listeners_of (listeners_of_checked own)) steps
   fed_heard own added steps fed = record {
     later = [];
     taken = steps;
@@ -115,11 +115,11 @@ module _ {L : Type 0} (takes : L → Notice → Result Unit Error → L → Type
     cut = given_narrowed fed.cut;
     begun = fed.begun;
     were = fed.were;
-    heard = (who_listens own, refl, inl (heard_all takes fed.begun (who_listens own) fed.written own.checker.kernel.state.formula.status.conflict (fed.valid.heard fed.going)));
+    heard = (listeners_of_checked own, refl, inl (heard_all takes fed.begun (listeners_of_checked own) fed.written own.checker.kernel.state.formula.status.conflict (fed.valid.heard fed.going)));
   }
 
   -- the listeners have heard all that the checker announced
-  pub fed_whole : (own : Checked L) (added : List L) (steps : List Step) → IsFed takes own added steps → HeardWhole takes added (listeners_of (who_listens own)) steps
+  pub fed_whole : (own : Checked L) (added : List L) (steps : List Step) → IsFed takes own added steps → HeardWhole takes added (listeners_of (listeners_of_checked own)) steps
   fed_whole own added steps fed = (
     record {
       later = [];
@@ -130,7 +130,7 @@ module _ {L : Type 0} (takes : L → Notice → Result Unit Error → L → Type
       cut = given_narrowed fed.cut;
       begun = fed.begun;
       were = fed.were;
-      heard = (who_listens own, refl, heard_all takes fed.begun (who_listens own) fed.written own.checker.kernel.state.formula.status.conflict (fed.valid.heard fed.going));
+      heard = (listeners_of_checked own, refl, heard_all takes fed.begun (listeners_of_checked own) fed.written own.checker.kernel.state.formula.status.conflict (fed.valid.heard fed.going));
     },
     refl,
   )
@@ -154,7 +154,7 @@ module _ {L : Type 0} (takes : L → Notice → Result Unit Error → L → Type
     -- the checker received a new width
     pub width_fed : (bits : ℕ) → (old.bits ≡ bits → ⊥) → new.bits ≡ bits → FeedsOwnChecker takes r (seen_of old.checker) (ChangeHashBits bits) (seen_of new.checker) → TakesWidth takes r old new
     width_fed bits other e feeds added steps may fed =
-        cause_map r _ (IsFedBy takes (AreGivenAndWidth steps) new added) _ (FailsWhileHeard takes added (listeners_of (who_listens new)) steps)
+        cause_map r _ (IsFedBy takes (AreGivenAndWidth steps) new added) _ (FailsWhileHeard takes added (listeners_of (listeners_of_checked new)) steps)
         (λ s. record { written = ChangeHashBits bits ∷ fed.written; cut = subst (AreGivenAndWidth steps (ChangeHashBits bits ∷ fed.written)) (sym e) (record { before = old.bits; earlier = fed.written; cut = fed.cut; given_is = ap (λ ws. ws ++ fed.written) (width_other old.bits bits other) }); begun = fed.begun; were = fed.were; valid = s.0; going = s.1 })
         failed
         (feeds fed.begun fed.written fed.valid fed.going ((widths_are_free (unended steps) fed.written old.bits (given_narrowed fed.cut) (unended_may steps may)).may, tt))
@@ -162,16 +162,16 @@ module _ {L : Type 0} (takes : L → Notice → Result Unit Error → L → Type
         changed : IsNarrowedTo (unended steps) (ChangeHashBits bits ∷ fed.written) bits
         changed = width_changes bits (given_narrowed fed.cut)
 
-        failed : (fault : CheckFault) → FailedOf takes fed.begun (who_listens new) fed.written fault ⊎ FailedOf takes fed.begun (who_listens new) (ChangeHashBits bits ∷ fed.written) fault → FailsWhileHeard takes added (listeners_of (who_listens new)) steps fault
-        failed fault (inl h) = record { later = []; taken = steps; all = refl; written = fed.written; bits = old.bits; cut = given_narrowed fed.cut; begun = fed.begun; were = fed.were; heard = (who_listens new, refl, h) }
-        failed fault (inr h) = record { later = []; taken = steps; all = refl; written = ChangeHashBits bits ∷ fed.written; bits = bits; cut = changed; begun = fed.begun; were = fed.were; heard = (who_listens new, refl, h) }
+        failed : (fault : CheckFault) → FailedOf takes fed.begun (listeners_of_checked new) fed.written fault ⊎ FailedOf takes fed.begun (listeners_of_checked new) (ChangeHashBits bits ∷ fed.written) fault → FailsWhileHeard takes added (listeners_of (listeners_of_checked new)) steps fault
+        failed fault (inl h) = record { later = []; taken = steps; all = refl; written = fed.written; bits = old.bits; cut = given_narrowed fed.cut; begun = fed.begun; were = fed.were; heard = (listeners_of_checked new, refl, h) }
+        failed fault (inr h) = record { later = []; taken = steps; all = refl; written = ChangeHashBits bits ∷ fed.written; bits = bits; cut = changed; begun = fed.begun; were = fed.were; heard = (listeners_of_checked new, refl, h) }
 
     -- the pending unit conflict was reported
     pub delayed_fed : new.bits ≡ old.bits → ChecksDelayed (Hears takes) r (seen_of old.checker) (seen_of new.checker) → TakesDelayed takes r old new
     delayed_fed e checks_delayed added steps fed =
         cause_map r _ _ _ _
         (λ s. (record { written = fed.written; cut = subst (AreGiven steps fed.written) (sym e) fed.cut; begun = fed.begun; were = fed.were; valid = s.0; going = s.1 }, s.2))
-        (λ fault h. record { later = []; taken = steps; all = refl; written = fed.written; bits = old.bits; cut = given_narrowed fed.cut; begun = fed.begun; were = fed.were; heard = (who_listens new, refl, h) })
+        (λ fault h. record { later = []; taken = steps; all = refl; written = fed.written; bits = old.bits; cut = given_narrowed fed.cut; begun = fed.begun; were = fed.were; heard = (listeners_of_checked new, refl, h) })
         (answered_delayed takes fed.begun (seen_of old.checker) (seen_of new.checker) fed.written fed.going r (checks_delayed [] fed.begun fed.written fed.valid))
 
   module _ (old : Checked L) (step : Step) where
@@ -179,7 +179,7 @@ module _ {L : Type 0} (takes : L → Notice → Result Unit Error → L → Type
     pub step_fed : (r : Result (Unit {0}) CheckerError) (mid new : Checked L) (cut_step : Step) → is_end step ≡ false → KeepsWidth step → TakesWidth takes (Ok tt) old mid → new.bits ≡ mid.bits → cut_step ≡ narrowed mid.bits step
         → FeedsOwnChecker takes r (seen_of mid.checker) cut_step (seen_of new.checker) → TakesStep takes r old step new
     step_fed r mid new cut_step e k takes_width same is feeds added steps may fed =
-        cause_map r Fed (IsFed takes new added (step ∷ steps)) _ (FailsWhileHeard takes added (listeners_of (who_listens new)) (step ∷ steps)) by failed
+        cause_map r Fed (IsFed takes new added (step ∷ steps)) _ (FailsWhileHeard takes added (listeners_of (listeners_of_checked new)) (step ∷ steps)) by failed
         (subst (λ x. FeedsOwnChecker takes r (seen_of mid.checker) x (seen_of new.checker)) is feeds f.begun f.written f.valid f.going (widths_are_free (step ∷ unended steps) (narrowed mid.bits step ∷ f.written) mid.bits cut allowed).may)
       where
         f : IsFedBy takes (AreGivenAndWidth steps) mid added
@@ -211,19 +211,19 @@ module _ {L : Type 0} (takes : L → Notice → Result Unit Error → L → Type
           going = h.1;
         }
 
-        failed : (fault : CheckFault) → FailedOf takes f.begun (who_listens new) f.written fault ⊎ FailedOf takes f.begun (who_listens new) (narrowed mid.bits step ∷ f.written) fault → FailsWhileHeard takes added (listeners_of (who_listens new)) (step ∷ steps) fault
-        failed fault (inl h) = record { later = step ∷ []; taken = steps; all = refl; written = f.written; bits = mid.bits; cut = then_narrowed f.cut; begun = f.begun; were = f.were; heard = (who_listens new, refl, h) }
-        failed fault (inr h) = record { later = []; taken = step ∷ steps; all = refl; written = narrowed mid.bits step ∷ f.written; bits = mid.bits; cut = cut_all; begun = f.begun; were = f.were; heard = (who_listens new, refl, h) }
+        failed : (fault : CheckFault) → FailedOf takes f.begun (listeners_of_checked new) f.written fault ⊎ FailedOf takes f.begun (listeners_of_checked new) (narrowed mid.bits step ∷ f.written) fault → FailsWhileHeard takes added (listeners_of (listeners_of_checked new)) (step ∷ steps) fault
+        failed fault (inl h) = record { later = step ∷ []; taken = steps; all = refl; written = f.written; bits = mid.bits; cut = then_narrowed f.cut; begun = f.begun; were = f.were; heard = (listeners_of_checked new, refl, h) }
+        failed fault (inr h) = record { later = []; taken = step ∷ steps; all = refl; written = narrowed mid.bits step ∷ f.written; bits = mid.bits; cut = cut_all; begun = f.begun; were = f.were; heard = (listeners_of_checked new, refl, h) }
 
     -- at the end of a proof, the checker received only the width
     pub width_taken : (r : Result (Unit {0}) CheckerError) (new : Checked L) → is_end step ≡ true → TakesWidth takes r old new → TakesStep takes r old step new
     width_taken r new e takes_width added steps may fed =
         cause_map r _ _ _ _ (λ (f : IsFedBy takes (AreGivenAndWidth steps) new added). record { written = f.written; cut = subst (λ x. AreGiven (step ∷ steps) x new.bits) (sym f.cut.given_is) (end_given step new.bits e f.cut.cut); begun = f.begun; were = f.were; valid = f.valid; going = f.going })
-        (failed_later added (listeners_of (who_listens new)) step steps) (takes_width added steps may.0 fed)
+        (failed_later added (listeners_of (listeners_of_checked new)) step steps) (takes_width added steps may.0 fed)
 
     -- receiving the width failed
     pub width_untaken : (er : CheckerError) (new : Checked L) → TakesWidth takes (Err er) old new → TakesStep takes (Err er) old step new
-    width_untaken er new takes_width added steps may fed = (let h = takes_width added steps may.0 fed in (h.0, failed_later added (listeners_of (who_listens new)) step steps (cause_in er) h.1))
+    width_untaken er new takes_width added steps may fed = (let h = takes_width added steps may.0 fed in (h.0, failed_later added (listeners_of (listeners_of_checked new)) step steps (cause_in er) h.1))
 
 -- LISTENERS
 
@@ -240,12 +240,12 @@ module _ {L : Type 0} (takes : L → Notice → Result Unit Error → L → Type
 
   -- before the first step, a listener was added
   listens_more : (old new : Checked L) (one : L) (added : List L) (steps : List Step) → has_begun steps ≡ false → IsFed takes old added steps → new.bits ≡ old.bits → kernel_of new.checker ≡ kernel_of old.checker
-      → listeners_of (who_listens new) ≡ record (listeners_of (who_listens old)) { processors = (listeners_of (who_listens old)).processors ++ one ∷ [] } → IsFed takes new (added ++ one ∷ []) steps
+      → listeners_of (listeners_of_checked new) ≡ record (listeners_of (listeners_of_checked old)) { processors = (listeners_of (listeners_of_checked old)).processors ++ one ∷ [] } → IsFed takes new (added ++ one ∷ []) steps
   listens_more old new one added steps unbegun fed bits kernel listed = record {
     written = fed.written;
     cut = subst (AreGiven steps fed.written) (sym bits) fed.cut;
-    begun = who_listens new;
-    were = listed_more added one (who_listens old) (who_listens new) (ap listeners_of (heard_none (notices_by conflict fed.written) fed.begun (who_listens old) silent (fed.valid.heard fed.going)) ∙ fed.were) listed;
+    begun = listeners_of_checked new;
+    were = listed_more added one (listeners_of_checked old) (listeners_of_checked new) (ap listeners_of (heard_none (notices_by conflict fed.written) fed.begun (listeners_of_checked old) silent (fed.valid.heard fed.going)) ∙ fed.were) listed;
     valid = record {
       kernel = subst (λ k. kernels.HasAccepted k fed.written) (sym kernel) fed.valid.kernel;
       heard = λ f. ([], subst (λ (k : Kernel). notices_by k.state.formula.status.conflict fed.written ≡ []) (sym kernel) silent, refl);
@@ -261,7 +261,7 @@ module _ {L : Type 0} (takes : L → Notice → Result Unit Error → L → Type
 
   -- a listener was added, or memory ran out
   pub taken_in : (r : Result (Unit {0}) CheckerError) (old new : Checked L) (one : L) → new.bits ≡ old.bits
-      → AddsListener r (kernel_of old.checker) (kernel_of new.checker) (listeners_of (who_listens old)) (listeners_of (who_listens new)) (record (listeners_of (who_listens old)) { processors = (listeners_of (who_listens old)).processors ++ one ∷ [] })
+      → AddsListener r (kernel_of old.checker) (kernel_of new.checker) (listeners_of (listeners_of_checked old)) (listeners_of (listeners_of_checked new)) (record (listeners_of (listeners_of_checked old)) { processors = (listeners_of (listeners_of_checked old)).processors ++ one ∷ [] })
       → AddsOwnListener takes r old one new
   taken_in (Ok x) old new one bits a added steps unbegun fed = listens_more old new one added steps unbegun fed bits a.1 a.2
   taken_in (Err errors.OutOfMemory) old new one bits a added steps unbegun fed = (tt, (refl, subst (λ (z : Listeners _ Nobody). Heard takes added z steps) (sym a.2) (fed_heard takes old added steps fed)))
@@ -309,7 +309,7 @@ module _ {L : Type 0} (takes : L → Notice → Result Unit Error → L → Type
     where
       go : (o : Option (Checked L)) → FedUnless takes lost o added steps → ∥ FedUnless takes true o added (step ∷ steps) ∥₁
       go None f = ∣ f ∣₁
-      go (Some c) f = ∣ ((λ l. absurd (true≢false l)), heard_later takes added (listeners_of (who_listens c)) step steps f.1) ∣₁
+      go (Some c) f = ∣ ((λ l. absurd (true≢false l)), heard_later takes added (listeners_of (listeners_of_checked c)) step steps f.1) ∣₁
 
   -- without a checker, no processor was added
   pub none_added : own ≡ None → ∥ added ≡ [] ∥₁
@@ -320,12 +320,12 @@ module _ {L : Type 0} (takes : L → Notice → Result Unit Error → L → Type
     was = subst (λ o. ∥ FedUnless takes lost o added steps ∥₁) is fed
 
     -- the listeners are returned
-    pub returned : (given : List L) → given ≡ (listeners_of (who_listens old)).processors → ∥ AddedAfterHearing takes added given steps ∥₁
-    returned given e = ∥∥₁_elim was ∥∥₁_prop (λ f. ∣ record { now = listeners_of (who_listens old); are = sym e; heard = f.1 } ∣₁)
+    pub returned : (given : List L) → given ≡ (listeners_of (listeners_of_checked old)).processors → ∥ AddedAfterHearing takes added given steps ∥₁
+    returned given e = ∥∥₁_elim was ∥∥₁_prop (λ f. ∣ record { now = listeners_of (listeners_of_checked old); are = sym e; heard = f.1 } ∣₁)
 
     -- if no step was lost, the listeners are returned after they heard everything
-    pub returned_notified : (given : List L) → given ≡ (listeners_of (who_listens old)).processors → lost ≡ false → ∥ AddedAfterHearingAll takes added given steps ∥₁
-    returned_notified given e l = ∥∥₁_elim was ∥∥₁_prop (λ f. ∣ record { now = listeners_of (who_listens old); are = sym e; heard = fed_whole takes old added steps (f.0 l) } ∣₁)
+    pub returned_notified : (given : List L) → given ≡ (listeners_of (listeners_of_checked old)).processors → lost ≡ false → ∥ AddedAfterHearingAll takes added given steps ∥₁
+    returned_notified given e l = ∥∥₁_elim was ∥∥₁_prop (λ f. ∣ record { now = listeners_of (listeners_of_checked old); are = sym e; heard = fed_whole takes old added steps (f.0 l) } ∣₁)
 
     module _ (new : Checked L) where
       -- the checker accepted a step
@@ -336,15 +336,15 @@ module _ {L : Type 0} (takes : L → Notice → Result Unit Error → L → Type
       -- the checker failed at a step
       pub failed_fed : (e : CheckerError) (step : Step) (now : List Step) → now ≡ step ∷ steps → lost ≡ false → AreAllowedSteps (step ∷ steps) → TakesStep takes (Err e) old step new → ∥ FedUnless takes true (Some new) added now ∥₁
       failed_fed e step now q l may takes_step = subst (λ x. ∥ FedUnless takes true (Some new) added x ∥₁) (sym q)
-          (∥∥₁_elim was ∥∥₁_prop (λ f. ∣ ((λ t. absurd (true≢false t)), failed_heard takes added (listeners_of (who_listens new)) (step ∷ steps) (cause_in e) (takes_step added steps may (f.0 l)).1) ∣₁))
+          (∥∥₁_elim was ∥∥₁_prop (λ f. ∣ ((λ t. absurd (true≢false t)), failed_heard takes added (listeners_of (listeners_of_checked new)) (step ∷ steps) (cause_in e) (takes_step added steps may (f.0 l)).1) ∣₁))
 
       -- the error is one that the checker may have at an allowed step
       pub taken_cause : (e : CheckerError) (step : Step) → lost ≡ false → AreAllowedSteps (step ∷ steps) → TakesStep takes (Err e) old step new → IsCause e
       taken_cause e step l may takes_step = ∥∥₁_elim was (cause_prop e) (λ f. (takes_step added steps may (f.0 l)).0)
 
-      pub taken_why : (e : CheckerError) (step : Step) (now : List Step) → now ≡ step ∷ steps → lost ≡ false → AreAllowedSteps (step ∷ steps) → TakesStep takes (Err e) old step new → ∥ FailsWhileHeard takes added (listeners_of (who_listens new)) now (cause_in e) ∥₁ × HasListeners (cause_in e) (Some added)
+      pub taken_why : (e : CheckerError) (step : Step) (now : List Step) → now ≡ step ∷ steps → lost ≡ false → AreAllowedSteps (step ∷ steps) → TakesStep takes (Err e) old step new → ∥ FailsWhileHeard takes added (listeners_of (listeners_of_checked new)) now (cause_in e) ∥₁ × HasListeners (cause_in e) (Some added)
       taken_why e step now q l may takes_step =
-          with_listeners takes (cause_in e) added (listeners_of (who_listens new)) now (subst (λ x. ∥ FailsWhileHeard takes added (listeners_of (who_listens new)) x (cause_in e) ∥₁) (sym q) (∥∥₁_elim was ∥∥₁_prop (λ f. ∣ (takes_step added steps may (f.0 l)).1 ∣₁)))
+          with_listeners takes (cause_in e) added (listeners_of (listeners_of_checked new)) now (subst (λ x. ∥ FailsWhileHeard takes added (listeners_of (listeners_of_checked new)) x (cause_in e) ∥₁) (sym q) (∥∥₁_elim was ∥∥₁_prop (λ f. ∣ (takes_step added steps may (f.0 l)).1 ∣₁)))
 
       -- the pending unit conflict was reported
       pub reported_fed : lost ≡ false → TakesDelayed takes (Ok tt) old new → ∥ FedUnless takes lost (Some new) added steps ∥₁
@@ -356,13 +356,13 @@ module _ {L : Type 0} (takes : L → Notice → Result Unit Error → L → Type
 
       -- reporting the unit conflict failed
       pub unreported_fed : (e : CheckerError) → lost ≡ false → TakesDelayed takes (Err e) old new → ∥ FedUnless takes true (Some new) added steps ∥₁
-      unreported_fed e l takes_delayed = ∥∥₁_elim was ∥∥₁_prop (λ f. ∣ ((λ t. absurd (true≢false t)), failed_heard takes added (listeners_of (who_listens new)) steps (cause_in e) (takes_delayed added steps (f.0 l)).1) ∣₁)
+      unreported_fed e l takes_delayed = ∥∥₁_elim was ∥∥₁_prop (λ f. ∣ ((λ t. absurd (true≢false t)), failed_heard takes added (listeners_of (listeners_of_checked new)) steps (cause_in e) (takes_delayed added steps (f.0 l)).1) ∣₁)
 
       pub unreported_cause : (e : CheckerError) → lost ≡ false → TakesDelayed takes (Err e) old new → IsCause e
       unreported_cause e l takes_delayed = ∥∥₁_elim was (cause_prop e) (λ f. (takes_delayed added steps (f.0 l)).0)
 
-      pub unreported_why : (e : CheckerError) → lost ≡ false → TakesDelayed takes (Err e) old new → ∥ FailsWhileHeard takes added (listeners_of (who_listens new)) steps (cause_in e) ∥₁ × HasListeners (cause_in e) (Some added)
-      unreported_why e l takes_delayed = with_listeners takes (cause_in e) added (listeners_of (who_listens new)) steps (∥∥₁_elim was ∥∥₁_prop (λ f. ∣ (takes_delayed added steps (f.0 l)).1 ∣₁))
+      pub unreported_why : (e : CheckerError) → lost ≡ false → TakesDelayed takes (Err e) old new → ∥ FailsWhileHeard takes added (listeners_of (listeners_of_checked new)) steps (cause_in e) ∥₁ × HasListeners (cause_in e) (Some added)
+      unreported_why e l takes_delayed = with_listeners takes (cause_in e) added (listeners_of (listeners_of_checked new)) steps (∥∥₁_elim was ∥∥₁_prop (λ f. ∣ (takes_delayed added steps (f.0 l)).1 ∣₁))
 
       -- a listener was added
       pub listens_fed : (one : L) (more : List L) → more ≡ added ++ one ∷ [] → has_begun steps ≡ false → lost ≡ false → AddsOwnListener takes (Ok tt) old one new → ∥ FedUnless takes lost (Some new) more steps ∥₁
@@ -394,8 +394,8 @@ module _ {L : Type 0} (takes : L → Notice → Result Unit Error → L → Type
   anew_fed new added steps u f = (let k = fed_ended takes new added steps u f in ∣ ((λ _. k), fed_heard takes new added steps k) ∣₁)
 
   -- the checker was restarted
-  pub anew : (old new : Checked L) (added given : List L) → added ≡ given → given ≡ (listeners_of (who_listens old)).processors → new.bits ≡ 64 → kernels.HasAccepted (kernel_of new.checker) [] → kernel_has_failed (kernel_of new.checker) ≡ false
-      → kernels.KernelIsSettled (kernel_of new.checker) → listeners_of (who_listens new) ≡ record { processors = given; transcripts = [] } → CheckerRestarts takes old new added
+  pub anew : (old new : Checked L) (added given : List L) → added ≡ given → given ≡ (listeners_of (listeners_of_checked old)).processors → new.bits ≡ 64 → kernels.HasAccepted (kernel_of new.checker) [] → kernel_has_failed (kernel_of new.checker) ≡ false
+      → kernels.KernelIsSettled (kernel_of new.checker) → listeners_of (listeners_of_checked new) ≡ record { processors = given; transcripts = [] } → CheckerRestarts takes old new added
   anew old new added given e f bits valid going settled listed = record {
     listed = e ∙ f;
     fed = fed_first takes new added bits valid going settled (listed ∙ ap (λ (xs : List L). record { processors = xs; transcripts = [] }) (sym e));
@@ -411,24 +411,24 @@ module _ {L : Type 0} (takes : L → Notice → Result Unit Error → L → Type
 
 -- THE RECORD OF STEPS
 
-module _ {L : Type 0} {G : Ghosts L} (m : Made L G) where
+module _ {L : Type 0} {G : Ghosts L} (m : EmittedSteps L G) where
   -- the listeners are returned
-  pub made_returned : (own : Checked L) (given : List L) → m.own ≡ Some own → given ≡ (listeners_of (who_listens own)).processors → MadeReturnsListeners m given
+  pub made_returned : (own : Checked L) (given : List L) → m.own ≡ Some own → given ≡ (listeners_of (listeners_of_checked own)).processors → EmittedReturnsListeners m given
   made_returned own given is e = subst (λ o. ReturnsIfChecked G.takes (listed_in o m.roll.items) given m.history.steps) (sym is) (returned G.takes m.lost m.own m.roll.items m.history.steps m.fed own is given e)
 
-  pub made_returned_notified : (own : Checked L) (given : List L) → m.own ≡ Some own → given ≡ (listeners_of (who_listens own)).processors → MadeReturnsNotifiedListeners m given
+  pub made_returned_notified : (own : Checked L) (given : List L) → m.own ≡ Some own → given ≡ (listeners_of (listeners_of_checked own)).processors → EmittedReturnsNotifiedListeners m given
   made_returned_notified own given is e l = subst (λ o. ReturnsNotifiedIfChecked G.takes (listed_in o m.roll.items) given m.history.steps) (sym is) (returned_notified G.takes m.lost m.own m.roll.items m.history.steps m.fed own is given e l)
 
   -- the listeners when checking begins
-  pub listed_first : m.own ≡ None → MadeListenersAtRestart m.lost m (made_audience m) m.roll.items
+  pub listed_first : m.own ≡ None → MadeListenersAtRestart m.lost m (emitted_listeners m) m.roll.items
   listed_first is = subst (λ o. MadeListenersAtRestart m.lost m (listed_in o m.roll.items) m.roll.items) (sym is) (none_listed G.takes m.lost m.own m.roll.items m.history.steps m.fed is)
 
-  pub listed_again : (own : Checked L) (given : List L) → m.own ≡ Some own → m.lost ≡ true → given ≡ (listeners_of (who_listens own)).processors → MadeListenersAtRestart m.lost m (made_audience m) given
+  pub listed_again : (own : Checked L) (given : List L) → m.own ≡ Some own → m.lost ≡ true → given ≡ (listeners_of (listeners_of_checked own)).processors → MadeListenersAtRestart m.lost m (emitted_listeners m) given
   listed_again own given is l e = subst (λ o. MadeListenersAtRestart m.lost m (listed_in o m.roll.items) given) (sym is) (subst (λ b. MadeListenersAtRestart b m (Some m.roll.items) given) (sym l) (made_returned own given is e))
 
 -- the stored error was reported, and nothing else has changed
-pub complaint_reported : {L : Type 0} {G : Ghosts L} (m : Made L G) (complaint : Option Error) (counted : m.begun ≡ has_begun m.history.steps) (may : ∥ AreAllowedSteps m.history.steps ∥₁) (fed : ∥ FedUnless G.takes m.lost m.own m.roll.items m.history.steps ∥₁) → complaint ≡ None
-    → record { history = m.history; own = m.own; roll = m.roll; begun = m.begun; lost = m.lost; complaint = complaint; counted = counted; may = may; fed = fed } ≡ cleared_complaint m
+pub complaint_reported : {L : Type 0} {G : Ghosts L} (m : EmittedSteps L G) (complaint : Option Error) (counted : m.begun ≡ has_begun m.history.steps) (may : ∥ AreAllowedSteps m.history.steps ∥₁) (fed : ∥ FedUnless G.takes m.lost m.own m.roll.items m.history.steps ∥₁) → complaint ≡ None
+    → record { history = m.history; own = m.own; roll = m.roll; begun = m.begun; lost = m.lost; complaint = complaint; counted = counted; may = may; fed = fed } ≡ emitted_without_listener_error m
 complaint_reported m complaint counted may fed none = λ i. record m {
   complaint = none i;
   counted = Bool-set m.begun (has_begun m.history.steps) counted m.counted i;

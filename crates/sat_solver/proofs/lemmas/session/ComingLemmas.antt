@@ -3,7 +3,7 @@ use Rattle.std.proofs.Common.{◌≡◌, ◌∙◌, Bool, true, false, List, [],
 use Rattle.std.proofs.lemmas.Bool.{true≢false}
 use Rattle.sat_base.specs.steps.Steps.{Step}
 use Rattle.sat_solver.specs.session.Session.{session_after}
-use Rattle.sat_solver.specs.session.Coming.{EachIsAllowed, OnlyAllowedSteps, EndsAtUnsat}
+use Rattle.sat_solver.specs.session.AllowedSteps.{EachIsAllowed, OnlyAllowedSteps, EndsAtUnsat}
 use Rattle.sat_solver.proofs.lemmas.session.PlainLemmas.{unsat_stays}
 
 module _ (IsAllowedStep : List Step → Step → Type 0) where

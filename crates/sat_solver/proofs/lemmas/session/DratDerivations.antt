@@ -10,7 +10,7 @@ use Rattle.sat_checker.proofs.lemmas.propagation.Soundness.{negated-negated}
 use Rattle.sat_solver.specs.proof.Drat.{times, without_set, after_lines, following_step, present, RefutesByUnits, DratLinesAreRight, IsDratDerivation, DratIsRight}
 use Rattle.sat_solver.specs.proof.DratText.{unit_lines, drat_lines}
 use Rattle.sat_checker.specs.Contents.{more_if, less_if, same_side}
-use Rattle.sat_solver.specs.session.Session.{Session, nothing, with_fact, after, session_after, AreLiveByHash, denied_in, MayDerive, by_unit, by_clauses, MayProve, IsAllowedStep, AreAllowedSteps}
+use Rattle.sat_solver.specs.session.Session.{Session, empty_session, with_fact, after, session_after, AreLiveByHash, rup_assumptions, MayDerive, by_unit, by_clauses, MayWriteUnits, IsAllowedStep, AreAllowedSteps}
 use Rattle.sat_solver.proofs.lemmas.session.Changes.{with_live, without_live, with_facts, with_sorted, with_live_clause, knowing_literals, session_if}
 use Rattle.sat_solver.proofs.lemmas.session.DratLemmas.{times_after, times_itself, times_left, times_less, refutes_one, refutes_unit, leads_refute, units_first, negations, leads_within, units_in, units_there, units_are}
 
@@ -184,18 +184,18 @@ derive_refutes : (s : Session) (ps : List (List ℕ)) (clause hashes : List ℕ)
 derive_refutes s ps clause hashes k (by_unit t) = unit_refutes ps s.units k.units (map negated clause) clause (among_negated clause) t
 derive_refutes s ps clause hashes k (by_clauses named n lead) =
     units_first ps us (map negated clause) (is_among (map negated clause)) (units_are s.units (λ u. 0 < times (u ∷ []) ps) k.units (negations named)) (λ l a. a)
-    (λ known h. leads_refute ps named known (λ l. is_among us l || is_among (map negated clause) l) (named_present s ps k named hashes n) h (leads_within named (denied_in s clause) (λ l. is_among us l || is_among (map negated clause) l) within lead))
+    (λ known h. leads_refute ps named known (λ l. is_among us l || is_among (map negated clause) l) (named_present s ps k named hashes n) h (leads_within named (rup_assumptions s clause) (λ l. is_among us l || is_among (map negated clause) l) within lead))
   where
     us : List ℕ
     us = units_in s.units (negations named)
 
-    within : (l : ℕ) → is_among (negations named) l ≡ true → denied_in s clause l ≡ true → (is_among us l || is_among (map negated clause) l) ≡ true
+    within : (l : ℕ) → is_among (negations named) l ≡ true → rup_assumptions s clause l ≡ true → (is_among us l || is_among (map negated clause) l) ≡ true
     within l a d = elim (or_cases (is_among (map negated clause) l) (s.units l) d) [
       | inl t ↦ or_right (is_among us l) (is_among (map negated clause) l) t
       | inr t ↦ or_left (is_among us l) (is_among (map negated clause) l) (units_there s.units (negations named) l a t)
     ]
 
-unit_lines_right : (us : List (ℕ × ℕ)) (s : Session) (ps : List (List ℕ)) → Kept s ps → MayProve s us → DratLinesAreRight (unit_lines us) ps
+unit_lines_right : (us : List (ℕ × ℕ)) (s : Session) (ps : List (List ℕ)) → Kept s ps → MayWriteUnits s us → DratLinesAreRight (unit_lines us) ps
 unit_lines_right [] s ps k m = tt
 unit_lines_right (u ∷ us) s ps k m = (derive_refutes s ps (u.0 ∷ []) (u.1 ∷ []) k m.0, unit_lines_right us (with_fact u.0 s) ((u.0 ∷ []) ∷ ps) (fact_kept u.0 s ps k) m.1)
 
@@ -254,7 +254,7 @@ step_lines_right step s ps k m = tt
 none_false : {A : Type 0} → false ≡ true → A
 none_false e = absurd (true≢false (sym e))
 
-kept_nothing : Kept nothing []
+kept_nothing : Kept empty_session []
 kept_nothing = record { counts = λ set. omega arith; long = λ r set h. absurd (none h); units = λ l e. none_false e; unsat = λ e. none_false e }
   where
     none : 0 < 0 → ⊥

@@ -9,7 +9,7 @@ use Rattle.sat_checker.specs.Propagation.{IsFalsified, IsUnit, UnitInTurn}
 use Rattle.sat_checker.proofs.lemmas.sets.Canonical.{canonical_among}
 use Rattle.sat_checker.proofs.lemmas.sets.Members.{canonical_each}
 use Rattle.sat_solver.specs.proof.Drat.{times, without_set, RefutesByUnits}
-use Rattle.sat_checker.specs.Leading.{LeadsToConflict}
+use Rattle.sat_checker.specs.Leading.{PropagatesToConflict}
 use Rattle.sat_checker.specs.Contents.{more_if}
 
 -- COUNTS
@@ -101,7 +101,7 @@ all_falsified known o f [] a = tt
 all_falsified known o f (l ∷ ls) a = (elim a.0 [ inl e ↦ subst (λ x. is_among known (negated x) ≡ true) (sym e) f | inr t ↦ t ], all_falsified known o f ls a.1)
 
 -- Present clauses that lead to a conflict refute what is known: those that aren't unit in turn are left out.
-pub leads_refute : (ps cs : List (List ℕ)) (known : List ℕ) (q : ℕ → Bool) → AllByRecursion (λ c. 0 < times (canonical c) ps) cs → Has known q → LeadsToConflict q cs → RefutesByUnits ps known
+pub leads_refute : (ps cs : List (List ℕ)) (known : List ℕ) (q : ℕ → Bool) → AllByRecursion (λ c. 0 < times (canonical c) ps) cs → Has known q → PropagatesToConflict q cs → RefutesByUnits ps known
 leads_refute ps [] known q p h l = absurd l
 leads_refute ps (c ∷ []) known q p h l = refutes_one ps known (canonical c) p.0 (canonical_each (λ m. is_among known (negated m) ≡ true) c (each_falsified known q h c l))
 leads_refute ps (c ∷ d ∷ cs) known q p h l = go (λ k r a b. leads_refute ps (d ∷ cs) k r p.1 a b) (is_among known l.0) refl (is_among known (negated l.0)) refl
@@ -112,7 +112,7 @@ leads_refute ps (c ∷ d ∷ cs) known q p h l = go (λ k r a b. leads_refute ps
     others : AllByRecursion (λ m. (m ≡ o) ⊎ (is_among known (negated m) ≡ true)) c
     others = others_falsified known q o h c l.1
 
-    go : ((k : List ℕ) (r : ℕ → Bool) → Has k r → LeadsToConflict r (d ∷ cs) → RefutesByUnits ps k) → (b : Bool) → is_among known o ≡ b → (n : Bool) → is_among known (negated o) ≡ n → RefutesByUnits ps known
+    go : ((k : List ℕ) (r : ℕ → Bool) → Has k r → PropagatesToConflict r (d ∷ cs) → RefutesByUnits ps k) → (b : Bool) → is_among known o ≡ b → (n : Bool) → is_among known (negated o) ≡ n → RefutesByUnits ps known
     go ih true e n f = ih known (λ m. eqb o m || q m) (has_there known q o e h) l.3
     go ih false e true f = refutes_one ps known (canonical c) p.0 (canonical_each (λ m. is_among known (negated m) ≡ true) c (all_falsified known o f c others))
     go ih false e false f =
@@ -170,7 +170,7 @@ within_others q r o (x ∷ xs) f a = (
   within_others q r o xs (λ l e. f l (or_right (eqb (negated x) l) (is_among (map negated xs) l) e)) a.1,
 )
 
-pub leads_within : (cs : List (List ℕ)) (q r : ℕ → Bool) → ((l : ℕ) → is_among (negations cs) l ≡ true → q l ≡ true → r l ≡ true) → LeadsToConflict q cs → LeadsToConflict r cs
+pub leads_within : (cs : List (List ℕ)) (q r : ℕ → Bool) → ((l : ℕ) → is_among (negations cs) l ≡ true → q l ≡ true → r l ≡ true) → PropagatesToConflict q cs → PropagatesToConflict r cs
 leads_within [] q r f h = h
 leads_within (c ∷ []) q r f h = within_each q r c (λ l e. f l (among_left (map negated c) [] l e)) h
 leads_within (c ∷ d ∷ cs) q r f h = (

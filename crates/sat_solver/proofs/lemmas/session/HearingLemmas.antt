@@ -7,7 +7,7 @@ use Rattle.sat_checker.specs.Accepts.{stored_after}
 use Rattle.sat_checker.specs.CheckerView.{CheckerView, HasAccepted, BreaksAt, RunsOutOfMemoryAt, AnswersStep, AnswersDelayed, has_failed}
 use Rattle.sat_checker.specs.KernelView.{KernelIsSettled}
 use Rattle.sat_checker.specs.Stored.{Stored}
-use Rattle.sat_checker.specs.Storing.{settled, settled_by}
+use Rattle.sat_checker.specs.Storing.{with_conflict_settled, settled_by}
 use Rattle.sat_checker.specs.announcements.Announcements.{Notice, notices_after, notices_over, delayed, delayed_by}
 use Rattle.sat_checker.specs.listeners.Hearing.{HearsSince, notices_by}
 use Rattle.sat_checker.specs.declared.error.CheckerError.{CheckerError}
@@ -16,8 +16,8 @@ use Rattle.sat_checker.specs.declared.processing.Nobody.{Nobody}
 use Rattle.sat_checker.specs.declared.processing.Processing.{Processing}
 use Rattle.sat_checker.specs.declared.processing.ProcessingError.{ProcessingError}
 use Rattle.sat_checker.specs.declared.processing.ProcessingError.TheVariants as faults
-use Rattle.sat_solver.specs.declared.proof.made.CheckFault.{CheckFault}
-use Rattle.sat_solver.specs.declared.proof.made.CheckFault.TheVariants as checks
+use Rattle.sat_solver.specs.declared.proof.emitted.CheckFault.{CheckFault}
+use Rattle.sat_solver.specs.declared.proof.emitted.CheckFault.TheVariants as checks
 use Rattle.sat_solver.specs.proof.Checked.{OkOrCause}
 use Rattle.sat_solver.specs.proof.Listening.{Hears, HeardAll, HeardUpTo, HasHeard, FailedOf}
 use Rattle.sat_solver.specs.session.Session.{AreAllowedSteps}
@@ -29,7 +29,7 @@ pub record Quiet (written : List Step) : Type 0 where
   pub conflict : (stored_after written).conflict ≡ None
   pub no_notices : notices_after written ≡ []
 
-still : (f : Stored) → f.conflict ≡ None → (settled f).conflict ≡ None
+still : (f : Stored) → f.conflict ≡ None → (with_conflict_settled f).conflict ≡ None
 still f e = ap (λ c. (settled_by c f).conflict) e ∙ e
 
 shown : (written : List Step) (f : Stored) → f.conflict ≡ None → notices_after written ≡ [] → notices_after written ++ notices_over f (delayed f) ++ [] ≡ []

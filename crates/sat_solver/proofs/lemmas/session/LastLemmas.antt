@@ -3,7 +3,7 @@ use Rattle.std.proofs.Common.{ℕ, ◌≡◌, Bool, true, false, cond, List, [],
 use Rattle.sat_base.specs.steps.Steps.{Step, AtClause, ChangeHashBits}
 use Rattle.sat_checker.specs.LiteralSets.{is_tautology, canonical}
 use Rattle.sat_checker.specs.Stored.{Stored}
-use Rattle.sat_checker.specs.Storing.{settled, with_canonical, with_literals_known, last_literals}
+use Rattle.sat_checker.specs.Storing.{with_conflict_settled, with_canonical, with_literals_known, last_literals}
 use Rattle.sat_checker.specs.Accepts.{effect}
 use Rattle.sat_checker.proofs.lemmas.meaning.Orderly.{Orderly}
 use Rattle.sat_checker.proofs.lemmas.invariants.Last.{derived_last, last_stays, last_is_settled}
@@ -36,5 +36,5 @@ last_kept (ChangeHashBits bits) last f o h want e = last_stays f (ChangeHashBits
 last_kept step last f o h want e = absurd (no_last want e)
 
 -- settling a conflict leaves the last clause unchanged
-pub last_settled : (last : Option (List ℕ)) (f : Stored) → LastIs last f → LastIs last (settled f)
+pub last_settled : (last : Option (List ℕ)) (f : Stored) → LastIs last f → LastIs last (with_conflict_settled f)
 last_settled last f h want e = last_is_settled f ∙ h want e

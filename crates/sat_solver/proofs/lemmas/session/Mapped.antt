@@ -5,8 +5,8 @@ use Rattle.std.specs.List.{AllByRecursion}
 use Rattle.sat_base.specs.values.Literals.{variable, negated}
 use Rattle.sat_checker.specs.LiteralSets.{is_among}
 use Rattle.sat_checker.specs.SortedSets.{NoRepeats}
-use Rattle.sat_checker.specs.Leading.{LeadsToConflict}
-use Rattle.sat_solver.specs.session.Session.{Session, denied_in}
+use Rattle.sat_checker.specs.Leading.{PropagatesToConflict}
+use Rattle.sat_solver.specs.session.Session.{Session, rup_assumptions}
 use Rattle.sat_solver.specs.session.LiveClauses.{with_var, AreMapped}
 
 -- mapping commutes with negation
@@ -42,7 +42,7 @@ module _ (global : ℕ → ℕ) where
   others_mapped p q o m (l ∷ ls) h = (elim h.0 [ inl e ↦ inl (ap (with_var global) e) | inr k ↦ inr (subst (λ x. q x ≡ true) (negated_mapped global l) (m (negated l) k)) ], others_mapped p q o m ls h.1)
 
   -- clauses that lead to a conflict still do when mapped, even if two variables have the same image
-  pub leads_mapped : (cs : List (List ℕ)) (p q : ℕ → Bool) → Carries p q → LeadsToConflict p cs → LeadsToConflict q (map (map (with_var global)) cs)
+  pub leads_mapped : (cs : List (List ℕ)) (p q : ℕ → Bool) → Carries p q → PropagatesToConflict p cs → PropagatesToConflict q (map (map (with_var global)) cs)
   leads_mapped [] p q m h = h
   leads_mapped (c ∷ []) p q m h = all_mapped p q m c h
   leads_mapped (c ∷ d ∷ cs) p q m h =
@@ -57,7 +57,7 @@ module _ (global : ℕ → ℕ) where
       )
 
   -- the negations of a clause and the units are mapped
-  pub denied_mapped : (s : Session) (clause : List ℕ) (known : ℕ → Bool) → Carries known s.units → Carries (λ l. is_among (map negated clause) l || known l) (denied_in s (map (with_var global) clause))
+  pub denied_mapped : (s : Session) (clause : List ℕ) (known : ℕ → Bool) → Carries known s.units → Carries (λ l. is_among (map negated clause) l || known l) (rup_assumptions s (map (with_var global) clause))
   denied_mapped s clause known m l h = elim (or_cases (is_among (map negated clause) l) (known l) h) [
     | inl k ↦ or_left (is_among (map negated (map (with_var global) clause)) (with_var global l)) (s.units (with_var global l)) (go clause k)
     | inr t ↦ or_right (is_among (map negated (map (with_var global) clause)) (with_var global l)) (s.units (with_var global l)) (m l t)

@@ -2,10 +2,10 @@
 use Rattle.std.proofs.Common.{ℕ, ◌+◌, ◌*◌, ◌/◌, ◌%◌, ◌<◌, ◌≡◌, Bool, true, false, not, cond, eqb, Option, Some, List, [], ◌∷◌, map, refl, sym, ◌∙◌, ap, subst, arith, ◌⊎◌, inl, inr, unwrap_or}
 use Rattle.std.proofs.lemmas.Bool.{or_cases, or_left, or_right, true≢false}
 use Rattle.std.specs.List.{AllByRecursion}
-use Rattle.sat_base.specs.values.Literals.{coded, variable}
+use Rattle.sat_base.specs.values.Literals.{mk_lit, variable}
 use Rattle.sat_base.specs.values.Clauses.{Valuation, literal_true, clause_true, EachTrue, EachHolds}
 use Rattle.sat_base.specs.script.Script.{Literal, Among}
-use Rattle.sat_base.specs.script.ScriptState.{ScriptState, identity_of, over}
+use Rattle.sat_base.specs.script.ScriptState.{ScriptState, identity_of, identity_lit}
 use Rattle.sat_base.specs.steps.Steps.{Step, SolverVarName, UserVarName, DeleteVar, ChangeSamplingMode, AddClause, AtClause, UnitClauses, DeleteClause, ChangeHashBits, Model, Assumptions, FailedAssumptions, End}
 use Rattle.sat_checker.specs.Fold.{Holds}
 use Rattle.sat_checker.proofs.lemmas.meaning.Answers.{unsat_means_none, models_extend, cores_fail}
@@ -46,7 +46,7 @@ among_images f x (y ∷ ys) m = elim m [ inl e ↦ inl (ap f e) | inr n ↦ inr 
 -- VALUES
 
 -- the value of a literal of this sign
-literal_coded : (a : Valuation) (v : ℕ) (s : Bool) → literal_true a (coded v s) ≡ cond s (a v) (not (a v))
+literal_coded : (a : Valuation) (v : ℕ) (s : Bool) → literal_true a (mk_lit v s) ≡ cond s (a v) (not (a v))
 literal_coded a v true = let e : (2 * v + 0) % 2 ≡ 0 = omega arith in let h : (2 * v + 0) / 2 ≡ v = omega arith in rw (e, h) refl
 literal_coded a v false = let e : (2 * v + 1) % 2 ≡ 1 = omega arith in let h : (2 * v + 1) / 2 ≡ v = omega arith in rw (e, h) refl
 
@@ -67,10 +67,10 @@ some_true a (y ∷ ys) t = elim (or_cases (literal_true a y) (clause_true a ys) 
 ]
 
 -- a literal over a name has the value of the literal over its proof variable
-pub read_value : (j : ScriptState) (variable_of : ℕ → Option ℕ) (a b : Valuation) → AgreeOn j variable_of a b → (l : Literal) (code : ℕ) → IsReadAs j variable_of l code → literal_true a code ≡ literal_true b (over j l)
+pub read_value : (j : ScriptState) (variable_of : ℕ → Option ℕ) (a b : Valuation) → AgreeOn j variable_of a b → (l : Literal) (code : ℕ) → IsReadAs j variable_of l code → literal_true a code ≡ literal_true b (identity_lit j l)
 read_value j variable_of a b agree l code r =
     let e : a r.var ≡ b r.identity = agree l.name r.identity r.var r.in_use r.named in
-    let o : over j l ≡ coded r.identity l.positive = ap (λ x. coded (unwrap_or x 0) l.positive) r.in_use in
+    let o : identity_lit j l ≡ mk_lit r.identity l.positive = ap (λ x. mk_lit (unwrap_or x 0) l.positive) r.in_use in
     ap (literal_true a) r.is ∙ literal_coded a r.var l.positive ∙ ap (λ x. cond l.positive x (not x)) e ∙ sym (literal_coded b r.identity l.positive) ∙ sym (ap (literal_true b) o)
 
 -- RIGHT ANSWERS
@@ -83,21 +83,21 @@ named_models_are_right j variable_of steps codes ask line means may names read a
     let a : Valuation = m.1.0 in
     let held : Holds steps a = m.0 a m.1.1 m.1.2 in
     let k = means.to a held in
-    let each : AllByRecursion (λ l. literal_true k.0 (over j l) ≡ true) line = all_from (λ l. literal_true k.0 (over j l) ≡ true) line (λ l i. let r = all_at (λ x. (code : ℕ) × IsReadAs j variable_of x code × Among code codes) l line read i in
+    let each : AllByRecursion (λ l. literal_true k.0 (identity_lit j l) ≡ true) line = all_from (λ l. literal_true k.0 (identity_lit j l) ≡ true) line (λ l i. let r = all_at (λ x. (code : ℕ) × IsReadAs j variable_of x code × Among code codes) l line read i in
     sym (read_value j variable_of a k.0 k.1 l r.0 r.1) ∙ all_at (λ x. literal_true a x ≡ true) r.0 codes m.1.1 r.2) in
     record {
       names = names;
       valuation = k.0;
-      agrees = all_images (λ x. literal_true k.0 x ≡ true) (over j) line each;
+      agrees = all_images (λ x. literal_true k.0 x ≡ true) (identity_lit j) line each;
       clauses = k.2;
-      asked = all_images (λ x. literal_true k.0 x ≡ true) (over j) ask (all_from (λ l. literal_true k.0 (over j l) ≡ true) ask (λ l i. all_at (λ x. literal_true k.0 (over j x) ≡ true) l line each (all_at (λ x. Among x line) l ask asked i)));
+      asked = all_images (λ x. literal_true k.0 x ≡ true) (identity_lit j) ask (all_from (λ l. literal_true k.0 (identity_lit j l) ≡ true) ask (λ l i. all_at (λ x. literal_true k.0 (identity_lit j x) ≡ true) l line each (all_at (λ x. Among x line) l ask asked i)));
     }
 
 -- if all literals of a core are true, so are those over proof variables
-core_true : (j : ScriptState) (variable_of : ℕ → Option ℕ) (a b : Valuation) (codes : List ℕ) (core : List Literal) → AgreeOn j variable_of a b → AllFrom j variable_of codes core → EachTrue b (map (over j) core) → EachTrue a codes
+core_true : (j : ScriptState) (variable_of : ℕ → Option ℕ) (a b : Valuation) (codes : List ℕ) (core : List Literal) → AgreeOn j variable_of a b → AllFrom j variable_of codes core → EachTrue b (map (identity_lit j) core) → EachTrue a codes
 core_true j variable_of a b codes core agree from t = all_from (λ x. literal_true a x ≡ true) codes (λ x i.
     let r = all_at (λ code. (l : Literal) × IsReadAs j variable_of l code × Among l core) x codes from i in
-    read_value j variable_of a b agree r.0 x r.1 ∙ all_at (λ y. literal_true b y ≡ true) (over j r.0) (map (over j) core) t (among_images (over j) r.0 core r.2))
+    read_value j variable_of a b agree r.0 x r.1 ∙ all_at (λ y. literal_true b y ≡ true) (identity_lit j r.0) (map (identity_lit j) core) t (among_images (identity_lit j) r.0 core r.2))
 
 -- a failed core that may be written is a right core over names
 pub named_cores_are_right : NamedCoresAreRight

@@ -4,7 +4,7 @@ use Rattle.sat_base.specs.values.Literals.{negated}
 use Rattle.sat_base.specs.values.Hashes.{hash_of}
 use Rattle.sat_base.specs.steps.Steps.{Simplified, Step, SolverVarName, UserVarName, DeleteVar, AtClause, UnitClauses, DeleteClause, ChangeHashBits, Model, Assumptions, FailedAssumptions, End}
 use Rattle.sat_checker.specs.Stored.{solver_literal}
-use Rattle.sat_solver.specs.session.Session.{Session, proof_state, session_with, with_fact, last_after, after, session_after, AreLiveByHash, MayDerive, MayFail, by_signs, by_derivation, by_unit, by_clauses, MayProve, IsAllowedStep, AreAllowedSteps}
+use Rattle.sat_solver.specs.session.Session.{Session, proof_state, session_with, with_fact, last_after, after, session_after, AreLiveByHash, MayDerive, MayWriteCore, by_signs, by_derivation, by_unit, by_clauses, MayWriteUnits, IsAllowedStep, AreAllowedSteps}
 use Rattle.sat_solver.specs.proof.Widths.{kept_bits, narrowed, KeepsWidth, IsNarrowedTo, none_yet, width_changes, one_more, MayAt, WidthsAreFree}
 use Rattle.sat_solver.proofs.lemmas.session.WidthLemmas.{after_wide, fact_wide, fact_width, step_width}
 
@@ -33,16 +33,16 @@ derive_at w s e clause hashes (by_unit t) = by_unit t
 derive_at w s e clause hashes (by_clauses named n lead) = by_clauses named (named_at w s e named hashes n) lead
 
 -- so is the derivation of a core
-fail_at : (w : ℕ) (s : Session) → s.width ≡ 64 → (core hashes : List ℕ) → MayFail s core hashes → MayFail (at w s) core (map (kept_bits w) hashes)
+fail_at : (w : ℕ) (s : Session) → s.width ≡ 64 → (core hashes : List ℕ) → MayWriteCore s core hashes → MayWriteCore (at w s) core (map (kept_bits w) hashes)
 fail_at w s e core hashes (by_signs t) = by_signs t
 fail_at w s e core hashes (by_derivation d) = by_derivation (derive_at w s e (map negated core) hashes d)
 
 -- units that may be written may be written at another width
-pub prove_at : (w : ℕ) (us : List (ℕ × ℕ)) (s : Session) → s.width ≡ 64 → MayProve s us → MayProve (at w s) (map (λ u. (u.0, kept_bits w u.1)) us)
+pub prove_at : (w : ℕ) (us : List (ℕ × ℕ)) (s : Session) → s.width ≡ 64 → MayWriteUnits s us → MayWriteUnits (at w s) (map (λ u. (u.0, kept_bits w u.1)) us)
 prove_at w [] s e h = tt
 prove_at w (u ∷ us) s e h = (
   derive_at w s e (u.0 ∷ []) (u.1 ∷ []) h.0,
-  subst (λ x. MayProve x (map (λ v. (v.0, kept_bits w v.1)) us)) (sym (ap (session_with s.last) (fact_wide u.0 w (proof_state s)))) (prove_at w us (with_fact u.0 s) (fact_width u.0 (proof_state s) ∙ e) h.1),
+  subst (λ x. MayWriteUnits x (map (λ v. (v.0, kept_bits w v.1)) us)) (sym (ap (session_with s.last) (fact_wide u.0 w (proof_state s)))) (prove_at w us (with_fact u.0 s) (fact_width u.0 (proof_state s) ∙ e) h.1),
 )
 
 -- the clause derived last does not depend on hashes

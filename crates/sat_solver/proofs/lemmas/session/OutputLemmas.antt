@@ -2,7 +2,7 @@
 use Rattle.std.proofs.Common.{ℕ, ◌≡◌, ◌∙◌, Bool, true, false, Result, Ok, Err, List, [], ◌∷◌, ◌++◌, refl, sym, ap, subst}
 use Rattle.std.specs.Prelude.{nat_eq, cond}
 use Rattle.std.proofs.lemmas.List.{append-nil}
-use Rattle.sat_base.specs.device.Device.{Writer, WriterBreaks, FlushesOnce}
+use Rattle.sat_base.specs.device.Device.{Writer, WriterFails, FlushesOnce}
 use Rattle.sat_base.specs.device.Sink.{Flushes, empty_sink}
 use Rattle.sat_base.specs.steps.Steps.{Step, ChangeHashBits}
 use Rattle.sat_base.proofs.lemmas.device.Sending.{sent_none, sends_flush}
@@ -48,7 +48,7 @@ lines_are true = refl
 -- lines were written, and nothing is buffered
 pub lines_put : (binary : Bool) (r : Result (Unit {0}) OutputError) (before now : ℕ) (step : Step) (v w : Writer) → PutsLines binary r step v w → PutsSteps (lines_format binary) r (step ∷ width_change before now) (empty_sink v) (empty_sink w)
 lines_put binary (Ok x) before now step v w h = record { spelt = spelt_any binary (step ∷ width_change before now); sent = record { fresh = drat_text binary step; flows = text_is binary before now step ∙ sym (append-nil (drat_text binary step)); takes = h } }
-lines_put binary (Err (Write e)) before now step v w h = subst (WriterBreaks v w) (sym (text_is binary before now step)) h
+lines_put binary (Err (Write e)) before now step v w h = subst (WriterFails v w) (sym (text_is binary before now step)) h
 lines_put binary (Err OutOfMemory) before now step v w h = ap empty_sink h
 
 -- lines were flushed

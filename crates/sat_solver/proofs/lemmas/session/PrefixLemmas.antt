@@ -10,7 +10,7 @@ use Rattle.sat_solver.specs.proof.Checked.{has_begun}
 use Rattle.sat_solver.specs.proof.Counting.{nothing_counted}
 use Rattle.sat_solver.specs.proof.Prefixes.{PrefixText, TargetTakesPrefix, MakesSteps, PrefixesAreAccepted}
 use Rattle.sat_solver.specs.proof.ProofView.{Target, Closed, Open, Broken as Faulty, TargetTakes, TargetFails, GivesWriter, target_of, steps_of, EmitsExactly, FailsToEmit}
-use Rattle.sat_solver.specs.session.Session.{nothing, IsAllowedStep, AreAllowedSteps, after, session_after}
+use Rattle.sat_solver.specs.session.Session.{empty_session, IsAllowedStep, AreAllowedSteps, after, session_after}
 use Rattle.sat_solver.specs.declared.proof.format.ProofFormat.{ProofFormat}
 use Rattle.sat_solver.specs.declared.proof.Proof.{Proof}
 use Rattle.sat_solver.proofs.lemmas.session.CutsLemmas.{cuts_are_free}
@@ -20,7 +20,7 @@ use Rattle.sat_solver.proofs.lemmas.session.StepLemmas.{sessions_are_accepted}
 -- STEPS AFTER AN END
 
 -- after ends of proofs only, the session is the empty one
-ended : (before : List Step) → has_begun before ≡ false → session_after before ≡ nothing
+ended : (before : List Step) → has_begun before ≡ false → session_after before ≡ empty_session
 ended [] h = refl
 ended (End ∷ before) h = ap (after End) (ended before h)
 ended (SolverVarName v n ∷ before) h = absurd (true≢false h)

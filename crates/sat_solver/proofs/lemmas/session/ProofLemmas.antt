@@ -3,7 +3,7 @@ use Rattle.std.proofs.Common.{◌≡◌, ◌∙◌, ℕ, Bool, true, false, Opti
 use Rattle.std.proofs.lemmas.Bool.{true≢false}
 use Rattle.std.proofs.lemmas.List.{append-nil, reverse-append}
 use Rattle.std.specs.Prelude.{is_some, reverse}
-use Rattle.sat_base.specs.device.Device.{Writer, WriterTakes, WriterBreaks}
+use Rattle.sat_base.specs.device.Device.{Writer, WriterAccepts, WriterFails}
 use Rattle.sat_base.specs.device.Sink.{Sink, AddsToSink, empty_sink}
 use Rattle.sat_base.specs.steps.Formats.{Format, Items}
 use Rattle.sat_base.specs.steps.Steps.{Step, End}
@@ -15,13 +15,13 @@ use Rattle.sat_checker.specs.declared.processing.ProofProcessor.{Ghosts}
 use Rattle.sat_solver.specs.proof.Counting.{TruncatesHashes, none_made, ask_begun, one_made, written_for, counted}
 use Rattle.sat_solver.specs.proof.ProofTexts.{ClosedIsText, BrokenIsPrefix, WroteSince, TookSince}
 use Rattle.sat_solver.specs.proof.OutputView.{step_text, text_in, AreSpeltInFormat, SendsSteps}
-use Rattle.sat_solver.specs.proof.ProofView.{IsAtWidth, Target, Closed, Open, Broken as Faulty, is_open, Carried, TargetTakes, TargetFails, Flushed, TakesAll, GivesWriter, target_of, steps_of, has_asked, EmitsExactly, EmitsChecked, FailsToEmit, FailsCheck, Complains, is_checked, is_lost, EmitsAsAnswered, Drains, FlushesAndNotifies, FlushesOrFails, ClosesTarget, ClosesOne, ReturnsTarget}
-use Rattle.sat_solver.specs.proof.Complaints.{IsComplaint}
-use Rattle.sat_solver.specs.proof.MadeView as mades
+use Rattle.sat_solver.specs.proof.ProofView.{IsAtWidth, Target, Closed, Open, Broken as Faulty, is_open, Carried, TargetTakes, TargetFails, Flushed, TakesAll, GivesWriter, target_of, steps_of, has_asked, EmitsExactly, EmitsChecked, FailsToEmit, FailsCheck, CheckerFailed, is_checked, has_missed_step, EmitsAsAnswered, Drains, FlushesAndNotifies, FlushesOrFails, ClosesTarget, ClosesOne, ReturnsTarget}
+use Rattle.sat_solver.specs.proof.ListenerErrors.{IsListenerError}
+use Rattle.sat_solver.specs.proof.EmittedView as mades
 use Rattle.sat_solver.specs.session.Making.{ComesByCheckedSteps}
-use Rattle.sat_solver.specs.declared.proof.made.CheckFault.{CheckFault}
+use Rattle.sat_solver.specs.declared.proof.emitted.CheckFault.{CheckFault}
 use Rattle.sat_solver.specs.declared.proof.checker.Checked.{Checked}
-use Rattle.sat_solver.specs.declared.proof.made.Made.{Made}
+use Rattle.sat_solver.specs.declared.proof.emitted.EmittedSteps.{EmittedSteps}
 use Rattle.sat_solver.specs.proof.Widths.{KeepsWidth}
 use Rattle.sat_solver.specs.declared.proof.hash_bits.Counting.{Counting}
 use Rattle.sat_solver.specs.declared.proof.format.ProofFormat.{ProofFormat}
@@ -75,9 +75,9 @@ module _ (f : ProofFormat) where
       ∙ ap (λ (z : List ℕ). s.waiting ++ z) (sym (text_append ys xs))
 
   -- steps were written, and a call failed while later ones were written
-  pub breaks_after : (s t : Sink) (w : Writer) (xs ys : List Step) → SendsSteps f xs s t → WriterBreaks t.writer w (t.waiting ++ text_in f ys) → WriterBreaks s.writer w (s.waiting ++ text_in f (ys ++ xs))
+  pub breaks_after : (s t : Sink) (w : Writer) (xs ys : List Step) → SendsSteps f xs s t → WriterFails t.writer w (t.waiting ++ text_in f ys) → WriterFails s.writer w (s.waiting ++ text_in f (ys ++ xs))
   breaks_after s t w xs ys p q =
-      subst (WriterBreaks s.writer w) (rest_text s t p.sent.fresh xs ys p.sent.flows) (breaks_later s.writer t.writer w p.sent.fresh (t.waiting ++ text_in f ys) p.sent.takes q)
+      subst (WriterFails s.writer w) (rest_text s t p.sent.fresh xs ys p.sent.flows) (breaks_later s.writer t.writer w p.sent.fresh (t.waiting ++ text_in f ys) p.sent.takes q)
 
 -- WIDTHS
 
@@ -150,7 +150,7 @@ takes_all (Open a n s) b c given w xs o p f g e =
       counting = p.0;
       cuts = p.3.cuts;
       spelt = p.3.wrote.spelt;
-      takes = subst (λ (z : Writer). WriterTakes s.writer z (s.waiting ++ text)) is (subst (WriterTakes s.writer k.0.writer) all sent.takes);
+      takes = subst (λ (z : Writer). WriterAccepts s.writer z (s.waiting ++ text)) is (subst (WriterAccepts s.writer k.0.writer) all sent.takes);
       flushed = subst (λ (z : Writer). z.flushed ≡ true) is k.2.flushed;
     }
 takes_all (Faulty w) b c given v xs o p f g e = cc
@@ -170,7 +170,7 @@ closed_is_text f from given steps last t p q =
       counting = k.counting;
       cuts = cuts_more p.3.cuts k.cuts;
       spells = spells f (k.written ++ p.3.written) (spelt_append f k.written p.3.written k.spelt p.3.wrote.spelt);
-      takes = subst (WriterTakes from given) whole (took_both from s.writer given p.3.wrote.sent.fresh (s.waiting ++ text_in f k.written) p.3.wrote.sent.takes k.takes);
+      takes = subst (WriterAccepts from given) whole (took_both from s.writer given p.3.wrote.sent.fresh (s.waiting ++ text_in f k.written) p.3.wrote.sent.takes k.takes);
       flushed = k.flushed;
     }
 
@@ -179,7 +179,7 @@ pub broken_is_front : BrokenIsPrefix
 broken_is_front f from given steps t p g =
     let q = subst (λ (z : Target). GivesWriter z (Some given)) p.1 g in
     let same : p.0 ≡ given = cc in
-    record { written = p.2.written; counting = p.2.counting; cuts = p.2.cuts; breaks = subst (λ (z : Writer). WriterBreaks from z (text_in f p.2.written)) same p.2.breaks }
+    record { written = p.2.written; counting = p.2.counting; cuts = p.2.cuts; breaks = subst (λ (z : Writer). WriterFails from z (text_in f p.2.written)) same p.2.breaks }
 
 -- PROOFS
 
@@ -202,11 +202,11 @@ gains_none seen p = record { history = refl; listening = refl; taking = refl; as
 -- no step was made
 pub gains_kept : {W L : Type 0} {G : Ghosts L} (seen : W → Writer) (p q : Proof W L G) → q.made ≡ p.made → q.counting ≡ p.counting → has_asked q ≡ has_asked p → TargetTakes (target_of seen p) [] (target_of seen q) → EmitsChecked seen [] p q
 gains_kept {W} {L} {G} seen p q made counting asked target = record {
-  history = ap (λ (m : Made L G). m.history.steps) made;
-  listening = ap (λ (m : Made L G). mades.made_audience m) made;
-  taking = ap (λ (m : Made L G). mades.made_is_lost m) made;
+  history = ap (λ (m : EmittedSteps L G). m.history.steps) made;
+  listening = ap (λ (m : EmittedSteps L G). mades.emitted_listeners m) made;
+  taking = ap (λ (m : EmittedSteps L G). mades.emitted_has_missed_step m) made;
   asked = asked;
-  width = λ h. elim h [ inl w ↦ subst (λ n. mades.LastWidthIs n q.made) (ap (λ (n : Counting). n.bits) (sym counting)) (subst (λ (m : Made L G). mades.LastWidthIs p.counting.bits m) (sym made) w) | inr n ↦ absurd (n refl) ];
+  width = λ h. elim h [ inl w ↦ subst (λ n. mades.LastWidthIs n q.made) (ap (λ (n : Counting). n.bits) (sym counting)) (subst (λ (m : EmittedSteps L G). mades.LastWidthIs p.counting.bits m) (sym made) w) | inr n ↦ absurd (n refl) ];
   target = target;
 }
 
@@ -235,10 +235,10 @@ fails_later seen xs ys a b c p q = record {
 }
 
 -- a proof whose checker failed has a checker
-pub complains_checked : {W L : Type 0} {G : Ghosts L} (fault : CheckFault) (p : Proof W L G) → Complains fault p → is_checked p ≡ true
+pub complains_checked : {W L : Type 0} {G : Ghosts L} (fault : CheckFault) (p : Proof W L G) → CheckerFailed fault p → is_checked p ≡ true
 complains_checked {G = G} fault p h = go p.made.own h
   where
-    go : (o : Option (Checked _)) → mades.CheckerComplains G.takes fault o p.made.roll.items p.made.history.steps → is_some (mades.listed_in o p.made.roll.items) ≡ true
+    go : (o : Option (Checked _)) → mades.OwnCheckerFailed G.takes fault o p.made.roll.items p.made.history.steps → is_some (mades.listed_in o p.made.roll.items) ≡ true
     go None h = absurd h
     go (Some own) h = refl
 
@@ -251,15 +251,15 @@ drained : {W L : Type 0} {G : Ghosts L} (seen : W → Writer) (a b : Proof W L G
 drained seen a b h = record { history = h.history; listening = h.listening; target = flushed_carries (target_of seen a) (target_of seen b) h.target }
 
 -- if no step was lost before, the checker has failed just now
-pub complains_now : {W L : Type 0} {G : Ghosts L} (fault : CheckFault) (p : Proof W L G) (lost : Bool) → lost ≡ false → mades.ComplainsOrWasLost lost fault p.made → Complains fault p × IsComplaint fault p.made.complaint
+pub complains_now : {W L : Type 0} {G : Ghosts L} (fault : CheckFault) (p : Proof W L G) (lost : Bool) → lost ≡ false → mades.CheckerErrorAfterMissedStep lost fault p.made → CheckerFailed fault p × IsListenerError fault p.made.complaint
 complains_now fault p lost taking h = elim h [ inl k ↦ k | inr k ↦ absurd (true≢false (sym k.0 ∙ taking)) ]
 
 -- flushing and notifying the listeners makes no step
-pub flush_records : {W L : Type 0} {G : Ghosts L} (seen : W → Writer) (r : Result (Unit {0}) ProofError) (a b : Proof W L G) → is_lost a ≡ false → FlushesOrFails seen r a b → EmitsAsAnswered seen r [] a b
+pub flush_records : {W L : Type 0} {G : Ghosts L} (seen : W → Writer) (r : Result (Unit {0}) ProofError) (a b : Proof W L G) → has_missed_step a ≡ false → FlushesOrFails seen r a b → EmitsAsAnswered seen r [] a b
 flush_records seen (Ok x) a b taking h = record { history = h.history; listening = h.listening; taking = h.taking; asked = h.asked; width = λ k. elim k [ inl w ↦ h.width w | inr n ↦ absurd (n refl) ]; target = flushed_carries (target_of seen a) (target_of seen b) h.target }
 flush_records seen (Err (Write e)) a b taking h = h
 flush_records seen (Err OutOfMemory) a b taking h = absurd h
-flush_records seen (Err (Check fault)) a b taking h = (let k = complains_now fault b (is_lost a) taking h.1 in (record { adds = drained seen a b h.0; why = k.0 }, k.1))
+flush_records seen (Err (Check fault)) a b taking h = (let k = complains_now fault b (has_missed_step a) taking h.1 in (record { adds = drained seen a b h.0; why = k.0 }, k.1))
 
 -- writing or checking the last step failed
 pub close_stops : {W L : Type 0} {G : Ghosts L} (T : Type 0) (seen : W → Writer) (e : ProofError) (a b : Proof W L G) → EmitsAsAnswered {T = T} seen (Err e) (End ∷ []) a b → ClosesTarget seen (Err e) a b
@@ -293,12 +293,12 @@ pub close_gives : {W L : Type 0} {G : Ghosts L} (seen : W → Writer) (o : Optio
 close_gives seen None a b c d open_yet p q h = absurd (gives_none (target_of seen a) (target_of seen b) (target_of seen c) (End ∷ []) open_yet p.target q.target h.gives)
 close_gives seen (Some w) a b c d open_yet p q h = record {
   history = h.history ∙ q.history ∙ p.history;
-  listening = ap mades.made_audience h.made ∙ q.listening ∙ p.listening;
-  taking = ap mades.made_is_lost h.made ∙ q.taking ∙ p.taking;
+  listening = ap mades.emitted_listeners h.made ∙ q.listening ∙ p.listening;
+  taking = ap mades.emitted_has_missed_step h.made ∙ q.taking ∙ p.taking;
   asked = h.asked ∙ q.asked ∙ p.asked;
   takes = takes_all (target_of seen a) (target_of seen b) (target_of seen c) (Some (seen w)) (seen w) (End ∷ []) open_yet p.target q.target h.gives refl;
   target = h.target;
-  reported = subst (λ (m : Made _ _). mades.MadeIsReported m) (sym h.made) q.reported;
+  reported = subst (λ (m : EmittedSteps _ _). mades.EmittedIsReported m) (sym h.made) q.reported;
 }
 
 -- SINCE THE OPENING

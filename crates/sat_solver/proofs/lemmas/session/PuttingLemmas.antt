@@ -1,6 +1,6 @@
 -- Steps are written to a target, each at its width.
 use Rattle.std.proofs.Common.{ℕ, Bool, ◌≡◌, ◌∙◌, true, false, Option, None, Some, Err, List, [], ◌∷◌, ◌++◌, append_assoc, refl, sym, ap, subst}
-use Rattle.sat_base.specs.device.Device.{Writer, WriterBreaks}
+use Rattle.sat_base.specs.device.Device.{Writer, WriterFails}
 use Rattle.sat_base.specs.device.Sink.{Sink, AddsToSink}
 use Rattle.std.proofs.lemmas.Bool.{eq-eqb}
 use Rattle.std.specs.Prelude.{cond}
@@ -15,7 +15,7 @@ use Rattle.sat_solver.specs.proof.OutputView.{step_text, SpellsIn, text_in, Send
 use Rattle.sat_solver.specs.proof.ProofView.{TargetTakes, TargetFails, Open, Broken as Faulty, with_fault, target_in, target_of, EmitsExactly, FailsToEmit}
 use Rattle.sat_solver.specs.proof.Widths.{narrowed, KeepsWidth}
 use Rattle.sat_solver.specs.declared.proof.hash_bits.Counting.{Counting}
-use Rattle.sat_solver.specs.declared.proof.output.Output.{Output}
+use Rattle.sat_solver.specs.declared.proof.output.ProofOutput.{ProofOutput}
 use Rattle.sat_solver.specs.declared.proof.format.ProofFormat.{ProofFormat}
 use Rattle.sat_solver.specs.proof.Counting.{none_made, ask_begun}
 use Rattle.sat_solver.specs.declared.proof.Proof.{Proof}
@@ -32,13 +32,13 @@ pub waits_at : (step : Step) (before now : ℕ) (s t : Sink) → before ≡ now 
 waits_at step before now s t e sent spells = subst (λ xs. SendsSteps Varisat (step ∷ xs) s t) (sym (ap (λ b. cond b [] (ChangeHashBits now ∷ [])) (eq-eqb before now e))) (wrote_one Varisat step s t sent spells)
 
 -- steps were written, and a call failed at one more step
-pub puts_after : (f : ProofFormat) (step : Step) (xs : List Step) (s t u : Sink) → SendsSteps f xs s t → WriterBreaks t.writer u.writer (t.waiting ++ step_text f step) → WriterBreaks s.writer u.writer (s.waiting ++ text_in f (step ∷ xs))
+pub puts_after : (f : ProofFormat) (step : Step) (xs : List Step) (s t u : Sink) → SendsSteps f xs s t → WriterFails t.writer u.writer (t.waiting ++ step_text f step) → WriterFails s.writer u.writer (s.waiting ++ text_in f (step ∷ xs))
 puts_after f step xs s t u p q = breaks_after f s t u.writer xs (step ∷ []) p q
 
 -- a fault while steps are written is also one for a longer list
 pub puts_short : (f : ProofFormat) (e : OutputError) (step : Step) (xs : List Step) (s t : Sink) → PutsSteps f (Err e) xs s t → PutsSteps f (Err e) (step ∷ xs) s t
 puts_short f (Write e) step xs s t h =
-    subst (WriterBreaks s.writer t.writer) (append_assoc s.waiting (text_in f xs) (step_text f step)) (breaks_within s.writer t.writer (s.waiting ++ text_in f xs) (step_text f step) h)
+    subst (WriterFails s.writer t.writer) (append_assoc s.waiting (text_in f xs) (step_text f step)) (breaks_within s.writer t.writer (s.waiting ++ text_in f xs) (step_text f step) h)
 puts_short f OutOfMemory step xs s t h = h
 
 -- a step was written
@@ -46,7 +46,7 @@ pub carries_step : (f : ProofFormat) (c : Counting) (s t : Sink) (step : Step) �
 carries_step f c s t step k w = (counted step c, t, refl, record { written = written_for c.bits (counted step c).bits step; cuts = cuts_one c step k; wrote = w })
 
 -- a call failed while its text was written
-pub stops_step : (f : ProofFormat) (c : Counting) (s t : Sink) (step : Step) → KeepsWidth step → WriterBreaks s.writer t.writer (s.waiting ++ text_in f (written_for c.bits (counted step c).bits step)) → TargetFails (Open f c s) (step ∷ []) (Faulty t.writer)
+pub stops_step : (f : ProofFormat) (c : Counting) (s t : Sink) (step : Step) → KeepsWidth step → WriterFails s.writer t.writer (s.waiting ++ text_in f (written_for c.bits (counted step c).bits step)) → TargetFails (Open f c s) (step ∷ []) (Faulty t.writer)
 stops_step f c s t step k b = (t.writer, refl, record { written = written_for c.bits (counted step c).bits step; counting = counted step c; cuts = cuts_one c step k; breaks = b })
 
 module _ {W L : Type 0} {G : Ghosts L} (seen : W → Writer) (p : Proof W L G) where
@@ -57,12 +57,12 @@ module _ {W L : Type 0} {G : Ghosts L} (seen : W → Writer) (p : Proof W L G) w
   pub adds_begun : EmitsExactly seen [] p begun
   adds_begun = record { history = refl; listening = refl; target = go p.output p.broken }
     where
-      go : (o : Option (Output W)) (b : Bool) → TargetTakes (target_in seen o b p.counting) [] (target_in seen o b (record p.counting { solving = true }))
+      go : (o : Option (ProofOutput W)) (b : Bool) → TargetTakes (target_in seen o b p.counting) [] (target_in seen o b (record p.counting { solving = true }))
       go None b = refl
       go (Some o) false = (record p.counting { solving = true }, output_sink seen o, refl, record { written = []; cuts = ask_begun none_made; wrote = wrote_none (output_format o) (output_sink seen o) })
       go (Some o) true = refl
 
-  module _ (o u : Output W) (is : p.output ≡ Some o) (well : p.broken ≡ false) where
+  module _ (o u : ProofOutput W) (is : p.output ≡ Some o) (well : p.broken ≡ false) where
     was_open : Open (output_format o) p.counting (output_sink seen o) ≡ target_of seen p
     was_open = sym (ap (λ x. target_in seen x p.broken p.counting) is ∙ ap (λ b. with_fault b (output_format o) p.counting (output_sink seen o)) well)
 
@@ -71,7 +71,7 @@ module _ {W L : Type 0} {G : Ghosts L} (seen : W → Writer) (p : Proof W L G) w
     same_output e = ap (λ x. record p { output = Some x }) e ∙ ap (λ x. record p { output = x }) (sym is)
 
     -- a flush failed
-    pub fails_flush : (cause : _) → WriterBreaks (output_sink seen o).writer (output_sink seen u).writer ((output_sink seen o).waiting ++ []) → FailsToEmit seen [] p (record p { output = Some u; broken = true; cause = Some cause })
+    pub fails_flush : (cause : _) → WriterFails (output_sink seen o).writer (output_sink seen u).writer ((output_sink seen o).waiting ++ []) → FailsToEmit seen [] p (record p { output = Some u; broken = true; cause = Some cause })
     fails_flush cause b = record {
       history = refl;
       listening = refl;
@@ -92,12 +92,12 @@ module _ {W L : Type 0} {G : Ghosts L} (seen : W → Writer) (p : Proof W L G) w
               (subst (λ x. SendsSteps (output_format o) (x ∷ width_change p.counting.bits d.bits) (output_sink seen o) (output_sink seen u)) is_cut wrote)))))
 
       -- a call failed while its text was written
-      pub stops_put : WriterBreaks (output_sink seen o).writer (output_sink seen u).writer ((output_sink seen o).waiting ++ text_in (output_format o) (cut ∷ width_change p.counting.bits d.bits)) →
+      pub stops_put : WriterFails (output_sink seen o).writer (output_sink seen u).writer ((output_sink seen o).waiting ++ text_in (output_format o) (cut ∷ width_change p.counting.bits d.bits)) →
           TargetFails (target_of seen p) (step ∷ []) (Faulty (output_sink seen u).writer)
       stops_put b = subst (λ t. TargetFails t (step ∷ []) (Faulty (output_sink seen u).writer)) was_open
           (stops_step (output_format o) p.counting (output_sink seen o) (output_sink seen u) step keeps
-          (subst (λ x. WriterBreaks (output_sink seen o).writer (output_sink seen u).writer ((output_sink seen o).waiting ++ text_in (output_format o) (written_for p.counting.bits x.bits step))) e
-          (subst (λ x. WriterBreaks (output_sink seen o).writer (output_sink seen u).writer ((output_sink seen o).waiting ++ text_in (output_format o) (x ∷ width_change p.counting.bits d.bits))) is_cut b)))
+          (subst (λ x. WriterFails (output_sink seen o).writer (output_sink seen u).writer ((output_sink seen o).waiting ++ text_in (output_format o) (written_for p.counting.bits x.bits step))) e
+          (subst (λ x. WriterFails (output_sink seen o).writer (output_sink seen u).writer ((output_sink seen o).waiting ++ text_in (output_format o) (x ∷ width_change p.counting.bits d.bits))) is_cut b)))
 
     -- memory ran out before anything was written
     pub carries_starved : output_format u ≡ output_format o → output_sink seen u ≡ output_sink seen o → TargetTakes (target_of seen p) [] (target_in seen (Some u) p.broken p.counting)

@@ -7,7 +7,7 @@ use Rattle.sat_checker.specs.Stored.{Variable, Sample, Hide, unknown}
 use Rattle.sat_checker.specs.LiteralSets.{is_among, mentions, canonical}
 use Rattle.sat_checker.specs.SortedSets.{NoRepeats}
 use Rattle.sat_solver.specs.session.Session.{Session, IsLive, AreAllowedSteps, session_after, by_clauses}
-use Rattle.sat_solver.specs.session.SessionRows.{four, CollidingMay, HiddenMay}
+use Rattle.sat_solver.specs.session.SessionRows.{four, CollidingIsAllowed, HiddenIsAllowed}
 
 -- the mode Sample isn't Hide
 not_hidden : Sample ≢ Hide
@@ -65,7 +65,7 @@ once s c n e = record { once = n; counted = omega (arith, e) }
 
 -- Hashes may also name other clauses: at width 8 the first and the last clause have the same hash, and so have the
 -- other two.
-pub colliding_may : CollidingMay
+pub colliding_may : CollidingIsAllowed
 colliding_may =
     let learned : Session = session_after (ChangeHashBits 8 ∷ Assumptions [] ∷ four) in
     let proved : Session = session_after (AtClause false (0 ∷ []) (0x44 ∷ 0xe6 ∷ []) ∷ ChangeHashBits 8 ∷ Assumptions [] ∷ four) in
@@ -127,7 +127,7 @@ model_units l u = go (is_among (3 ∷ []) (negated l)) refl
     go false e = refl
 
 -- the example of the hidden variable may be written
-pub hidden_may : HiddenMay
+pub hidden_may : HiddenIsAllowed
 hidden_may = ((
   (
     (

@@ -2,7 +2,7 @@
 use Rattle.std.proofs.Common.{◌≡◌, Bool, true, false, List, [], ◌∷◌, refl, sym, ◌∙◌, ap, subst, None}
 use Rattle.sat_base.specs.steps.Steps.{Step}
 use Rattle.sat_checker.specs.Stored.{Stored, nothing_stored}
-use Rattle.sat_checker.specs.Storing.{settled}
+use Rattle.sat_checker.specs.Storing.{with_conflict_settled}
 use Rattle.sat_checker.specs.Accepts.{Accepts, AcceptsAll, effect, stored_after, ready_after}
 use Rattle.sat_checker.specs.Contents.{count_in}
 use Rattle.sat_checker.proofs.lemmas.invariants.Counted.{TidyClauses, tidy_effect, tidy_settled}
@@ -10,7 +10,7 @@ use Rattle.sat_checker.proofs.lemmas.meaning.Orderly.{Orderly, orderly_settled}
 use Rattle.sat_checker.proofs.lemmas.meaning.OrderlySteps.{orderly_effect, orderly}
 use Rattle.sat_solver.specs.session.Session.{Session, IsAllowedStep, AreAllowedSteps, after, session_after}
 use Rattle.sat_solver.specs.session.Agrees.{MatchesStored}
-use Rattle.sat_solver.specs.session.Promises.{MayIsAccepted, SessionsAreAccepted}
+use Rattle.sat_solver.specs.session.Promises.{AllowedIsAccepted, SessionsAreAccepted}
 use Rattle.sat_solver.proofs.lemmas.session.Views.{view, view_after, view_settled}
 use Rattle.sat_solver.proofs.lemmas.session.LastLemmas.{LastIs, no_last, last_kept, last_settled}
 use Rattle.sat_solver.proofs.lemmas.session.AcceptLemmas.{accepts_view}
@@ -47,7 +47,7 @@ agrees s f h = record {
 }
 
 -- settling a conflict preserves `Fits`
-pub fits_settled : (s : Session) (f : Stored) → Fits s f → Fits s (settled f)
+pub fits_settled : (s : Session) (f : Stored) → Fits s f → Fits s (with_conflict_settled f)
 fits_settled s f h = record { same = view_settled s.last f ∙ h.same; tidy = tidy_settled f h.tidy; last = last_settled s.last f h.last }
 
 -- if both fit, the checker accepts every allowed step
@@ -63,7 +63,7 @@ fits_after s f step h o a = record {
 }
 
 -- the checker accepts what a session may write
-pub may_is_accepted : MayIsAccepted
+pub may_is_accepted : AllowedIsAccepted
 may_is_accepted s f step a m = accepts_fit s f step (fits s f a) m
 
 -- an absent clause has count 0

@@ -2,7 +2,7 @@
 use Rattle.std.proofs.Common.{ℕ, ◌≡◌, List, ap, Option}
 use Rattle.sat_base.specs.steps.Steps.{Step}
 use Rattle.sat_checker.specs.Stored.{Stored}
-use Rattle.sat_checker.specs.Storing.{with_unit, settled}
+use Rattle.sat_checker.specs.Storing.{with_unit, with_conflict_settled}
 use Rattle.sat_checker.specs.Accepts.{effect}
 use Rattle.sat_checker.specs.Contents.{stored_state}
 use Rattle.sat_checker.specs.Invariants.{EachOnce}
@@ -23,5 +23,5 @@ module _ (last : Option (List ℕ)) where
   view_after step f h = ap (λ c. session_with (last_after step last) c.state) (contents_follow f step h)
 
   -- settling a conflict does not change the view
-  pub view_settled : (f : Stored) → view last (settled f) ≡ view last f
+  pub view_settled : (f : Stored) → view last (with_conflict_settled f) ≡ view last f
   view_settled f = ap (λ c. session_with last c.state) (contents_are_settled f)

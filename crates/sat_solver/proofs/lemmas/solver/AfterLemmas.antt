@@ -5,8 +5,8 @@ use Rattle.sat_base.specs.values.Literals.{variable}
 use Rattle.sat_base.specs.script.ScriptState.{ScriptState}
 use Rattle.sat_base.specs.steps.Steps.{Step, AtClause, UnitClauses, DeleteClause}
 use Rattle.sat_solver.specs.session.Session.{Session, AreAllowedSteps, session_after}
-use Rattle.sat_solver.specs.cdcl.Going.{HaveSolverNames, IsSearched}
-use Rattle.sat_checker.specs.matching.Bridge.{Live}
+use Rattle.sat_solver.specs.cdcl.StepEffects.{HaveSolverNames, IsSearched}
+use Rattle.sat_checker.specs.matching.Bridge.{LiveVariables}
 use Rattle.sat_solver.specs.variables.Variables.{NamesMatchSteps}
 use Rattle.sat_checker.specs.matching.Checking.{is_ordered}
 use Rattle.sat_checker.specs.matching.Expected.{Expected}
@@ -43,7 +43,7 @@ stands_after n earlier (step ∷ steps) valid may h =
     searches_preserve_names n (steps ++ earlier) step (stands_after n earlier steps valid may.0 h.1) may.1 (of_search n (session_after earlier) step valid.said h.0)
 
 agree_after : (n : Variables) (earlier steps : List Step) → NamesInvariant n earlier → AreAllowedSteps (steps ++ earlier) → AllByRecursion (IsSearched (session_after earlier).solver_names) steps →
-    (j : ScriptState) (live : Live) → NamesAgree n earlier j live → NamesAgree n (steps ++ earlier) j live
+    (j : ScriptState) (live : LiveVariables) → NamesAgree n earlier j live → NamesAgree n (steps ++ earlier) j live
 agree_after n earlier [] valid may h j live a = a
 agree_after n earlier (step ∷ steps) valid may h j live a =
     searches_agree n (steps ++ earlier) step (stands_after n earlier steps valid may.0 h.1) may.1 (of_search n (session_after earlier) step valid.said h.0) j live

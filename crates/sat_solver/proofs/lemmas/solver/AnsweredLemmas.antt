@@ -2,7 +2,7 @@
 use Rattle.std.proofs.Common.{ℕ, zero, suc, ◌+◌, ◌<◌, ◌≡◌, ◌∙◌, Bool, Option, None, Some, List, [], ◌∷◌, ◌++◌, length, map, get_or, refl, sym, ap, subst, arith, inl, inr}
 use Rattle.std.specs.List.{AllByRecursion, Contains}
 use Rattle.sat_base.specs.device.Device.{Writer}
-use Rattle.sat_base.specs.values.Literals.{variable, is_positive, coded}
+use Rattle.sat_base.specs.values.Literals.{variable, is_positive, mk_lit}
 use Rattle.sat_base.specs.values.Clauses.{Valuation, EachTrue}
 use Rattle.sat_base.specs.script.Script.{Literal, names_of, Among}
 use Rattle.sat_base.specs.steps.Steps.{Step, Model, FailedAssumptions}
@@ -16,12 +16,12 @@ use Rattle.sat_solver.specs.proof.ProofView.{EmitsChecked, HasAllowedSteps, step
 use Rattle.sat_solver.specs.session.Session.{AreAllowedSteps}
 use Rattle.sat_solver.proofs.lemmas.session.StepLemmas.{sessions_are_accepted}
 use Rattle.sat_solver.specs.session.LiveClauses.{with_var}
-use Rattle.sat_solver.specs.declared.context.Core.{Core}
+use Rattle.sat_solver.specs.declared.context.Context.{Context}
 use Rattle.sat_solver.specs.declared.context.Search.{Search}
 use Rattle.sat_solver.specs.declared.config.SolverConfig.{SolverConfig}
 use Rattle.sat_solver.specs.assumptions.Core.{causes_hashes}
-use Rattle.sat_solver.specs.cdcl.Going.{AreSearched}
-use Rattle.sat_solver.specs.cdcl.Joint.{global_in, IsSearch, SameVarsAndAssumptions}
+use Rattle.sat_solver.specs.cdcl.StepEffects.{AreSearched}
+use Rattle.sat_solver.specs.cdcl.Joint.{global_in, SearchInvariant, SameVarsAndAssumptions}
 use Rattle.sat_solver.specs.load.Literals.{user_literal, Images}
 use Rattle.sat_solver.specs.variables.Variables.{data_at, global_at, user_of, names_used, variables_used}
 use Rattle.sat_solver.specs.variables.Shared.{SharesIndices}
@@ -36,7 +36,7 @@ use Rattle.sat_solver.proofs.lemmas.variables.MapLemmas.{some_within}
 use Rattle.sat_solver.proofs.lemmas.variables.ModeChanges.{live_within}
 use Rattle.sat_solver.proofs.lemmas.variables.Searched.{searches_agree}
 use Rattle.sat_solver.proofs.lemmas.variables.TakenNames.{test_among}
-use Rattle.sat_solver.specs.solver.Joined.{IsJoined, lit_over_names, named_by, user_by}
+use Rattle.sat_solver.specs.solver.Joined.{NamesSearchInvariant, lit_over_names, named_by, user_by}
 use Rattle.sat_solver.specs.solver.Answering.{Shown, WritesFailedCore, model_of, line_of_names}
 use Rattle.sat_solver.proofs.lemmas.solver.AfterLemmas.{stands_after}
 use Rattle.sat_solver.proofs.lemmas.solver.ShownLemmas.{coded_back, coded_sign, model_all}
@@ -61,7 +61,7 @@ module _ (n : Variables) (values : List (Option Bool)) (user order : List ℕ) (
       ∙ ap (λ x. has_true_value (get_or values x None)) (sym (ap variable i.is ∙ coded_variable i.index_is (is_positive l)))
       ∙ ap has_true_value t
       ∙ ap is_positive i.is ∙ coded_sign i.index_is (is_positive l) in
-      subst (λ m. Among m (named_to n values (names_used n))) (ap (coded (variable l)) value ∙ coded_back l)
+      subst (λ m. Among m (named_to n values (names_used n))) (ap (mk_lit (variable l)) value ∙ coded_back l)
       (named_has n values (names_used n) (variable l) i.variable_is (some_within n.global_from_user.fwd (variable l) i.variable_is i.named) i.named)
 
   -- if a model makes the assumptions true, its line contains all of them
@@ -89,7 +89,7 @@ module _ (n : Variables) (steps : List Step) (valid : NamesInvariant n steps) (c
       let lt : k < length user = (let c = images.count in let b = h.1 in omega arith) in
       let i = images.each k lt in
       let m = get_or user k 0 in
-      let it : l ≡ coded i.index_is (is_positive m) = sym (at_place order l h) ∙ i.is in
+      let it : l ≡ mk_lit i.index_is (is_positive m) = sym (at_place order l h) ∙ i.is in
       let var : variable l ≡ i.index_is = ap variable it ∙ coded_variable i.index_is (is_positive m) in
       let sign : is_positive l ≡ is_positive m = ap is_positive it ∙ coded_sign i.index_is (is_positive m) in
       let at : global_at n (variable l) ≡ Some i.variable_is = ap (global_at n) var ∙ valid.tidy.solvers.back i.variable_is i.index_is i.indexed in
@@ -98,11 +98,11 @@ module _ (n : Variables) (steps : List Step) (valid : NamesInvariant n steps) (c
       record {
         from = m;
         among = among_at user k lt;
-        is = ap (λ o. named_by (user_by n o) l) at ∙ ap (λ o. named_by o l) named ∙ ap (coded (variable m)) sign ∙ coded_back m;
+        is = ap (λ o. named_by (user_by n o) l) at ∙ ap (λ o. named_by o l) named ∙ ap (mk_lit (variable m)) sign ∙ coded_back m;
         spells = record {
           variable = i.variable_is;
           named = valid.read (variable m) ∙ i.named;
-          is = sym (coded_by (global_in c) l) ∙ ap (λ g. coded g (is_positive l)) global ∙ ap (coded i.variable_is) sign;
+          is = sym (coded_by (global_in c) l) ∙ ap (λ g. mk_lit g (is_positive l)) global ∙ ap (mk_lit i.variable_is) sign;
         };
       }
 
@@ -148,9 +148,9 @@ line_spelt n steps values valid =
     (named_each n values (λ l. (code : ℕ) × Spells (variable_of steps) (user_literal l) code × Among code (model_to n values (variables_used n))) (names_used n) (λ u v lt e.
     let live = valid.tidy.named v u (valid.tidy.users.back u v e) in
     let b = value_in n values v in (
-      coded v b,
-      record { variable = v; named = ap (λ w. variable_of steps (w + 1)) (coded_variable u b) ∙ valid.read u ∙ e; is = ap (coded v) (sym (coded_sign u b)) },
-      test_among (model_to n values (variables_used n)) (coded v b) (model_all n values (variables_used n) v (live_within n v live) live),
+      mk_lit v b,
+      record { variable = v; named = ap (λ w. variable_of steps (w + 1)) (coded_variable u b) ∙ valid.read u ∙ e; is = ap (mk_lit v) (sym (coded_sign u b)) },
+      test_among (model_to n values (variables_used n)) (mk_lit v b) (model_all n values (variables_used n) v (live_within n v live) live),
     )))
 
 named_among_all : (line asked : List ℕ) → AllByRecursion (λ l. Among l line) asked → AllByRecursion (λ l. Among l (map user_literal line)) (map user_literal asked)
@@ -158,7 +158,7 @@ named_among_all line [] h = tt
 named_among_all line (l ∷ asked) h = (literal_among l line h.0, named_among_all line asked h.1)
 
 -- names and search are joined after a search, even if the names have changed
-pub joined_by : {W L : Type 0} {G : Ghosts L} (n m : Variables) (a b : Core W L G) → IsJoined n a → b.config ≡ a.config → HasAllowedSteps b.proof → NamesInvariant m (steps_of b.proof) → IsSearch (session_of b.proof) b.search → SharesIndices m b.search → IsJoined m b
+pub joined_by : {W L : Type 0} {G : Ghosts L} (n m : Variables) (a b : Context W L G) → NamesSearchInvariant n a → b.config ≡ a.config → HasAllowedSteps b.proof → NamesInvariant m (steps_of b.proof) → SearchInvariant (session_of b.proof) b.search → SharesIndices m b.search → NamesSearchInvariant m b
 joined_by n m a b joined config keeps valid search shares = record {
   sound = record {
     keeps = keeps;
@@ -170,10 +170,10 @@ joined_by n m a b joined config keeps valid search shares = record {
   shares = shares;
 }
 
-module _ {W L : Type 0} {G : Ghosts L} (seen : W → Writer) (n : Variables) (a : Core W L G) (joined : IsJoined n a) where
+module _ {W L : Type 0} {G : Ghosts L} (seen : W → Writer) (n : Variables) (a : Context W L G) (joined : NamesSearchInvariant n a) where
   -- names and search are joined after steps of a search
-  pub joined_at : (b : Core W L G) (steps : List Step) → EmitsChecked seen steps a.proof b.proof → AreSearched (session_of a.proof).solver_names steps → HasAllowedSteps b.proof → SameVarsAndAssumptions a.search b.search → IsSearch (session_of b.proof) b.search →
-      b.config ≡ a.config → IsJoined n b
+  pub joined_at : (b : Context W L G) (steps : List Step) → EmitsChecked seen steps a.proof b.proof → AreSearched (session_of a.proof).solver_names steps → HasAllowedSteps b.proof → SameVarsAndAssumptions a.search b.search → SearchInvariant (session_of b.proof) b.search →
+      b.config ≡ a.config → NamesSearchInvariant n b
   joined_at b steps adds searched keeps moved search config = record {
     sound = record {
       keeps = keeps;
@@ -186,7 +186,7 @@ module _ {W L : Type 0} {G : Ghosts L} (seen : W → Writer) (n : Variables) (a 
   }
 
   -- the step of a model is the one that the judge expects
-  pub does_shown : (b : Core W L G) → Shown seen n a b → (asked : List ℕ) → AllByRecursion (λ l. Among l (line_of_names n a)) asked →
+  pub does_shown : (b : Context W L G) → Shown seen n a b → (asked : List ℕ) → AllByRecursion (λ l. Among l (line_of_names n a)) asked →
       NamesEffect n n (steps_of a.proof) (steps_of b.proof) (λ j. j) (λ j. Shows (names_of (map user_literal (line_of_names n a))) (map user_literal asked) (map user_literal (line_of_names n a)) ∷ [])
   does_shown b shown asked among =
       let may : AreAllowedSteps (Model (model_of n a) ∷ steps_of a.proof) = subst AreAllowedSteps shown.adds.history shown.joined.sound.keeps in
@@ -202,7 +202,7 @@ module _ {W L : Type 0} {G : Ghosts L} (seen : W → Writer) (n : Variables) (a 
       }
 
   -- the step of a core is the one that the judge expects
-  pub does_failed : (b : Core W L G) (core : List ℕ) → WritesFailedCore seen n a b core → (asked order : List ℕ) → Images n asked order → a.search.assumptions.lits.items ≡ order →
+  pub does_failed : (b : Context W L G) (core : List ℕ) → WritesFailedCore seen n a b core → (asked order : List ℕ) → Images n asked order → a.search.assumptions.lits.items ≡ order →
       NamesEffect n n (steps_of a.proof) (steps_of b.proof) (λ j. j) (λ j. Fails (map user_literal asked) (map user_literal core) ∷ [])
   does_failed b core f asked order images lits =
       subst (λ ss. NamesEffect n n (steps_of a.proof) ss (λ j. j) (λ j. Fails (map user_literal asked) (map user_literal core) ∷ [])) (sym (history_of f))

@@ -2,14 +2,14 @@
 use Rattle.std.proofs.Common.{◌≡◌, true, false, Err, [], ap, subst}
 use Rattle.sat_base.specs.device.Device.{Writer}
 use Rattle.sat_checker.specs.declared.processing.ProofProcessor.{Ghosts}
-use Rattle.sat_solver.specs.cdcl.Going.{proof_fault}
-use Rattle.sat_solver.specs.proof.ProofView.{EmitsExactly, FlushesAndNotifies, FlushesOrFails, asking as asking_proof, has_asked, is_lost}
+use Rattle.sat_solver.specs.cdcl.StepEffects.{proof_fault}
+use Rattle.sat_solver.specs.proof.ProofView.{EmitsExactly, FlushesAndNotifies, FlushesOrFails, asking as asking_proof, has_asked, has_missed_step}
 use Rattle.sat_solver.specs.declared.error.SolverError.{SolverError}
 use Rattle.sat_solver.specs.declared.proof.Proof.{Proof}
 use Rattle.sat_solver.specs.declared.proof.ProofError.{ProofError}
 use Rattle.sat_solver.specs.declared.solver.Solver.{Solver}
 use Rattle.sat_solver.specs.solver.Calls.{Answered, Solves}
-use Rattle.sat_solver.specs.declared.state.State.TheVariants as states
+use Rattle.sat_solver.specs.declared.state.SatState.TheVariants as states
 use Rattle.sat_solver.specs.solver.Failing.{failed_with}
 use Rattle.sat_solver.specs.solver.Found.{SearchedBy}
 use Rattle.sat_solver.specs.solver.Settling.{Settled, AnswersOrBreaks}
@@ -19,7 +19,7 @@ use Rattle.sat_solver.proofs.lemmas.solver.BegunLemmas.{begun, settled_begun, ro
 use Rattle.sat_solver.proofs.lemmas.solver.SettlingLemmas.{answered, settled_flushed, settled_broken, flushed_by}
 use Rattle.sat_solver.proofs.lemmas.solver.ReportedLemmas.{solve_ends}
 
-module _ {W L : Type 0} {G : Ghosts L} (seen : W → Writer) (s : Solver W L G) (going : s.failed ≡ false) (p : Proof W L G) (adds : EmitsExactly seen [] s.core.proof p) (taking : is_lost p ≡ is_lost s.core.proof) (mid : Solver W L G) where
+module _ {W L : Type 0} {G : Ghosts L} (seen : W → Writer) (s : Solver W L G) (going : s.failed ≡ false) (p : Proof W L G) (adds : EmitsExactly seen [] s.core.proof p) (taking : has_missed_step p ≡ has_missed_step s.core.proof) (mid : Solver W L G) where
   abbrev pub used : Solver W L G
   used = record s { used = true }
 

@@ -4,17 +4,17 @@ use Rattle.sat_base.specs.device.Device.{Writer}
 use Rattle.sat_checker.specs.declared.processing.ProofProcessor.{Ghosts}
 use Rattle.sat_solver.specs.declared.error.SolverError.{SolverError}
 use Rattle.sat_solver.specs.declared.error.SolverError.TheVariants as errors
-use Rattle.sat_solver.specs.declared.context.Core.{Core}
+use Rattle.sat_solver.specs.declared.context.Context.{Context}
 use Rattle.sat_solver.specs.declared.proof.Proof.{Proof}
 use Rattle.sat_solver.specs.declared.solver.Solver.{Solver}
 use Rattle.sat_base.specs.script.ScriptState.{ScriptState}
 use Rattle.sat_solver.specs.variables.Calls.{NamesAgree, NamesEffect}
-use Rattle.sat_checker.specs.matching.Bridge.{Live}
-use Rattle.sat_solver.specs.schedule.Solving.{AdvancesIn}
-use Rattle.sat_solver.specs.session.Coming.{OnlyAllowedSteps, EndsAtUnsat}
-use Rattle.sat_solver.specs.proof.ProofView.{EmitsExactly, is_lost}
+use Rattle.sat_checker.specs.matching.Bridge.{LiveVariables}
+use Rattle.sat_solver.specs.schedule.Solving.{CountsEmpoweringIn}
+use Rattle.sat_solver.specs.session.AllowedSteps.{OnlyAllowedSteps, EndsAtUnsat}
+use Rattle.sat_solver.specs.proof.ProofView.{EmitsExactly, has_missed_step}
 use Rattle.sat_solver.specs.solver.Answering.{BreaksOff, FlushFails}
-use Rattle.sat_solver.specs.declared.state.State.TheVariants as states
+use Rattle.sat_solver.specs.declared.state.SatState.TheVariants as states
 use Rattle.sat_solver.specs.solver.Calls.{RoundsOn, learned_of, rounds_left, due_for_answer}
 use Rattle.sat_solver.specs.solver.Settling.{Settled}
 use Rattle.sat_solver.specs.solver.Whole.{SolverInvariant, steps_in}
@@ -22,7 +22,7 @@ use Rattle.sat_solver.proofs.lemmas.cdcl.GoingLemmas.{loss_later, went_after}
 use Rattle.sat_solver.proofs.lemmas.session.ProofLemmas.{adds_more, fails_later, check_later}
 use Rattle.sat_solver.proofs.lemmas.solver.SettlingLemmas.{whole_over}
 
-module _ {W L : Type 0} {G : Ghosts L} (seen : W → Writer) (old : Solver W L G) (p : Proof W L G) (adds : EmitsExactly seen [] old.core.proof p) (taking : is_lost p ≡ is_lost old.core.proof) where
+module _ {W L : Type 0} {G : Ghosts L} (seen : W → Writer) (old : Solver W L G) (p : Proof W L G) (adds : EmitsExactly seen [] old.core.proof p) (taking : has_missed_step p ≡ has_missed_step old.core.proof) where
   abbrev pub begun : Solver W L G
   begun = record old { core = record old.core { proof = p } }
 
@@ -38,13 +38,13 @@ module _ {W L : Type 0} {G : Ghosts L} (seen : W → Writer) (old : Solver W L G
     whole = s.whole;
     comes = subst (λ ss. OnlyAllowedSteps EndsAtUnsat ss (steps_in new)) adds.history s.comes;
     config = s.config;
-    times = subst (λ ss. AdvancesIn ss (steps_in new) (learned_of new.state (new.clock.rounds - old.clock.rounds))) adds.history s.times;
+    times = subst (λ ss. CountsEmpoweringIn ss (steps_in new) (learned_of new.state (new.clock.rounds - old.clock.rounds))) adds.history s.times;
     does = subst (λ ss. NamesEffect old.names new.names ss (steps_in new) (λ j. j) (λ j. due_for_answer old.state new)) adds.history s.does;
     took = (_, adds_more seen [] s.took.0 old.core.proof p new.core.proof adds s.took.1);
     width = λ n. s.width (λ e. n (e ∙ adds.history));
     same = s.same;
     users = s.users;
-    counts = record { on = rounds_begun new.clock.rounds s.counts.on; round = s.counts.round; spent = s.counts.spent; answered = subst (λ ss. (j : ScriptState) (live : Live) → NamesAgree old.names ss j live → 2 ^ (2 * j.identity_count + 3) ≤ rounds_left old → new.state ≡ states.Unknown → ⊥) adds.history s.counts.answered };
+    counts = record { on = rounds_begun new.clock.rounds s.counts.on; round = s.counts.round; spent = s.counts.spent; answered = subst (λ ss. (j : ScriptState) (live : LiveVariables) → NamesAgree old.names ss j live → 2 ^ (2 * j.identity_count + 3) ≤ rounds_left old → new.state ≡ states.Unknown → ⊥) adds.history s.counts.answered };
     known = λ k. (let h = s.known k in (adds_more seen [] [] old.core.proof p new.core.proof adds h.0, h.1));
   }
 
@@ -56,5 +56,5 @@ module _ {W L : Type 0} {G : Ghosts L} (seen : W → Writer) (old : Solver W L G
   flush_begun e q h = absurd h
 
   -- a failure of an ask, seen from before it began
-  pub breaks_begun : (e : SolverError) (core : Core W L G) → BreaksOff seen e begun.core core → BreaksOff seen e old.core core
+  pub breaks_begun : (e : SolverError) (core : Context W L G) → BreaksOff seen e begun.core core → BreaksOff seen e old.core core
   breaks_begun e core b = (record { fault = b.0.fault; steps = _; went = went_after seen (Unit {0}) e [] b.0.steps old.core.proof p core.proof adds b.0.went; loss = loss_later e old.core.proof p core.proof taking b.0.loss }, b.1)

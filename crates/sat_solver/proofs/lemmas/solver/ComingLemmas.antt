@@ -1,19 +1,19 @@
 -- A solver has accepted a clause or assumptions.
 use Rattle.std.proofs.Common.{ℕ, ◌≡◌, ◌∙◌, true, false, Option, None, Some, is_some, Err, List, get_or, refl, sym, ap, subst, ◌⊎◌, inl, inr}
 use Rattle.sat_base.specs.device.Device.{Writer}
-use Rattle.sat_base.specs.script.ScriptState.{ScriptState, bring_all, refused_literal}
+use Rattle.sat_base.specs.script.ScriptState.{ScriptState, introduce_all, refused_literal}
 use Rattle.sat_base.specs.values.Literals.{variable}
 use Rattle.sat_store.specs.variables.Maps.{target}
 use Rattle.sat_checker.specs.declared.processing.ProofProcessor.{Ghosts}
 use Rattle.sat_solver.specs.session.Making.{ComesBySteps, ComesByCheckedSteps}
-use Rattle.sat_solver.specs.proof.ProofView.{IsAtWidth, has_asked, is_lost, steps_of, session_of}
+use Rattle.sat_solver.specs.proof.ProofView.{IsAtWidth, has_asked, has_missed_step, steps_of, session_of}
 use Rattle.sat_solver.specs.session.Session.{session_after}
 use Rattle.sat_solver.specs.declared.proof.Proof.{Proof}
 use Rattle.sat_solver.specs.declared.error.SolverError.{SolverError}
 use Rattle.sat_solver.specs.declared.error.SolverError.TheVariants as errors
 use Rattle.sat_solver.specs.declared.variables.Variables.{Variables}
-use Rattle.sat_solver.specs.declared.load.literals.Taken.{Taken}
-use Rattle.sat_solver.specs.declared.context.Core.{Core}
+use Rattle.sat_solver.specs.declared.load.literals.MappedLits.{MappedLits}
+use Rattle.sat_solver.specs.declared.context.Context.{Context}
 use Rattle.sat_solver.specs.declared.config.SolverConfig.{SolverConfig}
 use Rattle.sat_solver.specs.load.Literals.{Image, Images}
 use Rattle.sat_solver.specs.load.Clauses.{LeavesOut}
@@ -23,18 +23,18 @@ use Rattle.sat_solver.proofs.lemmas.session.ProofLemmas.{gains_adds, gained_widt
 use Rattle.sat_solver.proofs.lemmas.variables.Doing.{judged_by}
 use Rattle.sat_solver.proofs.lemmas.solver.SpeltLemmas.{global_images_of, global_images_kept}
 use Rattle.sat_solver.specs.declared.solver.Solver.{Solver}
-use Rattle.sat_solver.specs.declared.state.State.{State}
-use Rattle.sat_solver.specs.declared.state.State.TheVariants as states
+use Rattle.sat_solver.specs.declared.state.SatState.{SatState}
+use Rattle.sat_solver.specs.declared.state.SatState.TheVariants as states
 use Rattle.sat_solver.specs.declared.solver.load.Loading.{Loading}
-use Rattle.sat_solver.specs.cdcl.Going.{IsFault, IsFaultOr}
+use Rattle.sat_solver.specs.cdcl.StepEffects.{IsFault, IsFaultOr}
 use Rattle.sat_solver.specs.solver.Taking.{TookClause, TookAssumptions, BreaksNames, BreaksNamesOr}
-use Rattle.sat_solver.specs.solver.Whole.{HasFullStore, SolverInvariant, IsWholeOf, StateSays, AskGoesOn, steps_in}
+use Rattle.sat_solver.specs.solver.Whole.{HasFullStore, SolverInvariant, SolverPartsInvariant, HoldsInState, AskGoesOn, steps_in}
 use Rattle.sat_solver.specs.solver.Adding.{AddClauseEffect, with_added, due_for_clause, ForgetsAnswer, AreSampled, IsBeforeDrat, AddsClause, ReplacesAssumptions, AssumesOrRefuses, due_for_asked}
 use Rattle.sat_solver.specs.clause.Activity.{AreDecays}
-use Rattle.sat_solver.specs.solver.Asking.{AskedIn}
+use Rattle.sat_solver.specs.solver.Asking.{SetAssumptionsEffect}
 use Rattle.sat_solver.specs.variables.VariableRoom.{HasVariablesFor, user_vars_in}
 use Rattle.sat_solver.specs.variables.Refusing.{names_in, as_refusal}
-use Rattle.sat_checker.specs.matching.Bridge.{Live}
+use Rattle.sat_checker.specs.matching.Bridge.{LiveVariables}
 use Rattle.sat_checker.specs.matching.Expected.{Unknown}
 use Rattle.sat_solver.specs.variables.Variables.{NamesMatchState}
 use Rattle.std.proofs.lemmas.Bool.{true≢false}
@@ -42,11 +42,11 @@ use Rattle.sat_solver.specs.solver.Failing.{failed_with}
 use Rattle.sat_solver.proofs.lemmas.solver.ReportedLemmas.{names_reported}
 use Rattle.sat_solver.proofs.lemmas.solver.TakingLemmas.{took_starved}
 use Rattle.sat_solver.proofs.lemmas.variables.ComingSteps.{comes_added, comes_due}
-use Rattle.sat_solver.specs.session.Coming.{OnlyAllowedSteps}
-use Rattle.sat_solver.specs.variables.Coming.{MayTake}
+use Rattle.sat_solver.specs.session.AllowedSteps.{OnlyAllowedSteps}
+use Rattle.sat_solver.specs.variables.NamingSteps.{IsLiteralsStep}
 
 -- the search can continue unless unsat is recorded
-pub goes_of : {W L : Type 0} {G : Ghosts L} (st : State) (c : Core W L G) (n : Variables) (asked : Taken) (assumed core : List ℕ) → (st ≡ states.Unsat → ⊥) → StateSays st c n asked assumed core → AskGoesOn c n asked
+pub goes_of : {W L : Type 0} {G : Ghosts L} (st : SatState) (c : Context W L G) (n : Variables) (asked : MappedLits) (assumed core : List ℕ) → (st ≡ states.Unsat → ⊥) → HoldsInState st c n asked assumed core → AskGoesOn c n asked
 goes_of states.Unknown c n asked assumed core k h = h
 goes_of states.Sat c n asked assumed core k h = h.0
 goes_of states.UnsatUnderAssumptions c n asked assumed core k h = h.0
@@ -56,11 +56,11 @@ module _ {W L : Type 0} {G : Ghosts L} (seen : W → Writer) (s : Solver W L G) 
   pub going_on : AskGoesOn s.core s.names s.asked
   going_on = goes_of s.state s.core s.names s.asked s.assumed.items s.reported.failed_core.items apart whole.says
 
-  module _ (b : Core W L G) (n' : Variables) (user : List ℕ) (loading : Loading) where
-    abbrev pub added : State → Solver W L G
+  module _ (b : Context W L G) (n' : Variables) (user : List ℕ) (loading : Loading) where
+    abbrev pub added : SatState → Solver W L G
     added st = record s { core = b; names = n'; loading = loading; state = st }
 
-    by_state : (before now : State) → (before ≡ states.Unsat → ⊥) → ((now ≡ states.Unknown) ⊎ (now ≡ states.Unsat)) → ForgetsAnswer before now
+    by_state : (before now : SatState) → (before ≡ states.Unsat → ⊥) → ((now ≡ states.Unknown) ⊎ (now ≡ states.Unsat)) → ForgetsAnswer before now
     by_state states.Unknown states.Unknown k e = tt
     by_state states.Unknown states.Unsat k e = tt
     by_state states.Sat states.Unknown k e = tt
@@ -83,7 +83,7 @@ module _ {W L : Type 0} {G : Ghosts L} (seen : W → Writer) (s : Solver W L G) 
         core_unsat : states.UnsatUnderAssumptions ≡ states.Unsat → ⊥
         core_unsat x = cc
 
-    due_by : (st : State) → (st ≡ states.Unsat → ⊥) → NamesEffect s.names n' (steps_in s) (steps_of b.proof) (with_added user) (due_for_clause states.Unknown user) → NamesEffect s.names n' (steps_in s) (steps_of b.proof) (with_added user) (due_for_clause st user)
+    due_by : (st : SatState) → (st ≡ states.Unsat → ⊥) → NamesEffect s.names n' (steps_in s) (steps_of b.proof) (with_added user) (due_for_clause states.Unknown user) → NamesEffect s.names n' (steps_in s) (steps_of b.proof) (with_added user) (due_for_clause st user)
     due_by states.Unsat k d = absurd (k refl)
     due_by e k d = d
 
@@ -144,7 +144,7 @@ module _ {W L : Type 0} {G : Ghosts L} (seen : W → Writer) (s : Solver W L G) 
     }
 
   -- other assumptions replaced the earlier ones
-  pub asked_in : (b : Core W L G) (n' : Variables) (user : List ℕ) (asked : Taken) → TookAssumptions seen s.names n' s.core b user asked → AskedIn seen s (record s { core = b; names = n'; asked = asked; state = states.Unknown }) user
+  pub asked_in : (b : Context W L G) (n' : Variables) (user : List ℕ) (asked : MappedLits) → TookAssumptions seen s.names n' s.core b user asked → SetAssumptionsEffect seen s (record s { core = b; names = n'; asked = asked; state = states.Unknown }) user
   asked_in b n' user asked t = record {
     whole = record {
       valid = (t.does Unknown).valid;
@@ -169,7 +169,7 @@ module _ {W L : Type 0} {G : Ghosts L} (seen : W → Writer) (s : Solver W L G) 
     state = forgets s.state apart;
   }
     where
-      forgets : (before : State) → (before ≡ states.Unsat → ⊥) → ForgetsAnswer before states.Unknown
+      forgets : (before : SatState) → (before ≡ states.Unsat → ⊥) → ForgetsAnswer before states.Unknown
       forgets states.Unknown k = tt
       forgets states.Sat k = tt
       forgets states.UnsatUnderAssumptions k = tt
@@ -177,7 +177,7 @@ module _ {W L : Type 0} {G : Ghosts L} (seen : W → Writer) (s : Solver W L G) 
 
 module _ {W L : Type 0} {G : Ghosts L} (seen : W → Writer) (s : Solver W L G) (whole : SolverInvariant s) (known : s.state ≡ states.Unsat) (p : Proof W L G) (n' : Variables) (user : List ℕ) (took : ComesByCheckedSteps seen s.core.proof p) where
   unsat : (session_of s.core.proof).unsat ≡ true
-  unsat = subst (λ st. StateSays st s.core s.names s.asked s.assumed.items s.reported.failed_core.items) known whole.says
+  unsat = subst (λ st. HoldsInState st s.core s.names s.asked s.assumed.items s.reported.failed_core.items) known whole.says
 
   -- a clause was left out, since unsat is recorded
   pub left_in : LeavesOut s.names n' (steps_in s) (steps_of p) user → AddClauseEffect seen s (record s { core = record s.core { proof = p }; names = n' }) user
@@ -192,7 +192,7 @@ module _ {W L : Type 0} {G : Ghosts L} (seen : W → Writer) (s : Solver W L G) 
       decays = whole.decays;
       taking = took.1.taking ∙ whole.taking;
       judged = judged_by l.does whole.judged;
-      says = subst (λ st. StateSays st (record s.core { proof = p }) n' s.asked s.assumed.items s.reported.failed_core.items) (sym known) (l.unseen.search.unsat ∙ unsat);
+      says = subst (λ st. HoldsInState st (record s.core { proof = p }) n' s.asked s.assumed.items s.reported.failed_core.items) (sym known) (l.unseen.search.unsat ∙ unsat);
     };
     does = subst (λ st. NamesEffect s.names n' (steps_in s) (steps_of p) (with_added user) (due_for_clause st user)) (sym known) l.does;
     comes = comes_added (names_in user) (steps_in s) (steps_of p) (comes_due (names_in user) (steps_in s) (steps_of p) l.comes);
@@ -215,7 +215,7 @@ module _ {W L : Type 0} {G : Ghosts L} (seen : W → Writer) (s : Solver W L G) 
       }
 
   -- assumptions replaced the earlier ones, but were not passed to the search
-  pub asked_known : (asked : Taken) → assuming.BringsAssumptions s.names n' (steps_in s) (steps_of p) user asked → AskedIn seen s (record s { core = record s.core { proof = p }; names = n'; asked = asked }) user
+  pub asked_known : (asked : MappedLits) → assuming.IntroducesAssumptions s.names n' (steps_in s) (steps_of p) user asked → SetAssumptionsEffect seen s (record s { core = record s.core { proof = p }; names = n'; asked = asked }) user
   asked_known asked a = record {
     whole = record {
       valid = (a.does Unknown).valid;
@@ -227,7 +227,7 @@ module _ {W L : Type 0} {G : Ghosts L} (seen : W → Writer) (s : Solver W L G) 
       decays = whole.decays;
       taking = took.1.taking ∙ whole.taking;
       judged = judged_by (a.does Unknown) whole.judged;
-      says = subst (λ st. StateSays st (record s.core { proof = p }) n' asked user s.reported.failed_core.items) (sym known) (ap (λ ss. (session_after ss).unsat) a.written ∙ a.search.unsat ∙ unsat);
+      says = subst (λ st. HoldsInState st (record s.core { proof = p }) n' asked user s.reported.failed_core.items) (sym known) (ap (λ ss. (session_after ss).unsat) a.written ∙ a.search.unsat ∙ unsat);
     };
     does = a.does;
     comes = a.comes;
@@ -262,12 +262,12 @@ asking_ends seen e s new user g w r x b k f = absurd x
 -- CALLS
 
 -- no literal is over a name of mode witness
-pub none_refused : {W L : Type 0} {G : Ghosts L} (s : Solver W L G) (user : List ℕ) (o : Option ℕ) → ((j : ScriptState) (live : Live) → NamesMatchState s.names j live → refused_literal j (names_in user) ≡ as_refusal o) → is_some o ≡ false → AreSampled s user
+pub none_refused : {W L : Type 0} {G : Ghosts L} (s : Solver W L G) (user : List ℕ) (o : Option ℕ) → ((j : ScriptState) (live : LiveVariables) → NamesMatchState s.names j live → refused_literal j (names_in user) ≡ as_refusal o) → is_some o ≡ false → AreSampled s user
 none_refused s user None judged none = λ j live agree. judged j live agree.judged
 none_refused s user (Some name) judged none = absurd (true≢false none)
 
 -- assumptions were accepted, but memory ran out before they were stored over names
-pub asking_starved : {W L : Type 0} {G : Ghosts L} (seen : W → Writer) (s mid new : Solver W L G) (user : List ℕ) → s.failed ≡ false → AreSampled s user → HasVariablesFor s.names (user_vars_in user) → is_lost s.core.proof ≡ false → AskedIn seen (record s { used = true }) mid user → mid.clock ≡ s.clock → new.core ≡ (failed_with mid).core → new.clock ≡ mid.clock → new.failed ≡ true → AssumesOrRefuses seen (Err errors.OutOfMemory) s new user
+pub asking_starved : {W L : Type 0} {G : Ghosts L} (seen : W → Writer) (s mid new : Solver W L G) (user : List ℕ) → s.failed ≡ false → AreSampled s user → HasVariablesFor s.names (user_vars_in user) → has_missed_step s.core.proof ≡ false → SetAssumptionsEffect seen (record s { used = true }) mid user → mid.clock ≡ s.clock → new.core ≡ (failed_with mid).core → new.clock ≡ mid.clock → new.failed ≡ true → AssumesOrRefuses seen (Err errors.OutOfMemory) s new user
 asking_starved seen s mid new user going sampled room taking a clock core same failed = (
   sampled,
   room,
@@ -275,22 +275,22 @@ asking_starved seen s mid new user going sampled room taking a clock core same f
 )
 
 -- assumptions were accepted and stored over names
-pub assumed_by : {W L : Type 0} {G : Ghosts L} (seen : W → Writer) (s mid new : Solver W L G) (user : List ℕ) → s.failed ≡ false → AreSampled s user → HasVariablesFor s.names (user_vars_in user) → AskedIn seen (record s { used = true }) mid user → mid.clock ≡ s.clock → new ≡ record mid { assumed = new.assumed } → new.assumed.items ≡ user → ReplacesAssumptions seen s new user
+pub assumed_by : {W L : Type 0} {G : Ghosts L} (seen : W → Writer) (s mid new : Solver W L G) (user : List ℕ) → s.failed ≡ false → AreSampled s user → HasVariablesFor s.names (user_vars_in user) → SetAssumptionsEffect seen (record s { used = true }) mid user → mid.clock ≡ s.clock → new ≡ record mid { assumed = new.assumed } → new.assumed.items ≡ user → ReplacesAssumptions seen s new user
 assumed_by {W} {L} {G} seen s mid new user going sampled room a clock same items = record {
   sampled = sampled;
   room = room;
   did = λ o. record {
-    whole = subst (λ (x : Solver W L G). IsWholeOf x.core x.names x.asked new.assumed.items x.reported.failed_core.items x.clock.restarts.scale x.state) (sym same)
-        (subst (λ ls. IsWholeOf mid.core mid.names mid.asked ls mid.reported.failed_core.items mid.clock.restarts.scale mid.state) (sym items) a.whole);
+    whole = subst (λ (x : Solver W L G). SolverPartsInvariant x.core x.names x.asked new.assumed.items x.reported.failed_core.items x.clock.restarts.scale x.state) (sym same)
+        (subst (λ ls. SolverPartsInvariant mid.core mid.names mid.asked ls mid.reported.failed_core.items mid.clock.restarts.scale mid.state) (sym items) a.whole);
     going = going;
     failed = ap (λ (x : Solver W L G). x.failed) same ∙ a.failed ∙ going;
     used = ap (λ (x : Solver W L G). x.used) same ∙ a.used;
     config = ap (λ (x : Solver W L G). x.core.config) same ∙ a.config;
-    does = subst (λ (x : Solver W L G). NamesEffect s.names x.names (steps_in s) (steps_in x) (bring_all (names_in user)) (due_for_asked o user)) (sym same) (a.does o);
+    does = subst (λ (x : Solver W L G). NamesEffect s.names x.names (steps_in s) (steps_in x) (introduce_all (names_in user)) (due_for_asked o user)) (sym same) (a.does o);
     took = subst (λ (x : Solver W L G). ComesBySteps seen s.core.proof x.core.proof) (sym same) a.took;
     width = subst (λ (x : Solver W L G). (steps_in x ≡ steps_in s → ⊥) → IsAtWidth x.core.proof) (sym same) a.width;
   };
-  comes = subst (λ (x : Solver W L G). OnlyAllowedSteps (MayTake (names_in user)) (steps_in s) (steps_in x)) (sym same) a.comes;
+  comes = subst (λ (x : Solver W L G). OnlyAllowedSteps (IsLiteralsStep (names_in user)) (steps_in s) (steps_in x)) (sym same) a.comes;
   asked = ap (λ (x : Solver W L G). has_asked x.core.proof) same ∙ a.asked;
   assumed = items;
   clock = ap (λ (x : Solver W L G). x.clock) same ∙ clock;

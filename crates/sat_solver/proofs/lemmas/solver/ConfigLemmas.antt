@@ -7,17 +7,17 @@ use Rattle.sat_solver.specs.Configs.{in_range, is_decay, passes, updated}
 use Rattle.sat_solver.specs.declared.config.SolverConfig.{SolverConfig}
 use Rattle.sat_solver.specs.declared.config.SolverConfigUpdate.{SolverConfigUpdate}
 use Rattle.sat_solver.specs.declared.variables.Variables.{Variables}
-use Rattle.sat_solver.specs.declared.load.literals.Taken.{Taken}
-use Rattle.sat_solver.specs.declared.context.Core.{Core}
+use Rattle.sat_solver.specs.declared.load.literals.MappedLits.{MappedLits}
+use Rattle.sat_solver.specs.declared.context.Context.{Context}
 use Rattle.sat_solver.specs.declared.context.Search.{Search}
-use Rattle.sat_solver.specs.proof.ProofView.{is_lost, session_of, steps_of}
+use Rattle.sat_solver.specs.proof.ProofView.{has_missed_step, session_of, steps_of}
 use Rattle.sat_solver.specs.variables.Calls.{HasScriptState, NamesInvariant}
 use Rattle.sat_solver.specs.clause.Activity.{AreDecays}
-use Rattle.sat_solver.specs.cdcl.Turns.{IsComplete}
-use Rattle.sat_solver.specs.declared.state.State.{State}
-use Rattle.sat_solver.specs.declared.state.State.TheVariants as states
+use Rattle.sat_solver.specs.cdcl.Iterations.{IsComplete}
+use Rattle.sat_solver.specs.declared.state.SatState.{SatState}
+use Rattle.sat_solver.specs.declared.state.SatState.TheVariants as states
 use Rattle.sat_solver.specs.solver.Configuring.{SetsDecays, PassesToSearch}
-use Rattle.sat_solver.specs.solver.Whole.{IsWholeOf, StateSays, AskGoesOn, HasCore}
+use Rattle.sat_solver.specs.solver.Whole.{SolverPartsInvariant, HoldsInState, AskGoesOn, HasCore}
 use Rattle.sat_solver.proofs.lemmas.solver.ReportingLemmas.{shares_moved}
 
 and_both : (a b : Bool) → (a && b) ≡ true → (a ≡ true) × (b ≡ true)
@@ -59,11 +59,11 @@ decays_kept u c h d =
 pub scale_kept : (u : SolverConfigUpdate) (scale : ℕ) → in_range u ≡ true → 0 < scale → 0 < unwrap_or u.luby_restart_interval_scale scale
 scale_kept u scale h low = kept_count u.luby_restart_interval_scale scale (parts_of u h).scale low
 
-module _ {W L : Type 0} {G : Ghosts L} (u : SolverConfigUpdate) (c : Core W L G) (n : Variables) (asked : Taken) (assumed core : List ℕ) (scale : ℕ) (range : in_range u ≡ true) where
-  abbrev pub changed : Core W L G
+module _ {W L : Type 0} {G : Ghosts L} (u : SolverConfigUpdate) (c : Context W L G) (n : Variables) (asked : MappedLits) (assumed core : List ℕ) (scale : ℕ) (range : in_range u ≡ true) where
+  abbrev pub changed : Context W L G
   changed = record c { config = updated u c.config }
 
-  going : (b : Core W L G) → SetsDecays changed b → AskGoesOn c n asked → AskGoesOn b n asked
+  going : (b : Context W L G) → SetsDecays changed b → AskGoesOn c n asked → AskGoesOn b n asked
   going b d g =
       let bumped = d.bumped (session_of c.proof) g.joined.sound.search in
       subst (λ x. AskGoesOn x n asked) (sym d.same) (record {
@@ -80,27 +80,27 @@ module _ {W L : Type 0} {G : Ghosts L} (u : SolverConfigUpdate) (c : Core W L G)
         lits = ap (λ ls. ls.items) bumped.moved.lits ∙ g.lits;
       })
 
-  complete : (b : Core W L G) → SetsDecays changed b → IsComplete c.search.assumptions.lits.items c.search.parts → IsComplete b.search.assumptions.lits.items b.search.parts
+  complete : (b : Context W L G) → SetsDecays changed b → IsComplete c.search.assumptions.lits.items c.search.parts → IsComplete b.search.assumptions.lits.items b.search.parts
   complete b d h =
       subst (λ (x : Search). IsComplete x.assumptions.lits.items x.parts) (sym d.search)
       (subst (λ p. IsComplete c.search.assumptions.lits.items p) (sym d.parts) (record { done = h.done; all = h.all; assumed = h.assumed }))
 
-  says : (st : State) (b : Core W L G) → PassesToSearch st changed b → StateSays st c n asked assumed core → StateSays st b n asked assumed core
+  says : (st : SatState) (b : Context W L G) → PassesToSearch st changed b → HoldsInState st c n asked assumed core → HoldsInState st b n asked assumed core
   says states.Unknown b d h = going b d h
   says states.Sat b d h = (going b d h.0, complete b d h.1)
   says states.UnsatUnderAssumptions b d h = (
     going b d h.0,
     subst (λ x. HasCore x assumed core) (sym d.same) (record { some = h.1.some; codes = h.1.codes; none = h.1.none; same = h.1.same; among = h.1.among }),
   )
-  says states.Unsat b d h = subst (λ (x : Core W L G). (session_of x.proof).unsat ≡ true) (sym d) h
+  says states.Unsat b d h = subst (λ (x : Context W L G). (session_of x.proof).unsat ≡ true) (sym d) h
 
   -- proof and parameters, the parts of a core outside the search
-  pub core_same : (st : State) (b : Core W L G) → PassesToSearch st changed b → (b.proof ≡ c.proof) × (b.config ≡ updated u c.config)
+  pub core_same : (st : SatState) (b : Context W L G) → PassesToSearch st changed b → (b.proof ≡ c.proof) × (b.config ≡ updated u c.config)
   core_same states.Unsat b d = (ap (λ x. x.proof) d, ap (λ x. x.config) d)
   core_same e b d = (ap (λ x. x.proof) d.same, ap (λ x. x.config) d.same)
 
   -- the invariant holds after an update
-  pub whole_configured : (st : State) (b : Core W L G) → PassesToSearch st changed b → IsWholeOf c n asked assumed core scale st → IsWholeOf b n asked assumed core (unwrap_or u.luby_restart_interval_scale scale) st
+  pub whole_configured : (st : SatState) (b : Context W L G) → PassesToSearch st changed b → SolverPartsInvariant c n asked assumed core scale st → SolverPartsInvariant b n asked assumed core (unwrap_or u.luby_restart_interval_scale scale) st
   whole_configured st b d whole = record {
     valid = subst (λ p. NamesInvariant n (steps_of p)) (sym (core_same st b d).0) whole.valid;
     images = whole.images;
@@ -109,7 +109,7 @@ module _ {W L : Type 0} {G : Ghosts L} (u : SolverConfigUpdate) (c : Core W L G)
     positive = scale_kept u scale range whole.positive;
     scaled = ap (unwrap_or u.luby_restart_interval_scale) whole.scaled ∙ sym (ap (λ (x : SolverConfig). x.luby_restart_interval_scale) (core_same st b d).1);
     decays = subst AreDecays (sym (core_same st b d).1) (decays_kept u c.config range whole.decays);
-    taking = ap is_lost (core_same st b d).0 ∙ whole.taking;
+    taking = ap has_missed_step (core_same st b d).0 ∙ whole.taking;
     judged = subst (λ p. HasScriptState n (steps_of p)) (sym (core_same st b d).0) whole.judged;
     says = says st b d whole.says;
   }

@@ -7,22 +7,22 @@ use Rattle.sat_checker.specs.Fold.{Holds}
 use Rattle.sat_checker.specs.declared.processing.ProofProcessor.{Ghosts}
 use Rattle.sat_solver.specs.load.Literals.{user_literal}
 use Rattle.sat_checker.specs.matching.Checking.{variable_of}
-use Rattle.sat_solver.specs.proof.ProofView.{ClosesTarget, ClosesOne, HasAllowedSteps, is_lost, steps_of, session_of}
+use Rattle.sat_solver.specs.proof.ProofView.{ClosesTarget, ClosesOne, HasAllowedSteps, has_missed_step, steps_of, session_of}
 use Rattle.sat_solver.specs.session.Session.{AreAllowedSteps, session_after}
 use Rattle.sat_solver.specs.declared.proof.Proof.{Proof}
 use Rattle.sat_solver.specs.declared.variables.Variables.{Variables}
-use Rattle.sat_solver.specs.declared.load.literals.Taken.{Taken}
-use Rattle.sat_solver.specs.declared.context.Core.{Core}
-use Rattle.sat_solver.specs.cdcl.Joint.{IsSearch}
+use Rattle.sat_solver.specs.declared.load.literals.MappedLits.{MappedLits}
+use Rattle.sat_solver.specs.declared.context.Context.{Context}
+use Rattle.sat_solver.specs.cdcl.Joint.{SearchInvariant}
 use Rattle.sat_checker.specs.matching.Traces.{no_step, visible}
 use Rattle.sat_solver.specs.variables.Calls.{NamesInvariant, NamesAgree, NamesEffect}
 use Rattle.sat_checker.specs.matching.Expected.{Finish, SameSet, finish}
 use Rattle.sat_solver.proofs.lemmas.variables.Searched.{searches_preserve_names, searches_agree}
 use Rattle.sat_solver.specs.declared.solver.Solver.{Solver}
-use Rattle.sat_solver.specs.declared.state.State.{State}
-use Rattle.sat_solver.specs.declared.state.State.TheVariants as states
-use Rattle.sat_solver.specs.solver.Whole.{SolverInvariant, IsWholeOf, StateSays, AskGoesOn, steps_in}
-use Rattle.sat_solver.specs.solver.Proving.{ClosedOne, ClosesProof}
+use Rattle.sat_solver.specs.declared.state.SatState.{SatState}
+use Rattle.sat_solver.specs.declared.state.SatState.TheVariants as states
+use Rattle.sat_solver.specs.solver.Whole.{SolverInvariant, SolverPartsInvariant, HoldsInState, AskGoesOn, steps_in}
+use Rattle.sat_solver.specs.solver.Proving.{CloseReturnsTarget, ClosesProof}
 use Rattle.sat_solver.proofs.lemmas.session.CertificateLemmas.{is_certificate}
 use Rattle.sat_solver.proofs.lemmas.session.DratDerivations.{drat_is_right}
 use Rattle.sat_solver.proofs.lemmas.session.ProofLemmas.{since_closed}
@@ -30,7 +30,7 @@ use Rattle.sat_solver.proofs.lemmas.solver.ReportingLemmas.{search_rests}
 use Rattle.sat_solver.proofs.lemmas.solver.SettlingLemmas.{whole_over}
 
 -- the last step preserves the invariant
-pub whole_ended : {W L : Type 0} {G : Ghosts L} (c : Core W L G) (n : Variables) (asked : Taken) (assumed core : List ℕ) (scale : ℕ) (state : State) (p : Proof W L G) → IsWholeOf c n asked assumed core scale state → steps_of p ≡ End ∷ steps_of c.proof → HasAllowedSteps p → is_lost p ≡ is_lost c.proof → IsWholeOf (record c { proof = p }) n asked assumed core scale state
+pub whole_ended : {W L : Type 0} {G : Ghosts L} (c : Context W L G) (n : Variables) (asked : MappedLits) (assumed core : List ℕ) (scale : ℕ) (state : SatState) (p : Proof W L G) → SolverPartsInvariant c n asked assumed core scale state → steps_of p ≡ End ∷ steps_of c.proof → HasAllowedSteps p → has_missed_step p ≡ has_missed_step c.proof → SolverPartsInvariant (record c { proof = p }) n asked assumed core scale state
 whole_ended {W} {L} {G} c n asked assumed core scale state p whole e keeps taking = record {
   valid = valid;
   images = whole.images;
@@ -52,7 +52,7 @@ whole_ended {W} {L} {G} c n asked assumed core scale state p whole e keeps takin
       joined = record {
         sound = record {
           keeps = keeps;
-          search = subst (λ ss. IsSearch (session_after ss) c.search) (sym e) (search_rests (session_of c.proof) c.search End g.joined.sound.search tt refl refl);
+          search = subst (λ ss. SearchInvariant (session_after ss) c.search) (sym e) (search_rests (session_of c.proof) c.search End g.joined.sound.search tt refl refl);
           locals = g.joined.sound.locals;
           mids = g.joined.sound.mids;
         };
@@ -62,7 +62,7 @@ whole_ended {W} {L} {G} c n asked assumed core scale state p whole e keeps takin
       lits = g.lits;
     }
 
-    says : (st : State) → StateSays st c n asked assumed core → StateSays st (record c { proof = p }) n asked assumed core
+    says : (st : SatState) → HoldsInState st c n asked assumed core → HoldsInState st (record c { proof = p }) n asked assumed core
     says states.Unknown h = joined h
     says states.Sat h = (joined h.0, h.1)
     says states.UnsatUnderAssumptions h = (
@@ -79,7 +79,7 @@ whole_ended {W} {L} {G} c n asked assumed core scale state p whole e keeps takin
 
 module _ {W L : Type 0} {G : Ghosts L} (seen : W → Writer) (s : Solver W L G) (whole : SolverInvariant s) (going : s.failed ≡ false) (p : Proof W L G) (keeps : HasAllowedSteps p) where
   -- the target was returned
-  pub closed_one : (given : W) → ClosesOne seen given s.core.proof p → ClosedOne seen given s (record s { core = record s.core { proof = p } })
+  pub closed_one : (given : W) → ClosesOne seen given s.core.proof p → CloseReturnsTarget seen given s (record s { core = record s.core { proof = p } })
   closed_one given c = record {
     going = going;
     whole = ended;
@@ -90,11 +90,11 @@ module _ {W L : Type 0} {G : Ghosts L} (seen : W → Writer) (s : Solver W L G) 
     closes = c;
     certificate = λ f from before none since. is_certificate f from (seen given) before (steps_of p) none keeps (since_closed seen f from before given s.core.proof p since c);
     derives = (drat_is_right (steps_of p) keeps).0;
-    refutes = λ e. (drat_is_right (steps_of p) keeps).1 (subst (λ st. StateSays st (record s.core { proof = p }) s.names s.asked s.assumed.items s.reported.failed_core.items) e ended.says);
+    refutes = λ e. (drat_is_right (steps_of p) keeps).1 (subst (λ st. HoldsInState st (record s.core { proof = p }) s.names s.asked s.assumed.items s.reported.failed_core.items) e ended.says);
     same = refl;
   }
     where
-      ended : IsWholeOf (record s.core { proof = p }) s.names s.asked s.assumed.items s.reported.failed_core.items s.clock.restarts.scale s.state
+      ended : SolverPartsInvariant (record s.core { proof = p }) s.names s.asked s.assumed.items s.reported.failed_core.items s.clock.restarts.scale s.state
       ended = whole_ended s.core s.names s.asked s.assumed.items s.reported.failed_core.items s.clock.restarts.scale s.state p whole c.history keeps c.taking
 
       may : AreAllowedSteps (End ∷ steps_in s)

@@ -2,7 +2,7 @@
 use Rattle.std.proofs.Common.{ℕ, ◌+◌, ◌≤◌, ◌≡◌, ◌⊎◌, ◌∙◌, Bool, true, false, Result, Ok, Err, List, [], ◌∷◌, ◌++◌, append_assoc, length, refl, sym, ap, subst, inl, inr}
 use Rattle.std.proofs.lemmas.Bool.{true≢false}
 use Rattle.std.proofs.lemmas.List.{append-nil}
-use Rattle.sat_base.specs.device.Device.{Reader, Writer, GaveAll, GaveEnough, GaveFront, ReadFails}
+use Rattle.sat_base.specs.device.Device.{Reader, Writer, GaveAll, GaveEnough, GavePrefix, ReadFails}
 use Rattle.sat_base.specs.dimacs.Dimacs.{dimacs, up_to_last_blank}
 use Rattle.sat_base.specs.dimacs.Parsing.{Progress, with_fed, clauses_read, all_taken, FeedsPiece, Finishes, IsSoundSoFar, IsSoundText}
 use Rattle.sat_base.specs.declared.dimacs.error.DimacsError.{DimacsError}
@@ -139,7 +139,7 @@ module _ {W L : Type 0} {G : Ghosts L} (seen : W → Writer) where
 
   -- reading stops in a chunk
   pub piece_answers : (e : SolverError) (answer : Result Unit DimacsError) (old cur new : Solver W L G) (from to : Reader) (text piece : List ℕ) (p q : Progress) → old.failed ≡ false → HasFed text p → FeedsPiece answer piece p q → NoReadFailed from to
-      → GaveFront from to (text ++ piece) → to.ended ≡ false → to.calls ≤ from.calls + length (text ++ piece) + 1 → AddsAll seen old p.taken cur → AddsFormulaRead seen (Err e) answer q cur new → AddsText seen (Err e) old new from to
+      → GavePrefix from to (text ++ piece) → to.ended ≡ false → to.calls ≤ from.calls + length (text ++ piece) + 1 → AddsAll seen old p.taken cur → AddsFormulaRead seen (Err e) answer q cur new → AddsText seen (Err e) old new from to
   piece_answers e answer old cur new from to text piece p q going is f n g o few added a =
       answers_text old cur going q (subst (λ cs. AddsAll seen old cs cur) (sym (taken_by_piece answer text piece p q is f)) added) e answer new from to n
       (λ d s. fails_by_piece d from to text piece p q is (subst (λ (z : Result Unit DimacsError). FeedsPiece z piece p q) s f) n g o few)
@@ -167,7 +167,7 @@ module _ {W L : Type 0} {G : Ghosts L} (seen : W → Writer) where
       a
 
   -- a read failed
-  pub read_answers : (old cur : Solver W L G) (from to : Reader) (text : List ℕ) (p : Progress) → old.failed ≡ false → HasFed text p → ReadFails from to → GaveFront from to text → IsSoundSoFar p → p.taken ≡ (dimacs (up_to_last_blank text)).clauses → AddsAll seen old p.taken cur →
+  pub read_answers : (old cur : Solver W L G) (from to : Reader) (text : List ℕ) (p : Progress) → old.failed ≡ false → HasFed text p → ReadFails from to → GavePrefix from to text → IsSoundSoFar p → p.taken ≡ (dimacs (up_to_last_blank text)).clauses → AddsAll seen old p.taken cur →
       AddsText seen (Err errors.Read) old cur from to
   read_answers old cur from to text p going is r g s t added = inl (record {
     going = going;

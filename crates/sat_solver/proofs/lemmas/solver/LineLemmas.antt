@@ -4,10 +4,10 @@ use Rattle.std.proofs.lemmas.Bool.{cases_eq}
 use Rattle.std.proofs.lemmas.Option.{none-some}
 use Rattle.std.proofs.lemmas.List.{append-nil}
 use Rattle.std.specs.List.{AllByRecursion}
-use Rattle.sat_base.specs.values.Literals.{variable, coded}
+use Rattle.sat_base.specs.values.Literals.{variable, mk_lit}
 use Rattle.sat_base.specs.values.Clauses.{Valuation, EachTrue, literal_true}
 use Rattle.sat_base.specs.script.Script.{Literal, names_of, Among}
-use Rattle.sat_base.specs.script.ScriptState.{ScriptState, identity_of, over, IsRightModel}
+use Rattle.sat_base.specs.script.ScriptState.{ScriptState, identity_of, identity_lit, IsRightModel}
 use Rattle.sat_base.specs.script.ScriptStateLaws.{Increase}
 use Rattle.sat_base.proofs.lemmas.script.NamesListed.{lists_in_use}
 use Rattle.sat_base.specs.steps.Steps.{Step, Model}
@@ -16,7 +16,7 @@ use Rattle.sat_solver.specs.session.Session.{IsAllowedStep, session_after}
 use Rattle.sat_solver.specs.session.NamedMeaning.{MeansAcceptedClauses, AgreeOn, IsReadAs, AllReadAmong}
 use Rattle.sat_solver.proofs.lemmas.session.NamedLemmas.{all_at, all_from, among_images, read_value, named_models_are_right}
 use Rattle.sat_solver.specs.load.Literals.{user_literal}
-use Rattle.sat_checker.specs.matching.Bridge.{Live, AgreesOnLive}
+use Rattle.sat_checker.specs.matching.Bridge.{LiveVariables, AgreesOnLive}
 use Rattle.sat_solver.specs.variables.Live.{given_of}
 use Rattle.sat_solver.specs.variables.Variables.{global_of, names_used, variables_used}
 use Rattle.sat_solver.specs.Models.{value_in, model_to, name_literal, named_to}
@@ -35,10 +35,10 @@ use Rattle.sat_solver.proofs.lemmas.solver.ShownLemmas.{coded_sign, model_all}
 
 -- MEANING
 
-agree_at : (live : Live) (a b : Valuation) (v i : ℕ) → AgreesOnLive live a b → Among (v, i) live → a v ≡ b i
+agree_at : (live : LiveVariables) (a b : Valuation) (v i : ℕ) → AgreesOnLive live a b → Among (v, i) live → a v ≡ b i
 agree_at live a b v i h m = all_pairs live h m
   where
-    all_pairs : (ps : Live) → AgreesOnLive ps a b → Among (v, i) ps → a v ≡ b i
+    all_pairs : (ps : LiveVariables) → AgreesOnLive ps a b → Among (v, i) ps → a v ≡ b i
     all_pairs [] h m = absurd m
     all_pairs (p ∷ ps) h m = elim m [
       | inl e ↦ ap (λ (q : ℕ × ℕ). a q.0) e ∙ h.0 ∙ sym (ap (λ (q : ℕ × ℕ). b q.1) e)
@@ -48,7 +48,7 @@ agree_at live a b v i h m = all_pairs live h m
 some_same : (x y : ℕ) (o : Option ℕ) → o ≡ Some x → o ≡ Some y → x ≡ y
 some_same x y o e f = (let g : Some x ≡ Some y = sym e ∙ f in cc)
 
-module _ (n : Variables) (steps : List Step) (j : ScriptState) (live : Live) (agree : NamesAgree n steps j live) where
+module _ (n : Variables) (steps : List Step) (j : ScriptState) (live : LiveVariables) (agree : NamesAgree n steps j live) where
   agree_on : (a b : Valuation) → AgreesOnLive live a b → AgreeOn j (variable_of steps) a b
   agree_on a b h name i v use_ named =
       let k = agree.bridge.named name v named in
@@ -61,11 +61,11 @@ module _ (n : Variables) (steps : List Step) (j : ScriptState) (live : Live) (ag
   }
 
   -- the proof literal of a name in use
-  pub reads_at : (u v : ℕ) (b : Bool) → NamesInvariant n steps → global_of n u ≡ Some v → IsReadAs j (variable_of steps) (user_literal (coded u b)) (coded v b)
+  pub reads_at : (u v : ℕ) (b : Bool) → NamesInvariant n steps → global_of n u ≡ Some v → IsReadAs j (variable_of steps) (user_literal (mk_lit u b)) (mk_lit v b)
   reads_at u v b valid e =
-      let name : variable_of steps (variable (coded u b) + 1) ≡ Some v = ap (λ w. variable_of steps (w + 1)) (coded_variable u b) ∙ valid.read u ∙ e in
-      let k = agree.bridge.named (variable (coded u b) + 1) v name in
-      record { identity = k.0; in_use = k.1; var = v; named = name; is = ap (coded v) (sym (coded_sign u b)) }
+      let name : variable_of steps (variable (mk_lit u b) + 1) ≡ Some v = ap (λ w. variable_of steps (w + 1)) (coded_variable u b) ∙ valid.read u ∙ e in
+      let k = agree.bridge.named (variable (mk_lit u b) + 1) v name in
+      record { identity = k.0; in_use = k.1; var = v; named = name; is = ap (mk_lit v) (sym (coded_sign u b)) }
 
 -- LINES
 
@@ -85,24 +85,24 @@ module _ (n : Variables) (values : List (Option Bool)) where
   among_right x [] ys m = m
   among_right x (y ∷ xs) ys m = inr (among_right x xs ys m)
 
-  lits_all : (P : ℕ → Type 0) (u : ℕ) (o : Option ℕ) → ((v : ℕ) → o ≡ Some v → P (coded u (value_in n values v))) → AllByRecursion P (name_literal n values u o)
+  lits_all : (P : ℕ → Type 0) (u : ℕ) (o : Option ℕ) → ((v : ℕ) → o ≡ Some v → P (mk_lit u (value_in n values v))) → AllByRecursion P (name_literal n values u o)
   lits_all P u None f = tt
   lits_all P u (Some v) f = (f v refl, tt)
 
   -- a property of the literal of every name in use holds for the whole line
-  pub named_each : (P : ℕ → Type 0) (count : ℕ) → ((u v : ℕ) → u < count → global_of n u ≡ Some v → P (coded u (value_in n values v))) → AllByRecursion P (named_to n values count)
+  pub named_each : (P : ℕ → Type 0) (count : ℕ) → ((u v : ℕ) → u < count → global_of n u ≡ Some v → P (mk_lit u (value_in n values v))) → AllByRecursion P (named_to n values count)
   named_each P zero f = subst (AllByRecursion P) (sym (named_zero n values)) tt
   named_each P (suc count) f = subst (AllByRecursion P) (sym (named_grown count))
       (all_both P (named_to n values count) (name_literal n values count (global_of n count))
       (named_each P count (λ u v lt e. f u v (omega arith) e))
       (lits_all P count (global_of n count) (λ v e. f count v (omega arith) e)))
 
-  pub named_has : (count u v : ℕ) → u < count → global_of n u ≡ Some v → Among (coded u (value_in n values v)) (named_to n values count)
+  pub named_has : (count u v : ℕ) → u < count → global_of n u ≡ Some v → Among (mk_lit u (value_in n values v)) (named_to n values count)
   named_has zero u v lt e = absurd (omega arith)
-  named_has (suc count) u v lt e = subst (Among (coded u (value_in n values v))) (sym (named_grown count)) (elim (cases_eq u count) [
-    | inl same ↦ among_right (coded u (value_in n values v)) (named_to n values count) (name_literal n values count (global_of n count))
-        (subst (λ o. Among (coded u (value_in n values v)) (name_literal n values count o)) (sym (sym (ap (global_of n) same) ∙ e)) (inl (ap (λ w. coded w (value_in n values v)) same)))
-    | inr k ↦ among_left (coded u (value_in n values v)) (named_to n values count) (name_literal n values count (global_of n count)) (named_has count u v (omega arith) e)
+  named_has (suc count) u v lt e = subst (Among (mk_lit u (value_in n values v))) (sym (named_grown count)) (elim (cases_eq u count) [
+    | inl same ↦ among_right (mk_lit u (value_in n values v)) (named_to n values count) (name_literal n values count (global_of n count))
+        (subst (λ o. Among (mk_lit u (value_in n values v)) (name_literal n values count o)) (sym (sym (ap (global_of n) same) ∙ e)) (inl (ap (λ w. mk_lit w (value_in n values v)) same)))
+    | inr k ↦ among_left (mk_lit u (value_in n values v)) (named_to n values count) (name_literal n values count (global_of n count)) (named_has count u v (omega arith) e)
   ])
 
   rise_more : (xs : List ℕ) (y : ℕ) → Increase xs → AllByRecursion (λ x. x < y) xs → Increase (xs ++ y ∷ [])
@@ -122,7 +122,7 @@ module _ (n : Variables) (values : List (Option Bool)) where
 
   rise_lits : (xs : List ℕ) (u : ℕ) (o : Option ℕ) → Increase (names_of (map user_literal xs)) → AllByRecursion (λ x. x < u + 1) (names_of (map user_literal xs)) → Increase (names_of (map user_literal (xs ++ name_literal n values u o)))
   rise_lits xs u None h k = subst (λ ys. Increase (names_of (map user_literal ys))) (sym (append-nil xs)) h
-  rise_lits xs u (Some v) h k = subst Increase (sym (names_in_both xs (coded u (value_in n values v) ∷ [])))
+  rise_lits xs u (Some v) h k = subst Increase (sym (names_in_both xs (mk_lit u (value_in n values v) ∷ [])))
       (subst (λ w. Increase (names_of (map user_literal xs) ++ (w + 1) ∷ [])) (sym (coded_variable u (value_in n values v))) (rise_more (names_of (map user_literal xs)) (u + 1) h k))
 
   pub line_rises : (count : ℕ) → Increase (names_of (map user_literal (named_to n values count)))
@@ -150,7 +150,7 @@ module _ (n : Variables) (steps : List Step) (values : List (Option Bool)) (vali
   abbrev pub line : List ℕ
   line = named_to n values (names_used n)
 
-  module _ (j : ScriptState) (live : Live) (agree : NamesAgree n steps j live) where
+  module _ (j : ScriptState) (live : LiveVariables) (agree : NamesAgree n steps j live) where
     lists_all : (name i : ℕ) → identity_of j name ≡ Some i → Among name (names_of (map user_literal line))
     lists_all zero i e = absurd (none-some i (sym agree.judged.no_zero ∙ e))
     lists_all (suc u) i e = named u i (let q : suc u ≡ u + 1 = omega arith in q) (global_of n u) refl (sym (agree.judged.names u) ∙ (let q : u + 1 ≡ suc u = omega arith in ap (identity_of j) q) ∙ e)
@@ -158,7 +158,7 @@ module _ (n : Variables) (steps : List Step) (values : List (Option Bool)) (vali
         named : (u i : ℕ) → suc u ≡ u + 1 → (o : Option ℕ) → global_of n u ≡ o → given_of live (global_of n u) ≡ Some i → Among (suc u) (names_of (map user_literal line))
         named u i q None g e = absurd (none-some i (sym (ap (given_of live) g) ∙ e))
         named u i q (Some v) g e = subst (λ name. Among name (names_of (map user_literal line))) (ap (λ w. w + 1) (coded_variable u (value_in n values v)) ∙ sym q)
-            (named_among (coded u (value_in n values v)) line (named_has n values (names_used n) u v (some_within n.global_from_user.fwd u v g) g))
+            (named_among (mk_lit u (value_in n values v)) line (named_has n values (names_used n) u v (some_within n.global_from_user.fwd u v g) g))
 
     lists_only : AllByRecursion (λ name. (i : ℕ) × (identity_of j name ≡ Some i)) (names_of (map user_literal line))
     lists_only = names_each (λ name. (i : ℕ) × (identity_of j name ≡ Some i)) line
@@ -173,9 +173,9 @@ module _ (n : Variables) (steps : List Step) (values : List (Option Bool)) (vali
     read = mapped_each (λ l. (code : ℕ) × IsReadAs j (variable_of steps) l code × Among code (model_to n values (variables_used n))) line
         (named_each n values (λ l. (code : ℕ) × IsReadAs j (variable_of steps) (user_literal l) code × Among code (model_to n values (variables_used n))) (names_used n) (λ u v lt e.
         let live_ = valid.tidy.named v u (valid.tidy.users.back u v e) in (
-          coded v (value_in n values v),
+          mk_lit v (value_in n values v),
           reads_at n steps j live agree u v (value_in n values v) valid e,
-          test_among (model_to n values (variables_used n)) (coded v (value_in n values v)) (model_all n values (variables_used n) v (live_within n v live_) live_),
+          test_among (model_to n values (variables_used n)) (mk_lit v (value_in n values v)) (model_all n values (variables_used n) v (live_within n v live_) live_),
         )))
 
     -- the line of a model that may be written is right
@@ -189,7 +189,7 @@ module _ (n : Variables) (steps : List Step) (values : List (Option Bool)) (vali
         each_among (x ∷ xs) h = (literal_among x line h.0, each_among xs h.1)
 
 -- a core that no admitted valuation satisfies is right
-module _ (n : Variables) (steps : List Step) (j : ScriptState) (live : Live) (agree : NamesAgree n steps j live) where
+module _ (n : Variables) (steps : List Step) (j : ScriptState) (live : LiveVariables) (agree : NamesAgree n steps j live) where
   spells_reads : (l : Literal) (code : ℕ) → Spells (variable_of steps) l code → IsReadAs j (variable_of steps) l code
   spells_reads l code s = (let k = agree.bridge.named l.name s.variable s.named in record { identity = k.0; in_use = k.1; var = s.variable; named = s.named; is = s.is })
 
@@ -201,7 +201,7 @@ module _ (n : Variables) (steps : List Step) (j : ScriptState) (live : Live) (ag
         none m.0 m.2 (all_from (λ x. literal_true m.0 x ≡ true) codes (λ x i.
         let r = all_at (λ code. (l : Literal) × Spells (variable_of steps) l code × Among l (map user_literal core)) x codes same.1 i in
         read_value j (variable_of steps) m.0 b m.1 r.0 x (spells_reads r.0 x r.1)
-        ∙ all_at (λ y. literal_true b y ≡ true) (over j r.0) (map (over j) (map user_literal core)) t (among_images (over j) r.0 (map user_literal core) r.2)));
+        ∙ all_at (λ y. literal_true b y ≡ true) (identity_lit j r.0) (map (identity_lit j) (map user_literal core)) t (among_images (identity_lit j) r.0 (map user_literal core) r.2)));
   }
     where
       each_among : (xs : List ℕ) → AllByRecursion (λ l. Among l asked) xs → AllByRecursion (λ l. Among l (map user_literal asked)) (map user_literal xs)

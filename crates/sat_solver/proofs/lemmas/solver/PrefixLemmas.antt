@@ -2,13 +2,13 @@
 use Rattle.std.proofs.Common.{ℕ, ◌≡◌, ◌∙◌, ◌⊎◌, inl, inr, Some, Result, Ok, Err, List, [], ◌∷◌, ◌++◌, sym, ap, subst, append-nil, Bool, true, Option}
 use Rattle.std.proofs.Math.Logic.{∥∥₁_elim, ∥∥₁_prop}
 use Rattle.std.specs.Prelude.{reverse}
-use Rattle.sat_base.specs.device.Device.{Reader, Writer, WriterTakes}
+use Rattle.sat_base.specs.device.Device.{Reader, Writer, WriterAccepts}
 use Rattle.sat_base.specs.steps.Steps.{Step, End}
 use Rattle.sat_base.specs.steps.StepText.{SpellsSteps}
 use Rattle.sat_base.specs.script.ScriptState.{ScriptState}
 use Rattle.sat_checker.specs.declared.processing.ProofProcessor.{Ghosts}
 use Rattle.sat_checker.specs.matching.Expected.{Expected, Unknown}
-use Rattle.sat_solver.specs.cdcl.Going as going
+use Rattle.sat_solver.specs.cdcl.StepEffects as going
 use Rattle.sat_solver.specs.proof.Prefixes.{PrefixSince, TargetTakesPrefix, MakesSteps}
 use Rattle.sat_solver.specs.proof.OutputView.{text_in, AreSpeltInFormat}
 use Rattle.sat_solver.specs.session.Making.{ComesBySteps}
@@ -27,9 +27,9 @@ use Rattle.sat_solver.specs.solver.Whole.{steps_in}
 use Rattle.sat_solver.specs.declared.config.SolverConfigUpdate.{SolverConfigUpdate}
 use Rattle.sat_solver.specs.declared.error.SolverError.{SolverError}
 use Rattle.sat_solver.specs.declared.error.SolverError.TheVariants as errors
-use Rattle.sat_solver.specs.declared.context.Core.{Core}
+use Rattle.sat_solver.specs.declared.context.Context.{Context}
 use Rattle.sat_solver.specs.declared.proof.format.ProofFormat.{ProofFormat}
-use Rattle.sat_solver.specs.declared.proof.made.CheckFault.{CheckFault}
+use Rattle.sat_solver.specs.declared.proof.emitted.CheckFault.{CheckFault}
 use Rattle.sat_solver.specs.declared.proof.Proof.{Proof}
 use Rattle.sat_solver.specs.declared.solver.Solver.{Solver}
 use Rattle.sat_solver.proofs.lemmas.session.PrefixLemmas.{fronts_are_accepted, went_none, went_more, went_added, went_failed}
@@ -60,10 +60,10 @@ module _ {W L : Type 0} {G : Ghosts L} (seen : W → Writer) where
   same : (a b : Solver W L G) (why : Type 0) → Refuses a b why → ReachesBySteps seen a b
   same a b why h = subst (λ (x : Solver W L G). ReachesBySteps seen a x) (sym h.same) (went_none seen a.core.proof)
 
-  names_broke : (full : Type 0) (e : SolverError) (a b : Core W L G) → BreaksNamesOr full seen e a b → MakesSteps seen a.proof b.proof
+  names_broke : (full : Type 0) (e : SolverError) (a b : Context W L G) → BreaksNamesOr full seen e a b → MakesSteps seen a.proof b.proof
   names_broke full e a b h = failed e h.steps a.proof b.proof h.went
 
-  broke : (e : SolverError) (a b : Core W L G) → BreaksCall seen e a b → MakesSteps seen a.proof b.proof
+  broke : (e : SolverError) (a b : Context W L G) → BreaksCall seen e a b → MakesSteps seen a.proof b.proof
   broke e a b h = failed e h.steps a.proof b.proof h.went
 
   added : (a b : Solver W L G) (user : List ℕ) → Added seen a b user → ReachesBySteps seen a b
@@ -202,6 +202,6 @@ flushed_is_text f from given steps now h flushed g =
       counting = h.0;
       cuts = h.3.cuts;
       spells = λ e. subst (λ (z : ProofFormat). SpellsSteps (reverse h.3.written) (text_in z h.3.written)) (sym e) (text_spells h.3.written (subst (λ z. AreSpeltInFormat z h.3.written) e h.3.wrote.spelt));
-      takes = subst (λ (z : Writer). WriterTakes from z (text_in f h.3.written)) same (subst (WriterTakes from h.1.writer) all sent.takes);
+      takes = subst (λ (z : Writer). WriterAccepts from z (text_in f h.3.written)) same (subst (WriterAccepts from h.1.writer) all sent.takes);
       flushed = subst (λ (z : Writer). z.flushed ≡ true) same k.1;
     }

@@ -3,7 +3,7 @@ use Rattle.std.proofs.Common.{ℕ, zero, suc, ◌+◌, ◌<◌, ◌≡◌, ◌�
 use Rattle.std.proofs.lemmas.Bool.{true≢false, or_cases, or_left, or_right, eqb-true, eq-eqb}
 use Rattle.std.specs.List.{AllByRecursion}
 use Rattle.sat_base.specs.device.Device.{Writer}
-use Rattle.sat_base.specs.values.Literals.{variable, is_positive, coded}
+use Rattle.sat_base.specs.values.Literals.{variable, is_positive, mk_lit}
 use Rattle.sat_base.specs.values.Clauses.{Valuation, EachTrue, literal_true}
 use Rattle.sat_base.specs.script.Script.{Literal, Among}
 use Rattle.sat_base.specs.script.ScriptState.{ScriptState}
@@ -11,16 +11,16 @@ use Rattle.sat_checker.specs.LiteralSets.{mentions}
 use Rattle.sat_store.specs.variables.Maps.{target}
 use Rattle.sat_checker.specs.declared.processing.ProofProcessor.{Ghosts}
 use Rattle.sat_solver.specs.session.Making.{ComesByCheckedSteps}
-use Rattle.sat_solver.specs.proof.ProofView.{is_lost, steps_of, session_of}
+use Rattle.sat_solver.specs.proof.ProofView.{has_missed_step, steps_of, session_of}
 use Rattle.sat_solver.proofs.lemmas.session.ProofLemmas.{gains_adds, gained_width}
-use Rattle.sat_solver.specs.declared.proof.made.CheckFault.TheVariants as checks
+use Rattle.sat_solver.specs.declared.proof.emitted.CheckFault.TheVariants as checks
 use Rattle.sat_solver.specs.declared.proof.Proof.{Proof}
 use Rattle.sat_solver.specs.declared.error.SolverError.{SolverError}
 use Rattle.sat_solver.specs.declared.error.SolverError.TheVariants as errors
 use Rattle.sat_solver.specs.declared.variables.error.NameError.{NameError}
 use Rattle.sat_solver.specs.declared.variables.error.NameError.TheVariants as names
 use Rattle.sat_base.specs.steps.Steps.{Step}
-use Rattle.sat_solver.specs.session.Coming.{OnlyAllowedSteps}
+use Rattle.sat_solver.specs.session.AllowedSteps.{OnlyAllowedSteps}
 use Rattle.sat_solver.specs.load.Faults.{reported_as}
 use Rattle.sat_solver.specs.load.Alike.{LooksAlike}
 use Rattle.sat_solver.proofs.lemmas.load.AlikeLemmas.{search_alike}
@@ -32,20 +32,20 @@ use Rattle.sat_checker.specs.matching.Expected.{Expected, Spells}
 use Rattle.sat_solver.specs.Models.{has_true_value, value_by, value_in}
 use Rattle.sat_solver.specs.variables.Failing.{Limits}
 use Rattle.sat_solver.specs.variables.VariableRoom.{HasVariablesFor}
-use Rattle.sat_solver.specs.variables.Naming.{VariablesAreKeptOrNew, KeepsOthers, IsNextUser, NoneLeft}
+use Rattle.sat_solver.specs.variables.Naming.{VariablesAreKeptOrNew, KeepsOthers, IsNextUser, NoVariableLeft}
 use Rattle.sat_solver.specs.variables.Observing.{NamesAllHidden}
 use Rattle.sat_solver.specs.variables.Refusing.{IsAssumed}
 use Rattle.sat_solver.specs.variables.Search.{IsAlike, KeepsUnits}
 use Rattle.sat_solver.specs.variables.Variables.{data_at, global_of, user_of, solver_of, says_unit}
 use Rattle.sat_solver.specs.declared.variables.Variables.{Variables}
 use Rattle.sat_solver.specs.declared.solver.Solver.{Solver}
-use Rattle.sat_solver.specs.declared.state.State.{State}
-use Rattle.sat_solver.specs.declared.state.State.TheVariants as states
-use Rattle.sat_solver.specs.solver.Naming.{IsAsked, IsKeptOrFalse, variable_value, name_value, IsNextName, Renamed, Observed, ChangesMode, NewFails, NamesFail}
+use Rattle.sat_solver.specs.declared.state.SatState.{SatState}
+use Rattle.sat_solver.specs.declared.state.SatState.TheVariants as states
+use Rattle.sat_solver.specs.solver.Naming.{IsAsked, IsKeptOrFalse, variable_value, name_value, IsNextName, NameCallEffect, Observed, ChangesMode, NewFails, NamesFail}
 use Rattle.sat_solver.specs.solver.Taking.{IsNameErrorOr, BreaksNames}
-use Rattle.sat_solver.specs.cdcl.Going.{IsFault}
-use Rattle.sat_solver.specs.declared.context.Core.{Core}
-use Rattle.sat_solver.specs.solver.Whole.{SolverInvariant, IsWholeOf, StateSays, AskGoesOn, HasCore, steps_in, session_in}
+use Rattle.sat_solver.specs.cdcl.StepEffects.{IsFault}
+use Rattle.sat_solver.specs.declared.context.Context.{Context}
+use Rattle.sat_solver.specs.solver.Whole.{SolverInvariant, SolverPartsInvariant, HoldsInState, AskGoesOn, HasCore, steps_in, session_in}
 use Rattle.sat_solver.proofs.lemmas.variables.Giving.{alike_unseen}
 use Rattle.sat_solver.proofs.lemmas.variables.NextUnused.{lowest_unused}
 use Rattle.sat_parts.proofs.lemmas.parts.ValueLemmas.{coded_variable}
@@ -128,7 +128,7 @@ module _ {W L : Type 0} {G : Ghosts L} (s : Solver W L G) (whole : SolverInvaria
   -- NAMES THAT AREN'T ASSUMED
 
   module _ (n' : Variables) (p : Proof W L G) (valid : NamesInvariant n' (steps_of p)) (kept : (l v : ℕ) → Among l s.assumed.items → global_of s.names (variable l) ≡ Some v → global_of n' (variable l) ≡ Some v) (alike : IsAlike s.names n' (steps_in s) (steps_of p)) where
-    abbrev new : Core W L G
+    abbrev new : Context W L G
     new = record s.core { proof = p }
 
     images : Images n' s.assumed.items s.asked.order.items
@@ -224,14 +224,14 @@ module _ {W L : Type 0} {G : Ghosts L} (s : Solver W L G) (whole : SolverInvaria
           among = h.among;
         }
 
-    says : (st : State) → StateSays st s.core s.names s.asked s.assumed.items s.reported.failed_core.items → StateSays st new n' s.asked s.assumed.items s.reported.failed_core.items
+    says : (st : SatState) → HoldsInState st s.core s.names s.asked s.assumed.items s.reported.failed_core.items → HoldsInState st new n' s.asked s.assumed.items s.reported.failed_core.items
     says states.Unknown h = going h
     says states.Sat h = (going h.0, h.1)
     says states.UnsatUnderAssumptions h = (going h.0, core_kept h.1)
     says states.Unsat h = alike.unsat ∙ h
 
     -- the invariant holds after the call
-    whole_renamed : HasScriptState n' (steps_of p) → is_lost p ≡ is_lost s.core.proof → IsWholeOf new n' s.asked s.assumed.items s.reported.failed_core.items s.clock.restarts.scale s.state
+    whole_renamed : HasScriptState n' (steps_of p) → has_missed_step p ≡ has_missed_step s.core.proof → SolverPartsInvariant new n' s.asked s.assumed.items s.reported.failed_core.items s.clock.restarts.scale s.state
     whole_renamed judged taking = record {
       valid = valid;
       images = images;
@@ -262,7 +262,7 @@ module _ {W L : Type 0} {G : Ghosts L} (seen : W → Writer) (s : Solver W L G) 
     solver_same v = ap (λ m. target m.fwd v) alike.solvers
 
     -- a variable whose units are unchanged keeps its value
-    value_same : (v : ℕ) → ((b : Bool) → (session_of p).units (coded v b) ≡ (session_in s).units (coded v b)) → value_in n' values v ≡ value_in s.names values v
+    value_same : (v : ℕ) → ((b : Bool) → (session_of p).units (mk_lit v b) ≡ (session_in s).units (mk_lit v b)) → value_in n' values v ≡ value_in s.names values v
     value_same v units = go (solver_of s.names v) refl
       where
         go : (o : Option ℕ) → solver_of s.names v ≡ o → value_in n' values v ≡ value_in s.names values v
@@ -291,7 +291,7 @@ module _ {W L : Type 0} {G : Ghosts L} (seen : W → Writer) (s : Solver W L G) 
   -- the call over names succeeded
   pub renamed : (judge : ScriptState → ScriptState) (due : ScriptState → List Expected) (IsAllowedStep : List Step → Step → Type 0) → OnlyAllowedSteps IsAllowedStep (steps_in s) (steps_of p) → NamesEffect s.names n' (steps_in s) (steps_of p) judge due → VariablesAreKeptOrNew s.names n' → KeepsUnits n' (steps_in s) (steps_of p) →
       ((l v : ℕ) → Among l s.assumed.items → global_of s.names (variable l) ≡ Some v → global_of n' (variable l) ≡ Some v) → IsAlike s.names n' (steps_in s) (steps_of p) → ComesByCheckedSteps seen s.core.proof p →
-      Renamed seen s (record s { core = record s.core { proof = p }; names = n'; used = true }) judge due IsAllowedStep
+      NameCallEffect seen s (record s { core = record s.core { proof = p }; names = n'; used = true }) judge due IsAllowedStep
   renamed judge due IsAllowedStep comes does fresh units kept alike took = record {
     did = record { whole = whole_renamed s whole n' p does.valid kept alike (judged_by does whole.judged) took.1.taking; going = going; failed = going; used = refl; config = refl; does = does; took = (took.0, gains_adds seen took.0 s.core.proof p took.1); width = gained_width seen s.core.proof p took };
     comes = comes;
@@ -320,7 +320,7 @@ new_ends seen errors.CounterEnd s new g x b k f = record { going = g; failed = f
 new_ends seen e s new g x b k f = absurd x
 
 -- a call for a new name failed
-pub new_fails : {W L : Type 0} {G : Ghosts L} (seen : W → Writer) (e : SolverError) (s new : Solver W L G) → s.failed ≡ false → (NoneLeft s.names → ⊥) → IsFault e → BreaksNames seen e s.core new.core → new.clock ≡ s.clock → new.failed ≡ true → NewFails seen e s new
+pub new_fails : {W L : Type 0} {G : Ghosts L} (seen : W → Writer) (e : SolverError) (s new : Solver W L G) → s.failed ≡ false → (NoVariableLeft s.names → ⊥) → IsFault e → BreaksNames seen e s.core new.core → new.clock ≡ s.clock → new.failed ≡ true → NewFails seen e s new
 new_fails seen errors.OutOfMemory s new g n x b k f = (n, record { going = g; failed = f; fault = x; breaks = b; clock = k })
 new_fails seen (errors.ProofIoError cause) s new g n x b k f = (n, record { going = g; failed = f; fault = x; breaks = b; clock = k })
 new_fails seen (errors.ProofProcessorError cause) s new g n x b k f = (n, record { going = g; failed = f; fault = x; breaks = b; clock = k })
@@ -328,7 +328,7 @@ new_fails seen errors.CounterEnd s new g n x b k f = (n, record { going = g; fai
 new_fails seen e s new g n x b k f = absurd x
 
 -- if a call failed for another reason, a variable was left
-pub one_left : {W : Type 0} (e : NameError) (old new : Variables) (from to : W) → (reported_as e ≡ errors.VariableLimit → ⊥) → Limits e old new from to → NoneLeft old → ⊥
+pub one_left : {W : Type 0} (e : NameError) (old new : Variables) (from to : W) → (reported_as e ≡ errors.VariableLimit → ⊥) → Limits e old new from to → NoVariableLeft old → ⊥
 one_left names.VariableLimit old new from to n h = absurd (n refl)
 one_left e old new from to n h = h
 
@@ -368,5 +368,5 @@ observed_all seen s whole going n' p users used opened all took = record {
   same = record { config = refl; asked = took.1.asked; assumed = refl; reported = refl; clock = refl; state = refl };
   observes = all.kept;
   all = all.all;
-  values = λ v. ap (λ (b : Bool). Some b) (value_same seen s whole going n' p (alike_unseen s.names n' (steps_in s) (steps_of p) all.unseen) all.valid v (λ b. ap (λ f. f (coded v b)) all.unseen.search.units));
+  values = λ v. ap (λ (b : Bool). Some b) (value_same seen s whole going n' p (alike_unseen s.names n' (steps_in s) (steps_of p) all.unseen) all.valid v (λ b. ap (λ f. f (mk_lit v b)) all.unseen.search.units));
 }

@@ -3,19 +3,19 @@ use Rattle.std.proofs.Common.{◌≡◌, false, true, inl, inr, refl, Err, List,
 use Rattle.sat_base.specs.device.Device.{Writer}
 use Rattle.sat_base.specs.steps.Steps.{Step, End}
 use Rattle.sat_checker.specs.declared.processing.ProofProcessor.{Ghosts}
-use Rattle.sat_solver.specs.proof.ProofView.{EmitsExactly, ClosesTarget, FailsToEmit, FailsCheck, is_lost, without_complaint}
-use Rattle.sat_solver.specs.declared.proof.made.CheckFault.{CheckFault}
-use Rattle.sat_solver.specs.declared.proof.made.CheckFault.TheVariants as checks
+use Rattle.sat_solver.specs.proof.ProofView.{EmitsExactly, ClosesTarget, FailsToEmit, FailsCheck, has_missed_step, without_listener_error}
+use Rattle.sat_solver.specs.declared.proof.emitted.CheckFault.{CheckFault}
+use Rattle.sat_solver.specs.declared.proof.emitted.CheckFault.TheVariants as checks
 use Rattle.sat_solver.specs.declared.proof.Proof.{Proof}
 use Rattle.sat_solver.specs.declared.proof.ProofError.{ProofError}
 use Rattle.sat_solver.specs.declared.proof.ProofError.TheVariants.{Write, OutOfMemory, Check}
 use Rattle.sat_solver.specs.declared.error.SolverError.{SolverError}
 use Rattle.sat_solver.specs.declared.error.SolverError.TheVariants as errors
 use Rattle.sat_solver.specs.cdcl.Faults.{IsKept, NamesLoss}
-use Rattle.sat_solver.specs.cdcl.Going.{EmitsUpToFault, proof_fault}
+use Rattle.sat_solver.specs.cdcl.StepEffects.{EmitsUpToFault, proof_fault}
 use Rattle.sat_solver.proofs.lemmas.cdcl.GoingLemmas.{complaint_kept}
 use Rattle.sat_solver.proofs.lemmas.session.ProofLemmas.{complains_now, gains_adds}
-use Rattle.sat_solver.specs.declared.context.Core.{Core}
+use Rattle.sat_solver.specs.declared.context.Context.{Context}
 use Rattle.sat_solver.specs.declared.solver.Solver.{Solver}
 use Rattle.sat_solver.specs.solver.Answering.{FlushFails}
 use Rattle.sat_solver.specs.solver.Calls.{EndsInFailure, Solves}
@@ -25,27 +25,27 @@ use Rattle.sat_solver.specs.solver.Settling.{AnswersOrBreaks}
 use Rattle.sat_solver.specs.solver.Taking.{BreaksNamesOr}
 
 module _ {W L : Type 0} {G : Ghosts L} (seen : W → Writer) (p q : Proof W L G) where
-  adds_reported : (steps : List Step) → EmitsExactly seen steps p q → EmitsExactly seen steps p (without_complaint q)
+  adds_reported : (steps : List Step) → EmitsExactly seen steps p q → EmitsExactly seen steps p (without_listener_error q)
   adds_reported steps h = record { history = h.history; listening = h.listening; target = h.target }
 
-  pub fails_reported : (steps : List Step) → FailsToEmit seen steps p q → FailsToEmit seen steps p (without_complaint q)
+  pub fails_reported : (steps : List Step) → FailsToEmit seen steps p q → FailsToEmit seen steps p (without_listener_error q)
   fails_reported steps h = record { history = h.history; listening = h.listening; target = h.target }
 
-  pub check_reported : (fault : CheckFault) (steps : List Step) → FailsCheck seen fault steps p q → FailsCheck seen fault steps p (without_complaint q)
+  pub check_reported : (fault : CheckFault) (steps : List Step) → FailsCheck seen fault steps p q → FailsCheck seen fault steps p (without_listener_error q)
   check_reported fault steps h = record { adds = adds_reported steps h.adds; why = h.why }
 
   -- what a failed call has done is the same once its error was reported
-  pub went_reported : (e : SolverError) (steps : List Step) → EmitsUpToFault {A = Unit {0}} seen (Err e) steps p q → EmitsUpToFault {A = Unit {0}} seen (Err e) steps p (without_complaint q)
+  pub went_reported : (e : SolverError) (steps : List Step) → EmitsUpToFault {A = Unit {0}} seen (Err e) steps p q → EmitsUpToFault {A = Unit {0}} seen (Err e) steps p (without_listener_error q)
   went_reported (errors.ProofIoError cause) steps h = fails_reported steps h
   went_reported (errors.ProofProcessorError cause) steps h = check_reported _ steps h
   went_reported errors.CounterEnd steps h = check_reported _ steps h
   went_reported e steps h = adds_reported steps h
 
-  loss_reported : (e : SolverError) → NamesLoss e p q → NamesLoss e p (without_complaint q)
+  loss_reported : (e : SolverError) → NamesLoss e p q → NamesLoss e p (without_listener_error q)
   loss_reported errors.Interrupted h = h
   loss_reported e h = h
 
-  flush_reported : (e : SolverError) → FlushFails seen e p q → FlushFails seen e p (without_complaint q)
+  flush_reported : (e : SolverError) → FlushFails seen e p q → FlushFails seen e p (without_listener_error q)
   flush_reported (errors.ProofIoError cause) h = fails_reported _ h
   flush_reported (errors.ProofProcessorError cause) h = check_reported _ _ h
   flush_reported errors.OutOfMemory h = check_reported _ _ h
@@ -54,7 +54,7 @@ module _ {W L : Type 0} {G : Ghosts L} (seen : W → Writer) (p q : Proof W L G)
 
 module _ {W L : Type 0} {G : Ghosts L} (seen : W → Writer) where
   -- a call over names failed
-  pub names_reported : {full : Type 0} (e : SolverError) (a : Core W L G) (s : Solver W L G) → BreaksNamesOr full seen e a s.core → BreaksNamesOr full seen e a (failed_with s).core
+  pub names_reported : {full : Type 0} (e : SolverError) (a : Context W L G) (s : Solver W L G) → BreaksNamesOr full seen e a s.core → BreaksNamesOr full seen e a (failed_with s).core
   names_reported e a s h = record { fault = h.fault; steps = h.steps; went = went_reported seen a.proof s.core.proof e h.steps h.went; loss = loss_reported seen a.proof s.core.proof e h.loss }
 
   module _ (s mid : Solver W L G) (going : s.failed ≡ false) where
@@ -76,12 +76,12 @@ module _ {W L : Type 0} {G : Ghosts L} (seen : W → Writer) where
     solve_ends errors.CounterEnd h = ended _ h
     solve_ends e h = absurd h.0.0.fault
 
-  module _ (s : Solver W L G) (going : s.failed ≡ false) (taking : is_lost s.core.proof ≡ false) (p : Proof W L G) where
+  module _ (s : Solver W L G) (going : s.failed ≡ false) (taking : has_missed_step s.core.proof ≡ false) (p : Proof W L G) where
     abbrev pub closing : Solver W L G
     closing = record s { core = record s.core { proof = p } }
 
-    unchecked : (fault : CheckFault) → ClosesTarget {W = W} seen (Err (Check fault)) s.core.proof p → FailsCheck seen fault (End ∷ []) s.core.proof (without_complaint p)
-    unchecked fault h = check_reported seen s.core.proof p fault (End ∷ []) (record { adds = h.0; why = (complains_now fault p (is_lost s.core.proof) taking h.1).0 })
+    unchecked : (fault : CheckFault) → ClosesTarget {W = W} seen (Err (Check fault)) s.core.proof p → FailsCheck seen fault (End ∷ []) s.core.proof (without_listener_error p)
+    unchecked fault h = check_reported seen s.core.proof p fault (End ∷ []) (record { adds = h.0; why = (complains_now fault p (has_missed_step s.core.proof) taking h.1).0 })
 
     -- closing a proof failed
     pub close_ends : (e : ProofError) → ClosesTarget {W = W} seen (Err e) s.core.proof p → ClosesProof seen (Err (proof_fault e)) s (failed_with closing)
@@ -94,4 +94,4 @@ module _ {W L : Type 0} {G : Ghosts L} (seen : W → Writer) where
     pub close_kept : (e : ProofError) → ClosesTarget {W = W} seen (Err e) s.core.proof p → IsKept (proof_fault e) p
     close_kept (Write cause) h = h.1
     close_kept OutOfMemory h = tt
-    close_kept (Check fault) h = complaint_kept fault p (complains_now fault p (is_lost s.core.proof) taking h.1).1
+    close_kept (Check fault) h = complaint_kept fault p (complains_now fault p (has_missed_step s.core.proof) taking h.1).1

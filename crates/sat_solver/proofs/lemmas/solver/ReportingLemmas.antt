@@ -18,24 +18,24 @@ use Rattle.sat_solver.specs.session.Listed.{ChangesNoClause}
 use Rattle.sat_solver.proofs.lemmas.fits.AnswerParts.{parts_rests}
 use Rattle.sat_solver.specs.declared.error.SolverError.TheVariants as errors
 use Rattle.sat_solver.specs.assumptions.Core.{WritesCoreStep}
-use Rattle.sat_solver.specs.cdcl.Going.{proof_fault}
-use Rattle.sat_solver.specs.cdcl.Joint.{assumed_indices, global_in, IsSearch, SameVarsAndAssumptions}
+use Rattle.sat_solver.specs.cdcl.StepEffects.{proof_fault}
+use Rattle.sat_solver.specs.cdcl.Joint.{assumed_indices, global_in, SearchInvariant, SameVarsAndAssumptions}
 use Rattle.sat_parts.specs.parts.Whole.{state}
 use Rattle.sat_parts.specs.parts.Words.{IsIdle}
 use Rattle.sat_solver.specs.declared.context.Search.{Search}
-use Rattle.sat_solver.specs.declared.context.Core.{Core}
+use Rattle.sat_solver.specs.declared.context.Context.{Context}
 use Rattle.sat_solver.specs.variables.Variables.{data_at, variables_used, indices_used}
 use Rattle.sat_solver.specs.variables.Shared.{SharesIndices}
 use Rattle.sat_solver.specs.Models.{model_to}
 use Rattle.sat_solver.specs.variables.Calls.{NamesInvariant}
 use Rattle.sat_solver.specs.declared.variables.Variables.{Variables}
 use Rattle.sat_solver.proofs.lemmas.variables.Searched.{searches_preserve_names}
-use Rattle.sat_solver.specs.solver.Joined.{IsJoined, lit_over_names}
+use Rattle.sat_solver.specs.solver.Joined.{NamesSearchInvariant, lit_over_names}
 use Rattle.sat_solver.specs.solver.Answering.{Shown, WritesFailedCore, BreaksOff, model_of}
 use Rattle.sat_solver.proofs.lemmas.solver.ShownLemmas.{model_only}
 
 -- a step that changes neither clauses, units, names nor assumptions preserves the invariant of the search
-pub search_rests : (s : Session) (c : Search) (step : Step) → IsSearch s c → ChangesNoClause step → (after step s).assumed ≡ s.assumed → (after step s).solver_names ≡ s.solver_names → IsSearch (after step s) c
+pub search_rests : (s : Session) (c : Search) (step : Step) → SearchInvariant s c → ChangesNoClause step → (after step s).assumed ≡ s.assumed → (after step s).solver_names ≡ s.solver_names → SearchInvariant (after step s) c
 search_rests s c step search quiet assumed names = record {
   valid = record { holds = search.valid.holds; fits = parts_rests c.parts s (global_in c) search.valid.fits step quiet };
   ready = record { free = search.ready.free; placed = search.ready.placed; there = search.ready.there; asked = assumed ∙ search.ready.asked; used = subst (λ (f : ℕ → Option ℕ). (v : ℕ) → v < length c.parts.assignment.current → (f (global_in c v) ≡ Some v) ⊎ IsIdle (assumed_indices c) (state c.parts) c.parts.vsids v) (sym names) search.ready.used };
@@ -63,9 +63,9 @@ shares_moved n c c' h moved = record {
   same = λ x v e. ap (λ gs. get_or gs.items x 0) moved.globals ∙ h.same x v e;
 }
 
-module _ {W L : Type 0} {G : Ghosts L} (seen : W → Writer) (n : Variables) (a : Core W L G) (joined : IsJoined n a) where
+module _ {W L : Type 0} {G : Ghosts L} (seen : W → Writer) (n : Variables) (a : Context W L G) (joined : NamesSearchInvariant n a) where
   module _ (proof : Proof W L G) where
-    abbrev pub reported : Core W L G
+    abbrev pub reported : Context W L G
     reported = record a { proof = proof }
 
     -- the step of a model was accepted
@@ -80,7 +80,7 @@ module _ {W L : Type 0} {G : Ghosts L} (seen : W → Writer) (n : Variables) (a 
           joined = record {
             sound = record {
               keeps = keeps;
-              search = subst (λ ss. IsSearch (session_after ss) a.search) (sym adds_model.history) (search_rests (session_of a.proof) a.search (Model (model_of n a)) joined.sound.search tt refl refl);
+              search = subst (λ ss. SearchInvariant (session_after ss) a.search) (sym adds_model.history) (search_rests (session_of a.proof) a.search (Model (model_of n a)) joined.sound.search tt refl refl);
               locals = joined.sound.locals;
               mids = joined.sound.mids;
             };
@@ -101,7 +101,7 @@ module _ {W L : Type 0} {G : Ghosts L} (seen : W → Writer) (n : Variables) (a 
   broken (Check fault) step proof fails = (record { fault = fault_checked _ fault; steps = step ∷ []; went = went_checked seen (Unit {0}) fault (step ∷ []) a.proof proof fails.0; loss = check_loss fault a.proof proof fails.0.why }, complaint_kept fault proof fails.1)
 
   module _ (proof : Proof W L G) (c' : Search) where
-    abbrev pub searched : Core W L G
+    abbrev pub searched : Context W L G
     searched = record a { proof = proof; search = c' }
 
     -- a failed core was written

@@ -6,8 +6,8 @@ use Rattle.sat_solver.specs.proof.ProofView.{session_of}
 use Rattle.sat_solver.proofs.lemmas.session.NamedLemmas.{named_unsat_is_right}
 use Rattle.sat_checker.specs.matching.Checking.{variable_of}
 use Rattle.sat_solver.specs.declared.solver.Solver.{Solver}
-use Rattle.sat_solver.specs.declared.state.State.TheVariants as states
-use Rattle.sat_solver.specs.solver.Whole.{SolverInvariant, StateSays, steps_in, line_in}
+use Rattle.sat_solver.specs.declared.state.SatState.TheVariants as states
+use Rattle.sat_solver.specs.solver.Whole.{SolverInvariant, HoldsInState, steps_in, line_in}
 use Rattle.sat_solver.specs.solver.Resting.{IsModel, IsRightLine, IsRightCoreOf, IsCore}
 use Rattle.sat_solver.proofs.lemmas.solver.ShownLemmas.{shown_may}
 use Rattle.sat_solver.proofs.lemmas.solver.LineLemmas.{model_line, core_of, means_of}
@@ -29,15 +29,15 @@ module _ {W L : Type 0} {G : Ghosts L} (s : Solver W L G) (whole : SolverInvaria
       values : List (Option Bool)
       values = s.core.search.parts.assignment.current
 
-      says : StateSays states.Sat s.core s.names s.asked s.assumed.items s.reported.failed_core.items
-      says = subst (λ st. StateSays st s.core s.names s.asked s.assumed.items s.reported.failed_core.items) state whole.says
+      says : HoldsInState states.Sat s.core s.names s.asked s.assumed.items s.reported.failed_core.items
+      says = subst (λ st. HoldsInState st s.core s.names s.asked s.assumed.items s.reported.failed_core.items) state whole.says
 
   -- a failed core is right
   pub core_rests : s.failed ≡ false → s.state ≡ states.UnsatUnderAssumptions → (core : List ℕ) → core ≡ s.reported.failed_core.items → IsCore s core
   core_rests going state core e = (record { going = going; unsat = rw state tt; core_is = e ∙ rw state refl; right = subst (IsRightCoreOf s) (sym e) (λ j live agree. core_of s.names (steps_in s) j live agree s.assumed.items s.reported.failed_core.items says.1.codes says.1.none says.1.same says.1.among) })
     where
-      says : StateSays states.UnsatUnderAssumptions s.core s.names s.asked s.assumed.items s.reported.failed_core.items
-      says = subst (λ st. StateSays st s.core s.names s.asked s.assumed.items s.reported.failed_core.items) state whole.says
+      says : HoldsInState states.UnsatUnderAssumptions s.core s.names s.asked s.assumed.items s.reported.failed_core.items
+      says = subst (λ st. HoldsInState st s.core s.names s.asked s.assumed.items s.reported.failed_core.items) state whole.says
 
   -- the empty core is right if the clauses are unsatisfiable without assumptions
   pub unsat_rests : s.failed ≡ false → s.state ≡ states.Unsat → (core : List ℕ) → core ≡ [] → IsCore s core
@@ -51,5 +51,5 @@ module _ {W L : Type 0} {G : Ghosts L} (s : Solver W L G) (whole : SolverInvaria
     });
   })
     where
-      says : StateSays states.Unsat s.core s.names s.asked s.assumed.items s.reported.failed_core.items
-      says = subst (λ st. StateSays st s.core s.names s.asked s.assumed.items s.reported.failed_core.items) state whole.says
+      says : HoldsInState states.Unsat s.core s.names s.asked s.assumed.items s.reported.failed_core.items
+      says = subst (λ st. HoldsInState st s.core s.names s.asked s.assumed.items s.reported.failed_core.items) state whole.says

@@ -9,15 +9,15 @@ use Rattle.sat_checker.specs.Fold.{Holds}
 use Rattle.sat_checker.specs.declared.processing.ProofProcessor.{Ghosts}
 use Rattle.sat_parts.specs.prop.Values.{IsTrueLit}
 use Rattle.sat_solver.specs.session.LiveClauses.{with_var}
-use Rattle.sat_solver.specs.proof.ProofView.{Target, Closed, Open, Broken, Flushed, FlushesAndNotifies, FlushesOrFails, EmitsExactly, EmitsChecked, FailsCheck, AllStepsReported, is_lost, steps_of, session_of, target_of}
-use Rattle.sat_solver.specs.declared.proof.made.CheckFault.{CheckFault}
-use Rattle.sat_solver.specs.declared.proof.made.CheckFault.TheVariants as checks
+use Rattle.sat_solver.specs.proof.ProofView.{Target, Closed, Open, Broken, Flushed, FlushesAndNotifies, FlushesOrFails, EmitsExactly, EmitsChecked, FailsCheck, AllStepsReported, has_missed_step, steps_of, session_of, target_of}
+use Rattle.sat_solver.specs.declared.proof.emitted.CheckFault.{CheckFault}
+use Rattle.sat_solver.specs.declared.proof.emitted.CheckFault.TheVariants as checks
 use Rattle.sat_solver.specs.declared.proof.Proof.{Proof}
 use Rattle.sat_solver.specs.declared.proof.ProofError.{ProofError}
 use Rattle.sat_solver.specs.declared.proof.ProofError.TheVariants.{Write, OutOfMemory, Check}
-use Rattle.sat_solver.specs.cdcl.Going.{check_fault_of, proof_fault}
+use Rattle.sat_solver.specs.cdcl.StepEffects.{check_fault_of, proof_fault}
 use Rattle.sat_solver.specs.session.Session.{Session, AreAllowedSteps, session_after}
-use Rattle.sat_solver.specs.session.Coming.{OnlyAllowedSteps, EndsAtUnsat}
+use Rattle.sat_solver.specs.session.AllowedSteps.{OnlyAllowedSteps, EndsAtUnsat}
 use Rattle.sat_solver.proofs.lemmas.session.ComingLemmas.{comes_none, comes_one, comes_both, comes_open}
 use Rattle.std.proofs.lemmas.Bool.{true≢false}
 use Rattle.sat_solver.proofs.lemmas.session.ProofLemmas.{adds_none, adds_more, gained_width, gains_adds, gains_more, fails_later, flush_records, check_later}
@@ -25,36 +25,36 @@ use Rattle.sat_solver.proofs.lemmas.cdcl.GoingLemmas.{check_loss, complaint_kept
 use Rattle.sat_base.specs.script.ScriptState.{ScriptState}
 use Rattle.sat_solver.specs.schedule.Counting.{CountsOn, round_allowance}
 use Rattle.sat_solver.proofs.lemmas.schedule.GapLemmas.{pow_pos, pow_mono}
-use Rattle.sat_solver.specs.declared.schedule.Outcome.TheVariants as outcomes
-use Rattle.sat_solver.specs.declared.context.Core.{Core}
+use Rattle.sat_solver.specs.declared.schedule.RoundOutcome.TheVariants as outcomes
+use Rattle.sat_solver.specs.declared.context.Context.{Context}
 use Rattle.sat_solver.specs.declared.config.SolverConfig.{SolverConfig}
 use Rattle.sat_solver.specs.declared.context.Search.{Search}
 use Rattle.sat_solver.specs.assumptions.Core.{causes_hashes}
-use Rattle.sat_solver.specs.cdcl.Joint.{global_in, AreAsked, IsSearch, SameVarsAndAssumptions}
+use Rattle.sat_solver.specs.cdcl.Joint.{global_in, AreAsked, SearchInvariant, SameVarsAndAssumptions}
 use Rattle.sat_solver.specs.clause.Activity.{AreDecays}
-use Rattle.sat_solver.specs.cdcl.Turns.{IsComplete}
-use Rattle.sat_solver.specs.schedule.Solving.{AdvancesIn, AdvanceTimes, NeverAdvancesByForm, Ended, values_in}
+use Rattle.sat_solver.specs.cdcl.Iterations.{IsComplete}
+use Rattle.sat_solver.specs.schedule.Solving.{CountsEmpoweringIn, CountsEmpowering, IsNeverEmpoweringByForm, Ended, values_in}
 use Rattle.sat_solver.specs.load.Literals.{user_literal, Images, GlobalImages}
 use Rattle.sat_checker.specs.matching.Checking.{variable_of}
 use Rattle.sat_checker.specs.matching.Expected.{Shows, SameSet}
 use Rattle.sat_solver.specs.Models.{named_to}
 use Rattle.sat_solver.specs.variables.Variables.{names_used}
 use Rattle.sat_solver.specs.variables.Calls.{NamesInvariant, NamesAgree, NamesEffect, HasScriptState}
-use Rattle.sat_checker.specs.matching.Bridge.{Live}
+use Rattle.sat_checker.specs.matching.Bridge.{LiveVariables}
 use Rattle.sat_solver.specs.declared.variables.Variables.{Variables}
-use Rattle.sat_solver.specs.declared.load.literals.Taken.{Taken}
+use Rattle.sat_solver.specs.declared.load.literals.MappedLits.{MappedLits}
 use Rattle.sat_solver.proofs.lemmas.variables.Doing.{does_none, does_both, judged_by}
 use Rattle.sat_solver.specs.declared.solver.Solver.{Solver}
-use Rattle.sat_solver.specs.declared.state.State.{State}
-use Rattle.sat_solver.specs.declared.state.State.TheVariants as states
+use Rattle.sat_solver.specs.declared.state.SatState.{SatState}
+use Rattle.sat_solver.specs.declared.state.SatState.TheVariants as states
 use Rattle.sat_solver.specs.declared.solver.find.LastAnswers.{LastAnswers}
-use Rattle.sat_solver.specs.declared.solver.find.Clock.{Clock}
-use Rattle.sat_solver.specs.solver.Joined.{IsJoined, lit_over_names}
+use Rattle.sat_solver.specs.declared.solver.find.Schedule.{Schedule}
+use Rattle.sat_solver.specs.solver.Joined.{NamesSearchInvariant, lit_over_names}
 use Rattle.sat_solver.specs.solver.Answering.{BreaksOff, FlushFails, WritesFailedCore, line_of_names, model_of}
 use Rattle.sat_solver.specs.solver.Found.{FoundModel, FoundCore, FoundNone, FoundSays}
 use Rattle.sat_solver.specs.solver.Calls.{Answered, Counts, CountsRounds, RoundsOn, IsFlushed, MakesRounds, NotesAsk, learned_of, due_between_states, due_for_answer}
 use Rattle.sat_solver.specs.solver.Settling.{Settled}
-use Rattle.sat_solver.specs.solver.Whole.{SolverInvariant, IsWholeOf, StateSays, AskGoesOn, HasCore, steps_in, session_in, line_in}
+use Rattle.sat_solver.specs.solver.Whole.{SolverInvariant, SolverPartsInvariant, HoldsInState, AskGoesOn, HasCore, steps_in, session_in, line_in}
 use Rattle.sat_solver.proofs.lemmas.solver.AnsweredLemmas.{asked_shown, core_among, core_spelt, core_none, joined_by, does_shown, does_failed}
 use Rattle.sat_solver.proofs.lemmas.solver.KeptLemmas.{images_kept, globals_kept}
 use Rattle.sat_solver.specs.unit_simplify.Freed.{KeepsAsked}
@@ -78,12 +78,12 @@ assumed_moved s t c c' h k moved =
     ∙ ap (λ ls. map (with_var (global_in c)) ls) (ap (λ ls. ls.items) moved.lits) ∙ sym h
 
 -- no round was made
-no_rounds : (st : State) (n : ℕ) → learned_of st (n - n) ≡ 0
+no_rounds : (st : SatState) (n : ℕ) → learned_of st (n - n) ≡ 0
 no_rounds states.Unknown n = omega arith
 no_rounds e n = omega arith
 
 -- a last step that does not advance leaves the number of advancing steps unchanged
-then_still : (from mids to steps : List Step) (step : Step) (k : ℕ) → mids ≡ steps ++ from → to ≡ step ∷ mids → AdvanceTimes from steps k → NeverAdvancesByForm (session_after (steps ++ from)) step → AdvancesIn from to k
+then_still : (from mids to steps : List Step) (step : Step) (k : ℕ) → mids ≡ steps ++ from → to ≡ step ∷ mids → CountsEmpowering from steps k → IsNeverEmpoweringByForm (session_after (steps ++ from)) step → CountsEmpoweringIn from to k
 then_still from mids to steps step k e f times still = record { steps = step ∷ steps; following = f ∙ ap (λ ss. step ∷ ss) e; times = inl (times, still) }
 
 module _ {W L : Type 0} {G : Ghosts L} (seen : W → Writer) (s : Solver W L G) (whole : SolverInvariant s) where
@@ -108,17 +108,17 @@ module _ {W L : Type 0} {G : Ghosts L} (seen : W → Writer) (s : Solver W L G) 
     known = λ k. (adds_none seen s.core.proof, refl);
   }
     where
-      none : (st : State) → (st ≡ states.Unknown → ⊥) → NamesEffect s.names s.names (steps_in s) (steps_in s) (λ j. j) (λ j. due_between_states st st (line_in s) s.assumed.items s.reported.failed_core.items)
+      none : (st : SatState) → (st ≡ states.Unknown → ⊥) → NamesEffect s.names s.names (steps_in s) (steps_in s) (λ j. j) (λ j. due_between_states st st (line_in s) s.assumed.items s.reported.failed_core.items)
       none states.Unknown n = absurd (n refl)
       none states.Sat n = does_none s.names (steps_in s) whole.valid
       none states.UnsatUnderAssumptions n = does_none s.names (steps_in s) whole.valid
       none states.Unsat n = does_none s.names (steps_in s) whole.valid
 
-  module _ (goes : AskGoesOn s.core s.names s.asked) (core : Core W L G) (m : Variables) (reported : LastAnswers) (clock : Clock) (scale : clock.restarts.scale ≡ s.clock.restarts.scale) where
+  module _ (goes : AskGoesOn s.core s.names s.asked) (core : Context W L G) (m : Variables) (reported : LastAnswers) (clock : Schedule) (scale : clock.restarts.scale ≡ s.clock.restarts.scale) where
     positive : 0 < clock.restarts.scale
     positive = subst (λ (k : ℕ). 0 < k) (sym scale) whole.positive
 
-    scaled : (core : Core W L G) → core.config ≡ s.core.config → clock.restarts.scale ≡ core.config.luby_restart_interval_scale
+    scaled : (core : Context W L G) → core.config ≡ s.core.config → clock.restarts.scale ≡ core.config.luby_restart_interval_scale
     scaled core e = scale ∙ whole.scaled ∙ ap (λ (x : SolverConfig). x.luby_restart_interval_scale) (sym e)
 
     kept_images : {t : Session} → KeepsAsked s.names m (session_in s) t → Images m s.assumed.items s.asked.order.items
@@ -142,7 +142,7 @@ module _ {W L : Type 0} {G : Ghosts L} (seen : W → Writer) (s : Solver W L G) 
         decays = subst AreDecays (sym found.gone.config) whole.decays;
         taking = found.gone.adds.taking ∙ whole.taking;
         judged = judged_by found.gone.does whole.judged;
-        says = subst (λ st. StateSays st core m s.asked s.assumed.items reported.failed_core.items) (sym unknown) (record { joined = found.joined; lits = ap (λ ls. ls.items) found.gone.moved.lits ∙ goes.lits });
+        says = subst (λ st. HoldsInState st core m s.asked s.assumed.items reported.failed_core.items) (sym unknown) (record { joined = found.joined; lits = ap (λ ls. ls.items) found.gone.moved.lits ∙ goes.lits });
       };
       does = subst (λ st. NamesEffect s.names m (steps_in s) (steps_of core.proof) (λ j. j) (λ j. due_between_states st st (line_of_names m core) s.assumed.items reported.failed_core.items)) (sym unknown) found.gone.does;
       comes = comes_open (steps_in s) (steps_of core.proof) found.gone.steps found.gone.adds.history found.joined.sound.search.valid.fits.consistent;
@@ -152,15 +152,15 @@ module _ {W L : Type 0} {G : Ghosts L} (seen : W → Writer) (s : Solver W L G) 
       users = found.gone.asked.users;
       config = found.gone.config;
       counts = counts;
-      times = subst (λ st. AdvancesIn (steps_in s) (steps_of core.proof) (learned_of st (clock.rounds - s.clock.rounds))) (sym unknown) (record { steps = found.gone.steps; following = found.gone.adds.history; times = found.gone.times });
+      times = subst (λ st. CountsEmpoweringIn (steps_in s) (steps_of core.proof) (learned_of st (clock.rounds - s.clock.rounds))) (sym unknown) (record { steps = found.gone.steps; following = found.gone.adds.history; times = found.gone.times });
       known = λ k. absurd (k unknown);
     }
 
     module _ (unknown : s.state ≡ states.Unknown) where
-      abbrev pub new : State → Solver W L G
+      abbrev pub new : SatState → Solver W L G
       new st = record s { core = core; names = m; reported = reported; clock = clock; state = st }
 
-      from_unknown : (st : State) → NamesEffect s.names m (steps_in s) (steps_of core.proof) (λ j. j) (λ j. due_between_states states.Unknown st (line_of_names m core) s.assumed.items reported.failed_core.items) → NamesEffect s.names m (steps_in s) (steps_of core.proof) (λ j. j) (λ j. due_between_states s.state st (line_of_names m core) s.assumed.items reported.failed_core.items)
+      from_unknown : (st : SatState) → NamesEffect s.names m (steps_in s) (steps_of core.proof) (λ j. j) (λ j. due_between_states states.Unknown st (line_of_names m core) s.assumed.items reported.failed_core.items) → NamesEffect s.names m (steps_in s) (steps_of core.proof) (λ j. j) (λ j. due_between_states s.state st (line_of_names m core) s.assumed.items reported.failed_core.items)
       from_unknown st d = subst (λ before. NamesEffect s.names m (steps_in s) (steps_of core.proof) (λ j. j) (λ j. due_between_states before st (line_of_names m core) s.assumed.items reported.failed_core.items)) (sym unknown) d
 
       -- a model was found
@@ -200,7 +200,7 @@ module _ {W L : Type 0} {G : Ghosts L} (seen : W → Writer) (s : Solver W L G) 
           images : Images m s.assumed.items s.asked.order.items
           images = kept_images found.ended.asked
 
-          mid : IsJoined m found.mid
+          mid : NamesSearchInvariant m found.mid
           mid = joined_by s.names m s.core found.mid goes.joined found.ended.config found.ended.keeps found.ended.does.valid found.ended.says.0.search found.ended.says.1
 
           moved : SameVarsAndAssumptions s.core.search core.search
@@ -259,7 +259,7 @@ module _ {W L : Type 0} {G : Ghosts L} (seen : W → Writer) (s : Solver W L G) 
           images : Images m s.assumed.items s.asked.order.items
           images = kept_images found.ended.asked
 
-          mid : IsJoined m found.mid
+          mid : NamesSearchInvariant m found.mid
           mid = joined_by s.names m s.core found.mid goes.joined found.ended.config found.ended.keeps found.ended.does.valid found.ended.says.0.search found.ended.says.1
 
           moved : SameVarsAndAssumptions s.core.search core.search
@@ -279,7 +279,7 @@ module _ {W L : Type 0} {G : Ghosts L} (seen : W → Writer) (s : Solver W L G) 
           does = does_both s.names m m (steps_in s) (steps_of found.mid.proof) (steps_of core.proof) (λ j. j) (λ j. j) (λ j. []) (λ j. due_between_states states.Unknown states.UnsatUnderAssumptions (line_of_names m core) s.assumed.items reported.failed_core.items)
               found.ended.does (does_failed seen m found.mid mid core reported.failed_core.items found.failed s.assumed.items s.asked.order.items images lits)
 
-          failed_is : (mid : Core W L G) → IsJoined m mid → mid.search.assumptions.lits.items ≡ s.asked.order.items → WritesFailedCore seen m mid core reported.failed_core.items → HasCore core s.assumed.items reported.failed_core.items
+          failed_is : (mid : Context W L G) → NamesSearchInvariant m mid → mid.search.assumptions.lits.items ≡ s.asked.order.items → WritesFailedCore seen m mid core reported.failed_core.items → HasCore core s.assumed.items reported.failed_core.items
           failed_is mid joined lits f =
               let used = core.search.analysis.core in
               let codes = map (with_var (global_in mid.search)) used in
@@ -322,7 +322,7 @@ module _ {W L : Type 0} {G : Ghosts L} (seen : W → Writer) (s : Solver W L G) 
       }
 
 -- the invariant holds for another proof with the same steps
-pub whole_over : {W L : Type 0} {G : Ghosts L} (c : Core W L G) (n : Variables) (asked : Taken) (assumed core : List ℕ) (scale : ℕ) (state : State) (p : Proof W L G) → IsWholeOf c n asked assumed core scale state → steps_of p ≡ steps_of c.proof → is_lost p ≡ is_lost c.proof → IsWholeOf (record c { proof = p }) n asked assumed core scale state
+pub whole_over : {W L : Type 0} {G : Ghosts L} (c : Context W L G) (n : Variables) (asked : MappedLits) (assumed core : List ℕ) (scale : ℕ) (state : SatState) (p : Proof W L G) → SolverPartsInvariant c n asked assumed core scale state → steps_of p ≡ steps_of c.proof → has_missed_step p ≡ has_missed_step c.proof → SolverPartsInvariant (record c { proof = p }) n asked assumed core scale state
 whole_over {W} {L} {G} c n asked assumed core scale state p whole e taking = record {
   valid = subst (NamesInvariant n) (sym e) whole.valid;
   images = whole.images;
@@ -336,7 +336,7 @@ whole_over {W} {L} {G} c n asked assumed core scale state p whole e taking = rec
   says = says state whole.says;
 }
   where
-    new : Core W L G
+    new : Context W L G
     new = record c { proof = p }
 
     joined : AskGoesOn c n asked → AskGoesOn new n asked
@@ -344,7 +344,7 @@ whole_over {W} {L} {G} c n asked assumed core scale state p whole e taking = rec
       joined = record {
         sound = record {
           keeps = subst AreAllowedSteps (sym e) g.joined.sound.keeps;
-          search = subst (λ ss. IsSearch (session_after ss) c.search) (sym e) g.joined.sound.search;
+          search = subst (λ ss. SearchInvariant (session_after ss) c.search) (sym e) g.joined.sound.search;
           locals = g.joined.sound.locals;
           mids = g.joined.sound.mids;
         };
@@ -354,7 +354,7 @@ whole_over {W} {L} {G} c n asked assumed core scale state p whole e taking = rec
       lits = g.lits;
     }
 
-    says : (st : State) → StateSays st c n asked assumed core → StateSays st new n asked assumed core
+    says : (st : SatState) → HoldsInState st c n asked assumed core → HoldsInState st new n asked assumed core
     says states.Unknown h = joined h
     says states.Sat h = (joined h.0, h.1)
     says states.UnsatUnderAssumptions h = (
@@ -403,12 +403,12 @@ module _ {W L : Type 0} {G : Ghosts L} (seen : W → Writer) (old mid : Solver W
       flush_checked checks.CounterEnd h = h
       flush_checked (checks.Processor cause) h = h
 
-module _ {W L : Type 0} {G : Ghosts L} (seen : W → Writer) (s : Solver W L G) (whole : SolverInvariant s) (unknown : s.state ≡ states.Unknown) (core : Core W L G) (m : Variables) (reported : LastAnswers) (clock : Clock) (scale : clock.restarts.scale ≡ s.clock.restarts.scale) (on : CountsOn (values_in s.core) s.core.config.max_steps s.clock.rounds clock.rounds) where
+module _ {W L : Type 0} {G : Ghosts L} (seen : W → Writer) (s : Solver W L G) (whole : SolverInvariant s) (unknown : s.state ≡ states.Unknown) (core : Context W L G) (m : Variables) (reported : LastAnswers) (clock : Schedule) (scale : clock.restarts.scale ≡ s.clock.restarts.scale) (on : CountsOn (values_in s.core) s.core.config.max_steps s.clock.rounds clock.rounds) where
   goes_on : AskGoesOn s.core s.names s.asked
-  goes_on = subst (λ st. StateSays st s.core s.names s.asked s.assumed.items s.reported.failed_core.items) unknown whole.says
+  goes_on = subst (λ st. HoldsInState st s.core s.names s.asked s.assumed.items s.reported.failed_core.items) unknown whole.says
 
   -- there are at most as many variables as identities
-  over_identities : (j : ScriptState) (live : Live) → NamesAgree s.names (steps_in s) j live → values_in s.core ≤ j.identity_count
+  over_identities : (j : ScriptState) (live : LiveVariables) → NamesAgree s.names (steps_in s) j live → values_in s.core ≤ j.identity_count
   over_identities j live agree =
       let shares = goes_on.joined.shares in
       let size = shares.size in
@@ -425,7 +425,7 @@ module _ {W L : Type 0} {G : Ghosts L} (seen : W → Writer) (s : Solver W L G) 
   }
 
   -- an answer was found
-  pub settled_some : s.clock.rounds < clock.rounds → (st : State) → FoundSays seen st (clock.rounds - s.clock.rounds) s.names m s.core core reported.failed_core.items → Settled seen s (record s { core = core; names = m; reported = reported; clock = clock; state = st })
+  pub settled_some : s.clock.rounds < clock.rounds → (st : SatState) → FoundSays seen st (clock.rounds - s.clock.rounds) s.names m s.core core reported.failed_core.items → Settled seen s (record s { core = core; names = m; reported = reported; clock = clock; state = st })
   settled_some round states.Unknown found = absurd found
   settled_some round states.Sat found = settled_model seen s whole goes_on core m reported clock scale unknown (record { on = rounds_on; round = λ u k. round; spent = λ u. absurd (apart_sat u); answered = λ j live a fits u. apart_sat u }) found
   settled_some round states.UnsatUnderAssumptions found = settled_core seen s whole goes_on core m reported clock scale unknown (record { on = rounds_on; round = λ u k. round; spent = λ u. absurd (apart_core u); answered = λ j live a fits u. apart_core u }) found

@@ -3,22 +3,22 @@ use Rattle.std.proofs.Common.{ℕ, zero, suc, ◌+◌, ◌*◌, ◌/◌, ◌%◌
 use Rattle.std.specs.List.{list_any}
 use Rattle.std.proofs.lemmas.List.{append-nil}
 use Rattle.std.proofs.lemmas.Bool.{cases_eq, or_cases, or_left, or_right, eq-eqb, eqb-true, true≢false, false_from_ne_true}
-use Rattle.sat_base.specs.values.Literals.{variable, is_positive, coded, negated}
+use Rattle.sat_base.specs.values.Literals.{variable, is_positive, mk_lit, negated}
 use Rattle.sat_base.specs.steps.Steps.{Model}
 use Rattle.sat_checker.specs.LiteralSets.{is_among, mentions}
-use Rattle.sat_checker.specs.Accepts.{VariablesApart}
+use Rattle.sat_checker.specs.Accepts.{VariablesDistinct}
 use Rattle.sat_checker.proofs.lemmas.sets.Order.{among-append}
 use Rattle.sat_solver.specs.session.LiveClauses.{with_var}
-use Rattle.sat_solver.specs.session.Session.{Session, IsAllowedStep, MayShow}
+use Rattle.sat_solver.specs.session.Session.{Session, IsAllowedStep, MayWriteModel}
 use Rattle.sat_solver.specs.declared.context.Search.{Search}
-use Rattle.sat_solver.specs.cdcl.Joint.{global_in, IsSearch}
+use Rattle.sat_solver.specs.cdcl.Joint.{global_in, SearchInvariant}
 use Rattle.sat_solver.specs.cdcl.Showing.{true_lits}
-use Rattle.sat_solver.specs.cdcl.Turns.{IsComplete}
+use Rattle.sat_solver.specs.cdcl.Iterations.{IsComplete}
 use Rattle.sat_solver.proofs.lemmas.cdcl.ShowingLemmas.{are_true_lits, complete_may}
 use Rattle.sat_solver.proofs.lemmas.fits.CodeLemmas.{coded_by}
 use Rattle.sat_solver.proofs.lemmas.variables.ModeChanges.{live_within}
 use Rattle.sat_solver.proofs.lemmas.cdcl.TurnLemmas.{ready_names}
-use Rattle.sat_solver.specs.variables.Variables.{AreTidy, NamesMatchSteps, data_at, solver_of, variables_used, says_unit}
+use Rattle.sat_solver.specs.variables.Variables.{VariablesInvariant, NamesMatchSteps, data_at, solver_of, variables_used, says_unit}
 use Rattle.sat_solver.specs.variables.Shared.{SharesIndices}
 use Rattle.sat_solver.specs.Models.{has_true_value, value_by, value_in, literal_in, model_to}
 use Rattle.sat_solver.specs.declared.variables.Variables.{Variables}
@@ -29,13 +29,13 @@ use Rattle.sat_parts.proofs.lemmas.parts.ValueLemmas.{coded_variable}
 pub record IsShown (n : Variables) (values : List (Option Bool)) (count l : ℕ) : Type 0 where
   pub below : variable l < count
   pub live : (data_at n (variable l)).deleted ≡ false
-  pub value : l ≡ coded (variable l) (value_in n values (variable l))
+  pub value : l ≡ mk_lit (variable l) (value_in n values (variable l))
 
-pub coded_sign : (v : ℕ) (b : Bool) → is_positive (coded v b) ≡ b
+pub coded_sign : (v : ℕ) (b : Bool) → is_positive (mk_lit v b) ≡ b
 coded_sign v true = (let e : (2 * v + 0) % 2 ≡ 0 = omega arith in ap (λ r. eqb r 0) e)
 coded_sign v false = (let e : (2 * v + 1) % 2 ≡ 1 = omega arith in ap (λ r. eqb r 0) e)
 
-pub coded_back : (l : ℕ) → coded (variable l) (is_positive l) ≡ l
+pub coded_back : (l : ℕ) → mk_lit (variable l) (is_positive l) ≡ l
 coded_back l = coded_by (λ w. w) l ∙ (let z : 2 * (l / 2) + l % 2 ≡ l = omega arith in z)
 
 negated_variable : (l : ℕ) → variable (negated l) ≡ variable l
@@ -45,16 +45,16 @@ negated_variable l = elim (cases_eq (l % 2) 0) [
 ]
 
 -- the only literal of a list of at most one
-pub only_lit : (gone : Bool) (v l : ℕ) (b : Bool) → is_among (cond gone [] (coded v b ∷ [])) l ≡ true → (gone ≡ false) × (coded v b ≡ l)
+pub only_lit : (gone : Bool) (v l : ℕ) (b : Bool) → is_among (cond gone [] (mk_lit v b ∷ [])) l ≡ true → (gone ≡ false) × (mk_lit v b ≡ l)
 only_lit true v l b h = absurd (true≢false (sym h))
-only_lit false v l b h = elim (or_cases (eqb (coded v b) l) false h) [
-  | inl e ↦ (refl, eqb-true (coded v b) l e)
+only_lit false v l b h = elim (or_cases (eqb (mk_lit v b) l) false h) [
+  | inl e ↦ (refl, eqb-true (mk_lit v b) l e)
   | inr k ↦ absurd (true≢false (sym k))
 ]
 
-pub has_lit : (gone : Bool) (v : ℕ) (b : Bool) → gone ≡ false → is_among (cond gone [] (coded v b ∷ [])) (coded v b) ≡ true
+pub has_lit : (gone : Bool) (v : ℕ) (b : Bool) → gone ≡ false → is_among (cond gone [] (mk_lit v b ∷ [])) (mk_lit v b) ≡ true
 has_lit true v b e = absurd (true≢false e)
-has_lit false v b e = or_left (eqb (coded v b) (coded v b)) false (eq-eqb (coded v b) (coded v b) refl)
+has_lit false v b e = or_left (eqb (mk_lit v b) (mk_lit v b)) false (eq-eqb (mk_lit v b) (mk_lit v b) refl)
 
 module _ (n : Variables) (values : List (Option Bool)) where
   grown : (count : ℕ) → model_to n values (suc count) ≡ model_to n values count ++ literal_in n values count
@@ -70,20 +70,20 @@ module _ (n : Variables) (values : List (Option Bool)) where
         record {
           below = omega arith;
           live = ap (λ v. (data_at n v).deleted) same ∙ p.0;
-          value = sym p.1 ∙ ap (λ v. coded v (value_in n values v)) (sym same);
+          value = sym p.1 ∙ ap (λ v. mk_lit v (value_in n values v)) (sym same);
         }
         )
   ]
 
-  pub model_all : (count v : ℕ) → v < count → (data_at n v).deleted ≡ false → is_among (model_to n values count) (coded v (value_in n values v)) ≡ true
+  pub model_all : (count v : ℕ) → v < count → (data_at n v).deleted ≡ false → is_among (model_to n values count) (mk_lit v (value_in n values v)) ≡ true
   model_all zero v lt live = absurd (omega arith)
   model_all (suc count) v lt live =
-      ap (λ xs. is_among xs (coded v (value_in n values v))) (grown count)
-      ∙ among-append (model_to n values count) (literal_in n values count) (coded v (value_in n values v))
+      ap (λ xs. is_among xs (mk_lit v (value_in n values v))) (grown count)
+      ∙ among-append (model_to n values count) (literal_in n values count) (mk_lit v (value_in n values v))
       ∙ elim (cases_eq v count) [
-        | inl e ↦ or_right (is_among (model_to n values count) (coded v (value_in n values v))) (is_among (literal_in n values count) (coded v (value_in n values v)))
-            (subst (λ w. is_among (literal_in n values w) (coded v (value_in n values v)) ≡ true) e (has_lit (data_at n v).deleted v (value_in n values v) live))
-        | inr k ↦ or_left (is_among (model_to n values count) (coded v (value_in n values v))) (is_among (literal_in n values count) (coded v (value_in n values v)))
+        | inl e ↦ or_right (is_among (model_to n values count) (mk_lit v (value_in n values v))) (is_among (literal_in n values count) (mk_lit v (value_in n values v)))
+            (subst (λ w. is_among (literal_in n values w) (mk_lit v (value_in n values v)) ≡ true) e (has_lit (data_at n v).deleted v (value_in n values v) live))
+        | inr k ↦ or_left (is_among (model_to n values count) (mk_lit v (value_in n values v))) (is_among (literal_in n values count) (mk_lit v (value_in n values v)))
             (model_all count v (omega arith) live)
       ]
 
@@ -95,7 +95,7 @@ mentioned (x ∷ ls) v h = elim (or_cases (eqb (variable x) v) (mentions ls v) h
 ]
 
 -- a literal of a new variable is appended
-apart_more : (ls : List ℕ) (y : ℕ) → VariablesApart ls → mentions ls (variable y) ≡ false → VariablesApart (ls ++ y ∷ [])
+apart_more : (ls : List ℕ) (y : ℕ) → VariablesDistinct ls → mentions ls (variable y) ≡ false → VariablesDistinct (ls ++ y ∷ [])
 apart_more [] y h k = (refl, tt)
 apart_more (x ∷ ls) y h k = (
   false_from_ne_true (mentions (ls ++ y ∷ []) (variable x)) (λ t.
@@ -124,14 +124,14 @@ apart_more (x ∷ ls) y h k = (
     no_right true b h = absurd (true≢false h)
     no_right false b h = h
 
-apart_lit : (gone : Bool) (ls : List ℕ) (v : ℕ) (b : Bool) → VariablesApart ls → mentions ls v ≡ false → VariablesApart (ls ++ cond gone [] (coded v b ∷ []))
-apart_lit true ls v b h k = subst VariablesApart (sym (append-nil ls)) h
-apart_lit false ls v b h k = apart_more ls (coded v b) h (ap (mentions ls) (coded_variable v b) ∙ k)
+apart_lit : (gone : Bool) (ls : List ℕ) (v : ℕ) (b : Bool) → VariablesDistinct ls → mentions ls v ≡ false → VariablesDistinct (ls ++ cond gone [] (mk_lit v b ∷ []))
+apart_lit true ls v b h k = subst VariablesDistinct (sym (append-nil ls)) h
+apart_lit false ls v b h k = apart_more ls (mk_lit v b) h (ap (mentions ls) (coded_variable v b) ∙ k)
 
 module _ (n : Variables) (values : List (Option Bool)) where
-  pub model_apart : (count : ℕ) → VariablesApart (model_to n values count)
-  model_apart zero = subst VariablesApart (sym (model_zero n values)) tt
-  model_apart (suc count) = subst VariablesApart (sym (grown n values count)) (apart_lit (data_at n count).deleted (model_to n values count) count (value_in n values count) (model_apart count)
+  pub model_apart : (count : ℕ) → VariablesDistinct (model_to n values count)
+  model_apart zero = subst VariablesDistinct (sym (model_zero n values)) tt
+  model_apart (suc count) = subst VariablesDistinct (sym (grown n values count)) (apart_lit (data_at n count).deleted (model_to n values count) count (value_in n values count) (model_apart count)
       (false_from_ne_true (mentions (model_to n values count) count) (λ t.
       let m = mentioned (model_to n values count) count t in
       let y = model_only n values count m.0 m.1 in
@@ -163,7 +163,7 @@ other_sign l e = elim (cases_eq (l % 2) 0) [
   | inr k ↦ omega arith
 ]
 
-module _ (n : Variables) (s : Session) (c : Search) (tidy : AreTidy n) (said : NamesMatchSteps n s) (search : IsSearch s c) (shares : SharesIndices n c) where
+module _ (n : Variables) (s : Session) (c : Search) (tidy : VariablesInvariant n) (said : NamesMatchSteps n s) (search : SearchInvariant s c) (shares : SharesIndices n c) where
   abbrev pub values : List (Option Bool)
   values = c.parts.assignment.current
 
@@ -171,21 +171,21 @@ module _ (n : Variables) (s : Session) (c : Search) (tidy : AreTidy n) (said : N
   global_is v x e = shares.same x v (tidy.solvers.back v x e)
 
   -- the proof literal of an index is that of its variable
-  searched : (v x : ℕ) (b : Bool) → solver_of n v ≡ Some x → with_var (global_in c) (coded x b) ≡ coded v b
+  searched : (v x : ℕ) (b : Bool) → solver_of n v ≡ Some x → with_var (global_in c) (mk_lit x b) ≡ mk_lit v b
   searched v x b e =
-      sym (coded_by (global_in c) (coded x b))
-      ∙ ap (λ w. coded (global_in c w) (is_positive (coded x b))) (coded_variable x b)
-      ∙ ap (λ w. coded w (is_positive (coded x b))) (global_is v x e)
-      ∙ ap (coded v) (coded_sign x b)
+      sym (coded_by (global_in c) (mk_lit x b))
+      ∙ ap (λ w. mk_lit (global_in c w) (is_positive (mk_lit x b))) (coded_variable x b)
+      ∙ ap (λ w. mk_lit w (is_positive (mk_lit x b))) (global_is v x e)
+      ∙ ap (mk_lit v) (coded_sign x b)
 
   -- the value of a unit's variable is the one that makes the unit true
-  unit_shown : (v : ℕ) (b : Bool) (o : Option ℕ) → solver_of n v ≡ o → s.units (coded v b) ≡ true → value_in n values v ≡ b
+  unit_shown : (v : ℕ) (b : Bool) (o : Option ℕ) → solver_of n v ≡ o → s.units (mk_lit v b) ≡ true → value_in n values v ≡ b
   unit_shown v b None e u = ap (λ o. value_by o values (data_at n v).unit) e ∙ unit_value (data_at n v).unit b (sym (said.units v e b) ∙ u)
   unit_shown v b (Some x) e u =
       let same = searched v x b e in
-      let name : s.solver_names (global_in c (variable (coded x b))) ≡ Some (variable (coded x b)) =
+      let name : s.solver_names (global_in c (variable (mk_lit x b))) ≡ Some (variable (mk_lit x b)) =
       ap (λ w. s.solver_names (global_in c w)) (coded_variable x b) ∙ ap s.solver_names (global_is v x e) ∙ said.solver_names v ∙ e ∙ ap Some (sym (coded_variable x b)) in
-      let y = search.valid.fits.sound (coded x b) name (ap s.units same ∙ u) in
+      let y = search.valid.fits.sound (mk_lit x b) name (ap s.units same ∙ u) in
       ap (λ o. value_by o values (data_at n v).unit) e
       ∙ ap (λ w. has_true_value (get_or values w None)) (sym (coded_variable x b))
       ∙ ap has_true_value y.0
@@ -195,9 +195,9 @@ module _ (n : Variables) (s : Session) (c : Search) (tidy : AreTidy n) (said : N
   units_shown count l u = false_from_ne_true (is_among (model_to n values count) (negated l)) (λ t.
       let y = model_only n values count (negated l) t in
       let var : variable (negated l) ≡ variable l = negated_variable l in
-      let whole : coded (variable l) (is_positive l) ≡ l = coded_back l in
+      let whole : mk_lit (variable l) (is_positive l) ≡ l = coded_back l in
       let value = unit_shown (variable l) (is_positive l) (solver_of n (variable l)) refl (ap s.units whole ∙ u) in
-      other_sign l (y.value ∙ ap (λ v. coded v (value_in n values v)) var ∙ ap (coded (variable l)) value ∙ whole))
+      other_sign l (y.value ∙ ap (λ v. mk_lit v (value_in n values v)) var ∙ ap (mk_lit (variable l)) value ∙ whole))
 
   shown_lit : (l : ℕ) → is_among (map (with_var (global_in c)) (true_lits 0 values)) l ≡ true → is_among (model_to n values (variables_used n)) l ≡ true
   shown_lit l h =
@@ -207,12 +207,12 @@ module _ (n : Variables) (s : Session) (c : Search) (tidy : AreTidy n) (said : N
       let index : solver_of n v ≡ Some (variable m.0) = sym (said.solver_names v) ∙ ready_names s c search.ready m.0 is_true_lit in
       let live = tidy.indexed v (variable m.0) index in
       let value : value_in n values v ≡ is_positive m.0 = ap (λ o. value_by o values (data_at n v).unit) index ∙ ap has_true_value is_true_lit in
-      let lit : coded v (value_in n values v) ≡ l = ap (coded v) value ∙ coded_by (global_in c) m.0 ∙ m.2 in
+      let lit : mk_lit v (value_in n values v) ≡ l = ap (mk_lit v) value ∙ coded_by (global_in c) m.0 ∙ m.2 in
       subst (λ k. is_among (model_to n values (variables_used n)) k ≡ true) lit (model_all n values (variables_used n) v (live_within n v live) live)
 
   pub shown_may : IsComplete c.assumptions.lits.items c.parts → IsAllowedStep s (Model (model_to n values (variables_used n)))
   shown_may complete =
-      let base : MayShow s (map (with_var (global_in c)) (true_lits 0 values)) = complete_may s c search complete in
+      let base : MayWriteModel s (map (with_var (global_in c)) (true_lits 0 values)) = complete_may s c search complete in
       record {
         consistent = base.consistent;
         apart = model_apart n values (variables_used n);

@@ -1,12 +1,12 @@
 -- Assumptions over names, and the proof literals that stand for them.
 use Rattle.std.proofs.Common.{ℕ, zero, suc, ◌<◌, ◌≡◌, ◌∙◌, refl, List, [], ◌∷◌, length, map, get_or, sym, ap, arith}
-use Rattle.sat_base.specs.values.Literals.{variable, is_positive, coded}
+use Rattle.sat_base.specs.values.Literals.{variable, is_positive, mk_lit}
 use Rattle.sat_solver.specs.session.LiveClauses.{with_var}
 use Rattle.sat_solver.specs.load.Literals.{Image, Images, GlobalImages, global_with_index}
 use Rattle.sat_solver.specs.variables.Naming.{KeepsNames}
-use Rattle.sat_solver.specs.variables.Variables.{AreTidy}
+use Rattle.sat_solver.specs.variables.Variables.{VariablesInvariant}
 use Rattle.sat_solver.specs.declared.variables.Variables.{Variables}
-use Rattle.sat_solver.specs.declared.load.literals.Taken.{Taken}
+use Rattle.sat_solver.specs.declared.load.literals.MappedLits.{MappedLits}
 use Rattle.sat_solver.proofs.lemmas.fits.CodeLemmas.{coded_by}
 use Rattle.sat_parts.proofs.lemmas.parts.ValueLemmas.{coded_variable}
 use Rattle.sat_solver.proofs.lemmas.solver.ShownLemmas.{coded_sign}
@@ -21,7 +21,7 @@ mapped_at f (l ∷ ls) zero lt = refl
 mapped_at f (l ∷ ls) (suc k) lt = mapped_at f ls k (omega arith)
 
 -- the proof literals that were written stand for the assumptions
-pub global_images_of : (n : Variables) (user : List ℕ) (t : Taken) → AreTidy n → Images n user t.order.items → t.globals.items ≡ map (with_var (global_with_index n)) t.order.items → GlobalImages n user t.globals.items
+pub global_images_of : (n : Variables) (user : List ℕ) (t : MappedLits) → VariablesInvariant n → Images n user t.order.items → t.globals.items ≡ map (with_var (global_with_index n)) t.order.items → GlobalImages n user t.globals.items
 global_images_of n user t tidy images e = record {
   count = ap (λ ls. length ls) e ∙ length_mapped (with_var (global_with_index n)) t.order.items ∙ images.count;
   each = λ k lt.
@@ -32,7 +32,7 @@ global_images_of n user t tidy images e = record {
         x.variable_is,
         x.named,
         ap (λ ls. get_or ls k 0) e ∙ mapped_at (with_var (global_with_index n)) t.order.items k (let c = images.count in omega arith)
-            ∙ sym (coded_by (global_with_index n) (get_or t.order.items k 0)) ∙ ap (λ v. coded v (is_positive (get_or t.order.items k 0))) at ∙ ap (coded x.variable_is) sign,
+            ∙ sym (coded_by (global_with_index n) (get_or t.order.items k 0)) ∙ ap (λ v. mk_lit v (is_positive (get_or t.order.items k 0))) at ∙ ap (mk_lit x.variable_is) sign,
       );
 }
 

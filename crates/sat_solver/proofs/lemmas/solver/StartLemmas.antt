@@ -3,32 +3,32 @@ use Rattle.std.proofs.Common.{ℕ, ◌<◌, ◌≡◌, ◌∙◌, true, false, n
 use Rattle.std.proofs.lemmas.Bool.{true≢false}
 use Rattle.std.proofs.lemmas.List.{get_or_past}
 use Rattle.std.proofs.lemmas.Option.{none-some}
-use Rattle.sat_base.specs.script.ScriptState.{start}
+use Rattle.sat_base.specs.script.ScriptState.{initial_state}
 use Rattle.sat_checker.specs.Stored.{unknown}
 use Rattle.sat_store.specs.declared.data.VarData.{VarData}
 use Rattle.sat_store.specs.variables.VarData.{unused_variable}
 use Rattle.sat_checker.specs.declared.processing.ProofProcessor.{Ghosts}
-use Rattle.sat_solver.specs.proof.ProofView.{is_lost, steps_of}
-use Rattle.sat_solver.specs.session.Session.{nothing, AreAllowedSteps, session_after}
+use Rattle.sat_solver.specs.proof.ProofView.{has_missed_step, steps_of}
+use Rattle.sat_solver.specs.session.Session.{empty_session, AreAllowedSteps, session_after}
 use Rattle.sat_solver.specs.declared.variables.Variables.{Variables}
-use Rattle.sat_solver.specs.declared.load.literals.Taken.{Taken}
-use Rattle.sat_solver.specs.declared.context.Core.{Core}
+use Rattle.sat_solver.specs.declared.load.literals.MappedLits.{MappedLits}
+use Rattle.sat_solver.specs.declared.context.Context.{Context}
 use Rattle.sat_solver.specs.clause.Activity.{AreDecays}
-use Rattle.sat_solver.specs.cdcl.Joint.{IsSearch}
-use Rattle.sat_solver.specs.variables.Variables.{AreTidy, NamesMatchSteps, says_unit, checker_mode, user_of, data_at, global_of, solver_of, names_used, variables_used}
+use Rattle.sat_solver.specs.cdcl.Joint.{SearchInvariant}
+use Rattle.sat_solver.specs.variables.Variables.{VariablesInvariant, NamesMatchSteps, says_unit, checker_mode, user_of, data_at, global_of, solver_of, names_used, variables_used}
 use Rattle.sat_solver.specs.variables.Live.{given_of}
 use Rattle.sat_solver.specs.variables.Calls.{NamesInvariant, NamesAgree, HasScriptState}
 use Rattle.sat_checker.specs.matching.ProofChecking.{checker_rules}
 use Rattle.sat_checker.proofs.lemmas.matching.Bridge.{begun}
-use Rattle.sat_solver.specs.solver.Joined.{IsJoined}
-use Rattle.sat_solver.specs.solver.Whole.{IsWholeOf}
-use Rattle.sat_solver.specs.declared.state.State.TheVariants as states
+use Rattle.sat_solver.specs.solver.Joined.{NamesSearchInvariant}
+use Rattle.sat_solver.specs.solver.Whole.{SolverPartsInvariant}
+use Rattle.sat_solver.specs.declared.state.SatState.TheVariants as states
 
 none_mapped : (f : ℕ → ℕ) (ls : List ℕ) → [] ≡ map f ls → ls ≡ []
 none_mapped f [] e = refl
 none_mapped f (l ∷ ls) e = cc
 
-module _ (n : Variables) (tidy : AreTidy n) (none : variables_used n ≡ 0) where
+module _ (n : Variables) (tidy : VariablesInvariant n) (none : variables_used n ≡ 0) where
   unused : (v : ℕ) → data_at n v ≡ unused_variable
   unused v = get_or_past n.var_data.items v unused_variable (omega (arith, none))
 
@@ -48,7 +48,7 @@ module _ (n : Variables) (tidy : AreTidy n) (none : variables_used n ≡ 0) wher
   variable_first : (v : ℕ) (d : VarData) → d ≡ unused_variable → unknown ≡ cond d.deleted unknown (record { known = true; mode = checker_mode d.sampling_mode; name = user_of n v })
   variable_first v d e = subst (λ (x : VarData). unknown ≡ cond x.deleted unknown (record { known = true; mode = checker_mode x.sampling_mode; name = user_of n v })) (sym e) refl
 
-  said : NamesMatchSteps n nothing
+  said : NamesMatchSteps n empty_session
   said = record {
     variables = λ v. variable_first v (data_at n v) (unused v);
     solver_names = λ v. sym (no_index v);
@@ -60,7 +60,7 @@ module _ (n : Variables) (tidy : AreTidy n) (none : variables_used n ≡ 0) wher
   pub stands_first : NamesInvariant n []
   stands_first = record { tidy = tidy; said = said; may = tt; read = λ u. sym (no_name u) }
 
-  pub agree_first : NamesAgree n [] start []
+  pub agree_first : NamesAgree n [] initial_state []
   agree_first = record {
     judged = record {
       first_unused = (let e = names_none in omega arith);
@@ -79,9 +79,9 @@ module _ (n : Variables) (tidy : AreTidy n) (none : variables_used n ≡ 0) wher
   }
 
   -- before the first step, names and search are joined
-  pub joined_first : {W L : Type 0} {G : Ghosts L} (c : Core W L G) → steps_of c.proof ≡ [] → IsSearch nothing c.search → c.search.parts.assignment.current ≡ [] → c.search.globals.items ≡ [] → 0 < c.config.reduce_locals_interval → 0 < c.config.reduce_mids_interval → IsJoined n c
+  pub joined_first : {W L : Type 0} {G : Ghosts L} (c : Context W L G) → steps_of c.proof ≡ [] → SearchInvariant empty_session c.search → c.search.parts.assignment.current ≡ [] → c.search.globals.items ≡ [] → 0 < c.config.reduce_locals_interval → 0 < c.config.reduce_mids_interval → NamesSearchInvariant n c
   joined_first c steps search values globals locals mids = record {
-    sound = record { keeps = subst AreAllowedSteps (sym steps) tt; search = subst (λ ss. IsSearch (session_after ss) c.search) (sym steps) search; locals = locals; mids = mids };
+    sound = record { keeps = subst AreAllowedSteps (sym steps) tt; search = subst (λ ss. SearchInvariant (session_after ss) c.search) (sym steps) search; locals = locals; mids = mids };
     valid = subst (NamesInvariant n) (sym steps) stands_first;
     shares = record {
       size = ap (λ xs. length xs) values ∙ sym (ap (λ xs. length xs) globals);
@@ -92,8 +92,8 @@ module _ (n : Variables) (tidy : AreTidy n) (none : variables_used n ≡ 0) wher
   }
 
   -- a solver without steps satisfies its invariant
-  pub whole_first : {W L : Type 0} {G : Ghosts L} (c : Core W L G) (asked : Taken) (assumed core : List ℕ) (scale : ℕ) → steps_of c.proof ≡ [] → IsSearch nothing c.search → c.search.parts.assignment.current ≡ [] → c.search.globals.items ≡ [] →
-      0 < c.config.reduce_locals_interval → 0 < c.config.reduce_mids_interval → asked.order.items ≡ [] → asked.globals.items ≡ [] → assumed ≡ [] → 0 < scale → scale ≡ c.config.luby_restart_interval_scale → AreDecays c.config → is_lost c.proof ≡ false → IsWholeOf c n asked assumed core scale states.Unknown
+  pub whole_first : {W L : Type 0} {G : Ghosts L} (c : Context W L G) (asked : MappedLits) (assumed core : List ℕ) (scale : ℕ) → steps_of c.proof ≡ [] → SearchInvariant empty_session c.search → c.search.parts.assignment.current ≡ [] → c.search.globals.items ≡ [] →
+      0 < c.config.reduce_locals_interval → 0 < c.config.reduce_mids_interval → asked.order.items ≡ [] → asked.globals.items ≡ [] → assumed ≡ [] → 0 < scale → scale ≡ c.config.luby_restart_interval_scale → AreDecays c.config → has_missed_step c.proof ≡ false → SolverPartsInvariant c n asked assumed core scale states.Unknown
   whole_first c asked assumed core scale steps search values globals locals mids order asked_globals none_assumed positive scaled decays taking = record {
     valid = valid;
     images = record { count = ap (λ xs. length xs) order ∙ sym (ap (λ xs. length xs) none_assumed); each = λ k lt. absurd (let z : k < 0 = subst (λ (xs : List ℕ). k < length xs) none_assumed lt in omega arith) };
@@ -103,7 +103,7 @@ module _ (n : Variables) (tidy : AreTidy n) (none : variables_used n ≡ 0) wher
     scaled = scaled;
     decays = decays;
     taking = taking;
-    judged = subst (HasScriptState n) (sym steps) (start, [], agree_first);
+    judged = subst (HasScriptState n) (sym steps) (initial_state, [], agree_first);
     says = record {
       joined = joined_first c steps search values globals locals mids;
       lits = none_mapped _ c.search.assumptions.lits.items search.ready.asked ∙ sym order;

@@ -4,17 +4,17 @@ use Rattle.std.specs.Prelude.{IsErrAnd}
 use Rattle.std.proofs.lemmas.Result.{err_from_is_err_and}
 use Rattle.sat_base.specs.device.Device.{Writer}
 use Rattle.sat_base.specs.values.Literals.{variable}
-use Rattle.sat_base.specs.script.ScriptState.{bring_all, with_clause}
+use Rattle.sat_base.specs.script.ScriptState.{introduce_all, with_clause}
 use Rattle.sat_base.specs.steps.Steps.{Step, AddClause, Assumptions}
 use Rattle.sat_checker.specs.LiteralSets.{is_tautology}
 use Rattle.sat_checker.specs.SortedSets.{IsIncreasing}
 use Rattle.sat_checker.proofs.lemmas.sets.Canonical.{canonical_increasing, canonical_tautology}
 use Rattle.sat_checker.specs.declared.processing.ProofProcessor.{Ghosts}
-use Rattle.sat_solver.specs.declared.proof.made.CheckFault.TheVariants as checks
-use Rattle.sat_solver.specs.proof.ProofView.{HasAllowedSteps, is_lost, steps_of, session_of}
+use Rattle.sat_solver.specs.declared.proof.emitted.CheckFault.TheVariants as checks
+use Rattle.sat_solver.specs.proof.ProofView.{HasAllowedSteps, has_missed_step, steps_of, session_of}
 use Rattle.sat_solver.specs.session.Session.{Session, AreAllowedSteps, session_after}
 use Rattle.sat_solver.specs.session.Making.{ComesBySteps, ComesByCheckedSteps}
-use Rattle.sat_solver.specs.variables.Taking.{NotTaken}
+use Rattle.sat_solver.specs.variables.Taking.{StepNotAccepted}
 use Rattle.sat_solver.specs.declared.proof.Proof.{Proof}
 use Rattle.sat_solver.proofs.lemmas.session.ProofLemmas.{gains_none, gains_adds, gains_more}
 use Rattle.sat_solver.proofs.lemmas.cdcl.GoingLemmas.{check_loss, complaint_kept, loss_later, went_after, went_checked, went_failing, fault_checked}
@@ -24,40 +24,40 @@ use Rattle.sat_solver.specs.declared.variables.error.NameError.{NameError}
 use Rattle.sat_solver.specs.declared.variables.error.NameError.TheVariants as names
 use Rattle.sat_solver.specs.variables.Failing.{IsFailure, EmitsUpTo}
 use Rattle.sat_solver.specs.load.Faults.{reported_as}
-use Rattle.sat_solver.specs.declared.context.Core.{Core}
+use Rattle.sat_solver.specs.declared.context.Context.{Context}
 use Rattle.sat_solver.specs.declared.context.Search.{Search}
 use Rattle.sat_parts.specs.parts.Full.{IsFull}
-use Rattle.sat_solver.specs.cdcl.Going.{IsFault, IsFaultOr, EmitsStepsOr}
-use Rattle.sat_solver.specs.cdcl.Joint.{global_in, IsSearch}
+use Rattle.sat_solver.specs.cdcl.StepEffects.{IsFault, IsFaultOr, EmitsStepsOr}
+use Rattle.sat_solver.specs.cdcl.Joint.{global_in, SearchInvariant}
 use Rattle.sat_solver.proofs.lemmas.cdcl.AskedLemmas.{asked_after, kinds_of}
 use Rattle.sat_solver.specs.load.Literals.{user_literal, Image}
-use Rattle.sat_solver.specs.load.Clauses.{BringsClause}
-use Rattle.sat_solver.specs.load.Assumed.{BringsAssumptions}
+use Rattle.sat_solver.specs.load.Clauses.{IntroducesClause}
+use Rattle.sat_solver.specs.load.Assumed.{IntroducesAssumptions}
 use Rattle.sat_solver.specs.declared.config.SolverConfig.{SolverConfig}
 use Rattle.sat_solver.specs.session.LiveClauses.{with_var}
 use Rattle.sat_parts.specs.parts.Assumed.{HaveVariablesIn}
 use Rattle.sat_solver.specs.variables.Calls.{NamesInvariant, NamesEffect}
-use Rattle.sat_checker.specs.matching.Expected.{Unknown, Adds, bringing}
+use Rattle.sat_checker.specs.matching.Expected.{Unknown, Adds, introducing}
 use Rattle.sat_solver.specs.variables.Refusing.{names_in}
 use Rattle.sat_solver.specs.variables.Naming.{ExtendsNames}
 use Rattle.sat_solver.specs.variables.Search.{GivesIndices}
 use Rattle.sat_solver.specs.variables.Variables.{solver_of}
 use Rattle.sat_solver.specs.declared.variables.Variables.{Variables}
-use Rattle.sat_solver.specs.declared.load.literals.Taken.{Taken}
+use Rattle.sat_solver.specs.declared.load.literals.MappedLits.{MappedLits}
 use Rattle.sat_solver.specs.variables.Initialized.{AreVacant, GivesSearchIndices}
 use Rattle.sat_solver.specs.variables.Shared.{SharesIndices}
-use Rattle.sat_solver.specs.load.Loaded.{MayLoad, IsAdded, IsLoaded}
+use Rattle.sat_solver.specs.load.Loaded.{CanLoad, IsAdded, IsLoaded}
 use Rattle.sat_solver.specs.assumptions.Setting.{ReplacesAssumed}
 use Rattle.sat_solver.proofs.lemmas.load.AlikeLemmas.{tautology_loads}
 use Rattle.sat_solver.proofs.lemmas.load.LoadingLemmas.{asked_added}
 use Rattle.sat_solver.proofs.lemmas.load.SharedLemmas.{gives_names, given_vacant, shares_given, AreOver, over_below, over_named, over_same}
 use Rattle.sat_solver.proofs.lemmas.load.TakenLemmas.{added_names, images_over, taken_may, taken_added}
-use Rattle.sat_solver.specs.solver.Joined.{IsJoined}
-use Rattle.sat_solver.specs.solver.Taking.{KeepImages, GoesOnOr, TookClause, TookAssumptions, TakesClause, BreaksNamesOff, BreaksNamesOr}
+use Rattle.sat_solver.specs.solver.Joined.{NamesSearchInvariant}
+use Rattle.sat_solver.specs.solver.Taking.{KeepImages, NamesSearchInvariantOrUnsat, TookClause, TookAssumptions, TakesClause, BreaksNamesOff, BreaksNamesOr}
 use Rattle.sat_solver.proofs.lemmas.solver.SpeltLemmas.{global_images_of}
-use Rattle.sat_solver.specs.variables.Coming.{MayAdd}
+use Rattle.sat_solver.specs.variables.NamingSteps.{IsClauseStep}
 use Rattle.sat_solver.specs.variables.Ordering.{AddsInOrder, IsInIndexOrder}
-use Rattle.sat_solver.specs.session.Coming.{OnlyAllowedSteps, DeletesAdded}
+use Rattle.sat_solver.specs.session.AllowedSteps.{OnlyAllowedSteps, DeletesAdded}
 use Rattle.sat_solver.proofs.lemmas.session.ComingLemmas.{comes_both}
 use Rattle.sat_solver.proofs.lemmas.variables.ComingSteps.{comes_added, comes_deleted}
 use Rattle.sat_solver.proofs.lemmas.solver.AfterLemmas.{does_after}
@@ -83,16 +83,16 @@ pub fault_ends : {A W L full : Type 0} {G : Ghosts L} (seen : W → Writer) (r :
 fault_ends seen (Ok x) p q P goes = tt
 fault_ends seen (Err e) p q P goes = goes.ends
 
-module _ {W L : Type 0} {G : Ghosts L} (seen : W → Writer) (a b : Core W L G) where
+module _ {W L : Type 0} {G : Ghosts L} (seen : W → Writer) (a b : Context W L G) where
   -- a call over names failed
-  pub names_broke : {full : Type 0} (e : NameError) → EmitsUpTo (ComesByCheckedSteps seen) (NotTaken seen) a.proof e b.proof → BreaksNamesOff full seen (reported_as e) a b
+  pub names_broke : {full : Type 0} (e : NameError) → EmitsUpTo (ComesByCheckedSteps seen) (StepNotAccepted seen) a.proof e b.proof → BreaksNamesOff full seen (reported_as e) a b
   names_broke names.VariableLimit h = (record { fault = inr refl; steps = h.0; went = gains_adds seen h.0 a.proof b.proof h.1; loss = h.1.taking }, tt)
   names_broke names.OutOfMemory h = (record { fault = inl tt; steps = h.0; went = gains_adds seen h.0 a.proof b.proof h.1; loss = inl h.1.taking }, tt)
   names_broke (names.Write cause) h = (record { fault = inl tt; steps = h.0.0; went = h.0.1; loss = tt }, h.1)
   names_broke (names.Check fault) h = (record { fault = inl (fault_checked _ fault); steps = h.0; went = went_checked seen (Unit {0}) fault h.0 a.proof b.proof h.1; loss = check_loss fault a.proof b.proof h.1.why }, complaint_kept fault b.proof h.2)
 
   -- memory ran out after steps were made
-  pub took_starved : {full : Type 0} → ComesBySteps seen a.proof b.proof → is_lost b.proof ≡ is_lost a.proof → BreaksNamesOr full seen errors.OutOfMemory a b
+  pub took_starved : {full : Type 0} → ComesBySteps seen a.proof b.proof → has_missed_step b.proof ≡ has_missed_step a.proof → BreaksNamesOr full seen errors.OutOfMemory a b
   took_starved h taking = record { fault = inl tt; steps = h.0; went = h.1; loss = inl taking }
 
   pub names_starved : {full : Type 0} → ComesByCheckedSteps seen a.proof b.proof → BreaksNamesOff full seen errors.OutOfMemory a b
@@ -123,7 +123,7 @@ keep_images n n' s gs extends gives user order i = record {
 same_rest : (x y : Step) (xs ys : List Step) → x ∷ xs ≡ y ∷ ys → xs ≡ ys
 same_rest x y xs ys e = cc
 
-module _ {W L : Type 0} {G : Ghosts L} (seen : W → Writer) (n n' : Variables) (a : Core W L G) (joined : IsJoined n a) (user : List ℕ) (t : Taken) (both : Bool) (p : Proof W L G) (adds : BringsClause n n' (steps_of a.proof) (steps_of p) user t both) (took : ComesByCheckedSteps seen a.proof p) (keeps : HasAllowedSteps p) where
+module _ {W L : Type 0} {G : Ghosts L} (seen : W → Writer) (n n' : Variables) (a : Context W L G) (joined : NamesSearchInvariant n a) (user : List ℕ) (t : MappedLits) (both : Bool) (p : Proof W L G) (adds : IntroducesClause n n' (steps_of a.proof) (steps_of p) user t both) (took : ComesByCheckedSteps seen a.proof p) (keeps : HasAllowedSteps p) where
   abbrev pub between : Session
   between = session_after adds.between
 
@@ -140,14 +140,14 @@ module _ {W L : Type 0} {G : Ghosts L} (seen : W → Writer) (n n' : Variables) 
     shares1 : SharesIndices n' c1
     shares1 = shares_given n n' (session_of a.proof) between t.given.items joined.valid.tidy adds.does.valid.tidy joined.valid.said names_between adds.gives adds.search a.search joined.shares c1 indexed
 
-    search1 : IsSearch between c1
+    search1 : SearchInvariant between c1
     search1 = indexed.search (session_of a.proof) between joined.sound.search
         (gives_names n n' (session_of a.proof) between t.given.items joined.valid.tidy adds.does.valid.tidy joined.valid.said names_between adds.gives adds.search a.search joined.shares)
 
     pub clause_added : IsAdded (steps_of p) c1 t.lits.items
     clause_added = taken_added n' t user adds.between (steps_of p) c1 adds.does.valid.tidy adds.images adds.clause shares1 adds.written adds.does.valid.said.solver_names search1
 
-    pub clause_may : both ≡ false → MayLoad c1 t.lits.items
+    pub clause_may : both ≡ false → CanLoad c1 t.lits.items
     clause_may e = taken_may n' t user adds.between (steps_of p) c1 adds.does.valid.tidy adds.images adds.clause shares1 indexed.bottom (sym adds.signs ∙ e)
 
     since_added : clause_added.earlier ≡ adds.since.steps ++ steps_of a.proof
@@ -171,11 +171,11 @@ module _ {W L : Type 0} {G : Ghosts L} (seen : W → Writer) (n n' : Variables) 
     assumed1 : (session_of p).assumed ≡ (session_of a.proof).assumed
     assumed1 = ap (λ ss. (session_after ss).assumed) adds.written ∙ asked_added t.globals.items adds.between (adds.search.unsat ∙ joined.sound.search.valid.fits.consistent) ∙ adds.search.assumed
 
-    joined1 : (b : Core W L G) → b.proof ≡ p → b.search ≡ c1 → b.config ≡ a.config → IsSearch (session_of p) c1 → IsJoined n' b
+    joined1 : (b : Context W L G) → b.proof ≡ p → b.search ≡ c1 → b.config ≡ a.config → SearchInvariant (session_of p) c1 → NamesSearchInvariant n' b
     joined1 b e f g search = record {
       sound = record {
         keeps = subst HasAllowedSteps (sym e) keeps;
-        search = subst (λ q. IsSearch (session_of q) b.search) (sym e) (subst (IsSearch (session_of p)) (sym f) search);
+        search = subst (λ q. SearchInvariant (session_of q) b.search) (sym e) (subst (SearchInvariant (session_of p)) (sym f) search);
         locals = subst (λ (c : SolverConfig). 0 < c.reduce_locals_interval) (sym g) joined.sound.locals;
         mids = subst (λ (c : SolverConfig). 0 < c.reduce_mids_interval) (sym g) joined.sound.mids;
       };
@@ -201,15 +201,15 @@ module _ {W L : Type 0} {G : Ghosts L} (seen : W → Writer) (n n' : Variables) 
 
     -- any other clause is loaded
     module _ (left : Bool) (q : Proof W L G) (c2 : Search) (goes : EmitsStepsOr (IsFull c2.parts) seen (Ok left) p q (λ l _. IsLoaded l (session_of q) c1 c2)) (deletes : OnlyAllowedSteps DeletesAdded (steps_of p) (steps_of q)) where
-      abbrev pub new : Core W L G
+      abbrev pub new : Context W L G
       new = record a { proof = q; search = c2 }
 
-      does2 : NamesEffect n n' (steps_of a.proof) (steps_of q) (λ j. with_clause (map user_literal user) (bring_all (names_in user) j)) (λ j. bringing (names_in user) j ++ (Adds (map user_literal user) ∷ []))
-      does2 = subst (λ ss. NamesEffect n n' (steps_of a.proof) ss (λ j. with_clause (map user_literal user) (bring_all (names_in user) j)) (λ j. bringing (names_in user) j ++ (Adds (map user_literal user) ∷ []))) (sym goes.went.history)
-          (does_after n n' (steps_of a.proof) (steps_of p) goes.steps (λ j. with_clause (map user_literal user) (bring_all (names_in user) j)) (λ j. bringing (names_in user) j ++ (Adds (map user_literal user) ∷ []))
+      does2 : NamesEffect n n' (steps_of a.proof) (steps_of q) (λ j. with_clause (map user_literal user) (introduce_all (names_in user) j)) (λ j. introducing (names_in user) j ++ (Adds (map user_literal user) ∷ []))
+      does2 = subst (λ ss. NamesEffect n n' (steps_of a.proof) ss (λ j. with_clause (map user_literal user) (introduce_all (names_in user) j)) (λ j. introducing (names_in user) j ++ (Adds (map user_literal user) ∷ []))) (sym goes.went.history)
+          (does_after n n' (steps_of a.proof) (steps_of p) goes.steps (λ j. with_clause (map user_literal user) (introduce_all (names_in user) j)) (λ j. introducing (names_in user) j ++ (Adds (map user_literal user) ∷ []))
           adds.does (subst AreAllowedSteps goes.went.history goes.keeps) goes.searched)
 
-      goes_on2 : (l : Bool) → IsLoaded l (session_of q) c1 c2 → GoesOnOr l n' new
+      goes_on2 : (l : Bool) → IsLoaded l (session_of q) c1 c2 → NamesSearchInvariantOrUnsat l n' new
       goes_on2 true loaded = record {
         sound = record { keeps = goes.keeps; search = loaded.goes_on; locals = joined.sound.locals; mids = joined.sound.mids };
         valid = does2.valid;
@@ -220,7 +220,7 @@ module _ {W L : Type 0} {G : Ghosts L} (seen : W → Writer) (n n' : Variables) 
       pub clause_loaded : TookClause seen n n' a new user left
       clause_loaded = record {
         does = does2;
-        comes = comes_both (MayAdd (names_in user)) (steps_of a.proof) (steps_of p) (steps_of q) (comes_added (names_in user) (steps_of a.proof) (steps_of p) adds.comes) (comes_deleted (names_in user) (steps_of p) (steps_of q) deletes);
+        comes = comes_both (IsClauseStep (names_in user)) (steps_of a.proof) (steps_of p) (steps_of q) (comes_added (names_in user) (steps_of a.proof) (steps_of p) adds.comes) (comes_deleted (names_in user) (steps_of p) (steps_of q) deletes);
         order = record { front = order_added.front; clause = order_added.clause; following = goes.steps ++ order_added.following; steps = goes.went.history ∙ ap (λ ss. goes.steps ++ ss) order_added.steps ∙ sym (append_assoc goes.steps order_added.following (AddClause order_added.clause ∷ (order_added.front ++ steps_of a.proof))); order = order_added.order };
         took = (_, gains_more seen took.0 goes.steps a.proof p q took.1 goes.went);
         goes_on = goes_on2 left goes.ends;
@@ -238,7 +238,7 @@ module _ {W L : Type 0} {G : Ghosts L} (seen : W → Writer) (n n' : Variables) 
 
 -- ASSUMPTIONS
 
-module _ {W L : Type 0} {G : Ghosts L} (seen : W → Writer) (n n' : Variables) (a : Core W L G) (joined : IsJoined n a) (user : List ℕ) (t : Taken) (p : Proof W L G) (assumes : BringsAssumptions n n' (steps_of a.proof) (steps_of p) user t) (took : ComesByCheckedSteps seen a.proof p) (keeps : HasAllowedSteps p) where
+module _ {W L : Type 0} {G : Ghosts L} (seen : W → Writer) (n n' : Variables) (a : Context W L G) (joined : NamesSearchInvariant n a) (user : List ℕ) (t : MappedLits) (p : Proof W L G) (assumes : IntroducesAssumptions n n' (steps_of a.proof) (steps_of p) user t) (took : ComesByCheckedSteps seen a.proof p) (keeps : HasAllowedSteps p) where
   abbrev pub asked_between : Session
   asked_between = session_after assumes.between
 
@@ -252,7 +252,7 @@ module _ {W L : Type 0} {G : Ghosts L} (seen : W → Writer) (n n' : Variables) 
     shares_asked : SharesIndices n' c1
     shares_asked = shares_given n n' (session_of a.proof) asked_between t.given.items joined.valid.tidy (assumes.does Unknown).valid.tidy joined.valid.said asked_names assumes.gives assumes.search a.search joined.shares c1 indexed
 
-    search_asked : IsSearch asked_between c1
+    search_asked : SearchInvariant asked_between c1
     search_asked = indexed.search (session_of a.proof) asked_between joined.sound.search
         (gives_names n n' (session_of a.proof) asked_between t.given.items joined.valid.tidy (assumes.does Unknown).valid.tidy joined.valid.said asked_names assumes.gives assumes.search a.search joined.shares)
 
@@ -271,7 +271,7 @@ module _ {W L : Type 0} {G : Ghosts L} (seen : W → Writer) (n n' : Variables) 
       joined = record {
         sound = record {
           keeps = keeps;
-          search = subst (λ ss. IsSearch (session_after ss) c2) (sym (assumes.written ∙ ap (λ ks. Assumptions ks ∷ assumes.between) same_lits))
+          search = subst (λ ss. SearchInvariant (session_after ss) c2) (sym (assumes.written ∙ ap (λ ks. Assumptions ks ∷ assumes.between) same_lits))
               (assumed.search asked_between search_asked (over_named n' c1 asked_between t.order.items (assumes.does Unknown).valid.tidy asked_names shares_asked over_order));
           locals = joined.sound.locals;
           mids = joined.sound.mids;

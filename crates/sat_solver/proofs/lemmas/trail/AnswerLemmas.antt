@@ -4,7 +4,7 @@ use Rattle.std.proofs.lemmas.Bool.{or_left, or_right, cases_eq, true≢false}
 use Rattle.std.specs.List.{list_any}
 use Rattle.sat_base.specs.values.Literals.{negated, is_positive, variable}
 use Rattle.sat_store.specs.clause.Buffer.{lits_at}
-use Rattle.sat_parts.specs.prop.Values.{value_of, IsTrueLit, IsFalseLit, IsOpenLit}
+use Rattle.sat_parts.specs.prop.Values.{value_of, IsTrueLit, IsFalseLit, IsUnassignedLit}
 use Rattle.sat_parts.specs.prop.Binaries.{implied_by}
 use Rattle.sat_solver.specs.session.AnswerFacts.{same_value, is_true, CompleteIsModel}
 
@@ -19,7 +19,7 @@ true_lit values l t = ap (same_value (is_positive l)) t ∙ same_itself (is_posi
 data Three (values : List (Option Bool)) (l : ℕ) : Type 0 where
   it_is_true : is_true values l ≡ true → Three values l
   it_is_false : IsFalseLit values l → Three values l
-  it_is_open : IsOpenLit values l → Three values l
+  it_is_open : IsUnassignedLit values l → Three values l
 
 three : (values : List (Option Bool)) (l : ℕ) → Three values l
 three values l = go (is_positive l) refl (value_of values (variable l)) refl
@@ -32,7 +32,7 @@ three values l = go (is_positive l) refl (value_of values (variable l)) refl
     go false p (Some false) e = it_is_true (ap (same_value (is_positive l)) e ∙ ap (λ x. same_value x (Some false)) p)
 
 -- a clause without open literals has a true one, or all of them are false
-some_true : (values : List (Option Bool)) (ls : List ℕ) → ((k : ℕ) → k < length ls → IsOpenLit values (slice_index_or ls k 0) → ⊥)
+some_true : (values : List (Option Bool)) (ls : List ℕ) → ((k : ℕ) → k < length ls → IsUnassignedLit values (slice_index_or ls k 0) → ⊥)
     → (list_any (is_true values) ls ≡ true) ⊎ ((k : ℕ) → k < length ls → IsFalseLit values (slice_index_or ls k 0))
 some_true values [] h = inr (λ k n. absurd (omega arith))
 some_true values (l ∷ ls) h = go (three values l) (some_true values ls (λ k n. h (suc k) (omega arith)))

@@ -4,8 +4,8 @@ use Rattle.std.proofs.lemmas.Bool.{cases_Bool}
 use Rattle.std.proofs.lemmas.List.Elements.{filter-append}
 use Rattle.std.specs.List.{filter}
 use Rattle.sat_base.specs.values.Literals.{variable, negated}
-use Rattle.sat_parts.specs.prop.Values.{is_unset}
-use Rattle.sat_parts.specs.prop.Binaries.{Binaries, open_among, RemovesAssigned}
+use Rattle.sat_parts.specs.prop.Values.{is_unassigned_var}
+use Rattle.sat_parts.specs.prop.Binaries.{Binaries, unassigned_among, RemovesAssigned}
 use Rattle.sat_solver.specs.session.LiveClauses.{LiveClause}
 use Rattle.sat_solver.specs.session.SolverClauses.{pair, binaries_of, binaries_from, binaries, is_open_clause}
 
@@ -22,7 +22,7 @@ module _ (values : List (Option Bool)) where
   opens = filter (is_open_clause values)
 
   abbrev unset : ℕ → Bool
-  unset l = is_unset values (variable l)
+  unset l = is_unassigned_var values (variable l)
 
   -- WHAT IS LEFT OF ONE LIST
 
@@ -60,25 +60,25 @@ module _ (values : List (Option Bool)) where
       go true ih = ih ∙ sym (ap (λ x. cond (x && (unset m && true)) (pair a m ∷ opens (binaries_of a ms)) (opens (binaries_of a ms))) u)
       go false ih = ih
 
-  opens_of : (l : ℕ) (ms : List ℕ) → binaries_of (negated l) (open_among values (variable l) ms) ≡ opens (binaries_of (negated l) ms)
+  opens_of : (l : ℕ) (ms : List ℕ) → binaries_of (negated l) (unassigned_among values (variable l) ms) ≡ opens (binaries_of (negated l) ms)
   opens_of l ms =
-      let same : unset (negated l) ≡ is_unset values (variable l) = (let e : variable (negated l) ≡ variable l = omega arith in ap (is_unset values) e) in
-      elim (cases_Bool (is_unset values (variable l))) [
+      let same : unset (negated l) ≡ is_unassigned_var values (variable l) = (let e : variable (negated l) ≡ variable l = omega arith in ap (is_unassigned_var values) e) in
+      elim (cases_Bool (is_unassigned_var values (variable l))) [
         | inl t ↦ ap (λ b. binaries_of (negated l) (cond b (filter unset ms) [])) t ∙ opens_open (negated l) ms (same ∙ t)
         | inr f ↦ ap (λ b. binaries_of (negated l) (cond b (filter unset ms) [])) f ∙ opens_set (negated l) ms (same ∙ f)
       ]
 
-  opens_from : (l : ℕ) (old new : List (List ℕ)) → length new ≡ length old → ((i : ℕ) → i < length old → get_or new i [] ≡ open_among values (variable (l + i)) (get_or old i [])) → binaries_from l new ≡ opens (binaries_from l old)
+  opens_from : (l : ℕ) (old new : List (List ℕ)) → length new ≡ length old → ((i : ℕ) → i < length old → get_or new i [] ≡ unassigned_among values (variable (l + i)) (get_or old i [])) → binaries_from l new ≡ opens (binaries_from l old)
   opens_from l [] [] n h = refl
   opens_from l [] (ms ∷ new) n h = absurd (omega arith)
   opens_from l (ms ∷ old) [] n h = absurd (omega arith)
   opens_from l (ms ∷ old) (ks ∷ new) n h =
       let z : l + 0 ≡ l = omega arith in
-      let here : ks ≡ open_among values (variable l) ms = h 0 (omega arith) ∙ ap (λ k. open_among values (variable k) ms) z in
-      let rest : binaries_from (l + 1) new ≡ opens (binaries_from (l + 1) old) = opens_from (l + 1) old new (omega arith) (λ i lt. (let y : l + suc i ≡ l + 1 + i = omega arith in h (suc i) (omega arith) ∙ ap (λ k. open_among values (variable k) (get_or old i [])) y)) in
+      let here : ks ≡ unassigned_among values (variable l) ms = h 0 (omega arith) ∙ ap (λ k. unassigned_among values (variable k) ms) z in
+      let rest : binaries_from (l + 1) new ≡ opens (binaries_from (l + 1) old) = opens_from (l + 1) old new (omega arith) (λ i lt. (let y : l + suc i ≡ l + 1 + i = omega arith in h (suc i) (omega arith) ∙ ap (λ k. unassigned_among values (variable k) (get_or old i [])) y)) in
       ap (λ xs. binaries_of (negated l) xs ++ binaries_from (l + 1) new) here ∙ ap (λ cs. cs ++ binaries_from (l + 1) new) (opens_of l ms) ∙ ap (λ cs. opens (binaries_of (negated l) ms) ++ cs) rest
       ∙ sym (filter-append (is_open_clause values) (binaries_of (negated l) ms) (binaries_from (l + 1) old))
 
   -- the clauses that `remove_assigned` leaves
   pub binaries_open : (x y : Binaries) → RemovesAssigned values x y → binaries y.implied ≡ opens (binaries x.implied)
-  binaries_open x y h = opens_from 0 x.implied y.implied h.size (λ i lt. (let z : 0 + i ≡ i = omega arith in h.implied i ∙ ap (λ k. open_among values (variable k) (get_or x.implied i [])) (sym z)))
+  binaries_open x y h = opens_from 0 x.implied y.implied h.size (λ i lt. (let z : 0 + i ≡ i = omega arith in h.implied i ∙ ap (λ k. unassigned_among values (variable k) (get_or x.implied i [])) (sym z)))

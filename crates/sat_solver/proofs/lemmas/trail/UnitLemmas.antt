@@ -8,17 +8,17 @@ use Rattle.sat_store.specs.clause.Buffer.{lits_at}
 use Rattle.sat_parts.specs.declared.prop.graph.Reason.{Reason}
 use Rattle.sat_parts.specs.declared.prop.graph.Reason.TheVariants.{Unit as NoCause, Binary, Long}
 use Rattle.sat_parts.specs.clause.Stored.{lit_of, size_of}
-use Rattle.sat_parts.specs.prop.Graphs.{is_unit_reason}
+use Rattle.sat_parts.specs.prop.Graphs.{has_no_clause}
 use Rattle.sat_parts.specs.prop.Values.{value_of, IsTrueLit}
-use Rattle.sat_parts.specs.prop.State.{State, node, lit_at, IsBefore, StateIsConsistent}
+use Rattle.sat_parts.specs.prop.State.{PropagationState, node, lit_at, IsBefore, StateIsConsistent}
 use Rattle.sat_parts.specs.prop.Reasons.{IsFalseBefore, Implies, AreUnitInTurn}
-use Rattle.sat_solver.specs.session.Session.{Session, with_fact, MayProve}
+use Rattle.sat_solver.specs.session.Session.{Session, with_fact, MayWriteUnits}
 use Rattle.sat_solver.proofs.lemmas.session.Changes.{session_if}
 use Rattle.sat_solver.specs.session.LiveClauses.{with_var}
 use Rattle.sat_solver.proofs.lemmas.session.Deriving.{proves}
 use Rattle.sat_solver.proofs.lemmas.session.Mapped.{negated_mapped, apart}
 use Rattle.sat_solver.specs.session.TrailEntries.{reason_clause}
-use Rattle.sat_solver.specs.session.TrailUnits.{written_units, IsUsable, HasOwnSolverName, UnitsFit, TrailUnitsMay}
+use Rattle.sat_solver.specs.session.TrailUnits.{written_units, IsUsable, HasOwnSolverName, UnitsFit, TrailUnitsAreAllowed}
 use Rattle.sat_solver.proofs.lemmas.trail.TrailLemmas.{Parts, drop_parts, from_index}
 
 -- ONE MORE UNIT
@@ -85,7 +85,7 @@ not_both values l a b =
     differ : (x y : Bool) → x ≡ true → y ≡ false → Some x ≡ Some y → ⊥
     differ x y p q e = let k : x ≡ y = cc in true≢false (sym p ∙ k ∙ q)
 
-module _ (words live : List ℕ) (implied : List (List ℕ)) (st : State) (global : ℕ → ℕ) (filled : (o : ℕ) → Contains live o → 0 < size_of words o) (agrees : StateIsConsistent st) (turns : AreUnitInTurn words live implied st 0) where
+module _ (words live : List ℕ) (implied : List (List ℕ)) (st : PropagationState) (global : ℕ → ℕ) (filled : (o : ℕ) → Contains live o → 0 < size_of words o) (agrees : StateIsConsistent st) (turns : AreUnitInTurn words live implied st 0) where
   -- the literals before position i are units of the session
   record Now (s : Session) (i : ℕ) : Type 0 where
     fits : UnitsFit words st s global
@@ -98,7 +98,7 @@ module _ (words live : List ℕ) (implied : List (List ℕ)) (st : State) (globa
   mapped_all s l [] h = tt
   mapped_all s l (m ∷ ms) h = (elim h.0 [ inl e ↦ inl (ap (with_var global) e) | inr k ↦ inr k ], mapped_all s l ms h.1)
 
-  others : (s : Session) (i l : ℕ) (r : Reason) → lit_at st i ≡ l → Now s i → is_unit_reason r ≡ false → Implies words live implied st i r → AllByRecursion (λ m. (m ≡ l) ⊎ (s.units (negated (with_var global m)) ≡ true)) (reason_clause words l r)
+  others : (s : Session) (i l : ℕ) (r : Reason) → lit_at st i ≡ l → Now s i → has_no_clause r ≡ false → Implies words live implied st i r → AllByRecursion (λ m. (m ≡ l) ⊎ (s.units (negated (with_var global m)) ≡ true)) (reason_clause words l r)
   others s i l NoCause e n u h = tt
   others s i l (Binary ls) e n u h = (inl refl, (inr (unit_false s i (slice_index_or ls 0 0) n h.1), tt))
   others s i l (Long o) e n u h = from_index (λ m. (m ≡ l) ⊎ (s.units (negated (with_var global m)) ≡ true)) (lits_at words o) (λ k j. elim (eq-zero-or-pos k) [
@@ -146,25 +146,25 @@ module _ (words live : List ℕ) (implied : List (List ℕ)) (st : State) (globa
       })
       (fact_gives s w (open_by s i j n))
 
-  may_from : (ls : List ℕ) (i : ℕ) (s : Session) → drop i st.trail.lits ≡ ls → Now s i → MayProve s (written_units words st s.width global ls)
+  may_from : (ls : List ℕ) (i : ℕ) (s : Session) → drop i st.trail.lits ≡ ls → Now s i → MayWriteUnits s (written_units words st s.width global ls)
   may_from [] i s e n = tt
-  may_from (l ∷ ls) i s e n = go (may_from ls (i + 1)) (is_unit_reason (node st l).reason) refl
+  may_from (l ∷ ls) i s e n = go (may_from ls (i + 1)) (has_no_clause (node st l).reason) refl
     where
       parts : Parts st.trail.lits i l ls
       parts = drop_parts st.trail.lits i l ls e
 
-      go : ((s : Session) → drop (i + 1) st.trail.lits ≡ ls → Now s (i + 1) → MayProve s (written_units words st s.width global ls)) → (b : Bool) → is_unit_reason (node st l).reason ≡ b
-          → MayProve s (cond b (written_units words st s.width global ls) ((with_var global l, hash_of (reason_clause words l (node st l).reason) / 2 ^ (64 - s.width)) ∷ written_units words st s.width global ls))
-      go ih true u = ih s parts.rest (later s i l parts.there n (subst (λ x. s.units (with_var global x) ≡ true) parts.there (n.fits.given i parts.inside (subst (λ x. is_unit_reason (node st x).reason ≡ true) (sym parts.there) u))))
+      go : ((s : Session) → drop (i + 1) st.trail.lits ≡ ls → Now s (i + 1) → MayWriteUnits s (written_units words st s.width global ls)) → (b : Bool) → has_no_clause (node st l).reason ≡ b
+          → MayWriteUnits s (cond b (written_units words st s.width global ls) ((with_var global l, hash_of (reason_clause words l (node st l).reason) / 2 ^ (64 - s.width)) ∷ written_units words st s.width global ls))
+      go ih true u = ih s parts.rest (later s i l parts.there n (subst (λ x. s.units (with_var global x) ≡ true) parts.there (n.fits.given i parts.inside (subst (λ x. has_no_clause (node st x).reason ≡ true) (sym parts.there) u))))
       go ih false u =
-          let usable : IsUsable s global (reason_clause words l (node st l).reason) = subst (λ x. IsUsable s global (reason_clause words x (node st x).reason)) parts.there (n.fits.usable i parts.inside (subst (λ x. is_unit_reason (node st x).reason ≡ false) (sym parts.there) u)) in
+          let usable : IsUsable s global (reason_clause words l (node st l).reason) = subst (λ x. IsUsable s global (reason_clause words x (node st x).reason)) parts.there (n.fits.usable i parts.inside (subst (λ x. has_no_clause (node st x).reason ≡ false) (sym parts.there) u)) in
           let implies : Implies words live implied st i (node st l).reason = subst (λ x. Implies words live implied st i (node st x).reason) parts.there (turns i (omega arith) parts.inside) in
           let next : Now (with_fact (with_var global l) s) (i + 1) = subst (λ x. Now (with_fact (with_var global x) s) (i + 1)) parts.there (with_it s i parts.inside n) in (
             proves s (with_var global l) (hash_of (reason_clause words l (node st l).reason) / 2 ^ (64 - s.width)) (map (with_var global) (reason_clause words l (node st l).reason)) usable.live usable.hash
                 (mapped_all s l (reason_clause words l (node st l).reason) (others s i l (node st l).reason parts.there n u implies)),
-            subst (λ k. MayProve (with_fact (with_var global l) s) (written_units words st k global ls)) (fact_width s (with_var global l)) (ih (with_fact (with_var global l) s) parts.rest next),
+            subst (λ k. MayWriteUnits (with_fact (with_var global l) s) (written_units words st k global ls)) (fact_width s (with_var global l)) (ih (with_fact (with_var global l) s) parts.rest next),
           )
 
-pub trail_units_may : TrailUnitsMay
+pub trail_units_may : TrailUnitsAreAllowed
 trail_units_may words live implied st s global filled agrees turns fits =
     may_from words live implied st global filled agrees turns st.trail.lits 0 s refl (record { fits = fits; passed = λ m b. let n : b.place < 0 = b.before in absurd (omega arith) })

@@ -7,10 +7,10 @@ use Rattle.sat_solver.specs.session.Session.{Session}
 use Rattle.sat_solver.specs.declared.proof.Proof.{Proof}
 use Rattle.sat_solver.specs.declared.variables.Variables.{Variables}
 use Rattle.sat_solver.specs.declared.error.SolverError.{SolverError}
-use Rattle.sat_solver.specs.cdcl.Going.{EmitsSteps}
-use Rattle.sat_solver.specs.cdcl.Joint.{assumed_indices, global_in, IsSearch, SameVarsAndAssumptions, SameAssumedAndNames}
+use Rattle.sat_solver.specs.cdcl.StepEffects.{EmitsSteps}
+use Rattle.sat_solver.specs.cdcl.Joint.{assumed_indices, global_in, SearchInvariant, SameVarsAndAssumptions, SameAssumedAndNames}
 use Rattle.sat_solver.specs.unit_simplify.Left.{TakesUnitsOff}
-use Rattle.sat_solver.specs.cdcl.Turns.{IsPropagated}
+use Rattle.sat_solver.specs.cdcl.Iterations.{IsPropagated}
 use Rattle.sat_solver.specs.declared.context.Search.{Search}
 use Rattle.sat_solver.proofs.lemmas.cdcl.TurnLemmas.{Propagation, ready_moved, free_moved}
 use Rattle.sat_solver.proofs.lemmas.solver.ReportingLemmas.{shares_moved}
@@ -28,7 +28,7 @@ module _ (s t : Session) (c d : Search) (propagated : IsPropagated s c) (leaves 
   pub settled_moved : SameVarsAndAssumptions c d
   settled_moved = record { globals = globals; lits = ap (λ a. a.lits) assumptions; size = settled.size }
 
-  pub settled_search : IsSearch t d
+  pub settled_search : SearchInvariant t d
   settled_search = record {
     valid = record { holds = settled.valid.holds; fits = rw globals settled.valid.fits };
     ready = ready_moved s t c d propagated.ready leaves settled_moved (settled.word (assumed_indices c)).0 (rw assumptions (settled.placed c.assumptions propagated.ready.placed)) (free_moved c d propagated.ready.free settled_moved analysis flags);

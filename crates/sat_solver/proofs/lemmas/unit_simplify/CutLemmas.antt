@@ -16,13 +16,13 @@ use Rattle.sat_parts.proofs.lemmas.prop.StateLemmas.{true_from_false}
 use Rattle.sat_solver.specs.session.Session.{Session, session_after}
 use Rattle.sat_solver.specs.session.LiveClauses.{with_var}
 use Rattle.sat_solver.proofs.lemmas.session.StepsOfClauses.{length_mapped}
-use Rattle.sat_parts.specs.declared.parts.Parts.{Parts}
+use Rattle.sat_parts.specs.declared.parts.SearchState.{SearchState}
 use Rattle.sat_parts.specs.parts.Frame.{DropsLongClause, ShortensLongClause, AddsOriginalClause, IsUnitLit}
 use Rattle.sat_parts.specs.parts.Whole.{state}
 use Rattle.sat_solver.specs.session.Fits.{is_redundant, SessionMatchesParts}
 use Rattle.sat_solver.proofs.lemmas.fits.FitLemmas.{among_at, mapped_at}
 use Rattle.sat_solver.proofs.lemmas.fits.UsableLemmas.{long_named}
-use Rattle.sat_solver.specs.cdcl.Going.{HaveSolverNames}
+use Rattle.sat_solver.specs.cdcl.StepEffects.{HaveSolverNames}
 use Rattle.sat_solver.proofs.lemmas.cdcl.NamedLemmas.{mapped_named}
 use Rattle.sat_solver.proofs.lemmas.fits.FramedParts.{BothParts, bottom_unit, same_state, fits_short, fits_short_redundant, fits_pair, fits_pair_redundant}
 use Rattle.sat_solver.proofs.lemmas.fits.PairLemmas.{AreTwo}
@@ -30,11 +30,11 @@ use Rattle.sat_solver.proofs.lemmas.fits.PlainLemmas.{sessions_are_plain}
 use Rattle.sat_solver.proofs.lemmas.fits.StepLemmas.{fits_propagated}
 use Rattle.sat_parts.proofs.lemmas.parts.FrameLemmas.{carries_refl}
 use Rattle.sat_solver.specs.declared.context.Search.{Search}
-use Rattle.sat_solver.specs.cdcl.Joint.{global_in, IsSearch}
+use Rattle.sat_solver.specs.cdcl.Joint.{global_in, SearchInvariant}
 use Rattle.sat_solver.specs.unit_simplify.Cuts.{deleted_step, derived_step}
 use Rattle.sat_solver.specs.unit_simplify.Cutting.{Gathers, PutsPart, puts_long, puts_pair}
 use Rattle.sat_solver.specs.unit_simplify.Flat.{HasEmptyTrail}
-use Rattle.sat_solver.specs.unit_simplify.Looks.{HasFalse}
+use Rattle.sat_solver.specs.unit_simplify.ClauseStatus.{HasFalse}
 use Rattle.sat_solver.proofs.lemmas.unit_simplify.GatherLemmas.{moved_there, moved_size, open_not_false}
 
 pub take_two : (ls : List ℕ) → 2 ≤ length ls → take 2 ls ≡ get_or ls 0 0 ∷ get_or ls 1 0 ∷ []
@@ -48,7 +48,7 @@ flag_long true n lt = lt-ltb 2 n lt
 flag_long false n lt = refl
 
 -- a clause with a false literal becomes shorter
-pub fewer_open : (c p : Parts) (o len : ℕ) → Contains (live_refs c.clauses c.db.refs) o → Gathers c p o len (size_of c.clauses o) → HasFalse c o → len < size_of c.clauses o
+pub fewer_open : (c p : SearchState) (o len : ℕ) → Contains (live_refs c.clauses c.db.refs) o → Gathers c p o len (size_of c.clauses o) → HasFalse c o → len < size_of c.clauses o
 fewer_open c p o len there g has =
     let j = (g.moved.kept.lits o there).forth has.0 has.1.0 in
     elim (cases_lt j.0 len) [
@@ -58,7 +58,7 @@ fewer_open c p o len there g has =
 
 -- ONE CLAUSE
 
-module _ (steps : List Step) (c : Search) (p : Parts) (o len : ℕ) (h : IsSearch (session_after steps) c) (flat : HasEmptyTrail c.parts) (there : Contains (live_refs c.parts.clauses c.parts.db.refs) o) (g : Gathers c.parts p o len (size_of c.parts.clauses o)) (some : 2 ≤ len) (within : len ≤ size_of c.parts.clauses o) (fewer : len < size_of c.parts.clauses o) where
+module _ (steps : List Step) (c : Search) (p : SearchState) (o len : ℕ) (h : SearchInvariant (session_after steps) c) (flat : HasEmptyTrail c.parts) (there : Contains (live_refs c.parts.clauses c.parts.db.refs) o) (g : Gathers c.parts p o len (size_of c.parts.clauses o)) (some : 2 ≤ len) (within : len ≤ size_of c.parts.clauses o) (fewer : len < size_of c.parts.clauses o) where
   abbrev s : Session
   s = session_after steps
 
@@ -109,11 +109,11 @@ module _ (steps : List Step) (c : Search) (p : Parts) (o len : ℕ) (h : IsSearc
   abbrev hash : ℕ
   hash = hash_of old
 
-  abbrev Cut : Parts → Bool → Type 0
+  abbrev Cut : SearchState → Bool → Type 0
   Cut q b = BothParts p q s (global_in c) (derived_step b mpart (hash ∷ [])) (deleted_step b Simplified mold)
 
   -- three or more literals are left
-  module _ (q : Parts) (long : 3 ≤ len) (short : ShortensLongClause p q o len) where
+  module _ (q : SearchState) (long : 3 ≤ len) (short : ShortensLongClause p q o len) where
     cut_long : (b : Bool) → is_redundant p.clauses o ≡ b → Cut q b
     cut_long false side =
         fits_short p q s (global_in c) fits_p g.holds o there_p old order (sessions_are_plain steps) part old hash order distinct refl len short long (omega (arith, size)) false_by (shuffled_refl part) side
@@ -122,7 +122,7 @@ module _ (steps : List Step) (c : Search) (p : Parts) (o len : ℕ) (h : IsSearc
         (fits_short_redundant p q s (global_in c) fits_p g.holds o there_p old order (sessions_are_plain steps) part old hash order distinct refl len short long (omega (arith, size)) false_by (shuffled_refl part) side)
 
   -- two literals are left
-  module _ (q mid : Parts) (two : len ≡ 2) (stores : AddsOriginalClause p mid (lit_of p.clauses o 0 ∷ lit_of p.clauses o 1 ∷ [])) (drops : DropsLongClause mid q o) where
+  module _ (q mid : SearchState) (two : len ≡ 2) (stores : AddsOriginalClause p mid (lit_of p.clauses o 0 ∷ lit_of p.clauses o 1 ∷ [])) (drops : DropsLongClause mid q o) where
     abbrev a : ℕ
     a = lit_of p.clauses o 0
 
@@ -154,7 +154,7 @@ module _ (steps : List Step) (c : Search) (p : Parts) (o len : ℕ) (h : IsSearc
         (fits_pair_redundant p q s (global_in c) fits_p g.holds o there_p old order (sessions_are_plain steps) (a ∷ b2 ∷ []) old hash order distinct refl mid refl stores drops are side)
 
   -- the steps may be written, and then parts and session match
-  pub cut_goes : (q : Parts) → PutsPart p q o len → (b : Bool) → is_redundant p.clauses o ≡ b → Cut q b
+  pub cut_goes : (q : SearchState) → PutsPart p q o len → (b : Bool) → is_redundant p.clauses o ≡ b → Cut q b
   cut_goes q (puts_long long short) b side = cut_long q long short b side
   cut_goes q (puts_pair two mid stores drops) b side = cut_pair q mid two stores drops b side
 

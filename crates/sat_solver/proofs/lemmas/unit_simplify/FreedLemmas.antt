@@ -6,22 +6,22 @@ use Rattle.sat_store.specs.variables.VarData.{unused_variable}
 use Rattle.sat_store.specs.variables.Maps.{target}
 use Rattle.std.proofs.lemmas.Bool.{cases_lt, cases_eq, eq-eqb, ne_eqb, or_from, or_left, or_right, or_parts, true≢false, false_from_ne_true}
 use Rattle.std.specs.List.{Contains}
-use Rattle.sat_base.specs.values.Literals.{coded, variable, is_positive}
+use Rattle.sat_base.specs.values.Literals.{mk_lit, variable, is_positive}
 use Rattle.sat_base.specs.steps.Steps.{Step, SolverVarName, DeleteVar}
 use Rattle.sat_checker.specs.LiteralSets.{mentions}
-use Rattle.sat_store.specs.heap.Vsids.{may_pick}
+use Rattle.sat_store.specs.heap.Vsids.{is_available}
 use Rattle.sat_parts.specs.clause.Db.{live_refs}
 use Rattle.sat_parts.specs.prop.Values.{value_of, IsTrueLit}
-use Rattle.sat_parts.specs.prop.State.{State, level}
+use Rattle.sat_parts.specs.prop.State.{PropagationState, level}
 use Rattle.sat_solver.specs.session.Session.{Session, session_after, after}
 use Rattle.sat_solver.specs.session.LiveClauses.{LiveClause, with_var, mapped, AreMapped}
 use Rattle.sat_solver.proofs.lemmas.session.Lists.{unused_in_all}
 use Rattle.sat_solver.specs.session.SolverClauses.{solver_clauses}
-use Rattle.sat_parts.specs.declared.parts.Parts.{Parts}
+use Rattle.sat_parts.specs.declared.parts.SearchState.{SearchState}
 use Rattle.sat_parts.specs.parts.Assumed.{IsPlaced, variables_of_lits}
 use Rattle.sat_parts.specs.parts.Frame.{FreesVar, IsUnitLit}
 use Rattle.sat_parts.specs.parts.Round.{IsUnused as InNoClause}
-use Rattle.sat_parts.specs.parts.Whole.{state, PartsInvariant}
+use Rattle.sat_parts.specs.parts.Whole.{state, SearchStateInvariant}
 use Rattle.sat_parts.specs.parts.Words.{IsIdle, TrailWordExtendsFor}
 use Rattle.sat_solver.specs.session.Fits.{is_redundant, SessionMatchesParts, TrueLitsHaveNames}
 use Rattle.sat_solver.proofs.lemmas.fits.AddedLemmas.{unit_true}
@@ -32,25 +32,25 @@ use Rattle.sat_solver.proofs.lemmas.fits.NamedLemmas.{unused_in}
 use Rattle.sat_solver.specs.session.Quiet.{ComesQuietly, is_quiet}
 use Rattle.sat_solver.proofs.lemmas.fits.QuietLemmas.{quiet_comes}
 use Rattle.sat_solver.proofs.lemmas.session.ComingLemmas.{comes_both}
-use Rattle.sat_solver.specs.variables.Coming.{ForgetsIdle}
+use Rattle.sat_solver.specs.variables.NamingSteps.{ForgetsIdle}
 use Rattle.sat_checker.specs.matching.Traces.{no_step}
 use Rattle.sat_solver.specs.variables.Calls.{NamesInvariant, KeepsScriptState}
 use Rattle.sat_solver.specs.variables.Naming.{PutsUnit}
 use Rattle.sat_solver.proofs.lemmas.variables.Units.{unit_stands, unit_agrees}
 use Rattle.sat_solver.specs.variables.Indexing.{Unindexes}
 use Rattle.sat_solver.specs.variables.Search.{IsAlike}
-use Rattle.sat_solver.specs.variables.Variables.{AreTidy, solver_of, global_at, data_at, variables_used, indices_used, says_unit, IsUnitOf, IsInNoNonUnitClause}
+use Rattle.sat_solver.specs.variables.Variables.{VariablesInvariant, solver_of, global_at, data_at, variables_used, indices_used, says_unit, IsUnitOf, IsInNoNonUnitClause}
 use Rattle.sat_solver.specs.declared.variables.Variables.{Variables}
 use Rattle.sat_solver.proofs.lemmas.variables.Doing.{does_none, does_both}
 use Rattle.sat_solver.specs.declared.context.Search.{Search}
-use Rattle.sat_solver.specs.cdcl.Joint.{global_in, assumed_indices, IsSearch, SameVarsAndAssumptions}
+use Rattle.sat_solver.specs.cdcl.Joint.{global_in, assumed_indices, SearchInvariant, SameVarsAndAssumptions}
 use Rattle.sat_parts.proofs.lemmas.parts.WordSteps.{extends_refl, extends_after}
 use Rattle.sat_solver.proofs.lemmas.cdcl.TurnLemmas.{free_moved, moved_refl, moved_trans, ready_names}
 use Rattle.sat_solver.specs.variables.Shared.{SharesIndices}
 use Rattle.sat_solver.proofs.lemmas.load.GivenLemmas.{of_on}
 use Rattle.sat_solver.proofs.lemmas.load.IndexLemmas.{coded_variable, coded_sign}
 use Rattle.sat_solver.specs.unit_simplify.Flat.{HasEmptyTrail}
-use Rattle.sat_solver.specs.unit_simplify.Freed.{LosesIndex, FreesIndex, MayFree, KeepsAsked, FreesSome, AreLeft, IsIndexOfAssumed}
+use Rattle.sat_solver.specs.unit_simplify.Freed.{LosesIndex, FreesIndex, CanFreeIndices, KeepsAsked, FreesSome, AreLeft, IsIndexOfAssumed}
 
 none_some : {A : Type 0} (x : A) → None ≡ Some x → ⊥
 none_some x e = cc
@@ -80,7 +80,7 @@ module _ (old mid : Variables) (from mids : List Step) (v x : ℕ) (valid : Name
     used = u.used;
     loses = record {
       live = u.search.live;
-      units = λ w y b n e. ap (λ f. f (coded w b)) u.search.units;
+      units = λ w y b n e. ap (λ f. f (mk_lit w b)) u.search.units;
       names = names_mid;
       unsat = u.search.unsat;
       width = u.search.width;
@@ -100,7 +100,7 @@ module _ (old mid : Variables) (from mids : List Step) (v x : ℕ) (valid : Name
     used = ap (λ m. length m.bwd) a.solvers ∙ u.used;
     loses = record {
       live = a.live ∙ u.search.live;
-      units = λ w y b n e. a.units w y b (u.solvers w ∙ ap (λ t. cond t None (solver_of old w)) (ne_eqb w v n) ∙ sym (valid.said.solver_names w) ∙ e) ∙ ap (λ f. f (coded w b)) u.search.units;
+      units = λ w y b n e. a.units w y b (u.solvers w ∙ ap (λ t. cond t None (solver_of old w)) (ne_eqb w v n) ∙ sym (valid.said.solver_names w) ∙ e) ∙ ap (λ f. f (mk_lit w b)) u.search.units;
       names = λ w. does.valid.said.solver_names w ∙ ap (λ m. get_or m.fwd w None) a.solvers ∙ sym (u.does.valid.said.solver_names w) ∙ names_mid w;
       unsat = a.unsat ∙ u.search.unsat;
       width = a.width ∙ u.search.width;
@@ -120,7 +120,7 @@ assumed_mention global (l ∷ ls) x (zero, lt, e) =
 assumed_mention global (l ∷ ls) x (suc k, lt, e) =
     or_right (eqb (variable (with_var global l)) (global x)) (mentions (map (with_var global) ls) (global x)) (assumed_mention global ls x (k, omega arith, e))
 
-placed_some : (ls below : List ℕ) (place : ℕ) (s s' : State) → s.trail.starts ≡ [] → s'.trail.starts ≡ [] → ((k : ℕ) → k < length ls → IsTrueLit s.values (get_or ls k 0) → level s (get_or ls k 0) ≡ 0 → IsTrueLit s'.values (get_or ls k 0) × (level s' (get_or ls k 0) ≡ 0)) →
+placed_some : (ls below : List ℕ) (place : ℕ) (s s' : PropagationState) → s.trail.starts ≡ [] → s'.trail.starts ≡ [] → ((k : ℕ) → k < length ls → IsTrueLit s.values (get_or ls k 0) → level s (get_or ls k 0) ≡ 0 → IsTrueLit s'.values (get_or ls k 0) × (level s' (get_or ls k 0) ≡ 0)) →
     IsPlaced ls below place s → IsPlaced ls below place s'
 placed_some ls below place s s' e e' kept h =
     let none : length s.trail.starts ≡ 0 = ap (λ (xs : List ℕ). length xs) e in
@@ -153,7 +153,7 @@ mapped_unused global names v x (l ∷ ls) e m n =
     true≢false (sym (eq-eqb (variable l) x same) ∙ q.0)))
     (mapped_unused global names v x ls e m.1 q.1)
 
-module _ (s : Session) (c : Search) (v x : ℕ) (search : IsSearch s c) (flat : HasEmptyTrail c.parts) (own : s.solver_names v ≡ Some x) (at : global_in c x ≡ v) (unused : InNoClause c.parts.clauses (live_refs c.parts.clauses c.parts.db.refs) c.parts.binary.implied x) where
+module _ (s : Session) (c : Search) (v x : ℕ) (search : SearchInvariant s c) (flat : HasEmptyTrail c.parts) (own : s.solver_names v ≡ Some x) (at : global_in c x ≡ v) (unused : InNoClause c.parts.clauses (live_refs c.parts.clauses c.parts.db.refs) c.parts.binary.implied x) where
   abbrev all : List LiveClause
   all = solver_clauses (is_redundant c.parts.clauses) c.parts.clauses (live_refs c.parts.clauses c.parts.db.refs) c.parts.binary.implied
 
@@ -165,34 +165,34 @@ module _ (s : Session) (c : Search) (v x : ℕ) (search : IsSearch s c) (flat : 
       ∙ mapped_unused (global_in c) s.solver_names v x y.0.literals own (search.valid.fits.clauses.named y.0 y.1.0) (unused_in (is_redundant c.parts.clauses) c.parts.clauses (live_refs c.parts.clauses c.parts.db.refs) c.parts.binary.implied x unused y.0 y.1.0))
       r set (subst (λ k. 0 < k) (search.valid.fits.clauses.counts r set) n)
 
-  lit_is : (b : Bool) → with_var (global_in c) (coded x b) ≡ coded v b
-  lit_is b = sym (coded_by (global_in c) (coded x b)) ∙ ap (λ w. coded (global_in c w) (is_positive (coded x b))) (coded_variable x b) ∙ ap (λ w. coded w (is_positive (coded x b))) at ∙ ap (λ d. coded v d) (coded_sign x b)
+  lit_is : (b : Bool) → with_var (global_in c) (mk_lit x b) ≡ mk_lit v b
+  lit_is b = sym (coded_by (global_in c) (mk_lit x b)) ∙ ap (λ w. mk_lit (global_in c w) (is_positive (mk_lit x b))) (coded_variable x b) ∙ ap (λ w. mk_lit w (is_positive (mk_lit x b))) at ∙ ap (λ d. mk_lit v d) (coded_sign x b)
 
-  own_lit : (b : Bool) → s.solver_names (global_in c (variable (coded x b))) ≡ Some (variable (coded x b))
+  own_lit : (b : Bool) → s.solver_names (global_in c (variable (mk_lit x b))) ≡ Some (variable (mk_lit x b))
   own_lit b = subst (λ w. s.solver_names (global_in c w) ≡ Some w) (sym (coded_variable x b)) (ap s.solver_names at ∙ own)
 
-  unit_holds : (b : Bool) → s.units (coded v b) ≡ true → value_of c.parts.assignment.current x ≡ Some b
+  unit_holds : (b : Bool) → s.units (mk_lit v b) ≡ true → value_of c.parts.assignment.current x ≡ Some b
   unit_holds b u =
-      let y = search.valid.fits.sound (coded x b) (own_lit b) (ap s.units (lit_is b) ∙ u) in
+      let y = search.valid.fits.sound (mk_lit x b) (own_lit b) (ap s.units (lit_is b) ∙ u) in
       ap (value_of c.parts.assignment.current) (sym (coded_variable x b)) ∙ y.0 ∙ ap (λ d. Some d) (coded_sign x b)
 
-  holds_unit : (b : Bool) → value_of c.parts.assignment.current x ≡ Some b → s.units (coded v b) ≡ true
+  holds_unit : (b : Bool) → value_of c.parts.assignment.current x ≡ Some b → s.units (mk_lit v b) ≡ true
   holds_unit b e =
-      let t : IsTrueLit c.parts.assignment.current (coded x b) = ap (value_of c.parts.assignment.current) (coded_variable x b) ∙ e ∙ ap (λ d. Some d) (sym (coded_sign x b)) in
-      ap s.units (sym (lit_is b)) ∙ search.valid.fits.known (coded x b) (bottom_unit c.parts (coded x b) search.valid.holds flat.bottom t)
+      let t : IsTrueLit c.parts.assignment.current (mk_lit x b) = ap (value_of c.parts.assignment.current) (coded_variable x b) ∙ e ∙ ap (λ d. Some d) (sym (coded_sign x b)) in
+      ap s.units (sym (lit_is b)) ∙ search.valid.fits.known (mk_lit x b) (bottom_unit c.parts (mk_lit x b) search.valid.holds flat.bottom t)
 
   -- the session's unit is the variable's value in the search
-  pub session_unit : (b : Bool) → s.units (coded v b) ≡ says_unit (value_of c.parts.assignment.current x) b
+  pub session_unit : (b : Bool) → s.units (mk_lit v b) ≡ says_unit (value_of c.parts.assignment.current x) b
   session_unit b = go (value_of c.parts.assignment.current x) refl b
     where
-      go : (o : Option Bool) → value_of c.parts.assignment.current x ≡ o → (d : Bool) → s.units (coded v d) ≡ says_unit o d
-      go None e d = false_from_ne_true (s.units (coded v d)) (λ u. none_some d (sym e ∙ unit_holds d u))
+      go : (o : Option Bool) → value_of c.parts.assignment.current x ≡ o → (d : Bool) → s.units (mk_lit v d) ≡ says_unit o d
+      go None e d = false_from_ne_true (s.units (mk_lit v d)) (λ u. none_some d (sym e ∙ unit_holds d u))
       go (Some true) e true = holds_unit true e
-      go (Some false) e true = false_from_ne_true (s.units (coded v true)) (λ u. true≢false (some_same true false (sym (unit_holds true u) ∙ e)))
-      go (Some true) e false = false_from_ne_true (s.units (coded v false)) (λ u. true≢false (some_same true false (sym e ∙ unit_holds false u)))
+      go (Some false) e true = false_from_ne_true (s.units (mk_lit v true)) (λ u. true≢false (some_same true false (sym (unit_holds true u) ∙ e)))
+      go (Some true) e false = false_from_ne_true (s.units (mk_lit v false)) (λ u. true≢false (some_same true false (sym e ∙ unit_holds false u)))
       go (Some false) e false = holds_unit false e
 
-  module _ (t : Session) (p : Parts) (loses : LosesIndex s t v) (free : mentions s.assumed v ≡ false) (freed : FreesVar c.parts p x) (holds : PartsInvariant p) (none : value_of p.assignment.current x ≡ None) (room : x < length c.parts.assignment.current)
+  module _ (t : Session) (p : SearchState) (loses : LosesIndex s t v) (free : mentions s.assumed v ≡ false) (freed : FreesVar c.parts p x) (holds : SearchStateInvariant p) (none : value_of p.assignment.current x ≡ None) (room : x < length c.parts.assignment.current)
       (word : (assumed : List ℕ) → (Contains assumed x → ⊥) → TrailWordExtendsFor assumed c.parts p) where
     abbrev c' : Search
     c' = record c { parts = p }
@@ -254,9 +254,9 @@ module _ (s : Session) (c : Search) (v x : ℕ) (search : IsSearch s c) (flat : 
         unit_true_in l u = (unit_true (state c.parts) l search.valid.holds.below.asks.agrees u).0
 
     idle_x : IsIdle (assumed_indices c) (state p) p.vsids x
-    idle_x = (none, ap (λ q. may_pick q x) freed.queue ∙ get_or-set_same c.parts.vsids.available x false false (omega (arith, room, search.valid.holds.below.queue)), not_assumed)
+    idle_x = (none, ap (λ q. is_available q x) freed.queue ∙ get_or-set_same c.parts.vsids.available x false false (omega (arith, room, search.valid.holds.below.queue)), not_assumed)
 
-    pub freed_search : IsSearch t c'
+    pub freed_search : SearchInvariant t c'
     freed_search = record {
       valid = record { holds = holds; fits = freed_fits };
       ready = record {
@@ -278,19 +278,19 @@ module _ (s : Session) (c : Search) (v x : ℕ) (search : IsSearch s c) (flat : 
 -- WHAT NAMES AND SEARCH SHARE
 
 -- every index belongs to the variable that it had before
-pub global_before : (old new : Variables) (v : ℕ) → AreTidy old → AreTidy new → ((w : ℕ) → solver_of new w ≡ cond (eqb w v) None (solver_of old w)) → (x w : ℕ) → global_at new x ≡ Some w → global_at old x ≡ Some w
+pub global_before : (old new : Variables) (v : ℕ) → VariablesInvariant old → VariablesInvariant new → ((w : ℕ) → solver_of new w ≡ cond (eqb w v) None (solver_of old w)) → (x w : ℕ) → global_at new x ≡ Some w → global_at old x ≡ Some w
 global_before old new v tidy tidy' solvers x w e = elim (cases_eq w v) [
   | inl q ↦ absurd (none_some x (sym (ap (λ b. cond b None (solver_of old w)) (eq-eqb w v q)) ∙ sym (solvers w) ∙ tidy'.solvers.forth w x e))
   | inr n ↦ tidy.solvers.back w x (sym (ap (λ b. cond b None (solver_of old w)) (ne_eqb w v n)) ∙ sym (solvers w) ∙ tidy'.solvers.forth w x e)
 ]
 
 -- the variable no longer has an index
-pub global_gone : (old new : Variables) (v x w : ℕ) → AreTidy old → AreTidy new → ((w : ℕ) → solver_of new w ≡ cond (eqb w v) None (solver_of old w)) → global_at old x ≡ Some v → global_at new x ≡ Some w → ⊥
+pub global_gone : (old new : Variables) (v x w : ℕ) → VariablesInvariant old → VariablesInvariant new → ((w : ℕ) → solver_of new w ≡ cond (eqb w v) None (solver_of old w)) → global_at old x ≡ Some v → global_at new x ≡ Some w → ⊥
 global_gone old new v x w tidy tidy' solvers e f =
     let same : w ≡ v = some_same w v (sym (global_before old new v tidy tidy' solvers x w f) ∙ e) in
     none_some x (sym (ap (λ b. cond b None (solver_of old w)) (eq-eqb w v same)) ∙ sym (solvers w) ∙ tidy'.solvers.forth w x f)
 
-pub shares_freed : (old new : Variables) (c c' : Search) (v : ℕ) → AreTidy old → AreTidy new → ((w : ℕ) → solver_of new w ≡ cond (eqb w v) None (solver_of old w)) → indices_used new ≡ indices_used old → SameVarsAndAssumptions c c' → SharesIndices old c → SharesIndices new c'
+pub shares_freed : (old new : Variables) (c c' : Search) (v : ℕ) → VariablesInvariant old → VariablesInvariant new → ((w : ℕ) → solver_of new w ≡ cond (eqb w v) None (solver_of old w)) → indices_used new ≡ indices_used old → SameVarsAndAssumptions c c' → SharesIndices old c → SharesIndices new c'
 shares_freed old new c c' v tidy tidy' solvers used moved h = record {
   size = rw (moved.globals, moved.size) h.size;
   few = (let e = ap (λ gs. length gs.items) moved.globals in let k = h.few in omega (arith, used));
@@ -312,7 +312,7 @@ set_none values x w lt e = elim (cases_eq w x) [
   | inr n ↦ get_or-set_other values x w None None n ∙ e
 ]
 
-module _ (n : Variables) (steps : List Step) (c : Search) (may : MayFree n steps c) (x v : ℕ) (there : global_at n x ≡ Some v) where
+module _ (n : Variables) (steps : List Step) (c : Search) (may : CanFreeIndices n steps c) (x v : ℕ) (there : global_at n x ≡ Some v) where
   abbrev now : Session
   now = session_after steps
 
@@ -349,7 +349,7 @@ module _ (n : Variables) (steps : List Step) (c : Search) (may : MayFree n steps
         kept = λ j live a. record { live = live; agree = unit_agrees n n1 steps v x (value_of c.parts.assignment.current x) may.valid indexed put j live a; trace = no_step };
       }
 
-      pub frees_one : (new : Variables) (to : List Step) (p : Parts) → FreesIndex n1 new steps to v → (data_at n v).assumed ≡ false → FreesVar c.parts p x → PartsInvariant p → value_of p.assignment.current x ≡ None → x < length c.parts.assignment.current →
+      pub frees_one : (new : Variables) (to : List Step) (p : SearchState) → FreesIndex n1 new steps to v → (data_at n v).assumed ≡ false → FreesVar c.parts p x → SearchStateInvariant p → value_of p.assignment.current x ≡ None → x < length c.parts.assignment.current →
           ((assumed : List ℕ) → (Contains assumed x → ⊥) → TrailWordExtendsFor assumed c.parts p) → FreesSome n new steps to c (record c { parts = p })
       frees_one new to p gone free freed holds none room word =
           let t = session_after to in
@@ -388,7 +388,7 @@ asked_trans a b d s t u x y = record {
   indices = λ v i m e. y.indices v i (ap (λ ls. mentions ls v) x.assumed ∙ m) (x.indices v i m e);
 }
 
-pub frees_none : (n : Variables) (steps : List Step) (c : Search) → MayFree n steps c → FreesSome n n steps steps c c
+pub frees_none : (n : Variables) (steps : List Step) (c : Search) → CanFreeIndices n steps c → FreesSome n n steps steps c c
 frees_none n steps c h = record {
   does = does_none n steps h.valid;
   quiet = quiet_comes steps steps [] refl tt;
@@ -418,12 +418,12 @@ frees_both a b d from mids to c1 c2 c3 x y = record {
   fewer = λ i v e. x.fewer i v (y.fewer i v e);
 }
 
-pub may_free_on : (a b : Variables) (from to : List Step) (c c' : Search) → FreesSome a b from to c c' → MayFree b to c'
+pub may_free_on : (a b : Variables) (from to : List Step) (c c' : Search) → FreesSome a b from to c c' → CanFreeIndices b to c'
 may_free_on a b from to c d x = record { valid = x.does.valid; search = x.search; shares = x.shares; flat = x.flat }
 
 -- WHICH INDICES REMAIN
 
-module _ (a b d : Variables) (s t : Session) (p : Parts) (at : ℕ) (left : AreLeft b s p at) where
+module _ (a b d : Variables) (s t : Session) (p : SearchState) (at : ℕ) (left : AreLeft b s p at) where
   -- an index that a clause uses
   pub left_used : (InNoClause p.clauses (live_refs p.clauses p.db.refs) p.binary.implied at → ⊥) → AreLeft b s p (at + 1)
   left_used has x lt none = elim (cases_eq x at) [
@@ -438,5 +438,5 @@ module _ (a b d : Variables) (s t : Session) (p : Parts) (at : ℕ) (left : AreL
     | inr n ↦ λ v f. left x (omega arith) none v (fewer x v f)
   ]
 
-pub left_none : (n : Variables) (s : Session) (p : Parts) → AreLeft n s p 0
+pub left_none : (n : Variables) (s : Session) (p : SearchState) → AreLeft n s p 0
 left_none n s p x lt none = absurd (omega arith)

@@ -6,19 +6,19 @@ use Rattle.sat_base.specs.values.Literals.{variable, negated, is_positive}
 use Rattle.sat_store.specs.clause.Buffer.{lits_at, swapped}
 use Rattle.sat_parts.specs.clause.Db.{live_refs}
 use Rattle.sat_parts.specs.clause.Stored.{lit_of, size_of}
-use Rattle.sat_parts.specs.prop.Values.{value_of, IsTrueLit, IsFalseLit, IsOpenLit}
+use Rattle.sat_parts.specs.prop.Values.{value_of, IsTrueLit, IsFalseLit, IsUnassignedLit}
 use Rattle.sat_parts.specs.prop.State.{HasLeftQueue}
 use Rattle.sat_parts.proofs.lemmas.clause.OrderLemmas.{shuffled_refl, shuffled_trans}
 use Rattle.sat_parts.proofs.lemmas.prop.StateLemmas.{true_from_false}
-use Rattle.sat_parts.specs.declared.parts.Parts.{Parts}
+use Rattle.sat_parts.specs.declared.parts.SearchState.{SearchState}
 use Rattle.sat_parts.specs.parts.Frame.{ReordersLits, SwapsLits}
-use Rattle.sat_parts.specs.parts.Whole.{state, PartsInvariant}
+use Rattle.sat_parts.specs.parts.Whole.{state, SearchStateInvariant}
 use Rattle.sat_parts.specs.parts.Words.{TrailWordExtends}
 use Rattle.sat_parts.proofs.lemmas.parts.ShortLemmas.{fresh_unsatisfied}
 use Rattle.sat_parts.proofs.lemmas.parts.WordSteps.{extends_refl, extends_trans}
 use Rattle.sat_solver.specs.unit_simplify.Cutting.{Gathers}
 use Rattle.sat_solver.specs.unit_simplify.Flat.{HasEmptyTrail}
-use Rattle.sat_solver.specs.unit_simplify.Looks.{HasTrue}
+use Rattle.sat_solver.specs.unit_simplify.ClauseStatus.{HasTrue}
 
 -- VALUES
 
@@ -30,25 +30,25 @@ open_value (Some true) false n m = absurd (m refl)
 open_value (Some false) true n m = absurd (m refl)
 
 -- a literal that is neither true nor false is open
-pub open_from : (values : List (Option Bool)) (l : ℕ) → (IsTrueLit values l → ⊥) → (IsFalseLit values l → ⊥) → IsOpenLit values l
+pub open_from : (values : List (Option Bool)) (l : ℕ) → (IsTrueLit values l → ⊥) → (IsFalseLit values l → ⊥) → IsUnassignedLit values l
 open_from values l n m = open_value (value_of values (variable l)) (is_positive l) n m
 
 some_none : (b : Bool) → Some b ≡ None → ⊥
 some_none b e = cc
 
-pub open_not_false : (values : List (Option Bool)) (l : ℕ) → IsOpenLit values l → IsFalseLit values l → ⊥
+pub open_not_false : (values : List (Option Bool)) (l : ℕ) → IsUnassignedLit values l → IsFalseLit values l → ⊥
 open_not_false values l e f = some_none (not (is_positive l)) (sym f ∙ e)
 
 -- ORDER
 
-pub reordered_refl : (p : Parts) → PartsInvariant p → ReordersLits p p
+pub reordered_refl : (p : SearchState) → SearchStateInvariant p → ReordersLits p p
 reordered_refl p h = record {
   live = refl;
   kept = record { holds_clauses = h.below.asks.clauses.holds_clauses; headers = λ o c. refl; lits = λ o c. shuffled_refl (lits_at p.clauses o) };
   binary = refl;
 }
 
-pub reordered_trans : (p q r : Parts) → ReordersLits p q → ReordersLits q r → ReordersLits p r
+pub reordered_trans : (p q r : SearchState) → ReordersLits p q → ReordersLits q r → ReordersLits p r
 reordered_trans p q r x y =
     let back : (o : ℕ) → Contains (live_refs p.clauses p.db.refs) o → Contains (live_refs q.clauses q.db.refs) o = λ o c. subst (λ (xs : List ℕ). Contains xs o) (sym x.live) c in
     record {
@@ -61,10 +61,10 @@ reordered_trans p q r x y =
       binary = y.binary ∙ x.binary;
     }
 
-pub moved_there : (p q : Parts) (o : ℕ) → ReordersLits p q → Contains (live_refs p.clauses p.db.refs) o → Contains (live_refs q.clauses q.db.refs) o
+pub moved_there : (p q : SearchState) (o : ℕ) → ReordersLits p q → Contains (live_refs p.clauses p.db.refs) o → Contains (live_refs q.clauses q.db.refs) o
 moved_there p q o x c = subst (λ (xs : List ℕ). Contains xs o) (sym x.live) c
 
-pub moved_size : (p q : Parts) (o : ℕ) → ReordersLits p q → Contains (live_refs p.clauses p.db.refs) o → size_of q.clauses o ≡ size_of p.clauses o
+pub moved_size : (p q : SearchState) (o : ℕ) → ReordersLits p q → Contains (live_refs p.clauses p.db.refs) o → size_of q.clauses o ≡ size_of p.clauses o
 moved_size p q o x c = (x.kept.lits o c).size
 
 -- SWAPS
@@ -90,7 +90,7 @@ swapped_else ls i j k a b = get_or-set_other (set ls i (get_or ls j 0)) j k (get
 
 -- ONE LITERAL AFTER ANOTHER
 
-pub gathers_none : (p : Parts) (o : ℕ) → PartsInvariant p → ((k : ℕ) → k < 2 → IsOpenLit p.assignment.current (lit_of p.clauses o k)) → Gathers p p o 2 2
+pub gathers_none : (p : SearchState) (o : ℕ) → SearchStateInvariant p → ((k : ℕ) → k < 2 → IsUnassignedLit p.assignment.current (lit_of p.clauses o k)) → Gathers p p o 2 2
 gathers_none p o h front = record {
   holds = h;
   moved = reordered_refl p h;
@@ -102,7 +102,7 @@ gathers_none p o h front = record {
   rest = λ k le. refl;
 }
 
-module _ (p q : Parts) (o kept at : ℕ) (g : Gathers p q o kept at) (le : kept ≤ at) where
+module _ (p q : SearchState) (o kept at : ℕ) (g : Gathers p q o kept at) (le : kept ≤ at) where
   -- a false literal stays where it is
   pub gathers_skip : IsFalseLit q.assignment.current (lit_of q.clauses o at) → Gathers p q o kept (at + 1)
   gathers_skip f = record {
@@ -120,7 +120,7 @@ module _ (p q : Parts) (o kept at : ℕ) (g : Gathers p q o kept at) (le : kept 
   }
 
   -- an open literal is moved to the front
-  module _ (r : Parts) (there : Contains (live_refs p.clauses p.db.refs) o) (lt : at < size_of p.clauses o) (is_open : IsOpenLit p.assignment.current (lit_of q.clauses o at)) (s : SwapsLits q r o kept at) (holds : PartsInvariant r) (db : r.db ≡ q.db) (word : TrailWordExtends q r) where
+  module _ (r : SearchState) (there : Contains (live_refs p.clauses p.db.refs) o) (lt : at < size_of p.clauses o) (is_open : IsUnassignedLit p.assignment.current (lit_of q.clauses o at)) (s : SwapsLits q r o kept at) (holds : SearchStateInvariant r) (db : r.db ≡ q.db) (word : TrailWordExtends q r) where
     size : size_of q.clauses o ≡ size_of p.clauses o
     size = moved_size p q o g.moved there
 
@@ -144,8 +144,8 @@ module _ (p q : Parts) (o kept at : ℕ) (g : Gathers p q o kept at) (le : kept 
       db = db ∙ g.db;
       word = extends_trans p q r g.word word;
       front = λ k b. elim (cases_eq k kept) [
-        | inl e ↦ subst (λ z. IsOpenLit p.assignment.current z) (sym (ap (λ z. lit_of r.clauses o z) e ∙ is_first)) is_open
-        | inr n ↦ subst (λ z. IsOpenLit p.assignment.current z) (sym (is_other k n (λ e. omega arith))) (g.front k (omega arith))
+        | inl e ↦ subst (λ z. IsUnassignedLit p.assignment.current z) (sym (ap (λ z. lit_of r.clauses o z) e ∙ is_first)) is_open
+        | inr n ↦ subst (λ z. IsUnassignedLit p.assignment.current z) (sym (is_other k n (λ e. omega arith))) (g.front k (omega arith))
       ];
       cut = λ k a b. elim (cases_eq k at) [
         | inl e ↦ subst (λ z. IsFalseLit p.assignment.current z) (sym (ap (λ z. lit_of r.clauses o z) e ∙ is_second)) (g.cut kept (omega arith) (omega arith))
@@ -157,16 +157,16 @@ module _ (p q : Parts) (o kept at : ℕ) (g : Gathers p q o kept at) (le : kept 
 -- THE FIRST TWO LITERALS
 
 -- with an empty trail, every true literal of level 0 has left the queue
-pub flat_left : (p : Parts) (l : ℕ) → PartsInvariant p → HasEmptyTrail p → IsTrueLit p.assignment.current l → HasLeftQueue (state p) l
+pub flat_left : (p : SearchState) (l : ℕ) → SearchStateInvariant p → HasEmptyTrail p → IsTrueLit p.assignment.current l → HasLeftQueue (state p) l
 flat_left p l h flat t =
     let nothing : length p.trail.lits ≡ 0 = ap (λ (xs : List ℕ). length xs) flat.empty in
     elim (h.below.asks.agrees.known l t) [ inl b ↦ absurd (omega (arith, b.within)) | inr r ↦ inr r ]
 
-module _ (p : Parts) (o : ℕ) (h : PartsInvariant p) (there : Contains (live_refs p.clauses p.db.refs) o) where
+module _ (p : SearchState) (o : ℕ) (h : SearchStateInvariant p) (there : Contains (live_refs p.clauses p.db.refs) o) where
   long_size : 3 ≤ size_of p.clauses o
   long_size = h.below.asks.clauses.long o there
 
-  pub front_open : HasEmptyTrail p → (HasTrue p o → ⊥) → (k : ℕ) → k < 2 → IsOpenLit p.assignment.current (lit_of p.clauses o k)
+  pub front_open : HasEmptyTrail p → (HasTrue p o → ⊥) → (k : ℕ) → k < 2 → IsUnassignedLit p.assignment.current (lit_of p.clauses o k)
   front_open flat none k lt =
       open_from p.assignment.current (lit_of p.clauses o k)
       (λ t. none (k, (omega (arith, long_size), t)))

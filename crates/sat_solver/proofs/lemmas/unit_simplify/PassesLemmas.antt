@@ -10,7 +10,7 @@ use Rattle.sat_parts.specs.prop.Values.{value_of}
 use Rattle.sat_base.specs.values.Literals.{variable}
 use Rattle.sat_checker.specs.LiteralSets.{mentions}
 use Rattle.sat_solver.specs.session.Making.{ComesByCheckedSteps}
-use Rattle.sat_solver.specs.variables.Taking.{NotTaken}
+use Rattle.sat_solver.specs.variables.Taking.{StepNotAccepted}
 use Rattle.sat_solver.specs.proof.ProofView.{HasAllowedSteps, steps_of, session_of}
 use Rattle.sat_solver.specs.session.Session.{AreAllowedSteps}
 use Rattle.sat_solver.specs.declared.proof.Proof.{Proof}
@@ -30,8 +30,8 @@ use Rattle.sat_solver.proofs.lemmas.variables.Doing.{does_none, does_both}
 use Rattle.sat_parts.specs.parts.Frame.{SameClauses}
 use Rattle.sat_parts.specs.parts.Words.{TrailWordExtendsFor}
 use Rattle.sat_parts.proofs.lemmas.parts.WordSteps.{extends_refl, extends_after}
-use Rattle.sat_solver.specs.cdcl.Going.{EmitsSteps, EmitsStepsWith}
-use Rattle.sat_solver.specs.cdcl.Joint.{assumed_indices, IsSearch, SameVarsAndAssumptions}
+use Rattle.sat_solver.specs.cdcl.StepEffects.{EmitsSteps, EmitsStepsWith}
+use Rattle.sat_solver.specs.cdcl.Joint.{assumed_indices, SearchInvariant, SameVarsAndAssumptions}
 use Rattle.sat_solver.specs.declared.context.Search.{Search}
 use Rattle.sat_solver.proofs.lemmas.cdcl.TurnLemmas.{moved_refl, moved_trans}
 use Rattle.sat_solver.specs.variables.Shared.{SharesIndices}
@@ -39,8 +39,8 @@ use Rattle.sat_solver.specs.load.Faults.{reported_as}
 use Rattle.sat_solver.proofs.lemmas.solver.AfterLemmas.{nothing_after}
 use Rattle.sat_solver.proofs.lemmas.solver.ReportingLemmas.{shares_moved}
 use Rattle.sat_solver.specs.unit_simplify.Flat.{HasEmptyTrail, StrengthensAll}
-use Rattle.sat_solver.specs.unit_simplify.Freed.{MayFree, FreesSome, AreLeft}
-use Rattle.sat_solver.specs.unit_simplify.Looks.{IsOpenClause}
+use Rattle.sat_solver.specs.unit_simplify.Freed.{CanFreeIndices, FreesSome, AreLeft}
+use Rattle.sat_solver.specs.unit_simplify.ClauseStatus.{HasNoAssignedLit}
 use Rattle.sat_solver.specs.unit_simplify.Passes.{JointInvariant, PassesQuietly, PassFails, PassFailsOr, IsSimplifiedPass}
 use Rattle.sat_solver.proofs.lemmas.unit_simplify.FreedLemmas.{asked_refl, asked_trans}
 use Rattle.sat_solver.proofs.lemmas.unit_simplify.StrengthenSearchLemmas.{goes_leaves, flat_on}
@@ -81,7 +81,7 @@ module _ {W L : Type 0} {G : Ghosts L} (seen : W → Writer) where
   }
 
   -- steps of a search were made
-  pub passes_goes : {A : Type 0} (v : A) (n : Variables) (p q : Proof W L G) (c d : Search) (P : A → List Step → Type 0) → NamesInvariant n (steps_of p) → SharesIndices n c → EmitsSteps seen (Ok v) p q P → IsSearch (session_of q) d → SameVarsAndAssumptions c d → TrailWordExtendsFor (assumed_indices c) c.parts d.parts → PassesQuietly seen n n p q c d
+  pub passes_goes : {A : Type 0} (v : A) (n : Variables) (p q : Proof W L G) (c d : Search) (P : A → List Step → Type 0) → NamesInvariant n (steps_of p) → SharesIndices n c → EmitsSteps seen (Ok v) p q P → SearchInvariant (session_of q) d → SameVarsAndAssumptions c d → TrailWordExtendsFor (assumed_indices c) c.parts d.parts → PassesQuietly seen n n p q c d
   passes_goes v n p q c d P valid shares g search moved word =
       let may : AreAllowedSteps (g.steps ++ steps_of p) = subst AreAllowedSteps g.went.history g.keeps in
       let does : KeepsScriptState n n (steps_of p) (steps_of q) = subst (KeepsScriptState n n (steps_of p)) (sym g.went.history) (nothing_after n (steps_of p) g.steps valid may g.searched) in
@@ -124,7 +124,7 @@ module _ {W L : Type 0} {G : Ghosts L} (seen : W → Writer) where
   falls_later e p q r took f = record { fault = f.fault; steps = f.steps ++ took.0; went = went_after seen (Unit {0}) e took.0 f.steps p q r (gains_adds seen took.0 p q took.1) f.went; kept = f.kept; loss = loss_later e p q r took.1.taking f.loss }
 
   -- a call over names failed
-  pub falls_names : (e : NameError) (p q : Proof W L G) → IsFailure e → ((w : Proof W L G) → ComesByCheckedSteps seen w p → EmitsUpTo (ComesByCheckedSteps seen) (NotTaken seen) w e q) → PassFails seen (reported_as e) p q
+  pub falls_names : (e : NameError) (p q : Proof W L G) → IsFailure e → ((w : Proof W L G) → ComesByCheckedSteps seen w p → EmitsUpTo (ComesByCheckedSteps seen) (StepNotAccepted seen) w e q) → PassFails seen (reported_as e) p q
   falls_names names.OutOfMemory p q f came = (let t = came p ([], gains_none seen p) in record { fault = tt; steps = t.0; went = gains_adds seen t.0 p q t.1; kept = tt; loss = inl t.1.taking })
   falls_names (names.Write cause) p q f came = (let t = came p ([], gains_none seen p) in record { fault = tt; steps = t.0.0; went = t.0.1; kept = t.1; loss = tt })
   falls_names (names.Check fault) p q f came = (let t = came p ([], gains_none seen p) in record { fault = fault_checked _ fault; steps = t.0; went = went_checked seen (Unit {0}) fault t.0 p q t.1; kept = complaint_kept fault q t.2; loss = check_loss fault p q t.1.why })
@@ -132,18 +132,18 @@ module _ {W L : Type 0} {G : Ghosts L} (seen : W → Writer) where
 
   -- SIMPLIFICATION
 
-  pub may_free : (n : Variables) (p : Proof W L G) (c : Search) → JointInvariant n p c → HasEmptyTrail c.parts → MayFree n (steps_of p) c
+  pub may_free : (n : Variables) (p : Proof W L G) (c : Search) → JointInvariant n p c → HasEmptyTrail c.parts → CanFreeIndices n (steps_of p) c
   may_free n p c h flat = record { valid = h.valid; search = h.search; shares = h.shares; flat = flat }
 
   module _ (n n' : Variables) (p q r : Proof W L G) (c d e : Search) (h : JointInvariant n p c) (flat : HasEmptyTrail c.parts) (g : EmitsSteps {A = Unit {0}} seen (Ok tt) p q (λ _ _. StrengthensAll (session_of q) c d)) where
     pub passes_strengthened : PassesQuietly seen n n p q c d
     passes_strengthened = passes_goes tt n p q c d (λ _ _. StrengthensAll (session_of q) c d) h.valid h.shares g g.ends.strengthened.search g.ends.strengthened.moved g.ends.strengthened.word
 
-    pub may_strengthened : MayFree n (steps_of q) d
+    pub may_strengthened : CanFreeIndices n (steps_of q) d
     may_strengthened = may_free n q d passes_strengthened.together (flat_on c d (session_of q) g.ends.strengthened flat)
 
     open_freed : SameClauses d.parts e.parts → ((v : ℕ) → value_of d.parts.assignment.current v ≡ None → value_of e.parts.assignment.current v ≡ None) →
-        (o : ℕ) → Contains (live_refs e.parts.clauses e.parts.db.refs) o → IsOpenClause e.parts o
+        (o : ℕ) → Contains (live_refs e.parts.clauses e.parts.db.refs) o → HasNoAssignedLit e.parts o
     open_freed same unset o there k lt =
         let was : Contains (live_refs d.parts.clauses d.parts.db.refs) o = rw (same.0, same.1) at there in
         rw same.0 (unset (variable (lit_of d.parts.clauses o k)) (g.ends.left o was k (rw same.0 at lt)))

@@ -7,9 +7,9 @@ use Rattle.sat_parts.specs.clause.Db.{live_refs}
 use Rattle.sat_parts.specs.clause.Stored.{lit_of}
 use Rattle.sat_solver.specs.session.Session.{Session, after, IsAllowedStep}
 use Rattle.sat_solver.specs.session.LiveClauses.{with_var}
-use Rattle.sat_parts.specs.declared.parts.Parts.{Parts}
+use Rattle.sat_parts.specs.declared.parts.SearchState.{SearchState}
 use Rattle.sat_parts.specs.parts.Frame.{DropsLongClause, SameState}
-use Rattle.sat_parts.specs.parts.Whole.{PartsInvariant}
+use Rattle.sat_parts.specs.parts.Whole.{SearchStateInvariant}
 use Rattle.sat_parts.specs.parts.Words.{TrailWordExtends}
 use Rattle.sat_solver.specs.session.Fits.{is_redundant, SessionMatchesParts}
 use Rattle.sat_solver.proofs.lemmas.fits.FitLemmas.{among_at}
@@ -17,14 +17,14 @@ use Rattle.sat_solver.proofs.lemmas.fits.FramedParts.{bottom_unit, same_state, f
 use Rattle.sat_parts.proofs.lemmas.clause.OrderLemmas.{shuffled_eq}
 use Rattle.sat_solver.specs.declared.context.Search.{Search}
 use Rattle.sat_solver.specs.declared.context.Scratch.{Scratch}
-use Rattle.sat_solver.specs.cdcl.Joint.{assumed_indices, global_in, IsSearch, SameAssumedAndNames}
+use Rattle.sat_solver.specs.cdcl.Joint.{assumed_indices, global_in, SearchInvariant, SameAssumedAndNames}
 use Rattle.sat_solver.proofs.lemmas.clause.ReducingLemmas.{still, still_moved}
 use Rattle.sat_solver.specs.unit_simplify.Cuts.{deleted_step}
 use Rattle.sat_solver.specs.unit_simplify.Flat.{HasEmptyTrail, IsStrengthened}
-use Rattle.sat_solver.specs.unit_simplify.Looks.{HasTrue}
+use Rattle.sat_solver.specs.unit_simplify.ClauseStatus.{HasTrue}
 
 -- the search after clauses changed and values did not
-pub strengthened_by : (s t : Session) (c c' : Search) → IsSearch s c → c'.globals ≡ c.globals → c'.assumptions ≡ c.assumptions → c'.analysis ≡ c.analysis → c'.flags ≡ c.flags → SameAssumedAndNames s t → PartsInvariant c'.parts → SessionMatchesParts c'.parts t (global_in c) →
+pub strengthened_by : (s t : Session) (c c' : Search) → SearchInvariant s c → c'.globals ≡ c.globals → c'.assumptions ≡ c.assumptions → c'.analysis ≡ c.analysis → c'.flags ≡ c.flags → SameAssumedAndNames s t → SearchStateInvariant c'.parts → SessionMatchesParts c'.parts t (global_in c) →
     SameState c.parts c'.parts → TrailWordExtends c.parts c'.parts → c'.parts.db.refs ≡ c.parts.db.refs → IsStrengthened t c c'
 strengthened_by s t c c' h globals assumptions analysis flags leaves holds fits same word refs =
     let size : length c'.parts.assignment.current ≡ length c.parts.assignment.current = ap (λ a. length a.current) same.0 in
@@ -38,7 +38,7 @@ strengthened_by s t c c' h globals assumptions analysis flags leaves holds fits 
 
 -- A TRUE CLAUSE
 
-module _ (s : Session) (c : Search) (p : Parts) (o : ℕ) (h : IsSearch s c) (flat : HasEmptyTrail c.parts) (there : Contains (live_refs c.parts.clauses c.parts.db.refs) o) (has : HasTrue c.parts o) (dropped : DropsLongClause c.parts p o) where
+module _ (s : Session) (c : Search) (p : SearchState) (o : ℕ) (h : SearchInvariant s c) (flat : HasEmptyTrail c.parts) (there : Contains (live_refs c.parts.clauses c.parts.db.refs) o) (has : HasTrue c.parts o) (dropped : DropsLongClause c.parts p o) where
   abbrev mapped : List ℕ
   mapped = map (with_var (global_in c)) (lits_at c.parts.clauses o)
 
@@ -54,7 +54,7 @@ module _ (s : Session) (c : Search) (p : Parts) (o : ℕ) (h : IsSearch s c) (fl
   leaves_deleted false = record { assumed = refl; names = λ v. refl }
 
   -- then the search satisfies its invariant
-  pub true_lighter : (b : Bool) → is_redundant c.parts.clauses o ≡ b → (x : Scratch) → PartsInvariant p → TrailWordExtends c.parts p → IsStrengthened (after (deleted_step b Satisfied mapped) s) c (record c { parts = p; scratch = x })
+  pub true_lighter : (b : Bool) → is_redundant c.parts.clauses o ≡ b → (x : Scratch) → SearchStateInvariant p → TrailWordExtends c.parts p → IsStrengthened (after (deleted_step b Satisfied mapped) s) c (record c { parts = p; scratch = x })
   true_lighter b e x holds word =
       strengthened_by s (after (deleted_step b Satisfied mapped) s) c (record c { parts = p; scratch = x }) h refl refl refl refl (leaves_deleted b) holds (true_goes b e).1
       dropped.same.0 word dropped.deletes.refs

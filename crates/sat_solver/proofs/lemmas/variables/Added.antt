@@ -3,24 +3,24 @@ use Rattle.std.proofs.Common.{ℕ, ◌<◌, ◌≡◌, Bool, None, Some, List, [
 use Rattle.std.proofs.lemmas.Bool.{eq-eqb, or_right}
 use Rattle.sat_base.specs.values.Literals.{variable, is_positive}
 use Rattle.sat_base.specs.script.Script.{Among}
-use Rattle.sat_base.specs.script.ScriptState.{bring_all, with_clause}
+use Rattle.sat_base.specs.script.ScriptState.{introduce_all, with_clause}
 use Rattle.sat_base.specs.steps.Steps.{Step, AddClause, Assumptions}
 use Rattle.sat_checker.specs.LiteralSets.{is_tautology, mentions}
 use Rattle.sat_solver.specs.session.Session.{session_after}
 use Rattle.sat_solver.specs.session.LiveClauses.{with_var}
 use Rattle.sat_store.specs.variables.Maps.{target}
-use Rattle.sat_solver.specs.variables.Variables.{data_at, global_of, variables_used, AreTidy}
+use Rattle.sat_solver.specs.variables.Variables.{data_at, global_of, variables_used, VariablesInvariant}
 use Rattle.sat_solver.specs.variables.Naming.{ExtendsNames}
 use Rattle.sat_solver.specs.variables.Refusing.{names_in}
-use Rattle.sat_solver.specs.load.Literals.{user_literal, Image, Images, MapsClause, NoWitness, SameLiterals, BringsLiterals, global_with_index}
-use Rattle.sat_solver.specs.load.Clauses.{BringsClause}
-use Rattle.sat_solver.specs.load.Assumed.{PutsMarks, BringsAssumptions}
-use Rattle.sat_checker.specs.matching.Expected.{Outcome, Adds, Opens, bringing}
+use Rattle.sat_solver.specs.load.Literals.{user_literal, Image, Images, MapsClause, NoWitness, SameLiterals, IntroducesLiterals, global_with_index}
+use Rattle.sat_solver.specs.load.Clauses.{IntroducesClause}
+use Rattle.sat_solver.specs.load.Assumed.{PutsMarks, IntroducesAssumptions}
+use Rattle.sat_checker.specs.matching.Expected.{Outcome, Adds, Opens, introducing}
 use Rattle.sat_solver.specs.variables.Search.{GivesIndices}
 use Rattle.sat_solver.specs.variables.Calls.{NamesEffect}
 use Rattle.sat_solver.specs.declared.variables.Variables.{Variables}
-use Rattle.sat_solver.specs.declared.load.literals.Taken.{Taken}
-use Rattle.sat_solver.specs.variables.Coming.{MayTake}
+use Rattle.sat_solver.specs.declared.load.literals.MappedLits.{MappedLits}
+use Rattle.sat_solver.specs.variables.NamingSteps.{IsLiteralsStep}
 use Rattle.sat_solver.proofs.lemmas.session.ComingLemmas.{comes_one, comes_both}
 use Rattle.sat_solver.proofs.lemmas.variables.Doing.{does_both}
 use Rattle.sat_solver.proofs.lemmas.variables.Extending.{extends_both}
@@ -30,18 +30,18 @@ use Rattle.sat_solver.proofs.lemmas.variables.ModeChanges.{live_within}
 use Rattle.sat_solver.proofs.lemmas.variables.Assumed.{marked_within}
 use Rattle.sat_solver.proofs.lemmas.variables.TakenNames.{same_literals, canonical_more, canonical_less, images_within, at_place, among_place, map_among, mapped_is}
 
-order_same : (n : Variables) (user : List ℕ) (t u : Taken) → u.order ≡ t.order → Images n user t.order.items → Images n user u.order.items
+order_same : (n : Variables) (user : List ℕ) (t u : MappedLits) → u.order ≡ t.order → Images n user t.order.items → Images n user u.order.items
 order_same n user t u e = subst (Images n user) (sym (ap (λ v. v.items) e))
 
-pub clause_literals : (old mid : Variables) (user : List ℕ) (t u : Taken) → AreTidy mid → ExtendsNames old mid → NoWitness old user → Images mid user t.order.items → MapsClause mid u → u.order ≡ t.order → SameLiterals mid user u.globals.items
+pub clause_literals : (old mid : Variables) (user : List ℕ) (t u : MappedLits) → VariablesInvariant mid → ExtendsNames old mid → NoWitness old user → Images mid user t.order.items → MapsClause mid u → u.order ≡ t.order → SameLiterals mid user u.globals.items
 clause_literals old mid user t u tidy extends none images maps e =
     same_literals old mid user u.order.items u.lits.items u.globals.items tidy extends none (order_same mid user t u e images)
     (λ x m. subst (Among x) (sym maps.lits) (canonical_more u.order.items x m)) (λ x m. canonical_less u.order.items x (subst (Among x) maps.lits m)) maps.globals
 
-pub clause_added : (old mid : Variables) (from mids to : List Step) (user : List ℕ) (t u : Taken) (both_signs : Bool) → BringsLiterals old mid from mids user t → MapsClause mid u → both_signs ≡ is_tautology u.order.items → u.order ≡ t.order → u.given ≡ t.given
-    → NamesEffect mid mid mids to (with_clause (map user_literal user)) (λ j. Adds (map user_literal user) ∷ []) → to ≡ AddClause u.globals.items ∷ mids → BringsClause old mid from to user u both_signs
+pub clause_added : (old mid : Variables) (from mids to : List Step) (user : List ℕ) (t u : MappedLits) (both_signs : Bool) → IntroducesLiterals old mid from mids user t → MapsClause mid u → both_signs ≡ is_tautology u.order.items → u.order ≡ t.order → u.given ≡ t.given
+    → NamesEffect mid mid mids to (with_clause (map user_literal user)) (λ j. Adds (map user_literal user) ∷ []) → to ≡ AddClause u.globals.items ∷ mids → IntroducesClause old mid from to user u both_signs
 clause_added old mid from mids to user t u both_signs takes maps signs order given does e = record {
-  does = does_both old mid mid from mids to (bring_all (names_in user)) (with_clause (map user_literal user)) (bringing (names_in user)) (λ j. Adds (map user_literal user) ∷ []) takes.does does;
+  does = does_both old mid mid from mids to (introduce_all (names_in user)) (with_clause (map user_literal user)) (introducing (names_in user)) (λ j. Adds (map user_literal user) ∷ []) takes.does does;
   signs = signs;
   extends = takes.extends;
   images = order_same mid user t u order takes.images;
@@ -51,10 +51,10 @@ clause_added old mid from mids to user t u both_signs takes maps signs order giv
   since = takes.comes;
   written = e;
   search = takes.search;
-  comes = comes_both (MayTake (names_in user)) from mids to takes.comes (comes_one (MayTake (names_in user)) mids to (AddClause u.globals.items) e refl);
+  comes = comes_both (IsLiteralsStep (names_in user)) from mids to takes.comes (comes_one (IsLiteralsStep (names_in user)) mids to (AddClause u.globals.items) e refl);
 }
 
-pub assumed_literals : (old mid : Variables) (user : List ℕ) (t u : Taken) → AreTidy mid → ExtendsNames old mid → NoWitness old user → Images mid user t.order.items → u.globals.items ≡ map (with_var (global_with_index mid)) t.order.items → SameLiterals mid user u.globals.items
+pub assumed_literals : (old mid : Variables) (user : List ℕ) (t u : MappedLits) → VariablesInvariant mid → ExtendsNames old mid → NoWitness old user → Images mid user t.order.items → u.globals.items ≡ map (with_var (global_with_index mid)) t.order.items → SameLiterals mid user u.globals.items
 assumed_literals old mid user t u tidy extends none images e = same_literals old mid user t.order.items t.order.items u.globals.items tidy extends none images (λ x m. m) (λ x m. m) e
 
 images_kept : (old new : Variables) (user order : List ℕ) → new.global_from_user ≡ old.global_from_user → new.solver_from_global ≡ old.solver_from_global → Images old user order → Images new user order
@@ -78,10 +78,10 @@ extends_marked old new ls put = record {
     none_some : {v : ℕ} → None ≡ Some v → ⊥
     none_some e = cc
 
-pub assumptions_added : (old mid new : Variables) (from mids to : List Step) (user : List ℕ) (t u : Taken) → BringsLiterals old mid from mids user t → PutsMarks mid new u.globals.items → u.globals.items ≡ map (with_var (global_with_index mid)) t.order.items → u.order ≡ t.order → u.given ≡ t.given
-    → ((o : Outcome) → NamesEffect mid new mids to (λ j. j) (λ j. Opens (map user_literal user) o ∷ [])) → to ≡ Assumptions u.globals.items ∷ mids → BringsAssumptions old new from to user u
+pub assumptions_added : (old mid new : Variables) (from mids to : List Step) (user : List ℕ) (t u : MappedLits) → IntroducesLiterals old mid from mids user t → PutsMarks mid new u.globals.items → u.globals.items ≡ map (with_var (global_with_index mid)) t.order.items → u.order ≡ t.order → u.given ≡ t.given
+    → ((o : Outcome) → NamesEffect mid new mids to (λ j. j) (λ j. Opens (map user_literal user) o ∷ [])) → to ≡ Assumptions u.globals.items ∷ mids → IntroducesAssumptions old new from to user u
 assumptions_added old mid new from mids to user t u takes put globals order given does e = record {
-  does = λ o. does_both old mid new from mids to (bring_all (names_in user)) (λ j. j) (bringing (names_in user)) (λ j. Opens (map user_literal user) o ∷ []) takes.does (does o);
+  does = λ o. does_both old mid new from mids to (introduce_all (names_in user)) (λ j. j) (introducing (names_in user)) (λ j. Opens (map user_literal user) o ∷ []) takes.does (does o);
   extends = extends_both old mid new takes.extends (extends_marked mid new u.globals.items put);
   images = images_kept mid new user u.order.items put.users put.solvers (order_same mid user t u order takes.images);
   globals = globals ∙ ap (λ v. map (with_var (global_with_index mid)) v.items) (sym order) ∙ ap (λ g. map (with_var (λ x. get_or g.items x 0)) u.order.items) (sym put.globals);
@@ -89,7 +89,7 @@ assumptions_added old mid new from mids to user t u takes put globals order give
   between = mids;
   written = e;
   search = takes.search;
-  comes = comes_both (MayTake (names_in user)) from mids to takes.comes (comes_one (MayTake (names_in user)) mids to (Assumptions u.globals.items) e refl);
+  comes = comes_both (IsLiteralsStep (names_in user)) from mids to takes.comes (comes_one (IsLiteralsStep (names_in user)) mids to (Assumptions u.globals.items) e refl);
 }
 
 -- VARIABLES WITHIN BOUNDS
@@ -99,13 +99,13 @@ mention [] l m = absurd m
 mention (x ∷ xs) l (inl e) = ap (λ b. b || mentions xs (variable l)) (eq-eqb (variable x) (variable l) (ap variable (sym e)))
 mention (x ∷ xs) l (inr m) = or_right (eqb (variable x) (variable l)) (mentions xs (variable l)) (mention xs l m)
 
-pub marks_within : (n : Variables) (ls : List ℕ) → AreTidy n → ((v : ℕ) → mentions ls v ≡ (data_at n v).assumed) → (k : ℕ) → k < length ls → variable (get_or ls k 0) < variables_used n
+pub marks_within : (n : Variables) (ls : List ℕ) → VariablesInvariant n → ((v : ℕ) → mentions ls v ≡ (data_at n v).assumed) → (k : ℕ) → k < length ls → variable (get_or ls k 0) < variables_used n
 marks_within n ls tidy marked k lt = live_within n (variable (get_or ls k 0)) (marked_within n ls (variable (get_or ls k 0)) tidy (marked (variable (get_or ls k 0))) (mention ls (get_or ls k 0) (among_place ls k lt)))
 
-pub order_within : (n : Variables) (user order : List ℕ) → AreTidy n → Images n user order → (k : ℕ) → k < length order → variable (get_or order k 0) < length n.globals.items
+pub order_within : (n : Variables) (user order : List ℕ) → VariablesInvariant n → Images n user order → (k : ℕ) → k < length order → variable (get_or order k 0) < length n.globals.items
 order_within n user order tidy images k lt = images_within n user order tidy images (get_or order k 0) (among_place order k lt)
 
-pub mapped_within : (n : Variables) (user order mapped : List ℕ) → AreTidy n → Images n user order → mapped ≡ map (with_var (global_with_index n)) order → (k : ℕ) → k < length mapped → variable (get_or mapped k 0) < variables_used n
+pub mapped_within : (n : Variables) (user order mapped : List ℕ) → VariablesInvariant n → Images n user order → mapped ≡ map (with_var (global_with_index n)) order → (k : ℕ) → k < length mapped → variable (get_or mapped k 0) < variables_used n
 mapped_within n user order mapped tidy images e k lt =
     let q = map_among (with_var (global_with_index n)) (get_or mapped k 0) order (subst (Among (get_or mapped k 0)) e (among_place mapped k lt)) in
     let p = at_place order q.0 q.1 in

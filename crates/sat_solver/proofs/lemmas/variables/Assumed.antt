@@ -12,11 +12,11 @@ use Rattle.sat_solver.specs.session.Session.{Session, AreAllowedSteps, session_a
 use Rattle.sat_store.specs.declared.data.VarData.{VarData}
 use Rattle.sat_store.specs.variables.VarData.{unused_variable}
 use Rattle.sat_store.specs.variables.Maps.{AreInverse, target}
-use Rattle.sat_solver.specs.variables.Counting.{IsEven}
+use Rattle.sat_solver.specs.variables.Counting.{HasEqualCounts}
 use Rattle.sat_solver.specs.variables.Free.{is_free, IsTree}
-use Rattle.sat_checker.specs.matching.Bridge.{Live}
+use Rattle.sat_checker.specs.matching.Bridge.{LiveVariables}
 use Rattle.sat_solver.specs.variables.Live.{given_of}
-use Rattle.sat_solver.specs.variables.Variables.{data_at, user_of, variables_used, AreTidy, NamesMatchSteps, NamesMatchState, IsModeOf, says_unit, is_witness_kept}
+use Rattle.sat_solver.specs.variables.Variables.{data_at, user_of, variables_used, VariablesInvariant, NamesMatchSteps, NamesMatchState, IsModeOf, says_unit, is_witness_kept}
 use Rattle.sat_solver.specs.load.Literals.{user_literal, SameLiterals, IsProofLiteralOf}
 use Rattle.sat_solver.specs.load.Assumed.{marked_if, MarksAssumed, PutsMarks}
 use Rattle.sat_checker.specs.matching.Checking.{variable_of}
@@ -83,14 +83,14 @@ pub remarked_lent : (old mid new : ℕ → VarData) (first second before ls : Li
 remarked_lent old mid new first second before ls marked one two e f = remarked old mid new before ls marked (subst (λ xs. MarksAssumed old mid xs false) e one) (subst (λ xs. MarksAssumed mid new xs true) f two)
 
 -- a marked variable is in use
-pub marked_within : (n : Variables) (ls : List ℕ) (v : ℕ) → AreTidy n → mentions ls v ≡ (data_at n v).assumed → mentions ls v ≡ true → (data_at n v).deleted ≡ false
+pub marked_within : (n : Variables) (ls : List ℕ) (v : ℕ) → VariablesInvariant n → mentions ls v ≡ (data_at n v).assumed → mentions ls v ≡ true → (data_at n v).deleted ≡ false
 marked_within n ls v tidy e m = go (data_at n v).deleted refl
   where
     go : (b : Bool) → (data_at n v).deleted ≡ b → (data_at n v).deleted ≡ false
     go false t = t
     go true t = absurd (true≢false (sym m ∙ e ∙ ap (λ d. d.assumed) (tidy.gone v t)))
 
-module _ (old new : Variables) (ls : List ℕ) (tidy : AreTidy old) (live : (v : ℕ) → mentions ls v ≡ true → (data_at old v).deleted ≡ false) (put : PutsMarks old new ls) where
+module _ (old new : Variables) (ls : List ℕ) (tidy : VariablesInvariant old) (live : (v : ℕ) → mentions ls v ≡ true → (data_at old v).deleted ≡ false) (put : PutsMarks old new ls) where
   user_at : (w : ℕ) → user_of new w ≡ user_of old w
   user_at w = ap (λ m. target m.bwd w) put.users
 
@@ -100,7 +100,7 @@ module _ (old new : Variables) (ls : List ℕ) (tidy : AreTidy old) (live : (v :
   mode_at : (w : ℕ) → (data_at new w).sampling_mode ≡ (data_at old w).sampling_mode
   mode_at w = ap (λ d. d.sampling_mode) (put.kept w)
 
-  pub tidy_marked : AreTidy new
+  pub tidy_marked : VariablesInvariant new
   tidy_marked = record {
     users = subst AreInverse (sym put.users) tidy.users;
     solvers = subst AreInverse (sym put.solvers) tidy.solvers;
@@ -113,8 +113,8 @@ module _ (old new : Variables) (ls : List ℕ) (tidy : AreTidy old) (live : (v :
     own = λ e u lt. ap (λ m. target m.fwd u) put.users ∙ tidy.own (sym put.own ∙ e) u (let q = ap (λ m. length m.fwd) put.users in omega arith);
     globals_count = ap (λ g. length g.items) put.globals ∙ tidy.globals_count ∙ ap (λ m. length m.bwd) (sym put.solvers);
     globals = λ x w e. ap (λ g. get_or g.items x 0) put.globals ∙ tidy.globals x w (sym (ap (λ m. target m.bwd x) put.solvers) ∙ e);
-    even_users = subst IsEven (sym put.users) tidy.even_users;
-    even_solvers = subst IsEven (sym put.solvers) tidy.even_solvers;
+    even_users = subst HasEqualCounts (sym put.users) tidy.even_users;
+    even_solvers = subst HasEqualCounts (sym put.solvers) tidy.even_solvers;
     spans_users = record { tree = subst IsTree (sym put.free_users) tidy.spans_users.tree; room = let a = ap (λ f. f.room) put.free_users in let b = ap (λ m. length m.fwd) put.users in let r = tidy.spans_users.room in omega arith };
     spans_globals = record { tree = subst IsTree (sym put.free_globals) tidy.spans_globals.tree; room = let a = ap (λ f. f.room) put.free_globals in let b = put.count in let r = tidy.spans_globals.room in omega arith };
     spans_solvers = record { tree = subst IsTree (sym put.free_solvers) tidy.spans_solvers.tree; room = let a = ap (λ f. f.room) put.free_solvers in let b = ap (λ m. length m.bwd) put.solvers in let r = tidy.spans_solvers.room in omega arith };
@@ -144,7 +144,7 @@ module _ (old new : Variables) (ls : List ℕ) (tidy : AreTidy old) (live : (v :
     marked = λ w. ap (λ d. d.assumed) (sym (put.kept w));
   }
 
-  pub judged_marked : (j : ScriptState) (list : Live) → NamesMatchState old j list → NamesMatchState new j list
+  pub judged_marked : (j : ScriptState) (list : LiveVariables) → NamesMatchState old j list → NamesMatchState new j list
   judged_marked j list judged = record {
     first_unused = judged.first_unused ∙ ap (λ m. length m.fwd + 1) (sym put.users);
     no_zero = judged.no_zero;
@@ -160,7 +160,7 @@ module _ (old new : Variables) (ls : List ℕ) (tidy : AreTidy old) (live : (v :
   }
 
 -- the proof literals for names are over variables in use
-pub spelt_live : (n : Variables) (user ls : List ℕ) → AreTidy n → AllByRecursion (λ code. (l : ℕ) × IsProofLiteralOf n l code × Among l user) ls → (v : ℕ) → mentions ls v ≡ true → (data_at n v).deleted ≡ false
+pub spelt_live : (n : Variables) (user ls : List ℕ) → VariablesInvariant n → AllByRecursion (λ code. (l : ℕ) × IsProofLiteralOf n l code × Among l user) ls → (v : ℕ) → mentions ls v ≡ true → (data_at n v).deleted ≡ false
 spelt_live n user [] tidy h v e = absurd (true≢false (sym e))
 spelt_live n user (x ∷ xs) tidy h v e = go (spelt_live n user xs tidy h.1 v) (eqb (variable x) v) refl e
   where

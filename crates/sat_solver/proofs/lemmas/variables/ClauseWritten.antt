@@ -2,7 +2,7 @@
 use Rattle.std.proofs.Common.{ℕ, ◌+◌, ◌<◌, ◌≡◌, ◌≢◌, Bool, true, false, ◌||◌, ◌&&◌, cond, eqb, List, [], ◌∷◌, map, Option, Some, None, refl, sym, ◌∙◌, ap, subst, inl, inr}
 use Rattle.std.proofs.lemmas.Bool.{eqb-true, eq-eqb, ne_eqb, true≢false}
 use Rattle.std.specs.List.{AllByRecursion}
-use Rattle.sat_base.specs.values.Literals.{variable, is_positive, coded, negated}
+use Rattle.sat_base.specs.values.Literals.{variable, is_positive, mk_lit, negated}
 use Rattle.sat_base.specs.script.Script.{Literal, Among}
 use Rattle.sat_base.specs.script.ScriptState.{with_clause}
 use Rattle.sat_base.specs.steps.Steps.{Step, AddClause}
@@ -225,7 +225,7 @@ module _ (n : Variables) (from : List Step) (user clause : List ℕ) (valid : Na
         variables = λ w. added_variables (session_after from) clause w all_known ∙ valid.said.variables w;
         solver_names = λ w. ap (λ f. f w) (added_names (session_after from) clause) ∙ valid.said.solver_names w;
         unused = λ w f r set lt. added_unused (session_after from) clause w (unmentioned n user clause w f same.only) (λ q t m. valid.said.unused w f q t m) r set lt;
-        units = λ w f b. added_units (session_after from) clause (coded w b) (unindexed n user clause w (coded w b) f (coded_half w b) same.only) ∙ valid.said.units w f b;
+        units = λ w f b. added_units (session_after from) clause (mk_lit w b) (unindexed n user clause w (mk_lit w b) f (coded_half w b) same.only) ∙ valid.said.units w f b;
         marked = λ w. ap (λ ls. mentions ls w) (added_assumed (session_after from) clause) ∙ valid.said.marked w;
       });
       may = subst AreAllowedSteps (sym e) (valid.may, may_add);

@@ -4,7 +4,7 @@ use Rattle.std.proofs.lemmas.Bool.{eqb-true, eq-eqb, ne_eqb, cases_eq, cases_lt,
 use Rattle.std.proofs.lemmas.List.{get_or_past}
 use Rattle.sat_store.specs.variables.Maps.{MapAndInverse, AreInverse, target, PutsTarget, Links, Unlinks}
 use Rattle.sat_solver.proofs.lemmas.variables.MapLemmas.{some_within}
-use Rattle.sat_solver.specs.variables.Counting.{count_to, mapped_count, IsEven}
+use Rattle.sat_solver.specs.variables.Counting.{count_to, mapped_count, HasEqualCounts}
 
 pub count_zero : (f : ℕ → Bool) → count_to 0 f ≡ 0
 unfolding count_to
@@ -145,13 +145,13 @@ mapped_fewer old new i u some put size lt =
     ap (λ m. m + 1) (sym (count_mapped new (length old) (omega arith)))
     ∙ sym (count_more (length old) i (λ v. is_some (target new v)) (λ v. is_some (target old v)) lt (ap is_some (put i ∙ ap (λ b. cond b None (target old i)) (eq-eqb i i refl))) (ap is_some some) (λ k ne. ap is_some (sym (put k ∙ ap (λ b. cond b None (target old k)) (ne_eqb k i ne)))))
 
-pub links_even : (old new : MapAndInverse) (from into : ℕ) → target old.fwd from ≡ None → target old.bwd into ≡ None → Links old new from into → IsEven old → IsEven new
+pub links_even : (old new : MapAndInverse) (from into : ℕ) → target old.fwd from ≡ None → target old.bwd into ≡ None → Links old new from into → HasEqualCounts old → HasEqualCounts new
 links_even old new from into a b l even = let x = mapped_more old.fwd new.fwd from into a l.fwd l.fwd_watermark in let y = mapped_more old.bwd new.bwd into from b l.bwd l.bwd_watermark in omega arith
 
-pub unlinks_even : (old new : MapAndInverse) (from into : ℕ) → target old.fwd from ≡ Some into → target old.bwd into ≡ Some from → from < length old.fwd → into < length old.bwd → Unlinks old new from into → IsEven old → IsEven new
+pub unlinks_even : (old new : MapAndInverse) (from into : ℕ) → target old.fwd from ≡ Some into → target old.bwd into ≡ Some from → from < length old.fwd → into < length old.bwd → Unlinks old new from into → HasEqualCounts old → HasEqualCounts new
 unlinks_even old new from into a b lt lu l even = let x = mapped_fewer old.fwd new.fwd from into a l.fwd l.fwd_watermark lt in let y = mapped_fewer old.bwd new.bwd into from b l.bwd l.bwd_watermark lu in omega arith
 
-pub unlinks_inverse : (old new : MapAndInverse) (from into : ℕ) → AreInverse old → target old.fwd from ≡ Some into → Unlinks old new from into → IsEven old → IsEven new
+pub unlinks_inverse : (old new : MapAndInverse) (from into : ℕ) → AreInverse old → target old.fwd from ≡ Some into → Unlinks old new from into → HasEqualCounts old → HasEqualCounts new
 unlinks_inverse old new from into inverse e l even = let back = inverse.back from into e in unlinks_even old new from into e back (some_within old.fwd from into e) (some_within old.bwd into from back) l even
 
 -- the same for lists of any lengths

@@ -1,7 +1,7 @@
 -- A hidden variable is deleted.
 use Rattle.std.proofs.Common.{ℕ, ◌+◌, ◌≡◌, ◌≢◌, Bool, true, false, not, ◌&&◌, cond, eqb, ltb, lt-ltb, List, [], ◌∷◌, length, get_or, Option, Some, None, is_some, refl, sym, ◌∙◌, ap, subst, arith}
 use Rattle.std.proofs.lemmas.Bool.{eqb-true, eqb-false, eq-eqb, ne_eqb}
-use Rattle.sat_base.specs.values.Literals.{variable, coded}
+use Rattle.sat_base.specs.values.Literals.{variable, mk_lit}
 use Rattle.sat_base.specs.script.ScriptState.{ScriptState, Sampled, identity_of}
 use Rattle.sat_base.specs.steps.Steps.{Step, DeleteVar}
 use Rattle.sat_store.specs.declared.data.SamplingMode.TheVariants as kept
@@ -9,13 +9,13 @@ use Rattle.sat_store.specs.variables.VarData.{unused_variable}
 use Rattle.sat_store.specs.variables.Maps.{AreInverse, target}
 use Rattle.sat_checker.specs.LiteralSets.{mentions}
 use Rattle.sat_checker.specs.Stored.{unknown}
-use Rattle.sat_solver.specs.session.Session.{Session, AreAllowedSteps, MayForget, session_after, after}
+use Rattle.sat_solver.specs.session.Session.{Session, AreAllowedSteps, MayDeleteVar, session_after, after}
 use Rattle.sat_solver.proofs.lemmas.session.StepLemmas.{sessions_are_accepted}
-use Rattle.sat_solver.specs.variables.Counting.{IsEven}
+use Rattle.sat_solver.specs.variables.Counting.{HasEqualCounts}
 use Rattle.sat_solver.specs.variables.Free.{is_free, IsTree}
-use Rattle.sat_checker.specs.matching.Bridge.{Live, IsBridge}
+use Rattle.sat_checker.specs.matching.Bridge.{LiveVariables, IsBridge}
 use Rattle.sat_solver.specs.variables.Live.{given_of, given}
-use Rattle.sat_solver.specs.variables.Variables.{data_at, global_of, user_of, solver_of, variables_used, AreTidy, checker_mode, checker_variable_at, NamesMatchSteps, IsModeOf, NamesMatchState, says_unit, is_witness_kept}
+use Rattle.sat_solver.specs.variables.Variables.{data_at, global_of, user_of, solver_of, variables_used, VariablesInvariant, checker_mode, checker_variable_at, NamesMatchSteps, IsModeOf, NamesMatchState, says_unit, is_witness_kept}
 use Rattle.sat_solver.specs.variables.Naming.{PutsDeleted}
 use Rattle.sat_checker.specs.matching.Checking.{variable_of}
 use Rattle.sat_checker.specs.matching.ProofChecking.{checker_rules}
@@ -36,7 +36,7 @@ and_true false = refl
 none_some : {x : ℕ} {o : Option ℕ} → o ≡ None → o ≡ Some x → ⊥
 none_some e f = cc
 
-given_without : (v : ℕ) (live : Live) (w : ℕ) → given (without v live) w ≡ cond (eqb w v) None (given live w)
+given_without : (v : ℕ) (live : LiveVariables) (w : ℕ) → given (without v live) w ≡ cond (eqb w v) None (given live w)
 given_without v [] w = go (eqb w v)
   where
     go : (b : Bool) → (let o : Option ℕ = None in o) ≡ cond b None None
@@ -57,11 +57,11 @@ given_without v (p ∷ ps) w = go (eqb p.0 v) refl (eqb p.0 w) refl (eqb w v) re
         there = ne_eqb w v (λ q. eqb-false p.0 v x (eqb-true p.0 w y ∙ q))
     go false x false y c z ih = ap (λ t. cond t (Some p.1) (given (without v ps) w)) y ∙ ih ∙ ap (λ t. cond (eqb w v) None (cond t (Some p.1) (given ps w))) (sym y)
 
-module _ (old new : Variables) (v : ℕ) (tidy : AreTidy old) (alive : (data_at old v).deleted ≡ false) (nameless : user_of old v ≡ None) (noindex : solver_of old v ≡ None) (put : PutsDeleted old new v) where
+module _ (old new : Variables) (v : ℕ) (tidy : VariablesInvariant old) (alive : (data_at old v).deleted ≡ false) (nameless : user_of old v ≡ None) (noindex : solver_of old v ≡ None) (put : PutsDeleted old new v) where
   user_at : (w : ℕ) → user_of new w ≡ user_of old w
   user_at w = ap (λ m. target m.bwd w) put.users
 
-  pub tidy_deleted : AreTidy new
+  pub tidy_deleted : VariablesInvariant new
   tidy_deleted = record {
     users = subst AreInverse (sym put.users) tidy.users;
     solvers = subst AreInverse (sym put.solvers) tidy.solvers;
@@ -74,8 +74,8 @@ module _ (old new : Variables) (v : ℕ) (tidy : AreTidy old) (alive : (data_at 
     own = λ e u lt. ap (λ m. target m.fwd u) put.users ∙ tidy.own (sym put.own ∙ e) u (let q = ap (λ m. length m.fwd) put.users in omega arith);
     globals_count = ap (λ g. length g.items) put.globals ∙ tidy.globals_count ∙ ap (λ m. length m.bwd) (sym put.solvers);
     globals = λ x w e. ap (λ g. get_or g.items x 0) put.globals ∙ tidy.globals x w (sym (ap (λ m. target m.bwd x) put.solvers) ∙ e);
-    even_users = subst IsEven (sym put.users) tidy.even_users;
-    even_solvers = subst IsEven (sym put.solvers) tidy.even_solvers;
+    even_users = subst HasEqualCounts (sym put.users) tidy.even_users;
+    even_solvers = subst HasEqualCounts (sym put.solvers) tidy.even_solvers;
     spans_users = record { tree = subst IsTree (sym put.free_users) tidy.spans_users.tree; room = let a = ap (λ f. f.room) put.free_users in let b = ap (λ m. length m.fwd) put.users in let r = tidy.spans_users.room in omega arith };
     spans_globals = put.spans_globals;
     spans_solvers = record { tree = subst IsTree (sym put.free_solvers) tidy.spans_solvers.tree; room = let a = ap (λ f. f.room) put.free_solvers in let b = ap (λ m. length m.bwd) put.solvers in let r = tidy.spans_solvers.room in omega arith };
@@ -149,12 +149,12 @@ module _ (old new : Variables) (v : ℕ) (tidy : AreTidy old) (alive : (data_at 
     marked = λ w. marked w (eqb w v) refl (put.kept w);
   }
     where
-      units : (w : ℕ) → solver_of new w ≡ None → (b : Bool) → (s.units (coded w b) && not (eqb (variable (coded w b)) v)) ≡ says_unit (data_at new w).unit b
-      units w e b = ap (λ k. s.units (coded w b) && not (eqb k v)) (coded_half w b) ∙ at (eqb w v) (put.kept w)
+      units : (w : ℕ) → solver_of new w ≡ None → (b : Bool) → (s.units (mk_lit w b) && not (eqb (variable (mk_lit w b)) v)) ≡ says_unit (data_at new w).unit b
+      units w e b = ap (λ k. s.units (mk_lit w b) && not (eqb k v)) (coded_half w b) ∙ at (eqb w v) (put.kept w)
         where
-          at : (q : Bool) → data_at new w ≡ cond q unused_variable (data_at old w) → (s.units (coded w b) && not q) ≡ says_unit (data_at new w).unit b
-          at true x = and_false (s.units (coded w b)) ∙ sym (ap (λ d. says_unit d.unit b) x)
-          at false x = and_true (s.units (coded w b)) ∙ said.units w (sym (ap (λ m. target m.fwd w) put.solvers) ∙ e) b ∙ sym (ap (λ d. says_unit d.unit b) x)
+          at : (q : Bool) → data_at new w ≡ cond q unused_variable (data_at old w) → (s.units (mk_lit w b) && not q) ≡ says_unit (data_at new w).unit b
+          at true x = and_false (s.units (mk_lit w b)) ∙ sym (ap (λ d. says_unit d.unit b) x)
+          at false x = and_true (s.units (mk_lit w b)) ∙ said.units w (sym (ap (λ m. target m.fwd w) put.solvers) ∙ e) b ∙ sym (ap (λ d. says_unit d.unit b) x)
 
       marked : (w : ℕ) (q : Bool) → eqb w v ≡ q → data_at new w ≡ cond q unused_variable (data_at old w) → mentions s.assumed w ≡ (data_at new w).assumed
       marked w true t x = ap (mentions s.assumed) (eqb-true w v t) ∙ unmarked ∙ sym (ap (λ d. d.assumed) x)
@@ -164,7 +164,7 @@ module _ (old new : Variables) (v : ℕ) (tidy : AreTidy old) (alive : (data_at 
       go w true x = sym (ap (λ d. shape d (user_of new w)) x)
       go w false x = said.variables w ∙ sym (ap (λ d. shape d (user_of new w)) x ∙ ap (shape (data_at old w)) (user_at w))
 
-  pub judged_deleted : (j : ScriptState) (live : Live) (steps : List Step) → IsBridge checker_rules j steps (without v live) → NamesMatchState old j live → NamesMatchState new j (without v live)
+  pub judged_deleted : (j : ScriptState) (live : LiveVariables) (steps : List Step) → IsBridge checker_rules j steps (without v live) → NamesMatchState old j live → NamesMatchState new j (without v live)
   judged_deleted j live steps bridge judged = record {
     first_unused = judged.first_unused ∙ ap (λ m. length m.fwd + 1) (sym put.users);
     no_zero = judged.no_zero;
@@ -209,7 +209,7 @@ module _ (old new : Variables) (v : ℕ) (tidy : AreTidy old) (alive : (data_at 
           go true x = subst (λ d. IsModeOf d.sampling_mode (get_or j.modes i Sampled)) (sym x) tt
           go false x = subst (λ d. IsModeOf d.sampling_mode (get_or j.modes i Sampled)) (sym x) (judged.modes w i (was w i e))
 
-pub may_delete : (old : Variables) (v : ℕ) (s : Session) → AreTidy old → NamesMatchSteps old s → (data_at old v).deleted ≡ false → user_of old v ≡ None → solver_of old v ≡ None → (data_at old v).assumed ≡ false → MayForget s v
+pub may_delete : (old : Variables) (v : ℕ) (s : Session) → VariablesInvariant old → NamesMatchSteps old s → (data_at old v).deleted ≡ false → user_of old v ≡ None → solver_of old v ≡ None → (data_at old v).assumed ≡ false → MayDeleteVar s v
 may_delete old v s tidy said alive nameless noindex unmarked = record {
   known = ap (λ x. x.known) at;
   nameless = ap (λ x. x.name) at ∙ nameless;

@@ -2,7 +2,7 @@
 use Rattle.std.proofs.Common.{ℕ, ◌≡◌, ◌≢◌, ◌⊎◌, not, ◌&&◌, Bool, true, false, cond, eqb, List, [], ◌∷◌, ◌++◌, length, Option, Some, None, is_some, Result, Ok, Err, OnOk, refl, sym, ◌∙◌, ap, subst, arith, inl, inr}
 use Rattle.std.proofs.lemmas.Bool.{eqb-true, eq-eqb, ne_eqb, true≢false}
 use Rattle.std.specs.List.{AllByRecursion}
-use Rattle.sat_base.specs.values.Literals.{coded}
+use Rattle.sat_base.specs.values.Literals.{mk_lit}
 use Rattle.sat_base.specs.values.Clauses.{Valuation, flipped}
 use Rattle.sat_base.specs.steps.Steps.{Step, DeleteVar}
 use Rattle.sat_checker.specs.Fold.{Holds}
@@ -11,7 +11,7 @@ use Rattle.sat_store.specs.variables.Maps.{AreInverse, target}
 use Rattle.sat_solver.specs.session.Session.{Session, session_after}
 use Rattle.sat_solver.specs.variables.Variables.{global_at, user_of, solver_of, says_unit}
 use Rattle.sat_solver.specs.variables.Naming.{PutsIndex, KeepsOthers, VariablesAreKeptOrNew}
-use Rattle.sat_solver.specs.variables.Search.{KeepsSearch, KeepsUnits, IsUnseen, IsLeftOn, IsAlike, ForgetsUnits, IsGiven, GivenApart, HasGiven, GivesIndices}
+use Rattle.sat_solver.specs.variables.Search.{KeepsSearch, KeepsUnits, IsUnseen, IsLeftOn, IsAlike, ForgetsUnits, IsGiven, IndicesDistinct, HasGiven, GivesIndices}
 use Rattle.sat_solver.specs.declared.variables.solver_vars.Given.{Given}
 use Rattle.sat_solver.specs.declared.variables.Variables.{Variables}
 use Rattle.sat_solver.proofs.lemmas.variables.Extending.{fresh_only}
@@ -67,7 +67,7 @@ gives_both a b c s t xs ys ia ib ic units one two = record {
   stays = λ v x e. two.stays v x (one.stays v x e);
   each = all_both (IsGiven a c s) xs ys
       (all_map (IsGiven a b s) (IsGiven a c s) xs (λ g i. record { variable = i.variable; without = i.without; free = i.free; taken = ic.back i.variable g.solver (two.stays i.variable g.solver (ib.forth i.variable g.solver i.taken)); unit = i.unit }) one.each)
-      (all_map (IsGiven b c t) (IsGiven a c s) ys (λ g i. record { variable = i.variable; without = earlier i.variable i.without; free = free g.solver i.free; taken = i.taken; unit = λ d. sym (ap (λ u. u (coded i.variable d)) units) ∙ i.unit d }) two.each);
+      (all_map (IsGiven b c t) (IsGiven a c s) ys (λ g i. record { variable = i.variable; without = earlier i.variable i.without; free = free g.solver i.free; taken = i.taken; unit = λ d. sym (ap (λ u. u (mk_lit i.variable d)) units) ∙ i.unit d }) two.each);
   apart = apart xs one.each one.apart;
   others = λ v x e. elim (two.others v x e) [
     | inl f ↦ elim (one.others v x f) [ inl k ↦ inl k | inr h ↦ inr (has_left xs ys x h) ]
@@ -82,12 +82,12 @@ gives_both a b c s t xs ys ia ib ic units one two = record {
     free : (x : ℕ) → global_at b x ≡ None → global_at a x ≡ None
     free x e = none_where (global_at a x) (λ v f. none_some e (ib.back v x (one.stays v x (ia.forth v x f))))
 
-    apart : (gs : List Given) → AllByRecursion (IsGiven a b s) gs → GivenApart gs → GivenApart (gs ++ ys)
+    apart : (gs : List Given) → AllByRecursion (IsGiven a b s) gs → IndicesDistinct gs → IndicesDistinct (gs ++ ys)
     apart [] i h = two.apart
     apart (g ∷ gs) i h = (all_both (λ k. k.solver ≢ g.solver) gs ys h.0 (all_map (IsGiven b c t) (λ k. k.solver ≢ g.solver) ys (λ k j same. none_some j.free (ap (global_at b) same ∙ i.0.taken)) two.each), apart gs i.1 h.1)
 
 -- one index is given
-pub gives_one : (old new : Variables) (s : Session) (v : ℕ) (g : Given) → solver_of old v ≡ None → global_at old g.solver ≡ None → PutsIndex old new v g.solver true → ((b : Bool) → s.units (coded v b) ≡ says_unit g.unit b) → GivesIndices old new s (g ∷ [])
+pub gives_one : (old new : Variables) (s : Session) (v : ℕ) (g : Given) → solver_of old v ≡ None → global_at old g.solver ≡ None → PutsIndex old new v g.solver true → ((b : Bool) → s.units (mk_lit v b) ≡ says_unit g.unit b) → GivesIndices old new s (g ∷ [])
 gives_one old new s v g without free put unit = record {
   stays = stays;
   each = (record { variable = v; without = without; free = free; taken = put.globals g.solver ∙ ap (λ b. cond b (Some v) (global_at old g.solver)) (eq-eqb g.solver g.solver refl); unit = unit }, tt);
@@ -118,7 +118,7 @@ ok_unseen (Ok x) a b c from mids to one two = unseen_both a b c from mids to one
 ok_unseen (Err x) a b c from mids to one two = tt
 
 pub alike_unseen : (a b : Variables) (from to : List Step) → IsUnseen a b from to → IsAlike a b from to
-alike_unseen a b from to u = record { solvers = u.solvers; globals = u.globals; live = u.search.live; units = λ v x d e. ap (λ f. f (coded v d)) u.search.units; unsat = u.search.unsat; width = u.search.width; assumed = u.search.assumed; leaves = λ a h. (a, u.leaves a h, λ v t. refl) }
+alike_unseen a b from to u = record { solvers = u.solvers; globals = u.globals; live = u.search.live; units = λ v x d e. ap (λ f. f (mk_lit v d)) u.search.units; unsat = u.search.unsat; width = u.search.width; assumed = u.search.assumed; leaves = λ a h. (a, u.leaves a h, λ v t. refl) }
 
 pub alike_both : (a b c : Variables) (from mids to : List Step) → IsAlike a b from mids → IsAlike b c mids to → IsAlike a c from to
 alike_both a b c from mids to x y = record {
@@ -142,7 +142,7 @@ alike_forgets a b from to v solvers globals none step unmarked f = record {
   solvers = solvers;
   globals = globals;
   live = f.live;
-  units = λ w x d e. f.units (coded w d) ∙ ap (λ k. (session_after from).units (coded w d) && not (eqb k v)) (coded_half w d) ∙ ap (λ t. (session_after from).units (coded w d) && not t) (ne_eqb w v (λ q. none_some (ap (solver_of a) q ∙ none) e)) ∙ and_true ((session_after from).units (coded w d));
+  units = λ w x d e. f.units (mk_lit w d) ∙ ap (λ k. (session_after from).units (mk_lit w d) && not (eqb k v)) (coded_half w d) ∙ ap (λ t. (session_after from).units (mk_lit w d) && not t) (ne_eqb w v (λ q. none_some (ap (solver_of a) q ∙ none) e)) ∙ and_true ((session_after from).units (mk_lit w d));
   unsat = f.unsat;
   width = f.width;
   assumed = f.assumed;
@@ -163,14 +163,14 @@ ok_alike (Err x) a b c from mids to one two = tt
 
 -- a call that changes no unit, followed by one that preserves the units of names
 pub ok_units : {A E : Type 0} (r : Result A E) (c : Variables) (from mids to : List Step) → KeepsSearch (session_after from) (session_after mids) → OnOk r (KeepsUnits c mids to) → OnOk r (KeepsUnits c from to)
-ok_units (Ok x) c from mids to one two = λ u v b e. two u v b e ∙ ap (λ f. f (coded v b)) one.units
+ok_units (Ok x) c from mids to one two = λ u v b e. two u v b e ∙ ap (λ f. f (mk_lit v b)) one.units
 ok_units (Err x) c from mids to one two = tt
 
 -- only the units of a variable without a name are forgotten
 pub units_forgotten : (a b : Variables) (from to : List Step) (v : ℕ) → AreInverse a.global_from_user → user_of a v ≡ None → b.global_from_user ≡ a.global_from_user → ForgetsUnits (session_after from) (session_after to) v → KeepsUnits b from to
 units_forgotten a b from to v inverse none users f u w d e =
     let named : user_of a w ≡ Some u = inverse.back u w (sym (ap (λ m. target m.fwd u) users) ∙ e) in
-    f.units (coded w d) ∙ ap (λ k. (session_after from).units (coded w d) && not (eqb k v)) (coded_half w d) ∙ ap (λ t. (session_after from).units (coded w d) && not t) (ne_eqb w v (λ q. none_some (ap (user_of a) q ∙ none) named)) ∙ and_true ((session_after from).units (coded w d))
+    f.units (mk_lit w d) ∙ ap (λ k. (session_after from).units (mk_lit w d) && not (eqb k v)) (coded_half w d) ∙ ap (λ t. (session_after from).units (mk_lit w d) && not t) (ne_eqb w v (λ q. none_some (ap (user_of a) q ∙ none) named)) ∙ and_true ((session_after from).units (mk_lit w d))
   where
     and_true : (t : Bool) → (t && true) ≡ t
     and_true true = refl

@@ -12,11 +12,11 @@ use Rattle.sat_store.specs.variables.Maps.{AreInverse, target}
 use Rattle.sat_checker.specs.Stored.{Hide, Variable, unknown}
 use Rattle.sat_solver.specs.session.Session.{Session, AreAllowedSteps, session_after, after}
 use Rattle.sat_solver.proofs.lemmas.session.StepLemmas.{sessions_are_accepted}
-use Rattle.sat_solver.specs.variables.Counting.{IsEven}
+use Rattle.sat_solver.specs.variables.Counting.{HasEqualCounts}
 use Rattle.sat_solver.specs.variables.Free.{is_free, IsTree}
-use Rattle.sat_checker.specs.matching.Bridge.{Live}
+use Rattle.sat_checker.specs.matching.Bridge.{LiveVariables}
 use Rattle.sat_solver.specs.variables.Live.{given_of, given}
-use Rattle.sat_solver.specs.variables.Variables.{data_at, global_of, user_of, names_used, variables_used, AreTidy, checker_mode, checker_variable_at, NamesMatchSteps, IsModeOf, NamesMatchState, says_unit, is_witness_kept}
+use Rattle.sat_solver.specs.variables.Variables.{data_at, global_of, user_of, names_used, variables_used, VariablesInvariant, checker_mode, checker_variable_at, NamesMatchSteps, IsModeOf, NamesMatchState, says_unit, is_witness_kept}
 use Rattle.sat_solver.specs.variables.Naming.{PutsHidden, KeepsOthers}
 use Rattle.sat_checker.specs.matching.Checking.{is_variable, variable_of}
 use Rattle.sat_checker.specs.matching.ProofChecking.{checker_rules}
@@ -38,7 +38,7 @@ none_some e f = cc
 some_same : {x y : ℕ} {o : Option ℕ} → o ≡ Some x → o ≡ Some y → x ≡ y
 some_same e f = cc
 
-module _ (old new : Variables) (user v : ℕ) (tidy : AreTidy old) (had : global_of old user ≡ Some v) (put : PutsHidden old new user v) where
+module _ (old new : Variables) (user v : ℕ) (tidy : VariablesInvariant old) (had : global_of old user ≡ Some v) (put : PutsHidden old new user v) where
   name : user_of old v ≡ Some user
   name = tidy.users.back user v had
 
@@ -52,7 +52,7 @@ module _ (old new : Variables) (user v : ℕ) (tidy : AreTidy old) (had : global
       go true t e = ap (λ d. d.deleted) e ∙ ap (λ k. (data_at old k).deleted) (sym (eqb-true w v t))
       go false t e = ap (λ d. d.deleted) e
 
-  pub tidy_hidden : AreTidy new
+  pub tidy_hidden : VariablesInvariant new
   tidy_hidden = record {
     users = put.inverse;
     solvers = subst AreInverse (sym put.solvers) tidy.solvers;
@@ -66,7 +66,7 @@ module _ (old new : Variables) (user v : ℕ) (tidy : AreTidy old) (had : global
     globals_count = ap (λ g. length g.items) put.globals ∙ tidy.globals_count ∙ ap (λ m. length m.bwd) (sym put.solvers);
     globals = λ x w e. ap (λ g. get_or g.items x 0) put.globals ∙ tidy.globals x w (sym (ap (λ m. target m.bwd x) put.solvers) ∙ e);
     even_users = unlinks_inverse old.global_from_user new.global_from_user user v tidy.users had put.users tidy.even_users;
-    even_solvers = subst IsEven (sym put.solvers) tidy.even_solvers;
+    even_solvers = subst HasEqualCounts (sym put.solvers) tidy.even_solvers;
     spans_users = put.spans_users;
     spans_globals = record { tree = subst IsTree (sym put.free_globals) tidy.spans_globals.tree; room = let a = ap (λ f. f.room) put.free_globals in let b = put.count in let r = tidy.spans_globals.room in omega arith };
     spans_solvers = record { tree = subst IsTree (sym put.free_solvers) tidy.spans_solvers.tree; room = let a = ap (λ f. f.room) put.free_solvers in let b = ap (λ m. length m.bwd) put.solvers in let r = tidy.spans_solvers.room in omega arith };
@@ -158,7 +158,7 @@ module _ (old new : Variables) (user v : ℕ) (tidy : AreTidy old) (had : global
           go true x y = ap {A = Variable} (λ z. record z { mode = Hide; name = None }) (said.variables v) ∙ here (data_at old v).deleted alive ∙ sym (ap (λ d. shape d (user_of new w)) x ∙ ap (shape (record (data_at old v) { sampling_mode = kept.Hide })) y)
           go false x y = said.variables w ∙ sym (ap (λ d. shape d (user_of new w)) x ∙ ap (shape (data_at old w)) y)
 
-  pub judged_hidden : (j : ScriptState) (live : Live) → NamesMatchState old j live → NamesMatchState new (without_name (user + 1) j) live
+  pub judged_hidden : (j : ScriptState) (live : LiveVariables) → NamesMatchState old j live → NamesMatchState new (without_name (user + 1) j) live
   judged_hidden j live judged = record {
     first_unused = judged.first_unused ∙ ap (λ n. n + 1) (sym put.users.fwd_watermark);
     no_zero = removed_found (user + 1) j.in_use 0 (λ x. omega arith) ∙ judged.no_zero;
@@ -250,7 +250,7 @@ hidden_only old new user v put u w e = go (eqb u user) (put.users.fwd u)
 pub hidden_others : (old new : Variables) (user v : ℕ) → PutsHidden old new user v → KeepsOthers old new user
 hidden_others old new user v put u w n e = put.users.fwd u ∙ ap (λ b. cond b None (global_of old u)) (ne_eqb u user n) ∙ e
 
-pub hidden_live : (old new : Variables) (user v : ℕ) → AreTidy old → global_of old user ≡ Some v → PutsHidden old new user v → (data_at new v).deleted ≡ false
+pub hidden_live : (old new : Variables) (user v : ℕ) → VariablesInvariant old → global_of old user ≡ Some v → PutsHidden old new user v → (data_at new v).deleted ≡ false
 hidden_live old new user v tidy had put = deleted_at old new user v tidy had put v ∙ alive old new user v tidy had put
 
 pub hidden_nameless : (old new : Variables) (user v : ℕ) → PutsHidden old new user v → user_of new v ≡ None

@@ -2,7 +2,7 @@
 use Rattle.std.proofs.Common.{ℕ, ◌+◌, ◌<◌, ◌≤◌, ◌≡◌, max, Bool, true, false, not, ◌&&◌, ◌||◌, cond, eqb, ltb, List, [], ◌∷◌, ◌++◌, length, get_or, Option, Some, None, is_some, refl, sym, ◌∙◌, ap, subst, arith, inl, inr}
 use Rattle.std.proofs.lemmas.Bool.{eqb-true, eqb-false, eq-eqb, lt-ltb, true≢false}
 use Rattle.std.proofs.lemmas.List.{append-nil}
-use Rattle.sat_base.specs.values.Literals.{coded}
+use Rattle.sat_base.specs.values.Literals.{mk_lit}
 use Rattle.sat_base.specs.script.ScriptState.{ScriptState, Sampled}
 use Rattle.sat_base.specs.steps.Steps.{Step, SolverVarName}
 use Rattle.sat_store.specs.variables.VarData.{unused_variable}
@@ -10,12 +10,12 @@ use Rattle.sat_store.specs.variables.Maps.{AreInverse, target}
 use Rattle.sat_checker.specs.LiteralSets.{mentions}
 use Rattle.sat_checker.specs.Stored.{Variable, unknown}
 use Rattle.sat_solver.specs.session.Session.{Session, AreAllowedSteps, session_after, after}
-use Rattle.sat_solver.specs.variables.Counting.{IsEven, mapped_count}
+use Rattle.sat_solver.specs.variables.Counting.{HasEqualCounts, mapped_count}
 use Rattle.sat_solver.proofs.lemmas.variables.Counts.{mapped_one_more, mapped_one_fewer}
 use Rattle.sat_solver.specs.variables.Free.{is_free, IsTree}
-use Rattle.sat_checker.specs.matching.Bridge.{Live}
+use Rattle.sat_checker.specs.matching.Bridge.{LiveVariables}
 use Rattle.sat_solver.specs.variables.Live.{given_of}
-use Rattle.sat_solver.specs.variables.Variables.{data_at, user_of, solver_of, global_at, indices_used, variables_used, AreTidy, checker_mode, checker_variable_at, NamesMatchSteps, IsModeOf, NamesMatchState, says_unit, IsUnitOf, IsInNoNonUnitClause, is_witness_kept}
+use Rattle.sat_solver.specs.variables.Variables.{data_at, user_of, solver_of, global_at, indices_used, variables_used, VariablesInvariant, checker_mode, checker_variable_at, NamesMatchSteps, IsModeOf, NamesMatchState, says_unit, IsUnitOf, IsInNoNonUnitClause, is_witness_kept}
 use Rattle.sat_solver.specs.variables.Naming.{PutsIndex, IsNextIndex}
 use Rattle.sat_solver.specs.variables.Search.{KeepsSearch}
 use Rattle.sat_solver.specs.variables.Indexing.{Indexes, Unindexes}
@@ -35,7 +35,7 @@ use Rattle.sat_checker.proofs.lemmas.matching.Bridge.{nothing_new}
 use Rattle.sat_checker.proofs.lemmas.matching.CheckerIsSound.{the_checking_sound}
 
 -- the judge sees only names and data
-pub judged_same : (old new : Variables) (j : ScriptState) (live : Live) → new.global_from_user ≡ old.global_from_user → new.var_data ≡ old.var_data → NamesMatchState old j live → NamesMatchState new j live
+pub judged_same : (old new : Variables) (j : ScriptState) (live : LiveVariables) → new.global_from_user ≡ old.global_from_user → new.var_data ≡ old.var_data → NamesMatchState old j live → NamesMatchState new j live
 judged_same old new j live users items judged =
     let at : (v : ℕ) → data_at new v ≡ data_at old v = λ v. ap (λ d. get_or d.items v unused_variable) items in
     record {
@@ -61,7 +61,7 @@ some_is e = cc
 not_some_false : (b : Bool) (o : Option ℕ) → o ≡ None → b ≡ true → (b && not (is_some o)) ≡ true
 not_some_false b o e f = ap (λ p. b && not (is_some p)) e ∙ ap (λ c. c && true) f
 
-module _ (old new : Variables) (v x : ℕ) (there : Bool) (tidy : AreTidy old) (alive : (data_at old v).deleted ≡ false) (low : there ≡ true → x ≤ indices_used old) (had : there ≡ false → solver_of old v ≡ Some x) (fresh : there ≡ true → (solver_of old v ≡ None) × (global_at old x ≡ None)) (room : there ≡ true → x < variables_used old) (put : PutsIndex old new v x there) where
+module _ (old new : Variables) (v x : ℕ) (there : Bool) (tidy : VariablesInvariant old) (alive : (data_at old v).deleted ≡ false) (low : there ≡ true → x ≤ indices_used old) (had : there ≡ false → solver_of old v ≡ Some x) (fresh : there ≡ true → (solver_of old v ≡ None) × (global_at old x ≡ None)) (room : there ≡ true → x < variables_used old) (put : PutsIndex old new v x there) where
   kept_at : (w : ℕ) → data_at new w ≡ data_at old w
   kept_at w = ap (λ d. get_or d.items w unused_variable) put.kept
 
@@ -71,7 +71,7 @@ module _ (old new : Variables) (v x : ℕ) (there : Bool) (tidy : AreTidy old) (
   had_low : there ≡ false → x < indices_used old
   had_low e = some_within old.solver_from_global.bwd x v (tidy.solvers.back v x (had e))
 
-  pub tidy_index : AreTidy new
+  pub tidy_index : VariablesInvariant new
   tidy_index = record {
     users = subst AreInverse (sym put.users) tidy.users;
     solvers = put.inverse;
@@ -84,7 +84,7 @@ module _ (old new : Variables) (v x : ℕ) (there : Bool) (tidy : AreTidy old) (
     own = λ e u lt. ap (λ m. target m.fwd u) put.users ∙ tidy.own (sym put.own ∙ e) u (let q = ap (λ m. length m.fwd) put.users in omega arith);
     globals_count = put.globals_count;
     globals = globals;
-    even_users = subst IsEven (sym put.users) tidy.even_users;
+    even_users = subst HasEqualCounts (sym put.users) tidy.even_users;
     even_solvers = even_solvers there refl;
     spans_users = record { tree = subst IsTree (sym put.free_users) tidy.spans_users.tree; room = let a = ap (λ f. f.room) put.free_users in let b = ap (λ m. length m.fwd) put.users in let r = tidy.spans_users.room in omega arith };
     spans_globals = record { tree = subst IsTree (sym put.free_globals) tidy.spans_globals.tree; room = let a = ap (λ f. f.room) put.free_globals in let b = ap (λ d. length d.items) put.kept in let r = tidy.spans_globals.room in omega arith };
@@ -113,7 +113,7 @@ module _ (old new : Variables) (v x : ℕ) (there : Bool) (tidy : AreTidy old) (
           go true false t f = tidy.globals y w f
           go false false t f = tidy.globals y w f
 
-      even_solvers : (c : Bool) → there ≡ c → IsEven new.solver_from_global
+      even_solvers : (c : Bool) → there ≡ c → HasEqualCounts new.solver_from_global
       even_solvers true e =
           let f = fresh e in
           let a : mapped_count new.solver_from_global.fwd ≡ mapped_count old.solver_from_global.fwd + 1 = mapped_one_more old.solver_from_global.fwd new.solver_from_global.fwd v x f.0 (λ w. put.solvers w ∙ ap (λ d. cond (eqb w v) (cond d (Some x) None) (solver_of old w)) e) in
@@ -164,13 +164,13 @@ module _ (old new : Variables) (v x : ℕ) (there : Bool) (tidy : AreTidy old) (
       unit_at : (w : ℕ) → solver_of new w ≡ None → IsUnitOf new s w
       unit_at w e b = was ∙ sym (ap (λ d. says_unit d.unit b) (kept_at w))
         where
-          go : (c q : Bool) → there ≡ c → eqb w v ≡ q → cond q (cond c (Some x) None) (solver_of old w) ≡ None → s.units (coded w b) ≡ says_unit (data_at old w).unit b
+          go : (c q : Bool) → there ≡ c → eqb w v ≡ q → cond q (cond c (Some x) None) (solver_of old w) ≡ None → s.units (mk_lit w b) ≡ says_unit (data_at old w).unit b
           go true true c t f = absurd (none_is (Some x) f x refl)
-          go false true c t f = subst (λ k. s.units (coded k b) ≡ says_unit (data_at old k).unit b) (sym (eqb-true w v t)) (its_unit c b)
+          go false true c t f = subst (λ k. s.units (mk_lit k b) ≡ says_unit (data_at old k).unit b) (sym (eqb-true w v t)) (its_unit c b)
           go true false c t f = said.units w f b
           go false false c t f = said.units w f b
 
-          was : s.units (coded w b) ≡ says_unit (data_at old w).unit b
+          was : s.units (mk_lit w b) ≡ says_unit (data_at old w).unit b
           was = go there (eqb w v) refl refl (sym (put.solvers w) ∙ e)
 
       unused_at : (w : ℕ) → solver_of new w ≡ None → IsInNoNonUnitClause s w
@@ -275,5 +275,5 @@ index_taken old new from to v x valid there unit unused put globals e = record {
 }
 
 -- the set of free indices has room for every index in use
-pub index_within : (n : Variables) (v x : ℕ) → AreTidy n → solver_of n v ≡ Some x → x < n.free_solvers.room
+pub index_within : (n : Variables) (v x : ℕ) → VariablesInvariant n → solver_of n v ≡ Some x → x < n.free_solvers.room
 index_within n v x tidy e = let lt = some_within n.solver_from_global.bwd x v (tidy.solvers.back v x e) in let r = tidy.spans_solvers.room in omega arith

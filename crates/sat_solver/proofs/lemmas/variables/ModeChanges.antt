@@ -15,14 +15,14 @@ use Rattle.sat_store.specs.variables.Maps.{AreInverse, target}
 use Rattle.sat_checker.specs.Stored.{Sample, Witness, Hide, Variable, unknown}
 use Rattle.sat_solver.specs.session.Session.{Session, AreAllowedSteps, session_after, after}
 use Rattle.sat_solver.proofs.lemmas.session.StepLemmas.{sessions_are_accepted}
-use Rattle.sat_solver.specs.variables.Counting.{IsEven}
+use Rattle.sat_solver.specs.variables.Counting.{HasEqualCounts}
 use Rattle.sat_solver.specs.variables.Free.{is_free, IsTree}
-use Rattle.sat_checker.specs.matching.Bridge.{Live, IsBridge}
+use Rattle.sat_checker.specs.matching.Bridge.{LiveVariables, IsBridge}
 use Rattle.sat_solver.specs.variables.Live.{given_of, given}
-use Rattle.sat_solver.specs.variables.Variables.{data_at, global_of, user_of, variables_used, AreTidy, checker_mode, checker_variable_at, NamesMatchSteps, IsModeOf, NamesMatchState, mode_for, script_mode, says_unit, is_witness_kept}
+use Rattle.sat_solver.specs.variables.Variables.{data_at, global_of, user_of, variables_used, VariablesInvariant, checker_mode, checker_variable_at, NamesMatchSteps, IsModeOf, NamesMatchState, mode_for, script_mode, says_unit, is_witness_kept}
 use Rattle.sat_solver.specs.variables.Naming.{PutsMode}
 use Rattle.sat_checker.specs.matching.Checking.{variable_of}
-use Rattle.sat_solver.specs.variables.Coming.{mode_said, TurnsMode}
+use Rattle.sat_solver.specs.variables.NamingSteps.{mode_said, TurnsMode}
 use Rattle.sat_checker.specs.matching.ProofChecking.{checker_rules}
 use Rattle.sat_checker.specs.matching.Traces.{no_step, silent}
 use Rattle.sat_solver.specs.variables.Calls.{NamesInvariant, ReachesScriptState, NamesEffect}
@@ -39,7 +39,7 @@ live_within n v e = elim (cases_lt v (variables_used n)) [
   | inr past ↦ absurd (true≢false (sym (ap (λ d. d.deleted) (get_or_past n.var_data.items v unused_variable past)) ∙ e))
 ]
 
-pub named_within : (n : Variables) (u v : ℕ) → AreTidy n → global_of n u ≡ Some v → v < variables_used n
+pub named_within : (n : Variables) (u v : ℕ) → VariablesInvariant n → global_of n u ≡ Some v → v < variables_used n
 named_within n u v tidy e = live_within n v (tidy.named v u (tidy.users.back u v e))
 
 not_hide : (sample : Bool) → mode_for sample ≢ kept.Hide
@@ -47,7 +47,7 @@ not_hide true e = cc
 not_hide false e = cc
 
 -- the variable has this mode already
-pub same_mode : (n : Variables) (v : ℕ) (mode : SamplingMode) → AreTidy n → (data_at n v).sampling_mode ≡ mode → PutsMode n n v mode
+pub same_mode : (n : Variables) (v : ℕ) (mode : SamplingMode) → VariablesInvariant n → (data_at n v).sampling_mode ≡ mode → PutsMode n n v mode
 same_mode n v mode tidy e = record {
   users = refl;
   solvers = refl;
@@ -70,7 +70,7 @@ same_mode n v mode tidy e = record {
     go w true t = ap (data_at n) (eqb-true w v t) ∙ ap {A = SamplingMode} (λ m. record (data_at n v) { sampling_mode = m }) e
     go w false t = refl
 
-module _ (old new : Variables) (user v : ℕ) (sample : Bool) (tidy : AreTidy old) (had : global_of old user ≡ Some v) (put : PutsMode old new v (mode_for sample)) where
+module _ (old new : Variables) (user v : ℕ) (sample : Bool) (tidy : VariablesInvariant old) (had : global_of old user ≡ Some v) (put : PutsMode old new v (mode_for sample)) where
   name : user_of old v ≡ Some user
   name = tidy.users.back user v had
 
@@ -90,7 +90,7 @@ module _ (old new : Variables) (user v : ℕ) (sample : Bool) (tidy : AreTidy ol
   none_some : {x : ℕ} {o : Option ℕ} → o ≡ None → o ≡ Some x → ⊥
   none_some e f = cc
 
-  pub tidy_mode : AreTidy new
+  pub tidy_mode : VariablesInvariant new
   tidy_mode = record {
     users = subst AreInverse (sym put.users) tidy.users;
     solvers = subst AreInverse (sym put.solvers) tidy.solvers;
@@ -104,8 +104,8 @@ module _ (old new : Variables) (user v : ℕ) (sample : Bool) (tidy : AreTidy ol
     own = λ e u lt. ap (λ m. target m.fwd u) put.users ∙ tidy.own (sym put.own ∙ e) u (let q = ap (λ m. length m.fwd) put.users in omega arith);
     globals_count = ap (λ g. length g.items) put.globals ∙ tidy.globals_count ∙ ap (λ m. length m.bwd) (sym put.solvers);
     globals = λ x w e. ap (λ g. get_or g.items x 0) put.globals ∙ tidy.globals x w (sym (ap (λ m. target m.bwd x) put.solvers) ∙ e);
-    even_users = subst IsEven (sym put.users) tidy.even_users;
-    even_solvers = subst IsEven (sym put.solvers) tidy.even_solvers;
+    even_users = subst HasEqualCounts (sym put.users) tidy.even_users;
+    even_solvers = subst HasEqualCounts (sym put.solvers) tidy.even_solvers;
     spans_users = record { tree = subst IsTree (sym put.free_users) tidy.spans_users.tree; room = let a = ap (λ f. f.room) put.free_users in let b = ap (λ m. length m.fwd) put.users in let r = tidy.spans_users.room in omega arith };
     spans_globals = record { tree = subst IsTree (sym put.free_globals) tidy.spans_globals.tree; room = let a = ap (λ f. f.room) put.free_globals in let b = put.count in let r = tidy.spans_globals.room in omega arith };
     spans_solvers = record { tree = subst IsTree (sym put.free_solvers) tidy.spans_solvers.tree; room = let a = ap (λ f. f.room) put.free_solvers in let b = ap (λ m. length m.bwd) put.solvers in let r = tidy.spans_solvers.room in omega arith };
@@ -179,7 +179,7 @@ module _ (old new : Variables) (user v : ℕ) (sample : Bool) (tidy : AreTidy ol
           go true t x = ap {A = Variable} (λ z. record z { mode = cond sample Sample Witness }) (said.variables v) ∙ here sample (data_at old v).deleted alive ∙ sym (ap (λ d. shape d (user_of new w)) x ∙ ap (shape (record (data_at old v) { sampling_mode = mode_for sample })) (user_at w ∙ ap (user_of old) (eqb-true w v t)))
           go false t x = said.variables w ∙ sym (ap (λ d. shape d (user_of new w)) x ∙ ap (shape (data_at old w)) (user_at w))
 
-  pub judged_with_mode : (j : ScriptState) (live : Live) → NamesMatchState old j live → NamesMatchState new (with_mode (script_mode sample) (user + 1) j) live
+  pub judged_with_mode : (j : ScriptState) (live : LiveVariables) → NamesMatchState old j live → NamesMatchState new (with_mode (script_mode sample) (user + 1) j) live
   judged_with_mode j live judged = record {
     first_unused = judged.first_unused ∙ ap (λ m. length m.fwd + 1) (sym put.users);
     no_zero = judged.no_zero;
@@ -226,7 +226,7 @@ module _ (old new : Variables) (user v : ℕ) (sample : Bool) (tidy : AreTidy ol
               (subst (IsModeOf (data_at old w).sampling_mode) (sym (get_or-set_other j.modes (unwrap_or (identity_of j (user + 1)) 0) i (script_mode sample) Sampled differ)) (judged.modes w i e))
 
 -- the bridge does not depend on modes
-bridged : (j : ScriptState) (steps : List Step) (live : Live) (mode : judged.NameMode) (name : ℕ) → IsBridge checker_rules j steps live → IsBridge checker_rules (with_mode mode name j) steps live
+bridged : (j : ScriptState) (steps : List Step) (live : LiveVariables) (mode : judged.NameMode) (name : ℕ) → IsBridge checker_rules j steps live → IsBridge checker_rules (with_mode mode name j) steps live
 bridged j steps live mode number b = record {
   accepted = b.accepted;
   once = b.once;
@@ -243,7 +243,7 @@ bridged j steps live mode number b = record {
 pub known_at : (old : Variables) (v : ℕ) (s : Session) → NamesMatchSteps old s → (data_at old v).deleted ≡ false → (s.variables v).known ≡ true
 known_at old v s said alive = ap (λ x. x.known) (said.variables v) ∙ ap (λ b. (let z : Variable = cond b unknown (record { known = true; mode = checker_mode (data_at old v).sampling_mode; name = user_of old v }) in z).known) alive
 
-pub may_mode : (old : Variables) (user v : ℕ) (s : Session) → AreTidy old → NamesMatchSteps old s → global_of old user ≡ Some v → (s.variables v).known ≡ true
+pub may_mode : (old : Variables) (user v : ℕ) (s : Session) → VariablesInvariant old → NamesMatchSteps old s → global_of old user ≡ Some v → (s.variables v).known ≡ true
 may_mode old user v s tidy said had = known_at old v s said (tidy.named v user (tidy.users.back user v had))
 
 pub mode_kept : (old : Variables) (from : List Step) (user v : ℕ) (sample : Bool) → NamesInvariant old from → global_of old user ≡ Some v → (data_at old v).sampling_mode ≡ mode_for sample → NamesEffect old old from from (with_mode (script_mode sample) (user + 1)) (λ j. [])

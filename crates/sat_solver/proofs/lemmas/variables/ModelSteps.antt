@@ -1,7 +1,7 @@
 -- A model is built literal by literal.
 use Rattle.std.proofs.Common.{ℕ, suc, ◌+◌, ◌≡◌, ◌++◌, ◌∷◌, [], Bool, true, false, cond, Option, Some, None, List, refl, sym, ◌∙◌, ap, arith}
 use Rattle.std.proofs.lemmas.List.{append-nil}
-use Rattle.sat_base.specs.values.Literals.{coded}
+use Rattle.sat_base.specs.values.Literals.{mk_lit}
 use Rattle.sat_solver.specs.variables.Variables.{data_at, global_of}
 use Rattle.sat_solver.specs.Models.{value_in, literal_in, model_to, name_literal, named_to}
 use Rattle.sat_solver.specs.declared.variables.Variables.{Variables}
@@ -30,13 +30,13 @@ named_next n values u items next e f = f ∙ ap (λ xs. xs ++ name_literal n val
 
 -- a variable that isn't in use adds nothing
 pub none_for : (n : Variables) (values : List (Option Bool)) (v : ℕ) (items : List ℕ) → (data_at n v).deleted ≡ true → items ≡ items ++ literal_in n values v
-none_for n values v items e = sym (ap (λ b. items ++ cond b [] (coded v (value_in n values v) ∷ [])) e ∙ append-nil items)
+none_for n values v items e = sym (ap (λ b. items ++ cond b [] (mk_lit v (value_in n values v) ∷ [])) e ∙ append-nil items)
 
-pub one_for : (n : Variables) (values : List (Option Bool)) (v : ℕ) (items next : List ℕ) → (data_at n v).deleted ≡ false → next ≡ items ++ coded v (value_in n values v) ∷ [] → next ≡ items ++ literal_in n values v
-one_for n values v items next e f = f ∙ sym (ap (λ b. items ++ cond b [] (coded v (value_in n values v) ∷ [])) e)
+pub one_for : (n : Variables) (values : List (Option Bool)) (v : ℕ) (items next : List ℕ) → (data_at n v).deleted ≡ false → next ≡ items ++ mk_lit v (value_in n values v) ∷ [] → next ≡ items ++ literal_in n values v
+one_for n values v items next e f = f ∙ sym (ap (λ b. items ++ cond b [] (mk_lit v (value_in n values v) ∷ [])) e)
 
 pub none_named : (n : Variables) (values : List (Option Bool)) (u : ℕ) (items : List ℕ) → global_of n u ≡ None → items ≡ items ++ name_literal n values u (global_of n u)
 none_named n values u items e = sym (ap (λ o. items ++ name_literal n values u o) e ∙ append-nil items)
 
-pub one_named : (n : Variables) (values : List (Option Bool)) (u v : ℕ) (items next : List ℕ) → global_of n u ≡ Some v → next ≡ items ++ coded u (value_in n values v) ∷ [] → next ≡ items ++ name_literal n values u (global_of n u)
+pub one_named : (n : Variables) (values : List (Option Bool)) (u v : ℕ) (items next : List ℕ) → global_of n u ≡ Some v → next ≡ items ++ mk_lit u (value_in n values v) ∷ [] → next ≡ items ++ name_literal n values u (global_of n u)
 one_named n values u v items next e f = f ∙ sym (ap (λ o. items ++ name_literal n values u o) e)

@@ -3,15 +3,15 @@ use Rattle.std.proofs.Common.{ℕ, ◌+◌, ◌/◌, ◌<◌, ◌≡◌, map, Bo
 use Rattle.std.proofs.lemmas.Bool.{eqb-true, eqb-false, eq-eqb, ne_eqb}
 use Rattle.std.specs.List.{AllByRecursion}
 use Rattle.sat_base.specs.script.Script.{Literal, Among}
-use Rattle.sat_base.specs.script.ScriptState.{ScriptState, identity_in, identity_of, over, with_clause}
-use Rattle.sat_base.specs.values.Literals.{coded}
+use Rattle.sat_base.specs.script.ScriptState.{ScriptState, identity_in, identity_of, identity_lit, with_clause}
+use Rattle.sat_base.specs.values.Literals.{mk_lit}
 use Rattle.sat_base.specs.steps.Steps.{Step, UserVarName}
 use Rattle.sat_checker.specs.matching.Checking.{variable_of, CheckerRules, IsSound}
-use Rattle.sat_checker.specs.matching.Bridge.{Live, IsBridge}
+use Rattle.sat_checker.specs.matching.Bridge.{LiveVariables, IsBridge}
 use Rattle.sat_solver.specs.variables.Observing.{observed}
 use Rattle.sat_base.proofs.lemmas.script.LiteralValues.{placed_found, all_map, all_at, coded_half}
 
-pub named_again : (k : CheckerRules) → IsSound k → (j : ScriptState) (earlier : List Step) (live : Live) → IsBridge k j earlier live → (name v index i : ℕ) → index + 1 ≡ name → Among (v, i) live → ((m : ℕ) → variable_of earlier m ≡ Some v → ⊥)
+pub named_again : (k : CheckerRules) → IsSound k → (j : ScriptState) (earlier : List Step) (live : LiveVariables) → IsBridge k j earlier live → (name v index i : ℕ) → index + 1 ≡ name → Among (v, i) live → ((m : ℕ) → variable_of earlier m ≡ Some v → ⊥)
     → k.Accepts earlier (UserVarName v (Some index)) → IsBridge k (observed name i j) (UserVarName v (Some index) ∷ earlier) live
 named_again k sound j earlier live bridge name v index i is there hidden acc = record {
   accepted = (bridge.accepted, acc);
@@ -57,7 +57,7 @@ abbrev pub InUse : ScriptState → List Literal → Type 0
 InUse j ls = AllByRecursion (λ l. (i : ℕ) × (identity_of j l.name ≡ Some i)) ls
 
 -- once unsat is recorded, a clause is left out of the proof
-pub left_out : (k : CheckerRules) → IsSound k → (j : ScriptState) (earlier : List Step) (live : Live) → IsBridge k j earlier live → k.unsat earlier ≡ true → (ls : List Literal) → InUse j ls → IsBridge k (with_clause ls j) earlier live
+pub left_out : (k : CheckerRules) → IsSound k → (j : ScriptState) (earlier : List Step) (live : LiveVariables) → IsBridge k j earlier live → k.unsat earlier ≡ true → (ls : List Literal) → InUse j ls → IsBridge k (with_clause ls j) earlier live
 left_out k sound j earlier live bridge u ls used = record {
   accepted = bridge.accepted;
   once = bridge.once;
@@ -71,13 +71,13 @@ left_out k sound j earlier live bridge u ls used = record {
   back = λ a m. bridge.back a (m.0, m.1, m.2.1);
 }
   where
-    one : (l : Literal) (i : ℕ) → identity_of j l.name ≡ Some i → over j l / 2 < j.identity_count
+    one : (l : Literal) (i : ℕ) → identity_of j l.name ≡ Some i → identity_lit j l / 2 < j.identity_count
     one l i e =
         let p = bridge.in_use l.name i e in
         let h : i < j.identity_count = all_at (λ q. q.1 < j.identity_count) (p.0, i) live bridge.below p.2 in
-        let x : over j l / 2 ≡ i = ap (λ o. coded (unwrap_or o 0) l.positive / 2) e ∙ coded_half i l.positive in
+        let x : identity_lit j l / 2 ≡ i = ap (λ o. mk_lit (unwrap_or o 0) l.positive / 2) e ∙ coded_half i l.positive in
         rw x h
 
-    low : (ks : List Literal) → InUse j ks → AllByRecursion (λ l. l / 2 < j.identity_count) (map (over j) ks)
+    low : (ks : List Literal) → InUse j ks → AllByRecursion (λ l. l / 2 < j.identity_count) (map (identity_lit j) ks)
     low [] h = tt
     low (l ∷ ks) h = (one l h.0.0 h.0.1, low ks h.1)

@@ -10,7 +10,7 @@ use Rattle.sat_checker.specs.Stored.{Variable, unknown}
 use Rattle.sat_solver.specs.session.Session.{IsAllowedStep, AreAllowedSteps, session_after}
 use Rattle.sat_solver.proofs.lemmas.session.StepLemmas.{sessions_are_accepted}
 use Rattle.sat_solver.specs.variables.Variables.{data_at, global_of, user_of, names_used, NamesMatchSteps, checker_variable_at, checker_mode}
-use Rattle.sat_solver.specs.variables.Naming.{IsRoom, PutsName}
+use Rattle.sat_solver.specs.variables.Naming.{IsVariableForName, PutsName}
 use Rattle.sat_checker.specs.matching.Checking.{variable_of}
 use Rattle.sat_checker.specs.matching.ProofChecking.{checker_rules}
 use Rattle.sat_checker.specs.matching.Expected.{NewName, new_name}
@@ -24,7 +24,7 @@ use Rattle.sat_solver.specs.variables.Search.{KeepsSearch}
 use Rattle.sat_solver.proofs.lemmas.variables.Giving.{unseen_same, unseen_both}
 use Rattle.sat_solver.proofs.lemmas.variables.Extending.{extends_same, extends_both, extends_named}
 use Rattle.sat_checker.proofs.lemmas.matching.CheckerIsSound.{the_checking_sound}
-use Rattle.sat_solver.specs.variables.Coming.{IsDue}
+use Rattle.sat_solver.specs.variables.NamingSteps.{IsDue}
 use Rattle.sat_solver.specs.variables.VariableRoom.{live_count, HasVariablesFor, LeavesRoom}
 use Rattle.sat_solver.proofs.lemmas.variables.NextVariables.{next_variable}
 use Rattle.sat_solver.proofs.lemmas.variables.RoomLemmas.{live_named, room_one, room_below, room_less}
@@ -34,10 +34,10 @@ use Rattle.sat_solver.proofs.lemmas.session.ComingLemmas.{comes_none, comes_one,
 pub known_as : (steps : List Step) (n : Variables) (v : ℕ) → AreAllowedSteps steps → NamesMatchSteps n (session_after steps) → checker_rules.knows steps v ≡ (checker_variable_at n v).known
 known_as steps n v may said = ap (λ f. (f v).known) (sessions_are_accepted steps may).1.variables ∙ ap (λ x. x.known) (said.variables v)
 
-pub step_may : (old : Variables) (from : List Step) (user v : ℕ) → NamesInvariant old from → global_of old user ≡ None → IsRoom old user v → user ≤ names_used old → v < var_limit → (new : Variables) → PutsName old new user v → IsAllowedStep (session_after from) (UserVarName v (Some user))
+pub step_may : (old : Variables) (from : List Step) (user v : ℕ) → NamesInvariant old from → global_of old user ≡ None → IsVariableForName old user v → user ≤ names_used old → v < var_limit → (new : Variables) → PutsName old new user v → IsAllowedStep (session_after from) (UserVarName v (Some user))
 step_may old from user v valid free room within small new put = may_name old new user v valid.tidy room free within small put (session_after from) valid.said
 
-pub name_given : (old new : Variables) (from to : List Step) (user v : ℕ) → NamesInvariant old from → global_of old user ≡ None → user ≤ names_used old → IsRoom old user v → v < var_limit → PutsName old new user v
+pub name_given : (old new : Variables) (from to : List Step) (user v : ℕ) → NamesInvariant old from → global_of old user ≡ None → user ≤ names_used old → IsVariableForName old user v → v < var_limit → PutsName old new user v
     → to ≡ UserVarName v (Some user) ∷ from → NamesOne old new from to user v
 name_given old new from to user v valid free within room small put e = record {
   valid = record {

@@ -12,13 +12,13 @@ use Rattle.sat_store.specs.declared.data.SamplingMode.TheVariants as kept
 use Rattle.sat_store.specs.variables.VarData.{user_variable, unused_variable}
 use Rattle.sat_store.specs.variables.Maps.{AreInverse, target}
 use Rattle.sat_checker.specs.Stored.{Hide, Sample, Variable, unknown}
-use Rattle.sat_solver.specs.session.Session.{Session, MayName, after}
-use Rattle.sat_solver.specs.variables.Counting.{IsEven}
+use Rattle.sat_solver.specs.session.Session.{Session, MayNameVar, after}
+use Rattle.sat_solver.specs.variables.Counting.{HasEqualCounts}
 use Rattle.sat_solver.specs.variables.Free.{is_free, IsTree}
-use Rattle.sat_checker.specs.matching.Bridge.{Live}
+use Rattle.sat_checker.specs.matching.Bridge.{LiveVariables}
 use Rattle.sat_solver.specs.variables.Live.{given, given_of}
-use Rattle.sat_solver.specs.variables.Variables.{data_at, global_of, user_of, solver_of, global_at, names_used, variables_used, indices_used, AreTidy, checker_mode, checker_variable_at, NamesMatchSteps, IsModeOf, NamesMatchState, says_unit, is_witness_kept}
-use Rattle.sat_solver.specs.variables.Naming.{IsRoom, PutsName}
+use Rattle.sat_solver.specs.variables.Variables.{data_at, global_of, user_of, solver_of, global_at, names_used, variables_used, indices_used, VariablesInvariant, checker_mode, checker_variable_at, NamesMatchSteps, IsModeOf, NamesMatchState, says_unit, is_witness_kept}
+use Rattle.sat_solver.specs.variables.Naming.{IsVariableForName, PutsName}
 use Rattle.sat_solver.specs.declared.variables.Variables.{Variables}
 use Rattle.sat_solver.proofs.lemmas.variables.MapLemmas.{pushed}
 use Rattle.sat_solver.proofs.lemmas.variables.Counts.{links_even}
@@ -41,14 +41,14 @@ is_none None f = refl
 is_none (Some x) f = absurd (f x refl)
 
 -- a variable that isn't in use has no name
-pub nameless : (n : Variables) (v : ℕ) → AreTidy n → (data_at n v).deleted ≡ true → user_of n v ≡ None
+pub nameless : (n : Variables) (v : ℕ) → VariablesInvariant n → (data_at n v).deleted ≡ true → user_of n v ≡ None
 nameless n v tidy d = is_none (user_of n v) (λ u e. true≢false (sym d ∙ tidy.named v u e))
 
 abbrev pub shape : VarData → Option ℕ → Variable
 shape d u = cond d.deleted unknown (record { known = true; mode = checker_mode d.sampling_mode; name = u })
 
-module _ (old new : Variables) (user v : ℕ) (tidy : AreTidy old) (room : IsRoom old user v) (free : global_of old user ≡ None) (within : user ≤ names_used old) (small : v < var_limit) (put : PutsName old new user v) where
-  pub tidy_named : AreTidy new
+module _ (old new : Variables) (user v : ℕ) (tidy : VariablesInvariant old) (room : IsVariableForName old user v) (free : global_of old user ≡ None) (within : user ≤ names_used old) (small : v < var_limit) (put : PutsName old new user v) where
+  pub tidy_named : VariablesInvariant new
   tidy_named = record {
     users = put.inverse;
     solvers = subst AreInverse (sym put.solvers) tidy.solvers;
@@ -62,7 +62,7 @@ module _ (old new : Variables) (user v : ℕ) (tidy : AreTidy old) (room : IsRoo
     globals_count = ap (λ g. length g.items) put.globals ∙ tidy.globals_count ∙ ap (λ m. length m.bwd) (sym put.solvers);
     globals = λ x w e. ap (λ g. get_or g.items x 0) put.globals ∙ tidy.globals x w (sym (ap (λ m. target m.bwd x) put.solvers) ∙ e);
     even_users = links_even old.global_from_user new.global_from_user user v free (nameless old v tidy room.unused) put.users tidy.even_users;
-    even_solvers = subst IsEven (sym put.solvers) tidy.even_solvers;
+    even_solvers = subst HasEqualCounts (sym put.solvers) tidy.even_solvers;
     spans_users = put.spans_users;
     spans_globals = put.spans_globals;
     spans_solvers = record { tree = subst IsTree (sym put.free_solvers) tidy.spans_solvers.tree; room = let a = ap (λ f. f.room) put.free_solvers in let b = ap (λ m. length m.bwd) put.solvers in let r = tidy.spans_solvers.room in omega arith };
@@ -156,7 +156,7 @@ module _ (old new : Variables) (user v : ℕ) (tidy : AreTidy old) (room : IsRoo
       free_solvers x = ap (λ f. is_free f x) put.free_solvers ∙ tidy.free_solvers x ∙ ap (λ m. ltb x (length m.bwd) && not (is_some (target m.bwd x))) (sym put.solvers)
 
   -- the name may be given to the variable
-  pub may_name : (s : Session) → NamesMatchSteps old s → MayName s v user
+  pub may_name : (s : Session) → NamesMatchSteps old s → MayNameVar s v user
   may_name s said = record {
     free = λ w e. none_some free (tidy.users.forth user w (name_at w (sym (ap (λ x. x.name) (said.variables w)) ∙ e)));
     nameless = ap (λ x. x.name) at;
@@ -205,7 +205,7 @@ module _ (old new : Variables) (user v : ℕ) (tidy : AreTidy old) (room : IsRoo
               ap {A = Variable} (λ z. record z { known = true; name = Some user }) at ∙ sym (ap (λ d. shape d (user_of new w)) y ∙ ap (shape user_variable) x)
           go false t x y = said.variables w ∙ sym (ap (λ d. shape d (user_of new w)) y ∙ ap (shape (data_at old w)) x)
 
-  pub judged_named : (j : ScriptState) (live : Live) → NamesMatchState old j live → NamesMatchState new (with_name (user + 1) j) ((v, j.identity_count) ∷ live)
+  pub judged_named : (j : ScriptState) (live : LiveVariables) → NamesMatchState old j live → NamesMatchState new (with_name (user + 1) j) ((v, j.identity_count) ∷ live)
   judged_named j live judged = record {
     first_unused = let a = judged.first_unused in let b = put.users.fwd_watermark in omega arith;
     no_zero = placed_found here j.in_use 0 ∙ ap (λ b. cond b (Some j.identity_count) (identity_in j.in_use 0)) (ne_eqb (user + 1) 0 (λ x. omega arith)) ∙ judged.no_zero;
@@ -223,7 +223,7 @@ module _ (old new : Variables) (user v : ℕ) (tidy : AreTidy old) (room : IsRoo
       here : Named
       here = record { name = user + 1; identity = j.identity_count }
 
-      more : (ps : Live) → AllByRecursion (λ p. p.1 < j.identity_count) ps → AllByRecursion (λ p. p.1 < j.identity_count + 1) ps
+      more : (ps : LiveVariables) → AllByRecursion (λ p. p.1 < j.identity_count) ps → AllByRecursion (λ p. p.1 < j.identity_count + 1) ps
       more [] h = tt
       more (p ∷ ps) h = let a = h.0 in (omega arith, more ps h.1)
 

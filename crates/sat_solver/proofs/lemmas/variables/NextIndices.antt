@@ -6,7 +6,7 @@ use Rattle.sat_base.specs.values.Literals.{var_limit}
 use Rattle.sat_store.specs.variables.VarData.{unused_variable}
 use Rattle.sat_solver.specs.variables.Counting.{count_to, mapped_count}
 use Rattle.sat_solver.specs.variables.Free.{is_free, IsLowest}
-use Rattle.sat_solver.specs.variables.Variables.{data_at, solver_of, global_at, indices_used, variables_used, AreTidy}
+use Rattle.sat_solver.specs.variables.Variables.{data_at, solver_of, global_at, indices_used, variables_used, VariablesInvariant}
 use Rattle.sat_solver.specs.variables.Naming.{IsNextIndex}
 use Rattle.sat_solver.specs.declared.variables.Variables.{Variables}
 use Rattle.sat_solver.proofs.lemmas.variables.Counts.{count_full, count_fewer, count_le, count_longer, count_reach, count_mapped}
@@ -24,23 +24,23 @@ some_of None f = absurd (f refl)
 some_of (Some x) f = refl
 
 -- every index below the first unused one is free or taken
-taken : (n : Variables) (y : ℕ) → AreTidy n → y < indices_used n → is_free n.free_solvers y ≡ false → global_at n y ≡ None → ⊥
+taken : (n : Variables) (y : ℕ) → VariablesInvariant n → y < indices_used n → is_free n.free_solvers y ≡ false → global_at n y ≡ None → ⊥
 taken n y tidy lt e none = true≢false (sym here ∙ e)
   where
     here : is_free n.free_solvers y ≡ true
     here = tidy.free_solvers y ∙ ap (λ o. ltb y (indices_used n) && not (is_some o)) none ∙ ap (λ b. b && true) (lt-ltb y (indices_used n) lt)
 
-pub next_freed : (n : Variables) (x : ℕ) → AreTidy n → IsLowest n.free_solvers x → IsNextIndex n x
+pub next_freed : (n : Variables) (x : ℕ) → VariablesInvariant n → IsLowest n.free_solvers x → IsNextIndex n x
 next_freed n x tidy l =
     let p = both_parts (ltb x (indices_used n)) (not (is_some (global_at n x))) (sym (tidy.free_solvers x) ∙ l.free) in
     let lt = ltb-true x (indices_used n) p.0 in
     record { free = none_of (global_at n x) p.1; reach = omega arith; lowest = λ y m none. taken n y tidy (omega arith) (l.lowest y m) none }
 
-pub next_last : (n : Variables) (x : ℕ) → AreTidy n → ((y : ℕ) → is_free n.free_solvers y ≡ false) → x ≡ indices_used n → IsNextIndex n x
+pub next_last : (n : Variables) (x : ℕ) → VariablesInvariant n → ((y : ℕ) → is_free n.free_solvers y ≡ false) → x ≡ indices_used n → IsNextIndex n x
 next_last n x tidy none e = record { free = get_or_past n.solver_from_global.bwd x None (omega arith); reach = omega arith; lowest = λ y lt f. taken n y tidy (omega arith) (none y) f }
 
 -- fewer indices are taken than variables are in use
-fewer_taken : (n : Variables) (v : ℕ) → AreTidy n → (data_at n v).deleted ≡ false → solver_of n v ≡ None → mapped_count n.solver_from_global.bwd < variables_used n
+fewer_taken : (n : Variables) (v : ℕ) → VariablesInvariant n → (data_at n v).deleted ≡ false → solver_of n v ≡ None → mapped_count n.solver_from_global.bwd < variables_used n
 fewer_taken n v tidy alive without = let b = tidy.even_solvers in let c = count_mapped n.solver_from_global.fwd reach (omega arith) in let d = fewer in let e = in_reach in let f = count_le (variables_used n) in_use in omega arith
   where
     reach : ℕ
@@ -60,7 +60,7 @@ fewer_taken n v tidy alive without = let b = tidy.even_solvers in let c = count_
     in_reach = count_reach (variables_used n) reach in_use (omega arith) (λ k le. ap (λ d. not d.deleted) (get_or_past n.var_data.items k unused_variable le))
 
 -- so the next index is below the number of variables
-pub index_below : (n : Variables) (v x : ℕ) → AreTidy n → (data_at n v).deleted ≡ false → solver_of n v ≡ None → IsNextIndex n x → x < variables_used n
+pub index_below : (n : Variables) (v x : ℕ) → VariablesInvariant n → (data_at n v).deleted ≡ false → solver_of n v ≡ None → IsNextIndex n x → x < variables_used n
 index_below n v x tidy alive without next =
     let all : count_to x (λ y. is_some (global_at n y)) ≡ x = count_full x (λ y. is_some (global_at n y)) (λ y lt. some_of (global_at n y) (next.lowest y lt)) in
     let more : count_to x (λ y. is_some (global_at n y)) ≤ mapped_count n.solver_from_global.bwd = count_longer x (indices_used n) (λ y. is_some (global_at n y)) next.reach in
@@ -68,5 +68,5 @@ index_below n v x tidy alive without next =
     omega arith
 
 -- and the limit of indices is not reached
-pub index_left : (n : Variables) (v : ℕ) → AreTidy n → (data_at n v).deleted ≡ false → solver_of n v ≡ None → ((y : ℕ) → is_free n.free_solvers y ≡ false) → indices_used n < var_limit
+pub index_left : (n : Variables) (v : ℕ) → VariablesInvariant n → (data_at n v).deleted ≡ false → solver_of n v ≡ None → ((y : ℕ) → is_free n.free_solvers y ≡ false) → indices_used n < var_limit
 index_left n v tidy alive without none = let k = index_below n v (indices_used n) tidy alive without (next_last n (indices_used n) tidy none refl) in let w = tidy.within in omega arith

@@ -3,7 +3,7 @@ use Rattle.std.proofs.Common.{ℕ, zero, suc, ◌+◌, ◌<◌, ◌≡◌, ◌�
 use Rattle.sat_base.specs.script.ScriptState.{ScriptState, identity_of}
 use Rattle.sat_base.specs.steps.Steps.{Step}
 use Rattle.sat_solver.specs.variables.Calls.{NamesInvariant}
-use Rattle.sat_checker.specs.matching.Bridge.{Live}
+use Rattle.sat_checker.specs.matching.Bridge.{LiveVariables}
 use Rattle.sat_solver.specs.variables.Live.{given_of}
 use Rattle.sat_solver.specs.variables.Naming.{IsNextUser, IsLowestUnused}
 use Rattle.sat_solver.specs.variables.Variables.{NamesMatchState, global_of}
@@ -13,7 +13,7 @@ use Rattle.sat_solver.proofs.lemmas.variables.LeftOut.{in_use}
 none_some : {o : Option ℕ} (x : ℕ) → o ≡ Some x → o ≡ None → ⊥
 none_some x e f = cc
 
-pub lowest_unused : (n : Variables) (steps : List Step) (j : ScriptState) (live : Live) (user : ℕ) → NamesInvariant n steps → NamesMatchState n j live → IsNextUser n user → IsLowestUnused j (user + 1)
+pub lowest_unused : (n : Variables) (steps : List Step) (j : ScriptState) (live : LiveVariables) (user : ℕ) → NamesInvariant n steps → NamesMatchState n j live → IsNextUser n user → IsLowestUnused j (user + 1)
 lowest_unused n steps j live user valid judged next = record {
   named = omega arith;
   unused = judged.names user ∙ ap (given_of live) next.unused;

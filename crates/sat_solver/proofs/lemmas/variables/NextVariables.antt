@@ -6,15 +6,15 @@ use Rattle.sat_store.specs.variables.VarData.{unused_variable}
 use Rattle.sat_store.specs.variables.Maps.{target}
 use Rattle.sat_checker.specs.Stored.{Variable, unknown}
 use Rattle.sat_solver.specs.session.Session.{Session}
-use Rattle.sat_solver.specs.variables.Coming.{IsNextVariable, IsNextSolver}
+use Rattle.sat_solver.specs.variables.NamingSteps.{IsNextVariable, IsNextSolver}
 use Rattle.sat_solver.specs.variables.Free.{is_free, IsLowest}
-use Rattle.sat_solver.specs.variables.Naming.{IsRoom, IsNextIndex}
-use Rattle.sat_solver.specs.variables.Variables.{AreTidy, NamesMatchSteps, data_at, user_of, global_at, names_used, variables_used, checker_mode}
+use Rattle.sat_solver.specs.variables.Naming.{IsVariableForName, IsNextIndex}
+use Rattle.sat_solver.specs.variables.Variables.{VariablesInvariant, NamesMatchSteps, data_at, user_of, global_at, names_used, variables_used, checker_mode}
 use Rattle.sat_solver.specs.declared.variables.Variables.{Variables}
 use Rattle.sat_solver.proofs.lemmas.variables.NewName.{none_or}
 
 -- every variable below the first unused one is free or in use
-taken : (n : Variables) (w : ℕ) → AreTidy n → w < variables_used n → is_free n.free_globals w ≡ false → (data_at n w).deleted ≡ false
+taken : (n : Variables) (w : ℕ) → VariablesInvariant n → w < variables_used n → is_free n.free_globals w ≡ false → (data_at n w).deleted ≡ false
 taken n w tidy lt e = go (data_at n w).deleted refl
   where
     go : (b : Bool) → (data_at n w).deleted ≡ b → b ≡ false
@@ -25,16 +25,16 @@ both_parts : (a b : Bool) → (a && b) ≡ true → (a ≡ true) × (b ≡ true)
 both_parts true b e = (refl, e)
 both_parts false b e = absurd (true≢false (sym e))
 
-pub room_own : (n : Variables) (user : ℕ) → AreTidy n → user ≤ names_used n → (data_at n user).deleted ≡ true → IsRoom n user user
+pub room_own : (n : Variables) (user : ℕ) → VariablesInvariant n → user ≤ names_used n → (data_at n user).deleted ≡ true → IsVariableForName n user user
 room_own n user tidy low gone = record { unused = gone; within = let r = tidy.reach in omega arith; own = λ e. refl; lowest = λ e. absurd (true≢false (sym gone ∙ e)) }
 
-pub room_freed : (n : Variables) (user v : ℕ) → AreTidy n → (data_at n user).deleted ≡ false → IsLowest n.free_globals v → IsRoom n user v
+pub room_freed : (n : Variables) (user v : ℕ) → VariablesInvariant n → (data_at n user).deleted ≡ false → IsLowest n.free_globals v → IsVariableForName n user v
 room_freed n user v tidy live l =
     let p = both_parts (ltb v (variables_used n)) (data_at n v).deleted (sym (tidy.free_globals v) ∙ l.free) in
     let lt = ltb-true v (variables_used n) p.0 in
     record { unused = p.1; within = omega arith; own = λ e. absurd (true≢false (sym e ∙ live)); lowest = λ e w m. taken n w tidy (omega arith) (l.lowest w m) }
 
-pub room_new : (n : Variables) (user v : ℕ) → AreTidy n → (data_at n user).deleted ≡ false → ((w : ℕ) → is_free n.free_globals w ≡ false) → v ≡ variables_used n → IsRoom n user v
+pub room_new : (n : Variables) (user v : ℕ) → VariablesInvariant n → (data_at n user).deleted ≡ false → ((w : ℕ) → is_free n.free_globals w ≡ false) → v ≡ variables_used n → IsVariableForName n user v
 room_new n user v tidy live none e = record {
   unused = ap (λ d. d.deleted) (get_or_past n.var_data.items v unused_variable (omega arith));
   within = omega arith;
@@ -61,7 +61,7 @@ not_gone : (b : Bool) → not b ≡ true → b ≡ false
 not_gone false e = refl
 not_gone true e = absurd (true≢false (sym e))
 
-pub next_variable : (n : Variables) (s : Session) (user v : ℕ) → NamesMatchSteps n s → IsRoom n user v → IsNextVariable s user v
+pub next_variable : (n : Variables) (s : Session) (user v : ℕ) → NamesMatchSteps n s → IsVariableForName n user v → IsNextVariable s user v
 next_variable n s user v said room = (
   λ e. room.own (not_live (data_at n user).deleted (sym (known_of n s user said) ∙ e)),
   λ e. (
@@ -70,7 +70,7 @@ next_variable n s user v said room = (
   ),
 )
 
-pub next_solver : (n : Variables) (s : Session) (x : ℕ) → AreTidy n → NamesMatchSteps n s → IsNextIndex n x → IsNextSolver s (Some x)
+pub next_solver : (n : Variables) (s : Session) (x : ℕ) → VariablesInvariant n → NamesMatchSteps n s → IsNextIndex n x → IsNextSolver s (Some x)
 next_solver n s x tidy said next = (
   λ v e. free v (sym (said.solver_names v) ∙ e),
   λ y lt. (let p = none_or (global_at n y) (next.lowest y lt) in (p.0, said.solver_names p.0 ∙ tidy.solvers.forth p.0 y p.1)),

@@ -13,19 +13,19 @@ use Rattle.sat_store.specs.declared.data.VarData.{VarData}
 use Rattle.sat_store.specs.declared.data.SamplingMode.TheVariants as kept
 use Rattle.sat_store.specs.variables.VarData.{unused_variable}
 use Rattle.sat_store.specs.variables.Maps.{AreInverse, target}
-use Rattle.sat_solver.specs.session.Session.{Session, AreAllowedSteps, IsAllowedStep, MayName, session_after, after}
+use Rattle.sat_solver.specs.session.Session.{Session, AreAllowedSteps, IsAllowedStep, MayNameVar, session_after, after}
 use Rattle.sat_solver.proofs.lemmas.session.StepLemmas.{sessions_are_accepted}
-use Rattle.sat_checker.specs.matching.Bridge.{IsBridge, Live}
-use Rattle.sat_solver.specs.variables.Counting.{IsEven, count_to, mapped_count}
+use Rattle.sat_checker.specs.matching.Bridge.{IsBridge, LiveVariables}
+use Rattle.sat_solver.specs.variables.Counting.{HasEqualCounts, count_to, mapped_count}
 use Rattle.sat_solver.specs.variables.Free.{is_free, IsTree}
 use Rattle.sat_solver.specs.variables.Live.{given, given_of}
 use Rattle.sat_checker.specs.matching.Checking.{variable_of}
 use Rattle.sat_checker.specs.matching.ProofChecking.{checker_rules}
 use Rattle.sat_solver.specs.variables.Calls.{NamesInvariant, NamesAgree}
-use Rattle.sat_solver.specs.variables.Naming.{IsNextUser, NamesFull, NoneLeft, PutsObserved, KeepsNames}
+use Rattle.sat_solver.specs.variables.Naming.{IsNextUser, NamesFull, NoVariableLeft, PutsObserved, KeepsNames}
 use Rattle.sat_solver.specs.variables.Observing.{observed, Observes, all_named, one_more, IsHidden, NamesHidden, NamesAllHidden}
 use Rattle.sat_solver.specs.variables.Search.{KeepsSearch, IsUnseen}
-use Rattle.sat_solver.specs.variables.Variables.{data_at, global_of, user_of, names_used, variables_used, AreTidy, checker_mode, checker_variable_at, NamesMatchSteps, IsModeOf, NamesMatchState, says_unit}
+use Rattle.sat_solver.specs.variables.Variables.{data_at, global_of, user_of, names_used, variables_used, VariablesInvariant, checker_mode, checker_variable_at, NamesMatchSteps, IsModeOf, NamesMatchState, says_unit}
 use Rattle.sat_solver.specs.declared.variables.Variables.{Variables}
 use Rattle.sat_checker.proofs.lemmas.matching.Bridge.{nothing_new}
 use Rattle.sat_checker.proofs.lemmas.matching.CheckerIsSound.{the_checking_sound}
@@ -41,7 +41,7 @@ use Rattle.sat_solver.proofs.lemmas.variables.NextUnused.{lowest_unused}
 none_some : {x : ℕ} {o : Option ℕ} → o ≡ None → o ≡ Some x → ⊥
 none_some e f = cc
 
-given_among : (live : Live) (v i : ℕ) → given live v ≡ Some i → Among (v, i) live
+given_among : (live : LiveVariables) (v i : ℕ) → given live v ≡ Some i → Among (v, i) live
 given_among [] v i e = absurd (none_some refl e)
 given_among ((w, k) ∷ ps) v i e = go (eqb w v) refl e (given_among ps v i)
   where
@@ -56,7 +56,7 @@ given_among ((w, k) ∷ ps) v i e = go (eqb w v) refl e (given_among ps v i)
     go false t f ih = inr (ih f)
 
 -- if all names are in use but a variable has none, there are fewer names than variables
-few_named : (n : Variables) (v : ℕ) → AreTidy n → v < variables_used n → user_of n v ≡ None → ((m : ℕ) → m < names_used n → global_of n m ≡ None → ⊥) → names_used n < variables_used n
+few_named : (n : Variables) (v : ℕ) → VariablesInvariant n → v < variables_used n → user_of n v ≡ None → ((m : ℕ) → m < names_used n → global_of n m ≡ None → ⊥) → names_used n < variables_used n
 few_named n v tidy within nameless all =
     let fwd : mapped_count n.global_from_user.fwd ≡ names_used n = count_full (names_used n) (λ m. is_some (global_of n m)) (λ m lt. some_at (global_of n m) (all m lt)) in
     let bwd : count_to size has ≡ mapped_count n.global_from_user.bwd = count_mapped n.global_from_user.bwd size (omega arith) in
@@ -93,14 +93,14 @@ few_named n v tidy within nameless all =
         go false e = refl
 
 -- so a name is left for a hidden variable
-few_names : (n : Variables) (v : ℕ) → AreTidy n → IsHidden n v → ((m : ℕ) → m < names_used n → global_of n m ≡ None → ⊥) → names_used n < variables_used n
+few_names : (n : Variables) (v : ℕ) → VariablesInvariant n → IsHidden n v → ((m : ℕ) → m < names_used n → global_of n m ≡ None → ⊥) → names_used n < variables_used n
 few_names n v tidy h all = few_named n v tidy (live_within n v h.live) h.nameless all
 
-pub name_left : (n : Variables) (v : ℕ) → AreTidy n → IsHidden n v → NamesFull n → ⊥
+pub name_left : (n : Variables) (v : ℕ) → VariablesInvariant n → IsHidden n v → NamesFull n → ⊥
 name_left n v tidy h full = let a = few_names n v tidy h full.all in let b = full.used in let c = tidy.within in absurd (omega arith)
 
 -- if every name is in use, so is every variable
-pub none_left : (n : Variables) → AreTidy n → NamesFull n → NoneLeft n
+pub none_left : (n : Variables) → VariablesInvariant n → NamesFull n → NoVariableLeft n
 none_left n tidy full v lt = go (data_at n v).deleted refl
   where
     go : (b : Bool) → (data_at n v).deleted ≡ b → b ≡ false
@@ -111,7 +111,7 @@ none_left n tidy full v lt = go (data_at n v).deleted refl
         omega arith
         )
 
-module _ (old new : Variables) (user v : ℕ) (tidy : AreTidy old) (here : IsHidden old v) (next : IsNextUser old user) (put : PutsObserved old new user v) where
+module _ (old new : Variables) (user v : ℕ) (tidy : VariablesInvariant old) (here : IsHidden old v) (next : IsNextUser old user) (put : PutsObserved old new user v) where
   deleted_at : (w : ℕ) → (data_at new w).deleted ≡ (data_at old w).deleted
   deleted_at w = go (eqb w v) refl (put.kept w)
     where
@@ -119,7 +119,7 @@ module _ (old new : Variables) (user v : ℕ) (tidy : AreTidy old) (here : IsHid
       go true t e = ap (λ d. d.deleted) e ∙ ap (λ k. (data_at old k).deleted) (sym (eqb-true w v t))
       go false t e = ap (λ d. d.deleted) e
 
-  pub tidy_observed : AreTidy new
+  pub tidy_observed : VariablesInvariant new
   tidy_observed = record {
     users = put.inverse;
     solvers = subst AreInverse (sym put.solvers) tidy.solvers;
@@ -133,7 +133,7 @@ module _ (old new : Variables) (user v : ℕ) (tidy : AreTidy old) (here : IsHid
     globals_count = ap (λ g. length g.items) put.globals ∙ tidy.globals_count ∙ ap (λ m. length m.bwd) (sym put.solvers);
     globals = λ x w e. ap (λ g. get_or g.items x 0) put.globals ∙ tidy.globals x w (sym (ap (λ m. target m.bwd x) put.solvers) ∙ e);
     even_users = links_even old.global_from_user new.global_from_user user v next.unused here.nameless put.users tidy.even_users;
-    even_solvers = subst IsEven (sym put.solvers) tidy.even_solvers;
+    even_solvers = subst HasEqualCounts (sym put.solvers) tidy.even_solvers;
     spans_users = put.spans_users;
     spans_globals = record { tree = subst IsTree (sym put.free_globals) tidy.spans_globals.tree; room = let a = ap (λ f. f.room) put.free_globals in let b = put.count in let r = tidy.spans_globals.room in omega arith };
     spans_solvers = record { tree = subst IsTree (sym put.free_solvers) tidy.spans_solvers.tree; room = let a = ap (λ f. f.room) put.free_solvers in let b = ap (λ m. length m.bwd) put.solvers in let r = tidy.spans_solvers.room in omega arith };
@@ -215,7 +215,7 @@ module _ (old new : Variables) (user v : ℕ) (tidy : AreTidy old) (here : IsHid
     may_witness = ap (λ x. x.known) at
 
     -- then the name may be written
-    pub may_observe : MayName witnessed v user
+    pub may_observe : MayNameVar witnessed v user
     may_observe = record {
       free = λ w e. free w (eqb w v) refl e;
       nameless = ap (λ x. x.name) at_mode;
@@ -265,7 +265,7 @@ module _ (old new : Variables) (user v : ℕ) (tidy : AreTidy old) (here : IsHid
                 ∙ sym (ap (λ d. shape d (user_of new w)) y ∙ ap (shape (record (data_at old v) { sampling_mode = kept.Witness })) x)
             go false t x y = ap (λ b. cond b (record (s.variables v) { mode = Witness }) (s.variables w)) t ∙ said.variables w ∙ sym (ap (λ d. shape d (user_of new w)) y ∙ ap (shape (data_at old w)) x)
 
-  pub judged_observed : (j : ScriptState) (live : Live) (i : ℕ) → NamesMatchState old j live → given live v ≡ Some i → NamesMatchState new (observed (user + 1) i j) live
+  pub judged_observed : (j : ScriptState) (live : LiveVariables) (i : ℕ) → NamesMatchState old j live → given live v ≡ Some i → NamesMatchState new (observed (user + 1) i j) live
   judged_observed j live i judged its = record {
     first_unused = let a = judged.first_unused in let b = put.users.fwd_watermark in omega arith;
     no_zero = placed_found it j.in_use 0 ∙ ap (λ b. cond b (Some i) (identity_in j.in_use 0)) (ne_eqb (user + 1) 0 (λ x. omega arith)) ∙ judged.no_zero;
@@ -311,7 +311,7 @@ module _ (old new : Variables) (user v : ℕ) (tidy : AreTidy old) (here : IsHid
 -- A HIDDEN VARIABLE GETS A NAME
 
 -- no name in use has a hidden variable
-pub nameless_in : (n : Variables) (from : List Step) (v : ℕ) (j : ScriptState) (live : Live) → NamesInvariant n from → NamesAgree n from j live → IsHidden n v → (name : ℕ) → variable_of from name ≡ Some v → ⊥
+pub nameless_in : (n : Variables) (from : List Step) (v : ℕ) (j : ScriptState) (live : LiveVariables) → NamesInvariant n from → NamesAgree n from j live → IsHidden n v → (name : ℕ) → variable_of from name ≡ Some v → ⊥
 nameless_in n from v j live valid agree here zero e = (let p = agree.bridge.named 0 v e in none_some agree.judged.no_zero p.1)
 nameless_in n from v j live valid agree here (suc m) e =
     none_some here.nameless (valid.tidy.users.back m v (sym (valid.read m) ∙ ap (variable_of from) (let q : m + 1 ≡ suc m = omega arith in q) ∙ e))
@@ -357,7 +357,7 @@ module _ (old new : Variables) (from to : List Step) (user v : ℕ) (valid : Nam
       accepted : checker_rules.Accepts (ChangeSamplingMode v false ∷ from) (UserVarName v (Some user))
       accepted = (sessions_are_accepted (UserVarName v (Some user) ∷ ChangeSamplingMode v false ∷ from) may_both).0.1
 
-      bridge_mode : (j : ScriptState) (live : Live) → IsBridge checker_rules j from live → IsBridge checker_rules j (ChangeSamplingMode v false ∷ from) live
+      bridge_mode : (j : ScriptState) (live : LiveVariables) → IsBridge checker_rules j from live → IsBridge checker_rules j (ChangeSamplingMode v false ∷ from) live
       bridge_mode j live b = nothing_new checker_rules the_checking_sound j from live b (ChangeSamplingMode v false) accepted_mode (λ w y. cc) (λ n. refl) (λ c h. h) (λ c h. h)
 
 -- ALL HIDDEN VARIABLES
@@ -369,7 +369,7 @@ pub record Observing (old now : Variables) (from steps : List Step) (users : Lis
   pub names : KeepsNames old now
   pub unseen : IsUnseen old now from steps
   pub count : variables_used now ≡ variables_used old
-  pub kept : (j : ScriptState) (live : Live) → NamesAgree old from j live → (m : ScriptState) × NamesAgree now steps m live × ((to : List Step) (k : ScriptState) (more : List ℕ) → Observes index steps m live to k more → Observes 0 from j live to k (users ++ more))
+  pub kept : (j : ScriptState) (live : LiveVariables) → NamesAgree old from j live → (m : ScriptState) × NamesAgree now steps m live × ((to : List Step) (k : ScriptState) (more : List ℕ) → Observes index steps m live to k more → Observes 0 from j live to k (users ++ more))
 
 pub observing_begins : (old : Variables) (from : List Step) → NamesInvariant old from → Observing old old from from [] 0
 observing_begins old from valid = record {
@@ -392,7 +392,7 @@ observing_passes old now from steps users index o shown = record {
   kept = λ j live a. let x = o.kept j live a in (x.0, x.1, λ to k more t. x.2 to k more (higher t));
 }
   where
-    higher : {s t : List Step} {j k : ScriptState} {live : Live} {us : List ℕ} → Observes (index + 1) s j live t k us → Observes index s j live t k us
+    higher : {s t : List Step} {j k : ScriptState} {live : LiveVariables} {us : List ℕ} → Observes (index + 1) s j live t k us → Observes index s j live t k us
     higher all_named = all_named
     higher (one_more v i user le g n l o) = one_more v i user (omega (arith, le)) g n l o
 

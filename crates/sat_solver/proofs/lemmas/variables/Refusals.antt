@@ -5,9 +5,9 @@ use Rattle.sat_base.specs.script.ScriptState.{ScriptState, Sampled, Witnessed, R
 use Rattle.sat_base.specs.script.ScriptState as judged
 use Rattle.sat_store.specs.declared.data.SamplingMode.{SamplingMode}
 use Rattle.sat_store.specs.declared.data.SamplingMode.TheVariants as kept
-use Rattle.sat_checker.specs.matching.Bridge.{Live}
+use Rattle.sat_checker.specs.matching.Bridge.{LiveVariables}
 use Rattle.sat_solver.specs.variables.Live.{given, given_of}
-use Rattle.sat_solver.specs.variables.Variables.{data_at, global_of, AreTidy, IsModeOf, NamesMatchState, is_witness_kept}
+use Rattle.sat_solver.specs.variables.Variables.{data_at, global_of, VariablesInvariant, IsModeOf, NamesMatchState, is_witness_kept}
 use Rattle.sat_solver.specs.variables.Refusing.{names_in, IsAssumed}
 use Rattle.sat_solver.specs.load.Literals.{IsSampled}
 use Rattle.sat_solver.specs.declared.variables.Variables.{Variables}
@@ -18,7 +18,7 @@ mode_same kept.Sample q n h = sym (ap is_witness h)
 mode_same kept.Witness q n h = sym (ap is_witness h)
 mode_same kept.Hide q n h = absurd (n refl)
 
-pub witness_some : (n : Variables) (user v : ℕ) → AreTidy n → global_of n user ≡ Some v → (j : ScriptState) (live : Live) → NamesMatchState n j live → is_witness_kept (data_at n v).sampling_mode ≡ has_witness j (identity_of j (user + 1))
+pub witness_some : (n : Variables) (user v : ℕ) → VariablesInvariant n → global_of n user ≡ Some v → (j : ScriptState) (live : LiveVariables) → NamesMatchState n j live → is_witness_kept (data_at n v).sampling_mode ≡ has_witness j (identity_of j (user + 1))
 witness_some n user v tidy e j live judged =
     let name = tidy.users.back user v e in
     let i = none_or (given live v) (λ x. true≢false (sym (judged.in_use v ∙ ap not (tidy.named v user name)) ∙ ap is_some x)) in
@@ -27,14 +27,14 @@ witness_some n user v tidy e j live judged =
 
 -- only the remaining literals can be refused
 abbrev pub IsLeft : Variables → List ℕ → List ℕ → Type 0
-IsLeft n all rest = (j : ScriptState) (live : Live) → NamesMatchState n j live → refused_literal j (names_in all) ≡ refused_literal j (names_in rest)
+IsLeft n all rest = (j : ScriptState) (live : LiveVariables) → NamesMatchState n j live → refused_literal j (names_in all) ≡ refused_literal j (names_in rest)
 
 sampled_kept : (m : SamplingMode) → m ≢ kept.Hide → is_witness_kept m ≡ false → m ≡ kept.Sample
 sampled_kept kept.Sample n e = refl
 sampled_kept kept.Witness n e = absurd (true≢false e)
 sampled_kept kept.Hide n e = absurd (n refl)
 
-pub sampled_some : (n : Variables) (user v : ℕ) → AreTidy n → global_of n user ≡ Some v → is_witness_kept (data_at n v).sampling_mode ≡ false → IsSampled n user
+pub sampled_some : (n : Variables) (user v : ℕ) → VariablesInvariant n → global_of n user ≡ Some v → is_witness_kept (data_at n v).sampling_mode ≡ false → IsSampled n user
 sampled_some n user v tidy e w x f =
     let same : v ≡ x = some_same e f in
     ap (λ k. (data_at n k).sampling_mode) (sym same) ∙ sampled_kept (data_at n v).sampling_mode (tidy.shown v user (tidy.users.back user v e)) w
@@ -43,8 +43,8 @@ sampled_some n user v tidy e w x f =
     some_same f g = cc
 
 -- if no variable was ever of mode witness, no name is
-module _ (n : Variables) (tidy : AreTidy n) (user : ℕ) (plain : n.witnessed ≡ false) where
-  pub plain_judged : (j : ScriptState) (live : Live) → NamesMatchState n j live → false ≡ has_witness j (identity_of j (user + 1))
+module _ (n : Variables) (tidy : VariablesInvariant n) (user : ℕ) (plain : n.witnessed ≡ false) where
+  pub plain_judged : (j : ScriptState) (live : LiveVariables) → NamesMatchState n j live → false ≡ has_witness j (identity_of j (user + 1))
   plain_judged j live judged = go (global_of n user) refl
     where
       go : (o : Option ℕ) → global_of n user ≡ o → false ≡ has_witness j (identity_of j (user + 1))

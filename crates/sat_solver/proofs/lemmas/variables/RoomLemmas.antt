@@ -14,9 +14,9 @@ use Rattle.sat_solver.specs.declared.variables.Variables.{Variables}
 use Rattle.sat_solver.specs.variables.Counting.{count_to}
 use Rattle.sat_solver.specs.variables.Failing.{IsFailure, Limits}
 use Rattle.sat_solver.specs.variables.Free.{is_free}
-use Rattle.sat_solver.specs.variables.Naming.{IsRoom, NoneLeft, PutsName}
-use Rattle.sat_solver.specs.variables.VariableRoom.{live_count, is_listed, reach, coming, is_hidden_name, hidden_count, HasVariablesFor, SaysRoom, user_vars_in}
-use Rattle.sat_solver.specs.variables.Variables.{AreTidy, data_at, global_of, names_used, variables_used}
+use Rattle.sat_solver.specs.variables.Naming.{IsVariableForName, NoVariableLeft, PutsName}
+use Rattle.sat_solver.specs.variables.VariableRoom.{live_count, is_listed, reach, introduced_count, is_hidden_name, hidden_count, HasVariablesFor, ReportsRoom, user_vars_in}
+use Rattle.sat_solver.specs.variables.Variables.{VariablesInvariant, data_at, global_of, names_used, variables_used}
 use Rattle.sat_solver.proofs.lemmas.variables.Counts.{count_zero, count_changed, count_suc, count_same, count_reach, count_more, count_le, count_full, count_some, count_not}
 
 -- VARIABLES IN USE
@@ -24,7 +24,7 @@ use Rattle.sat_solver.proofs.lemmas.variables.Counts.{count_zero, count_changed,
 abbrev pub is_live : Variables → ℕ → Bool
 is_live n v = not (data_at n v).deleted
 
-pub live_most : (n : Variables) → AreTidy n → live_count n ≤ var_limit
+pub live_most : (n : Variables) → VariablesInvariant n → live_count n ≤ var_limit
 live_most n tidy = let l = count_le (variables_used n) (is_live n) in let w = tidy.within in omega arith
 
 not_not : (b : Bool) → not (not b) ≡ b
@@ -32,7 +32,7 @@ not_not true = refl
 not_not false = refl
 
 -- the other variables are free
-pub live_others : (n : Variables) → AreTidy n → live_count n + n.free_globals.count ≡ variables_used n
+pub live_others : (n : Variables) → VariablesInvariant n → live_count n + n.free_globals.count ≡ variables_used n
 live_others n tidy =
     let counted = tidy.spans_globals.tree.counted in
     let past = count_reach (variables_used n) n.free_globals.room (is_free n.free_globals) tidy.spans_globals.room (λ k le. tidy.free_globals k ∙ ap (λ b. b && (data_at n k).deleted) (le-ltb k (variables_used n) le)) in
@@ -41,7 +41,7 @@ live_others n tidy =
     omega arith
 
 -- if no variable is left, the number in use is the limit
-pub live_full : (n : Variables) → AreTidy n → NoneLeft n → live_count n ≡ var_limit
+pub live_full : (n : Variables) → VariablesInvariant n → NoVariableLeft n → live_count n ≡ var_limit
 live_full n tidy none = ap (λ k. count_to k (is_live n)) same ∙ count_full var_limit (is_live n) (λ k lt. ap not (none k lt))
   where
     same : variables_used n ≡ var_limit
@@ -51,7 +51,7 @@ live_full n tidy none = ap (λ k. count_to k (is_live n)) same ∙ count_full va
     ]
 
 -- one more variable is in use
-pub live_named : (old new : Variables) (user v : ℕ) → IsRoom old user v → PutsName old new user v → live_count new ≡ live_count old + 1
+pub live_named : (old new : Variables) (user v : ℕ) → IsVariableForName old user v → PutsName old new user v → live_count new ≡ live_count old + 1
 live_named old new user v room put =
     let size = put.count in
     count_more (variables_used new) v (is_live old) (is_live new) (omega arith) (ap not room.unused) (ap (λ d. not d.deleted) (put.kept v ∙ ap (λ b. cond b user_variable (data_at old v)) (eq-eqb v v refl)))
@@ -149,7 +149,7 @@ room_at n all index user lt at h = subst (HasVariablesFor n) (ap user_vars_in (d
 -- FAULTS
 
 -- if a variable is left, the call failed for another reason
-pub limit_fails : {W : Type 0} (e : NameError) (old new : Variables) (from to : W) → AreTidy old → live_count old < var_limit → Limits e old new from to → IsFailure e
+pub limit_fails : {W : Type 0} (e : NameError) (old new : Variables) (from to : W) → VariablesInvariant old → live_count old < var_limit → Limits e old new from to → IsFailure e
 limit_fails errors.VariableLimit old new from to tidy lt h = let e = live_full old tidy h.none in absurd (omega arith)
 limit_fails x old new from to tidy lt h = tt
 
@@ -157,7 +157,7 @@ limit_fails x old new from to tidy lt h = tt
 pub fails_on : {A : Type 0} (r : Result A NameError) (e : NameError) → IsErrAnd r (λ f. f ≡ e) → IsFailure e → IfErr r IsFailure
 fails_on r e h f = let p = err_from_is_err_and r h in subst (λ r. IfErr r IsFailure) (sym p.1) (subst IsFailure (sym p.2) f)
 
-pub if_limit_fails : {A W : Type 0} (r : Result A NameError) (old new : Variables) (from to : W) → AreTidy old → live_count old < var_limit → IfErr r (λ e. Limits e old new from to) → IfErr r IsFailure
+pub if_limit_fails : {A W : Type 0} (r : Result A NameError) (old new : Variables) (from to : W) → VariablesInvariant old → live_count old < var_limit → IfErr r (λ e. Limits e old new from to) → IfErr r IsFailure
 if_limit_fails (Ok x) old new from to tidy lt h = tt
 if_limit_fails (Err e) old new from to tidy lt h = limit_fails e old new from to tidy lt h
 
@@ -243,10 +243,10 @@ hidden_most n (user ∷ us) = let ih = hidden_most n us in let p = count_part_bu
 only_here : (n : Variables) (user k : ℕ) → user ≢ k → is_hidden_name n (user ∷ []) k ≡ false
 only_here n user k ne = hidden_other n user k [] ne ∙ none_listed (not (is_some (global_of n k)))
 
-pub one_never : (n : Variables) (user : ℕ) → names_used n ≤ user → coming n (user ∷ []) ≡ user + 1 - names_used n
+pub one_never : (n : Variables) (user : ℕ) → names_used n ≤ user → introduced_count n (user ∷ []) ≡ user + 1 - names_used n
 one_never n user le = let e = count_none (names_used n) (is_hidden_name n (user ∷ [])) (λ k lt. only_here n user k (λ q. omega arith)) in omega arith
 
-pub one_used : (n : Variables) (user : ℕ) → user < names_used n → is_some (global_of n user) ≡ true → coming n (user ∷ []) ≡ 0
+pub one_used : (n : Variables) (user : ℕ) → user < names_used n → is_some (global_of n user) ≡ true → introduced_count n (user ∷ []) ≡ 0
 one_used n user lt some = let e = count_none (names_used n) (is_hidden_name n (user ∷ [])) each in omega arith
   where
     each : (k : ℕ) → k < names_used n → is_hidden_name n (user ∷ []) k ≡ false
@@ -255,7 +255,7 @@ one_used n user lt some = let e = count_none (names_used n) (is_hidden_name n (u
       | inr ne ↦ only_here n user k ne
     ]
 
-pub one_hidden : (n : Variables) (user : ℕ) → user < names_used n → is_some (global_of n user) ≡ false → coming n (user ∷ []) ≡ 1
+pub one_hidden : (n : Variables) (user : ℕ) → user < names_used n → is_some (global_of n user) ≡ false → introduced_count n (user ∷ []) ≡ 1
 one_hidden n user lt free =
     let more = count_more (names_used n) user (λ k. false) (is_hidden_name n (user ∷ [])) lt refl here (λ k ne. only_here n user k (λ e. ne (sym e))) in
     let none = count_none (names_used n) (λ k. false) (λ k low. refl) in
@@ -265,16 +265,16 @@ one_hidden n user lt free =
     here = ap (λ b. not b && is_listed (user ∷ []) user) free ∙ ap (λ b. b || false) (eq-eqb user user refl)
 
 -- a test of a count decides whether there is room
-says_room : (n : Variables) (us : List ℕ) (b : Bool) → (b ≡ true → HasVariablesFor n us) → (b ≡ false → HasVariablesFor n us → ⊥) → SaysRoom b n us
+says_room : (n : Variables) (us : List ℕ) (b : Bool) → (b ≡ true → HasVariablesFor n us) → (b ≡ false → HasVariablesFor n us → ⊥) → ReportsRoom b n us
 says_room n us true fits lacks = fits refl
 says_room n us false fits lacks = lacks refl
 
-pub says_never : (n : Variables) (user index used left : ℕ) → names_used n ≤ user → index ≡ user → used ≡ names_used n → left + live_count n ≡ var_limit → SaysRoom (ltb (index - used) left) n (user ∷ [])
+pub says_never : (n : Variables) (user index used left : ℕ) → names_used n ≤ user → index ≡ user → used ≡ names_used n → left + live_count n ≡ var_limit → ReportsRoom (ltb (index - used) left) n (user ∷ [])
 says_never n user index used left le at same all = says_room n (user ∷ []) (ltb (index - used) left)
     (λ e. let lt = ltb-true (index - used) left e in let o = one_never n user le in omega arith)
     (λ e h. let o = one_never n user le in true≢false (sym (lt-ltb (index - used) left (omega arith)) ∙ e))
 
-pub says_hidden : (n : Variables) (user left : ℕ) → user < names_used n → is_some (global_of n user) ≡ false → left + live_count n ≡ var_limit → SaysRoom (ltb 0 left) n (user ∷ [])
+pub says_hidden : (n : Variables) (user left : ℕ) → user < names_used n → is_some (global_of n user) ≡ false → left + live_count n ≡ var_limit → ReportsRoom (ltb 0 left) n (user ∷ [])
 says_hidden n user left lt free all = says_room n (user ∷ []) (ltb 0 left)
     (λ e. let lt = ltb-true 0 left e in let o = one_hidden n user lt' free in omega arith)
     (λ e h. let o = one_hidden n user lt' free in true≢false (sym (lt-ltb 0 left (omega arith)) ∙ e))
@@ -282,20 +282,20 @@ says_hidden n user left lt free all = says_room n (user ∷ []) (ltb 0 left)
     lt' : user < names_used n
     lt' = lt
 
-pub fits_used : (n : Variables) (user : ℕ) → AreTidy n → user < names_used n → is_some (global_of n user) ≡ true → HasVariablesFor n (user ∷ [])
+pub fits_used : (n : Variables) (user : ℕ) → VariablesInvariant n → user < names_used n → is_some (global_of n user) ≡ true → HasVariablesFor n (user ∷ [])
 fits_used n user tidy lt some = let o = one_used n user lt some in let m = live_most n tidy in omega arith
 
 -- there is room for all names of these literals at once
 pub fits_all : (n : Variables) (lits : List ℕ) (top left : ℕ) → top ≡ reach (names_used n) (user_vars_in lits) → left + live_count n ≡ var_limit → top - names_used n ≤ left → length lits ≤ left - (top - names_used n) → HasVariablesFor n (user_vars_in lits)
 fits_all n lits top left is all low le = let m = hidden_most n (user_vars_in lits) in let l = length-map lits variable in omega arith
 
-pub counts_small : (n : Variables) (us : List ℕ) → AreTidy n → hidden_count n us ≤ var_limit
+pub counts_small : (n : Variables) (us : List ℕ) → VariablesInvariant n → hidden_count n us ≤ var_limit
 counts_small n us tidy = let m = count_le (names_used n) (is_hidden_name n us) in let r = tidy.reach in let w = tidy.within in omega arith
 
-pub said_room : (n : Variables) (us : List ℕ) (b : Bool) → SaysRoom b n us → b ≡ true → HasVariablesFor n us
+pub said_room : (n : Variables) (us : List ℕ) (b : Bool) → ReportsRoom b n us → b ≡ true → HasVariablesFor n us
 said_room n us true h e = h
 said_room n us false h e = absurd (true≢false (sym e))
 
-pub said_none : (n : Variables) (us : List ℕ) (b : Bool) → SaysRoom b n us → b ≡ false → HasVariablesFor n us → ⊥
+pub said_none : (n : Variables) (us : List ℕ) (b : Bool) → ReportsRoom b n us → b ≡ false → HasVariablesFor n us → ⊥
 said_none n us true h e = absurd (true≢false e)
 said_none n us false h e = h

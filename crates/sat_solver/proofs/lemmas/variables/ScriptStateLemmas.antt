@@ -2,7 +2,7 @@
 use Rattle.std.proofs.Common.{ℕ, ◌+◌, ◌<◌, ◌≡◌, Bool, true, false, cond, eqb, ltb, [], ◌∷◌, Option, Some, None, is_some, refl, sym, ◌∙◌, subst, arith}
 use Rattle.std.proofs.lemmas.Bool.{eqb-true, eqb-false, eq-eqb, ne_eqb, ltb-true, ltb-false}
 use Rattle.std.specs.List.{AllByRecursion}
-use Rattle.sat_checker.specs.matching.Bridge.{Live}
+use Rattle.sat_checker.specs.matching.Bridge.{LiveVariables}
 use Rattle.sat_solver.specs.variables.Live.{given}
 
 -- equality tests are symmetric
@@ -26,7 +26,7 @@ none_not_some : {i : ℕ} → (let o : Option ℕ = None in o) ≡ Some i → �
 none_not_some e = cc
 
 -- a variable without identity differs from all live ones
-pub apart_from : (live : Live) (v : ℕ) → is_some (given live v) ≡ false → AllByRecursion (λ q. q.0 ≡ v → ⊥) live
+pub apart_from : (live : LiveVariables) (v : ℕ) → is_some (given live v) ≡ false → AllByRecursion (λ q. q.0 ≡ v → ⊥) live
 apart_from [] v e = tt
 apart_from (p ∷ ps) v e = go (eqb p.0 v) refl e (λ f. apart_from ps v f)
   where
@@ -35,7 +35,7 @@ apart_from (p ∷ ps) v e = go (eqb p.0 v) refl e (λ f. apart_from ps v f)
     go false x f ih = (eqb-false p.0 v x, ih f)
 
 -- a property of all identities holds for this one
-pub given_has : (P : ℕ → Type 0) (live : Live) (v i : ℕ) → AllByRecursion (λ p. P p.1) live → given live v ≡ Some i → P i
+pub given_has : (P : ℕ → Type 0) (live : LiveVariables) (v i : ℕ) → AllByRecursion (λ p. P p.1) live → given live v ≡ Some i → P i
 given_has P [] v i h e = absurd (none_not_some e)
 given_has P (p ∷ ps) v i h e = go (eqb p.0 v) e (λ x. given_has P ps v i h.1 x)
   where

@@ -2,7 +2,7 @@
 use Rattle.std.proofs.Common.{ℕ, ◌+◌, ◌-◌, ◌<◌, ◌≡◌, ◌≢◌, Bool, true, false, ◌||◌, ◌&&◌, eqb, List, [], ◌∷◌, map, Option, Some, None, refl, sym, ◌∙◌, ap, arith}
 use Rattle.std.proofs.lemmas.Bool.{eqb-true, eq-eqb, ne_eqb, true≢false}
 use Rattle.std.specs.List.{AllByRecursion}
-use Rattle.sat_base.specs.values.Literals.{variable, coded, negated}
+use Rattle.sat_base.specs.values.Literals.{variable, mk_lit, negated}
 use Rattle.sat_base.specs.steps.Steps.{Step, AtClause, UnitClauses, DeleteClause, ChangeHashBits, Model, FailedAssumptions, End, Redundant, Simplified, Satisfied}
 use Rattle.sat_checker.specs.LiteralSets.{is_among, is_tautology, canonical, mentions, same_literals}
 use Rattle.sat_checker.proofs.lemmas.sets.Canonical.{canonical_among}
@@ -11,7 +11,7 @@ use Rattle.sat_checker.specs.Contents.{more_if, less_if, same_side}
 use Rattle.sat_solver.specs.session.Session.{Session, session_after, after, with_fact}
 use Rattle.sat_solver.proofs.lemmas.session.Changes.{with_facts, with_sorted, with_live, without_live, knowing_literals, with_live_clause, session_if}
 use Rattle.sat_solver.proofs.lemmas.session.StepLemmas.{sessions_are_accepted}
-use Rattle.sat_solver.specs.variables.Variables.{data_at, solver_of, AreTidy, NamesMatchSteps, IsInNoNonUnitClause}
+use Rattle.sat_solver.specs.variables.Variables.{data_at, solver_of, VariablesInvariant, NamesMatchSteps, IsInNoNonUnitClause}
 use Rattle.sat_checker.specs.matching.Bridge.{IsBridge}
 use Rattle.sat_checker.specs.matching.Checking.{variable_of}
 use Rattle.sat_checker.specs.matching.ProofChecking.{checker_rules}
@@ -31,7 +31,7 @@ pub record Leaves (n : Variables) (s t : Session) : Type 0 where
   variables : (v : ℕ) → t.variables v ≡ s.variables v
   solver_names : t.solver_names ≡ s.solver_names
   assumed : t.assumed ≡ s.assumed
-  units : (v : ℕ) → solver_of n v ≡ None → (b : Bool) → t.units (coded v b) ≡ s.units (coded v b)
+  units : (v : ℕ) → solver_of n v ≡ None → (b : Bool) → t.units (mk_lit v b) ≡ s.units (mk_lit v b)
   unused : (v : ℕ) → solver_of n v ≡ None → IsInNoNonUnitClause s v → IsInNoNonUnitClause t v
 
 leaves_same : (n : Variables) (s : Session) → Leaves n s s
@@ -47,7 +47,7 @@ leaves_both n a b c x y = record {
 }
 
 -- a literal whose variable has an index differs from one whose variable has none
-differs : (n : Variables) (l v x : ℕ) (b : Bool) → solver_of n (variable l) ≡ Some x → solver_of n v ≡ None → l ≢ coded v b
+differs : (n : Variables) (l v x : ℕ) (b : Bool) → solver_of n (variable l) ≡ Some x → solver_of n v ≡ None → l ≢ mk_lit v b
 differs n l v x b e f q = none_some (ap (solver_of n) (ap variable q ∙ coded_half v b) ∙ f) e
 
 leaves_fact : (n : Variables) (l x : ℕ) (s : Session) → solver_of n (variable l) ≡ Some x → Leaves n s (with_fact l s)
@@ -56,7 +56,7 @@ leaves_fact n l x s e = go (s.units l) (s.units (negated l))
     go : (b d : Bool) → Leaves n s (session_if b s (session_if d (record s { unsat = true }) (record s { units = λ m. eqb l m || s.units m })))
     go true d = leaves_same n s
     go false true = record { variables = λ v. refl; solver_names = refl; assumed = refl; units = λ v f b. refl; unused = λ v f h. h }
-    go false false = record { variables = λ v. refl; solver_names = refl; assumed = refl; units = λ v f b. ap (λ q. q || s.units (coded v b)) (ne_eqb l (coded v b) (differs n l v x b e f)); unused = λ v f h. h }
+    go false false = record { variables = λ v. refl; solver_names = refl; assumed = refl; units = λ v f b. ap (λ q. q || s.units (mk_lit v b)) (ne_eqb l (mk_lit v b) (differs n l v x b e f)); unused = λ v f h. h }
 
 leaves_facts : (n : Variables) (ls : List ℕ) (s : Session) → AreIndexed n ls → Leaves n s (with_facts ls s)
 leaves_facts n [] s h = leaves_same n s
@@ -117,10 +117,10 @@ leaves_less n r set s = record {
 leaves_known : (n : Variables) (ls : List ℕ) (s : Session) → AllByRecursion (λ l. (s.variables (variable l)).known ≡ true) ls → Leaves n s (knowing_literals ls s)
 leaves_known n ls s h = record { variables = λ v. known_same s ls v h; solver_names = refl; assumed = refl; units = λ v e b. refl; unused = λ v e k. k }
 
-known_indexed : (n : Variables) (ls : List ℕ) (s : Session) → AreTidy n → NamesMatchSteps n s → AreIndexed n ls → AllByRecursion (λ l. (s.variables (variable l)).known ≡ true) ls
+known_indexed : (n : Variables) (ls : List ℕ) (s : Session) → VariablesInvariant n → NamesMatchSteps n s → AreIndexed n ls → AllByRecursion (λ l. (s.variables (variable l)).known ≡ true) ls
 known_indexed n ls s tidy said = all_map (λ l. (x : ℕ) × (solver_of n (variable l) ≡ Some x)) (λ l. (s.variables (variable l)).known ≡ true) ls (λ l i. known_at n (variable l) s said (tidy.indexed (variable l) i.0 i.1))
 
-step_leaves : (n : Variables) (step : Step) (s : Session) → AreTidy n → NamesMatchSteps n s → IsOfSearch n step → Leaves n s (after step s)
+step_leaves : (n : Variables) (step : Step) (s : Session) → VariablesInvariant n → NamesMatchSteps n s → IsOfSearch n step → Leaves n s (after step s)
 step_leaves n (AtClause r c hs) s tidy said h =
     let l = leaves_both n s (knowing_literals c s) (with_live_clause r c (knowing_literals c s)) (leaves_known n c s (known_indexed n c s tidy said h)) (leaves_clause n r c (knowing_literals c s) h) in
     record { variables = l.variables; solver_names = l.solver_names; assumed = l.assumed; units = l.units; unused = l.unused }

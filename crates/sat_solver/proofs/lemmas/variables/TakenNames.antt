@@ -2,9 +2,9 @@
 use Rattle.std.proofs.Common.{ℕ, zero, suc, ◌+◌, ◌*◌, ◌%◌, ◌||◌, ◌<◌, ◌≤◌, ◌≡◌, ◌⊎◌, Bool, true, false, cond, eqb, List, [], ◌∷◌, ◌++◌, map, drop, length, get_or, Option, Some, None, refl, sym, ◌∙◌, ap, subst, arith, length-append, inl, inr}
 use Rattle.std.proofs.lemmas.Bool.{eqb-true, eq-eqb, ne_eqb, cases_eq, true≢false, or_cases, or_right}
 use Rattle.std.proofs.lemmas.List.{drop_more, drop_all}
-use Rattle.sat_base.specs.values.Literals.{variable, is_positive, coded}
+use Rattle.sat_base.specs.values.Literals.{variable, is_positive, mk_lit}
 use Rattle.sat_base.specs.script.Script.{Among}
-use Rattle.sat_base.specs.script.ScriptState.{bring_in, bring_all, new_names}
+use Rattle.sat_base.specs.script.ScriptState.{introduce, introduce_all, new_names}
 use Rattle.sat_store.specs.declared.data.SamplingMode.TheVariants as kept
 use Rattle.sat_store.specs.variables.Maps.{AreInverse, target}
 use Rattle.sat_checker.specs.LiteralSets.{is_among, canonical}
@@ -12,32 +12,32 @@ use Rattle.sat_checker.proofs.lemmas.sets.Canonical.{canonical_among}
 use Rattle.sat_base.specs.steps.Steps.{Step, SolverVarName}
 use Rattle.sat_solver.specs.session.Session.{session_after}
 use Rattle.sat_solver.specs.session.LiveClauses.{with_var}
-use Rattle.sat_solver.specs.variables.Variables.{data_at, global_of, solver_of, AreTidy}
+use Rattle.sat_solver.specs.variables.Variables.{data_at, global_of, solver_of, VariablesInvariant}
 use Rattle.sat_solver.specs.variables.Search.{KeepsSearch, GivesIndices}
 use Rattle.sat_solver.specs.variables.Indexing.{Indexes}
 use Rattle.sat_solver.specs.declared.variables.solver_vars.Given.{Given}
-use Rattle.sat_solver.specs.declared.load.literals.Taken.{Taken}
+use Rattle.sat_solver.specs.declared.load.literals.MappedLits.{MappedLits}
 use Rattle.sat_solver.specs.variables.Naming.{ExtendsNames}
 use Rattle.sat_solver.specs.variables.Refusing.{names_in}
-use Rattle.sat_solver.specs.load.Literals.{IsProofLiteralOf, SameLiterals, Image, Images, NoWitness, global_with_index, BringsLiterals}
-use Rattle.sat_checker.specs.matching.Expected.{NewName, bringing}
-use Rattle.sat_solver.specs.variables.Calls.{NamesInvariant, NamesEffect, BringsInUnseen}
+use Rattle.sat_solver.specs.load.Literals.{IsProofLiteralOf, SameLiterals, Image, Images, NoWitness, global_with_index, IntroducesLiterals}
+use Rattle.sat_checker.specs.matching.Expected.{NewName, introducing}
+use Rattle.sat_solver.specs.variables.Calls.{NamesInvariant, NamesEffect, IntroducesNameUnseen}
 use Rattle.sat_solver.specs.declared.variables.Variables.{Variables}
 use Rattle.sat_solver.proofs.lemmas.variables.MapLemmas.{pushed, some_within}
 use Rattle.sat_base.proofs.lemmas.script.LiteralValues.{all_from, coded_half}
 use Rattle.sat_solver.proofs.lemmas.variables.Doing.{does_none, does_both}
 use Rattle.sat_solver.proofs.lemmas.variables.Extending.{extends_same, extends_both, extends_kept}
-use Rattle.sat_solver.specs.session.Coming.{OnlyAllowedSteps}
-use Rattle.sat_solver.specs.variables.Coming.{MayTake}
+use Rattle.sat_solver.specs.session.AllowedSteps.{OnlyAllowedSteps}
+use Rattle.sat_solver.specs.variables.NamingSteps.{IsLiteralsStep}
 use Rattle.sat_solver.proofs.lemmas.session.ComingLemmas.{comes_none, comes_both}
-use Rattle.sat_solver.specs.variables.Coming.{IsNextSolver}
+use Rattle.sat_solver.specs.variables.NamingSteps.{IsNextSolver}
 use Rattle.sat_solver.proofs.lemmas.variables.NextVariables.{next_solver}
 use Rattle.sat_solver.proofs.lemmas.variables.ComingSteps.{name_among, comes_due, comes_index}
 use Rattle.sat_solver.proofs.lemmas.variables.Giving.{keeps_same, keeps_both, gives_none, gives_unseen, gives_both}
 
 -- the names of these literals are introduced
 abbrev pub Brings : Variables → Variables → List Step → List Step → List ℕ → Type 0
-Brings old new from to lits = NamesEffect old new from to (bring_all (names_in lits)) (bringing (names_in lits))
+Brings old new from to lits = NamesEffect old new from to (introduce_all (names_in lits)) (introducing (names_in lits))
 
 -- the literals before position `index` were taken; taking the rest introduces all names
 pub record Taking (old now : Variables) (from steps : List Step) (all : List ℕ) (index : ℕ) (items : List ℕ) (given : List Given) : Type 0 where
@@ -48,7 +48,7 @@ pub record Taking (old now : Variables) (from steps : List Step) (all : List ℕ
   pub each : (k : ℕ) → k < index → Image now (get_or all k 0) (get_or items k 0)
   pub gives : GivesIndices old now (session_after from) given
   pub search : KeepsSearch (session_after from) (session_after steps)
-  pub comes : OnlyAllowedSteps (MayTake (names_in all)) from steps
+  pub comes : OnlyAllowedSteps (IsLiteralsStep (names_in all)) from steps
   pub rest : (new : Variables) (to : List Step) → Brings now new steps to (drop index all) → Brings old new from to all
 
 image_stays : (old new : Variables) (l code : ℕ) → ExtendsNames old new → ((v x : ℕ) → solver_of old v ≡ Some x → solver_of new v ≡ Some x) → Image old l code → Image new l code
@@ -56,7 +56,7 @@ image_stays old new l code e stays i = record { variable_is = i.variable_is; ind
 
 -- the name and the index of one literal
 pub one_taken : (old now mid new : Variables) (from log mids to : List Step) (all items next : List ℕ) (before after : List Given) (index l v x code : ℕ) → Taking old now from log all index items before → index < length all → l ≡ get_or all index 0
-    → BringsInUnseen now mid log mids (variable l) → global_of mid (variable l) ≡ Some v → Indexes mid new mids to before after v x → code ≡ coded x (is_positive l) → next ≡ items ++ code ∷ [] → Taking old new from to all (index + 1) next after
+    → IntroducesNameUnseen now mid log mids (variable l) → global_of mid (variable l) ≡ Some v → Indexes mid new mids to before after v x → code ≡ mk_lit x (is_positive l) → next ≡ items ++ code ∷ [] → Taking old new from to all (index + 1) next after
 one_taken old now mid new from log mids to all items next before after index l v x code t lt at brought named indexes is e = record {
   first = t.first;
   valid = indexes.does.valid;
@@ -67,11 +67,11 @@ one_taken old now mid new from log mids to all items next before after index l v
       (gives_both old mid new (session_after from) (session_after mids) before indexes.fresh t.first brought.brings.valid.tidy.solvers indexes.does.valid.tidy.solvers (brought.unseen.search.units ∙ t.search.units)
       (gives_unseen old now mid (session_after from) before t.gives brought.unseen.solvers) indexes.gives);
   search = keeps_both (session_after from) (session_after log) (session_after to) t.search (keeps_both (session_after log) (session_after mids) (session_after to) brought.unseen.search indexes.search);
-  comes = comes_both (MayTake (names_in all)) from log to t.comes (comes_both (MayTake (names_in all)) log mids to (comes_due (names_in all) log mids brought.comes)
+  comes = comes_both (IsLiteralsStep (names_in all)) from log to t.comes (comes_both (IsLiteralsStep (names_in all)) log mids to (comes_due (names_in all) log mids brought.comes)
       (comes_index (names_in all) mids to (variable l + 1) v x (subst (λ k. Among (variable k + 1) (names_in all)) (sym at) (name_among all index lt)) (brought.brings.valid.read (variable l) ∙ named) lowest));
   rest = λ last end more. t.rest last end (subst (Brings now last log end) (sym (drop_more all index 0 lt ∙ ap (λ y. y ∷ drop (index + 1) all) (sym at))) (
-      does_both now mid last log mids end (bring_in (variable l + 1)) (bring_all (names_in (drop (index + 1) all))) (λ j. map NewName (new_names (variable l + 1) j)) (bringing (names_in (drop (index + 1) all))) brought.brings
-      (does_both mid new last mids to end (λ j. j) (bring_all (names_in (drop (index + 1) all))) (λ j. []) (bringing (names_in (drop (index + 1) all))) indexes.does more)));
+      does_both now mid last log mids end (introduce (variable l + 1)) (introduce_all (names_in (drop (index + 1) all))) (λ j. map NewName (new_names (variable l + 1) j)) (introducing (names_in (drop (index + 1) all))) brought.brings
+      (does_both mid new last mids to end (λ j. j) (introduce_all (names_in (drop (index + 1) all))) (λ j. []) (introducing (names_in (drop (index + 1) all))) indexes.does more)));
 }
   where
     lowest : (to ≡ mids) ⊎ ((to ≡ SolverVarName v (Some x) ∷ mids) × ((session_after mids).solver_names v ≡ None) × IsNextSolver (session_after mids) (Some x))
@@ -104,11 +104,11 @@ none_taken old from all items given valid e f = record {
   each = λ k lt. absurd (let z : k < 0 = lt in omega arith);
   gives = subst (GivesIndices old old (session_after from)) (sym f) (gives_none old (session_after from));
   search = keeps_same (session_after from);
-  comes = comes_none (MayTake (names_in all)) from;
+  comes = comes_none (IsLiteralsStep (names_in all)) from;
   rest = λ new to more. more;
 }
 
-pub all_taken : (old new : Variables) (from to : List Step) (all : List ℕ) (t : Taken) (index : ℕ) → length all ≤ index → index ≤ length all → Taking old new from to all index t.order.items t.given.items → BringsLiterals old new from to all t
+pub all_taken : (old new : Variables) (from to : List Step) (all : List ℕ) (t : MappedLits) (index : ℕ) → length all ≤ index → index ≤ length all → Taking old new from to all index t.order.items t.given.items → IntroducesLiterals old new from to all t
 all_taken old new from to all t index le ge taking = record {
   does = taking.rest new to (subst (Brings new new to to) (sym (drop_all index all le)) (does_none new to taking.valid));
   extends = taking.extends;
@@ -136,14 +136,14 @@ no_witness_at n (x ∷ xs) l h (inl e) = subst (λ y. (v : ℕ) → global_of n 
 no_witness_at n (x ∷ xs) l h (inr m) = no_witness_at n xs l h.1 m
 
 -- the proof literal for a literal of the search
-pub mapped_is : (n : Variables) (l code : ℕ) (i : Image n l code) → AreTidy n → with_var (global_with_index n) code ≡ coded i.variable_is (is_positive l)
+pub mapped_is : (n : Variables) (l code : ℕ) (i : Image n l code) → VariablesInvariant n → with_var (global_with_index n) code ≡ mk_lit i.variable_is (is_positive l)
 mapped_is n l code i tidy =
     ap (with_var (global_with_index n)) i.is
-    ∙ ap (λ k. 2 * global_with_index n k + coded i.index_is (is_positive l) % 2) (coded_half i.index_is (is_positive l))
-    ∙ ap (λ k. 2 * k + coded i.index_is (is_positive l) % 2) (tidy.globals i.index_is i.variable_is (tidy.solvers.back i.variable_is i.index_is i.indexed))
+    ∙ ap (λ k. 2 * global_with_index n k + mk_lit i.index_is (is_positive l) % 2) (coded_half i.index_is (is_positive l))
+    ∙ ap (λ k. 2 * k + mk_lit i.index_is (is_positive l) % 2) (tidy.globals i.index_is i.variable_is (tidy.solvers.back i.variable_is i.index_is i.indexed))
     ∙ sign (is_positive l)
   where
-    sign : (b : Bool) → 2 * i.variable_is + coded i.index_is b % 2 ≡ coded i.variable_is b
+    sign : (b : Bool) → 2 * i.variable_is + mk_lit i.index_is b % 2 ≡ mk_lit i.variable_is b
     sign true = omega arith
     sign false = omega arith
 
@@ -158,7 +158,7 @@ map_among f y (x ∷ xs) (inl e) = (x, inl refl, e)
 map_among f y (x ∷ xs) (inr m) = let p = map_among f y xs m in (p.0, inr p.1, p.2)
 
 -- a clause with the members of these literals, over proof variables
-pub same_literals : (old new : Variables) (user order set clause : List ℕ) → AreTidy new → ExtendsNames old new → NoWitness old user → Images new user order → ((x : ℕ) → Among x order → Among x set) → ((x : ℕ) → Among x set → Among x order) → clause ≡ map (with_var (global_with_index new)) set → SameLiterals new user clause
+pub same_literals : (old new : Variables) (user order set clause : List ℕ) → VariablesInvariant new → ExtendsNames old new → NoWitness old user → Images new user order → ((x : ℕ) → Among x order → Among x set) → ((x : ℕ) → Among x set → Among x order) → clause ≡ map (with_var (global_with_index new)) set → SameLiterals new user clause
 same_literals old new user order set clause tidy extends none images more less e = record {
   there = all_from (λ l. (code : ℕ) × IsProofLiteralOf new l code × Among code clause) user (λ l m.
       let p = at_place user l m in
@@ -207,7 +207,7 @@ pub canonical_less : (xs : List ℕ) (x : ℕ) → Among x (canonical xs) → Am
 canonical_less xs x m = test_among xs x (sym (canonical_among xs x) ∙ among_test (canonical xs) x m)
 
 -- every literal of the list is over an index that the names have
-pub images_within : (n : Variables) (user order : List ℕ) → AreTidy n → Images n user order → (x : ℕ) → Among x order → variable x < length n.globals.items
+pub images_within : (n : Variables) (user order : List ℕ) → VariablesInvariant n → Images n user order → (x : ℕ) → Among x order → variable x < length n.globals.items
 images_within n user order tidy images x m =
     let p = at_place order x m in
     let lt = p.1 in
@@ -218,7 +218,7 @@ images_within n user order tidy images x m =
     let e = tidy.globals_count in
     omega arith
 
-pub within_all : (n : Variables) (user order set : List ℕ) → AreTidy n → Images n user order → set ≡ canonical order → (k : ℕ) → k < length set → variable (get_or set k 0) < length n.globals.items
+pub within_all : (n : Variables) (user order set : List ℕ) → VariablesInvariant n → Images n user order → set ≡ canonical order → (k : ℕ) → k < length set → variable (get_or set k 0) < length n.globals.items
 within_all n user order set tidy images e k lt = images_within n user order tidy images (get_or set k 0) (canonical_less order (get_or set k 0) (subst (Among (get_or set k 0)) e (among_place set k lt)))
 
 pub any_default : (xs : List ℕ) (i d e : ℕ) → i < length xs → get_or xs i d ≡ get_or xs i e

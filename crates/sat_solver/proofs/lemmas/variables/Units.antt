@@ -6,22 +6,22 @@ use Rattle.sat_base.specs.steps.Steps.{Step}
 use Rattle.sat_store.specs.declared.data.VarData.{VarData}
 use Rattle.sat_store.specs.variables.VarData.{unused_variable}
 use Rattle.sat_store.specs.variables.Maps.{AreInverse, target}
-use Rattle.sat_solver.specs.variables.Counting.{IsEven}
+use Rattle.sat_solver.specs.variables.Counting.{HasEqualCounts}
 use Rattle.sat_solver.specs.variables.Free.{is_free, IsTree}
-use Rattle.sat_checker.specs.matching.Bridge.{Live}
+use Rattle.sat_checker.specs.matching.Bridge.{LiveVariables}
 use Rattle.sat_solver.specs.variables.Live.{given_of}
-use Rattle.sat_solver.specs.variables.Variables.{data_at, user_of, solver_of, variables_used, AreTidy, NamesMatchState, IsModeOf, says_unit, is_witness_kept}
+use Rattle.sat_solver.specs.variables.Variables.{data_at, user_of, solver_of, variables_used, VariablesInvariant, NamesMatchState, IsModeOf, says_unit, is_witness_kept}
 use Rattle.sat_solver.specs.variables.Naming.{SameMaps, PutsUnit}
 use Rattle.sat_solver.specs.variables.Calls.{NamesInvariant, NamesAgree}
 use Rattle.sat_solver.specs.declared.variables.Variables.{Variables}
 use Rattle.sat_solver.proofs.lemmas.variables.NewName.{shape}
 
 -- only units and marks of the data change
-module _ (old new : Variables) (tidy : AreTidy old) (maps : SameMaps old new) (deleted_at : (w : ℕ) → (data_at new w).deleted ≡ (data_at old w).deleted) (mode_at : (w : ℕ) → (data_at new w).sampling_mode ≡ (data_at old w).sampling_mode) (gone : (w : ℕ) → (data_at old w).deleted ≡ true → data_at new w ≡ unused_variable) where
+module _ (old new : Variables) (tidy : VariablesInvariant old) (maps : SameMaps old new) (deleted_at : (w : ℕ) → (data_at new w).deleted ≡ (data_at old w).deleted) (mode_at : (w : ℕ) → (data_at new w).sampling_mode ≡ (data_at old w).sampling_mode) (gone : (w : ℕ) → (data_at old w).deleted ≡ true → data_at new w ≡ unused_variable) where
   user_at : (w : ℕ) → user_of new w ≡ user_of old w
   user_at w = ap (λ m. target m.bwd w) maps.users
 
-  pub tidy_data : AreTidy new
+  pub tidy_data : VariablesInvariant new
   tidy_data = record {
     users = subst AreInverse (sym maps.users) tidy.users;
     solvers = subst AreInverse (sym maps.solvers) tidy.solvers;
@@ -34,8 +34,8 @@ module _ (old new : Variables) (tidy : AreTidy old) (maps : SameMaps old new) (d
     own = λ e u lt. ap (λ m. target m.fwd u) maps.users ∙ tidy.own (sym maps.own ∙ e) u (let q = ap (λ m. length m.fwd) maps.users in omega arith);
     globals_count = ap (λ g. length g.items) maps.globals ∙ tidy.globals_count ∙ ap (λ m. length m.bwd) (sym maps.solvers);
     globals = λ x w e. ap (λ g. get_or g.items x 0) maps.globals ∙ tidy.globals x w (sym (ap (λ m. target m.bwd x) maps.solvers) ∙ e);
-    even_users = subst IsEven (sym maps.users) tidy.even_users;
-    even_solvers = subst IsEven (sym maps.solvers) tidy.even_solvers;
+    even_users = subst HasEqualCounts (sym maps.users) tidy.even_users;
+    even_solvers = subst HasEqualCounts (sym maps.solvers) tidy.even_solvers;
     spans_users = record { tree = subst IsTree (sym maps.free_users) tidy.spans_users.tree; room = let a = ap (λ f. f.room) maps.free_users in let b = ap (λ m. length m.fwd) maps.users in let r = tidy.spans_users.room in omega arith };
     spans_globals = record { tree = subst IsTree (sym maps.free_globals) tidy.spans_globals.tree; room = let a = ap (λ f. f.room) maps.free_globals in let b = maps.count in let r = tidy.spans_globals.room in omega arith };
     spans_solvers = record { tree = subst IsTree (sym maps.free_solvers) tidy.spans_solvers.tree; room = let a = ap (λ f. f.room) maps.free_solvers in let b = ap (λ m. length m.bwd) maps.solvers in let r = tidy.spans_solvers.room in omega arith };
@@ -47,7 +47,7 @@ module _ (old new : Variables) (tidy : AreTidy old) (maps : SameMaps old new) (d
     free_solvers = λ x. ap (λ f. is_free f x) maps.free_solvers ∙ tidy.free_solvers x ∙ ap (λ m. ltb x (length m.bwd) && not (is_some (target m.bwd x))) (sym maps.solvers);
   }
 
-  pub judged_data : (j : ScriptState) (list : Live) → NamesMatchState old j list → NamesMatchState new j list
+  pub judged_data : (j : ScriptState) (list : LiveVariables) → NamesMatchState old j list → NamesMatchState new j list
   judged_data j list judged = record {
     first_unused = judged.first_unused ∙ ap (λ m. length m.fwd + 1) (sym maps.users);
     no_zero = judged.no_zero;
@@ -109,5 +109,5 @@ module _ (old new : Variables) (steps : List Step) (v x : ℕ) (value : Option B
       seen : (w : ℕ) → shape (data_at new w) (user_of new w) ≡ shape (data_at old w) (user_of old w)
       seen w = ap (shape (data_at new w)) (ap (λ m. target m.bwd w) put.maps.users) ∙ same w (λ d. shape d (user_of old w)) refl
 
-  pub unit_agrees : (j : ScriptState) (live : Live) → NamesAgree old steps j live → NamesAgree new steps j live
+  pub unit_agrees : (j : ScriptState) (live : LiveVariables) → NamesAgree old steps j live → NamesAgree new steps j live
   unit_agrees j live a = record { judged = judged_data old new valid.tidy put.maps deleted_same mode_same gone_same j live a.judged; bridge = a.bridge }

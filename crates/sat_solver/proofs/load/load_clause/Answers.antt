@@ -20,52 +20,52 @@ returns-in_err-loaded-clause-goes g c =
 pub returns-in-Stored-clause-goes : goal.returns-in-Stored-clause-goes
 returns-in-Stored-clause-goes g c =
     goes_none g.W.CountedWrite.seen _ c.args.proof.now (λ left _. IsLoaded left (session_of c.args.proof.now) c.args.search.now (record c.args.search.now { parts = c.load.new.parts })) c.requires.keeps
-    (loaded_stored c.args.search.now c.args.lits.now (steps_of c.args.proof.now) c.requires.added c.requires.may c.make_ready.new.parts c.make_ready.ensures.holds c.make_ready.ensures.same c.make_ready.ensures.others c.load.new.parts c.in_ok-loaded.ensures.holds c.in_ok-loaded.ensures.kept
+    (loaded_stored c.args.search.now c.args.lits.now (steps_of c.args.proof.now) c.requires.added c.requires.may c.make_all_available.new.parts c.make_all_available.ensures.holds c.make_all_available.ensures.same c.make_all_available.ensures.others c.load.new.parts c.in_ok-loaded.ensures.holds c.in_ok-loaded.ensures.kept
     (rw c.in-Stored.is at c.in_ok-loaded.ensures.says))
 
 pub returns-in-Unit-clause-goes : goal.returns-in-Unit-clause-goes
 returns-in-Unit-clause-goes g c =
     goes_none g.W.CountedWrite.seen _ c.args.proof.now (λ left _. IsLoaded left (session_of c.args.proof.now) c.args.search.now (record c.args.search.now { parts = c.load.new.parts })) c.requires.keeps
-    (loaded_unit c.args.search.now c.args.lits.now (steps_of c.args.proof.now) c.requires.added c.requires.may c.make_ready.new.parts c.make_ready.ensures.holds c.make_ready.ensures.same c.make_ready.ensures.others c.load.new.parts c.in_ok-loaded.ensures.holds c.in_ok-loaded.ensures.kept
+    (loaded_unit c.args.search.now c.args.lits.now (steps_of c.args.proof.now) c.requires.added c.requires.may c.make_all_available.new.parts c.make_all_available.ensures.holds c.make_all_available.ensures.same c.make_all_available.ensures.others c.load.new.parts c.in_ok-loaded.ensures.holds c.in_ok-loaded.ensures.kept
     (rw c.in-Unit.is at c.in_ok-loaded.ensures.says))
 
 pub returns-in-Falsified-clause-goes : goal.returns-in-Falsified-clause-goes
 returns-in-Falsified-clause-goes g c =
     goes_none g.W.CountedWrite.seen _ c.args.proof.now (λ left _. IsLoaded left (session_of c.args.proof.now) c.args.search.now (record c.args.search.now { parts = c.load.new.parts })) c.requires.keeps
-    (loaded_false c.args.search.now c.args.lits.now (steps_of c.args.proof.now) c.requires.added c.requires.may c.make_ready.new.parts c.make_ready.ensures.holds c.make_ready.ensures.same c.make_ready.ensures.others c.load.new.parts c.in_ok-loaded.ensures.holds c.in_ok-loaded.ensures.kept
+    (loaded_false c.args.search.now c.args.lits.now (steps_of c.args.proof.now) c.requires.added c.requires.may c.make_all_available.new.parts c.make_all_available.ensures.holds c.make_all_available.ensures.same c.make_all_available.ensures.others c.load.new.parts c.in_ok-loaded.ensures.holds c.in_ok-loaded.ensures.kept
     (rw c.in-Falsified.is at c.in_ok-loaded.ensures.says))
 
 pub returns-then-len-lt2-clause-goes : goal.returns-then-len-lt2-clause-goes
 returns-then-len-lt2-clause-goes g c =
-    let size : c.len.result ≡ length (false_last c.make_ready.new.parts.assignment.current c.args.lits.now) = omega (arith, c.len.ensures, c.load.new.sorting.lits.ok.0, ap (λ ls. length ls) c.in_ok-loaded.ensures.order) in
+    let size : c.len.result ≡ length (false_last c.make_all_available.new.parts.assignment.current c.args.lits.now) = omega (arith, c.len.ensures, c.load.new.sorting.lits.ok.0, ap (λ ls. length ls) c.in_ok-loaded.ensures.order) in
     goes_none g.W.CountedWrite.seen _ c.args.proof.now (λ left _. IsLoaded left (session_of c.args.proof.now) c.args.search.now (record c.args.search.now { parts = c.load.new.parts })) c.requires.keeps
-    (loaded_true c.args.search.now c.args.lits.now (steps_of c.args.proof.now) c.requires.added c.requires.may c.make_ready.new.parts c.make_ready.ensures.holds c.make_ready.ensures.same c.make_ready.ensures.others c.load.new.parts c.in_ok-loaded.ensures.holds c.in_ok-loaded.ensures.kept
+    (loaded_true c.args.search.now c.args.lits.now (steps_of c.args.proof.now) c.requires.added c.requires.may c.make_all_available.new.parts c.make_all_available.ensures.holds c.make_all_available.ensures.same c.make_all_available.ensures.others c.load.new.parts c.in_ok-loaded.ensures.holds c.in_ok-loaded.ensures.kept
     (rw c.in-Satisfied.is at c.in_ok-loaded.ensures.says) (omega (arith, size, c.if-len-lt2.true)))
 
 pub delete_true-requires-clause-names : goal.delete_true-requires-clause-names
 delete_true-requires-clause-names g c =
-    let same : c.deref.result.now ≡ false_last c.make_ready.new.parts.assignment.current c.args.lits.now = c.deref.ensures.value ∙ c.in_ok-loaded.ensures.order in
-    rw same (loaded_names c.args.search.now c.args.lits.now (steps_of c.args.proof.now) c.requires.added c.requires.may c.make_ready.new.parts c.make_ready.ensures.holds c.make_ready.ensures.same c.make_ready.ensures.others c.load.new.parts c.in_ok-loaded.ensures.holds c.in_ok-loaded.ensures.kept)
+    let same : c.deref.result.now ≡ false_last c.make_all_available.new.parts.assignment.current c.args.lits.now = c.deref.ensures.value ∙ c.in_ok-loaded.ensures.order in
+    rw same (loaded_names c.args.search.now c.args.lits.now (steps_of c.args.proof.now) c.requires.added c.requires.may c.make_all_available.new.parts c.make_all_available.ensures.holds c.make_all_available.ensures.same c.make_all_available.ensures.others c.load.new.parts c.in_ok-loaded.ensures.holds c.in_ok-loaded.ensures.kept)
 
 pub delete_true-requires-clause-may : goal.delete_true-requires-clause-may
 delete_true-requires-clause-may g c =
-    let size : c.len.result ≡ length (false_last c.make_ready.new.parts.assignment.current c.args.lits.now) = omega (arith, c.len.ensures, c.load.new.sorting.lits.ok.0, ap (λ ls. length ls) c.in_ok-loaded.ensures.order) in
-    let same : c.deref.result.now ≡ false_last c.make_ready.new.parts.assignment.current c.args.lits.now = c.deref.ensures.value ∙ c.in_ok-loaded.ensures.order in
-    rw same (loaded_may c.args.search.now c.args.lits.now (steps_of c.args.proof.now) c.requires.added c.requires.may c.make_ready.new.parts c.make_ready.ensures.holds c.make_ready.ensures.same c.make_ready.ensures.others c.load.new.parts c.in_ok-loaded.ensures.holds c.in_ok-loaded.ensures.kept
+    let size : c.len.result ≡ length (false_last c.make_all_available.new.parts.assignment.current c.args.lits.now) = omega (arith, c.len.ensures, c.load.new.sorting.lits.ok.0, ap (λ ls. length ls) c.in_ok-loaded.ensures.order) in
+    let same : c.deref.result.now ≡ false_last c.make_all_available.new.parts.assignment.current c.args.lits.now = c.deref.ensures.value ∙ c.in_ok-loaded.ensures.order in
+    rw same (loaded_may c.args.search.now c.args.lits.now (steps_of c.args.proof.now) c.requires.added c.requires.may c.make_all_available.new.parts c.make_all_available.ensures.holds c.make_all_available.ensures.same c.make_all_available.ensures.others c.load.new.parts c.in_ok-loaded.ensures.holds c.in_ok-loaded.ensures.kept
     (rw c.in-Satisfied.is at c.in_ok-loaded.ensures.says) (omega (arith, size, c.if-len-lt2.false)))
 
 pub returns-else-len-lt2-clause-goes : goal.returns-else-len-lt2-clause-goes
 returns-else-len-lt2-clause-goes g c =
-    let size : c.len.result ≡ length (false_last c.make_ready.new.parts.assignment.current c.args.lits.now) = omega (arith, c.len.ensures, c.load.new.sorting.lits.ok.0, ap (λ ls. length ls) c.in_ok-loaded.ensures.order) in
-    let same : c.deref.result.now ≡ false_last c.make_ready.new.parts.assignment.current c.args.lits.now = c.deref.ensures.value ∙ c.in_ok-loaded.ensures.order in
+    let size : c.len.result ≡ length (false_last c.make_all_available.new.parts.assignment.current c.args.lits.now) = omega (arith, c.len.ensures, c.load.new.sorting.lits.ok.0, ap (λ ls. length ls) c.in_ok-loaded.ensures.order) in
+    let same : c.deref.result.now ≡ false_last c.make_all_available.new.parts.assignment.current c.args.lits.now = c.deref.ensures.value ∙ c.in_ok-loaded.ensures.order in
     goes_or g.W.CountedWrite.seen c.delete_true.result c.args.proof.now c.delete_true.new.proof (λ left _. IsLoaded left (session_of c.delete_true.new.proof) c.args.search.now c.delete_true.new.search)
     (goes_map g.W.CountedWrite.seen c.delete_true.result c.args.proof.now c.delete_true.new.proof _ (λ left _. IsLoaded left (session_of c.delete_true.new.proof) c.args.search.now c.delete_true.new.search)
-    (λ left steps h. loaded_after c.args.search.now c.args.lits.now (steps_of c.args.proof.now) c.requires.added c.requires.may c.make_ready.new.parts c.make_ready.ensures.holds c.make_ready.ensures.same c.make_ready.ensures.others c.load.new.parts c.in_ok-loaded.ensures.holds c.in_ok-loaded.ensures.kept
+    (λ left steps h. loaded_after c.args.search.now c.args.lits.now (steps_of c.args.proof.now) c.requires.added c.requires.may c.make_all_available.new.parts c.make_all_available.ensures.holds c.make_all_available.ensures.same c.make_all_available.ensures.others c.load.new.parts c.in_ok-loaded.ensures.holds c.in_ok-loaded.ensures.kept
     (rw c.in-Satisfied.is at c.in_ok-loaded.ensures.says) (omega (arith, size, c.if-len-lt2.false)) c.deref.result.now same (steps_of c.delete_true.new.proof) h.1 left h.0 c.delete_true.new.search c.delete_true.ensures.same)
     c.delete_true.ensures.deletes)
 
 pub returns-else-len-lt2-clause-comes : goal.returns-else-len-lt2-clause-comes
 returns-else-len-lt2-clause-comes g c =
-    let same : c.deref.result.now ≡ false_last c.make_ready.new.parts.assignment.current c.args.lits.now = c.deref.ensures.value ∙ c.in_ok-loaded.ensures.order in
+    let same : c.deref.result.now ≡ false_last c.make_all_available.new.parts.assignment.current c.args.lits.now = c.deref.ensures.value ∙ c.in_ok-loaded.ensures.order in
     comes_true g.W.CountedWrite.seen c.delete_true.result c.args.proof.now c.delete_true.new.proof _ c.args.search.now c.delete_true.new.search c.delete_true.ensures.deletes (returns-else-len-lt2-clause-goes g c)
-    (loaded_last c.args.search.now c.args.lits.now (steps_of c.args.proof.now) c.requires.added c.requires.may c.make_ready.new.parts c.make_ready.ensures.holds c.make_ready.ensures.same c.make_ready.ensures.others c.load.new.parts c.in_ok-loaded.ensures.holds c.in_ok-loaded.ensures.kept c.deref.result.now same)
+    (loaded_last c.args.search.now c.args.lits.now (steps_of c.args.proof.now) c.requires.added c.requires.may c.make_all_available.new.parts c.make_all_available.ensures.holds c.make_all_available.ensures.same c.make_all_available.ensures.others c.load.new.parts c.in_ok-loaded.ensures.holds c.in_ok-loaded.ensures.kept c.deref.result.now same)

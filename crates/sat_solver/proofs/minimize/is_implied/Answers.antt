@@ -5,8 +5,8 @@ use Rattle.sat_parts.specs.declared.prop.graph.Reason.{Reason}
 use Rattle.sat_parts.specs.prop.Causes.{causes, falsified}
 use Rattle.sat_parts.specs.prop.Graphs.{node_of}
 use Rattle.sat_parts.specs.prop.Ready.{state_of}
-use Rattle.sat_parts.specs.prop.State.{State, node}
-use Rattle.sat_solver.specs.analyze_conflict.Work.{Work}
+use Rattle.sat_parts.specs.prop.State.{PropagationState, node}
+use Rattle.sat_solver.specs.analyze_conflict.AnalysisState.{AnalysisState}
 use Rattle.sat_solver.specs.analyze_conflict.Marks.{causes_at, IsReasoned}
 use Rattle.sat_solver.specs.analyze_conflict.Minimal.{AreMarked, Undoes, used_up, Followed, followed}
 use Rattle.sat_solver.proofs.lemmas.analyze_conflict.Minimizing.{Follows, front_at, more_refl, more_trans, searching_start, searching_next, search_step}
@@ -18,7 +18,7 @@ use Rattle.sat_solver.proofs.minimize.is_implied.Goals.{After-var, After-reason-
 
 -- the used literal of this iteration
 module _ (c : After-var) where
-  abbrev s : State
+  abbrev s : PropagationState
   s = state_of c.args.assignment.now c.args.graph.now c.args.trail.now
 
   abbrev next : ℕ
@@ -120,7 +120,7 @@ loop-at-preserved c =
     let o = (goal.at.loop-at-preserved c).In_ok-follow in
     let y = gave o in
     let lt = within (x (r o)) in
-    let new : Work = c.follow.new.analysis in
+    let new : AnalysisState = c.follow.new.analysis in
     let there = front_at c.loop-at.analysis new c.loop-at.at 0 y.more lt in
     record {
       searching = searching_next _ _ _ _ _ new c.loop-at.at y.searching (omega (arith, lt, y.more.longer)) (subst (λ l. AreMarked (s (x (r o))) (get_or c.args.analysis.now.clause 0 0) new (causes_at c.args.clauses.now (s (x (r o))) l)) (sym there) (y.whole c.if-not-branch.false));

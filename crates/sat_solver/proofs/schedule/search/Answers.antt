@@ -2,7 +2,7 @@ use Rattle.std.proofs.Common.{ℕ, ◌+◌, ◌-◌, ◌≤◌, ◌≡◌, ◌�
 use Rattle.std.proofs.lemmas.Bool.{true≢false}
 use Rattle.std.proofs.lemmas.Result.{err_from_is_err_and}
 use Rattle.sat_parts.specs.parts.Words.{trail_letters}
-use Rattle.sat_solver.specs.declared.context.Core.{Core}
+use Rattle.sat_solver.specs.declared.context.Context.{Context}
 use Rattle.sat_solver.specs.schedule.Climbing.{Climbs}
 use Rattle.sat_solver.specs.schedule.Rounds.{no_round, one_more as one_more_round}
 use Rattle.sat_solver.specs.schedule.Solving.{words_in, values_in, ComesByRounds, Ended, RoundOf}
@@ -38,7 +38,7 @@ loop-rounds-init g c =
 pub conflict_step-requires : goal.conflict_step-requires
 conflict_step-requires g c =
     let b = c.restart_where_due.new.core in
-    let r : Core g.row.W.Denot g.row.P.Denot g.P.ProofProcessor = record b { proof = c.reduce.new.proof; search = c.reduce.new.search } in
+    let r : Context g.row.W.Denot g.row.P.Denot g.P.ProofProcessor = record b { proof = c.reduce.new.proof; search = c.reduce.new.search } in
     let restarted = c.restart_where_due.ensures.joined c.loop-rounds.names c.loop-rounds.invariant.joined in
     let reduced = reduced_sound g.W.CountedWrite.seen b r c.loop-rounds.names c.loop-rounds.rounds refl restarted tt c.in_ok-reduce.ensures in
     record { together = record { keeps = reduced.sound.keeps; valid = reduced.valid; search = reduced.sound.search; shares = reduced.shares } }
@@ -49,8 +49,8 @@ loop-rounds-preserved g c =
     let i = c.loop-rounds.invariant in
     let n : ℕ = values_in c.args.core.now in
     let b = c.restart_where_due.new.core in
-    let r : Core g.row.W.Denot g.row.P.Denot g.P.ProofProcessor = record b { proof = c.reduce.new.proof; search = c.reduce.new.search } in
-    let d : Core g.row.W.Denot g.row.P.Denot g.P.ProofProcessor = record b { proof = c.conflict_step.new.proof; search = c.conflict_step.new.search } in
+    let r : Context g.row.W.Denot g.row.P.Denot g.P.ProofProcessor = record b { proof = c.reduce.new.proof; search = c.reduce.new.search } in
+    let d : Context g.row.W.Denot g.row.P.Denot g.P.ProofProcessor = record b { proof = c.conflict_step.new.proof; search = c.conflict_step.new.search } in
     let learned = c.if-not-is_learned.ensures.0 refl in
     let restarted = c.restart_where_due.ensures.joined c.loop-rounds.names i.joined in
     let sound = reduced_sound seen b r c.loop-rounds.names c.loop-rounds.rounds refl restarted tt c.in_ok-reduce.ensures in
@@ -99,8 +99,8 @@ returns-then-not-is_learned-clause-ends g c =
     let i = c.loop-rounds.invariant in
     let k : ℕ = c.loop-rounds.rounds - c.args.rounds.now in
     let b = c.restart_where_due.new.core in
-    let r : Core g.row.W.Denot g.row.P.Denot g.P.ProofProcessor = record b { proof = c.reduce.new.proof; search = c.reduce.new.search } in
-    let d : Core g.row.W.Denot g.row.P.Denot g.P.ProofProcessor = record b { proof = c.conflict_step.new.proof; search = c.conflict_step.new.search } in
+    let r : Context g.row.W.Denot g.row.P.Denot g.P.ProofProcessor = record b { proof = c.reduce.new.proof; search = c.reduce.new.search } in
+    let d : Context g.row.W.Denot g.row.P.Denot g.P.ProofProcessor = record b { proof = c.conflict_step.new.proof; search = c.conflict_step.new.search } in
     let restarted = c.restart_where_due.ensures.joined c.loop-rounds.names i.joined in
     let sound = reduced_sound seen b r c.loop-rounds.names c.loop-rounds.rounds refl restarted tt c.in_ok-reduce.ensures in
     one_less (λ k. Ended seen c.args.core.now c.args.names.now k c.in_ok-outcome.outcome d c.conflict_step.new.names) c.loop-rounds.rounds c.args.rounds.now i.before
@@ -111,7 +111,7 @@ returns-then-not-is_learned-clause-ends g c =
 pub returns-then-not-is_learned-clause-rounds : goal.returns-then-not-is_learned-clause-rounds
 returns-then-not-is_learned-clause-rounds g c =
     let b = c.restart_where_due.new.core in
-    let r : Core g.row.W.Denot g.row.P.Denot g.P.ProofProcessor = record b { proof = c.reduce.new.proof; search = c.reduce.new.search } in (
+    let r : Context g.row.W.Denot g.row.P.Denot g.P.ProofProcessor = record b { proof = c.reduce.new.proof; search = c.reduce.new.search } in (
       c.loop-rounds.core,
       c.loop-rounds.names,
       c.loop-rounds.restarts,
@@ -164,7 +164,7 @@ returns-in_err-reduce-clause-fails g c =
     let i = c.loop-rounds.invariant in
     let k : ℕ = c.loop-rounds.rounds - c.args.rounds.now in
     let b = c.restart_where_due.new.core in
-    let r : Core g.row.W.Denot g.row.P.Denot g.P.ProofProcessor = record b { proof = c.reduce.new.proof; search = c.reduce.new.search } in
+    let r : Context g.row.W.Denot g.row.P.Denot g.P.ProofProcessor = record b { proof = c.reduce.new.proof; search = c.reduce.new.search } in
     let p = err_from_is_err_and c.from_residual.result c.from_residual.ensures.1 in
     rw (p.1, p.2) (reduced_fails seen b r c.loop-rounds.names c.loop-rounds.rounds refl (c.restart_where_due.ensures.joined c.loop-rounds.names i.joined) _ c.in_err-reduce.ensures c.args.core.now c.args.names.now k
     (c.restart_where_due.ensures.goes c.args.core.now c.args.names.now c.loop-rounds.names k i.goes))
@@ -185,8 +185,8 @@ returns-in_err-outcome-clause-fails g c =
     let i = c.loop-rounds.invariant in
     let k : ℕ = c.loop-rounds.rounds - c.args.rounds.now in
     let b = c.restart_where_due.new.core in
-    let r : Core g.row.W.Denot g.row.P.Denot g.P.ProofProcessor = record b { proof = c.reduce.new.proof; search = c.reduce.new.search } in
-    let d : Core g.row.W.Denot g.row.P.Denot g.P.ProofProcessor = record b { proof = c.conflict_step.new.proof; search = c.conflict_step.new.search } in
+    let r : Context g.row.W.Denot g.row.P.Denot g.P.ProofProcessor = record b { proof = c.reduce.new.proof; search = c.reduce.new.search } in
+    let d : Context g.row.W.Denot g.row.P.Denot g.P.ProofProcessor = record b { proof = c.conflict_step.new.proof; search = c.conflict_step.new.search } in
     let restarted = c.restart_where_due.ensures.joined c.loop-rounds.names i.joined in
     let sound = reduced_sound seen b r c.loop-rounds.names c.loop-rounds.rounds refl restarted tt c.in_ok-reduce.ensures in
     let p = err_from_is_err_and c.from_residual-in_err-outcome.result c.from_residual-in_err-outcome.ensures.1 in

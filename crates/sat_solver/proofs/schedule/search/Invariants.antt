@@ -2,12 +2,12 @@ use Rattle.std.proofs.Common.{◌≡◌, ◌-◌, ◌<◌, ◌≤◌}
 use Rattle.sat_solver.specs.schedule.Climbing.{AskReachesRound}
 use Rattle.sat_solver.specs.schedule.Rounds.{AreRounds}
 use Rattle.sat_solver.specs.schedule.Solving.{words_in, values_in, ComesByRounds, Restarted, ReducedAt, RoundOf}
-use Rattle.sat_solver.specs.solver.Joined.{IsJoined}
+use Rattle.sat_solver.specs.solver.Joined.{NamesSearchInvariant}
 use Rattle.sat_solver.proofs.schedule.search.Given as goal
 
 abbrev pub invariant-loop-rounds : goal.invariant-loop-rounds
 invariant-loop-rounds g l = record {
-  joined : IsJoined l.names l.core;
+  joined : NamesSearchInvariant l.names l.core;
   scale : 0 < l.restarts.scale;
   same : l.restarts.scale ≡ l.fn.restarts.scale;
   most : values_in l.core ≡ values_in l.fn.core;

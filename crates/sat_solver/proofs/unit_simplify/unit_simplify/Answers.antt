@@ -9,7 +9,7 @@ free_indices-requires-clause-may g c =
 pub returns : goal.returns
 returns g c =
     simplified g.W.CountedWrite.seen c.args.names.now c.free_indices.new.variables c.args.proof.now c.strengthen_all.new.proof c.free_indices.new.writer c.args.search.now c.strengthen_all.new.search c.free_indices.new.search c.requires.together c.requires.flat c.in_ok-strengthen_all.ensures
-    c.in_ok-free_indices.ensures.frees c.in_ok-free_indices.ensures.left c.in_ok-free_indices.ensures.keeps c.in_ok-free_indices.ensures.came
+    c.in_ok-free_indices.ensures.frees c.in_ok-free_indices.ensures.left c.in_ok-free_indices.ensures.keeps c.in_ok-free_indices.ensures.emits
 
 pub returns-in_err-free_indices : goal.returns-in_err-free_indices
 returns-in_err-free_indices g c =
@@ -17,4 +17,4 @@ returns-in_err-free_indices g c =
     rw (p.1, p.2)
     (falls_later g.W.CountedWrite.seen _ c.args.proof.now c.strengthen_all.new.proof c.free_indices.new.writer
     (passes_strengthened g.W.CountedWrite.seen c.args.names.now c.args.names.now c.args.proof.now c.strengthen_all.new.proof c.strengthen_all.new.proof c.args.search.now c.strengthen_all.new.search c.strengthen_all.new.search c.requires.together c.requires.flat c.in_ok-strengthen_all.ensures).took
-    (falls_names g.W.CountedWrite.seen c.in_err-free_indices.field-0.0 c.strengthen_all.new.proof c.free_indices.new.writer c.in_err-free_indices.ensures.fails c.in_err-free_indices.ensures.came))
+    (falls_names g.W.CountedWrite.seen c.in_err-free_indices.field-0.0 c.strengthen_all.new.proof c.free_indices.new.writer c.in_err-free_indices.ensures.fails c.in_err-free_indices.ensures.emits))

@@ -6,5 +6,5 @@ use Rattle.sat_solver_tests.proofs.analysing.is_right.Goals as goal
 pub search-requires : goal.search-requires
 search-requires c =
     joined_first c.new-names.result c.new-names.ensures.tidy c.new-names.ensures.none _ c.new.ensures.steps
-    c.no_search.ensures.search c.no_search.ensures.values c.no_search.ensures.globals
+    c.new_search.ensures.search c.new_search.ensures.values c.new_search.ensures.globals
     (subst (λ (k : SolverConfig). 0 < k.reduce_locals_interval) (sym c.default.ensures) (omega arith)) (subst (λ (k : SolverConfig). 0 < k.reduce_mids_interval) (sym c.default.ensures) (omega arith))

@@ -4,7 +4,7 @@ use Rattle.std.proofs.lemmas.Result.{err_from_is_err_and}
 use Rattle.std.specs.Option.{ok_or}
 use Rattle.sat_base.specs.script.Script.{Literal}
 use Rattle.certify.specs.answers.Answers.{literals_text}
-use Rattle.certify.specs.answers.AnswerForms.{IsInForm, named_literals}
+use Rattle.certify.specs.answers.AnswerForms.{IsPrintable, named_literals}
 use Rattle.certify.specs.answers.AnswerReading.{IsHead, NoLine, NoLiterals, outcome_of, second_line}
 use Rattle.certify.specs.declared.answers.read.AnswerKind.{AnswerKind}
 use Rattle.certify.specs.declared.answers.read.AnswerFault.{AnswerFault}
@@ -25,8 +25,8 @@ within head bytes (Some x) following found e = let f : x ≡ following = cc in f
 
 -- what was read after it
 listed : (k : AnswerKind) (head bytes following : List ℕ) (ls : List Literal) (r : Result (Bor (List ℕ)) AnswerFault) → IsHead k head → bytes ≢ [] → bytes ≡ head ++ following
-    → MatchResult r (λ rest. IsInForm (outcome_of k ls) × (following ≡ literals_text ls ++ rest.now)) (NoLiterals k following)
-    → MatchResult r (λ rest. IsInForm (outcome_of k ls) × (bytes ≡ second_line (outcome_of k ls) ++ rest.now)) (NoLine k bytes)
+    → MatchResult r (λ rest. IsPrintable (outcome_of k ls) × (following ≡ literals_text ls ++ rest.now)) (NoLiterals k following)
+    → MatchResult r (λ rest. IsPrintable (outcome_of k ls) × (bytes ≡ second_line (outcome_of k ls) ++ rest.now)) (NoLine k bytes)
 listed k head bytes following ls (Ok rest) h some e r = (r.0, line_read k head bytes following ls rest.now h e r.1)
 listed k head bytes following ls (Err fault) h some e r = no_list k head bytes following fault h some e r
 

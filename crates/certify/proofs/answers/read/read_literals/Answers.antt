@@ -2,7 +2,7 @@ use Rattle.std.proofs.Common.{ℕ, ◌<◌, ◌≤◌, ◌≡◌, ◌++◌, ◌�
 use Rattle.std.proofs.lemmas.Result.{err_from_is_err_and}
 use Rattle.std.specs.Option.{ok_or}
 use Rattle.certify.specs.answers.Answers.{literals_text}
-use Rattle.certify.specs.answers.AnswerForms.{HaveNames, IsInForm, named_literals}
+use Rattle.certify.specs.answers.AnswerForms.{HaveNames, IsPrintable, named_literals}
 use Rattle.certify.specs.answers.AnswerReading.{HasLine, NoLiteral, NoLiterals, outcome_of}
 use Rattle.certify.specs.declared.answers.read.AnswerKind.{AnswerKind}
 use Rattle.certify.specs.declared.answers.read.AnswerFault.TheVariants.{Text}
@@ -13,7 +13,7 @@ use Rattle.certify.proofs.answers.read.read_literals.Goals as goal
 
 ended : (k : AnswerKind) (bytes line rest : List ℕ) (least : ℕ) → HasLine k → ReadInOrder k bytes line rest least → NoLiteral rest → (r : Option (Bor (List ℕ)))
     → MatchOption r ((tail : List ℕ) → rest ≡ 48 ∷ 10 ∷ tail → ⊥) (λ x. rest ≡ 48 ∷ 10 ∷ x.now)
-    → MatchResult (ok_or r Text) (λ x. IsInForm (outcome_of k (named_literals line)) × (bytes ≡ literals_text (named_literals line) ++ x.now)) (NoLiterals k bytes)
+    → MatchResult (ok_or r Text) (λ x. IsPrintable (outcome_of k (named_literals line)) × (bytes ≡ literals_text (named_literals line) ++ x.now)) (NoLiterals k bytes)
 ended k bytes line rest least d i none None h = λ ls tail o e. not_read bytes line rest i.read none ls tail (h tail) (subst HaveNames (line_literals k ls d) o.0) e
 ended k bytes line rest least d i none (Some x) h = (in_form k bytes line rest least d i, (all_read bytes line rest x.now i.read h).1)
 

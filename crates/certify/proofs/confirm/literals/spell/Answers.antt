@@ -1,7 +1,7 @@
 use Rattle.std.proofs.lemmas.Grind.{common_steps}
 use Rattle.std.proofs.Common.{◌≡◌, ◌+◌, ◌<◌, Some, None, length, sym, ◌∙◌, ap, subst, arith}
 use Rattle.std.proofs.lemmas.List.{take_all}
-use Rattle.sat_base.specs.values.Literals.{coded}
+use Rattle.sat_base.specs.values.Literals.{mk_lit}
 use Rattle.sat_base.specs.script.Script.{Literal, Among}
 use Rattle.certify.specs.answers.AnswerForms.{named_literal, named_literals}
 use Rattle.certify.specs.confirm.Variables.{variable_in}
@@ -18,7 +18,7 @@ loop-lit-preserved c =
     let low : i < length (named_literals codes) = let n = named_length codes in omega arith in
     spelt_loop names (named_literals codes) c.loop-lit.spelt.items c.push.new.self.items i (named_literal code) c.in-Some.variable c.lit.result low (named_at codes i code (omega arith) c.lit-item.is) c.loop-lit.invariant c.in_ok-push.ensures.items
     (subst (λ n. variable_in c.args.variables.now (n + 1) ≡ Some c.in-Some.variable) c.var.ensures (sym c.get.ensures ∙ c.in-Some.is))
-    (c.lit.ensures ∙ ap (coded c.in-Some.variable) c.is_positive.ensures)
+    (c.lit.ensures ∙ ap (mk_lit c.in-Some.variable) c.is_positive.ensures)
 
 pub returns-in_default : goal.returns-in_default
 returns-in_default c = λ codes.

@@ -1,5 +1,5 @@
 use Rattle.std.proofs.Common.{◌≡◌, ◌+◌, ◌++◌, ◌∙◌, List, ℕ, length, is_some, append-nil, ap, sym, subst, []}
-use Rattle.sat_base.specs.device.Device.{WriterTakes}
+use Rattle.sat_base.specs.device.Device.{WriterAccepts}
 use Rattle.sat_base.proofs.lemmas.device.Writes.{took_more}
 use Rattle.certify.specs.program.Printing.{IsAnswered, is_malformed, verdict_text}
 use Rattle.sat_base.specs.script.Language.{reading}
@@ -21,7 +21,7 @@ module _ (g : Over) (c : In_ok-write_out g) where
   answered : IsAnswered c.args.script.now answers
   answered = (c.args.written.now.summary, c.requires.is_answered)
 
-  takes : WriterTakes (g.O.CountedWrite.seen c.args.output.now) (g.O.CountedWrite.seen c.write_out.new.output) answers
+  takes : WriterAccepts (g.O.CountedWrite.seen c.args.output.now) (g.O.CountedWrite.seen c.write_out.new.output) answers
   takes = rw c.deref.ensures.value at c.in_ok-write_out.ensures.takes
 
 -- they are confirmed, so the last line says so
@@ -74,7 +74,7 @@ returns-clause-printed g c =
     record {
       answers = answers g x;
       answered = answered g x;
-      printed = took_more _ _ _ (answers g x) last (takes g x) (subst (WriterTakes (seen c.write_out.new.output) (seen c.flush_out.new.output)) (append-nil last) line);
+      printed = took_more _ _ _ (answers g x) last (takes g x) (subst (WriterAccepts (seen c.write_out.new.output) (seen c.flush_out.new.output)) (append-nil last) line);
       flushed = c.in_ok-flush_out.ensures.flushed;
       done = (λ zero. sym is ∙ (c.status.ensures.done.0 zero).1, λ formed. c.status.ensures.done.1 (is_yes g y, is ∙ formed));
     }

@@ -2,7 +2,7 @@ use Rattle.std.proofs.Common.{arith}
 use Rattle.std.proofs.lemmas.Grind.{common_steps}
 use Rattle.std.proofs.Common.{ℕ, List, [], refl, subst}
 use Rattle.std.proofs.lemmas.Result.{err_from_is_err_and}
-use Rattle.sat_base.specs.device.Device.{WriterBreaks, WriterTakes}
+use Rattle.sat_base.specs.device.Device.{WriterFails, WriterAccepts}
 use Rattle.sat_base.specs.script.Script.{Ask}
 use Rattle.certify.specs.answers.AnswerForms.{named_literals}
 use Rattle.sat_checker.specs.matching.Expected.{Unknown}
@@ -31,7 +31,7 @@ returns-in_err-push-clause-written g c =
 pub returns-clause-carried : goal.returns-clause-carried
 returns-clause-carried g c =
     let s = c.args.session.now in
-    let written = subst (λ (text : List ℕ). WriterTakes (g.A.CountedWrite.seen c.args.answers.now) (g.A.CountedWrite.seen c.write_answer.new.answers) text) c.deref.ensures.value c.in_ok-write_answer.ensures.takes in
+    let written = subst (λ (text : List ℕ). WriterAccepts (g.A.CountedWrite.seen c.args.answers.now) (g.A.CountedWrite.seen c.write_answer.new.answers) text) c.deref.ensures.value c.in_ok-write_answer.ensures.takes in
     asked_of g.C.CountedWrite.seen s _ c.ask.new.solver c.args.literals.now c.ask.new.page.text.items c.in_ok-report.report _ _ c.in_ok-report.ensures.effect written c.in_ok-assume.ensures.assumed refl refl refl c.in_ok-push.ensures.items
 
 pub returns-clause-written : goal.returns-clause-written
@@ -49,7 +49,7 @@ returns-in_err-write_answer-clause-stops g c left =
     let p = err_from_is_err_and c.from_residual-in_err-write_answer.result c.from_residual-in_err-write_answer.ensures.1 in
     let u = g.A.CountedWrite.seen c.args.answers.now in
     let v = g.A.CountedWrite.seen c.write_answer.new.answers in
-    let cut = subst (λ (text : List ℕ). WriterBreaks u v text) c.deref.ensures.value c.in_err-write_answer.ensures.breaks in
+    let cut = subst (λ (text : List ℕ). WriterFails u v text) c.deref.ensures.value c.in_err-write_answer.ensures.breaks in
     rw p.1 (λ j live means free. ask_cut g.C.CountedWrite.seen c.args.session.now c.ask.new.solver c.args.literals.now c.ask.new.page.text.items c.in_ok-report.report u v c.in_ok-report.ensures.effect left j live means free cut)
 
 pub returns-in_err-assume-clause-stops : goal.returns-in_err-assume-clause-stops
@@ -57,7 +57,7 @@ returns-in_err-assume-clause-stops g c left =
     let p = err_from_is_err_and c.from_residual-in_err-assume.result c.from_residual-in_err-assume.ensures.1 in
     let u = g.A.CountedWrite.seen c.args.answers.now in
     let v = g.A.CountedWrite.seen c.write_answer.new.answers in
-    let written = subst (λ (text : List ℕ). WriterTakes u v text) c.deref.ensures.value c.in_ok-write_answer.ensures.takes in
+    let written = subst (λ (text : List ℕ). WriterAccepts u v text) c.deref.ensures.value c.in_ok-write_answer.ensures.takes in
     rw p.1 (λ j live means free. ask_reported g.C.CountedWrite.seen c.args.session.now c.ask.new.solver c.args.literals.now c.ask.new.page.text.items c.in_ok-report.report u v c.in_ok-report.ensures.effect left j live means free written)
 
 pub returns-in_err-push-clause-stops : goal.returns-in_err-push-clause-stops
@@ -65,7 +65,7 @@ returns-in_err-push-clause-stops g c left =
     let p = err_from_is_err_and c.from_residual-in_err-push.result c.from_residual-in_err-push.ensures.1 in
     let u = g.A.CountedWrite.seen c.args.answers.now in
     let v = g.A.CountedWrite.seen c.write_answer.new.answers in
-    let written = subst (λ (text : List ℕ). WriterTakes u v text) c.deref.ensures.value c.in_ok-write_answer.ensures.takes in
+    let written = subst (λ (text : List ℕ). WriterAccepts u v text) c.deref.ensures.value c.in_ok-write_answer.ensures.takes in
     rw p.1 (λ j live means free. ask_reported g.C.CountedWrite.seen c.args.session.now c.ask.new.solver c.args.literals.now c.ask.new.page.text.items c.in_ok-report.report u v c.in_ok-report.ensures.effect left j live means free written)
 
 pub returns-in_err-assume-clause-cause : goal.returns-in_err-assume-clause-cause

@@ -1,14 +1,14 @@
-use Rattle.sat_base.specs.script.ScriptState.{start}
+use Rattle.sat_base.specs.script.ScriptState.{initial_state}
 use Rattle.certify.specs.confirm.Streams.{most_bytes_left}
 use Rattle.certify.specs.script.LastPiece.{IsNotAtEnd, source_in}
-use Rattle.sat_base.specs.script.Language.{reading, written}
+use Rattle.sat_base.specs.script.Language.{reading, plain_reading}
 use Rattle.certify.specs.run.ServedScript.{ServesThrough}
 use Rattle.certify.proofs.run.serve.serve_all.Given as goal
 
 abbrev pub invariant-loop-next : goal.invariant-loop-next
 invariant-loop-next g l = record {
   script_open : IsNotAtEnd (source_in g.S.CountedRead.seen l.script l.stream.ahead);
-  through : ServesThrough g.C.CountedWrite.seen start reading written (source_in g.S.CountedRead.seen l.fn.script l.fn.stream.ahead) (source_in g.S.CountedRead.seen l.script l.stream.ahead) l.stream.reader
+  through : ServesThrough g.C.CountedWrite.seen initial_state reading plain_reading (source_in g.S.CountedRead.seen l.fn.script l.fn.stream.ahead) (source_in g.S.CountedRead.seen l.script l.stream.ahead) l.stream.reader
       l.fn.session l.session (g.A.CountedWrite.seen l.fn.answers) (g.A.CountedWrite.seen l.answers);
 }
 

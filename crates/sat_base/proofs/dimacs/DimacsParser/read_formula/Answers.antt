@@ -1,7 +1,7 @@
 use Rattle.std.proofs.lemmas.Grind.{common_steps}
 use Rattle.std.proofs.Common.{◌≡◌, ◌+◌, ◌<◌, ℕ, zero, suc, List, [], ◌++◌, false, inl, inr, Ok, Err, refl, ap, sym, subst, ◌∙◌, take, length-append, rules, arith}
 use Rattle.std.proofs.lemmas.Result.{err_from_is_err_and}
-use Rattle.sat_base.specs.device.Device.{GaveFront}
+use Rattle.sat_base.specs.device.Device.{GavePrefix}
 use Rattle.sat_base.specs.text.Text.{HasEnded}
 use Rattle.sat_base.specs.dimacs.Parsing.{Progress, no_progress, with_fed, IsSoundSoFar, IsSoundText, EndsInLastPiece}
 use Rattle.sat_base.proofs.lemmas.device.Given.{gave_none, gave_more, gave_still, not_ended, enough_front}
@@ -38,7 +38,7 @@ module _ (g : Over) (c : In-Ok g) where
   abbrev piece : List ℕ
   piece = take c.in-Ok.count c.read_next.new.room
 
-  more_read : GaveFront (g.R.CountedRead.seen c.args.reader.now) (g.R.CountedRead.seen c.read_next.new.reader) (c.loop.invariant.bytes.0 ++ piece)
+  more_read : GavePrefix (g.R.CountedRead.seen c.args.reader.now) (g.R.CountedRead.seen c.read_next.new.reader) (c.loop.invariant.bytes.0 ++ piece)
   more_read = gave_more _ (g.R.CountedRead.seen c.loop.reader) _ _ c.in-Ok.count c.read_next.new.room c.loop.invariant.bytes.2 (some_read _ _ c.loop.self.fed _ _ (search rules) c.in-Ok.ensures.reads)
 
   unended : (g.R.CountedRead.seen c.read_next.new.reader).ended ≡ false
@@ -52,7 +52,7 @@ module _ (g : Over) (c : In-Ok g) where
 
 -- a read failed
 module _ (g : Over) (c : In-Err g) where
-  still_read : GaveFront (g.R.CountedRead.seen c.args.reader.now) (g.R.CountedRead.seen c.read_next.new.reader) c.loop.invariant.bytes.0
+  still_read : GavePrefix (g.R.CountedRead.seen c.args.reader.now) (g.R.CountedRead.seen c.read_next.new.reader) c.loop.invariant.bytes.0
   still_read = gave_still _ _ (g.R.CountedRead.seen c.loop.reader) _ _ c.read_next.new.room c.loop.invariant.bytes.2 c.in-Err.ensures.reads
 
 pub loop-init : goal.loop-init

@@ -1,5 +1,5 @@
 use Rattle.std.proofs.Common.{refl, sym, subst}
-use Rattle.sat_base.specs.text.Tokenizing.{IsQuiet}
+use Rattle.sat_base.specs.text.Tokenizing.{IsBetweenWords}
 use Rattle.sat_base.proofs.lemmas.text.TextRuns.{takes_LF, over_LF, none_fresh, none_over}
 use Rattle.sat_base.proofs.lemmas.text.RightWords.{right_ahead, right_after}
 use Rattle.sat_base.proofs.text.Tokenizer.end_line.Goals as goal
@@ -18,4 +18,4 @@ returns c = rw c.may_come.ensures (record {
 })
 
 pub returns-in-Over-clause-right : goal.returns-in-Over-clause-right
-returns-in-Over-clause-right c = right_after c.args.self.now (subst IsQuiet (sym c.in-Over.is) tt)
+returns-in-Over-clause-right c = right_after c.args.self.now (subst IsBetweenWords (sym c.in-Over.is) tt)

@@ -19,13 +19,13 @@ pub returns-else-byte-eq102 : goal.returns-else-byte-eq102
 returns-else-byte-eq102 c = rw c.in-Cn.is (cn_no_f c.args.byte c.requires (grind (arith, nat_tests)))
 
 pub returns-then-is_digit : goal.returns-then-is_digit
-returns-then-is_digit c = rw (c.in-Vars.is, c.grown.ensures) (vars_digit c.in-Vars.value c.args.byte c.requires (sym c.is_digit.ensures ∙ c.if-is_digit.true))
+returns-then-is_digit c = rw (c.in-Vars.is, c.with_digit.ensures) (vars_digit c.in-Vars.value c.args.byte c.requires (sym c.is_digit.ensures ∙ c.if-is_digit.true))
 
 pub returns-else-is_digit : goal.returns-else-is_digit
 returns-else-is_digit c = rw c.in-Vars.is (vars_no_digit c.in-Vars.value c.args.byte c.requires (sym c.is_digit.ensures ∙ c.if-is_digit.false))
 
 pub returns-then-is_digit-2 : goal.returns-then-is_digit-2
-returns-then-is_digit-2 c = rw (c.in-Clauses.is, c.grown-then-is_digit-2.ensures) (clauses_digit c.in-Clauses.vars c.in-Clauses.value c.args.byte c.requires (sym c.is_digit-in-Clauses.ensures ∙ c.if-is_digit-2.true))
+returns-then-is_digit-2 c = rw (c.in-Clauses.is, c.with_digit-then-is_digit-2.ensures) (clauses_digit c.in-Clauses.vars c.in-Clauses.value c.args.byte c.requires (sym c.is_digit-in-Clauses.ensures ∙ c.if-is_digit-2.true))
 
 pub returns-else-is_digit-2 : goal.returns-else-is_digit-2
 returns-else-is_digit-2 c = rw c.in-Clauses.is (clauses_no_digit c.in-Clauses.vars c.in-Clauses.value c.args.byte c.requires (sym c.is_digit-in-Clauses.ensures ∙ c.if-is_digit-2.false))

@@ -1,5 +1,5 @@
 use Rattle.std.proofs.Common.{refl, sym, ap, inl}
-use Rattle.sat_checker.specs.Storing.{settled}
+use Rattle.sat_checker.specs.Storing.{with_conflict_settled}
 use Rattle.sat_checker.specs.listeners.AnnouncementView.{variables_of}
 use Rattle.sat_checker.specs.listeners.Hearing.{hearers, HearsFirst}
 use Rattle.sat_checker.specs.listeners.ProcessingView.{HearsEach}
@@ -10,7 +10,7 @@ use Rattle.sat_checker.proofs.kernel.Kernel.settle_conflict.Goals as goal
 pub returns-in-Ok-clause-notifies : goal.returns-in-Ok-clause-notifies
 returns-in-Ok-clause-notifies g c = λ before begun steps s.
     let k = s.kernel.kept c.requires in
-    let valid = settled_stands c.args.self.now steps s.kernel c.requires c.in-Some.stored c.in-Some.contradicting c.in-Some.is _ (λ f. turned c.settle.result _ (settled k.formula) (sym c.if-is_err.ensures.value) (c.settle.ensures.settles k.formula f)) refl refl refl in
+    let valid = settled_stands c.args.self.now steps s.kernel c.requires c.in-Some.stored c.in-Some.contradicting c.in-Some.is _ (λ f. turned c.settle.result _ (with_conflict_settled k.formula) (sym c.if-is_err.ensures.value) (c.settle.ensures.settles k.formula f)) refl refl refl in
     let heard = conflict_heard c.args.self.now steps s.kernel c.requires c.in-Some.stored c.in-Some.contradicting c.in-Some.is (HearsFirst g.O.ProofProcessor.takes (HearsEach g.P.ProofProcessor.takes g.T.ProofTranscriptProcessor.reads)) before begun (hearers c.args.own.now c.args.others.now) (s.heard c.requires) (variables_of c.new.result)
     (λ v. ap (λ z. z v) c.new.ensures) (hearers c.step_with.new.own c.step_with.new.self) (hearers c.step_with.new.own c.step_with.new.self, (_, same_itself _, c.in-Ok.ensures), refl) in
     delayed_ok (HearsFirst g.O.ProofProcessor.takes (HearsEach g.P.ProofProcessor.takes g.T.ProofTranscriptProcessor.reads)) before begun c.args.self.now _ (hearers c.args.own.now c.args.others.now) (hearers c.step_with.new.own c.step_with.new.self) steps c.requires refl valid c.requires (turned_none c.settle.result _ (sym c.if-is_err.ensures.value) c.settle.ensures.none) heard
@@ -18,7 +18,7 @@ returns-in-Ok-clause-notifies g c = λ before begun steps s.
 pub returns-in-Err-clause-notifies : goal.returns-in-Err-clause-notifies
 returns-in-Err-clause-notifies g c = λ before begun steps s.
     let k = s.kernel.kept c.requires in
-    let valid = settled_stands c.args.self.now steps s.kernel c.requires c.in-Some.stored c.in-Some.contradicting c.in-Some.is _ (λ f. turned c.settle.result _ (settled k.formula) (sym c.if-is_err.ensures.value) (c.settle.ensures.settles k.formula f)) refl refl refl in
+    let valid = settled_stands c.args.self.now steps s.kernel c.requires c.in-Some.stored c.in-Some.contradicting c.in-Some.is _ (λ f. turned c.settle.result _ (with_conflict_settled k.formula) (sym c.if-is_err.ensures.value) (c.settle.ensures.settles k.formula f)) refl refl refl in
     let heard = conflict_broken c.args.self.now steps s.kernel c.requires c.in-Some.stored c.in-Some.contradicting c.in-Some.is (HearsFirst g.O.ProofProcessor.takes (HearsEach g.P.ProofProcessor.takes g.T.ProofTranscriptProcessor.reads)) before begun (hearers c.args.own.now c.args.others.now) (s.heard c.requires) (variables_of c.new.result)
     (λ v. ap (λ z. z v) c.new.ensures) c.in-Err.error (hearers c.step_with.new.own c.step_with.new.self) (inl (_, same_itself _, c.in-Err.ensures)) in
     rw c.fault.ensures (delayed_err (HearsFirst g.O.ProofProcessor.takes (HearsEach g.P.ProofProcessor.takes g.T.ProofTranscriptProcessor.reads)) before begun c.args.self.now _ (hearers c.args.own.now c.args.others.now) (hearers c.step_with.new.own c.step_with.new.self) steps c.requires refl (leaves_conflict c.args.self.now steps s.kernel c.requires c.in-Some.stored c.in-Some.contradicting c.in-Some.is) (record { valid = valid; failed = refl }) c.in-Err.error heard)

@@ -1,5 +1,5 @@
 use Rattle.std.proofs.Common.{◌≡◌, drop}
-use Rattle.sat_checker.specs.Accepts.{VariablesApart}
+use Rattle.sat_checker.specs.Accepts.{VariablesDistinct}
 use Rattle.sat_checker.specs.inner.AssumedRoom.{RoomStays}
 use Rattle.sat_checker.proofs.units.valuation.assume_apart.Given as goal
 
@@ -7,6 +7,6 @@ use Rattle.sat_checker.proofs.units.valuation.assume_apart.Given as goal
 abbrev pub invariant-loop-place : goal.invariant-loop-place
 invariant-loop-place l = record {
   set : l.assigned.literals ≡ drop l.place l.literals;
-  apart : VariablesApart (drop l.place l.literals);
+  apart : VariablesDistinct (drop l.place l.literals);
   stays : RoomStays l.fn.assigned.room l.assigned.room;
 }

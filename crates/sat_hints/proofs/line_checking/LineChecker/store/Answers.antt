@@ -3,7 +3,7 @@ use Rattle.sat_checker.specs.LiteralSets.{canonical}
 use Rattle.sat_checker.specs.SortedSets.{IsIncreasing}
 use Rattle.sat_checker.specs.inner.AssumedRoom.{LiteralsAndRoom, HasClauseRoom, RoomStays}
 use Rattle.sat_checker.proofs.lemmas.sets.Canonical.{canonical_increasing}
-use Rattle.sat_hints.specs.inner.Standing.{AddsStandingClause}
+use Rattle.sat_hints.specs.inner.ActiveClauses.{AddsActiveClause}
 use Rattle.sat_hints.proofs.lemmas.Taken.{room_stored}
 use Rattle.sat_hints.proofs.line_checking.LineChecker.store.Goals as goal
 
@@ -15,7 +15,7 @@ returns c =
     let old = c.args.self.now in
     let room = c.make_room_for.new.assigned.room in
     let set : c.in_ok-set.set.now ≡ canonical c.args.clause.now = c.in_ok-set.ensures in
-    let adds = subst (AddsStandingClause old.standing c.push.new.self c.args.id) set c.in_ok-push.ensures in
+    let adds = subst (AddsActiveClause old.standing c.push.new.self c.args.id) set c.in_ok-push.ensures in
     record {
       adds = adds;
       nothing = c.make_room_for.ensures.literals ∙ ap (λ (t : LiteralsAndRoom). t.literals) c.allow.ensures ∙ c.requires.ready.nothing;

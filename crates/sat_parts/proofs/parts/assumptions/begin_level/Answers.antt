@@ -1,6 +1,6 @@
 use Rattle.std.proofs.Common.{ℕ, ◌≡◌, ◌+◌, sym, subst, length, inr, Result, Ok, Err}
 use Rattle.std.specs.Prelude.{OnOk}
-use Rattle.sat_parts.specs.prop.State.{State}
+use Rattle.sat_parts.specs.prop.State.{PropagationState}
 use Rattle.sat_parts.specs.prop.TrailWord.{decided_on}
 use Rattle.sat_parts.specs.parts.Assumed.{IsPlaced, variables_of_lits}
 use Rattle.sat_parts.specs.parts.Frame.{KeepsTo}
@@ -15,15 +15,15 @@ two_on_ok (Err x) f p q = tt
 pub returns-clause-placed : goal.returns-clause-placed
 returns-clause-placed c =
     let a = c.args.assumptions.now in
-    let s : State = state c.args.parts.now in
-    let s' : State = state c.assume.new.parts in
+    let s : PropagationState = state c.args.parts.now in
+    let s' : PropagationState = state c.assume.new.parts in
     let l = c.args.lit in
     let placed : ((top : ℕ) → KeepsTo top (state c.args.parts.now) (state c.assume.new.parts)) → state c.assume.new.parts ≡ decided_on c.args.lit (state c.args.parts.now) →
     IsPlaced c.args.assumptions.now.lits.items c.push.new.self.items (c.args.assumptions.now.place + 1) (state c.assume.new.parts) = λ keeps is.
-    subst (λ (z : State). IsPlaced a.lits.items c.push.new.self.items (a.place + 1) z) (sym is)
+    subst (λ (z : PropagationState). IsPlaced a.lits.items c.push.new.self.items (a.place + 1) z) (sym is)
     (rw c.in_ok-push.ensures.items
     (placed_next a.lits.items a.below.items a.place l s c.requires.placed c.requires.next c.requires.is c.requires.holds.below.asks.agrees c.requires.open c.requires.there
-    (subst (λ (z : State). KeepsTo (length s.trail.starts) s z) is (keeps (length s.trail.starts))))) in
+    (subst (λ (z : PropagationState). KeepsTo (length s.trail.starts) s z) is (keeps (length s.trail.starts))))) in
     two_on_ok c.assume.result placed c.assume.ensures.keeps c.assume.ensures.decided
 
 pub returns-clause-word : goal.returns-clause-word

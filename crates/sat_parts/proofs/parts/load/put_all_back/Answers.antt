@@ -12,7 +12,7 @@ use Rattle.sat_parts.proofs.parts.load.put_all_back.Goals as goal
 pub loop-at-preserved : goal.loop-at-preserved
 loop-at-preserved c =
     let x = c.loop-at.invariant in
-    let e = c.put_back.ensures in
+    let e = c.resurrect_unit.ensures in
     let at : c.not.result ≡ negated (get_or c.args.lits.now c.loop-at.at 0) =
     c.not.ensures ∙ ap (λ l. negated l) (get_or_read c.args.lits.now c.loop-at.at c.index-lits-at.result c.loop-at-test.true c.index-lits-at.is 0) in
     record {
@@ -22,15 +22,15 @@ loop-at-preserved c =
       size = e.size ∙ x.size;
       queue = e.queue ∙ x.queue;
       same = (e.same.0 ∙ x.same.0, e.same.1 ∙ x.same.1, e.same.2 ∙ x.same.2);
-      carries = carries_trans (state c.args.parts.now) (state c.loop-at.parts) (state c.put_back.new.parts) x.carries e.carries;
+      carries = carries_trans (state c.args.parts.now) (state c.loop-at.parts) (state c.resurrect_unit.new.parts) x.carries e.carries;
       fresh = λ k a b left. elim (cases_eq k c.loop-at.at) [
-        | inl q ↦ e.fresh (subst (λ l. HasLeftQueue (state c.put_back.new.parts) l) (sym (at ∙ ap (λ i. negated (get_or c.args.lits.now i 0)) (sym q))) left)
+        | inl q ↦ e.fresh (subst (λ l. HasLeftQueue (state c.resurrect_unit.new.parts) l) (sym (at ∙ ap (λ i. negated (get_or c.args.lits.now i 0)) (sym q))) left)
         | inr n ↦ x.fresh k a (omega arith) (e.left (negated (get_or c.args.lits.now k 0)) left)
       ];
     }
 
-pub put_back-requires-clause-true_lit : goal.put_back-requires-clause-true_lit
-put_back-requires-clause-true_lit c =
+pub resurrect_unit-requires-clause-true_lit : goal.resurrect_unit-requires-clause-true_lit
+resurrect_unit-requires-clause-true_lit c =
     let l = c.loop-at.parts in
     let m = get_or c.args.lits.now c.loop-at.at 0 in
     let at : c.not.result ≡ negated (get_or c.args.lits.now c.loop-at.at 0) =

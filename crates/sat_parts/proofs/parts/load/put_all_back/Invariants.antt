@@ -2,13 +2,13 @@ use Rattle.std.proofs.Common.{ℕ, ◌≡◌, ◌≤◌, ◌<◌, length, slice_
 use Rattle.sat_base.specs.values.Literals.{negated}
 use Rattle.sat_parts.specs.prop.State.{HasLeftQueue}
 use Rattle.sat_parts.specs.prop.Values.{value_of}
-use Rattle.sat_parts.specs.parts.Whole.{state, PartsInvariant}
+use Rattle.sat_parts.specs.parts.Whole.{state, SearchStateInvariant}
 use Rattle.sat_parts.specs.parts.Frame.{AddsNoUnit, SameClauses}
 use Rattle.sat_parts.proofs.parts.load.put_all_back.Given as goal
 
 abbrev pub invariant-loop-at : goal.invariant-loop-at
 invariant-loop-at l = record {
-  holds : PartsInvariant l.parts;
+  holds : SearchStateInvariant l.parts;
   bottom : l.parts.trail.starts ≡ [];
   values : (v : ℕ) → value_of l.parts.assignment.current v ≡ value_of l.fn.parts.assignment.current v;
   size : length l.parts.assignment.current ≡ length l.fn.parts.assignment.current;

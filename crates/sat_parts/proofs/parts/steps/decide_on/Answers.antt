@@ -1,7 +1,7 @@
 use Rattle.std.proofs.Common.{◌≡◌, ◌+◌, ◌^◌, ◌<◌, ◌∙◌, ap, sym, subst, length, inl, refl}
 use Rattle.sat_base.specs.values.Literals.{variable}
-use Rattle.sat_parts.specs.prop.Values.{IsOpenLit, value_of}
-use Rattle.sat_store.specs.heap.Vsids.{may_pick}
+use Rattle.sat_parts.specs.prop.Values.{IsUnassignedLit, value_of}
+use Rattle.sat_store.specs.heap.Vsids.{is_available}
 use Rattle.sat_parts.specs.parts.Whole.{state}
 use Rattle.sat_parts.proofs.lemmas.parts.ValueLemmas.{coded_variable}
 use Rattle.sat_parts.proofs.lemmas.parts.WordSteps.{extends_decided}
@@ -17,7 +17,7 @@ module _ (c : After-lit-lit) where
   at : variable c.lit-lit.result ≡ c.args.var
   at = ap (λ l. variable l) c.lit-lit.ensures ∙ coded_variable c.args.var c.last_var_value.result
 
-  free : IsOpenLit c.args.parts.now.assignment.current c.lit-lit.result
+  free : IsUnassignedLit c.args.parts.now.assignment.current c.lit-lit.result
   free = ap (λ v. value_of c.args.parts.now.assignment.current v) at ∙ c.requires.picked.unset
 
   there : variable c.lit-lit.result < length c.args.parts.now.assignment.current
@@ -42,7 +42,7 @@ returns-clause-word c = λ am q picks less.
     let p = c.args.parts.now in
     let x = (goal.at.returns-clause-word c).After-lit-lit in
     rw (c.enqueue_assignment.ensures.value, c.enqueue_assignment.ensures.node, c.enqueue_assignment.ensures.trail, c.in_ok-new_decision_level.ensures.done)
-    (extends_decided am (state p) q p.vsids c.lit-lit.result (free x) (inl (ap (λ v. may_pick q v) (at x) ∙ picks)) less c.requires.picked.holds.below.levelled)
+    (extends_decided am (state p) q p.vsids c.lit-lit.result (free x) (inl (ap (λ v. is_available q v) (at x) ∙ picks)) less c.requires.picked.holds.below.levelled)
 
 pub returns-clause-same : goal.returns-clause-same
 returns-clause-same c =

@@ -1,7 +1,7 @@
 use Rattle.std.proofs.Common.{rules, ◌≡◌, ◌<◌, ℕ, List, length, get_or, ap, ◌∙◌, subst, arith, length-set}
 use Rattle.std.proofs.lemmas.List.{get_or_read}
 use Rattle.sat_base.specs.values.Literals.{variable}
-use Rattle.sat_parts.specs.prop.Values.{IsOpenLit, IsTrueLit}
+use Rattle.sat_parts.specs.prop.Values.{IsUnassignedLit, IsTrueLit}
 use Rattle.sat_parts.specs.prop.Binaries.{implied_by}
 use Rattle.sat_parts.specs.prop.Ready.{state_of}
 use Rattle.sat_parts.proofs.lemmas.prop.BinaryLemmas.{binary_open, binary_true, binary_enqueued, binary_stopped, binary_conflict, open_from_not, implied_below}
@@ -36,7 +36,7 @@ loop-implied-preserved c =
     implied_below c.args.binary.now.implied c.args.lit c.loop-implied.implied-index c.implied-item.result (length c.args.assignment.now.current) c.requires.lists lt' x_is in
     elim c.if-not-lit_is_true.branch [
       | then-not-lit_is_true w ↦
-          let n : IsOpenLit c.loop-implied.assignment.current c.implied-item.result = open_from_not c.loop-implied.assignment.current c.implied-item.result (search rules) (search rules) in
+          let n : IsUnassignedLit c.loop-implied.assignment.current c.implied-item.result = open_from_not c.loop-implied.assignment.current c.implied-item.result (search rules) (search rules) in
           record {
             walk = rw (w.assignment-is, w.graph-is, w.trail-is, w.enqueue_assignment.ensures.value, w.enqueue_assignment.ensures.node, w.enqueue_assignment.ensures.trail)
                 (binary_enqueued c.args.binary.now.implied c.args.lit (state_of c.args.assignment.now c.args.graph.now c.args.trail.now) (state_of c.loop-implied.assignment c.loop-implied.graph c.loop-implied.trail) c.loop-implied.implied-index c.implied-item.result c.not-false_lit.result

@@ -1,6 +1,6 @@
 use Rattle.std.proofs.Common.{◌≡◌, ℕ, ◌<◌, length, sym, ◌∙◌, subst, arith, rules, length-set}
 use Rattle.sat_base.specs.values.Literals.{variable}
-use Rattle.sat_parts.specs.prop.Values.{IsOpenLit}
+use Rattle.sat_parts.specs.prop.Values.{IsUnassignedLit}
 use Rattle.sat_parts.specs.prop.WatchLists.{watch_on}
 use Rattle.sat_parts.specs.prop.Ready.{state_of}
 use Rattle.sat_parts.proofs.lemmas.prop.ReasonLemmas.{moves_refl}
@@ -101,7 +101,7 @@ loop-at-preserved g c =
           record {
             walking = rw (w.clauses-is, w.assignment-is, w.graph-is, w.trail-is, w.watchlists-is, w.list-is, w.kept-is, w.set-in-Propagates.ensures, w.enqueue_assignment.ensures.value, w.enqueue_assignment.ensures.node, w.enqueue_assignment.ensures.trail, v.2)
                 (step_propagates _ _ _ _ w.visit_clause.new.clauses _ _ _ _ _ _ c.cref-cref.result w.in-Propagates.first c.loop-at.invariant.walking lt c.cref-cref.ensures
-                w.in_ok-visit_clause.ensures.shuffles (rw c.not-false_lit.ensures at v.0) v.1 v.3 (subst (λ (z : ℕ). IsOpenLit c.loop-at.assignment.current z) (sym v.1) v.4));
+                w.in_ok-visit_clause.ensures.shuffles (rw c.not-false_lit.ensures at v.0) v.1 v.3 (subst (λ (z : ℕ). IsUnassignedLit c.loop-at.assignment.current z) (sym v.1) v.4));
             end = rw (w.list-is, w.set-in-Propagates.ensures) (c.loop-at.invariant.end ∙ sym (length-set c.loop-at.list c.loop-at.kept (watch_on c.cref-cref.result w.in-Propagates.first)));
             last = rw (w.assignment-is, w.enqueue_assignment.ensures.value) c.loop-at.invariant.last;
             enabled = rw w.watchlists-is (w.in_ok-visit_clause.ensures.enabled ∙ c.loop-at.invariant.enabled);

@@ -3,8 +3,8 @@ use Rattle.sat_parts.proofs.lemmas.prop.BacktrackLemmas.{asks_after, turns_after
 use Rattle.std.proofs.Common.{arith}
 use Rattle.sat_parts.proofs.prop.trail.backtrack.Goals as goal
 
-pub returns-clause-asked : goal.returns-clause-asked
-returns-clause-asked c = λ lt words refs w implied nodes top below h.
+pub returns-clause-preserves : goal.returns-clause-preserves
+returns-clause-preserves c = λ lt words refs w implied nodes top below h.
     rw (c.undo_levels.ensures.values, c.undo_levels.ensures.trail)
     (asks_after words refs w implied c.args.level c.args.assignment.now nodes c.args.trail.now top h lt below)
 

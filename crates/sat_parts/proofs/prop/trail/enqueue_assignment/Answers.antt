@@ -15,7 +15,7 @@ returns-clause-agrees c = λ agrees.
     rw (c.push_assignment.ensures.value, c.push_assignment.ensures.node, c.push_assignment.ensures.trail)
     (agrees_by (state_of c.args.assignment.now c.args.graph.now c.args.trail.now) c.args.lit c.args.reason c.requires.open c.requires.value agrees)
 
-pub returns-clause-asked : goal.returns-clause-asked
-returns-clause-asked c = λ words refs w implied top cause h.
+pub returns-clause-preserves : goal.returns-clause-preserves
+returns-clause-preserves c = λ words refs w implied top cause h.
     rw (c.push_assignment.ensures.value, c.push_assignment.ensures.node, c.push_assignment.ensures.trail)
     (asks_enqueued words refs w implied (state_of c.args.assignment.now c.args.graph.now c.args.trail.now) top c.args.lit c.args.reason c.requires.open c.requires.value cause h)

@@ -1,7 +1,7 @@
 use Rattle.std.proofs.Common.{ℕ, ◌≡◌, List, length, get_or, refl, ap, ◌∙◌, arith}
 use Rattle.std.proofs.lemmas.List.{get_or_read}
 use Rattle.sat_parts.specs.prop.Ready.{state_of}
-use Rattle.sat_parts.specs.prop.State.{State, current_level, lit_at}
+use Rattle.sat_parts.specs.prop.State.{PropagationState, current_level, lit_at}
 use Rattle.sat_solver.proofs.lemmas.analyze_conflict.Codes.{some_flagged, last_place, place_variable}
 use Rattle.sat_solver.proofs.lemmas.analyze_conflict.Collecting.{collected}
 use Rattle.sat_solver.proofs.lemmas.analyze_conflict.Resolution.{IsLastFlagged}
@@ -11,7 +11,7 @@ use Rattle.sat_solver.proofs.analyze_conflict.resolve.finish_conflict.Goals.{Aft
 
 -- the last literal of the resolvent
 module _ (c : After-index-lits-place) where
-  abbrev s : State
+  abbrev s : PropagationState
   s = state_of c.args.assignment.now c.args.graph.now c.args.trail.now
 
   last : IsLastFlagged s c.args.analysis.now.flags c.last_flagged-place.result c.args.before
@@ -24,7 +24,7 @@ module _ (c : After-index-lits-place) where
 
 pub last_flagged-place-requires-clause-some : goal.last_flagged-place-requires-clause-some
 last_flagged-place-requires-clause-some c =
-    let s : State = state_of c.args.assignment.now c.args.graph.now c.args.trail.now in
+    let s : PropagationState = state_of c.args.assignment.now c.args.graph.now c.args.trail.now in
     some_flagged s (current_level s) c.args.analysis.now c.args.before c.trail-lits.result.now c.trail-lits.ensures.lits c.requires.resolving.marks c.requires.resolving.some
 
 pub returns-clause-resolved : goal.returns-clause-resolved

@@ -5,8 +5,8 @@ use Rattle.sat_parts.specs.declared.prop.graph.Reason.{Reason}
 use Rattle.sat_parts.specs.prop.Causes.{causes, falsified}
 use Rattle.sat_parts.specs.prop.Graphs.{node_of}
 use Rattle.sat_parts.specs.prop.Ready.{state_of}
-use Rattle.sat_parts.specs.prop.State.{State, node, current_level, lit_at}
-use Rattle.sat_solver.specs.analyze_conflict.Work.{Work, with_met_literals, taken_up}
+use Rattle.sat_parts.specs.prop.State.{PropagationState, node, current_level, lit_at}
+use Rattle.sat_solver.specs.analyze_conflict.AnalysisState.{AnalysisState, with_seen_literals, with_reason_used}
 use Rattle.sat_solver.specs.analyze_conflict.Marks.{causes_at, ResolutionInvariant}
 use Rattle.sat_solver.specs.analyze_conflict.Involved.{CollectionInvariant}
 use Rattle.sat_solver.proofs.lemmas.analyze_conflict.Codes.{some_flagged, last_place, place_variable, taken_stands, before_nodes}
@@ -17,7 +17,7 @@ use Rattle.sat_solver.proofs.analyze_conflict.resolve.resolve_next.Goals.{After-
 
 -- the last literal of the resolvent
 module _ (c : After-var) where
-  abbrev s : State
+  abbrev s : PropagationState
   s = state_of c.args.assignment.now c.args.graph.now c.args.trail.now
 
   abbrev p : ℕ
@@ -47,7 +47,7 @@ module _ (c : After-reason-reason) where
 
 pub last_flagged-place-requires-clause-some : goal.last_flagged-place-requires-clause-some
 last_flagged-place-requires-clause-some c =
-    let s : State = state_of c.args.assignment.now c.args.graph.now c.args.trail.now in
+    let s : PropagationState = state_of c.args.assignment.now c.args.graph.now c.args.trail.now in
     some_flagged s (current_level s) c.args.analysis.now c.args.before c.trail-lits.result.now c.trail-lits.ensures.lits c.requires.resolving.marks c.requires.resolving.some
 
 pub lits-requires-clause-clause : goal.lits-requires-clause-clause
@@ -71,14 +71,14 @@ returns c =
     let y = x r in
     let t = took y in
     let l = lit_at (s y) (p y) in
-    let e : c.add_all.new.analysis ≡ with_met_literals c.args.graph.now (current_level (s y)) (causes_at c.args.clauses.now (s y) l) (taken_up (node (s y) l).reason l c.args.analysis.now) =
+    let e : c.add_all.new.analysis ≡ with_seen_literals c.args.graph.now (current_level (s y)) (causes_at c.args.clauses.now (s y) l) (with_reason_used (node (s y) l).reason l c.args.analysis.now) =
     rw (c.in_ok-add_all.ensures, c.current_level.ensures.level, c.lits.ensures, c.in_ok-take_up.ensures, lit_is y, reason_is r) refl in
     record {
       next = (
         (last y).before,
-        subst (λ (w : Work). ResolutionInvariant c.args.clauses.now (s y) (falsified c.args.clauses.now c.args.conflict.now) w (p y)) (sym e)
+        subst (λ (w : AnalysisState). ResolutionInvariant c.args.clauses.now (s y) (falsified c.args.clauses.now c.args.conflict.now) w (p y)) (sym e)
             (resolved _ _ _ c.args.analysis.now _ _ c.requires.can c.requires.resolving c.requires.two (last y) (here y)),
-        subst (λ (w : Work). CollectionInvariant c.args.clauses.now (s y) c.args.conflict.now w (p y)) (sym e)
+        subst (λ (w : AnalysisState). CollectionInvariant c.args.clauses.now (s y) c.args.conflict.now w (p y)) (sym e)
             (collecting_taken _ _ _ c.args.analysis.now _ _ c.requires.can.agrees c.requires.collecting (last y) c.requires.resolving.marks.within c.requires.resolving.marks.size
             (λ k lt. c.requires.can.before (p y) k t.first t.within lt) t.other),
       );

@@ -4,7 +4,7 @@ use Rattle.sat_parts.specs.declared.prop.graph.Reason.{Reason}
 use Rattle.sat_parts.specs.prop.Causes.{causes}
 use Rattle.sat_parts.specs.prop.Graphs.{node_of}
 use Rattle.sat_parts.specs.prop.Ready.{state_of}
-use Rattle.sat_parts.specs.prop.State.{State}
+use Rattle.sat_parts.specs.prop.State.{PropagationState}
 use Rattle.sat_solver.specs.analyze_conflict.Marks.{depth}
 use Rattle.sat_solver.proofs.lemmas.analyze_conflict.Codes.{taken_stands, before_nodes}
 use Rattle.sat_solver.proofs.lemmas.analyze_conflict.Tracing.{found, traced_first}
@@ -30,7 +30,7 @@ add_all-requires-clause-nodes c = λ k lt.
 
 pub overflow_sub-result : goal.overflow_sub-result
 overflow_sub-result c =
-    let s : State = state_of c.args.assignment.now c.args.graph.now c.args.trail.now in
+    let s : PropagationState = state_of c.args.assignment.now c.args.graph.now c.args.trail.now in
     let x = found c.args.clauses.now s c.args.failed c.requires.can c.requires.fails c.requires.above in
     let d : c.depth.result ≡ depth s c.args.failed = c.depth.ensures ∙ ap (λ v. (node_of c.args.graph.now v).depth) c.var-2.ensures in
     omega (arith, d, c.requires.can.agrees.depths (depth s c.args.failed - 1) x.within, ap (λ (n : ImplNode). n.depth) x.node_is)

@@ -3,10 +3,10 @@ use Rattle.std.proofs.lemmas.List.{get_or_read}
 use Rattle.sat_base.specs.values.Literals.{variable}
 use Rattle.sat_parts.specs.declared.prop.graph.Reason.{Reason}
 use Rattle.sat_parts.specs.prop.Causes.{causes}
-use Rattle.sat_parts.specs.prop.Graphs.{node_of, is_unit_reason}
+use Rattle.sat_parts.specs.prop.Graphs.{node_of, has_no_clause}
 use Rattle.sat_parts.specs.prop.Ready.{state_of}
-use Rattle.sat_parts.specs.prop.State.{State, node, lit_at}
-use Rattle.sat_solver.specs.analyze_conflict.Work.{Work, with_met_literals, taken_up, with_chosen}
+use Rattle.sat_parts.specs.prop.State.{PropagationState, node, lit_at}
+use Rattle.sat_solver.specs.analyze_conflict.AnalysisState.{AnalysisState, with_seen_literals, with_reason_used, with_core_literal}
 use Rattle.sat_solver.specs.analyze_conflict.Marks.{causes_at}
 use Rattle.sat_solver.specs.assumptions.Failing.{TraceInvariant}
 use Rattle.sat_solver.proofs.lemmas.analyze_conflict.Codes.{some_flagged, last_place, place_variable, taken_stands, before_nodes}
@@ -17,7 +17,7 @@ use Rattle.sat_solver.proofs.assumptions.analyze.trace_next.Goals.{After-reason-
 
 -- the last flagged literal, and its reason
 module _ (c : After-reason-reason) where
-  abbrev s : State
+  abbrev s : PropagationState
   s = state_of c.args.assignment.now c.args.graph.now c.args.trail.now
 
   abbrev p : ℕ
@@ -47,9 +47,9 @@ last_flagged-place-requires-clause-some c =
 pub returns-then-is_unit : goal.returns-then-is_unit
 returns-then-is_unit c =
     let x = (goal.at.returns-then-is_unit c).After-reason-reason in
-    let free = ap (λ (r : Reason). is_unit_reason r) (sym (reason_is x)) ∙ sym c.is_unit.ensures ∙ c.if-is_unit.true in
-    let e = c.in_ok-choose.ensures ∙ ap (λ l. with_chosen l c.args.analysis.now) (lit_is x) in
-    ((last x).before, subst (λ (v : Work). TraceInvariant c.args.clauses.now (s x) c.args.failed v (p x)) (sym e) (traced_chosen _ _ _ _ _ _ c.requires.can c.requires.tracing c.requires.some (last x) (here x) free))
+    let free = ap (λ (r : Reason). has_no_clause r) (sym (reason_is x)) ∙ sym c.is_unit.ensures ∙ c.if-is_unit.true in
+    let e = c.in_ok-choose.ensures ∙ ap (λ l. with_core_literal l c.args.analysis.now) (lit_is x) in
+    ((last x).before, subst (λ (v : AnalysisState). TraceInvariant c.args.clauses.now (s x) c.args.failed v (p x)) (sym e) (traced_chosen _ _ _ _ _ _ c.requires.can c.requires.tracing c.requires.some (last x) (here x) free))
 
 pub lits-requires-clause-clause : goal.lits-requires-clause-clause
 lits-requires-clause-clause c = λ o is.
@@ -70,7 +70,7 @@ pub returns : goal.returns
 returns c =
     let x = (goal.at.returns c).After-reason-reason in
     let l = lit_at (s x) (p x) in
-    let caused = ap (λ (r : Reason). is_unit_reason r) (sym (reason_is x)) ∙ sym c.is_unit.ensures ∙ c.if-is_unit.false in
-    let e : c.add_all.new.analysis ≡ with_met_literals c.args.graph.now 1 (causes_at c.args.clauses.now (s x) l) (taken_up (node (s x) l).reason l c.args.analysis.now) =
+    let caused = ap (λ (r : Reason). has_no_clause r) (sym (reason_is x)) ∙ sym c.is_unit.ensures ∙ c.if-is_unit.false in
+    let e : c.add_all.new.analysis ≡ with_seen_literals c.args.graph.now 1 (causes_at c.args.clauses.now (s x) l) (with_reason_used (node (s x) l).reason l c.args.analysis.now) =
     rw (c.in_ok-add_all.ensures, c.lits.ensures, c.in_ok-take_up.ensures, lit_is x, reason_is x) refl in
-    ((last x).before, subst (λ (v : Work). TraceInvariant c.args.clauses.now (s x) c.args.failed v (p x)) (sym e) (traced_used _ _ _ _ _ _ c.requires.can c.requires.tracing c.requires.some (last x) (here x) caused))
+    ((last x).before, subst (λ (v : AnalysisState). TraceInvariant c.args.clauses.now (s x) c.args.failed v (p x)) (sym e) (traced_used _ _ _ _ _ _ c.requires.can c.requires.tracing c.requires.some (last x) (here x) caused))

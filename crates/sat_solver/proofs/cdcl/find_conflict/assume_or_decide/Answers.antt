@@ -5,7 +5,7 @@ use Rattle.sat_parts.specs.parts.Frame.{SameClauses, AddsNoUnit}
 use Rattle.sat_parts.specs.parts.Whole.{state}
 use Rattle.sat_parts.proofs.lemmas.parts.AssumeLemmas.{placed_kept}
 use Rattle.sat_parts.proofs.lemmas.parts.WordSteps.{extends_after}
-use Rattle.sat_solver.specs.cdcl.Turns.{AllTrue}
+use Rattle.sat_solver.specs.cdcl.Iterations.{AllTrue}
 use Rattle.sat_solver.proofs.cdcl.find_conflict.assume_or_decide.Goals as goal
 
 pub returns-then-branch : goal.returns-then-branch

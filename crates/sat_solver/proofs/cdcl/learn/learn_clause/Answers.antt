@@ -1,5 +1,5 @@
 use Rattle.std.proofs.Common.{◌≡◌, ◌<◌, ◌∙◌, Err, length, refl, ap, arith}
-use Rattle.sat_parts.specs.declared.parts.Parts.{Parts}
+use Rattle.sat_parts.specs.declared.parts.SearchState.{SearchState}
 use Rattle.std.proofs.lemmas.Result.{err_from_is_err_and}
 use Rattle.sat_base.specs.steps.Steps.{AtClause}
 use Rattle.sat_parts.specs.prop.Causes.{falsified}
@@ -21,7 +21,7 @@ use Rattle.sat_solver.proofs.cdcl.learn.learn_clause.Goals as goal
 pub returns-in_err-level : goal.returns-in_err-level
 returns-in_err-level g c =
     let p = err_from_is_err_and c.from_residual.result c.from_residual.ensures.1 in
-    rw (p.1, p.2) (record { learned = goes_starved g.W.CountedWrite.seen c.args.proof.now _ c.requires.keeps; met = tt; rated = tt })
+    rw (p.1, p.2) (record { learned = goes_starved g.W.CountedWrite.seen c.args.proof.now _ c.requires.keeps; seen = tt; rated = tt })
 
 pub step-requires-clause-may : goal.step-requires-clause-may
 step-requires-clause-may g c =
@@ -37,7 +37,7 @@ returns-in_err-step g c =
     (record {
       learned = goes_broken g.W.CountedWrite.seen c.in_err-step.field-0.0 c.args.proof.now c.step.new.self (AtClause c.says_redundant.result c.deref.result.now c.deref-2.result.now) _
           (learned_named c.args.search.now.parts c.args.conflict.now c.analyze.new.search.analysis c.in_ok-level.level (session_of c.args.proof.now) (global_in c.args.search.now) (ready_names (session_of c.args.proof.now) c.args.search.now c.requires.stopped.ready) x.learns c.deref.result.now (c.deref.ensures.value ∙ x.clause)) c.in_err-step.ensures.keeps c.in_err-step.ensures.records;
-      met = tt;
+      seen = tt;
       rated = tt;
     })
 
@@ -55,7 +55,7 @@ returns-in_err-take_in g c =
       learned = goes_refused g.W.CountedWrite.seen c.in_err-take_in.field-0.0 c.args.proof.now c.step.new.self (AtClause c.says_redundant.result c.deref.result.now c.deref-2.result.now) _
           (learned_named c.args.search.now.parts c.args.conflict.now c.analyze.new.search.analysis c.in_ok-level.level (session_of c.args.proof.now) (global_in c.args.search.now) (ready_names (session_of c.args.proof.now) c.args.search.now c.requires.stopped.ready) x.learns c.deref.result.now (c.deref.ensures.value ∙ x.clause)) c.in_ok-step.ensures.keeps c.in_ok-step.ensures.records
           (λ e. c.take_in.ensures.full (c.in_err-take_in.was ∙ ap Err e));
-      met = tt;
+      seen = tt;
       rated = tt;
     })
 
@@ -86,10 +86,10 @@ returns-clause-learned g c =
     (moved.globals ∙ ap (λ (s : Search). s.globals) x.same) lits placed
     (free_taken c.analyze.new.search (record n { assumptions = c.cut.new.self }) x.free moved (ap (λ (s : Search). s.analysis) y.same) y.flags))
 
-pub returns-clause-met : goal.returns-clause-met
-returns-clause-met g c =
+pub returns-clause-seen : goal.returns-clause-seen
+returns-clause-seen g c =
     let x = c.in_ok-level.ensures in
     let y = c.in_ok-take_in.ensures in
     let same : c.analyze.new.search.parts ≡ c.args.search.now.parts = ap (λ (s : Search). s.parts) x.same in
-    let size : length c.take_in.new.search.parts.assignment.current ≡ length c.args.search.now.parts.assignment.current = y.taken.size ∙ ap (λ (p : Parts). length p.assignment.current) same in
-    rw (ap (λ (s : Search). s.analysis) y.same) (λ v k. (let b : v < length c.args.search.now.parts.assignment.current = x.met v k in omega (arith, b, size)))
+    let size : length c.take_in.new.search.parts.assignment.current ≡ length c.args.search.now.parts.assignment.current = y.taken.size ∙ ap (λ (p : SearchState). length p.assignment.current) same in
+    rw (ap (λ (s : Search). s.analysis) y.same) (λ v k. (let b : v < length c.args.search.now.parts.assignment.current = x.seen v k in omega (arith, b, size)))

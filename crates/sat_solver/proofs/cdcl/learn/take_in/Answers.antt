@@ -3,9 +3,9 @@ use Rattle.std.proofs.lemmas.Grind.{common_steps}
 use Rattle.sat_solver.proofs.lemmas.cdcl.TakingLemmas.{still_pending, taken_ok, involved_undone, rated_ok}
 use Rattle.sat_solver.proofs.cdcl.learn.take_in.Goals as goal
 
-pub bump_clauses-requires-clause-involved : goal.bump_clauses-requires-clause-involved
-bump_clauses-requires-clause-involved c =
-    rw c.involved.ensures (involved_undone c.args.search.now.parts c.undo.new.parts c.undo.ensures.same c.undo.ensures.graph c.args.search.now.flags.flags.items c.args.search.now.analysis.involved c.requires.involved)
+pub bump_clauses-requires-clause-antecedents : goal.bump_clauses-requires-clause-antecedents
+bump_clauses-requires-clause-antecedents c =
+    rw c.antecedents.ensures (involved_undone c.args.search.now.parts c.undo.new.parts c.undo.ensures.same c.undo.ensures.graph c.args.search.now.flags.flags.items c.args.search.now.analysis.antecedents c.requires.antecedents)
 
 pub learn-requires-clause-pending : goal.learn-requires-clause-pending
 learn-requires-clause-pending c =

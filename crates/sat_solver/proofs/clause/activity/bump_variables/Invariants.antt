@@ -1,13 +1,13 @@
 use Rattle.std.proofs.Common.{◌≡◌, drop}
 use Rattle.sat_parts.specs.parts.Frame.{SameClauses, SameState}
-use Rattle.sat_parts.specs.parts.Whole.{PartsInvariant}
+use Rattle.sat_parts.specs.parts.Whole.{SearchStateInvariant}
 use Rattle.sat_parts.specs.parts.Words.{TrailWordExtends}
 use Rattle.sat_solver.specs.clause.Activity.{all_bumped}
 use Rattle.sat_solver.proofs.clause.activity.bump_variables.Given as goal
 
 abbrev pub invariant-loop-var : goal.invariant-loop-var
 invariant-loop-var l = record {
-  holds : PartsInvariant l.parts;
+  holds : SearchStateInvariant l.parts;
   clauses : SameClauses l.fn.parts l.parts;
   states : SameState l.fn.parts l.parts;
   word : TrailWordExtends l.fn.parts l.parts;

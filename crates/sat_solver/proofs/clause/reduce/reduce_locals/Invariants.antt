@@ -1,7 +1,7 @@
 use Rattle.std.proofs.Common.{ℕ, ◌<◌, ◌≤◌, length, drop, get_or, Ok}
 use Rattle.sat_parts.specs.clause.Orders.{AreDistinct}
 use Rattle.sat_solver.specs.proof.ProofView.{session_of}
-use Rattle.sat_solver.specs.cdcl.Going.{EmitsSteps}
+use Rattle.sat_solver.specs.cdcl.StepEffects.{EmitsSteps}
 use Rattle.sat_solver.specs.clause.Reduced.{IsLearnedLong, ReductionEffect}
 use Rattle.sat_solver.proofs.lemmas.cdcl.DeletingLemmas.{Halving}
 use Rattle.sat_solver.proofs.clause.reduce.reduce_locals.Given as goal

@@ -3,7 +3,7 @@ use Rattle.std.proofs.lemmas.List.{get_or_read}
 use Rattle.sat_base.specs.values.Literals.{variable}
 use Rattle.sat_base.specs.values.Hashes.{hash_of}
 use Rattle.sat_parts.specs.clause.Db.{live_refs}
-use Rattle.sat_parts.specs.prop.Graphs.{is_unit_reason, node_of}
+use Rattle.sat_parts.specs.prop.Graphs.{has_no_clause, node_of}
 use Rattle.sat_parts.specs.prop.State.{node, lit_at}
 use Rattle.sat_parts.specs.declared.prop.graph.Reason.{Reason}
 use Rattle.sat_solver.specs.session.TrailEntries.{reason_clause}
@@ -44,8 +44,8 @@ loop-lit-preserved c =
     let i = c.loop-lit.lit-index in
     let p = c.args.parts.now in
     let x = (goal.at.loop-lit-preserved c).After-lit-item in
-    let caused : is_unit_reason (node (state c.args.parts.now) (get_or c.args.parts.now.trail.lits c.loop-lit.lit-index 0)).reason ≡ false =
-    ap (λ l. is_unit_reason (node (state c.args.parts.now) l).reason) (sym (at x)) ∙ ap (λ v. is_unit_reason (node_of c.args.parts.now.graph v).reason) (sym c.var.ensures) ∙ ap (λ (r : Reason). is_unit_reason r) (sym c.reason.ensures) ∙ sym c.is_unit.ensures ∙ c.if-is_unit.false in
+    let caused : has_no_clause (node (state c.args.parts.now) (get_or c.args.parts.now.trail.lits c.loop-lit.lit-index 0)).reason ≡ false =
+    ap (λ l. has_no_clause (node (state c.args.parts.now) l).reason) (sym (at x)) ∙ ap (λ v. has_no_clause (node_of c.args.parts.now.graph v).reason) (sym c.var.ensures) ∙ ap (λ (r : Reason). has_no_clause r) (sym c.reason.ensures) ∙ sym c.is_unit.ensures ∙ c.if-is_unit.false in
     let hash : hash_of (clause_of p.clauses (state p) (get_or c.args.parts.now.trail.lits c.loop-lit.lit-index 0)) ≡ hash_of (reason_clause p.clauses (get_or c.args.parts.now.trail.lits c.loop-lit.lit-index 0) (node (state p) (get_or c.args.parts.now.trail.lits c.loop-lit.lit-index 0)).reason) =
     ap (λ (xs : List ℕ). hash_of xs) (reason_clauses p.clauses (live_refs p.clauses p.db.refs) p.binary.implied (state p) i (length p.assignment.current) (node (state p) (lit_at (state p) i)).reason c.requires.orderly.clauses caused (c.requires.orderly.turns i (omega arith) (within x))) in
     rw (c.in_ok-push.ensures.items, c.unit_of.ensures, at x)

@@ -1,5 +1,5 @@
 use Rattle.std.proofs.Common.{◌≡◌, ◌+◌, ◌<◌, ◌≤◌, false, length, List, ℕ}
-use Rattle.sat_base.specs.device.Device.{GaveFront}
+use Rattle.sat_base.specs.device.Device.{GavePrefix}
 use Rattle.sat_base.specs.dimacs.Dimacs.{dimacs, up_to_last_blank}
 use Rattle.sat_base.specs.dimacs.Parsing.{IsSoundSoFar}
 use Rattle.sat_base.proofs.lemmas.dimacs.Parsed.{HasAccepted as HasFed}
@@ -13,7 +13,7 @@ invariant-loop g l = record {
   was : l.fn.self.failed ≡ false;
   going : l.self.failed ≡ false;
   solver : IsSolver l.self;
-  bytes : (text : List ℕ) × HasFed text l.parser × GaveFront (g.R.CountedRead.seen l.fn.reader) (g.R.CountedRead.seen l.reader) text × (l.counter ≤ length text)
+  bytes : (text : List ℕ) × HasFed text l.parser × GavePrefix (g.R.CountedRead.seen l.fn.reader) (g.R.CountedRead.seen l.reader) text × (l.counter ≤ length text)
       × (l.parser.taken ≡ (dimacs (up_to_last_blank text)).clauses);
   sound : IsSoundSoFar l.parser;
   open_yet : 0 < l.counter → (g.R.CountedRead.seen l.reader).ended ≡ false;

@@ -1,17 +1,17 @@
 use Rattle.std.proofs.Common.{◌≡◌}
-use Rattle.sat_solver.specs.declared.state.State.{State}
-use Rattle.sat_solver.specs.declared.state.State.TheVariants as states
+use Rattle.sat_solver.specs.declared.state.SatState.{SatState}
+use Rattle.sat_solver.specs.declared.state.SatState.TheVariants as states
 use Rattle.sat_solver.proofs.lemmas.solver.ComingLemmas.{asked_in}
 use Rattle.sat_solver.proofs.solver.Solver.ask.Goals.{in-Unknown, in-Sat, in-UnsatUnderAssumptions}
 use Rattle.sat_solver.proofs.solver.Solver.ask.Goals as goal
 
-unknown_apart : (st : State) → st ≡ states.Unknown → st ≡ states.Unsat → ⊥
+unknown_apart : (st : SatState) → st ≡ states.Unknown → st ≡ states.Unsat → ⊥
 unknown_apart st e f = cc
 
-sat_apart : (st : State) → st ≡ states.Sat → st ≡ states.Unsat → ⊥
+sat_apart : (st : SatState) → st ≡ states.Sat → st ≡ states.Unsat → ⊥
 sat_apart st e f = cc
 
-core_apart : (st : State) → st ≡ states.UnsatUnderAssumptions → st ≡ states.Unsat → ⊥
+core_apart : (st : SatState) → st ≡ states.UnsatUnderAssumptions → st ≡ states.Unsat → ⊥
 core_apart st e f = cc
 
 pub returns-clause-asks : goal.returns-clause-asks

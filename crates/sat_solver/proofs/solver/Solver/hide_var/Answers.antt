@@ -19,7 +19,7 @@ returns-in-Ok-clause-hides g c =
       not_marked s whole c.args.user (c.is_assumed.ensures.free c.if-is_assumed.false),
       renamed g.W.CountedWrite.seen s whole c.if-self.false c.hide_var.new.variables c.hide_var.new.writer _ _ _ c.in-Ok.ensures.comes c.in-Ok.ensures.does c.in-Ok.ensures.fresh c.in-Ok.ensures.units
           (others_kept s whole c.hide_var.new.variables c.args.user (not_marked s whole c.args.user (c.is_assumed.ensures.free c.if-is_assumed.false)) c.in-Ok.ensures.others)
-          c.in-Ok.ensures.alike (c.in-Ok.ensures.came s.core.proof (none_took g.W.CountedWrite.seen s.core.proof)),
+          c.in-Ok.ensures.alike (c.in-Ok.ensures.emits s.core.proof (none_took g.W.CountedWrite.seen s.core.proof)),
       said_room s.names (c.args.user ∷ []) c.has_room_for.result c.has_room_for.ensures c.if-not-has_room_for.false,
     )
 
@@ -31,7 +31,7 @@ returns-in-Err-clause-hides g c =
     let s = c.args.self.now in
     let failing = record s { used = true; names = c.hide_var.new.variables; core = record s.core { proof = c.hide_var.new.writer } } in
     rw (c.fail.ensures.error, c.fail.ensures.fails, c.from.ensures) (mode_ends g.W.CountedWrite.seen _ s (failed_with failing) c.args.user _ _ _
-    c.if-self.false (not_marked s (c.requires c.if-self.false) c.args.user (c.is_assumed.ensures.free c.if-is_assumed.false)) (said_room s.names (c.args.user ∷ []) c.has_room_for.result c.has_room_for.ensures c.if-not-has_room_for.false) (reported_fails c.in-Err.error (c.in-Err.ensures.room (said_room s.names (c.args.user ∷ []) c.has_room_for.result c.has_room_for.ensures c.if-not-has_room_for.false))) (names_reported g.W.CountedWrite.seen _ s.core failing (names_broke g.W.CountedWrite.seen s.core (record s.core { proof = c.hide_var.new.writer }) c.in-Err.error (c.in-Err.ensures.came s.core.proof (none_took g.W.CountedWrite.seen s.core.proof))).0) refl refl)
+    c.if-self.false (not_marked s (c.requires c.if-self.false) c.args.user (c.is_assumed.ensures.free c.if-is_assumed.false)) (said_room s.names (c.args.user ∷ []) c.has_room_for.result c.has_room_for.ensures c.if-not-has_room_for.false) (reported_fails c.in-Err.error (c.in-Err.ensures.room (said_room s.names (c.args.user ∷ []) c.has_room_for.result c.has_room_for.ensures c.if-not-has_room_for.false))) (names_reported g.W.CountedWrite.seen _ s.core failing (names_broke g.W.CountedWrite.seen s.core (record s.core { proof = c.hide_var.new.writer }) c.in-Err.error (c.in-Err.ensures.emits s.core.proof (none_took g.W.CountedWrite.seen s.core.proof))).0) refl refl)
 
 pub returns-then-not-has_room_for-clause-hides : goal.returns-then-not-has_room_for-clause-hides
 returns-then-not-has_room_for-clause-hides g c =
@@ -44,4 +44,4 @@ returns-then-not-has_room_for-clause-hides g c =
 pub fail-requires : goal.fail-requires
 fail-requires g c =
     let s = c.args.self.now in
-    record { kept = rw c.from.ensures (names_broke g.W.CountedWrite.seen s.core (record s.core { proof = c.hide_var.new.writer }) {full = ⊥} c.in-Err.error (c.in-Err.ensures.came s.core.proof (none_took g.W.CountedWrite.seen s.core.proof))).1 }
+    record { kept = rw c.from.ensures (names_broke g.W.CountedWrite.seen s.core (record s.core { proof = c.hide_var.new.writer }) {full = ⊥} c.in-Err.error (c.in-Err.ensures.emits s.core.proof (none_took g.W.CountedWrite.seen s.core.proof))).1 }

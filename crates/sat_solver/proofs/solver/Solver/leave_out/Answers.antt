@@ -8,7 +8,7 @@ use Rattle.sat_solver.proofs.solver.Solver.leave_out.Goals as goal
 pub returns-clause-takes : goal.returns-clause-takes
 returns-clause-takes g c =
     let s = c.args.self.now in
-    left_in g.W.CountedWrite.seen s c.requires.whole c.requires.unsat c.leave_out_clause.new.writer c.leave_out_clause.new.variables c.args.lits.now (c.in_ok-leave_out_clause.ensures.came s.core.proof (none_took g.W.CountedWrite.seen s.core.proof)) c.in_ok-leave_out_clause.ensures.leaves
+    left_in g.W.CountedWrite.seen s c.requires.whole c.requires.unsat c.leave_out_clause.new.writer c.leave_out_clause.new.variables c.args.lits.now (c.in_ok-leave_out_clause.ensures.emits s.core.proof (none_took g.W.CountedWrite.seen s.core.proof)) c.in_ok-leave_out_clause.ensures.leaves
 
 pub returns-in_err-leave_out_clause-clause-takes : goal.returns-in_err-leave_out_clause-clause-takes
 returns-in_err-leave_out_clause-clause-takes g c = grind (arith, common_steps, err_from_is_err_and, none_took, names_broke)

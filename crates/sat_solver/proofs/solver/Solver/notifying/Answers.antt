@@ -3,10 +3,10 @@ use Rattle.std.specs.Prelude.{is_some}
 use Rattle.std.proofs.lemmas.Bool.{true≢false}
 use Rattle.sat_solver.specs.declared.config.SolverConfig.{SolverConfig}
 use Rattle.sat_solver.specs.clause.Activity.{AreDecays}
-use Rattle.sat_base.specs.script.ScriptState.{start}
-use Rattle.sat_solver.specs.proof.ProofView.{audience}
+use Rattle.sat_base.specs.script.ScriptState.{initial_state}
+use Rattle.sat_solver.specs.proof.ProofView.{proof_listeners}
 use Rattle.sat_solver.specs.variables.Calls.{NamesAgree}
-use Rattle.sat_solver.specs.declared.state.State.TheVariants as states
+use Rattle.sat_solver.specs.declared.state.SatState.TheVariants as states
 use Rattle.sat_solver.proofs.lemmas.solver.StartLemmas.{agree_first, whole_first}
 use Rattle.sat_solver.proofs.solver.Solver.notifying.Goals as goal
 
@@ -28,13 +28,13 @@ returns g c =
         parameters = c.default-config.ensures i;
         steps = c.new.ensures.steps i;
         target = c.new.ensures.target i;
-        listeners = none_of (audience c.new.result) c.new.ensures.checked i;
+        listeners = none_of (proof_listeners c.new.result) c.new.ensures.checked i;
         asked = c.new.ensures.asked i;
       };
-      state = subst (λ ss. NamesAgree c.new-2.result ss start []) (sym c.new.ensures.steps) (agree_first c.new-2.result c.new-2.ensures.tidy c.new-2.ensures.none);
+      state = subst (λ ss. NamesAgree c.new-2.result ss initial_state []) (sym c.new.ensures.steps) (agree_first c.new-2.result c.new-2.ensures.tidy c.new-2.ensures.none);
       whole =
           whole_first c.new-2.result c.new-2.ensures.tidy c.new-2.ensures.none _ c.new-6.result c.new-7.result.items c.new-4.result.items c.default-config.result.luby_restart_interval_scale
-          c.new.ensures.steps c.no_search.ensures.search c.no_search.ensures.values c.no_search.ensures.globals
+          c.new.ensures.steps c.new_search.ensures.search c.new_search.ensures.values c.new_search.ensures.globals
           (subst (λ (k : SolverConfig). 0 < k.reduce_locals_interval) e (omega arith)) (subst (λ (k : SolverConfig). 0 < k.reduce_mids_interval) e (omega arith))
           c.new-6.ensures.order c.new-6.ensures.globals c.new-7.ensures.items (subst (λ (k : SolverConfig). 0 < k.luby_restart_interval_scale) e (omega arith)) refl
           (subst AreDecays e (omega arith, omega arith, omega arith, omega arith)) c.new.ensures.taking;

@@ -9,22 +9,22 @@ pub returns-in-Ok-clause-solver : goal.returns-in-Ok-clause-solver
 returns-in-Ok-clause-solver g c = λ e.
     let s = c.args.self.now in
     (observed_all g.W.CountedWrite.seen s (c.requires c.if-self.false) c.if-self.false c.observe_internal_vars.new.variables c.observe_internal_vars.new.writer c.observe_internal_vars.new.users.items _ (c.is_used-self.ensures ∙ ap (λ (xs : List ℕ). s.used || not (eqb (length xs) 0)) c.deref.ensures.value) c.in-Ok.ensures.names
-    (c.in-Ok.ensures.came s.core.proof (none_took g.W.CountedWrite.seen s.core.proof))).steps.whole
+    (c.in-Ok.ensures.emits s.core.proof (none_took g.W.CountedWrite.seen s.core.proof))).steps.whole
 
 pub returns-in-Ok-clause-observes : goal.returns-in-Ok-clause-observes
 returns-in-Ok-clause-observes g c =
     let s = c.args.self.now in
     observed_all g.W.CountedWrite.seen s (c.requires c.if-self.false) c.if-self.false c.observe_internal_vars.new.variables c.observe_internal_vars.new.writer c.observe_internal_vars.new.users.items _ (c.is_used-self.ensures ∙ ap (λ (xs : List ℕ). s.used || not (eqb (length xs) 0)) c.deref.ensures.value) c.in-Ok.ensures.names
-    (c.in-Ok.ensures.came s.core.proof (none_took g.W.CountedWrite.seen s.core.proof))
+    (c.in-Ok.ensures.emits s.core.proof (none_took g.W.CountedWrite.seen s.core.proof))
 
 pub returns-in-Err-clause-fails : goal.returns-in-Err-clause-fails
 returns-in-Err-clause-fails g c =
     let s = c.args.self.now in
-    let broke = names_broke g.W.CountedWrite.seen s.core (record s.core { proof = c.observe_internal_vars.new.writer }) c.in-Err.error (c.in-Err.ensures.came s.core.proof (none_took g.W.CountedWrite.seen s.core.proof)) in
+    let broke = names_broke g.W.CountedWrite.seen s.core (record s.core { proof = c.observe_internal_vars.new.writer }) c.in-Err.error (c.in-Err.ensures.emits s.core.proof (none_took g.W.CountedWrite.seen s.core.proof)) in
     let failing = record s { names = c.observe_internal_vars.new.variables; core = record s.core { proof = c.observe_internal_vars.new.writer } } in
     rw (c.fail.ensures.error, c.fail.ensures.fails, c.from.ensures) (new_ends g.W.CountedWrite.seen _ s (failed_with failing) c.if-self.false (fault_left _ broke.0.fault (λ e. c.in-Err.ensures.left (reported_limit c.in-Err.error e))) (names_reported g.W.CountedWrite.seen _ s.core failing broke.0) refl refl)
 
 pub fail-requires : goal.fail-requires
 fail-requires g c =
     let s = c.args.self.now in
-    record { kept = rw c.from.ensures (names_broke g.W.CountedWrite.seen s.core (record s.core { proof = c.observe_internal_vars.new.writer }) {full = ⊥} c.in-Err.error (c.in-Err.ensures.came s.core.proof (none_took g.W.CountedWrite.seen s.core.proof))).1 }
+    record { kept = rw c.from.ensures (names_broke g.W.CountedWrite.seen s.core (record s.core { proof = c.observe_internal_vars.new.writer }) {full = ⊥} c.in-Err.error (c.in-Err.ensures.emits s.core.proof (none_took g.W.CountedWrite.seen s.core.proof))).1 }

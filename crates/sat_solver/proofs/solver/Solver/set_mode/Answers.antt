@@ -1,5 +1,5 @@
 use Rattle.std.proofs.Common.{[], ◌∷◌, refl, ap, true}
-use Rattle.sat_base.specs.values.Literals.{coded}
+use Rattle.sat_base.specs.values.Literals.{mk_lit}
 use Rattle.sat_solver.proofs.lemmas.variables.Giving.{alike_unseen}
 use Rattle.sat_solver.proofs.lemmas.solver.TakingLemmas.{none_took, names_broke, reported_fails}
 use Rattle.sat_solver.specs.solver.Whole.{steps_in}
@@ -23,9 +23,9 @@ returns-in-Ok-clause-sets g c =
     let n = c.set_sampling_mode.new.variables in
     let p = c.set_sampling_mode.new.writer in (
       not_marked s whole c.args.user (c.is_assumed.ensures.free c.if-is_assumed.false),
-      renamed g.W.CountedWrite.seen s whole c.if-self.false n p _ _ _ c.in-Ok.ensures.comes c.in-Ok.ensures.does c.in-Ok.ensures.fresh (λ u v b e. ap (λ f. f (coded v b)) c.in-Ok.ensures.unseen.search.units)
+      renamed g.W.CountedWrite.seen s whole c.if-self.false n p _ _ _ c.in-Ok.ensures.comes c.in-Ok.ensures.does c.in-Ok.ensures.fresh (λ u v b e. ap (λ f. f (mk_lit v b)) c.in-Ok.ensures.unseen.search.units)
           (others_kept s whole n c.args.user (not_marked s whole c.args.user (c.is_assumed.ensures.free c.if-is_assumed.false)) c.in-Ok.ensures.others)
-          (alike_unseen s.names n (steps_in s) (steps_of p) c.in-Ok.ensures.unseen) (c.in-Ok.ensures.came s.core.proof (none_took g.W.CountedWrite.seen s.core.proof)),
+          (alike_unseen s.names n (steps_in s) (steps_of p) c.in-Ok.ensures.unseen) (c.in-Ok.ensures.emits s.core.proof (none_took g.W.CountedWrite.seen s.core.proof)),
       said_room s.names (c.args.user ∷ []) c.has_room_for.result c.has_room_for.ensures c.if-not-has_room_for.false,
     )
 
@@ -37,7 +37,7 @@ returns-in-Err-clause-sets g c =
     let s = c.args.self.now in
     let failing = record s { used = true; names = c.set_sampling_mode.new.variables; core = record s.core { proof = c.set_sampling_mode.new.writer } } in
     rw (c.fail.ensures.error, c.fail.ensures.fails, c.from.ensures) (mode_ends g.W.CountedWrite.seen _ s (failed_with failing) c.args.user _ _ _
-    c.if-self.false (not_marked s (c.requires c.if-self.false) c.args.user (c.is_assumed.ensures.free c.if-is_assumed.false)) (said_room s.names (c.args.user ∷ []) c.has_room_for.result c.has_room_for.ensures c.if-not-has_room_for.false) (reported_fails c.in-Err.error (c.in-Err.ensures.room (said_room s.names (c.args.user ∷ []) c.has_room_for.result c.has_room_for.ensures c.if-not-has_room_for.false))) (names_reported g.W.CountedWrite.seen _ s.core failing (names_broke g.W.CountedWrite.seen s.core (record s.core { proof = c.set_sampling_mode.new.writer }) c.in-Err.error (c.in-Err.ensures.came s.core.proof (none_took g.W.CountedWrite.seen s.core.proof))).0) refl refl)
+    c.if-self.false (not_marked s (c.requires c.if-self.false) c.args.user (c.is_assumed.ensures.free c.if-is_assumed.false)) (said_room s.names (c.args.user ∷ []) c.has_room_for.result c.has_room_for.ensures c.if-not-has_room_for.false) (reported_fails c.in-Err.error (c.in-Err.ensures.room (said_room s.names (c.args.user ∷ []) c.has_room_for.result c.has_room_for.ensures c.if-not-has_room_for.false))) (names_reported g.W.CountedWrite.seen _ s.core failing (names_broke g.W.CountedWrite.seen s.core (record s.core { proof = c.set_sampling_mode.new.writer }) c.in-Err.error (c.in-Err.ensures.emits s.core.proof (none_took g.W.CountedWrite.seen s.core.proof))).0) refl refl)
 
 pub returns-then-not-has_room_for-clause-sets : goal.returns-then-not-has_room_for-clause-sets
 returns-then-not-has_room_for-clause-sets g c =
@@ -50,4 +50,4 @@ returns-then-not-has_room_for-clause-sets g c =
 pub fail-requires : goal.fail-requires
 fail-requires g c =
     let s = c.args.self.now in
-    record { kept = rw c.from.ensures (names_broke g.W.CountedWrite.seen s.core (record s.core { proof = c.set_sampling_mode.new.writer }) {full = ⊥} c.in-Err.error (c.in-Err.ensures.came s.core.proof (none_took g.W.CountedWrite.seen s.core.proof))).1 }
+    record { kept = rw c.from.ensures (names_broke g.W.CountedWrite.seen s.core (record s.core { proof = c.set_sampling_mode.new.writer }) {full = ⊥} c.in-Err.error (c.in-Err.ensures.emits s.core.proof (none_took g.W.CountedWrite.seen s.core.proof))).1 }

@@ -1,18 +1,18 @@
 use Rattle.std.proofs.Common.{◌≡◌, Bool, subst}
-use Rattle.sat_solver.specs.declared.state.State.{State}
-use Rattle.sat_solver.specs.declared.state.State.TheVariants as states
+use Rattle.sat_solver.specs.declared.state.SatState.{SatState}
+use Rattle.sat_solver.specs.declared.state.SatState.TheVariants as states
 use Rattle.sat_solver.specs.solver.Taking.{TookClause}
 use Rattle.sat_solver.proofs.lemmas.solver.ComingLemmas.{took_left, took_none}
 use Rattle.sat_solver.proofs.solver.Solver.take.Goals.{in-Unknown, in-Sat, in-UnsatUnderAssumptions, then-left, else-left}
 use Rattle.sat_solver.proofs.solver.Solver.take.Goals as goal
 
-unknown_apart : (st : State) → st ≡ states.Unknown → st ≡ states.Unsat → ⊥
+unknown_apart : (st : SatState) → st ≡ states.Unknown → st ≡ states.Unsat → ⊥
 unknown_apart st e f = cc
 
-sat_apart : (st : State) → st ≡ states.Sat → st ≡ states.Unsat → ⊥
+sat_apart : (st : SatState) → st ≡ states.Sat → st ≡ states.Unsat → ⊥
 sat_apart st e f = cc
 
-core_apart : (st : State) → st ≡ states.UnsatUnderAssumptions → st ≡ states.Unsat → ⊥
+core_apart : (st : SatState) → st ≡ states.UnsatUnderAssumptions → st ≡ states.Unsat → ⊥
 core_apart st e f = cc
 
 pub returns-clause-takes : goal.returns-clause-takes

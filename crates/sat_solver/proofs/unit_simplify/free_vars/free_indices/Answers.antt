@@ -48,13 +48,13 @@ loop-index-preserved g c =
       left = left_more c.args.variables.now c.loop-index.variables c.release_unused.new.variables (session_after (g.S.StepLog.steps c.args.writer.now)) (session_after (g.S.StepLog.steps c.loop-index.writer)) c.args.search.now.parts c.loop-index.index c.loop-index.invariant.left
           frees.fewer c.loop-index.invariant.frees.asked.assumed (λ v e. c.in_ok-release_unused.ensures.left v (subst (λ x. global_at c.release_unused.new.variables x ≡ Some v) (sym c.from_index.ensures) e));
       keeps = c.in_ok-release_unused.ensures.keeps;
-      came = λ w t. c.in_ok-release_unused.ensures.came w (c.loop-index.invariant.came w t);
+      came = λ w t. c.in_ok-release_unused.ensures.emits w (c.loop-index.invariant.came w t);
       frees = frees_both c.args.variables.now c.loop-index.variables c.release_unused.new.variables (g.S.StepLog.steps c.args.writer.now) (g.S.StepLog.steps c.loop-index.writer) (g.S.StepLog.steps c.release_unused.new.writer) c.args.search.now (freed_search c.loop-index.used.items c.loop-index.index c.args.search.now) (freed_search c.release_unused.new.used.items (c.loop-index.index + 1) c.args.search.now)
           c.loop-index.invariant.frees frees;
       size = marks.size ∙ c.loop-index.invariant.size;
       unused = λ v e. c.loop-index.invariant.unused v (marks.more v e);
     }
 
-pub returns-in_err-release_unused-clause-came : goal.returns-in_err-release_unused-clause-came
-returns-in_err-release_unused-clause-came g c =
-    came_on g.S.StepLog.took g.S.StepLog.broke c.from_residual-in_err-release_unused.result c.in_err-release_unused.field-0.0 c.args.writer.now c.release_unused.new.writer c.from_residual-in_err-release_unused.ensures.1 (λ w t. c.in_err-release_unused.ensures.came w (c.loop-index.invariant.came w t))
+pub returns-in_err-release_unused-clause-emits : goal.returns-in_err-release_unused-clause-emits
+returns-in_err-release_unused-clause-emits g c =
+    came_on g.S.StepLog.took g.S.StepLog.broke c.from_residual-in_err-release_unused.result c.in_err-release_unused.field-0.0 c.args.writer.now c.release_unused.new.writer c.from_residual-in_err-release_unused.ensures.1 (λ w t. c.in_err-release_unused.ensures.emits w (c.loop-index.invariant.came w t))

@@ -1,6 +1,6 @@
 use Rattle.std.proofs.Common.{◌≡◌}
 use Rattle.sat_solver.specs.variables.Calls.{KeepsScriptState}
-use Rattle.sat_solver.specs.variables.Coming.{ForgetsIdle}
+use Rattle.sat_solver.specs.variables.NamingSteps.{ForgetsIdle}
 use Rattle.sat_solver.specs.variables.Search.{IsAlike}
 use Rattle.sat_solver.specs.unit_simplify.Freed.{FreesIndex}
 use Rattle.sat_solver.proofs.lemmas.unit_simplify.FreedLemmas.{gives_up_both, gives_up_named, on_ok_four}

@@ -3,7 +3,7 @@ use Rattle.std.proofs.lemmas.Grind.{common_steps}
 use Rattle.std.proofs.lemmas.Result.{err_from_is_err_and}
 use Rattle.sat_base.specs.steps.Steps.{UnitClauses}
 use Rattle.sat_parts.specs.clause.Db.{live_refs}
-use Rattle.sat_solver.specs.session.Session.{MayProve, session_after}
+use Rattle.sat_solver.specs.session.Session.{MayWriteUnits, session_after}
 use Rattle.sat_solver.specs.proof.ProofView.{session_of}
 use Rattle.sat_solver.specs.session.TrailUnits.{written_units}
 use Rattle.sat_parts.specs.parts.Whole.{state}
@@ -26,7 +26,7 @@ step-requires-clause-may g c =
     let p = c.args.parts.now in
     let same : c.deref.result.now ≡ written_units c.args.parts.now.clauses (state c.args.parts.now) 64 (global_of_index c.args.globals.now) c.args.parts.now.trail.lits =
     c.deref.ensures.value ∙ c.in_ok-collect_units.ensures in
-    subst (λ (us : List (ℕ × ℕ)). MayProve (session_of c.args.proof.now) us) (sym same)
+    subst (λ (us : List (ℕ × ℕ)). MayWriteUnits (session_of c.args.proof.now) us) (sym same)
     (units_may p.clauses (live_refs p.clauses p.db.refs) p.binary.implied (state p) (session_of c.args.proof.now) (global_of_index c.args.globals.now) c.requires.fits c.requires.named c.requires.orderly.agrees c.requires.orderly.clauses c.requires.orderly.turns c.requires.bottom)
 
 pub returns : goal.returns

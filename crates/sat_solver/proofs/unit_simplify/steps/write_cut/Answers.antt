@@ -4,7 +4,7 @@ use Rattle.std.proofs.lemmas.Result.{err_from_is_err_and}
 use Rattle.sat_base.specs.steps.Steps.{Step, AtClause, DeleteClause, Simplified}
 use Rattle.sat_base.specs.steps.StepViews.{deletion_of}
 use Rattle.sat_solver.specs.proof.ProofView.{steps_of}
-use Rattle.sat_solver.specs.cdcl.Going.{proof_fault}
+use Rattle.sat_solver.specs.cdcl.StepEffects.{proof_fault}
 use Rattle.sat_solver.proofs.lemmas.cdcl.GoingLemmas.{goes_step, goes_broken, goes_then, goes_then_fails}
 use Rattle.sat_solver.specs.session.Quiet.{are_few}
 use Rattle.sat_solver.proofs.lemmas.fits.QuietLemmas.{few_quiet}

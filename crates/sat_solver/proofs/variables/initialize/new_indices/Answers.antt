@@ -11,7 +11,7 @@ pub rename-requires-clause-below : goal.rename-requires-clause-below
 rename-requires-clause-below c = below_all c.args.search.now.parts (length c.args.globals.now) c.args.given.now c.requires.vacant.each
 
 pub take_indices-requires-clause-vacant : goal.take_indices-requires-clause-vacant
-take_indices-requires-clause-vacant c = vacant_grown c.args.search.now.parts c.grow.new.parts _ _ c.args.given.now c.in_ok-grow.ensures.grown c.count_with-count.ensures.past c.requires.vacant
+take_indices-requires-clause-vacant c = vacant_grown c.args.search.now.parts c.set_var_count.new.parts _ _ c.args.given.now c.in_ok-set_var_count.ensures.grown c.count_with-count.ensures.past c.requires.vacant
 
 pub returns : goal.returns
 returns c =
@@ -19,6 +19,6 @@ returns c =
     let len : c.len.result ≡ length c.args.search.now.globals.items = omega (arith, c.len.ensures, c.args.search.now.globals.ok.0) in
     let more : length c.args.search.now.globals.items ≤ c.count_with-count.result = omega (arith, len, c.count_with-count.ensures.more) in
     indexed o _ c.args.globals.now c.args.given.now c.count_with-count.result c.requires.holds c.requires.bottom c.requires.same more (λ le. c.count_with-count.ensures.least (length c.args.globals.now) (omega (arith, len, le)) (below_all o.parts (length c.args.globals.now) c.args.given.now c.requires.vacant.each)) c.count_with-count.ensures.past
-    c.grow.new.parts c.in_ok-grow.ensures.grown c.take_indices.ensures
+    c.set_var_count.new.parts c.in_ok-set_var_count.ensures.grown c.take_indices.ensures
     c.resize.new.self.items (front_kept o.globals.items _ c.count_with-count.result _ _ more c.in_ok-resize.ensures.items) (omega (arith, c.in_ok-resize.ensures.len, c.resize.new.self.ok.0)) c.rename.ensures
     refl c.in_ok-set_var_count.ensures.size c.in_ok-set_var_count.ensures.clear c.in_ok-set_var_count-2.ensures.grows

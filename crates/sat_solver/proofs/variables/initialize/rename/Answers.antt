@@ -2,7 +2,7 @@ use Rattle.std.proofs.Common.{◌+◌, ◌≡◌, ◌<◌, ◌∷◌, ◌∙◌,
 use Rattle.std.proofs.lemmas.List.{get_or_read}
 use Rattle.std.specs.List.{AllByRecursion}
 use Rattle.sat_solver.specs.declared.variables.solver_vars.Given.{Given}
-use Rattle.sat_solver.specs.variables.Search.{GivenApart}
+use Rattle.sat_solver.specs.variables.Search.{IndicesDistinct}
 use Rattle.sat_solver.specs.variables.Initialized.{Renames}
 use Rattle.sat_solver.proofs.lemmas.load.IndexLemmas.{renames_cons, drop_next, set_size}
 use Rattle.sat_solver.proofs.variables.initialize.rename.Goals as goal
@@ -17,7 +17,7 @@ loop-at-preserved c =
     let e : drop c.loop-at.at c.args.given.now ≡ c.index-given-at.result ∷ drop (c.loop-at.at + 1) c.args.given.now = drop_next gs c.loop-at.at g c.loop-at-test.true (sym c.index-given-at.is) in
     let below : AllByRecursion (λ h. h.solver < length c.args.globals.now) (c.index-given-at.result ∷ drop (c.loop-at.at + 1) c.args.given.now) = subst (λ ks. AllByRecursion (λ h. h.solver < length c.args.globals.now) ks) e i.below in
     let there : AllByRecursion (λ h. h.solver < length c.loop-at.list.items) (c.index-given-at.result ∷ drop (c.loop-at.at + 1) c.args.given.now) = subst (λ ks. AllByRecursion (λ h. h.solver < length c.loop-at.list.items) ks) e i.there in
-    let apart : GivenApart (c.index-given-at.result ∷ drop (c.loop-at.at + 1) c.args.given.now) = subst (λ ks. GivenApart ks) e i.apart in
+    let apart : IndicesDistinct (c.index-given-at.result ∷ drop (c.loop-at.at + 1) c.args.given.now) = subst (λ ks. IndicesDistinct ks) e i.apart in
     let at : c.index-index.result ≡ c.index-given-at.result.solver = c.index-index.ensures.value ∙ ap (λ (h : Given). h.solver) (sym c.index-given-at.is) in
     let lt : c.index-index.result < length c.args.globals.now = subst (λ v. v < length c.args.globals.now) (sym at) below.0 in
     let val : c.index-globals-index.result ≡ get_or c.args.globals.now c.index-given-at.result.solver 0 =

@@ -1,7 +1,7 @@
 use Rattle.std.proofs.Common.{arith}
 use Rattle.std.proofs.lemmas.Grind.{common_steps}
 use Rattle.std.proofs.Common.{◌+◌, [], ◌∷◌, ◌++◌, map}
-use Rattle.sat_base.specs.script.ScriptState.{without_name, bring_in, new_names}
+use Rattle.sat_base.specs.script.ScriptState.{without_name, introduce, new_names}
 use Rattle.sat_checker.specs.matching.Expected.{NewName, NoName}
 use Rattle.sat_solver.proofs.lemmas.variables.Doing.{does_both, ok_after}
 use Rattle.sat_solver.proofs.lemmas.variables.Giving.{keeps_both, alike_unseen, alike_both, ok_alike, ok_others, ok_fresh, ok_units}
@@ -13,9 +13,9 @@ use Rattle.sat_solver.proofs.variables.modes.hide_var.Goals as goal
 pub returns-clause-does : goal.returns-clause-does
 returns-clause-does g c =
     ok_after c.forget_idle.result c.args.variables.now c.hide_global.new.variables c.forget_idle.new.variables (g.W.StepLog.steps c.args.writer.now) (g.W.StepLog.steps c.hide_global.new.writer) (g.W.StepLog.steps c.forget_idle.new.writer)
-    (λ j. without_name (c.args.user + 1) (bring_in (c.args.user + 1) j)) (λ j. map NewName (new_names (c.args.user + 1) j) ++ (NoName (c.args.user + 1) ∷ []))
+    (λ j. without_name (c.args.user + 1) (introduce (c.args.user + 1) j)) (λ j. map NewName (new_names (c.args.user + 1) j) ++ (NoName (c.args.user + 1) ∷ []))
     (does_both c.args.variables.now c.global_from_user.new.variables c.hide_global.new.variables (g.W.StepLog.steps c.args.writer.now) (g.W.StepLog.steps c.global_from_user.new.writer) (g.W.StepLog.steps c.hide_global.new.writer)
-    (bring_in (c.args.user + 1)) (without_name (c.args.user + 1)) (λ j. map NewName (new_names (c.args.user + 1) j)) (λ j. NoName (c.args.user + 1) ∷ []) c.in_ok-global.ensures.brought.brings c.in_ok-hide_global.ensures.does)
+    (introduce (c.args.user + 1)) (without_name (c.args.user + 1)) (λ j. map NewName (new_names (c.args.user + 1) j)) (λ j. NoName (c.args.user + 1) ∷ []) c.in_ok-global.ensures.brought.brings c.in_ok-hide_global.ensures.does)
     c.forget_idle.ensures.does
 
 pub returns-clause-alike : goal.returns-clause-alike
@@ -26,8 +26,8 @@ returns-clause-alike g c =
     (alike_unseen c.global_from_user.new.variables c.hide_global.new.variables (g.W.StepLog.steps c.global_from_user.new.writer) (g.W.StepLog.steps c.hide_global.new.writer) c.in_ok-hide_global.ensures.unseen))
     c.forget_idle.ensures.alike
 
-pub returns-clause-came : goal.returns-clause-came
-returns-clause-came g c = came_then g.W.StepLog.took g.W.StepLog.broke c.forget_idle.result c.args.writer.now c.hide_global.new.writer c.forget_idle.new.writer (λ w t. c.in_ok-hide_global.ensures.came w (c.in_ok-global.ensures.came w t)) c.forget_idle.ensures.came
+pub returns-clause-emits : goal.returns-clause-emits
+returns-clause-emits g c = came_then g.W.StepLog.took g.W.StepLog.broke c.forget_idle.result c.args.writer.now c.hide_global.new.writer c.forget_idle.new.writer (λ w t. c.in_ok-hide_global.ensures.emits w (c.in_ok-global.ensures.emits w t)) c.forget_idle.ensures.emits
 
 pub returns-clause-others : goal.returns-clause-others
 returns-clause-others g c =

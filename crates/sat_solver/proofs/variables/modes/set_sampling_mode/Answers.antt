@@ -1,5 +1,5 @@
 use Rattle.std.proofs.Common.{◌∙◌, ◌+◌, [], map}
-use Rattle.sat_base.specs.script.ScriptState.{with_mode, bring_in, new_names}
+use Rattle.sat_base.specs.script.ScriptState.{with_mode, introduce, new_names}
 use Rattle.sat_solver.specs.variables.Variables.{script_mode}
 use Rattle.sat_checker.specs.matching.Expected.{NewName}
 use Rattle.sat_solver.proofs.lemmas.variables.Doing.{ok_both}
@@ -11,13 +11,13 @@ use Rattle.sat_solver.proofs.variables.modes.set_sampling_mode.Goals as goal
 
 pub returns-clause-does : goal.returns-clause-does
 returns-clause-does g c = ok_both c.set_global_mode.result c.args.variables.now c.global_from_user.new.variables c.set_global_mode.new.variables (g.W.StepLog.steps c.args.writer.now) (g.W.StepLog.steps c.global_from_user.new.writer) (g.W.StepLog.steps c.set_global_mode.new.writer)
-    (bring_in (c.args.user + 1)) (with_mode (script_mode c.args.sample) (c.args.user + 1)) (λ j. map NewName (new_names (c.args.user + 1) j)) (λ j. []) c.in_ok-global.ensures.brought.brings c.set_global_mode.ensures.does
+    (introduce (c.args.user + 1)) (with_mode (script_mode c.args.sample) (c.args.user + 1)) (λ j. map NewName (new_names (c.args.user + 1) j)) (λ j. []) c.in_ok-global.ensures.brought.brings c.set_global_mode.ensures.does
 
 pub returns-clause-unseen : goal.returns-clause-unseen
 returns-clause-unseen g c = ok_unseen c.set_global_mode.result c.args.variables.now c.global_from_user.new.variables c.set_global_mode.new.variables (g.W.StepLog.steps c.args.writer.now) (g.W.StepLog.steps c.global_from_user.new.writer) (g.W.StepLog.steps c.set_global_mode.new.writer) c.in_ok-global.ensures.brought.unseen c.set_global_mode.ensures.unseen
 
-pub returns-clause-came : goal.returns-clause-came
-returns-clause-came g c = came_then g.W.StepLog.took g.W.StepLog.broke c.set_global_mode.result c.args.writer.now c.global_from_user.new.writer c.set_global_mode.new.writer c.in_ok-global.ensures.came c.set_global_mode.ensures.came
+pub returns-clause-emits : goal.returns-clause-emits
+returns-clause-emits g c = came_then g.W.StepLog.took g.W.StepLog.broke c.set_global_mode.result c.args.writer.now c.global_from_user.new.writer c.set_global_mode.new.writer c.in_ok-global.ensures.emits c.set_global_mode.ensures.emits
 
 pub returns-clause-others : goal.returns-clause-others
 returns-clause-others g c =

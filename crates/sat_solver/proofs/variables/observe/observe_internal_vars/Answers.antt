@@ -18,7 +18,7 @@ loop-index-preserved g c = (
       (subst (λ v. IsHidden c.loop-index.variables v) c.from_index-global.ensures (c.is_hidden.ensures.hidden c.if-not-is_hidden.false))
       (subst (λ v. NamesHidden c.loop-index.variables c.observe_var.new.variables (g.W.StepLog.steps c.loop-index.writer) (g.W.StepLog.steps c.observe_var.new.writer) v c.in_ok-user.user) c.from_index-global.ensures c.in_ok-user.ensures.names)),
   c.in_ok-user.ensures.keeps,
-  λ w t. c.in_ok-user.ensures.came w (c.loop-index.invariant.2 w t),
+  λ w t. c.in_ok-user.ensures.emits w (c.loop-index.invariant.2 w t),
 )
 
 pub returns-clause-names : goal.returns-clause-names

@@ -13,14 +13,14 @@ loop-index-preserved g c = (
       c.loop-index.invariant.0 (subst (λ e. c.loop-index.index < e) c.index-index-end.ensures.value c.loop-index-test.true)
       (subst (λ i. NamesOne c.loop-index.variables c.new_name.new.variables (g.W.StepLog.steps c.loop-index.writer) (g.W.StepLog.steps c.new_name.new.writer) i c.in_ok-new_name.field-0) c.from_index.ensures c.in_ok-new_name.ensures.names),
   c.in_ok-new_name.ensures.keeps,
-  λ w t. c.in_ok-new_name.ensures.came w (c.loop-index.invariant.2 w t),
+  λ w t. c.in_ok-new_name.ensures.emits w (c.loop-index.invariant.2 w t),
 )
 
 pub returns-clause-names : goal.returns-clause-names
 returns-clause-names g c = grind (arith, common_steps, last_came, on_one)
 
-pub returns-clause-came : goal.returns-clause-came
-returns-clause-came g c = came_then g.W.StepLog.took g.W.StepLog.broke c.new_name-2.result c.args.writer.now c.loop-index.writer c.new_name-2.new.writer c.loop-index.invariant.2 c.new_name-2.ensures.came
+pub returns-clause-emits : goal.returns-clause-emits
+returns-clause-emits g c = came_then g.W.StepLog.took g.W.StepLog.broke c.new_name-2.result c.args.writer.now c.loop-index.writer c.new_name-2.new.writer c.loop-index.invariant.2 c.new_name-2.ensures.emits
 
 pub returns-clause-leaves : goal.returns-clause-leaves
 returns-clause-leaves g c =

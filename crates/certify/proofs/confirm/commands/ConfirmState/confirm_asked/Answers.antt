@@ -2,7 +2,7 @@ use Rattle.std.proofs.Common.{◌+◌, ◌^◌, ◌<◌, Err, [], false, refl, �
 use Rattle.std.proofs.lemmas.Bool.Decides.{nat_tests}
 use Rattle.std.proofs.lemmas.Result.{err_from_is_err_and}
 use Rattle.sat_base.specs.script.Script.{Ask, Clean}
-use Rattle.certify.specs.confirm.VerdictPromises.{numbers}
+use Rattle.certify.specs.confirm.VerdictPromises.{command_count}
 use Rattle.certify.specs.declared.script.ScriptEnd.TheVariants.{Asked}
 use Rattle.certify.specs.confirm.Confirming.{ConfirmsLast, table_of}
 use Rattle.certify.specs.confirm.ConfirmStates.{answers_in, stream_in}
@@ -26,7 +26,7 @@ returns-in_err-confirm_command g c = record {
         same = k.same;
         bound = k.bound;
         goes_on = tt;
-        joins = joins_many (2 ^ 64 < old.number + 1 + numbers (end_reading Asked)) false (Err c.in_err-confirm_command.field-0.0) a b s u (λ before following x y. ConfirmsLast (old.number + 1) (end_reading Asked) (table_of old.matching) before x)
+        joins = joins_many (2 ^ 64 < old.number + 1 + command_count (end_reading Asked)) false (Err c.in_err-confirm_command.field-0.0) a b s u (λ before following x y. ConfirmsLast (old.number + 1) (end_reading Asked) (table_of old.matching) before x)
             (command_stops (old.number + 1) (old.number + 1 + 1) (table_of old.matching) (table_of new.matching) a b b s u u c.requires.open_yet c.requires.goes_on.open_yet ⊥ (Ask []) ([], Clean) c.in_err-confirm_command.field-0.0 k.joins);
       });
 }
@@ -55,7 +55,7 @@ returns g c = record {
         same = over.same ∙ k.same;
         bound = over.bound;
         goes_on = over.goes_on;
-        joins = joins_many (2 ^ 64 < old.number + 1 + numbers (end_reading Asked)) false c.confirm_over.result a d s v (λ before following x y. ConfirmsLast (old.number + 1) (end_reading Asked) (table_of old.matching) before x)
+        joins = joins_many (2 ^ 64 < old.number + 1 + command_count (end_reading Asked)) false c.confirm_over.result a d s v (λ before following x y. ConfirmsLast (old.number + 1) (end_reading Asked) (table_of old.matching) before x)
             (command_end (old.number + 1) (old.number + 1 + 1) (table_of old.matching) (table_of mid.matching) a (answers_in g.A.CountedRead.seen c.confirm_command.new.answers mid) d
             s (stream_in g.C.CountedRead.seen c.confirm_command.new.steps mid.matching) v c.requires.open_yet c.requires.goes_on.open_yet ⊥ (Ask []) ([], Clean) c.confirm_over.result refl k.joins over.joins);
       };
@@ -70,6 +70,6 @@ returns-then-self g c = record {
         same = refl;
         bound = c.requires.goes_on.bound;
         goes_on = tt;
-        joins = too_many (2 ^ 64 < old.number + 1 + numbers (end_reading Asked)) false (answers_in g.A.CountedRead.seen c.args.answers.now old) (stream_in g.C.CountedRead.seen c.args.steps.now old.matching) (λ before following x y. ConfirmsLast (old.number + 1) (end_reading Asked) (table_of old.matching) before x) c.requires.goes_on.open_yet many;
+        joins = too_many (2 ^ 64 < old.number + 1 + command_count (end_reading Asked)) false (answers_in g.A.CountedRead.seen c.args.answers.now old) (stream_in g.C.CountedRead.seen c.args.steps.now old.matching) (λ before following x y. ConfirmsLast (old.number + 1) (end_reading Asked) (table_of old.matching) before x) c.requires.goes_on.open_yet many;
       };
 }

@@ -1,7 +1,7 @@
 use Rattle.std.proofs.Common.{◌+◌, ◌^◌, ◌<◌, Err, false, refl, arith, rules}
 use Rattle.std.proofs.lemmas.Bool.Decides.{nat_tests}
 use Rattle.std.proofs.lemmas.Result.{err_from_is_err_and}
-use Rattle.certify.specs.confirm.VerdictPromises.{numbers}
+use Rattle.certify.specs.confirm.VerdictPromises.{command_count}
 use Rattle.certify.specs.declared.script.ScriptEnd.TheVariants.{Malformed}
 use Rattle.certify.specs.confirm.Confirming.{ConfirmsLast, table_of}
 use Rattle.certify.specs.confirm.ConfirmStates.{answers_in, stream_in}
@@ -22,7 +22,7 @@ returns-in_err-refuse_rest g c = record {
         same = refl;
         bound = c.requires.goes_on.bound;
         goes_on = tt;
-        joins = joins_many (2 ^ 64 < old.number + 1 + numbers (end_reading Malformed)) false (Err c.in_err-refuse_rest.field-0.0) (answers_in A c.args.answers.now old) (answers_source A c.refuse_rest.new.answers c.refuse_rest.new.self) (stream_in C c.args.steps.now old.matching) (stream_in C c.args.steps.now old.matching)
+        joins = joins_many (2 ^ 64 < old.number + 1 + command_count (end_reading Malformed)) false (Err c.in_err-refuse_rest.field-0.0) (answers_in A c.args.answers.now old) (answers_source A c.refuse_rest.new.answers c.refuse_rest.new.self) (stream_in C c.args.steps.now old.matching) (stream_in C c.args.steps.now old.matching)
             (λ before following x y. ConfirmsLast (old.number + 1) (end_reading Malformed) (table_of old.matching) before x)
             (malformed_stops (old.number + 1) (table_of old.matching) (answers_in A c.args.answers.now old) (answers_source A c.refuse_rest.new.answers c.refuse_rest.new.self) (stream_in C c.args.steps.now old.matching) c.requires.open_yet c.requires.goes_on.open_yet c.in_err-refuse_rest.field-0.0 c.in_err-refuse_rest.ensures);
       });
@@ -43,7 +43,7 @@ returns g c = record {
         same = over.same;
         bound = over.bound;
         goes_on = over.goes_on;
-        joins = joins_many (2 ^ 64 < old.number + 1 + numbers (end_reading Malformed)) false c.confirm_over.result a d s v (λ before following x y. ConfirmsLast (old.number + 1) (end_reading Malformed) (table_of old.matching) before x)
+        joins = joins_many (2 ^ 64 < old.number + 1 + command_count (end_reading Malformed)) false c.confirm_over.result a d s v (λ before following x y. ConfirmsLast (old.number + 1) (end_reading Malformed) (table_of old.matching) before x)
             (malformed_goes (old.number + 1) (table_of old.matching) a (answers_source A c.refuse_rest.new.answers c.refuse_rest.new.self) s c.requires.open_yet c.requires.goes_on.open_yet d v c.confirm_over.result c.in_ok-refuse_rest.ensures over.joins);
       };
 }
@@ -59,6 +59,6 @@ returns-then-self g c = record {
         same = refl;
         bound = c.requires.goes_on.bound;
         goes_on = tt;
-        joins = too_many (2 ^ 64 < old.number + 1 + numbers (end_reading Malformed)) false (answers_in A c.args.answers.now old) (stream_in C c.args.steps.now old.matching) (λ before following x y. ConfirmsLast (old.number + 1) (end_reading Malformed) (table_of old.matching) before x) c.requires.goes_on.open_yet many;
+        joins = too_many (2 ^ 64 < old.number + 1 + command_count (end_reading Malformed)) false (answers_in A c.args.answers.now old) (stream_in C c.args.steps.now old.matching) (λ before following x y. ConfirmsLast (old.number + 1) (end_reading Malformed) (table_of old.matching) before x) c.requires.goes_on.open_yet many;
       };
 }

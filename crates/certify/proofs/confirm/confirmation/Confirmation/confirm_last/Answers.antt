@@ -3,8 +3,8 @@ use Rattle.std.proofs.lemmas.Result.{err_from_is_err_and}
 use Rattle.certify.specs.confirm.Confirming.{ConfirmsLast, ConfirmsNext, table_of}
 use Rattle.certify.specs.confirm.ConfirmStates.{answers_in, stream_in}
 use Rattle.certify.specs.script.Commands.{end_reading}
-use Rattle.certify.specs.confirm.VerdictPromises.{numbers}
-use Rattle.sat_base.specs.script.Language.{onto_commands}
+use Rattle.certify.specs.confirm.VerdictPromises.{command_count}
+use Rattle.sat_base.specs.script.Language.{prepend_commands}
 use Rattle.certify.proofs.lemmas.confirm.Joining.{joins_as, took_open}
 use Rattle.certify.proofs.lemmas.confirm.ConfirmedThrough.{numbers_more}
 use Rattle.certify.proofs.lemmas.confirm.ConfirmStateMet.{command_end, command_stops}
@@ -26,9 +26,9 @@ returns-in_err-confirm_next-clause-confirms g c w is =
       same = k.same;
       bound = k.bound;
       goes_on = tt;
-      joins = command_stops (old.number + 1) (old.number + 1 + 1) (table_of old.matching) (table_of new.matching) a b b s u u c.requires.open_yet c.requires.goes_on.open_yet (2 ^ 64 < old.number + 1 + numbers (onto_commands (w ∷ []) (end_reading c.args.end))) w (end_reading c.args.end)
+      joins = command_stops (old.number + 1) (old.number + 1 + 1) (table_of old.matching) (table_of new.matching) a b b s u u c.requires.open_yet c.requires.goes_on.open_yet (2 ^ 64 < old.number + 1 + command_count (prepend_commands (w ∷ []) (end_reading c.args.end))) w (end_reading c.args.end)
           c.in_err-confirm_next.field-0.0
-          (joins_as (2 ^ 64 ≤ old.number + 1) (2 ^ 64 < old.number + 1 + numbers (onto_commands (w ∷ []) (end_reading c.args.end))) true (Err c.in_err-confirm_next.field-0.0) a b s u (ConfirmsNext (old.number + 1) w (table_of old.matching) (table_of new.matching))
+          (joins_as (2 ^ 64 ≤ old.number + 1) (2 ^ 64 < old.number + 1 + command_count (prepend_commands (w ∷ []) (end_reading c.args.end))) true (Err c.in_err-confirm_next.field-0.0) a b s u (ConfirmsNext (old.number + 1) w (table_of old.matching) (table_of new.matching))
           (λ m. let more = numbers_more w (end_reading c.args.end) in omega (arith, m, more)) k.joins);
     })
 
@@ -59,7 +59,7 @@ returns-clause-confirms g c w is =
     let v = stream_in C c.confirm_end.new.steps new.matching in
     let k = c.in_ok-confirm_next.ensures.confirms w is in
     let over = c.confirm_end.ensures.confirms in
-    let M = 2 ^ 64 < old.number + 1 + numbers (onto_commands (w ∷ []) (end_reading c.args.end)) in
+    let M = 2 ^ 64 < old.number + 1 + command_count (prepend_commands (w ∷ []) (end_reading c.args.end)) in
     let more = numbers_more w (end_reading c.args.end) in
     let next : mid.number ≡ old.number + 1 = c.in_ok-confirm_next.ensures.number in
     record {
@@ -68,6 +68,6 @@ returns-clause-confirms g c w is =
       goes_on = over.goes_on;
       joins = command_end (old.number + 1) (mid.number + 1) (table_of old.matching) (table_of mid.matching) a b d s u v c.requires.open_yet c.requires.goes_on.open_yet M w (end_reading c.args.end) c.confirm_end.result (ap (λ (n : ℕ). n + 1) next)
           (joins_as (2 ^ 64 ≤ old.number + 1) M true (Ok tt) a b s u (ConfirmsNext (old.number + 1) w (table_of old.matching) (table_of mid.matching)) (λ m. omega (arith, m, more)) k.joins)
-          (joins_as (2 ^ 64 < mid.number + 1 + numbers (end_reading c.args.end)) M false c.confirm_end.result b d u v (λ before following x y. ConfirmsLast (mid.number + 1) (end_reading c.args.end) (table_of mid.matching) before x)
+          (joins_as (2 ^ 64 < mid.number + 1 + command_count (end_reading c.args.end)) M false c.confirm_end.result b d u v (λ before following x y. ConfirmsLast (mid.number + 1) (end_reading c.args.end) (table_of mid.matching) before x)
           (λ m. omega (arith, m, more, next)) over.joins);
     }

@@ -1,12 +1,12 @@
 use Rattle.std.proofs.Common.{◌-◌, ◌<◌, ◌≤◌, Bool, length, take}
 use Rattle.sat_base.specs.text.Chunks.{Follows}
-use Rattle.certify.specs.script.Commands.{MayGoOn, MeansIf}
+use Rattle.certify.specs.script.Commands.{CanContinue, MeansIf}
 use Rattle.certify.proofs.script.reader.ScriptReader.push.Given as goal
 
 abbrev pub invariant-loop-at : goal.invariant-loop-at
 invariant-loop-at l = record {
   within : l.at ≤ length l.bytes;
-  right : 0 < l.at → MayGoOn l.self;
+  right : 0 < l.at → CanContinue l.self;
   taken : (asks : Bool) → Follows (MeansIf asks) l.fn.self (take l.at l.bytes) l.self;
 }
 

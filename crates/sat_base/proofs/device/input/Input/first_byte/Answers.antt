@@ -24,5 +24,5 @@ returns g c =
     let i = c.args.self.now in
     let names : List ℕ = i.reader.ghost_name ∷ i.ahead.ghost_name ∷ [] in
     let a = c.refill.new.self in
-    let b = c.take.new.self in
-    took_text (source_of g.R.CountedRead.seen i) (g.R.CountedRead.seen c.refill.new.reader) (waiting a) (waiting b) names a.reads b.reads (c.take.result ∷ []) (gave_some a.end _ _ c.if-self-eq0.false (c.in_ok-refill.ensures.bytes names).0) c.take.ensures.byte c.take.ensures.reads
+    let b = c.take_byte.new.self in
+    took_text (source_of g.R.CountedRead.seen i) (g.R.CountedRead.seen c.refill.new.reader) (waiting a) (waiting b) names a.reads b.reads (c.take_byte.result ∷ []) (gave_some a.end _ _ c.if-self-eq0.false (c.in_ok-refill.ensures.bytes names).0) c.take_byte.ensures.byte c.take_byte.ensures.reads

@@ -5,8 +5,8 @@ use Rattle.sat_checker.proofs.lemmas.store.Places.{gone_not}
 use Rattle.sat_checker.proofs.lemmas.store.Kept.{kept_left, kept_removed, were_counted}
 use Rattle.sat_checker.proofs.store.clauses.Clauses.take_count.Goals as goal
 
-pub take-requires : goal.take-requires
-take-requires c =
+pub subtract-requires : goal.subtract-requires
+subtract-requires c =
     were_counted c.self.inside.slots c.args.self.now c.take_count.new.self c.self.inside.index c.self.inside.occurrences c.args.redundant c.args.place c.self.view_is c.requires.inside c.requires.some c.self.invariant.0 c.take_count.ensures
     c.args.literals.now c.requires.literals (sym c.is_gone.ensures ∙ c.if-is_gone.true)
 
@@ -15,7 +15,7 @@ invariant_of-self c =
     let gone = sym c.is_gone.ensures ∙ c.if-is_gone.true in
     let kept =
     kept_removed c.self.inside.slots c.args.self.now c.take_count.new.self c.self.inside.index c.self.inside.occurrences c.args.redundant c.args.place c.self.view_is c.requires.inside c.requires.some c.self.invariant.0 c.take_count.ensures
-    c.remove.new.self c.take.new.self c.args.literals.now c.remove.ensures c.requires.literals c.take.ensures gone in (
+    c.remove.new.self c.subtract.new.self c.args.literals.now c.remove.ensures c.requires.literals c.subtract.ensures gone in (
       kept,
       ap (λ n. n + 1) c.self.invariant.1
           ∙ sym (gone_removed c.self.inside.slots c.args.self.now c.take_count.new.self c.args.redundant c.args.place c.self.view_is c.requires.inside c.requires.some c.take_count.ensures gone),

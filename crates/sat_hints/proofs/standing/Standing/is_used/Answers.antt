@@ -1,5 +1,0 @@
-use Rattle.sat_hints.proofs.lemmas.Standing.{used_is}
-use Rattle.sat_hints.proofs.standing.Standing.is_used.Goals as goal
-
-pub returns : goal.returns
-returns c = used_is c.args.self.now c.args.var c.requires.store c.has.result c.has.ensures

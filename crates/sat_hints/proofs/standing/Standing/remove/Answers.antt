@@ -1,5 +1,0 @@
-use Rattle.sat_hints.proofs.lemmas.Standing.{were_counted}
-use Rattle.sat_hints.proofs.standing.Standing.remove.Goals as goal
-
-pub take-requires : goal.take-requires
-take-requires c = were_counted c.args.self.now c.args.id c.in-Some.place c.requires c.in-Some.ensures c.clause.result.now c.clause.ensures

@@ -1,0 +1,82 @@
+-- The present clauses: those stored, except units whose variable became new after they were added.
+use Rattle.std.specs.Prelude.{ℕ, ◌≡◌, ◌≤◌, ◌<◌, ◌==◌, Bool, true, false, Option, None, Some, List, [], ◌∷◌, length, nat_lt, slice_index, if◌then◌else◌}
+use Rattle.sat_base.specs.values.Literals.{variable}
+use Rattle.sat_base.specs.values.Tables.{value_at}
+use Rattle.sat_base.specs.declared.table.Table.{Table}
+use Rattle.sat_checker.specs.LiteralSets.{mentions}
+use Rattle.sat_checker.specs.inner.AssumedRoom.{HasClauseRoom}
+use Rattle.sat_hints.specs.Hints.{and_clauses, is_long, unless_unit_over}
+use Rattle.sat_hints.specs.inner.Clauses.{present_clause_at, clause_in, occurrences_of, AllBelow, IsStore}
+use Rattle.sat_hints.specs.inner.UsesView.{if_counting, uses_at}
+use Rattle.sat_hints.specs.declared.active_clauses.ActiveClauses.{ActiveClauses}
+
+-- whether the clause is stale: a unit whose id is below the bound of its variable, so that the variable became new
+-- after the unit was added
+abbrev pub is_stale : Table ℕ → ℕ → List ℕ → Bool
+is_stale since id [] = false
+is_stale since id (l ∷ []) = nat_lt id (value_at 0 since (variable l))
+is_stale since id (l ∷ m ∷ ls) = false
+
+-- the clause, if there is one and it is not a stale unit
+abbrev pub unless_stale : Table ℕ → ℕ → Option (List ℕ) → Option (List ℕ)
+unless_stale since id None = None
+unless_stale since id (Some c) = if is_stale since id c then None else Some c
+
+-- the present clause under an id, or `None` if none was stored, it is removed, or it is a stale unit
+abbrev pub active_clause : ActiveClauses → ℕ → Option (List ℕ)
+active_clause s id = unless_stale s.since id (clause_in s.present id)
+
+-- the clauses under these ids, if all are present
+abbrev pub active_clauses : ActiveClauses → List ℕ → Option (List (List ℕ))
+active_clauses s [] = Some []
+active_clauses s (id ∷ ids) = and_clauses (active_clause s id) (active_clauses s ids)
+
+-- that the bound of every variable is at most this id
+abbrev pub SinceWithin : ActiveClauses → ℕ → Type 0
+SinceWithin s bound = (v : ℕ) → value_at 0 s.since v ≤ bound
+
+-- That the store is in order. Once counting has begun, the counts are those of the literals in clauses of two or more
+-- literals; before, they are 0.
+pub record ActiveClausesInvariant (s : ActiveClauses) : Type 0 where
+  pub store : IsStore s.present
+  pub counted : (l : ℕ) → uses_at s.uses l ≡ if_counting s.uses.counting (occurrences_of s.present l)
+
+-- that the clause under this id is present and at this place
+pub record FindsClause (s : ActiveClauses) (id place : ℕ) : Type 0 where
+  pub within : place < length s.present.clauses
+  pub named : slice_index s.present.ids.items place ≡ id
+  pub stored : clause_in s.present id ≡ Some (present_clause_at s.present place)
+  pub clause : active_clause s id ≡ Some (present_clause_at s.present place)
+
+-- that a clause was added under this id
+pub record AddsActiveClause (old new : ActiveClauses) (id : ℕ) (clause : List ℕ) : Type 0 where
+  pub standing : ActiveClausesInvariant new
+  pub below : (k : ℕ) → id < k → AllBelow new.present.ids.items k
+  pub since : new.since ≡ old.since
+  pub clauses : (j : ℕ) → active_clause new j ≡ (if j == id then Some clause else active_clause old j)
+
+-- that no clause is present under this id, and the other present clauses are the same
+pub record DropsClause (old new : ActiveClauses) (id : ℕ) : Type 0 where
+  pub standing : ActiveClausesInvariant new
+  pub below : (k : ℕ) → AllBelow old.present.ids.items k → AllBelow new.present.ids.items k
+  pub since : new.since ≡ old.since
+  pub clauses : (j : ℕ) → active_clause new j ≡ (if j == id then None else active_clause old j)
+
+-- that a present clause of two or more literals contains the variable
+pub record IsUsed (s : ActiveClauses) (v : ℕ) : Type 0 where
+  pub id : ℕ
+  pub clause : List ℕ
+  pub present : active_clause s id ≡ Some clause
+  pub long : is_long clause ≡ true
+  pub within : mentions clause v ≡ true
+
+-- that a variable became new, its units are no longer present, and the other present clauses are the same
+pub record RenewsVariable (old new : ActiveClauses) (v bound : ℕ) : Type 0 where
+  pub standing : ActiveClausesInvariant new
+  pub present : new.present ≡ old.present
+  pub since : SinceWithin new bound
+  pub clauses : (j : ℕ) → active_clause new j ≡ unless_unit_over v (active_clause old j)
+
+-- that there is room for the literals of every present clause, and for their negations
+abbrev pub HasRoomForPresent : List ℕ → ActiveClauses → Type 0
+HasRoomForPresent room s = (id : ℕ) (clause : List ℕ) → active_clause s id ≡ Some clause → HasClauseRoom room clause

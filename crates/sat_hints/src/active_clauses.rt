@@ -1,0 +1,124 @@
+//! The clauses that are present in a text in which variables may become new.
+ghost use Rattle.std.specs.Prelude.{◌≡◌, ◌≢◌, ◌⊎◌, ℕ, [], None, Some, IfOk, OnErr, OnOk, MatchBool, MatchOption};
+ghost use Rattle.sat_checker.specs.SortedSets.{IsIncreasing};
+ghost use Rattle.sat_hints.specs.inner.Clauses.{AllBelow};
+ghost use Rattle.sat_hints.specs.inner.ActiveClauses.{active_clause, is_stale, DropsClause, FindsClause};
+ghost use Rattle.sat_hints.specs.inner.ActiveClauses.{RenewsVariable};
+ghost use Rattle.sat_hints.specs.inner.ActiveClauses.{AddsActiveClause, ActiveClausesInvariant, IsUsed, SinceWithin};
+
+use crate::present::Present;
+use crate::uses::Uses;
+use sat_base::{Lit, Table, Var};
+use std::alloc::{AllocError, Global};
+
+/// Clauses by id. A unit is removed when its variable becomes new.
+#[derive(Drop)]
+pub(crate) struct ActiveClauses {
+    pub(crate) present: Present,
+    uses: Uses,
+    /// For each variable, a bound on ids: units of the variable with ids below the bound were added before it last
+    /// became new.
+    since: Table<u64>,
+}
+
+impl ActiveClauses {
+    /// Returns an empty collection of clauses. Does not allocate.
+    pub(crate) fn new(alloc: Global) -> ActiveClauses
+        ensures standing { ActiveClausesInvariant result }
+        ensures none { result.present.ids.items ≡ [] }
+        ensures clauses { (id : ℕ) → active_clause result id ≡ None }
+        ensures since { SinceWithin result 0 }
+    {
+        ActiveClauses {
+            present: Present::new(alloc),
+            uses: Uses::new(alloc),
+            since: Table::new(alloc),
+        }
+    }
+
+    /// Whether `clause`, which has the id `id`, is a unit that was added before its variable last became new.
+    #[inline(always)]
+    fn is_stale(&self, id: u64, clause: &[Lit]) -> bool
+        ensures { result ≡ is_stale self.now.since id clause.now }
+    {
+        if clause.len() != 1 {
+            return false;
+        }
+        id < self.since.get(clause[0].index(), 0)
+    }
+
+    /// Returns the place of the clause with the id `id`, if this clause is present.
+    pub(crate) fn find(&self, id: u64) -> Option<usize>
+        requires { ActiveClausesInvariant self.now }
+        ensures { MatchOption result (active_clause self.now id ≡ None) (FindsClause self.now id) }
+    {
+        let place = self.present.find(id)?;
+        if self.is_stale(id, self.present.clause(place)) {
+            return None;
+        }
+        Some(place)
+    }
+
+    /// Returns the literals of the clause with the id `id` as a slice, if this clause is present.
+    #[inline(always)]
+    pub(crate) fn find_clause(&self, id: u64) -> Option<&[Lit]>
+        requires { ActiveClausesInvariant self.now }
+        ensures { MatchOption result (active_clause self.now id ≡ None) (λ clause. active_clause self.now id ≡ Some clause.now) }
+    {
+        let place = self.present.find(id)?;
+        let clause = self.present.clause(place);
+        if self.is_stale(id, clause) {
+            return None;
+        }
+        Some(clause)
+    }
+
+    /// Adds a clause, given as a sorted set, under the id `id`, which must be above all earlier ids.
+    pub(crate) fn push(&mut self, id: u64, clause: &[Lit]) -> Result<(), AllocError>
+        requires standing { ActiveClausesInvariant self.old }
+        requires above { AllBelow self.old.present.ids.items id }
+        requires since { SinceWithin self.old id }
+        requires increasing { IsIncreasing clause.now }
+        ensures { OnOk result (AddsActiveClause self.old self.new id clause.now) }
+    {
+        self.present.push(id, clause)?;
+        let _count = self.present.len();
+        self.uses.add(clause)?;
+        Ok(())
+    }
+
+    /// Removes the clause with the id `id`. Returns whether this clause was present.
+    pub(crate) fn remove(&mut self, id: u64) -> Result<bool, AllocError>
+        requires { ActiveClausesInvariant self.old }
+        ensures takes { IfOk result (λ was. MatchBool was ((active_clause self.old id ≢ None) × DropsClause self.old self.new id)
+            ((active_clause self.old id ≡ None) × (self.new ≡ self.old))) }
+        ensures judged { OnErr result (active_clause self.old id ≢ None) }
+    {
+        let Some(place) = self.find(id) else {
+            return Ok(false);
+        };
+        self.uses.subtract(self.present.clause(place));
+        self.present.remove(place)?;
+        Ok(true)
+    }
+
+    /// Whether the variable is in a present clause of two or more literals. Searches all clauses until a variable first
+    /// becomes new, and uses counts from then on.
+    pub(crate) fn is_used(&self, var: Var) -> bool
+        requires { ActiveClausesInvariant self.now }
+        ensures { MatchBool result (IsUsed self.now var) (IsUsed self.now var → ⊥) }
+    {
+        self.uses.has(&self.present, var)
+    }
+
+    /// Makes a variable new, which removes its units. The ids of all clauses must be below `bound`.
+    pub(crate) fn forget_units(&mut self, var: Var, bound: u64) -> Result<(), AllocError>
+        requires standing { ActiveClausesInvariant self.old }
+        requires above { AllBelow self.old.present.ids.items bound }
+        requires since { SinceWithin self.old bound }
+        ensures { OnOk result (RenewsVariable self.old self.new var bound) }
+    {
+        self.uses.begin(&self.present)?;
+        self.since.set(var.index(), bound, 0)
+    }
+}

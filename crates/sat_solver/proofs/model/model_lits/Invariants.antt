@@ -1,6 +1,0 @@
-use Rattle.std.proofs.Common.{◌≡◌}
-use Rattle.sat_solver.specs.Models.{model_to}
-use Rattle.sat_solver.proofs.model.model_lits.Given as goal
-
-abbrev pub invariant-loop-index : goal.invariant-loop-index
-invariant-loop-index l = l.lits.items ≡ model_to l.variables l.values l.index

@@ -1,0 +1,77 @@
+-- The working state of conflict analysis, and the functions that change it.
+use Rattle.std.specs.Prelude.{ℕ, ◌+◌, ◌-◌, ◌^◌, ◌==◌, nat_lt, min, length, Bool, true, false, List, [], ◌∷◌, ◌++◌, slice_index_or as get_or, slice_set as set, if◌then◌else◌}
+use Rattle.std.specs.List.{swap}
+use Rattle.sat_base.specs.values.Literals.{variable}
+use Rattle.sat_parts.specs.declared.prop.graph.ImplNode.{ImplNode}
+use Rattle.sat_parts.specs.declared.prop.graph.Reason.{Reason}
+use Rattle.sat_parts.specs.declared.prop.graph.Reason.TheVariants.{Unit as NoCause, Binary, Long}
+use Rattle.sat_parts.specs.declared.prop.graph.Conflict.{Conflict}
+use Rattle.sat_parts.specs.declared.prop.graph.Conflict.TheVariants as conflicts
+use Rattle.sat_parts.specs.prop.Graphs.{node_of}
+
+-- The state of an analysis. `clause`: the false literals of lower levels. `used`: the true literals whose reasons
+-- were used. `seen`: the variables that were met. `antecedents`: the long clauses that took part. `core`: the
+-- assumptions of a core. `flags`: a flag for each variable. `pending`: the number of flagged literals that are still
+-- to be resolved.
+pub record AnalysisState : Type 0 where
+  pub clause : List ℕ
+  pub used : List ℕ
+  pub seen : List ℕ
+  pub antecedents : List ℕ
+  pub core : List ℕ
+  pub flags : List Bool
+  pub pending : ℕ
+
+-- the state of an analysis with these fields
+abbrev pub analysis_state : (clause used seen antecedents core : List ℕ) (flags : List Bool) (pending : ℕ) → AnalysisState
+analysis_state clause used seen antecedents core flags pending = record { clause = clause; used = used; seen = seen; antecedents = antecedents; core = core; flags = flags; pending = pending }
+
+-- Meets a false literal. Nothing changes if it is of level 0 or flagged. Otherwise its variable is flagged and
+-- listed as met. If its level is `top` or above, it is counted as pending; otherwise it is added to the clause.
+abbrev pub with_seen_literal : (nodes : List ImplNode) (top r : ℕ) → AnalysisState → AnalysisState
+with_seen_literal nodes top r w =
+    if (node_of nodes (variable r)).level == 0 then w
+    else (if get_or w.flags (variable r) false then w
+    else (if nat_lt (node_of nodes (variable r)).level top
+    then record w { flags = set w.flags (variable r) true; seen = w.seen ++ variable r ∷ []; clause = w.clause ++ r ∷ [] }
+    else record w { flags = set w.flags (variable r) true; seen = w.seen ++ variable r ∷ []; pending = min (w.pending + 1) (2 ^ 64 - 1) }))
+
+-- meets these literals one after another
+abbrev pub with_seen_literals : (nodes : List ImplNode) (top : ℕ) → List ℕ → AnalysisState → AnalysisState
+with_seen_literals nodes top [] w = w
+with_seen_literals nodes top (r ∷ rs) w = with_seen_literals nodes top rs (with_seen_literal nodes top r w)
+
+-- unflags a true literal, which no longer has to be resolved
+abbrev pub unflagged : ℕ → AnalysisState → AnalysisState
+unflagged l w = record w { flags = set w.flags (variable l) false; pending = w.pending - 1 }
+
+-- the long clause of a reason, if it has one
+abbrev pub long_of : Reason → List ℕ
+long_of NoCause = []
+long_of (Binary ls) = []
+long_of (Long o) = o ∷ []
+
+-- the long clause that was falsified, if the conflict has one
+abbrev pub long_falsified : Conflict → List ℕ
+long_falsified (conflicts.Binary ls) = []
+long_falsified (conflicts.Long o) = o ∷ []
+
+-- uses the reason of a literal, which is thereby resolved
+abbrev pub with_reason_used : (r : Reason) (l : ℕ) → AnalysisState → AnalysisState
+with_reason_used r l w = record (unflagged l w) { used = w.used ++ l ∷ []; antecedents = w.antecedents ++ long_of r }
+
+-- adds a literal to the core, which no longer has to be resolved
+abbrev pub with_core_literal : ℕ → AnalysisState → AnalysisState
+with_core_literal l w = record (unflagged l w) { core = w.core ++ l ∷ [] }
+
+-- the state when the analysis of a conflict begins; flags are unchanged
+abbrev pub begun_analysis : Conflict → AnalysisState → AnalysisState
+begun_analysis e w = record w { clause = []; used = []; seen = []; antecedents = long_falsified e; core = []; pending = 0 }
+
+-- the state when the analysis of a failed assumption begins, which is the first literal of the core
+abbrev pub begun_core : ℕ → AnalysisState → AnalysisState
+begun_core l w = record w { clause = []; used = []; seen = []; antecedents = []; core = l ∷ []; pending = 0 }
+
+-- adds a literal at the front of the clause
+abbrev pub with_first : ℕ → AnalysisState → AnalysisState
+with_first r w = record w { clause = swap (w.clause ++ r ∷ []) 0 (length w.clause) }

@@ -1,0 +1,89 @@
+-- How a turn of a search ends.
+use Rattle.std.specs.Prelude.{ℕ, ◌≡◌, ◌+◌, ◌<◌, Option, None, Some, List, length, slice_index_or as get_or}
+use Rattle.std.specs.List.{Contains}
+use Rattle.sat_parts.specs.declared.prop.graph.Conflict.{Conflict}
+use Rattle.sat_parts.specs.prop.Values.{IsTrueLit, IsFalseLit}
+use Rattle.sat_parts.specs.declared.parts.assumptions.Assumptions.{Assumptions}
+use Rattle.sat_parts.specs.declared.parts.SearchState.{SearchState}
+use Rattle.sat_parts.specs.parts.Assumed.{AreDecided, ArePlaced, variables_of_lits}
+use Rattle.sat_parts.specs.parts.Frame.{SameClauses, AddsNoUnit}
+use Rattle.sat_parts.specs.parts.Round.{UnitsHaveNoReason, LevelZeroInvariant}
+use Rattle.sat_parts.specs.parts.Whole.{state, SearchStateInvariant, SearchStateInvariantBelow, IsFullyPropagated, AllAssigned, IsRefuted}
+use Rattle.sat_parts.specs.parts.Words.{TrailWordExtendsFor}
+use Rattle.sat_solver.specs.session.Session.{Session}
+use Rattle.sat_solver.specs.session.Fits.{SessionMatchesParts}
+use Rattle.sat_solver.specs.declared.cdcl.find_conflict.FoundConflict.{FoundConflict}
+use Rattle.sat_solver.specs.declared.cdcl.find_conflict.FoundConflict.TheVariants.{Falsified, Complete, Failed}
+use Rattle.sat_solver.specs.declared.context.Search.{Search}
+use Rattle.sat_solver.specs.cdcl.Joint.{global_in, assumed_indices, IsReadySearch, SearchInvariant, SameVarsAndAssumptions}
+
+-- all assumptions are true
+abbrev pub AllTrue : List ℕ → SearchState → Type 0
+AllTrue ls p = (k : ℕ) → k < length ls → IsTrueLit p.assignment.current (get_or ls k 0)
+
+-- nothing is left to propagate, every variable of a clause has a value, and the assumptions are true
+pub record IsComplete (ls : List ℕ) (p : SearchState) : Type 0 where
+  pub done : IsFullyPropagated p
+  pub all : AllAssigned p
+  pub assumed : AllTrue ls p
+
+-- the assumption l is false, and only assumptions were decided
+pub record IsFailing (ls : List ℕ) (p : SearchState) (l : ℕ) : Type 0 where
+  pub among : Contains ls l
+  pub fails : IsFalseLit p.assignment.current l
+  pub decided : AreDecided ls (state p)
+
+-- how a turn ends if propagation finds no conflict: a level was opened, or the search stops
+abbrev pub OpensLevelOrStops : Option FoundConflict → List ℕ → SearchState → SearchState → Type 0
+OpensLevelOrStops None ls p p' = length p'.trail.starts ≡ length p.trail.starts + 1
+OpensLevelOrStops (Some (Falsified e)) ls p p' = ⊥
+OpensLevelOrStops (Some Complete) ls p p' = IsComplete ls p'
+OpensLevelOrStops (Some (Failed l)) ls p p' = IsFailing ls p' l
+
+-- the effect of a turn after propagation: a level was opened, or the search stops; clauses and assumptions are
+-- unchanged, and no unit is new
+pub record GoesDeeper (found : Option FoundConflict) (a a' : Assumptions) (p p' : SearchState) : Type 0 where
+  pub holds : SearchStateInvariant p'
+  pub lits : a'.lits ≡ a.lits
+  pub placed : ArePlaced a' (state p')
+  pub word : TrailWordExtendsFor (variables_of_lits a.lits.items) p p'
+  pub same : SameClauses p p'
+  pub carries : AddsNoUnit (state p) (state p')
+  pub stops : OpensLevelOrStops found a.lits.items p p'
+
+-- everything is propagated, and no clause is falsified
+pub record IsPropagated (s : Session) (c : Search) : Type 0 where
+  pub holds : SearchStateInvariantBelow (length c.parts.trail.starts + 1) c.parts
+  pub done : IsFullyPropagated c.parts
+  pub units : 0 < length c.parts.trail.starts → UnitsHaveNoReason (state c.parts) × LevelZeroInvariant c.parts.trail
+  pub fits : SessionMatchesParts c.parts s (global_in c)
+  pub ready : IsReadySearch s c
+
+-- a clause is falsified
+pub record IsStopped (s : Session) (c : Search) (e : Conflict) : Type 0 where
+  pub refuted : IsRefuted c.parts e
+  pub fits : SessionMatchesParts c.parts s (global_in c)
+  pub ready : IsReadySearch s c
+
+-- what holds when a search stops: a falsified clause, a complete assignment, or a failed assumption
+abbrev pub StopResult : FoundConflict → Session → Search → Type 0
+StopResult (Falsified e) s c = IsStopped s c e
+StopResult Complete s c = SearchInvariant s c × IsComplete c.assumptions.lits.items c.parts
+StopResult (Failed l) s c = SearchInvariant s c × IsFailing c.assumptions.lits.items c.parts l
+
+-- what holds after a turn: one more level, or the search stopped
+abbrev pub IterationResult : Option FoundConflict → Session → Search → Search → Type 0
+IterationResult None s c c' = SearchInvariant s c' × (length c'.parts.trail.starts ≡ length c.parts.trail.starts + 1)
+IterationResult (Some stop) s c c' = StopResult stop s c'
+
+-- how a turn changes a search
+pub record IterationEffect (found : Option FoundConflict) (s : Session) (c c' : Search) : Type 0 where
+  pub says : IterationResult found s c c'
+  pub moved : SameVarsAndAssumptions c c'
+  pub word : TrailWordExtendsFor (assumed_indices c) c.parts c'.parts
+
+-- the search stopped
+pub record StopsSearch (stop : FoundConflict) (s : Session) (c c' : Search) : Type 0 where
+  pub says : StopResult stop s c'
+  pub moved : SameVarsAndAssumptions c c'
+  pub word : TrailWordExtendsFor (assumed_indices c) c.parts c'.parts

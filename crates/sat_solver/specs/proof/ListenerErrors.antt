@@ -1,0 +1,11 @@
+-- Underlying errors that are stored until they are reported.
+use Rattle.std.specs.Prelude.{◌≡◌, Option, Some}
+use Rattle.anyhow.specs.declared.error.Error.{Error}
+use Rattle.sat_solver.specs.declared.proof.emitted.CheckFault.{CheckFault}
+use Rattle.sat_solver.specs.declared.proof.emitted.CheckFault.TheVariants as checks
+
+-- if the fault is a processor's error, this error is stored
+abbrev pub IsListenerError : CheckFault → Option Error → Type 0
+IsListenerError checks.OutOfMemory complaint = Unit {0}
+IsListenerError checks.CounterEnd complaint = Unit {0}
+IsListenerError (checks.Processor cause) complaint = complaint ≡ Some cause
