@@ -91,7 +91,7 @@ returns-in-Err g c =
       word = x.word (assumed_indices c.args.search.now);
     }
 
-pub returns-in_err-prove_units : goal.returns-in_err-settle
+pub returns-in_err-prove_units : goal.returns-in_err-prove_units
 returns-in_err-prove_units g c = grind (arith, common_steps, err_from_is_err_and, falls_goes)
 
 pub returns-in_err-unit_simplify : goal.returns-in_err-unit_simplify

@@ -80,7 +80,7 @@ returns-in-Err g c =
     (falsified_whole s c.turns.search d i.search refl refl refl refl x.starts x.moved x.carries x.word x.keeps c.in-Err.conflict both.0 both.1 x.units x.base))
     i.came
 
-pub returns-in_err-prove_units : goal.returns-in_err-settle
+pub returns-in_err-prove_units : goal.returns-in_err-prove_units
 returns-in_err-prove_units g c =
     let p = err_from_is_err_and c.from_residual-in_err-prove_units.result c.from_residual-in_err-prove_units.ensures.1 in
     rw (p.1, p.2) (goes_then_fails g.W.CountedWrite.seen tt _ c.args.proof.now c.turns.proof c.prove_units.new.proof _ _ _ c.turns.invariant.came c.in_err-prove_units.ensures)

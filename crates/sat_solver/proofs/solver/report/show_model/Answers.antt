@@ -10,7 +10,7 @@ use Rattle.sat_solver.proofs.lemmas.solver.ShownLemmas.{shown_may}
 use Rattle.sat_solver.proofs.lemmas.solver.ReportingLemmas.{model_shown, starved, broken}
 use Rattle.sat_solver.proofs.solver.report.show_model.Goals as goal
 
-pub returns-in_err-reconstruct_global_model : goal.returns-in_err-model_lits
+pub returns-in_err-reconstruct_global_model : goal.returns-in_err-reconstruct_global_model
 returns-in_err-reconstruct_global_model g c = (let p = err_from_is_err_and c.from_residual.result c.from_residual.ensures.1 in rw (p.1, p.2) (starved g.W.CountedWrite.seen c.args.names.now c.args.core.now c.requires.joined))
 
 pub step-requires-clause-may : goal.step-requires-clause-may
