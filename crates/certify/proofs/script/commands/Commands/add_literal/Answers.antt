@@ -9,7 +9,7 @@ use Rattle.certify.specs.script.Commands.{kind_of}
 use Rattle.certify.proofs.lemmas.script.Tokens.{fails, goes_on, turn_number, valid, misplaced, held_some}
 use Rattle.certify.proofs.script.commands.Commands.add_literal.Goals as goal
 
-pub returns-then-not-allows_sign : goal.returns-then-not-may_stand
+pub returns-then-not-allows_sign : goal.returns-then-not-allows_sign
 returns-then-not-allows_sign c = grind (arith, common_steps, fails, turn_number, misplaced, held_some)
 
 pub returns : goal.returns

@@ -1,6 +1,6 @@
 use Rattle.certify.specs.script.LastPiece.{waiting_bytes}
 use Rattle.certify.proofs.lemmas.script.Streaming.{take_parts}
-use Rattle.certify.proofs.script.stream.CommandStream.consume.Goals as goal
+use Rattle.certify.proofs.script.stream.CommandStream.take.Goals as goal
 
 pub returns : goal.returns
 returns c =
