@@ -21,4 +21,4 @@ returns c =
     indexed o _ c.args.globals.now c.args.given.now c.count_with-count.result c.requires.holds c.requires.bottom c.requires.same more (λ le. c.count_with-count.ensures.least (length c.args.globals.now) (omega (arith, len, le)) (below_all o.parts (length c.args.globals.now) c.args.given.now c.requires.vacant.each)) c.count_with-count.ensures.past
     c.set_var_count.new.parts c.in_ok-set_var_count.ensures.grown c.take_indices.ensures
     c.resize.new.self.items (front_kept o.globals.items _ c.count_with-count.result _ _ more c.in_ok-resize.ensures.items) (omega (arith, c.in_ok-resize.ensures.len, c.resize.new.self.ok.0)) c.rename.ensures
-    refl c.in_ok-set_var_count.ensures.size c.in_ok-set_var_count.ensures.clear c.in_ok-set_var_count-2.ensures.grows
+    refl c.in_ok-set_var_count-2.ensures.size c.in_ok-set_var_count-2.ensures.clear c.in_ok-set_var_count-3.ensures.grows
