@@ -1,5 +1,6 @@
 //! Tables of values, indexed by numbers that are called *places*.
 ghost use Rattle.std.specs.Prelude.{ℕ, ◌≡◌, ◌≤◌, ◌<◌, ◌+◌, length, slice_index_or, OnOk, OnErr};
+ghost use Rattle.std.specs.BTreeMap.{btree_map_len};
 ghost use Rattle.sat_base.specs.values.Tables.{near_count, value_at, HasPlaceFor, KeepsRoom, KeepsValues, SetsValue};
 
 use std::alloc::{AllocError, Global};
@@ -43,6 +44,15 @@ impl<T: Copy> Table<T> {
         ensures room { KeepsRoom self.old self.new }
     {
         self.limit = self.limit.max(limit);
+    }
+
+    /// Allows `more` more places to become near. Does not allocate, and changes no value.
+    #[inline(always)]
+    pub fn grant(&mut self, more: usize)
+        ensures same { (missing : T) → KeepsValues missing self.old self.new }
+        ensures room { KeepsRoom self.old self.new }
+    {
+        self.limit = self.limit.saturating_add(more);
     }
 
     /// Returns the number of near places.
@@ -125,19 +135,46 @@ impl<T: Copy> Table<T> {
         self.make_far(place, missing)
     }
 
-    /// Makes `place` and all places before it near.
+    /// Makes `place` and all places before it near, and up to `MORE - 1` places after it, if they may become near.
     fn draw_near(&mut self, place: usize, missing: T) -> Result<(), AllocError>
-        requires { length self.old.near.items ≤ place }
+        requires far { length self.old.near.items ≤ place }
+        requires within { place < self.old.limit }
         ensures room { OnOk result (HasPlaceFor self.new place) }
         ensures same { KeepsValues missing self.old self.new }
         ensures others { KeepsRoom self.old self.new }
     {
-        for next in self.near.len()..place {
-            self.draw_next(next, missing)?;
-        }
-        self.draw_next(place, missing)?;
+        let end = place.saturating_add(MORE).min(self.limit);
+        self.draw_up_to(end, missing)?;
         self.limit = self.limit.saturating_add(MORE);
         Ok(())
+    }
+
+    /// Makes all places before `end` near.
+    fn draw_up_to(&mut self, end: usize, missing: T) -> Result<(), AllocError>
+        requires { length self.old.near.items ≤ end }
+        ensures longer { OnOk result (length self.new.near.items ≡ end) }
+        ensures same { KeepsValues missing self.old self.new }
+        ensures others { KeepsRoom self.old self.new }
+    {
+        if self.far.is_empty() {
+            return self.fill_up_to(end, missing);
+        }
+        for next in self.near.len()..end {
+            self.draw_next(next, missing)?;
+        }
+        Ok(())
+    }
+
+    /// Makes all places before `end` near. New ones get the value `missing`. The tree must be empty.
+    #[inline(always)]
+    fn fill_up_to(&mut self, end: usize, missing: T) -> Result<(), AllocError>
+        requires longer { length self.old.near.items ≤ end }
+        requires alone { btree_map_len self.old.far ≡ 0 }
+        ensures longer { OnOk result (length self.new.near.items ≡ end) }
+        ensures same { KeepsValues missing self.old self.new }
+        ensures others { KeepsRoom self.old self.new }
+    {
+        self.near.resize(end, missing)
     }
 
     /// Makes `next`, the first place that is not near, near.
