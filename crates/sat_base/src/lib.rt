@@ -49,4 +49,4 @@ pub use steps::{
 };
 pub use table::Table;
 pub use text::{Token, Tokenizer};
-pub use var::Var;
+pub use var::{MaybeVar, Var};

@@ -1,5 +1,5 @@
 //! Variables.
-ghost use Rattle.std.specs.Prelude.{◌≡◌, ◌+◌, ◌<◌, true, false, MatchOption, pos};
+ghost use Rattle.std.specs.Prelude.{◌≡◌, ◌+◌, ◌<◌, true, false, MatchOption, None, pos};
 ghost use Rattle.sat_base.specs.values.Literals.{mk_lit, var_limit};
 ghost use Rattle.sat_base.specs.values.Numerals.{IsNoVariable};
 
@@ -94,5 +94,66 @@ impl Var {
         ensures { result ≡ var_limit }
     {
         MAX_COUNT
+    }
+}
+
+/// An optional variable in 4 bytes. Contracts see an `Option`.
+///
+/// An `Option<Var>` takes 8 bytes.
+#[derive(Clone, Copy, Debug, PartialEq, Eq)]
+pub struct MaybeVar {
+    /// One more than the variable's index, or 0 if there is no variable.
+    above: u32,
+}
+
+impl Model for MaybeVar {
+    ghost use Rattle.std.specs.Prelude.{ℕ, ◌≤◌, Option};
+    ghost use Rattle.sat_base.specs.values.Literals.{var_limit};
+    ghost use Rattle.sat_base.specs.values.Packed.{packed, unpacked, packed_unpacked};
+
+    ghost Value = { Option ℕ };
+
+    ghost view = { λ v. unpacked v.above };
+
+    ghost inverse = { λ o. record { above = packed o } };
+
+    ghost inverse_ok = { λ v _ i. record { above = packed_unpacked v.above i } };
+
+    ghost invariant = { λ v. v.above ≤ var_limit };
+}
+
+impl MaybeVar {
+    /// Returns no variable.
+    #[inline(always)]
+    pub fn none() -> MaybeVar
+        ensures { result ≡ None }
+    {
+        MaybeVar { above: 0 }
+    }
+
+    /// Packs an optional variable.
+    #[inline(always)]
+    pub fn new(var: Option<Var>) -> MaybeVar
+        ensures { result ≡ var }
+    {
+        match var {
+            Some(var) => MaybeVar {
+                above: var.index + 1,
+            },
+            None => MaybeVar { above: 0 },
+        }
+    }
+
+    /// Returns the variable, or `None` if there is none.
+    #[inline(always)]
+    pub fn get(self) -> Option<Var>
+        ensures { result ≡ self }
+    {
+        if self.above == 0 {
+            return None;
+        }
+        Some(Var {
+            index: self.above - 1,
+        })
     }
 }
