@@ -21,4 +21,6 @@ mod numbers;
 #[cfg(test)]
 mod steps;
 #[cfg(test)]
+mod table;
+#[cfg(test)]
 mod text;

@@ -2,7 +2,7 @@
 ghost use Rattle.std.specs.Prelude.{◌<◌, ◌*◌};
 ghost use Rattle.sat_base.specs.values.Literals.{var_limit};
 
-use sat_base::{Lit, Var, clause_hash, lit_hash, order_of_literals, order_of_variables};
+use sat_base::{Lit, MaybeVar, Var, clause_hash, lit_hash, order_of_literals, order_of_variables};
 use std::cmp::Ordering;
 use std::hash::{DefaultHasher, Hash, Hasher};
 use std::test::*;
@@ -27,6 +27,14 @@ fn numbers_of_variables(rt: HostRuntime) {
     let wrong = first_of_variable(&[0, -1, 268_435_457, i64::MAX, i64::MIN]);
     assert!(rt; wrong == None, "{wrong:?}");
     assert!(rt; (Var::from_index(6).to_dimacs(), Var::max_count()) == (7, 268_435_456));
+}
+
+#[test]
+fn optional_variables(rt: HostRuntime) {
+    let last = Var::from_index(268_435_455);
+    let found = (MaybeVar::new(Some(last)).get(), MaybeVar::none().get());
+    assert!(rt; found == (Some(last), None), "{found:?}");
+    assert!(rt; MaybeVar::new(None) == MaybeVar::none());
 }
 
 /// Returns the first number that converts to a literal, or `None`.

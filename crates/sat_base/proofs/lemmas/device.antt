@@ -6,3 +6,4 @@ pub mod ReadLemmas
 pub mod Sending
 pub mod WholeAnswers
 pub mod Writes
+pub mod Room

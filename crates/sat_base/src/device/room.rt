@@ -21,6 +21,13 @@ pub(crate) trait Room: Drop {
         ensures waiting { waiting self.new ≡ waiting self.old ++ (byte ∷ []) }
         ensures size { size self.new ≡ size self.old };
 
+    /// Adds the first `count` of four bytes. There must be room for four bytes.
+    fn push_some(&mut self, bytes: [u8; 4], count: usize)
+        requires count { count ≤ 4 }
+        requires room { length (waiting self.old) + 4 ≤ size self.old }
+        ensures waiting { waiting self.new ≡ waiting self.old ++ take count bytes }
+        ensures size { size self.new ≡ size self.old };
+
     /// Adds bytes. There must be room for them.
     fn push_all(&mut self, piece: &[u8])
         requires { length (waiting self.old) + length piece.now ≤ size self.old }
@@ -52,6 +59,17 @@ impl<const N: usize> Room for Pending<N> {
     fn push(&mut self, byte: u8) {
         self.bytes[self.len] = byte;
         self.len += 1;
+    }
+
+    #[inline(always)]
+    fn push_some(&mut self, bytes: [u8; 4], count: usize) {
+        let [first, second, third, fourth] = bytes;
+        let at = self.len;
+        self.bytes[at] = first;
+        self.bytes[at + 1] = second;
+        self.bytes[at + 2] = third;
+        self.bytes[at + 3] = fourth;
+        self.len = at + count;
     }
 
     fn push_all(&mut self, piece: &[u8]) {

@@ -198,7 +198,7 @@ impl<W: CountedWrite, P: Room> Output<W, P> {
     {
         self.put_number(hashes.len() as u64)?;
         for hash in hashes {
-            self.put_number(*hash)?;
+            self.put_hash(*hash)?;
         }
         Ok(())
     }
@@ -210,7 +210,7 @@ impl<W: CountedWrite, P: Room> Output<W, P> {
     {
         let (lit, hash) = unit;
         self.put_number(lit.code() as u64)?;
-        self.put_number(hash)
+        self.put_hash(hash)
     }
 
     /// Writes a list of units to the buffer.

@@ -9,7 +9,7 @@ ghost use Rattle.sat_base.specs.steps.StepViews.{step_of, deletion_of};
 use crate::device::output::Output;
 use crate::device::room::Room;
 use crate::steps::fields::tag;
-use crate::steps::numbers::{LONGEST, push_number};
+use crate::steps::numbers::{LONGEST, push_code, push_hash, push_number};
 use crate::{ClauseHash, CountedWrite, DeleteClauseProof, HashBits, Lit, ProofStep, Var};
 
 /// Returns the lengths of a step's list of literals and of its list of hashes. A list of units counts as both.
@@ -46,6 +46,28 @@ impl<W: CountedWrite, P: Room> Output<W, P> {
         ensures room { UsesRoom 10 P.waiting P.size self.old.pending self.new.pending }
     {
         push_number(&mut self.pending, number);
+    }
+
+    /// Appends the code of a literal to the pending bytes.
+    #[inline(always)]
+    fn push_code(&mut self, code: u64)
+        requires { HasByteRoom 10 P.waiting P.size self.old.pending }
+        ensures sends { AddsToSink (sink_of W.seen P.waiting self.old) (sink_of W.seen P.waiting self.new)
+            (number_bytes code) }
+        ensures room { UsesRoom 10 P.waiting P.size self.old.pending self.new.pending }
+    {
+        push_code(&mut self.pending, code);
+    }
+
+    /// Appends a hash to the pending bytes.
+    #[inline(always)]
+    fn push_hash(&mut self, hash: ClauseHash)
+        requires { HasByteRoom 10 P.waiting P.size self.old.pending }
+        ensures sends { AddsToSink (sink_of W.seen P.waiting self.old) (sink_of W.seen P.waiting self.new)
+            (number_bytes hash) }
+        ensures room { UsesRoom 10 P.waiting P.size self.old.pending self.new.pending }
+    {
+        push_hash(&mut self.pending, hash);
     }
 
     /// Appends a variable to the pending bytes.
@@ -118,7 +140,7 @@ impl<W: CountedWrite, P: Room> Output<W, P> {
     {
         self.push_one(lits.len() as u64);
         for lit in lits {
-            self.push_one(lit.code() as u64);
+            self.push_code(lit.code() as u64);
         }
     }
 
@@ -131,7 +153,7 @@ impl<W: CountedWrite, P: Room> Output<W, P> {
     {
         self.push_one(hashes.len() as u64);
         for hash in hashes {
-            self.push_one(*hash);
+            self.push_hash(*hash);
         }
     }
 

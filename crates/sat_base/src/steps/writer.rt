@@ -7,20 +7,22 @@ ghost use Rattle.sat_base.specs.steps.StepText.{SpellsStep};
 ghost use Rattle.sat_base.specs.steps.StepViews.{step_of};
 ghost use Rattle.sat_base.specs.steps.StepWriting.{steps_sink};
 
-use crate::device::ahead::PIECE;
 use crate::device::output::Output;
 use crate::device::pending::Pending;
 use crate::{CountedWrite, ProofStep};
 use std::io;
 
+/// The buffer size for writing a proof.
+const LONG_PIECE: usize = 16_384;
+
 /// The buffer size for writing a single step.
 const SHORT_PIECE: usize = 64;
 
-/// A writer of proof steps. It buffers at most 4,096 pending bytes, so a proof of N bytes takes about N/4,096 writes.
+/// A writer of proof steps. It buffers at most 16,384 pending bytes, so a proof of N bytes takes about N/16,384 writes.
 /// The pending bytes are written out when the buffer has no room for more, by `flush`, and by `into_inner`.
 #[derive(Drop)]
 pub struct StepWriter<W> {
-    output: Output<W, Pending<PIECE>>,
+    output: Output<W, Pending<LONG_PIECE>>,
 }
 
 impl<W: CountedWrite> StepWriter<W> {

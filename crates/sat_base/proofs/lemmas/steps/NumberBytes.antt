@@ -1,6 +1,7 @@
 -- The bytes of a number, as they are written.
-use Rattle.std.proofs.Common.{◌≡◌, ℕ, suc, zero, ◌+◌, ◌*◌, ◌-◌, ◌/◌, ◌%◌, ◌^◌, ◌<◌, ◌≤◌, Bool, true, false, nat_lt, List, [], ◌∷◌, ◌++◌, Result, Ok, Err, append_assoc, refl, sym, ap, subst, ◌∙◌, if◌then◌else◌, arith}
+use Rattle.std.proofs.Common.{◌≡◌, ℕ, suc, zero, ◌+◌, ◌*◌, ◌-◌, ◌/◌, ◌%◌, ◌^◌, ◌<◌, ◌≤◌, Bool, true, false, nat_lt, List, [], ◌∷◌, ◌++◌, take, Result, Ok, Err, append_assoc, refl, sym, ap, subst, ◌∙◌, if◌then◌else◌, arith}
 use Rattle.std.specs.Prelude.{length}
+use Rattle.std.specs.Int.{from_bool}
 use Rattle.std.proofs.lemmas.List.{length-append}
 use Rattle.std.proofs.lemmas.Grind.{common_steps}
 use Rattle.std.proofs.Math.Nat.{pow-succ'}
@@ -102,6 +103,47 @@ wait_more number rest byte before now new size h e g w =
 
 pub wait_end : (number rest : ℕ) (before now new : List ℕ) (size : ℕ) → rest < 128 → GroupsWait number rest before now size → new ≡ now ++ rest ∷ [] → new ≡ before ++ groups 9 number
 wait_end number rest before now new size h g w = w ∙ ap (λ (z : List ℕ). now ++ z) (sym (groups_last g.left rest h)) ∙ g.whole
+
+-- FEW GROUPS, as the first of four bytes
+
+-- a number has one group, or one more
+pub one_or_two : (n more : ℕ) → n < 16384 → more ≡ from_bool (nat_lt 0 (n / 128)) → groups 9 n ≡ take (1 + more) ((n % 128 + 128 * more) ∷ n / 128 ∷ 0 ∷ 0 ∷ [])
+one_or_two n more h e = by_second (nat_lt 0 (n / 128)) refl ∙ ap (λ (m : ℕ). take (1 + m) ((n % 128 + 128 * m) ∷ n / 128 ∷ 0 ∷ 0 ∷ [])) (sym e)
+  where
+    by_second : (b : Bool) → nat_lt 0 (n / 128) ≡ b → groups 9 n ≡ take (1 + from_bool b) ((n % 128 + 128 * from_bool b) ∷ n / 128 ∷ 0 ∷ 0 ∷ [])
+    by_second true e = let k : 0 < n / 128 = grind (arith, common_steps) in groups_on 8 n (omega arith) ∙ ap (λ (z : List ℕ). (n % 128 + 128) ∷ z) (groups_last 8 (n / 128) (omega arith))
+    by_second false e =
+        let k : n / 128 ≡ 0 = grind (arith, common_steps) in
+        let low : n ≡ n % 128 + 0 = omega arith in
+        groups_last 9 n (omega arith) ∙ ap (λ (m : ℕ). m ∷ []) low
+
+-- a number has three groups, or one more
+pub three_or_four : (n more : ℕ) → 16384 ≤ n → n < 268435456 → more ≡ from_bool (nat_lt 0 (n / 2097152))
+    → groups 9 n ≡ take (3 + more) ((n % 128 + 128) ∷ (n / 128 % 128 + 128) ∷ (n / 16384 % 128 + 128 * more) ∷ n / 2097152 ∷ [])
+three_or_four n more h l e =
+    two ∙ ap (λ (z : List ℕ). (n % 128 + 128) ∷ (n / 128 % 128 + 128) ∷ z) (ap (groups 7) third) ∙ by_fourth (nat_lt 0 (n / 2097152)) refl
+    ∙ ap (λ (m : ℕ). take (3 + m) ((n % 128 + 128) ∷ (n / 128 % 128 + 128) ∷ (n / 16384 % 128 + 128 * m) ∷ n / 2097152 ∷ [])) (sym e)
+  where
+    two : groups 9 n ≡ (n % 128 + 128) ∷ (n / 128 % 128 + 128) ∷ groups 7 (n / 128 / 128)
+    two = groups_on 8 n (omega arith) ∙ ap (λ (z : List ℕ). (n % 128 + 128) ∷ z) (groups_on 7 (n / 128) (omega arith))
+
+    third : n / 128 / 128 ≡ n / 16384
+    third = omega arith
+
+    fourth : n / 16384 / 128 ≡ n / 2097152
+    fourth = omega arith
+
+    by_fourth : (b : Bool) → nat_lt 0 (n / 2097152) ≡ b
+        → (n % 128 + 128) ∷ (n / 128 % 128 + 128) ∷ groups 7 (n / 16384) ≡ take (3 + from_bool b) ((n % 128 + 128) ∷ (n / 128 % 128 + 128) ∷ (n / 16384 % 128 + 128 * from_bool b) ∷ n / 2097152 ∷ [])
+    by_fourth true e =
+        let k : 0 < n / 2097152 = grind (arith, common_steps) in
+        let last : groups 7 (n / 16384) ≡ (n / 16384 % 128 + 128) ∷ n / 2097152 ∷ [] = groups_on 6 (n / 16384) (omega arith) ∙ ap (λ (z : List ℕ). (n / 16384 % 128 + 128) ∷ z) (ap (groups 6) fourth ∙ groups_last 6 (n / 2097152) (omega arith)) in
+        ap (λ (z : List ℕ). (n % 128 + 128) ∷ (n / 128 % 128 + 128) ∷ z) last
+    by_fourth false e =
+        let k : n / 2097152 ≡ 0 = grind (arith, common_steps) in
+        let low : n / 16384 ≡ n / 16384 % 128 + 0 = omega arith in
+        let last : groups 7 (n / 16384) ≡ (n / 16384 % 128 + 0) ∷ [] = groups_last 7 (n / 16384) (omega arith) ∙ ap (λ (m : ℕ). m ∷ []) low in
+        ap (λ (z : List ℕ). (n % 128 + 128) ∷ (n / 128 % 128 + 128) ∷ z) last
 
 -- WHAT THE GROUPS SPELL
 
