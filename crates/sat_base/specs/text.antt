@@ -3,3 +3,4 @@ pub mod Position
 pub mod WrongWords
 pub mod Tokenizing
 pub mod Chunks
+pub mod NumberWords

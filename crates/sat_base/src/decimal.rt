@@ -1,5 +1,7 @@
-//! Writes numbers in decimal.
+//! Reads and writes numbers in decimal.
 ghost use Rattle.std.specs.Prelude.{◌≡◌, ◌+◌, ◌/◌, ◌%◌, ◌<◌, ◌≤◌, ◌++◌, ◌∷◌, [], length, take, decimal, OnOk};
+
+pub mod reading;
 
 use std::alloc::AllocError;
 

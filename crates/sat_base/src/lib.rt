@@ -21,6 +21,7 @@ mod table;
 mod text;
 mod var;
 
+pub use decimal::reading::{append_digit, read_number, take_text};
 pub use decimal::{MOST_DIGITS, push_decimal, write_decimal};
 pub use device::{Counted, CountedRead, CountedWrite, Feed, ReadError, read_into, read_whole};
 pub use dimacs::DimacsParser;

@@ -9,3 +9,4 @@ pub mod HeaderFirst
 pub mod PlainTokens
 pub mod RightWords
 pub mod WholeNumbers
+pub mod NumberWords
