@@ -215,6 +215,32 @@ impl ClauseAlloc {
         self.words[at + 2] = header.len() as u32;
     }
 
+    /// Sets the activity of a clause.
+    #[inline(always)] // called for each clause that analysis uses
+    pub fn set_activity(&mut self, cref: ClauseRef, activity: u32)
+        requires { IsClause self.old cref }
+        ensures header { header_at self.new cref ≡ record (header_at self.old cref) { activity = activity } }
+        ensures lits { lits_at self.new cref ≡ lits_at self.old cref }
+        ensures others { ChangesAt self.old self.new cref }
+    {
+        self.words[cref.offset as usize] = activity;
+    }
+
+    /// Replaces the tier, the flags and the glue of a clause with those of a header. The clause keeps its activity and
+    /// its length.
+    #[inline(always)] // called for each clause that analysis uses
+    pub fn set_flags(&mut self, cref: ClauseRef, header: ClauseHeader)
+        requires { IsClause self.old cref }
+        ensures header { header_at self.new cref ≡ record header {
+          activity = (header_at self.old cref).activity;
+          len = (header_at self.old cref).len;
+        } }
+        ensures lits { lits_at self.new cref ≡ lits_at self.old cref }
+        ensures others { ChangesAt self.old self.new cref }
+    {
+        self.words[cref.offset as usize + 1] = header.flags();
+    }
+
     /// Returns a view of a clause.
     pub fn clause(&self, cref: ClauseRef) -> Clause<'_>
         requires { IsClause self.now cref }

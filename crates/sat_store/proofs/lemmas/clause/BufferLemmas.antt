@@ -1,6 +1,6 @@
 -- The effect of writes to the buffer on the clauses in it.
 use Rattle.std.proofs.Common.{◌≡◌, ◌≢◌, ◌-◌, ℕ, zero, suc, append_assoc, ◌+◌, ◌*◌, ◌^◌, ◌<◌, ◌≤◌, inl, inr, List, [], ◌∷◌, ◌++◌, length, get_or, set, take, drop, refl, sym, ap, ◌∙◌, subst, arith, length-append, length-drop}
-use Rattle.std.proofs.lemmas.List.{get_or_read, take_more, length-take-le, get_or-take, get_or-drop, get_or_append_left, get_or-append-add, ext_get_or, get_or-set_same, get_or-set_other, length-set, drop-set-add, get_or_past}
+use Rattle.std.proofs.lemmas.List.{take_all, get_or_read, take_more, length-take-le, get_or-take, get_or-drop, get_or_append_left, get_or-append-add, ext_get_or, get_or-set_same, get_or-set_other, length-set, drop-set-add, get_or_past}
 use Rattle.std.proofs.Math.Seq.{take-set-lt, take-append_seam}
 use Rattle.std.proofs.lemmas.List.Elements.{Contains-append_cases, All-more}
 use Rattle.std.proofs.lemmas.Bool.{cases_eq, cases_lt}
@@ -272,6 +272,53 @@ pub header_wrote : (v w : List ℕ) (p o a f l : ℕ) (h : Header) → v ≡ w �
 header_wrote v w p o a f l h e g c active small len shorter is =
     let here : LeavesHeader w (set (set (set w o h.activity) (o + 1) f) (o + 2) h.len) o h = header_left w (set (set (set w o h.activity) (o + 1) f) (o + 2) h.len) o h.activity f h.len h c (wrote_header w o h.activity f h.len (omega (arith, c.whole))) small shorter is in
     rw (e, g, active, len) here
+
+-- writing one word of a header
+
+pub record LeavesLits (w v : List ℕ) (o : ℕ) (h : Header) : Type 0 where
+  pub header : header_at v o ≡ h
+  pub lits : lits_at v o ≡ lits_at w o
+  pub others : ChangesAt w v o
+
+whole_lits : (w v : List ℕ) (o : ℕ) (h : Header) → IsClause w o → h.len ≡ get_or w (o + 2) 0 → LeavesHeader w v o h → LeavesLits w v o h
+whole_lits w v o h c len x = record {
+  header = x.header;
+  lits = x.lits ∙ take_all h.len (lits_at w o) (omega (arith, len, lits_count w o c));
+  others = x.others;
+}
+
+pub activity_wrote : (v w : List ℕ) (p o a : ℕ) → v ≡ w → p ≡ o → IsClause w o → LeavesLits w (set v p a) o (record (header_at w o) { activity = a })
+unfolding header_at
+activity_wrote v w p o a e g c =
+    let n : length (lits_at w o) ≡ get_or w (o + 2) 0 = lits_count w o c in
+    let h : Header = header_of a (get_or w (o + 1) 0) (get_or w (o + 2) 0) in
+    let wrote : WroteHeader w (set w o a) o a (get_or w (o + 1) 0) (get_or w (o + 2) 0) = record {
+      first = get_or-set_same w o a 0 (omega (arith, c.whole));
+      second = at_other w o (o + 1) a (omega arith);
+      third = at_other w o (o + 2) a (omega arith);
+      size = length-set w o a;
+      other = λ i d1 d2 d3. at_other w o i a d1;
+    } in
+    let here : LeavesLits w (set w o a) o h = whole_lits w (set w o a) o h c refl
+    (header_left w (set w o a) o a (get_or w (o + 1) 0) (get_or w (o + 2) 0) h c wrote c.flags (omega arith) refl) in
+    rw (e, g) here
+
+pub flags_wrote : (v w : List ℕ) (p o f : ℕ) (h : Header) → v ≡ w → p ≡ o → IsClause w o → f < 2 ^ 11 → header_of h.activity f h.len ≡ h → LeavesLits w (set v (p + 1) f) o (record h { activity = (header_at w o).activity; len = (header_at w o).len })
+unfolding header_at
+flags_wrote v w p o f h e g c small is =
+    let n : length (lits_at w o) ≡ get_or w (o + 2) 0 = lits_count w o c in
+    let h' : Header = record h { activity = get_or w o 0; len = get_or w (o + 2) 0 } in
+    let wrote : WroteHeader w (set w (o + 1) f) o (get_or w o 0) f (get_or w (o + 2) 0) = record {
+      first = at_other w (o + 1) o f (omega arith);
+      second = get_or-set_same w (o + 1) f 0 (omega (arith, c.whole));
+      third = at_other w (o + 1) (o + 2) f (omega arith);
+      size = length-set w (o + 1) f;
+      other = λ i d1 d2 d3. at_other w (o + 1) i f d2;
+    } in
+    let there : header_of (get_or w o 0) f (get_or w (o + 2) 0) ≡ h' = ap (λ (x : Header). record x { activity = get_or w o 0; len = get_or w (o + 2) 0 }) is in
+    let here : LeavesLits w (set w (o + 1) f) o h' = whole_lits w (set w (o + 1) f) o h' c refl
+    (header_left w (set w (o + 1) f) o (get_or w o 0) f (get_or w (o + 2) 0) h' c wrote small (omega arith) there) in
+    rw (e, g) here
 
 pub len_read : (v w : List ℕ) (p o x : ℕ) → v ≡ w → p ≡ o → IsClause w o → x ≡ get_or v (p + 2) x → (x ≡ length (lits_at w o)) × (x ≡ (header_at w o).len)
 len_read v w p o x e f c read =
