@@ -166,6 +166,7 @@ impl Vsids {
     }
 
     /// Makes a variable available, so that it may be picked.
+    #[inline(always)] // called for each literal that is undone
     pub fn make_available(&mut self, var: Var)
         requires { var < length self.old.available }
         ensures { self.new ≡ with_available var true self.old }

@@ -1,7 +1,8 @@
 -- A list of all variables with their activities, whose first m entries are a heap, and the position of every variable in it.
-use Rattle.std.specs.Prelude.{◌≡◌, ◌≢◌, ℕ, ◌+◌, ◌-◌, ◌*◌, ◌/◌, ◌^◌, ◌<◌, ◌≤◌, ◌++◌, Bool, false, nat_lt, List, length, map, replicate, slice_index_or as get_or, slice_set as set}
+use Rattle.std.specs.Prelude.{◌≡◌, ◌≢◌, ℕ, ◌+◌, ◌-◌, ◌*◌, ◌/◌, ◌^◌, ◌<◌, ◌≤◌, ◌⊎◌, ◌++◌, Bool, false, nat_lt, List, length, map, replicate, slice_index_or as get_or, slice_set as set}
 use Rattle.sat_base.specs.values.Literals.{var_limit}
 use Rattle.sat_store.specs.declared.vsids.heap.Entry.{Entry}
+use Rattle.sat_store.specs.declared.vsids.heap.Child.{Child}
 
 -- the default for positions past the end of the list
 abbrev pub no_entry : Entry
@@ -57,6 +58,24 @@ pub record DownFrom (r : ℕ → ℕ) (m low hole : ℕ) : Type 0 where
 -- that no child of position `at` ranks above the entry at position `child`
 abbrev pub IsFirstChild : (r : ℕ → ℕ) (m at child : ℕ) → Type 0
 IsFirstChild r m at child = (k : ℕ) → 0 < k → k < m → parent k ≡ at → r k ≤ r child
+
+-- c has position k, and the entry at this position
+abbrev pub IsChildAt : List Entry → ℕ → Child → Type 0
+IsChildAt heap k c = (c.at ≡ k) × (c.entry ≡ get_or heap k no_entry)
+
+-- c is a or b, and neither of these ranks above it
+pub record IsFirstOf (a b c : Child) : Type 0 where
+  pub either : (c ≡ a) ⊎ (c ≡ b)
+  pub first : rank a.entry ≤ rank c.entry
+  pub second : rank b.entry ≤ rank c.entry
+
+-- that c is a child of position `at`, with its entry, and no other child of `at` ranks above it
+pub record FirstChildOf (heap : List Entry) (m at : ℕ) (c : Child) : Type 0 where
+  pub under : parent c.at ≡ at
+  pub some : 0 < c.at
+  pub within : c.at < m
+  pub place : IsChildAt heap c.at c
+  pub first : IsFirstChild (rank_at heap) m at c.at
 
 -- no child of position `at` ranks above this entry
 abbrev pub NoneAbove : (heap : List Entry) (m : ℕ) (entry : Entry) (at : ℕ) → Type 0

@@ -3,7 +3,8 @@ ghost use Rattle.std.specs.Prelude.{◌≡◌, ◌+◌, ◌*◌, ◌<◌, ◌≤
 ghost use Rattle.std.specs.Prelude.{false, vec_capacity};
 ghost use Rattle.sat_base.specs.values.Literals.{var_limit};
 ghost use Rattle.sat_store.specs.heap.Heap.{var_at, HoldsVariables, Placed, IsHeap, StaysHeap, rank, rank_at, parent};
-ghost use Rattle.sat_store.specs.heap.Heap.{Ordered, UpFrom, IsFirstChild, FirstAbove, NoneAbove, SettlesDown};
+ghost use Rattle.sat_store.specs.heap.Heap.{Ordered, UpFrom, IsChildAt, IsFirstOf, FirstChildOf, IsFirstChild, FirstAbove};
+ghost use Rattle.sat_store.specs.heap.Heap.{NoneAbove, SettlesDown};
 ghost use Rattle.sat_store.specs.heap.Heap.{Exchanged, Rearranged, SetsFlag, AddsHeapVars, keys};
 
 /// A variable and its activity.
@@ -48,7 +49,8 @@ fn is_above(a: Entry, b: Entry) -> bool
     requires second { b.var < var_limit }
     ensures { IsTrue result ↔ (rank b < rank a) }
 {
-    a.key > b.key || a.key == b.key && a.var < b.var
+    u128::from(a.key) * 18446744073709551616 + u128::from(b.var)
+        > u128::from(b.key) * 18446744073709551616 + u128::from(a.var)
 }
 
 /// Whether an entry comes before the parent of a position.
@@ -83,9 +85,56 @@ pub(super) fn sift_up(heap: &mut Vec<Entry>, positions: &mut Vec<u32>, available
     put(heap, positions, hole, entry);
 }
 
-/// Returns the position of that child of `at` that comes before the others in the heap's order. There must be a child.
+/// An entry with its position.
+#[derive(Clone, Copy)]
+struct Child {
+    entry: Entry,
+    at: usize,
+}
+
+/// Returns the entry at a position.
 #[inline(always)] // called at each step down
-fn first_child(heap: &[Entry], available: usize, at: usize) -> usize
+fn child_at(heap: &[Entry], at: usize) -> Child
+    requires { at < length heap.now }
+    ensures { IsChildAt heap.now at result }
+{
+    Child {
+        entry: heap[at],
+        at,
+    }
+}
+
+/// Returns that one of two entries that comes before the other.
+#[inline(always)] // called at each step down
+fn first_of(a: Child, b: Child) -> Child
+    requires first { a.entry.var < var_limit }
+    requires second { b.entry.var < var_limit }
+    ensures first { IsFirstOf a b result }
+    ensures var { result.entry.var < var_limit }
+{
+    if is_above(b.entry, a.entry) { b } else { a }
+}
+
+/// Returns that child of `at` that comes before the others in the heap's order. There must be a child.
+#[inline(always)] // called at each step down
+fn first_child(heap: &[Entry], available: usize, at: usize) -> Child
+    requires listed { HoldsVariables heap.now }
+    requires few { length heap.now ≤ var_limit }
+    requires within { available ≤ length heap.now }
+    requires some { 4 * at + 1 < available }
+    ensures { FirstChildOf heap.now available at result }
+{
+    if 4 * at + 4 < available {
+        let low = first_of(child_at(heap, 4 * at + 1), child_at(heap, 4 * at + 2));
+        let high = first_of(child_at(heap, 4 * at + 3), child_at(heap, 4 * at + 4));
+        return first_of(low, high);
+    }
+    child_at(heap, last_first_child(heap, available, at))
+}
+
+/// Returns the position of the child that `first_child` returns, for any number of children.
+#[inline(never)] // at most one position has one, two or three children
+fn last_first_child(heap: &[Entry], available: usize, at: usize) -> usize
     requires listed { HoldsVariables heap.now }
     requires few { length heap.now ≤ var_limit }
     requires within { available ≤ length heap.now }
@@ -109,23 +158,23 @@ fn first_child(heap: &[Entry], available: usize, at: usize) -> usize
     child
 }
 
-/// Returns the position that `first_child` returns, if its entry comes before `entry`; otherwise, or if `at` has no
+/// Returns the child that `first_child` returns, if its entry comes before `entry`; otherwise, or if `at` has no
 /// child, returns `None`.
 #[inline(always)] // called at each step down
-fn child_above(heap: &[Entry], available: usize, entry: Entry, at: usize) -> Option<usize>
+fn child_above(heap: &[Entry], available: usize, entry: Entry, at: usize) -> Option<Child>
     requires listed { HoldsVariables heap.now }
     requires few { length heap.now ≤ var_limit }
     requires within { available ≤ length heap.now }
     requires var { entry.var < var_limit }
     requires at { at < available }
     ensures { MatchOption result (NoneAbove heap.now available entry at)
-        (λ child. FirstAbove heap.now available entry at child) }
+        (λ child. FirstAbove heap.now available entry at child.at × IsChildAt heap.now child.at child) }
 {
     if 4 * at + 1 >= available {
         return None;
     }
     let child = first_child(heap, available, at);
-    if !is_above(heap[child], entry) {
+    if !is_above(child.entry, entry) {
         return None;
     }
     Some(child)
@@ -148,9 +197,8 @@ pub(super) fn sift_down(
     let entry = heap[at];
     let mut hole = at;
     while let Some(child) = child_above(heap, available, entry, hole) {
-        let other = heap[child];
-        put(heap, positions, hole, other);
-        hole = child;
+        put(heap, positions, hole, child.entry);
+        hole = child.at;
     }
     put(heap, positions, hole, entry);
 }
@@ -193,6 +241,7 @@ pub(super) fn take_out(heap: &mut Vec<Entry>, positions: &mut Vec<u32>, availabl
 
 /// Inserts the variable at position `at` into the heap, so that there is one more available variable. The position must
 /// be after the heap.
+#[inline(never)] // most variables that are undone are available
 pub(super) fn put_in(heap: &mut Vec<Entry>, positions: &mut Vec<u32>, available: usize, at: usize)
     requires heap { IsHeap heap.old.items positions.old.items available }
     requires following { available ≤ at }

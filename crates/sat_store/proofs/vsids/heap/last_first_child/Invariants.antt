@@ -1,6 +1,6 @@
 use Rattle.std.proofs.Common.{◌≡◌, ◌<◌, ◌≤◌, ◌+◌, ◌*◌, ℕ, get_or}
 use Rattle.sat_store.specs.heap.Heap.{no_entry, rank_at, parent}
-use Rattle.sat_store.proofs.vsids.heap.first_child.Given as goal
+use Rattle.sat_store.proofs.vsids.heap.last_first_child.Given as goal
 
 abbrev pub invariant-loop-next : goal.invariant-loop-next
 invariant-loop-next l = record {

@@ -1,4 +1,4 @@
-use Rattle.std.proofs.Common.{◌≡◌, ◌≢◌, ◌<◌, ◌∙◌, length, set, refl, sym, arith, subst}
+use Rattle.std.proofs.Common.{◌≡◌, ◌≢◌, ◌<◌, ◌∙◌, length, get_or, set, refl, sym, arith, subst}
 use Rattle.std.proofs.lemmas.List.{get_or_read, length-set}
 use Rattle.sat_store.specs.declared.vsids.heap.Entry.{Entry}
 use Rattle.sat_store.specs.heap.Heap.{no_entry, rank_at, FirstAbove, Exchanged}
@@ -31,15 +31,16 @@ loop-child-preserved c =
     let h = c.loop-child.heap.items in
     let p = c.loop-child.positions.items in
     let hole = c.loop-child.hole in
-    let child = c.in-Some.child in
+    let child = c.in-Some.child.at in
     let m = c.args.available in
     let e = c.index-entry.result.now in
-    let b = c.index-other.result.now in
+    let b = c.in-Some.child.entry in
     let within : hole < length h = omega (arith, before.within, before.count, c.requires.within) in
-    let f : FirstAbove h m e hole child = rw c.deref.ensures.value at c.in-Some.ensures in
+    let above = rw c.deref.ensures.value at c.in-Some.ensures in
+    let f : FirstAbove h m e hole child = above.0 in
     let differ : hole ≢ child = omega (arith, f.some) in
     let in_child : child < length h = omega (arith, f.within, before.count, c.requires.within) in
-    let is : b ≡ _ = get_or_read h child b in_child c.index-other.ensures no_entry in
+    let is : b ≡ get_or h child no_entry = above.1.1 in
     let ex : Exchanged (set h hole e) (set p e.var hole) (set (set h hole b) child e) (set (set p b.var hole) e.var child) hole child =
     exchanged_by_moving h p e b hole child before.same.placed within in_child differ is in
     let b_var : b.var < length h = subst (λ (x : Entry). x.var < length h) (sym is) (before.listed child in_child) in
