@@ -89,9 +89,7 @@ fn put_activity(clauses: &mut ClauseAlloc, _db: &ClauseDb, cref: ClauseRef, acti
     ensures db { DbMatchesBuffer clauses.new _db.now }
     ensures live { live_refs clauses.new _db.now.refs ≡ live_refs clauses.old _db.now.refs }
 {
-    let mut header = clauses.header(cref);
-    header.set_activity(activity);
-    put_header(clauses, cref, header);
+    clauses.set_activity(cref, activity);
 }
 
 /// Raises the activity of a clause. If the activity reaches 2^30, all activities and the bump are rescaled.

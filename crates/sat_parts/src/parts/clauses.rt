@@ -98,21 +98,22 @@ pub fn collect(alloc: Global, parts: &mut SearchState) -> Result<(), StoreError>
     )
 }
 
-/// Replaces the header of a live clause. The new header must have the same deleted flag, tier and length as the
-/// old one.
+/// Replaces the header of a live clause. The new header must have the same activity, deleted flag, tier and length as
+/// the old one.
 pub fn put_header(parts: &mut SearchState, cref: ClauseRef, header: ClauseHeader)
     requires holds { SearchStateInvariant parts.old }
     requires live { HasClause parts.old cref }
     requires deleted { header.deleted ≡ (header_at parts.old.clauses cref).deleted }
     requires tier { header.tier ≡ (header_at parts.old.clauses cref).tier }
     requires len { header.len ≡ (header_at parts.old.clauses cref).len }
+    requires activity { header.activity ≡ (header_at parts.old.clauses cref).activity }
     ensures holds { SearchStateInvariant parts.new }
     ensures put { PutsHeader parts.old.clauses parts.new.clauses parts.old.db.refs cref header }
     ensures db { parts.new.db ≡ parts.old.db }
     ensures headed { ChangesHeaders parts.old parts.new }
     ensures word { TrailWordExtends parts.old parts.new }
 {
-    parts.clauses.set_header(cref, header);
+    parts.clauses.set_flags(cref, header);
 }
 
 /// Moves a live clause to another tier. A learned clause must stay learned, and an irredundant clause must

@@ -27,15 +27,22 @@ pub live_is : (words refs : List ℕ) (o : ℕ) → Contains (live_refs words re
 live_is words refs o h = All-contains (λ x. is_live words x ≡ true) (live_refs words refs) o (filter_passes (is_live words) refs) h
 
 -- replacing a header by one of the same length, as `set_header` does
-pub puts_header : (words words' refs : List ℕ) (o : ℕ) (h : Header) → HoldsClauses words refs → Contains refs o → h.len ≡ (header_at words o).len →
-    header_at words' o ≡ h → lits_at words' o ≡ take h.len (lits_at words o) → ChangesAt words words' o → PutsHeader words words' refs o h
-puts_header words words' refs o h holds_clauses has len header lits change = record {
+-- a header written in place, where no literal is dropped
+pub header_put : (words words' refs : List ℕ) (o : ℕ) (h : Header) → HoldsClauses words refs → Contains refs o →
+    header_at words' o ≡ h → lits_at words' o ≡ lits_at words o → ChangesAt words words' o → PutsHeader words words' refs o h
+header_put words words' refs o h holds_clauses has header lits change = record {
   size = change.size;
   holds_clauses = change.holds_clauses refs has holds_clauses;
   header_there = header;
-  lits_there = lits ∙ take_all h.len (lits_at words o) (omega (arith, same_count words o (holds_clauses.clauses o has)));
+  lits_there = lits;
   others = λ p c n. change.others p (holds_clauses.clauses p c) (holds_clauses.apart o p has c (λ e. n (sym e)));
 }
+
+pub puts_header : (words words' refs : List ℕ) (o : ℕ) (h : Header) → HoldsClauses words refs → Contains refs o → h.len ≡ (header_at words o).len →
+    header_at words' o ≡ h → lits_at words' o ≡ take h.len (lits_at words o) → ChangesAt words words' o → PutsHeader words words' refs o h
+puts_header words words' refs o h holds_clauses has len header lits change =
+    header_put words words' refs o h holds_clauses has header
+    (lits ∙ take_all h.len (lits_at words o) (omega (arith, same_count words o (holds_clauses.clauses o has)))) change
 
 -- whether a clause counts for a tier, given its header
 counted_live : (words : List ℕ) (t : Tier) (o : ℕ) (tier : Tier) → is_live words o ≡ true → (header_at words o).tier ≡ tier → is_live_in_tier words t o ≡ (index_of tier == index_of t)

@@ -1,21 +1,18 @@
-use Rattle.std.proofs.Common.{refl, ap, ◌∙◌, subst}
+use Rattle.std.proofs.Common.{refl}
 use Rattle.sat_store.specs.clause.Buffer.{header_at}
-use Rattle.sat_store.specs.clause.Header.{Header}
 use Rattle.sat_parts.specs.clause.Db.{PutsHeader}
 use Rattle.sat_parts.specs.clause.Activity.{with_activity}
+use Rattle.sat_parts.proofs.lemmas.clause.DbLemmas.{header_put}
 use Rattle.sat_parts.proofs.lemmas.clause.HeaderLemmas.{holds_put}
 use Rattle.sat_parts.proofs.clause.activity.put_activity.Goals as goal
 
-pub returns-clause-db : goal.returns-clause-db
-returns-clause-db c =
-    let put = subst (λ (h : Header). PutsHeader c.args.clauses.now c.put_header.new.clauses c.args._db.now.refs c.args.cref h)
-    (c.set_activity.ensures ∙ ap (λ (h : Header). with_activity h c.args.activity) c.header-header.ensures.value)
-    (c.put_header.ensures c.args._db.now.refs c.requires.db.holds_clauses c.requires.there) in
-    (holds_put c.args.clauses.now c.put_header.new.clauses c.args._db.now c.args.cref (with_activity (header_at c.args.clauses.now c.args.cref) c.args.activity) c.requires.db put refl refl).0
-
-pub returns-clause-live : goal.returns-clause-live
-returns-clause-live c =
-    let put = subst (λ (h : Header). PutsHeader c.args.clauses.now c.put_header.new.clauses c.args._db.now.refs c.args.cref h)
-    (c.set_activity.ensures ∙ ap (λ (h : Header). with_activity h c.args.activity) c.header-header.ensures.value)
-    (c.put_header.ensures c.args._db.now.refs c.requires.db.holds_clauses c.requires.there) in
-    (holds_put c.args.clauses.now c.put_header.new.clauses c.args._db.now c.args.cref (with_activity (header_at c.args.clauses.now c.args.cref) c.args.activity) c.requires.db put refl refl).1
+pub returns : goal.returns
+returns c =
+    let w = c.args.clauses.now in
+    let v = c.set_activity.new.self in
+    let db = c.args._db.now in
+    let h = with_activity (header_at c.args.clauses.now c.args.cref) c.args.activity in
+    let put : PutsHeader w v db.refs c.args.cref h =
+    header_put w v db.refs c.args.cref h c.requires.db.holds_clauses c.requires.there c.set_activity.ensures.header c.set_activity.ensures.lits c.set_activity.ensures.others in
+    let held = holds_put w v db c.args.cref h c.requires.db put refl refl in
+    record { put = put; db = held.0; live = held.1 }

@@ -1,10 +1,9 @@
-use Rattle.std.proofs.lemmas.Grind.{common_steps}
-use Rattle.std.proofs.Common.{refl, arith, ap}
+use Rattle.std.proofs.Common.{◌≡◌, ◌∙◌, refl, ap}
 use Rattle.sat_store.specs.declared.clause.tier.Tier.{Tier}
+use Rattle.sat_store.specs.clause.Buffer.{header_at}
 use Rattle.sat_store.specs.clause.Header.{is_learned}
-use Rattle.sat_store.proofs.lemmas.clause.HeldClauses.{same_count}
 use Rattle.sat_parts.specs.clause.Db.{PutsHeader}
-use Rattle.sat_parts.proofs.lemmas.clause.DbLemmas.{live_clause, puts_header}
+use Rattle.sat_parts.proofs.lemmas.clause.DbLemmas.{header_put}
 use Rattle.sat_parts.proofs.lemmas.clause.HeaderLemmas.{holds_put}
 use Rattle.sat_parts.proofs.lemmas.prop.BuildLemmas.{live_in}
 use Rattle.sat_parts.proofs.lemmas.parts.WordSteps.{extends_refl}
@@ -12,17 +11,16 @@ use Rattle.sat_parts.proofs.lemmas.parts.FewerLemmas.{sound_put_one}
 use Rattle.sat_parts.proofs.lemmas.parts.HeaderFrames.{headed_by, sides_one}
 use Rattle.sat_parts.proofs.parts.clauses.put_header.Goals as goal
 
-pub set_header-requires-clause-no_longer : goal.set_header-requires-clause-no_longer
-set_header-requires-clause-no_longer c = grind (arith, common_steps, same_count, live_clause)
-
 pub returns : goal.returns
 returns c =
     let p = c.args.parts.now in
-    let n = c.set_header.new.self in
+    let n = c.set_flags.new.self in
     let held = c.requires.holds.below.held in
     let h = c.args.header in
+    let old = header_at p.clauses c.args.cref in
+    let same : record h { activity = old.activity; len = old.len } ≡ h = rw (← c.requires.activity, ← c.requires.len) refl in
     let put : PutsHeader p.clauses n p.db.refs c.args.cref h =
-    puts_header p.clauses n p.db.refs c.args.cref h held.holds_clauses (live_in p.clauses p.db.refs c.args.cref c.requires.live) c.requires.len c.set_header.ensures.header c.set_header.ensures.lits c.set_header.ensures.others in
+    header_put p.clauses n p.db.refs c.args.cref h held.holds_clauses (live_in p.clauses p.db.refs c.args.cref c.requires.live) (c.set_flags.ensures.header ∙ same) c.set_flags.ensures.lits c.set_flags.ensures.others in
     let kept = holds_put p.clauses n p.db c.args.cref h held put c.requires.deleted c.requires.tier in
     record {
       holds = sound_put_one p.clauses n p.db p.watchlists p.binary p.assignment p.graph p.trail p.vsids c.args.cref h c.requires.holds put kept.0 kept.1;
