@@ -10,6 +10,10 @@ abbrev pub was_true : Option Bool → Bool
 was_true None = false
 was_true (Some b) = b
 
+-- the values of variables, and those that they lost last
+abbrev pub values_of : List (Option Bool) → List Bool → Values
+values_of current last = record { current = current; last = last }
+
 -- the values after a literal's variable lost its value, which is kept as its last value
 abbrev pub lost : ℕ → Values → Values
 lost l a = record { current = set a.current (variable l) None; last = set a.last (variable l) (was_true (value_of a.current (variable l))) }

@@ -1,12 +1,14 @@
 //! The values of variables.
-ghost use Rattle.std.specs.Prelude.{◌≡◌, ◌<◌, ◌≤◌, ◌↔◌, [], length, IsTrue, OnOk, OnErr, None, slice_index_or};
+ghost use Rattle.std.specs.Prelude.{◌≡◌, ◌<◌, ◌≤◌, ◌↔◌, [], length, IsTrue, OnOk, OnErr, None, slice_index_or, slice_set};
 ghost use Rattle.sat_base.specs.values.Literals.{var_limit, variable, is_positive};
 ghost use Rattle.sat_parts.specs.prop.Values.{with_value, with_true_lit, with_var_count, value_of, seen_from};
 ghost use Rattle.sat_parts.specs.prop.Values.{IsTrueLit};
 ghost use Rattle.sat_parts.specs.prop.Values.{IsFalseLit, IsUnassignedLit};
-ghost use Rattle.sat_parts.specs.prop.Undone.{lost};
+ghost use Rattle.sat_parts.specs.clause.Glue.{VariablesBelow};
+ghost use Rattle.sat_parts.specs.prop.LitValues.{MirrorsValues};
+ghost use Rattle.sat_parts.specs.prop.Undone.{undone, was_true, values_of};
 
-use crate::prop::lit_values::LitValues;
+use crate::prop::lit_values::{LitValue, LitValues, is_true};
 use sat_base::{Lit, Var};
 use std::alloc::{AllocError, Global};
 use std::marker::Model;
@@ -128,6 +130,7 @@ impl Assignment {
     }
 
     /// Whether a literal is unassigned.
+    #[inline(always)] // called for each literal that an inner loop looks at
     pub fn lit_is_unk(&self, lit: Lit) -> bool
         requires { variable lit < length self.now.current }
         ensures { IsTrue result ↔ IsUnassignedLit self.now.current lit }
@@ -141,7 +144,7 @@ impl Assignment {
         ensures { self.new ≡ with_true_lit lit self.old }
     {
         self.values[lit.index()] = Some(lit.is_positive());
-        self.lit_values.set_var(lit.var(), Some(lit.is_positive()));
+        self.lit_values.make_true(lit);
     }
 
     /// Removes the value of a variable, without recording the value as the last value that the variable lost.
@@ -153,18 +156,17 @@ impl Assignment {
         self.lit_values.set_var(var, None);
     }
 
-    /// Removes the value of a literal's variable, and records the value as the last value that the variable lost.
-    pub(crate) fn lose(&mut self, lit: Lit)
-        requires { variable lit < length self.old.current }
-        ensures { self.new ≡ lost lit self.old }
+    /// Removes the values of literals' variables, and records them as the last values that the variables lost.
+    pub(crate) fn lose_all(&mut self, lits: &[Lit])
+        requires { VariablesBelow lits.now (length self.old.current) }
+        ensures { self.new ≡ undone lits.now self.old }
     {
-        let was = match self.values[lit.index()] {
-            None => false,
-            Some(value) => value,
-        };
-        self.last_values[lit.index()] = was;
-        self.values[lit.index()] = None;
-        self.lit_values.set_var(lit.var(), None);
+        lose_values(
+            &mut self.values,
+            &mut self.last_values,
+            &mut self.lit_values.codes,
+            lits,
+        );
     }
 
     /// Sets or removes the value of a variable.
@@ -175,4 +177,35 @@ impl Assignment {
         self.values[var.index()] = value;
         self.lit_values.set_var(var, value);
     }
+}
+
+/// Does what `Assignment::lose_all` does, on the three lists as slices, whose addresses then stay in registers.
+fn lose_values(values: &mut [Option<bool>], last: &mut [bool], codes: &mut [LitValue], lits: &[Lit])
+    requires below { VariablesBelow lits.now (length values.old) }
+    requires last { length last.old ≡ length values.old }
+    requires mirrors { MirrorsValues values.old codes.old }
+    ensures values { values_of values.new last.new ≡ undone lits.now (values_of values.old last.old) }
+    ensures size { length values.new ≡ length values.old }
+    ensures last { length last.new ≡ length last.old }
+    ensures mirrors { MirrorsValues values.new codes.new }
+{
+    for lit in lits {
+        lose_value(values, last, codes, lit.index());
+    }
+}
+
+/// Removes the value of a variable, and records it as the last value that the variable lost.
+#[inline(always)] // called for each literal that is undone
+fn lose_value(values: &mut [Option<bool>], last: &mut [bool], codes: &mut [LitValue], index: usize)
+    requires below { index < length values.old }
+    requires last { length last.old ≡ length values.old }
+    requires mirrors { MirrorsValues values.old codes.old }
+    ensures values { values.new ≡ slice_set values.old index None }
+    ensures last { last.new ≡ slice_set last.old index (was_true (value_of values.old index)) }
+    ensures mirrors { MirrorsValues values.new codes.new }
+{
+    last[index] = is_true(codes[2 * index]);
+    values[index] = None;
+    codes[2 * index] = LitValue::Open;
+    codes[2 * index + 1] = LitValue::Open;
 }

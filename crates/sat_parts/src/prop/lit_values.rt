@@ -1,6 +1,7 @@
 //! Values indexed by literal.
 ghost use Rattle.std.specs.Prelude.{◌≡◌, ◌+◌, ◌*◌, ◌<◌, ◌≤◌, ◌↔◌, [], length, IsTrue, OnOk, OnErr, slice_index_or};
-ghost use Rattle.sat_base.specs.values.Literals.{var_limit};
+ghost use Rattle.std.specs.Prelude.{Some};
+ghost use Rattle.sat_base.specs.values.Literals.{var_limit, variable, is_positive};
 ghost use Rattle.sat_parts.specs.prop.LitValues.{signed_value, with_lit_value, with_lit_count};
 
 use sat_base::{Lit, Var};
@@ -45,6 +46,18 @@ fn lit_value(value: Option<bool>, positive: bool) -> LitValue
     }
 }
 
+/// Returns `true` if a value is `True`.
+#[inline(always)]
+pub(crate) fn is_true(value: LitValue) -> bool
+    ensures { IsTrue result ↔ (value ≡ LitValue.True) }
+{
+    match value {
+        LitValue::True => true,
+        LitValue::Open => false,
+        LitValue::False => false,
+    }
+}
+
 impl LitValues {
     /// Returns an empty list of values. Never allocates.
     pub(crate) fn new(alloc: Global) -> LitValues
@@ -73,11 +86,7 @@ impl LitValues {
         requires { lit < length self.now.codes.items }
         ensures { IsTrue result ↔ (slice_index_or self.now.codes.items lit LitValue.Open ≡ LitValue.True) }
     {
-        match self.codes[lit.code()] {
-            LitValue::True => true,
-            LitValue::Open => false,
-            LitValue::False => false,
-        }
+        is_true(self.codes[lit.code()])
     }
 
     /// Whether a literal is false.
@@ -106,8 +115,17 @@ impl LitValues {
         }
     }
 
-    /// Sets the values of both literals of a variable from the variable's value.
+    /// Makes a literal true.
     #[inline(always)] // called for each literal that is assigned
+    pub(crate) fn make_true(&mut self, lit: Lit)
+        requires { 2 * variable lit + 1 < length self.old.codes.items }
+        ensures { self.new.codes.items ≡ with_lit_value (variable lit) (Some (is_positive lit)) self.old.codes.items }
+    {
+        self.codes[lit.code()] = LitValue::True;
+        self.codes[(!lit).code()] = LitValue::False;
+    }
+
+    /// Sets the values of both literals of a variable from the variable's value.
     pub(crate) fn set_var(&mut self, var: Var, value: Option<bool>)
         requires { 2 * var + 1 < length self.old.codes.items }
         ensures { self.new.codes.items ≡ with_lit_value var value self.old.codes.items }

@@ -232,8 +232,8 @@ fn undo(assignment: &mut Assignment, vsids: &mut Vsids, lits: &[Lit])
     ensures values { assignment.new ≡ undone lits.now assignment.old }
     ensures available { vsids.new ≡ all_available lits.now vsids.old }
 {
+    assignment.lose_all(lits);
     for lit in lits {
-        assignment.lose(*lit);
         vsids.make_available(lit.var());
     }
 }

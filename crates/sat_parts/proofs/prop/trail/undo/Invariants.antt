@@ -1,11 +1,9 @@
 use Rattle.std.proofs.Common.{◌≡◌, drop, length}
-use Rattle.sat_parts.specs.prop.Undone.{undone, all_available}
+use Rattle.sat_parts.specs.prop.Undone.{all_available}
 use Rattle.sat_parts.proofs.prop.trail.undo.Given as goal
 
 abbrev pub invariant-loop-lit : goal.invariant-loop-lit
 invariant-loop-lit l = record {
-  values : undone (drop l.lit-index l.lits) l.assignment ≡ undone l.lits l.fn.assignment;
   available : all_available (drop l.lit-index l.lits) l.vsids ≡ all_available l.lits l.fn.vsids;
-  value_count : length l.assignment.current ≡ length l.fn.assignment.current;
   queue_count : length l.vsids.available ≡ length l.fn.vsids.available;
 }
