@@ -1,52 +1,50 @@
 //! Finds the variables that occur in clauses.
 ghost use Rattle.std.specs.Prelude.{ℕ, ◌≡◌, ◌<◌, OnOk, true, false, length, slice_index_or};
 ghost use Rattle.sat_base.specs.values.Literals.{variable};
-ghost use Rattle.sat_store.specs.clause.Buffer.{IsClause};
-ghost use Rattle.sat_parts.specs.clause.Stored.{lit_of, size_of};
 ghost use Rattle.sat_parts.specs.parts.Whole.{SearchStateInvariant, InNoClause};
-ghost use Rattle.sat_parts.specs.parts.Using.{MarksJustWhere, IsAmong, HasVar, InLong, InBinary};
+ghost use Rattle.sat_parts.specs.parts.Using.{MarksJustWhere, IsAmong, InLong, InBinary};
 ghost use Rattle.sat_parts.specs.clause.Glue.{VariablesBelow};
 
 use crate::parts::SearchState;
 use sat_base::Lit;
-use sat_store::{ClauseAlloc, ClauseRef};
+use sat_store::Lits;
 use std::alloc::AllocError;
 
 /// Marks the variable of a literal.
-fn mark_lit(used: &mut Vec<bool>, lit: Lit)
-    requires { variable lit < length used.old.items }
-    ensures { MarksJustWhere used.old.items used.new.items (λ v. variable lit ≡ v) }
+#[inline(always)] // called for each literal that simplification goes through
+fn mark_lit(used: &mut [bool], lit: Lit)
+    requires { variable lit < length used.old }
+    ensures { MarksJustWhere used.old used.new (λ v. variable lit ≡ v) }
 {
     used[lit.index()] = true;
 }
 
 /// Marks the variables of literals.
-fn mark_lits(used: &mut Vec<bool>, lits: &[Lit])
-    requires { VariablesBelow lits.now (length used.old.items) }
-    ensures { MarksJustWhere used.old.items used.new.items (IsAmong lits.now (length lits.now)) }
+fn mark_lits(used: &mut [bool], lits: &[Lit])
+    requires { VariablesBelow lits.now (length used.old) }
+    ensures { MarksJustWhere used.old used.new (IsAmong lits.now (length lits.now)) }
 {
     for at in 0..lits.len() {
         mark_lit(used, lits[at]);
     }
 }
 
-/// Marks the variables of a clause.
-fn mark_clause(used: &mut Vec<bool>, clauses: &ClauseAlloc, cref: ClauseRef)
-    requires clause { IsClause clauses.now cref }
-    requires below { (k : ℕ) → k < size_of clauses.now cref
-        → variable (lit_of clauses.now cref k) < length used.old.items }
-    ensures { MarksJustWhere used.old.items used.new.items (HasVar clauses.now cref (size_of clauses.now cref)) }
+/// Marks the variables of a clause, given its literals.
+#[inline(always)] // called for each clause that simplification goes through
+fn mark_clause(used: &mut [bool], lits: &Lits<'_>)
+    requires { VariablesBelow lits.now (length used.old) }
+    ensures { MarksJustWhere used.old used.new (IsAmong lits.now (length lits.now)) }
 {
-    for at in 0..clauses.len(cref) {
-        mark_lit(used, clauses.lit(cref, at));
+    for at in 0..lits.len() {
+        mark_lit(used, lits.get(at));
     }
 }
 
 /// Marks the variables of the live long clauses.
-fn mark_long(used: &mut Vec<bool>, parts: &SearchState)
+fn mark_long(used: &mut [bool], parts: &SearchState)
     requires holds { SearchStateInvariant parts.now }
-    requires size { length used.old.items ≡ length parts.now.assignment.current }
-    ensures { MarksJustWhere used.old.items used.new.items
+    requires size { length used.old ≡ length parts.now.assignment.current }
+    ensures { MarksJustWhere used.old used.new
         (InLong parts.now.clauses parts.now.db.refs (length parts.now.db.refs)) }
 {
     for at in 0..parts.db.len() {
@@ -54,15 +52,15 @@ fn mark_long(used: &mut Vec<bool>, parts: &SearchState)
         if parts.clauses.header(cref).deleted() {
             continue;
         }
-        mark_clause(used, &parts.clauses, cref);
+        mark_clause(used, &parts.clauses.clause(cref).lits());
     }
 }
 
 /// Marks the variables of the binary clauses.
-fn mark_binary(used: &mut Vec<bool>, parts: &SearchState)
+fn mark_binary(used: &mut [bool], parts: &SearchState)
     requires holds { SearchStateInvariant parts.now }
-    requires size { length used.old.items ≡ length parts.now.assignment.current }
-    ensures { MarksJustWhere used.old.items used.new.items
+    requires size { length used.old ≡ length parts.now.assignment.current }
+    ensures { MarksJustWhere used.old used.new
         (InBinary parts.now.binary.implied (length parts.now.binary.implied)) }
 {
     for code in 0..2 * used.len() {
@@ -76,6 +74,19 @@ fn mark_binary(used: &mut Vec<bool>, parts: &SearchState)
     }
 }
 
+/// Marks the variables of all clauses. No variable may be marked.
+fn mark_all(used: &mut [bool], parts: &SearchState)
+    requires holds { SearchStateInvariant parts.now }
+    requires size { length used.old ≡ length parts.now.assignment.current }
+    requires none { (v : ℕ) → slice_index_or used.old v false ≡ false }
+    ensures size { length used.new ≡ length used.old }
+    ensures unused { (v : ℕ) → slice_index_or used.new v false ≡ false → InNoClause parts.now v }
+    ensures others { (v : ℕ) → InNoClause parts.now v → slice_index_or used.new v false ≡ false }
+{
+    mark_long(used, parts);
+    mark_binary(used, parts);
+}
+
 /// Replaces the contents of `used` with a flag for every variable, which says whether the variable occurs in a clause.
 pub fn mark_used(used: &mut Vec<bool>, parts: &SearchState) -> Result<(), AllocError>
     requires holds { SearchStateInvariant parts.now }
@@ -85,7 +96,6 @@ pub fn mark_used(used: &mut Vec<bool>, parts: &SearchState) -> Result<(), AllocE
 {
     used.clear();
     used.resize(parts.assignment.assignment().len(), false)?;
-    mark_long(used, parts);
-    mark_binary(used, parts);
+    mark_all(used, parts);
     Ok(())
 }

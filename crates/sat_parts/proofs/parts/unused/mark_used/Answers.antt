@@ -1,11 +1,7 @@
 use Rattle.std.proofs.lemmas.Grind.{common_steps}
 use Rattle.std.proofs.Common.{arith}
 use Rattle.sat_parts.proofs.lemmas.parts.GrowLemmas.{nothing_reads}
-use Rattle.sat_parts.proofs.lemmas.parts.MarkLemmas.{unmarked, marked_none}
 use Rattle.sat_parts.proofs.parts.unused.mark_used.Goals as goal
 
-pub returns-clause-unused : goal.returns-clause-unused
-returns-clause-unused c = grind (arith, common_steps, unmarked)
-
-pub returns-clause-others : goal.returns-clause-others
-returns-clause-others c = grind (arith, common_steps, nothing_reads, marked_none)
+pub mark_all-requires-clause-none : goal.mark_all-requires-clause-none
+mark_all-requires-clause-none c = grind (arith, common_steps, nothing_reads)
