@@ -1,5 +1,6 @@
 //! Propagation over long clauses, with two watched literals per clause.
-ghost use Rattle.std.specs.Prelude.{ℕ, List, ◌≡◌, ◌≢◌, ◌+◌, ◌*◌, ◌<◌, ◌≤◌, length, IfOk, IsTrue, slice_set};
+ghost use Rattle.std.specs.Prelude.{ℕ, List, ◌≡◌, ◌≢◌, ◌+◌, ◌*◌, ◌<◌, ◌≤◌, ◌⊎◌, ◌↔◌, length, IfOk, IsTrue, slice_set};
+ghost use Rattle.std.specs.Prelude.{MatchOption};
 ghost use Rattle.sat_store.specs.clause.Buffer.{IsClause};
 ghost use Rattle.sat_parts.specs.clause.Orders.{PermutesClause};
 ghost use Rattle.sat_parts.specs.clause.Stored.{lit_of, size_of};
@@ -54,26 +55,55 @@ fn find_open(clauses: &ClauseAlloc, assignment: &Assignment, cref: ClauseRef) ->
     len
 }
 
-/// Moves a literal to the second position if it is one of the first two literals. Returns whether it is.
+/// Returns whether one of two numbers is `x`.
+#[inline(always)] // a branch for each of the two is often predicted wrongly
+fn is_either(x: u32, a: u32, b: u32) -> bool
+    ensures { IsTrue result ↔ ((a ≡ x) ⊎ (b ≡ x)) }
+{
+    u64::from(a.wrapping_sub(x)) * u64::from(b.wrapping_sub(x)) == 0
+}
+
+/// Moves a literal to the second position if it is one of the first two literals. Returns the other of the two, which
+/// is now the first literal.
 ///
-/// The second position is checked first. If the literal is there, the clause does not change.
+/// Otherwise, returns `None`, and the clause does not change.
 #[inline(always)] // called for each clause that propagation reads
-fn orient(clauses: &mut ClauseAlloc, cref: ClauseRef, lit: Lit) -> bool
+fn orient(clauses: &mut ClauseAlloc, cref: ClauseRef, lit: Lit) -> Option<Lit>
     requires clause { IsClause clauses.old cref }
     requires long { 2 ≤ size_of clauses.old cref }
     ensures shuffles { PermutesClause clauses.old clauses.new cref }
-    ensures oriented { IsTrue result → WalkInvariantAtClause clauses.old clauses.new cref lit }
-    ensures stale { ¬ IsTrue result → (lit_of clauses.old cref 0 ≢ lit) × (lit_of clauses.old cref 1 ≢ lit)
-        × (clauses.new ≡ clauses.old) }
+    ensures oriented { MatchOption result
+        ((lit_of clauses.old cref 0 ≢ lit) × (lit_of clauses.old cref 1 ≢ lit) × (clauses.new ≡ clauses.old))
+        (λ other. WalkInvariantAtClause clauses.old clauses.new cref lit × (other ≡ lit_of clauses.new cref 0)) }
 {
-    if clauses.lit(cref, 1) == lit {
-        return true;
+    let first = clauses.lit(cref, 0).code() as u32;
+    let second = clauses.lit(cref, 1).code() as u32;
+    let code = lit.code() as u32;
+    if !is_either(code, first, second) {
+        return None;
     }
-    if clauses.lit(cref, 0) == lit {
-        clauses.swap_lits(cref, 0, 1);
-        return true;
-    }
-    false
+    let other = Lit::from_code((first + second - code) as usize);
+    clauses.set_lit(cref, 0, other);
+    clauses.set_lit(cref, 1, lit);
+    Some(other)
+}
+
+/// Swaps the second literal of a clause, `second`, and the literal at position `at`, which is returned.
+#[inline(always)] // called for each clause that gets a new watch in propagation
+fn swap_second(clauses: &mut ClauseAlloc, cref: ClauseRef, second: Lit, at: usize) -> Lit
+    requires clause { IsClause clauses.old cref }
+    requires second { lit_of clauses.old cref 1 ≡ second }
+    requires following { 2 ≤ at }
+    requires within { at < size_of clauses.old cref }
+    ensures shuffles { PermutesClause clauses.old clauses.new cref }
+    ensures value { result ≡ lit_of clauses.old cref at }
+    ensures first { lit_of clauses.new cref 0 ≡ lit_of clauses.old cref 0 }
+    ensures moved { lit_of clauses.new cref 1 ≡ result }
+{
+    let found = clauses.lit(cref, at);
+    clauses.set_lit(cref, 1, found);
+    clauses.set_lit(cref, at, second);
+    found
 }
 
 /// Visits a clause after a literal that it may watch became false.
@@ -95,17 +125,15 @@ fn visit_clause(
         cref false_lit r) }
     ensures enabled { watchlists.new.enabled ≡ watchlists.old.enabled }
 {
-    if !orient(clauses, cref, false_lit) {
+    let Some(first) = orient(clauses, cref, false_lit) else {
         return Ok(Visit::Stale);
-    }
-    let first = clauses.lit(cref, 0);
+    };
     if assignment.lit_is_true(first) {
         return Ok(Visit::Keep(first));
     }
     let at = find_open(clauses, assignment, cref);
     if at < clauses.len(cref) {
-        clauses.swap_lits(cref, 1, at);
-        let second = clauses.lit(cref, 1);
+        let second = swap_second(clauses, cref, false_lit, at);
         let watch = Watch {
             cref,
             blocking: first,
@@ -171,7 +199,7 @@ fn propagate_list(
             }
         }
     }
-    list.cut(kept, end);
+    list.keep(kept);
     Ok(None)
 }
 

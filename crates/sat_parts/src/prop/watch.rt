@@ -85,11 +85,15 @@ impl WatchList {
     }
 
     /// Appends a watch.
+    #[inline(always)] // called for each clause that gets a new watch in propagation
     pub fn push(&mut self, watch: Watch) -> Result<(), AllocError>
         ensures { self.new ≡ (if is_ok result then self.old ++ watch ∷ [] else self.old) }
     {
-        self.watches.push(watch)?;
-        Ok(())
+        if self.watches.len() < self.watches.capacity() {
+            self.watches.push_reserved(watch);
+            return Ok(());
+        }
+        push_full(&mut self.watches, watch)
     }
 
     /// Removes the last watch.
@@ -99,7 +103,16 @@ impl WatchList {
         let _ = self.watches.pop();
     }
 
+    /// Keeps the first `kept` watches, and removes the others.
+    #[inline(always)] // called for each literal that propagation goes through
+    pub fn keep(&mut self, kept: usize)
+        ensures { self.new ≡ take kept self.old }
+    {
+        self.watches.truncate(kept);
+    }
+
     /// Removes the watches from position `kept` up to, but not including, position `at`.
+    #[inline(never)] // called once for each conflict; inlined, its loop takes registers of the walk
     pub fn cut(&mut self, kept: usize, at: usize)
         requires order { kept ≤ at }
         requires within { at ≤ length self.old }
@@ -290,7 +303,18 @@ impl Watchlists {
     }
 }
 
+/// Appends a watch to a list that may be full.
+#[cold]
+#[inline(never)] // keeps what growing needs out of the walk's registers
+fn push_full(watches: &mut Vec<Watch>, watch: Watch) -> Result<(), AllocError>
+    ensures { watches.new.items ≡ (if is_ok result then watches.old.items ++ watch ∷ [] else watches.old.items) }
+{
+    watches.push(watch)?;
+    Ok(())
+}
+
 /// Creates the missing lists of literals. Capacity for them must have been reserved.
+#[cold]
 #[inline(never)] // called for the first watch, and for the first one after variables were added
 fn widen(alloc: Global, watches: &mut Vec<WatchList>, count: usize)
     requires { HasListRoom count (vec_capacity watches.old) watches.old.items }

@@ -1,7 +1,8 @@
 -- Swapping literals preserves the properties of clauses.
-use Rattle.std.proofs.Common.{ℕ, ◌≡◌, ◌≢◌, ◌<◌, ◌==◌, inl, inr, List, length, get_or, set, refl, sym, ap, ◌∙◌, subst, arith, length-set, get_or-set_same, get_or-set_other, if◌then◌else◌}
+use Rattle.std.proofs.Common.{ℕ, ◌≡◌, ◌≢◌, ◌+◌, ◌-◌, ◌<◌, ◌≤◌, ◌⊎◌, ◌==◌, inl, inr, List, length, get_or, set, refl, sym, ap, ◌∙◌, subst, arith, length-set, get_or-set_same, get_or-set_other, if◌then◌else◌}
 use Rattle.std.proofs.lemmas.Bool.{cases_eq}
 use Rattle.std.proofs.lemmas.Bool.Decides.{nat_tests}
+use Rattle.std.proofs.lemmas.List.{set-get_or}
 use Rattle.std.proofs.lemmas.List.Edits.{swap_is}
 use Rattle.std.proofs.lemmas.List.Sorted.{IsPermutation-refl, IsPermutation-trans, IsPermutation-swap}
 use Rattle.std.specs.List.{Contains}
@@ -132,6 +133,52 @@ shuffles_swap a b o i j p q e f c = record {
   holds_clauses = λ refs h l. c.holds_clauses refs h l;
   others = λ refs p h l g n. c.others p (l.clauses p g) (l.apart o p h g n);
 }
+
+-- two literals of a clause, written one after the other, so that its literals are only reordered
+pub shuffles_two : (a m b : List ℕ) (o : ℕ) → header_at m o ≡ header_at a o → ChangesAt a m o → header_at b o ≡ header_at m o → ChangesAt m b o →
+    IsReordering (lits_at a o) (lits_at b o) → PermutesClause a b o
+shuffles_two a m b o e c f d lits = record {
+  size = d.size ∙ c.size;
+  clause = d.clause;
+  header = f ∙ e;
+  lits = lits;
+  holds_clauses = λ refs h l. d.holds_clauses refs h (c.holds_clauses refs h l);
+  others = λ refs p h l g n.
+      let first : SameClauseAt a m p = c.others p (l.clauses p g) (l.apart o p h g n) in
+      let second : SameClauseAt m b p = d.others p first.clause ((c.holds_clauses refs h l).apart o p h g n) in
+      record { clause = second.clause; header = second.header ∙ first.header; lits = second.lits ∙ first.lits };
+}
+
+-- the second literal of a clause is swapped with the one at a later position
+pub shuffles_second : (a m b : List ℕ) (o second found at : ℕ) → 2 ≤ at → at < size_of a o → lit_of a o 1 ≡ second → found ≡ lit_of a o at →
+    header_at m o ≡ header_at a o → lits_at m o ≡ set (lits_at a o) 1 found → ChangesAt a m o →
+    header_at b o ≡ header_at m o → lits_at b o ≡ set (lits_at m o) at second → ChangesAt m b o →
+    PermutesClause a b o
+shuffles_second a m b o second found at following within is there e l c f k d =
+    let swap : lits_at b o ≡ swapped (lits_at a o) 1 at = k ∙ ap (λ (x : List ℕ). set x at second) l ∙ rw (there, ← is) refl in
+    shuffles_two a m b o e c f d (subst (λ (x : List ℕ). IsReordering (lits_at a o) x) (sym swap) (shuffled_swapped (lits_at a o) 1 at (omega arith) within))
+
+first_two_written : (ls : List ℕ) (code other : ℕ) → 2 ≤ length ls → ((get_or ls 1 0 ≡ code) × (get_or ls 0 0 ≡ other)) ⊎ ((get_or ls 0 0 ≡ code) × (get_or ls 1 0 ≡ other)) →
+    IsReordering ls (set (set ls 0 other) 1 code)
+first_two_written ls code other long either = elim either [
+  | inl h ↦ shuffled_eq ls (set (set ls 0 other) 1 code) (rw (← h.1, ← h.0, set-get_or ls 0 0) (set-get_or ls 1 0))
+  | inr h ↦
+      let e : swapped ls 0 1 ≡ set (set ls 0 other) 1 code = rw (h.1, h.0) refl in
+      subst (λ (x : List ℕ). IsReordering ls x) e (shuffled_swapped ls 0 1 (omega arith) (omega arith))
+]
+
+-- one of the first two literals is written to the second position, and the other one to the first
+pub shuffles_oriented : (a m b : List ℕ) (o code other : ℕ) → 2 ≤ size_of a o → (lit_of a o 0 ≡ code) ⊎ (lit_of a o 1 ≡ code) → other ≡ lit_of a o 0 + lit_of a o 1 - code →
+    header_at m o ≡ header_at a o → lits_at m o ≡ set (lits_at a o) 0 other → ChangesAt a m o →
+    header_at b o ≡ header_at m o → lits_at b o ≡ set (lits_at m o) 1 code → ChangesAt m b o →
+    PermutesClause a b o
+shuffles_oriented a m b o code other long one is e l c f k d =
+    let new : lits_at b o ≡ set (set (lits_at a o) 0 other) 1 code = k ∙ ap (λ (x : List ℕ). set x 1 code) l in
+    let either : ((lit_of a o 1 ≡ code) × (lit_of a o 0 ≡ other)) ⊎ ((lit_of a o 0 ≡ code) × (lit_of a o 1 ≡ other)) = elim one [
+      | inl h ↦ inr (h, omega arith)
+      | inr h ↦ inl (h, omega arith)
+    ] in
+    shuffles_two a m b o e c f d (subst (λ (x : List ℕ). IsReordering (lits_at a o) x) (sym new) (first_two_written (lits_at a o) code other long either))
 
 pub reorders_refl : (words live : List ℕ) → PermutesClauses words words live
 reorders_refl words live = record {

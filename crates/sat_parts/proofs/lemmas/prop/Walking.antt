@@ -1,6 +1,8 @@
 -- The complete walk through the watches of a literal: its invariant, its iterations, and both ends.
-use Rattle.std.proofs.Common.{ℕ, ◌≡◌, ◌≢◌, ◌+◌, ◌*◌, ◌<◌, ◌≤◌, inl, inr, List, [], length, get_or, set, refl, sym, ap, ◌∙◌, subst, arith, Some, None}
+use Rattle.std.proofs.Common.{ℕ, ◌≡◌, ◌≢◌, ◌+◌, ◌*◌, ◌<◌, ◌≤◌, inl, inr, List, [], ◌++◌, length, get_or, set, take, drop, refl, sym, ap, ◌∙◌, subst, arith, Some, None}
+use Rattle.std.proofs.Math.ListN.{drop_of_length-le}
 use Rattle.std.proofs.lemmas.Bool.{cases_eq}
+use Rattle.std.proofs.lemmas.List.{append-nil}
 use Rattle.std.specs.List.{Contains}
 use Rattle.sat_base.specs.values.Literals.{negated, variable, is_positive}
 use Rattle.sat_store.specs.clause.Buffer.{lits_at}
@@ -13,7 +15,7 @@ use Rattle.sat_parts.specs.prop.Values.{IsTrueLit, IsFalseLit, IsUnassignedLit}
 use Rattle.sat_parts.specs.prop.WatchLists.{no_watch, watch_on, watches_of, more_at}
 use Rattle.sat_parts.specs.prop.State.{PropagationState, level, current_level, HasLeftQueue, StateIsConsistent, IsQueueCurrent, IsSatisfied, enqueued, TrailGrows}
 use Rattle.sat_parts.specs.prop.Reasons.{IsFalseBefore, Implies, PropagatesOn}
-use Rattle.sat_parts.specs.prop.Ready.{HasLit, HasWatch, IsSoundWatch, LongReady}
+use Rattle.sat_parts.specs.prop.Ready.{HasLit, HasWatch, IsSoundWatch, AreWatched, LongReady}
 use Rattle.sat_parts.specs.prop.Walk.{WalkInvariant, IsOther, WalkInvariantAtClause, WatchWalkEffect}
 use Rattle.sat_parts.proofs.lemmas.clause.OrderLemmas.{shuffles_refl, kept_clauses, reorders_one}
 use Rattle.sat_parts.proofs.lemmas.prop.StateLemmas.{true_from_false, false_from_true, not_both, level_low, left_true, agrees_enqueued, grows_enqueued, queue_enqueued, true_new, before_forth, removed_forth, lit_last}
@@ -193,15 +195,17 @@ walk_falsified live w0 s0 w v s lists list lit kept at p n h lt at_p e o n_is al
 -- no watch is left to visit
 pub walk_done : (live w0 : List ℕ) (s0 : PropagationState) (w : List ℕ) (s : PropagationState) (lists : List (List Watch)) (list : List Watch) (lit kept at : ℕ) →
     Walking live w0 s0 w s lists list lit kept at → at ≡ length list → lit < 2 * length s.values →
-    WatchWalkEffect live w0 s0 w s (set lists lit (cut kept at list)) None
+    WatchWalkEffect live w0 s0 w s (set lists lit (take kept list)) None
 walk_done live w0 s0 w s lists list lit kept at h end small =
     let half : WalkInvariant w live s lists list lit kept at = h.half in
+    let none : drop at list ≡ [] = drop_of_length-le list (omega arith) in
+    let front : cut kept at list ≡ take kept list = ap (λ (xs : List Watch). take kept list ++ xs) none ∙ append-nil (take kept list) in
     record {
       moves = h.moves;
       head = h.head;
       ready = record {
         clauses = half.clauses;
-        watches = walked_close w live lists list lit kept at (length s.values) half.walked small;
+        watches = subst (λ (xs : List Watch). AreWatched w live (set lists lit xs) (length s.values)) front (walked_close w live lists list lit kept at (length s.values) half.walked small);
         agrees = half.agrees;
         queue = half.queue;
         settled = λ x i hx hi f due. elim (half.settled x i hx hi f) [

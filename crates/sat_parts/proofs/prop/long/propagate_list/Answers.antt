@@ -111,7 +111,6 @@ loop-at-preserved g c =
 pub returns-clause-walked : goal.returns-clause-walked
 returns-clause-walked g c =
     let e : c.loop-at.at ≡ length c.loop-at.list = omega arith in
-    let f : c.len-end.result ≡ c.loop-at.at = omega arith in
-    rw (c.cut-2.ensures, f)
+    rw c.keep.ensures
     (walk_done _ _ _ _ _ _ _ _ _ _ c.loop-at.invariant.walking e
     (walk_small _ _ _ _ _ _ _ _ c.loop-at.invariant.walking.half))
