@@ -146,6 +146,21 @@ fn set_first(buffer: &mut ClauseAlloc, cref: ClauseRef) -> [usize; 4]
     [first, second, last, clause.len()]
 }
 
+/// Sets the activity and then the flags of a clause of three literals. Returns whether the header has both of these,
+/// and still the length.
+fn set_words(buffer: &mut ClauseAlloc, cref: ClauseRef) -> bool
+    requires { IsClause buffer.old cref }
+    ensures { IsClause buffer.new cref }
+{
+    let mut header = ClauseHeader::new();
+    header.set_glue(5);
+    header.set_activity(9);
+    buffer.set_activity(cref, 7);
+    buffer.set_flags(cref, header);
+    let now = buffer.header(cref);
+    (now.activity(), now.glue(), now.len()) == (7, 5, 3)
+}
+
 fn other_calls(buffer: &mut ClauseAlloc) -> Result<bool, StoreError> {
     let lits = [
         Lit::from_index(0, true),
@@ -153,7 +168,7 @@ fn other_calls(buffer: &mut ClauseAlloc) -> Result<bool, StoreError> {
         Lit::from_index(2, true),
     ];
     let cref = buffer.add_clause(ClauseHeader::new(), &lits)?;
-    if set_first(buffer, cref) != [20, 22, 4, 3] {
+    if set_first(buffer, cref) != [20, 22, 4, 3] || !set_words(buffer, cref) {
         return Ok(false);
     }
     let header = set_all(buffer, cref);
