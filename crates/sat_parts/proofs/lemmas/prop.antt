@@ -17,3 +17,4 @@ pub mod ImpliedLemmas
 pub mod CallLemmas
 pub mod CollectedLemmas
 pub mod WordLemmas
+pub mod MirrorLemmas
