@@ -4,3 +4,4 @@ pub mod Soundness
 pub mod Walking
 pub mod Members
 pub mod InRoom
+pub mod Looking

@@ -291,37 +291,41 @@ pub enum Look {
 pub fn look_at(assigned: &Assigned, clause: &[Lit]) -> Look
     ensures { clause_state_of result ≡ clause_state assigned.now.literals clause.now }
 {
+    // Counts the literals that aren't false, and adds their codes: a branch for each literal would be mispredicted.
     let near = assigned.near();
-    let mut open = None;
+    let mut count: usize = 0;
+    let mut codes: usize = 0;
     for lit in clause {
-        let Some(falsified) = is_near_true(assigned, near, !*lit) else {
+        let code = lit.code();
+        let other = (!*lit).code();
+        if other >= near.len() {
             return look_far(assigned, clause);
-        };
-        if !falsified {
-            if open.is_some() {
-                return Look::Rests;
-            }
-            open = Some(*lit);
         }
+        let is_open = !is_assumed(near[other]);
+        let one = number_if(is_open, 1);
+        let added = number_if(is_open, code);
+        count += one;
+        codes = codes.wrapping_add(added);
     }
-    match open {
-        None => Look::Falsified,
-        Some(lit) if assigned.is_true(lit) => Look::Rests,
-        Some(lit) => Look::Opens(lit),
+    if count == 0 {
+        return Look::Falsified;
     }
+    if count > 1 {
+        return Look::Rests;
+    }
+    let lit = Lit::from_code(codes);
+    if assigned.is_true(lit) {
+        return Look::Rests;
+    }
+    Look::Opens(lit)
 }
 
-/// Whether a literal is assumed, or `None` if the literal's mark is not in `near`.
+/// Returns `number` if `counts` is true, and otherwise 0, without a branch.
 #[inline(always)]
-fn is_near_true(assigned: &Assigned, near: &[Mark], lit: Lit) -> Option<bool>
-    requires { AreNear near.now assigned.now.literals }
-    ensures { IfSome result (λ assumed. assumed ≡ is_among assigned.now.literals lit) }
+fn number_if(counts: bool, number: usize) -> usize
+    ensures { result ≡ (if counts then number else 0) }
 {
-    let code = lit.code();
-    if code >= near.len() {
-        return None;
-    }
-    Some(is_assumed(near[code]))
+    usize::from(counts).wrapping_mul(number)
 }
 
 /// Whether a mark says that the literal is assumed.

@@ -1,8 +1,6 @@
-use Rattle.std.proofs.Common.{◌≡◌, ◌++◌, drop}
-use Rattle.std.specs.Option.{option_to_list}
-use Rattle.sat_checker.specs.inner.Walk.{not_false}
+use Rattle.sat_checker.proofs.lemmas.propagation.Looking.{CountsOpen}
 use Rattle.sat_checker.proofs.units.assigned.look_at.Given as goal
 
--- the literals that are not false are the open one, if any so far, and those among the remaining literals
+-- the literals so far that are not false are counted
 abbrev pub invariant-loop-lit : goal.invariant-loop-lit
-invariant-loop-lit l = not_false l.assigned.literals l.clause ≡ option_to_list l.open ++ not_false l.assigned.literals (drop l.lit-index l.clause)
+invariant-loop-lit l = CountsOpen l.assigned.literals l.clause l.lit-index l.count l.codes
