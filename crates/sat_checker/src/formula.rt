@@ -396,10 +396,11 @@ impl Formula {
     }
 
     /// Drops the removed clauses from memory if there are many. If memory runs out, all clauses are kept.
-    pub fn compact(&mut self) -> Result<(), AllocError>
-        ensures { (f : Stored) → RepresentsFormula self.old f → RepresentsFormula self.new f }
+    pub fn compact(&mut self, looks: &mut Looks) -> Result<(), AllocError>
+        ensures kept { (f : Stored) → RepresentsFormula self.old f → RepresentsFormula self.new f }
+        ensures looks { LooksOver (RepresentsFormula self.old) literal_count looks.old looks.new }
     {
-        self.store.compact()
+        self.store.compact(looks)
     }
 
     /// Deletes a clause for the reason `proof`. Returns whether the deletion is allowed. `literals` must be the sorted

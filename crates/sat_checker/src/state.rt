@@ -250,7 +250,7 @@ impl CheckerState {
             return Ok(false);
         }
         notes.deleted(literals, deletion)?;
-        self.formula.compact()?;
+        self.formula.compact(looks)?;
         Ok(true)
     }
 

@@ -192,14 +192,15 @@ impl Store {
         true
     }
 
-    /// Drops the removed clauses from memory if they make up more than half of all clauses, or fill more than half of
-    /// the buffer. This changes the places of other clauses. If memory runs out, all clauses are kept.
-    pub fn compact(&mut self) -> Result<(), AllocError>
+    /// Drops the removed clauses from memory if they make up more than half of all clauses, or if their literals waste
+    /// much of the buffer. This changes the places of other clauses. If memory runs out, all clauses are kept.
+    pub fn compact(&mut self, looks: &mut Looks) -> Result<(), AllocError>
         ensures kept { (f : Stored) → RepresentsClauses self.old f → RepresentsClauses self.new f }
         ensures ids { KeepsIds self.old.clauses self.new.clauses }
         ensures few { OnOk result (2 * gone_count self.new.clauses ≤ length self.new.clauses) }
+        ensures looks { LooksOver (RepresentsClauses self.old) literal_count looks.old looks.new }
     {
-        self.clauses.compact()
+        self.clauses.compact(looks)
     }
 
     /// Sets how many bits of every hash are kept from now on. Counts no looks: `rehash_if_needed` later files the clauses under

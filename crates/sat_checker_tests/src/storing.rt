@@ -143,7 +143,7 @@ fn valid(
     looks: &mut Looks,
 ) -> Result<bool, AllocError> {
     let begun = put_all(store, clause, sorted, looks)? && take_most(store, clause, looks)?;
-    store.compact()?;
+    store.compact(looks)?;
     if !begun || !finds_left(store, clause, looks)? {
         return Ok(false);
     }

@@ -10,3 +10,4 @@ pub mod Models
 pub mod Forgetting
 pub mod Kinds
 pub mod InRoom
+pub mod Deleted

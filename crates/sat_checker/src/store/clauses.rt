@@ -283,16 +283,23 @@ impl Clauses {
         }
     }
 
-    /// Drops the removed clauses from memory if they make up more than half of all clauses, or fill more than half of
-    /// the buffer. This changes the places of other clauses. If memory runs out, all clauses are kept.
-    pub fn compact(&mut self) -> Result<(), AllocError>
+    /// Returns `true` if the literals of removed clauses fill more than half of the buffer, and are more than four for
+    /// each clause.
+    fn wastes_buffer(&self) -> bool {
+        self.unused > self.slots.buffered() / 2 && self.unused / 4 > self.slots.len()
+    }
+
+    /// Drops the removed clauses from memory if they make up more than half of all clauses, or if their literals waste
+    /// much of the buffer. This changes the places of other clauses. If memory runs out, all clauses are kept.
+    pub fn compact(&mut self, looks: &mut Looks) -> Result<(), AllocError>
         ensures left { CompactsOrKeeps self.old self.new }
         ensures few { OnOk result (2 * gone_count self.new ≤ length self.new) }
+        ensures looks { LooksUpTo (live_length self.old) looks.old looks.new }
     {
-        if self.gone <= self.slots.len() / 2 && self.unused <= self.slots.buffered() / 2 {
+        if self.gone <= self.slots.len() / 2 && !self.wastes_buffer() {
             return Ok(());
         }
-        drop_gone(self.alloc, &mut self.slots, &mut self.index)?;
+        drop_gone(self.alloc, &mut self.slots, &mut self.index, looks)?;
         self.gone = 0;
         self.unused = 0;
         Ok(())
@@ -352,14 +359,20 @@ fn file_standing(slots: &Slots, index: &SortedPairs, next: &mut SortedPairs)
 
 /// Drops the removed clauses from memory, and files the others under their new places. If memory runs out,
 /// nothing changes.
-fn drop_gone(alloc: Global, slots: &mut Slots, index: &mut SortedPairs) -> Result<(), AllocError>
+fn drop_gone(
+    alloc: Global,
+    slots: &mut Slots,
+    index: &mut SortedPairs,
+    looks: &mut Looks,
+) -> Result<(), AllocError>
     requires { IndexesSlots index.old slots.old }
     ensures left { OnOk result (slots.new ≡ slots_present slots.old) }
     ensures filed { OnOk result (IndexesSlots index.new (slots_present slots.old)) }
     ensures err { OnErr result ((slots.new ≡ slots.old) × (index.new ≡ index.old)) }
+    ensures looks { LooksUpTo (live_length slots.old) looks.old looks.new }
 {
     let mut left = Slots::new(alloc);
-    left.push_standing(slots)?;
+    left.push_standing(slots, looks)?;
     let mut next = with_places(alloc, left.len())?;
     file_standing(slots, index, &mut next);
     *index = next;

@@ -6,7 +6,8 @@ ghost use Rattle.sat_checker.specs.LiteralSets.{is_among};
 ghost use Rattle.sat_checker.specs.inner.Marks.{IsIncreasing};
 ghost use Rattle.sat_checker.specs.inner.SlotView.{lits_in, LitsWithin, slot_at, literals_at, all_lits, slot_ids};
 ghost use Rattle.sat_checker.specs.inner.SlotView.{slot_with, with_count_at, without_count_at, with_hash_at};
-ghost use Rattle.sat_checker.specs.inner.SlotView.{slot_count, is_gone, slots_present};
+ghost use Rattle.sat_checker.specs.inner.SlotView.{slot_count, is_gone, slots_present, live_length};
+ghost use Rattle.sat_checker.specs.inner.Looking.{LooksUpTo};
 
 use crate::looks::Looks;
 use crate::store::filed_hash::FiledHash;
@@ -205,21 +206,23 @@ impl Slots {
         Ok(())
     }
 
-    /// Appends the clauses of `others` that are not removed. Counts no looks.
-    pub fn push_standing(&mut self, others: &Slots) -> Result<(), AllocError>
-        ensures { OnOk result (self.new ≡ self.old ++ slots_present others.now) }
+    /// Appends the clauses of `others` that are not removed. Counts one look for each literal that it copies.
+    pub fn push_standing(&mut self, others: &Slots, looks: &mut Looks) -> Result<(), AllocError>
+        ensures copied { OnOk result (self.new ≡ self.old ++ slots_present others.now) }
+        ensures looks { LooksUpTo (live_length others.now) looks.old looks.new }
     {
         for place in 0..others.len() {
             if others.is_gone(place) {
                 continue;
             }
+            let literals = others.literals(place, looks);
             let entry = &others.entries[place];
             self.push(
                 entry.id,
                 entry.irredundant,
                 entry.redundant,
                 entry.hash.same(),
-                entry.lits.slice(&others.buffer),
+                literals,
             )?;
         }
         Ok(())

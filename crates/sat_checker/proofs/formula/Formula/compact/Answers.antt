@@ -1,8 +1,8 @@
 use Rattle.sat_checker.proofs.lemmas.formula.Numbering.{numbered_kept}
 use Rattle.sat_checker.proofs.formula.Formula.compact.Goals as goal
 
-pub returns : goal.returns
-returns c = λ f k. record {
+pub returns-clause-kept : goal.returns-clause-kept
+returns-clause-kept c = λ f k. record {
   clauses = c.compact.ensures.kept f k.clauses;
   units = k.units;
   status = k.status;
