@@ -178,6 +178,15 @@ impl Formula {
         Ok(change)
     }
 
+    /// Allows `more` more literals to have their entries in lists, rather than in trees.
+    pub fn grant(&mut self, more: usize)
+        ensures { self.new ≡ self.old }
+    {
+        self.units.grant(more);
+        self.marks.grant(more);
+        self.store.clauses.grant(more);
+    }
+
     /// Makes room for the literals of a clause and for their negations, so that these can be assumed and marked.
     fn make_room(&mut self, literals: &[Lit]) -> Result<(), AllocError>
         ensures room { OnOk result

@@ -69,6 +69,8 @@ impl CheckerState {
         if !self.variables.rename(var, user)? {
             return Ok(false);
         }
+        let more = if before.known { 0 } else { 2 };
+        self.formula.grant(more);
         notes.renaming(var, user, before)?;
         Ok(true)
     }

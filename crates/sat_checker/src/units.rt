@@ -135,6 +135,16 @@ impl Units {
         Ok(())
     }
 
+    /// Allows `more` more literals to have their entries in lists, rather than in trees.
+    #[inline(always)]
+    pub fn grant(&mut self, more: usize)
+        ensures { self.new ≡ self.old }
+    {
+        self.ids.grant(more);
+        self.places.grant(more);
+        self.assigned.grant(more);
+    }
+
     /// Makes room for the literals of a clause, and for their negations.
     pub fn make_room_for(&mut self, literals: &[Lit]) -> Result<(), AllocError>
         ensures room { OnOk result (HasClauseRoom self.new.room literals.now) }

@@ -174,6 +174,14 @@ impl Clauses {
         self.occurrences.near_count()
     }
 
+    /// Allows `more` more literals to have their counts in a list, rather than in a tree.
+    #[inline(always)]
+    pub fn grant(&mut self, more: usize)
+        ensures { self.new ≡ self.old }
+    {
+        self.occurrences.grant(more);
+    }
+
     /// Whether any clause that is not removed contains the variable. Counts no looks.
     pub fn mention(&self, var: Var) -> bool
         ensures { result ≡ list_any (λ c. mentions c.literals var) (live self.now) }

@@ -30,6 +30,15 @@ impl Occurrences {
         self.counts.near_count()
     }
 
+    /// Allows `more` more counts to be in the table's list, rather than in its tree.
+    #[inline(always)]
+    pub fn grant(&mut self, more: usize)
+        ensures room { (l : ℕ) → HasPlaceFor self.old.counts l → HasPlaceFor self.new.counts l }
+        ensures same { (l : ℕ) → count_at self.new l ≡ count_at self.old l }
+    {
+        self.counts.grant(more);
+    }
+
     /// Makes room for the count of a literal.
     #[inline(always)]
     fn make_room_for(&mut self, lit: Lit) -> Result<(), AllocError>

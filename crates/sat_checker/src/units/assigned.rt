@@ -90,6 +90,14 @@ impl Assigned {
         self.marks.allow(limit);
     }
 
+    /// Allows `more` more marks to be in a list, rather than in a tree. The list is faster.
+    #[inline(always)]
+    pub fn grant(&mut self, more: usize)
+        ensures { self.new ≡ self.old }
+    {
+        self.marks.grant(more);
+    }
+
     /// Returns the marks of literals with small codes as a slice, in order of their codes.
     #[inline(always)]
     fn near(&self) -> &[Mark]

@@ -34,6 +34,15 @@ impl LitNumbers {
         Some(number)
     }
 
+    /// Allows `more` more numbers to be in the table's list, rather than in its tree.
+    #[inline(always)]
+    pub fn grant(&mut self, more: usize)
+        ensures room { (l : ℕ) → HasPlaceFor self.old.numbers l → HasPlaceFor self.new.numbers l }
+        ensures same { (l : ℕ) → number_at self.new l ≡ number_at self.old l }
+    {
+        self.numbers.grant(more);
+    }
+
     /// Makes room for the number of a literal.
     pub fn make_room(&mut self, lit: Lit) -> Result<(), AllocError>
         ensures room { OnOk result (HasPlaceFor self.new.numbers lit) }
