@@ -4,7 +4,7 @@ use Rattle.std.proofs.lemmas.List.{append-nil, take_all}
 use Rattle.std.proofs.lemmas.List.Elements.{filter_more}
 use Rattle.sat_base.specs.values.Literals.{var_limit, negated}
 use Rattle.sat_checker.specs.LiteralSets.{is_among}
-use Rattle.sat_checker.specs.ClauseStates.{ClauseState, falsified, becomes_unit, neither, not_false, state_by_open, clause_state}
+use Rattle.sat_checker.specs.ClauseStates.{falsified, becomes_unit, neither, not_false, state_by_open, clause_state}
 
 -- That the literals before a place that are not false are counted. If there is only one, `codes` is its code.
 pub record CountsOpen (assumed clause : List ℕ) (place number codes : ℕ) : Type 0 where
