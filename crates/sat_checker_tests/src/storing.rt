@@ -99,13 +99,13 @@ fn finds_left(store: &Store, clause: &mut Vec<Lit>, looks: &mut Looks) -> Result
     Ok(true)
 }
 
-/// Whether there are `count` pairs, in ascending order, at positions below half of the number of clauses.
+/// Whether there are `count` pairs, in order of their places, which are below half of the number of clauses.
 fn are_sorted(pairs: &[Pair], count: usize) -> bool {
     for place in 0..pairs.len() {
         if pairs[place].place >= 15 {
             return false;
         }
-        if place > 0 && pairs[place] <= pairs[place - 1] {
+        if place > 0 && pairs[place].place <= pairs[place - 1].place {
             return false;
         }
     }

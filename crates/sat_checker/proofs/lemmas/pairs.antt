@@ -1,7 +1,6 @@
 pub mod Mixing
 pub mod Order
-pub mod Parts
 pub mod Walks
+pub mod Places
 pub mod Links
 pub mod Changing
-pub mod Before

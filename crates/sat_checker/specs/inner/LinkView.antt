@@ -1,13 +1,15 @@
--- Pairs that are linked in chains: a head for every chain, and a link at every place.
-use Rattle.std.specs.Prelude.{All, ℕ, zero, suc, ◌≡◌, ◌≤◌, ◌<◌, ◌==◌, ◌-◌, ◌/◌, ◌^◌, min, nat_le, nat_lt, List, [], ◌∷◌, ◌++◌, length, filter, slice_index_or, Option, None, Some, if◌then◌else◌}
-use Rattle.std.specs.List.{AllByRecursion, IsDistinct}
-use Rattle.sat_checker.specs.inner.PairView.{AreInOrder, same_place}
+-- Pairs that are linked in lists: a head for every list, and a link at every place.
+use Rattle.std.specs.Prelude.{ℕ, zero, suc, ◌≡◌, ◌≢◌, ◌≤◌, ◌<◌, ◌+◌, ◌==◌, ◌-◌, ◌/◌, ◌^◌, min, List, [], ◌∷◌, length, drop, filter, slice_index_or, slice_set, Option, None, Some, if◌then◌else◌}
 use Rattle.sat_checker.specs.declared.store.links.Pair.{Pair}
 use Rattle.sat_checker.specs.declared.store.links.Link.{Link}
 
 -- the number that represents no place
 abbrev pub nowhere : ℕ
 nowhere = 4294967295
+
+-- the `next` of a place without a pair
+abbrev pub gone : ℕ
+gone = 4294967294
 
 -- the link at a place: a hash, and the place that it leads to
 abbrev pub link_at : List Link → ℕ → Link
@@ -36,10 +38,18 @@ abbrev pub LinksPairs : List Link → ℕ → List Pair → Type 0
 LinksPairs links at [] = at ≡ nowhere
 LinksPairs links at (p ∷ ps) = IsPairAt links at p × LinksPairs links (link_at links at).next ps
 
--- the first `n` lists, joined in order
-abbrev pub joined : (ℕ → List Pair) → ℕ → List Pair
-joined parts zero = []
-joined parts (suc n) = joined parts n ++ parts n
+-- the pairs of these links, if the first link is at this place
+abbrev pub pairs_from : ℕ → List Link → List Pair
+pairs_from place [] = []
+pairs_from place (l ∷ ls) = if l.next == gone then pairs_from (place + 1) ls else (record { hash = l.hash; place = place }) ∷ pairs_from (place + 1) ls
+
+-- the pairs at the places from the given one on
+abbrev pub pairs_on : ℕ → List Link → List Pair
+pairs_on place links = pairs_from place (drop place links)
+
+-- all pairs
+abbrev pub listed_pairs : List Link → List Pair
+listed_pairs links = pairs_from 0 links
 
 -- the top of a hash: its bits above the low `shift`, limited to `count - 1`
 abbrev pub top_of : ℕ → ℕ → ℕ → ℕ
@@ -49,52 +59,34 @@ top_of shift count hash = min (hash / 2 ^ shift) (count - 1)
 abbrev pub head_at : List ℕ → ℕ → ℕ
 head_at heads top = slice_index_or heads top 0
 
--- the pairs with this top, starting at its head
-abbrev pub part_at : List ℕ → List Link → ℕ → List Pair
-part_at heads links top = rest links (head_at heads top)
+-- the pairs whose hash has this top
+abbrev pub with_top : ℕ → ℕ → ℕ → List Pair → List Pair
+with_top shift count top = filter (λ p. top_of shift count p.hash == top)
 
--- all pairs that the heads and links list
-abbrev pub listed_pairs : List ℕ → List Link → List Pair
-listed_pairs heads links = joined (part_at heads links) (length heads)
-
--- that the links from a place lead to the end, over pairs in order
+-- that the links from a place lead to the end
 pub record IsWalk (links : List Link) (at : ℕ) : Type 0 where
-  pub few : length links ≤ nowhere
+  pub few : length links ≤ gone
   pub leads : LinksPairs links at (rest links at)
-  pub in_order : AreInOrder (rest links at)
 
--- that these pairs are linked starting at a place, and all of them have this top
-pub record IsPairChain (links : List Link) (shift count top at : ℕ) (ps : List Pair) : Type 0 where
-  pub leads : LinksPairs links at ps
-  pub short : length ps ≤ length links
-  pub in_order : AreInOrder ps
-  pub tops : AllByRecursion (λ p. top_of shift count p.hash ≡ top) ps
+-- that every head leads over the pairs of its top, at the places from the given one on
+pub record AreLinkedFrom (place : ℕ) (heads : List ℕ) (links : List Link) (shift : ℕ) : Type 0 where
+  pub few : length links ≤ gone
+  pub parts : (top : ℕ) → top < length heads → LinksPairs links (head_at heads top) (with_top shift (length heads) top (pairs_on place links))
 
--- that the pairs of every head are linked, and there are no more pairs than links
-pub record AreLinked (heads : List ℕ) (links : List Link) (shift : ℕ) : Type 0 where
-  pub few : length links ≤ nowhere
-  pub count : length (listed_pairs heads links) ≤ length links
-  pub parts : (top : ℕ) → top < length heads → IsPairChain links shift (length heads) top (head_at heads top) (part_at heads links top)
+-- that every head leads over all pairs of its top
+abbrev pub AreLinked : List ℕ → List Link → ℕ → Type 0
+AreLinked = AreLinkedFrom 0
 
--- that the heads and links are linked, and list these pairs
+-- that the heads and links are linked, and the pairs are these
 pub record LinksListPairs (heads : List ℕ) (links : List Link) (shift : ℕ) (pairs : List Pair) : Type 0 where
   pub linked : AreLinked heads links shift
-  pub is : listed_pairs heads links ≡ pairs
+  pub is : listed_pairs links ≡ pairs
 
--- that the pairs are in order, at different places below `count`
-pub record FitPlaces (pairs : List Pair) (count : ℕ) : Type 0 where
-  pub in_order : AreInOrder pairs
-  pub apart : IsDistinct same_place pairs
-  pub within : All (λ p. p.place < count) pairs
-  pub few : length pairs ≤ count
-
--- the pairs whose hash is at most the given hash
-abbrev pub up_to : ℕ → List Pair → List Pair
-up_to hash = filter (λ p. nat_le p.hash hash)
-
--- the pairs whose hash is below the given hash
-abbrev pub below : ℕ → List Pair → List Pair
-below hash = filter (λ p. nat_lt p.hash hash)
+-- that a pair of this hash is now at the place, and the other links are unchanged
+pub record IsLinkSet (place hash : ℕ) (old new : List Link) : Type 0 where
+  pub next : ℕ
+  pub present : next ≢ gone
+  pub is : new ≡ slice_set old place (record { hash = hash; next = next })
 
 -- the place of the last pair, or the given place if there is no pair
 abbrev pub last_or : Option ℕ → List Pair → Option ℕ

@@ -1,5 +1,5 @@
 -- Lists of pairs of a hash and a place.
-use Rattle.std.specs.Prelude.{ℕ, ◌+◌, ◌*◌, ◌/◌, ◌%◌, ◌^◌, ◌≡◌, ◌≤◌, ◌<◌, ◌==◌, Bool, not, ◌||◌, ◌&&◌, nat_lt, nat_le, List, [], ◌∷◌, map, filter, Option, None, Some, if◌then◌else◌}
+use Rattle.std.specs.Prelude.{ℕ, ◌+◌, ◌*◌, ◌/◌, ◌%◌, ◌^◌, ◌<◌, ◌==◌, not, nat_lt, nat_le, List, [], ◌∷◌, map, filter, Option, None, Some}
 use Rattle.std.specs.List.{AllByRecursion}
 use Rattle.sat_checker.specs.declared.store.links.Pair.{Pair}
 
@@ -8,29 +8,10 @@ use Rattle.sat_checker.specs.declared.store.links.Pair.{Pair}
 unfoldable pub mixed : ℕ → ℕ
 mixed hash = hash * 0xBF58476D1CE4E5B9 % 2 ^ 64 + hash / 2 ^ 64 * 2 ^ 64
 
--- that pair `p` is before pair `q`: by hash, then by place
-pub record IsPairBefore (p q : Pair) : Type 0 where
-  pub hash : p.hash ≤ q.hash
-  pub place : p.hash ≡ q.hash → p.place < q.place
-
--- that every pair is before all later pairs
+-- that every pair has a lower place than all later pairs
 abbrev pub AreInOrder : List Pair → Type 0
 AreInOrder [] = Unit {0}
-AreInOrder (p ∷ ps) = AllByRecursion (IsPairBefore p) ps × AreInOrder ps
-
--- whether a pair is before another: by hash, then by place
-abbrev pub is_before : Pair → Pair → Bool
-is_before p q = nat_lt p.hash q.hash || (p.hash == q.hash && nat_lt p.place q.place)
-
--- the pairs with a pair inserted before the first one that it precedes
-abbrev pub inserted : Pair → List Pair → List Pair
-inserted p [] = p ∷ []
-inserted p (q ∷ qs) = if is_before p q then p ∷ q ∷ qs else q ∷ inserted p qs
-
--- all pairs, inserted one by one from the last to the first
-abbrev pub inserted_all : List Pair → List Pair
-inserted_all [] = []
-inserted_all (p ∷ ps) = inserted p (inserted_all ps)
+AreInOrder (p ∷ ps) = AllByRecursion (λ q. p.place < q.place) ps × AreInOrder ps
 
 -- the pairs except those with this place
 abbrev pub without_pair : ℕ → List Pair → List Pair
@@ -54,11 +35,7 @@ abbrev pub from_on : Option ℕ → List ℕ → List ℕ
 from_on None places = []
 from_on (Some place) places = filter (nat_le place) places
 
--- whether two pairs have equal places
-abbrev pub same_place : Pair → Pair → Bool
-same_place p q = p.place == q.place
-
--- what contracts see of an index: its pairs, and the number of places
+-- what contracts see of an index: its pairs, in order of their places, and the number of places
 pub record Indexed : Type 0 where
   pub pairs : List Pair
   pub places : ℕ

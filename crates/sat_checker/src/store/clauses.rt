@@ -14,7 +14,7 @@ ghost use Rattle.sat_checker.specs.inner.SlotView.{found_among, hashed_anew, liv
 ghost use Rattle.sat_checker.specs.Storing.{clause_numbered, clause_with};
 ghost use Rattle.sat_checker.specs.LiteralSets.{mentions, is_among, canonical};
 ghost use Rattle.sat_checker.specs.inner.StoreView.{store_count_in};
-ghost use Rattle.sat_checker.specs.inner.PairView.{inserted_all, first_of, places_after};
+ghost use Rattle.sat_checker.specs.inner.PairView.{first_of, places_after};
 ghost use Rattle.sat_checker.specs.inner.IndexView.{IndexesSlots, pairs_of};
 ghost use Rattle.sat_checker.specs.inner.OccurrenceView.{SlotsInvariant};
 
@@ -71,8 +71,8 @@ impl Clauses {
         }
     }
 
-    /// Returns a reference to the index: the sorted list of the mixed hashes and places of the clauses that are
-    /// not removed.
+    /// Returns a reference to the index: the mixed hashes and places of the clauses that are not removed, in order of
+    /// their places.
     pub fn index(&self) -> &SortedPairs
         ensures { IndexesSlots result.now self.now }
     {
@@ -351,7 +351,7 @@ fn file_standing(slots: &Slots, index: &SortedPairs, next: &mut SortedPairs)
     requires filed { IndexesSlots index.now slots.now }
     requires none { next.old.pairs ≡ [] }
     requires places { next.old.places ≡ length (slots_present slots.now) }
-    ensures { next.new ≡ record { pairs = inserted_all (pairs_of (slots_present slots.now)); places = next.old.places } }
+    ensures { next.new ≡ record { pairs = pairs_of (slots_present slots.now); places = next.old.places } }
 {
     let mut to = next.places();
     let count = slots.len();

@@ -1,11 +1,10 @@
-//! Pairs of a hash and a place, in linked lists. For each value of the top bits of a hash, a head gives the place at
-//! which a search starts.
-ghost use Rattle.std.specs.Prelude.{All, ℕ, ◌≡◌, ◌+◌, ◌<◌, ◌≤◌, ◌++◌, length, OnOk, OnErr, None};
-ghost use Rattle.std.specs.List.{AllByRecursion};
-ghost use Rattle.sat_checker.specs.inner.PairView.{inserted, without_pair, places_in, first_of};
-ghost use Rattle.sat_checker.specs.inner.LinkView.{rest, listed_pairs, top_of, head_at, IsWalk, AreLinked};
-ghost use Rattle.sat_checker.specs.inner.LinkView.{LinksListPairs, up_to};
-ghost use Rattle.sat_checker.specs.inner.LinkView.{below, last_or, place_before, nowhere, FitPlaces};
+//! Pairs of a hash and a place, in linked lists. For each value of the top bits of a hash, a head gives the first place
+//! of a list, which is in order of places.
+ghost use Rattle.std.specs.Prelude.{All, ℕ, ◌≡◌, ◌≢◌, ◌+◌, ◌<◌, ◌≤◌, ◌∷◌, ◌++◌, [], length, slice_set, OnOk, OnErr, None};
+ghost use Rattle.sat_checker.specs.inner.PairView.{without_pair, places_in, first_of};
+ghost use Rattle.sat_checker.specs.inner.LinkView.{rest, listed_pairs, top_of, IsWalk, AreLinked, AreLinkedFrom};
+ghost use Rattle.sat_checker.specs.inner.LinkView.{LinksListPairs, IsLinkSet};
+ghost use Rattle.sat_checker.specs.inner.LinkView.{last_or, place_before, nowhere, gone};
 
 use sat_base::ClauseHash;
 use std::alloc::AllocError;
@@ -17,8 +16,11 @@ pub struct Pair {
     pub place: usize,
 }
 
-/// The value that represents no place. All places are below this value.
+/// The value that represents no place.
 pub(crate) const NOWHERE: u32 = u32::MAX;
+
+/// The `next` of a place that has no pair. All places are below this value.
+pub(crate) const GONE: u32 = u32::MAX - 1;
 
 /// The hash at a place, and the next place in the list.
 #[derive(Clone, Copy)]
@@ -48,50 +50,24 @@ pub(crate) fn first_from(links: &[Link], from: u32, hash: ClauseHash) -> Option<
     let mut at = from;
     while at != NOWHERE {
         let link = links[at as usize];
-        if link.hash >= hash {
-            return if link.hash == hash {
-                Some(at as usize)
-            } else {
-                None
-            };
+        if link.hash == hash {
+            return Some(at as usize);
         }
         at = link.next;
     }
     None
 }
 
-/// Returns the last place whose hash is at most `hash`, in the list that starts at `from`.
-fn last_up_to(links: &[Link], from: u32, hash: ClauseHash) -> Option<usize>
+/// Returns the last place of the list that starts at `from`, if the list is not empty.
+fn last_from(links: &[Link], from: u32) -> Option<usize>
     requires { IsWalk links.now from }
-    ensures { result ≡ last_or None (up_to hash (rest links.now from)) }
+    ensures { result ≡ last_or None (rest links.now from) }
 {
     let mut last = None;
     let mut at = from;
     while at != NOWHERE {
-        let link = links[at as usize];
-        if link.hash > hash {
-            return last;
-        }
         last = Some(at as usize);
-        at = link.next;
-    }
-    last
-}
-
-/// Returns the last place whose hash is below `hash`, in the list that starts at `from`.
-fn last_below(links: &[Link], from: u32, hash: ClauseHash) -> Option<usize>
-    requires { IsWalk links.now from }
-    ensures { result ≡ last_or None (below hash (rest links.now from)) }
-{
-    let mut last = None;
-    let mut at = from;
-    while at != NOWHERE {
-        let link = links[at as usize];
-        if link.hash >= hash {
-            return last;
-        }
-        last = Some(at as usize);
-        at = link.next;
+        at = links[at as usize].next;
     }
     last
 }
@@ -122,136 +98,121 @@ pub(crate) fn put(
 ) -> Result<(), AllocError>
     requires linked { AreLinked heads.old links.old.items shift }
     requires some { 0 < length heads.old }
-    requires few { length links.old.items < nowhere }
+    requires few { length links.old.items < gone }
     requires shift { shift < 64 }
     ensures ok { OnOk result (LinksListPairs heads.new links.new.items shift
-        (inserted (record { hash = hash; place = length links.old.items }) (listed_pairs heads.old links.old.items))) }
+        (listed_pairs links.old.items ++ (record { hash = hash; place = length links.old.items }) ∷ [])) }
     ensures longer { OnOk result (length links.new.items ≡ length links.old.items + 1) }
     ensures err { OnErr result ((heads.new ≡ heads.old) × (links.new.items ≡ links.old.items)) }
 {
     let place = links.len();
     let top = top(hash, shift, heads.len());
-    let first = heads[top];
-    let Some(before) = last_up_to(links, first, hash) else {
-        links.push(Link { hash, next: first })?;
+    let last = last_from(links, heads[top]);
+    links.push(Link {
+        hash,
+        next: NOWHERE,
+    })?;
+    let Some(last) = last else {
         heads[top] = place as u32;
         return Ok(());
     };
-    let Link { hash: lower, next } = links[before];
-    links.push(Link { hash, next })?;
-    links[before] = Link {
-        hash: lower,
+    links[last] = Link {
+        hash: links[last].hash,
         next: place as u32,
     };
     Ok(())
 }
 
-/// Removes the pair at `place`.
+/// Removes the pair at `place`, if there is one.
 pub(crate) fn unlink(heads: &mut [u32], links: &mut [Link], shift: u32, place: usize)
     requires linked { AreLinked heads.old links.old shift }
     requires some { 0 < length heads.old }
     requires inside { place < length links.old }
     requires shift { shift < 64 }
-    ensures { LinksListPairs heads.new links.new shift (without_pair place (listed_pairs heads.old links.old)) }
+    ensures { LinksListPairs heads.new links.new shift (without_pair place (listed_pairs links.old)) }
 {
     let link = links[place];
     let top = top(link.hash, shift, heads.len());
     let first = heads[top];
     if first as usize == place {
         heads[top] = link.next;
+        links[place] = Link {
+            hash: link.hash,
+            next: GONE,
+        };
         return;
     }
     if let Some(before) = place_before(links, first, place) {
-        let hash = links[before].hash;
         links[before] = Link {
-            hash,
+            hash: links[before].hash,
             next: link.next,
         };
+        links[place] = Link {
+            hash: link.hash,
+            next: GONE,
+        };
     }
 }
 
-/// Appends the pairs of the list that starts at `from` to `list`.
-fn list_from(links: &[Link], from: u32, list: &mut Vec<Pair>) -> Result<(), AllocError>
-    requires { IsWalk links.now from }
-    ensures { OnOk result (list.new.items ≡ list.old.items ++ rest links.now from) }
+/// Appends all pairs to `list`, in order of their places.
+pub(crate) fn list_all(links: &[Link], list: &mut Vec<Pair>) -> Result<(), AllocError>
+    ensures { OnOk result (list.new.items ≡ list.old.items ++ listed_pairs links.now) }
 {
-    let mut at = from;
-    while at != NOWHERE {
-        let link = links[at as usize];
+    for place in 0..links.len() {
+        let link = links[place];
+        if link.next == GONE {
+            continue;
+        }
         list.push(Pair {
             hash: link.hash,
-            place: at as usize,
+            place,
         })?;
-        at = link.next;
     }
     Ok(())
 }
 
-/// Appends all pairs, in order, to `list`.
-pub(crate) fn list_all(
-    heads: &[u32],
-    links: &[Link],
-    list: &mut Vec<Pair>,
-) -> Result<(), AllocError>
-    requires { (t : ℕ) → t < length heads.now → IsWalk links.now (head_at heads.now t) }
-    ensures { OnOk result (list.new.items ≡ list.old.items ++ listed_pairs heads.now links.now) }
-{
-    for head in heads {
-        list_from(links, *head, list)?;
-    }
-    Ok(())
-}
-
-/// Links the pairs in `pairs`, from the last to the first. No pairs may already be linked.
-pub(crate) fn link_all(heads: &mut [u32], links: &mut [Link], shift: u32, pairs: &[Pair])
-    requires few { length links.old ≤ nowhere }
+/// Links all pairs again, from the last to the first, to new heads of empty lists.
+pub(crate) fn link_all(heads: &mut [u32], links: &mut [Link], shift: u32)
+    requires few { length links.old ≤ gone }
     requires none { All (λ h. h ≡ nowhere) heads.old }
     requires some { 0 < length heads.old }
-    requires pairs { FitPlaces pairs.now (length links.old) }
     requires shift { shift < 64 }
-    ensures { LinksListPairs heads.new links.new shift pairs.now }
+    ensures lists { LinksListPairs heads.new links.new shift (listed_pairs links.old) }
+    ensures count { length links.new ≡ length links.old }
 {
-    let count = pairs.len();
+    let count = links.len();
     for done in 0..count {
-        let pair = pairs[count - 1 - done];
-        let top = top(pair.hash, shift, heads.len());
-        links[pair.place] = Link {
-            hash: pair.hash,
-            next: heads[top],
-        };
-        heads[top] = pair.place as u32;
+        let place = count - 1 - done;
+        let link = links[place];
+        if link.next == GONE {
+            continue;
+        }
+        link_before(heads, links, shift, link.hash, place);
     }
 }
 
-/// Links a pair, whose place must be before those of all linked pairs.
-pub(crate) fn link_before(heads: &mut [u32], links: &mut [Link], shift: u32, pair: Pair)
-    requires linked { AreLinked heads.old links.old shift }
+/// Links a pair of the hash `hash` and the place `place` to the head of its list. Only pairs at later places may already
+/// be linked.
+#[inline(always)]
+pub(crate) fn link_before(
+    heads: &mut [u32],
+    links: &mut [Link],
+    shift: u32,
+    hash: ClauseHash,
+    place: usize,
+)
+    requires linked { AreLinkedFrom (place + 1) heads.old links.old shift }
     requires some { 0 < length heads.old }
-    requires inside { pair.place < length links.old }
-    requires above { AllByRecursion (λ q. pair.place < q.place) (listed_pairs heads.old links.old) }
-    requires room { length (listed_pairs heads.old links.old) < length links.old }
+    requires inside { place < length links.old }
     requires shift { shift < 64 }
-    ensures lists { LinksListPairs heads.new links.new shift (inserted pair (listed_pairs heads.old links.old)) }
+    ensures linked { AreLinkedFrom place heads.new links.new shift }
+    ensures set { IsLinkSet place hash links.old links.new }
     ensures heads { length heads.new ≡ length heads.old }
-    ensures links { length links.new ≡ length links.old }
 {
-    let top = top(pair.hash, shift, heads.len());
-    let first = heads[top];
-    let Some(before) = last_below(links, first, pair.hash) else {
-        links[pair.place] = Link {
-            hash: pair.hash,
-            next: first,
-        };
-        heads[top] = pair.place as u32;
-        return;
+    let top = top(hash, shift, heads.len());
+    links[place] = Link {
+        hash,
+        next: heads[top],
     };
-    let Link { hash: lower, next } = links[before];
-    links[pair.place] = Link {
-        hash: pair.hash,
-        next,
-    };
-    links[before] = Link {
-        hash: lower,
-        next: pair.place as u32,
-    };
+    heads[top] = place as u32;
 }

@@ -1,14 +1,14 @@
-//! A sorted list of pairs of a hash and a place. The hashes have to be mixed, because a search starts from their top
-//! bits, which should be evenly distributed.
-ghost use Rattle.std.specs.Prelude.{All, ℕ, true, ◌≡◌, ◌+◌, ◌++◌, ◌<◌, ◌≤◌, [], length, OnOk, OnErr, IfOk};
+//! Pairs of a hash and a place, in order of their places. The hashes have to be mixed, because a search starts from their
+//! top bits, which should be evenly distributed.
+ghost use Rattle.std.specs.Prelude.{All, ℕ, true, ◌≡◌, ◌+◌, ◌∷◌, ◌++◌, ◌<◌, ◌≤◌, [], length, OnOk, OnErr, IfOk};
 ghost use Rattle.std.specs.List.{AllByRecursion};
 ghost use Rattle.sat_checker.specs.LiteralSets.{is_among};
-ghost use Rattle.sat_checker.specs.inner.PairView.{AreInOrder, inserted, without_pair, places_in, first_of};
+ghost use Rattle.sat_checker.specs.inner.PairView.{AreInOrder, without_pair, places_in, first_of};
 ghost use Rattle.sat_checker.specs.inner.PairView.{places_after};
-ghost use Rattle.sat_checker.specs.inner.LinkView.{listed_pairs, AreKeptPairs, LinksListPairs, nowhere};
+ghost use Rattle.sat_checker.specs.inner.LinkView.{listed_pairs, AreKeptPairs, LinksListPairs, nowhere, gone};
 
 use crate::store::links::{
-    Link, NOWHERE, Pair, first_from, link_all, link_before, list_all, put, top, unlink,
+    GONE, Link, NOWHERE, Pair, first_from, link_all, link_before, list_all, put, top, unlink,
 };
 use sat_base::ClauseHash;
 use std::alloc::{AllocError, Global};
@@ -50,6 +50,17 @@ fn clear_heads(heads: &mut [u32])
     heads.fill(NOWHERE);
 }
 
+/// Removes the pairs of all links.
+fn clear_links(links: &mut [Link])
+    ensures none { All (λ l. l.next ≡ gone) links.new }
+    ensures count { length links.new ≡ length links.old }
+{
+    links.fill(Link {
+        hash: 0,
+        next: GONE,
+    });
+}
+
 /// Creates new heads for the current number of places, and links all pairs again. Returns the new number of hash bits
 /// that do not select the head.
 fn grow(
@@ -59,18 +70,16 @@ fn grow(
     shift: u32,
 ) -> Result<u32, AllocError>
     requires { AreKeptPairs heads.old.items links.old shift }
-    ensures ok { IfOk result (λ s. LinksListPairs heads.new.items links.new s (listed_pairs heads.old.items links.old)) }
+    ensures ok { IfOk result (λ s. LinksListPairs heads.new.items links.new s (listed_pairs links.old)) }
     ensures some { OnOk result (0 < length heads.new.items) }
     ensures few { IfOk result (λ s. 33 ≤ s) }
     ensures below { IfOk result (λ s. s < 64) }
     ensures count { length links.new ≡ length links.old }
     ensures err { OnErr result ((heads.new.items ≡ heads.old.items) × (links.new ≡ links.old)) }
 {
-    let mut pairs = Vec::new(alloc);
-    list_all(heads, links, &mut pairs)?;
     let less = shift_for(links.len());
     *heads = no_heads(alloc, less)?;
-    link_all(heads, links, less, &pairs);
+    link_all(heads, links, less);
     Ok(less)
 }
 
@@ -83,7 +92,7 @@ fn make_heads(
     shift: u32,
 ) -> Result<u32, AllocError>
     requires { AreKeptPairs heads.old.items links.old shift }
-    ensures ok { IfOk result (λ s. LinksListPairs heads.new.items links.new s (listed_pairs heads.old.items links.old)) }
+    ensures ok { IfOk result (λ s. LinksListPairs heads.new.items links.new s (listed_pairs links.old)) }
     ensures some { OnOk result (0 < length heads.new.items) }
     ensures few { IfOk result (λ s. 33 ≤ s) }
     ensures below { IfOk result (λ s. s < 64) }
@@ -99,8 +108,7 @@ fn make_heads(
     Ok(shift)
 }
 
-/// Pairs ordered by hash and then by place. In contracts, the value consists of the list of pairs and the number
-/// of places.
+/// Pairs in order of their places. In contracts, the value consists of the list of pairs and the number of places.
 #[derive(Drop)]
 pub struct SortedPairs {
     alloc: Global,
@@ -116,7 +124,7 @@ impl Model for SortedPairs {
 
     ghost Value = { Indexed };
 
-    ghost view = { λ s. record { pairs = listed_pairs s.heads.items s.links.items; places = length s.links.items } };
+    ghost view = { λ s. record { pairs = listed_pairs s.links.items; places = length s.links.items } };
 
     ghost invariant = { λ s. AreKeptPairs s.heads.items s.links.items s.shift };
 }
@@ -137,7 +145,7 @@ impl SortedPairs {
     /// Returns the number of places that have been assigned.
     pub fn places(&self) -> usize
         ensures count { result ≡ self.now.places }
-        ensures few { self.now.places ≤ nowhere }
+        ensures few { self.now.places ≤ gone }
         ensures order { AreInOrder self.now.pairs }
     {
         self.links.len()
@@ -164,11 +172,11 @@ impl SortedPairs {
         first_from(&self.links, self.links[place].next, hash)
     }
 
-    /// Appends all pairs, in order, to `pairs`.
+    /// Appends all pairs to `pairs`, in order of their places.
     pub fn list(&self, pairs: &mut Vec<Pair>) -> Result<(), AllocError>
         ensures { OnOk result (pairs.new.items ≡ pairs.old.items ++ self.now.pairs) }
     {
-        list_all(&self.heads, &self.links, pairs)
+        list_all(&self.links, pairs)
     }
 
     /// Returns the hash of the pair at `place`, if there is a pair. Otherwise, the result is unspecified.
@@ -182,12 +190,12 @@ impl SortedPairs {
     /// Adds a pair of the hash `hash` and the next place.
     pub fn push(&mut self, hash: ClauseHash) -> Result<(), AllocError>
         ensures ok { OnOk result (self.new ≡ record {
-          pairs = inserted (record { hash = hash; place = self.old.places }) self.old.pairs;
+          pairs = self.old.pairs ++ (record { hash = hash; place = self.old.places }) ∷ [];
           places = self.old.places + 1;
         }) }
         ensures err { OnErr result (self.new ≡ self.old) }
     {
-        if self.links.len() >= NOWHERE as usize {
+        if self.links.len() >= GONE as usize {
             return Err(AllocError);
         }
         self.shift = make_heads(self.alloc, &mut self.heads, &mut self.links, self.shift)?;
@@ -211,6 +219,7 @@ impl SortedPairs {
         ensures { self.new ≡ record { pairs = []; places = self.old.places } }
     {
         clear_heads(&mut self.heads);
+        clear_links(&mut self.links);
     }
 
     /// Adds a pair at `place`, which must be before all places that have pairs.
@@ -218,15 +227,9 @@ impl SortedPairs {
     pub fn file_before(&mut self, place: usize, hash: ClauseHash)
         requires inside { place < self.old.places }
         requires above { AllByRecursion (λ q. place < q.place) self.old.pairs }
-        requires room { length self.old.pairs < self.old.places }
-        ensures { self.new ≡ record self.old { pairs = inserted (record { hash = hash; place = place }) self.old.pairs } }
+        ensures { self.new ≡ record self.old { pairs = (record { hash = hash; place = place }) ∷ self.old.pairs } }
     {
-        link_before(
-            &mut self.heads,
-            &mut self.links,
-            self.shift,
-            Pair { hash, place },
-        );
+        link_before(&mut self.heads, &mut self.links, self.shift, hash, place);
     }
 }
 
@@ -234,13 +237,19 @@ impl SortedPairs {
 pub(crate) fn with_places(alloc: Global, places: usize) -> Result<SortedPairs, AllocError>
     ensures { IfOk result (λ s. s ≡ record { pairs = []; places = places }) }
 {
-    if places > NOWHERE as usize {
+    if places > GONE as usize {
         return Err(AllocError);
     }
     let shift = shift_for(places);
     let heads = no_heads(alloc, shift)?;
     let mut links = Vec::new(alloc);
-    links.resize(places, Link { hash: 0, next: 0 })?;
+    links.resize(
+        places,
+        Link {
+            hash: 0,
+            next: GONE,
+        },
+    )?;
     Ok(SortedPairs {
         alloc,
         heads,

@@ -1,310 +1,309 @@
--- What heads and links list after a pair is inserted or removed.
+-- What heads and links list after a pair is added or removed.
 use Rattle.std.proofs.Common.{ℕ, zero, suc, drop, ◌+◌, ◌<◌, ◌≤◌, ◌≡◌, ◌≢◌, Bool, true, false, not, cond, eqb, List, [], ◌∷◌, ◌++◌, length, take, refl, sym, ◌∙◌, ap, subst, arith, None, Some, slice_set, length-append}
 use Rattle.std.proofs.lemmas.Bool.{eq-eqb, ne_eqb, eqb-true, eqb-false}
-use Rattle.std.proofs.lemmas.List.{get_or-set_same, get_or-set_other, get_or_push, get_or_append_left, length-set, drop_more}
-use Rattle.std.specs.List.{All, AllByRecursion, IsDistinct}
-use Rattle.std.specs.Prelude.{slice_index_or}
-use Rattle.std.proofs.lemmas.Map.Keys.{IsDistinct-head, IsDistinct-tail}
-use Rattle.std.proofs.lemmas.List.Elements.{All-from_recursion}
-use Rattle.sat_checker.specs.inner.PairView.{IsPairBefore, AreInOrder, inserted, without_pair, same_place}
-use Rattle.sat_checker.specs.inner.LinkView.{nowhere, link_at, LinksPairs, joined, top_of, head_at, part_at, listed_pairs, IsPairChain, AreLinked, AreKeptPairs, LinksListPairs, up_to, last_or, place_before}
+use Rattle.std.proofs.lemmas.List.{get_or-set_same, get_or-set_other, get_or_push, get_or_append_left, length-set, drop_all, append-nil}
+use Rattle.std.specs.List.{All, AllByRecursion}
+use Rattle.sat_checker.specs.inner.PairView.{without_pair}
+use Rattle.sat_checker.specs.inner.LinkView.{nowhere, gone, link_at, LinksPairs, pairs_from, pairs_on, listed_pairs, rest, top_of, with_top, head_at, AreLinkedFrom, AreLinked, AreKeptPairs, LinksListPairs, IsLinkSet, last_or, place_before}
 use Rattle.sat_checker.specs.declared.store.links.Pair.{Pair}
 use Rattle.sat_checker.specs.declared.store.links.Link.{Link}
-use Rattle.sat_checker.proofs.lemmas.pairs.Order.{all_weaker, all_both, all_filter, all_inserted, order_filter, order_inserted, length_inserted, length_filter, inserted_first}
-use Rattle.sat_checker.proofs.lemmas.pairs.Parts.{Tops, filter_joined, inserted_joined, length_part, all_part}
-use Rattle.sat_checker.proofs.lemmas.pairs.Walks.{IsThere, leads_there, there_apart}
-use Rattle.sat_checker.proofs.lemmas.pairs.Links.{are_linked, listed_is, tops_of, all_there, all_in_order, leads_same, link_after, link_first, last_member, before_member, IsRelinked, unlink, unlink_first, unlink_none, without_none, IsUnlinked}
+use Rattle.sat_checker.proofs.lemmas.pairs.Order.{all_weaker, all_both, all_filter, all_pass, filter_two, filter_swap, without_none, without_apart}
+use Rattle.sat_checker.proofs.lemmas.pairs.Walks.{IsThere}
+use Rattle.sat_checker.proofs.lemmas.pairs.Places.{all_there, pairs_above, pairs_push, pairs_relinked, pairs_removed, pairs_none, on_skip, on_set_here, only_after, only_front}
+use Rattle.sat_checker.proofs.lemmas.pairs.Links.{leads_same, leads_present, leads_further, last_member, none_last, before_member, after_member, part_is, part_order, part_there, unlinked, unlinked_first, unlinked_none, IsUnlinked}
 
-module _ (heads : List ℕ) (links : List Link) (shift : ℕ) (a : AreLinked heads links shift) (now : List ℕ) (new : List Link) (counts : length now ≡ length heads) (few : length new ≤ nowhere) (top : ℕ) (inside : top < length heads) where
-  module _ (p : Pair) (t : top_of shift (length heads) p.hash ≡ top) (apart : AllByRecursion (λ q. p.place ≢ q.place) (part_at heads links top)) (more : length links ≤ length new) (room : length (listed_pairs heads links) + 1 ≤ length new)
-      (here : LinksPairs new (head_at now top) (inserted p (part_at heads links top))) (others : (s : ℕ) → s < length heads → s ≢ top → LinksPairs new (head_at now s) (part_at heads links s)) where
-    parts : ℕ → List Pair
-    parts s = cond (eqb s top) (inserted p (part_at heads links s)) (part_at heads links s)
+-- the pairs of one top, after a pair
+top_here : (shift count top : ℕ) (p : Pair) (ps : List Pair) → top_of shift count p.hash ≡ top → with_top shift count top (p ∷ ps) ≡ p ∷ with_top shift count top ps
+top_here shift count top p ps e = ap (λ b. cond b (p ∷ with_top shift count top ps) (with_top shift count top ps)) (eq-eqb (top_of shift count p.hash) top e)
 
-    at_top : (s : ℕ) → s ≡ top → parts s ≡ inserted p (part_at heads links s)
-    unfolding parts
-    at_top s e = ap (λ b. cond b (inserted p (part_at heads links s)) (part_at heads links s)) (eq-eqb s top e)
+top_other : (shift count top : ℕ) (p : Pair) (ps : List Pair) → top_of shift count p.hash ≢ top → with_top shift count top (p ∷ ps) ≡ with_top shift count top ps
+top_other shift count top p ps e = ap (λ b. cond b (p ∷ with_top shift count top ps) (with_top shift count top ps)) (ne_eqb (top_of shift count p.hash) top e)
 
-    at_other : (s : ℕ) → s ≢ top → parts s ≡ part_at heads links s
-    unfolding parts
-    at_other s n = ap (λ b. cond b (inserted p (part_at heads links s)) (part_at heads links s)) (ne_eqb s top n)
+-- a pair is linked before all others
+module _ (heads : List ℕ) (links : List Link) (shift hash place top : ℕ) (a : AreLinkedFrom (place + 1) heads links shift) (l : place < length links) (inside : top < length heads) (t : top_of shift (length heads) hash ≡ top) where
+  abbrev front : Link
+  front = record { hash = hash; next = head_at heads top }
 
-    each : (s : ℕ) → s < length now → IsPairChain new shift (length now) s (head_at now s) (parts s)
-    each s l = go (eqb s top) refl
-      where
-        i : s < length heads
-        i = omega (arith, l, counts)
+  pub front_present : head_at heads top ≢ gone
+  front_present = leads_present links (head_at heads top) (with_top shift (length heads) top (pairs_on (place + 1) links)) a.few (a.parts top inside)
 
-        go : (b : Bool) → eqb s top ≡ b → IsPairChain new shift (length now) s (head_at now s) (parts s)
-        go true e =
-            let is = eqb-true s top e in
-            let old : IsPairChain links shift (length heads) top (head_at heads top) (part_at heads links top) = a.parts top inside in
-            let ps : parts s ≡ inserted p (part_at heads links top) = at_top s is ∙ ap (λ x. inserted p (part_at heads links x)) is in
-            subst (IsPairChain new shift (length now) s (head_at now s)) (sym ps) (record {
-              leads = subst (λ x. LinksPairs new (head_at now x) (inserted p (part_at heads links top))) (sym is) here;
-              short = omega (arith, length_inserted p (part_at heads links top), room, length_part (part_at heads links) (length heads) top inside);
-              in_order = order_inserted p (part_at heads links top) apart old.in_order;
-              tops = subst (λ n. Tops shift n s (inserted p (part_at heads links top))) (sym counts) (all_inserted (λ q. top_of shift (length heads) q.hash ≡ s) p (part_at heads links top) (t ∙ sym is) (subst (λ x. Tops shift (length heads) x (part_at heads links top)) (sym is) old.tops));
-            })
-        go false e =
-            let n = eqb-false s top e in
-            let old : IsPairChain links shift (length heads) s (head_at heads s) (part_at heads links s) = a.parts s i in
-            subst (IsPairChain new shift (length now) s (head_at now s)) (sym (at_other s n)) (record {
-              leads = others s i n;
-              short = let k : length (part_at heads links s) ≤ length links = old.short in omega (arith, more);
-              in_order = old.in_order;
-              tops = subst (λ m. Tops shift m s (part_at heads links s)) (sym counts) old.tops;
-            })
+  here : link_at (slice_set links place front) place ≡ front
+  here = get_or-set_same links place front (record { hash = 0; next = 0 }) l
 
-    whole : joined parts (length now) ≡ inserted p (listed_pairs heads links)
-    whole = ap (joined parts) counts ∙ inserted_joined shift (length heads) (part_at heads links) p (length heads) top inside t (tops_of heads links shift a) parts (λ s l n. at_other s n) (at_top top refl)
+  pairs_here : pairs_on place (slice_set links place front) ≡ (record { hash = hash; place = place }) ∷ pairs_on (place + 1) links
+  pairs_here = on_set_here links place front l front_present
 
-    pub has_inserted : LinksListPairs now new shift (inserted p (listed_pairs heads links))
-    has_inserted = record {
-      linked = are_linked now new shift few parts each (omega (arith, ap length whole, length_inserted p (listed_pairs heads links), room));
-      is = listed_is now new shift few parts each ∙ whole;
-    }
+  part_left : (s : ℕ) → s < length heads → LinksPairs (slice_set links place front) (head_at heads s) (with_top shift (length heads) s (pairs_on (place + 1) links))
+  part_left s i =
+      leads_same links (slice_set links place front) (head_at heads s) (with_top shift (length heads) s (pairs_on (place + 1) links)) (a.parts s i) (omega (arith, length-set links place front))
+      (all_weaker (λ q. place < q.place) (λ q. link_at (slice_set links place front) q.place ≡ link_at links q.place) (λ q m. get_or-set_other links place q.place front (record { hash = 0; next = 0 }) (λ e. omega (arith, m, e)))
+      (with_top shift (length heads) s (pairs_on (place + 1) links)) (all_filter (λ q. place < q.place) (λ p. eqb (top_of shift (length heads) p.hash) s) (pairs_on (place + 1) links) (pairs_above place (place + 1) (drop (place + 1) links) (omega arith))))
 
-  module _ (x : ℕ) (apart : (s : ℕ) → s < length heads → s ≢ top → AllByRecursion (λ q. q.place ≢ x) (part_at heads links s)) (same : length new ≡ length links)
-      (here : LinksPairs new (head_at now top) (without_pair x (part_at heads links top))) (others : (s : ℕ) → s < length heads → s ≢ top → LinksPairs new (head_at now s) (part_at heads links s)) where
-    left : ℕ → List Pair
-    left s = without_pair x (part_at heads links s)
+  part_front : (s : ℕ) → s < length heads → LinksPairs (slice_set links place front) (head_at (slice_set heads top place) s) (with_top shift (length heads) s (pairs_on place (slice_set links place front)))
+  part_front s i = subst (λ ps. LinksPairs (slice_set links place front) (head_at (slice_set heads top place) s) (with_top shift (length heads) s ps)) (sym pairs_here) (go (eqb s top) refl)
+    where
+      go : (b : Bool) → eqb s top ≡ b → LinksPairs (slice_set links place front) (head_at (slice_set heads top place) s) (with_top shift (length heads) s ((record { hash = hash; place = place }) ∷ pairs_on (place + 1) links))
+      go true e =
+          let is : s ≡ top = eqb-true s top e in
+          subst (λ x. LinksPairs (slice_set links place front) (head_at (slice_set heads top place) x) (with_top shift (length heads) x ((record { hash = hash; place = place }) ∷ pairs_on (place + 1) links))) (sym is)
+          (subst (LinksPairs (slice_set links place front) (head_at (slice_set heads top place) top)) (sym (top_here shift (length heads) top (record { hash = hash; place = place }) (pairs_on (place + 1) links) t))
+          (subst (λ x. LinksPairs (slice_set links place front) x ((record { hash = hash; place = place }) ∷ with_top shift (length heads) top (pairs_on (place + 1) links))) (sym (get_or-set_same heads top place 0 inside)) (
+            record { inside = omega (arith, length-set links place front, l); is = ap (λ (k : Link). record { hash = k.hash; place = place }) (sym here) },
+            subst (λ (k : Link). LinksPairs (slice_set links place front) k.next (with_top shift (length heads) top (pairs_on (place + 1) links))) (sym here) (part_left top inside),
+          )))
+      go false e =
+          let isnt : s ≢ top = eqb-false s top e in
+          subst (LinksPairs (slice_set links place front) (head_at (slice_set heads top place) s)) (sym (top_other shift (length heads) s (record { hash = hash; place = place }) (pairs_on (place + 1) links) (λ d. isnt (sym d ∙ t))))
+          (subst (λ x. LinksPairs (slice_set links place front) x (with_top shift (length heads) s (pairs_on (place + 1) links))) (sym (get_or-set_other heads top s place 0 isnt)) (part_left s i))
 
-    each_left : (s : ℕ) → s < length now → IsPairChain new shift (length now) s (head_at now s) (left s)
-    unfolding left
-    each_left s l = go (eqb s top) refl
-      where
-        i : s < length heads
-        i = omega (arith, l, counts)
+  pub linked_front : AreLinkedFrom place (slice_set heads top place) (slice_set links place front) shift
+  linked_front = record {
+    few = omega (arith, length-set links place front, a.few);
+    parts = λ s i. subst (λ n. LinksPairs (slice_set links place front) (head_at (slice_set heads top place) s) (with_top shift n s (pairs_on place (slice_set links place front)))) (sym (length-set heads top place)) (part_front s (omega (arith, i, length-set heads top place)));
+  }
 
-        made : LinksPairs new (head_at now s) (without_pair x (part_at heads links s)) → IsPairChain new shift (length now) s (head_at now s) (without_pair x (part_at heads links s))
-        made leads =
-            let old : IsPairChain links shift (length heads) s (head_at heads s) (part_at heads links s) = a.parts s i in
-            record {
-              leads = leads;
-              short = let k : length (part_at heads links s) ≤ length links = old.short in omega (arith, same, length_filter (λ p. not (eqb p.place x)) (part_at heads links s));
-              in_order = order_filter (λ p. not (eqb p.place x)) (part_at heads links s) old.in_order;
-              tops = subst (λ m. Tops shift m s (without_pair x (part_at heads links s))) (sym counts) (all_filter (λ q. top_of shift (length heads) q.hash ≡ s) (λ p. not (eqb p.place x)) (part_at heads links s) old.tops);
-            }
+-- no pair is linked at the place
+pub linked_skip : (heads : List ℕ) (links : List Link) (shift place : ℕ) → AreLinkedFrom (place + 1) heads links shift → place < length links → (link_at links place).next ≡ gone → AreLinkedFrom place heads links shift
+linked_skip heads links shift place a l e = record { few = a.few; parts = λ s i. subst (λ ps. LinksPairs links (head_at heads s) (with_top shift (length heads) s ps)) (sym (on_skip links place l e)) (a.parts s i) }
 
-        go : (b : Bool) → eqb s top ≡ b → IsPairChain new shift (length now) s (head_at now s) (without_pair x (part_at heads links s))
-        go true e = made (subst (λ y. LinksPairs new (head_at now y) (without_pair x (part_at heads links y))) (sym (eqb-true s top e)) here)
-        go false e = let n = eqb-false s top e in made (subst (LinksPairs new (head_at now s)) (sym (without_none x (part_at heads links s) (apart s i n))) (others s i n))
+-- a place where the same pairs are, from there on
+pub linked_same : (heads : List ℕ) (links : List Link) (shift from to : ℕ) → AreLinkedFrom from heads links shift → pairs_on from links ≡ pairs_on to links → AreLinkedFrom to heads links shift
+linked_same heads links shift from to a e = record { few = a.few; parts = λ s i. subst (λ ps. LinksPairs links (head_at heads s) (with_top shift (length heads) s ps)) e (a.parts s i) }
 
-    whole_left : joined left (length now) ≡ without_pair x (listed_pairs heads links)
-    unfolding left
-    whole_left = ap (joined left) counts ∙ sym (filter_joined (λ p. not (eqb p.place x)) (part_at heads links) (length heads))
+-- a pair was linked before all others
+pub filed_before : (heads : List ℕ) (links new : List Link) (shift place hash : ℕ) → AreLinkedFrom place heads new shift → IsLinkSet place hash links new → place < length links → AllByRecursion (λ (p : Pair). place < p.place) (listed_pairs links)
+    → LinksListPairs heads new shift ((record { hash = hash; place = place }) ∷ listed_pairs links)
+filed_before heads links new shift place hash a s l h =
+    let whole : listed_pairs new ≡ (record { hash = hash; place = place }) ∷ listed_pairs links = ap listed_pairs s.is ∙ only_front links place h (record { hash = hash; next = s.next }) l s.present in
+    let here : pairs_on place new ≡ (record { hash = hash; place = place }) ∷ listed_pairs links = ap (pairs_on place) s.is ∙ on_set_here links place (record { hash = hash; next = s.next }) l s.present ∙ ap (λ ps. (record { hash = hash; place = place }) ∷ ps) (only_after links place h) in
+    record { linked = linked_same heads new shift place 0 a (here ∙ sym whole); is = whole }
 
-    pub has_left : LinksListPairs now new shift (without_pair x (listed_pairs heads links))
-    has_left = record {
-      linked = are_linked now new shift few left each_left (omega (arith, ap length whole_left, length_filter (λ p. not (eqb p.place x)) (listed_pairs heads links), a.count, same));
-      is = listed_is now new shift few left each_left ∙ whole_left;
-    }
-
-module _ (heads : List ℕ) (links : List Link) (shift : ℕ) (a : AreLinked heads links shift) (top : ℕ) (inside : top < length heads) where
-  -- a place whose hash has one top is not in the part of another top
-  pub not_in : (x : ℕ) → top_of shift (length heads) (link_at links x).hash ≡ top → (s : ℕ) → s < length heads → s ≢ top → AllByRecursion (λ q. q.place ≢ x) (part_at heads links s)
-  not_in x t s i n =
-      all_weaker (λ q. IsThere links q × (top_of shift (length heads) q.hash ≡ s)) (λ q. q.place ≢ x)
-      (λ q k e. n (sym k.1 ∙ ap (top_of shift (length heads)) (k.0.hash ∙ ap (λ y. (link_at links y).hash) e) ∙ t)) (part_at heads links s)
-      (all_both (IsThere links) (λ q. top_of shift (length heads) q.hash ≡ s) (part_at heads links s) (leads_there links (head_at heads s) (part_at heads links s) (a.parts s i).leads) (a.parts s i).tops)
-
-  there : (s : ℕ) → s < length heads → AllByRecursion (IsThere links) (part_at heads links s)
-  there s i = leads_there links (head_at heads s) (part_at heads links s) (a.parts s i).leads
-
-  -- the place of the last pair up to a hash exists, and its hash has this top
-  pub last_there : (h b : ℕ) → Some b ≡ last_or None (up_to h (part_at heads links top)) → (b < length links) × (top_of shift (length heads) (link_at links b).hash ≡ top)
-  last_there h b e =
-      last_member (λ x. (x < length links) × (top_of shift (length heads) (link_at links x).hash ≡ top)) None (up_to h (part_at heads links top)) b (sym e) (λ s. absurd cc)
-      (all_filter (λ q. (q.place < length links) × (top_of shift (length heads) (link_at links q.place).hash ≡ top)) _ (part_at heads links top)
-      (all_weaker (λ q. IsThere links q × (top_of shift (length heads) q.hash ≡ top)) (λ q. (q.place < length links) × (top_of shift (length heads) (link_at links q.place).hash ≡ top))
-      (λ q k. (k.0.inside, ap (top_of shift (length heads)) (sym k.0.hash) ∙ k.1)) (part_at heads links top)
-      (all_both (IsThere links) (λ q. top_of shift (length heads) q.hash ≡ top) (part_at heads links top) (there top inside) (a.parts top inside).tops)))
-
-  module _ (h : ℕ) (t : top_of shift (length heads) h ≡ top) (few : length links < nowhere) where
-    p : Pair
-    p = record { hash = h; place = length links }
-
-    new_apart : AllByRecursion (λ q. length links ≢ q.place) (part_at heads links top)
-    new_apart = all_weaker (IsThere links) (λ q. length links ≢ q.place) (λ q k e. let l : q.place < length links = k.inside in omega arith) (part_at heads links top) (there top inside)
-
-    pub write_out_and_put : (new : List Link) (b : ℕ) → Some b ≡ last_or None (up_to h (part_at heads links top)) → new ≡ slice_set (links ++ record { hash = h; next = (link_at links b).next } ∷ []) b (record { hash = (link_at links b).hash; next = length links })
-        → LinksListPairs heads new shift (inserted (record { hash = h; place = length links }) (listed_pairs heads links))
-    write_out_and_put new b e n =
-        has_inserted heads links shift a heads new refl (omega (arith, longer, few)) top inside (record { hash = h; place = length links }) t new_apart (omega (arith, longer)) (omega (arith, longer, a.count))
-        (link_after links new (head_at heads top) h b (part_at heads links top) (a.parts top inside).leads (a.parts top inside).in_order (sym e) relinked)
-        (λ s i m. leads_same links new (head_at heads s) (part_at heads links s) (a.parts s i).leads (omega (arith, longer))
-        (all_weaker (λ q. IsThere links q × (q.place ≢ b)) (λ q. link_at new q.place ≡ link_at links q.place) (λ q k. same q.place k.0.inside k.1) (part_at heads links s) (all_both (IsThere links) (λ q. q.place ≢ b) (part_at heads links s) (there s i) (not_in b (last_there h b e).1 s i m))))
-      where
-        last : Link
-        last = record { hash = h; next = (link_at links b).next }
-
-        there_b : b < length links
-        there_b = (last_there h b e).0
-
-        longer : length new ≡ length links + 1
-        longer = ap length n ∙ length-set (links ++ record { hash = h; next = (link_at links b).next } ∷ []) b (record { hash = (link_at links b).hash; next = length links }) ∙ omega (arith, length-append links (record { hash = h; next = (link_at links b).next } ∷ []))
-
-        same : (x : ℕ) → x < length links → x ≢ b → link_at new x ≡ link_at links x
-        same x l d =
-            ap (λ xs. link_at xs x) n ∙ get_or-set_other (links ++ record { hash = h; next = (link_at links b).next } ∷ []) b x (record { hash = (link_at links b).hash; next = length links }) (record { hash = 0; next = 0 }) d
-            ∙ get_or_append_left links (record { hash = h; next = (link_at links b).next } ∷ []) (record { hash = 0; next = 0 }) x l
-
-        relinked : IsRelinked links new h b
-        relinked = record {
-          longer = longer;
-          same = same;
-          there = ap (λ xs. link_at xs b) n ∙ get_or-set_same (links ++ record { hash = h; next = (link_at links b).next } ∷ []) b (record { hash = (link_at links b).hash; next = length links }) (record { hash = 0; next = 0 }) (omega (arith, there_b, length-append links (record { hash = h; next = (link_at links b).next } ∷ [])));
-          last = ap (λ xs. link_at xs (length links)) n ∙ get_or-set_other (links ++ record { hash = h; next = (link_at links b).next } ∷ []) b (length links) (record { hash = (link_at links b).hash; next = length links }) (record { hash = 0; next = 0 }) (λ s. omega (arith, s, there_b))
-              ∙ get_or_push links (record { hash = h; next = (link_at links b).next }) (record { hash = 0; next = 0 }) (length links) refl;
-        }
-
-    pub put_first : (now : List ℕ) (new : List Link) → None ≡ last_or None (up_to h (part_at heads links top)) → new ≡ links ++ record { hash = h; next = head_at heads top } ∷ [] → now ≡ slice_set heads top (length links)
-        → LinksListPairs now new shift (inserted (record { hash = h; place = length links }) (listed_pairs heads links))
-    put_first now new e n m =
-        has_inserted heads links shift a now new (ap length m ∙ length-set heads top (length links)) (omega (arith, longer, few)) top inside (record { hash = h; place = length links }) t new_apart (omega (arith, longer)) (omega (arith, longer, a.count))
-        (subst (λ y. LinksPairs new y (inserted (record { hash = h; place = length links }) (part_at heads links top))) (sym (ap (λ xs. head_at xs top) m ∙ get_or-set_same heads top (length links) 0 inside))
-        (link_first links new (head_at heads top) h (part_at heads links top) (a.parts top inside).leads (a.parts top inside).in_order (sym e) longer same
-        (ap (λ xs. link_at xs (length links)) n ∙ get_or_push links (record { hash = h; next = head_at heads top }) (record { hash = 0; next = 0 }) (length links) refl)))
-        (λ s i d. subst (λ y. LinksPairs new y (part_at heads links s)) (sym (ap (λ xs. head_at xs s) m ∙ get_or-set_other heads top s (length links) 0 d))
-        (leads_same links new (head_at heads s) (part_at heads links s) (a.parts s i).leads (omega (arith, longer)) (all_weaker (IsThere links) (λ q. link_at new q.place ≡ link_at links q.place) (λ q k. same q.place k.inside) (part_at heads links s) (there s i))))
-      where
-        longer : length new ≡ length links + 1
-        longer = ap length n ∙ omega (arith, length-append links (record { hash = h; next = head_at heads top } ∷ []))
-
-        same : (x : ℕ) → x < length links → link_at new x ≡ link_at links x
-        same x l = ap (λ xs. link_at xs x) n ∙ get_or_append_left links (record { hash = h; next = head_at heads top } ∷ []) (record { hash = 0; next = 0 }) x l
-
-  module _ (x : ℕ) (i : x < length links) (t : top_of shift (length heads) (link_at links x).hash ≡ top) where
-    pub take_first : (now : List ℕ) → head_at heads top ≡ x → now ≡ slice_set heads top (link_at links x).next → LinksListPairs now links shift (without_pair x (listed_pairs heads links))
-    take_first now e m =
-        has_left heads links shift a now links (ap length m ∙ length-set heads top (link_at links x).next) a.few top inside x (not_in x t) refl
-        (subst (λ y. LinksPairs links y (without_pair x (part_at heads links top))) (sym (ap (λ xs. head_at xs top) m ∙ get_or-set_same heads top (link_at links x).next 0 inside))
-        (unlink_first links x (part_at heads links top) a.few i (subst (λ y. LinksPairs links y (part_at heads links top)) e (a.parts top inside).leads) (a.parts top inside).in_order))
-        (λ s j d. subst (λ y. LinksPairs links y (part_at heads links s)) (sym (ap (λ xs. head_at xs s) m ∙ get_or-set_other heads top s (link_at links x).next 0 d)) (a.parts s j).leads)
-
-    pub before_there : (b : ℕ) → Some b ≡ place_before x (part_at heads links top) → (b < length links) × (top_of shift (length heads) (link_at links b).hash ≡ top)
-    before_there b e =
-        before_member (λ y. (y < length links) × (top_of shift (length heads) (link_at links y).hash ≡ top)) x b (part_at heads links top) (sym e)
-        (all_weaker (λ q. IsThere links q × (top_of shift (length heads) q.hash ≡ top)) (λ q. (q.place < length links) × (top_of shift (length heads) (link_at links q.place).hash ≡ top))
-        (λ q k. (k.0.inside, ap (top_of shift (length heads)) (sym k.0.hash) ∙ k.1)) (part_at heads links top)
-        (all_both (IsThere links) (λ q. top_of shift (length heads) q.hash ≡ top) (part_at heads links top) (there top inside) (a.parts top inside).tops))
-
-    pub take_after : (new : List Link) (b : ℕ) → Some b ≡ place_before x (part_at heads links top) → new ≡ slice_set links b (record { hash = (link_at links b).hash; next = (link_at links x).next }) → LinksListPairs heads new shift (without_pair x (listed_pairs heads links))
-    take_after new b e n =
-        has_left heads links shift a heads new refl (omega (arith, count, a.few)) top inside x (not_in x t) count
-        (unlink links new (head_at heads top) x b (part_at heads links top) (a.parts top inside).leads (a.parts top inside).in_order (sym e) unlinked)
-        (λ s j d. leads_same links new (head_at heads s) (part_at heads links s) (a.parts s j).leads (omega (arith, count))
-        (all_weaker (λ q. q.place ≢ b) (λ q. link_at new q.place ≡ link_at links q.place) (λ q k. same q.place k) (part_at heads links s) (not_in b (before_there b e).1 s j d)))
-      where
-        count : length new ≡ length links
-        count = ap length n ∙ length-set links b (record { hash = (link_at links b).hash; next = (link_at links x).next })
-
-        same : (y : ℕ) → y ≢ b → link_at new y ≡ link_at links y
-        same y d = ap (λ xs. link_at xs y) n ∙ get_or-set_other links b y (record { hash = (link_at links b).hash; next = (link_at links x).next }) (record { hash = 0; next = 0 }) d
-
-        unlinked : IsUnlinked links new x b
-        unlinked = record {
-          count = count;
-          same = same;
-          there = ap (λ xs. link_at xs b) n ∙ get_or-set_same links b (record { hash = (link_at links b).hash; next = (link_at links x).next }) (record { hash = 0; next = 0 }) (before_there b e).0;
-        }
-
-    pub take_none : head_at heads top ≢ x → None ≡ place_before x (part_at heads links top) → LinksListPairs heads links shift (without_pair x (listed_pairs heads links))
-    take_none n e =
-        has_left heads links shift a heads links refl a.few top inside x (not_in x t) refl
-        (subst (LinksPairs links (head_at heads top)) (sym (unlink_none links (head_at heads top) x (part_at heads links top) (a.parts top inside).leads n (sym e))) (a.parts top inside).leads)
-        (λ s j d. (a.parts s j).leads)
-
--- a pair before all others is inserted first
-pub put_front : (heads : List ℕ) (links : List Link) (shift : ℕ) (ps : List Pair) (p : Pair) (top : ℕ) → LinksListPairs heads links shift ps → top < length heads → top_of shift (length heads) p.hash ≡ top → p.place < length links → length ps + 1 ≤ length links
-    → AllByRecursion (IsPairBefore p) ps → AllByRecursion (λ q. p.place ≢ q.place) ps → LinksListPairs (slice_set heads top p.place) (slice_set links p.place (record { hash = p.hash; next = head_at heads top })) shift (p ∷ ps)
-put_front heads links shift ps p top m inside t i room before apart =
-    subst (LinksListPairs now new shift) (ap (inserted p) m.is ∙ inserted_first p ps before)
-    (has_inserted heads links shift m.linked now new (length-set heads top p.place) (omega (arith, count, m.linked.few)) top inside p t (part (λ q. p.place ≢ q.place) apart top inside) (omega (arith, count)) (omega (arith, count, room, ap length m.is))
-    (subst (λ y. LinksPairs new y (inserted p (part_at heads links top))) (sym (get_or-set_same heads top p.place 0 inside))
-    (subst (LinksPairs new p.place) (sym (inserted_first p (part_at heads links top) (part (IsPairBefore p) before top inside))) (
-      record { inside = omega (arith, count, i); is = ap (λ (k : Link). record { hash = k.hash; place = p.place }) (sym here) },
-      subst (λ (k : Link). LinksPairs new k.next (part_at heads links top)) (sym here) (same_part top inside),
-    )))
-    (λ s j d. subst (λ y. LinksPairs new y (part_at heads links s)) (sym (get_or-set_other heads top s p.place 0 d)) (same_part s j)))
-  where
-    now : List ℕ
-    now = slice_set heads top p.place
-
-    new : List Link
-    new = slice_set links p.place (record { hash = p.hash; next = head_at heads top })
-
-    count : length (slice_set links p.place (record { hash = p.hash; next = head_at heads top })) ≡ length links
-    count = length-set links p.place (record { hash = p.hash; next = head_at heads top })
-
-    here : link_at (slice_set links p.place (record { hash = p.hash; next = head_at heads top })) p.place ≡ record { hash = p.hash; next = head_at heads top }
-    here = get_or-set_same links p.place (record { hash = p.hash; next = head_at heads top }) (record { hash = 0; next = 0 }) i
-
-    part : (P : Pair → Type 0) → AllByRecursion P ps → (s : ℕ) → s < length heads → AllByRecursion P (part_at heads links s)
-    part P h s j = all_part P (part_at heads links) (length heads) s j (subst (AllByRecursion P) (sym m.is) h)
-
-    same_part : (s : ℕ) → s < length heads → LinksPairs (slice_set links p.place (record { hash = p.hash; next = head_at heads top })) (head_at heads s) (part_at heads links s)
-    same_part s j =
-        leads_same links (slice_set links p.place (record { hash = p.hash; next = head_at heads top })) (head_at heads s) (part_at heads links s) (m.linked.parts s j).leads (omega (arith, count))
-        (all_weaker (λ q. p.place ≢ q.place) (λ q. link_at (slice_set links p.place (record { hash = p.hash; next = head_at heads top })) q.place ≡ link_at links q.place)
-        (λ q n. get_or-set_other links p.place q.place (record { hash = p.hash; next = head_at heads top }) (record { hash = 0; next = 0 }) (λ e. n (sym e))) (part_at heads links s) (part (λ q. p.place ≢ q.place) apart s j))
+pub kept_before : (heads now : List ℕ) (links new : List Link) (shift place hash : ℕ) → AreKeptPairs heads links shift → AreLinkedFrom place now new shift → IsLinkSet place hash links new → length now ≡ length heads → place < length links
+    → AllByRecursion (λ (p : Pair). place < p.place) (listed_pairs links) → AreKeptPairs now new shift
+kept_before heads now links new shift place hash k a s count l h = record {
+  linked = (filed_before now links new shift place hash a s l h).linked;
+  some = λ m. let some : 0 < length heads = k.some (omega (arith, l)) in omega (arith, some, count);
+  few = k.few;
+  below = k.below;
+}
 
 -- nothing is linked yet: all heads are `nowhere`
-pub lists_none : (heads : List ℕ) (links : List Link) (shift : ℕ) → length links ≤ nowhere → All (λ h. h ≡ nowhere) heads → LinksListPairs heads links shift []
-lists_none heads links shift few none = record {
-  linked = are_linked heads links shift few (λ s. []) each (let e : length (joined (λ s. []) (length heads)) ≡ 0 = ap length (nothing (length heads)) in omega (arith, e));
-  is = listed_is heads links shift few (λ s. []) each ∙ nothing (length heads);
-}
-  where
-    nothing : (n : ℕ) → joined (λ s. []) n ≡ []
-    nothing zero = refl
-    nothing (suc n) = ap (λ ps. ps ++ []) (nothing n)
+pub linked_none : (heads : List ℕ) (links : List Link) (shift place : ℕ) → length links ≤ gone → All (λ h. h ≡ nowhere) heads → pairs_on place links ≡ [] → AreLinkedFrom place heads links shift
+linked_none heads links shift place few none e = record { few = few; parts = λ s i. subst (λ ps. LinksPairs links (head_at heads s) (with_top shift (length heads) s ps)) (sym e) (none s 0 i) }
 
-    each : (s : ℕ) → s < length heads → IsPairChain links shift (length heads) s (head_at heads s) []
-    each s l = record { leads = none s 0 l; short = omega arith; in_order = tt; tops = tt }
+pub on_end : (links : List Link) (n : ℕ) → n ≡ length links → pairs_on n links ≡ []
+on_end links n e = ap (pairs_from n) (drop_all n links (omega (arith, e)))
+
+module _ (heads : List ℕ) (links : List Link) (shift : ℕ) (a : AreLinked heads links shift) (top : ℕ) (inside : top < length heads) where
+  -- a place whose hash has one top is not in the list of another top
+  not_in : (x : ℕ) → top_of shift (length heads) (link_at links x).hash ≡ top → (s : ℕ) → s ≢ top → AllByRecursion (λ q. q.place ≢ x) (with_top shift (length heads) s (listed_pairs links))
+  not_in x t s n =
+      all_weaker (λ q. IsThere links q × (eqb (top_of shift (length heads) q.hash) s ≡ true)) (λ q. q.place ≢ x)
+      (λ q k e. n (sym (eqb-true (top_of shift (length heads) q.hash) s k.1) ∙ ap (top_of shift (length heads)) (k.0.hash ∙ ap (λ y. (link_at links y).hash) e) ∙ t)) (with_top shift (length heads) s (listed_pairs links))
+      (all_both (IsThere links) (λ q. eqb (top_of shift (length heads) q.hash) s ≡ true) (with_top shift (length heads) s (listed_pairs links)) (part_there heads links shift a s) (all_pass (λ p. eqb (top_of shift (length heads) p.hash) s) (listed_pairs links)))
+
+  -- a linked place exists, is not gone, and its hash has this top
+  pub record IsLinkedPlace (x : ℕ) : Type 0 where
+    pub exists : x < length links
+    pub top_is : top_of shift (length heads) (link_at links x).hash ≡ top
+    pub present : (link_at links x).next ≢ gone
+
+  each_linked : AllByRecursion (λ q. IsLinkedPlace q.place) (with_top shift (length heads) top (listed_pairs links))
+  each_linked =
+      all_weaker (λ q. IsThere links q × (eqb (top_of shift (length heads) q.hash) top ≡ true)) (λ q. IsLinkedPlace q.place)
+      (λ q k. record { exists = k.0.inside; top_is = ap (top_of shift (length heads)) (sym k.0.hash) ∙ eqb-true (top_of shift (length heads) q.hash) top k.1; present = k.0.present }) (with_top shift (length heads) top (listed_pairs links))
+      (all_both (IsThere links) (λ q. eqb (top_of shift (length heads) q.hash) top ≡ true) (with_top shift (length heads) top (listed_pairs links)) (part_there heads links shift a top) (all_pass (λ p. eqb (top_of shift (length heads) p.hash) top) (listed_pairs links)))
+
+  pub last_linked : (b : ℕ) → Some b ≡ last_or None (rest links (head_at heads top)) → IsLinkedPlace b
+  last_linked b e = last_member IsLinkedPlace None (with_top shift (length heads) top (listed_pairs links)) b (ap (last_or None) (sym (part_is heads links shift a top inside)) ∙ sym e) (λ s. absurd cc) each_linked
+
+  pub before_linked : (x b : ℕ) → Some b ≡ place_before x (rest links (head_at heads top)) → IsLinkedPlace b
+  before_linked x b e = before_member IsLinkedPlace x b (with_top shift (length heads) top (listed_pairs links)) (ap (place_before x) (sym (part_is heads links shift a top inside)) ∙ sym e) each_linked
+
+  pub after_linked : (x b : ℕ) → Some b ≡ place_before x (rest links (head_at heads top)) → IsLinkedPlace x
+  after_linked x b e = after_member IsLinkedPlace x b (with_top shift (length heads) top (listed_pairs links)) (ap (place_before x) (sym (part_is heads links shift a top inside)) ∙ sym e) each_linked
+
+  -- links may change at a place of this top
+  others_same : (new : List Link) (x : ℕ) → top_of shift (length heads) (link_at links x).hash ≡ top → length links ≤ length new → ((y : ℕ) → y < length links → y ≢ x → link_at new y ≡ link_at links y)
+      → (s : ℕ) → s < length heads → s ≢ top → LinksPairs new (head_at heads s) (with_top shift (length heads) s (listed_pairs links))
+  others_same new x t more same s i n =
+      leads_same links new (head_at heads s) (with_top shift (length heads) s (listed_pairs links)) (a.parts s i) more
+      (all_weaker (λ q. IsThere links q × (q.place ≢ x)) (λ q. link_at new q.place ≡ link_at links q.place) (λ q k. same q.place k.0.inside k.1) (with_top shift (length heads) s (listed_pairs links))
+      (all_both (IsThere links) (λ q. q.place ≢ x) (with_top shift (length heads) s (listed_pairs links)) (part_there heads links shift a s) (not_in x t s n)))
+
+  -- one more pair at the end
+  module _ (hash : ℕ) (t : top_of shift (length heads) hash ≡ top) (few : length links < gone) where
+    abbrev p : Pair
+    p = record { hash = hash; place = length links }
+
+    abbrev more_links : List Link
+    more_links = links ++ (record { hash = hash; next = nowhere }) ∷ []
+
+    longer : length more_links ≡ length links + 1
+    longer = length-append links ((record { hash = hash; next = nowhere }) ∷ [])
+
+    pushed : listed_pairs more_links ≡ listed_pairs links ++ p ∷ []
+    pushed = pairs_push 0 links (record { hash = hash; next = nowhere }) (λ e. omega (arith, e)) ∙ ap (λ n. listed_pairs links ++ (record { hash = hash; place = n }) ∷ []) (let z : 0 + length links ≡ length links = omega arith in z)
+
+    part_top : with_top shift (length heads) top (listed_pairs links ++ p ∷ []) ≡ with_top shift (length heads) top (listed_pairs links) ++ p ∷ []
+    part_top = filter_two (λ q. eqb (top_of shift (length heads) q.hash) top) (listed_pairs links) (p ∷ []) ∙ ap (λ ps. with_top shift (length heads) top (listed_pairs links) ++ ps) (top_here shift (length heads) top p [] t)
+
+    part_other : (s : ℕ) → s ≢ top → with_top shift (length heads) s (listed_pairs links ++ p ∷ []) ≡ with_top shift (length heads) s (listed_pairs links)
+    part_other s n =
+        filter_two (λ q. eqb (top_of shift (length heads) q.hash) s) (listed_pairs links) (p ∷ []) ∙ ap (λ ps. with_top shift (length heads) s (listed_pairs links) ++ ps) (top_other shift (length heads) s p [] (λ e. n (sym e ∙ t))) ∙ append-nil (with_top shift (length heads) s (listed_pairs links))
+
+    pub has_pushed : (now : List ℕ) (new : List Link) → length now ≡ length heads → length new ≡ length links + 1 → listed_pairs new ≡ listed_pairs links ++ p ∷ []
+        → LinksPairs new (head_at now top) (with_top shift (length heads) top (listed_pairs links) ++ p ∷ []) → ((s : ℕ) → s < length heads → s ≢ top → LinksPairs new (head_at now s) (with_top shift (length heads) s (listed_pairs links)))
+        → LinksListPairs now new shift (listed_pairs links ++ p ∷ [])
+    has_pushed now new counts count is here others = record {
+      linked = record {
+        few = omega (arith, count, few);
+        parts = λ s i. subst (λ n. LinksPairs new (head_at now s) (with_top shift n s (listed_pairs new))) (sym counts) (subst (λ ps. LinksPairs new (head_at now s) (with_top shift (length heads) s ps)) (sym is) (go s (omega (arith, i, counts)) (eqb s top) refl));
+      };
+      is = is;
+    }
+      where
+        go : (s : ℕ) → s < length heads → (b : Bool) → eqb s top ≡ b → LinksPairs new (head_at now s) (with_top shift (length heads) s (listed_pairs links ++ p ∷ []))
+        go s i true e = subst (λ x. LinksPairs new (head_at now x) (with_top shift (length heads) x (listed_pairs links ++ p ∷ []))) (sym (eqb-true s top e)) (subst (LinksPairs new (head_at now top)) (sym part_top) here)
+        go s i false e = let n = eqb-false s top e in subst (LinksPairs new (head_at now s)) (sym (part_other s n)) (others s i n)
+
+    end_link : (new : List Link) → link_at new (length links) ≡ record { hash = hash; next = nowhere } → length new ≡ length links + 1 → LinksPairs new (length links) (p ∷ [])
+    end_link new e count = (record { inside = omega (arith, count); is = ap (λ (k : Link). record { hash = k.hash; place = length links }) (sym e) }, ap (λ (k : Link). k.next) e)
+
+    pub put_first : (now : List ℕ) (new : List Link) → None ≡ last_or None (rest links (head_at heads top)) → new ≡ more_links → now ≡ slice_set heads top (length links) → LinksListPairs now new shift (listed_pairs links ++ p ∷ [])
+    put_first now new e n m =
+        let none : with_top shift (length heads) top (listed_pairs links) ≡ [] = none_last (with_top shift (length heads) top (listed_pairs links)) (ap (last_or None) (sym (part_is heads links shift a top inside)) ∙ sym e) in
+        let count : length new ≡ length links + 1 = ap length n ∙ longer in
+        let last : link_at new (length links) ≡ record { hash = hash; next = nowhere } = ap (λ xs. link_at xs (length links)) n ∙ get_or_push links (record { hash = hash; next = nowhere }) (record { hash = 0; next = 0 }) (length links) refl in
+        has_pushed now new (ap length m ∙ length-set heads top (length links)) count (ap listed_pairs n ∙ pushed)
+        (subst (λ ps. LinksPairs new (head_at now top) (ps ++ p ∷ [])) (sym none) (subst (λ y. LinksPairs new y (p ∷ [])) (sym (ap (λ xs. head_at xs top) m ∙ get_or-set_same heads top (length links) 0 inside)) (end_link new last count)))
+        (λ s i d. subst (λ y. LinksPairs new y (with_top shift (length heads) s (listed_pairs links))) (sym (ap (λ xs. head_at xs s) m ∙ get_or-set_other heads top s (length links) 0 d))
+        (leads_same links new (head_at heads s) (with_top shift (length heads) s (listed_pairs links)) (a.parts s i) (omega (arith, count))
+        (all_weaker (IsThere links) (λ q. link_at new q.place ≡ link_at links q.place) (λ q k. ap (λ xs. link_at xs q.place) n ∙ get_or_append_left links ((record { hash = hash; next = nowhere }) ∷ []) (record { hash = 0; next = 0 }) q.place k.inside) (with_top shift (length heads) s (listed_pairs links)) (part_there heads links shift a s))))
+
+    pub put_last : (new : List Link) (b : ℕ) → Some b ≡ last_or None (rest links (head_at heads top)) → new ≡ slice_set more_links b (record { hash = (link_at links b).hash; next = length links }) → LinksListPairs heads new shift (listed_pairs links ++ p ∷ [])
+    put_last new b e n =
+        has_pushed heads new refl count
+        (ap listed_pairs n ∙ ap (λ h. listed_pairs (slice_set more_links b (record { hash = h; next = length links }))) (sym (ap (λ (k : Link). k.hash) (was b there.exists)))
+        ∙ pairs_relinked 0 more_links b (length links) (omega (arith, there.exists, longer)) (λ g. there.present (ap (λ (k : Link). k.next) (sym (was b there.exists)) ∙ g)) (λ g. omega (arith, few, g)) ∙ pushed)
+        (leads_further links new (head_at heads top) b (length links) (with_top shift (length heads) top (listed_pairs links)) (p ∷ []) (a.parts top inside) (part_order heads links shift a top) (ap (last_or None) (sym (part_is heads links shift a top inside)) ∙ sym e)
+        (omega (arith, count)) (part_there heads links shift a top) same (ap (λ xs. link_at xs b) n ∙ get_or-set_same more_links b (record { hash = (link_at links b).hash; next = length links }) (record { hash = 0; next = 0 }) (omega (arith, there.exists, longer)))
+        (end_link new end count))
+        (others_same new b there.top_is (omega (arith, count)) same)
+      where
+        there : IsLinkedPlace b
+        there = last_linked b e
+
+        count : length new ≡ length links + 1
+        count = ap length n ∙ length-set more_links b (record { hash = (link_at links b).hash; next = length links }) ∙ longer
+
+        was : (x : ℕ) → x < length links → link_at more_links x ≡ link_at links x
+        was x l = get_or_append_left links ((record { hash = hash; next = nowhere }) ∷ []) (record { hash = 0; next = 0 }) x l
+
+        same : (x : ℕ) → x < length links → x ≢ b → link_at new x ≡ link_at links x
+        same x l d = ap (λ xs. link_at xs x) n ∙ get_or-set_other more_links b x (record { hash = (link_at links b).hash; next = length links }) (record { hash = 0; next = 0 }) d ∙ was x l
+
+        end : link_at new (length links) ≡ record { hash = hash; next = nowhere }
+        end = ap (λ xs. link_at xs (length links)) n ∙ get_or-set_other more_links b (length links) (record { hash = (link_at links b).hash; next = length links }) (record { hash = 0; next = 0 }) (λ s. let i : b < length links = there.exists in omega (arith, s, i))
+            ∙ get_or_push links (record { hash = hash; next = nowhere }) (record { hash = 0; next = 0 }) (length links) refl
+
+  -- the pair at a place is removed
+  module _ (x : ℕ) (i : x < length links) (t : top_of shift (length heads) (link_at links x).hash ≡ top) where
+    abbrev removed : Link
+    removed = record { hash = (link_at links x).hash; next = gone }
+
+    part_less : (s : ℕ) → with_top shift (length heads) s (without_pair x (listed_pairs links)) ≡ without_pair x (with_top shift (length heads) s (listed_pairs links))
+    part_less s = filter_swap (λ q. eqb (top_of shift (length heads) q.hash) s) (λ q. not (eqb q.place x)) (listed_pairs links)
+
+    has_removed : (now : List ℕ) (new : List Link) → length now ≡ length heads → length new ≡ length links → listed_pairs new ≡ without_pair x (listed_pairs links)
+        → LinksPairs new (head_at now top) (without_pair x (with_top shift (length heads) top (listed_pairs links))) → ((s : ℕ) → s < length heads → s ≢ top → LinksPairs new (head_at now s) (with_top shift (length heads) s (listed_pairs links)))
+        → LinksListPairs now new shift (without_pair x (listed_pairs links))
+    has_removed now new counts count is here others = record {
+      linked = record {
+        few = omega (arith, count, a.few);
+        parts = λ s j. subst (λ n. LinksPairs new (head_at now s) (with_top shift n s (listed_pairs new))) (sym counts) (subst (λ ps. LinksPairs new (head_at now s) (with_top shift (length heads) s ps)) (sym is) (subst (LinksPairs new (head_at now s)) (sym (part_less s)) (go s (omega (arith, j, counts)) (eqb s top) refl)));
+      };
+      is = is;
+    }
+      where
+        go : (s : ℕ) → s < length heads → (b : Bool) → eqb s top ≡ b → LinksPairs new (head_at now s) (without_pair x (with_top shift (length heads) s (listed_pairs links)))
+        go s j true e = subst (λ y. LinksPairs new (head_at now y) (without_pair x (with_top shift (length heads) y (listed_pairs links)))) (sym (eqb-true s top e)) here
+        go s j false e = let n = eqb-false s top e in subst (LinksPairs new (head_at now s)) (sym (without_none x (with_top shift (length heads) s (listed_pairs links)) (not_in x t s n))) (others s j n)
+
+    -- the links of the other pairs are unchanged when the link at the place is removed
+    apart_same : (old : List Link) (at : ℕ) (ps : List Pair) → LinksPairs old at (without_pair x ps) → LinksPairs (slice_set old x removed) at (without_pair x ps)
+    apart_same old at ps h =
+        leads_same old (slice_set old x removed) at (without_pair x ps) h (omega (arith, length-set old x removed))
+        (all_weaker (λ q. q.place ≢ x) (λ q. link_at (slice_set old x removed) q.place ≡ link_at old q.place) (λ q n. get_or-set_other old x q.place removed (record { hash = 0; next = 0 }) n) (without_pair x ps) (without_apart x ps))
+
+    less : (old : List Link) → length old ≡ length links → listed_pairs (slice_set old x removed) ≡ without_pair x (listed_pairs old)
+    less old count = pairs_removed 0 old x (link_at links x).hash (omega (arith, count, i)) ∙ ap (λ y. without_pair y (listed_pairs old)) (let z : 0 + x ≡ x = omega arith in z)
+
+    pub take_first : (now : List ℕ) (new : List Link) → head_at heads top ≡ x → now ≡ slice_set heads top (link_at links x).next → new ≡ slice_set links x removed → LinksListPairs now new shift (without_pair x (listed_pairs links))
+    take_first now new h m n =
+        has_removed now new (ap length m ∙ length-set heads top (link_at links x).next) (ap length n ∙ length-set links x removed) (ap listed_pairs n ∙ less links refl)
+        (subst (λ y. LinksPairs new y (without_pair x (with_top shift (length heads) top (listed_pairs links)))) (sym (ap (λ xs. head_at xs top) m ∙ get_or-set_same heads top (link_at links x).next 0 inside))
+        (subst (λ ls. LinksPairs ls (link_at links x).next (without_pair x (with_top shift (length heads) top (listed_pairs links)))) (sym n)
+        (apart_same links (link_at links x).next (with_top shift (length heads) top (listed_pairs links))
+        (unlinked_first links x (with_top shift (length heads) top (listed_pairs links)) a.few i (subst (λ y. LinksPairs links y (with_top shift (length heads) top (listed_pairs links))) h (a.parts top inside)) (part_order heads links shift a top)))))
+        (λ s j d. subst (λ y. LinksPairs new y (with_top shift (length heads) s (listed_pairs links))) (sym (ap (λ xs. head_at xs s) m ∙ get_or-set_other heads top s (link_at links x).next 0 d))
+        (others_same new x t (omega (arith, ap length n, length-set links x removed)) (λ y l e. ap (λ xs. link_at xs y) n ∙ get_or-set_other links x y removed (record { hash = 0; next = 0 }) e) s j d))
+
+    pub take_after : (new : List Link) (b : ℕ) → Some b ≡ place_before x (rest links (head_at heads top)) → new ≡ slice_set (slice_set links b (record { hash = (link_at links b).hash; next = (link_at links x).next })) x removed → LinksListPairs heads new shift (without_pair x (listed_pairs links))
+    take_after new b e n =
+        has_removed heads new refl (ap length n ∙ length-set mid x removed ∙ count)
+        (ap listed_pairs n ∙ less mid count ∙ ap (without_pair x) (pairs_relinked 0 links b (link_at links x).next there.exists there.present (after_linked x b e).present))
+        (subst (λ ls. LinksPairs ls (head_at heads top) (without_pair x (with_top shift (length heads) top (listed_pairs links)))) (sym n)
+        (apart_same mid (head_at heads top) (with_top shift (length heads) top (listed_pairs links))
+        (unlinked links mid (head_at heads top) x b (with_top shift (length heads) top (listed_pairs links)) (a.parts top inside) (part_order heads links shift a top) (ap (place_before x) (sym (part_is heads links shift a top inside)) ∙ sym e) relinked)))
+        (λ s j d. subst (LinksPairs new (head_at heads s)) (without_none x (with_top shift (length heads) s (listed_pairs links)) (not_in x t s d))
+        (subst (λ ls. LinksPairs ls (head_at heads s) (without_pair x (with_top shift (length heads) s (listed_pairs links)))) (sym n)
+        (apart_same mid (head_at heads s) (with_top shift (length heads) s (listed_pairs links))
+        (subst (LinksPairs mid (head_at heads s)) (sym (without_none x (with_top shift (length heads) s (listed_pairs links)) (not_in x t s d))) (others_same mid b there.top_is (omega (arith, count)) (λ y l f. same y f) s j d)))))
+      where
+        there : IsLinkedPlace b
+        there = before_linked x b e
+
+        mid : List Link
+        mid = slice_set links b (record { hash = (link_at links b).hash; next = (link_at links x).next })
+
+        count : length (slice_set links b (record { hash = (link_at links b).hash; next = (link_at links x).next })) ≡ length links
+        count = length-set links b (record { hash = (link_at links b).hash; next = (link_at links x).next })
+
+        same : (y : ℕ) → y ≢ b → link_at (slice_set links b (record { hash = (link_at links b).hash; next = (link_at links x).next })) y ≡ link_at links y
+        same y d = get_or-set_other links b y (record { hash = (link_at links b).hash; next = (link_at links x).next }) (record { hash = 0; next = 0 }) d
+
+        relinked : IsUnlinked links (slice_set links b (record { hash = (link_at links b).hash; next = (link_at links x).next })) x b
+        relinked = record { count = count; same = same; there = get_or-set_same links b (record { hash = (link_at links b).hash; next = (link_at links x).next }) (record { hash = 0; next = 0 }) there.exists }
+
+    -- if no pair of this top is at the place, none is
+    none_there : (ps : List Pair) → AllByRecursion (IsThere links) ps → AllByRecursion (λ q. q.place ≢ x) (with_top shift (length heads) top ps) → AllByRecursion (λ q. q.place ≢ x) ps
+    none_there [] h k = tt
+    none_there (q ∷ qs) h k = go (eqb (top_of shift (length heads) q.hash) top) refl k (none_there qs h.1)
+      where
+        go : (b : Bool) → eqb (top_of shift (length heads) q.hash) top ≡ b → AllByRecursion (λ r. r.place ≢ x) (cond b (q ∷ with_top shift (length heads) top qs) (with_top shift (length heads) top qs))
+            → (AllByRecursion (λ r. r.place ≢ x) (with_top shift (length heads) top qs) → AllByRecursion (λ r. r.place ≢ x) qs) → AllByRecursion (λ r. r.place ≢ x) (q ∷ qs)
+        go true e m ih = (m.0, ih m.1)
+        go false e m ih = ((λ s. eqb-false (top_of shift (length heads) q.hash) top e (ap (top_of shift (length heads)) (h.0.hash ∙ ap (λ y. (link_at links y).hash) s) ∙ t)), ih m)
+
+    pub take_none : head_at heads top ≢ x → None ≡ place_before x (rest links (head_at heads top)) → LinksListPairs heads links shift (without_pair x (listed_pairs links))
+    take_none n e = record {
+      linked = a;
+      is = sym (without_none x (listed_pairs links) (none_there (listed_pairs links) (all_there links)
+          (unlinked_none links (head_at heads top) x (with_top shift (length heads) top (listed_pairs links)) (a.parts top inside) n (ap (place_before x) (sym (part_is heads links shift a top inside)) ∙ sym e))));
+    }
 
 -- a list whose items were all overwritten has exactly the new items
-pub written : (n : ℕ) (xs ys : List ℕ) → length xs ≡ n → take n (xs ++ ys) ≡ xs
+pub written : {A : Type 0} → (n : ℕ) (xs ys : List A) → length xs ≡ n → take n (xs ++ ys) ≡ xs
 written zero [] ys e = refl
 written zero (x ∷ xs) ys e = absurd (omega (arith, e))
 written (suc n) [] ys e = absurd (omega (arith, e))
 written (suc n) (x ∷ xs) ys e = ap (λ zs. x ∷ zs) (written n xs ys (omega (arith, e)))
 
-pub kept_none : (heads : List ℕ) (links : List Link) (shift : ℕ) → length links ≤ nowhere → All (λ h. h ≡ nowhere) heads → (0 < length links → 0 < length heads) → 33 ≤ shift → shift < 64 → AreKeptPairs heads links shift
-kept_none heads links shift few none some least below = record { linked = (lists_none heads links shift few none).linked; some = some; few = least; below = below }
+-- heads and links without pairs
+module _ (heads : List ℕ) (links : List Link) (shift : ℕ) (few : length links ≤ gone) (none : All (λ h. h ≡ nowhere) heads) (empty : All (λ (l : Link). l.next ≡ gone) links) where
+  pub lists_none : LinksListPairs heads links shift []
+  lists_none = let e = pairs_none 0 links (λ i l. empty i (record { hash = 0; next = 0 }) l) in record { linked = linked_none heads links shift 0 few none e; is = e }
 
-order_drop : (i : ℕ) (ps : List Pair) → AreInOrder ps → AreInOrder (drop i ps)
-order_drop zero ps o = o
-order_drop (suc i) [] o = o
-order_drop (suc i) (p ∷ ps) o = order_drop i ps o.1
-
-distinct_drop : (i : ℕ) (ps : List Pair) → IsDistinct same_place ps → IsDistinct same_place (drop i ps)
-distinct_drop zero ps d = d
-distinct_drop (suc i) [] d = d
-distinct_drop (suc i) (p ∷ ps) d = distinct_drop i ps (IsDistinct-tail same_place p ps d)
-
--- the pair at index `i` is before all later pairs
-pub front_of : (ps : List Pair) (i : ℕ) → i < length ps → AreInOrder ps → IsDistinct same_place ps
-    → AllByRecursion (IsPairBefore (slice_index_or ps i (record { hash = 0; place = 0 }))) (drop (i + 1) ps) × AllByRecursion (λ q. (slice_index_or ps i (record { hash = 0; place = 0 })).place ≢ q.place) (drop (i + 1) ps)
-front_of ps i l o d =
-    let e : drop i ps ≡ slice_index_or ps i (record { hash = 0; place = 0 }) ∷ drop (i + 1) ps = drop_more ps i (record { hash = 0; place = 0 }) l in
-    let o' = subst AreInOrder e (order_drop i ps o) in
-    let d' = subst (IsDistinct same_place) e (distinct_drop i ps d) in (
-      o'.0,
-      all_weaker (λ q. same_place (slice_index_or ps i (record { hash = 0; place = 0 })) q ≡ false) (λ q. (slice_index_or ps i (record { hash = 0; place = 0 })).place ≢ q.place) (λ q n. eqb-false (slice_index_or ps i (record { hash = 0; place = 0 })).place q.place n) (drop (i + 1) ps)
-          (IsDistinct-head same_place (slice_index_or ps i (record { hash = 0; place = 0 })) (drop (i + 1) ps) d'),
-    )
-
-distinct_there : (links : List Link) (ps : List Pair) → AllByRecursion (IsThere links) ps → AreInOrder ps → IsDistinct same_place ps
-unfolding IsDistinct
-distinct_there links [] t o = tt
-distinct_there links (p ∷ ps) t o = (all_weaker (λ q. IsThere links q × IsPairBefore p q) (λ q. same_place p q ≡ false) (λ q k. ne_eqb p.place q.place (λ e. there_apart links p q t.0 k.0 k.1 (sym e))) ps (all_both (IsThere links) (IsPairBefore p) ps t.1 o.0), distinct_there links ps t.1 o.1)
-
--- the listed pairs are at different places
-pub listed_distinct : (heads : List ℕ) (links : List Link) (shift : ℕ) → AreLinked heads links shift → IsDistinct same_place (listed_pairs heads links)
-listed_distinct heads links shift a = distinct_there links (listed_pairs heads links) (all_there heads links shift a) (all_in_order heads links shift a)
-
-pub listed_within : (heads : List ℕ) (links : List Link) (shift : ℕ) → AreLinked heads links shift → All (λ p. p.place < length links) (listed_pairs heads links)
-listed_within heads links shift a =
-    All-from_recursion (λ p. p.place < length links) (listed_pairs heads links) (all_weaker (IsThere links) (λ p. p.place < length links) (λ p t. t.inside) (listed_pairs heads links) (all_there heads links shift a))
+  pub kept_none : (0 < length links → 0 < length heads) → 33 ≤ shift → shift < 64 → AreKeptPairs heads links shift
+  kept_none some least below = record { linked = lists_none.linked; some = some; few = least; below = below }

@@ -1,38 +1,16 @@
--- The linked parts after pairs are inserted and removed.
-use Rattle.std.proofs.Common.{ltb, ◌||◌, ℕ, ◌+◌, ◌<◌, ◌≤◌, ◌≡◌, ◌≢◌, Bool, true, false, not, cond, eqb, leb, List, [], ◌∷◌, length, filter, map, refl, sym, ◌∙◌, ap, subst, arith, Option, None, Some, inl, inr, ◌⊎◌}
-use Rattle.std.proofs.lemmas.Bool.{cases_lt, eq-eqb, ne_eqb, eqb-true, eqb-false, true≢false}
+-- What links lead to after some of them change.
+use Rattle.std.proofs.Common.{ltb, ◌||◌, ℕ, ◌<◌, ◌≤◌, ◌≡◌, ◌≢◌, Bool, true, false, cond, eqb, List, [], ◌∷◌, ◌++◌, length, filter, map, refl, sym, ◌∙◌, ap, subst, arith, Option, None, Some}
+use Rattle.std.proofs.lemmas.Bool.{ne_eqb, eqb-true, eqb-false, true≢false}
 use Rattle.std.proofs.lemmas.Bool.Decides.{nat_tests}
 use Rattle.std.specs.List.{AllByRecursion}
-use Rattle.sat_checker.specs.inner.PairView.{IsPairBefore, AreInOrder, inserted, without_pair, places_in, places_after}
 use Rattle.sat_checker.specs.LiteralSets.{is_among}
-use Rattle.sat_checker.specs.inner.LinkView.{nowhere, link_at, rest, LinksPairs, joined, top_of, head_at, part_at, listed_pairs, IsWalk, IsPairChain, AreLinked, up_to, last_or, place_before}
+use Rattle.sat_checker.specs.inner.PairView.{AreInOrder, without_pair, places_in, places_after}
+use Rattle.sat_checker.specs.inner.LinkView.{gone, link_at, rest, LinksPairs, listed_pairs, top_of, with_top, head_at, IsWalk, AreLinked, AreKeptPairs, last_or, place_before}
 use Rattle.sat_checker.specs.declared.store.links.Pair.{Pair}
 use Rattle.sat_checker.specs.declared.store.links.Link.{Link}
-use Rattle.sat_checker.proofs.lemmas.pairs.Order.{all_weaker, all_both, all_filter, filter_none, filter_whole, inserted_first, not-before}
-use Rattle.sat_checker.proofs.lemmas.pairs.Parts.{Tops, joined_same, all_joined, order_joined, places_joined}
-use Rattle.sat_checker.proofs.lemmas.pairs.Walks.{IsThere, leads_there, there_apart, chain_is}
-
--- if every part is a chain of links, the heads and links list exactly these parts
-module _ (heads : List ℕ) (links : List Link) (shift : ℕ) (few : length links ≤ nowhere) (parts : ℕ → List Pair)
-    (each : (top : ℕ) → top < length heads → IsPairChain links shift (length heads) top (head_at heads top) (parts top)) where
-  pub part_is : (top : ℕ) → top < length heads → part_at heads links top ≡ parts top
-  part_is top l = chain_is links few (length links) (head_at heads top) (parts top) (each top l).leads (each top l).short
-
-  pub listed_is : listed_pairs heads links ≡ joined parts (length heads)
-  listed_is = joined_same (part_at heads links) parts (length heads) part_is
-
-  pub are_linked : length (joined parts (length heads)) ≤ length links → AreLinked heads links shift
-  are_linked count = record { few = few; count = subst (λ ps. length ps ≤ length links) (sym listed_is) count; parts = λ top l. subst (IsPairChain links shift (length heads) top (head_at heads top)) (sym (part_is top l)) (each top l) }
-
-module _ (heads : List ℕ) (links : List Link) (shift : ℕ) (a : AreLinked heads links shift) where
-  pub tops_of : (top : ℕ) → top < length heads → Tops shift (length heads) top (part_at heads links top)
-  tops_of top l = (a.parts top l).tops
-
-  pub all_there : AllByRecursion (IsThere links) (listed_pairs heads links)
-  all_there = all_joined (IsThere links) (part_at heads links) (length heads) (λ top l. leads_there links (head_at heads top) (part_at heads links top) (a.parts top l).leads)
-
-  pub all_in_order : AreInOrder (listed_pairs heads links)
-  all_in_order = order_joined shift (length heads) (part_at heads links) (length heads) (λ top l. ((a.parts top l).in_order, (a.parts top l).tops))
+use Rattle.sat_checker.proofs.lemmas.pairs.Order.{all_weaker, all_filter, order_filter, length_filter, places_top, without_head, without_tail, apart_after}
+use Rattle.sat_checker.proofs.lemmas.pairs.Places.{all_there, pairs_order, length_pairs}
+use Rattle.sat_checker.proofs.lemmas.pairs.Walks.{IsThere, chain_is}
 
 -- links may change at places where no pair is
 pub leads_same : (links new : List Link) (at : ℕ) (ps : List Pair) → LinksPairs links at ps → length links ≤ length new → AllByRecursion (λ p. link_at new p.place ≡ link_at links p.place) ps → LinksPairs new at ps
@@ -45,118 +23,42 @@ leads_same links new at (p ∷ ps) h l s = (
     here : link_at new at ≡ link_at links at
     here = let e : p.place ≡ at = ap (λ (q : Pair). q.place) h.0.is in ap (link_at new) (sym e) ∙ s.0 ∙ ap (link_at links) e
 
--- a link was appended, and the place `before` links to it
-pub record IsRelinked (links new : List Link) (hash before : ℕ) : Type 0 where
-  pub longer : length new ≡ length links + 1
-  pub same : (x : ℕ) → x < length links → x ≢ before → link_at new x ≡ link_at links x
-  pub there : link_at new before ≡ record { hash = (link_at links before).hash; next = length links }
-  pub last : link_at new (length links) ≡ record { hash = hash; next = (link_at links before).next }
+-- a place that links lead from is not `gone`
+pub leads_present : (links : List Link) (at : ℕ) (ps : List Pair) → length links ≤ gone → LinksPairs links at ps → at ≢ gone
+leads_present links at [] few h e = omega (arith, h, e)
+leads_present links at (p ∷ ps) few h e = let i : at < length links = h.0.inside in omega (arith, i, e)
 
-abbrev new_pair : List Link → ℕ → Pair
-new_pair links hash = record { hash = hash; place = length links }
-
+-- what holds for all places holds for the last one
 pub last_member : (P : ℕ → Type 0) (o : Option ℕ) (u : List Pair) (b : ℕ) → last_or o u ≡ Some b → (o ≡ Some b → P b) → AllByRecursion (λ (p : Pair). P p.place) u → P b
 last_member P o [] b e h k = h e
 last_member P o (p ∷ ps) b e h k = last_member P (Some p.place) ps b e (λ s. let q : p.place ≡ b = cc in subst P q k.0) k.1
 
-up_to_yes : (h : ℕ) (p : Pair) (ps : List Pair) → p.hash ≤ h → up_to h (p ∷ ps) ≡ p ∷ up_to h ps
-up_to_yes h p ps l = ap (λ b. cond b (p ∷ up_to h ps) (up_to h ps)) (yes p.hash h l)
+-- there is no last place only if there is no pair
+pub none_last : (ps : List Pair) → last_or None ps ≡ None → ps ≡ []
+none_last [] e = refl
+none_last (p ∷ ps) e = absurd (some p ps e)
   where
-    yes : (a b : ℕ) → a ≤ b → leb a b ≡ true
-    yes a b k = grind (arith, nat_tests)
+    some : (q : Pair) (qs : List Pair) → last_or (Some q.place) qs ≢ None
+    some q [] k = absurd cc
+    some q (r ∷ rs) k = some r rs k
 
-up_to_none : (h : ℕ) (ps : List Pair) → AllByRecursion (λ p. h < p.hash) ps → up_to h ps ≡ []
-up_to_none h ps k = filter_none (λ p. leb p.hash h) ps (all_weaker (λ p. h < p.hash) (λ p. leb p.hash h ≡ false) (λ p l. no p.hash h l) ps k)
-  where
-    no : (a b : ℕ) → b < a → leb a b ≡ false
-    no a b k = grind (arith, nat_tests)
-
--- if a pair is past a hash, so are all later pairs
-all_past : (h : ℕ) (p : Pair) (ps : List Pair) → AreInOrder (p ∷ ps) → h < p.hash → AllByRecursion (λ q. h < q.hash) (p ∷ ps)
-all_past h p ps o l = (l, all_weaker (IsPairBefore p) (λ q. h < q.hash) (λ q b. let k : p.hash ≤ q.hash = b.hash in omega arith) ps o.0)
-
--- if no pair is up to the hash, all pairs are past it
-none_up_to : (h : ℕ) (ps : List Pair) → AreInOrder ps → up_to h ps ≡ [] → AllByRecursion (λ q. h < q.hash) ps
-none_up_to h [] o e = tt
-none_up_to h (p ∷ ps) o e = elim (cases_lt h p.hash) [
-  | inl past ↦ all_past h p ps o past
-  | inr within ↦ absurd (let k : up_to h (p ∷ ps) ≡ p ∷ up_to h ps = up_to_yes h p ps within in cc)
-]
-
-new_before : (links : List Link) (h : ℕ) (q : Pair) → h < q.hash → IsPairBefore (new_pair links h) q
-new_before links h q l = record { hash = omega arith; place = λ e. absurd (omega arith) }
-
-new_after : (links : List Link) (h : ℕ) (q : Pair) → q.hash ≤ h → q.place < length links → IsPairBefore q (new_pair links h)
-new_after links h q l k = record { hash = l; place = λ e. k }
-
-pub link_after : (links new : List Link) (at h b : ℕ) (ps : List Pair) → LinksPairs links at ps → AreInOrder ps → last_or None (up_to h ps) ≡ Some b → IsRelinked links new h b → LinksPairs new at (inserted (new_pair links h) ps)
-link_after links new at h b [] l o e r = absurd cc
-link_after links new at h b (p ∷ ps) l o e r = elim (cases_lt h p.hash) [
-  | inl past ↦ absurd (let k : up_to h (p ∷ ps) ≡ [] = up_to_none h (p ∷ ps) (all_past h p ps o past) in let n : last_or None (up_to h (p ∷ ps)) ≡ None = ap (last_or None) k in cc)
-  | inr within ↦ subst (LinksPairs new at) (sym (ap (λ d. cond d (new_pair links h ∷ p ∷ ps) (p ∷ inserted (new_pair links h) ps)) (not-before (new_pair links h) p (following within))))
-      (go within (up_to h ps) refl (λ s. link_after links new (link_at links at).next h b ps l.1 o.1 s r))
-]
-  where
-    there : AllByRecursion (IsThere links) (p ∷ ps)
-    there = leads_there links at (p ∷ ps) l
-
-    place : p.place ≡ at
-    place = ap (λ (q : Pair). q.place) l.0.is
-
-    inside : at < length links
-    inside = l.0.inside
-
-    following : p.hash ≤ h → IsPairBefore p (new_pair links h)
-    following w = new_after links h p w (let i : at < length links = l.0.inside in omega (arith, place))
-
-    apart : AllByRecursion (λ q. q.place ≢ p.place) ps
-    apart = all_weaker (λ q. IsThere links q × IsPairBefore p q) (λ q. q.place ≢ p.place) (λ q k. there_apart links p q there.0 k.0 k.1) ps (all_both (IsThere links) (IsPairBefore p) ps there.1 o.0)
-
-    more : length links ≤ length new
-    more = let k : length new ≡ length links + 1 = r.longer in omega arith
-
-    go : p.hash ≤ h → (u : List Pair) → up_to h ps ≡ u → (last_or None (up_to h ps) ≡ Some b → LinksPairs new (link_at links at).next (inserted (new_pair links h) ps)) → LinksPairs new at (p ∷ inserted (new_pair links h) ps)
-    go w [] u ih =
-        let was : last_or None (p ∷ []) ≡ Some b = ap (last_or None) (sym (up_to_yes h p ps w ∙ ap (λ qs. p ∷ qs) u)) ∙ e in
-        let is : b ≡ at = let s : p.place ≡ b = cc in sym s ∙ place in
-        let here : link_at new at ≡ record { hash = (link_at links at).hash; next = length links } = ap (link_at new) (sym is) ∙ r.there ∙ ap (λ x. record { hash = (link_at links x).hash; next = length links }) is in
-        let then : link_at new (length links) ≡ record { hash = h; next = (link_at links at).next } = r.last ∙ ap (λ x. record { hash = h; next = (link_at links x).next }) is in
-        let past : AllByRecursion (λ q. h < q.hash) ps = none_up_to h ps o.1 u in
-        let first : inserted (new_pair links h) ps ≡ new_pair links h ∷ ps = inserted_first (new_pair links h) ps (all_weaker (λ q. h < q.hash) (IsPairBefore (new_pair links h)) (λ q k. new_before links h q k) ps past) in
-        let tail : LinksPairs new (link_at links at).next ps = leads_same links new (link_at links at).next ps l.1 more
-        (all_weaker (λ q. IsThere links q × (q.place ≢ p.place)) (λ q. link_at new q.place ≡ link_at links q.place) (λ q k. r.same q.place (k.0).inside (λ s. k.1 (s ∙ is ∙ sym place))) ps (all_both (IsThere links) (λ q. q.place ≢ p.place) ps there.1 apart)) in
-        subst (λ qs. LinksPairs new at (p ∷ qs)) (sym first) (
-          record { inside = omega arith; is = l.0.is ∙ ap (λ (k : Link). record { hash = k.hash; place = at }) (sym here) },
-          subst (λ (k : Link). LinksPairs new k.next (new_pair links h ∷ ps)) (sym here) (
-            record { inside = let k : length new ≡ length links + 1 = r.longer in omega arith; is = ap (λ (k : Link). record { hash = k.hash; place = length links }) (sym then) },
-            subst (λ (k : Link). LinksPairs new k.next ps) (sym then) tail,
-          ),
-        )
-    go w (y ∷ ys) u ih =
-        let was : last_or None (p ∷ y ∷ ys) ≡ Some b = ap (last_or None) (sym (up_to_yes h p ps w ∙ ap (λ qs. p ∷ qs) u)) ∙ e in
-        let is : last_or None (up_to h ps) ≡ Some b = ap (last_or None) u ∙ was in
-        let other : b ≢ p.place = last_member (λ x. x ≢ p.place) None (up_to h ps) b is (λ s. absurd cc) (all_filter (λ q. q.place ≢ p.place) (λ q. leb q.hash h) ps apart) in
-        let here : link_at new at ≡ link_at links at = r.same at inside (λ s. other (sym s ∙ sym place)) in (
-          record { inside = omega arith; is = l.0.is ∙ ap (λ (k : Link). record { hash = k.hash; place = at }) (sym here) },
-          subst (λ (k : Link). LinksPairs new k.next (inserted (new_pair links h) ps)) (sym here) (ih is),
-        )
-
--- a new pair before all others of its part
-pub link_first : (links new : List Link) (at h : ℕ) (ps : List Pair) → LinksPairs links at ps → AreInOrder ps → last_or None (up_to h ps) ≡ None → length new ≡ length links + 1 → ((x : ℕ) → x < length links → link_at new x ≡ link_at links x)
-    → link_at new (length links) ≡ record { hash = h; next = at } → LinksPairs new (length links) (inserted (new_pair links h) ps)
-link_first links new at h ps l o e longer same last =
-    subst (LinksPairs new (length links)) (sym (inserted_first (new_pair links h) ps (all_weaker (λ q. h < q.hash) (IsPairBefore (new_pair links h)) (λ q k. new_before links h q k) ps (none_up_to h ps o (empty (up_to h ps) e))))) (
-      record { inside = omega arith; is = ap (λ (k : Link). record { hash = k.hash; place = length links }) (sym last) },
-      subst (λ (k : Link). LinksPairs new k.next ps) (sym last) (leads_same links new at ps l (omega arith) (all_weaker (IsThere links) (λ q. link_at new q.place ≡ link_at links q.place) (λ q k. same q.place k.inside) ps (leads_there links at ps l))),
+-- the last pair now leads to another one
+pub leads_further : (links new : List Link) (at b to : ℕ) (ps qs : List Pair) → LinksPairs links at ps → AreInOrder ps → last_or None ps ≡ Some b → length links ≤ length new → AllByRecursion (IsThere links) ps
+    → ((x : ℕ) → x < length links → x ≢ b → link_at new x ≡ link_at links x) → link_at new b ≡ record { hash = (link_at links b).hash; next = to } → LinksPairs new to qs → LinksPairs new at (ps ++ qs)
+leads_further links new at b to [] qs l o e more there same set further = absurd cc
+leads_further links new at b to (p ∷ []) qs l o e more there same set further =
+    let is : b ≡ at = (let s : p.place ≡ b = cc in sym s) ∙ ap (λ (q : Pair). q.place) l.0.is in
+    let here : link_at new at ≡ record { hash = (link_at links at).hash; next = to } = ap (link_at new) (sym is) ∙ set ∙ ap (λ x. record { hash = (link_at links x).hash; next = to }) is in (
+      record { inside = let i : at < length links = l.0.inside in omega (arith, i, more); is = l.0.is ∙ ap (λ (k : Link). record { hash = k.hash; place = at }) (sym here) },
+      subst (λ (k : Link). LinksPairs new k.next qs) (sym here) further,
     )
-  where
-    some : (p : Pair) (u : List Pair) → last_or (Some p.place) u ≢ None
-    some p [] k = absurd cc
-    some p (q ∷ u) k = some q u k
-
-    empty : (u : List Pair) → last_or None u ≡ None → u ≡ []
-    empty [] k = refl
-    empty (p ∷ u) k = absurd (some p u k)
+leads_further links new at b to (p ∷ r ∷ rs) qs l o e more there same set further =
+    let place : p.place ≡ at = ap (λ (q : Pair). q.place) l.0.is in
+    let other : b ≢ p.place = last_member (λ x. x ≢ p.place) None (r ∷ rs) b e (λ s. absurd cc) (apart_after p (r ∷ rs) o) in
+    let here : link_at new at ≡ link_at links at = same at l.0.inside (λ s. other (sym s ∙ sym place)) in (
+      record { inside = let i : at < length links = l.0.inside in omega (arith, i, more); is = l.0.is ∙ ap (λ (k : Link). record { hash = k.hash; place = at }) (sym here) },
+      subst (λ (k : Link). LinksPairs new k.next ((r ∷ rs) ++ qs)) (sym here) (leads_further links new (link_at links at).next b to (r ∷ rs) qs l.1 o.1 e more there.1 same set further),
+    )
 
 -- what holds for all places holds for the place before another one
 pub before_member : (P : ℕ → Type 0) (x b : ℕ) (ps : List Pair) → place_before x ps ≡ Some b → AllByRecursion (λ (p : Pair). P p.place) ps → P b
@@ -168,11 +70,22 @@ before_member P x b (p ∷ q ∷ qs) e h = go (eqb q.place x) e (λ k. before_me
     go true k ih = let s : p.place ≡ b = cc in subst P s h.0
     go false k ih = ih k
 
+-- what holds for all places holds for one after another
+pub after_member : (P : ℕ → Type 0) (x b : ℕ) (ps : List Pair) → place_before x ps ≡ Some b → AllByRecursion (λ (p : Pair). P p.place) ps → P x
+after_member P x b [] e h = absurd cc
+after_member P x b (p ∷ []) e h = absurd cc
+after_member P x b (p ∷ q ∷ qs) e h = go (eqb q.place x) refl e (λ k. after_member P x b (q ∷ qs) k h.1)
+  where
+    go : (d : Bool) → eqb q.place x ≡ d → cond d (Some p.place) (place_before x (q ∷ qs)) ≡ Some b → (place_before x (q ∷ qs) ≡ Some b → P x) → P x
+    go true d k ih = subst P (eqb-true q.place x d) h.1.0
+    go false d k ih = ih k
+
 before_none : (x : ℕ) (p : Pair) (ps : List Pair) → AllByRecursion (λ q. q.place ≢ x) ps → place_before x (p ∷ ps) ≡ None
 before_none x p [] h = refl
 before_none x p (q ∷ qs) h = ap (λ b. cond b (Some p.place) (place_before x (q ∷ qs))) (ne_eqb q.place x h.0) ∙ before_none x q qs h.1
 
-never_before : (x : ℕ) (p : Pair) (ps : List Pair) → place_before x (p ∷ ps) ≡ None → AllByRecursion (λ q. q.place ≢ x) ps
+-- if no pair is before a place, only the first pair can be at it
+pub never_before : (x : ℕ) (p : Pair) (ps : List Pair) → place_before x (p ∷ ps) ≡ None → AllByRecursion (λ q. q.place ≢ x) ps
 never_before x p [] e = tt
 never_before x p (q ∷ qs) e = go (eqb q.place x) refl e (λ k. never_before x q qs k)
   where
@@ -180,39 +93,25 @@ never_before x p (q ∷ qs) e = go (eqb q.place x) refl e (λ k. never_before x 
     go true d k ih = absurd cc
     go false d k ih = (eqb-false q.place x d, ih k)
 
-pub without_none : (x : ℕ) (ps : List Pair) → AllByRecursion (λ q. q.place ≢ x) ps → without_pair x ps ≡ ps
-without_none x ps h = filter_whole (λ p. not (eqb p.place x)) ps (all_weaker (λ q. q.place ≢ x) (λ q. not (eqb q.place x) ≡ true) (λ q n. ap not (ne_eqb q.place x n)) ps h)
-
-without_head : (x : ℕ) (p : Pair) (ps : List Pair) → p.place ≡ x → AllByRecursion (λ q. q.place ≢ x) ps → without_pair x (p ∷ ps) ≡ ps
-without_head x p ps e h = ap (λ b. cond (not b) (p ∷ without_pair x ps) (without_pair x ps)) (eq-eqb p.place x e) ∙ without_none x ps h
-
-without_tail : (x : ℕ) (p : Pair) (ps : List Pair) → p.place ≢ x → without_pair x (p ∷ ps) ≡ p ∷ without_pair x ps
-without_tail x p ps n = ap (λ b. cond (not b) (p ∷ without_pair x ps) (without_pair x ps)) (ne_eqb p.place x n)
-
 -- the place `before` now links to the place after the removed one
 pub record IsUnlinked (links new : List Link) (place before : ℕ) : Type 0 where
   pub count : length new ≡ length links
   pub same : (x : ℕ) → x ≢ before → link_at new x ≡ link_at links x
   pub there : link_at new before ≡ record { hash = (link_at links before).hash; next = (link_at links place).next }
 
-apart_after : (links : List Link) (at : ℕ) (p : Pair) (ps : List Pair) → LinksPairs links at (p ∷ ps) → AreInOrder (p ∷ ps) → AllByRecursion (λ q. q.place ≢ p.place) ps
-apart_after links at p ps l o =
-    let there = leads_there links at (p ∷ ps) l in
-    all_weaker (λ q. IsThere links q × IsPairBefore p q) (λ q. q.place ≢ p.place) (λ q k. there_apart links p q there.0 k.0 k.1) ps (all_both (IsThere links) (IsPairBefore p) ps there.1 o.0)
-
-pub unlink : (links new : List Link) (at x b : ℕ) (ps : List Pair) → LinksPairs links at ps → AreInOrder ps → place_before x ps ≡ Some b → IsUnlinked links new x b → LinksPairs new at (without_pair x ps)
-unlink links new at x b [] l o e r = absurd cc
-unlink links new at x b (p ∷ []) l o e r = absurd cc
-unlink links new at x b (p ∷ q ∷ qs) l o e r = go (eqb q.place x) refl e (λ k. unlink links new (link_at links at).next x b (q ∷ qs) l.1 o.1 k r)
+pub unlinked : (links new : List Link) (at x b : ℕ) (ps : List Pair) → LinksPairs links at ps → AreInOrder ps → place_before x ps ≡ Some b → IsUnlinked links new x b → LinksPairs new at (without_pair x ps)
+unlinked links new at x b [] l o e r = absurd cc
+unlinked links new at x b (p ∷ []) l o e r = absurd cc
+unlinked links new at x b (p ∷ q ∷ qs) l o e r = go (eqb q.place x) refl e (λ k. unlinked links new (link_at links at).next x b (q ∷ qs) l.1 o.1 k r)
   where
     place : p.place ≡ at
     place = ap (λ (y : Pair). y.place) l.0.is
 
     apart : AllByRecursion (λ y. y.place ≢ p.place) (q ∷ qs)
-    apart = apart_after links at p (q ∷ qs) l o
+    apart = apart_after p (q ∷ qs) o
 
     apart_next : AllByRecursion (λ y. y.place ≢ q.place) qs
-    apart_next = apart_after links (link_at links at).next q qs l.1 o.1
+    apart_next = apart_after q qs o.1
 
     more : length links ≤ length new
     more = let k : length new ≡ length links = r.count in omega arith
@@ -226,11 +125,11 @@ unlink links new at x b (p ∷ q ∷ qs) l o e r = go (eqb q.place x) refl e (λ
         let qx : q.place ≡ x = eqb-true q.place x d in
         let px : p.place ≢ x = λ s. apart.0 (qx ∙ sym s) in
         let next : (link_at links at).next ≡ x = sym (ap (λ (y : Pair). y.place) l.1.0.is) ∙ qx in
-        let gone : without_pair x (q ∷ qs) ≡ qs = without_head x q qs qx (subst (λ y. AllByRecursion (λ z. z.place ≢ y) qs) qx apart_next) in
+        let left : without_pair x (q ∷ qs) ≡ qs = without_head x q qs qx (subst (λ y. AllByRecursion (λ z. z.place ≢ y) qs) qx apart_next) in
         let here : link_at new at ≡ record { hash = (link_at links at).hash; next = (link_at links x).next } = ap (link_at new) (sym is) ∙ r.there ∙ ap (λ y. record { hash = (link_at links y).hash; next = (link_at links x).next }) is in
         let tail : LinksPairs new (link_at links x).next qs = leads_same links new (link_at links x).next qs (subst (λ y. LinksPairs links (link_at links y).next qs) next l.1.1) more
         (all_weaker (λ y. y.place ≢ p.place) (λ y. link_at new y.place ≡ link_at links y.place) (λ y n. r.same y.place (λ s. n (s ∙ is ∙ sym place))) qs apart.1) in
-        subst (LinksPairs new at) (sym (without_tail x p (q ∷ qs) px ∙ ap (λ ys. p ∷ ys) gone))
+        subst (LinksPairs new at) (sym (without_tail x p (q ∷ qs) px ∙ ap (λ ys. p ∷ ys) left))
         (record { inside = inside; is = l.0.is ∙ ap (λ (y : Link). record { hash = y.hash; place = at }) (sym here) }, subst (λ (y : Link). LinksPairs new y.next qs) (sym here) tail)
     go false d k ih =
         let other : b ≢ p.place = before_member (λ y. y ≢ p.place) x b (q ∷ qs) k apart in
@@ -240,24 +139,24 @@ unlink links new at x b (p ∷ q ∷ qs) l o e r = go (eqb q.place x) refl e (λ
         (record { inside = inside; is = l.0.is ∙ ap (λ (y : Link). record { hash = y.hash; place = at }) (sym here) }, subst (λ (y : Link). LinksPairs new y.next (without_pair x (q ∷ qs))) (sym here) (ih k))
 
 -- the first pair is removed
-pub unlink_first : (links : List Link) (x : ℕ) (ps : List Pair) → length links ≤ nowhere → x < length links → LinksPairs links x ps → AreInOrder ps → LinksPairs links (link_at links x).next (without_pair x ps)
-unlink_first links x [] f i l o = absurd (omega (arith, l))
-unlink_first links x (p ∷ ps) f i l o =
+pub unlinked_first : (links : List Link) (x : ℕ) (ps : List Pair) → length links ≤ gone → x < length links → LinksPairs links x ps → AreInOrder ps → LinksPairs links (link_at links x).next (without_pair x ps)
+unlinked_first links x [] f i l o = absurd (omega (arith, l))
+unlinked_first links x (p ∷ ps) f i l o =
     let place : p.place ≡ x = ap (λ (y : Pair). y.place) l.0.is in
-    subst (LinksPairs links (link_at links x).next) (sym (without_head x p ps place (subst (λ y. AllByRecursion (λ z. z.place ≢ y) ps) place (apart_after links x p ps l o)))) l.1
+    subst (LinksPairs links (link_at links x).next) (sym (without_head x p ps place (subst (λ y. AllByRecursion (λ z. z.place ≢ y) ps) place (apart_after p ps o)))) l.1
 
--- no pair is removed
-pub unlink_none : (links : List Link) (at x : ℕ) (ps : List Pair) → LinksPairs links at ps → at ≢ x → place_before x ps ≡ None → without_pair x ps ≡ ps
-unlink_none links at x [] l n e = refl
-unlink_none links at x (p ∷ ps) l n e = without_none x (p ∷ ps) ((λ s. n (sym (ap (λ (y : Pair). y.place) l.0.is) ∙ s)), never_before x p ps e)
+-- no pair is at the place
+pub unlinked_none : (links : List Link) (at x : ℕ) (ps : List Pair) → LinksPairs links at ps → at ≢ x → place_before x ps ≡ None → AllByRecursion (λ q. q.place ≢ x) ps
+unlinked_none links at x [] l n e = tt
+unlinked_none links at x (p ∷ ps) l n e = ((λ s. n (sym (ap (λ (y : Pair). y.place) l.0.is) ∙ s)), never_before x p ps e)
 
-past_same : (h : ℕ) (p : Pair) → p.hash ≡ h → (ts : List Pair) → AllByRecursion (IsPairBefore p) ts → AllByRecursion (λ y. p.place < y) (places_in h ts)
-past_same h p e [] b = tt
-past_same h p e (t ∷ ts) b = pick (eqb t.hash h) refl (past_same h p e ts b.1)
+later_places : (h : ℕ) (p : Pair) (ts : List Pair) → AllByRecursion (λ q. p.place < q.place) ts → AllByRecursion (λ y. p.place < y) (places_in h ts)
+later_places h p [] b = tt
+later_places h p (t ∷ ts) b = pick (eqb t.hash h) (later_places h p ts b.1)
   where
-    pick : (d : Bool) → eqb t.hash h ≡ d → AllByRecursion (λ y. p.place < y) (places_in h ts) → AllByRecursion (λ y. p.place < y) (map (λ (q : Pair). q.place) (cond d (t ∷ filter (λ q. eqb q.hash h) ts) (filter (λ q. eqb q.hash h) ts)))
-    pick true d ih = ((b.0).place (e ∙ sym (eqb-true t.hash h d)), ih)
-    pick false d ih = ih
+    pick : (d : Bool) → AllByRecursion (λ y. p.place < y) (places_in h ts) → AllByRecursion (λ y. p.place < y) (map (λ (q : Pair). q.place) (cond d (t ∷ filter (λ q. eqb q.hash h) ts) (filter (λ q. eqb q.hash h) ts)))
+    pick true ih = (b.0, ih)
+    pick false ih = ih
 
 after_whole : (y : ℕ) (ys : List ℕ) → AllByRecursion (λ z. y < z) ys → places_after y ys ≡ ys
 after_whole y [] k = refl
@@ -275,7 +174,7 @@ member_above x y (z ∷ zs) k e = pick (eqb z x) refl e (λ k'. member_above x y
     pick false d e' ih = ih e'
 
 -- the links after a place list the later places of its hash
-pub walk_after : (links : List Link) (at h x : ℕ) (ps : List Pair) → length links ≤ nowhere → length ps ≤ length links → LinksPairs links at ps → AreInOrder ps → is_among (places_in h ps) x ≡ true
+walk_after : (links : List Link) (at h x : ℕ) (ps : List Pair) → length links ≤ gone → length ps ≤ length links → LinksPairs links at ps → AreInOrder ps → is_among (places_in h ps) x ≡ true
     → IsWalk links (link_at links x).next × (places_after x (places_in h ps) ≡ places_in h (rest links (link_at links x).next))
 walk_after links at h x [] f s l o m = absurd (true≢false (sym m))
 walk_after links at h x (p ∷ ps) f s l o m = go (eqb p.hash h) refl m (λ k. walk_after links (link_at links at).next h x ps f (omega arith) l.1 o.1 k)
@@ -298,19 +197,16 @@ walk_after links at h x (p ∷ ps) f s l o m = go (eqb p.hash h) refl m (λ k. w
     go false d k ih = ih k
     go true d k ih = here (eqb p.place x) refl k
       where
-        same : p.hash ≡ h
-        same = eqb-true p.hash h d
-
         here : (b : Bool) → eqb p.place x ≡ b → (b || is_among (places_in h ps) x) ≡ true → IsWalk links (link_at links x).next × (places_after x (p.place ∷ places_in h ps) ≡ places_in h (rest links (link_at links x).next))
         here true b k' =
             let is : at ≡ x = sym place ∙ eqb-true p.place x b in
             let px : p.place ≡ x = eqb-true p.place x b in (
-              subst (λ y. IsWalk links (link_at links y).next) is (record { few = f; leads = subst (LinksPairs links (link_at links at).next) (sym then) l.1; in_order = subst AreInOrder (sym then) o.1 }),
-              skip p.place (places_in h ps) (omega (arith, px)) ∙ ap (λ y. places_after y (places_in h ps)) (sym px) ∙ after_whole p.place (places_in h ps) (past_same h p same ps o.0) ∙ ap (places_in h) (sym then) ∙ ap (λ y. places_in h (rest links (link_at links y).next)) is,
+              subst (λ y. IsWalk links (link_at links y).next) is (record { few = f; leads = subst (LinksPairs links (link_at links at).next) (sym then) l.1 }),
+              skip p.place (places_in h ps) (omega (arith, px)) ∙ ap (λ y. places_after y (places_in h ps)) (sym px) ∙ after_whole p.place (places_in h ps) (later_places h p ps o.0) ∙ ap (places_in h) (sym then) ∙ ap (λ y. places_in h (rest links (link_at links y).next)) is,
             )
         here false b k' =
             let r = ih k' in
-            let less : p.place < x = member_above x p.place (places_in h ps) (past_same h p same ps o.0) k' in
+            let less : p.place < x = member_above x p.place (places_in h ps) (later_places h p ps o.0) k' in
             (r.0, skip p.place (places_in h ps) (omega arith) ∙ r.1)
 
 place_inside : (links : List Link) (h x : ℕ) (ps : List Pair) → AllByRecursion (IsThere links) ps → is_among (places_in h ps) x ≡ true → x < length links
@@ -325,22 +221,40 @@ place_inside links h x (p ∷ ps) t e = go (eqb p.hash h) e (λ k. place_inside 
     go true k ih = here (eqb p.place x) refl k ih
     go false k ih = ih k
 
-module _ (heads : List ℕ) (links : List Link) (shift : ℕ) (a : AreLinked heads links shift) (h : ℕ) where
-  -- the places of a hash are in the part of its top
-  pub places_part : (top : ℕ) → top < length heads → top_of shift (length heads) h ≡ top → places_in h (listed_pairs heads links) ≡ places_in h (part_at heads links top)
-  places_part top l t = places_joined shift (length heads) (part_at heads links) h (length heads) (omega (arith, l, t)) (tops_of heads links shift a) ∙ ap (λ s. places_in h (part_at heads links s)) t
+module _ (heads : List ℕ) (links : List Link) (shift : ℕ) (a : AreLinked heads links shift) where
+  pub part_order : (top : ℕ) → AreInOrder (with_top shift (length heads) top (listed_pairs links))
+  part_order top = order_filter (λ p. eqb (top_of shift (length heads) p.hash) top) (listed_pairs links) (pairs_order 0 links)
 
-  -- the place exists, and the links after it list the later places of its hash
-  pub next_of : (x : ℕ) → is_among (places_in h (listed_pairs heads links)) x ≡ true → (x < length links) × IsWalk links (link_at links x).next × (places_after x (places_in h (listed_pairs heads links)) ≡ places_in h (rest links (link_at links x).next))
-  next_of x m = go (cases_lt (top_of shift (length heads) h) (length heads))
-    where
-      go : (top_of shift (length heads) h < length heads) ⊎ (length heads ≤ top_of shift (length heads) h) → (x < length links) × IsWalk links (link_at links x).next × (places_after x (places_in h (listed_pairs heads links)) ≡ places_in h (rest links (link_at links x).next))
-      go (inl l) =
-          let top = top_of shift (length heads) h in
-          let same : places_in h (listed_pairs heads links) ≡ places_in h (part_at heads links top) = places_part top l refl in
-          let part : IsPairChain links shift (length heads) top (head_at heads top) (part_at heads links top) = a.parts top l in
-          let w = walk_after links (head_at heads top) h x (part_at heads links top) a.few part.short part.leads part.in_order (ap (λ ps. is_among ps x) (sym same) ∙ m) in
-          (place_inside links h x (listed_pairs heads links) (all_there heads links shift a) m, w.0, ap (places_after x) same ∙ w.1)
-      go (inr l) =
-          let none : listed_pairs heads links ≡ [] = ap (joined (part_at heads links)) (let z : length heads ≡ 0 = omega arith in z) in
-          absurd (true≢false (sym m ∙ ap (λ ps. is_among (places_in h ps) x) none))
+  pub part_there : (top : ℕ) → AllByRecursion (IsThere links) (with_top shift (length heads) top (listed_pairs links))
+  part_there top = all_filter (IsThere links) (λ p. eqb (top_of shift (length heads) p.hash) top) (listed_pairs links) (all_there links)
+
+  part_short : (top : ℕ) → length (with_top shift (length heads) top (listed_pairs links)) ≤ length links
+  part_short top = let b : length (with_top shift (length heads) top (listed_pairs links)) ≤ length (listed_pairs links) = length_filter (λ p. eqb (top_of shift (length heads) p.hash) top) (listed_pairs links) in let d : length (listed_pairs links) ≤ length links = length_pairs 0 links in omega (arith, b, d)
+
+  -- the list of a head
+  pub part_is : (top : ℕ) → top < length heads → rest links (head_at heads top) ≡ with_top shift (length heads) top (listed_pairs links)
+  part_is top l = chain_is links a.few (length links) (head_at heads top) (with_top shift (length heads) top (listed_pairs links)) (a.parts top l) (part_short top)
+
+  pub part_walk : (top : ℕ) → top < length heads → IsWalk links (head_at heads top)
+  part_walk top l = record { few = a.few; leads = subst (LinksPairs links (head_at heads top)) (sym (part_is top l)) (a.parts top l) }
+
+  module _ (h : ℕ) where
+    -- the places of a hash are in the list of its top
+    pub places_part : (top : ℕ) → top < length heads → top_of shift (length heads) h ≡ top → places_in h (listed_pairs links) ≡ places_in h (rest links (head_at heads top))
+    places_part top l t = places_top shift (length heads) h (listed_pairs links) ∙ ap (λ s. places_in h (with_top shift (length heads) s (listed_pairs links))) t ∙ ap (places_in h) (sym (part_is top l))
+
+    -- the place exists, and the links after it list the later places of its hash
+    next_of : 0 < length heads → (x : ℕ) → is_among (places_in h (listed_pairs links)) x ≡ true → (x < length links) × IsWalk links (link_at links x).next × (places_after x (places_in h (listed_pairs links)) ≡ places_in h (rest links (link_at links x).next))
+    next_of some x m =
+        let top = top_of shift (length heads) h in
+        let l : top_of shift (length heads) h < length heads = omega (arith, some) in
+        let same = places_top shift (length heads) h (listed_pairs links) in
+        let w = walk_after links (head_at heads top) h x (with_top shift (length heads) (top_of shift (length heads) h) (listed_pairs links)) a.few (part_short top) (a.parts top l) (part_order top) (ap (λ ps. is_among ps x) (sym same) ∙ m) in
+        (place_inside links h x (listed_pairs links) (all_there links) m, w.0, ap (places_after x) same ∙ w.1)
+
+-- the same, by the invariant of heads and links
+pub next_kept : (heads : List ℕ) (links : List Link) (shift : ℕ) → AreKeptPairs heads links shift → (h x : ℕ) → is_among (places_in h (listed_pairs links)) x ≡ true
+    → (x < length links) × IsWalk links (link_at links x).next × (places_after x (places_in h (listed_pairs links)) ≡ places_in h (rest links (link_at links x).next))
+next_kept heads links shift k h x m =
+    let l : x < length links = place_inside links h x (listed_pairs links) (all_there links) m in
+    next_of heads links shift k.linked h (k.some (omega (arith, l))) x m

@@ -1,22 +1,12 @@
--- Lists of pairs in order, as pairs are inserted and removed.
-use Rattle.std.proofs.Common.{ℕ, ◌+◌, ◌<◌, ◌≤◌, ◌≡◌, ◌≢◌, Bool, true, false, cond, eqb, List, [], ◌∷◌, ◌++◌, map, filter, length, refl, sym, ◌∙◌, ap, subst, arith, inl, inr}
-use Rattle.std.proofs.lemmas.Bool.{cases_lt, ne_eqb, eqb-true}
+-- Lists of pairs, and their filters.
+use Rattle.std.proofs.Common.{ℕ, ◌<◌, ◌≤◌, ◌≡◌, ◌≢◌, Bool, true, false, not, cond, eqb, List, [], ◌∷◌, ◌++◌, map, filter, length, refl, sym, ◌∙◌, ap, arith}
+use Rattle.std.proofs.lemmas.Bool.{ne_eqb, eq-eqb, eqb-true, true≢false}
 use Rattle.std.proofs.lemmas.Bool.Decides.{nat_tests}
+use Rattle.std.proofs.lemmas.List.{append-nil, map-append}
 use Rattle.std.specs.List.{AllByRecursion}
-use Rattle.sat_checker.specs.inner.PairView.{IsPairBefore, AreInOrder, is_before, inserted, places_in}
+use Rattle.sat_checker.specs.inner.PairView.{AreInOrder, without_pair, places_in}
+use Rattle.sat_checker.specs.inner.LinkView.{top_of, with_top}
 use Rattle.sat_checker.specs.declared.store.links.Pair.{Pair}
-
-pub all_append : (P : Pair → Type 0) (xs ys : List Pair) → AllByRecursion P xs → AllByRecursion P ys → AllByRecursion P (xs ++ ys)
-all_append P [] ys h k = k
-all_append P (x ∷ xs) ys h k = (h.0, all_append P xs ys h.1 k)
-
-pub all_left : (P : Pair → Type 0) (xs ys : List Pair) → AllByRecursion P (xs ++ ys) → AllByRecursion P xs
-all_left P [] ys h = tt
-all_left P (x ∷ xs) ys h = (h.0, all_left P xs ys h.1)
-
-pub all_right : (P : Pair → Type 0) (xs ys : List Pair) → AllByRecursion P (xs ++ ys) → AllByRecursion P ys
-all_right P [] ys h = h
-all_right P (x ∷ xs) ys h = all_right P xs ys h.1
 
 pub all_weaker : (P Q : Pair → Type 0) → ((p : Pair) → P p → Q p) → (ps : List Pair) → AllByRecursion P ps → AllByRecursion Q ps
 all_weaker P Q w [] h = tt
@@ -34,9 +24,14 @@ all_filter P t (p ∷ ps) h = go (t p) (all_filter P t ps h.1)
     go true ih = (h.0, ih)
     go false ih = ih
 
-pub filter_none : (t : Pair → Bool) (ps : List Pair) → AllByRecursion (λ p. t p ≡ false) ps → filter t ps ≡ []
-filter_none t [] h = refl
-filter_none t (p ∷ ps) h = ap (λ b. cond b (p ∷ filter t ps) (filter t ps)) h.0 ∙ filter_none t ps h.1
+-- what a filter keeps passes its test
+pub all_pass : (t : Pair → Bool) (ps : List Pair) → AllByRecursion (λ p. t p ≡ true) (filter t ps)
+all_pass t [] = tt
+all_pass t (p ∷ ps) = go (t p) refl (all_pass t ps)
+  where
+    go : (b : Bool) → t p ≡ b → AllByRecursion (λ q. t q ≡ true) (filter t ps) → AllByRecursion (λ q. t q ≡ true) (cond b (p ∷ filter t ps) (filter t ps))
+    go true e ih = (e, ih)
+    go false e ih = ih
 
 pub filter_whole : (t : Pair → Bool) (ps : List Pair) → AllByRecursion (λ p. t p ≡ true) ps → filter t ps ≡ ps
 filter_whole t [] h = refl
@@ -50,81 +45,17 @@ filter_two t (x ∷ xs) ys = go (t x) (filter_two t xs ys)
     go true ih = ap (λ zs. x ∷ zs) ih
     go false ih = ih
 
-pub order_append : (xs ys : List Pair) → AreInOrder xs → AreInOrder ys → AllByRecursion (λ x. AllByRecursion (IsPairBefore x) ys) xs → AreInOrder (xs ++ ys)
-order_append [] ys o p h = p
-order_append (x ∷ xs) ys o p h = (all_append (IsPairBefore x) xs ys o.0 h.0, order_append xs ys o.1 p h.1)
-
-pub order_filter : (t : Pair → Bool) (ps : List Pair) → AreInOrder ps → AreInOrder (filter t ps)
-order_filter t [] o = tt
-order_filter t (p ∷ ps) o = go (t p) (order_filter t ps o.1)
+-- two filters may be exchanged
+pub filter_swap : (t u : Pair → Bool) (ps : List Pair) → filter t (filter u ps) ≡ filter u (filter t ps)
+filter_swap t u [] = refl
+filter_swap t u (p ∷ ps) = go (t p) refl (u p) refl (filter_swap t u ps)
   where
-    go : (b : Bool) → AreInOrder (filter t ps) → AreInOrder (cond b (p ∷ filter t ps) (filter t ps))
-    go true ih = (all_filter (IsPairBefore p) t ps o.0, ih)
-    go false ih = ih
-
--- `is_before` decides the order of pairs
-pub is-before : (p q : Pair) → IsPairBefore p q → is_before p q ≡ true
-is-before p q b = let h = b.hash in let k = b.place in grind (arith, nat_tests)
-
-pub before-is : (p q : Pair) → is_before p q ≡ true → IsPairBefore p q
-before-is p q e = record { hash = grind (arith, nat_tests); place = λ s. grind (arith, nat_tests) }
-
-pub before_not : (p q : Pair) → is_before p q ≡ false → p.place ≢ q.place → IsPairBefore q p
-before_not p q e n = record { hash = grind (arith, nat_tests); place = λ s. grind (arith, nat_tests) }
-
-pub not-before : (p q : Pair) → IsPairBefore q p → is_before p q ≡ false
-not-before p q b = go (is_before p q) refl
-  where
-    go : (d : Bool) → is_before p q ≡ d → d ≡ false
-    go false e = refl
-    go true e =
-        let f = before-is p q e in let here : q.hash ≤ p.hash = b.hash in let there : p.hash ≤ q.hash = f.hash in
-        let same : p.hash ≡ q.hash = omega arith in
-        let one : p.place < q.place = f.place same in let two : q.place < p.place = b.place (sym same) in absurd (omega arith)
-
--- a pair that is before all others is inserted first
-pub inserted_first : (p : Pair) (ps : List Pair) → AllByRecursion (IsPairBefore p) ps → inserted p ps ≡ p ∷ ps
-inserted_first p [] h = refl
-inserted_first p (q ∷ qs) h = ap (λ b. cond b (p ∷ q ∷ qs) (q ∷ inserted p qs)) (is-before p q h.0)
-
-pub inserted_after : (p : Pair) (xs ys : List Pair) → AllByRecursion (λ x. IsPairBefore x p) xs → inserted p (xs ++ ys) ≡ xs ++ inserted p ys
-inserted_after p [] ys h = refl
-inserted_after p (x ∷ xs) ys h = ap (λ b. cond b (p ∷ x ∷ (xs ++ ys)) (x ∷ inserted p (xs ++ ys))) (not-before p x h.0) ∙ ap (λ zs. x ∷ zs) (inserted_after p xs ys h.1)
-
-pub inserted_within : (p : Pair) (xs ys : List Pair) → AllByRecursion (IsPairBefore p) ys → inserted p (xs ++ ys) ≡ inserted p xs ++ ys
-inserted_within p [] ys h = inserted_first p ys h
-inserted_within p (x ∷ xs) ys h = go (is_before p x) (inserted_within p xs ys h)
-  where
-    go : (b : Bool) → inserted p (xs ++ ys) ≡ inserted p xs ++ ys → cond b (p ∷ x ∷ (xs ++ ys)) (x ∷ inserted p (xs ++ ys)) ≡ cond b (p ∷ x ∷ xs) (x ∷ inserted p xs) ++ ys
-    go true ih = refl
-    go false ih = ap (λ zs. x ∷ zs) ih
-
-pub all_inserted : (P : Pair → Type 0) (p : Pair) (ps : List Pair) → P p → AllByRecursion P ps → AllByRecursion P (inserted p ps)
-all_inserted P p [] h k = (h, tt)
-all_inserted P p (q ∷ qs) h k = go (is_before p q) (all_inserted P p qs h k.1)
-  where
-    go : (b : Bool) → AllByRecursion P (inserted p qs) → AllByRecursion P (cond b (p ∷ q ∷ qs) (q ∷ inserted p qs))
-    go true ih = (h, k)
-    go false ih = (k.0, ih)
-
-pub before_all : (p q : Pair) → IsPairBefore p q → (qs : List Pair) → AllByRecursion (IsPairBefore q) qs → AllByRecursion (IsPairBefore p) qs
-before_all p q b qs h = all_weaker (IsPairBefore q) (IsPairBefore p) (λ r k. let bh = b.hash in let bp = b.place in let kh = k.hash in let kp = k.place in record { hash = omega arith; place = λ s. omega arith }) qs h
-
-pub order_inserted : (p : Pair) (ps : List Pair) → AllByRecursion (λ q. p.place ≢ q.place) ps → AreInOrder ps → AreInOrder (inserted p ps)
-order_inserted p [] n o = (tt, tt)
-order_inserted p (q ∷ qs) n o = go (is_before p q) refl (order_inserted p qs n.1 o.1)
-  where
-    go : (b : Bool) → is_before p q ≡ b → AreInOrder (inserted p qs) → AreInOrder (cond b (p ∷ q ∷ qs) (q ∷ inserted p qs))
-    go true e ih = let b = before-is p q e in ((b, before_all p q b qs o.0), o)
-    go false e ih = (all_inserted (IsPairBefore q) p qs (before_not p q e n.0) o.0, ih)
-
-pub length_inserted : (p : Pair) (ps : List Pair) → length (inserted p ps) ≡ length ps + 1
-length_inserted p [] = omega arith
-length_inserted p (q ∷ qs) = go (is_before p q) (length_inserted p qs)
-  where
-    go : (b : Bool) → length (inserted p qs) ≡ length qs + 1 → length (cond b (p ∷ q ∷ qs) (q ∷ inserted p qs)) ≡ length (q ∷ qs) + 1
-    go true ih = omega arith
-    go false ih = omega arith
+    go : (b : Bool) → t p ≡ b → (d : Bool) → u p ≡ d → filter t (filter u ps) ≡ filter u (filter t ps)
+        → filter t (cond d (p ∷ filter u ps) (filter u ps)) ≡ filter u (cond b (p ∷ filter t ps) (filter t ps))
+    go true e true f ih = ap (λ x. cond x (p ∷ filter t (filter u ps)) (filter t (filter u ps))) e ∙ ap (λ qs. p ∷ qs) ih ∙ sym (ap (λ x. cond x (p ∷ filter u (filter t ps)) (filter u (filter t ps))) f)
+    go true e false f ih = ih ∙ sym (ap (λ x. cond x (p ∷ filter u (filter t ps)) (filter u (filter t ps))) f)
+    go false e true f ih = ap (λ x. cond x (p ∷ filter t (filter u ps)) (filter t (filter u ps))) e ∙ ih
+    go false e false f ih = ih
 
 pub length_filter : (t : Pair → Bool) (ps : List Pair) → length (filter t ps) ≤ length ps
 length_filter t [] = omega arith
@@ -134,47 +65,66 @@ length_filter t (p ∷ ps) = go (t p) (length_filter t ps)
     go true ih = omega arith
     go false ih = omega arith
 
--- if all pairs are past a hash, it has no places
-pub places_past : (h : ℕ) (ps : List Pair) → AllByRecursion (λ p. h < p.hash) ps → places_in h ps ≡ []
-places_past h ps a = ap (map (λ (p : Pair). p.place)) (filter_none (λ p. eqb p.hash h) ps (all_weaker (λ p. h < p.hash) (λ p. eqb p.hash h ≡ false) (λ p l. ne_eqb p.hash h (λ e. omega arith)) ps a))
-
--- a pair at a later place is inserted after the others of its hash
-pub places_inserted : (q : ℕ) (p : Pair) (ps : List Pair) → AreInOrder ps → AllByRecursion (λ x. x.place < p.place) ps → places_in q (inserted p ps) ≡ cond (eqb q p.hash) (places_in q ps ++ p.place ∷ []) (places_in q ps)
-places_inserted q p [] o l = ap (λ b. map (λ (x : Pair). x.place) (cond b (p ∷ []) [])) (eqb_flip p.hash q) ∙ go (eqb q p.hash)
+pub order_filter : (t : Pair → Bool) (ps : List Pair) → AreInOrder ps → AreInOrder (filter t ps)
+order_filter t [] o = tt
+order_filter t (p ∷ ps) o = go (t p) (order_filter t ps o.1)
   where
-    eqb_flip : (x y : ℕ) → eqb x y ≡ eqb y x
-    eqb_flip x y = grind (arith, nat_tests)
+    go : (b : Bool) → AreInOrder (filter t ps) → AreInOrder (cond b (p ∷ filter t ps) (filter t ps))
+    go true ih = (all_filter (λ q. p.place < q.place) t ps o.0, ih)
+    go false ih = ih
 
-    go : (b : Bool) → map (λ (x : Pair). x.place) (cond b (p ∷ []) []) ≡ cond b (p.place ∷ []) []
-    go true = refl
-    go false = refl
-places_inserted q p (x ∷ xs) o l = by_place (places_inserted q p xs o.1 l.1) (is_before p x) refl
+pub all_push : (P : Pair → Type 0) (p : Pair) (ps : List Pair) → P p → AllByRecursion P ps → AllByRecursion P (ps ++ p ∷ [])
+all_push P p [] h k = (h, tt)
+all_push P p (q ∷ qs) h k = (k.0, all_push P p qs h k.1)
+
+-- a pair at a later place is appended
+pub order_push : (p : Pair) (ps : List Pair) → AllByRecursion (λ q. q.place < p.place) ps → AreInOrder ps → AreInOrder (ps ++ p ∷ [])
+order_push p [] l o = (tt, tt)
+order_push p (q ∷ qs) l o = (all_push (λ r. q.place < r.place) p qs l.0 o.0, order_push p qs l.1 o.1)
+
+pub places_push : (h : ℕ) (p : Pair) (ps : List Pair) → places_in h (ps ++ p ∷ []) ≡ cond (eqb h p.hash) (places_in h ps ++ p.place ∷ []) (places_in h ps)
+places_push h p ps = ap (map (λ (q : Pair). q.place)) (filter_two (λ q. eqb q.hash h) ps (p ∷ [])) ∙ ap (λ b. map (λ (q : Pair). q.place) (filter (λ q. eqb q.hash h) ps ++ cond b (p ∷ []) [])) (flip p.hash h) ∙ go (eqb h p.hash)
   where
-    eqb_flip : (a b : ℕ) → eqb a b ≡ eqb b a
-    eqb_flip a b = grind (arith, nat_tests)
+    flip : (x y : ℕ) → eqb x y ≡ eqb y x
+    flip x y = grind (arith, nat_tests)
 
-    past : is_before p x ≡ true → AllByRecursion (λ y. p.hash < y.hash) (x ∷ xs)
-    past e =
-        let first : p.hash < x.hash = elim (cases_lt p.hash x.hash) [
-          | inl less ↦ less
-          | inr more ↦ let b = before-is p x e in let bh : p.hash ≤ x.hash = b.hash in let bp : p.place < x.place = b.place (omega arith) in let lx : x.place < p.place = l.0 in absurd (omega arith)
-        ] in
-        (first, all_weaker (IsPairBefore x) (λ y. p.hash < y.hash) (λ y k. let kh = k.hash in omega arith) xs o.0)
+    go : (b : Bool) → map (λ (q : Pair). q.place) (filter (λ q. eqb q.hash h) ps ++ cond b (p ∷ []) []) ≡ cond b (places_in h ps ++ p.place ∷ []) (places_in h ps)
+    go true = map-append (λ (q : Pair). q.place) (filter (λ q. eqb q.hash h) ps) (p ∷ [])
+    go false = ap (map (λ (q : Pair). q.place)) (append-nil (filter (λ q. eqb q.hash h) ps))
 
-    new_first : (b : Bool) → eqb q p.hash ≡ b → is_before p x ≡ true → map (λ (y : Pair). y.place) (cond b (p ∷ filter (λ y. eqb y.hash q) (x ∷ xs)) (filter (λ y. eqb y.hash q) (x ∷ xs))) ≡ cond b (places_in q (x ∷ xs) ++ p.place ∷ []) (places_in q (x ∷ xs))
-    new_first false d e = refl
-    new_first true d e =
-        let none : places_in q (x ∷ xs) ≡ [] = subst (λ h. places_in h (x ∷ xs) ≡ []) (sym (eqb-true q p.hash d)) (places_past p.hash (x ∷ xs) (past e)) in
-        ap (λ ys. p.place ∷ ys) none ∙ sym (ap (λ ys. ys ++ p.place ∷ []) none)
+-- the pairs of a hash are among those of its top
+pub places_top : (shift count h : ℕ) (ps : List Pair) → places_in h ps ≡ places_in h (with_top shift count (top_of shift count h) ps)
+places_top shift count h ps = ap (map (λ (p : Pair). p.place)) (go ps)
+  where
+    go : (qs : List Pair) → filter (λ p. eqb p.hash h) qs ≡ filter (λ p. eqb p.hash h) (with_top shift count (top_of shift count h) qs)
+    go [] = refl
+    go (q ∷ qs) = pick (eqb q.hash h) refl (go qs)
+      where
+        pick : (b : Bool) → eqb q.hash h ≡ b → filter (λ p. eqb p.hash h) qs ≡ filter (λ p. eqb p.hash h) (with_top shift count (top_of shift count h) qs)
+            → cond b (q ∷ filter (λ p. eqb p.hash h) qs) (filter (λ p. eqb p.hash h) qs) ≡ filter (λ p. eqb p.hash h) (with_top shift count (top_of shift count h) (q ∷ qs))
+        pick true e ih =
+            let t = eq-eqb (top_of shift count q.hash) (top_of shift count h) (ap (top_of shift count) (eqb-true q.hash h e)) in
+            sym (ap (λ x. filter (λ p. eqb p.hash h) (cond x (q ∷ with_top shift count (top_of shift count h) qs) (with_top shift count (top_of shift count h) qs))) t
+            ∙ ap (λ x. cond x (q ∷ filter (λ p. eqb p.hash h) (with_top shift count (top_of shift count h) qs)) (filter (λ p. eqb p.hash h) (with_top shift count (top_of shift count h) qs))) e ∙ ap (λ xs. q ∷ xs) (sym ih))
+        pick false e ih = ih ∙ other (eqb (top_of shift count q.hash) (top_of shift count h))
+          where
+            other : (x : Bool) → filter (λ p. eqb p.hash h) (with_top shift count (top_of shift count h) qs) ≡ filter (λ p. eqb p.hash h) (cond x (q ∷ with_top shift count (top_of shift count h) qs) (with_top shift count (top_of shift count h) qs))
+            other true = sym (ap (λ y. cond y (q ∷ filter (λ p. eqb p.hash h) (with_top shift count (top_of shift count h) qs)) (filter (λ p. eqb p.hash h) (with_top shift count (top_of shift count h) qs))) e)
+            other false = refl
 
-    after_x : (b d : Bool) → places_in q (inserted p xs) ≡ cond d (places_in q xs ++ p.place ∷ []) (places_in q xs)
-        → map (λ (y : Pair). y.place) (cond b (x ∷ filter (λ y. eqb y.hash q) (inserted p xs)) (filter (λ y. eqb y.hash q) (inserted p xs)))
-        ≡ cond d (map (λ (y : Pair). y.place) (cond b (x ∷ filter (λ y. eqb y.hash q) xs) (filter (λ y. eqb y.hash q) xs)) ++ p.place ∷ []) (map (λ (y : Pair). y.place) (cond b (x ∷ filter (λ y. eqb y.hash q) xs) (filter (λ y. eqb y.hash q) xs)))
-    after_x true true h = ap (λ ys. x.place ∷ ys) h
-    after_x true false h = ap (λ ys. x.place ∷ ys) h
-    after_x false true h = h
-    after_x false false h = h
+pub without_none : (x : ℕ) (ps : List Pair) → AllByRecursion (λ q. q.place ≢ x) ps → without_pair x ps ≡ ps
+without_none x ps h = filter_whole (λ p. not (eqb p.place x)) ps (all_weaker (λ q. q.place ≢ x) (λ q. not (eqb q.place x) ≡ true) (λ q n. ap not (ne_eqb q.place x n)) ps h)
 
-    by_place : places_in q (inserted p xs) ≡ cond (eqb q p.hash) (places_in q xs ++ p.place ∷ []) (places_in q xs) → (b : Bool) → is_before p x ≡ b → places_in q (cond b (p ∷ x ∷ xs) (x ∷ inserted p xs)) ≡ cond (eqb q p.hash) (places_in q (x ∷ xs) ++ p.place ∷ []) (places_in q (x ∷ xs))
-    by_place ih true e = ap (λ b. map (λ (y : Pair). y.place) (cond b (p ∷ filter (λ y. eqb y.hash q) (x ∷ xs)) (filter (λ y. eqb y.hash q) (x ∷ xs)))) (eqb_flip p.hash q) ∙ new_first (eqb q p.hash) refl e
-    by_place ih false e = after_x (eqb x.hash q) (eqb q p.hash) ih
+-- no pair that is kept has the place
+pub without_apart : (x : ℕ) (ps : List Pair) → AllByRecursion (λ q. q.place ≢ x) (without_pair x ps)
+without_apart x ps = all_weaker (λ q. not (eqb q.place x) ≡ true) (λ q. q.place ≢ x) (λ q n e. true≢false (sym n ∙ ap not (eq-eqb q.place x e))) (without_pair x ps) (all_pass (λ q. not (eqb q.place x)) ps)
+
+pub without_head : (x : ℕ) (p : Pair) (ps : List Pair) → p.place ≡ x → AllByRecursion (λ q. q.place ≢ x) ps → without_pair x (p ∷ ps) ≡ ps
+without_head x p ps e h = ap (λ b. cond (not b) (p ∷ without_pair x ps) (without_pair x ps)) (eq-eqb p.place x e) ∙ without_none x ps h
+
+pub without_tail : (x : ℕ) (p : Pair) (ps : List Pair) → p.place ≢ x → without_pair x (p ∷ ps) ≡ p ∷ without_pair x ps
+without_tail x p ps n = ap (λ b. cond (not b) (p ∷ without_pair x ps) (without_pair x ps)) (ne_eqb p.place x n)
+
+-- later pairs are at other places
+pub apart_after : (p : Pair) (ps : List Pair) → AreInOrder (p ∷ ps) → AllByRecursion (λ q. q.place ≢ p.place) ps
+apart_after p ps o = all_weaker (λ q. p.place < q.place) (λ q. q.place ≢ p.place) (λ q l e. omega (arith, l, e)) ps o.0

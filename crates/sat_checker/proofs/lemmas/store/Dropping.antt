@@ -9,7 +9,7 @@ use Rattle.sat_checker.specs.Stored.{Stored, hash_by}
 use Rattle.sat_checker.specs.Storing.{with_count, without_count}
 use Rattle.sat_checker.specs.inner.Marks.{IsIncreasing}
 use Rattle.sat_checker.specs.inner.IndexView.{IndexesSlots, pairs_from}
-use Rattle.sat_checker.specs.inner.PairView.{Indexed, inserted, inserted_all, places_in, mixed}
+use Rattle.sat_checker.specs.inner.PairView.{Indexed, places_in, mixed}
 use Rattle.sat_checker.specs.inner.OccurrenceView.{times_in, times_stored, SlotsInvariant}
 use Rattle.sat_checker.specs.inner.SlotView.{Slot, unstored, slot_at, stored_slot, is_gone, is_filed, places_from, gone_count, slots_present, CompactsOrKeeps, live, slot_ids, slot_count, with_count_at, without_count_at, all_hashed_by}
 use Rattle.sat_checker.specs.inner.StoreView.{AreHashed, RepresentsClauses, AreIdsInOrder, KeepsIds}
@@ -210,14 +210,14 @@ kept_next ss i l g = (
   ap slots_present (drop_more ss i (unstored 0 0 []) l) ∙ ap (λ b. cond (not b) (slot_at ss i ∷ slots_present (drop (i + 1) ss)) (slots_present (drop (i + 1) ss))) g,
 )
 
--- the pair of the first remaining clause is inserted before the others
+-- the pair of the first remaining clause comes before the others
 pub filed_kept : (ss : List Slot) (i to next hash : ℕ) → i < length ss → is_gone (slot_at ss i) ≡ false → hash ≡ mixed (slot_at ss i).hash → next + 1 ≡ to
-    → inserted (record { hash = hash; place = next }) (inserted_all (pairs_from to (slots_present (drop (i + 1) ss)))) ≡ inserted_all (pairs_from next (slots_present (drop i ss)))
+    → (record { hash = hash; place = next }) ∷ pairs_from to (slots_present (drop (i + 1) ss)) ≡ pairs_from next (slots_present (drop i ss))
 filed_kept ss i to next hash l g h e =
-    ap (λ k. inserted (record { hash = k; place = next }) (inserted_all (pairs_from to (slots_present (drop (i + 1) ss))))) h
-    ∙ ap (λ k. inserted (record { hash = mixed (slot_at ss i).hash; place = next }) (inserted_all (pairs_from k (slots_present (drop (i + 1) ss))))) (sym e)
-    ∙ ap (λ b. inserted_all (cond b (pairs_from (next + 1) (slots_present (drop (i + 1) ss))) ((record { hash = mixed (slot_at ss i).hash; place = next }) ∷ pairs_from (next + 1) (slots_present (drop (i + 1) ss))))) (sym g)
-    ∙ ap (λ xs. inserted_all (pairs_from next xs)) (sym (kept_next ss i l g).1)
+    ap (λ k. (record { hash = k; place = next }) ∷ pairs_from to (slots_present (drop (i + 1) ss))) h
+    ∙ ap (λ k. (record { hash = mixed (slot_at ss i).hash; place = next }) ∷ pairs_from k (slots_present (drop (i + 1) ss))) (sym e)
+    ∙ ap (λ b. cond b (pairs_from (next + 1) (slots_present (drop (i + 1) ss))) ((record { hash = mixed (slot_at ss i).hash; place = next }) ∷ pairs_from (next + 1) (slots_present (drop (i + 1) ss)))) (sym g)
+    ∙ ap (λ xs. pairs_from next xs) (sym (kept_next ss i l g).1)
 
 -- a clause that is not removed is filed under its hash
 place_among : (k : ℕ) (ss : List Slot) (i n : ℕ) → i < length ss → is_gone (slot_at ss i) ≡ false → k + i ≡ n → is_among (places_from k (slot_at ss i).hash ss) n ≡ true

@@ -1,16 +1,15 @@
 -- The places of a hash, in an index of pairs and in a list of slots.
-use Rattle.std.proofs.Common.{ℕ, ◌+◌, ◌<◌, ◌≤◌, ◌≡◌, Bool, true, false, not, ◌||◌, ◌&&◌, cond, eqb, ltb, leb, List, [], ◌∷◌, length, map, filter, Option, None, Some, inl, inr, ◌≢◌, refl, sym, ◌∙◌, ap, subst, arith}
-use Rattle.std.proofs.lemmas.Bool.{cases_lt, eqb-true, eq-eqb, ne_eqb, true≢false}
+use Rattle.std.proofs.Common.{ℕ, ◌+◌, ◌<◌, ◌≤◌, ◌≡◌, Bool, true, false, not, ◌||◌, ◌&&◌, cond, eqb, ltb, leb, List, [], ◌∷◌, length, map, filter, Option, None, Some, refl, sym, ◌∙◌, ap, subst, arith}
+use Rattle.std.proofs.lemmas.Bool.{eqb-true, eq-eqb, true≢false}
 use Rattle.std.proofs.lemmas.Bool.Decides.{nat_tests}
 use Rattle.std.specs.List.{AllByRecursion}
 use Rattle.std.specs.Option.{IfSome}
 use Rattle.sat_checker.specs.LiteralSets.{is_among}
 use Rattle.sat_checker.specs.inner.Marks.{IsIncreasing}
 use Rattle.sat_checker.specs.inner.IndexView.{without_place, pairs_from, pairs_of, IndexesSlots}
-use Rattle.sat_checker.specs.inner.PairView.{Indexed, AreInOrder, is_before, inserted, inserted_all, without_pair, places_in, first_of, places_after, from_on, mixed}
+use Rattle.sat_checker.specs.inner.PairView.{Indexed, AreInOrder, without_pair, places_in, first_of, places_after, from_on, mixed}
 use Rattle.sat_checker.specs.inner.SlotView.{Slot, is_gone, is_filed, places_from, places_of}
 use Rattle.sat_checker.specs.declared.store.links.Pair.{Pair}
-use Rattle.sat_checker.proofs.lemmas.pairs.Order.{all_inserted, all_weaker, is-before, order_inserted}
 use Rattle.sat_checker.proofs.lemmas.pairs.Mixing.{mixed_same}
 use Rattle.sat_checker.proofs.lemmas.store.Places.{places_above}
 
@@ -28,7 +27,8 @@ pairs_places q k (s ∷ ss) = go (is_gone s) (pairs_places q (k + 1) ss)
     go true ih = ih
     go false ih = pick (eqb (mixed s.hash) (mixed q)) ih ∙ ap (λ d. cond d (k ∷ places_from (k + 1) q ss) (places_from (k + 1) q ss)) (mixed_same s.hash q)
 
-pairs_above : (b k : ℕ) (ss : List Slot) → b < k → AllByRecursion (λ (p : Pair). b < p.place) (pairs_from k ss)
+-- the pairs of slots from place `k` on are at places above `b`
+pub pairs_above : (b k : ℕ) (ss : List Slot) → b < k → AllByRecursion (λ (p : Pair). b < p.place) (pairs_from k ss)
 pairs_above b k [] l = tt
 pairs_above b k (s ∷ ss) l = go (is_gone s) (pairs_above b (k + 1) ss (omega arith))
   where
@@ -53,70 +53,21 @@ increasing_places k q (s ∷ ss) = go (is_filed q s) (increasing_places (k + 1) 
     go true ih = (places_above k (k + 1) q ss (omega arith), ih)
     go false ih = ih
 
--- the places of a hash after a pair at an earlier place is inserted
-places_before : (q : ℕ) (p : Pair) (ps : List Pair) → AllByRecursion (λ x. p.place < x.place) ps → places_in q (inserted p ps) ≡ places_in q (p ∷ ps)
-places_before q p [] a = refl
-places_before q p (x ∷ xs) a = go (is_before p x) refl (places_before q p xs a.1)
+pub pairs_in_order : (k : ℕ) (ss : List Slot) → AreInOrder (pairs_from k ss)
+pairs_in_order k [] = tt
+pairs_in_order k (s ∷ ss) = go (is_gone s) (pairs_in_order (k + 1) ss)
   where
-    lower : is_before p x ≡ false → x.hash < p.hash
-    lower e = elim (cases_lt x.hash p.hash) [
-      | inl less ↦ less
-      | inr more ↦ let l : p.place < x.place = a.0 in absurd (true≢false (sym (is-before p x (record { hash = more; place = λ s. l })) ∙ e))
-    ]
-
-    pick : (d f : Bool) → (d ≡ true → f ≡ false) → map (λ (y : Pair). y.place) (filter (λ y. eqb y.hash q) (inserted p xs)) ≡ map (λ (y : Pair). y.place) (cond d (p ∷ filter (λ y. eqb y.hash q) xs) (filter (λ y. eqb y.hash q) xs))
-        → map (λ (y : Pair). y.place) (cond f (x ∷ filter (λ y. eqb y.hash q) (inserted p xs)) (filter (λ y. eqb y.hash q) (inserted p xs)))
-        ≡ map (λ (y : Pair). y.place) (cond d (p ∷ cond f (x ∷ filter (λ y. eqb y.hash q) xs) (filter (λ y. eqb y.hash q) xs)) (cond f (x ∷ filter (λ y. eqb y.hash q) xs) (filter (λ y. eqb y.hash q) xs)))
-    pick true true n ih = absurd (true≢false (n refl))
-    pick true false n ih = ih
-    pick false true n ih = ap (λ ys. x.place ∷ ys) ih
-    pick false false n ih = ih
-
-    go : (b : Bool) → is_before p x ≡ b → places_in q (inserted p xs) ≡ places_in q (p ∷ xs) → places_in q (cond b (p ∷ x ∷ xs) (x ∷ inserted p xs)) ≡ places_in q (p ∷ x ∷ xs)
-    go true e ih = refl
-    go false e ih = let l = lower e in pick (eqb p.hash q) (eqb x.hash q) (λ d. ne_eqb x.hash q (λ s. let h = eqb-true p.hash q d in omega (arith, l, h, s))) ih
-
-each_filed : (P : Pair → Type 0) (ps : List Pair) → AllByRecursion P ps → AllByRecursion P (inserted_all ps)
-each_filed P [] h = tt
-each_filed P (p ∷ ps) h = all_inserted P p (inserted_all ps) h.0 (each_filed P ps h.1)
-
--- the pairs of slots from place `k` on are at places above `b`
-pub filed_above : (b k : ℕ) (ss : List Slot) → b < k → AllByRecursion (λ p. b < p.place) (inserted_all (pairs_from k ss))
-filed_above b k ss l = each_filed (λ p. b < p.place) (pairs_from k ss) (pairs_above b k ss l)
-
--- the inserted pairs of slots are in order, and have the places of every hash
-filed_in_order : (k : ℕ) (ss : List Slot) → AreInOrder (inserted_all (pairs_from k ss))
-filed_in_order k [] = tt
-filed_in_order k (s ∷ ss) = go (is_gone s) (filed_in_order (k + 1) ss)
-  where
-    go : (g : Bool) → AreInOrder (inserted_all (pairs_from (k + 1) ss)) → AreInOrder (inserted_all (cond g (pairs_from (k + 1) ss) ((record { hash = mixed s.hash; place = k }) ∷ pairs_from (k + 1) ss)))
+    go : (g : Bool) → AreInOrder (pairs_from (k + 1) ss) → AreInOrder (cond g (pairs_from (k + 1) ss) ((record { hash = mixed s.hash; place = k }) ∷ pairs_from (k + 1) ss))
     go true ih = ih
-    go false ih =
-        order_inserted (record { hash = mixed s.hash; place = k }) (inserted_all (pairs_from (k + 1) ss))
-        (all_weaker (λ p. k < p.place) (λ p. k ≢ p.place) (λ p l e. omega (arith, l, e)) (inserted_all (pairs_from (k + 1) ss)) (filed_above k (k + 1) ss (omega arith))) ih
+    go false ih = (pairs_above k (k + 1) ss (omega arith), ih)
 
-filed_places : (q k : ℕ) (ss : List Slot) → places_in q (inserted_all (pairs_from k ss)) ≡ places_in q (pairs_from k ss)
-filed_places q k [] = refl
-filed_places q k (s ∷ ss) = go (is_gone s) (filed_places q (k + 1) ss)
-  where
-    pick : (d : Bool) → places_in q (inserted_all (pairs_from (k + 1) ss)) ≡ places_in q (pairs_from (k + 1) ss)
-        → map (λ (p : Pair). p.place) (cond d ((record { hash = mixed s.hash; place = k }) ∷ filter (λ p. eqb p.hash q) (inserted_all (pairs_from (k + 1) ss))) (filter (λ p. eqb p.hash q) (inserted_all (pairs_from (k + 1) ss))))
-        ≡ map (λ (p : Pair). p.place) (cond d ((record { hash = mixed s.hash; place = k }) ∷ filter (λ p. eqb p.hash q) (pairs_from (k + 1) ss)) (filter (λ p. eqb p.hash q) (pairs_from (k + 1) ss)))
-    pick true ih = ap (λ ps. k ∷ ps) ih
-    pick false ih = ih
-
-    go : (g : Bool) → places_in q (inserted_all (pairs_from (k + 1) ss)) ≡ places_in q (pairs_from (k + 1) ss)
-        → places_in q (inserted_all (cond g (pairs_from (k + 1) ss) ((record { hash = mixed s.hash; place = k }) ∷ pairs_from (k + 1) ss))) ≡ places_in q (cond g (pairs_from (k + 1) ss) ((record { hash = mixed s.hash; place = k }) ∷ pairs_from (k + 1) ss))
-    go true ih = ih
-    go false ih = places_before q (record { hash = mixed s.hash; place = k }) (inserted_all (pairs_from (k + 1) ss)) (filed_above k (k + 1) ss (omega arith)) ∙ pick (eqb (mixed s.hash) q) ih
-
--- an index of the inserted pairs of all slots
-pub files_all : (ss : List Slot) (index : Indexed) → index ≡ record { pairs = inserted_all (pairs_of ss); places = length ss } → IndexesSlots index ss
+-- an index of the pairs of all slots
+pub files_all : (ss : List Slot) (index : Indexed) → index ≡ record { pairs = pairs_of ss; places = length ss } → IndexesSlots index ss
 files_all ss index e = subst (λ x. IndexesSlots x ss) (sym e) (record {
-  filed = λ q. filed_places (mixed q) 0 ss ∙ pairs_places q 0 ss;
+  filed = λ q. pairs_places q 0 ss;
   places = refl;
-  in_order = filed_in_order 0 ss;
-  below = each_filed (λ p. p.place < length ss) (pairs_of ss) (pairs_below 0 (length ss) ss (omega arith));
+  in_order = pairs_in_order 0 ss;
+  below = pairs_below 0 (length ss) ss (omega arith);
 })
 
 -- removing a pair removes its place from those of its hash

@@ -1,31 +1,31 @@
 -- The invariant of slots, index and counts, as clauses are added and removed.
-use Rattle.std.proofs.Common.{ℕ, suc, ◌+◌, ◌<◌, ◌≤◌, ◌≡◌, ◌≢◌, Bool, true, false, not, cond, eqb, List, [], ◌∷◌, ◌++◌, length, Option, refl, sym, ◌∙◌, ap, subst, arith, Result, Ok, Err, OnOk}
+use Rattle.std.proofs.Common.{ℕ, suc, ◌+◌, ◌<◌, ◌≤◌, ◌≡◌, Bool, true, false, not, cond, eqb, List, [], ◌∷◌, ◌++◌, length, Option, refl, sym, ◌∙◌, ap, subst, arith, Result, Ok, Err, OnOk}
 use Rattle.std.proofs.lemmas.Bool.{true≢false}
 use Rattle.std.specs.Result.{is_err}
 use Rattle.std.proofs.lemmas.List.{length-set}
 use Rattle.sat_checker.specs.inner.IndexView.{IndexesSlots}
-use Rattle.sat_checker.specs.inner.PairView.{Indexed, places_in, inserted, without_pair, mixed}
+use Rattle.sat_checker.specs.inner.PairView.{Indexed, places_in, without_pair, mixed}
 use Rattle.sat_checker.specs.inner.OccurrenceView.{count_at, times_in, times_stored, SlotsInvariant}
 use Rattle.sat_checker.specs.Storing.{with_count, without_count}
 use Rattle.sat_checker.specs.inner.SlotView.{Slot, unstored, stored_slot, slot_at, literals_at, is_gone, slot_count, with_count_at, without_count_at, all_hashed_by}
 use Rattle.sat_checker.specs.declared.store.occurrences.Occurrences.{Occurrences}
 use Rattle.sat_checker.proofs.lemmas.store.Places.{agrees_stored, agrees_counted, agrees_left, agrees_removed, stored_last, after, gone_there}
-use Rattle.sat_checker.proofs.lemmas.pairs.Order.{all_weaker, all_filter, all_inserted, order_filter, order_inserted, places_inserted}
+use Rattle.sat_checker.proofs.lemmas.pairs.Order.{all_weaker, all_filter, all_push, order_filter, order_push, places_push}
 use Rattle.sat_checker.proofs.lemmas.pairs.Mixing.{mixed_same}
 use Rattle.sat_checker.proofs.lemmas.store.Filing.{places_without}
 use Rattle.sat_checker.proofs.lemmas.store.Counting.{times_more, times_counted, times_left, times_gone, times_hashed}
 
 -- after a new clause is stored once
 pub kept_stored : (ss new all : List Slot) (index next : Indexed) (o mid p : Occurrences) (r : Bool) (id hash place : ℕ) (literals : List ℕ) → SlotsInvariant ss index o → ((l : ℕ) → count_at mid l ≡ count_at o l) → place ≡ length ss
-    → next ≡ record { pairs = inserted (record { hash = mixed hash; place = index.places }) index.pairs; places = index.places + 1 } → new ≡ ss ++ unstored id hash literals ∷ [] → all ≡ with_count_at r place new → ((l : ℕ) → count_at p l ≡ count_at mid l + times_in l literals) → SlotsInvariant all next p
+    → next ≡ record { pairs = index.pairs ++ (record { hash = mixed hash; place = index.places }) ∷ []; places = index.places + 1 } → new ≡ ss ++ unstored id hash literals ∷ [] → all ≡ with_count_at r place new → ((l : ℕ) → count_at p l ≡ count_at mid l + times_in l literals) → SlotsInvariant all next p
 kept_stored ss new all index next o mid p r id hash place literals k m is h e s a = record {
   files = subst (λ x. IndexesSlots x all) (sym h) (record {
-    filed = agrees_stored (λ q. places_in (mixed q) index.pairs) (λ q. places_in (mixed q) (inserted (record { hash = mixed hash; place = index.places }) index.pairs)) r id hash place literals ss new all k.files.filed is
-        (λ q. places_inserted (mixed q) (record { hash = mixed hash; place = index.places }) index.pairs k.files.in_order k.files.below ∙ ap (λ b. cond b (places_in (mixed q) index.pairs ++ index.places ∷ []) (places_in (mixed q) index.pairs)) (mixed_same q hash)
+    filed = agrees_stored (λ q. places_in (mixed q) index.pairs) (λ q. places_in (mixed q) (index.pairs ++ (record { hash = mixed hash; place = index.places }) ∷ [])) r id hash place literals ss new all k.files.filed is
+        (λ q. places_push (mixed q) (record { hash = mixed hash; place = index.places }) index.pairs ∙ ap (λ b. cond b (places_in (mixed q) index.pairs ++ index.places ∷ []) (places_in (mixed q) index.pairs)) (mixed_same q hash)
         ∙ ap (λ x. cond (eqb q hash) (places_in (mixed q) index.pairs ++ x ∷ []) (places_in (mixed q) index.pairs)) (k.files.places ∙ sym is)) e s;
     places = let whole : length all ≡ length ss + 1 = ap length (stored_last r id hash place literals ss new all is e s) ∙ length_more ss (stored_slot r id hash literals) in omega (arith, whole, k.files.places);
-    in_order = order_inserted (record { hash = mixed hash; place = index.places }) index.pairs (all_weaker (λ x. x.place < index.places) (λ x. index.places ≢ x.place) (λ x l d. omega (arith, l, d)) index.pairs k.files.below) k.files.in_order;
-    below = all_inserted (λ x. x.place < index.places + 1) (record { hash = mixed hash; place = index.places }) index.pairs (omega arith) (all_weaker (λ x. x.place < index.places) (λ x. x.place < index.places + 1) (λ x l. omega (arith, l)) index.pairs k.files.below);
+    in_order = order_push (record { hash = mixed hash; place = index.places }) index.pairs k.files.below k.files.in_order;
+    below = all_push (λ x. x.place < index.places + 1) (record { hash = mixed hash; place = index.places }) index.pairs (omega arith) (all_weaker (λ x. x.place < index.places) (λ x. x.place < index.places + 1) (λ x l. omega (arith, l)) index.pairs k.files.below);
   });
   counted = λ l.
       let more : times_stored l all ≡ times_stored l ss + times_in l literals = ap (times_stored l) (stored_last r id hash place literals ss new all is e s) ∙ times_more l r id hash literals ss in

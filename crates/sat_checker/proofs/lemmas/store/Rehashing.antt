@@ -15,7 +15,7 @@ use Rattle.sat_checker.specs.declared.store.Store.{Store}
 use Rattle.sat_checker.proofs.lemmas.store.Ids.{ids_hashed}
 use Rattle.sat_checker.specs.inner.SlotView.{Slot, slot_at, slot_ids, literals_at, is_gone, live, live_length, with_hash_at, hashed_by, all_hashed_by, hashed_anew, unstored}
 use Rattle.sat_checker.specs.inner.IndexView.{pairs_from}
-use Rattle.sat_checker.specs.inner.PairView.{inserted, inserted_all, mixed}
+use Rattle.sat_checker.specs.inner.PairView.{mixed}
 use Rattle.sat_checker.specs.declared.store.links.Pair.{Pair}
 
 module _ (names : ℕ → Option ℕ) (width : ℕ) where
@@ -68,29 +68,29 @@ module _ (names : ℕ → Option ℕ) (width : ℕ) where
         ∙ ap (λ x. slice_set x i (record (slot_at ss i) { hash = hash_by names width (slot_at ss i).clause.literals })) (e ∙ ap (λ k. hashed_from k ss) to)
         ∙ ap (λ t. slice_set (hashed_from (suc i) ss) i t) (sym (hashed_there (slot_at ss i) (ap is_gone (sym slot_same) ∙ g))) ∙ set_next ss i l
 
-  -- the inserted pairs of the slots from a place on, by new hashes
+  -- the pairs of the slots from a place on, by new hashes
   abbrev pub filed_from : ℕ → List Slot → List Pair
-  filed_from i ss = inserted_all (pairs_from i (all_hashed_by names width (drop i ss)))
+  filed_from i ss = pairs_from i (all_hashed_by names width (drop i ss))
 
   pub filed_none : (ss : List Slot) → filed_from (length ss) ss ≡ []
-  filed_none ss = ap (λ xs. inserted_all (pairs_from (length ss) (all_hashed_by names width xs))) (drop_all (length ss) ss (omega arith))
+  filed_none ss = ap (λ xs. pairs_from (length ss) (all_hashed_by names width xs)) (drop_all (length ss) ss (omega arith))
 
   drop_on : (ss : List Slot) (i : ℕ) → i < length ss → drop i ss ≡ slot_at ss i ∷ drop (i + 1) ss
   drop_on ss i l = drop_more ss i (unstored 0 0 []) l
 
   pub filed_skip : (ss : List Slot) (i : ℕ) → i < length ss → is_gone (slot_at ss i) ≡ true → filed_from (i + 1) ss ≡ filed_from i ss
   filed_skip ss i l g =
-      sym (ap (λ xs. inserted_all (pairs_from i (all_hashed_by names width xs))) (drop_on ss i l)
-      ∙ ap (λ (s : Slot). inserted_all (pairs_from i (s ∷ all_hashed_by names width (drop (i + 1) ss)))) (hashed_gone (slot_at ss i) g)
-      ∙ ap (λ b. inserted_all (cond b (pairs_from (i + 1) (all_hashed_by names width (drop (i + 1) ss))) ((record { hash = mixed (slot_at ss i).hash; place = i }) ∷ pairs_from (i + 1) (all_hashed_by names width (drop (i + 1) ss))))) g)
+      sym (ap (λ xs. pairs_from i (all_hashed_by names width xs)) (drop_on ss i l)
+      ∙ ap (λ (s : Slot). pairs_from i (s ∷ all_hashed_by names width (drop (i + 1) ss))) (hashed_gone (slot_at ss i) g)
+      ∙ ap (λ b. cond b (pairs_from (i + 1) (all_hashed_by names width (drop (i + 1) ss))) ((record { hash = mixed (slot_at ss i).hash; place = i }) ∷ pairs_from (i + 1) (all_hashed_by names width (drop (i + 1) ss)))) g)
 
   pub filed_next : (ss : List Slot) (i hash : ℕ) → i < length ss → is_gone (slot_at ss i) ≡ false → hash ≡ mixed (hash_by names width (slot_at ss i).clause.literals)
-      → inserted (record { hash = hash; place = i }) (filed_from (i + 1) ss) ≡ filed_from i ss
+      → (record { hash = hash; place = i }) ∷ filed_from (i + 1) ss ≡ filed_from i ss
   filed_next ss i hash l g h =
-      ap (λ k. inserted (record { hash = k; place = i }) (filed_from (i + 1) ss)) h
-      ∙ sym (ap (λ xs. inserted_all (pairs_from i (all_hashed_by names width xs))) (drop_on ss i l)
-      ∙ ap (λ (s : Slot). inserted_all (pairs_from i (s ∷ all_hashed_by names width (drop (i + 1) ss)))) (hashed_there (slot_at ss i) g)
-      ∙ ap (λ b. inserted_all (cond b (pairs_from (i + 1) (all_hashed_by names width (drop (i + 1) ss))) ((record { hash = mixed (hash_by names width (slot_at ss i).clause.literals); place = i }) ∷ pairs_from (i + 1) (all_hashed_by names width (drop (i + 1) ss))))) g)
+      ap (λ k. (record { hash = k; place = i }) ∷ filed_from (i + 1) ss) h
+      ∙ sym (ap (λ xs. pairs_from i (all_hashed_by names width xs)) (drop_on ss i l)
+      ∙ ap (λ (s : Slot). pairs_from i (s ∷ all_hashed_by names width (drop (i + 1) ss))) (hashed_there (slot_at ss i) g)
+      ∙ ap (λ b. cond b (pairs_from (i + 1) (all_hashed_by names width (drop (i + 1) ss))) ((record { hash = mixed (hash_by names width (slot_at ss i).clause.literals); place = i }) ∷ pairs_from (i + 1) (all_hashed_by names width (drop (i + 1) ss)))) g)
 
 -- the number of literals from a place on
 left_at : (ss : List Slot) (i : ℕ) → i < length ss → live_length (drop i ss) ≡ cond (is_gone (slot_at ss i)) 0 (length (literals_at ss i)) + live_length (drop (suc i) ss)

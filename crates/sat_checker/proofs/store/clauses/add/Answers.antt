@@ -1,6 +1,5 @@
 use Rattle.std.proofs.lemmas.Grind.{common_steps}
 use Rattle.std.proofs.Common.{◌≡◌, ◌+◌, ◌-◌, [], ◌∷◌, ◌++◌, length, ap, ◌∙◌, arith}
-use Rattle.sat_checker.specs.inner.PairView.{inserted}
 use Rattle.sat_checker.specs.inner.SlotView.{unstored}
 use Rattle.sat_checker.proofs.lemmas.store.Counting.{few_more, last_place}
 use Rattle.sat_checker.proofs.lemmas.store.Kept.{kept_stored}
@@ -18,7 +17,7 @@ returns-clause-kept c =
     let pushed = c.in_ok-push.ensures.ok ∙ ap (λ h. c.args.slots.now ++ unstored c.args.id h c.args.literals.now ∷ []) c.new.ensures in
     kept_stored c.args.slots.now c.push.new.self c.add_count.new.self c.args.index.now c.push-2.new.self c.args.occurrences.now c.make_room.new.self c.add.new.self c.args.redundant c.args.id c.args.hash (c.len-count.result - 1) c.args.literals.now
     c.requires.kept c.in_ok-make_room.ensures.same place
-    (c.in_ok-push-2.ensures.ok ∙ ap (λ h. record { pairs = inserted (record { hash = h; place = c.args.index.now.places }) c.args.index.now.pairs; places = c.args.index.now.places + 1 }) c.mixed.ensures) pushed c.add_count.ensures c.add.ensures
+    (c.in_ok-push-2.ensures.ok ∙ ap (λ h. record { pairs = c.args.index.now.pairs ++ (record { hash = h; place = c.args.index.now.places }) ∷ []; places = c.args.index.now.places + 1 }) c.mixed.ensures) pushed c.add_count.ensures c.add.ensures
 
 pub returns-clause-slots : goal.returns-clause-slots
 returns-clause-slots c = grind (arith, common_steps, last_place, stored_last)

@@ -1,11 +1,10 @@
-use Rattle.std.proofs.Common.{ℕ, suc, ◌+◌, ◌-◌, ◌<◌, ◌≡◌, drop, length, sym, ap, subst, ◌∙◌, arith}
+use Rattle.std.proofs.Common.{ℕ, suc, ◌∷◌, ◌+◌, ◌-◌, ◌<◌, ◌≡◌, drop, length, sym, ap, subst, ◌∙◌, arith}
 use Rattle.std.specs.List.{AllByRecursion}
 use Rattle.sat_checker.specs.HasherView.{solver_name_of, width_of}
 use Rattle.sat_checker.specs.Stored.{hash_by}
-use Rattle.sat_checker.specs.inner.PairView.{Indexed, inserted, mixed}
+use Rattle.sat_checker.specs.inner.PairView.{Indexed, mixed}
 use Rattle.sat_checker.specs.inner.SlotView.{Slot, all_hashed_by, is_gone, live_length}
-use Rattle.sat_checker.proofs.lemmas.pairs.Order.{length_inserted}
-use Rattle.sat_checker.proofs.lemmas.store.Filing.{filed_above, files_all}
+use Rattle.sat_checker.proofs.lemmas.store.Filing.{pairs_above, files_all}
 use Rattle.sat_checker.proofs.lemmas.store.Kept.{count_hashed}
 use Rattle.sat_checker.proofs.lemmas.store.Rehashing.{hashed_from, filed_from, hashed_next, hashed_skip, slot_same, filed_next, filed_skip, left_gone, left_there}
 use Rattle.sat_checker.proofs.store.clauses.file_all.Goals as goal
@@ -27,7 +26,6 @@ loop-done-preserved-then-is_gone c =
       hashed = hashed_skip names width ss c.loop-done.slots (c.len-count.result - c.loop-done.done) i inside next c.loop-done.invariant.hashed now_gone ∙ ap (λ k. hashed_from names width k ss) (sym to);
       filed = c.loop-done.invariant.filed ∙ ap (λ k. filed_from names width k ss) (sym from) ∙ filed_skip names width ss i inside gone ∙ ap (λ k. filed_from names width k ss) (sym to);
       places = c.loop-done.invariant.places;
-      room = omega (arith, c.loop-done.invariant.room);
       looks = c.loop-done.invariant.looks ∙ ap (λ k. c.args.looks.now + live_length (drop k ss)) (sym from) ∙ ap (λ n. c.args.looks.now + n) (sym (left_gone ss i inside gone)) ∙ ap (λ k. c.args.looks.now + live_length (drop k ss)) (sym to);
     }
 
@@ -36,7 +34,7 @@ file_before-requires-clause-above c =
     let names = solver_name_of c.args.hasher.now in
     let i : ℕ = c.len-count.result - 1 - c.loop-done.done in
     let from : i + 1 ≡ c.len-count.result - c.loop-done.done = omega (arith, c.loop-done-test.true) in
-    subst (AllByRecursion (λ q. i < q.place)) (sym (c.loop-done.invariant.filed ∙ ap (λ k. filed_from names (width_of c.args.hasher.now) k c.args.slots.now) (sym from))) (filed_above i (i + 1) (all_hashed_by names (width_of c.args.hasher.now) (drop (i + 1) c.args.slots.now)) (omega arith))
+    subst (AllByRecursion (λ q. i < q.place)) (sym (c.loop-done.invariant.filed ∙ ap (λ k. filed_from names (width_of c.args.hasher.now) k c.args.slots.now) (sym from))) (pairs_above i (i + 1) (all_hashed_by names (width_of c.args.hasher.now) (drop (i + 1) c.args.slots.now)) (omega arith))
 
 pub loop-done-preserved : goal.loop-done-preserved
 loop-done-preserved c =
@@ -61,10 +59,9 @@ loop-done-preserved c =
     record {
       hashed = hashed_next names width ss c.loop-done.slots (c.len-count.result - c.loop-done.done) i inside next c.loop-done.invariant.hashed c.set_hash.new.self c.clause_hash-hash.result now_there hash_is c.set_hash.ensures
           ∙ ap (λ k. hashed_from names width k ss) (sym to);
-      filed = pairs ∙ ap (inserted (record { hash = c.mixed.result; place = i })) (c.loop-done.invariant.filed ∙ ap (λ k. filed_from names width k ss) (sym from))
+      filed = pairs ∙ ap (λ ps. (record { hash = c.mixed.result; place = i }) ∷ ps) (c.loop-done.invariant.filed ∙ ap (λ k. filed_from names width k ss) (sym from))
           ∙ filed_next names width ss i c.mixed.result inside there (c.mixed.ensures ∙ ap mixed (hash_is ∙ ap (hash_by names width) literals)) ∙ ap (λ k. filed_from names width k ss) (sym to);
       places = places ∙ c.loop-done.invariant.places;
-      room = omega (arith, c.loop-done-test.true, c.loop-done.invariant.room, ap length pairs, length_inserted (record { hash = c.mixed.result; place = i }) c.loop-done.index.pairs, places);
       looks = looked ∙ ap (λ k. c.args.looks.now + live_length (drop k ss)) (sym to);
     }
 

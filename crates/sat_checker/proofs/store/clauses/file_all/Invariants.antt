@@ -1,4 +1,4 @@
-use Rattle.std.proofs.Common.{◌≡◌, ◌≤◌, ◌+◌, ◌-◌, drop, length}
+use Rattle.std.proofs.Common.{◌≡◌, ◌+◌, ◌-◌, drop}
 use Rattle.sat_checker.specs.HasherView.{solver_name_of, width_of}
 use Rattle.sat_checker.specs.inner.SlotView.{live_length}
 use Rattle.sat_checker.proofs.lemmas.store.Rehashing.{hashed_from, filed_from}
@@ -10,6 +10,5 @@ invariant-loop-done l = record {
   hashed : l.slots ≡ hashed_from (solver_name_of l.hasher) (width_of l.hasher) (l.count - l.done) l.fn.slots;
   filed : l.index.pairs ≡ filed_from (solver_name_of l.hasher) (width_of l.hasher) (l.count - l.done) l.fn.slots;
   places : l.index.places ≡ l.fn.index.places;
-  room : l.count - l.done + length l.index.pairs ≤ l.index.places;
   looks : l.looks ≡ l.fn.looks + live_length (drop (l.count - l.done) l.fn.slots);
 }

@@ -1,11 +1,10 @@
 use Rattle.std.proofs.lemmas.Grind.{common_steps}
-use Rattle.std.proofs.Common.{ℕ, List, false, ◌+◌, ◌-◌, ◌<◌, ◌≡◌, take, drop, length, sym, ap, subst, ◌∙◌, arith}
+use Rattle.std.proofs.Common.{ℕ, List, false, ◌∷◌, ◌+◌, ◌-◌, ◌<◌, ◌≡◌, take, drop, length, sym, ap, subst, ◌∙◌, arith}
 use Rattle.std.specs.List.{AllByRecursion}
 use Rattle.sat_checker.specs.inner.IndexView.{pairs_from}
-use Rattle.sat_checker.specs.inner.PairView.{Indexed, inserted, inserted_all, mixed}
+use Rattle.sat_checker.specs.inner.PairView.{Indexed, mixed}
 use Rattle.sat_checker.specs.inner.SlotView.{Slot, is_gone, slot_at, slots_present}
-use Rattle.sat_checker.proofs.lemmas.pairs.Order.{length_inserted}
-use Rattle.sat_checker.proofs.lemmas.store.Filing.{filed_above}
+use Rattle.sat_checker.proofs.lemmas.store.Filing.{pairs_above}
 use Rattle.sat_checker.proofs.lemmas.store.Dropping.{filed_kept, hash_filed, kept_next, kept_skip}
 use Rattle.sat_checker.proofs.store.clauses.file_standing.Goals as goal
 use Rattle.sat_checker.proofs.store.clauses.file_standing.Goals.{After-is_gone}
@@ -40,7 +39,7 @@ loop-done-preserved-then-is_gone c = grind (arith, common_steps, kept_skip)
 pub file_before-requires-clause-above : goal.file_before-requires-clause-above
 file_before-requires-clause-above c =
     let less = fewer (goal.at.file_before-requires-clause-above c).After-is_gone (sym c.is_gone.ensures ∙ c.if-is_gone.false) in
-    subst (AllByRecursion (λ q. c.loop-done.to - 1 < q.place)) (sym c.loop-done.invariant.filed) (filed_above (c.loop-done.to - 1) c.loop-done.to (slots_present (drop (c.len-count.result - c.loop-done.done) c.args.slots.now)) (omega (arith, less)))
+    subst (AllByRecursion (λ q. c.loop-done.to - 1 < q.place)) (sym c.loop-done.invariant.filed) (pairs_above (c.loop-done.to - 1) c.loop-done.to (slots_present (drop (c.len-count.result - c.loop-done.done) c.args.slots.now)) (omega (arith, less)))
 
 pub loop-done-preserved : goal.loop-done-preserved
 loop-done-preserved c =
@@ -53,8 +52,8 @@ loop-done-preserved c =
     let pairs = ap (λ (x : Indexed). x.pairs) c.file_before.ensures in
     record {
       to = left ∙ ap (λ k. length (slots_present (take k (ss x)))) (sym (to x));
-      filed = pairs ∙ ap (inserted (record { hash = c.hash.result; place = c.loop-done.to - 1 })) (c.loop-done.invariant.filed ∙ ap (λ k. inserted_all (pairs_from c.loop-done.to (slots_present (drop k (ss x))))) (sym (from x)))
-          ∙ filed_kept (ss x) (i x) c.loop-done.to (c.loop-done.to - 1) c.hash.result (inside x) there hash down ∙ ap (λ k. inserted_all (pairs_from (c.loop-done.to - 1) (slots_present (drop k (ss x))))) (sym (to x));
+      filed = pairs ∙ ap (λ ps. (record { hash = c.hash.result; place = c.loop-done.to - 1 }) ∷ ps) (c.loop-done.invariant.filed ∙ ap (λ k. pairs_from c.loop-done.to (slots_present (drop k (ss x)))) (sym (from x)))
+          ∙ filed_kept (ss x) (i x) c.loop-done.to (c.loop-done.to - 1) c.hash.result (inside x) there hash down ∙ ap (λ k. pairs_from (c.loop-done.to - 1) (slots_present (drop k (ss x)))) (sym (to x));
       places = ap (λ (x : Indexed). x.places) c.file_before.ensures ∙ c.loop-done.invariant.places;
-      room = omega (arith, less, c.loop-done.invariant.room, ap length pairs, length_inserted (record { hash = c.hash.result; place = c.loop-done.to - 1 }) c.loop-done.next.pairs, ap (λ (x : Indexed). x.places) c.file_before.ensures);
+      room = omega (arith, less, c.loop-done.invariant.room, ap (λ (x : Indexed). x.places) c.file_before.ensures);
     }

@@ -1,7 +1,7 @@
 use Rattle.std.proofs.Common.{◌≡◌, ◌++◌}
-use Rattle.sat_checker.specs.inner.LinkView.{joined, part_at}
+use Rattle.sat_checker.specs.inner.LinkView.{pairs_on, listed_pairs}
 use Rattle.sat_checker.proofs.store.links.list_all.Given as goal
 
--- the list ends with the pairs of the heads before the index
-abbrev pub invariant-loop-head : goal.invariant-loop-head
-invariant-loop-head l = l.list.items ≡ l.fn.list.items ++ joined (part_at l.heads l.links) l.head-index
+-- the pairs so far, followed by those from the place on, are all pairs
+abbrev pub invariant-loop-place : goal.invariant-loop-place
+invariant-loop-place l = l.list.items ++ pairs_on l.place l.links ≡ l.fn.list.items ++ listed_pairs l.links
