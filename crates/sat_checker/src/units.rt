@@ -29,7 +29,7 @@ use crate::rup::in_turn::pass_in_turn;
 use crate::rup::passed::Passed;
 use crate::store::Store;
 use crate::units::assigned::{Assigned, make_room_for};
-use crate::units::lit_numbers::LitNumbers;
+use crate::units::lit_numbers::{LitNumbers, LitPlaces};
 use crate::units::unit_order::UnitOrder;
 use sat_base::{ClauseHash, Lit, Var};
 use std::alloc::{AllocError, Global};
@@ -41,7 +41,7 @@ use std::marker::Model;
 pub(crate) struct Units {
     ids: LitNumbers,
     /// The positions of the units on the trail of assumed literals, so that a unit can be removed without a search.
-    places: LitNumbers,
+    places: LitPlaces,
     assigned: Assigned,
     order: UnitOrder,
 }
@@ -57,7 +57,7 @@ impl Model for Units {
 }
 
 /// Removes the assumed literal `lit` from the trail. The newest assumed literal moves to its position.
-fn take_out(assigned: &mut Assigned, places: &mut LitNumbers, lit: Lit)
+fn take_out(assigned: &mut Assigned, places: &mut LitPlaces, lit: Lit)
     requires assumed { is_among assigned.old.literals lit ≡ true }
     requires placed { AreTrailPlaces places.old (reverse assigned.old.literals) }
     ensures assumed { (l : ℕ) → is_among assigned.new.literals l
@@ -81,7 +81,7 @@ impl Units {
     {
         Units {
             ids: LitNumbers::new(alloc),
-            places: LitNumbers::new(alloc),
+            places: LitPlaces::new(alloc),
             assigned: Assigned::new(alloc),
             order: UnitOrder::new(),
         }
@@ -125,12 +125,15 @@ impl Units {
         }) }
         ensures err { OnErr result (self.new ≡ self.old) }
     {
+        let place = self.assigned.len();
+        if place >= u32::MAX as usize {
+            return Err(AllocError);
+        }
         self.ids.make_room(lit)?;
         self.places.make_room(lit)?;
         self.assigned.assume(lit)?;
-        let place = self.assigned.len() - 1;
         self.ids.put(lit, id);
-        self.places.put(lit, place as u64);
+        self.places.put(lit, place as u32);
         self.order = self.order.and(id, lit.code());
         Ok(())
     }

@@ -2,6 +2,7 @@
 use Rattle.std.specs.Prelude.{ℕ, ◌≡◌, ◌<◌, ◌==◌, ◌-◌, ◌^◌, List, length, get_or, Option, None, Some, if◌then◌else◌}
 use Rattle.sat_base.specs.values.Tables.{value_at}
 use Rattle.sat_checker.specs.declared.units.lit_numbers.LitNumbers.{LitNumbers}
+use Rattle.sat_checker.specs.declared.units.lit_numbers.LitPlaces.{LitPlaces}
 
 -- the number, or `None` if it is the largest number of 64 bits
 abbrev pub unless_largest : ℕ → Option ℕ
@@ -11,6 +12,14 @@ unless_largest n = if n == 2 ^ 64 - 1 then None else Some n
 abbrev pub number_at : LitNumbers → ℕ → Option ℕ
 number_at numbers l = unless_largest (value_at (2 ^ 64 - 1) numbers.numbers l)
 
--- that the number of every literal on a trail is its place there
-abbrev pub AreTrailPlaces : LitNumbers → List ℕ → Type 0
-AreTrailPlaces places trail = (i : ℕ) → i < length trail → number_at places (get_or trail i 0) ≡ Some i
+-- the place, or `None` if it is the largest number of 32 bits
+abbrev pub unless_largest_place : ℕ → Option ℕ
+unless_largest_place n = if n == 2 ^ 32 - 1 then None else Some n
+
+-- the place of a literal, or `None`
+abbrev pub place_at : LitPlaces → ℕ → Option ℕ
+place_at places l = unless_largest_place (value_at (2 ^ 32 - 1) places.places l)
+
+-- that the place of every literal on a trail is stored
+abbrev pub AreTrailPlaces : LitPlaces → List ℕ → Type 0
+AreTrailPlaces places trail = (i : ℕ) → i < length trail → place_at places (get_or trail i 0) ≡ Some i

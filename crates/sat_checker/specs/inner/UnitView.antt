@@ -6,6 +6,7 @@ use Rattle.sat_checker.specs.Stored.{StoredUnit}
 use Rattle.sat_checker.specs.Storing.{unit_id}
 use Rattle.sat_checker.specs.inner.LitNumbers.{number_at, AreTrailPlaces}
 use Rattle.sat_checker.specs.declared.units.lit_numbers.LitNumbers.{LitNumbers}
+use Rattle.sat_checker.specs.declared.units.lit_numbers.LitPlaces.{LitPlaces}
 
 -- the units in the order in which they were stored, and the literals that there is room for
 pub record UnitsAndRoom : Type 0 where
@@ -13,7 +14,7 @@ pub record UnitsAndRoom : Type 0 where
   pub room : List ℕ
 
 -- That exactly the units are assumed, in any order. Every literal has its unit's id and, if assumed, its trail place.
-pub record UnitsInvariant (units : List StoredUnit) (ids places : LitNumbers) (assigned : List ℕ) : Type 0 where
+pub record UnitsInvariant (units : List StoredUnit) (ids : LitNumbers) (places : LitPlaces) (assigned : List ℕ) : Type 0 where
   pub assumed : (l : ℕ) → is_among assigned l ≡ is_among (map (λ u. u.literal) units) l
   pub once : NoRepeats (map (λ u. u.literal) units)
   pub numbered : (l : ℕ) → number_at ids l ≡ unit_id l units

@@ -1,7 +1,7 @@
-//! Numbers that belong to literals, indexed by literal code.
+//! Numbers and places that belong to literals, indexed by literal code.
 ghost use Rattle.std.specs.Prelude.{ℕ, ◌≡◌, ◌==◌, ◌+◌, ◌^◌, ◌<◌, OnOk, Some, None, if◌then◌else◌};
 ghost use Rattle.sat_base.specs.values.Tables.{HasPlaceFor};
-ghost use Rattle.sat_checker.specs.inner.LitNumbers.{number_at};
+ghost use Rattle.sat_checker.specs.inner.LitNumbers.{number_at, place_at};
 
 use sat_base::{Lit, Table};
 use std::alloc::{AllocError, Global};
@@ -65,5 +65,67 @@ impl LitNumbers {
         ensures { (l : ℕ) → number_at self.new l ≡ (if l == lit then None else number_at self.old l) }
     {
         self.numbers.reset(lit.code(), u64::MAX);
+    }
+}
+
+/// Places of some of the literals on a trail, indexed by literal code. For the others, 2^32-1 is stored, which is not a
+/// valid place.
+#[derive(Drop)]
+pub(crate) struct LitPlaces {
+    places: Table<u32>,
+}
+
+impl LitPlaces {
+    /// Creates a table without places.
+    pub fn new(alloc: Global) -> LitPlaces
+        ensures { (l : ℕ) → place_at result l ≡ None }
+    {
+        LitPlaces {
+            places: Table::new(alloc),
+        }
+    }
+
+    /// Returns the place of a literal, if it has one.
+    pub fn get(&self, lit: Lit) -> Option<u32>
+        ensures { result ≡ place_at self.now lit }
+    {
+        let place = self.places.get(lit.code(), u32::MAX);
+        if place == u32::MAX {
+            return None;
+        }
+        Some(place)
+    }
+
+    /// Allows `more` more places to be in the table's list, rather than in its tree.
+    #[inline(always)]
+    pub fn grant(&mut self, more: usize)
+        ensures room { (l : ℕ) → HasPlaceFor self.old.places l → HasPlaceFor self.new.places l }
+        ensures same { (l : ℕ) → place_at self.new l ≡ place_at self.old l }
+    {
+        self.places.grant(more);
+    }
+
+    /// Makes room for the place of a literal.
+    pub fn make_room(&mut self, lit: Lit) -> Result<(), AllocError>
+        ensures room { OnOk result (HasPlaceFor self.new.places lit) }
+        ensures same { (l : ℕ) → place_at self.new l ≡ place_at self.old l }
+    {
+        self.places.make_room(lit.code(), u32::MAX)
+    }
+
+    /// Sets the place of a literal. There must be room for the place, and it must be below 2^32-1.
+    pub fn put(&mut self, lit: Lit, place: u32)
+        requires room { HasPlaceFor self.old.places lit }
+        requires place { place + 1 < 2 ^ 32 }
+        ensures { (l : ℕ) → place_at self.new l ≡ (if l == lit then Some place else place_at self.old l) }
+    {
+        self.places.put(lit.code(), place);
+    }
+
+    /// Removes the place of a literal.
+    pub fn forget(&mut self, lit: Lit)
+        ensures { (l : ℕ) → place_at self.new l ≡ (if l == lit then None else place_at self.old l) }
+    {
+        self.places.reset(lit.code(), u32::MAX);
     }
 }

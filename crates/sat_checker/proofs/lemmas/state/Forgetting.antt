@@ -14,6 +14,7 @@ use Rattle.sat_checker.specs.inner.StateView.{RepresentsStored}
 use Rattle.sat_checker.specs.inner.UnitView.{UnitsInvariant}
 use Rattle.sat_checker.specs.inner.VariablesView.{variable_of_data, variable_at}
 use Rattle.sat_checker.specs.declared.units.lit_numbers.LitNumbers.{LitNumbers}
+use Rattle.sat_checker.specs.declared.units.lit_numbers.LitPlaces.{LitPlaces}
 use Rattle.sat_checker.specs.declared.state.CheckerState.{CheckerState}
 use Rattle.sat_checker.specs.declared.variables.VarData.{VarData}
 use Rattle.sat_checker.proofs.lemmas.sets.Subsets.{any_true, some_of}
@@ -84,7 +85,7 @@ module _ (t : ℕ → Bool) where
       go false e false f ih = ih
 
 -- the unit of a literal is removed
-pub unit_taken : (l : ℕ) (us : List StoredUnit) (ids new places moved : LitNumbers) (assigned rest : List ℕ) → UnitsInvariant us ids places assigned → ((k : ℕ) → is_among rest k ≡ cond (eqb k l) false (is_among assigned k))
+pub unit_taken : (l : ℕ) (us : List StoredUnit) (ids new : LitNumbers) (places moved : LitPlaces) (assigned rest : List ℕ) → UnitsInvariant us ids places assigned → ((k : ℕ) → is_among rest k ≡ cond (eqb k l) false (is_among assigned k))
     → ((k : ℕ) → number_at new k ≡ cond (eqb k l) None (number_at ids k)) → AreTrailPlaces moved (reverse rest) → UnitsInvariant (filter (λ u. not (eqb u.literal l)) us) new moved rest
 unit_taken l us ids new places moved assigned rest u among numbers placed = record {
   assumed = λ k.

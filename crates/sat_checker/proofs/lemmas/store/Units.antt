@@ -17,13 +17,14 @@ use Rattle.sat_checker.specs.Storing.{unit_id}
 use Rattle.sat_checker.proofs.lemmas.sets.Order.{among-append, among-reverse}
 use Rattle.sat_checker.proofs.lemmas.sets.Subsets.{any_true, some_of}
 use Rattle.sat_checker.specs.inner.AssumedRoom.{HasStoredRoom}
-use Rattle.sat_checker.specs.inner.LitNumbers.{number_at, AreTrailPlaces}
+use Rattle.sat_checker.specs.inner.LitNumbers.{number_at, place_at, AreTrailPlaces}
 use Rattle.sat_checker.specs.inner.Marks.{NoRepeats}
 use Rattle.sat_checker.specs.inner.UnitView.{UnitsInvariant}
 use Rattle.sat_checker.specs.declared.units.lit_numbers.LitNumbers.{LitNumbers}
+use Rattle.sat_checker.specs.declared.units.lit_numbers.LitPlaces.{LitPlaces}
 use Rattle.sat_checker.proofs.lemmas.sets.Trails.{same_tests, placed_more}
 
-pub among_units : (us value : List StoredUnit) (ids places : LitNumbers) (assigned : List ℕ) → us ≡ value → UnitsInvariant us ids places assigned → (l : ℕ) → is_among assigned l ≡ is_among (map (λ u. u.literal) value) l
+pub among_units : (us value : List StoredUnit) (ids : LitNumbers) (places : LitPlaces) (assigned : List ℕ) → us ≡ value → UnitsInvariant us ids places assigned → (l : ℕ) → is_among assigned l ≡ is_among (map (λ u. u.literal) value) l
 among_units us value ids places assigned is u l = u.assumed l ∙ ap (λ v. is_among (map (λ (w : StoredUnit). w.literal) v) l) is
 
 eqb_turned : (x y : ℕ) → eqb x y ≡ eqb y x
@@ -49,9 +50,9 @@ once_more (m ∷ ms) l once n =
     let parts = or_parts (eqb m l) (is_among ms l) n in
     (among-append ms (l ∷ []) m ∙ or_from (is_among ms m) (eqb l m || false) once.0 (or_from (eqb l m) false (eqb_turned l m ∙ parts.0) refl), once_more ms l once.1 parts.1)
 
-pub units_more : (us : List StoredUnit) (u : StoredUnit) (ids mid ids_new places between places_new : LitNumbers) (assigned all : List ℕ) (place : ℕ) → UnitsInvariant us ids places assigned → is_among assigned u.literal ≡ false
-    → ((l : ℕ) → number_at mid l ≡ number_at ids l) → ((l : ℕ) → number_at ids_new l ≡ cond (eqb l u.literal) (Some u.id) (number_at mid l)) → ((l : ℕ) → number_at between l ≡ number_at places l)
-    → ((l : ℕ) → number_at places_new l ≡ cond (eqb l u.literal) (Some place) (number_at between l)) → all ≡ u.literal ∷ assigned → place ≡ length assigned → UnitsInvariant (us ++ u ∷ []) ids_new places_new all
+pub units_more : (us : List StoredUnit) (u : StoredUnit) (ids mid ids_new : LitNumbers) (places between places_new : LitPlaces) (assigned all : List ℕ) (place : ℕ) → UnitsInvariant us ids places assigned → is_among assigned u.literal ≡ false
+    → ((l : ℕ) → number_at mid l ≡ number_at ids l) → ((l : ℕ) → number_at ids_new l ≡ cond (eqb l u.literal) (Some u.id) (number_at mid l)) → ((l : ℕ) → place_at between l ≡ place_at places l)
+    → ((l : ℕ) → place_at places_new l ≡ cond (eqb l u.literal) (Some place) (place_at between l)) → all ≡ u.literal ∷ assigned → place ≡ length assigned → UnitsInvariant (us ++ u ∷ []) ids_new places_new all
 units_more us u ids mid ids_new places between places_new assigned all place k n m p b q a e = record {
   assumed = λ l.
       ap (λ ls. is_among ls l) a ∙ ap (λ x. eqb u.literal l || x) (k.assumed l) ∙ turned (eqb u.literal l) (is_among literals l)

@@ -4,7 +4,7 @@ use Rattle.std.proofs.lemmas.Grind.{get_or_default_zero}
 use Rattle.std.proofs.lemmas.List.{length-reverse}
 use Rattle.sat_checker.specs.LiteralSets.{is_among}
 use Rattle.sat_checker.proofs.lemmas.sets.Order.{among-reverse}
-use Rattle.sat_checker.proofs.lemmas.sets.Trails.{number_has_room, valid, stands_at, placed_without}
+use Rattle.sat_checker.proofs.lemmas.sets.Trails.{place_has_room, valid, stands_at, placed_without}
 use Rattle.sat_checker.proofs.units.take_out.Goals as goal
 
 pub returns : goal.returns
@@ -22,7 +22,7 @@ returns c =
     }
 
 pub put-requires-clause-room : goal.put-requires-clause-room
-put-requires-clause-room c = grind (arith, common_steps, get_or_default_zero, among-reverse, number_has_room, stands_at)
+put-requires-clause-room c = grind (arith, common_steps, get_or_default_zero, among-reverse, place_has_room, stands_at)
 
 pub forget_at-requires : goal.forget_at-requires
 forget_at-requires c =

@@ -13,9 +13,8 @@ pub invariant_of-self-2 : goal.invariant_of-self-2
 invariant_of-self-2 c =
     let us = c.self.inside.order.units in
     let unit : StoredUnit = record { id = c.args.id; literal = c.args.lit } in
-    let one : c.len-place.result - 1 ≡ length c.self.inside.assigned.literals = let n = c.len-place.ensures in let m = ap (λ (t : LiteralsAndRoom). length t.literals) c.in_ok-assume.ensures.ok in omega (arith, n, m) in
     subst (λ ws. UnitsInvariant ws c.put.new.self c.put-2.new.self c.assume.new.self.literals)
     (sym (c.and-self-inside.ensures ∙ ap (λ l. us ++ (record { id = c.args.id; literal = l }) ∷ []) c.code.ensures.value))
-    (units_more us unit c.self.inside.ids c.make_room.new.self c.put.new.self c.self.inside.places c.make_room-2.new.self c.put-2.new.self c.self.inside.assigned.literals c.assume.new.self.literals (c.len-place.result - 1)
+    (units_more us unit c.self.inside.ids c.make_room.new.self c.put.new.self c.self.inside.places c.make_room-2.new.self c.put-2.new.self c.self.inside.assigned.literals c.assume.new.self.literals c.len-place.result
     c.self.invariant (among_units us c.args.self.now.units c.self.inside.ids c.self.inside.places c.self.inside.assigned.literals (ap (λ (w : UnitsAndRoom). w.units) c.self.view_is) c.self.invariant c.args.lit ∙ c.requires.new)
-    c.in_ok-make_room.ensures.same c.put.ensures c.in_ok-make_room-2.ensures.same c.put-2.ensures (ap (λ (t : LiteralsAndRoom). t.literals) c.in_ok-assume.ensures.ok) one)
+    c.in_ok-make_room.ensures.same c.put.ensures c.in_ok-make_room-2.ensures.same c.put-2.ensures (ap (λ (t : LiteralsAndRoom). t.literals) c.in_ok-assume.ensures.ok) c.len-place.ensures)
