@@ -209,7 +209,7 @@ impl<P: ProofProcessor, T: ProofTranscriptProcessor> Checker<P, T> {
         ensures { kernel_has_failed (kernel_of self.now) ≡ false
             → (steps : List Step) → HasAccepted (kernel_of self.now) steps → result ≡ name_of var (ready_after steps) }
     {
-        self.kernel.state.variables.data(var).name
+        self.kernel.state.variables.data(var).name.get()
     }
 
     /// Whether the variable is known. After the checker has failed, the result is unspecified.

@@ -4,14 +4,14 @@ ghost use Rattle.sat_checker.specs.Stored.{solver_literal, hash_by};
 ghost use Rattle.sat_checker.specs.HasherView.{solver_name_of, width_of};
 ghost use Rattle.sat_checker.specs.inner.PairView.{mixed};
 
-use sat_base::{ClauseHash, HashBits, Lit, Table, Var, lit_hash};
+use sat_base::{ClauseHash, HashBits, Lit, MaybeVar, Table, Var, lit_hash};
 use std::alloc::{AllocError, Global};
 
 /// A hasher of clauses, which uses the solver's names for variables and keeps the top bits of every hash.
 #[derive(Drop)]
 pub struct ClauseHasher {
     bits: HashBits,
-    solver_names: Table<Option<Var>>,
+    solver_names: Table<MaybeVar>,
 }
 
 impl ClauseHasher {
@@ -47,14 +47,15 @@ impl ClauseHasher {
         ensures names { OnOk result ((v : ℕ) → solver_name_of self.new v
             ≡ (if v == var then name else solver_name_of self.old v)) }
     {
-        self.solver_names.set(var.index(), name, None)
+        self.solver_names
+            .set(var.index(), MaybeVar::new(name), MaybeVar::none())
     }
 
     /// Returns the solver name of a variable, if it has one.
     pub(crate) fn solver_name(&self, var: Var) -> Option<Var>
         ensures { result ≡ solver_name_of self.now var }
     {
-        self.solver_names.get(var.index(), None)
+        self.solver_names.get(var.index(), MaybeVar::none()).get()
     }
 
     /// Returns the literal with its variable replaced by the variable's solver name, or the literal itself if there is

@@ -326,7 +326,7 @@ impl CheckerState {
         if !data.known {
             return false;
         }
-        if data.name.is_some() {
+        if data.name.get().is_some() {
             return false;
         }
         if self.assumed.mentions(var) {

@@ -9,7 +9,7 @@ ghost use Rattle.sat_checker.specs.inner.VariablesView.{unknown_data, AreSamplin
 ghost use Rattle.sat_checker.specs.inner.VariablesView.{VariablesAnswer};
 ghost use Rattle.sat_base.specs.steps.Steps.{UserVarName, ChangeSamplingMode};
 
-use sat_base::{ClauseHash, Lit, Table, Var};
+use sat_base::{ClauseHash, Lit, MaybeVar, Table, Var};
 use std::alloc::{AllocError, Global};
 
 /// The mode of a variable, which says how the user's formula may use the variable.
@@ -51,12 +51,12 @@ fn mode_from(sample: bool) -> SamplingMode
     }
 }
 
-/// The data of a variable.
+/// The data of a variable, in 8 bytes.
 #[derive(Clone, Copy)]
 pub struct VarData {
     pub known: bool,
     pub mode: SamplingMode,
-    pub name: Option<Var>,
+    pub name: MaybeVar,
 }
 
 impl VarData {
@@ -68,7 +68,7 @@ impl VarData {
         VarData {
             known: false,
             mode: SamplingMode::Sample,
-            name: None,
+            name: MaybeVar::none(),
         }
     }
 }
@@ -77,7 +77,7 @@ impl VarData {
 #[derive(Drop)]
 pub struct Variables {
     data: Table<VarData>,
-    holders: Table<Option<Var>>,
+    holders: Table<MaybeVar>,
 }
 
 impl Variables {
@@ -103,7 +103,7 @@ impl Variables {
     pub fn holder(&self, name: Var) -> Option<Var>
         ensures { result ≡ holder_at self.now name }
     {
-        self.holders.get(name.index(), None)
+        self.holders.get(name.index(), MaybeVar::none()).get()
     }
 
     /// Sets the data of a variable to `state`.
@@ -213,7 +213,7 @@ impl Variables {
             return Ok(false);
         }
         let old = self.data(var);
-        if old.name.is_some() {
+        if old.name.get().is_some() {
             return Ok(false);
         }
         if is_hidden(old.mode) {
@@ -224,7 +224,7 @@ impl Variables {
             VarData {
                 known: true,
                 mode: old.mode,
-                name: Some(name),
+                name: MaybeVar::new(Some(name)),
             },
         )?;
         self.set_holder(name, Some(var))?;
@@ -238,7 +238,7 @@ impl Variables {
         ensures refused { IfOk result (λ taken. taken ≡ false → self.new ≡ self.old) }
     {
         let old = self.data(var);
-        let Some(name) = old.name else {
+        let Some(name) = old.name.get() else {
             return Ok(false);
         };
         self.set(
@@ -246,7 +246,7 @@ impl Variables {
             VarData {
                 known: old.known,
                 mode: SamplingMode::Hide,
-                name: None,
+                name: MaybeVar::none(),
             },
         )?;
         self.set_holder(name, None)?;
@@ -314,6 +314,7 @@ impl Variables {
             ≡ (if q == name then holder else holder_at self.old q)) }
         ensures variables { (v : ℕ) → variable_at self.new v ≡ variable_at self.old v }
     {
-        self.holders.set(name.index(), holder, None)
+        self.holders
+            .set(name.index(), MaybeVar::new(holder), MaybeVar::none())
     }
 }

@@ -164,7 +164,7 @@ impl<'a> CheckerData<'a> {
     pub(crate) fn explicit_name(self, proof_var: Var) -> Option<Var>
         ensures { result ≡ (variables_of self.entry proof_var).name }
     {
-        self.data(proof_var).name
+        self.data(proof_var).name.get()
     }
 
     /// Returns the user's name for a variable: its explicit name if it has one, or else the variable itself if its mode
@@ -173,7 +173,7 @@ impl<'a> CheckerData<'a> {
         ensures { result ≡ user_from_proof_var (variables_of self.entry) proof_var }
     {
         let data = self.data(proof_var);
-        if let Some(name) = data.name {
+        if let Some(name) = data.name.get() {
             return Some(name);
         }
         match data.mode {

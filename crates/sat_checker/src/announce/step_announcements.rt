@@ -260,7 +260,7 @@ impl PendingAnnouncements {
         ensures ok { OnOk result (self.new ≡ self.old ++ mode_change var sampling (mode_in before.mode) before.name) }
         ensures err { OnErr result (self.new ≡ self.old) }
     {
-        let Some(name) = before.name else {
+        let Some(name) = before.name.get() else {
             return Ok(());
         };
         if has_mode(before.mode, sampling) {
