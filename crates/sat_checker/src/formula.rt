@@ -1,7 +1,7 @@
 //! The stored formula: clauses, units, and what is recorded about them.
 ghost use Rattle.std.specs.Prelude.{◌≡◌, ◌+◌, ◌-◌, ◌≤◌, ◌*◌, [], ◌∷◌, length, IfOk, OnOk, OnErr, IsErrOf};
 ghost use Rattle.std.specs.Prelude.{ℕ, List, None, IsTrue, ◌↔◌, MatchBool, MatchResult, map, not, ◌&&◌, false};
-ghost use Rattle.std.specs.Prelude.{if◌then◌else◌};
+ghost use Rattle.std.specs.Prelude.{if◌then◌else◌, true, reverse};
 ghost use Rattle.sat_base.specs.steps.Steps.{DeleteClause, Redundant, Satisfied, Simplified};
 ghost use Rattle.sat_base.specs.steps.StepViews.{deletion_of};
 ghost use Rattle.std.specs.List.{list_any};
@@ -23,7 +23,7 @@ ghost use Rattle.sat_checker.specs.inner.Marks.{IsIncreasing};
 ghost use Rattle.sat_checker.specs.declared.store.StoreError.TheVariants.{CounterEnd};
 ghost use Rattle.sat_checker.specs.inner.FormulaView.{RepresentsFormula, rehashed_in, ChecksAs, ChecksBeside};
 ghost use Rattle.sat_checker.specs.inner.FormulaView.{FormulaEffect};
-ghost use Rattle.sat_checker.specs.inner.FormulaView.{FormulaEffectIf, DeletionEffect, Explained};
+ghost use Rattle.sat_checker.specs.inner.FormulaView.{FormulaEffectIf, DeletionEffect, DeletesAs, Explained};
 ghost use Rattle.sat_checker.specs.inner.InTurn.{PassAfter};
 ghost use Rattle.sat_checker.specs.inner.AssumedRoom.{signed, HasClauseRoom};
 ghost use Rattle.sat_checker.specs.listeners.AnnouncingView.{stored_as, AreLong};
@@ -35,11 +35,12 @@ use crate::announce::notes::Notes;
 use crate::announce::step_announcements::{Change, change_of};
 use crate::looks::Looks;
 use crate::rup::passed::Passed;
-use crate::sorted_lits::{has_both_signs, is_subset};
+use crate::sorted_lits::{has_both_signs, is_strictly_increasing, is_subset};
 use crate::state::status::{LastClause, Status};
 use crate::store::{Store, StoreError};
 use crate::units::Units;
 use crate::units::assigned::{Assigned, make_room_for};
+use crate::units::valuation::assume_distinct;
 use sat_base::{ClauseHash, DeleteClauseProof, Lit, Var};
 use std::alloc::{AllocError, Global};
 
@@ -430,6 +431,54 @@ impl Formula {
             DeleteClauseProof::Satisfied => self.delete_satisfied(clause, literals, looks),
             DeleteClauseProof::Simplified => self.delete_simplified(clause, literals, looks),
         }
+    }
+
+    /// Deletes a redundant clause whose literals are in any order, if no listener hears of it and the clause is the first
+    /// with its hash. Returns `true` if it is deleted. Otherwise, no clause changes.
+    #[inline(always)]
+    pub fn delete_given(
+        &mut self,
+        clause: &[Lit],
+        proof: DeleteClauseProof,
+        hears: bool,
+        looks: &mut Looks,
+    ) -> bool
+        ensures decides { (f : Stored) → RepresentsFormula self.old f → MatchBool result
+            (DeletesAs self.new f (DeleteClause clause.now (deletion_of proof))) (RepresentsFormula self.new f) }
+        ensures looks { LooksOver (RepresentsFormula self.old) literal_count looks.old looks.new }
+        ensures quiet { hears ≡ true → looks.new ≡ looks.old }
+        ensures unheard { result ≡ true → hears ≡ false }
+    {
+        if hears || is_strictly_increasing(clause) {
+            return false;
+        }
+        match proof {
+            DeleteClauseProof::Redundant => self.delete_marked(clause, looks),
+            DeleteClauseProof::Satisfied | DeleteClauseProof::Simplified => false,
+        }
+    }
+
+    /// Deletes a redundant clause if it is the first with its hash, and there is room for its literals, which must not
+    /// repeat. Returns `true` if it is deleted. Otherwise, no clause changes.
+    fn delete_marked(&mut self, clause: &[Lit], looks: &mut Looks) -> bool
+        ensures decides { (f : Stored) → RepresentsFormula self.old f → MatchBool result
+            (DeletesAs self.new f (DeleteClause clause.now Redundant)) (RepresentsFormula self.new f) }
+        ensures looks { LooksOver (RepresentsFormula self.old) literal_count looks.old looks.new }
+    {
+        if !self.mark_distinct(clause) {
+            return false;
+        }
+        self.store.delete_assumed(&self.marks, looks)
+    }
+
+    /// Marks the literals of a clause, up to one for which there is no room or that is repeated. Returns `true` if this
+    /// marks all of them, and then no other literal is marked.
+    fn mark_distinct(&mut self, clause: &[Lit]) -> bool
+        ensures marked { result ≡ true → self.new.marks.literals ≡ reverse clause.now }
+        ensures rest { ChecksBeside self.old self.new }
+    {
+        self.marks.undo_to(0);
+        assume_distinct(&mut self.marks, clause)
     }
 
     /// Deletes a redundant clause. Returns whether the deletion is allowed.

@@ -244,6 +244,13 @@ impl CheckerState {
         ensures noted { Announces result self.old (DeleteClause clause.now (deletion_of proof)) notes.old notes.new }
     {
         self.formula.rehash_if_needed(looks);
+        if self
+            .formula
+            .delete_given(clause, proof, notes.has_listener(), looks)
+        {
+            self.formula.compact(looks)?;
+            return Ok(true);
+        }
         let Ok(literals) = sorted_set(&mut self.buffer, clause) else {
             return self.formula.fail_if_deletable(clause, proof, looks);
         };

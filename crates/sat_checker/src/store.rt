@@ -1,5 +1,5 @@
 //! The stored clauses of two or more literals, with the hashes by which steps name them.
-ghost use Rattle.std.specs.Prelude.{ℕ, List, true, false, length, ◌≡◌, [], ◌+◌, ◌*◌, ◌≤◌, ◌^◌, Some, IfOk, OnOk, Err};
+ghost use Rattle.std.specs.Prelude.{ℕ, List, true, false, length, ◌≡◌, [], ◌+◌, ◌*◌, ◌<◌, ◌≤◌, ◌^◌, Some, IfOk, OnOk, Err};
 ghost use Rattle.std.specs.Prelude.{MatchBool};
 ghost use Rattle.sat_checker.specs.inner.Looking.{LooksOver, LooksUpTo};
 ghost use Rattle.sat_checker.specs.inner.Marks.{IsIncreasing};
@@ -27,7 +27,7 @@ use crate::looks::Looks;
 use crate::sorted_lits::is_subset;
 use crate::store::clauses::{Clauses, all_bits};
 use crate::units::assigned::Assigned;
-use crate::units::valuation::is_strictly_assumed;
+use crate::units::valuation::{has_just_assumed, is_strictly_assumed};
 use sat_base::{HashBits, Lit, Var};
 use std::alloc::{AllocError, Global};
 
@@ -189,6 +189,32 @@ impl Store {
             return false;
         }
         self.clauses.take_count(place, redundant, literals);
+        true
+    }
+
+    /// Subtracts one from the redundant count of the first clause with the hash of the assumed literals, if the clause
+    /// consists of exactly these literals. Returns `true` if this is done. Otherwise, nothing changes.
+    pub fn delete_assumed(&mut self, assigned: &Assigned, looks: &mut Looks) -> bool
+        ensures deleted { (f : Stored) → RepresentsClauses self.old f → MatchBool result
+            ((0 < store_count_in true (clause_with (canonical assigned.now.literals) f.clauses))
+            × RepresentsClauses self.new (with_less true (canonical assigned.now.literals) f))
+            (RepresentsClauses self.new f) }
+        ensures ids { slot_ids self.new.clauses ≡ slot_ids self.old.clauses }
+        ensures looks { LooksOver (RepresentsClauses self.old) literal_count looks.old looks.new }
+    {
+        let literals = assigned.literals();
+        let _count = self.clauses.len();
+        let hash = self.hasher.clause_hash(literals);
+        let Some(place) = self.clauses.first(hash) else {
+            return false;
+        };
+        if !has_just_assumed(assigned, self.clauses.literals(place, looks)) {
+            return false;
+        }
+        if self.clauses.count(place, true) == 0 {
+            return false;
+        }
+        self.clauses.take_count(place, true, literals);
         true
     }
 

@@ -14,3 +14,4 @@ pub mod Storing
 pub mod Rehashing
 pub mod Units
 pub mod Looking
+pub mod Assumed

@@ -107,9 +107,13 @@ pub record ChecksBeside (old new : Formula) : Type 0 where
   pub room : RoomStays old.units.room new.units.room
   pub marks : RoomStays old.marks.room new.marks.room
 
+-- that a step is accepted, and the formula represents its effect
+abbrev pub DeletesAs : Formula → Stored → Step → Type 0
+DeletesAs new f step = Accepts f step × RepresentsFormula new (effect step f)
+
 -- that a deletion is accepted and made, or is refused
 abbrev pub DeletionEffect : Bool → Formula → Step → Formula → Type 0
-DeletionEffect accepted old step new = (f : Stored) → RepresentsFormula old f → MatchBool accepted (Accepts f step × RepresentsFormula new (effect step f)) (Accepts f step → ⊥)
+DeletionEffect accepted old step new = (f : Stored) → RepresentsFormula old f → MatchBool accepted (DeletesAs new f step) (Accepts f step → ⊥)
 
 -- that the notes of the last propagation check explain why the clause passes under these hashes
 abbrev pub Explained : Formula → List ℕ → List ℕ → Type 0

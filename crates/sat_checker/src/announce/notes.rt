@@ -203,6 +203,7 @@ impl Formula {
             → (clause : List ℕ) → literals.now ≡ canonical clause
             → deletion_announced literals.now result ≡ announced f (DeleteClause clause (deletion_of proof)) }
         ensures looks { LooksOver (RepresentsFormula self.now) literal_count looks.old looks.new }
+        ensures quiet { notes.now.hears ≡ false → looks.new ≡ looks.old }
     {
         if !notes.hears {
             return Deletion {

@@ -1,6 +1,6 @@
 //! The stored clauses of two or more literals.
 ghost use Rattle.std.specs.Prelude.{◌≡◌, ◌+◌, ◌*◌, ◌<◌, ◌≤◌, ◌^◌, [], ◌∷◌, ◌++◌, length, true, false, None, OnOk};
-ghost use Rattle.std.specs.Prelude.{OnErr, IfSome};
+ghost use Rattle.std.specs.Prelude.{ℕ, OnErr, IfSome};
 ghost use Rattle.std.specs.List.{AllByRecursion, list_any};
 ghost use Rattle.sat_checker.specs.inner.Looking.{LooksUpTo};
 ghost use Rattle.sat_checker.specs.inner.ModelTests.{are_all_true, irredundant_length};
@@ -16,7 +16,7 @@ ghost use Rattle.sat_checker.specs.LiteralSets.{mentions, is_among, canonical};
 ghost use Rattle.sat_checker.specs.inner.StoreView.{store_count_in};
 ghost use Rattle.sat_checker.specs.inner.PairView.{first_of, places_after};
 ghost use Rattle.sat_checker.specs.inner.IndexView.{IndexesSlots, pairs_of};
-ghost use Rattle.sat_checker.specs.inner.OccurrenceView.{SlotsInvariant};
+ghost use Rattle.sat_checker.specs.inner.OccurrenceView.{SlotsInvariant, times_in};
 
 use crate::hash::{ClauseHasher, mixed};
 use crate::looks::Looks;
@@ -272,12 +272,12 @@ impl Clauses {
         self.slots.add_count(place, redundant);
     }
 
-    /// Subtracts one from a count of the clause at `place`, whose literals must be `literals`: from the redundant
-    /// count if `redundant` is true, and from the irredundant count otherwise. If both counts are now zero, the clause
-    /// is removed.
+    /// Subtracts one from a count of the clause at `place`, whose literals must be `literals`, in any order: from the
+    /// redundant count if `redundant` is true, and from the irredundant count otherwise. If both counts are now zero,
+    /// the clause is removed.
     pub fn take_count(&mut self, place: usize, redundant: bool, literals: &[Lit])
         requires inside { place < length self.old }
-        requires literals { literals.now ≡ literals_at self.old place }
+        requires literals { (l : ℕ) → times_in l literals.now ≡ times_in l (literals_at self.old place) }
         requires some { 0 < slot_count redundant (slot_at self.old place) }
         ensures { self.new ≡ without_count_at redundant place self.old }
     {

@@ -10,7 +10,7 @@ use sat_base::ClauseHash;
 use std::alloc::AllocError;
 
 /// A hash and a place.
-#[derive(Clone, Copy, PartialEq, Eq, PartialOrd, Ord)]
+#[derive(Clone, Copy)]
 pub struct Pair {
     pub hash: ClauseHash,
     pub place: usize,

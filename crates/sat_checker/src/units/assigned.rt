@@ -1,6 +1,6 @@
 //! The assumed literals, and the literals for which there is room, with a mark for each literal code.
 ghost use Rattle.std.specs.Prelude.{◌≡◌, ◌+◌, ◌-◌, ◌<◌, ◌≤◌, List, [], ◌∷◌, drop, length, OnOk, OnErr, IfSome};
-ghost use Rattle.std.specs.Prelude.{true, false, reverse, ℕ, ◌==◌, get_or, if◌then◌else◌, ◌&&◌, not};
+ghost use Rattle.std.specs.Prelude.{MatchBool, true, false, reverse, ℕ, ◌==◌, get_or, if◌then◌else◌, ◌&&◌, not};
 ghost use Rattle.sat_checker.specs.inner.Marks.{is_assumed, mark_at, AreNear, NoRepeats, IsSwapRemoved};
 ghost use Rattle.sat_checker.specs.inner.AssumedRoom.{with_room, AgreesOn, AssumesOnce, HasClauseRoom, RoomStays};
 ghost use Rattle.sat_checker.specs.inner.Look.{AssumesMore};
@@ -194,6 +194,21 @@ impl Assigned {
                 self.assume_in_room(lit);
                 Ok(())
             }
+        }
+    }
+
+    /// Assumes a literal if there is room for it and it isn't already assumed. Returns `true` if this assumed it.
+    #[inline(always)]
+    pub fn assume_new(&mut self, lit: Lit) -> bool
+        ensures { MatchBool result (self.new ≡ record self.old { literals = lit ∷ self.old.literals })
+            (self.new ≡ self.old) }
+    {
+        match self.marks.get(lit.code(), Mark::NoRoom) {
+            Mark::Room => {
+                self.assume_in_room(lit);
+                true
+            }
+            Mark::Assumed | Mark::NoRoom => false,
         }
     }
 

@@ -1,5 +1,5 @@
 //! Comparisons of literals with the assumed literals, used to check a model and to find a clause without its hash.
-ghost use Rattle.std.specs.Prelude.{ℕ, ◌≡◌, [], ◌&&◌, not, IfOk, MatchBool};
+ghost use Rattle.std.specs.Prelude.{ℕ, ◌≡◌, [], ◌&&◌, not, true, reverse, IfOk, MatchBool};
 ghost use Rattle.std.specs.List.{list_any};
 ghost use Rattle.sat_checker.specs.LiteralSets.{is_among, is_subset_of, mentions, canonical, same_literals};
 ghost use Rattle.sat_checker.specs.Accepts.{VariablesDistinct};
@@ -30,6 +30,21 @@ pub(crate) fn assume_apart(assigned: &mut Assigned, literals: &[Lit]) -> Result<
         assigned.assume(lit)?;
     }
     Ok(true)
+}
+
+/// Assumes the literals, from the first to the last, up to one for which there is no room or that is already assumed.
+/// Returns `true` if this assumed all of them. Does not allocate.
+pub(crate) fn assume_distinct(assigned: &mut Assigned, literals: &[Lit]) -> bool
+    requires { assigned.old.literals ≡ [] }
+    ensures assumed { result ≡ true → assigned.new.literals ≡ reverse literals.now }
+    ensures room { assigned.new.room ≡ assigned.old.room }
+{
+    for lit in literals {
+        if !assigned.assume_new(*lit) {
+            return false;
+        }
+    }
+    true
 }
 
 /// Assumes only the literals for which there is room. Does not allocate.

@@ -1,5 +1,5 @@
 -- A deletion does not make the stored clauses longer.
-use Rattle.std.proofs.Common.{ℕ, ◌+◌, ◌≤◌, Bool, true, false, ◌&&◌, cond, eqb, List, [], ◌∷◌, ◌++◌, length, map, arith}
+use Rattle.std.proofs.Common.{ℕ, ◌+◌, ◌≤◌, ◌≡◌, refl, Bool, true, false, ◌&&◌, cond, eqb, List, [], ◌∷◌, ◌++◌, length, map, arith}
 use Rattle.sat_base.specs.steps.Steps.{Deletion, Redundant, Satisfied, Simplified, DeleteClause}
 use Rattle.sat_checker.specs.LiteralSets.{canonical, same_literals}
 use Rattle.sat_checker.specs.Stored.{Stored, StoredClause}
@@ -33,3 +33,8 @@ pub count_deleted : (f : Stored) (c : List ℕ) (p : Deletion) → literal_count
 count_deleted f c Redundant = length_without true (canonical c) f.clauses
 count_deleted f c Satisfied = length_without false (canonical c) f.clauses
 count_deleted f c Simplified = length_without false (canonical c) f.clauses
+
+-- if only one of two passes takes looks, they take at most those of one pass
+pub one_pass : (heard : Bool) (a b d n : ℕ) → (heard ≡ true → b ≡ a) → b ≤ a + n → (heard ≡ false → d ≡ b) → d ≤ b + n → d ≤ a + n
+one_pass true a b d n first l second m = let e : b ≡ a = first refl in omega (arith, e, m)
+one_pass false a b d n first l second m = let e : d ≡ b = second refl in omega (arith, e, l)

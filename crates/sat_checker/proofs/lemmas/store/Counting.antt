@@ -84,7 +84,7 @@ module _ (l : ℕ) where
       go false e ih = ap (λ n. occurrences_of s + n) ih
 
   -- a literal that is not in a clause occurs 0 times, and one in a sorted clause at most once
-  times_beyond : (ls : List ℕ) → is_among ls l ≡ false → times_in l ls ≡ 0
+  pub times_beyond : (ls : List ℕ) → is_among ls l ≡ false → times_in l ls ≡ 0
   times_beyond [] h = refl
   times_beyond (x ∷ xs) h =
       let p = or_parts (eqb x l) (is_among xs l) h in

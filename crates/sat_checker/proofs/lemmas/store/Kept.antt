@@ -1,5 +1,5 @@
 -- The invariant of slots, index and counts, as clauses are added and removed.
-use Rattle.std.proofs.Common.{ℕ, suc, ◌+◌, ◌<◌, ◌≤◌, ◌≡◌, Bool, true, false, not, cond, eqb, List, [], ◌∷◌, ◌++◌, length, Option, refl, sym, ◌∙◌, ap, subst, arith, Result, Ok, Err, OnOk}
+use Rattle.std.proofs.Common.{ℕ, suc, ◌+◌, ◌<◌, ◌≤◌, ◌≡◌, ◌≢◌, Bool, true, false, not, cond, eqb, List, [], ◌∷◌, ◌++◌, length, Option, refl, sym, ◌∙◌, ap, subst, arith, Result, Ok, Err, OnOk}
 use Rattle.std.proofs.lemmas.Bool.{true≢false}
 use Rattle.std.specs.Result.{is_err}
 use Rattle.std.proofs.lemmas.List.{length-set}
@@ -67,15 +67,15 @@ module _ (old ss new : List Slot) (index : Indexed) (o : Occurrences) (r : Bool)
   }
 
   -- the literals of a clause that is then removed were counted
-  pub were_counted : (literals : List ℕ) → literals ≡ literals_at ss i → is_gone (slot_at new i) ≡ true → (q : ℕ) → times_in q literals ≤ count_at o q
+  pub were_counted : (literals : List ℕ) → ((q : ℕ) → times_in q literals ≡ times_in q (literals_at ss i)) → is_gone (slot_at new i) ≡ true → (q : ℕ) → times_in q literals ≤ count_at o q
   were_counted literals s g q =
       let a : times_stored q (without_count_at r i ss) + times_in q (literals_at ss i) ≡ times_stored q ss = times_gone q r i ss l c (sym there ∙ g) in
       let b : count_at o q ≡ times_stored q ss = k.counted q ∙ ap (times_stored q) is in
-      let d : times_in q literals ≡ times_in q (literals_at ss i) = ap (times_in q) s in
+      let d : times_in q literals ≡ times_in q (literals_at ss i) = s q in
       omega (arith, a, b, d)
 
   pub kept_removed : (next : Indexed) (p : Occurrences) (literals : List ℕ) → next ≡ record index { pairs = without_pair i index.pairs }
-      → literals ≡ literals_at ss i → ((q : ℕ) → count_at p q + times_in q literals ≡ count_at o q) → is_gone (slot_at new i) ≡ true → SlotsInvariant new next p
+      → ((q : ℕ) → times_in q literals ≡ times_in q (literals_at ss i)) → ((q : ℕ) → count_at p q + times_in q literals ≡ count_at o q) → is_gone (slot_at new i) ≡ true → SlotsInvariant new next p
   kept_removed next p literals w s m g = record {
     files = subst (λ x. IndexesSlots x new) (sym w) (record {
       filed = agrees_removed (λ q. places_in (mixed q) index.pairs) r i old ss new is l c k.files.filed e (λ q. places_in (mixed q) (without_pair i index.pairs)) (λ q. places_without (mixed q) i index.pairs) g;
@@ -86,7 +86,7 @@ module _ (old ss new : List Slot) (index : Indexed) (o : Occurrences) (r : Bool)
     counted = λ q.
         let a : times_stored q (without_count_at r i ss) + times_in q (literals_at ss i) ≡ times_stored q ss = times_gone q r i ss l c (sym there ∙ g) in
         let b : count_at o q ≡ times_stored q ss = k.counted q ∙ ap (times_stored q) is in
-        let d : times_in q literals ≡ times_in q (literals_at ss i) = ap (times_in q) s in
+        let d : times_in q literals ≡ times_in q (literals_at ss i) = s q in
         let f : times_stored q new ≡ times_stored q (without_count_at r i ss) = now q in
         let t : count_at p q + times_in q literals ≡ count_at o q = m q in
         omega (arith, a, b, d, f, t);

@@ -1,5 +1,6 @@
 use Rattle.std.proofs.Common.{arith, ap, ◌∙◌}
 use Rattle.sat_checker.proofs.lemmas.store.Storing.{is_there, looks_one, count_there, count_none, deleted_one}
+use Rattle.sat_checker.specs.inner.OccurrenceView.{times_in}
 use Rattle.sat_checker.specs.inner.SlotView.{slot_ids, places_of}
 use Rattle.sat_checker.proofs.lemmas.store.Looking.{literals_there}
 use Rattle.sat_checker.proofs.lemmas.store.Ids.{ids_taken}
@@ -40,4 +41,4 @@ returns-clause-looks c = record {
 }
 
 pub take_count-requires-clause-literals : goal.take_count-requires-clause-literals
-take_count-requires-clause-literals c = literals_there c.args.self.now.clauses c.args.literals.now c.in-Some.place (places_of c.clause_hash-hash.result c.args.self.now.clauses) c.in-Some.ensures.found
+take_count-requires-clause-literals c = λ l. ap (times_in l) (literals_there c.args.self.now.clauses c.args.literals.now c.in-Some.place (places_of c.clause_hash-hash.result c.args.self.now.clauses) c.in-Some.ensures.found)
