@@ -188,8 +188,25 @@ impl Formula {
         self.store.clauses.grant(more);
     }
 
-    /// Makes room for the literals of a clause and for their negations, so that these can be assumed and marked.
+    /// Makes room for the literals of a clause and for their negations, so that these can be assumed and marked. For
+    /// literals of stored clauses, there already is room.
     fn make_room(&mut self, literals: &[Lit]) -> Result<(), AllocError>
+        ensures room { OnOk result ((f : Stored) → RepresentsFormula self.old f
+            → HasClauseRoom self.new.units.room literals.now × HasClauseRoom self.new.marks.room literals.now) }
+        ensures rest { ChecksBeside self.old self.new }
+    {
+        for lit in literals {
+            if self.store.clauses.have_literal(*lit) {
+                continue;
+            }
+            self.make_new_room(&[*lit])?;
+        }
+        Ok(())
+    }
+
+    /// Makes room for literals and for their negations, so that these can be assumed and marked.
+    #[inline(never)]
+    fn make_new_room(&mut self, literals: &[Lit]) -> Result<(), AllocError>
         ensures room { OnOk result
             (HasClauseRoom self.new.units.room literals.now × HasClauseRoom self.new.marks.room literals.now) }
         ensures rest { ChecksBeside self.old self.new }

@@ -182,6 +182,14 @@ impl Clauses {
         self.occurrences.grant(more);
     }
 
+    /// Returns `true` if any clause that is not removed contains the literal. Counts no looks.
+    #[inline(always)]
+    pub fn have_literal(&self, lit: Lit) -> bool
+        ensures { result ≡ true → list_any (λ c. is_among c.literals lit) (live self.now) ≡ true }
+    {
+        self.occurrences.has_literal(lit)
+    }
+
     /// Whether any clause that is not removed contains the variable. Counts no looks.
     pub fn mention(&self, var: Var) -> bool
         ensures { result ≡ list_any (λ c. mentions c.literals var) (live self.now) }

@@ -1,5 +1,5 @@
 //! How many times each literal occurs in the stored clauses.
-ghost use Rattle.std.specs.Prelude.{ℕ, ◌≡◌, ◌+◌, ◌*◌, ◌^◌, ◌<◌, ◌≤◌, ◌==◌, if◌then◌else◌, All, OnOk, MatchBool};
+ghost use Rattle.std.specs.Prelude.{ℕ, true, ◌≡◌, ◌+◌, ◌*◌, ◌^◌, ◌<◌, ◌≤◌, ◌==◌, if◌then◌else◌, All, OnOk, MatchBool};
 ghost use Rattle.sat_base.specs.values.Tables.{near_count, HasPlaceFor};
 ghost use Rattle.sat_checker.specs.inner.OccurrenceView.{count_at, times_in};
 
@@ -102,6 +102,14 @@ impl Occurrences {
         for lit in literals {
             self.take_one(*lit);
         }
+    }
+
+    /// Returns `true` if the count of a literal is above zero.
+    #[inline(always)]
+    pub fn has_literal(&self, lit: Lit) -> bool
+        ensures { result ≡ true → 0 < count_at self.now lit }
+    {
+        self.count(lit) > 0
     }
 
     /// Returns the count of a literal.

@@ -1,8 +1,12 @@
 -- The room of stored clauses, as clauses are added and removed.
-use Rattle.std.proofs.Common.{ℕ, ◌+◌, Bool, true, false, cond, ◌&&◌, eqb, List, [], ◌∷◌, ◌++◌, zero, suc, ◌<◌, length, get_or, sym, subst, arith, ◌≡◌}
+use Rattle.std.proofs.Common.{ℕ, ◌+◌, Bool, true, false, cond, ◌&&◌, ◌||◌, refl, eqb, List, [], ◌∷◌, ◌++◌, zero, suc, ◌<◌, length, get_or, sym, subst, arith, ◌≡◌}
+use Rattle.std.proofs.lemmas.Bool.{true≢false}
+use Rattle.std.specs.List.{list_any}
+use Rattle.sat_base.specs.values.Literals.{negated}
 use Rattle.sat_checker.specs.LiteralSets.{is_among, same_literals}
 use Rattle.sat_checker.specs.Stored.{StoredClause}
 use Rattle.sat_checker.specs.Storing.{with_stored_clause, without_clause, without_count, unless_gone}
+use Rattle.sat_checker.proofs.lemmas.sets.Members.{each_at}
 use Rattle.sat_checker.specs.inner.AssumedRoom.{RoomStays, HasClauseRoom, HasStoredRoom}
 
 pub clause_stays : (old new ls : List ℕ) → RoomStays old new → HasClauseRoom old ls → HasClauseRoom new ls
@@ -44,6 +48,16 @@ stored_without room r ls (c ∷ cs) h = go (same_literals c.literals ls) (stored
     go : (b : Bool) → HasStoredRoom room (without_clause r ls cs) → HasStoredRoom room (cond b (unless_gone (without_count r c) ++ cs) (c ∷ without_clause r ls cs))
     go true ih = left (without_count r c) (taken r)
     go false ih = (h.0, ih)
+
+-- a literal of a stored clause has room, and so has its negation
+pub stored_literal : (room : List ℕ) (l : ℕ) (cs : List StoredClause) → HasStoredRoom room cs → list_any (λ c. is_among c.literals l) cs ≡ true → (is_among room l ≡ true) × (is_among room (negated l) ≡ true)
+stored_literal room l [] h e = absurd (true≢false (sym e))
+stored_literal room l (c ∷ cs) h e = go (is_among c.literals l) refl e (stored_literal room l cs h.1)
+  where
+    go : (b : Bool) → is_among c.literals l ≡ b → (b || list_any (λ d. is_among d.literals l) cs) ≡ true → (list_any (λ d. is_among d.literals l) cs ≡ true → (is_among room l ≡ true) × (is_among room (negated l) ≡ true))
+        → (is_among room l ≡ true) × (is_among room (negated l) ≡ true)
+    go true m k ih = each_at (λ m. (is_among room m ≡ true) × (is_among room (negated m) ≡ true)) c.literals l h.0 m
+    go false m k ih = ih k
 
 -- every literal of a clause that has room has room
 pub roomy_item : (room ls : List ℕ) (i x : ℕ) → i < length ls → x ≡ get_or ls i x → HasClauseRoom room ls → is_among room x ≡ true

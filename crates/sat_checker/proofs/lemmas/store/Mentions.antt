@@ -6,7 +6,7 @@ use Rattle.std.specs.List.{list_any}
 use Rattle.std.proofs.lemmas.Bool.{eqb-true, eqb-false, eq-eqb, ne_eqb, or_parts, or_cases, true≢false}
 use Rattle.sat_base.specs.values.Literals.{variable}
 use Rattle.sat_base.specs.values.Hashes.{hash_of}
-use Rattle.sat_checker.specs.LiteralSets.{mentions}
+use Rattle.sat_checker.specs.LiteralSets.{is_among, mentions}
 use Rattle.sat_checker.specs.Stored.{Stored, solver_literal, hash_by}
 use Rattle.sat_checker.specs.Storing.{with_solver_name}
 use Rattle.sat_checker.specs.HasherView.{solver_name_of, width_of}
@@ -15,7 +15,22 @@ use Rattle.sat_checker.specs.inner.SlotView.{Slot, is_gone, live, hashed_anew}
 use Rattle.sat_checker.specs.inner.StoreView.{AreHashed, RepresentsClauses, rehashed}
 use Rattle.sat_checker.specs.declared.hash.ClauseHasher.{ClauseHasher}
 use Rattle.sat_checker.specs.declared.store.Store.{Store}
+use Rattle.sat_checker.proofs.lemmas.store.Counting.{times_beyond}
 use Rattle.sat_checker.proofs.lemmas.store.Rehashing.{all_hashed, refiled_live, stored_live}
+
+-- a literal that is counted is in a clause
+pub stored_among : (l : ℕ) (ss : List Slot) → 0 < times_stored l ss → list_any (λ c. is_among c.literals l) (live ss) ≡ true
+stored_among l [] h = absurd (omega arith)
+stored_among l (s ∷ ss) h = go (is_gone s) refl h (stored_among l ss)
+  where
+    go : (b : Bool) → is_gone s ≡ b → 0 < cond b 0 (times_in l s.clause.literals) + times_stored l ss → (0 < times_stored l ss → list_any (λ c. is_among c.literals l) (live ss) ≡ true)
+        → list_any (λ c. is_among c.literals l) (cond b [] (s.clause ∷ []) ++ live ss) ≡ true
+    go true g k ih = ih (omega (arith, k))
+    go false g k ih = pick (is_among s.clause.literals l) refl
+      where
+        pick : (d : Bool) → is_among s.clause.literals l ≡ d → (d || list_any (λ c. is_among c.literals l) (live ss)) ≡ true
+        pick true e = refl
+        pick false e = let none : times_in l s.clause.literals ≡ 0 = times_beyond l s.clause.literals e in ih (omega (arith, k, none))
 
 module _ (v : ℕ) where
   one_true : (x : ℕ) → eqb (variable x) v ≡ true → 1 ≤ cond (eqb x (2 * v)) 1 0 + cond (eqb x (2 * v + 1)) 1 0

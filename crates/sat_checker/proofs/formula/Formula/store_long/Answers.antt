@@ -13,5 +13,5 @@ returns-in_err-placed-clause-stored c = λ f k.
 pub returns-in-Ok-clause-stored : goal.returns-in-Ok-clause-stored
 returns-in-Ok-clause-stored c = λ f k.
     let kept = kept_beside c.args.self.now c.make_room.new.self f c.make_room.ensures.rest k in
-    long_stored {T = Unit} (Ok tt) c.make_room.new.self c.store_clause.new.self c.note_last.new.self c.take_id_if.new.self f c.args.redundant c.args.literals.now c.in_ok-placed.placed c.requires.long kept c.in_ok-make_room.ensures.room (c.in_ok-placed.ensures.ok f kept.clauses) c.in_ok-placed.ensures.placed
+    long_stored {T = Unit} (Ok tt) c.make_room.new.self c.store_clause.new.self c.note_last.new.self c.take_id_if.new.self f c.args.redundant c.args.literals.now c.in_ok-placed.placed c.requires.long kept (c.in_ok-make_room.ensures.room f k) (c.in_ok-placed.ensures.ok f kept.clauses) c.in_ok-placed.ensures.placed
     c.note_last.ensures c.in-Ok.ensures
