@@ -1,56 +1,27 @@
 #!/usr/bin/env python3
-"""Makes docs/STATEMENT.md: public clauses, and every definition that they reach, in reading order.
+"""Makes docs/STATEMENT.md from bench/statement.md: its prose, and the clauses and definitions that it asks for, from the sources.
 
     statement.py            writes docs/STATEMENT.md, and prints how much each clause reaches
     statement.py --check    fails if docs/STATEMENT.md is not what it would write
     statement.py --root D   of the checkout at D; --out F: another file; --why NAME: how a definition is reached
 
+Lines of bench/statement.md that begin with `@`:
+
+    @stop NAME: TEXT               this definition is not printed, nor what only it uses; the page describes it by TEXT
+    @clause CRATE FUNCTION NAME..  prints clauses of the public function or law CRATE::FUNCTION; `-` is a clause without a name
+    @print WORD..                  prints definitions, in this order: by name, or all others of the modules that match a pattern, with types first,
+                                   and then each after those that use it
+    @stops, @counts                print a table of what is not printed, and of sizes; @count CRATE FUNCTION NAME.. adds a row to it
+    @notation, @library            stand above a table that has a row for each operator, or each name of the standard library, that is used
+
+A definition that the clauses reach is printed by the first `@print` that has its name, or else by the first with its module. It is a
+fault if none has it, if prose quotes a word of code that the page does not print, or if a table has a row too many or too few.
 It reads only sources, and needs only Python 3.
 """
 import argparse
 import re
 import sys
 from pathlib import Path
-
-# What is printed: chapters, each with its roots. A root is a clause of a function, or a definition.
-CHAPTERS = [
-    ('What `Yes` means', 'If `confirm` returns `Yes`, the answers that its reader gave are correct.',
-     [('clause', 'certify', 'confirm', 'confirm', ['sound'])]),
-    ('What the headline says', '`headline_over` runs a script in memory and confirms what the run wrote. It also judges other answers with another certificate.',
-     [('clause', 'certify', 'headline', 'headline_over', ['headline']),
-      ('definition', 'Rattle.certify.specs.laws.Headline', 'Headline')]),
-]
-
-# What is only counted.
-COUNTED = [
-    ('clause', 'certify', 'confirm', 'confirm', ['exact']),
-    ('clause', 'certify', 'confirm', 'confirm', ['looks']),
-    ('clause', 'certify', 'headline', 'headline_over', ['verdicts']),
-    ('clause', 'certify', 'run', 'run', ['answered']),
-    ('clause', 'certify', 'run', 'run', ['guaranteed']),
-    ('clause', 'certify', 'run', 'run', ['unfinished']),
-    ('clause', 'certify', 'run', 'run', ['steps']),
-    ('definition', 'Rattle.certify.specs.confirm.VerdictPromises', 'AreRightAnswers'),
-    ('definition', 'Rattle.certify.specs.laws.Headline', 'Headline'),
-    ('definition', 'Rattle.certify.specs.laws.EndToEnd', 'Certified'),
-]
-
-# Subjects, in reading order, and the modules of each in theirs.
-SUBJECTS = [
-    ('Bytes and words', ['sat_base.specs.text.*']),
-    ('The grammar of scripts', ['sat_base.specs.script.Script', 'sat_base.specs.script.Language', 'certify.specs.answers.ScriptText']),
-    ('Clauses and valuations', ['sat_base.specs.values.*']),
-    ('The state after commands', ['sat_base.specs.script.ScriptState']),
-    ('Answers', ['sat_checker.specs.matching.Expected', 'certify.specs.answers.RightAnswers', 'certify.specs.answers.Asks',
-                 'certify.specs.answers.Answers', 'certify.specs.answers.AnswersText']),
-    ('Steps and their bytes', ['sat_base.specs.steps.*']),
-    ('What a checker accepts', ['sat_checker.specs.*']),
-    ('What a solver produces', ['sat_solver.specs.*']),
-    ('Devices', ['sat_base.src.device', 'sat_base.specs.device.*', 'certify.specs.Devices']),
-    ('A run', ['certify.src.summary', 'certify.specs.run.*']),
-    ('Verdicts', ['certify.src.verdict', 'certify.specs.confirm.*']),
-    ('The headline', ['certify.src.headline', 'certify.specs.laws.*']),
-]
 
 # Fields of the library's own types, and what a clause says of an argument.
 OF_THE_LIBRARY = ['items', 'now', 'old', 'new', 'seen']
@@ -239,7 +210,7 @@ class Repository:
         while start and text[start - 1].startswith('///'):
             start -= 1
         end = at
-        while text[end] != '{':
+        while text[end] not in ('{', '{}'):
             end += 1
         head = at
         while head < end and not re.match(r'\s+(//|ensures|requires)', text[head]):
@@ -263,7 +234,7 @@ class Repository:
         if not found:
             return None
         item = Item(file.module, file.path, function, 'clause', text[start:at], lines)
-        item.name = f'{function}.{names[0]}'
+        item.name = '.'.join([function] + names)
         item.place = at
         bounds = dict(re.findall(r'(\w+): (\w+)', ' '.join(text[at:head])))
         item.traits = sorted({bounds[p] for p in re.findall(r'\b([A-Z])\.seen', '\n'.join(lines)) if p in bounds})
@@ -337,6 +308,8 @@ class Repository:
             text = '\n'.join(re.sub(r'//.*', '', x) for x in item.lines[at:])
             text = re.sub(r'\b(ensures|requires)\*?\s*\w*\s*\{', '', text)
             self.words(file, item, text, self.bound(text, item, file), add)
+            for name in re.findall(r'\b([A-Z]\w+)\.[A-Z]', text):
+                add(self.imported_type(file, name))
             read = set(re.findall(r'\.([a-z_]\w*)', text))
             todo, seen = re.findall(r'\b[A-Z]\w+', ' '.join(item.lines[:at]).partition('->')[2]), set()
             while todo:
@@ -381,16 +354,15 @@ class Repository:
         return target in self.makers or '.TheVariants' in target[0] or name in ('true', 'false', 'zero', 'suc', 'None', 'Some', 'Ok', 'Err')
 
     def bound(self, text, item, file):
-        """Returns the names that a piece of text binds: by a type, a lambda, a `let`, a pattern or a field's label."""
+        """Returns the names that a piece of text binds: by a type, a lambda, a `let` or a pattern."""
         names = set()
         for group in re.findall(r'[({]((?:[^\s(){}:;=]+\s+)*[^\s(){}:;=]+)\s+:\s', text):
             names |= set(group.split())
         for group in re.findall(r'λ\s+([^.()]*)\.', text):
             names |= set(group.split())
         names |= set(re.findall(r'\blet\s+([^\s:=]+)', text))
-        names |= set(re.findall(r'[{;]\s*([^\s=;{}()]+)\s+=\s', text))
         lines = text.split('\n')
-        m = re.match(r'(\S+)\s+(.*?)\s=(\s|$)', lines[0])
+        m = re.match(r'(\S+)(.*?)\s=(\s|$)', lines[0])
         if m and item.kind == 'value' and m.group(1) == item.name:
             for word in WORD.findall(m.group(2)):
                 if not self.is_maker(file, word):
@@ -399,6 +371,7 @@ class Repository:
 
     def words(self, file, item, text, bound, add):
         text = re.sub(r'"[^"]*"', ' ', text)
+        text = re.sub(r'([{;]\s*)[^\s=;{}()]+\s+=(?=\s)', r'\1', text)  # a field's label
         for word in WORD.findall(text):
             word = word.lstrip('.@?!')
             parts = [p for p in word.split('.') if p] or ['']
@@ -412,11 +385,11 @@ class Repository:
             elif (file.module, head) in self.items or (file.module, head) in self.makers:
                 add(self.named(file.module, head, item))
 
-    def reach(self, roots):
+    def reach(self, roots, stops=()):
         seen, todo = {}, list(roots)
         while todo:
             item = todo.pop()
-            if item.key not in seen:
+            if item.key not in seen and item.name not in stops:
                 seen[item.key] = item
                 todo += self.depends(item).values()
         return seen
@@ -447,101 +420,261 @@ class Repository:
         kept[item.key] = 1 + max(below, default=-1)
         return kept[item.key]
 
-    def root_of(self, spec):
-        found = self.clause(*spec[1:]) if spec[0] == 'clause' else self.items.get((spec[1], spec[2]))
-        if found is None:
-            self.fault(f'there is no {title_of(spec)} in {spec[1]}')
-        return found
-
     def fault(self, text):
         if text not in self.faults:
             self.faults.append(text)
 
 
-def subject_of(item):
+
+class Page:
+    """The page: its template, the clauses that this asks for, and what they reach."""
+
+    def __init__(self, repository, template):
+        self.repository = repository
+        self.template = template
+        self.stops, self.prints, self.clauses, self.counted = {}, [], [], []
+        self.begun = set()
+        fenced = False
+        for number, line in enumerate(template):
+            fenced ^= line.startswith('```')
+            if fenced or not line.startswith('@'):
+                continue
+            word, _, rest = line.partition(' ')
+            words = rest.split()
+            if word == '@stop':
+                name, _, text = rest.partition(': ')
+                self.stops[name] = text
+            elif word == '@print':
+                self.prints.append((number, words))
+            elif word in ('@clause', '@count'):
+                item = self.clause(words)
+                if item is not None:
+                    (self.clauses if word == '@clause' else self.counted).append((number, item))
+            elif word not in ('@stops', '@counts', '@notation', '@library'):
+                repository.fault(f'there is no directive {word}')
+        self.reached = repository.reach([item for _, item in self.clauses], self.stops)
+        self.place()
+        self.check_stops()
+
+    def clause(self, words):
+        crate, _, module = words[0].partition('/')
+        item = self.repository.clause(crate, module, words[1], ['' if w == '-' else w for w in words[2:]])
+        if item is None:
+            self.repository.fault(f'{words[0]} has no clause {" ".join(words[1:])}')
+        return item
+
+    # WHAT IS PRINTED WHERE
+
+    def top_down(self):
+        """Returns what the clauses reach: each definition after all that use it, and otherwise in the order of use."""
+        order, seen = [], set()
+
+        def visit(item):
+            if item.key in seen or item.key not in self.reached:
+                return
+            seen.add(item.key)
+            for target in reversed(list(self.repository.depends(item).values())):
+                visit(target)
+            order.append(item)
+
+        for _, item in reversed(self.clauses):
+            visit(item)
+        return [item for item in reversed(order) if item.kind != 'clause']
+
+    def place(self):
+        """Gives each definition that is reached to one `@print`."""
+        self.printed = {number: [] for number, _ in self.prints}
+        order = sorted(self.top_down(), key=lambda item: not is_plain_type(item))
+        names = [word for _, words in self.prints for word in words if '.' not in word]
+        left = {item.key: item for item in order if item.name not in names}
+        for number, words in self.prints:
+            for word in words:
+                if '.' in word:
+                    found = [item for item in left.values() if is_of(item, word)]
+                    for item in found:
+                        del left[item.key]
+                else:
+                    found = [item for item in order if item.name == word]
+                    if len(found) != 1 or names.count(word) != 1:
+                        self.repository.fault(f'@print {word}: there are {len(found)} definitions of this name, and {names.count(word)} @print lines have it')
+                self.printed[number] += found
+            if not self.printed[number]:
+                self.repository.fault(f'@print {" ".join(words)} prints nothing')
+        for item in left.values():
+            self.repository.fault(f'no @print has {item.name} of {item.module}; --why {item.name} says what uses it')
+
+    def check_stops(self):
+        used = {target.name for item in self.reached.values() for target in self.repository.depends(item).values()}
+        for name in self.stops:
+            if name not in used:
+                self.repository.fault(f'@stop {name}: no definition of the page uses it')
+
+    # TEXT
+
+    def fields_read(self):
+        code = '\n'.join(line for item in self.reached.values() if item.kind != 'rust' for line in code_of(item))
+        return set(re.findall(r'\.([a-z_]\w*)', code))
+
+    def shown(self, item):
+        """Returns the lines of a definition; of a struct of the code, only the fields that something on the page reads."""
+        if item.kind != 'rust':
+            return item.comment + item.lines
+        lines = [line for line in item.lines if not line.strip().startswith('#[')]
+        if 'struct ' not in lines[0] or len(lines) < 3:
+            return item.comment + lines
+        kept, block, elided, read = [], [], [], self.fields_read()
+        for line in lines[1:-1]:
+            block.append(line)
+            m = re.match(r'\s+(?:pub )?([a-z_]\w*):', line)
+            if m:
+                if m.group(1) in read:
+                    kept += block
+                else:
+                    elided.append(m.group(1))
+                block = []
+        if elided:
+            kept.append(f'    // and {", ".join(elided)}: nothing on this page reads {"it" if len(elided) == 1 else "them"}')
+        return item.comment + lines[:1] + kept + lines[-1:]
+
+    def block(self, items):
+        """Returns definitions, with the files that they are from."""
+        files = dict.fromkeys(within_crates(item.file) for item in items)
+        out, language = ['From ' + ', '.join(f'`{file}`' for file in files) + ':'], None
+        for item in items:
+            wanted = 'rust' if item.kind == 'rust' else 'text'
+            if wanted != language:
+                out += (['```'] if language else []) + ['', f'```{wanted}']
+                language = wanted
+            else:
+                out.append('')
+            out += self.shown(item)
+        return out + ['```']
+
+    def clause_block(self, item):
+        head = next(i for i, line in enumerate(item.lines) if re.match(r'\s+(ensures|requires|//)', line))
+        function = item.name.split('.')[0]
+        if function in self.begun:
+            lines = [f'// {function}, again'] + item.lines[head:]
+        else:
+            lines = item.comment + item.lines
+        self.begun.add(function)
+        return [f'From `{within_crates(item.file)}`:', '', '```rust', *lines, '```']
+
+    def rows(self):
+        rows, repository = [], self.repository
+        for _, item in self.counted:
+            full, short = repository.reach([item]), repository.reach([item], self.stops)
+            below = [i for i in full.values() if i is not item]
+            rows.append((title_of(item), len(short) - 1, len(below), sum(i.size for i in below), repository.depth(item, {})))
+        return rows
+
+    def text(self):
+        out, fenced = [], False
+        clauses = dict(self.clauses)
+        for number, line in enumerate(self.template):
+            fenced ^= line.startswith('```')
+            word = line.partition(' ')[0]
+            if fenced or not line.startswith('@'):
+                out.append(line)
+            elif number in self.printed:
+                out += self.block(self.printed[number])
+            elif number in clauses:
+                out += self.clause_block(clauses[number])
+            elif word == '@stops':
+                out += ['| Not printed | What it is | File |', '|---|---|---|']
+                for name, text in self.stops.items():
+                    target = next((t for i in self.reached.values() for t in self.repository.depends(i).values() if t.name == name), None)
+                    out.append(f'| `{name}` | {text} | `{within_crates(target.file) if target else "?"}` |')
+            elif word == '@counts':
+                out += ['| Clause | Definitions printed | Definitions used | Lines | Depth |', '|---|---|---|---|---|']
+                out += [f'| {a} | {b} | {c} | {d:,} | {e} |' for a, b, c, d, e in self.rows()]
+        text = '\n'.join(out).rstrip('\n') + '\n'
+        self.repository.check_fields(self.reached.values())
+        self.check_tables()
+        self.check_prose()
+        return re.sub(r'\n{3,}', '\n\n', text)
+
+    # FAULTS
+
+    def table_after(self, directive):
+        """Returns the code of the first cells of the table that follows a directive."""
+        found = []
+        if directive not in self.template:
+            self.repository.fault(f'there is no {directive}')
+            return found
+        at = self.template.index(directive) + 1
+        while at < len(self.template) and not self.template[at].startswith('#'):
+            if self.template[at].startswith('| `'):
+                found += re.findall(r'`([^`]+)`', re.split(r' \| ', self.template[at][2:])[0].replace('\\|', '|'))
+            at += 1
+        return found
+
+    def check_tables(self):
+        library = {name for item in self.reached.values() for _, name in item.std}
+        rows = [code.split()[0] for code in self.table_after('@library')]
+        for name in sorted(library - set(rows)):
+            self.repository.fault(f'@library has no row for {name}')
+        for name in rows:
+            if name not in library or rows.count(name) > 1:
+                self.repository.fault(f'@library has a row too many for {name}')
+        symbols = ' '.join(self.table_after('@notation')).split()
+        for item in self.reached.values():
+            file = self.repository.files[item.module]
+            words = ' '.join(code_of(item)).split()
+            for name in file.names:
+                operator = name.strip('◌')
+                if '◌' in name and '◌' not in operator and operator in words and operator not in symbols:
+                    self.repository.fault(f'@notation has no row for {operator}')
+            for word in ('×', '⊥', 'λ', '→', 'Unit', 'Type', 'let', 'abbrev', 'unfoldable', 'record', 'data'):
+                if word in words and word not in symbols:
+                    self.repository.fault(f'@notation has no row for {word}')
+
+    def check_prose(self):
+        """Checks that each word of code in the prose is printed, and that each file is there."""
+        known = set(self.stops) | {w for item in self.reached.values() for _, w in item.std}
+        known |= set(re.findall(r'\w+', ' '.join(self.table_after('@notation')))) | {'Ok', 'Err'}
+        for item in self.reached.values():
+            known |= set(re.findall(r'\w+', ' '.join(code_of(item)))) | set(item.name.split('.'))
+        for line in self.template:
+            if line.startswith('```') or line.startswith('@') and not line.startswith('@stop'):
+                continue
+            for code in re.findall(r'`([^`]+)`', line):
+                if re.fullmatch(r'[\w.]+/[\w./]+|\w+\.md', code):
+                    if not (self.repository.root / code).exists():
+                        self.repository.fault(f'the prose names {code}, and there is no such file')
+                elif re.fullmatch(r'[A-Za-z_][\w.]{2,}', code):
+                    for word in code.split('.'):
+                        if word not in known and not word.isdigit():
+                            self.repository.fault(f'the prose has `{code}`, and the page does not print {word}')
+                    owner, _, field = code.partition('.')
+                    if any(item.name == owner and item.members and field and field not in item.members for item in self.reached.values()):
+                        self.repository.fault(f'the prose has `{code}`, and {owner} has no {field}')
+
+
+def within_crates(file):
+    return file.relative_to('crates').as_posix()
+
+
+def is_of(item, pattern):
     module = item.module[len('Rattle.'):]
-    for at, (_, modules) in enumerate(SUBJECTS):
-        for inner, pattern in enumerate(modules):
-            if module == pattern or pattern.endswith('.*') and module.startswith(pattern[:-1]):
-                return at, inner
-            if '.src.' in pattern and module.startswith(pattern):
-                return at, inner
-    return len(SUBJECTS), 0
+    return module == pattern or pattern.endswith('.*') and module.startswith(pattern[:-1])
 
 
-def in_order(repository, items):
-    """Orders by subject, then by the files' order of use, then as in the file."""
-    heights = {}
-    for item in items:
-        repository.depth(item, heights)
-    by_file = {}
-    for item in items:
-        by_file.setdefault(item.file, []).append(item)
-    def rank(file):
-        return (subject_of(by_file[file][0]), max(heights[i.key] for i in by_file[file]), str(file))
-    for file in sorted(by_file, key=rank):
-        yield file, sorted(by_file[file], key=lambda i: i.place)
+def is_plain_type(item):
+    return item.kind in ('data', 'record') and not re.search(r'[({]', item.lines[0].partition(':')[0])
 
 
-def title_of(spec):
-    return f'`{spec[4][0]}` of `{spec[3]}`' if spec[0] == 'clause' else f'`{spec[2]}`'
+def code_of(item):
+    """Returns the lines of an item without comments and texts; of a clause from its first clause on."""
+    lines = item.lines
+    if item.kind == 'clause':
+        lines = lines[next(i for i, line in enumerate(lines) if re.match(r'\s+(ensures|requires|//)', line)):]
+    return [re.sub(r'"[^"]*"|(^|\s)(--|//).*', ' ', line) for line in lines]
 
 
-def sizes(repository, spec):
-    root = repository.root_of(spec)
-    if root is None:
-        return None
-    reached = repository.reach([root])
-    below = [i for i in reached.values() if i is not root or i.kind != 'clause']
-    return (len(below), sum(i.size for i in below), repository.depth(root, {}))
-
-
-def page(repository):
-    out = ['# The statement', '',
-           'For auditors. This page prints the contract clauses that state the main promises, and every definition that they use, from the sources.',
-           '`bench/statement.py` generates it; with `--check`, it checks that the page is up to date. Each chapter omits definitions that an',
-           'earlier chapter prints.', '',
-           'The table counts, for these clauses and others, the definitions that they use, the lines of these definitions, and the length of the',
-           'longest chain in which each definition uses the next.', '']
-    rows, seen_specs = [], []
-    for spec in [s for c in CHAPTERS for s in c[2]] + COUNTED:
-        if spec in seen_specs:
-            continue
-        seen_specs.append(spec)
-        size = sizes(repository, spec)
-        if size:
-            rows.append((title_of(spec), *size))
-    out += ['| Clause or definition | Definitions used | Lines | Depth |', '|---|---|---|---|']
-    out += [f'| {a} | {b} | {c:,} | {d} |' for a, b, c, d in rows]
-    printed, std = {}, {}
-    for number, (title, says, specs) in enumerate(CHAPTERS, 1):
-        roots = [r for r in (repository.root_of(s) for s in specs) if r is not None]
-        reached = repository.reach(roots)
-        new = [i for i in reached.values() if i.key not in printed and i.kind != 'clause']
-        for item in reached.values():
-            printed[item.key] = item
-            for module, name in item.std:
-                std.setdefault(module, set()).add(name)
-        out += ['', f'## {number}. {title}', '', f'{says} {len(new)} definitions{", besides those above" if number > 1 else ""}.']
-        for root in roots:
-            if root.kind == 'clause':
-                out += ['', f'`{root.file}`', '', '```rust', *root.comment, *root.lines, '```']
-        last = None
-        for file, items in in_order(repository, new):
-            subject = subject_of(items[0])[0]
-            if subject != last:
-                name = SUBJECTS[subject][0] if subject < len(SUBJECTS) else 'Further'
-                out += ['', f'### {name}']
-                last = subject
-            out += ['', f'`{file}`', '', '```rust' if items[0].kind == 'rust' else '```text']
-            for at, item in enumerate(items):
-                out += ([''] if at else []) + item.comment + item.lines
-            out += ['```']
-    repository.check_fields(printed.values())
-    out += ['', '## Definitions of the standard library', '']
-    for module in sorted(std):
-        out.append(f'- `{module}`: ' + ', '.join(f'`{n}`' for n in sorted(std[module])))
-    return '\n'.join(out) + '\n', rows
+def title_of(item):
+    function, *clauses = item.name.split('.')
+    return ', '.join(f'`{c}`' for c in clauses if c) + f' of `{function}`' if any(clauses) else f'law `{function}`'
 
 
 def main():
@@ -553,16 +686,14 @@ def main():
     args = parser.parse_args()
     root = args.root or next((p for p in Path(__file__).resolve().parents if (p / 'crates.txt').exists()), Path('.'))
     repository = Repository(root)
+    page = Page(repository, (root / 'bench' / 'statement.md').read_text().split('\n'))
     if args.why:
-        for spec in [s for c in CHAPTERS for s in c[2]]:
-            start = repository.root_of(spec)
-            if start is None:
-                continue
+        for _, start in page.clauses:
             todo, came = [start], {start.key: None}
             while todo:
                 item = todo.pop(0)
                 for key, target in repository.depends(item).items():
-                    if key not in came:
+                    if key not in came and target.name not in page.stops:
                         came[key] = item
                         todo.append(target)
             for key in came:
@@ -571,14 +702,16 @@ def main():
                     while at is not None:
                         path.append(at.name)
                         at = came[at.key]
-                    print(title_of(spec), ' < '.join(path))
+                    print(' < '.join(path))
         return 0
-    text, rows = page(repository)
+    text = page.text()
     if repository.faults:
         print('\n'.join(f'statement.py: {fault}' for fault in repository.faults), file=sys.stderr)
         return 1
-    for title, definitions, lines, depth in rows:
-        print(f'{title:32} {definitions:4} definitions {lines:6,} lines  depth {depth}')
+    for title, printed, used, lines, depth in page.rows():
+        print(f'{title:38} {printed:4} definitions printed, of {used:4}, {lines:6,} lines, depth {depth}')
+    shown = [item for items in page.printed.values() for item in items]
+    print(f'{"the page":38} {len(shown):4} definitions, {sum(item.size for item in shown):6,} lines')
     file = args.out or root / 'docs' / 'STATEMENT.md'
     if args.check:
         if not file.exists() or file.read_text() != text:
