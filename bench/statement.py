@@ -1,11 +1,11 @@
 #!/usr/bin/env python3
-"""Makes docs/STATEMENT.md from bench/statement.md: its prose, and the clauses and definitions that it asks for, from the sources.
+"""Makes docs/STATEMENT.md and docs/PROGRAM_STATEMENT.md from their prose in bench/, with clauses and definitions from the sources.
 
-    statement.py            writes docs/STATEMENT.md, and prints how much each clause reaches
-    statement.py --check    fails if docs/STATEMENT.md is not what it would write
-    statement.py --root D   of the checkout at D; --out F: another file; --why NAME: how a definition is reached
+    statement.py            writes both pages, and prints how much each clause reaches
+    statement.py --check    fails if a page is not what it would write
+    statement.py --root D   of the checkout at D; --out D: into another folder; --why NAME: how a definition is reached
 
-Lines of bench/statement.md that begin with `@`:
+Lines of bench/statement.md and bench/program_statement.md that begin with `@`:
 
     @stop NAME: TEXT               this definition is not printed, nor what only it uses; the page describes it by TEXT
     @clause CRATE FUNCTION NAME..  prints clauses of the public function or law CRATE::FUNCTION; `-` is a clause without a name
@@ -13,9 +13,11 @@ Lines of bench/statement.md that begin with `@`:
                                    and then each after those that use it
     @stops, @counts                print a table of what is not printed, and of sizes; @count CRATE FUNCTION NAME.. adds a row to it
     @notation, @library            stand above a table that has a row for each operator, or each name of the standard library, that is used
+    @earlier                       prints a table of the definitions that only the first page prints
 
 A definition that the clauses reach is printed by the first `@print` that has its name, or else by the first with its module. It is a
-fault if none has it, if prose quotes a word of code that the page does not print, or if a table has a row too many or too few.
+fault if none has it, if prose quotes a word of code that the page does not print, or if a table has a row too many or too few. The
+second page does not print what the first one does.
 It reads only sources, and needs only Python 3.
 """
 import argparse
@@ -23,8 +25,11 @@ import re
 import sys
 from pathlib import Path
 
+# The pages, in docs/; their prose has the same names in bench/, in lower case.
+PAGES = ['STATEMENT', 'PROGRAM_STATEMENT']
+
 # Fields of the library's own types, and what a clause says of an argument.
-OF_THE_LIBRARY = ['items', 'now', 'old', 'new', 'seen']
+OF_THE_LIBRARY = ['items', 'now', 'old', 'new', 'seen', 'remaining', 'contents']
 
 WORD = re.compile(r'[^\s(){}\[\],;"`]+')
 HEAD = re.compile(r'^((?:(?:pub|abbrev|unfoldable|opaque)\s+)*)(record\s+|data\s+)?(?:pub\s+)?([^\s:({]+)(.*)$')
@@ -385,21 +390,24 @@ class Repository:
             elif (file.module, head) in self.items or (file.module, head) in self.makers:
                 add(self.named(file.module, head, item))
 
-    def reach(self, roots, stops=()):
+    def reach(self, roots, stops=(), known=()):
         seen, todo = {}, list(roots)
         while todo:
             item = todo.pop()
-            if item.key not in seen and item.name not in stops:
+            if item.key not in seen and item.name not in stops and item.key not in known:
                 seen[item.key] = item
                 todo += self.depends(item).values()
         return seen
 
-    def check_fields(self, items):
-        """Checks that each field that is read belongs to a record or type that is printed."""
+    def check_fields(self, items, earlier, stops):
+        """Checks that each field that is read belongs to a record or type that is printed, or to that of a value that is not printed."""
         items = list(items)
         known = set(OF_THE_LIBRARY)
-        for item in items:
+        for item in items + earlier:
             known |= set(item.members)
+            for target in self.depends(item).values():
+                if target.name in stops:
+                    known |= {member for of in self.depends(target).values() for member in of.members}
             if item.kind == 'rust':
                 known |= set(re.findall(r'\b([a-z_]\w*):', '\n'.join(item.lines)))
         for item in items:
@@ -427,11 +435,12 @@ class Repository:
 
 
 class Page:
-    """The page: its template, the clauses that this asks for, and what they reach."""
+    """A page: its template, the clauses that this asks for, and what they reach. `earlier` is the page before it, or None."""
 
-    def __init__(self, repository, template):
+    def __init__(self, repository, template, earlier=None):
         self.repository = repository
         self.template = template
+        self.earlier = earlier
         self.stops, self.prints, self.clauses, self.counted = {}, [], [], []
         self.begun = set()
         fenced = False
@@ -450,11 +459,18 @@ class Page:
                 item = self.clause(words)
                 if item is not None:
                     (self.clauses if word == '@clause' else self.counted).append((number, item))
-            elif word not in ('@stops', '@counts', '@notation', '@library'):
+            elif word not in ('@stops', '@counts', '@notation', '@library', '@earlier'):
                 repository.fault(f'there is no directive {word}')
-        self.reached = repository.reach([item for _, item in self.clauses], self.stops)
+        self.own_stops = self.stops
+        if earlier is not None:
+            self.stops = {**earlier.stops, **self.own_stops}
+        self.reached = repository.reach([item for _, item in self.clauses], self.stops, self.known())
         self.place()
         self.check_stops()
+
+    def known(self):
+        """Returns what the earlier page prints, clauses aside."""
+        return {key: item for key, item in self.earlier.reached.items() if item.kind != 'clause'} if self.earlier else {}
 
     def clause(self, words):
         crate, _, module = words[0].partition('/')
@@ -505,9 +521,29 @@ class Page:
 
     def check_stops(self):
         used = {target.name for item in self.reached.values() for target in self.repository.depends(item).values()}
-        for name in self.stops:
+        for name in self.own_stops:
             if name not in used:
                 self.repository.fault(f'@stop {name}: no definition of the page uses it')
+
+    def why(self, name):
+        """Returns the chains of definitions by which the clauses reach this name."""
+        chains = []
+        for _, start in self.clauses:
+            todo, came = [start], {start.key: None}
+            while todo:
+                item = todo.pop(0)
+                for key, target in self.repository.depends(item).items():
+                    if key not in came and target.name not in self.stops and key not in self.known():
+                        came[key] = item
+                        todo.append(target)
+            for key in came:
+                if key[1] == name:
+                    path, at = [name], came[key]
+                    while at is not None:
+                        path.append(at.name)
+                        at = came[at.key]
+                    chains.append(' < '.join(path))
+        return chains
 
     # TEXT
 
@@ -563,10 +599,23 @@ class Page:
     def rows(self):
         rows, repository = [], self.repository
         for _, item in self.counted:
-            full, short = repository.reach([item]), repository.reach([item], self.stops)
+            full, short = repository.reach([item]), repository.reach([item], self.stops, self.known())
             below = [i for i in full.values() if i is not item]
             rows.append((title_of(item), len(short) - 1, len(below), sum(i.size for i in below), repository.depth(item, {})))
         return rows
+
+    def earlier_rows(self):
+        """Returns, for each chapter of the earlier page, what this page uses of it."""
+        used = {target.key: target for item in self.reached.values() for target in self.repository.depends(item).values()}
+        rows, chapter = {}, ''
+        for number, line in enumerate(self.earlier.template):
+            if re.match(r'#+ ', line):
+                chapter = line.lstrip('# ')
+            names = [item.name for item in self.earlier.printed.get(number, ()) if item.key in used]
+            if line == '@stops':
+                names = [name for name in self.earlier.stops if any(item.name == name for item in used.values())]
+            rows[chapter] = rows.get(chapter, []) + names
+        return [f'| {chapter} | {", ".join(f"`{name}`" for name in names)} |' for chapter, names in rows.items() if names]
 
     def text(self):
         out, fenced = [], False
@@ -582,14 +631,16 @@ class Page:
                 out += self.clause_block(clauses[number])
             elif word == '@stops':
                 out += ['| Not printed | What it is | File |', '|---|---|---|']
-                for name, text in self.stops.items():
+                for name, text in self.own_stops.items():
                     target = next((t for i in self.reached.values() for t in self.repository.depends(i).values() if t.name == name), None)
                     out.append(f'| `{name}` | {text} | `{within_crates(target.file) if target else "?"}` |')
+            elif word == '@earlier':
+                out += ['| Chapter | Words |', '|---|---|'] + self.earlier_rows()
             elif word == '@counts':
                 out += ['| Clause | Definitions printed | Definitions used | Lines | Depth |', '|---|---|---|---|---|']
                 out += [f'| {a} | {b} | {c} | {d:,} | {e} |' for a, b, c, d, e in self.rows()]
         text = '\n'.join(out).rstrip('\n') + '\n'
-        self.repository.check_fields(self.reached.values())
+        self.repository.check_fields(self.reached.values(), list(self.known().values()), self.stops)
         self.check_tables()
         self.check_prose()
         return re.sub(r'\n{3,}', '\n\n', text)
@@ -600,7 +651,8 @@ class Page:
         """Returns the code of the first cells of the table that follows a directive."""
         found = []
         if directive not in self.template:
-            self.repository.fault(f'there is no {directive}')
+            if self.earlier is None:
+                self.repository.fault(f'there is no {directive}')
             return found
         at = self.template.index(directive) + 1
         while at < len(self.template) and not self.template[at].startswith('#'):
@@ -612,12 +664,13 @@ class Page:
     def check_tables(self):
         library = {name for item in self.reached.values() for _, name in item.std}
         rows = [code.split()[0] for code in self.table_after('@library')]
-        for name in sorted(library - set(rows)):
+        earlier = [code.split()[0] for code in self.earlier.table_after('@library')] if self.earlier else []
+        for name in sorted(library - set(rows) - set(earlier)):
             self.repository.fault(f'@library has no row for {name}')
         for name in rows:
             if name not in library or rows.count(name) > 1:
                 self.repository.fault(f'@library has a row too many for {name}')
-        symbols = ' '.join(self.table_after('@notation')).split()
+        symbols = ' '.join(self.table_after('@notation') + (self.earlier.table_after('@notation') if self.earlier else [])).split()
         for item in self.reached.values():
             file = self.repository.files[item.module]
             words = ' '.join(code_of(item)).split()
@@ -629,12 +682,18 @@ class Page:
                 if word in words and word not in symbols:
                     self.repository.fault(f'@notation has no row for {word}')
 
-    def check_prose(self):
-        """Checks that each word of code in the prose is printed, and that each file is there."""
+    def known_words(self):
+        """Returns the words of code that this page and the earlier one print."""
         known = set(self.stops) | {w for item in self.reached.values() for _, w in item.std}
         known |= set(re.findall(r'\w+', ' '.join(self.table_after('@notation')))) | {'Ok', 'Err'}
         for item in self.reached.values():
             known |= set(re.findall(r'\w+', ' '.join(code_of(item)))) | set(item.name.split('.'))
+            known |= set(re.findall(r'\w+', ' '.join(re.findall(r'"([^"]*)"', '\n'.join(item.lines)))))
+        return known | self.earlier.known_words() if self.earlier else known
+
+    def check_prose(self):
+        """Checks that each word of code in the prose is printed, and that each file is there."""
+        known = self.known_words()
         for line in self.template:
             if line.startswith('```') or line.startswith('@') and not line.startswith('@stop'):
                 continue
@@ -674,7 +733,17 @@ def code_of(item):
 
 def title_of(item):
     function, *clauses = item.name.split('.')
-    return ', '.join(f'`{c}`' for c in clauses if c) + f' of `{function}`' if any(clauses) else f'law `{function}`'
+    kind = 'law' if item.file.stem == 'laws' else 'clause of'
+    return ', '.join(f'`{c}`' for c in clauses if c) + f' of `{function}`' if any(clauses) else f'{kind} `{function}`'
+
+
+def read_pages(repository):
+    pages = []
+    for name in PAGES:
+        template = repository.root / 'bench' / f'{name.lower()}.md'
+        if template.exists():
+            pages.append(Page(repository, template.read_text().split('\n'), pages[0] if pages else None))
+    return pages
 
 
 def main():
@@ -686,40 +755,28 @@ def main():
     args = parser.parse_args()
     root = args.root or next((p for p in Path(__file__).resolve().parents if (p / 'crates.txt').exists()), Path('.'))
     repository = Repository(root)
-    page = Page(repository, (root / 'bench' / 'statement.md').read_text().split('\n'))
+    pages = read_pages(repository)
     if args.why:
-        for _, start in page.clauses:
-            todo, came = [start], {start.key: None}
-            while todo:
-                item = todo.pop(0)
-                for key, target in repository.depends(item).items():
-                    if key not in came and target.name not in page.stops:
-                        came[key] = item
-                        todo.append(target)
-            for key in came:
-                if key[1] == args.why:
-                    path, at = [key[1]], came[key]
-                    while at is not None:
-                        path.append(at.name)
-                        at = came[at.key]
-                    print(' < '.join(path))
+        for page in pages:
+            print('\n'.join(page.why(args.why)))
         return 0
-    text = page.text()
+    texts = [page.text() for page in pages]
     if repository.faults:
         print('\n'.join(f'statement.py: {fault}' for fault in repository.faults), file=sys.stderr)
         return 1
-    for title, printed, used, lines, depth in page.rows():
-        print(f'{title:38} {printed:4} definitions printed, of {used:4}, {lines:6,} lines, depth {depth}')
-    shown = [item for items in page.printed.values() for item in items]
-    print(f'{"the page":38} {len(shown):4} definitions, {sum(item.size for item in shown):6,} lines')
-    file = args.out or root / 'docs' / 'STATEMENT.md'
-    if args.check:
-        if not file.exists() or file.read_text() != text:
+    status = 0
+    for name, page, text in zip(PAGES, pages, texts):
+        for title, printed, used, lines, depth in page.rows():
+            print(f'{title:38} {printed:4} definitions printed, of {used:4}, {lines:6,} lines, depth {depth}')
+        shown = [item for items in page.printed.values() for item in items]
+        print(f'{name + ".md":38} {len(shown):4} definitions, {sum(item.size for item in shown):6,} lines')
+        file = (args.out or root / 'docs') / f'{name}.md'
+        if not args.check:
+            file.write_text(text)
+        elif not file.exists() or file.read_text() != text:
             print(f'{file} is not up to date', file=sys.stderr)
-            return 1
-        return 0
-    file.write_text(text)
-    return 0
+            status = 1
+    return status
 
 
 if __name__ == '__main__':

@@ -127,12 +127,12 @@ def is_type(item):
 
 def reached_by(repository, page):
     """Returns what the clauses reach; of a stop that leads to types that the page does not print, only itself."""
-    printed = set(page.reached) | {target.key for item in page.reached.values() for target in repository.depends(item).values() if is_type(target)}
+    targets = [target for item in page.reached.values() for target in repository.depends(item).values()]
+    printed = {*page.reached, *(target.key for target in targets if is_type(target))}
     stops = {}
-    for item in page.reached.values():
-        for target in repository.depends(item).values():
-            if target.name in page.stops and any(is_type(x) and x.key not in printed for x in repository.reach([target]).values()):
-                stops[target.key] = target
+    for target in targets:
+        if target.name in page.stops and any(is_type(x) and x.key not in printed for x in repository.reach([target]).values()):
+            stops[target.key] = target
     reached = repository.reach([item for _, item in page.clauses], {item.name for item in stops.values()})
     for item in stops.values():
         item.lines, item.deps = trivial(item), None
@@ -153,7 +153,7 @@ def write_crate(repository, page, top):
 
 def main():
     repository = statement.Repository(TOP)
-    page = statement.Page(repository, (TOP / 'bench' / 'statement.md').read_text().split('\n'))
+    page = statement.read_pages(repository)[0]
     folder = Path(tempfile.mkdtemp(prefix='statement-'))
     try:
         crate, definitions, types = write_crate(repository, page, folder)
