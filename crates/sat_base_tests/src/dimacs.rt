@@ -10,7 +10,6 @@ ghost use Rattle.sat_base.specs.dimacs.Dimacs.{dimacs};
 
 use crate::caller::clause_count;
 use crate::devices::{by_one, without_end};
-use crate::formula::is_printed;
 use sat_base::{
     CnfFormula, Counted, CountedRead, DimacsError, DimacsParser, ExtendFormula, FormulaError,
     IncrementalError, Lit, write_dimacs,
@@ -511,38 +510,6 @@ fn no_piece_is_read_after_a_percent_line(rt: HostRuntime) {
     for text in [&b"1 0\n%"[..], b"1 0\n \t% 2 0\n3 0\n"] {
         assert!(rt; parse_endless(rt.alloc(), text) == (Some(1), 1));
         assert!(rt; count_endless(rt.alloc(), text) == (Some(1), 1));
-    }
-}
-
-/// Errors, and how they are printed.
-static PRINTED: [(IncrementalError<DimacsError>, &str); 5] = [
-    (IncrementalError::Dimacs(MALFORMED), "line 2 is malformed"),
-    (
-        IncrementalError::Dimacs(DimacsError::Limit { line: 3 }),
-        "a number on line 3 is past the limit",
-    ),
-    (
-        IncrementalError::Dimacs(DimacsError::Read),
-        "the formula can't be read",
-    ),
-    (
-        IncrementalError::Caller(DimacsError::OutOfMemory),
-        "out of memory",
-    ),
-    (
-        IncrementalError::Caller(DimacsError::HasFailed),
-        "the parser has failed or finished before",
-    ),
-];
-
-fn printed() -> &'static [(IncrementalError<DimacsError>, &'static str)] {
-    &PRINTED
-}
-
-#[test]
-fn errors_are_printed(rt: HostRuntime) {
-    for (error, text) in printed() {
-        assert!(rt; is_printed(rt.alloc(), error, *text), "{text}");
     }
 }
 

@@ -5,8 +5,6 @@ ghost use Rattle.std.specs.Prelude.{◌≡◌, ◌≤◌, ◌∷◌, [], ℕ, tr
 ghost use Rattle.sat_base.specs.values.Literals.{mk_lit, var_limit};
 
 use sat_base::{CnfFormula, ExtendFormula, FormulaError, Lit, Var};
-use std::alloc::Global;
-use std::fmt::Display;
 use std::mem;
 use std::test::*;
 
@@ -142,18 +140,4 @@ fn a_formula_is_taken_out(rt: HostRuntime) {
     let mut formula = CnfFormula::new(rt.alloc());
     let mut empty = CnfFormula::new(rt.alloc());
     assert!(rt; is_taken_out(&mut formula, &mut empty));
-}
-
-pub(crate) fn is_printed<E: Display>(alloc: Global, error: &E, text: &str) -> bool {
-    match format!(in alloc; "{error}") {
-        Ok(printed) => printed.as_str() == text,
-        Err(_) => false,
-    }
-}
-
-#[test]
-fn errors_are_printed(rt: HostRuntime) {
-    let limit = FormulaError::VariableLimit;
-    assert!(rt; is_printed(rt.alloc(), &limit, "no variable is left"));
-    assert!(rt; is_printed(rt.alloc(), &FormulaError::OutOfMemory, "out of memory"));
 }

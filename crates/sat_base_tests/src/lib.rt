@@ -13,6 +13,8 @@ mod dimacs;
 #[cfg(test)]
 mod dimacs_writer;
 #[cfg(test)]
+mod errors;
+#[cfg(test)]
 mod formula;
 #[cfg(test)]
 mod lit;
