@@ -1,0 +1,2 @@
+pub mod DecayLemmas
+pub mod HeldLemmas

@@ -55,7 +55,7 @@ fn reverse_three(buffer: &mut ClauseAlloc, cref: ClauseRef, other: ClauseRef)
     clause.lits_mut().swap(0, 2);
 }
 
-/// Exchanges two literals of a clause of four literals. The other clause is unchanged.
+/// Exchanges two literals of a clause of four literals through its view. The other clause is unchanged.
 fn exchange(buffer: &mut ClauseAlloc, other: ClauseRef, cref: ClauseRef, i: usize, j: usize)
     requires live { HoldsClauses buffer.old (other ∷ cref ∷ []) }
     requires differ { other ≢ cref }
@@ -65,10 +65,11 @@ fn exchange(buffer: &mut ClauseAlloc, other: ClauseRef, cref: ClauseRef, i: usiz
     ensures kept { lits_at buffer.new other ≡ lits_at buffer.old other }
     ensures four { length (lits_at buffer.new cref) ≡ 4 }
 {
-    buffer.swap_lits(cref, i, j);
+    let mut clause = buffer.clause_mut(cref);
+    clause.lits_mut().swap(i, j);
 }
 
-/// Keeps the first three literals of a clause of four literals. The other clause is unchanged.
+/// Keeps the first three literals of a clause of four literals, through its view. The other clause is unchanged.
 fn cut_to_three(buffer: &mut ClauseAlloc, other: ClauseRef, cref: ClauseRef)
     requires live { HoldsClauses buffer.old (other ∷ cref ∷ []) }
     requires differ { other ≢ cref }
@@ -76,9 +77,8 @@ fn cut_to_three(buffer: &mut ClauseAlloc, other: ClauseRef, cref: ClauseRef)
     ensures live { HoldsClauses buffer.new (other ∷ cref ∷ []) }
     ensures kept { lits_at buffer.new other ≡ lits_at buffer.old other }
 {
-    let mut header = buffer.header(cref);
-    header.set_len(3);
-    buffer.set_header(cref, header);
+    let mut clause = buffer.clause_mut(cref);
+    clause.header_mut().set_len(3);
 }
 
 fn reversed_row(buffer: &mut ClauseAlloc) -> Result<bool, StoreError>

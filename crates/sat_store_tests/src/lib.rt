@@ -12,4 +12,6 @@ mod maps;
 #[cfg(test)]
 mod picks;
 #[cfg(test)]
+mod scales;
+#[cfg(test)]
 mod schedule;

@@ -85,50 +85,6 @@ fn most_active_first(rt: HostRuntime) {
     assert!(rt; picked == [0, 1, 2, 3, 9]);
 }
 
-fn decay_times(vsids: &mut Vsids, times: usize)
-    requires { length vsids.old.available ≡ COUNT }
-    ensures { length vsids.new.available ≡ COUNT }
-{
-    for _ in 0..times {
-        vsids.decay();
-    }
-}
-
-/// Tests that variables are picked in the order of their indices once all activities are too small to distinguish.
-#[test]
-fn equal_activities_go_by_index(rt: HostRuntime) {
-    let mut vsids = Vsids::new(rt.alloc());
-    if bumped_by_index(&mut vsids).is_err() {
-        panic!(rt; "no memory");
-    }
-    decay_times(&mut vsids, 60);
-    let mut picked = [0; 4];
-    next_indices(&mut vsids, &mut picked);
-    assert!(rt; picked == [0, 1, 2, 3]);
-}
-
-/// Bumps the last variable until all activities are rescaled.
-fn bump_past_the_limit(vsids: &mut Vsids)
-    requires { length vsids.old.available ≡ COUNT }
-    ensures { length vsids.new.available ≡ COUNT }
-{
-    decay_times(vsids, 39);
-    vsids.bump(Var::from_index(COUNT - 1));
-    vsids.bump(Var::from_index(COUNT - 1));
-}
-
-#[test]
-fn bumped_variable_goes_first_on_a_smaller_scale(rt: HostRuntime) {
-    let mut vsids = Vsids::new(rt.alloc());
-    if bumped_by_index(&mut vsids).is_err() {
-        panic!(rt; "no memory");
-    }
-    bump_past_the_limit(&mut vsids);
-    let mut picked = [0; 4];
-    next_indices(&mut vsids, &mut picked);
-    assert!(rt; picked == [7, 0, 1, 2]);
-}
-
 /// Whether a variable that was bumped and then reset is picked after another one that was bumped.
 fn reset_goes_last(vsids: &mut Vsids) -> bool
     requires { vsids.old ≡ no_variables }
