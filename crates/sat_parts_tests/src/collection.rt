@@ -64,7 +64,7 @@ fn two_clauses(
         Lit::from_code(8),
     ];
     let first = store(clauses, db, watchlists, Tier::Irred, &codes)?;
-    let codes = [Lit::from_code(10), Lit::from_code(12), Lit::from_code(2)];
+    let codes = [Lit::from_code(10), Lit::from_code(12), Lit::from_code(14)];
     let second = store(clauses, db, watchlists, Tier::Core, &codes)?;
     if !is_among(clauses, db, first) {
         return Ok(None);
@@ -92,7 +92,8 @@ fn enqueue_by(
     Ok(true)
 }
 
-/// Collects, and returns whether the only remaining clause was moved and is the reason of the sixth variable.
+/// Collects, and returns whether the only remaining clause was moved, is the reason of the sixth variable, and isn't
+/// marked.
 fn is_moved(
     alloc: Global,
     clauses: &mut ClauseAlloc,
@@ -112,7 +113,9 @@ fn is_moved(
     }
     let cref = db.cref(0);
     Ok(
-        graph.reason(Var::from_index(5)) == Reason::Long(cref)
+        is_among(clauses, db, cref)
+            && !clauses.header(cref).mark()
+            && graph.reason(Var::from_index(5)) == Reason::Long(cref)
             && (cref.offset(), clauses.buffer_size()) == (0, 6)
             && !watchlists.enabled(),
     )
