@@ -1,11 +1,14 @@
 #!/usr/bin/env python3
 """Measures the program and writes its figures into docs/SPEED.md and docs/pictures:
 
-    speed.py [--keep FOLDER] [--only PART] [--beside WORDS] [--checker CHECKS FOLLOWER PLAIN FOLDER] [PROGRAM]
+    speed.py [--keep FOLDER] [--only PART] [--busy] [--beside WORDS] [--checker CHECKS FOLLOWER PLAIN FOLDER] [PROGRAM]
 
 It measures the proved program, crates/certify_cli/out/certify_cli, which `rt run` in crates/certify_cli leaves, and refuses if a source is
 newer. If PROGRAM is given, it measures that, and the document states that it was not proved. The document names the commit of this checkout,
 the processors that the program may use, and what else ran, if WORDS say so.
+
+Figures are of an otherwise idle machine: before each part, a load average above 1.5 ends the script, except with --busy. Then the document
+says that the machine was busy. MB are 10^6 bytes, and MiB 2^20 bytes; peak memory is in MiB.
 
     formulas   bench/solver/run.sh and pictures.py: `run`, `confirm` and MiniSat over forty formulas, stopped after 20 seconds
     large      bench/solver/large.py: texts of a million commands
@@ -29,6 +32,7 @@ PROVED = os.path.join(TOP, "crates/certify_cli/out/certify_cli")
 DOCUMENT = os.path.join(TOP, "docs/SPEED.md")
 PICTURES = os.path.join(TOP, "docs/pictures")
 LIMIT = "20"
+MOST_LOAD = 1.5  # each part runs one program at a time
 
 
 def output(command, **more):
@@ -37,6 +41,11 @@ def output(command, **more):
 
 def script(*path):
     return os.path.join(BENCH, *path)
+
+
+def load():
+    """Returns the load average of the last minute."""
+    return os.getloadavg()[0]
 
 
 def measure(part, program, tools):
@@ -80,6 +89,8 @@ def scale(text):
         described.add(name)
         mark = "**" if above else ""
         rows.append(f"| {what} | `{call}` | {size(int(count))} | {float(seconds):.2f} | {mark}{exponent}{mark} |")
+    if any(row.endswith("| - |") for row in rows):
+        rows += ["", "An exponent `-`: the smallest of the three texts takes less than 0.01 s, too little for a fit."]
     return "\n".join(rows) + "\n"
 
 
@@ -93,7 +104,7 @@ def memory(text):
             most[call] = max(most.get(call, (0.0,)), (float(each), name, int(count), int(peak)))
     rows = ["| Call | Text | Bytes read | Peak memory | Bytes of memory per byte, beyond 20 MB |", "|---|---|---|---|---|"]
     for call, (each, name, count, peak) in most.items():
-        rows.append(f"| `{call}` | `{name}` | {size(count)} | {peak / 1024:.0f} MB | {each:.1f} |")
+        rows.append(f"| `{call}` | `{name}` | {size(count)} | {peak / 1024:.0f} MiB | {each:.1f} |")
     return "\n".join(rows) + "\n"
 
 
@@ -114,7 +125,7 @@ def checker(text):
             means.setdefault((call, other), {})[what] = f"{mean}, {values[most]:.2f} ({most})"
         else:
             name, rest = line.split(": ", 1)
-            found = dict((call, f"{float(s):.3f} s, {float(m):.0f} MB") for call, s, m in re.findall(r"(\w+) ([\d.]+) s ([\d.]+) MB", rest))
+            found = dict((call, f"{float(s):.3f} s, {float(m):.0f} MiB") for call, s, m in re.findall(r"(\w+) ([\d.]+) s ([\d.]+) MiB", rest))
             proofs.append(f"| {name} | " + " | ".join(found[call] for call in CALLS) + " |")
     rows = ["| Call | Compared with | Time ratio: mean, highest | Memory ratio: mean, highest |", "|---|---|---|---|"]
     rows += [f"| `{call}` | {called(other)} | {each['seconds']} | {each['memory']} |" for (call, other), each in means.items()]
@@ -122,7 +133,7 @@ def checker(text):
     return "\n".join(rows) + "\n"
 
 
-def machine(program, beside):
+def machine(program, busy, beside):
     """Says what was measured, and where."""
     model = re.search(r"model name\s*: (.*)", output(["cat", "/proc/cpuinfo"]))
     what = "the proved program" if program == PROVED else "a program that was compiled without proof"
@@ -130,7 +141,8 @@ def machine(program, beside):
     if output(["git", "-C", TOP, "status", "--porcelain", "--", "crates"]):
         commit += " with changes"
     where = f"{len(os.sched_getaffinity(0))} of {os.cpu_count()} processors ({model[1].strip() if model else 'unknown'})"
-    return f"Measured: {what} at commit {commit}, on {where}, load average {os.getloadavg()[2]:.1f}{f', {beside}' if beside else ''}.\n"
+    idle = "busy" if busy else "otherwise idle"
+    return f"Measured: {what} at commit {commit}, on {where}; the machine was {idle}{f', {beside}' if beside else ''}.\n"
 
 
 def replace(part, lines):
@@ -155,11 +167,14 @@ def newer(program):
 
 def main():
     parts, keep, beside, tools, words = ["formulas", "large", "scale", "memory"], None, None, None, sys.argv[1:]
+    may_be_busy = busy = False
     while words and words[0].startswith("--"):
         if words[0] == "--keep":
             keep, words = os.path.abspath(words[1]), words[2:]
         elif words[0] == "--only":
             parts, words = [words[1]], words[2:]
+        elif words[0] == "--busy":
+            may_be_busy, words = True, words[1:]
         elif words[0] == "--beside":
             beside, words = words[1], words[2:]
         elif words[0] == "--checker":
@@ -178,12 +193,16 @@ def main():
         for part in parts:
             path = os.path.join(folder, part)
             if not os.path.exists(path):
+                if load() > MOST_LOAD:
+                    if not may_be_busy:
+                        sys.exit(f"the load average is {load():.1f}, above {MOST_LOAD}: wait until nothing else runs, or give --busy")
+                    busy = True
                 text = measure(part, program, tools)
                 with open(path, "w", encoding="utf-8") as file:
                     file.write(text)
             replace(part, show(part, path))
             print(f"{part}: written", flush=True)
-    replace("machine", machine(program, beside))
+    replace("machine", machine(program, busy, beside))
 
 
 if __name__ == "__main__":

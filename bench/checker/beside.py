@@ -61,8 +61,8 @@ def instructions(command, stdin):
     return int(re.search(r"Collected : (\d+)", printed)[1]) / 1e6
 
 
-def megabytes(command, stdin):
-    """Returns the peak memory."""
+def mebibytes(command, stdin):
+    """Returns the peak memory in MiB."""
     printed = called([shutil.which("time"), "-f", "%M", *command], stdin)
     return int(printed.split()[-1]) / 1024
 
@@ -99,8 +99,8 @@ def main():
             for _ in range(1 if counts else 9):
                 for kind, call in these.items():
                     costs[name][kind] = min(costs[name][kind], (instructions if counts else seconds)(*call))
-            peaks[name] = {kind: megabytes(*call) for kind, call in these.items()}
-            printed = "; ".join(f"{kind} {costs[name][kind]:.3f} {'M' if counts else 's'} {peaks[name][kind]:.1f} MB" for kind in these)
+            peaks[name] = {kind: mebibytes(*call) for kind, call in these.items()}
+            printed = "; ".join(f"{kind} {costs[name][kind]:.3f} {'M' if counts else 's'} {peaks[name][kind]:.1f} MiB" for kind in these)
             print(f"{name}: {printed}", flush=True)
     for kind, other in BESIDE:
         for what, of in (("instructions" if counts else "seconds", costs), ("memory", peaks)):

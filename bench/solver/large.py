@@ -35,7 +35,7 @@ TEXTS = {
 
 
 def measured(command):
-    """Returns the seconds of one run, and its peak memory in MB."""
+    """Returns the seconds of one run, and its peak memory in MiB."""
     before = resource.getrusage(resource.RUSAGE_CHILDREN)
     subprocess.run([shutil.which("time"), "-f", "%M", "-o", "memory", *command], stdout=subprocess.DEVNULL, stderr=subprocess.DEVNULL, check=False)
     after = resource.getrusage(resource.RUSAGE_CHILDREN)
@@ -60,7 +60,7 @@ def main():
             least = [(math.inf, math.inf)] * len(commands)
             for _ in range(3):
                 least = [min(old, measured(command)) for old, command in zip(least, commands)]
-            cells = [f"{seconds:.2f} s, {peak:.0f} MB" for seconds, peak in least]
+            cells = [f"{seconds:.2f} s, {peak:.0f} MiB" for seconds, peak in least]
             if len(commands) == 3:
                 cells.append(f"{least[0][0] / least[2][0]:.2f}, memory {least[0][1] / least[2][1]:.2f}")
             print("| " + " | ".join([name, *cells, "-", "-"][:5]) + " |", flush=True)

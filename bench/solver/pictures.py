@@ -42,7 +42,7 @@ def seconds(value):
 def cell(value, memory, conflicts=None):
     if value is None:
         return "stopped"
-    return f"{seconds(value)}, {memory:.0f} MB" + ("" if conflicts is None else f", {int(conflicts):,}")
+    return f"{seconds(value)}, {memory:.0f} MiB" + ("" if conflicts is None else f", {int(conflicts):,}")
 
 
 def table(rows):

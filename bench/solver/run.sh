@@ -5,7 +5,7 @@
 # program runs once on each formula, one after another: `run`, which writes answers and certificate to files, `confirm` of these files, and
 # MiniSat.
 #
-# A row is a line of ten words: the formula; the answer; user and system seconds, peak memory in MB and conflicts of `run`; seconds and
+# A row is a line of ten words: the formula; the answer; user and system seconds, peak memory in MiB and conflicts of `run`; seconds and
 # memory of `confirm`; seconds, memory and conflicts of MiniSat. A program is stopped after LIMIT seconds of processor time (300). Then its
 # words are `-`, and so is a word that a program does not report. pictures.py makes tables and pictures of the rows.
 #
@@ -19,7 +19,7 @@ work=$(mktemp -d)
 trap 'rm -rf "$work"' EXIT
 python3 "$here/formulas.py" "$work/formulas"
 
-took() { # NAME COMMAND..: prints seconds and peak memory in MB; the files NAME.out and NAME.err get what the command prints
+took() { # NAME COMMAND..: prints seconds and peak memory in MiB; the files NAME.out and NAME.err get what the command prints
     local name=$1 TIMEFORMAT='%3U %3S'
     shift
     { time (ulimit -t "$limit"; "$gnu_time" -f '%M' -o "$work/memory" "$@" > "$work/$name.out" 2> "$work/$name.err") || true; } 2> "$work/seconds"
