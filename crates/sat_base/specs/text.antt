@@ -4,3 +4,4 @@ pub mod WrongWords
 pub mod Tokenizing
 pub mod Chunks
 pub mod NumberWords
+pub mod ShortNumbers

@@ -2,6 +2,7 @@
 ghost use Rattle.std.specs.Prelude.{◌≡◌, ◌+◌, ◌/◌, ◌%◌, ◌<◌, ◌≤◌, ◌++◌, ◌∷◌, [], length, take, decimal, OnOk};
 
 pub mod reading;
+pub(crate) mod short;
 
 use std::alloc::AllocError;
 

@@ -11,6 +11,7 @@ ghost use Rattle.sat_base.specs.text.Tokenizing.{ReceivesByte, ReceivesPrefix, H
 
 mod header;
 
+use crate::decimal::short::short_decimal;
 use header::{HeaderPlace, Stage, ended_in, next_in_header};
 
 /// A token: a word, or a header line.
@@ -182,6 +183,20 @@ fn digits_in(value: u64, bytes: &[u8]) -> (u64, usize)
 /// Returns the value of the digits at the start of `bytes`, and how many digits there are, or `None` if there are none.
 #[inline(always)]
 fn some_digits_in(bytes: &[u8]) -> Option<(u64, usize)>
+    ensures within { IfSome result (λ r. (0 < r.1) × (r.1 ≤ length bytes.now)) }
+    ensures plain { IfSome result (λ r. (old : Place) → BeginsWord old
+        → MovesBy old (take r.1 bytes.now) (Place.Digits false r.0)) }
+    ensures negative { IfSome result (λ r. MovesBy Place.Minus (take r.1 bytes.now) (Place.Digits true r.0)) }
+{
+    if let Some((value, count)) = short_decimal(bytes) {
+        return Some((value, count));
+    }
+    some_digits_by_bytes(bytes)
+}
+
+/// Does what `some_digits_in` does, byte by byte.
+#[inline(never)]
+fn some_digits_by_bytes(bytes: &[u8]) -> Option<(u64, usize)>
     ensures within { IfSome result (λ r. (0 < r.1) × (r.1 ≤ length bytes.now)) }
     ensures plain { IfSome result (λ r. (old : Place) → BeginsWord old
         → MovesBy old (take r.1 bytes.now) (Place.Digits false r.0)) }

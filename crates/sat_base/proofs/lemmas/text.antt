@@ -10,3 +10,5 @@ pub mod PlainTokens
 pub mod RightWords
 pub mod WholeNumbers
 pub mod NumberWords
+pub mod EightBytes
+pub mod ShortNumbers

@@ -2,6 +2,8 @@
 ghost use Rattle.std.specs.Prelude.{◌≡◌, ◌++◌, ◌∷◌, [], ◌<◌, ◌≤◌, decimal, List, ℕ, MatchBool, MatchOption};
 ghost use Rattle.sat_base.specs.text.NumberWords.{BeginsWithWord, EndsNone, IsNumberUpTo, NoDigit, NoWord, digits_so_far};
 
+use crate::decimal::short::short_decimal;
+
 /// Any digit can be appended to a number up to this bound without overflow.
 const LONG: u64 = 1_000_000_000_000_000_000;
 
@@ -47,10 +49,29 @@ fn ends_number(number: u64, byte: u8, limit: u64) -> bool
     number <= limit
 }
 
-/// Reads a number from 1 to `limit`, and the space after it. Returns the number and the remaining bytes. A number with
-/// at most 19 digits is compared with the limit only at its end.
+/// Reads a number from 1 to `limit`, and the space after it. Returns the number and the remaining bytes.
 #[inline(always)]
 pub fn read_number(bytes: &[u8], limit: u64) -> Option<(u64, &[u8])>
+    requires { 9 ≤ limit }
+    ensures { MatchOption result (NoWord decimal (IsNumberUpTo limit) bytes.now)
+        (λ x. BeginsWithWord decimal (IsNumberUpTo limit) bytes.now x.0 x.1.now) }
+{
+    let Some((number, count)) = short_decimal(bytes) else {
+        return read_by_bytes(bytes, limit);
+    };
+    if bytes[0] == b'0' {
+        return None;
+    }
+    if ends_number(number, bytes[count], limit) {
+        return Some((number, &bytes[count + 1..]));
+    }
+    None
+}
+
+/// Does what `read_number` does, byte by byte. A number with at most 19 digits is compared with the limit only at its
+/// end.
+#[inline(never)]
+fn read_by_bytes(bytes: &[u8], limit: u64) -> Option<(u64, &[u8])>
     requires { 9 ≤ limit }
     ensures { MatchOption result (NoWord decimal (IsNumberUpTo limit) bytes.now)
         (λ x. BeginsWithWord decimal (IsNumberUpTo limit) bytes.now x.0 x.1.now) }

@@ -5,7 +5,7 @@ use Rattle.std.proofs.lemmas.Bool.Decides.{nat_tests}
 use Rattle.sat_base.specs.text.Text.{is_digit, is_letter, digits, unsigned_token, negative_token, after_minus, letter_token, token, Number, Letter, Wrong}
 use Rattle.sat_base.specs.text.Tokenizing.{SpellsCapped, BeginsWrong, with_digit}
 
-digits_cons : (n d : ℕ) (ds : List ℕ) → is_digit d ≡ true → digits n (d ∷ ds) ≡ digits (10 * n + (d - 48)) ds
+pub digits_cons : (n d : ℕ) (ds : List ℕ) → is_digit d ≡ true → digits n (d ∷ ds) ≡ digits (10 * n + (d - 48)) ds
 unfolding digits
 digits_cons n d ds e = rw e refl
 
@@ -13,7 +13,7 @@ pub digits_stop : (n d : ℕ) (ds : List ℕ) → is_digit d ≡ false → digit
 unfolding digits
 digits_stop n d ds e = rw e refl
 
-digits_nil : (n : ℕ) → digits n [] ≡ Some n
+pub digits_nil : (n : ℕ) → digits n [] ≡ Some n
 unfolding digits
 digits_nil n = refl
 
@@ -21,7 +21,7 @@ guarded : {A : Type 0} (b : Bool) (o : Option A) (m : A) → cond b o None ≡ S
 guarded true o m h = refl
 guarded false o m h = absurd cc
 
-front_digit : (n m x : ℕ) (ds : List ℕ) → digits n (x ∷ ds) ≡ Some m → is_digit x ≡ true
+pub front_digit : (n m x : ℕ) (ds : List ℕ) → digits n (x ∷ ds) ≡ Some m → is_digit x ≡ true
 unfolding digits
 front_digit n m x ds h = guarded (is_digit x) (digits (10 * n + (x - 48)) ds) m h
 

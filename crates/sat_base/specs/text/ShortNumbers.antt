@@ -1,0 +1,28 @@
+-- Numbers of few digits, which are read from eight bytes at once.
+use Rattle.std.specs.Prelude.{ℕ, ◌≡◌, ◌+◌, ◌*◌, ◌^◌, ◌<◌, ◌≤◌, List, [], ◌∷◌, false, Some, length, take, slice_index}
+use Rattle.std.specs.List.{AllByRecursion}
+use Rattle.sat_base.specs.text.Text.{is_digit, digits}
+
+-- the number with these bytes, the lowest first
+abbrev pub from_bytes : List ℕ → ℕ
+from_bytes [] = 0
+from_bytes (b ∷ bs) = b + 256 * from_bytes bs
+
+-- the number with these decimal digits, which are numbers, after those of `n`
+abbrev pub value_after : ℕ → List ℕ → ℕ
+value_after n [] = n
+value_after n (d ∷ ds) = value_after (10 * n + d) ds
+
+-- that the list consists of eight decimal digits, which are numbers
+pub record AreEightDigits (ds : List ℕ) : Type 0 where
+  pub eight : length ds ≡ 8
+  pub each : AllByRecursion (λ d. d ≤ 9) ds
+
+-- that the bytes begin with this number of digits, from one to seven, which spell this value, and then another byte
+pub record BeginsWithDigits (bytes : List ℕ) (value count : ℕ) : Type 0 where
+  pub some : 0 < count
+  pub few : count ≤ 7
+  pub within : count < length bytes
+  pub spelt : digits 0 (take count bytes) ≡ Some value
+  pub small : value < 2 ^ 64
+  pub ends : is_digit (slice_index bytes count) ≡ false
