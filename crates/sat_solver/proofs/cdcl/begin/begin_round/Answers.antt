@@ -16,7 +16,7 @@ use Rattle.sat_solver.proofs.lemmas.unit_simplify.BeginLemmas.{may_settle, settl
 use Rattle.sat_solver.proofs.lemmas.unit_simplify.PassesLemmas.{passes_after, passes_refl, falls_goes, falls_starved}
 use Rattle.sat_solver.proofs.cdcl.begin.begin_round.Given.{Over}
 use Rattle.sat_solver.proofs.cdcl.begin.begin_round.Goals as goal
-use Rattle.sat_solver.proofs.cdcl.begin.begin_round.Goals.{After-deref, In_ok-settle}
+use Rattle.sat_solver.proofs.cdcl.begin.begin_round.Goals.{After-deref, In_ok-prove_units}
 
 none_open : (xs : List ℕ) → length xs ≤ 0 → xs ≡ []
 none_open [] le = refl
