@@ -1,3 +1,4 @@
+pub mod AddedState
 pub mod Advances
 pub mod Derivation
 pub mod Involved

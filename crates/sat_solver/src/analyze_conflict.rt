@@ -1,4 +1,5 @@
 //! Conflict analysis: finds the clause to learn from a conflict, or assumptions that contradict the clauses.
+pub(crate) mod adding;
 pub mod analyze;
 pub mod laws;
 pub mod learn;

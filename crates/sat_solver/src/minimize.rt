@@ -32,8 +32,11 @@ fn follow_one(
         ≡ record { work = analysis.new; whole = b }) }
     ensures flags { OnOk result (length analysis.new.flags ≡ length graph.now) }
 {
+    if analysis.is_flagged(lit) {
+        return Ok(true);
+    }
     let level = graph.level(lit.var());
-    if level == 0 || analysis.is_flagged(lit) {
+    if level == 0 {
         return Ok(true);
     }
     let reason = graph.reason(lit.var());

@@ -1,3 +1,4 @@
+pub mod Adding
 pub mod Advancing
 pub mod Callers
 pub mod Codes

@@ -11,48 +11,13 @@ ghost use Rattle.sat_solver.specs.analyze_conflict.Derivation.{IsUipClause};
 ghost use Rattle.sat_solver.specs.analyze_conflict.Involved.{CollectionInvariant, BeginsCollecting, CollectionResult};
 
 use crate::analyze_conflict::state::AnalyzeConflict;
-use sat_base::Lit;
 use sat_parts::{Assignment, CauseLits, Conflict, ImplGraph, Trail};
-use sat_store::{ClauseAlloc, Lits};
+use sat_store::ClauseAlloc;
 use std::alloc::AllocError;
-
-/// Adds the false literals `lits` to the analysis, one after another.
-fn add_own(
-    analysis: &mut AnalyzeConflict,
-    graph: &ImplGraph,
-    top: usize,
-    lits: &[Lit],
-) -> Result<(), AllocError>
-    requires nodes { HaveNodes graph.now lits.now }
-    requires flags { length analysis.old.flags ≡ length graph.now }
-    ensures meets { OnOk result (analysis.new ≡ with_seen_literals graph.now top lits.now analysis.old) }
-    ensures flags { OnOk result (length analysis.new.flags ≡ length graph.now) }
-{
-    for lit in lits {
-        analysis.add(graph, top, *lit)?;
-    }
-    Ok(())
-}
-
-/// Adds the false literals of a long clause to the analysis, one after another.
-fn add_long(
-    analysis: &mut AnalyzeConflict,
-    graph: &ImplGraph,
-    top: usize,
-    lits: &Lits<'_>,
-) -> Result<(), AllocError>
-    requires nodes { HaveNodes graph.now lits.now }
-    requires flags { length analysis.old.flags ≡ length graph.now }
-    ensures { OnOk result (analysis.new ≡ with_seen_literals graph.now top lits.now analysis.old) }
-{
-    for at in 0..lits.len() {
-        analysis.add(graph, top, lits.get(at))?;
-    }
-    Ok(())
-}
 
 /// Adds the false literals `lits` to the analysis, one after another. Those at level `top` or above are still to
 /// be resolved.
+#[inline(always)] // called for each clause that analysis uses
 pub(crate) fn add_all(
     analysis: &mut AnalyzeConflict,
     graph: &ImplGraph,
@@ -64,8 +29,8 @@ pub(crate) fn add_all(
     ensures { OnOk result (analysis.new ≡ with_seen_literals graph.now top lits.now analysis.old) }
 {
     let (own, long) = lits.parts();
-    add_own(analysis, graph, top, own)?;
-    add_long(analysis, graph, top, long)?;
+    analysis.add_own(graph, top, own)?;
+    analysis.add_long(graph, top, long)?;
     Ok(())
 }
 

@@ -4,17 +4,18 @@ ghost use Rattle.std.specs.Prelude.{false, [], ◌∷◌, reverse, take, slice_s
 ghost use Rattle.std.specs.List.Sorted.{IsPermutation, IsNonDecreasingBy};
 ghost use Rattle.sat_base.specs.values.Literals.{variable};
 ghost use Rattle.sat_parts.specs.clause.Glue.{AreClear, VariablesBelow, HaveNodes};
-ghost use Rattle.sat_solver.specs.analyze_conflict.AnalysisState.{AnalysisState, with_seen_literal, unflagged, long_of};
+ghost use Rattle.sat_solver.specs.analyze_conflict.AnalysisState.{AnalysisState, with_seen_literals, unflagged};
 ghost use Rattle.sat_solver.specs.analyze_conflict.AnalysisState.{with_reason_used};
 ghost use Rattle.sat_solver.specs.analyze_conflict.AnalysisState.{with_core_literal, begun_analysis, begun_core};
 ghost use Rattle.sat_solver.specs.analyze_conflict.AnalysisState.{with_first};
 ghost use Rattle.sat_solver.specs.analyze_conflict.Derivation.{FlagsAmong, PutsSecond};
 ghost use Rattle.sat_solver.specs.analyze_conflict.Minimal.{FallsBefore, depth_in, marked, used_up, Undoes};
 
+use crate::analyze_conflict::adding::{add_lits, add_long_lits, make_room};
 use crate::analyze_conflict::lists::{order_used, put_highest_second, unflag};
 use sat_base::{Lit, Var};
 use sat_parts::{Conflict, ImplGraph, Reason};
-use sat_store::ClauseRef;
+use sat_store::{ClauseRef, Lits};
 use std::alloc::{AllocError, Global};
 use std::marker::Model;
 
@@ -157,29 +158,57 @@ impl AnalyzeConflict {
         Ok(())
     }
 
-    /// Adds a false literal and flags its variable, unless its level is 0 or its variable is already flagged.
+    /// Adds the false literals `lits`, one after another. A literal whose level is 0 or whose variable is already flagged
+    /// changes nothing.
     ///
     /// A literal below level `top` is added to the learned clause; any other literal is still to be resolved.
-    pub(crate) fn add(&mut self, graph: &ImplGraph, top: usize, lit: Lit) -> Result<(), AllocError>
-        requires node { variable lit < length graph.now }
-        requires flag { variable lit < length self.old.flags }
-        ensures { OnOk result (self.new ≡ with_seen_literal graph.now top lit self.old) }
+    #[inline(always)] // called for each clause that analysis uses
+    pub(crate) fn add_own(
+        &mut self,
+        graph: &ImplGraph,
+        top: usize,
+        lits: &[Lit],
+    ) -> Result<(), AllocError>
+        requires nodes { HaveNodes graph.now lits.now }
+        requires flags { length self.old.flags ≡ length graph.now }
+        ensures seen { OnOk result (self.new ≡ with_seen_literals graph.now top lits.now self.old) }
+        ensures flags { OnOk result (length self.new.flags ≡ length self.old.flags) }
     {
-        let level = graph.level(lit.var());
-        if level == 0 {
-            return Ok(());
-        }
-        let index = lit.index();
-        if self.flags[index] {
-            return Ok(());
-        }
-        self.flags[index] = true;
-        self.seen.push(lit.var())?;
-        if level < top {
-            self.clause.push(lit)?;
-            return Ok(());
-        }
-        self.pending = self.pending.saturating_add(1);
+        make_room(&mut self.clause, &mut self.seen, lits.len())?;
+        add_lits(
+            &mut self.clause,
+            &mut self.seen,
+            &mut self.flags,
+            &mut self.pending,
+            graph,
+            top,
+            lits,
+        );
+        Ok(())
+    }
+
+    /// Adds the false literals of a long clause, as `add_own` does.
+    #[inline(always)] // called for each clause that analysis uses
+    pub(crate) fn add_long(
+        &mut self,
+        graph: &ImplGraph,
+        top: usize,
+        lits: &Lits<'_>,
+    ) -> Result<(), AllocError>
+        requires nodes { HaveNodes graph.now lits.now }
+        requires flags { length self.old.flags ≡ length graph.now }
+        ensures { OnOk result (self.new ≡ with_seen_literals graph.now top lits.now self.old) }
+    {
+        make_room(&mut self.clause, &mut self.seen, lits.len())?;
+        add_long_lits(
+            &mut self.clause,
+            &mut self.seen,
+            &mut self.flags,
+            &mut self.pending,
+            graph,
+            top,
+            lits,
+        );
         Ok(())
     }
 
@@ -212,26 +241,21 @@ impl AnalyzeConflict {
         self.pending = self.pending.saturating_sub(1);
     }
 
-    /// Adds the clause of `reason` to the clauses involved, if it is a long clause.
-    fn involve(&mut self, reason: &Reason) -> Result<(), AllocError>
-        ensures { OnOk result (self.new ≡ record self.old { antecedents = self.old.antecedents ++ long_of reason.now }) }
-    {
-        if let Reason::Long(cref) = reason {
-            self.antecedents.push(*cref)?;
-            return Ok(());
-        }
-        Ok(())
-    }
-
     /// Uses `reason`, the reason for the true literal `lit`. Clears the literal's flag, and adds the literal to the
     /// used literals. If the reason is a long clause, adds it to the clauses involved.
+    #[inline(always)] // called for each literal that is resolved
     pub(crate) fn take_up(&mut self, reason: &Reason, lit: Lit) -> Result<(), AllocError>
         requires flag { variable lit < length self.old.flags }
         ensures { OnOk result (self.new ≡ with_reason_used reason.now lit self.old) }
     {
         self.pass_by(lit);
-        self.used.push(lit)?;
-        self.involve(reason)
+        make_room(&mut self.used, &mut self.antecedents, 1)?;
+        self.used.push_reserved(lit);
+        if let Reason::Long(cref) = reason {
+            self.antecedents.push_reserved(*cref);
+            return Ok(());
+        }
+        Ok(())
     }
 
     /// Adds a literal to the core.

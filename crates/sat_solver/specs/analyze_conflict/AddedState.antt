@@ -1,0 +1,7 @@
+-- The part of an analysis that adding literals changes.
+use Rattle.std.specs.Prelude.{ℕ, Bool, List, []}
+use Rattle.sat_solver.specs.analyze_conflict.AnalysisState.{AnalysisState, analysis_state}
+
+-- the state of an analysis with these added literals, and nothing else
+abbrev pub added_state : (clause seen : List ℕ) (flags : List Bool) (pending : ℕ) → AnalysisState
+added_state clause seen flags pending = analysis_state clause [] seen [] [] flags pending
