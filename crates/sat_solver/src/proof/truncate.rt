@@ -1,5 +1,5 @@
 //! Shortens hashes to their top bits.
-ghost use Rattle.std.specs.Prelude.{ℕ, ◌≡◌, map, OnOk, [], false};
+ghost use Rattle.std.specs.Prelude.{ℕ, ◌≡◌, ◌+◌, ◌-◌, ◌≤◌, ◌++◌, length, map, OnOk, [], false, vec_len, vec_capacity};
 ghost use Rattle.sat_base.specs.steps.StepViews.{step_of};
 ghost use Rattle.sat_solver.specs.proof.Widths.{kept_bits, narrowed};
 
@@ -14,7 +14,6 @@ fn top_bits(hash: ClauseHash, bits: HashBits) -> ClauseHash
     if width == 0 { 0 } else { hash >> (64 - width) }
 }
 
-#[tactic(auto, using(crate::proofs::lemmas::session::CuttingLemmas::narrow_next))]
 /// Replaces the contents of `narrowed` with the top `bits` bits of every hash in `hashes`.
 pub fn narrow(
     narrowed: &mut Vec<ClauseHash>,
@@ -24,10 +23,44 @@ pub fn narrow(
     ensures { OnOk result (narrowed.new.items ≡ map (kept_bits bits) hashes.now) }
 {
     narrowed.clear();
-    for hash in hashes {
-        narrowed.push(top_bits(*hash, bits))?;
+    narrowed.reserve(hashes.len())?;
+    let width = bits.get();
+    if width == 0 {
+        push_zeros(narrowed, hashes);
+        return Ok(());
     }
+    push_shifted(narrowed, hashes, 64 - width);
     Ok(())
+}
+
+/// Returns the top 0 bits of a hash, which are 0.
+fn no_bits(_hash: ClauseHash) -> ClauseHash
+    ensures { result ≡ kept_bits 0 _hash }
+{
+    0
+}
+
+#[tactic(auto, using(crate::proofs::lemmas::session::CuttingLemmas::narrow_next))]
+/// Appends a 0 for every hash in `hashes`. Capacity for them must have been reserved.
+fn push_zeros(narrowed: &mut Vec<ClauseHash>, hashes: &[ClauseHash])
+    requires { vec_len narrowed.old + length hashes.now ≤ vec_capacity narrowed.old }
+    ensures { narrowed.new.items ≡ narrowed.old.items ++ map (kept_bits 0) hashes.now }
+{
+    for hash in hashes {
+        narrowed.push_reserved(no_bits(*hash));
+    }
+}
+
+#[tactic(auto, using(crate::proofs::lemmas::session::CuttingLemmas::narrow_next))]
+/// Appends the hashes in `hashes` without their lowest `shift` bits. Capacity for them must have been reserved.
+fn push_shifted(narrowed: &mut Vec<ClauseHash>, hashes: &[ClauseHash], shift: u32)
+    requires shift { shift ≤ 63 }
+    requires room { vec_len narrowed.old + length hashes.now ≤ vec_capacity narrowed.old }
+    ensures { narrowed.new.items ≡ narrowed.old.items ++ map (kept_bits (64 - shift)) hashes.now }
+{
+    for hash in hashes {
+        narrowed.push_reserved(*hash >> shift);
+    }
 }
 
 /// Replaces the contents of `narrowed` with `units`, keeping only the top `bits` bits of every hash.
