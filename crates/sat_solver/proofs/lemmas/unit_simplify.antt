@@ -5,6 +5,7 @@ pub mod FreedLemmas
 pub mod FreeingLemmas
 pub mod GatherLemmas
 pub mod StrengthenClauseLemmas
+pub mod StatusLemmas
 pub mod StrengthenSearchLemmas
 pub mod PassesLemmas
 pub mod TrueLemmas

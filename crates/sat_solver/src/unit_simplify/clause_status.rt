@@ -1,7 +1,7 @@
 //! The status of long clauses at level 0.
 ghost use Rattle.std.specs.Prelude.{ℕ, ◌<◌};
 ghost use Rattle.sat_parts.specs.clause.Stored.{lit_of, size_of};
-ghost use Rattle.sat_parts.specs.prop.Values.{IsTrueLit, IsFalseLit};
+ghost use Rattle.sat_parts.specs.prop.Values.{IsTrueLit, IsUnassignedLit};
 ghost use Rattle.sat_parts.specs.parts.Whole.{SearchStateInvariant, HasClause};
 ghost use Rattle.sat_solver.specs.unit_simplify.ClauseStatus.{HasClauseStatus};
 
@@ -19,15 +19,16 @@ pub enum ClauseStatus {
     Shorter,
 }
 
-/// Returns the status of a clause whose literal at position `from` is false, and none of whose literals before `from`
+/// Returns the status of a clause whose literal at position `from` is assigned, and none of whose literals before `from`
 /// is true.
+#[tactic(auto, using(crate::proofs::lemmas::unit_simplify::StatusLemmas::false_from_assigned))]
 fn clause_status_from(parts: &SearchState, cref: ClauseRef, from: usize) -> ClauseStatus
     requires holds { SearchStateInvariant parts.now }
     requires live { HasClause parts.now cref }
     requires before { (k : ℕ) → k < from → IsTrueLit parts.now.assignment.current (lit_of parts.now.clauses cref k)
         → ⊥ }
     requires within { from < size_of parts.now.clauses cref }
-    requires there { IsFalseLit parts.now.assignment.current (lit_of parts.now.clauses cref from) }
+    requires there { IsUnassignedLit parts.now.assignment.current (lit_of parts.now.clauses cref from) → ⊥ }
     ensures { HasClauseStatus result parts.now cref }
 {
     for at in from..parts.clauses.len(cref) {
@@ -45,11 +46,7 @@ pub fn clause_status(parts: &SearchState, cref: ClauseRef) -> ClauseStatus
     ensures { HasClauseStatus result parts.now cref }
 {
     for at in 0..parts.clauses.len(cref) {
-        let lit = parts.clauses.lit(cref, at);
-        if parts.assignment.lit_is_true(lit) {
-            return ClauseStatus::Satisfied;
-        }
-        if parts.assignment.lit_is_false(lit) {
+        if !parts.assignment.lit_is_unk(parts.clauses.lit(cref, at)) {
             return clause_status_from(parts, cref, at);
         }
     }
