@@ -3,7 +3,6 @@
 use crate::calls::{Answer, Call, Calls, are_answered, first_wrong};
 use crate::kinds::Kind;
 use sat_base::DimacsError;
-use sat_checker::{CheckerDimacsError, CheckerError};
 use std::alloc::Global;
 
 const TAKEN: Answer = (None, false, false);
@@ -182,34 +181,4 @@ fn all_calls() -> &'static [Calls] {
 fn calls_after_texts_are_answered(rt: HostRuntime) {
     let wrong = first_wrong(rt.alloc(), all_calls());
     assert!(rt; wrong == None, "{wrong:?}");
-}
-
-/// Errors, and how they are printed.
-static PRINTED: [(CheckerDimacsError, &str); 2] = [
-    (
-        CheckerDimacsError::Dimacs(DimacsError::Read),
-        "the formula can't be read",
-    ),
-    (
-        CheckerDimacsError::Checker(CheckerError::CheckFailed),
-        "a proof step is refused",
-    ),
-];
-
-fn printed() -> &'static [(CheckerDimacsError, &'static str)] {
-    &PRINTED
-}
-
-fn is_printed(alloc: Global, error: &CheckerDimacsError, text: &str) -> bool {
-    match format!(in alloc; "{error}") {
-        Ok(printed) => printed.as_str() == text,
-        Err(_) => false,
-    }
-}
-
-#[test]
-fn errors_are_printed(rt: HostRuntime) {
-    for (error, text) in printed() {
-        assert!(rt; is_printed(rt.alloc(), error, *text), "{text}");
-    }
 }

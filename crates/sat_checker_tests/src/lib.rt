@@ -18,6 +18,8 @@ mod devices;
 #[cfg(test)]
 mod dimacs;
 #[cfg(test)]
+mod errors;
+#[cfg(test)]
 mod failures;
 #[cfg(test)]
 mod hearing;
