@@ -1,5 +1,5 @@
 -- Adding literals changes neither the used literals, the antecedents nor the core.
-use Rattle.std.proofs.Common.{ℕ, ◌≡◌, ◌==◌, Bool, true, false, cond, eqb, ltb, List, [], ◌∷◌, ◌++◌, ◌+◌, ◌-◌, ◌^◌, min, get_or, set, refl, sym, ap, ◌∙◌}
+use Rattle.std.proofs.Common.{ℕ, ◌≡◌, Bool, true, false, cond, eqb, ltb, List, [], ◌∷◌, ◌++◌, ◌+◌, ◌-◌, ◌^◌, min, get_or, set, refl, ap, ◌∙◌}
 use Rattle.sat_base.specs.values.Literals.{variable}
 use Rattle.sat_parts.specs.declared.prop.graph.ImplNode.{ImplNode}
 use Rattle.sat_parts.specs.prop.Graphs.{node_of}
