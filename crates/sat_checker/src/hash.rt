@@ -47,8 +47,8 @@ impl ClauseHasher {
         ensures names { OnOk result ((v : ℕ) → solver_name_of self.new v
             ≡ (if v == var then name else solver_name_of self.old v)) }
     {
-        self.solver_names
-            .set(var.index(), MaybeVar::new(name), MaybeVar::none())
+        let packed = MaybeVar::new(name);
+        self.solver_names.set(var.index(), packed, MaybeVar::none())
     }
 
     /// Returns the solver name of a variable, if it has one.

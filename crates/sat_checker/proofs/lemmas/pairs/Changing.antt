@@ -1,15 +1,15 @@
 -- What heads and links list after a pair is added or removed.
 use Rattle.std.proofs.Common.{ℕ, zero, suc, drop, ◌+◌, ◌<◌, ◌≤◌, ◌≡◌, ◌≢◌, Bool, true, false, not, cond, eqb, List, [], ◌∷◌, ◌++◌, length, take, refl, sym, ◌∙◌, ap, subst, arith, None, Some, slice_set, length-append}
 use Rattle.std.proofs.lemmas.Bool.{eq-eqb, ne_eqb, eqb-true, eqb-false}
-use Rattle.std.proofs.lemmas.List.{get_or-set_same, get_or-set_other, get_or_push, get_or_append_left, length-set, drop_all, append-nil}
+use Rattle.std.proofs.lemmas.List.{get_or-set_same, get_or-set_other, get_or_push, get_or_append_left, length-set, append-nil}
 use Rattle.std.specs.List.{All, AllByRecursion}
 use Rattle.sat_checker.specs.inner.PairView.{without_pair}
-use Rattle.sat_checker.specs.inner.LinkView.{nowhere, gone, link_at, LinksPairs, pairs_from, pairs_on, listed_pairs, rest, top_of, with_top, head_at, AreLinkedFrom, AreLinked, AreKeptPairs, LinksListPairs, IsLinkSet, last_or, place_before}
+use Rattle.sat_checker.specs.inner.LinkView.{nowhere, gone, link_at, LinksPairs, pairs_on, listed_pairs, rest, top_of, with_top, head_at, AreLinkedFrom, AreLinked, AreKeptPairs, LinksListPairs, IsLinkSet, last_or, place_before}
 use Rattle.sat_checker.specs.declared.store.links.Pair.{Pair}
 use Rattle.sat_checker.specs.declared.store.links.Link.{Link}
 use Rattle.sat_checker.proofs.lemmas.pairs.Order.{all_weaker, all_both, all_filter, all_pass, filter_two, filter_swap, without_none, without_apart}
 use Rattle.sat_checker.proofs.lemmas.pairs.Walks.{IsThere}
-use Rattle.sat_checker.proofs.lemmas.pairs.Places.{all_there, pairs_above, pairs_push, pairs_relinked, pairs_removed, pairs_none, on_skip, on_set_here, only_after, only_front}
+use Rattle.sat_checker.proofs.lemmas.pairs.Places.{all_there, pairs_above, pairs_push, pairs_relinked, pairs_removed, pairs_none, on_set_here, only_after, only_front}
 use Rattle.sat_checker.proofs.lemmas.pairs.Links.{leads_same, leads_present, leads_further, last_member, none_last, before_member, after_member, part_is, part_order, part_there, unlinked, unlinked_first, unlinked_none, IsUnlinked}
 
 -- the pairs of one top, after a pair
@@ -62,10 +62,6 @@ module _ (heads : List ℕ) (links : List Link) (shift hash place top : ℕ) (a 
     parts = λ s i. subst (λ n. LinksPairs (slice_set links place front) (head_at (slice_set heads top place) s) (with_top shift n s (pairs_on place (slice_set links place front)))) (sym (length-set heads top place)) (part_front s (omega (arith, i, length-set heads top place)));
   }
 
--- no pair is linked at the place
-pub linked_skip : (heads : List ℕ) (links : List Link) (shift place : ℕ) → AreLinkedFrom (place + 1) heads links shift → place < length links → (link_at links place).next ≡ gone → AreLinkedFrom place heads links shift
-linked_skip heads links shift place a l e = record { few = a.few; parts = λ s i. subst (λ ps. LinksPairs links (head_at heads s) (with_top shift (length heads) s ps)) (sym (on_skip links place l e)) (a.parts s i) }
-
 -- a place where the same pairs are, from there on
 pub linked_same : (heads : List ℕ) (links : List Link) (shift from to : ℕ) → AreLinkedFrom from heads links shift → pairs_on from links ≡ pairs_on to links → AreLinkedFrom to heads links shift
 linked_same heads links shift from to a e = record { few = a.few; parts = λ s i. subst (λ ps. LinksPairs links (head_at heads s) (with_top shift (length heads) s ps)) e (a.parts s i) }
@@ -90,9 +86,6 @@ kept_before heads now links new shift place hash k a s count l h = record {
 -- nothing is linked yet: all heads are `nowhere`
 pub linked_none : (heads : List ℕ) (links : List Link) (shift place : ℕ) → length links ≤ gone → All (λ h. h ≡ nowhere) heads → pairs_on place links ≡ [] → AreLinkedFrom place heads links shift
 linked_none heads links shift place few none e = record { few = few; parts = λ s i. subst (λ ps. LinksPairs links (head_at heads s) (with_top shift (length heads) s ps)) (sym e) (none s 0 i) }
-
-pub on_end : (links : List Link) (n : ℕ) → n ≡ length links → pairs_on n links ≡ []
-on_end links n e = ap (pairs_from n) (drop_all n links (omega (arith, e)))
 
 module _ (heads : List ℕ) (links : List Link) (shift : ℕ) (a : AreLinked heads links shift) (top : ℕ) (inside : top < length heads) where
   -- a place whose hash has one top is not in the list of another top

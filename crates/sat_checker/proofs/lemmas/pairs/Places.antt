@@ -1,7 +1,7 @@
 -- The pairs of a list of links, in order of their places.
 use Rattle.std.proofs.Common.{ℕ, zero, suc, ◌+◌, ◌<◌, ◌≤◌, ◌≡◌, ◌≢◌, Bool, true, false, cond, eqb, List, [], ◌∷◌, ◌++◌, drop, length, refl, sym, ◌∙◌, ap, arith, slice_set}
 use Rattle.std.proofs.lemmas.Bool.{eq-eqb, ne_eqb, eqb-false}
-use Rattle.std.proofs.lemmas.List.{drop_more, length-drop, length-set, get_or-set_same}
+use Rattle.std.proofs.lemmas.List.{drop_more, length-set, get_or-set_same}
 use Rattle.std.specs.List.{AllByRecursion}
 use Rattle.sat_checker.specs.inner.PairView.{AreInOrder, without_pair}
 use Rattle.sat_checker.specs.inner.LinkView.{gone, link_at, pairs_from, pairs_on, listed_pairs}
@@ -106,9 +106,6 @@ pairs_none k [] h = refl
 pairs_none k (x ∷ ls) h = pairs_skip k x ls (h 0 (omega arith)) ∙ pairs_none (k + 1) ls (λ i l. h (suc i) (omega arith))
 
 -- the pairs from a place on
-pub on_skip : (links : List Link) (k : ℕ) → k < length links → (link_at links k).next ≡ gone → pairs_on k links ≡ pairs_on (k + 1) links
-on_skip links k l e = ap (pairs_from k) (drop_more links k (record { hash = 0; next = 0 }) l) ∙ pairs_skip k (link_at links k) (drop (k + 1) links) e
-
 pub on_keep : (links : List Link) (k : ℕ) → k < length links → (link_at links k).next ≢ gone → pairs_on k links ≡ (record { hash = (link_at links k).hash; place = k }) ∷ pairs_on (k + 1) links
 on_keep links k l e = ap (pairs_from k) (drop_more links k (record { hash = 0; next = 0 }) l) ∙ pairs_keep k (link_at links k) (drop (k + 1) links) e
 
@@ -130,9 +127,6 @@ on_set_here links k x l n =
     let here : link_at (slice_set links k x) k ≡ x = get_or-set_same links k x (record { hash = 0; next = 0 }) l in
     on_keep (slice_set links k x) k (omega (arith, length-set links k x, l)) (λ e. n (sym (ap (λ (y : Link). y.next) here) ∙ e))
     ∙ ap (λ (y : Link). (record { hash = y.hash; place = k }) ∷ pairs_on (k + 1) (slice_set links k x)) here ∙ ap (λ ps. (record { hash = x.hash; place = k }) ∷ ps) (on_set links k x)
-
-pub length_on : (links : List Link) (k : ℕ) → length (pairs_on k links) ≤ length links
-length_on links k = let a : length (pairs_from k (drop k links)) ≤ length (drop k links) = length_pairs k (drop k links) in let b : length (drop k links) ≤ length links = omega (arith, length-drop k links) in omega (arith, a, b)
 
 -- if all pairs are after a place, they are those from the next place on, and one put at the place is the first
 module _ (links : List Link) (k : ℕ) (h : AllByRecursion (λ (p : Pair). k < p.place) (listed_pairs links)) where

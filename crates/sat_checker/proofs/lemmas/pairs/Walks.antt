@@ -69,10 +69,6 @@ step_on links at w n = go (rest links at) refl w.leads
           shorter = omega arith;
         }
 
--- the place of a walk that has not ended
-pub walk_inside : (links : List Link) (at : ℕ) → IsWalk links at → at ≢ nowhere → at < length links
-walk_inside links at w n = (step_on links at w n).inside
-
 module _ (links : List Link) (at : ℕ) (link : Link) (w : IsWalk links at) (n : at ≢ nowhere) (read : link ≡ link_at links at) where
   step : IsStep links at
   step = step_on links at w n

@@ -1,10 +1,10 @@
 -- The open literals of a clause, counted one after another.
 use Rattle.std.proofs.Common.{ℕ, ◌+◌, ◌*◌, ◌%◌, ◌^◌, ◌<◌, ◌≤◌, ◌≡◌, Bool, true, false, not, cond, List, [], ◌∷◌, ◌++◌, length, length-append, take, get_or, refl, sym, ◌∙◌, ap, arith}
-use Rattle.std.proofs.lemmas.List.{append-nil, take_all}
+use Rattle.std.proofs.lemmas.List.{append-nil}
 use Rattle.std.proofs.lemmas.List.Elements.{filter_more}
 use Rattle.sat_base.specs.values.Literals.{var_limit, negated}
 use Rattle.sat_checker.specs.LiteralSets.{is_among}
-use Rattle.sat_checker.specs.ClauseStates.{falsified, becomes_unit, neither, not_false, state_by_open, clause_state}
+use Rattle.sat_checker.specs.ClauseStates.{not_false}
 
 -- That the literals before a place that are not false are counted. If there is only one, `codes` is its code.
 pub record CountsOpen (assumed clause : List ℕ) (place number codes : ℕ) : Type 0 where
@@ -18,9 +18,6 @@ no_items [] e = refl
 no_items (x ∷ xs) e = absurd (omega arith)
 
 module _ (assumed clause : List ℕ) (place : ℕ) (inside : place < length clause) where
-  item : ℕ
-  item = get_or clause place 0
-
   next_open : (b : Bool) → b ≡ not (is_among assumed (negated (get_or clause place 0))) → not_false assumed (take (place + 1) clause) ≡ not_false assumed (take place clause) ++ cond b (get_or clause place 0 ∷ []) []
   next_open b e = filter_more (λ l. not (is_among assumed (negated l))) clause place 0 inside ∙ ap (λ t. not_false assumed (take place clause) ++ cond t (get_or clause place 0 ∷ []) []) (sym e)
 
@@ -55,22 +52,3 @@ module _ (assumed clause : List ℕ) (place : ℕ) (inside : place < length clau
 
 pub CountsOpen-first : (assumed clause : List ℕ) → CountsOpen assumed clause 0 0 0
 CountsOpen-first assumed clause = record { count = refl; few = omega arith; none = λ z. refl; one = λ z. absurd (omega arith) }
-
--- the verdict once all literals are counted
-module _ (assumed clause : List ℕ) (place number codes : ℕ) (over : length clause ≤ place) (h : CountsOpen assumed clause place number codes) where
-  all_open : not_false assumed (take place clause) ≡ not_false assumed clause
-  all_open = ap (not_false assumed) (take_all place clause over)
-
-  pub counted_none : number ≡ 0 → falsified ≡ clause_state assumed clause
-  counted_none z = sym (ap (state_by_open assumed) (sym all_open ∙ no_items (not_false assumed (take place clause)) (sym z ∙ h.count)))
-
-  pub counted_one : number ≡ 1 → clause_state assumed clause ≡ cond (is_among assumed codes) neither (becomes_unit codes)
-  counted_one z = ap (state_by_open assumed) (sym all_open ∙ (h.one z).0)
-
-  pub counted_more : 1 < number → neither ≡ clause_state assumed clause
-  counted_more m = go (not_false assumed (take place clause)) (omega (arith, h.count)) ∙ ap (state_by_open assumed) all_open
-    where
-      go : (xs : List ℕ) → 1 < length xs → neither ≡ state_by_open assumed xs
-      go [] l = absurd (omega arith)
-      go (x ∷ []) l = absurd (omega arith)
-      go (x ∷ y ∷ ys) l = refl

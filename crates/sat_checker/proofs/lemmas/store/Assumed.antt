@@ -1,8 +1,8 @@
 -- The first clause with a hash, compared with the assumed literals.
-use Rattle.std.proofs.Common.{ℕ, suc, ◌+◌, ◌<◌, ◌≤◌, ◌≡◌, Bool, true, false, not, ◌&&◌, ◌||◌, cond, eqb, List, [], ◌∷◌, length, map, reverse, Option, Some, refl, sym, ◌∙◌, ap, subst, arith}
+use Rattle.std.proofs.Common.{ℕ, suc, ◌+◌, ◌<◌, ◌≤◌, ◌≡◌, Bool, true, false, not, ◌&&◌, ◌||◌, cond, eqb, List, [], ◌∷◌, length, map, reverse, Some, refl, sym, ◌∙◌, ap, subst, arith}
 use Rattle.std.proofs.lemmas.Bool.{eqb-true, true≢false}
 use Rattle.sat_checker.specs.LiteralSets.{is_among, canonical, same_literals}
-use Rattle.sat_checker.specs.Looks.{total_length, literal_count}
+use Rattle.sat_checker.specs.Looks.{total_length}
 use Rattle.sat_checker.specs.Stored.{Stored, hash_by}
 use Rattle.sat_checker.specs.Storing.{clause_with}
 use Rattle.sat_checker.specs.HasherView.{solver_name_of, width_of}
@@ -10,8 +10,7 @@ use Rattle.sat_checker.specs.inner.Marks.{NoRepeats, IsIncreasing}
 use Rattle.sat_checker.specs.inner.OccurrenceView.{times_in}
 use Rattle.sat_checker.specs.inner.PairView.{first_of}
 use Rattle.sat_checker.specs.inner.SlotView.{Slot, slot_at, slot_count, literals_at, is_gone, is_filed, bucket_in, places_from, places_of, is_same_at, found_among, without_count_at}
-use Rattle.sat_checker.specs.inner.StoreView.{AreHashed, RepresentsClauses, store_count_in, with_less}
-use Rattle.sat_checker.specs.declared.hash.ClauseHasher.{ClauseHasher}
+use Rattle.sat_checker.specs.inner.StoreView.{RepresentsClauses, store_count_in, with_less}
 use Rattle.sat_checker.specs.declared.store.Store.{Store}
 use Rattle.sat_checker.proofs.lemmas.meaning.Clauses.{same}
 use Rattle.sat_checker.proofs.lemmas.sets.Canonical.{canonical_among, canonical_increasing, same_increasing}
@@ -19,7 +18,7 @@ use Rattle.sat_checker.proofs.lemmas.sets.Marks.{below_all}
 use Rattle.sat_checker.proofs.lemmas.sets.Order.{among-reverse}
 use Rattle.sat_checker.proofs.lemmas.store.Counting.{times_beyond}
 use Rattle.sat_checker.proofs.lemmas.store.Finding.{bucket_literals}
-use Rattle.sat_checker.proofs.lemmas.store.Storing.{hashed_at, looks_one, count_there, deleted_one}
+use Rattle.sat_checker.proofs.lemmas.store.Storing.{hashed_at, count_there, deleted_one}
 
 -- a literal of a list without repeats occurs once
 times_of : (l : ℕ) (xs : List ℕ) → NoRepeats xs → times_in l xs ≡ cond (is_among xs l) 1 0

@@ -1,4 +1,4 @@
-use Rattle.std.proofs.Common.{ℕ, ◌<◌, ◌≡◌, ◌∙◌, true, sym, ap, subst}
+use Rattle.std.proofs.Common.{◌<◌, ◌∙◌, true, sym, ap, subst}
 use Rattle.sat_checker.specs.LiteralSets.{canonical}
 use Rattle.sat_checker.specs.Storing.{clause_with, redundant_count}
 use Rattle.sat_checker.specs.inner.FormulaView.{AreNumbered}

@@ -1,11 +1,10 @@
-use Rattle.std.proofs.Common.{ℕ, ◌+◌, ◌*◌, ◌≤◌, ◌≡◌, Bool, true, false, refl, sym, ap, ◌∙◌, arith}
+use Rattle.std.proofs.Common.{◌+◌, ◌*◌, ◌≤◌, ◌≡◌, false, refl, ◌∙◌, arith}
 use Rattle.sat_base.specs.steps.Steps.{DeleteClause}
 use Rattle.sat_base.specs.steps.StepViews.{deletion_of}
 use Rattle.sat_checker.specs.Accepts.{effect}
 use Rattle.sat_checker.specs.Looks.{literal_count}
 use Rattle.sat_checker.specs.Stored.{Stored}
-use Rattle.sat_checker.specs.inner.FormulaView.{RepresentsFormula}
-use Rattle.sat_checker.specs.inner.StateView.{RepresentsStored, LooksWithin}
+use Rattle.sat_checker.specs.inner.StateView.{RepresentsStored}
 use Rattle.sat_checker.proofs.lemmas.state.Deleted.{count_deleted, one_pass}
 use Rattle.sat_checker.proofs.lemmas.state.Keeping.{deleted_kept}
 use Rattle.sat_checker.proofs.lemmas.variables.Keeping.{match_true, match_false}

@@ -1,11 +1,9 @@
-use Rattle.std.proofs.Common.{ℕ, ◌+◌, ◌<◌, ◌≤◌, ◌≡◌, Bool, true, length, sym, ap, subst, ◌∙◌, arith}
+use Rattle.std.proofs.Common.{◌≡◌, true, sym, ap, subst, ◌∙◌, arith}
 use Rattle.sat_checker.specs.LiteralSets.{canonical, same_literals}
-use Rattle.sat_checker.specs.Looks.{literal_count, total_length}
-use Rattle.sat_checker.specs.Stored.{Stored}
+use Rattle.sat_checker.specs.Looks.{literal_count}
 use Rattle.sat_checker.specs.inner.Looking.{LooksOver}
 use Rattle.sat_checker.specs.inner.Marks.{IsIncreasing}
-use Rattle.sat_checker.specs.inner.OccurrenceView.{times_in}
-use Rattle.sat_checker.specs.inner.SlotView.{slot_ids, bucket_in, literals_at}
+use Rattle.sat_checker.specs.inner.SlotView.{slot_ids, literals_at}
 use Rattle.sat_checker.specs.inner.StoreView.{RepresentsClauses}
 use Rattle.sat_checker.proofs.lemmas.state.Living.{at_place}
 use Rattle.sat_checker.proofs.lemmas.store.Assumed.{times_assumed, first_filed, first_length, count_of_first, deleted_first}

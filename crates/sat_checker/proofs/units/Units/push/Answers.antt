@@ -1,4 +1,4 @@
-use Rattle.std.proofs.Common.{◌-◌, ◌++◌, ◌∷◌, [], ◌≡◌, ◌∙◌, length, sym, ap, subst, arith}
+use Rattle.std.proofs.Common.{◌++◌, ◌∷◌, [], ◌∙◌, sym, ap, subst}
 use Rattle.sat_checker.specs.Stored.{StoredUnit}
 use Rattle.sat_checker.specs.inner.AssumedRoom.{LiteralsAndRoom}
 use Rattle.sat_checker.specs.inner.UnitView.{UnitsAndRoom, UnitsInvariant}

@@ -1,5 +1,5 @@
-use Rattle.std.proofs.Common.{ℕ, ◌+◌, ◌<◌, ◌≡◌, List, [], ◌∷◌, ◌++◌, length, take, get_or, reverse, sym, ap, ◌∙◌, arith}
-use Rattle.std.proofs.lemmas.List.{get_or_read, take_more, take_all, reverse-append}
+use Rattle.std.proofs.Common.{ℕ, ◌+◌, ◌<◌, ◌≡◌, List, [], ◌∷◌, length, take, get_or, reverse, sym, ap, ◌∙◌}
+use Rattle.std.proofs.lemmas.List.{get_or_read, take_more, reverse-append}
 use Rattle.sat_checker.specs.inner.AssumedRoom.{LiteralsAndRoom}
 use Rattle.sat_checker.proofs.lemmas.variables.Keeping.{match_true}
 use Rattle.sat_checker.proofs.units.valuation.assume_distinct.Goals as goal
