@@ -9,3 +9,5 @@ mod checks;
 mod converts;
 #[cfg(test)]
 mod devices;
+#[cfg(test)]
+mod errors;
