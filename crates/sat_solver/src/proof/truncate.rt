@@ -34,6 +34,7 @@ pub fn narrow(
 }
 
 /// Returns the top 0 bits of a hash, which are 0.
+#[inline(always)]
 fn no_bits(_hash: ClauseHash) -> ClauseHash
     ensures { result ≡ kept_bits 0 _hash }
 {
@@ -51,6 +52,15 @@ fn push_zeros(narrowed: &mut Vec<ClauseHash>, hashes: &[ClauseHash])
     }
 }
 
+/// Returns a hash without its lowest `shift` bits.
+#[inline(always)]
+fn without_low_bits(hash: ClauseHash, shift: u32) -> ClauseHash
+    requires { shift ≤ 63 }
+    ensures { result ≡ kept_bits (64 - shift) hash }
+{
+    hash >> shift
+}
+
 #[tactic(auto, using(crate::proofs::lemmas::session::CuttingLemmas::narrow_next))]
 /// Appends the hashes in `hashes` without their lowest `shift` bits. Capacity for them must have been reserved.
 fn push_shifted(narrowed: &mut Vec<ClauseHash>, hashes: &[ClauseHash], shift: u32)
@@ -59,7 +69,7 @@ fn push_shifted(narrowed: &mut Vec<ClauseHash>, hashes: &[ClauseHash], shift: u3
     ensures { narrowed.new.items ≡ narrowed.old.items ++ map (kept_bits (64 - shift)) hashes.now }
 {
     for hash in hashes {
-        narrowed.push_reserved(*hash >> shift);
+        narrowed.push_reserved(without_low_bits(*hash, shift));
     }
 }
 
