@@ -33,6 +33,9 @@ returns-in-Err-clause-hides g c =
     rw (c.fail.ensures.error, c.fail.ensures.fails, c.from.ensures) (mode_ends g.W.CountedWrite.seen _ s (failed_with failing) c.args.user _ _ _
     c.if-self.false (not_marked s (c.requires c.if-self.false) c.args.user (c.is_assumed.ensures.free c.if-is_assumed.false)) (said_room s.names (c.args.user ∷ []) c.has_room_for.result c.has_room_for.ensures c.if-not-has_room_for.false) (reported_fails c.in-Err.error (c.in-Err.ensures.room (said_room s.names (c.args.user ∷ []) c.has_room_for.result c.has_room_for.ensures c.if-not-has_room_for.false))) (names_reported g.W.CountedWrite.seen _ s.core failing (names_broke g.W.CountedWrite.seen s.core (record s.core { proof = c.hide_var.new.writer }) c.in-Err.error (c.in-Err.ensures.emits s.core.proof (none_took g.W.CountedWrite.seen s.core.proof))).0) refl refl)
 
+pub has_room_for-requires : goal.has_room_for-requires
+has_room_for-requires g c = (c.requires c.if-self.false).valid.tidy
+
 pub returns-then-not-has_room_for-clause-hides : goal.returns-then-not-has_room_for-clause-hides
 returns-then-not-has_room_for-clause-hides g c =
     let s = c.args.self.now in
