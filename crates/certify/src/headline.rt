@@ -1,6 +1,7 @@
 //! The headline for texts in memory: runs a script, confirms what the run wrote, and confirms any other answers to
 //! the script.
-ghost use Rattle.std.specs.Prelude.{◌≤◌, ◌+◌, IfOk, OnOk};
+ghost use Rattle.std.specs.Prelude.{◌≡◌, ◌≤◌, ◌+◌, IfOk, OnOk};
+ghost use Rattle.sat_base.specs.device.Device.{GaveEnough};
 ghost use Rattle.certify.specs.laws.EndToEnd.{Certified, VerdictGuarantee, most_looks_over};
 ghost use Rattle.certify.specs.laws.Headline.{Headline};
 ghost use Rattle.certify.specs.run.FinishedRun.{CertificateGuarantee, rounds_of_asks};
@@ -10,7 +11,7 @@ use crate::fault::RunFault;
 use crate::run::run;
 use crate::summary::Summary;
 use crate::verdict::{ConfirmFault, Verdict};
-use sat_base::Counted;
+use sat_base::{Counted, CountedRead};
 use sat_checker::Looks;
 use std::alloc::Global;
 
@@ -37,19 +38,19 @@ pub enum HeadlineFault {
     Confirm(ConfirmFault),
 }
 
-/// Answers a script in memory.
-pub(crate) fn run_over(alloc: Global, script: &[u8], budget: u64) -> Result<Written, RunFault>
-    ensures { IfOk result (λ w. CertificateGuarantee script.now budget w.summary w.answers.items w.certificate.items) }
+/// Answers a script, and keeps the answers and the certificate in memory.
+pub(crate) fn run_in_memory<S: CountedRead>(
+    alloc: Global,
+    script: &mut S,
+    budget: u64,
+) -> Result<Written, RunFault>
+    ensures wrote { IfOk result (λ w. GaveEnough (S.seen script.old) (S.seen script.new)
+        (λ text. CertificateGuarantee text budget w.summary w.answers.items w.certificate.items)) }
+    ensures kept { OnOk result ((S.seen script.new).failures ≡ (S.seen script.old).failures) }
 {
     let mut answers = Counted::new(Vec::new(alloc));
     let mut certificate = Counted::new(Vec::new(alloc));
-    match run(
-        alloc,
-        &mut Counted::new(script),
-        &mut answers,
-        &mut certificate,
-        budget,
-    ) {
+    match run(alloc, script, &mut answers, &mut certificate, budget) {
         Ok(summary) => Ok(Written {
             summary,
             answers: answers.into_inner(),
@@ -57,6 +58,13 @@ pub(crate) fn run_over(alloc: Global, script: &[u8], budget: u64) -> Result<Writ
         }),
         Err(fault) => Err(fault),
     }
+}
+
+/// Answers a script in memory.
+pub(crate) fn run_over(alloc: Global, script: &[u8], budget: u64) -> Result<Written, RunFault>
+    ensures { IfOk result (λ w. CertificateGuarantee script.now budget w.summary w.answers.items w.certificate.items) }
+{
+    run_in_memory(alloc, &mut Counted::new(script), budget)
 }
 
 /// Compares a script, answers and a certificate in memory.

@@ -1,15 +1,16 @@
 //! What the program does with its arguments and its standard streams.
-ghost use Rattle.std.specs.Prelude.{◌≡◌, ◌≤◌, [], map, IfOk};
+ghost use Rattle.std.specs.Prelude.{MatchResult, [], map};
 ghost use Rattle.std.specs.String.{string_bytes};
 ghost use Rattle.certify.specs.Devices.{reader_before_after, writer_before_after};
-ghost use Rattle.certify.specs.program.Calls.{ReportsUsage, request_of};
-ghost use Rattle.certify.specs.program.FileCalls.{CallDone, DoneOverFiles};
-ghost use Rattle.certify.specs.program.Printing.{PrintsAtMost, PrintsVerdict};
+ghost use Rattle.certify.specs.program.Calls.{status_of};
+ghost use Rattle.certify.specs.program.FileCalls.{DoesCall, files_of};
+ghost use Rattle.certify.specs.program.Program.{ObeysWithFiles, Unread, effect};
 
 mod call;
 mod fault;
-mod files;
 mod hint_line;
+pub(crate) mod keeping;
+pub mod opened;
 mod overlap;
 mod printing;
 mod progress;
@@ -18,19 +19,22 @@ mod texts;
 mod verdict_line;
 
 use crate::fault::RunFault;
-use crate::program::call::{Call, call_of};
+use crate::program::call::call_of;
 use crate::program::fault::ProgramFault;
-use crate::program::files::{check_file, confirm_files, hint_files, run_files};
+use crate::program::opened::{OpenCall, open_call};
 use crate::program::printing::{failed, misused};
 use crate::program::standard::answer;
+use crate::program::texts::{check_text, confirm_given, run_text, write_hints};
 use sat_base::{CountedRead, CountedWrite};
+use std::alloc::Global;
 use std::fs::Files;
 use std::io;
+use std::io::{Read, Write};
 
 /// Does what the arguments ask for. `arguments` does not contain the program's own name.
 ///
-/// - Without arguments: answers the script on `input`, confirms the answers with a certificate that is kept in memory,
-///   and writes the answers and `c confirmed` to `output`.
+/// - Without arguments: answers the script on `input` while reading it, confirms the answers with a certificate that is
+///   kept in memory, and writes the answers and `c confirmed` to `output`. Nothing is read past the end of the script.
 /// - `run S A C [STEPS]`: answers the script in the file S, and writes the answers to A and the certificate to C. Each
 ///   ask may take at most STEPS rounds of search. STEPS is at most 2^64-1, which is the default.
 /// - `confirm S A C`: checks whether the answers in A to the script in S are confirmed by the certificate in C, and
@@ -61,21 +65,12 @@ pub fn program<R: AllocGlobal + Files, I: CountedRead, O: CountedWrite, E: Count
     output: &mut O,
     errors: &mut E,
 ) -> u8
-    ensures status { result ≤ 3 }
-    // If the arguments are text but not a valid call, the status is 2. For a valid call it is 2 only if the call
-    // writes files.
-    ensures usage { IfOk arguments (λ words. ReportsUsage (map string_bytes words.items) result) }
-    // Without arguments and with status 0 or 1, the output received correct answers to the script, each unknown only if
-    // its rounds are exhausted, and then `c confirmed`. Status 0 means that the script is not malformed.
-    ensures printed { IfOk arguments (λ words. words.items ≡ [] → result ≤ 1
-        → PrintsVerdict result (reader_before_after I.seen input.old input.new) (writer_before_after O.seen output.old output.new)) }
-    // Without arguments and with any status, the output received a prefix of such a text, perhaps an empty one.
-    ensures prefix { IfOk arguments (λ words. words.items ≡ []
-        → PrintsAtMost (reader_before_after I.seen input.old input.new) (writer_before_after O.seen output.old output.new)) }
-    // After a call that names files, with status 0 or 1, the files that were opened were read and written as the
-    // call asks.
-    ensures files { IfOk arguments (λ words. DoneOverFiles R.File.remaining R.File.contents
-        (map string_bytes words.items) result (writer_before_after O.seen output.old output.new)) }
+    // The call that the arguments ask for is made: `DoesRequest` has one line for each call. Other arguments change nothing.
+    ensures { MatchResult arguments
+        (λ words. ObeysWithFiles (map string_bytes words.items)
+        (effect result (reader_before_after I.seen input.old input.new) (writer_before_after O.seen output.old output.new)))
+        (λ error. Unread error
+        (effect result (reader_before_after I.seen input.old input.new) (writer_before_after O.seen output.old output.new) [])) }
 {
     match arguments {
         Ok(words) => obey(rt, &words, input, output, errors),
@@ -88,7 +83,7 @@ pub fn program<R: AllocGlobal + Files, I: CountedRead, O: CountedWrite, E: Count
     }
 }
 
-/// Does what the arguments `words` ask for. Returns the status.
+/// Does what the arguments `words` ask for: opens the files, and carries out the call. Returns the status.
 fn obey<R: AllocGlobal + Files, I: CountedRead, O: CountedWrite, E: CountedWrite>(
     rt: &R,
     words: &[String],
@@ -96,44 +91,70 @@ fn obey<R: AllocGlobal + Files, I: CountedRead, O: CountedWrite, E: CountedWrite
     output: &mut O,
     errors: &mut E,
 ) -> u8
-    ensures status { result ≤ 3 }
-    ensures usage { ReportsUsage (map string_bytes words.now) result }
-    ensures printed { words.now ≡ [] → result ≤ 1
-        → PrintsVerdict result (reader_before_after I.seen input.old input.new) (writer_before_after O.seen output.old output.new) }
-    ensures prefix { words.now ≡ []
-        → PrintsAtMost (reader_before_after I.seen input.old input.new) (writer_before_after O.seen output.old output.new) }
-    ensures files { DoneOverFiles R.File.remaining R.File.contents (map string_bytes words.now) result
-        (writer_before_after O.seen output.old output.new) }
+    ensures { ObeysWithFiles (map string_bytes words.now)
+        (effect result (reader_before_after I.seen input.old input.new) (writer_before_after O.seen output.old output.new)) }
 {
-    if words.is_empty() {
-        return match answer(rt.alloc(), input, output, errors) {
-            Ok(status) => status,
-            Err(fault) => failed(errors, fault),
-        };
-    }
-    match call_of(words) {
-        None => misused(errors),
-        Some(call) => match serve(rt, &call, output, errors) {
-            Ok(status) => status,
-            Err(fault) => failed(errors, fault),
-        },
+    let Some(call) = call_of(words) else {
+        return misused(errors);
+    };
+    match open_call(rt, &call) {
+        Ok(Some(mut opened)) => carry_out(rt.alloc(), &mut opened, input, output, errors),
+        Ok(None) => misused(errors),
+        Err(fault) => failed(errors, fault),
     }
 }
 
-/// Carries out a call that names files. Returns the status.
-fn serve<R: AllocGlobal + Files, O: CountedWrite, E: CountedWrite>(
-    rt: &R,
-    call: &Call<'_>,
+/// Carries out a call whose files are open, and does nothing else. Returns the status.
+pub fn carry_out<F: Read + Write, I: CountedRead, O: CountedWrite, E: CountedWrite>(
+    alloc: Global,
+    call: &mut OpenCall<'_, F>,
+    input: &mut I,
+    output: &mut O,
+    errors: &mut E,
+) -> u8
+    ensures { DoesCall call.old (effect result (reader_before_after I.seen input.old input.new) (writer_before_after O.seen output.old output.new)
+        (files_of F.remaining F.contents call.old call.new)) }
+{
+    match make_call(alloc, call, input, output, errors) {
+        Ok(status) => status,
+        Err(fault) => failed(errors, fault),
+    }
+}
+
+/// Carries out a call whose files are open. Returns the status, or a fault.
+fn make_call<F: Read + Write, I: CountedRead, O: CountedWrite, E: CountedWrite>(
+    alloc: Global,
+    call: &mut OpenCall<'_, F>,
+    input: &mut I,
     output: &mut O,
     errors: &mut E,
 ) -> Result<u8, ProgramFault>
-    ensures { IfOk result (λ s. CallDone R.File.remaining R.File.contents (request_of call.now) s
-        (writer_before_after O.seen output.old output.new)) }
+    ensures { DoesCall call.old (effect (status_of result) (reader_before_after I.seen input.old input.new)
+        (writer_before_after O.seen output.old output.new) (files_of F.remaining F.contents call.old call.new)) }
 {
-    match *call {
-        Call::Run { files, budget } => run_files(rt, files, budget, errors),
-        Call::Confirm { files } => confirm_files(rt, files, output),
-        Call::Hints { certificate, hints } => hint_files(rt, certificate, hints, errors),
-        Call::Check { hints } => check_file(rt, hints, output),
+    match call {
+        OpenCall::Standard => answer(alloc, input, output, errors),
+        OpenCall::Run(run) => run_text(
+            alloc,
+            &mut run.script.device,
+            &mut run.answers.device,
+            &mut run.certificate.device,
+            run.budget,
+            errors,
+        ),
+        OpenCall::Confirm(texts) => confirm_given(
+            alloc,
+            &mut texts.script.device,
+            &mut texts.answers.device,
+            &mut texts.certificate.device,
+            output,
+        ),
+        OpenCall::Hints(files) => write_hints(
+            alloc,
+            &mut files.certificate.device,
+            &mut files.hints.device,
+            errors,
+        ),
+        OpenCall::Check(hints) => check_text(alloc, &mut hints.device, output),
     }
 }

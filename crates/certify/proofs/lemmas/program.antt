@@ -1,2 +1,6 @@
+pub mod Copying
 pub mod PrintedVerdicts
+pub mod Requests
 pub mod Words
+pub mod Results
+pub mod WrittenRuns

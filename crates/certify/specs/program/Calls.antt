@@ -1,5 +1,5 @@
 -- The requests that arguments make, and the status of a call.
-use Rattle.std.specs.Prelude.{ℕ, ◌≡◌, ◌≤◌, ◌<◌, ◌⊎◌, true, Option, MatchOption, List, [], ◌∷◌, length, codes, Result, IfOk}
+use Rattle.std.specs.Prelude.{ℕ, ◌≡◌, ◌≤◌, ◌<◌, ◌⊎◌, true, Option, MatchOption, List, [], ◌∷◌, length, codes, Result, Ok, Err, IfOk}
 use Rattle.std.specs.Str.{all_ascii_digits}
 use Rattle.std.specs.Str.Parse.{digits_value}
 use Rattle.certify.specs.run.RoundsLeft.{most_rounds}
@@ -7,8 +7,9 @@ use Rattle.certify.specs.declared.program.call.Call.{Call}
 use Rattle.certify.specs.declared.program.call.Call.TheVariants as call
 use Rattle.certify.specs.declared.program.call.RunFiles.{RunFiles}
 
--- The request of a call over files. Each file is given by its argument.
+-- The request of a call. Each file is given by its argument.
 pub data Request : Type 0 where
+  Standard : Request
   Run : (script answers certificate : List ℕ) (budget : ℕ) → Request
   Confirm : (script answers certificate : List ℕ) → Request
   Hints : (certificate hints : List ℕ) → Request
@@ -21,8 +22,9 @@ pub record IsRoundCount (word : List ℕ) (steps : ℕ) : Type 0 where
   pub value : steps ≡ digits_value 10 word
   pub fits : steps ≤ most_rounds
 
--- that the arguments are `run S A C [STEPS]`, `confirm S A C`, `hints C H` or `check H`
+-- that the arguments are none, `run S A C [STEPS]`, `confirm S A C`, `hints C H` or `check H`
 abbrev pub IsUsage : List (List ℕ) → Request → Type 0
+IsUsage words Standard = words ≡ []
 IsUsage words (Run s a c budget) = ((words ≡ codes "run" ∷ s ∷ a ∷ c ∷ []) × (budget ≡ most_rounds))
     ⊎ ((steps : List ℕ) × (words ≡ codes "run" ∷ s ∷ a ∷ c ∷ steps ∷ []) × IsRoundCount steps budget)
 IsUsage words (Confirm s a c) = words ≡ codes "confirm" ∷ s ∷ a ∷ c ∷ []
@@ -31,6 +33,7 @@ IsUsage words (Check h) = words ≡ codes "check" ∷ h ∷ []
 
 -- that no output has the same argument as the input, so the input is not overwritten
 abbrev pub KeepsInput : Request → Type 0
+KeepsInput Standard = Unit {0}
 KeepsInput (Run s a c budget) = (a ≡ s → ⊥) × (c ≡ s → ⊥)
 KeepsInput (Confirm s a c) = Unit {0}
 KeepsInput (Hints c h) = h ≡ c → ⊥
@@ -44,35 +47,27 @@ AsksFor words request = IsUsage words request × KeepsInput request
 abbrev pub AsksNothing : List (List ℕ) → Type 0
 AsksNothing words = (request : Request) → AsksFor words request → ⊥
 
--- that there are arguments, and they are not such a call
-abbrev pub IsMisuse : List (List ℕ) → Type 0
-IsMisuse words = (words ≡ [] → ⊥) × AsksNothing words
-
 -- that the call writes files
 abbrev pub WritesFiles : Request → Type 0
+WritesFiles Standard = ⊥
 WritesFiles (Run s a c budget) = Unit {0}
 WritesFiles (Confirm s a c) = ⊥
 WritesFiles (Hints c h) = Unit {0}
 WritesFiles (Check h) = ⊥
 
--- That the arguments are a call that writes files: different arguments may lead to the same file.
-abbrev pub MayOverlap : List (List ℕ) → Type 0
-MayOverlap words = (request : Request) × AsksFor words request × WritesFiles request
-
--- That the status is 2 if there are arguments and they are not a call. Otherwise it is 2 only if the call writes
--- files.
-pub record ReportsUsage (words : List (List ℕ)) (status : ℕ) : Type 0 where
-  pub misused : IsMisuse words → status ≡ 2
-  pub only : status ≡ 2 → IsMisuse words ⊎ MayOverlap words
-
 -- the request for a run over these files, with at most `budget` rounds for each ask
 abbrev pub running : RunFiles → ℕ → Request
 running files budget = Run files.script.now files.answers.now files.certificate.now budget
 
+-- the request for a confirmation of these files
+abbrev pub confirming : RunFiles → Request
+confirming files = Confirm files.script.now files.answers.now files.certificate.now
+
 -- the request of a parsed call
 abbrev pub request_of : Call → Request
+request_of call.Standard = Standard
 request_of (call.Run files budget) = running files budget
-request_of (call.Confirm files) = Confirm files.script.now files.answers.now files.certificate.now
+request_of (call.Confirm files) = confirming files
 request_of (call.Hints certificate hints) = Hints certificate.now hints.now
 request_of (call.Check hints) = Check hints.now
 
@@ -87,3 +82,8 @@ AllowsRequest answer request = MatchOption answer (KeepsInput request → ⊥) (
 -- that the status is 0 or 1 unless there was an error
 abbrev pub HasStatus : {E : Type 0} → Result ℕ E → Type 0
 HasStatus r = IfOk r (λ status. status ≤ 1)
+
+-- the status after a result: 3 after a fault
+abbrev pub status_of : {E : Type 0} → Result ℕ E → ℕ
+status_of (Ok status) = status
+status_of (Err fault) = 3

@@ -1,76 +1,50 @@
--- What calls do with the files that they opened. No contract can say what a path leads to, so a file is described by the bytes that it gives
--- and receives.
-use Rattle.std.specs.Prelude.{ℕ, ◌≡◌, ◌≤◌, ◌⊎◌, Option, List}
-use Rattle.sat_base.specs.declared.device.counted.Counted.{Counted}
+-- The files that a call opened. No contract can say what a path leads to, so a file is described by the bytes that it gives and receives.
+use Rattle.std.specs.Prelude.{ℕ, ◌≡◌, Option, List, [], ◌∷◌}
 use Rattle.sat_base.specs.device.Counting.{device_of, new_reader, new_writer, reader_of, writer_of}
-use Rattle.sat_base.specs.device.Device.{Writer}
-use Rattle.certify.specs.program.Calls.{Request, Run, Confirm, Hints, Check, AsksFor}
-use Rattle.certify.specs.program.HintPrinting.{PrintsHintVerdict, WritesHints}
-use Rattle.certify.specs.program.Printing.{PrintsYesOrNo, Ran}
+use Rattle.certify.specs.program.Calls.{Request, Standard, Run, Confirm, Hints, Check}
+use Rattle.certify.specs.program.Program.{FileUse, Effect, StandardCall, RunCall, ConfirmCall, HintsCall, CheckCall}
+use Rattle.certify.specs.declared.program.opened.OpenFile.{OpenFile}
+use Rattle.certify.specs.declared.program.opened.OpenCall.{OpenCall}
+use Rattle.certify.specs.declared.program.opened.OpenCall.TheVariants as opened
 
--- that the file was opened for reading, and has not been read yet
-abbrev pub IsOpened : {F : Type 0} → (F → Option (List ℕ)) → Counted F → Type 0
-IsOpened remaining f = reader_of remaining f ≡ new_reader (remaining (device_of f))
+module _ {F : Type 0} (remaining contents : F → Option (List ℕ)) where
+  -- that the file was opened or created at this path, and has not been read or written yet
+  pub record IsNew (path : List ℕ) (file : OpenFile F) : Type 0 where
+    pub at : file.path.now ≡ path
+    pub unread : reader_of remaining file.device ≡ new_reader (remaining (device_of file.device))
+    pub unwritten : writer_of contents file.device ≡ new_writer (contents (device_of file.device))
 
--- that the file was created, and has not been written yet
-abbrev pub IsMade : {F : Type 0} → (F → Option (List ℕ)) → Counted F → Type 0
-IsMade contents f = writer_of contents f ≡ new_writer (contents (device_of f))
+  -- that the files of a request were opened, and nothing else was done
+  abbrev pub IsOpenedFor : Request → OpenCall F → Type 0
+  IsOpenedFor Standard opened.Standard = Unit {0}
+  IsOpenedFor (Run s a c budget) (opened.Run run) = IsNew s run.script × IsNew a run.answers × IsNew c run.certificate × (run.budget ≡ budget)
+  IsOpenedFor (Confirm s a c) (opened.Confirm texts) = IsNew s texts.script × IsNew a texts.answers × IsNew c texts.certificate
+  IsOpenedFor (Hints c h) (opened.Hints files) = IsNew c files.certificate × IsNew h files.hints
+  IsOpenedFor (Check h) (opened.Check hints) = IsNew h hints
+  IsOpenedFor request call = ⊥
 
--- a file that was opened and read
-pub record ReadFile {F : Type 0} (remaining : F → Option (List ℕ)) : Type 0 where
-  pub old : Counted F
-  pub new : Counted F
-  pub opened : IsOpened remaining old
+  -- the use of a file, given its states before and after
+  abbrev pub use_of : OpenFile F → OpenFile F → FileUse
+  use_of old new = record {
+    path = old.path.now;
+    read = (reader_of remaining old.device, reader_of remaining new.device);
+    written = (writer_of contents old.device, writer_of contents new.device);
+  }
 
--- a file that was created and written
-pub record WrittenFile {F : Type 0} (contents : F → Option (List ℕ)) : Type 0 where
-  pub old : Counted F
-  pub new : Counted F
-  pub made : IsMade contents old
+  -- the files that a call used, in the order of the arguments
+  abbrev pub files_of : OpenCall F → OpenCall F → List FileUse
+  files_of (opened.Run old) (opened.Run new) =
+      use_of old.script new.script ∷ use_of old.answers new.answers ∷ use_of old.certificate new.certificate ∷ []
+  files_of (opened.Confirm old) (opened.Confirm new) =
+      use_of old.script new.script ∷ use_of old.answers new.answers ∷ use_of old.certificate new.certificate ∷ []
+  files_of (opened.Hints old) (opened.Hints new) = use_of old.certificate new.certificate ∷ use_of old.hints new.hints ∷ []
+  files_of (opened.Check old) (opened.Check new) = use_of old new ∷ []
+  files_of old new = []
 
--- the effect of `run`: the answers to the script were written, and their certificate
-pub record RunsFiles {F : Type 0} (remaining contents : F → Option (List ℕ)) (status budget : ℕ) : Type 0 where
-  pub script : ReadFile remaining
-  pub answers : WrittenFile contents
-  pub certificate : WrittenFile contents
-  pub small : status ≤ 1
-  pub ran : Ran status budget (reader_of remaining script.old, reader_of remaining script.new)
-      (writer_of contents answers.old, writer_of contents answers.new) (writer_of contents certificate.old, writer_of contents certificate.new)
-
--- the effect of `confirm`: it was printed whether the three texts match
-pub record ConfirmsFiles {F : Type 0} (remaining : F → Option (List ℕ)) (status : ℕ) (output : Writer × Writer) : Type 0 where
-  pub script : ReadFile remaining
-  pub answers : ReadFile remaining
-  pub certificate : ReadFile remaining
-  pub small : status ≤ 1
-  pub printed : PrintsYesOrNo status (reader_of remaining script.old, reader_of remaining script.new)
-      (reader_of remaining answers.old, reader_of remaining answers.new) (reader_of remaining certificate.old, reader_of remaining certificate.new)
-      output
-
--- the effect of `hints`: the hint text of the certificate was written, or there is none
-pub record HintsFiles {F : Type 0} (remaining contents : F → Option (List ℕ)) (status : ℕ) : Type 0 where
-  pub certificate : ReadFile remaining
-  pub hints : WrittenFile contents
-  pub small : status ≤ 1
-  pub written : WritesHints status (reader_of remaining certificate.old, reader_of remaining certificate.new)
-      (writer_of contents hints.old, writer_of contents hints.new)
-
--- the effect of `check`: the verdict on the hint text was printed
-pub record ChecksFile {F : Type 0} (remaining : F → Option (List ℕ)) (status : ℕ) (output : Writer × Writer) : Type 0 where
-  pub hints : ReadFile remaining
-  pub small : status ≤ 1
-  pub printed : PrintsHintVerdict status (reader_of remaining hints.old, reader_of remaining hints.new) output
-
--- The effect of a call that ended with this status. A call that only reads files carried out its request. A call that
--- writes files printed nothing, and carried out its request unless the status is 2.
-abbrev pub CallDone : {F : Type 0} → (remaining contents : F → Option (List ℕ)) → Request → ℕ → Writer × Writer → Type 0
-CallDone remaining contents (Run s a c budget) status output =
-    (output.1 ≡ output.0) × ((status ≡ 2) ⊎ RunsFiles remaining contents status budget)
-CallDone remaining contents (Confirm s a c) status output = ConfirmsFiles remaining status output
-CallDone remaining contents (Hints c h) status output = (output.1 ≡ output.0) × ((status ≡ 2) ⊎ HintsFiles remaining contents status)
-CallDone remaining contents (Check h) status output = ChecksFile remaining status output
-
--- that `CallDone` holds for the request of these arguments, if the status is at most 2
-abbrev pub DoneOverFiles : {F : Type 0} → (remaining contents : F → Option (List ℕ)) → List (List ℕ) → ℕ → Writer × Writer → Type 0
-DoneOverFiles remaining contents words status output =
-    (request : Request) → AsksFor words request → status ≤ 2 → CallDone remaining contents request status output
+-- what a call with these files does
+abbrev pub DoesCall : {F : Type 0} → OpenCall F → Effect → Type 0
+DoesCall opened.Standard e = StandardCall e
+DoesCall (opened.Run run) e = RunCall run.script.path.now run.answers.path.now run.certificate.path.now run.budget e
+DoesCall (opened.Confirm texts) e = ConfirmCall texts.script.path.now texts.answers.path.now texts.certificate.path.now e
+DoesCall (opened.Hints files) e = HintsCall files.certificate.path.now files.hints.path.now e
+DoesCall (opened.Check hints) e = CheckCall hints.path.now e

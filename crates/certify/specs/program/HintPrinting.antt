@@ -1,6 +1,6 @@
 -- What the program prints of hint texts.
-use Rattle.std.specs.Prelude.{ℕ, ◌≡◌, true, Bool, false, Option, None, Some, Result, Ok, Err, List, [], ◌∷◌, ◌++◌, codes, decimal}
-use Rattle.sat_base.specs.device.Device.{Reader, Writer, GaveEnough}
+use Rattle.std.specs.Prelude.{ℕ, ◌≡◌, ◌⊎◌, true, Bool, false, Option, None, Some, Result, Ok, Err, List, [], ◌∷◌, ◌++◌, codes, decimal}
+use Rattle.sat_base.specs.device.Device.{Reader, Writer, GaveEnough, WriterFails}
 use Rattle.sat_hints.specs.Checks.{VerdictHolds}
 use Rattle.sat_hints.specs.Converts.{Converts}
 use Rattle.sat_hints.specs.declared.error.HintError.{HintError}
@@ -9,7 +9,7 @@ use Rattle.sat_hints.specs.declared.answer.HintVerdict.{HintVerdict}
 use Rattle.sat_hints.specs.declared.answer.HintVerdict.TheVariants.{Proved, Bad}
 use Rattle.sat_hints.specs.declared.answer.HintWhy.{HintWhy}
 use Rattle.sat_hints.specs.declared.answer.HintWhy.TheVariants as why
-use Rattle.certify.specs.program.Printing.{PrintsLine}
+use Rattle.certify.specs.program.Printing.{NoReadFailed, PrintsLine}
 
 -- the word for each reason
 abbrev pub hint_why_text : HintWhy → List ℕ
@@ -50,6 +50,13 @@ pub record PrintsHintVerdict (status : ℕ) (input : Reader × Reader) (output :
   pub verdict : HintVerdict
   pub judges : GaveEnough input.0 input.1 (VerdictHolds verdict)
   pub printed : PrintsLine status (hint_verdict_text verdict) (is_proved verdict ≡ true) output.0 output.1
+  pub read : NoReadFailed input
+
+-- that printing this line failed after a prefix
+pub record CutsHintVerdict (input : Reader × Reader) (output : Writer × Writer) : Type 0 where
+  pub verdict : HintVerdict
+  pub judges : GaveEnough input.0 input.1 (VerdictHolds verdict)
+  pub printed : WriterFails output.0 output.1 (hint_verdict_text verdict)
 
 -- the status for a result of `convert`, or `None` for a device or allocation failure
 abbrev pub status_after : Result (Unit {0}) HintError → Option ℕ
@@ -66,3 +73,9 @@ pub record WritesHints (status : ℕ) (certificate : Reader × Reader) (hints : 
   pub converts : Converts answer certificate.0 certificate.1 hints.0 hints.1
   pub following : status_after answer ≡ Some status
   pub flushed : status ≡ 0 → hints.1.flushed ≡ true
+
+-- That a read, a write or an allocation failed while a certificate was converted; or its hint text was written, and the flush failed.
+abbrev pub CutsHints : Reader × Reader → Writer × Writer → Type 0
+CutsHints certificate hints =
+    ((answer : Result (Unit {0}) HintError) × Converts answer certificate.0 certificate.1 hints.0 hints.1 × (status_after answer ≡ None))
+    ⊎ ((written : Writer) × Converts (Ok tt) certificate.0 certificate.1 hints.0 written × WriterFails written hints.1 [])

@@ -1,12 +1,11 @@
 -- What the program prints.
-use Rattle.std.specs.Prelude.{ℕ, ◌≡◌, ◌↔◌, ◌⊎◌, true, Bool, false, None, List, ◌∷◌, ◌++◌, codes, decimal, []}
-use Rattle.sat_base.specs.device.Device.{Reader, Writer, GaveEnough, WriterAccepts}
+use Rattle.std.specs.Prelude.{ℕ, ◌≡◌, ◌↔◌, ◌⊎◌, true, Bool, false, None, is_some, List, ◌∷◌, ◌++◌, codes, decimal, []}
+use Rattle.sat_base.specs.device.Device.{Reader, Writer, GaveEnough, WriterAccepts, WriterFails}
 use Rattle.sat_base.specs.script.Script.{ScriptEnding, Clean, Malformed}
 use Rattle.certify.specs.confirm.VerdictPromises.{Exact}
 use Rattle.sat_base.specs.script.Language.{reading}
-use Rattle.certify.specs.run.FinishedRun.{AnswersRightly, CertificateGuarantee, TookCertificate}
+use Rattle.certify.specs.run.FinishedRun.{CertificateGuarantee, TookCertificate}
 use Rattle.certify.specs.run.RoundsLeft.{most_rounds}
-use Rattle.certify.specs.run.Unfinished.{TookBytes}
 use Rattle.certify.specs.declared.summary.Summary.{Summary}
 use Rattle.certify.specs.declared.verdict.Verdict.{Verdict}
 use Rattle.certify.specs.declared.verdict.Verdict.TheVariants.{Yes, No}
@@ -84,38 +83,51 @@ abbrev pub is_malformed : ScriptEnding → Bool
 is_malformed Clean = false
 is_malformed Malformed = true
 
--- that the answers are those of a run with the largest budget: each is correct, and none is unknown unless all rounds were exhausted
-abbrev pub IsAnswered : List ℕ → List ℕ → Type 0
-IsAnswered text answers = (summary : Summary) × AnswersRightly text most_rounds summary answers
+-- that no read failed
+abbrev pub NoReadFailed : Reader × Reader → Type 0
+NoReadFailed r = r.1.failures ≡ r.0.failures
+
+-- a run of a text with at most `budget` rounds for each ask: its summary, answers and certificate
+pub record RunOf (text : List ℕ) (budget : ℕ) : Type 0 where
+  pub summary : Summary
+  pub answers : List ℕ
+  pub certificate : List ℕ
+  pub guarantee : CertificateGuarantee text budget summary answers certificate
 
 -- that a run with the largest budget wrote correct answers to a text in memory, and their certificate
 abbrev pub IsWritten : List ℕ → Written → Type 0
 IsWritten text w = CertificateGuarantee text most_rounds w.summary w.answers.items w.certificate.items
 
--- That correct answers to a text were printed, and then `c confirmed`. The status is 0 exactly when the text is not malformed.
-pub record Prints (status : ℕ) (text : List ℕ) (old new : Writer) : Type 0 where
-  pub answers : List ℕ
-  pub answered : IsAnswered text answers
-  pub printed : WriterAccepts old new (answers ++ verdict_text Yes)
+-- That the answers of a finished run were printed, and then `c confirmed`. The status is 0 exactly when its script is not malformed.
+pub record PrintsWritten (status : ℕ) (w : Written) (old new : Writer) : Type 0 where
+  pub printed : WriterAccepts old new (w.answers.items ++ verdict_text Yes)
+  pub flushed : new.flushed ≡ true
+  pub done : (status ≡ 0) ↔ (is_some w.summary.malformed ≡ false)
+
+-- that the answers of a finished run were printed, and nothing else; or writing them and the line `c confirmed` failed after a prefix
+abbrev pub CutsWritten : Written → Writer → Writer → Type 0
+CutsWritten w old new = WriterAccepts old new w.answers.items ⊎ WriterFails old new (w.answers.items ++ verdict_text Yes)
+
+-- That the answers of a run of a text were printed, and then `c confirmed`. The status is 0 exactly when the text is not malformed.
+pub record PrintsRun (status : ℕ) (text : List ℕ) (old new : Writer) : Type 0 where
+  pub run : RunOf text most_rounds
+  pub printed : WriterAccepts old new (run.answers ++ verdict_text Yes)
   pub flushed : new.flushed ≡ true
   pub done : (status ≡ 0) ↔ (is_malformed (reading text).1 ≡ false)
 
--- that `Prints` holds for the text that a reader gave, whatever bytes could follow
-abbrev pub PrintsVerdict : ℕ → Reader × Reader → Writer × Writer → Type 0
-PrintsVerdict status input output = GaveEnough input.0 input.1 (λ text. Prints status text output.0 output.1)
+-- that `PrintsRun` holds for the text that a reader gave, whatever bytes could follow, and no read failed
+pub record Prints (status : ℕ) (input : Reader × Reader) (output : Writer × Writer) : Type 0 where
+  pub given : GaveEnough input.0 input.1 (λ text. PrintsRun status text output.0 output.1)
+  pub read : NoReadFailed input
 
--- That a prefix of correct answers to a text and of the line `c confirmed` after them was printed.
-pub record PrintsPrefix (text : List ℕ) (old new : Writer) : Type 0 where
-  pub answers : List ℕ
-  pub answered : IsAnswered text answers
-  pub bytes : List ℕ
-  pub following : List ℕ
-  pub whole : answers ++ verdict_text Yes ≡ bytes ++ following
-  pub took : TookBytes old new bytes
+-- That the answers of a run of a text were printed, and nothing else; or writing them and the line `c confirmed` failed after a prefix.
+pub record CutsRun (text : List ℕ) (old new : Writer) : Type 0 where
+  pub run : RunOf text most_rounds
+  pub printed : WriterAccepts old new run.answers ⊎ WriterFails old new (run.answers ++ verdict_text Yes)
 
--- that nothing was printed, or `PrintsPrefix` holds for the text that a reader gave, whatever bytes could follow
-abbrev pub PrintsAtMost : Reader × Reader → Writer × Writer → Type 0
-PrintsAtMost input output = TookBytes output.0 output.1 [] ⊎ GaveEnough input.0 input.1 (λ text. PrintsPrefix text output.0 output.1)
+-- that `CutsRun` holds for the text that a reader gave, whatever bytes could follow
+abbrev pub PrintsCut : Reader × Reader → Writer × Writer → Type 0
+PrintsCut input output = GaveEnough input.0 input.1 (λ text. CutsRun text output.0 output.1)
 
 -- That a line was printed. The status is 0 exactly when `IsSo` holds.
 pub record PrintsLine (status : ℕ) (line : List ℕ) (IsSo : Type 0) (old new : Writer) : Type 0 where
@@ -123,11 +135,18 @@ pub record PrintsLine (status : ℕ) (line : List ℕ) (IsSo : Type 0) (old new 
   pub flushed : new.flushed ≡ true
   pub done : (status ≡ 0) ↔ IsSo
 
--- That it was printed whether the texts that three readers gave match, whatever bytes could follow.
+-- That it was printed whether the texts that three readers gave match, whatever bytes could follow. The status is 0 exactly when they do.
 pub record PrintsYesOrNo (status : ℕ) (script answers certificate : Reader × Reader) (output : Writer × Writer) : Type 0 where
   pub verdict : Verdict
   pub exact : Exact script answers certificate verdict
   pub printed : PrintsLine status (yes_or_no_text verdict) (verdict ≡ Yes) output.0 output.1
+  pub read : NoReadFailed script × NoReadFailed answers × NoReadFailed certificate
+
+-- that printing this line failed after a prefix
+pub record CutsYesOrNo (script answers certificate : Reader × Reader) (output : Writer × Writer) : Type 0 where
+  pub verdict : Verdict
+  pub exact : Exact script answers certificate verdict
+  pub printed : WriterFails output.0 output.1 (yes_or_no_text verdict)
 
 -- That the answers to the text that a reader gave were written, and their certificate. The status is 0 exactly when the text is not malformed.
 pub record Ran (status budget : ℕ) (script : Reader × Reader) (answers certificate : Writer × Writer) : Type 0 where
@@ -135,3 +154,4 @@ pub record Ran (status budget : ℕ) (script : Reader × Reader) (answers certif
   pub guaranteed : TookCertificate budget summary script answers certificate
   pub flushed : (answers.1.flushed ≡ true) × (certificate.1.flushed ≡ true)
   pub done : (status ≡ 0) ↔ (summary.malformed ≡ None)
+  pub read : NoReadFailed script

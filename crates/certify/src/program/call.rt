@@ -11,9 +11,11 @@ pub(super) struct RunFiles<'a> {
     pub(super) certificate: &'a str,
 }
 
-/// A call that names files.
+/// A call of the program.
 #[derive(Clone, Copy)]
 pub(super) enum Call<'a> {
+    /// Without arguments.
+    Standard,
     /// `run S A C [STEPS]`
     Run {
         files: RunFiles<'a>,
@@ -108,6 +110,7 @@ pub(super) fn call_of(words: &[String]) -> Option<Call<'_>>
     ensures { IsParsedAs (map string_bytes words.now) result }
 {
     match words {
+        [] => Some(Call::Standard),
         [name, hints] => check_of(name.as_str(), hints.as_str()),
         [name, certificate, hints] => {
             hints_of(name.as_str(), certificate.as_str(), hints.as_str())

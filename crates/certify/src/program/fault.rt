@@ -4,7 +4,6 @@ ghost use Rattle.certify.specs.program.Printing.{confirm_fault_text, fault_text,
 
 use crate::fault::RunFault;
 use crate::verdict::ConfirmFault;
-use sat_base::ReadError;
 use sat_hints::HintFault;
 use std::alloc::AllocError;
 
@@ -74,21 +73,6 @@ fn hints_fault_name(fault: HintCallFault) -> &'static str
         HintCallFault::Read => "Read",
         HintCallFault::Write => "Write",
         HintCallFault::OutOfMemory => "OutOfMemory",
-    }
-}
-
-impl From<ReadError> for ProgramFault {
-    fn from(e: ReadError) -> ProgramFault {
-        match e {
-            ReadError::Failed => ProgramFault::Run(RunFault::ScriptRead),
-            ReadError::OutOfMemory => ProgramFault::Run(RunFault::OutOfMemory),
-        }
-    }
-}
-
-impl From<RunFault> for ProgramFault {
-    fn from(fault: RunFault) -> ProgramFault {
-        ProgramFault::Run(fault)
     }
 }
 

@@ -1,7 +1,6 @@
 //! Writes to the standard streams, and defines the statuses.
 ghost use Rattle.std.specs.Prelude.{◌≡◌, [], OnErr, OnOk, true};
 ghost use Rattle.sat_base.specs.device.Device.{WriterFails, WriterAccepts};
-ghost use Rattle.certify.specs.run.Unfinished.{TookBytes};
 
 use crate::fault::RunFault;
 use crate::program::fault::ProgramFault;
@@ -59,7 +58,7 @@ pub(super) fn write_out<O: CountedWrite>(output: &mut O, bytes: &[u8]) -> Result
 pub(super) fn flush_out<O: CountedWrite>(output: &mut O) -> Result<(), ProgramFault>
     ensures took { OnOk result (WriterAccepts (O.seen output.old) (O.seen output.new) []) }
     ensures flushed { OnOk result ((O.seen output.new).flushed ≡ true) }
-    ensures kept { OnErr result (TookBytes (O.seen output.old) (O.seen output.new) []) }
+    ensures breaks { OnErr result (WriterFails (O.seen output.old) (O.seen output.new) []) }
 {
     match output.flush_counted() {
         Ok(()) => Ok(()),
@@ -71,6 +70,7 @@ pub(super) fn flush_out<O: CountedWrite>(output: &mut O) -> Result<(), ProgramFa
 pub(super) fn print_line<O: CountedWrite>(output: &mut O, line: &[u8]) -> Result<(), ProgramFault>
     ensures took { OnOk result (WriterAccepts (O.seen output.old) (O.seen output.new) line.now) }
     ensures flushed { OnOk result ((O.seen output.new).flushed ≡ true) }
+    ensures breaks { OnErr result (WriterFails (O.seen output.old) (O.seen output.new) line.now) }
 {
     write_out(output, line)?;
     flush_out(output)

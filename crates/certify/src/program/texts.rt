@@ -1,16 +1,19 @@
 //! Carries out calls that name files, with any readers and writers instead of the files. All calls return the status.
-ghost use Rattle.std.specs.Prelude.{◌≡◌, ◌≤◌, ◌↔◌, None, [], IfOk, OnOk, true};
-ghost use Rattle.sat_base.specs.device.Device.{WriterAccepts};
+ghost use Rattle.std.specs.Prelude.{◌≡◌, ◌≤◌, ◌↔◌, ◌⊎◌, None, [], IfOk, OnErr, OnOk, true};
+ghost use Rattle.sat_base.specs.device.Device.{WriterFails, WriterAccepts};
 ghost use Rattle.certify.specs.Devices.{reader_before_after, writer_before_after};
 ghost use Rattle.certify.specs.declared.verdict.Verdict.TheVariants.{Yes};
 ghost use Rattle.certify.specs.program.Calls.{HasStatus};
-ghost use Rattle.certify.specs.program.HintPrinting.{PrintsHintVerdict, WritesHints, hint_verdict_text, is_proved};
-ghost use Rattle.certify.specs.program.Printing.{PrintsLine, PrintsYesOrNo, Ran, yes_or_no_text};
+ghost use Rattle.certify.specs.program.HintPrinting.{CutsHintVerdict, CutsHints, PrintsHintVerdict, WritesHints};
+ghost use Rattle.certify.specs.program.HintPrinting.{hint_verdict_text, is_proved};
+ghost use Rattle.certify.specs.program.Printing.{CutsYesOrNo, PrintsLine, PrintsYesOrNo, Ran, yes_or_no_text};
+ghost use Rattle.certify.specs.run.Unfinished.{TookSteps, Unfinished};
 
 use crate::confirm::confirm;
 use crate::program::fault::{HintCallFault, ProgramFault};
 use crate::program::hint_line::{hint_status, push_hint_verdict};
 use crate::program::printing::{DONE, REFUSED, print_line, report};
+use crate::program::progress::report_progress;
 use crate::program::verdict_line::{push_yes_or_no, status};
 use crate::run::run;
 use crate::summary::Summary;
@@ -18,7 +21,6 @@ use crate::verdict::{ConfirmFault, Verdict};
 use sat_base::{CountedRead, CountedWrite};
 use sat_checker::Looks;
 use sat_hints::{HintError, HintFault, HintVerdict, check, convert};
-use sat_solver::Progress;
 use std::alloc::Global;
 
 /// Returns the status after a finished run.
@@ -32,20 +34,29 @@ fn run_status(summary: &Summary) -> u8
     }
 }
 
-/// Answers a script. Returns the status and the solver's counts.
-pub(super) fn run_text<S: CountedRead, A: CountedWrite, C: CountedWrite>(
+/// Answers a script, and writes the solver's counts to `errors`. Returns the status.
+pub(super) fn run_text<S: CountedRead, A: CountedWrite, C: CountedWrite, E: CountedWrite>(
     alloc: Global,
     script: &mut S,
     answers: &mut A,
     certificate: &mut C,
     budget: u64,
-) -> Result<(u8, Progress), ProgramFault>
-    ensures small { IfOk result (λ r. r.0 ≤ 1) }
-    ensures ran { IfOk result (λ r. Ran r.0 budget (reader_before_after S.seen script.old script.new)
+    errors: &mut E,
+) -> Result<u8, ProgramFault>
+    ensures small { HasStatus result }
+    ensures ran { IfOk result (λ s. Ran s budget (reader_before_after S.seen script.old script.new)
         (writer_before_after A.seen answers.old answers.new) (writer_before_after C.seen certificate.old certificate.new)) }
+    ensures unfinished { OnErr result
+        (Unfinished budget (reader_before_after S.seen script.old script.new) (writer_before_after A.seen answers.old answers.new)) }
+    ensures steps { TookSteps (writer_before_after C.seen certificate.old certificate.new) }
 {
-    let summary = run(alloc, script, answers, certificate, budget)?;
-    Ok((run_status(&summary), summary.progress))
+    match run(alloc, script, answers, certificate, budget) {
+        Ok(summary) => {
+            report_progress(errors, &summary.progress);
+            Ok(run_status(&summary))
+        }
+        Err(fault) => Err(ProgramFault::Run(fault)),
+    }
 }
 
 /// Writes the line for a verdict to `output`. Returns the status.
@@ -57,6 +68,8 @@ fn print_yes_or_no<O: CountedWrite>(
     ensures small { HasStatus result }
     ensures printed { IfOk result (λ s. PrintsLine s (yes_or_no_text verdict) (verdict ≡ Yes) (O.seen output.old)
         (O.seen output.new)) }
+    ensures cut { OnErr result ((O.seen output.new ≡ O.seen output.old)
+        ⊎ WriterFails (O.seen output.old) (O.seen output.new) (yes_or_no_text verdict)) }
 {
     let mut line = Vec::new(alloc);
     if push_yes_or_no(&mut line, verdict).is_err() {
@@ -78,6 +91,9 @@ pub(super) fn confirm_given<S: CountedRead, A: CountedRead, C: CountedRead, O: C
     ensures printed { IfOk result (λ s. PrintsYesOrNo s (reader_before_after S.seen script.old script.new)
         (reader_before_after A.seen answers.old answers.new) (reader_before_after C.seen certificate.old certificate.new)
         (writer_before_after O.seen output.old output.new)) }
+    ensures cut { OnErr result ((O.seen output.new ≡ O.seen output.old)
+        ⊎ CutsYesOrNo (reader_before_after S.seen script.old script.new) (reader_before_after A.seen answers.old answers.new)
+        (reader_before_after C.seen certificate.old certificate.new) (writer_before_after O.seen output.old output.new)) }
 {
     let mut looks = Looks::new();
     let verdict = confirm(alloc, script, answers, certificate, &mut looks)?;
@@ -94,6 +110,8 @@ pub(super) fn write_hints<C: CountedRead, H: CountedWrite, E: CountedWrite>(
 ) -> Result<u8, ProgramFault>
     ensures small { HasStatus result }
     ensures written { IfOk result (λ s. WritesHints s (reader_before_after C.seen certificate.old certificate.new)
+        (writer_before_after H.seen hints.old hints.new)) }
+    ensures cut { OnErr result (CutsHints (reader_before_after C.seen certificate.old certificate.new)
         (writer_before_after H.seen hints.old hints.new)) }
 {
     match convert(alloc, certificate, hints) {
@@ -117,6 +135,7 @@ fn finish_hints<H: CountedWrite>(hints: &mut H) -> Result<u8, ProgramFault>
     ensures done { IfOk result (λ status. status ≡ 0) }
     ensures took { OnOk result (WriterAccepts (H.seen hints.old) (H.seen hints.new) []) }
     ensures flushed { OnOk result ((H.seen hints.new).flushed ≡ true) }
+    ensures breaks { OnErr result (WriterFails (H.seen hints.old) (H.seen hints.new) []) }
 {
     match hints.flush_counted() {
         Ok(()) => Ok(DONE),
@@ -133,6 +152,8 @@ fn print_hint_verdict<O: CountedWrite>(
     ensures small { HasStatus result }
     ensures printed { IfOk result (λ s. PrintsLine s (hint_verdict_text verdict) (is_proved verdict ≡ true)
         (O.seen output.old) (O.seen output.new)) }
+    ensures cut { OnErr result ((O.seen output.new ≡ O.seen output.old)
+        ⊎ WriterFails (O.seen output.old) (O.seen output.new) (hint_verdict_text verdict)) }
 {
     let mut line = Vec::new(alloc);
     if push_hint_verdict(&mut line, verdict).is_err() {
@@ -151,6 +172,8 @@ pub(super) fn check_text<H: CountedRead, O: CountedWrite>(
     ensures small { HasStatus result }
     ensures printed { IfOk result (λ s. PrintsHintVerdict s (reader_before_after H.seen text.old text.new)
         (writer_before_after O.seen output.old output.new)) }
+    ensures cut { OnErr result ((O.seen output.new ≡ O.seen output.old)
+        ⊎ CutsHintVerdict (reader_before_after H.seen text.old text.new) (writer_before_after O.seen output.old output.new)) }
 {
     let verdict = check(alloc, text)?;
     print_hint_verdict(alloc, verdict, output)

@@ -1,14 +1,16 @@
 -- What is printed for texts in memory.
-use Rattle.std.proofs.Common.{ℕ, ◌≡◌, List, ◌++◌, Result, Ok, Err, IfOk, OnOk, inl, inr, refl, sym, ◌∙◌, ap, append_assoc, append-nil, []}
-use Rattle.std.specs.Prelude.{is_ok, is_some, if◌then◌else◌}
-use Rattle.sat_base.specs.device.Device.{Reader, Writer, GaveAll, WriterFails, WriterAccepts}
-use Rattle.sat_base.proofs.lemmas.device.Given.{enough_all}
+use Rattle.std.proofs.Common.{ℕ, ◌≡◌, ◌+◌, ◌⊎◌, List, ◌++◌, Result, Ok, Err, IfOk, OnOk, inl, inr, length, refl, subst, sym, ◌∙◌, ap, append_assoc}
+use Rattle.std.specs.Prelude.{OnErr, is_ok, is_some, if◌then◌else◌}
+use Rattle.sat_base.specs.device.Device.{Reader, Writer, GaveEnough, lent_reader}
+use Rattle.sat_base.specs.script.Language.{reading}
+use Rattle.sat_base.proofs.lemmas.device.Given.{enough_as}
 use Rattle.sat_base.specs.script.Script.{ScriptEnding, Clean, Malformed}
-use Rattle.certify.specs.program.Printing.{IsAnswered, Prints, PrintsAtMost, PrintsPrefix, PrintsVerdict, is_malformed, verdict_text}
+use Rattle.certify.specs.program.Copies.{GaveKept}
+use Rattle.certify.specs.program.Printing.{CutsRun, CutsWritten, IsWritten, Prints, PrintsCut, PrintsRun, PrintsWritten, RunOf, is_malformed}
 use Rattle.certify.specs.run.FinishedRun.{malformed_at}
-use Rattle.certify.specs.declared.verdict.Verdict.TheVariants.{Yes}
-use Rattle.certify.specs.run.Unfinished.{TookBytes}
-use Rattle.certify.proofs.lemmas.run.Stopping.{bytes_broken, bytes_later, bytes_none, bytes_taken}
+use Rattle.certify.specs.run.RoundsLeft.{most_rounds}
+use Rattle.certify.specs.declared.headline.Written.{Written}
+use Rattle.certify.proofs.lemmas.program.Copying.{enough_unlent, same_loan}
 
 -- TEXTS THAT ARE APPENDED IN PIECES
 -- after the last piece, the text is complete
@@ -25,68 +27,59 @@ seven_pieces r zero one two three four five six seven a b c d e f g h i k l m n 
     let p = l ∙ ap (λ (x : List ℕ). x ++ d) (k ∙ ap (λ (x : List ℕ). x ++ c) (i ∙ ap (λ (x : List ℕ). x ++ b) h)) in
     last_piece r six seven g _ o (ap (λ (x : List ℕ). x ++ g) (n ∙ ap (λ (x : List ℕ). x ++ f) (m ∙ ap (λ (x : List ℕ). x ++ e) p)) ∙ joined_seven zero a b c d e f g)
 
-pub prints_given : {E : Type 0} (r : Result ℕ E) (x y : Reader) (a b : Writer) (text : List ℕ) → GaveAll x y text → IfOk r (λ s. Prints s text a b) → IfOk r (λ s. PrintsVerdict s (x, y) (a, b))
-prints_given (Ok s) x y a b text g p = enough_all x y (λ k. Prints s k a b) text g p
-prints_given (Err e) x y a b text g p = tt
-
--- PREFIXES OF WHAT IS PRINTED
-
-module _ (text answers : List ℕ) (is : IsAnswered text answers) where
-  abbrev line : List ℕ
-  line = verdict_text Yes
-
-  -- only a part of the answers was printed
-  pub prefix_cut : (a b : Writer) → WriterFails a b answers → PrintsPrefix text a b
-  prefix_cut a b t = record {
-    answers = answers;
-    answered = is;
-    bytes = t.front;
-    following = t.following ++ line;
-    whole = ap (λ (xs : List ℕ). xs ++ line) t.whole ∙ append_assoc t.front t.following line;
-    took = bytes_broken a b answers t;
-  }
-
-  -- the answers were printed
-  pub prefix_reported : (a b : Writer) → WriterAccepts a b answers → PrintsPrefix text a b
-  prefix_reported a b t = record { answers = answers; answered = is; bytes = answers; following = line; whole = refl; took = bytes_taken a b answers t }
-
-  -- the answers and a part of the last line were printed
-  pub prefix_line : (a b d : Writer) → WriterAccepts a b answers → WriterFails b d line → PrintsPrefix text a d
-  prefix_line a b d t k = record {
-    answers = answers;
-    answered = is;
-    bytes = answers ++ k.front;
-    following = k.following;
-    whole = ap (λ (xs : List ℕ). answers ++ xs) k.whole ∙ sym (append_assoc answers k.front k.following);
-    took = bytes_later a b d answers k.front t (bytes_broken b d line k);
-  }
-
-  -- the answers and the last line were printed
-  pub prefix_whole : (a b d f : Writer) → WriterAccepts a b answers → WriterAccepts b d line → TookBytes d f [] → PrintsPrefix text a f
-  prefix_whole a b d f t k e = record {
-    answers = answers;
-    answered = is;
-    bytes = answers ++ (line ++ []);
-    following = [];
-    whole = ap (λ (xs : List ℕ). answers ++ xs) (sym (append-nil line)) ∙ sym (append-nil (answers ++ (line ++ [])));
-    took = bytes_later a b f answers (line ++ []) t (bytes_later b d f line [] k e);
-  }
-
--- nothing was printed
-pub prints_nothing : (input : Reader × Reader) (w : Writer) → PrintsAtMost input (w, w)
-prints_nothing input w = inl (bytes_none w)
-
--- a prefix was printed for a text that the reader gave
-pub prefix_given : (x y : Reader) (a b : Writer) (text : List ℕ) → GaveAll x y text → PrintsPrefix text a b → PrintsAtMost (x, y) (a, b)
-prefix_given x y a b text g p = inr (enough_all x y (λ k. PrintsPrefix k a b) text g p)
+-- RUNS THAT ARE PRINTED
 
 -- whether a summary says that a text with this ending is malformed
 pub malformed_is : (n : ℕ) (ending : ScriptEnding) → is_some (malformed_at n ending) ≡ is_malformed ending
 malformed_is n Clean = refl
 malformed_is n Malformed = refl
 
--- CALLS OVER FILES
--- two statements about a result imply a third
-pub ok_both : {A E : Type 0} (r : Result A E) (P Q R : A → Type 0) → ((a : A) → P a → Q a → R a) → IfOk r P → IfOk r Q → IfOk r R
-ok_both (Ok a) P Q R f p q = f a p q
-ok_both (Err e) P Q R f p q = tt
+-- the run that wrote these answers
+abbrev run_of : (text : List ℕ) (w : Written) → IsWritten text w → RunOf text most_rounds
+run_of text w is = record { summary = w.summary; answers = w.answers.items; certificate = w.certificate.items; guarantee = is }
+
+-- the answers of a run and the line for the verdict are what the table says
+prints_run : (s : ℕ) (text : List ℕ) (w : Written) (a b : Writer) → PrintsWritten s w a b → IsWritten text w → PrintsRun s text a b
+prints_run s text w a b p is =
+    let said : is_some w.summary.malformed ≡ is_malformed (reading text).1 = ap is_some is.is_answered.malformed ∙ malformed_is (length (reading text).0 + 1) (reading text).1 in
+    record {
+      run = run_of text w is;
+      printed = p.printed;
+      flushed = p.flushed;
+      done = (λ zero. sym said ∙ p.done.0 zero, λ formed. p.done.1 (said ∙ formed));
+    }
+
+cuts_run : (text : List ℕ) (w : Written) (a b : Writer) → CutsWritten w a b → IsWritten text w → CutsRun text a b
+cuts_run text w a b p is = record { run = run_of text w is; printed = p }
+
+-- what is printed for the bytes that were kept is printed for what the reader gave
+pub prints_given : {E : Type 0} (r : Result ℕ E) (x y : Reader) (a b : Writer) (kept : List ℕ) (w : Written) → GaveKept x y kept (λ text. IsWritten text w)
+    → IfOk r (λ s. PrintsWritten s w a b) → IfOk r (λ s. Prints s (x, y) (a, b))
+prints_given (Ok s) x y a b kept w g p = record { given = enough_as x y (λ text. IsWritten text w) (λ text. PrintsRun s text a b) (λ text. prints_run s text w a b p) g.gave; read = g.read }
+prints_given (Err e) x y a b kept w g p = tt
+
+pub cut_given : {A E : Type 0} (r : Result A E) (x y : Reader) (a b : Writer) (kept : List ℕ) (w : Written) → GaveKept x y kept (λ text. IsWritten text w)
+    → OnErr r (CutsWritten w a b) → OnErr r ((b ≡ a) ⊎ PrintsCut (x, y) (a, b))
+cut_given (Ok s) x y a b kept w g p = tt
+cut_given (Err e) x y a b kept w g p = inr (enough_as x y (λ text. IsWritten text w) (λ text. CutsRun text a b) (λ text. cuts_run text w a b p) g.gave)
+
+-- A READER THAT IS LENT
+
+module _ {I : Type 0} (seen : I → Reader) (x c v : I) (given back : ℕ) (a b : Writer) (same : given ≡ back → c ≡ v) where
+  came_back : (P : List ℕ → Type 0) → GaveEnough (lent_reader given (seen x)) (lent_reader back (seen v)) P → GaveEnough (seen x) (seen c) P
+  came_back P g =
+      let is : c ≡ v = same (same_loan (seen x) (seen v) given back P g) in
+      subst (λ (k : _). GaveEnough (seen x) (seen k) P) (sym is) (enough_unlent (seen x) (seen v) given back P g)
+
+  kept_back : (P : List ℕ → Type 0) → GaveEnough (lent_reader given (seen x)) (lent_reader back (seen v)) P → (seen v).failures ≡ (seen x).failures → (seen c).failures ≡ (seen x).failures
+  kept_back P g f = subst (λ (k : _). (seen k).failures ≡ (seen x).failures) (sym (same (same_loan (seen x) (seen v) given back P g))) f
+
+  -- once a lent reader is returned, what was printed holds for it
+  pub prints_lent : {E : Type 0} (r : Result ℕ E) → IfOk r (λ s. Prints s (lent_reader given (seen x), lent_reader back (seen v)) (a, b)) → IfOk r (λ s. Prints s (seen x, seen c) (a, b))
+  prints_lent (Ok s) p = record { given = came_back (λ text. PrintsRun s text a b) p.given; read = kept_back (λ text. PrintsRun s text a b) p.given p.read }
+  prints_lent (Err e) p = tt
+
+  pub cut_lent : {E : Type 0} (r : Result ℕ E) → OnErr r ((b ≡ a) ⊎ PrintsCut (lent_reader given (seen x), lent_reader back (seen v)) (a, b)) → OnErr r ((b ≡ a) ⊎ PrintsCut (seen x, seen c) (a, b))
+  cut_lent (Ok s) p = tt
+  cut_lent (Err e) (inl none) = inl none
+  cut_lent (Err e) (inr p) = inr (came_back (λ text. CutsRun text a b) p)

@@ -1,6 +1,0 @@
-use Rattle.std.proofs.Common.{◌∙◌, ap, sym}
-use Rattle.sat_base.specs.device.Counting.{new_reader}
-use Rattle.certify.proofs.program.files.open.Goals as goal
-
-pub returns-in-Ok : goal.returns-in-Ok
-returns-in-Ok g c = c.new.ensures.reader g.R.File.Read.remaining ∙ ap (λ d. new_reader (g.R.File.Read.remaining d)) (sym c.new.ensures.device)

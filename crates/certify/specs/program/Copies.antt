@@ -1,0 +1,36 @@
+-- A reader that keeps a copy of the bytes that another reader gives.
+use Rattle.std.specs.Prelude.{ℕ, ◌≡◌, ◌+◌, ◌-◌, Bool, true, false, if◌then◌else◌, Some, List, [], ◌∷◌, length, drop}
+use Rattle.sat_base.specs.device.Counting.{reader_of}
+use Rattle.sat_base.specs.device.Device.{Reader, GaveEnough}
+use Rattle.sat_base.specs.declared.device.counted.Counted.{Counted}
+
+-- the number of bytes that were given before the first that was kept
+abbrev pub given_before : List ℕ → List ℕ → ℕ
+given_before given kept = length given - length kept
+
+-- that the bytes kept are the last of those given
+abbrev pub IsCopy : List ℕ → List ℕ → Type 0
+IsCopy given kept = drop (given_before given kept) given ≡ kept
+
+-- the number of failed reads of a reader that always has a byte to come and never gives it
+abbrev pub refusal_count : {D : Type 0} → Counted D → ℕ
+refusal_count c = (reader_of (λ _. Some (0 ∷ [])) c).failures
+
+-- What contracts see of a reader that keeps the bytes given by `r`. Besides the reads of `r`, it counts those that failed because memory ran out.
+-- The number of bytes that `r` gave before the first one kept never changes, and is the latest loan.
+abbrev pub kept_reader : Reader → List ℕ → ℕ → Bool → Reader
+kept_reader r kept refusals refused = record {
+  to_come = r.to_come;
+  given = r.given;
+  ended = if refused then false else r.ended;
+  failed = if refused then true else r.failed;
+  failures = r.failures + refusals;
+  calls = r.calls + refusals;
+  loans = given_before r.given kept ∷ r.loans;
+}
+
+-- that a reader gave enough for P, all bytes that it gave were kept and are enough too, and no read failed
+pub record GaveKept (old new : Reader) (kept : List ℕ) (P : List ℕ → Type 0) : Type 0 where
+  pub gave : GaveEnough old new P
+  pub copy : P kept
+  pub read : new.failures ≡ old.failures

@@ -1,0 +1,200 @@
+//! Opens the files of a call, in the order of the arguments.
+ghost use Rattle.std.specs.Prelude.{IfOk, MatchOption};
+ghost use Rattle.certify.specs.program.Calls.{Check, Hints, WritesFiles, confirming, request_of, running};
+ghost use Rattle.certify.specs.program.FileCalls.{IsNew, IsOpenedFor};
+
+use crate::fault::RunFault;
+use crate::program::call::{Call, RunFiles};
+use crate::program::fault::{HintCallFault, ProgramFault};
+use crate::program::overlap::{is_one_file, overlaps};
+use crate::verdict::ConfirmFault;
+use sat_base::Counted;
+use std::fs::{File, Files};
+
+/// A file that was opened or created, and the path that led to it.
+#[derive(Drop)]
+pub struct OpenFile<'a, F> {
+    pub path: &'a str,
+    pub device: Counted<F>,
+}
+
+/// The files of a confirmation.
+#[derive(Drop)]
+pub struct OpenTexts<'a, F> {
+    pub script: OpenFile<'a, F>,
+    pub answers: OpenFile<'a, F>,
+    pub certificate: OpenFile<'a, F>,
+}
+
+/// The files of a run, and its budget.
+#[derive(Drop)]
+pub struct OpenRun<'a, F> {
+    pub script: OpenFile<'a, F>,
+    pub answers: OpenFile<'a, F>,
+    pub certificate: OpenFile<'a, F>,
+    pub budget: u64,
+}
+
+/// A certificate and its hint text, open.
+#[derive(Drop)]
+pub struct OpenHints<'a, F> {
+    pub certificate: OpenFile<'a, F>,
+    pub hints: OpenFile<'a, F>,
+}
+
+/// A call whose files are open.
+#[derive(Drop)]
+pub enum OpenCall<'a, F> {
+    /// Without arguments.
+    Standard,
+    /// `run S A C [STEPS]`
+    Run(OpenRun<'a, F>),
+    /// `confirm S A C`
+    Confirm(OpenTexts<'a, F>),
+    /// `hints C H`
+    Hints(OpenHints<'a, F>),
+    /// `check H`
+    Check(OpenFile<'a, F>),
+}
+
+/// Opens a file for reading. Returns `fault` if that fails.
+fn open<'a, R: Files>(
+    rt: &R,
+    path: &'a str,
+    fault: ProgramFault,
+) -> Result<OpenFile<'a, R::File>, ProgramFault>
+    ensures { IfOk result (IsNew R.File.remaining R.File.contents path.now) }
+{
+    match File::open(rt, path) {
+        Ok(file) => Ok(OpenFile {
+            path,
+            device: Counted::new(file),
+        }),
+        Err(_) => Err(fault),
+    }
+}
+
+/// Creates an empty file for writing. Returns `fault` if that fails.
+fn make<'a, R: Files>(
+    rt: &R,
+    path: &'a str,
+    fault: ProgramFault,
+) -> Result<OpenFile<'a, R::File>, ProgramFault>
+    ensures { IfOk result (IsNew R.File.remaining R.File.contents path.now) }
+{
+    match File::create(rt, path) {
+        Ok(file) => Ok(OpenFile {
+            path,
+            device: Counted::new(file),
+        }),
+        Err(_) => Err(fault),
+    }
+}
+
+/// Opens the files of a run. Returns `None` if an output is the script or the other output, which may be known only
+/// once the first output exists.
+fn open_run<'a, R: Files>(
+    rt: &R,
+    files: RunFiles<'a>,
+    budget: u64,
+) -> Result<Option<OpenCall<'a, R::File>>, ProgramFault>
+    ensures { IfOk result (λ made. MatchOption made (WritesFiles (running files.entry budget))
+        (IsOpenedFor R.File.remaining R.File.contents (running files.entry budget))) }
+{
+    if overlaps(rt, files) {
+        return Ok(None);
+    }
+    let script = open(rt, files.script, ProgramFault::Run(RunFault::ScriptRead))?;
+    let answers = make(rt, files.answers, ProgramFault::Run(RunFault::AnswersWrite))?;
+    if is_one_file(rt, files.answers, files.certificate) {
+        return Ok(None);
+    }
+    let certificate = make(
+        rt,
+        files.certificate,
+        ProgramFault::Run(RunFault::CertificateWrite),
+    )?;
+    Ok(Some(OpenCall::Run(OpenRun {
+        script,
+        answers,
+        certificate,
+        budget,
+    })))
+}
+
+/// Opens the files of a confirmation.
+fn open_confirm<'a, R: Files>(
+    rt: &R,
+    files: RunFiles<'a>,
+) -> Result<OpenCall<'a, R::File>, ProgramFault>
+    ensures { IfOk result (IsOpenedFor R.File.remaining R.File.contents (confirming files.entry)) }
+{
+    let script = open(
+        rt,
+        files.script,
+        ProgramFault::Confirm(ConfirmFault::ScriptRead),
+    )?;
+    let answers = open(
+        rt,
+        files.answers,
+        ProgramFault::Confirm(ConfirmFault::AnswersRead),
+    )?;
+    let certificate = open(
+        rt,
+        files.certificate,
+        ProgramFault::Confirm(ConfirmFault::CertificateRead),
+    )?;
+    Ok(OpenCall::Confirm(OpenTexts {
+        script,
+        answers,
+        certificate,
+    }))
+}
+
+/// Opens a certificate and creates its hint text. Returns `None` if they are the same file.
+fn open_hints<'a, R: Files>(
+    rt: &R,
+    certificate: &'a str,
+    hints: &'a str,
+) -> Result<Option<OpenCall<'a, R::File>>, ProgramFault>
+    ensures { IfOk result (λ made. MatchOption made (WritesFiles (Hints certificate.now hints.now))
+        (IsOpenedFor R.File.remaining R.File.contents (Hints certificate.now hints.now))) }
+{
+    if is_one_file(rt, certificate, hints) {
+        return Ok(None);
+    }
+    let certificate = open(rt, certificate, ProgramFault::Hints(HintCallFault::Read))?;
+    let hints = make(rt, hints, ProgramFault::Hints(HintCallFault::Write))?;
+    Ok(Some(OpenCall::Hints(OpenHints { certificate, hints })))
+}
+
+/// Opens a hint text.
+fn open_check<'a, R: Files>(rt: &R, hints: &'a str) -> Result<OpenCall<'a, R::File>, ProgramFault>
+    ensures { IfOk result (IsOpenedFor R.File.remaining R.File.contents (Check hints.now)) }
+{
+    let hints = open(rt, hints, ProgramFault::Hints(HintCallFault::Read))?;
+    Ok(OpenCall::Check(hints))
+}
+
+/// Opens the files of a call, and does nothing else. Returns `None` if an output is another file of the call.
+pub(super) fn open_call<'a, R: Files>(
+    rt: &R,
+    call: &Call<'a>,
+) -> Result<Option<OpenCall<'a, R::File>>, ProgramFault>
+    ensures { IfOk result (λ made. MatchOption made (WritesFiles (request_of call.now))
+        (IsOpenedFor R.File.remaining R.File.contents (request_of call.now))) }
+{
+    match *call {
+        Call::Standard => Ok(Some(OpenCall::Standard)),
+        Call::Run { files, budget } => open_run(rt, files, budget),
+        Call::Confirm { files } => match open_confirm(rt, files) {
+            Ok(opened) => Ok(Some(opened)),
+            Err(fault) => Err(fault),
+        },
+        Call::Hints { certificate, hints } => open_hints(rt, certificate, hints),
+        Call::Check { hints } => match open_check(rt, hints) {
+            Ok(opened) => Ok(Some(opened)),
+            Err(fault) => Err(fault),
+        },
+    }
+}
