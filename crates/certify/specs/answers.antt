@@ -4,4 +4,5 @@ pub mod AnswerForms
 pub mod AnswerReading
 pub mod ScriptText
 pub mod AnswersText
-pub mod Asks
+pub mod ScriptNames
+pub mod Events

@@ -2,7 +2,7 @@
 ghost use Rattle.std.specs.Prelude.{◌≡◌, ◌+◌, ◌≤◌, ◌⊎◌, IfOk, IsErrOf};
 ghost use Rattle.sat_base.specs.device.Device.{most_reads, ReadFails};
 ghost use Rattle.certify.specs.Devices.{reader_before_after};
-ghost use Rattle.certify.specs.confirm.VerdictPromises.{IsExact, IsSoundVerdict, ConfirmGuarantee, ReadsKept};
+ghost use Rattle.certify.specs.confirm.VerdictPromises.{GaveRightAnswers, IsExact, ConfirmGuarantee, ReadsKept};
 ghost use Rattle.certify.specs.confirm.VerdictPromises.{TakesLooks};
 ghost use Rattle.certify.specs.confirm.ConfirmedScript.{confirm_result};
 
@@ -87,7 +87,7 @@ pub fn confirm<S: CountedRead, A: CountedRead, C: CountedRead>(
     ensures exact { IsExact result S.seen A.seen C.seen (script.old, answers.old, certificate.old)
         (script.new, answers.new, certificate.new) }
     // `Yes` means that the answers are correct, whoever wrote the answers and the certificate.
-    ensures sound { IfOk result (IsSoundVerdict (reader_before_after S.seen script.old script.new)
+    ensures sound { IfOk result (λ v. v ≡ Verdict.Yes → GaveRightAnswers (reader_before_after S.seen script.old script.new)
         (reader_before_after A.seen answers.old answers.new)) }
 
     // A reader's fault is returned only if exactly one of its reads failed, or none of 2^48 reads did.

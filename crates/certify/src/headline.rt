@@ -76,7 +76,7 @@ pub(crate) fn confirm_over(
     looks: &mut Looks,
 ) -> Result<Verdict, ConfirmFault>
     ensures says { IfOk result (VerdictGuarantee script.now answers.now certificate.now) }
-    ensures looks { looks.new ≤ looks.old + most_looks_over script.now answers.now certificate.now }
+    ensures looks { looks.new ≤ looks.old + most_looks_over certificate.now }
 {
     let mut script = Counted::new(script);
     let mut answers = Counted::new(answers);
@@ -95,9 +95,8 @@ fn verdicts_over(
 ) -> Result<(Verdict, Verdict), ConfirmFault>
     ensures own { IfOk result (λ v. VerdictGuarantee script.now written.now.answers.items written.now.certificate.items v.0) }
     ensures other { IfOk result (λ v. VerdictGuarantee script.now claimed.now shown.now v.1) }
-    ensures looks { OnOk result (looks.new ≤ looks.old
-        + most_looks_over script.now written.now.answers.items written.now.certificate.items
-        + most_looks_over script.now claimed.now shown.now) }
+    ensures looks { OnOk result
+        (looks.new ≤ looks.old + most_looks_over written.now.certificate.items + most_looks_over shown.now) }
 {
     let own = match confirm_over(alloc, script, &written.answers, &written.certificate, looks) {
         Ok(own) => own,

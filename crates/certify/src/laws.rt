@@ -1,8 +1,8 @@
 //! Laws about answers, matching and the checker. Each law is the contract of a function that does nothing.
 ghost use Rattle.certify.specs.laws.Confirmed.{CertifiedMatches};
 ghost use Rattle.certify.specs.laws.EndToEnd.{FinishedIsConfirmed};
-ghost use Rattle.certify.specs.laws.HeadlineLaws.{CertifiedIsHeadline, RightByAsks, RightByOutcomes, SameAnswers};
-ghost use Rattle.certify.specs.laws.HeadlineLaws.{SameMatches, SameReports, ReadingsAgree};
+ghost use Rattle.certify.specs.laws.HeadlineLaws.{CertifiedIsHeadline, RightByEvents, RightByOutcomes, SameAnswers};
+ghost use Rattle.certify.specs.laws.HeadlineLaws.{MatchingAnswersAreRight, SameMatches, SameReports, ReadingsAgree};
 ghost use Rattle.certify.specs.laws.HintTexts.{RunsHaveHints};
 ghost use Rattle.certify.specs.laws.Laws.{AskBindsNothing, AskLeavesNames, MatchingIsRight, NotBoth};
 ghost use Rattle.certify.specs.laws.Laws.{RepeatChangesNothing, TautologyChangesNothing, TextsDetermineOutcomes};
@@ -27,6 +27,7 @@ pub mod names;
 pub fn matching_is_right()
     ensures steps { MatchingIsRight }
     ensures texts { TextsThatMatchAreRight }
+    ensures answers { MatchingAnswersAreRight }
 {}
 
 /// States that correct answers, and the certificate that a run writes for them, match their script, so they
@@ -50,7 +51,7 @@ pub fn certified_is_headline()
 pub fn short_says_the_same()
     ensures script { ReadingsAgree }
     ensures answers { SameAnswers }
-    ensures asks { RightByAsks }
+    ensures events { RightByEvents }
     ensures right { RightByOutcomes }
     ensures matching { SameMatches }
     ensures reports { SameReports }

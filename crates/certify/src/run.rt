@@ -90,8 +90,8 @@ pub fn run<S: CountedRead, A: CountedWrite, C: CountedWrite>(
     // The certificate's writer received the steps of the accepted commands and of these answers, and a checker accepts
     // each step in order. Once the steps record that the clauses are unsatisfiable, every ask is answered `Unsat`
     // without a round of search. In any other ask, every round derived an empowering clause, except the round that
-    // found the answer, and no other clause of the ask advances. A clause advances if it is new to unit propagation. If
-    // no command hides a name, no variable is deleted.
+    // found the answer, and no other clause of the ask is empowering. A clause is empowering if it is new to unit
+    // propagation. If no command hides a name, no variable is deleted.
     ensures guaranteed { CertificateIsGuaranteed result budget S.seen A.seen C.seen (script.old, answers.old, certificate.old)
         (script.new, answers.new, certificate.new) }
     ensures flushed { OnOk result (((A.seen answers.new).flushed ≡ true) × ((C.seen certificate.new).flushed ≡ true)) }

@@ -1,7 +1,7 @@
 //! A caller of `confirm` with a contract of its own, and calls of `headline_over`.
 ghost use Rattle.std.specs.Prelude.{◌≡◌, true};
 ghost use Rattle.certify.specs.Devices.{reader_before_after};
-ghost use Rattle.certify.specs.confirm.VerdictPromises.{AreRightAnswers, GaveTextWith};
+ghost use Rattle.certify.specs.confirm.VerdictPromises.{GaveRightAnswers};
 
 use certify::confirm::confirm;
 use certify::headline::headline_over;
@@ -17,8 +17,8 @@ fn are_right<S: CountedRead, A: CountedRead, C: CountedRead>(
     answers: &mut A,
     certificate: &mut C,
 ) -> bool
-    ensures { result ≡ true → GaveTextWith (reader_before_after S.seen script.old script.new)
-        (λ s. GaveTextWith (reader_before_after A.seen answers.old answers.new) (AreRightAnswers s)) }
+    ensures { result ≡ true → GaveRightAnswers (reader_before_after S.seen script.old script.new)
+        (reader_before_after A.seen answers.old answers.new) }
 {
     let mut looks = Looks::new();
     match confirm(alloc, script, answers, certificate, &mut looks) {

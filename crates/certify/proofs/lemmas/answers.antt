@@ -4,4 +4,7 @@ pub mod LiteralsOfLines
 pub mod LineOrder
 pub mod LiteralsInOrder
 pub mod AnswerLines
-pub mod ShortTexts
+pub mod ShortTokens
+pub mod ShortReading
+pub mod ShortStates
+pub mod ShortEvents

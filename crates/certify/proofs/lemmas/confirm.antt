@@ -30,3 +30,4 @@ pub mod Lines
 pub mod ConfirmedThrough
 pub mod ConfirmStateMet
 pub mod Decided
+pub mod ReadToEnd

@@ -1,8 +1,9 @@
 -- The text of answers, in as few definitions as possible.
-use Rattle.std.specs.Prelude.{ℕ, ◌+◌, Option, Some, None, List, [], ◌∷◌, ◌++◌, decimal, codes, if◌then◌else◌}
-use Rattle.sat_base.specs.script.Script.{Literal, Command, Ask, ScriptEnding, Clean, Malformed}
+use Rattle.std.specs.Prelude.{ℕ, List, [], ◌∷◌, ◌++◌, decimal, codes, if◌then◌else◌}
+use Rattle.sat_base.specs.script.Script.{Literal}
 use Rattle.sat_checker.specs.matching.Expected.{Outcome, Sat, Unsat, Unknown}
-use Rattle.sat_base.specs.script.ScriptState.{ScriptState, Refusal, PastLimit, WitnessName, refusal_of, after_command}
+use Rattle.sat_base.specs.script.ScriptState.{Refusal, PastLimit, WitnessName}
+use Rattle.certify.specs.answers.Events.{Event, Refused, Asked, MalformedAt}
 
 -- the line of literals: for each literal, `-` if it is negative, its name and a space; at the end, `0` and LF
 abbrev pub literals_line : List Literal → List ℕ
@@ -20,17 +21,10 @@ abbrev pub refusal_line : ℕ → Refusal → List ℕ
 refusal_line k PastLimit = codes "c refused " ++ (decimal k ++ codes " limit\n")
 refusal_line k (WitnessName name) = codes "c refused " ++ (decimal k ++ (codes " witness " ++ (decimal name ++ codes "\n")))
 
--- The answer lines for the command with number `k`, and then those that `more` gives for the remaining outcomes. A refused command has its
--- refusal line, an ask has the lines of the first outcome, and any other command has no line.
-abbrev pub command_lines : ℕ → Option Refusal → Command → List Outcome → (List Outcome → List ℕ) → List ℕ
-command_lines k (Some refusal) command outcomes more = refusal_line k refusal ++ more outcomes
-command_lines k None (Ask ls) (o ∷ os) more = outcome_lines o ++ more os
-command_lines k None command outcomes more = more outcomes
-
--- The answers to commands, the first of which has number `k`. If the text is malformed, they end with a line that has the number of the next
--- command.
-abbrev pub lines_from : ℕ → ScriptState → List Command → ScriptEnding → List Outcome → List ℕ
-lines_from k j [] Clean outcomes = []
-lines_from k j [] Malformed outcomes = codes "c malformed " ++ (decimal k ++ codes "\n")
-lines_from k j (command ∷ commands) ending outcomes =
-    command_lines k (refusal_of j command) command outcomes (lines_from (k + 1) (after_command command j) commands ending)
+-- the lines of events: an ask has the lines of its outcome, and every other event has one line
+abbrev pub event_lines : List Event → List Outcome → List ℕ
+event_lines [] outcomes = []
+event_lines (Refused k refusal ∷ events) outcomes = refusal_line k refusal ++ event_lines events outcomes
+event_lines (MalformedAt k ∷ events) outcomes = codes "c malformed " ++ (decimal k ++ (codes "\n" ++ event_lines events outcomes))
+event_lines (Asked state ls ∷ events) [] = event_lines events []
+event_lines (Asked state ls ∷ events) (o ∷ outcomes) = outcome_lines o ++ event_lines events outcomes

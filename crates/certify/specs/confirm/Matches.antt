@@ -9,7 +9,8 @@ use Rattle.sat_checker.specs.matching.Checking.{CheckerRules, is_ordered}
 use Rattle.sat_checker.specs.matching.Expected.{Outcome, Sat, Unsat, Unknown, Expected, Opens, Shows, Fails, expected, Fits}
 use Rattle.sat_checker.specs.matching.ProofChecking.{checker_rules}
 use Rattle.certify.specs.answers.Answers.{answers_text}
-use Rattle.certify.specs.answers.AnswersText.{lines_from}
+use Rattle.certify.specs.answers.AnswersText.{event_lines}
+use Rattle.certify.specs.answers.Events.{events_in}
 use Rattle.certify.specs.answers.ScriptText.{parse_script}
 
 -- that there is one outcome for each ask among the commands
@@ -77,7 +78,7 @@ pub record TextsMatch (script answers certificate : List ℕ) : Type 0 where
   pub steps : List Step
   pub text : List ℕ
   pub rest : List ℕ
-  pub answered : answers ≡ lines_from 1 initial_state (parse_script script).0 (parse_script script).1 outcomes
+  pub answered : answers ≡ event_lines (events_in script) outcomes
   pub begins : certificate ≡ text ++ rest
   pub spelt : SpellsSteps steps text
   pub match : StepsMatch checker_rules (parse_script script).0 outcomes steps

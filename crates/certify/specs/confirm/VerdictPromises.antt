@@ -1,12 +1,10 @@
 -- What a verdict guarantees about the texts that three readers gave.
 use Rattle.std.specs.Prelude.{ℕ, ◌+◌, ◌*◌, ◌^◌, ◌≤◌, ◌≡◌, ◌↔◌, ◌⊎◌, Result, Err, IfOk, List, ◌++◌, length, []}
-use Rattle.sat_base.specs.device.Device.{Reader, GavePrefix, GaveEnough, CanFollow, ReadFails, most_reads}
+use Rattle.sat_base.specs.device.Device.{Reader, GavePrefix, GaveAll, GaveEnough, CanFollow, ReadFails, most_reads}
 use Rattle.certify.specs.Devices.{reader_before_after}
-use Rattle.sat_base.specs.script.ScriptState.{initial_state}
-use Rattle.certify.specs.answers.ScriptText.{parse_script}
-use Rattle.certify.specs.answers.AnswersText.{lines_from}
+use Rattle.certify.specs.answers.AnswersText.{event_lines}
 use Rattle.sat_checker.specs.matching.Expected.{Outcome}
-use Rattle.certify.specs.answers.Asks.{asks_of, EachIsRight}
+use Rattle.certify.specs.answers.Events.{events_in, EachIsRight}
 use Rattle.certify.specs.confirm.Matches.{TextsMatch}
 use Rattle.certify.specs.confirm.Walks.{LooksReach}
 use Rattle.sat_base.specs.script.Script.{Clean, Malformed}
@@ -35,18 +33,22 @@ IsExact r script answers certificate old new =
 abbrev pub ReadsKept : {R : Type 0} → (R → Reader) → R → R → Type 0
 ReadsKept seen old new = (seen new).failures ≡ (seen old).failures
 
--- That `answers` are correct for `script`. They are, byte for byte, the lines that the script requires. Each refused command has one line, each
+-- That `answers` are correct for `script`. They are, byte for byte, the lines of the script's events: each refused command has one line, each
 -- accepted ask has the lines of one outcome, and a malformed script has a last line. Every model and every core is correct. `Unknown` is
 -- correct for every ask, and a refused clause does not count.
 pub record AreRightAnswers (script answers : List ℕ) : Type 0 where
   pub outcomes : List Outcome
-  pub answered : answers ≡ lines_from 1 initial_state (parse_script script).0 (parse_script script).1 outcomes
-  pub right : EachIsRight (asks_of initial_state (parse_script script).0) outcomes
+  pub lines : answers ≡ event_lines (events_in script) outcomes
+  pub right : EachIsRight (events_in script) outcomes
 
--- That the verdict `Yes` implies correct answers for the script, whatever bytes the two readers could still give. In particular, the answers
--- were then read to their end.
+-- That the answers were read to their end, and are correct for the script, whatever bytes the script's reader could still give.
+abbrev pub GaveRightAnswers : Reader × Reader → Reader × Reader → Type 0
+GaveRightAnswers script answers =
+    (a : List ℕ) × GaveAll answers.0 answers.1 a × GaveEnough script.0 script.1 (λ s. AreRightAnswers s a)
+
+-- that the verdict `Yes` implies correct answers
 abbrev pub IsSoundVerdict : Reader × Reader → Reader × Reader → Verdict → Type 0
-IsSoundVerdict script answers v = v ≡ Yes → GaveTextWith script (λ s. GaveTextWith answers (AreRightAnswers s))
+IsSoundVerdict script answers v = v ≡ Yes → GaveRightAnswers script answers
 
 -- That the number of looks rose from `from` to `to`. The reader gave a text of n bytes, and steps at its beginning account for the looks,
 -- whatever bytes could follow. There were at most 16 (n + 1)^2 looks.

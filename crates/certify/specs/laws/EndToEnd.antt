@@ -31,9 +31,9 @@ pub record VerdictGuarantee (script answers certificate : List ℕ) (v : Verdict
   pub exact : (v ≡ Yes) ↔ TextsMatch script answers certificate
   pub sound : v ≡ Yes → AreRightAnswers script answers
 
--- the bound on the number of looks for these three texts
-abbrev pub most_looks_over : List ℕ → List ℕ → List ℕ → ℕ
-most_looks_over script answers certificate = 16 * (length script + length answers + length certificate + 1) ^ 2
+-- the bound on the number of looks for this certificate
+abbrev pub most_looks_over : List ℕ → ℕ
+most_looks_over certificate = 16 * (length certificate + 1) ^ 2
 
 -- What `certify_over` guarantees. A run of `script` wrote `answers` and `certificate`. `own` is the verdict on what it wrote, and `other` the
 -- verdict on the answers `claimed` with the certificate `shown`. The number of looks was `before` at the start and is `after` at the end.
@@ -47,4 +47,4 @@ pub record Certified (script : List ℕ) (budget : ℕ) (claimed shown : List �
   -- both verdicts are those of `confirm`; so if a verdict is `Yes`, its answers are correct, whoever made them
   pub checked : VerdictGuarantee script answers certificate own
   pub any : VerdictGuarantee script claimed shown other
-  pub looks : after ≤ before + most_looks_over script answers certificate + most_looks_over script claimed shown
+  pub looks : after ≤ before + most_looks_over certificate + most_looks_over shown

@@ -2,14 +2,14 @@
 -- headline.
 use Rattle.std.specs.Prelude.{ℕ, ◌≡◌, ◌↔◌, List}
 use Rattle.sat_base.specs.script.Script.{Command, ScriptEnding}
-use Rattle.sat_base.specs.script.ScriptState.{initial_state}
 use Rattle.sat_base.specs.script.Language.{reading}
 use Rattle.sat_checker.specs.matching.Expected.{Outcome}
 use Rattle.certify.specs.answers.Answers.{answers_text}
 use Rattle.certify.specs.answers.RightAnswers.{AnswersAreRight}
 use Rattle.certify.specs.answers.ScriptText.{parse_script}
-use Rattle.certify.specs.answers.AnswersText.{lines_from}
-use Rattle.certify.specs.answers.Asks.{asks_of, EachIsRight}
+use Rattle.certify.specs.answers.AnswersText.{event_lines}
+use Rattle.certify.specs.answers.Events.{events, EachIsRight}
+use Rattle.certify.specs.answers.ScriptNames.{initial_state}
 use Rattle.certify.specs.confirm.Matches.{Matches, TextsMatch}
 use Rattle.certify.specs.confirm.VerdictPromises.{AreRightAnswers}
 use Rattle.sat_checker.specs.matching.ProofChecking.{checker_rules}
@@ -26,12 +26,12 @@ ReadingsAgree = (text : List ℕ) → parse_script text ≡ reading text
 -- that both definitions give outcomes the same text
 abbrev pub SameAnswers : Type 0
 SameAnswers = (commands : List Command) (ending : ScriptEnding) (outcomes : List Outcome)
-    → lines_from 1 initial_state commands ending outcomes ≡ answers_text commands ending outcomes
+    → event_lines (events 1 initial_state commands ending) outcomes ≡ answers_text commands ending outcomes
 
--- that outcomes are correct for the accepted asks exactly when they are correct for the accepted commands
-abbrev pub RightByAsks : Type 0
-RightByAsks = (commands : List Command) (outcomes : List Outcome)
-    → AnswersAreRight commands outcomes ↔ EachIsRight (asks_of initial_state commands) outcomes
+-- that outcomes are correct for the events of commands exactly when they are correct for the accepted commands
+abbrev pub RightByEvents : Type 0
+RightByEvents = (commands : List Command) (ending : ScriptEnding) (outcomes : List Outcome)
+    → AnswersAreRight commands outcomes ↔ EachIsRight (events 1 initial_state commands ending) outcomes
 
 -- that answers are correct exactly when they are the text of correct outcomes
 abbrev pub RightByOutcomes : Type 0
@@ -42,6 +42,10 @@ RightByOutcomes = (script answers : List ℕ)
 -- that three texts match by the short definitions exactly when they match by the definitions that code is proved against
 abbrev pub SameMatches : Type 0
 SameMatches = (script answers certificate : List ℕ) → TextsMatch script answers certificate ↔ Matches checker_rules reading script answers certificate
+
+-- that the answers of three matching texts are correct, by the short definitions
+abbrev pub MatchingAnswersAreRight : Type 0
+MatchingAnswersAreRight = (script answers certificate : List ℕ) → TextsMatch script answers certificate → AreRightAnswers script answers
 
 -- that both definitions agree on whether the answers and the summary of a run are correct
 abbrev pub SameReports : Type 0

@@ -1,4 +1,4 @@
--- When a derived clause advances, given what the checker of a certificate stores, and how often that happens between
+-- When a derived clause is empowering, given what the checker of a certificate stores, and how often that happens between
 -- two places. Lists of steps have the newest first.
 use Rattle.std.specs.Prelude.{ℕ, ◌+◌, ◌≡◌, ◌⊎◌, true, false, List, [], ◌∷◌, ◌++◌, map}
 use Rattle.std.specs.List.{AllByRecursion}
@@ -34,7 +34,7 @@ pub record LeavesUnassigned (f : Stored) (others : List ℕ) (literal : ℕ) : T
   pub agree : (l : ℕ) → is_among (start_literals f others) l ≡ true → is_among (start_literals f others) (negated l) ≡ false
   pub open_still : (reached : List ℕ) → PropagatesTo f (start_literals f others) reached → StaysUnassignedInStored f literal reached
 
--- that for some literal of the clause, the other literals leave that literal open (`LeavesUnassigned`)
+-- That the clause is new to unit propagation: for some literal of it, the negations of the other literals leave that literal unassigned.
 abbrev pub IsEmpoweringFor : Stored → List ℕ → Type 0
 IsEmpoweringFor f clause = (literal : ℕ) × (is_among clause literal ≡ true) × LeavesUnassigned f (others_of literal clause) literal
 

@@ -7,11 +7,10 @@ use Rattle.sat_base.specs.script.ScriptState.{ScriptState, refusal_of, after_com
 use Rattle.sat_base.specs.steps.Steps.{Step, End}
 use Rattle.sat_base.specs.steps.StepText.{SpellsSteps}
 use Rattle.certify.specs.Devices.{reader_before_after, writer_before_after}
-use Rattle.sat_base.specs.text.Text.{lines}
 use Rattle.certify.specs.answers.Answers.{answers_text}
-use Rattle.certify.specs.answers.AnswersText.{lines_from}
-use Rattle.certify.specs.answers.Asks.{Asked, asks_of, EachIsRight}
-use Rattle.certify.specs.answers.ScriptText.{parse_script, parse_tokens, tokens_of_lines}
+use Rattle.certify.specs.answers.AnswersText.{event_lines}
+use Rattle.certify.specs.answers.Events.{EachIsRight, events_in, refusals_among, variables_at}
+use Rattle.certify.specs.answers.ScriptText.{parse_script, parse_written}
 use Rattle.sat_checker.specs.Accepts.{AcceptsAll}
 use Rattle.sat_checker.specs.Laws.{has_delete_var}
 use Rattle.sat_checker.specs.matching.Expected.{Outcome, Sat, Unsat, Unknown, expected}
@@ -68,10 +67,6 @@ identities_given j (Hide names ∷ commands) = identities_given (state_after_acc
 identities_given j (Witness names ∷ commands) = identities_given (state_after_accepted (Witness names) j) commands
 identities_given j (Sample names ∷ commands) = identities_given (state_after_accepted (Sample names) j) commands
 
--- the number of identities at each of these asks, once its names were introduced
-abbrev pub variables_at : List Asked → List ℕ
-variables_at asks = map (λ a. a.state.identity_count) asks
-
 -- the number of rounds that each ask took
 abbrev pub rounds_of_asks : List AskReport → List ℕ
 rounds_of_asks reports = map (λ r. r.steps) reports
@@ -98,18 +93,17 @@ pub record AnswersRightly (text : List ℕ) (budget : ℕ) (summary : Summary) (
   pub kinds : map (λ r. r.answer) summary.asks.items ≡ map answer_kind outcomes
   pub spent : AreWithinBudget budget 0 (identities_given initial_state (accepted_commands initial_state (reading text).0)) summary.asks.items
 
--- That the summary and the answers of a finished run are correct, by the short definitions. There the asks are a list
--- of their own.
+-- That the summary and the answers of a finished run are correct, by the short definitions.
 pub record ReportsRightly (text : List ℕ) (budget : ℕ) (summary : Summary) (answered : List ℕ) : Type 0 where
   pub outcomes : List Outcome
-  pub right : EachIsRight (asks_of initial_state (parse_script text).0) outcomes
-  pub answers : answered ≡ lines_from 1 initial_state (parse_script text).0 (parse_script text).1 outcomes
-  pub commands : summary.commands ≡ length (parse_tokens None (tokens_of_lines true (lines text))).0
-  pub refused : summary.refused ≡ refused_count initial_state (parse_script text).0
+  pub right : EachIsRight (events_in text) outcomes
+  pub answers : answered ≡ event_lines (events_in text) outcomes
+  pub commands : summary.commands ≡ length (parse_written text).0
+  pub refused : summary.refused ≡ refusals_among (events_in text)
   pub malformed : summary.malformed ≡ malformed_at (length (parse_script text).0 + 1) (parse_script text).1
   -- one report for each outcome, of its kind
   pub kinds : map (λ r. r.answer) summary.asks.items ≡ map answer_kind outcomes
-  pub spent : AreWithinBudget budget 0 (variables_at (asks_of initial_state (parse_script text).0)) summary.asks.items
+  pub spent : AreWithinBudget budget 0 (variables_at (events_in text)) summary.asks.items
 
 -- What the certificate of a finished run guarantees. It spells steps, the oldest first, of which a checker accepts each after the earlier ones.
 -- In order, they contain the steps of the accepted commands and of these outcomes, with the rounds that the summary reports. Besides these
@@ -127,7 +121,7 @@ pub record CertificateGuarantee (text : List ℕ) (budget : ℕ) (summary : Summ
   pub follows : ServesCommands initial_state [] made (accepted_commands initial_state (reading text).0) is_answered.outcomes (rounds_of_asks summary.asks.items)
   pub counting : Counting
   pub cuts : TruncatesHashes uncounted (End ∷ made) steps counting
-  -- every round of an ask derived an empowering clause, except the round that answered, and no other clause of the ask advances
+  -- every round of an ask derived an empowering clause, except the round that answered, and no other clause of the ask is empowering
   pub learns : EachLearns steps 0 is_answered.outcomes (rounds_of_asks summary.asks.items)
   -- if no accepted command hides a name, no variable is deleted
   pub keeps : AllByRecursion HidesNothing (accepted_commands initial_state (reading text).0) → has_delete_var steps ≡ false

@@ -12,5 +12,5 @@ returns-clause-says c = grind (arith, common_steps, says)
 pub returns-clause-looks : goal.returns-clause-looks
 returns-clause-looks c =
     let remaining = λ (s : Bor (List ℕ)). Some s.now in
-    looks_within (reader_of remaining c.new-certificate.result) (reader_of remaining c.confirm.new.certificate) c.args.script.now c.args.answers.now c.args.certificate.now
+    looks_within (reader_of remaining c.new-certificate.result) (reader_of remaining c.confirm.new.certificate) c.args.certificate.now
     c.args.looks.now c.confirm.new.looks (ap (λ (r : Reader). r.to_come) (c.new-certificate.ensures.reader remaining)) c.confirm.ensures.looks

@@ -1,5 +1,6 @@
-use Rattle.certify.proofs.lemmas.laws.Headlines.{right_by_asks, right_by_outcomes, same_reports}
-use Rattle.certify.proofs.lemmas.answers.ShortTexts.{says_the_same, same_answers, same_matches}
+use Rattle.certify.proofs.lemmas.answers.ShortEvents.{same_answers, right_by_events}
+use Rattle.certify.proofs.lemmas.answers.ShortReading.{says_the_same}
+use Rattle.certify.proofs.lemmas.laws.Headlines.{right_by_outcomes, same_matches, same_reports}
 use Rattle.certify.proofs.laws.short_says_the_same.Goals as goal
 
 pub returns-clause-script : goal.returns-clause-script
@@ -8,8 +9,8 @@ returns-clause-script c = says_the_same
 pub returns-clause-answers : goal.returns-clause-answers
 returns-clause-answers c = same_answers
 
-pub returns-clause-asks : goal.returns-clause-asks
-returns-clause-asks c = right_by_asks
+pub returns-clause-events : goal.returns-clause-events
+returns-clause-events c = right_by_events
 
 pub returns-clause-right : goal.returns-clause-right
 returns-clause-right c = right_by_outcomes

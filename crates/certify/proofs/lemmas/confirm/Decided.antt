@@ -9,9 +9,7 @@ use Rattle.sat_base.proofs.lemmas.device.Given.{enough_as}
 use Rattle.sat_checker.specs.KernelView.{kernel_looks}
 use Rattle.sat_checker.specs.ProofView.{most_bytes}
 use Rattle.sat_checker.specs.declared.kernel.Kernel.{Kernel}
-use Rattle.sat_checker.specs.matching.ProofChecking.{checker_rules}
-use Rattle.sat_checker.proofs.lemmas.matching.CheckerIsSound.{the_checking_sound}
-use Rattle.certify.specs.confirm.Matches.{Matches, TextsMatch}
+use Rattle.certify.specs.confirm.Matches.{TextsMatch}
 use Rattle.certify.specs.confirm.Streams.{Confirms, Covers, rest_in, seen_in}
 use Rattle.certify.specs.confirm.VerdictPromises.{AreRightAnswers, Exact, GaveTextWith, IsSoundVerdict, ConfirmGuarantee, TakesLooks, command_count}
 use Rattle.certify.specs.confirm.CertificateStates.{CertificateState}
@@ -34,9 +32,8 @@ use Rattle.certify.proofs.lemmas.confirm.FewBytes.{nothing_spent}
 use Rattle.certify.proofs.lemmas.confirm.LooksBound.{takes_looks}
 use Rattle.certify.proofs.lemmas.confirm.Streams.{confirms_so, few_given, gave_enough, moves_halt, read_fails, took_faulted, took_looks}
 use Rattle.certify.proofs.lemmas.confirm.Walks.{looks_from, tries_if}
-use Rattle.certify.proofs.lemmas.laws.ExpectedOutcomes.{matching_right}
-use Rattle.certify.proofs.lemmas.answers.ShortTexts.{same_matches}
-use Rattle.certify.proofs.lemmas.laws.Headlines.{right_answers}
+use Rattle.certify.proofs.lemmas.laws.Headlines.{matching_answers, same_matches}
+use Rattle.certify.proofs.lemmas.confirm.ReadToEnd.{gave_right_answers}
 use Rattle.certify.proofs.lemmas.confirm.Joining.{covers_given, took_kept}
 use Rattle.certify.proofs.lemmas.script.FewCommands.{few_read}
 
@@ -45,14 +42,11 @@ use Rattle.certify.proofs.lemmas.script.FewCommands.{few_read}
 -- an exact verdict is sound
 pub sound_as : {E : Type 0} (r : Result Verdict E) (script answers certificate : Reader × Reader) → IfOk r (Exact script answers certificate) → IfOk r (IsSoundVerdict script answers)
 sound_as (Err e) script answers certificate h = tt
-sound_as (Ok v) script answers certificate h = λ said.
-    enough_as script.0 script.1 (λ s. GaveTextWith answers (λ a. GaveTextWith certificate (λ c. (v ≡ Yes) ↔ TextsMatch s a c))) (λ s. GaveTextWith answers (AreRightAnswers s))
+sound_as (Ok v) script answers certificate h = λ said. gave_right_answers script answers
+    (enough_as script.0 script.1 (λ s. GaveTextWith answers (λ a. GaveTextWith certificate (λ c. (v ≡ Yes) ↔ TextsMatch s a c))) (λ s. GaveTextWith answers (AreRightAnswers s))
     (λ s g.
     enough_as answers.0 answers.1 (λ a. GaveTextWith certificate (λ c. (v ≡ Yes) ↔ TextsMatch s a c)) (AreRightAnswers s)
-    (λ a k.
-    let m : Matches checker_rules reading s a (k.text ++ []) = (same_matches s a (k.text ++ [])).0 ((k.holds [] (λ called ended. refl)).0 said) in
-    right_answers s a m.outcomes m.answered (matching_right checker_rules the_checking_sound (reading s).0 m.outcomes m.steps m.match))
-    g) h
+    (λ a k. matching_answers s a (k.text ++ []) ((k.holds [] (λ called ended. refl)).0 said)) g) h)
 
 -- READS THAT FAILED
 

@@ -1,7 +1,7 @@
 -- What a finished run wrote is confirmed, with any readers and for texts in memory.
-use Rattle.std.proofs.Common.{ℕ, ◌+◌, ◌*◌, ◌^◌, ◌≤◌, ◌≡◌, ◌∙◌, List, ◌++◌, Option, None, Some, Result, Ok, Err, IfOk, sym, ap, subst, arith, length, length-append, []}
+use Rattle.std.proofs.Common.{ℕ, ◌+◌, ◌*◌, ◌^◌, ◌≤◌, ◌≡◌, ◌∙◌, List, ◌++◌, Option, None, Some, Result, Ok, Err, IfOk, sym, ap, subst, arith, length, length-append, append-nil, []}
 use Rattle.std.specs.Prelude.{IfSome, ◌↔◌}
-use Rattle.std.specs.Io.KnownBytes.{Appends, Consumes}
+use Rattle.std.specs.Io.KnownBytes.{Appends, Consumes, IsAtEnd}
 use Rattle.std.proofs.lemmas.List.{append_cancel_left}
 use Rattle.std.proofs.Math.Nat.{mul-le-mul, mul-one, pow-succ', pow-zero}
 use Rattle.sat_base.specs.device.Device.{Reader, Writer, GaveEnough, WriterAccepts}
@@ -16,7 +16,7 @@ use Rattle.certify.specs.declared.summary.Summary.{Summary}
 use Rattle.certify.specs.declared.verdict.ConfirmFault.{ConfirmFault}
 use Rattle.certify.specs.declared.verdict.Verdict.{Verdict}
 use Rattle.certify.specs.declared.verdict.Verdict.TheVariants.{Yes}
-use Rattle.certify.proofs.lemmas.answers.ShortTexts.{same_matches}
+use Rattle.certify.proofs.lemmas.laws.Headlines.{same_matches}
 use Rattle.certify.proofs.lemmas.laws.CertifiedMatches.{certified_matches}
 
 -- what holds whatever the reader could still give holds of any text that it can be
@@ -40,13 +40,23 @@ finished_confirmed script answers certificate v budget summary text answered cer
 pub of_known_text : (a b : Reader) (P : List ℕ → Type 0) (text : List ℕ) → a.to_come ≡ Some text → GaveEnough a b P → P text
 of_known_text a b P text e g = subst (λ o. IfSome o P) e (enough_known a b P g)
 
+-- a reader whose bytes were known gave all of them, if it was read to its end
+all_known : (o p : Option (List ℕ)) (t text : List ℕ) → o ≡ Some t → Consumes o p text → IsAtEnd p → text ≡ t
+all_known None p t text e h k = absurd (let g = e in cc)
+all_known (Some xs) None t text e h k = absurd h
+all_known (Some xs) (Some ys) t text e h k =
+    let same : xs ≡ t = cc in
+    sym (append-nil text) ∙ ap (λ (zs : List ℕ). text ++ zs) (sym k) ∙ sym h ∙ same
+
 pub says : (r : Result Verdict ConfirmFault) (a x b y c z : Reader) (s t u : List ℕ) → a.to_come ≡ Some s → b.to_come ≡ Some t → c.to_come ≡ Some u
     → IfOk r (Exact (a, x) (b, y) (c, z)) → IfOk r (IsSoundVerdict (a, x) (b, y)) → IfOk r (VerdictGuarantee s t u)
 says (Ok v) a x b y c z s t u d e f h k = record {
   exact = of_known_text c z (λ n. (v ≡ Yes) ↔ TextsMatch s t n) u f
       (of_known_text b y (λ m. GaveTextWith (c, z) (λ n. (v ≡ Yes) ↔ TextsMatch s m n)) t e
       (of_known_text a x (λ l. GaveTextWith (b, y) (λ m. GaveTextWith (c, z) (λ n. (v ≡ Yes) ↔ TextsMatch l m n))) s d h));
-  sound = λ yes. of_known_text b y (AreRightAnswers s) t e (of_known_text a x (λ l. GaveTextWith (b, y) (AreRightAnswers l)) s d (k yes));
+  sound = λ yes.
+      let g = k yes in
+      subst (AreRightAnswers s) (all_known b.to_come y.to_come t g.0 e g.1.known_bytes g.1.over) (of_known_text a x (λ l. AreRightAnswers l g.0) s d g.2);
 }
 says (Err e) a x b y c z s t u d f g h k = tt
 
@@ -67,10 +77,10 @@ squares_rise m n h =
     let p : m * m ≤ n * n = mul-le-mul h h in
     rw (square m, square n) (omega (arith, p))
 
-pub looks_within : (c z : Reader) (s t u : List ℕ) (from to : ℕ) → c.to_come ≡ Some u → TakesLooks c z from to → to ≤ from + most_looks_over s t u
-looks_within c z s t u from to e k =
+pub looks_within : (c z : Reader) (u : List ℕ) (from to : ℕ) → c.to_come ≡ Some u → TakesLooks c z from to → to ≤ from + most_looks_over u
+looks_within c z u from to e k =
     let few = consumed c.to_come z.to_come u k.text e k.front.known_bytes in
-    let up = squares_rise (length k.text + 1) (length s + length t + length u + 1) (omega (arith, few)) in
+    let up = squares_rise (length k.text + 1) (length u + 1) (omega (arith, few)) in
     omega (arith, up, k.bound)
 
 -- WHAT A RUN WROTE IN MEMORY
