@@ -76,13 +76,13 @@ fn long_written(
     alloc: Global,
     device: Device,
 ) -> Result<(bool, bool, (Option<bool>, Seen)), AllocError> {
-    let lits: Vec<Lit> = vec![in alloc; Var::from_index(0).positive(); 5000]?;
+    let lits: Vec<Lit> = vec![in alloc; Var::from_index(0).positive(); 20_000]?;
     let mut proof: Proof<Counted<ByFew>> = Proof::new(alloc);
     proof.open(ProofFormat::Varisat, by_few(alloc, device.0, device.1));
     let long = proof.step(&ProofStep::Assumptions { assumptions: &lits });
     let long = long.is_ok();
     let more = make_two(&mut proof);
-    Ok((long, more, closed(proof, &[11, 136, 39, 0, 0])))
+    Ok((long, more, closed(proof, &[11, 160, 156, 1, 0])))
 }
 
 /// Makes steps without a target. Returns whether they succeed, and what `closed` returns.
