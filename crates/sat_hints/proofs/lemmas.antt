@@ -1,4 +1,3 @@
-pub mod Digits
 pub mod Words
 pub mod Spelling
 pub mod Prefixes

@@ -4,8 +4,7 @@ ghost use Rattle.sat_hints.specs.Lines.{HasNoEnd};
 ghost use Rattle.sat_hints.specs.inner.Prefixes.{letter_place, limit_of, next_of, sign_place, zero_place, LeadsToPlace};
 ghost use Rattle.sat_hints.specs.declared.prefixes.Place.TheVariants.{Digits, Item};
 
-use crate::numbers::with_digit;
-use sat_base::Var;
+use sat_base::{Var, append_digit};
 
 /// The part of a line that is still expected.
 #[derive(Clone, Copy)]
@@ -118,7 +117,7 @@ fn in_number(part: Part, number: u64, byte: u8) -> Option<Place>
     if byte == b' ' && number > 0 {
         return Some(Place::Item(next(part)));
     }
-    let more = with_digit(number, byte, limit(part))?;
+    let more = append_digit(number, byte, limit(part))?;
     Some(Place::Digits(part, more))
 }
 

@@ -6,8 +6,8 @@ ghost use Rattle.sat_hints.specs.inner.LineReading.{BeginsWithBoth, BeginsWithNo
 ghost use Rattle.sat_hints.specs.inner.LineReading.{IsId, IsLiteralCode, BeginsWithHintLine, line_of_view, line_with};
 
 use crate::line::HintLine;
-use crate::numbers::{read_id, read_literal, read_variable, take_text};
-use sat_base::{Lit, Var};
+use crate::numbers::{read_id, read_literal, read_variable};
+use sat_base::{Lit, Var, take_text};
 use std::alloc::{AllocError, Global};
 
 /// The lists of the current line. Their memory is reused.

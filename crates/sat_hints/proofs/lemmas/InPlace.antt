@@ -15,7 +15,7 @@ use Rattle.sat_hints.specs.declared.answer.HintWhy.{HintWhy}
 use Rattle.sat_hints.specs.declared.answer.HintWhy.TheVariants.{Syntax}
 use Rattle.sat_hints.specs.declared.line_checking.LineChecker.{LineChecker}
 use Rattle.sat_hints.specs.declared.checking.Checking.{Checking}
-use Rattle.sat_hints.proofs.lemmas.Digits.{are_digits}
+use Rattle.sat_base.proofs.lemmas.text.NumberWords.{are_digits}
 use Rattle.sat_hints.proofs.lemmas.Holding.{no_end_both, whole_with, line_has_end, held_more, line_passes, line_faulty, reads_more, reads_after}
 
 -- A LINE'S TEXT HAS ONE LF, AT ITS END

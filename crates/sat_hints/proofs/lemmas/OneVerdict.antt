@@ -13,11 +13,13 @@ use Rattle.sat_hints.specs.Lines.{Line, Input, Derived, Gone, Core, Fresh, AreId
 use Rattle.sat_hints.specs.Hints.{named_ids, clauses_under, assumed_by, Conflicts, ConflictsIf, FollowsLines, IsHintDerivation}
 use Rattle.sat_hints.specs.Checks.{SomeIsNotUnit, LastIsNotFalsified, IsFaultOf, IsAtFault}
 use Rattle.sat_hints.specs.Laws.{ProvedIsNotBad}
-use Rattle.sat_hints.specs.inner.LineReading.{IsId, IsLiteralCode, NoWord}
+use Rattle.sat_hints.specs.inner.LineReading.{IsId, IsLiteralCode}
+use Rattle.sat_base.specs.text.NumberWords.{NoWord}
 use Rattle.sat_hints.specs.declared.answer.HintWhy.{HintWhy}
 use Rattle.sat_hints.specs.declared.answer.HintWhy.TheVariants.{Syntax, IdOrder, UnknownId, NotUnit, NotFalsified, VarInUse}
-use Rattle.sat_hints.proofs.lemmas.Digits.{are_digits}
-use Rattle.sat_hints.proofs.lemmas.Words.{at_space, same_words, ids_are_words, literals_are_words}
+use Rattle.sat_base.proofs.lemmas.text.NumberWords.{are_digits}
+use Rattle.sat_hints.proofs.lemmas.Words.{same_words, ids_are_words, literals_are_words}
+use Rattle.sat_base.proofs.lemmas.text.NumberWords.{at_space}
 use Rattle.sat_hints.proofs.lemmas.Holding.{no_end_both}
 
 -- CLAUSES GIVE ONE RESULT

@@ -4,14 +4,16 @@ use Rattle.std.proofs.lemmas.Fmt.{decimal_nonempty, first_decimal}
 use Rattle.sat_base.specs.values.Literals.{var_limit, is_positive}
 use Rattle.sat_base.specs.dimacs.DimacsText.{number_text}
 use Rattle.sat_hints.specs.Lines.{HasNoEnd, id_text, id_words, literal_words}
-use Rattle.sat_hints.specs.inner.LineReading.{IsNumberUpTo, IsLiteralCode, NoDigit, number_digits_so_far}
+use Rattle.sat_hints.specs.inner.LineReading.{IsLiteralCode}
+use Rattle.sat_base.specs.text.NumberWords.{IsNumberUpTo, NoDigit, digits_so_far}
 use Rattle.sat_hints.specs.inner.Prefixes.{limit_of, next_of, zero_place, sign_place, Numbered, IsPartOfLine, IsRestOfLine, IsLeftIf, LeadsToPlace}
 use Rattle.sat_hints.specs.declared.prefixes.Part.{Part}
 use Rattle.sat_hints.specs.declared.prefixes.Part.TheVariants.{Clause, Lists, Ids, End}
 use Rattle.sat_hints.specs.declared.prefixes.Place.{Place}
 use Rattle.sat_hints.specs.declared.prefixes.Place.TheVariants.{Item, Digits}
-use Rattle.sat_hints.proofs.lemmas.Digits.{number_goes_on, plain_number, plain_so_far, so_far}
-use Rattle.sat_hints.proofs.lemmas.Words.{at_space, id_first, no_sign}
+use Rattle.sat_base.proofs.lemmas.text.NumberWords.{number_goes_on, plain_number, plain_so_far, so_far}
+use Rattle.sat_hints.proofs.lemmas.Words.{no_sign}
+use Rattle.sat_base.proofs.lemmas.text.NumberWords.{at_space, id_first}
 
 abbrev end : List ℕ
 end = 48 ∷ 10 ∷ []
@@ -96,16 +98,16 @@ pub number_ends : (part : Part) (number : ℕ) → number < 2 ^ 64 → 0 < numbe
 number_ends part number small more_than more w =
     let f = limit_fits part in
     let k = w.within in
-    let e = at_space (number_digits_so_far number) (decimal w.value) more w.rest (plain_so_far number small) (plain_number w.value (omega arith)) w.whole in
+    let e = at_space (digits_so_far number) (decimal w.value) more w.rest (plain_so_far number small) (plain_number w.value (omega arith)) w.whole in
     subst (IsPartOfLine (next_of part)) (sym e.1) w.following
 
 -- a further digit
-pub number_goes : (part : Part) (number b m : ℕ) → IsNumberUpTo (limit_of part) m → decimal m ≡ number_digits_so_far number ++ (b ∷ []) → LeadsToPlace (Digits part number) (b ∷ []) (Some (Digits part m))
+pub number_goes : (part : Part) (number b m : ℕ) → IsNumberUpTo (limit_of part) m → decimal m ≡ digits_so_far number ++ (b ∷ []) → LeadsToPlace (Digits part number) (b ∷ []) (Some (Digits part m))
 number_goes part number b m within e more w = record {
   value = w.value;
   rest = w.rest;
   within = w.within;
-  whole = ap (λ ds. ds ++ more) (so_far m within.0 ∙ e) ∙ append_assoc (number_digits_so_far number) (b ∷ []) more ∙ w.whole;
+  whole = ap (λ ds. ds ++ more) (so_far m within.0 ∙ e) ∙ append_assoc (digits_so_far number) (b ∷ []) more ∙ w.whole;
   following = w.following;
 }
 

@@ -2,7 +2,8 @@
 use Rattle.std.proofs.Common.{ℕ, ◌≡◌, Bor, Option, None, Some, MatchOption, List, [], ◌∷◌, ◌++◌, refl, sym, ◌∙◌, ap, arith, append_assoc}
 use Rattle.sat_base.specs.dimacs.DimacsText.{number_text}
 use Rattle.sat_hints.specs.Lines.{Input, Derived, Gone, Core, Fresh, id_text, id_words, literal_words, line_text}
-use Rattle.sat_hints.specs.inner.LineReading.{IsId, IsVariableIndex, IsLiteralCode, BeginsWithWord, BeginsWithWords, BeginsWithOne, BeginsWithBoth, BeginsWithNoLine}
+use Rattle.sat_hints.specs.inner.LineReading.{IsId, IsVariableIndex, IsLiteralCode, BeginsWithWords, BeginsWithOne, BeginsWithBoth, BeginsWithNoLine}
+use Rattle.sat_base.specs.text.NumberWords.{BeginsWithWord}
 use Rattle.sat_hints.proofs.lemmas.Words.{ended_words, same_word, ids_are_words, literals_are_words}
 
 abbrev end : List ℕ

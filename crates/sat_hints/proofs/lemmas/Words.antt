@@ -8,28 +8,15 @@ use Rattle.std.specs.Str.Parse.{AllDigits}
 use Rattle.sat_base.specs.values.Literals.{variable, is_positive}
 use Rattle.sat_base.specs.dimacs.DimacsText.{number_text}
 use Rattle.sat_hints.specs.Lines.{spaced_words, id_text}
-use Rattle.sat_hints.specs.inner.LineReading.{IsId, IsVariableIndex, IsLiteralCode, IsNumberUpTo, EndsNone, NoWord, BeginsWithWord, BeginsWithWords, number_digits_so_far}
-use Rattle.sat_hints.proofs.lemmas.Digits.{Plain, plain_number, plain_so_far, are_digits, so_far, no_digit, number_goes_on}
+use Rattle.sat_hints.specs.inner.LineReading.{IsId, IsVariableIndex, IsLiteralCode, BeginsWithWords}
+use Rattle.sat_base.specs.text.NumberWords.{IsNumberUpTo, EndsNone, NoWord, BeginsWithWord, digits_so_far}
+use Rattle.sat_base.proofs.lemmas.text.NumberWords.{Plain, at_space, id_first, plain_number, are_digits}
 
 -- that no word has a space or begins with `0`, and every word has one value
 pub record AreWords (word : ℕ → List ℕ) (P : ℕ → Type 0) : Type 0 where
   pub plain : (x : ℕ) → P x → Plain (word x)
   pub one : (x y : ℕ) → P x → P y → word x ≡ word y → x ≡ y
   pub no_zero : (x : ℕ) (rest tail : List ℕ) → P x → 48 ∷ rest ≡ word x ++ (32 ∷ tail) → ⊥
-
--- two texts with a word before a space
-pub at_space : (ds es x y : List ℕ) → Plain ds → Plain es → ds ++ (32 ∷ x) ≡ es ++ (32 ∷ y) → (ds ≡ es) × (x ≡ y)
-at_space [] [] x y p q e = (refl, cc)
-at_space [] (c ∷ cs) x y p q e = absurd (q.0 (let r : c ≡ 32 = cc in r))
-at_space (d ∷ ds) [] x y p q e = absurd (p.0 (let r : d ≡ 32 = cc in r))
-at_space (d ∷ ds) (c ∷ cs) x y p q e =
-    let h : d ≡ c = cc in
-    let t : ds ++ (32 ∷ x) ≡ cs ++ (32 ∷ y) = cc in
-    let r = at_space ds cs x y p.1 q.1 t in
-    (pair d c ds cs h r.0, r.1)
-  where
-    pair : (d c : ℕ) (ds cs : List ℕ) → d ≡ c → ds ≡ cs → (d ∷ ds) ≡ (c ∷ cs)
-    pair d c ds cs h t = cc
 
 pub record SameWords (xs ys r s : List ℕ) : Type 0 where
   pub items : xs ≡ ys
@@ -80,47 +67,12 @@ module _ (word : ℕ → List ℕ) (P : ℕ → Type 0) where
   })
 
 -- IDs
-pub id_first : (ds : List ℕ) (rest tail : List ℕ) → 0 < length ds → 48 < get_or ds 0 0 → 48 ∷ rest ≡ ds ++ (32 ∷ tail) → ⊥
-id_first [] rest tail h k e = omega arith
-id_first (d ∷ ds) rest tail h k e = let r : d ≡ 48 = cc in omega arith
-
 pub ids_are_words : AreWords id_text IsId
 ids_are_words = record {
   plain = λ id p. plain_number (id + 1) (omega arith);
   one = λ x y p q e. let r : x + 1 ≡ y + 1 = decimal_injective (x + 1) (y + 1) (omega arith) (omega arith) e in omega arith;
   no_zero = λ x rest tail p e. id_first (decimal (x + 1)) rest tail (decimal_nonempty (x + 1) (omega arith)) (first_decimal (x + 1) (omega arith) (omega arith)) e;
 }
-
--- no number begins with `0`
-pub no_number_zero : (limit : ℕ) → limit < 2 ^ 64 → (bytes : List ℕ) → 0 < length bytes → get_or bytes 0 0 ≡ 48 → NoWord decimal (IsNumberUpTo limit) bytes
-no_number_zero limit fits [] h e n tail k f = omega arith
-no_number_zero limit fits (b ∷ bytes) h e n tail k f =
-    let g : 48 ∷ bytes ≡ decimal n ++ (32 ∷ tail) = ap (λ c. c ∷ bytes) (sym e) ∙ f in
-    id_first (decimal n) bytes tail (decimal_nonempty n (omega arith)) (first_decimal n k.0 (omega arith)) g
-
--- digits before another byte are not a number, unless a space ends one within the limit
-pub no_number_stop : (limit : ℕ) → limit < 2 ^ 64 → (number b : ℕ) (bytes x : List ℕ) → number < 2 ^ 64 → ((48 ≤ b) × (b ≤ 57) → ⊥) → EndsNone number b limit → bytes ≡ number_digits_so_far number ++ (b ∷ x) → NoWord decimal (IsNumberUpTo limit) bytes
-no_number_stop limit fits number b bytes x small other space e n tail k f = go (eqb b 32) refl
-  where
-    from : (b ≡ 32 → number ≡ 0) → ⊥
-    from s = let r = number_goes_on limit fits number b x n tail small s k (sym e ∙ f) in no_digit limit fits number b other n r.0 k r.1
-
-    over : b ≡ 32 → limit < number → ⊥
-    over s past =
-        let g : number_digits_so_far number ++ (32 ∷ x) ≡ decimal n ++ (32 ∷ tail) = ap (λ c. number_digits_so_far number ++ (c ∷ x)) (sym s) ∙ sym e ∙ f in
-        let fit : n < 2 ^ 64 = omega arith in
-        let same : number_digits_so_far number ≡ decimal n = (at_space (number_digits_so_far number) (decimal n) x tail (plain_so_far number small) (plain_number n fit) g).0 in
-        let r : number ≡ n = decimal_injective number n small fit (sym (so_far number (omega arith)) ∙ same) in
-        let l : n ≤ limit = k.1 in
-        omega arith
-
-    either : b ≡ 32 → (number ≡ 0) ⊎ (limit < number) → ⊥
-    either s (inl z) = from (λ t. z)
-    either s (inr past) = over s past
-
-    go : (is : Bool) → eqb b 32 ≡ is → ⊥
-    go true h = let s = eqb-true b 32 h in either s (space s)
-    go false h = from (λ s. absurd (both_ways (eqb b 32) h (eq-eqb b 32 s)))
 
 -- literals
 plain_signed : (s : Bool) (n : ℕ) → n < 2 ^ 64 → Plain (cond s [] (45 ∷ []) ++ decimal n)

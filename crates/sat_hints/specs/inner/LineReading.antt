@@ -2,15 +2,12 @@
 use Rattle.std.specs.Prelude.{ℕ, zero, suc, ◌*◌, ◌-◌, ◌^◌, ◌<◌, ◌≤◌, ◌≡◌, ◌⊎◌, List, [], ◌∷◌, ◌++◌, decimal, codes}
 use Rattle.std.specs.List.{AllByRecursion}
 use Rattle.sat_base.specs.values.Literals.{var_limit}
+use Rattle.sat_base.specs.text.NumberWords.{NoWord}
 use Rattle.sat_hints.specs.Lines.{Line, Input, Derived, Gone, Core, Fresh, IsLine, AreIds, AreLiteralCodes, spaced_words, id_words, literal_words, line_text}
 use Rattle.sat_hints.specs.declared.line.HintLine.{HintLine}
 use Rattle.sat_hints.specs.declared.line.HintLine.TheVariants as code
 use Rattle.sat_hints.specs.declared.reading.Head.{Head}
 use Rattle.sat_hints.specs.declared.reading.Head.TheVariants as head
-
--- that the number is between 1 and the limit
-abbrev pub IsNumberUpTo : ℕ → ℕ → Type 0
-IsNumberUpTo limit n = (1 ≤ n) × (n ≤ limit)
 
 -- that an id is below 2^64-1, so that its number in a text is below 2^64
 abbrev pub IsId : ℕ → Type 0
@@ -23,27 +20,6 @@ IsVariableIndex v = v < var_limit
 -- that a literal is a code whose variable is below the limit
 abbrev pub IsLiteralCode : ℕ → Type 0
 IsLiteralCode l = l < 2 * var_limit
-
--- the digits of an unfinished number; none if its value so far is 0
-abbrev pub number_digits_so_far : ℕ → List ℕ
-number_digits_so_far zero = []
-number_digits_so_far (suc n) = decimal (suc n)
-
--- that no number up to the limit begins with the digits so far and this byte
-abbrev pub NoDigit : ℕ → ℕ → ℕ → Type 0
-NoDigit limit number byte = (n : ℕ) (more : List ℕ) → IsNumberUpTo limit n → decimal n ≡ number_digits_so_far number ++ (byte ∷ more) → ⊥
-
--- that the byte is not a space, or the number before it is 0 or above the limit
-abbrev pub EndsNone : ℕ → ℕ → ℕ → Type 0
-EndsNone number byte limit = byte ≡ 32 → (number ≡ 0) ⊎ (limit < number)
-
--- that the bytes do not begin with a word and a space
-abbrev pub NoWord : (ℕ → List ℕ) → (ℕ → Type 0) → List ℕ → Type 0
-NoWord word P bytes = (x : ℕ) (tail : List ℕ) → P x → bytes ≡ word x ++ (32 ∷ tail) → ⊥
-
--- that the bytes begin with this word and a space
-abbrev pub BeginsWithWord : (ℕ → List ℕ) → (ℕ → Type 0) → List ℕ → ℕ → List ℕ → Type 0
-BeginsWithWord word P bytes x rest = P x × (bytes ≡ word x ++ (32 ∷ rest))
 
 -- that the bytes begin with these words, each followed by a space, and no further word follows
 pub record BeginsWithWords (word : ℕ → List ℕ) (P : ℕ → Type 0) (bytes xs rest : List ℕ) : Type 0 where

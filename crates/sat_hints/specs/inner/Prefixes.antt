@@ -2,7 +2,8 @@
 use Rattle.std.specs.Prelude.{ℕ, ◌-◌, ◌^◌, ◌==◌, ◌≡◌, Option, None, Some, List, ◌∷◌, ◌++◌, decimal, codes, if◌then◌else◌}
 use Rattle.sat_base.specs.values.Literals.{var_limit}
 use Rattle.sat_hints.specs.Lines.{Line, AreIds, id_words, SpellsLine}
-use Rattle.sat_hints.specs.inner.LineReading.{IsNumberUpTo, IsOne, IsBoth, number_digits_so_far}
+use Rattle.sat_hints.specs.inner.LineReading.{IsOne, IsBoth}
+use Rattle.sat_base.specs.text.NumberWords.{IsNumberUpTo, digits_so_far}
 use Rattle.sat_hints.specs.declared.prefixes.Part.{Part}
 use Rattle.sat_hints.specs.declared.prefixes.Part.TheVariants.{InputId, DerivedId, GoneId, FreshVar, Clause, Lists, Ids, End}
 use Rattle.sat_hints.specs.declared.prefixes.Place.{Place}
@@ -35,7 +36,7 @@ pub record Numbered (limit : ℕ) (Rest : List ℕ → Type 0) (number : ℕ) (b
   pub value : ℕ
   pub rest : List ℕ
   pub within : IsNumberUpTo limit value
-  pub whole : number_digits_so_far number ++ bytes ≡ decimal value ++ (32 ∷ rest)
+  pub whole : digits_so_far number ++ bytes ≡ decimal value ++ (32 ∷ rest)
   pub following : Rest rest
 
 -- that the bytes are this part of a line and its LF

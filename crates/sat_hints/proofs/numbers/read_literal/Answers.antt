@@ -1,5 +1,6 @@
 use Rattle.sat_base.specs.dimacs.DimacsText.{number_text}
-use Rattle.sat_hints.specs.inner.LineReading.{NoWord, IsLiteralCode}
+use Rattle.sat_hints.specs.inner.LineReading.{IsLiteralCode}
+use Rattle.sat_base.specs.text.NumberWords.{NoWord}
 use Rattle.sat_hints.proofs.lemmas.Words.{no_negative_word}
 use Rattle.sat_hints.proofs.numbers.read_literal.Goals as goal
 

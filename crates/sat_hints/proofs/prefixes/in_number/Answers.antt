@@ -1,6 +1,6 @@
 use Rattle.std.proofs.Common.{◌≡◌, ◌≢◌, ◌≤◌, ◌⊎◌, ℕ, inl, inr, [], ◌∷◌, Some, subst, sym, arith}
 use Rattle.sat_hints.specs.inner.Prefixes.{limit_of, LeadsToPlace}
-use Rattle.sat_hints.specs.inner.LineReading.{NoDigit}
+use Rattle.sat_base.specs.text.NumberWords.{NoDigit}
 use Rattle.sat_hints.specs.declared.prefixes.Place.TheVariants.{Digits, Item}
 use Rattle.sat_hints.proofs.lemmas.Prefixes.{number_ends, number_goes, number_stops}
 use Rattle.sat_hints.proofs.prefixes.in_number.Goals as goal

@@ -1,7 +1,0 @@
-use Rattle.std.proofs.Common.{◌≡◌, ◌≤◌, ◌++◌, drop}
-use Rattle.sat_hints.specs.inner.LineReading.{number_digits_so_far}
-use Rattle.sat_hints.proofs.numbers.read_number.Given as goal
-
--- the bytes read so far are the digits of `number`, the first of which is not 0
-abbrev pub invariant-loop-i : goal.invariant-loop-i
-invariant-loop-i l = record { more : l.i ≤ l.number; digits : l.bytes ≡ number_digits_so_far l.number ++ drop l.i l.bytes }
