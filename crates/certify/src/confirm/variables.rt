@@ -3,13 +3,13 @@ ghost use Rattle.std.specs.Prelude.{ℕ, ◌≡◌, ◌+◌, ◌<◌, None, Some
 ghost use Rattle.sat_base.specs.values.Literals.{var_limit};
 ghost use Rattle.certify.specs.confirm.Variables.{PutsVariable, variable_in};
 
-use sat_base::{Table, Var};
+use sat_base::{MaybeVar, Table, Var};
 use std::alloc::{AllocError, Global};
 
 /// A map from names to variables. Its memory depends on how many names have a variable, not on how large the names are.
 #[derive(Drop)]
 pub(crate) struct NamedVars {
-    variables: Table<Option<Var>>,
+    variables: Table<MaybeVar>,
 }
 
 impl NamedVars {
@@ -27,7 +27,7 @@ impl NamedVars {
     pub fn get(&self, name: Var) -> Option<Var>
         ensures { result ≡ variable_in self.now (name + 1) }
     {
-        self.variables.get(name.index(), None)
+        self.variables.get(name.index(), MaybeVar::none()).get()
     }
 
     /// Sets the variable of `name` to `variable`.
@@ -35,13 +35,17 @@ impl NamedVars {
         ensures put { OnOk result (PutsVariable self.old self.new (name + 1) (Some variable)) }
         ensures within { name < var_limit }
     {
-        self.variables.set(name.index(), Some(variable), None)
+        self.variables.set(
+            name.index(),
+            MaybeVar::new(Some(variable)),
+            MaybeVar::none(),
+        )
     }
 
     /// Removes the variable of `name`.
     pub fn remove(&mut self, name: Var)
         ensures { PutsVariable self.old self.new (name + 1) None }
     {
-        self.variables.reset(name.index(), None);
+        self.variables.reset(name.index(), MaybeVar::none());
     }
 }
