@@ -9,7 +9,7 @@ use crate::script::ahead::LastPiece;
 use sat_base::{CountedRead, ReadError};
 use std::alloc::{AllocError, Global};
 
-/// A line of fewer bytes than this is examined after every read; a longer one only once its length has doubled.
+/// A line of fewer bytes than this is examined after every read; a longer one only once its length has quadrupled.
 const HELD: usize = 1024;
 
 /// Which lines are allowed next.
@@ -74,7 +74,7 @@ fn look(wanted: Wanted, due: &[u8], bytes: &[u8], limit: usize) -> Option<usize>
     if bytes.len() < HELD {
         return Some(bytes.len() + 1);
     }
-    Some(bytes.len().saturating_mul(2))
+    Some(bytes.len().saturating_mul(4))
 }
 
 impl Lines {
