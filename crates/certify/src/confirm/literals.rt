@@ -1,5 +1,6 @@
 //! Compares lists of literals as sets. In literals over names, each name stands for its variable.
 ghost use Rattle.std.specs.Prelude.{IfOk, ◌≡◌, [], true};
+ghost use Rattle.sat_checker.specs.LiteralSets.{is_among};
 ghost use Rattle.sat_checker.specs.matching.Expected.{EachSpelt, SameSet, Spells};
 ghost use Rattle.certify.specs.answers.AnswerForms.{named_literal, named_literals};
 ghost use Rattle.certify.specs.confirm.SpeltLiterals.{AllAmong, AreSpelt, SpellsAll, AnswersWhether};
@@ -9,6 +10,9 @@ use crate::confirm::variables::NamedVars;
 use sat_base::Lit;
 use sat_checker::sorted_lits::{copy_canonical, is_subset};
 use std::alloc::{AllocError, Global};
+
+/// Lists of at most this many literals are compared as sets without being sorted.
+const SHORT: usize = 8;
 
 /// Buffers for comparisons. Their contents don't matter between comparisons.
 #[derive(Drop)]
@@ -50,10 +54,46 @@ fn are_among(literals: &[Lit], others: &[Lit], sets: &mut Sets) -> Result<bool, 
     Ok(is_subset(&sets.first, &sets.second, false))
 }
 
+/// Returns `true` if `lits` contains `lit`. Compares `lit` with all of them, without branches.
+#[inline(always)]
+fn is_in(lit: Lit, lits: &[Lit]) -> bool
+    ensures { result ≡ is_among lits.now lit }
+{
+    let mut found = false;
+    for other in lits {
+        found = found | (*other == lit);
+    }
+    found
+}
+
+/// Returns `true` if `others` contains all of `literals`. Compares all pairs, without branches.
+fn are_all_in(literals: &[Lit], others: &[Lit]) -> bool
+    ensures { AnswersWhether result (AllAmong literals.now others.now) }
+{
+    let mut all = true;
+    for lit in literals {
+        all = all & is_in(*lit, others);
+    }
+    all
+}
+
+/// Returns `true` if both lists contain the same literals. Meant for short lists.
+fn are_same_short(xs: &[Lit], ys: &[Lit]) -> bool
+    ensures { AnswersWhether result (AllAmong xs.now ys.now × AllAmong ys.now xs.now) }
+{
+    if !are_all_in(xs, ys) {
+        return false;
+    }
+    are_all_in(ys, xs)
+}
+
 /// Whether both lists contain the same literals.
 fn are_same(xs: &[Lit], ys: &[Lit], sets: &mut Sets) -> Result<bool, AllocError>
     ensures { IfOk result (λ yes. AnswersWhether yes (AllAmong xs.now ys.now × AllAmong ys.now xs.now)) }
 {
+    if xs.len() <= SHORT && ys.len() <= SHORT {
+        return Ok(are_same_short(xs, ys));
+    }
     copy_canonical(&mut sets.first, xs)?;
     copy_canonical(&mut sets.second, ys)?;
     if !is_subset(&sets.first, &sets.second, false) {
@@ -123,6 +163,9 @@ pub(crate) fn are_spelt_in(
     ensures { IfOk result
         (λ yes. AnswersWhether yes (EachSpelt (variable_in variables.now) (named_literals literals.now) codes.now)) }
 {
+    if are_spelt(variables, literals, codes) {
+        return Ok(true);
+    }
     if spell(variables, literals, &mut room.spelt)? {
         are_among(&room.spelt, codes, &mut room.sets)
     } else {

@@ -1,5 +1,5 @@
 -- Lists of literals as sets.
-use Rattle.std.proofs.Common.{ℕ, zero, suc, ◌+◌, ◌<◌, ◌≤◌, ◌≡◌, ◌||◌, inl, inr, Bool, true, false, eqb, List, [], ◌∷◌, ◌++◌, length, take, drop, drop-cons, get_or, Option, Some, None, refl, sym, ◌∙◌, ap, subst, arith}
+use Rattle.std.proofs.Common.{ℕ, zero, suc, ◌+◌, ◌<◌, ◌≤◌, ◌≡◌, ◌||◌, ◌&&◌, inl, inr, Bool, true, false, eqb, List, [], ◌∷◌, ◌++◌, length, take, drop, drop-cons, get_or, Option, Some, None, refl, sym, ◌∙◌, ap, subst, arith}
 use Rattle.std.proofs.lemmas.Bool.{true≢false, eqb-true, or_cases}
 use Rattle.std.proofs.lemmas.List.{drop_all, take_more}
 use Rattle.std.specs.Bool.{MatchBool}
@@ -8,6 +8,7 @@ use Rattle.sat_base.specs.values.Literals.{mk_lit}
 use Rattle.sat_base.specs.script.Script.{Literal, Among}
 use Rattle.sat_checker.specs.LiteralSets.{is_among}
 use Rattle.sat_checker.specs.matching.Expected.{Spells, EachSpelt, SameSet}
+use Rattle.sat_checker.proofs.lemmas.sets.Order.{among-append}
 use Rattle.certify.specs.confirm.SpeltLiterals.{AllAmong, AreSpelt}
 
 eqb_refl : (n : ℕ) → eqb n n ≡ true
@@ -143,5 +144,43 @@ all_among : (xs : List ℕ) → AllAmong xs xs
 all_among [] = tt
 all_among (x ∷ xs) = (inl refl, among_more xs xs x (all_among xs))
 
+-- literals that are spelled in order are spelled among the codes
+pub spelt_each : (names : ℕ → Option ℕ) (ls : List Literal) (codes : List ℕ) → AreSpelt names ls codes → EachSpelt names ls codes
+spelt_each names ls codes a = among_spelt names ls codes codes a (all_among codes)
+
 pub spelt_set : (names : ℕ → Option ℕ) (ls : List Literal) (codes : List ℕ) → AreSpelt names ls codes → SameSet names ls codes
 spelt_set names ls codes a = same_set names ls codes codes a (all_among codes) (all_among codes)
+
+-- PAIRS COMPARED
+or_no : (b : Bool) → b || false ≡ b
+or_no true = refl
+or_no false = refl
+
+among_push : (xs : List ℕ) (x l : ℕ) → is_among (xs ++ x ∷ []) l ≡ (is_among xs l || eqb x l)
+among_push xs x l = among-append xs (x ∷ []) l ∙ ap (λ b. is_among xs l || b) (or_no (eqb x l))
+
+-- one more literal of a list is compared with another
+pub among_next : (xs : List ℕ) (i x l : ℕ) (found here : Bool) → i < length xs → x ≡ get_or xs i x → here ≡ eqb x l → found ≡ is_among (take i xs) l → (found || here) ≡ is_among (take (i + 1) xs) l
+among_next xs i x l found here h is e f =
+    let cut : take (i + 1) xs ≡ take i xs ++ x ∷ [] = take_more xs i x h ∙ ap (λ y. take i xs ++ y ∷ []) (sym is) in
+    ap (λ b. found || b) e ∙ ap (λ b. b || eqb x l) f ∙ sym (among_push (take i xs) x l) ∙ ap (λ ys. is_among ys l) (sym cut)
+
+all_more : (xs ys : List ℕ) (x : ℕ) → AllAmong xs ys → Among x ys → AllAmong (xs ++ x ∷ []) ys
+all_more [] ys x h m = (m, tt)
+all_more (y ∷ xs) ys x h m = (h.0, all_more xs ys x h.1 m)
+
+all_less : (xs ys : List ℕ) (x : ℕ) → AllAmong (xs ++ x ∷ []) ys → AllAmong xs ys × Among x ys
+all_less [] ys x h = (tt, h.0)
+all_less (y ∷ xs) ys x h = let r = all_less xs ys x h.1 in ((h.0, r.0), r.1)
+
+all_step : (xs ys : List ℕ) (x : ℕ) (all here : Bool) → here ≡ is_among ys x → MatchBool all (AllAmong xs ys) (AllAmong xs ys → ⊥) → MatchBool (all && here) (AllAmong (xs ++ x ∷ []) ys) (AllAmong (xs ++ x ∷ []) ys → ⊥)
+all_step xs ys x true true e m = all_more xs ys x m (among_is ys x (sym e))
+all_step xs ys x true false e m = λ h. absurd (true≢false (sym (is_from_among ys x (all_less xs ys x h).1) ∙ sym e))
+all_step xs ys x false here e m = λ h. m (all_less xs ys x h).0
+
+-- one more literal of the first list is looked for in the second
+pub all_next : (xs ys : List ℕ) (i x : ℕ) (all here : Bool) → i < length xs → x ≡ get_or xs i x → here ≡ is_among ys x → MatchBool all (AllAmong (take i xs) ys) (AllAmong (take i xs) ys → ⊥)
+    → MatchBool (all && here) (AllAmong (take (i + 1) xs) ys) (AllAmong (take (i + 1) xs) ys → ⊥)
+all_next xs ys i x all here h is e m =
+    let cut : take (i + 1) xs ≡ take i xs ++ x ∷ [] = take_more xs i x h ∙ ap (λ y. take i xs ++ y ∷ []) (sym is) in
+    subst (λ zs. MatchBool (all && here) (AllAmong zs ys) (AllAmong zs ys → ⊥)) (sym cut) (all_step (take i xs) ys x all here e m)

@@ -4,7 +4,7 @@ use Rattle.sat_checker.specs.matching.Expected.{EachSpelt}
 use Rattle.certify.specs.answers.AnswerForms.{named_literals}
 use Rattle.certify.specs.confirm.SpeltLiterals.{AllAmong, AreSpelt}
 use Rattle.certify.specs.confirm.Variables.{variable_in}
-use Rattle.certify.proofs.lemmas.confirm.LiteralSets.{each_answer, unspelt_each}
+use Rattle.certify.proofs.lemmas.confirm.LiteralSets.{each_answer, spelt_each, unspelt_each}
 use Rattle.certify.proofs.lemmas.confirm.Compared.{if_ok}
 use Rattle.certify.proofs.confirm.literals.are_spelt_in.Goals as goal
 
@@ -19,3 +19,6 @@ returns-then-branch c =
 
 pub returns-else-branch : goal.returns-else-branch
 returns-else-branch c = unspelt_each (variable_in c.args.variables.now) (named_literals c.args.literals.now) c.args.codes.now c.in_ok-spell.field-0 (AreSpelt (variable_in c.args.variables.now) (named_literals c.args.literals.now) c.spell.new.spelt.items) c.if-branch.false c.in_ok-spell.ensures
+
+pub returns-then-are_spelt : goal.returns-then-are_spelt
+returns-then-are_spelt c = spelt_each (variable_in c.args.variables.now) (named_literals c.args.literals.now) c.args.codes.now (c.are_spelt.ensures c.if-are_spelt.true)
