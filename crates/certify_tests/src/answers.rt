@@ -1,12 +1,10 @@
 //! Tests of how answers are written and read.
 
-use certify::answers::read::{
-    AnswerFault, AnswerKind, read_kind, read_line, read_outcome, take_text,
-};
+use certify::answers::read::{AnswerFault, AnswerKind, read_kind, read_line, read_outcome};
 use certify::answers::write::{
     push_literal, push_malformed, push_refused_limit, push_sat, push_unknown, push_unsat,
 };
-use sat_base::Lit;
+use sat_base::{Lit, take_text};
 use std::alloc::{AllocError, Global};
 
 /// Appends the literals with the given DIMACS numbers, except 0 and numbers past the limit. Returns `false` if memory

@@ -1,7 +1,8 @@
 -- How an answer is read from bytes, and why no answer can be read.
-use Rattle.std.specs.Prelude.{ℕ, zero, suc, ◌≡◌, ◌≢◌, ◌⊎◌, List, [], ◌∷◌, ◌++◌, decimal}
+use Rattle.std.specs.Prelude.{ℕ, ◌≡◌, ◌≢◌, ◌⊎◌, List, [], ◌∷◌, ◌++◌, decimal}
 use Rattle.sat_base.specs.values.Literals.{variable}
 use Rattle.sat_base.specs.script.Script.{Literal}
+use Rattle.sat_base.specs.text.NumberWords.{NoWord}
 use Rattle.certify.specs.answers.Answers.{s_satisfiable, s_unsatisfiable, s_unknown, v_line, f_line, literal_text, literals_text, outcome_text}
 use Rattle.sat_checker.specs.matching.Expected.{Outcome, Sat, Unsat, Unknown}
 use Rattle.certify.specs.answers.AnswerForms.{IsName, IsPrintable, named_literal, named_literals}
@@ -44,26 +45,13 @@ abbrev pub literal_place : AnswerKind → ℕ → ℕ
 literal_place kind.Sat l = variable l
 literal_place k l = l
 
--- the decimal digits of this number, or no digits for 0: those of a name that were read so far
-abbrev pub digits_so_far : ℕ → List ℕ
-digits_so_far zero = []
-digits_so_far (suc n) = decimal (suc n)
-
--- that no name begins with the digits read so far and then this byte
-abbrev pub NoNameDigit : ℕ → ℕ → Type 0
-NoNameDigit name byte = (n : ℕ) (more : List ℕ) → IsName n → decimal n ≡ digits_so_far name ++ (byte ∷ more) → ⊥
-
--- that the bytes do not begin with a name and a space
-abbrev pub NoName : List ℕ → Type 0
-NoName bytes = (n : ℕ) (tail : List ℕ) → IsName n → bytes ≡ decimal n ++ (32 ∷ tail) → ⊥
-
 -- that the bytes do not begin with a literal and a space
 abbrev pub NoLiteral : List ℕ → Type 0
 NoLiteral bytes = (l : Literal) (tail : List ℕ) → IsName l.name → bytes ≡ literal_text l ++ (32 ∷ tail) → ⊥
 
 -- that the bytes, whatever follows them, do not begin with a name and a space
 abbrev pub StartsNoName : List ℕ → Type 0
-StartsNoName bytes = (more : List ℕ) → NoName (bytes ++ more)
+StartsNoName bytes = (more : List ℕ) → NoWord decimal IsName (bytes ++ more)
 
 -- that the bytes, whatever follows them, do not begin with a literal and a space
 abbrev pub StartsNoLiteral : List ℕ → Type 0

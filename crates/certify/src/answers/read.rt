@@ -1,16 +1,16 @@
 //! Reads answers line by line, each from the start of a byte slice. Bytes are refused unless they have exactly this
 //! form: single spaces, no leading zeros, LF at the end of every line, and names from 1 to 2^28 in order.
-ghost use Rattle.std.specs.Prelude.{◌≡◌, ◌++◌, ◌∷◌, [], false, ◌*◌, ◌<◌, ◌≤◌, decimal, MatchOption, MatchResult, List};
-ghost use Rattle.std.specs.Prelude.{ℕ};
+ghost use Rattle.std.specs.Prelude.{◌≡◌, ◌++◌, false, ◌*◌, ◌<◌, decimal, MatchOption, MatchResult, List, ℕ};
 ghost use Rattle.certify.specs.answers.AnswerForms.{IsName};
-ghost use Rattle.certify.specs.answers.AnswerReading.{NoNameDigit, NoName, NoLiteral, NoLiterals, NoKind, NoLine};
+ghost use Rattle.certify.specs.answers.AnswerReading.{NoLiteral, NoLiterals, NoKind, NoLine};
 ghost use Rattle.certify.specs.answers.AnswerReading.{NoOutcome, StartsNoName, StartsNoLiteral, StartsNoLiterals};
-ghost use Rattle.certify.specs.answers.AnswerReading.{StartsNoKind, StartsNoLine, HasLine, IsHead, digits_so_far};
+ghost use Rattle.certify.specs.answers.AnswerReading.{StartsNoKind, StartsNoLine, HasLine, IsHead};
 ghost use Rattle.certify.specs.answers.AnswerReading.{first_answer_line, literal_place, BeginsWithLiteral, BeginsWithLiterals};
 ghost use Rattle.certify.specs.answers.AnswerReading.{BeginsWithSecondLine, BeginsWithAnswer};
+ghost use Rattle.sat_base.specs.text.NumberWords.{BeginsWithWord, NoWord};
 ghost use Rattle.sat_base.specs.values.Literals.{var_limit};
 
-use sat_base::{Lit, Var};
+use sat_base::{Lit, Var, append_digit, read_number, take_text};
 use std::alloc::AllocFailed;
 use thiserror::Error;
 
@@ -48,14 +48,6 @@ impl<T: Drop> From<AllocFailed<T>> for AnswerFault {
     }
 }
 
-/// Returns the bytes after `text`, if `bytes` begins with `text`.
-pub fn take_text<'a>(bytes: &'a [u8], text: &[u8]) -> Option<&'a [u8]>
-    ensures { MatchOption result ((tail : List ℕ) → bytes.now ≡ text.now ++ tail → ⊥)
-        (λ rest. bytes.now ≡ text.now ++ rest.now) }
-{
-    bytes.strip_prefix(text)
-}
-
 /// Whether `text` begins with `bytes`.
 pub fn is_front(bytes: &[u8], text: &[u8]) -> bool
     ensures { result ≡ false → (tail : List ℕ) → text.now ≡ bytes.now ++ tail → ⊥ }
@@ -66,36 +58,14 @@ pub fn is_front(bytes: &[u8], text: &[u8]) -> bool
     }
 }
 
-/// Returns the name obtained by appending the digit `byte` to `name`. A `name` of 0 has no digits yet. Returns `None`
-/// if `byte` is not a digit or is a leading zero, or if the result is past the limit.
-fn with_digit(name: usize, byte: u8) -> Option<usize>
-    requires { name ≤ var_limit }
-    ensures { MatchOption result (NoNameDigit name byte)
-        (λ more. IsName more × (decimal more ≡ digits_so_far name ++ byte ∷ [])) }
-{
-    if byte < b'0' || byte > b'9' {
-        return None;
-    }
-    let more = 10 * name + (byte - b'0') as usize;
-    if more == 0 || more > Var::max_count() {
-        return None;
-    }
-    Some(more)
-}
-
 /// Returns the name at the start of `bytes`, and the bytes after the space that must follow it.
+#[inline(always)]
 fn read_name(bytes: &[u8]) -> Option<(usize, &[u8])>
-    ensures { MatchOption result (NoName bytes.now) (λ x. IsName x.0 × (bytes.now ≡ decimal x.0 ++ (32 ∷ x.1.now))) }
+    ensures { MatchOption result (NoWord decimal IsName bytes.now)
+        (λ x. BeginsWithWord decimal IsName bytes.now x.0 x.1.now) }
 {
-    let mut name = 0;
-    for i in 0..bytes.len() {
-        let byte = bytes[i];
-        if byte == b' ' && name > 0 {
-            return Some((name, &bytes[i + 1..]));
-        }
-        name = with_digit(name, byte)?;
-    }
-    None
+    let (name, rest) = read_number(bytes, Var::max_count() as u64)?;
+    Some((name as usize, rest))
 }
 
 /// Whether `bytes`, or some continuation of `bytes`, begins with a name and a space.
@@ -108,7 +78,7 @@ fn begins_name(bytes: &[u8]) -> bool
         if byte == b' ' && name > 0 {
             return true;
         }
-        match with_digit(name, byte) {
+        match append_digit(name, byte, Var::max_count() as u64) {
             Some(more) => name = more,
             None => return false,
         }
@@ -116,20 +86,17 @@ fn begins_name(bytes: &[u8]) -> bool
     true
 }
 
-/// Returns the literal at the start of `bytes`, and the bytes after the space that must follow it.
+/// Returns the literal at the start of `bytes`, and the bytes after the space that must follow it. Skips the sign without
+/// a branch.
 fn read_literal(bytes: &[u8]) -> Option<(Lit, &[u8])>
     ensures { MatchOption result (NoLiteral bytes.now) (λ x. BeginsWithLiteral bytes.now x.0 x.1.now) }
 {
-    match take_text(bytes, b"-") {
-        Some(following) => {
-            let (name, rest) = read_name(following)?;
-            Some((Lit::from_index(name - 1, false), rest))
-        }
-        None => {
-            let (name, rest) = read_name(bytes)?;
-            Some((Lit::from_index(name - 1, true), rest))
-        }
+    if bytes.is_empty() {
+        return None;
     }
+    let negative = bytes[0] == b'-';
+    let (name, rest) = read_name(&bytes[usize::from(negative)..])?;
+    Some((Lit::from_index(name - 1, !negative), rest))
 }
 
 /// Whether `bytes`, or some continuation of `bytes`, begins with a literal and a space.

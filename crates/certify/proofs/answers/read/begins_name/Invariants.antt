@@ -1,6 +1,6 @@
 use Rattle.std.proofs.Common.{◌≡◌, ◌≤◌, ◌++◌, drop}
 use Rattle.sat_base.specs.values.Literals.{var_limit}
-use Rattle.certify.specs.answers.AnswerReading.{digits_so_far}
+use Rattle.sat_base.specs.text.NumberWords.{digits_so_far}
 use Rattle.certify.proofs.answers.read.begins_name.Given as goal
 
 -- the bytes read so far are the digits of the name
