@@ -2,7 +2,7 @@
 use Rattle.std.specs.Prelude.{ℕ, ◌≡◌, Option, List, [], ◌∷◌}
 use Rattle.sat_base.specs.device.Counting.{device_of, new_reader, new_writer, reader_of, writer_of}
 use Rattle.certify.specs.program.Calls.{Request, Standard, Run, Confirm, Hints, Check}
-use Rattle.certify.specs.program.Program.{FileUse, Effect, StandardCall, RunCall, ConfirmCall, HintsCall, CheckCall}
+use Rattle.certify.specs.program.Program.{FileUse, Effect, PrintsNothing, ReadsNothing, StandardCall, RunsFiles, ConfirmsFiles, HintsFiles, ChecksFile}
 use Rattle.certify.specs.declared.program.opened.OpenFile.{OpenFile}
 use Rattle.certify.specs.declared.program.opened.OpenCall.{OpenCall}
 use Rattle.certify.specs.declared.program.opened.OpenCall.TheVariants as opened
@@ -41,10 +41,11 @@ module _ {F : Type 0} (remaining contents : F → Option (List ℕ)) where
   files_of (opened.Check old) (opened.Check new) = use_of old new ∷ []
   files_of old new = []
 
--- what a call with these files does
+-- What a call with these files does. The files are open, so the call is carried out: it is not refused, and none of them is left out.
 abbrev pub DoesCall : {F : Type 0} → OpenCall F → Effect → Type 0
 DoesCall opened.Standard e = StandardCall e
-DoesCall (opened.Run run) e = RunCall run.script.path.now run.answers.path.now run.certificate.path.now run.budget e
-DoesCall (opened.Confirm texts) e = ConfirmCall texts.script.path.now texts.answers.path.now texts.certificate.path.now e
-DoesCall (opened.Hints files) e = HintsCall files.certificate.path.now files.hints.path.now e
-DoesCall (opened.Check hints) e = CheckCall hints.path.now e
+DoesCall (opened.Run run) e =
+    ReadsNothing e × PrintsNothing e × RunsFiles run.script.path.now run.answers.path.now run.certificate.path.now run.budget e
+DoesCall (opened.Confirm texts) e = ReadsNothing e × ConfirmsFiles texts.script.path.now texts.answers.path.now texts.certificate.path.now e
+DoesCall (opened.Hints files) e = ReadsNothing e × PrintsNothing e × HintsFiles files.certificate.path.now files.hints.path.now e
+DoesCall (opened.Check hints) e = ReadsNothing e × ChecksFile hints.path.now e

@@ -38,7 +38,7 @@ module _ {F : Type 0} (remaining contents : F → Option (List ℕ)) where
   does_opened (Run s a c b) (opened.Run run) e h d =
       subst (λ (x : List ℕ). RunCall x a c b e) h.0.at (subst (λ (x : List ℕ). RunCall run.script.path.now x c b e) h.1.at
       (subst (λ (x : List ℕ). RunCall run.script.path.now run.answers.path.now x b e) h.2.at
-      (subst (λ (n : ℕ). RunCall run.script.path.now run.answers.path.now run.certificate.path.now n e) h.3 d)))
+      (subst (λ (n : ℕ). RunCall run.script.path.now run.answers.path.now run.certificate.path.now n e) h.3 (d.0, d.1, inl d.2))))
   does_opened (Run s a c b) (opened.Confirm texts) e h d = absurd h
   does_opened (Run s a c b) (opened.Hints files) e h d = absurd h
   does_opened (Run s a c b) (opened.Check hints) e h d = absurd h
@@ -46,20 +46,20 @@ module _ {F : Type 0} (remaining contents : F → Option (List ℕ)) where
   does_opened (Confirm s a c) (opened.Run run) e h d = absurd h
   does_opened (Confirm s a c) (opened.Confirm texts) e h d =
       subst (λ (x : List ℕ). ConfirmCall x a c e) h.0.at (subst (λ (x : List ℕ). ConfirmCall texts.script.path.now x c e) h.1.at
-      (subst (λ (x : List ℕ). ConfirmCall texts.script.path.now texts.answers.path.now x e) h.2.at d))
+      (subst (λ (x : List ℕ). ConfirmCall texts.script.path.now texts.answers.path.now x e) h.2.at (d.0, inl d.1)))
   does_opened (Confirm s a c) (opened.Hints files) e h d = absurd h
   does_opened (Confirm s a c) (opened.Check hints) e h d = absurd h
   does_opened (Hints c h') opened.Standard e h d = absurd h
   does_opened (Hints c h') (opened.Run run) e h d = absurd h
   does_opened (Hints c h') (opened.Confirm texts) e h d = absurd h
   does_opened (Hints c h') (opened.Hints files) e h d =
-      subst (λ (x : List ℕ). HintsCall x h' e) h.0.at (subst (λ (x : List ℕ). HintsCall files.certificate.path.now x e) h.1.at d)
+      subst (λ (x : List ℕ). HintsCall x h' e) h.0.at (subst (λ (x : List ℕ). HintsCall files.certificate.path.now x e) h.1.at (d.0, d.1, inl d.2))
   does_opened (Hints c h') (opened.Check hints) e h d = absurd h
   does_opened (Check h') opened.Standard e h d = absurd h
   does_opened (Check h') (opened.Run run) e h d = absurd h
   does_opened (Check h') (opened.Confirm texts) e h d = absurd h
   does_opened (Check h') (opened.Hints files) e h d = absurd h
-  does_opened (Check h') (opened.Check hints) e h d = subst (λ (x : List ℕ). CheckCall x e) h.at d
+  does_opened (Check h') (opened.Check hints) e h d = subst (λ (x : List ℕ). CheckCall x e) h.at (d.0, inl d.1)
 
   fresh_use : (path : List ℕ) (old new : OpenFile F) → IsNew remaining contents path old → IsFresh (use_of remaining contents old new)
   fresh_use path old new h = record { to_come = remaining (device_of old.device); contents = contents (device_of old.device); unread = h.unread; unwritten = h.unwritten }
