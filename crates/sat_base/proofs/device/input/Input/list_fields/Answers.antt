@@ -1,5 +1,4 @@
-use Rattle.std.proofs.lemmas.Grind.{common_steps}
-use Rattle.std.proofs.Common.{◌≡◌, ℕ, Bool, true, false, Result, Err, nat_eq, sym, arith}
+use Rattle.std.proofs.Common.{◌≡◌, ℕ, Bool, true, false, Result, Err, nat_eq, refl, sym, rules, arith}
 use Rattle.std.proofs.lemmas.Bool.Decides.{nat_tests}
 use Rattle.std.proofs.lemmas.Result.{err_from_is_err_and}
 use Rattle.sat_base.specs.declared.steps.error.StepError.{StepError}
@@ -17,7 +16,11 @@ literals_stop tag false true f t other g r d e old new p q h = stops_following 1
 literals_stop tag false false f t other g r d e old new p q h = stops_following 11 tag _ _ assumptions_form g r d e old new p q (sym (other f t)) h
 
 pub returns-in_err-literals : goal.returns-in_err-literals
-returns-in_err-literals g c = grind (arith, common_steps, err_from_is_err_and, literals_stop)
+returns-in_err-literals g c =
+    let S = source_of g.R.CountedRead.seen in
+    let p = err_from_is_err_and c.from_residual-in_err-literals.result c.from_residual-in_err-literals.ensures.1 in
+    let other : nat_eq c.args.tag 5 ≡ false → nat_eq c.args.tag 10 ≡ false → 11 ≡ c.args.tag = λ f t. grind rules in
+    literals_stop c.args.tag _ _ refl refl other _ c.from_residual-in_err-literals.result _ c.in_err-literals.field-0.0 (S c.args.self.now) (S c.literals.new.self) p.1 p.2 c.in_err-literals.ensures
 
 pub returns-in_err-redundant : goal.returns-in_err-redundant
 returns-in_err-redundant g c =
@@ -26,10 +29,45 @@ returns-in_err-redundant g c =
     stops_following 6 c.args.tag _ _ at_form _ c.from_residual.result _ c.in_err-redundant.field-0.0 (S c.args.self.now) (S c.flag_and_lists.new.self) p.1 p.2 c.if-tag-eq6.true c.in_err-redundant.ensures
 
 pub returns-in_err-units : goal.returns-in_err-units
-returns-in_err-units g c = grind (arith, common_steps, err_from_is_err_and, stops_following, units_form)
+returns-in_err-units g c =
+    let S = source_of g.R.CountedRead.seen in
+    let p = err_from_is_err_and c.from_residual-in_err-units.result c.from_residual-in_err-units.ensures.1 in
+    stops_following 7 c.args.tag _ _ units_form _ c.from_residual-in_err-units.result _ c.in_err-units.field-0.0 (S c.args.self.now) (S c.units.new.self) p.1 p.2 c.if-tag-eq7.true c.in_err-units.ensures
 
 pub returns-in_err-proof : goal.returns-in_err-proof
-returns-in_err-proof g c = grind (arith, common_steps, err_from_is_err_and, stops_following, deletion_form)
+returns-in_err-proof g c =
+    let S = source_of g.R.CountedRead.seen in
+    let p = err_from_is_err_and c.from_residual-in_err-proof.result c.from_residual-in_err-proof.ensures.1 in
+    stops_following 8 c.args.tag _ _ deletion_form _ c.from_residual-in_err-proof.result _ c.in_err-proof.field-0.0 (S c.args.self.now) (S c.clause_and_deletion.new.self) p.1 p.2 c.if-tag-eq8.true c.in_err-proof.ensures
 
 pub returns-in_err-both_lists : goal.returns-in_err-both_lists
-returns-in_err-both_lists g c = grind (arith, common_steps, err_from_is_err_and, stops_following, failed_form)
+returns-in_err-both_lists g c =
+    let S = source_of g.R.CountedRead.seen in
+    let p = err_from_is_err_and c.from_residual-in_err-both_lists.result c.from_residual-in_err-both_lists.ensures.1 in
+    stops_following 12 c.args.tag _ _ failed_form _ c.from_residual-in_err-both_lists.result _ c.in_err-both_lists.field-0.0 (S c.args.self.now) (S c.both_lists.new.self) p.1 p.2 c.if-tag-eq12.true c.in_err-both_lists.ensures
+
+-- WHERE ALL WAS READ
+
+pub returns-in_ok-redundant : goal.returns-in_ok-redundant
+returns-in_ok-redundant g c = let e = c.in_ok-redundant.ensures in (e.0, e.1, (sym c.if-tag-eq6.true, e.2))
+
+pub returns-in_ok-units : goal.returns-in_ok-units
+returns-in_ok-units g c = let e = c.in_ok-units.ensures in (e.0, e.1, (sym c.if-tag-eq7.true, e.2))
+
+pub returns-in_ok-proof : goal.returns-in_ok-proof
+returns-in_ok-proof g c = let e = c.in_ok-proof.ensures in (e.0, e.1, (sym c.if-tag-eq8.true, e.2))
+
+pub returns-in_ok-both_lists : goal.returns-in_ok-both_lists
+returns-in_ok-both_lists g c = let e = c.in_ok-both_lists.ensures in (e.0, e.1, (sym c.if-tag-eq12.true, e.2))
+
+pub returns-then-tag-eq5 : goal.returns-then-tag-eq5
+returns-then-tag-eq5 g c = let e = c.in_ok-literals.ensures in (e.0, e.1, (sym c.if-tag-eq5.true, e.2))
+
+pub returns-then-tag-eq10 : goal.returns-then-tag-eq10
+returns-then-tag-eq10 g c = let e = c.in_ok-literals.ensures in (e.0, e.1, (sym c.if-tag-eq10.true, e.2))
+
+pub returns-else-tag-eq10 : goal.returns-else-tag-eq10
+returns-else-tag-eq10 g c =
+    let i : 11 ≡ c.args.tag = grind rules in
+    let e = c.in_ok-literals.ensures in
+    (e.0, e.1, (i, e.2))
