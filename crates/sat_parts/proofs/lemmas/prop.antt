@@ -18,3 +18,4 @@ pub mod CallLemmas
 pub mod CollectedLemmas
 pub mod WordLemmas
 pub mod MirrorLemmas
+pub mod OpenLemmas
