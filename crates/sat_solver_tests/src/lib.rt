@@ -18,8 +18,6 @@ mod devices;
 #[cfg(test)]
 mod driver;
 #[cfg(test)]
-mod errors;
-#[cfg(test)]
 mod extending;
 #[cfg(test)]
 mod listening;
@@ -33,8 +31,6 @@ mod refusing;
 mod scripts;
 #[cfg(test)]
 mod searcher;
-#[cfg(test)]
-mod short;
 #[cfg(test)]
 mod states;
 #[cfg(test)]
