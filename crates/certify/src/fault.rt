@@ -3,7 +3,7 @@
 use std::alloc::{AllocError, AllocFailed};
 use thiserror::Error;
 
-/// Why a run is not finished. In that case, the answers and the certificate are not finished either.
+/// Why a run is not finished. In that case, the answers and the certificate may be unfinished.
 #[derive(Clone, Copy, Debug, Drop, PartialEq, Eq, Error)]
 pub enum RunFault {
     /// The script's reader failed, or was read 2^48 times.

@@ -46,7 +46,7 @@ pub record Headline (script : List ℕ) (budget : ℕ) (rounds answers certifica
   pub answered : AreRightAnswers script answers
   -- an answer is unknown only if its rounds are exhausted, and never if at least 2^(2n+3) were left at the start of the ask
   pub spent : EachTookRounds budget 0 (events_in script) answered.outcomes rounds
-  -- each of these rounds derived an empowering clause, except a round that found an answer
+  -- the steps derive as many empowering clauses as there are rounds, one fewer for an ask whose answer was found
   pub learned : ShowsRounds certificate answered.outcomes rounds
   -- what the run wrote is confirmed
   pub confirmed : own ≡ Yes
