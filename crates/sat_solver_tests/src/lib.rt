@@ -18,6 +18,8 @@ mod devices;
 #[cfg(test)]
 mod driver;
 #[cfg(test)]
+mod errors;
+#[cfg(test)]
 mod extending;
 #[cfg(test)]
 mod listening;
@@ -31,6 +33,8 @@ mod refusing;
 mod scripts;
 #[cfg(test)]
 mod searcher;
+#[cfg(test)]
+mod short;
 #[cfg(test)]
 mod states;
 #[cfg(test)]
