@@ -12,8 +12,8 @@ The documents are README.md, CONTRIBUTING.md, docs/*.md and crates/*/CALLING.md.
               exists
 """
 import argparse
+import os
 import re
-import subprocess
 import sys
 from pathlib import Path
 
@@ -36,9 +36,13 @@ COMMANDS = {
 }
 
 
-def tracked(top):
-    listed = subprocess.run(['git', 'ls-files'], cwd=top, stdout=subprocess.PIPE, check=True, encoding='utf-8')
-    return listed.stdout.split('\n')[:-1]
+def files_of(top):
+    """Returns the paths of the files, as `git ls-files` does, but for those in folders that builds make."""
+    found = []
+    for folder, names, files in os.walk(top):
+        names[:] = sorted(name for name in names if name not in ('.git', 'out'))
+        found += [str((Path(folder) / name).relative_to(top)) for name in sorted(files)]
+    return found
 
 
 def is_document(path):
@@ -129,7 +133,7 @@ def main():
     parser.add_argument('--root', default=Path(__file__).resolve().parent.parent)
     parser.add_argument('--check', action='store_true', help='does nothing: the script only checks')
     top = Path(parser.parse_args().root)
-    paths = tracked(top)
+    paths = files_of(top)
     words = known_words(top, paths)
     count = 0
     for document in filter(is_document, paths):
