@@ -1,26 +1,39 @@
 #!/usr/bin/env python3
-"""Turns the hint text of an unsatisfiable formula into a CNF and an LRAT proof, and checks such proofs.
+"""Turns hint texts into LRAT proofs and LRAT proofs into hint texts, and checks LRAT proofs by `certify check`.
 
-    lrat.py convert HINTS CNF PROOF   writes the clauses of the `i` lines as DIMACS CNF, and the derivation as an LRAT proof
-    lrat.py check CNF PROOF           prints `verified`, or `refused` with the line and the reason, and exits 1
-    lrat.py try [PROGRAM]             does both with twenty formulas, and drops lines of each proof
+    lrat.py import FORMULA PROOF HINTS        writes a DIMACS formula and its LRAT proof as a hint text, which `certify check` checks
+    lrat.py verify FORMULA PROOF [PROGRAM]    does both, compares the `i` lines with the formula, and prints `verified by certify`
+    lrat.py convert HINTS CNF PROOF           writes the clauses of the `i` lines as DIMACS CNF, and the derivation as an LRAT proof
+    lrat.py check CNF PROOF                   prints `verified`: a small checker of LRAT proofs, which shares no code with certify
+    lrat.py try [PROGRAM]                     tries all of this on forty formulas, and on damaged proofs
 
-HINTS is written by `certify hints` from the certificate of a formula that is asked once, without literals. The clauses of the CNF are those
-of the formula, with its own names, without repeated clauses and literals and without tautologies. In an LRAT proof the clauses of the CNF
-have the numbers 1 to n, in order, and derived clauses have higher ones, so all clauses are renumbered. A hint text with an `e` line, with a
-core that has literals, or without an empty clause has no such proof.
+A proof that is not accepted gets the line `refused: REASON`, with the number of the line or step where there is one, and status 1.
 
-The checker reads only the CNF and the proof. It accepts the part of LRAT in which each added clause follows by unit propagation.
+`import` reads text, and the binary form that CaDiCaL writes (`cadical --lrat`). Its memory grows with the number of clauses that are present
+at a time. The clauses of the formula get the ids 1 to n, as in LRAT, and every other clause keeps its id. A step with the RAT property (its
+hints have negative numbers) has no line in a hint text. Hints have to be exact: every clause but the last is unit when its turn comes.
+`verify` trusts this script to compare the `i` lines with the formula, and the proved program to check the derivation.
+
+HINTS, for `convert`, is written by `certify hints` from the certificate of a formula that is asked once, without literals. The clauses of
+the CNF are those of the formula, with its own names, without repeated clauses and literals and without tautologies. In an LRAT proof the
+clauses of the CNF have the numbers 1 to n, in order, and derived clauses have higher ones, so all clauses are renumbered. A hint text with an
+`e` line, with a core that has literals, or without an empty clause has no such proof.
+
+`check` reads only the CNF and the proof. It accepts the part of LRAT in which each added clause follows by unit propagation.
 """
 import importlib.util
+import itertools
 import os
 import random
+import re
 import subprocess
 import sys
 import tempfile
 
 HERE = os.path.dirname(os.path.abspath(__file__))
 PROVED = os.path.join(HERE, "../crates/certify_cli/out/certify_cli")
+ADDED = re.compile(r"([1-9]\d*) ((?:-?[1-9]\d* )*)0 ((?:-?[1-9]\d* )*)0")
+DELETED = re.compile(r"\S+ d ((?:[1-9]\d* )*)0")
 
 
 class Refused(Exception):
@@ -97,7 +110,8 @@ def check(cnf, proof):
         try:
             id, *rest = line.split()
             if rest[0] == "d":
-                for gone in lists(rest[1:])[0]:
+                (deleted,) = lists(rest[1:])
+                for gone in deleted:
                     if present.pop(gone, None) is None:
                         raise Refused(f"there is no clause {gone}")
                 continue
@@ -105,8 +119,11 @@ def check(cnf, proof):
             if int(id) <= last:
                 raise Refused("the number isn't above those before")
             if any(-l in clause for l in clause):
-                raise Refused("a tautology")
-            follows(clause, hints, present)
+                hints = [hint for hint in hints if hint not in present]
+                if hints:
+                    raise Refused(f"there is no clause {hints[0]}")
+            else:
+                follows(clause, hints, present)
             last, present[int(id)] = int(id), frozenset(clause)
             if not clause:
                 return
@@ -117,7 +134,168 @@ def check(cnf, proof):
     raise Refused("no empty clause is derived")
 
 
-# Twenty formulas.
+# From LRAT to hint texts.
+
+def clauses_of(path):
+    """Yields the clauses of a DIMACS formula."""
+    clause = []
+    with open(path, encoding="ascii", errors="replace") as file:
+        for number, line in enumerate(file, 1):
+            if line.startswith(("c", "p")):
+                continue
+            if line.startswith("%"):
+                break
+            for word in line.split():
+                try:
+                    literal = int(word)
+                except ValueError:
+                    raise Refused(f"line {number} of the formula: {word!r} is no number") from None
+                if literal:
+                    clause.append(literal)
+                else:
+                    yield clause
+                    clause = []
+    if clause:
+        raise Refused("the formula ends within a clause")
+
+
+def numbers_of(file):
+    """Yields the kind and the numbers of every step of a binary proof. A number is written in groups of seven bits, the lowest first."""
+    while kind := file.read(1):
+        if kind not in b"ad":
+            raise Refused("a step begins neither with `a` nor with `d`")
+        found, zeros = [], 0
+        while zeros < (2 if kind == b"a" else 1):
+            value, shift, byte = 0, 0, 128
+            while byte >= 128:
+                read = file.read(1)
+                if not read:
+                    raise Refused("the proof ends within a step")
+                byte = read[0]
+                value |= (byte & 127) << shift
+                shift += 7
+            found.append(value)
+            zeros += value == 0
+        yield kind, found
+
+
+def signed(value):
+    """Returns the number whose double, plus one if it is negative, is `value`."""
+    return -(value >> 1) if value & 1 else value >> 1
+
+
+# The forms of ids in binary proofs: of added and deleted clauses, and of hints.
+FORMS = ((signed, signed), (int, signed), (int, int))
+
+
+def spelt_step(kind, values, form):
+    """Returns the text of a binary step."""
+    id_of, hint_of = form
+    if kind == b"d":
+        return " ".join(["0 d", *(str(id_of(v)) for v in values[:-1]), "0"])
+    end = values.index(0, 1)
+    return f"{id_of(values[0])} " + spelt(map(signed, values[1:end]), map(hint_of, values[end + 1 : -1]))[:-1]
+
+
+def form_of(step, clauses):
+    """Returns the form of ids in which `step`, the first one that adds a clause, follows from the formula."""
+    for form in FORMS:
+        found = ADDED.fullmatch(spelt_step(b"a", step, form))
+        if found and int(found[1]) > len(clauses):
+            try:
+                hints = [int(hint) for hint in found[3].split()]
+                follows([int(literal) for literal in found[2].split()], hints, dict(enumerate(clauses, 1)))
+                return form
+            except Refused:
+                continue
+    raise Refused("step 1: the first added clause does not follow, in no form of binary ids")
+
+
+def steps_of(path, formula):
+    """Yields the lines of a proof with their numbers, in one spelling."""
+    with open(path, "rb") as file:
+        binary = file.read(1) in (b"a", b"d")
+    if not binary:
+        with open(path, encoding="ascii", errors="replace") as file:
+            for number, line in enumerate(file, 1):
+                if not line.startswith("c") and (words := line.split()):
+                    yield f"line {number}", " ".join(words)
+        return
+    with open(path, "rb") as file:
+        steps, before = numbers_of(file), []
+        for kind, values in steps:
+            before.append((kind, values))
+            if kind == b"a":
+                form = form_of(values, list(clauses_of(formula)))
+                break
+        else:
+            return
+        for number, (kind, values) in enumerate(itertools.chain(before, steps), 1):
+            yield f"step {number}", spelt_step(kind, values, form)
+
+
+def import_proof(formula, proof, hints):
+    """Writes the hint text of a formula and its proof to the file `hints`, up to the empty clause."""
+    last, empty = 0, 0
+    for last, clause in enumerate(clauses_of(formula), 1):
+        hints.write(f"i {last} " + spelt(clause))
+        empty = empty or (0 if clause else last)
+    if empty:
+        hints.write(f"d {last + 1} 0 {empty} 0\n")
+        return
+    present = set(map(str, range(1, last + 1)))
+    for place, step in steps_of(proof, formula):
+        if added := ADDED.fullmatch(step):
+            id, clause, used = added.groups()
+            if "-" in used:
+                raise Refused(f"{place}: a RAT step, which no hint text has")
+            if int(id) <= last:
+                raise Refused(f"{place}: the id {id} is not above those before")
+            if not present.issuperset(used.split()):
+                raise Refused(f"{place}: there is no clause {next(h for h in used.split() if h not in present)}")
+            hints.write(f"d {id} {clause}0 {used}0\n")
+            if not clause:
+                return
+            last = int(id)
+            present.add(id)
+        elif deleted := DELETED.fullmatch(step):
+            for id in deleted[1].split():
+                if id not in present:
+                    raise Refused(f"{place}: there is no clause {id}")
+                present.remove(id)
+                hints.write(f"x {id} 0\n")
+        else:
+            raise Refused(f"{place}: no step of a proof")
+    raise Refused("no empty clause is derived")
+
+
+def compare(formula, hints):
+    """Raises `Refused` unless the `i` lines of a hint text are the clauses of the formula, and no variable is new again."""
+    def given():
+        with open(hints, encoding="ascii") as file:
+            for line in file:
+                if line.startswith("e"):
+                    raise Refused("a variable is new again")
+                if line.startswith("i"):
+                    yield [int(word) for word in line.split()[2:-1]]
+    for place, (here, there) in enumerate(itertools.zip_longest(clauses_of(formula), given()), 1):
+        if here != there:
+            raise Refused(f"clause {place} of the formula is not the `i` line {place}")
+
+
+def verify(formula, proof, program):
+    """Raises `Refused` unless `certify check` accepts the derivation of the empty clause from the formula."""
+    with tempfile.TemporaryDirectory() as folder:
+        hints = os.path.join(folder, "hints")
+        with open(hints, "w", encoding="ascii") as file:
+            import_proof(formula, proof, file)
+        answer = subprocess.run([program, "check", hints], stdout=subprocess.PIPE, encoding="ascii", check=False).stdout
+        if not re.fullmatch(r"proved empty=1 cores=\d+ lines=\d+\n", answer):
+            raise Refused(f"certify check: {answer.strip() or 'no verdict'}")
+        compare(formula, hints)
+
+
+# From certificates to LRAT: twenty formulas.
 
 def module(*path):
     found = importlib.util.spec_from_file_location("found", os.path.join(HERE, *path))
@@ -175,8 +353,137 @@ def try_all(program):
             lines, dropped = try_one(program, name, clauses, draw)
             count += 1
             print(f"{name}: {lines} lines verified, refused without each of {dropped} lines", flush=True)
+        for name, clauses in small_formulas():
+            count += 1
+            print(f"{name}: {try_import(program, name, clauses)} lines, as text and in binary, verified by certify", flush=True)
+        print(f"{count} formulas; {try_damaged(program, draw)} damaged proofs refused, or verified by both checkers")
         os.chdir("/")
-    print(f"{count} formulas")
+
+
+# From LRAT to certify: proofs by resolution.
+
+def small_formulas():
+    """Yields names of small unsatisfiable formulas, and their clauses."""
+    make = module("solver", "formulas.py")
+    for holes in range(2, 5):
+        yield f"pigeons-{holes}", make.pigeons(holes)[1]
+    for names in range(2, 8):
+        for seed in range(3):
+            yield f"parity-{names}-{seed}", make.parity(names, seed)[1]
+    yield "empty", [[1, 2], []]
+
+
+def refute(clauses):
+    """Returns the lines of an LRAT proof by resolution, along a search that tries both values of a variable."""
+    stored = [(id, frozenset(clause)) for id, clause in enumerate(clauses, 1)]
+    lines, last = [], [len(clauses)]
+
+    def falsified(true):
+        for id, clause in stored:
+            if all(-l in true for l in clause):
+                return id, clause
+        literals = min(([l for l in c if -l not in true] for _, c in stored if not true & c), key=len)
+        parents = []
+        for literal in (literals[0], -literals[0]):
+            parents.append(falsified(true | {literal}))
+            if -literal not in parents[-1][1]:
+                return parents[-1]
+        clause = frozenset(l for _, parent in parents for l in parent if abs(l) != abs(literals[0]))
+        last[0] += 1
+        lines.append(f"{last[0]} " + spelt(clause, [id for id, _ in parents]))
+        gone = [id for id, _ in parents if id > len(clauses)]
+        if gone and clause:
+            lines.append(f"{last[0]} d " + spelt(gone))
+        return last[0], clause
+
+    falsified(frozenset())
+    return lines
+
+
+def encoded(lines, form):
+    """Returns the binary proof with these lines, in a form of ids."""
+    def groups(value):
+        while value >= 128:
+            yield value & 127 | 128
+            value >>= 7
+        yield value
+
+    def double(value):
+        return 2 * abs(value) + (value < 0)
+
+    id_of, hint_of = (double if part is signed else int for part in form)
+    found = bytearray()
+    for line in lines:
+        words = line.split()
+        if words[1] == "d":
+            numbers = [id_of(int(w)) for w in words[2:]]
+        else:
+            clause, hints = lists(words[1:])
+            numbers = [id_of(int(words[0])), *map(double, clause), 0, *map(hint_of, hints), 0]
+        found += b"d" if words[1] == "d" else b"a"
+        for number in numbers:
+            found += bytes(groups(number))
+    return bytes(found)
+
+
+def write(path, content):
+    with open(path, "wb") as file:
+        file.write(content if isinstance(content, bytes) else content.encode())
+
+
+def try_import(program, name, clauses):
+    """Verifies the proof of one formula in all forms. Returns the number of its lines."""
+    write("formula", f"p cnf 99 {len(clauses)}\n" + "".join(map(spelt, clauses)))
+    lines = refute(clauses) if all(clauses) else []
+    for proof in ["".join(lines), *(encoded(lines, form) for form in FORMS)]:
+        write("proof", proof)
+        try:
+            verify("formula", "proof", program)
+        except Refused as why:
+            sys.exit(f"{name}: {why}")
+    return len(lines)
+
+
+def accepts(call, *arguments):
+    try:
+        call(*arguments)
+        return True
+    except Refused:
+        return False
+
+
+def damaged(lines, draw):
+    """Returns the lines of a proof with one of them changed, moved or gone, or cut off after one."""
+    lines, place = list(lines), draw.randrange(len(lines))
+    kind = draw.randrange(5)
+    if kind == 0:
+        del lines[place]
+    elif kind == 1:
+        del lines[place:]
+    elif kind == 2:
+        other = draw.randrange(len(lines))
+        lines[place], lines[other] = lines[other], lines[place]
+    else:
+        words = lines[place].split()
+        at = draw.randrange(len(words))
+        words[at] = str(draw.choice([-1, 1]) * draw.randrange(12)) if kind == 3 else draw.choice(words)
+        lines[place] = " ".join(words) + "\n"
+    return lines
+
+
+def try_damaged(program, draw):
+    """Compares the verdicts of both checkers on damaged proofs. Returns their number."""
+    proofs = [(clauses, refute(clauses)) for _, clauses in small_formulas() if all(clauses)]
+    for count in range(200):
+        clauses, lines = draw.choice(proofs)
+        cnf = "".join(map(spelt, clauses))
+        bad = "".join(damaged(lines, draw))
+        write("formula", cnf)
+        write("proof", bad)
+        if accepts(verify, "formula", "proof", program) != accepts(check, cnf, bad):
+            write("/tmp/lrat-damaged", cnf + "--\n" + bad)
+            sys.exit(f"damaged proof {count}: the checkers differ; both texts are in /tmp/lrat-damaged")
+    return 200
 
 
 def read(path):
@@ -187,7 +494,13 @@ def read(path):
 def main():
     words = sys.argv[1:]
     try:
-        if words[:1] == ["convert"] and len(words) == 4:
+        if words[:1] == ["import"] and len(words) == 4:
+            with open(words[3], "w", encoding="ascii") as hints:
+                import_proof(words[1], words[2], hints)
+        elif words[:1] == ["verify"] and len(words) in (3, 4):
+            verify(words[1], words[2], os.path.abspath((words[3:] or [PROVED])[0]))
+            print("verified by certify")
+        elif words[:1] == ["convert"] and len(words) == 4:
             for path, lines in zip(words[2:], convert(read(words[1]))):
                 with open(path, "w", encoding="ascii") as file:
                     file.writelines(lines)
