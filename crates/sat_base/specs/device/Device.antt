@@ -33,7 +33,8 @@ lent_writer name w = record w { loans = name ∷ w.loans }
 
 -- ONE CALL
 
--- that the number of failed calls rises by 1 exactly when the result is an `Err`; `failed` says whether it is
+-- `CountsErr r old new failed` holds if the number of failed calls rises by 1 when the result is an `Err`, and
+-- otherwise stays the same; `failed` says whether it rises.
 abbrev pub CountsErr : {T E : Type 0} → Result T E → ℕ → ℕ → Bool → Type 0
 CountsErr r old new failed = MatchResult r (λ _. (new ≡ old) × (failed ≡ false)) (λ _. (new ≡ old + 1) × (failed ≡ true))
 
@@ -41,23 +42,25 @@ CountsErr r old new failed = MatchResult r (λ _. (new ≡ old) × (failed ≡ f
 abbrev pub takes_none : ℕ → List ℕ → Bool
 takes_none n piece = nat_eq n 0 && nat_lt 0 (length piece)
 
--- that the number of failed calls rises by 1 exactly when the write returns an `Err` or accepts no byte of a nonempty
--- piece; `failed` says whether it does
+-- `CountsWrite r piece old new failed` holds if the number of failed calls rises by 1 when the write returns an `Err`
+-- or accepts no byte of a nonempty piece, and otherwise stays the same; `failed` says whether it rises.
 abbrev pub CountsWrite : {E : Type 0} → Result ℕ E → List ℕ → ℕ → ℕ → Bool → Type 0
 CountsWrite r piece old new failed = MatchResult r
     (λ n. (new ≡ (if takes_none n piece then old + 1 else old)) × (failed ≡ takes_none n piece))
     (λ _. (new ≡ old + 1) × (failed ≡ true))
 
--- that a call appends the first n bytes of `piece` to `old` if it returns `Ok n`, and nothing if it fails
+-- `AppendsPrefix r piece old new` holds if the call appends the first n bytes of `piece` to `old` if it returns `Ok n`,
+-- and nothing if it fails.
 abbrev pub AppendsPrefix : {E : Type 0} → Result ℕ E → List ℕ → List ℕ → List ℕ → Type 0
 AppendsPrefix r piece old new = MatchResult r (λ n. new ≡ old ++ take n piece) (λ _. new ≡ old)
 
--- that `ended` is true exactly when the call succeeds and gives nothing although there was room
+-- `EndsIfNone r piece ended` holds if `ended` is true exactly when the call succeeds and gives nothing although there
+-- was room.
 abbrev pub EndsIfNone : {E : Type 0} → Result ℕ E → List ℕ → Bool → Type 0
 EndsIfNone r piece ended = MatchResult r (λ n. ended ≡ (nat_eq n 0 && nat_lt 0 (length piece))) (λ _. ended ≡ false)
 
--- The effect of one read. `room` is the complete buffer after the read. If the result is `Ok n`, the first n bytes of `room` are those that
--- were read.
+-- `ReadsOnce r room old new` holds if `new` is what one read with result `r` makes of the reader `old`. `room` is the
+-- complete buffer after the read. If the result is `Ok n`, the first n bytes of `room` are those that were read.
 pub record ReadsOnce {E : Type 0} (r : Result ℕ E) (room : List ℕ) (old new : Reader) : Type 0 where
   pub known_bytes : ReadConsumes old.to_come new.to_come r room
   pub given : AppendsPrefix r room old.given new.given
@@ -66,7 +69,7 @@ pub record ReadsOnce {E : Type 0} (r : Result ℕ E) (room : List ℕ) (old new 
   pub calls : new.calls ≡ old.calls + 1
   pub loans : new.loans ≡ old.loans
 
--- the effect of one write of a piece
+-- `WritesOnce r piece old new` holds if `new` is what one write of a piece with result `r` makes of the writer `old`.
 pub record WritesOnce {E : Type 0} (r : Result ℕ E) (piece : List ℕ) (old new : Writer) : Type 0 where
   pub known_bytes : WriteAppends old.contents new.contents r piece
   pub taken : AppendsPrefix r piece old.taken new.taken
@@ -76,11 +79,12 @@ pub record WritesOnce {E : Type 0} (r : Result ℕ E) (piece : List ℕ) (old ne
   pub calls : new.calls ≡ old.calls + 1
   pub loans : new.loans ≡ old.loans
 
--- that the number of flushes rises by 1 exactly when the flush did not fail
+-- `CountsFlush r old new` holds if the number of flushes rises by 1 when the flush does not fail, and otherwise stays
+-- the same.
 abbrev pub CountsFlush : {T E : Type 0} → Result T E → ℕ → ℕ → Type 0
 CountsFlush r old new = MatchResult r (λ _. new ≡ old + 1) (λ _. new ≡ old)
 
--- the effect of one flush
+-- `FlushesOnce r old new` holds if `new` is what one flush with result `r` makes of the writer `old`.
 pub record FlushesOnce {E : Type 0} (r : Result (Unit {0}) E) (old new : Writer) : Type 0 where
   pub known_bytes : Keeps old.contents new.contents
   pub taken : new.taken ≡ old.taken
@@ -92,22 +96,25 @@ pub record FlushesOnce {E : Type 0} (r : Result (Unit {0}) E) (old new : Writer)
 
 -- WHAT A READER GAVE
 
--- That the reader gave `text` between `old` and `new`. If its bytes still to come were known, they began with `text`.
+-- `GavePrefix old new text` holds if the reader gave `text` between `old` and `new`. If its bytes still to come were
+-- known, they began with `text`.
 pub record GavePrefix (old new : Reader) (text : List ℕ) : Type 0 where
   pub gave : new.given ≡ old.given ++ text
   pub known_bytes : Consumes old.to_come new.to_come text
   pub loans : new.loans ≡ old.loans
 
--- that the number of reads between `old` and `new` is at most one more than the number of bytes given between them
+-- `FewReads old new` holds if the number of reads between `old` and `new` is at most one more than the number of bytes
+-- given between them.
 abbrev pub FewReads : Reader → Reader → Type 0
 FewReads old new = new.calls + length old.given ≤ old.calls + length new.given + 1
 
--- that the last read found the end; if the bytes still to come are known, there are none
+-- `IsOver r` holds if the last read found the end, and no bytes are known to be still to come.
 pub record IsOver (r : Reader) : Type 0 where
   pub ends : r.ended ≡ true
   pub over : IsAtEnd r.to_come
 
--- that the reader gave `text` between `old` and `new`, in at least one read, and the last read found the end
+-- `GaveAll old new text` holds if the reader gave `text` between `old` and `new`, in at least one read, and the last
+-- read found the end.
 pub record GaveAll (old new : Reader) (text : List ℕ) : Type 0 where
   pub gave : new.given ≡ old.given ++ text
   pub ends : new.ended ≡ true
@@ -117,13 +124,13 @@ pub record GaveAll (old new : Reader) (text : List ℕ) : Type 0 where
   pub few : FewReads old new
   pub loans : new.loans ≡ old.loans
 
--- That the reader could still give the bytes `rest`. If a read was made since `old`, and the last read found the end, `rest` is empty.
--- Otherwise `rest` can be any bytes.
+-- `CanFollow old new rest` holds if the reader could still give the bytes `rest`. If a read was made since `old`, and
+-- the last read found the end, `rest` is empty. Otherwise `rest` can be any bytes.
 abbrev pub CanFollow : Reader → Reader → List ℕ → Type 0
 CanFollow old new rest = old.calls < new.calls → new.ended ≡ true → rest ≡ []
 
--- That between `old` and `new` the reader gave a text of which P holds, whatever bytes it could still give. So the bytes read are enough to
--- establish P. If the last read found the end, P holds of `text` itself.
+-- `GaveEnough old new P` holds if, between `old` and `new`, the reader gave a text such that P holds of it, followed by
+-- any bytes that the reader could still give (`CanFollow`). So the bytes that were read are enough to establish P.
 pub record GaveEnough (old new : Reader) (P : List ℕ → Type 0) : Type 0 where
   pub text : List ℕ
   pub front : GavePrefix old new text
@@ -135,7 +142,7 @@ pub record GaveEnough (old new : Reader) (P : List ℕ → Type 0) : Type 0 wher
 abbrev pub GaveMore : Reader → Reader → Type 0
 GaveMore old new = (text : List ℕ) × GavePrefix old new text × FewReads old new
 
--- the largest number of reads of one reader
+-- the largest number of reads that one call makes of a reader
 abbrev pub most_reads : ℕ
 most_reads = 2 ^ 48
 
@@ -143,22 +150,23 @@ most_reads = 2 ^ 48
 abbrev pub piece_size : ℕ
 piece_size = 4096
 
--- one call failed, and it was the last
+-- `LastCallFails old new` holds if exactly one call failed, and it was the last.
 abbrev pub LastCallFails : Reader → Reader → Type 0
 LastCallFails old new = (new.failures ≡ old.failures + 1) × (new.failed ≡ true)
 
--- 2^48 reads were made, and none failed
+-- `ReadsAreExhausted old new` holds if 2^48 reads were made, and none failed.
 abbrev pub ReadsAreExhausted : Reader → Reader → Type 0
 ReadsAreExhausted old new = (new.failures ≡ old.failures) × (new.calls ≡ old.calls + most_reads)
 
--- Why a text could not be read: only the last read failed, or none failed and 2^48 were made.
+-- `ReadFails old new` holds if exactly one call failed, which was the last, or none failed and 2^48 reads were made;
+-- and there was at most one more read than bytes given.
 abbrev pub ReadFails : Reader → Reader → Type 0
 ReadFails old new = (LastCallFails old new ⊎ ReadsAreExhausted old new) × FewReads old new
 
 -- WHAT A WRITER ACCEPTED
 
--- That the writer accepted `text` between `old` and `new`, and no call failed. Apart from flushes, there were at most
--- as many calls as bytes.
+-- `WriterAccepts old new text` holds if the writer accepted `text` between `old` and `new`, and no call failed. Apart
+-- from flushes, there were at most as many calls as bytes.
 pub record WriterAccepts (old new : Writer) (text : List ℕ) : Type 0 where
   pub taken : new.taken ≡ old.taken ++ text
   pub known_bytes : Appends old.contents new.contents text

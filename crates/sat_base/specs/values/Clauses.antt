@@ -20,10 +20,10 @@ clause_true a (l ∷ ls) = literal_true a l || clause_true a ls
 abbrev pub flipped : ℕ → Valuation → Valuation
 flipped v a = λ x. if x == v then not (a x) else a x
 
--- that all literals of a list are true in the valuation
+-- `EachTrue a ls` holds if all literals of the list are true in the valuation.
 abbrev pub EachTrue : Valuation → List ℕ → Type 0
 EachTrue a = AllByRecursion (λ l. literal_true a l ≡ true)
 
--- that the valuation satisfies all clauses of a list
+-- `EachHolds a cs` holds if the valuation satisfies all clauses of the list.
 abbrev pub EachHolds : Valuation → List (List ℕ) → Type 0
 EachHolds a = AllByRecursion (λ c. clause_true a c ≡ true)
