@@ -96,7 +96,7 @@ pub fn confirm<S: CountedRead, A: CountedRead, C: CountedRead>(
         → ReadFails (A.seen answers.old) (A.seen answers.new) }
     ensures certificate_read { IsErrOf result ConfirmFault.CertificateRead
         → ReadFails (C.seen certificate.old) (C.seen certificate.new) }
-    // No count ever exceeds 64 bits, since each reader gives at most 2^60 bytes.
+    // This fault is never returned.
     ensures counter_end { IsErrOf result ConfirmFault.CounterEnd → ⊥ }
     // If the certificate's reader gave n bytes, `looks` rises by at most 16 (n + 1)^2: by at most the sum of the bounds
     // for the accepted steps and for at most one step that is not accepted.

@@ -147,7 +147,7 @@ pub fn headline_over(
     // what was written is `Yes`. Whenever a verdict is `Yes`, the answers are correct. The number of looks is bounded.
     ensures headline { IfOk result (λ v. Headline script.now budget (rounds_of_asks v.written.summary.asks.items)
         v.written.answers.items v.written.certificate.items v.own claimed.now shown.now v.other looks.old looks.new) }
-    // Both verdicts are those of `confirm`: `Yes` exactly when the three texts match.
+    // As for `confirm`, both verdicts are `Yes` exactly when the three texts match, and then the answers are correct.
     ensures verdicts { IfOk result (λ v.
         VerdictGuarantee script.now v.written.answers.items v.written.certificate.items v.own
         × VerdictGuarantee script.now claimed.now shown.now v.other) }

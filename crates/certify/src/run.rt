@@ -84,19 +84,22 @@ pub fn run<S: CountedRead, A: CountedWrite, C: CountedWrite>(
     certificate: &mut C,
     budget: u64,
 ) -> Result<Summary, RunFault>
-    // The answers' writer received correct answers to the bytes that were read, whatever bytes might follow them.
+    // The answers' writer received correct answers to the bytes that were read, whatever bytes might follow them, and
+    // the summary fits both.
     ensures answered { IfOk result
         (λ s. WritesAnswers budget s (reader_before_after S.seen script.old script.new) (writer_before_after A.seen answers.old answers.new)) }
-    // The certificate's writer received the steps of the accepted commands and of these answers, and a checker accepts
-    // each step in order. Once the steps record that the clauses are unsatisfiable, every ask is answered `Unsat`
-    // without a round of search. In any other ask, every round derived an empowering clause, except the round that
-    // found the answer, and no other clause of the ask is empowering. A clause is empowering if it is new to unit
-    // propagation. If no command hides a name, no variable is deleted.
+    // The certificate's writer received steps that a checker accepts one by one, among them those of the accepted
+    // commands and of these answers, in order. Once the steps record that the clauses are unsatisfiable, those of
+    // clauses and of cores may be missing, and every later ask gets the empty core, without a round of search. In any
+    // other ask, every round derived an empowering clause, except the round that found the answer, and no other clause
+    // of the ask is empowering. A clause is empowering if it is new to unit propagation. If no accepted command hides a
+    // name, no variable is deleted.
     ensures guaranteed { CertificateIsGuaranteed result budget S.seen A.seen C.seen (script.old, answers.old, certificate.old)
         (script.new, answers.new, certificate.new) }
     ensures flushed { OnOk result (((A.seen answers.new).flushed ≡ true) × ((C.seen certificate.new).flushed ≡ true)) }
     // If the run is not finished, the answers' writer received a prefix of correct answers to the bytes that were read,
-    // whatever bytes might follow them. Every unknown answer among them has exhausted its rounds.
+    // whatever bytes might follow them. Some numbers of rounds fit these answers, by which every unknown one has
+    // exhausted its rounds; nothing ties these numbers to the run.
     ensures unfinished { OnErr result
         (Unfinished budget (reader_before_after S.seen script.old script.new) (writer_before_after A.seen answers.old answers.new)) }
     // Whatever is returned, the certificate's writer received a prefix of the text of steps that a checker accepts, and
@@ -109,9 +112,9 @@ pub fn run<S: CountedRead, A: CountedWrite, C: CountedWrite>(
         → WriteFails (A.seen answers.old) (A.seen answers.new) }
     ensures certificate_write { IsErrOf result RunFault.CertificateWrite
         → WriteFails (C.seen certificate.old) (C.seen certificate.new) }
-    // `CounterEnd` is returned only if the bytes that were read contain 2^64-1 commands, or a command whose names
-    // need more variables than are left after some steps. The certificate's writer received a prefix of the text of
-    // these steps.
+    // `CounterEnd` is returned only if the bytes that were read contain 2^64-1 commands, or an accepted command whose
+    // names need more variables than are left after some steps. In the second case, the certificate's writer received
+    // a prefix of the text of these steps.
     ensures counter_end { IsErrOf result RunFault.CounterEnd → CounterEnds (reader_before_after S.seen script.old script.new)
         (writer_before_after C.seen certificate.old certificate.new) }
     // A call to a device has failed only if the fault of that device is returned.

@@ -83,7 +83,7 @@ pub enum ConfirmFault {
     CertificateRead,
     #[error("OutOfMemory")]
     OutOfMemory,
-    /// A count exceeds 64 bits. `confirm` never returns this variant, since a reader gives at most 2^60 bytes.
+    /// A count exceeds 64 bits. `confirm` never returns this variant.
     #[error("CounterEnd")]
     CounterEnd,
 }

@@ -25,7 +25,7 @@ events k state [] Malformed = MalformedAt k ∷ []
 events k state (command ∷ commands) ending =
     event_of k (refusal_of state command) command (after_command command state) ++ events (k + 1) (after_command command state) commands ending
 
--- that there is one outcome for each ask, in order, and each outcome is correct
+-- `EachIsRight events outcomes` holds if there is one outcome for each ask, in order, and each outcome is correct.
 abbrev pub EachIsRight : List Event → List Outcome → Type 0
 EachIsRight [] [] = Unit {0}
 EachIsRight (Refused k refusal ∷ events) outcomes = EachIsRight events outcomes

@@ -118,7 +118,8 @@ refusal_of state (Sample names) = first_refusal true state names
 abbrev pub after_command : Command → ScriptState → ScriptState
 after_command command state = if is_some (refusal_of state command) then state else state_after_accepted command state
 
--- That `line` is a correct model of `ask`. `state` is the state after the names of `ask` were introduced.
+-- `IsRightModel state ask line` holds if `line` is a correct model of `ask`. `state` is the state after the names of
+-- `ask` were introduced.
 pub record IsRightModel (state : ScriptState) (ask line : List Literal) : Type 0 where
   -- `line` has one literal for every name in use, in increasing order
   pub names : names_of line ≡ map (λ n. n.name) state.in_use
@@ -128,15 +129,17 @@ pub record IsRightModel (state : ScriptState) (ask line : List Literal) : Type 0
   pub clauses : EachHolds valuation state.clauses
   pub asked : EachTrue valuation (map (identity_lit state) ask)
 
--- That `core` is a correct core of `ask`. It contains some of the literals of `ask`, sorted and without repeats, that cannot all be true if the
--- accepted clauses hold. It need not be minimal. `state` is the state after the names of `ask` were introduced.
+-- `IsRightCore state ask core` holds if `core` is a correct core of `ask`. It contains some of the literals of `ask`,
+-- sorted and without repeats, that cannot all be true if the accepted clauses hold. It need not be minimal. `state` is
+-- the state after the names of `ask` were introduced.
 pub record IsRightCore (state : ScriptState) (ask core : List Literal) : Type 0 where
   pub order : InOrder core
   pub among : AllByRecursion (λ l. Among l ask) core
   -- no valuation satisfies both the core and the accepted clauses
   pub none : (a : Valuation) → EachTrue a (map (identity_lit state) core) → EachHolds a state.clauses → ⊥
 
--- That an outcome of `ask` is correct. `state` is the state after the names of `ask` were introduced. `Unknown` is correct for every ask.
+-- `IsRight state ask o` holds if `o` is a correct outcome of `ask`. `state` is the state after the names of `ask` were
+-- introduced. `Unknown` is correct for every ask.
 abbrev pub IsRight : ScriptState → List Literal → Outcome → Type 0
 IsRight state ask (Sat line) = IsRightModel state ask line
 IsRight state ask (Unsat core) = IsRightCore state ask core

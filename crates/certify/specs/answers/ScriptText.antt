@@ -73,9 +73,10 @@ token_of_word w =
     else (if same_bytes w (codes "w") then Begins (Witness [])
     else (if same_bytes w (codes "s") then Begins (Sample []) else number_of_word w)))
 
--- The tokens of lines. A line that begins with `%` ends the text, even within a command. A line that begins with `c` is a comment. A line that
--- begins with `p` is a header if `may` is true, otherwise `Wrong`. `may` becomes false after such a line, and after any other line that
--- contains a word and is not a comment.
+-- The tokens of lines. The first nonblank byte of a line says what it is. `%`: it and all lines after it have no
+-- tokens. `c`: the line has none. `p`: the line has one, which is that of `header_in` if `may` is true, and `Wrong`
+-- otherwise. Every other line has the tokens of its words. `may` is false after a `p` line, and after any other line
+-- that has tokens.
 unfoldable pub tokens_of_lines : Bool → List (List ℕ) → List Token
 tokens_of_lines may [] = []
 tokens_of_lines may (line ∷ lines) =

@@ -14,44 +14,50 @@ use Rattle.certify.specs.declared.verdict.ConfirmFault.TheVariants as fault
 use Rattle.certify.specs.declared.verdict.Verdict.{Verdict}
 use Rattle.certify.specs.declared.verdict.Verdict.TheVariants.{Yes}
 
--- that the reader gave a text that satisfies `IsSo`, whatever bytes it could still give; `r` is the reader before and after
+-- `GaveTextWith r IsSo` holds if the reader gave a text that satisfies `IsSo`, whatever bytes it could still give; `r`
+-- is the reader before and after.
 abbrev pub GaveTextWith : Reader × Reader → (List ℕ → Type 0) → Type 0
 GaveTextWith r IsSo = GaveEnough r.0 r.1 IsSo
 
--- that the verdict is `Yes` exactly when the texts that the readers gave match
+-- `Exact script answers certificate v` holds if `v` is `Yes` exactly when the texts that the readers gave match,
+-- whatever bytes they could still give.
 abbrev pub Exact : Reader × Reader → Reader × Reader → Reader × Reader → Verdict → Type 0
 Exact script answers certificate v =
     GaveTextWith script (λ s. GaveTextWith answers (λ a. GaveTextWith certificate (λ c. (v ≡ Yes) ↔ TextsMatch s a c)))
 
--- that `Exact` holds for three readers before and after a call, unless the call failed
+-- `IsExact r script answers certificate old new` holds if the call failed, or `Exact` holds for the three readers
+-- before and after it.
 abbrev pub IsExact : {S A C E : Type 0} → Result Verdict E → (S → Reader) → (A → Reader) → (C → Reader)
     → S × A × C → S × A × C → Type 0
 IsExact r script answers certificate old new =
     IfOk r (Exact (reader_before_after script old.0 new.0) (reader_before_after answers old.1 new.1) (reader_before_after certificate old.2 new.2))
 
--- that no further read has failed
+-- `ReadsKept seen old new` holds if the number of failed calls of the reader did not change.
 abbrev pub ReadsKept : {R : Type 0} → (R → Reader) → R → R → Type 0
 ReadsKept seen old new = (seen new).failures ≡ (seen old).failures
 
--- That `answers` are correct for `script`. They are, byte for byte, the lines of the script's events: each refused command has one line, each
--- accepted ask has the lines of one outcome, and a malformed script has a last line. Every model and every core is correct. `Unknown` is
--- correct for every ask, and a refused clause does not count.
+-- `AreRightAnswers script answers` holds if the answers are correct for the script. They are, byte for byte, the lines
+-- of the script's events: each refused command has one line, each accepted ask has the lines of one outcome, and a
+-- malformed script has a last line. Every model and every core is correct. `Unknown` is correct for every ask, and a
+-- refused clause does not count.
 pub record AreRightAnswers (script answers : List ℕ) : Type 0 where
   pub outcomes : List Outcome
   pub lines : answers ≡ event_lines (events_in script) outcomes
   pub right : EachIsRight (events_in script) outcomes
 
--- That the answers were read to their end, and are correct for the script, whatever bytes the script's reader could still give.
+-- `GaveRightAnswers script answers` holds if the answers were read to their end, and are correct for the script,
+-- whatever bytes the script's reader could still give. Each argument is a reader before and after a call.
 abbrev pub GaveRightAnswers : Reader × Reader → Reader × Reader → Type 0
 GaveRightAnswers script answers =
     (a : List ℕ) × GaveAll answers.0 answers.1 a × GaveEnough script.0 script.1 (λ s. AreRightAnswers s a)
 
--- that the verdict `Yes` implies correct answers
+-- `IsSoundVerdict script answers v` holds if `GaveRightAnswers` does or `v` is not `Yes`.
 abbrev pub IsSoundVerdict : Reader × Reader → Reader × Reader → Verdict → Type 0
 IsSoundVerdict script answers v = v ≡ Yes → GaveRightAnswers script answers
 
--- That the number of looks rose from `from` to `to`. The reader gave a text of n bytes, and steps at its beginning account for the looks,
--- whatever bytes could follow. There were at most 16 (n + 1)^2 looks.
+-- `TakesLooks old new from to` holds if the number of looks did not fall from `from` to `to`, and rose by at most
+-- 16 (n + 1)^2, where n is the number of bytes that the reader gave. Steps at the beginning of these bytes account for
+-- the rise (`LooksReach`), whatever bytes could follow.
 pub record TakesLooks (old new : Reader) (from to : ℕ) : Type 0 where
   pub text : List ℕ
   pub front : GavePrefix old new text

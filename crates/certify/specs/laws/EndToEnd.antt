@@ -9,7 +9,8 @@ use Rattle.certify.specs.declared.summary.Summary.{Summary}
 use Rattle.certify.specs.declared.verdict.Verdict.{Verdict}
 use Rattle.certify.specs.declared.verdict.Verdict.TheVariants.{Yes}
 
--- that a reader gave a prefix of `text` between two moments, and could still give the rest of `text`
+-- `CanBe r text` holds if the reader gave a prefix of `text` between two moments, and could still give the rest of
+-- `text`.
 pub record CanBe (r : Reader × Reader) (text : List ℕ) : Type 0 where
   pub given : List ℕ
   pub rest : List ℕ
@@ -17,7 +18,8 @@ pub record CanBe (r : Reader × Reader) (text : List ℕ) : Type 0 where
   pub follows : CanFollow r.0 r.1 rest
   pub whole : text ≡ given ++ rest
 
--- that `confirm` returns `Yes` for what a finished run wrote, whoever calls it with the script, answers and certificate of that run
+-- `FinishedIsConfirmed` holds if every verdict for which `Exact` holds is `Yes`, provided that the three readers could
+-- give a script, answers and a certificate for which `CertificateGuarantee` holds.
 abbrev pub FinishedIsConfirmed : Type 0
 FinishedIsConfirmed =
     (script answers certificate : Reader × Reader) (v : Verdict) (budget : ℕ) (summary : Summary) (text answered certified : List ℕ)
@@ -26,12 +28,13 @@ FinishedIsConfirmed =
 
 -- FOR TEXTS IN MEMORY
 
--- the guarantee for a verdict on three texts: it is `Yes` exactly when they match, and then the answers are correct
+-- `VerdictGuarantee script answers certificate v` holds if `v` is `Yes` exactly when the three texts match, and the
+-- answers are correct if it is `Yes`.
 pub record VerdictGuarantee (script answers certificate : List ℕ) (v : Verdict) : Type 0 where
   pub exact : (v ≡ Yes) ↔ TextsMatch script answers certificate
   pub sound : v ≡ Yes → AreRightAnswers script answers
 
--- the bound on the number of looks for this certificate
+-- the largest number by which looks may rise for a certificate of this length
 abbrev pub most_looks_over : List ℕ → ℕ
 most_looks_over certificate = 16 * (length certificate + 1) ^ 2
 

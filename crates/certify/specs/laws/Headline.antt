@@ -12,15 +12,17 @@ use Rattle.certify.specs.laws.EndToEnd.{most_looks_over}
 use Rattle.certify.specs.declared.verdict.Verdict.{Verdict}
 use Rattle.certify.specs.declared.verdict.Verdict.TheVariants.{Yes}
 
--- That an ask took `taken` rounds and was allowed `left` rounds. Its outcome is unknown only if it took all of them, so never if at least
--- 2^(2n+3) were left. `n` is the number of variables created so far, including hidden ones. Since a budget is below 2^64, `few` matters only
--- for `n` up to 30.
+-- `TookRounds n left taken o` holds if `taken` is at most `left` and below 2^(2n+3), and equals `left` if `o` is
+-- unknown: an ask with outcome `o` was allowed `left` rounds and took `taken`. So `o` is not unknown if at least
+-- 2^(2n+3) rounds were left. `n` is the number of variables created so far, including hidden ones. Since a budget is
+-- below 2^64, `few` matters only for `n` up to 30.
 pub record TookRounds (n left taken : ℕ) (o : Outcome) : Type 0 where
   pub within : taken ≤ left
   pub few : taken < 2 ^ (2 * n + 3)
   pub unknown : o ≡ Unknown → taken ≡ left
 
--- That `TookRounds` holds for every ask, in order. `before` is the number of rounds that the earlier asks took.
+-- `EachTookRounds budget before events outcomes rounds` holds if there is one outcome and one number of rounds for each
+-- ask, and `TookRounds` holds of them, in order. `before` is the number of rounds that the earlier asks took.
 abbrev pub EachTookRounds : (budget before : ℕ) → List Event → List Outcome → List ℕ → Type 0
 EachTookRounds budget before [] [] [] = Unit {0}
 EachTookRounds budget before (Refused k refusal ∷ events) outcomes rounds = EachTookRounds budget before events outcomes rounds
@@ -29,28 +31,28 @@ EachTookRounds budget before (Asked state ls ∷ events) (o ∷ outcomes) (taken
     TookRounds state.identity_count (rounds_allowed budget before) taken o × EachTookRounds budget (before + taken) events outcomes rounds
 EachTookRounds budget before events outcomes rounds = ⊥
 
--- That the certificate spells steps that a checker accepts, and that these contain as many empowering clauses for each ask as its rounds
--- learned. `steps` has the newest step first.
+-- `ShowsRounds certificate outcomes rounds` holds if the certificate spells steps, each of which a checker accepts
+-- after the earlier ones, and `EachLearns` holds of them. `steps` has the newest step first.
 pub record ShowsRounds (certificate : List ℕ) (outcomes : List Outcome) (rounds : List ℕ) : Type 0 where
   pub steps : List Step
   pub spelt : SpellsSteps (reverse steps) certificate
   pub accepted : AcceptsAll steps
   pub learns : EachLearns steps 0 outcomes rounds
 
--- What `headline_over` guarantees. A run of `script` wrote `answers` and `certificate`. `rounds` are the numbers that its summary reports, one
--- for each ask. `own` is the verdict on what the run wrote. `other` is the verdict on the answers `claimed` with the certificate `shown`,
--- whoever made them. The number of looks was `before` at the start and is `after` at the end.
+-- `Headline script budget rounds answers certificate own claimed shown other before after` holds if all of its fields
+-- do. In `headline_over`, `rounds` are the numbers that the summary reports, one for each ask, `own` and `other` are
+-- the two verdicts, and the number of looks was `before` at the start and is `after` at the end.
 pub record Headline (script : List ℕ) (budget : ℕ) (rounds answers certificate : List ℕ) (own : Verdict)
     (claimed shown : List ℕ) (other : Verdict) (before after : ℕ) : Type 0 where
-  -- one answer for each accepted ask: a correct model, a correct core, or unknown
+  -- the answers have one outcome for each accepted ask: a correct model, a correct core, or unknown
   pub answered : AreRightAnswers script answers
-  -- an answer is unknown only if its rounds are exhausted, and never if at least 2^(2n+3) were left at the start of the ask
+  -- an outcome is unknown only if the ask took all rounds that it was allowed, and never if these were 2^(2n+3) or more
   pub spent : EachTookRounds budget 0 (events_in script) answered.outcomes rounds
-  -- the steps derive as many empowering clauses as there are rounds, one fewer for an ask whose answer was found
+  -- the certificate spells accepted steps, whose empowering clauses fit these outcomes and rounds
   pub learned : ShowsRounds certificate answered.outcomes rounds
-  -- what the run wrote is confirmed
+  -- the verdict on what was written is `Yes`
   pub confirmed : own ≡ Yes
-  -- if the verdict on `claimed` and `shown` is `Yes`, the answers `claimed` are correct
+  -- if the other verdict is `Yes`, the answers `claimed` are correct
   pub any : other ≡ Yes → AreRightAnswers script claimed
-  -- the number of looks is at most quadratic in the lengths of the two certificates
+  -- the number of looks rises by at most the bounds for the two certificates together
   pub looks : after ≤ before + most_looks_over certificate + most_looks_over shown

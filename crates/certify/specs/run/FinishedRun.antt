@@ -47,13 +47,14 @@ answer_kind (Sat line) = kind.Sat
 answer_kind (Unsat core) = kind.Unsat
 answer_kind Unknown = kind.Unknown
 
--- That an ask takes at most the allowed rounds, and its answer is unknown only if it took all of them.
+-- `SpendsWithinBudget budget before report` holds if the ask took at most the rounds that it was allowed, and its
+-- answer is unknown only if it took all of them.
 pub record SpendsWithinBudget (budget before : ℕ) (report : AskReport) : Type 0 where
   pub within : report.steps ≤ rounds_allowed budget before
   pub unknown : report.answer ≡ kind.Unknown → report.steps ≡ rounds_allowed budget before
 
--- That an ask takes fewer than 2^(2n+3) rounds, and its answer is not unknown if that many were allowed. `n` is the number of identities once
--- its names were introduced.
+-- `IsBounded n budget before report` holds if the ask took fewer than 2^(2n+3) rounds, and its answer is not unknown if
+-- that many were allowed. `n` is the number of identities once its names were introduced.
 pub record IsBounded (n budget before : ℕ) (report : AskReport) : Type 0 where
   pub few : report.steps < 2 ^ (2 * n + 3)
   pub answered : 2 ^ (2 * n + 3) ≤ rounds_allowed budget before → report.answer ≡ kind.Unknown → ⊥
@@ -71,8 +72,9 @@ identities_given j (Sample names ∷ commands) = identities_given (state_after_a
 abbrev pub rounds_of_asks : List AskReport → List ℕ
 rounds_of_asks reports = map (λ r. r.steps) reports
 
--- that the rounds of every ask are within its bounds; `given` are the numbers of identities at the asks, and `before` is
--- the number of rounds of earlier asks
+-- `AreWithinBudget budget before given reports` holds if there is one report for each ask, and it satisfies
+-- `SpendsWithinBudget` and `IsBounded`. `given` has the number of identities at each ask, and `before` is the number of
+-- rounds of earlier asks.
 abbrev pub AreWithinBudget : (budget before : ℕ) → (given : List ℕ) → List AskReport → Type 0
 AreWithinBudget budget before [] [] = Unit {0}
 AreWithinBudget budget before [] (report ∷ reports) = ⊥
@@ -93,7 +95,10 @@ pub record AnswersRightly (text : List ℕ) (budget : ℕ) (summary : Summary) (
   pub kinds : map (λ r. r.answer) summary.asks.items ≡ map answer_kind outcomes
   pub spent : AreWithinBudget budget 0 (identities_given initial_state (accepted_commands initial_state (reading text).0)) summary.asks.items
 
--- That the summary and the answers of a finished run are correct, by the short definitions.
+-- `ReportsRightly text budget summary answered` holds if `answered` are the lines of the text's events for some
+-- outcomes, a correct one for each accepted ask, and the summary fits: it has the number of commands that are written
+-- in the text, the number of refused ones, the number of the malformed one, if there is one, and for each ask the kind
+-- of its outcome and a number of rounds within its bounds.
 pub record ReportsRightly (text : List ℕ) (budget : ℕ) (summary : Summary) (answered : List ℕ) : Type 0 where
   pub outcomes : List Outcome
   pub right : EachIsRight (events_in text) outcomes
@@ -128,27 +133,32 @@ pub record CertificateGuarantee (text : List ℕ) (budget : ℕ) (summary : Summ
 
 -- FOR THREE DEVICES
 
--- that the answers' writer received the answers to the text that the reader gave, whatever bytes could follow
+-- `WritesAnswers budget summary script answers` holds if the answers' writer received answers to the text that the
+-- script's reader gave, whatever bytes could follow, and `ReportsRightly` holds of this text, the summary and these
+-- answers.
 abbrev pub WritesAnswers : ℕ → Summary → Reader × Reader → Writer × Writer → Type 0
 WritesAnswers budget summary script answers =
     GaveEnough script.0 script.1 (λ text. (answered : List ℕ)
     × WriterAccepts answers.0 answers.1 answered × ReportsRightly text budget summary answered)
 
--- that the answers' writer received the answers, and the certificate's writer a certificate with its guarantee
+-- `TookCertificate budget summary script answers certificate` holds if the writers received answers and a certificate
+-- for which `CertificateGuarantee` holds, together with the summary and the text that the script's reader gave,
+-- whatever bytes could follow.
 abbrev pub TookCertificate : ℕ → Summary → Reader × Reader → Writer × Writer → Writer × Writer → Type 0
 TookCertificate budget summary script answers certificate = GaveEnough script.0 script.1 (λ text. (answered : List ℕ) × (certified : List ℕ)
     × WriterAccepts answers.0 answers.1 answered × WriterAccepts certificate.0 certificate.1 certified × CertificateGuarantee text budget summary answered certified)
 
--- that `TookCertificate` holds for three devices before and after a run, unless the run failed
+-- `CertificateIsGuaranteed r budget script answers certificate old new` holds if the run failed, or `TookCertificate`
+-- holds for the three devices before and after it.
 abbrev pub CertificateIsGuaranteed : {S A C : Type 0} → Result Summary RunFault → ℕ → (S → Reader) → (A → Writer) → (C → Writer)
     → S × A × C → S × A × C → Type 0
 CertificateIsGuaranteed r budget script answers certificate old new =
     IfOk r (λ s. TookCertificate budget s (reader_before_after script old.0 new.0) (writer_before_after answers old.1 new.1) (writer_before_after certificate old.2 new.2))
 
--- that no further call of the writer failed
+-- `WritesKept seen old new` holds if the number of failed calls of the writer did not change.
 abbrev pub WritesKept : {W : Type 0} → (W → Writer) → W → W → Type 0
 WritesKept seen old new = (seen new).failures ≡ (seen old).failures
 
--- that exactly one call of the writer failed, and it was the last
+-- `WriteFails old new` holds if exactly one call of the writer failed, and it was the last.
 abbrev pub WriteFails : Writer → Writer → Type 0
 WriteFails old new = (new.failures ≡ old.failures + 1) × (new.failed ≡ true)

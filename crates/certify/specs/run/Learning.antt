@@ -6,14 +6,15 @@ use Rattle.sat_checker.specs.matching.ProofChecking.{checker_rules}
 use Rattle.certify.specs.run.Advancing.{CountsEmpoweringFor, AreUnordered}
 use Rattle.certify.specs.run.Stretches.{LearnsEachRound}
 
--- the number of steps that set assumptions: each ask has two, one for its literals and one, at its end, for none
+-- the number of steps that set assumptions, also to none
 abbrev pub assumed_times : List Step → ℕ
 assumed_times [] = 0
 assumed_times (Assumptions ls ∷ earlier) = assumed_times earlier + 1
 assumed_times (step ∷ earlier) = assumed_times earlier
 
--- That the steps of ask number `asks`, counted from 0, contain as many empowering clauses as its rounds have learned. These steps are those
--- between its assumptions and the next assumptions, which are empty. If its outcome is unknown, none of them is an ordered step.
+-- `LearnsIn steps asks o rounds` holds if the steps of ask number `asks`, counted from 0, derive a number of empowering
+-- clauses that fits `o` and `rounds` (`LearnsEachRound`). These are the steps between two that set assumptions: the one
+-- after 2 * `asks` others, and the next one, which sets none. If `o` is unknown, none of them is an ordered step.
 pub record LearnsIn (steps : List Step) (asks : ℕ) (o : Outcome) (rounds : ℕ) : Type 0 where
   pub before : List Step
   pub ask : List ℕ
@@ -27,7 +28,8 @@ pub record LearnsIn (steps : List Step) (asks : ℕ) (o : Outcome) (rounds : ℕ
   pub counts : LearnsEachRound (checker_rules.unsat (Assumptions ask ∷ before)) o rounds learned
   pub unordered : o ≡ Unknown → AreUnordered middle
 
--- that `LearnsIn` holds for each ask, with these outcomes and rounds; `asks` is the number of asks before them
+-- `EachLearns steps asks outcomes rounds` holds if there is one number of rounds for each outcome, and `LearnsIn` holds
+-- of both, in order; `asks` is the number of asks before them.
 abbrev pub EachLearns : (steps : List Step) (asks : ℕ) → List Outcome → List ℕ → Type 0
 EachLearns steps asks [] [] = Unit {0}
 EachLearns steps asks [] (n ∷ ns) = ⊥

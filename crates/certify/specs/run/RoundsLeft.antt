@@ -1,7 +1,7 @@
 -- How many rounds an ask may take.
 use Rattle.std.specs.Prelude.{ℕ, ◌-◌, ◌^◌, min}
 
--- the largest possible number of rounds
+-- the largest number of rounds that all asks together may take, and the largest budget
 abbrev pub most_rounds : ℕ
 most_rounds = 2 ^ 64 - 1
 

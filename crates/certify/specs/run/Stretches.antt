@@ -52,7 +52,9 @@ IsCommandStep (Sample names) = IsOneModeStep names true
 abbrev pub showing_if : Bool → ScriptState → List Literal → Outcome → List Expected
 showing_if unsat j ask o = if unsat then [] else showing j ask o
 
--- That each round of an ask derives an empowering clause, except the round that answers. There are no rounds once unsat is recorded.
+-- `LearnsEachRound unsat o rounds learned` holds if the number `learned` of empowering clauses fits an ask that took
+-- `rounds` rounds, with outcome `o`: both numbers are the same if `o` is unknown, and `learned` is one less if `o` is a
+-- model or a core. If `unsat` is true, both are 0, whatever `o` is.
 abbrev pub LearnsEachRound : (unsat : Bool) → Outcome → (rounds learned : ℕ) → Type 0
 LearnsEachRound true o rounds learned = (rounds ≡ 0) × (learned ≡ 0)
 LearnsEachRound false Unknown rounds learned = rounds ≡ learned

@@ -30,8 +30,10 @@ AreSpentSoFar budget before [] (report ∷ reports) = ⊥
 AreSpentSoFar budget before (n ∷ ns) (report ∷ reports) =
     SpendsWithinBudget budget before report × IsBounded n budget before report × AreSpentSoFar budget (before + report.steps) ns reports
 
--- That correct answers to a script begin with these bytes. Its first command has number `number`, and `before` rounds were made earlier. The
--- bytes answer the first asks, in the rounds that are reported. An answer is unknown only if its rounds are exhausted.
+-- `BeginAnswers budget before number j script bytes` holds if correct answers to the script begin with these bytes. Its
+-- first command has number `number`, and `before` rounds were made earlier. The bytes have the outcomes of the first
+-- asks. Some reports have these outcomes' kinds and rounds within their bounds, and all rounds for an unknown one; the
+-- definition does not say that a run made them.
 pub record BeginAnswers (budget before number : ℕ) (j : ScriptState) (script : Reading) (bytes : List ℕ) : Type 0 where
   pub answered : List Outcome
   pub later : List Outcome  -- possible outcomes of the other asks
