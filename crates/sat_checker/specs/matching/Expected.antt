@@ -7,7 +7,7 @@ use Rattle.sat_base.specs.script.ScriptState.{ScriptState, NameMode, Sampled, Wi
 use Rattle.sat_base.specs.steps.Steps.{Step, UserVarName, AddClause, Model, Assumptions, FailedAssumptions, End}
 use Rattle.sat_checker.specs.matching.Checking.{variable_of}
 
--- the outcome of an ask; every accepted ask has one
+-- the outcome of an ask
 pub data Outcome : Type 0 where
   Sat : List Literal → Outcome  -- with the literals of a model
   Unsat : List Literal → Outcome  -- with the literals of a core
