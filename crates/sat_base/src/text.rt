@@ -214,7 +214,7 @@ fn some_digits_by_bytes(bytes: &[u8]) -> Option<(u64, usize)>
 }
 
 /// Returns whether the number at the start of `bytes` is negative, its absolute value and its length in bytes, or
-/// `None` if `bytes` doesn't begin with a number.
+/// `None` if `bytes` doesn't begin with a number. Skips the sign without a branch.
 #[inline(always)]
 fn number_in(bytes: &[u8]) -> Option<(bool, u64, usize)>
     ensures within { IfSome result (λ r. (0 < r.2) × (r.2 ≤ length bytes.now)) }
@@ -224,14 +224,10 @@ fn number_in(bytes: &[u8]) -> Option<(bool, u64, usize)>
     if bytes.is_empty() {
         return None;
     }
-    if bytes[0] != b'-' {
-        let (value, count) = some_digits_in(bytes)?;
-        let negative = false;
-        return Some((negative, value, count));
-    }
-    let (value, count) = some_digits_in(&bytes[1..])?;
-    let negative = true;
-    Some((negative, value, count + 1))
+    let negative = bytes[0] == b'-';
+    let sign = usize::from(negative);
+    let (value, count) = some_digits_in(&bytes[sign..])?;
+    Some((negative, value, count + sign))
 }
 
 /// Whether a digit or `-` begins a word at `place`.

@@ -1,9 +1,10 @@
 -- The effect of several bytes on a tokenizer.
-use Rattle.std.proofs.Common.{◌≡◌, ℕ, ◌+◌, ◌-◌, ◌<◌, List, [], ◌∷◌, ◌++◌, Bool, true, false, Option, Some, None, length, take, drop, get_or, refl, ap, subst, sym, ◌∙◌, append_assoc, arith}
+use Rattle.std.proofs.Common.{◌≡◌, ℕ, ◌+◌, ◌-◌, ◌<◌, eqb, List, [], ◌∷◌, ◌++◌, Bool, true, false, Option, Some, None, length, take, drop, get_or, refl, ap, subst, sym, ◌∙◌, append_assoc, arith}
 use Rattle.std.specs.Prelude.{nat_eq}
+use Rattle.std.proofs.lemmas.Bool.{eqb-true}
 use Rattle.std.proofs.lemmas.Bool.Decides.{nat_tests}
 use Rattle.std.proofs.lemmas.Grind.{common_steps}
-use Rattle.std.proofs.lemmas.List.{take_more}
+use Rattle.std.proofs.lemmas.List.{take_more, take_all}
 use Rattle.sat_base.specs.declared.text.Place.{Place}
 use Rattle.sat_base.specs.declared.text.Place.TheVariants as at
 use Rattle.sat_base.specs.declared.text.Token.{Token as CodeToken}
@@ -67,6 +68,20 @@ pub moves_from_first : (a b c : Place) (xs : List ℕ) (k : ℕ) → 0 < length 
 moves_from_first a b c xs k h f g =
     let following : MovesBy b (take k (drop 1 xs)) c = subst (λ (ys : List ℕ). MovesBy b (take k ys) c) (all_after_first xs) g in
     subst (λ (bs : List ℕ). MovesBy a bs c) (sym (first_of_some xs k h)) (moves_first a b c (get_or xs 0 0) (take k (drop 1 xs)) f following)
+
+-- a sign, if there is one, and then a prefix of the other bytes
+pub moves_signed : (old : Place) (negative : Bool) (sign value k : ℕ) (xs : List ℕ) → BeginsWord old → 0 < length xs → negative ≡ eqb (get_or xs 0 0) 45 → (negative ≡ true → sign ≡ 1) → (negative ≡ false → sign ≡ 0)
+    → MovesBy old (take k (take (length xs - sign) (drop sign xs))) (at.Digits false value) → MovesBy at.Minus (take k (take (length xs - sign) (drop sign xs))) (at.Digits true value)
+    → MovesBy old (take (k + sign) xs) (at.Digits negative value)
+moves_signed old true sign value k xs w h is one none plain minus =
+    let first : get_or xs 0 0 ≡ 45 = eqb-true (get_or xs 0 0) 45 (sym is) in
+    let begun : MovesPlace old (get_or xs 0 0) at.Minus = subst (λ b. MovesPlace old b at.Minus) (sym first) (moves_minus old w) in
+    let following = subst (λ n. MovesBy at.Minus (take k (take (length xs - n) (drop n xs))) (at.Digits true value)) (one refl) minus in
+    subst (λ n. MovesBy old (take (k + n) xs) (at.Digits true value)) (sym (one refl)) (moves_from_first old at.Minus (at.Digits true value) xs k h begun following)
+moves_signed old false sign value k xs w h is one none plain minus =
+    let e : take k (take (length xs - sign) (drop sign xs)) ≡ take (k + sign) xs =
+    ap (λ n. take k (take (length xs - n) (drop n xs))) (none refl) ∙ ap (take k) (take_all (length xs - 0) xs (omega arith)) ∙ ap (λ n. take n xs) (let s = none refl in omega (arith, s)) in
+    subst (λ (bs : List ℕ). MovesBy old bs (at.Digits false value)) e plain
 
 -- bytes that lead from place to place lead the tokenizer there
 pub follows_by : (old : Tokenizer) (bytes : List ℕ) (place : Place) → MovesBy old.place bytes place → Follows IsPositionedBefore old bytes (record { place = place; lines = old.lines })
