@@ -82,8 +82,7 @@ impl ActiveClauses {
         ensures { OnOk result (AddsActiveClause self.old self.new id clause.now) }
     {
         self.present.push(id, clause)?;
-        let _count = self.present.len();
-        self.uses.add(clause)?;
+        self.uses.add(&self.present, clause)?;
         Ok(())
     }
 

@@ -1,5 +1,5 @@
 //! Which variables are in clauses of two or more literals.
-ghost use Rattle.std.specs.Prelude.{◌≡◌, ◌+◌, ◌*◌, ◌≤◌, ◌<◌, ◌^◌, ℕ, OnOk, MatchBool, true, false};
+ghost use Rattle.std.specs.Prelude.{◌≡◌, ◌+◌, ◌*◌, ◌≤◌, ◌<◌, ◌^◌, ℕ, length, OnOk, MatchBool, true, false};
 ghost use Rattle.sat_checker.specs.LiteralSets.{mentions};
 ghost use Rattle.sat_checker.specs.SortedSets.{IsIncreasing};
 ghost use Rattle.sat_checker.specs.inner.OccurrenceView.{count_at};
@@ -62,7 +62,7 @@ fn is_in_long(present: &Present, var: Var) -> bool
 /// Counts the literals of a clause, if it has two or more literals.
 fn count(counts: &mut Occurrences, clause: &[Lit]) -> Result<(), AllocError>
     requires increasing { IsIncreasing clause.now }
-    requires few { (l : ℕ) → count_at counts.old l + times_long l clause.now < 2 ^ 64 }
+    requires few { (l : ℕ) → count_at counts.old l + times_long l clause.now < 2 ^ 32 }
     ensures { OnOk result ((l : ℕ) → count_at counts.new l ≡ count_at counts.old l + times_long l clause.now) }
 {
     if clause.len() < 2 {
@@ -73,12 +73,23 @@ fn count(counts: &mut Occurrences, clause: &[Lit]) -> Result<(), AllocError>
     Ok(())
 }
 
+/// Returns an error if there are more clauses, including removed ones, than a count of 32 bits can reach.
+fn check_countable(present: &Present) -> Result<(), AllocError>
+    ensures { OnOk result (length present.now.ids.items < 2 ^ 32) }
+{
+    if present.len() > u32::MAX as usize {
+        return Err(AllocError);
+    }
+    Ok(())
+}
+
 /// Counts the literals of all present clauses of two or more literals.
 fn count_all(counts: &mut Occurrences, present: &Present) -> Result<(), AllocError>
     requires store { IsStore present.now }
     requires none { (l : ℕ) → count_at counts.old l ≡ 0 }
     ensures { OnOk result ((l : ℕ) → count_at counts.new l ≡ occurrences_of present.now l) }
 {
+    check_countable(present)?;
     for place in 0..present.len() {
         if present.is_gone(place) {
             continue;
@@ -100,11 +111,11 @@ impl Uses {
         }
     }
 
-    /// If counting has started, counts the literals of a clause that is being added. The clause is given as a
-    /// sorted set.
-    pub(crate) fn add(&mut self, clause: &[Lit]) -> Result<(), AllocError>
+    /// If counting has started, counts the literals of a clause that was just added to `present`. The clause is given
+    /// as a sorted set.
+    pub(crate) fn add(&mut self, present: &Present, clause: &[Lit]) -> Result<(), AllocError>
         requires increasing { IsIncreasing clause.now }
-        requires few { (l : ℕ) → uses_at self.old l + times_long l clause.now < 2 ^ 64 }
+        requires few { (l : ℕ) → uses_at self.old l + times_long l clause.now ≤ length present.now.ids.items }
         ensures counting { OnOk result (self.new.counting ≡ self.old.counting) }
         ensures counted { OnOk result ((l : ℕ)
             → uses_at self.new l ≡ uses_at self.old l + if_counting self.old.counting (times_long l clause.now)) }
@@ -112,6 +123,7 @@ impl Uses {
         if !self.counting {
             return Ok(());
         }
+        check_countable(present)?;
         count(&mut self.counts, clause)
     }
 

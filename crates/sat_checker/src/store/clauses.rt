@@ -349,6 +349,7 @@ fn add(
     index.push(mixed(hash))?;
     let count = slots.len();
     slots.add_count(count - 1, redundant);
+    let _places = index.places();
     occurrences.add(literals);
     Ok(())
 }

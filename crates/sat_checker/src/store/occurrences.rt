@@ -6,10 +6,11 @@ ghost use Rattle.sat_checker.specs.inner.OccurrenceView.{count_at, times_in};
 use sat_base::{Lit, Table, Var};
 use std::alloc::{AllocError, Global};
 
-/// A count for each literal, indexed by literal code.
+/// A count for each literal, indexed by literal code. Counts have 32 bits: a clause contains a literal at most once, and
+/// callers count fewer than 2^32 clauses.
 #[derive(Drop)]
 pub struct Occurrences {
-    counts: Table<usize>,
+    counts: Table<u32>,
 }
 
 impl Occurrences {
@@ -64,7 +65,7 @@ impl Occurrences {
     #[inline(always)]
     fn add_one(&mut self, lit: Lit)
         requires room { HasPlaceFor self.old.counts lit }
-        requires few { count_at self.old lit + 1 < 2 ^ 64 }
+        requires few { count_at self.old lit + 1 < 2 ^ 32 }
         ensures room { (l : ℕ) → HasPlaceFor self.old.counts l → HasPlaceFor self.new.counts l }
         ensures counted { (l : ℕ) → count_at self.new l ≡ (if l == lit then 1 else 0) + count_at self.old l }
     {
@@ -85,7 +86,7 @@ impl Occurrences {
     /// Adds one to a literal's count for each of its occurrences in `literals`.
     pub fn add(&mut self, literals: &[Lit])
         requires room { All (HasPlaceFor self.old.counts) literals.now }
-        requires few { (l : ℕ) → count_at self.old l + times_in l literals.now < 2 ^ 64 }
+        requires few { (l : ℕ) → count_at self.old l + times_in l literals.now < 2 ^ 32 }
         ensures { (l : ℕ) → count_at self.new l ≡ count_at self.old l + times_in l literals.now }
     {
         for lit in literals {
@@ -114,7 +115,7 @@ impl Occurrences {
 
     /// Returns the count of a literal.
     #[inline(always)]
-    fn count(&self, lit: Lit) -> usize
+    fn count(&self, lit: Lit) -> u32
         ensures { result ≡ count_at self.now lit }
     {
         self.counts.get(lit.code(), 0)

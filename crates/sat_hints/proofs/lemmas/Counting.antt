@@ -191,7 +191,7 @@ kept_some v cs gs i n clause g c h e is z =
     omega (arith, a, b, z)
 
 -- one more clause can be counted without overflow
-pub kept_few : (l : ℕ) (cs : List (List ℕ)) (gs : List Bool) (i n before : ℕ) (clause : List ℕ) → AllByRecursion IsIncreasing cs → length cs ≡ n → i < n → n < 2 ^ 64 → clause ≡ get_or cs i [] → before ≡ times_kept l (take i cs) (take i gs) → before + times_long l clause < 2 ^ 64
+pub kept_few : (l : ℕ) (cs : List (List ℕ)) (gs : List Bool) (i n before : ℕ) (clause : List ℕ) → AllByRecursion IsIncreasing cs → length cs ≡ n → i < n → n < 2 ^ 32 → clause ≡ get_or cs i [] → before ≡ times_kept l (take i cs) (take i gs) → before + times_long l clause < 2 ^ 32
 kept_few l cs gs i n before clause sets c h f is b =
     let few = times-few l (take i cs) (take i gs) (sets_first cs i sets) in
     let len : length (take i cs) ≡ i = length-take-le i cs (omega (arith, c, h)) in

@@ -60,20 +60,20 @@ gains old new id clause s w a e c u = record {
     one j true t = let same : j ≡ id = eqb-true j id t in ap (λ x. cond x None (Some clause)) (subst (λ i. is_stale old.since i clause ≡ false) (sym same) (fresh_unit old.since id clause w))
     one j false t = refl
 
--- the counts do not overflow
+-- a literal is counted at most once in every stored clause
 if_few : (b : Bool) (n : ℕ) → if_counting b n ≤ n
 if_few true n = omega arith
 if_few false n = omega arith
 
-pub few_uses : (old new : Present) (u : Uses) (id n : ℕ) (clause : List ℕ) → IsStore old → ((l : ℕ) → uses_at u l ≡ if_counting u.counting (occurrences_of old l)) → IsIncreasing clause → AddsPresentClause old new id clause → n ≡ length new.ids.items → n < 2 ^ 64 → (l : ℕ) → uses_at u l + times_long l clause < 2 ^ 64
-few_uses old new u id n clause s c i a e f l =
+pub few_uses : (old new : Present) (u : Uses) (id : ℕ) (clause : List ℕ) → IsStore old → ((l : ℕ) → uses_at u l ≡ if_counting u.counting (occurrences_of old l)) → IsIncreasing clause → AddsPresentClause old new id clause → (l : ℕ) → uses_at u l + times_long l clause ≤ length new.ids.items
+few_uses old new u id clause s c i a l =
     let x : uses_at u l ≡ if_counting u.counting (occurrences_of old l) = c l in
     let y : if_counting u.counting (occurrences_of old l) ≤ occurrences_of old l = if_few u.counting (occurrences_of old l) in
     let z : occurrences_of old l ≤ length old.clauses = times-few l old.clauses old.gone.items s.sets in
     let w : times_long l clause ≤ 1 = times_one l clause i in
     let v : length new.ids.items ≡ length old.ids.items + 1 = a.longer in
     let t : length old.clauses ≡ length old.ids.items = s.clauses in
-    omega (arith, x, y, z, w, v, t, e, f)
+    omega (arith, x, y, z, w, v, t)
 
 -- REMOVED CLAUSES
 if_less : (b : Bool) (m n k : ℕ) → m + k ≡ n → if_counting b m + if_counting b k ≡ if_counting b n

@@ -111,8 +111,8 @@ each_before : (ss : List Slot) (x : Slot) → AllByRecursion IsIncreasing (all_l
 each_before [] x h = tt
 each_before (s ∷ ss) x h = (h.0, each_before ss x h.1)
 
--- the counts of one more clause fit in 64 bits
-pub few_more : (l count n : ℕ) (ss new : List Slot) (x : Slot) (literals : List ℕ) → count ≡ times_stored l ss → new ≡ ss ++ x ∷ [] → AllByRecursion IsIncreasing (all_lits new) → IsIncreasing literals → n ≡ length new → n < 2 ^ 64 → count + times_in l literals < 2 ^ 64
+-- the counts of one more clause fit in 32 bits
+pub few_more : (l count n : ℕ) (ss new : List Slot) (x : Slot) (literals : List ℕ) → count ≡ times_stored l ss → new ≡ ss ++ x ∷ [] → AllByRecursion IsIncreasing (all_lits new) → IsIncreasing literals → n ≡ length new → n < 2 ^ 32 → count + times_in l literals < 2 ^ 32
 few_more l count n ss new x literals c e each one m f =
     let a : times_stored l ss ≤ length ss = times_few l ss (each_before ss x (subst (λ ts. AllByRecursion IsIncreasing (all_lits ts)) e each)) in
     let b : times_in l literals ≤ 1 = times_once l literals one in

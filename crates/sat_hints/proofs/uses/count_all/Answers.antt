@@ -10,7 +10,7 @@ pub count-requires-clause-few : goal.count-requires-clause-few
 count-requires-clause-few c =
     let p = c.args.present.now in
     let inside : c.loop-place.place < length p.ids.items = omega (arith, c.loop-place-test.true, c.len-place-end.ensures) in
-    λ l. kept_few l p.clauses p.gone.items c.loop-place.place (length p.ids.items) _ c.clause.result.now c.requires.store.sets c.requires.store.clauses inside (omega (arith, c.len-place-end.ensures, c.len-place-end.type_inv)) c.clause.ensures (c.loop-place.invariant l)
+    λ l. kept_few l p.clauses p.gone.items c.loop-place.place (length p.ids.items) _ c.clause.result.now c.requires.store.sets c.requires.store.clauses inside c.in_ok-check_countable.ensures c.clause.ensures (c.loop-place.invariant l)
 
 pub loop-place-preserved : goal.loop-place-preserved
 loop-place-preserved c = grind (arith, common_steps, kept_more)

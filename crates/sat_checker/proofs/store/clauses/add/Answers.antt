@@ -1,5 +1,6 @@
 use Rattle.std.proofs.lemmas.Grind.{common_steps}
-use Rattle.std.proofs.Common.{◌≡◌, ◌+◌, ◌-◌, [], ◌∷◌, ◌++◌, length, ap, ◌∙◌, arith}
+use Rattle.std.proofs.Common.{◌≡◌, ◌+◌, ◌-◌, ◌<◌, ◌^◌, [], ◌∷◌, ◌++◌, length, ap, ◌∙◌, arith}
+use Rattle.sat_checker.specs.inner.PairView.{Indexed}
 use Rattle.sat_checker.specs.inner.SlotView.{unstored}
 use Rattle.sat_checker.proofs.lemmas.store.Counting.{few_more, last_place}
 use Rattle.sat_checker.proofs.lemmas.store.Kept.{kept_stored}
@@ -7,8 +8,11 @@ use Rattle.sat_checker.proofs.lemmas.store.Places.{stored_last}
 use Rattle.sat_checker.proofs.store.clauses.add.Goals as goal
 
 pub add-requires-clause-few : goal.add-requires-clause-few
-add-requires-clause-few c = λ l.
-    few_more l _ c.len-count.result c.args.slots.now c.push.new.self _ c.args.literals.now (c.in_ok-make_room.ensures.same l ∙ c.requires.kept.counted l) c.in_ok-push.ensures.ok c.len-count.ensures.increasing c.requires.increasing c.len-count.ensures.count c.len-count.type_inv
+add-requires-clause-few c =
+    let n = last_place c.args.slots.now c.push.new.self _ c.len-count.result c.len-count.ensures.count c.in_ok-push.ensures.ok in
+    let places = ap (λ (x : Indexed). x.places) c.in_ok-push-2.ensures.ok in
+    let few : c.len-count.result < 2 ^ 32 = omega (arith, n, c.requires.kept.files.places, places, c.places-places.ensures.few) in
+    λ l. few_more l _ c.len-count.result c.args.slots.now c.push.new.self _ c.args.literals.now (c.in_ok-make_room.ensures.same l ∙ c.requires.kept.counted l) c.in_ok-push.ensures.ok c.len-count.ensures.increasing c.requires.increasing c.len-count.ensures.count few
 
 pub returns-clause-kept : goal.returns-clause-kept
 returns-clause-kept c =
