@@ -10,12 +10,13 @@
 #   hints.rt.txt, over sat_hints: the call reports it, and what it wrote is a prefix of the reference. All other lines are the same.
 #   certify, on two scripts: it ends with `certify: OutOfMemory` and status 3, writes nothing else to standard error but a run's line of
 #   progress, and its output is a prefix of the reference.
-#   texts.rt.txt, over run, confirm, convert and check: exactly one call reports it, and all others do as in the reference.
+#   texts.rt.txt, over run, confirm, convert and check: at most one call reports it, and all others do as in the reference.
 #   solves.rt.txt, over a solver with a checker of its own: every later call reports that the solver has failed.
-#   refusals.rt.txt: refused steps are refused, whatever allocation fails while they are judged.
+#   refusals.rt.txt: refused steps are refused, whatever allocation fails while they are judged. So is a bad line, whatever allocation fails.
 #
 # For the first four, a line says for each N which call was out of memory. There is no line if only notes on a step's check were lost that no
-# listener reads. The last three report by their status. Not part of the gate. Takes some minutes.
+# listener reads, or if a check of a hint text reads a single byte first instead of a chunk. The last three report by their status. Not part
+# of the gate. Takes some minutes.
 #
 # `rt try --fail-alloc N` refuses the Nth allocation. Since a build takes longer than a run, one build serves for every N: it always refuses
 # the `most`th allocation, and the program first makes most - N useless ones, as the first byte of its standard input says (in the last three,
@@ -201,21 +202,18 @@ mkdir "$work/hints-plain"
 behind "$work/texts/hints/none" 0 > "$work/hints-plain/none"
 run hints "$work/hints-plain" "$work/hints-all"
 sweep hints
-count=0
 for n in $(seq "$most"); do
     it=$work/hints-runs/none-$n
     [ "$(cat "$it.end")" = "run=ended status=0" ] || fail "hints $n: $(cat "$it.end")"
     [ ! -s "$it.err" ] || fail "hints $n: $(cat "$it.err")"
     call=$(awk "$short" "$work/hints-all/none.out" "$it.out")
-    [ -n "$call" ] || continue
-    [ $((count += 1)) = "$n" ] || fail "hints $n: refused behind one that was not"
-    echo "$n: $call"
+    [ -z "$call" ] || echo "$n: $call"
 done | tee "$work/hints.txt"
-count=$(wc -l < "$work/hints.txt")
+count=$(tail -n 1 "$work/hints.txt" | cut -d : -f 1)
 [ "$count" -lt "$most" ] || fail "hints: more than $most allocations"
 directly hints "$work/hints-plain" "$count"
 directly hints "$work/hints-plain" $((count + 1))
-echo "hints: $count allocations"
+echo "hints: $(wc -l < "$work/hints.txt") of $count allocations"
 sed 's/^[0-9]*: //' "$work/hints.txt" | sort | uniq -c
 
 run certify_cli "$work/texts/certify_cli" "$work/certify_cli-all"
@@ -279,4 +277,4 @@ reports() { # CRATE MOST STATUS..
 
 reports texts 400 3
 reports solves 250 3
-reports refusals 400 3 5
+reports refusals 400 3

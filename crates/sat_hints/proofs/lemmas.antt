@@ -1,6 +1,7 @@
 pub mod Words
 pub mod Spelling
 pub mod Prefixes
+pub mod Reaching
 pub mod Counting
 pub mod Listed
 pub mod Standing
@@ -11,6 +12,8 @@ pub mod Taken
 pub mod Finding
 pub mod Holding
 pub mod InPlace
+pub mod Stopping
+pub mod Chunks
 pub mod Sound
 pub mod Mirrored
 pub mod Announced

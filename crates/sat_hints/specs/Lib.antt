@@ -2,6 +2,7 @@ pub mod Lines
 pub mod Limits
 pub mod Hints
 pub mod Checks
+pub mod Faults
 pub mod inner
 pub mod Conversion
 pub mod Converts

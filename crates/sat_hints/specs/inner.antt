@@ -1,4 +1,5 @@
 pub mod LineReading
+pub mod LineRoom
 pub mod Prefixes
 pub mod Clauses
 pub mod UsesView

@@ -1,13 +1,16 @@
 //! Checking a hint text, line by line.
-ghost use Rattle.std.specs.Prelude.{◌≡◌, ◌<◌, ◌≤◌, ◌+◌, ◌⊎◌, List, ℕ, [], length, take, IfErr, IfOk, IsErrOf};
-ghost use Rattle.std.specs.Prelude.{MatchOption};
-ghost use Rattle.sat_base.specs.device.Device.{GaveEnough, ReadFails, most_reads};
+ghost use Rattle.std.specs.Prelude.{◌≡◌, ◌<◌, ◌≤◌, ◌+◌, ◌⊎◌, List, ℕ, [], length, take, IfErr, IfOk, IsErrOf, OnErr};
+ghost use Rattle.std.specs.Prelude.{MatchOption, OnOk, vec_len};
+ghost use Rattle.sat_base.specs.device.Device.{GaveEnough, ReadFails, most_reads, piece_size};
 ghost use Rattle.sat_hints.specs.Lines.{Line, HasNoEnd};
 ghost use Rattle.sat_hints.specs.Checks.{VerdictHolds};
+ghost use Rattle.sat_hints.specs.Faults.{GaveUpToFault};
 ghost use Rattle.sat_hints.specs.inner.LineChecking.{HasTakenLines, IsReadyChecker};
 ghost use Rattle.sat_hints.specs.inner.LineReading.{BeginsWithNoLine};
+ghost use Rattle.sat_hints.specs.inner.LineRoom.{HasListRoom, KeepsListRoom};
 ghost use Rattle.sat_hints.specs.inner.Holding.{HasRead, IsReadyIf, IsWholeLine, ReadsFurther, IsRightIfVerdict};
-ghost use Rattle.sat_hints.specs.inner.Holding.{ChecksLineBytes, TakesPiece};
+ghost use Rattle.sat_hints.specs.inner.Holding.{AcceptsLineBytes, ChecksLineBytes, ChecksNext, HasRoomFor, HasRoomIf, StopsAtEnd};
+ghost use Rattle.sat_hints.specs.inner.Holding.{StopsReading, TakesPiece};
 
 use crate::answer::{HintFault, HintVerdict, HintWhy};
 use crate::line_checking::LineChecker;
@@ -25,7 +28,7 @@ const MAX_READS: u64 = 1 << 48;
 /// The current line, and the state after the lines before it.
 #[derive(Drop)]
 struct Checking {
-    /// The bytes of a line whose LF has not been read yet.
+    /// The bytes of a line whose LF has not been read yet. There is capacity for the next chunk, too.
     held: Vec<u8>,
     /// The place in the line after the bytes in `held`.
     place: Place,
@@ -47,21 +50,25 @@ fn line_end(bytes: &[u8]) -> Option<usize>
     None
 }
 
-/// Reads and checks a line, given as bytes. Returns why the line is faulty, if it is.
+/// Reads and checks a line, given as bytes, for whose lists there must be room. Returns why the line is faulty, if it is.
+/// Runs out of memory only if it is not.
 fn take_line(
     lists: &mut Lists,
     checker: &mut LineChecker,
     bytes: &[u8],
 ) -> Result<Option<HintWhy>, AllocError>
-    requires { IsReadyChecker checker.old }
+    requires ready { IsReadyChecker checker.old }
+    requires room { HasListRoom lists.old (length bytes.now) }
     ensures ready { IfOk result (λ why. IsReadyIf why checker.new) }
     ensures takes { IfOk result (λ why. IsWholeLine bytes.now → (lines : List Line) → HasTakenLines checker.old lines
         → ChecksLineBytes why checker.old checker.new lines bytes.now) }
+    ensures judged { OnErr result (IsWholeLine bytes.now → (lines : List Line) → HasTakenLines checker.old lines
+        → AcceptsLineBytes lines bytes.now) }
+    ensures room { KeepsListRoom lists.old lists.new }
 {
     match lists.read_line(bytes) {
-        Ok(Some((head, _))) => checker.take(&lists.line(head)),
-        Ok(None) => Ok(Some(HintWhy::Syntax)),
-        Err(error) => Err(error),
+        Some((head, _)) => checker.take(&lists.line(head)),
+        None => Ok(Some(HintWhy::Syntax)),
     }
 }
 
@@ -70,6 +77,7 @@ impl Checking {
     fn new(alloc: Global) -> Checking
         ensures ready { IsReadyChecker result.checker }
         ensures read { HasRead result [] }
+        ensures none { vec_len result.held ≡ 0 }
     {
         Checking {
             held: Vec::new(alloc),
@@ -79,14 +87,48 @@ impl Checking {
         }
     }
 
+    /// Reserves memory for the next chunk: to complete the line that has begun, and to read its lists. So a complete line
+    /// that is at fault is refused even if memory runs out.
+    fn make_room(&mut self) -> Result<(), AllocError>
+        ensures room { OnOk result (HasRoomFor self.new piece_size) }
+        ensures checker { self.new.checker ≡ self.old.checker }
+        ensures place { self.new.place ≡ self.old.place }
+        ensures held { self.new.held.items ≡ self.old.held.items }
+        ensures len { vec_len self.new.held ≡ vec_len self.old.held }
+    {
+        self.held.reserve(PIECE)?;
+        self.lists.make_room(self.held.capacity())
+    }
+
+    /// Returns how many bytes the first read may request. If there is no memory for a chunk, this is a single byte,
+    /// which can be checked without allocating.
+    fn first_room(&mut self) -> usize
+        requires { vec_len self.old.held ≡ 0 }
+        ensures room { HasRoomFor self.new result }
+        ensures least { 0 < result }
+        ensures most { result ≤ piece_size }
+        ensures checker { self.new.checker ≡ self.old.checker }
+        ensures place { self.new.place ≡ self.old.place }
+        ensures held { self.new.held.items ≡ self.old.held.items }
+    {
+        match self.make_room() {
+            Ok(()) => PIECE,
+            Err(_) => 1,
+        }
+    }
+
     /// Checks the line that consists of the held bytes and `bytes`, which must end with the line's LF. Returns why the
-    /// line is at fault, if it is.
+    /// line is at fault, if it is. There must be room for the bytes, so memory runs out only if the line is not.
     fn end_line(&mut self, bytes: &[u8]) -> Result<Option<HintWhy>, AllocError>
         requires ready { IsReadyChecker self.old.checker }
+        requires some { 0 < vec_len self.old.held }
+        requires room { HasRoomFor self.old (length bytes.now) }
         requires ends { IsWholeLine bytes.now }
         ensures ready { IfOk result (λ why. IsReadyIf why self.new.checker) }
         ensures empty { IfOk result (λ why. self.new.held.items ≡ []) }
         ensures reads { IfOk result (λ why. ReadsFurther why self.old bytes.now self.new) }
+        ensures stops { OnErr result (StopsAtEnd self.old bytes.now) }
+        ensures room { KeepsListRoom self.old.lists self.new.lists }
     {
         self.held.extend_from_slice(bytes)?;
         let why = take_line(&mut self.lists, &mut self.checker, &self.held)?;
@@ -95,19 +137,22 @@ impl Checking {
         Ok(why)
     }
 
-    /// Holds further bytes of a line. These bytes must not contain an LF. Returns a fault if no line can continue
-    /// with them.
+    /// Holds further bytes of a line, and makes room for the next chunk. These bytes must not contain an LF. Returns a
+    /// fault if no line can continue with them.
     fn hold(&mut self, bytes: &[u8]) -> Result<Option<HintWhy>, AllocError>
         requires ready { IsReadyChecker self.old.checker }
         requires inside { HasNoEnd bytes.now }
         ensures ready { IfOk result (λ why. IsReadyIf why self.new.checker) }
+        ensures room { IfOk result (λ why. HasRoomIf why self.new) }
         ensures reads { IfOk result (λ why. ReadsFurther why self.old bytes.now self.new) }
+        ensures stops { OnErr result (StopsReading self.old bytes.now) }
     {
         let Some(place) = following(self.place, bytes) else {
             return Ok(Some(HintWhy::Syntax));
         };
         self.held.extend_from_slice(bytes)?;
         self.place = place;
+        self.make_room()?;
         Ok(None)
     }
 
@@ -118,7 +163,9 @@ impl Checking {
         requires empty { self.old.held.items ≡ [] }
         requires none { BeginsWithNoLine bytes.now }
         ensures ready { IfOk result (λ why. IsReadyIf why self.new.checker) }
+        ensures room { IfOk result (λ why. HasRoomIf why self.new) }
         ensures reads { IfOk result (λ why. ReadsFurther why self.old bytes.now self.new) }
+        ensures stops { OnErr result (StopsReading self.old bytes.now) }
     {
         match line_end(bytes) {
             Some(_) => Ok(Some(HintWhy::Syntax)),
@@ -130,30 +177,33 @@ impl Checking {
     fn feed_in_place(&mut self, piece: &[u8]) -> Result<Option<HintWhy>, AllocError>
         requires ready { IsReadyChecker self.old.checker }
         requires empty { self.old.held.items ≡ [] }
+        requires room { HasListRoom self.old.lists (length piece.now) }
         ensures ready { IfOk result (λ why. IsReadyIf why self.new.checker) }
+        ensures room { IfOk result (λ why. HasRoomIf why self.new) }
         ensures reads { IfOk result (λ why. ReadsFurther why self.old piece.now self.new) }
+        ensures stops { OnErr result (StopsReading self.old piece.now) }
     {
         let mut rest = piece;
-        loop {
-            match self.lists.read_line(rest) {
-                Ok(Some((head, following))) => {
-                    match self.checker.take(&self.lists.line(head))? {
-                        Some(why) => return Ok(Some(why)),
-                        None => {}
-                    }
-                    rest = following;
-                }
-                Ok(None) => return self.hold_rest(rest),
-                Err(error) => return Err(error),
+        while let Some(found) = self.lists.read_line(rest) {
+            let (head, following) = found;
+            match self.checker.take(&self.lists.line(head))? {
+                Some(why) => return Ok(Some(why)),
+                None => {}
             }
+            rest = following;
         }
+        self.hold_rest(rest)
     }
 
-    /// Checks the next bytes of the text. Returns the reason for the first fault, if there is one.
+    /// Checks the next bytes of the text, for which there must be room, and makes room for the next chunk. Returns the
+    /// reason for the first fault, if there is one.
     fn feed(&mut self, piece: &[u8]) -> Result<Option<HintWhy>, AllocError>
-        requires { IsReadyChecker self.old.checker }
+        requires ready { IsReadyChecker self.old.checker }
+        requires room { HasRoomFor self.old (length piece.now) }
         ensures ready { IfOk result (λ why. IsReadyIf why self.new.checker) }
+        ensures room { IfOk result (λ why. HasRoomIf why self.new) }
         ensures reads { IfOk result (λ why. ReadsFurther why self.old piece.now self.new) }
+        ensures stops { OnErr result (StopsReading self.old piece.now) }
     {
         if self.held.is_empty() {
             return self.feed_in_place(piece);
@@ -170,9 +220,11 @@ impl Checking {
 
     /// Does what `feed` does, but returns a verdict if a line is at fault.
     fn take_piece(&mut self, piece: &[u8]) -> Result<Option<HintVerdict>, HintFault>
-        requires { IsReadyChecker self.old.checker }
+        requires ready { IsReadyChecker self.old.checker }
+        requires room { HasRoomFor self.old (length piece.now) }
         ensures memory { IfErr result (λ e. e ≡ HintFault.OutOfMemory) }
         ensures takes { IfOk result (λ verdict. TakesPiece verdict self.old piece.now self.new) }
+        ensures stops { OnErr result (StopsReading self.old piece.now) }
     {
         match self.feed(piece)? {
             Some(why) => Ok(Some(self.checker.bad(why))),
@@ -190,27 +242,48 @@ impl Checking {
         self.checker.bad(HintWhy::Syntax)
     }
 
+    /// Reads and checks the next chunk, of at most as many bytes as `chunk` has. Returns the verdict on the text, if it
+    /// is determined.
+    fn check_next<R: CountedRead>(
+        &mut self,
+        text: &mut R,
+        chunk: &mut [u8],
+    ) -> Result<Option<HintVerdict>, HintFault>
+        requires ready { IsReadyChecker self.old.checker }
+        requires room { HasRoomFor self.old (length chunk.old) }
+        requires some { 0 < length chunk.old }
+        requires few { length chunk.old ≤ piece_size }
+        ensures calls { (R.seen text.new).calls ≡ (R.seen text.old).calls + 1 }
+        ensures checks { ChecksNext result (R.seen text.old) (R.seen text.new) self.old self.new }
+    {
+        match text.read_counted(chunk) {
+            Ok(0) => Ok(Some(self.finish())),
+            Ok(count) => self.take_piece(&chunk[..count]),
+            Err(_) => Err(HintFault::Read),
+        }
+    }
+
     /// Reads and checks a text, up to the first line at fault. Returns the verdict on the text.
     fn check_text<R: CountedRead>(&mut self, text: &mut R) -> Result<HintVerdict, HintFault>
         requires ready { IsReadyChecker self.old.checker }
         requires fresh { HasRead self.old [] }
+        requires none { vec_len self.old.held ≡ 0 }
         ensures given { GaveEnough (R.seen text.old) (R.seen text.new) (IsRightIfVerdict result) }
+        ensures stops { IfErr result (GaveUpToFault (R.seen text.old) (R.seen text.new)) }
         ensures kept { IsErrOf result HintFault.Read ⊎ ((R.seen text.new).failures ≡ (R.seen text.old).failures) }
         ensures read { IsErrOf result HintFault.Read → ReadFails (R.seen text.old) (R.seen text.new) }
         ensures some { IsErrOf result HintFault.OutOfMemory
             → length (R.seen text.old).given < length (R.seen text.new).given }
         ensures reads { (R.seen text.new).calls ≤ (R.seen text.old).calls + most_reads }
     {
-        let mut piece = [0; PIECE];
+        let mut chunk = [0; PIECE];
+        let mut most = self.first_room();
         for _ in 0..MAX_READS {
-            match text.read_counted(&mut piece) {
-                Ok(0) => return Ok(self.finish()),
-                Ok(count) => match self.take_piece(&piece[..count])? {
-                    Some(verdict) => return Ok(verdict),
-                    None => {}
-                },
-                Err(_) => return Err(HintFault::Read),
+            match self.check_next(text, &mut chunk[..most])? {
+                Some(verdict) => return Ok(verdict),
+                None => {}
             }
+            most = PIECE;
         }
         Err(HintFault::Read)
     }
@@ -220,6 +293,9 @@ impl Checking {
 pub fn check<R: CountedRead>(alloc: Global, text: &mut R) -> Result<HintVerdict, HintFault>
     // The verdict is correct for the text that was read, whatever follows.
     ensures given { GaveEnough (R.seen text.old) (R.seen text.new) (IsRightIfVerdict result) }
+    // After a fault, the text that was read is a derivation and a proper prefix of a line, or memory ran out for a line that
+    // is accepted. No read found the end.
+    ensures stops { IfErr result (GaveUpToFault (R.seen text.old) (R.seen text.new)) }
     // If a read fails, the error `Read` is returned, and the read is not repeated.
     ensures kept { IsErrOf result HintFault.Read ⊎ ((R.seen text.new).failures ≡ (R.seen text.old).failures) }
     ensures read { IsErrOf result HintFault.Read → ReadFails (R.seen text.old) (R.seen text.new) }

@@ -1,7 +1,7 @@
 //! Tests, byte by byte, whether bytes can begin a line.
 ghost use Rattle.std.specs.Prelude.{◌≡◌, ◌≤◌, ◌∷◌, []};
 ghost use Rattle.sat_hints.specs.Lines.{HasNoEnd};
-ghost use Rattle.sat_hints.specs.inner.Prefixes.{letter_place, limit_of, next_of, sign_place, zero_place, LeadsToPlace};
+ghost use Rattle.sat_hints.specs.inner.Prefixes.{letter_place, limit_of, next_of, sign_place, zero_place, LeadsToPlace, ReachesPlace};
 ghost use Rattle.sat_hints.specs.declared.prefixes.Place.TheVariants.{Digits, Item};
 
 use sat_base::{Var, append_digit};
@@ -112,7 +112,8 @@ fn after_sign(part: Part) -> Option<Place>
 /// Returns the place after `byte`, the next byte of a number or the space after it, or `None` if no line can continue
 /// with `byte`.
 fn in_number(part: Part, number: u64, byte: u8) -> Option<Place>
-    ensures { LeadsToPlace (Digits part number) (byte ∷ []) result }
+    ensures leads { LeadsToPlace (Digits part number) (byte ∷ []) result }
+    ensures reaches { ReachesPlace (Digits part number) (byte ∷ []) result }
 {
     if byte == b' ' && number > 0 {
         return Some(Place::Item(next(part)));
@@ -123,7 +124,8 @@ fn in_number(part: Part, number: u64, byte: u8) -> Option<Place>
 
 /// Returns the place after `byte`, the first byte of a part, or `None` if the part can't start with `byte`.
 fn at_item(part: Part, byte: u8) -> Option<Place>
-    ensures { LeadsToPlace (Item part) (byte ∷ []) result }
+    ensures leads { LeadsToPlace (Item part) (byte ∷ []) result }
+    ensures reaches { ReachesPlace (Item part) (byte ∷ []) result }
 {
     if byte == b'0' {
         return after_zero(part);
@@ -139,7 +141,8 @@ fn at_item(part: Part, byte: u8) -> Option<Place>
 
 /// Returns the place after `byte`, the next byte of a line, or `None` if no line can continue with `byte`.
 fn after_byte(place: Place, byte: u8) -> Option<Place>
-    ensures { (byte ≡ 10 → ⊥) → LeadsToPlace place (byte ∷ []) result }
+    ensures leads { (byte ≡ 10 → ⊥) → LeadsToPlace place (byte ∷ []) result }
+    ensures reaches { ReachesPlace place (byte ∷ []) result }
 {
     match place {
         Place::Letter => following_letter(byte),
@@ -158,7 +161,8 @@ fn after_byte(place: Place, byte: u8) -> Option<Place>
 /// Returns the place after `bytes`, the next bytes of a line, or `None` if no line can continue with `bytes`.
 pub(crate) fn following(place: Place, bytes: &[u8]) -> Option<Place>
     requires { HasNoEnd bytes.now }
-    ensures { LeadsToPlace place bytes.now result }
+    ensures leads { LeadsToPlace place bytes.now result }
+    ensures reaches { ReachesPlace place bytes.now result }
 {
     let mut here = place;
     for i in 0..bytes.len() {

@@ -1,16 +1,18 @@
 //! Reading the line at the start of a slice of bytes.
-ghost use Rattle.std.specs.Prelude.{◌≡◌, ◌++◌, List, ℕ, codes, IfOk, MatchOption, []};
+ghost use Rattle.std.specs.Prelude.{◌≡◌, ◌≤◌, ◌+◌, ◌*◌, ◌++◌, List, ℕ, codes, length, vec_capacity, MatchOption, OnOk, []};
 ghost use Rattle.sat_base.specs.dimacs.DimacsText.{number_text};
 ghost use Rattle.sat_hints.specs.Lines.{id_text};
 ghost use Rattle.sat_hints.specs.inner.LineReading.{BeginsWithBoth, BeginsWithNoLine, BeginsWithOne, BeginsWithWords};
 ghost use Rattle.sat_hints.specs.inner.LineReading.{IsId, IsLiteralCode, BeginsWithHintLine, line_of_view, line_with};
+ghost use Rattle.sat_hints.specs.inner.LineRoom.{HasListRoom, KeepsListRoom};
 
 use crate::line::HintLine;
 use crate::numbers::{read_id, read_literal, read_variable};
 use sat_base::{Lit, Var, take_text};
 use std::alloc::{AllocError, Global};
 
-/// The lists of the current line. Their memory is reused.
+/// The lists of the current line. Their memory is reused, and reserved before a line is read, so reading a line does not
+/// allocate.
 #[derive(Drop)]
 pub(crate) struct Lists {
     literals: Vec<Lit>,
@@ -27,32 +29,38 @@ pub(crate) enum Head {
     Fresh { var: Var },
 }
 
-/// Reads literals into `literals` as long as the bytes begin with a literal. Returns the remaining bytes.
-fn read_literals<'a>(bytes: &'a [u8], literals: &mut Vec<Lit>) -> Result<&'a [u8], AllocError>
-    ensures { IfOk result (λ rest. BeginsWithWords number_text IsLiteralCode bytes.now literals.new.items rest.now) }
+/// Reads literals into `literals`, which must have capacity for them, as long as the bytes begin with a literal. Returns
+/// the remaining bytes.
+fn read_literals<'a>(bytes: &'a [u8], literals: &mut Vec<Lit>) -> &'a [u8]
+    requires { length bytes.now ≤ 2 * vec_capacity literals.old + 1 }
+    ensures words { BeginsWithWords number_text IsLiteralCode bytes.now literals.new.items result.now }
+    ensures capacity { vec_capacity literals.new ≡ vec_capacity literals.old }
 {
     literals.clear();
     let mut rest = bytes;
     while let Some(found) = read_literal(rest) {
         let (literal, following) = found;
-        literals.push(literal)?;
+        literals.push_reserved(literal);
         rest = following;
     }
-    Ok(rest)
+    rest
 }
 
-/// Reads ids into `ids` as long as the bytes begin with an ID. Returns the remaining bytes.
-fn read_ids<'a>(bytes: &'a [u8], ids: &mut Vec<u64>) -> Result<&'a [u8], AllocError>
-    ensures { IfOk result (λ rest. BeginsWithWords id_text IsId bytes.now ids.new.items rest.now) }
+/// Reads ids into `ids`, which must have capacity for them, as long as the bytes begin with an ID. Returns the
+/// remaining bytes.
+fn read_ids<'a>(bytes: &'a [u8], ids: &mut Vec<u64>) -> &'a [u8]
+    requires { length bytes.now ≤ 2 * vec_capacity ids.old + 1 }
+    ensures words { BeginsWithWords id_text IsId bytes.now ids.new.items result.now }
+    ensures capacity { vec_capacity ids.new ≡ vec_capacity ids.old }
 {
     ids.clear();
     let mut rest = bytes;
     while let Some(found) = read_id(rest) {
         let (id, following) = found;
-        ids.push(id)?;
+        ids.push_reserved(id);
         rest = following;
     }
-    Ok(rest)
+    rest
 }
 
 impl Lists {
@@ -92,85 +100,104 @@ impl Lists {
         }
     }
 
-    /// Reads `LITS 0` and an LF. Returns the remaining bytes, or `None` if the bytes begin differently.
-    fn read_one<'a>(&mut self, bytes: &'a [u8]) -> Result<Option<&'a [u8]>, AllocError>
-        ensures { IfOk result (λ found. MatchOption found
-            ((ls : List ℕ) (tail : List ℕ) → BeginsWithOne bytes.now ls tail → ⊥)
-            (λ rest. BeginsWithOne bytes.now self.new.literals.items rest.now)) }
+    /// Reserves memory for the lists of a line of at most `bytes` bytes. Every item of a list takes at least two bytes.
+    pub(crate) fn make_room(&mut self, bytes: usize) -> Result<(), AllocError>
+        ensures { OnOk result (HasListRoom self.new bytes) }
     {
-        let rest = read_literals(bytes, &mut self.literals)?;
-        Ok(take_text(rest, b"0\n"))
+        self.literals.clear();
+        self.ids.clear();
+        self.literals.reserve(bytes / 2)?;
+        self.ids.reserve(bytes / 2)
+    }
+
+    /// Reads `LITS 0` and an LF. Returns the remaining bytes, or `None` if the bytes begin differently.
+    fn read_one<'a>(&mut self, bytes: &'a [u8]) -> Option<&'a [u8]>
+        requires { HasListRoom self.old (length bytes.now) }
+        ensures list { MatchOption result
+            ((ls : List ℕ) (tail : List ℕ) → BeginsWithOne bytes.now ls tail → ⊥)
+            (λ rest. BeginsWithOne bytes.now self.new.literals.items rest.now) }
+        ensures room { KeepsListRoom self.old self.new }
+    {
+        let rest = read_literals(bytes, &mut self.literals);
+        take_text(rest, b"0\n")
     }
 
     /// Reads `LITS 0 IDS 0` and an LF. Returns the remaining bytes, or `None` if the bytes begin differently.
-    fn read_both<'a>(&mut self, bytes: &'a [u8]) -> Result<Option<&'a [u8]>, AllocError>
-        ensures { IfOk result (λ found. MatchOption found
+    fn read_both<'a>(&mut self, bytes: &'a [u8]) -> Option<&'a [u8]>
+        requires { HasListRoom self.old (length bytes.now) }
+        ensures lists { MatchOption result
             ((ls : List ℕ) (ids : List ℕ) (tail : List ℕ) → BeginsWithBoth bytes.now ls ids tail → ⊥)
-            (λ rest. BeginsWithBoth bytes.now self.new.literals.items self.new.ids.items rest.now)) }
+            (λ rest. BeginsWithBoth bytes.now self.new.literals.items self.new.ids.items rest.now) }
+        ensures room { KeepsListRoom self.old self.new }
     {
-        let rest = read_literals(bytes, &mut self.literals)?;
+        let rest = read_literals(bytes, &mut self.literals);
         let Some(following) = take_text(rest, b"0 ") else {
-            return Ok(None);
+            return None;
         };
-        let rest = read_ids(following, &mut self.ids)?;
-        Ok(take_text(rest, b"0\n"))
+        let rest = read_ids(following, &mut self.ids);
+        take_text(rest, b"0\n")
     }
 
     /// Reads the rest of an `i` line, after `i `. Returns the line's head and the remaining bytes.
-    fn read_input<'a>(&mut self, bytes: &'a [u8]) -> Result<Option<(Head, &'a [u8])>, AllocError>
-        ensures { IfOk result (λ found. MatchOption found (BeginsWithNoLine (codes "i " ++ bytes.now))
-            (λ x. BeginsWithHintLine (codes "i " ++ bytes.now) (line_with x.0 self.new.literals.items self.new.ids.items) x.1.now)) }
+    fn read_input<'a>(&mut self, bytes: &'a [u8]) -> Option<(Head, &'a [u8])>
+        requires { HasListRoom self.old (length bytes.now) }
+        ensures line { MatchOption result (BeginsWithNoLine (codes "i " ++ bytes.now))
+            (λ x. BeginsWithHintLine (codes "i " ++ bytes.now) (line_with x.0 self.new.literals.items self.new.ids.items) x.1.now) }
+        ensures room { KeepsListRoom self.old self.new }
     {
         let Some(found) = read_id(bytes) else {
-            return Ok(None);
+            return None;
         };
         let (id, following) = found;
-        match self.read_one(following)? {
-            Some(rest) => Ok(Some((Head::Input { id }, rest))),
-            None => Ok(None),
+        match self.read_one(following) {
+            Some(rest) => Some((Head::Input { id }, rest)),
+            None => None,
         }
     }
 
     /// Reads the rest of a `d` line, after `d `. Returns the line's head and the remaining bytes.
-    fn read_derived<'a>(&mut self, bytes: &'a [u8]) -> Result<Option<(Head, &'a [u8])>, AllocError>
-        ensures { IfOk result (λ found. MatchOption found (BeginsWithNoLine (codes "d " ++ bytes.now))
-            (λ x. BeginsWithHintLine (codes "d " ++ bytes.now) (line_with x.0 self.new.literals.items self.new.ids.items) x.1.now)) }
+    fn read_derived<'a>(&mut self, bytes: &'a [u8]) -> Option<(Head, &'a [u8])>
+        requires { HasListRoom self.old (length bytes.now) }
+        ensures line { MatchOption result (BeginsWithNoLine (codes "d " ++ bytes.now))
+            (λ x. BeginsWithHintLine (codes "d " ++ bytes.now) (line_with x.0 self.new.literals.items self.new.ids.items) x.1.now) }
+        ensures room { KeepsListRoom self.old self.new }
     {
         let Some(found) = read_id(bytes) else {
-            return Ok(None);
+            return None;
         };
         let (id, following) = found;
-        match self.read_both(following)? {
-            Some(rest) => Ok(Some((Head::Derived { id }, rest))),
-            None => Ok(None),
+        match self.read_both(following) {
+            Some(rest) => Some((Head::Derived { id }, rest)),
+            None => None,
         }
     }
 
     /// Reads the rest of an `f` line, after `f `. Returns the line's head and the remaining bytes.
-    fn read_core<'a>(&mut self, bytes: &'a [u8]) -> Result<Option<(Head, &'a [u8])>, AllocError>
-        ensures { IfOk result (λ found. MatchOption found (BeginsWithNoLine (codes "f " ++ bytes.now))
-            (λ x. BeginsWithHintLine (codes "f " ++ bytes.now) (line_with x.0 self.new.literals.items self.new.ids.items) x.1.now)) }
+    fn read_core<'a>(&mut self, bytes: &'a [u8]) -> Option<(Head, &'a [u8])>
+        requires { HasListRoom self.old (length bytes.now) }
+        ensures line { MatchOption result (BeginsWithNoLine (codes "f " ++ bytes.now))
+            (λ x. BeginsWithHintLine (codes "f " ++ bytes.now) (line_with x.0 self.new.literals.items self.new.ids.items) x.1.now) }
+        ensures room { KeepsListRoom self.old self.new }
     {
-        match self.read_both(bytes)? {
-            Some(rest) => Ok(Some((Head::Core, rest))),
-            None => Ok(None),
+        match self.read_both(bytes) {
+            Some(rest) => Some((Head::Core, rest)),
+            None => None,
         }
     }
 
     /// Reads the line at the start of the bytes, including its LF, and stores its lists. Returns the line's head and
-    /// the remaining bytes, or `None` if the bytes do not begin with a line.
-    pub(crate) fn read_line<'a>(
-        &mut self,
-        bytes: &'a [u8],
-    ) -> Result<Option<(Head, &'a [u8])>, AllocError>
-        ensures { IfOk result (λ found. MatchOption found (BeginsWithNoLine bytes.now)
-            (λ x. BeginsWithHintLine bytes.now (line_with x.0 self.new.literals.items self.new.ids.items) x.1.now)) }
+    /// the remaining bytes, or `None` if the bytes do not begin with a line. There must be room for the lists.
+    pub(crate) fn read_line<'a>(&mut self, bytes: &'a [u8]) -> Option<(Head, &'a [u8])>
+        requires { HasListRoom self.old (length bytes.now) }
+        ensures line { MatchOption result (BeginsWithNoLine (bytes.now))
+            (λ x. BeginsWithHintLine (bytes.now) (line_with x.0 self.new.literals.items self.new.ids.items) x.1.now) }
+        ensures room { KeepsListRoom self.old self.new }
     {
         if let Some(rest) = take_text(bytes, b"d ") {
             return self.read_derived(rest);
         }
         if let Some(rest) = take_text(bytes, b"x ") {
-            return Ok(read_gone(rest));
+            return read_gone(rest);
         }
         if let Some(rest) = take_text(bytes, b"i ") {
             return self.read_input(rest);
@@ -179,9 +206,9 @@ impl Lists {
             return self.read_core(rest);
         }
         if let Some(rest) = take_text(bytes, b"e ") {
-            return Ok(read_fresh(rest));
+            return read_fresh(rest);
         }
-        Ok(None)
+        None
     }
 }
 

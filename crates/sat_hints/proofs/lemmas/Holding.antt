@@ -6,7 +6,7 @@ use Rattle.sat_base.specs.text.Tokenizing.{capped}
 use Rattle.sat_hints.specs.Lines.{Line, AreLines, Input, Derived, Gone, Core, Fresh, text_of, line_text, id_words, literal_words, SpellsLine, HasNoEnd, BeginsWithLine, ended, cut_off}
 use Rattle.sat_hints.specs.Hints.{FollowsLines, IsHintDerivation}
 use Rattle.sat_hints.specs.Checks.{IsAtFault, IsBadAt, VerdictHolds}
-use Rattle.sat_hints.specs.inner.Prefixes.{IsRestOfLine, LeadsToPlace}
+use Rattle.sat_hints.specs.inner.Prefixes.{IsRestOfLine, LeadsToPlace, ReachesPlace}
 use Rattle.sat_hints.specs.declared.prefixes.Place.{Place}
 use Rattle.sat_hints.specs.declared.prefixes.Place.TheVariants.{Letter}
 use Rattle.sat_hints.specs.inner.LineChecking.{HasTakenLines}
@@ -16,6 +16,7 @@ use Rattle.sat_hints.specs.declared.answer.HintWhy.TheVariants.{Syntax}
 use Rattle.sat_hints.specs.declared.answer.HintVerdict.{HintVerdict}
 use Rattle.sat_hints.specs.declared.answer.HintVerdict.TheVariants.{Bad}
 use Rattle.sat_hints.specs.declared.checking.Checking.{Checking}
+use Rattle.sat_hints.proofs.lemmas.Reaching.{reaches_on, reaches_none}
 
 -- appending bytes without LF
 pub no_end_both : (xs ys : List ℕ) → HasNoEnd xs → HasNoEnd ys → HasNoEnd (xs ++ ys)
@@ -28,12 +29,13 @@ whole_with capped bytes h w = record { front = capped ++ w.front; inside = no_en
 
 -- the end of a line
 module _ (old new : Checking) (bytes : List ℕ) (w : IsWholeLine bytes) where
-  line_follows : (text : List ℕ) (r : HasRead old text) (line : Line) → SpellsLine (old.held.items ++ bytes) line → FollowsLines r.lines line → HasTakenLines new.checker (line ∷ r.lines) → new.held.items ≡ [] → LeadsToPlace Letter new.held.items (Some new.place) → HasRead new (text ++ bytes)
-  line_follows text r line s f t e fits = record {
+  line_follows : (text : List ℕ) (r : HasRead old text) (line : Line) → SpellsLine (old.held.items ++ bytes) line → FollowsLines r.lines line → HasTakenLines new.checker (line ∷ r.lines) → new.held.items ≡ [] → LeadsToPlace Letter new.held.items (Some new.place) → ReachesPlace Letter new.held.items (Some new.place) → HasRead new (text ++ bytes)
+  line_follows text r line s f t e fits reaches = record {
     lines = line ∷ r.lines;
     whole = ap (λ x. x ++ bytes) r.whole ∙ append_assoc (text_of r.lines) old.held.items bytes ∙ ap (λ x. text_of r.lines ++ x) s.1 ∙ sym (append-nil (text_of (line ∷ r.lines))) ∙ ap (λ x. text_of (line ∷ r.lines) ++ x) (sym e);
     inside = subst HasNoEnd (sym e) tt;
     fits = fits;
+    reaches = reaches;
     are = (s.0, r.are);
     derivation = (r.derivation, f);
     taken = t;
@@ -56,32 +58,34 @@ module _ (old new : Checking) (bytes : List ℕ) (w : IsWholeLine bytes) where
     };
   }
 
-  line_goes : (why : Option HintWhy) (text : List ℕ) (r : HasRead old text) → ChecksLineBytes why old.checker new.checker r.lines (old.held.items ++ bytes) → new.held.items ≡ [] → LeadsToPlace Letter new.held.items (Some new.place) → HasReadOrFault why new (text ++ bytes)
-  line_goes None text r t e fits = line_follows text r t.0 t.1 t.2 t.3 e fits
-  line_goes (Some why) text r t e fits = line_faulty text r why t.0 t.1
+  line_goes : (why : Option HintWhy) (text : List ℕ) (r : HasRead old text) → ChecksLineBytes why old.checker new.checker r.lines (old.held.items ++ bytes) → new.held.items ≡ [] → LeadsToPlace Letter new.held.items (Some new.place) → ReachesPlace Letter new.held.items (Some new.place) → HasReadOrFault why new (text ++ bytes)
+  line_goes None text r t e fits reaches = line_follows text r t.0 t.1 t.2 t.3 e fits reaches
+  line_goes (Some why) text r t e fits reaches = line_faulty text r why t.0 t.1
 
   -- the start of the line was held
   pub line_ends : (why : Option HintWhy) (all : List ℕ) → all ≡ old.held.items ++ bytes → (IsWholeLine all → (lines : List Line) → HasTakenLines old.checker lines → ChecksLineBytes why old.checker new.checker lines all) → new.held.items ≡ [] → new.place ≡ Letter → ReadsFurther why old bytes new
   line_ends why all a h e at text r =
       let whole : IsWholeLine all = subst IsWholeLine (sym a) (whole_with old.held.items bytes r.inside w) in
-      line_goes why text r (subst (ChecksLineBytes why old.checker new.checker r.lines) a (h whole r.lines r.taken)) e (rw (e, at) (λ more h. h))
+      line_goes why text r (subst (ChecksLineBytes why old.checker new.checker r.lines) a (h whole r.lines r.taken)) e (rw (e, at) (λ more h. h)) (rw (e, at) (reaches_none Letter))
 
   -- nothing of the line was held
   pub line_passes : (why : Option HintWhy) → old.held.items ≡ [] → new.held.items ≡ old.held.items → new.place ≡ old.place → ((lines : List Line) → HasTakenLines old.checker lines → ChecksLineBytes why old.checker new.checker lines bytes) → ReadsFurther why old bytes new
   line_passes why none e at h text r =
       let fits : LeadsToPlace Letter new.held.items (Some new.place) = rw (e, at) r.fits in
-      line_goes why text r (subst (ChecksLineBytes why old.checker new.checker r.lines) (sym (ap (λ b. b ++ bytes) none)) (h r.lines r.taken)) (e ∙ none) fits
+      let reaches : ReachesPlace Letter new.held.items (Some new.place) = rw (e, at) r.reaches in
+      line_goes why text r (subst (ChecksLineBytes why old.checker new.checker r.lines) (sym (ap (λ b. b ++ bytes) none)) (h r.lines r.taken)) (e ∙ none) fits reaches
 
 leads_on : (capped bytes : List ℕ) (here : Place) (to : Option Place) → LeadsToPlace Letter capped (Some here) → LeadsToPlace here bytes to → LeadsToPlace Letter (capped ++ bytes) to
 leads_on capped bytes here to h k more l = k more (h (bytes ++ more) (subst (IsRestOfLine Letter) (append_assoc capped bytes more) l))
 
 -- more bytes of an unfinished line
-pub held_more : (old new : Checking) (bytes : List ℕ) → HasNoEnd bytes → new.checker ≡ old.checker → new.held.items ≡ old.held.items ++ bytes → LeadsToPlace old.place bytes (Some new.place) → ReadsFurther None old bytes new
-held_more old new bytes h e f leads text r = record {
+pub held_more : (old new : Checking) (bytes : List ℕ) → HasNoEnd bytes → new.checker ≡ old.checker → new.held.items ≡ old.held.items ++ bytes → LeadsToPlace old.place bytes (Some new.place) → ReachesPlace old.place bytes (Some new.place) → ReadsFurther None old bytes new
+held_more old new bytes h e f leads reaches text r = record {
   lines = r.lines;
   whole = ap (λ x. x ++ bytes) r.whole ∙ append_assoc (text_of r.lines) old.held.items bytes ∙ ap (λ x. text_of r.lines ++ x) (sym f);
   inside = subst HasNoEnd (sym f) (no_end_both old.held.items bytes r.inside h);
   fits = subst (λ b. LeadsToPlace Letter b (Some new.place)) (sym f) (leads_on old.held.items bytes old.place (Some new.place) r.fits leads);
+  reaches = subst (λ b. ReachesPlace Letter b (Some new.place)) (sym f) (reaches_on Letter old.place (Some new.place) old.held.items bytes r.reaches reaches);
   are = r.are;
   derivation = r.derivation;
   taken = subst (λ j. HasTakenLines j r.lines) (sym e) r.taken;

@@ -16,6 +16,7 @@ use Rattle.sat_hints.specs.declared.answer.HintWhy.TheVariants.{Syntax}
 use Rattle.sat_hints.specs.declared.line_checking.LineChecker.{LineChecker}
 use Rattle.sat_hints.specs.declared.checking.Checking.{Checking}
 use Rattle.sat_base.proofs.lemmas.text.NumberWords.{are_digits}
+use Rattle.sat_hints.proofs.lemmas.Reaching.{reaches_none}
 use Rattle.sat_hints.proofs.lemmas.Holding.{no_end_both, whole_with, line_has_end, held_more, line_passes, line_faulty, reads_more, reads_after}
 
 -- A LINE'S TEXT HAS ONE LF, AT ITS END
@@ -113,7 +114,7 @@ reads_then (Err x) a b c all xs ys e h k = tt
 
 -- bytes without a fault, and then nothing
 pub reads_still : (a b c : Checking) (xs : List ℕ) → ReadsFurther None a xs b → c.checker ≡ b.checker → c.held.items ≡ b.held.items → c.place ≡ b.place → ReadsFurther None a xs c
-reads_still a b c xs h j e p = subst (λ t. ReadsFurther None a t c) (append-nil xs) (reads_more None a b c xs [] h (held_more b c [] tt j (e ∙ sym (append-nil b.held.items)) (rw p (λ more k. k))))
+reads_still a b c xs h j e p = subst (λ t. ReadsFurther None a t c) (append-nil xs) (reads_more None a b c xs [] h (held_more b c [] tt j (e ∙ sym (append-nil b.held.items)) (rw p (λ more k. k)) (rw p (reaches_none b.place))))
 
 -- a line that ends with LF and is no hint line
 pub bad_line : (c : Checking) (bytes : List ℕ) (end : ℕ) → c.held.items ≡ [] → BeginsWithNoLine bytes → IsWholeLine (take end bytes) → ReadsFurther (Some Syntax) c bytes c

@@ -1,5 +1,5 @@
 -- Words, with a space after every word, are read in exactly one way.
-use Rattle.std.proofs.Common.{ℕ, ◌+◌, ◌/◌, ◌%◌, ◌^◌, ◌<◌, ◌≤◌, ◌≡◌, ◌⊎◌, inl, inr, Bool, true, false, cond, eqb, List, [], ◌∷◌, ◌++◌, length, get_or, decimal, refl, sym, ◌∙◌, ap, subst, arith, append_assoc}
+use Rattle.std.proofs.Common.{ℕ, ◌+◌, ◌/◌, ◌%◌, ◌^◌, ◌<◌, ◌≤◌, ◌≡◌, ◌⊎◌, inl, inr, Bool, true, false, cond, eqb, List, [], ◌∷◌, ◌++◌, length, length-append, get_or, decimal, refl, sym, ◌∙◌, ap, subst, arith, append_assoc}
 use Rattle.std.proofs.lemmas.Bool.{both_ways, eqb-true, eq-eqb}
 use Rattle.std.proofs.lemmas.Fmt.{decimal_injective, decimal_nonempty, first_decimal}
 use Rattle.std.proofs.lemmas.Str.Parse.{digit_from_value}
@@ -65,6 +65,29 @@ module _ (word : ℕ → List ℕ) (P : ℕ → Type 0) where
     are = all-snoc xs x r.are b.0;
     whole = r.whole ∙ ap (λ t. spaced_words word xs ++ t) b.1 ∙ sym (words-snoc xs x following);
   })
+
+-- THE LENGTH OF WHAT FOLLOWS
+pub no_longer : (bytes front rest : List ℕ) → bytes ≡ front ++ rest → length rest ≤ length bytes
+no_longer bytes front rest e = let k = ap length e in let l = length-append front rest in omega arith
+
+pub words_shorten : (word : ℕ → List ℕ) (P : ℕ → Type 0) (bytes xs rest : List ℕ) → BeginsWithWords word P bytes xs rest → length rest ≤ length bytes
+words_shorten word P bytes xs rest r = no_longer bytes (spaced_words word xs) rest r.whole
+
+word_shortens : (bytes word rest : List ℕ) → 0 < length word → bytes ≡ word ++ (32 ∷ rest) → length rest + 2 ≤ length bytes
+word_shortens bytes word rest h e = let k = ap length e in let l = length-append word (32 ∷ rest) in omega arith
+
+pub id_shortens : (bytes : List ℕ) (id : ℕ) (rest : List ℕ) → BeginsWithWord id_text IsId bytes id rest → length rest + 2 ≤ length bytes
+id_shortens bytes id rest b = let h = b.0 in word_shortens bytes (id_text id) rest (decimal_nonempty (id + 1) (omega arith)) b.1
+
+pub literal_shortens : (bytes : List ℕ) (l : ℕ) (rest : List ℕ) → BeginsWithWord number_text IsLiteralCode bytes l rest → length rest + 2 ≤ length bytes
+literal_shortens bytes l rest b = go (is_positive l) b.1
+  where
+    some : 0 < length (decimal (l / 2 + 1))
+    some = let h = b.0 in decimal_nonempty (l / 2 + 1) (omega arith)
+
+    go : (s : Bool) → bytes ≡ (cond s [] (45 ∷ []) ++ decimal (l / 2 + 1)) ++ (32 ∷ rest) → length rest + 2 ≤ length bytes
+    go true e = word_shortens bytes (decimal (l / 2 + 1)) rest some e
+    go false e = word_shortens bytes (45 ∷ decimal (l / 2 + 1)) rest (omega arith) e
 
 -- IDs
 pub ids_are_words : AreWords id_text IsId

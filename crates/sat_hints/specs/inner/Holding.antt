@@ -1,16 +1,21 @@
 -- The state of the check after a prefix of a hint text.
-use Rattle.std.specs.Prelude.{ℕ, ◌≡◌, ◌+◌, Option, None, Some, Result, Ok, Err, List, [], ◌∷◌, ◌++◌}
+use Rattle.std.specs.Prelude.{ℕ, ◌≡◌, ◌+◌, ◌<◌, ◌≤◌, ◌⊎◌, Bool, true, false, Option, None, Some, Result, Ok, Err, List, [], ◌∷◌, ◌++◌, length, vec_len, vec_capacity}
+use Rattle.std.specs.Io.KnownBytes.{IsAtEnd}
+use Rattle.sat_base.specs.device.Device.{Reader, GavePrefix, LastCallFails, piece_size}
 use Rattle.sat_base.specs.text.Tokenizing.{capped}
 use Rattle.sat_hints.specs.Lines.{Line, AreLines, text_of, SpellsLine, HasNoEnd}
 use Rattle.sat_hints.specs.Hints.{IsHintDerivation, FollowsLines}
 use Rattle.sat_hints.specs.Checks.{IsAtFault, VerdictHolds}
-use Rattle.sat_hints.specs.inner.Prefixes.{LeadsToPlace}
+use Rattle.sat_hints.specs.Faults.{StopsWithinLine, StopsAtLine}
+use Rattle.sat_hints.specs.inner.LineRoom.{HasListRoom}
+use Rattle.sat_hints.specs.inner.Prefixes.{LeadsToPlace, ReachesPlace}
 use Rattle.sat_hints.specs.declared.prefixes.Place.TheVariants.{Letter}
 use Rattle.sat_hints.specs.inner.LineChecking.{HasTakenLines, IsReadyChecker}
 use Rattle.sat_hints.specs.declared.answer.HintWhy.{HintWhy}
 use Rattle.sat_hints.specs.declared.answer.HintVerdict.{HintVerdict}
 use Rattle.sat_hints.specs.declared.answer.HintVerdict.TheVariants.{Bad}
 use Rattle.sat_hints.specs.declared.answer.HintFault.{HintFault}
+use Rattle.sat_hints.specs.declared.answer.HintFault.TheVariants.{Read, OutOfMemory}
 use Rattle.sat_hints.specs.declared.line_checking.LineChecker.{LineChecker}
 use Rattle.sat_hints.specs.declared.checking.Checking.{Checking}
 
@@ -26,13 +31,18 @@ abbrev pub ChecksLineBytes : Option HintWhy → LineChecker → LineChecker → 
 ChecksLineBytes None old new lines bytes = (line : Line) × SpellsLine bytes line × FollowsLines lines line × HasTakenLines new (line ∷ lines)
 ChecksLineBytes (Some why) old new lines bytes = IsAtFault lines bytes why × (new.lines ≡ old.lines)
 
--- That the text is a derivation, followed by the held prefix of the next line, which leads to the recorded place. The
--- checker has accepted the lines of the derivation.
+-- `AcceptsLineBytes lines bytes` holds if the bytes spell a line that may follow the lines.
+abbrev pub AcceptsLineBytes : List Line → List ℕ → Type 0
+AcceptsLineBytes lines bytes = (line : Line) × SpellsLine bytes line × FollowsLines lines line
+
+-- That the text is a derivation, followed by the held proper prefix of the next line, which leads to the recorded place.
+-- The checker has accepted the lines of the derivation.
 pub record HasRead (c : Checking) (text : List ℕ) : Type 0 where
   pub lines : List Line
   pub whole : text ≡ text_of lines ++ c.held.items
   pub inside : HasNoEnd c.held.items
   pub fits : LeadsToPlace Letter c.held.items (Some c.place)
+  pub reaches : ReachesPlace Letter c.held.items (Some c.place)
   pub are : AreLines lines
   pub derivation : IsHintDerivation lines
   pub taken : HasTakenLines c.checker lines
@@ -49,6 +59,17 @@ abbrev pub HasReadOrFault : Option HintWhy → Checking → List ℕ → Type 0
 HasReadOrFault None c text = HasRead c text
 HasReadOrFault (Some why) c text = HasFault c text why
 
+-- `HasRoomFor c count` holds if `count` more bytes can be parsed without allocating. There is room to complete the line that
+-- has begun, and for the lists of any line.
+pub record HasRoomFor (c : Checking) (count : ℕ) : Type 0 where
+  pub lists : HasListRoom c.lists (vec_len c.held + count)
+  pub held : 0 < vec_len c.held → vec_len c.held + count ≤ vec_capacity c.held
+
+-- `HasRoomIf why c` holds if there is room for the next chunk, or a fault.
+abbrev pub HasRoomIf : Option HintWhy → Checking → Type 0
+HasRoomIf None c = HasRoomFor c piece_size
+HasRoomIf (Some why) c = Unit {0}
+
 -- that the checker can check the next line, unless there is a fault
 abbrev pub IsReadyIf : Option HintWhy → LineChecker → Type 0
 IsReadyIf None checker = IsReadyChecker checker
@@ -58,10 +79,47 @@ IsReadyIf (Some why) checker = Unit {0}
 abbrev pub ReadsFurther : Option HintWhy → Checking → List ℕ → Checking → Type 0
 ReadsFurther why old bytes new = (text : List ℕ) → HasRead old text → HasReadOrFault why new (text ++ bytes)
 
+-- `StopsReading old bytes` holds if memory may run out after these bytes, whatever text `old` has read.
+abbrev pub StopsReading : Checking → List ℕ → Type 0
+StopsReading old bytes = (text : List ℕ) → HasRead old text → StopsWithinLine (text ++ bytes) ⊎ StopsAtLine (length bytes) (text ++ bytes)
+
+-- `StopsAtEnd old bytes` holds if the held bytes and these are a line that may follow, whatever text `old` has read.
+abbrev pub StopsAtEnd : Checking → List ℕ → Type 0
+StopsAtEnd old bytes = (text : List ℕ) → HasRead old text → StopsAtLine 1 (text ++ bytes)
+
 -- that the next bytes were read without a fault, or the verdict is determined, whatever bytes follow
 abbrev pub TakesPiece : Option HintVerdict → Checking → List ℕ → Checking → Type 0
-TakesPiece None old bytes new = IsReadyChecker new.checker × ((text : List ℕ) → HasRead old text → HasRead new (text ++ bytes))
+TakesPiece None old bytes new = IsReadyChecker new.checker × HasRoomFor new piece_size × ((text : List ℕ) → HasRead old text → HasRead new (text ++ bytes))
 TakesPiece (Some verdict) old bytes new = (text : List ℕ) → HasRead old text → (rest : List ℕ) → VerdictHolds verdict ((text ++ bytes) ++ rest)
+
+-- `GivesPiece from to bytes` holds if one read gave these bytes, at least one, and did not fail.
+pub record GivesPiece (from to : Reader) (bytes : List ℕ) : Type 0 where
+  pub front : GavePrefix from to bytes
+  pub some : 0 < length bytes
+  pub unended : to.ended ≡ false
+  pub failures : to.failures ≡ from.failures
+
+-- `GivesVerdict from to old verdict` holds if one read did not fail, and the verdict is correct for what was read and for
+-- whatever follows. Nothing follows if the read found the end.
+pub record GivesVerdict (from to : Reader) (old : Checking) (verdict : HintVerdict) : Type 0 where
+  pub bytes : List ℕ
+  pub front : GavePrefix from to bytes
+  pub over : to.ended ≡ true → IsAtEnd to.to_come
+  pub failures : to.failures ≡ from.failures
+  pub holds : (text : List ℕ) → HasRead old text → (rest : List ℕ) → (to.ended ≡ true → rest ≡ []) → VerdictHolds verdict ((text ++ bytes) ++ rest)
+
+-- `FailsToGive from to` holds if one read failed and gave nothing.
+pub record FailsToGive (from to : Reader) : Type 0 where
+  pub front : GavePrefix from to []
+  pub unended : to.ended ≡ false
+  pub fails : LastCallFails from to
+
+-- `ChecksNext result from to old new` holds if this is a result of one read, and of checking the bytes that it gave.
+abbrev pub ChecksNext : Result (Option HintVerdict) HintFault → Reader → Reader → Checking → Checking → Type 0
+ChecksNext (Ok None) from to old new = (bytes : List ℕ) × GivesPiece from to bytes × TakesPiece None old bytes new
+ChecksNext (Ok (Some verdict)) from to old new = GivesVerdict from to old verdict
+ChecksNext (Err Read) from to old new = FailsToGive from to
+ChecksNext (Err OutOfMemory) from to old new = (bytes : List ℕ) × GivesPiece from to bytes × (length bytes ≤ piece_size) × StopsReading old bytes
 
 -- that a verdict is correct for the text; a fault says nothing about the text
 abbrev pub IsRightIfVerdict : Result HintVerdict HintFault → List ℕ → Type 0

@@ -1,5 +1,5 @@
 -- What may follow a prefix of a line.
-use Rattle.std.specs.Prelude.{ℕ, ◌-◌, ◌^◌, ◌==◌, ◌≡◌, Option, None, Some, List, ◌∷◌, ◌++◌, decimal, codes, if◌then◌else◌}
+use Rattle.std.specs.Prelude.{ℕ, ◌-◌, ◌^◌, ◌≤◌, ◌==◌, ◌≡◌, Option, None, Some, List, ◌∷◌, ◌++◌, decimal, codes, if◌then◌else◌}
 use Rattle.sat_base.specs.values.Literals.{var_limit}
 use Rattle.sat_hints.specs.Lines.{Line, AreIds, id_words, SpellsLine}
 use Rattle.sat_hints.specs.inner.LineReading.{IsOne, IsBoth}
@@ -94,3 +94,17 @@ sign_place End = None
 -- place. If the other place is `None`, no line continues with the bytes.
 abbrev pub LeadsToPlace : Place → List ℕ → Option Place → Type 0
 LeadsToPlace from bytes to = (more : List ℕ) → IsRestOfLine from (bytes ++ more) → IsLeftIf to more
+
+-- `IsWithinLimit place` holds if the number at the place, if there is one, is within its limit.
+abbrev pub IsWithinLimit : Place → Type 0
+IsWithinLimit Letter = Unit {0}
+IsWithinLimit (Space part) = Unit {0}
+IsWithinLimit (Item part) = Unit {0}
+IsWithinLimit (Digits part number) = number ≤ limit_of part
+IsWithinLimit Over = Unit {0}
+
+-- `ReachesPlace from bytes to` holds if whatever completes a line from `to`, if there is such a place, also completes it
+-- from `from`, after the bytes. If the number at `from` is within its limit, so is the number at `to`.
+abbrev pub ReachesPlace : Place → List ℕ → Option Place → Type 0
+ReachesPlace from bytes None = Unit {0}
+ReachesPlace from bytes (Some to) = IsWithinLimit from → IsWithinLimit to × ((more : List ℕ) → IsRestOfLine to more → IsRestOfLine from (bytes ++ more))

@@ -1,7 +1,18 @@
 use Rattle.sat_base.specs.dimacs.DimacsText.{number_text}
 use Rattle.sat_hints.specs.inner.LineReading.{IsLiteralCode}
-use Rattle.sat_hints.proofs.lemmas.Words.{read_one}
+use Rattle.std.proofs.Common.{arith, ◌∙◌}
+use Rattle.sat_hints.proofs.lemmas.Words.{read_one, literal_shortens}
 use Rattle.sat_hints.proofs.reading.read_literals.Goals as goal
 
 pub loop-found-preserved : goal.loop-found-preserved
-loop-found-preserved c = read_one number_text IsLiteralCode c.args.bytes.now c.loop-found.literals.items c.loop-found.rest.now c.in-Some.found.0 c.in-Some.found.1.now c.push.new.self.items c.loop-found.invariant c.in-Some.ensures c.in_ok-push.ensures.items
+loop-found-preserved c =
+    let i = c.loop-found.invariant in
+    let k = literal_shortens c.loop-found.rest.now c.in-Some.found.0 c.in-Some.found.1.now c.in-Some.ensures in
+    record {
+      words = read_one number_text IsLiteralCode c.args.bytes.now c.loop-found.literals.items c.loop-found.rest.now c.in-Some.found.0 c.in-Some.found.1.now c.push_reserved.new.self.items i.words c.in-Some.ensures c.push_reserved.ensures.items;
+      capacity = c.push_reserved.ensures.capacity ∙ i.capacity;
+      room = omega (arith, k, i.room, c.push_reserved.ensures.len, c.push_reserved.ensures.capacity);
+    }
+
+pub push_reserved-requires : goal.push_reserved-requires
+push_reserved-requires c = let k = literal_shortens c.loop-found.rest.now c.in-Some.found.0 c.in-Some.found.1.now c.in-Some.ensures in omega (arith, k, c.loop-found.invariant.room)

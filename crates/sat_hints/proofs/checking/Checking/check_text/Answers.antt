@@ -1,28 +1,48 @@
-use Rattle.std.proofs.Common.{◌++◌, ◌∙◌, take, length-append, rules, arith}
-use Rattle.sat_base.proofs.lemmas.device.Given.{gave_more, gave_still, not_ended, enough_front}
-use Rattle.sat_base.proofs.lemmas.dimacs.Parsed.{piece_given}
+use Rattle.std.proofs.Common.{Some, None, Ok, [], arith}
+use Rattle.std.proofs.lemmas.Result.{err_from_is_err_and}
+use Rattle.sat_hints.specs.inner.Holding.{ChecksNext}
+use Rattle.sat_hints.proofs.lemmas.Chunks.{still_read, reads_none_yet, goes_on, verdict_enough, err_enough, err_stops, limit_enough, limit_stops}
 use Rattle.sat_hints.proofs.checking.Checking.check_text.Goals as goal
+
+pub loop-init : goal.loop-init
+loop-init g c =
+    let f = c.first_room-most.ensures in
+    record {
+      ready = rw f.checker c.requires.ready;
+      room = f.room;
+      least = f.least;
+      most = f.most;
+      reads = reads_none_yet (g.R.CountedRead.seen c.args.text.now) c.first_room-most.new.self (still_read c.args.self.now c.first_room-most.new.self [] f.checker f.place f.held c.requires.fresh);
+    }
 
 pub loop-preserved : goal.loop-preserved
 loop-preserved g c =
     let S = g.R.CountedRead.seen in
-    let b = c.loop.invariant.bytes in
-    let piece = take c.in-Ok.count c.read_counted.new.buf in
-    let once = c.in-Ok.ensures.once in
-    let h = rw c.in-None.is at c.in_ok-verdict-in-Ok.ensures.takes in
-    record {
-      ready = h.0;
-      bytes = (b.0 ++ piece, h.1 b.0 b.1, gave_more (S c.args.text.now) (S c.loop.text) (S c.read_counted.new.self) b.0 c.in-Ok.count c.read_counted.new.buf b.2 once, omega (arith, b.3, length-append b.0 piece, piece_given c.in-Ok.count c.read_counted.new.buf (search rules) (search rules)));
-      open_yet = λ h. not_ended (S c.loop.text) (S c.read_counted.new.self) c.in-Ok.count c.read_counted.new.buf once (search rules);
-      failures = once.failures.0 ∙ c.loop.invariant.failures;
-      calls = omega (arith, once.calls, c.loop.invariant.calls);
-    }
+    let i = c.loop.invariant in
+    let t : ChecksNext (Ok None) (S c.loop.text) (S c.check_next.new.text) c.loop.self c.check_next.new.self = rw c.in-None.is at c.in_ok-verdict.ensures.checks in
+    let k = goes_on (S c.args.text.now) (S c.loop.text) (S c.check_next.new.text) c.loop.self c.loop.counter i.reads c.check_next.ensures.calls c.check_next.new.self t in
+    record { ready = k.ready; room = k.room; least = omega arith; most = omega arith; reads = k.reads }
 
-pub returns-in-Err-clause-given : goal.returns-in-Err-clause-given
-returns-in-Err-clause-given g c =
+pub returns-in_err-verdict-clause-given : goal.returns-in_err-verdict-clause-given
+returns-in_err-verdict-clause-given g c =
     let S = g.R.CountedRead.seen in
-    let b = c.loop.invariant.bytes in
-    enough_front _ _ _ b.0 (gave_still _ (S c.args.text.now) (S c.loop.text) (S c.read_counted.new.self) b.0 c.read_counted.new.buf b.2 c.in-Err.ensures.once) c.in-Err.ensures.once.ended (omega (arith, c.in-Err.ensures.once.calls, c.loop.invariant.calls, b.3)) (λ rest. tt)
+    let p = err_from_is_err_and c.from_residual.result c.from_residual.ensures.1 in
+    rw (p.1, p.2) (err_enough (S c.args.text.now) (S c.loop.text) (S c.check_next.new.text) c.loop.self c.loop.counter c.loop.invariant.reads c.check_next.ensures.calls c.check_next.new.self c.in_err-verdict.field-0.0 c.in_err-verdict.ensures.checks)
+
+pub returns-in_err-verdict-clause-stops : goal.returns-in_err-verdict-clause-stops
+returns-in_err-verdict-clause-stops g c =
+    let S = g.R.CountedRead.seen in
+    let p = err_from_is_err_and c.from_residual.result c.from_residual.ensures.1 in
+    rw (p.1, p.2) (err_stops (S c.args.text.now) (S c.loop.text) (S c.check_next.new.text) c.loop.self c.loop.counter c.loop.invariant.reads c.check_next.ensures.calls c.check_next.new.self c.in_err-verdict.field-0.0 c.in_err-verdict.ensures.checks)
+
+pub returns-in-Some-clause-given : goal.returns-in-Some-clause-given
+returns-in-Some-clause-given g c =
+    let S = g.R.CountedRead.seen in
+    let t : ChecksNext (Ok (Some c.in-Some.verdict)) (S c.loop.text) (S c.check_next.new.text) c.loop.self c.check_next.new.self = rw c.in-Some.is at c.in_ok-verdict.ensures.checks in
+    verdict_enough (S c.args.text.now) (S c.loop.text) (S c.check_next.new.text) c.loop.self c.loop.counter c.loop.invariant.reads c.check_next.ensures.calls c.in-Some.verdict t
 
 pub returns-clause-given : goal.returns-clause-given
-returns-clause-given g c = let b = c.loop.invariant.bytes in enough_front _ _ _ b.0 b.2 (c.loop.invariant.open_yet (omega arith)) (omega (arith, c.loop.invariant.calls, b.3)) (λ rest. tt)
+returns-clause-given g c = let S = g.R.CountedRead.seen in limit_enough (S c.args.text.now) (S c.loop.text) c.loop.self c.loop.counter c.loop.invariant.reads (omega arith)
+
+pub returns-clause-stops : goal.returns-clause-stops
+returns-clause-stops g c = let S = g.R.CountedRead.seen in limit_stops (S c.args.text.now) (S c.loop.text) c.loop.self c.loop.counter c.loop.invariant.reads (omega arith)
