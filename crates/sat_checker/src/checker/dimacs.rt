@@ -1,7 +1,9 @@
 //! Adds the clauses of a formula that is given as text in DIMACS CNF.
-ghost use Rattle.std.specs.Prelude.{◌≡◌, ◌≤◌, ◌+◌, false};
+ghost use Rattle.std.specs.Prelude.{◌≡◌, ◌≤◌, ◌<◌, ◌+◌, false, IfOk};
+ghost use Rattle.std.specs.Io.{ReadsAtMost};
 ghost use Rattle.sat_base.specs.device.Device.{most_reads};
-ghost use Rattle.sat_base.specs.dimacs.Parsing.{all_taken, no_progress};
+ghost use Rattle.sat_base.specs.dimacs.Faults.{ReadsNext};
+ghost use Rattle.sat_base.specs.dimacs.Parsing.{all_taken, no_progress, ReportsEnded, StopsReading};
 ghost use Rattle.sat_checker.specs.CheckerView.{has_failed, kernel_of, seen_of, FailsAgain};
 ghost use Rattle.sat_checker.specs.declared.error.CheckerDimacsError.TheVariants as errors;
 ghost use Rattle.sat_checker.specs.declared.error.CheckerError.TheVariants.{HasFailed};
@@ -15,6 +17,7 @@ use crate::checker::Checker;
 use crate::error::{CheckerDimacsError, CheckerError};
 use crate::processing::ProofProcessor;
 use sat_base::{CountedRead, DimacsError, DimacsParser};
+use std::io;
 
 /// The number of bytes that are requested in each read.
 const PIECE: usize = 4096;
@@ -35,16 +38,34 @@ fn is_want(error: DimacsError) -> bool
     }
 }
 
+/// Reads the next bytes of the text, or none if a line that begins with `%` has ended the text.
+fn read_next<R: CountedRead>(
+    parser: &DimacsParser,
+    reader: &mut R,
+    room: &mut [u8],
+) -> io::Result<usize>
+    ensures bound { ReadsAtMost result room.new }
+    ensures reads { ReadsNext result room.new parser.now.fed (R.seen reader.old) (R.seen reader.new) }
+    ensures goes_on { IfOk result (λ n. 0 < n → ReportsEnded false parser.now) }
+{
+    if parser.has_ended() {
+        return Ok(0);
+    }
+    reader.read_counted(room)
+}
+
 impl<P: ProofProcessor, T: ProofTranscriptProcessor> Checker<P, T> {
     /// Reads a formula in DIMACS CNF, in chunks of at most 4,096 bytes, and adds its clauses in order. The clauses
     /// before a fault in the text, or before a refused clause, remain. If the text is malformed or can't be read, the
-    /// checker can still be used. A line that begins with `%` ends the text: the rest is read, but ignored.
+    /// checker can still be used. A line that begins with `%` ends the text: no chunk after it is read.
     pub fn add_dimacs_cnf<R: CountedRead>(
         &mut self,
         reader: &mut R,
     ) -> Result<(), CheckerDimacsError>
         ensures adds { AddsDimacs (HearsEach P.takes T.reads)
             result (seen_of self.old) (seen_of self.new) (R.seen reader.old) (R.seen reader.new) }
+        // Nothing is read after the line that ends the text.
+        ensures stops { StopsReading (R.seen reader.old) (R.seen reader.new) }
         ensures reads { (R.seen reader.new).calls ≤ (R.seen reader.old).calls + most_reads }
         ensures rise { kernel_looks (kernel_of self.old) ≤ kernel_looks (kernel_of self.new) }
         ensures faults { DimacsFaultNeedsListener result self.old }
@@ -67,12 +88,13 @@ impl<P: ProofProcessor, T: ProofTranscriptProcessor> Checker<P, T> {
         requires fresh { parser.old ≡ no_progress }
         ensures adds { AddsDimacs (HearsEach P.takes T.reads)
             result (seen_of self.old) (seen_of self.new) (R.seen reader.old) (R.seen reader.new) }
+        ensures stops { StopsReading (R.seen reader.old) (R.seen reader.new) }
         ensures reads { (R.seen reader.new).calls ≤ (R.seen reader.old).calls + most_reads }
         ensures rise { kernel_looks (kernel_of self.old) ≤ kernel_looks (kernel_of self.new) }
     {
         let mut piece = [0; PIECE];
         for _ in 0..MAX_READS {
-            match reader.read_counted(&mut piece) {
+            match read_next(parser, reader, &mut piece) {
                 Ok(0) => {
                     let answer = parser.finish();
                     return self.add_read(parser, answer);

@@ -1,15 +1,16 @@
 -- Adding the clauses of a text, chunk by chunk.
-use Rattle.std.proofs.Common.{ℕ, ◌+◌, ◌≤◌, ◌≡◌, true, false, List, [], ◌∷◌, ◌++◌, append_assoc, length, Result, Ok, Err, OnOk, inl, inr, refl, sym, ap, subst, ◌∙◌, arith}
+use Rattle.std.proofs.Common.{ℕ, zero, suc, None, ◌+◌, ◌<◌, ◌≤◌, ◌≡◌, true, false, List, [], ◌∷◌, ◌++◌, append_assoc, length, Result, Ok, Err, OnOk, inl, inr, refl, sym, ap, subst, ◌∙◌, arith}
 use Rattle.std.proofs.lemmas.Bool.{true≢false}
 use Rattle.std.proofs.lemmas.List.{append-nil, map-append}
-use Rattle.sat_base.specs.device.Device.{Reader, GaveAll, GaveEnough, GavePrefix, ReadFails}
-use Rattle.sat_base.specs.text.Text.{scan, tokens_of, lines}
-use Rattle.sat_base.specs.dimacs.Dimacs.{Dimacs, Ending, Clean, Malformed, Limit, clauses_of, dimacs, up_to_last_blank, IsDimacs}
-use Rattle.sat_base.specs.dimacs.Parsing.{Progress, no_progress, with_fed, cut_short, at_its_end, clauses_read, all_taken, EndsAtFault, RunsOutWithinPiece, FeedsPiece, Finishes, IsSoundSoFar, IsSoundText}
+use Rattle.sat_base.specs.device.Device.{Reader, GaveEnough, GavePrefix, ReadFails}
+use Rattle.sat_base.specs.text.Text.{scan, tokens_of, lines, HasEnded}
+use Rattle.sat_base.specs.dimacs.Dimacs.{Dimacs, Ending, Clean, Malformed, Limit, clauses_of, dimacs, dimacs_of, up_to_last_blank, IsDimacs}
+use Rattle.sat_base.specs.dimacs.Parsing.{Progress, no_progress, with_fed, cut_short, at_its_end, clauses_read, all_taken, EndsAtFault, RunsOutWithinPiece, FeedsPiece, Finishes, IsSoundSoFar, IsSoundText, ReportsEnded}
 use Rattle.sat_base.specs.declared.dimacs.error.DimacsError.{DimacsError}
 use Rattle.sat_base.specs.declared.dimacs.error.DimacsError.TheVariants as texts
 use Rattle.sat_base.proofs.lemmas.device.Given.{enough_all, enough_front}
 use Rattle.sat_base.proofs.lemmas.dimacs.Parsed.{HasAccepted as HasFed, stops_on, ends_by}
+use Rattle.sat_base.proofs.lemmas.dimacs.ReadToEnd.{ReadToEnd, none_has_ended}
 use Rattle.sat_base.specs.steps.Steps.{Step, AddClause}
 use Rattle.sat_checker.specs.Accepts.{Accepts, stored_after, ready_after}
 use Rattle.sat_checker.specs.CheckerView.{CheckerView, has_failed, looks_of, HasAccepted, FailsBeforeStep, BreaksAt, RunsOutOfMemoryAt}
@@ -63,8 +64,18 @@ fed_more text piece p q r is f t =
     let e : r ≡ record q { taken = r.taken } = t ∙ ap (λ (z : List (List ℕ)). record q { taken = z }) (sym (ap (λ (z : Progress). z.taken) t)) in
     e ∙ ap (λ (z : Progress). record z { taken = r.taken }) f ∙ ap (λ (z : Progress). record (with_fed piece z) { taken = r.taken }) is
 
-fed_of : (text : List ℕ) (p : Progress) → HasFed text p → p.fed ≡ text
+pub fed_of : (text : List ℕ) (p : Progress) → HasFed text p → p.fed ≡ text
 fed_of text p is = ap (λ (z : Progress). z.fed) is
+
+-- the text of a parser that continues has not ended
+pub goes_fed : (text : List ℕ) (p : Progress) → HasFed text p → ReportsEnded false p → HasEnded text → ⊥
+goes_fed text p is (inl stopped) h = true≢false (sym stopped ∙ ap (λ (z : Progress). z.stopped) is)
+goes_fed text p is (inr going) h = going (subst HasEnded (sym (fed_of text p is)) h)
+
+-- a text that has ended was read
+pub read_before : (text : List ℕ) (p : Progress) (n : ℕ) (T : Type 0) → HasFed text p → (n ≡ 0 → text ≡ []) → (0 < n → T) → HasEnded p.fed → T
+read_before text p zero T is none then h = absurd (none_has_ended (subst HasEnded (fed_of text p is ∙ none refl) h))
+read_before text p (suc n) T is none then h = then (omega arith)
 
 -- the clauses read so far, and all clauses once the text has ended
 pub open_read : (text piece : List ℕ) (p q : Progress) → HasFed text p → q ≡ with_fed piece p → clauses_read q ≡ (dimacs (up_to_last_blank (text ++ piece))).clauses
@@ -124,12 +135,32 @@ fails_by_piece texts.OutOfMemory from to text piece p q is f n g o few =
 fails_by_piece texts.Read from to text piece p q is f n g o few = absurd f
 fails_by_piece texts.HasFailed from to text piece p q is f n g o few = stopped_not _ text p is f.0
 
-pub fails_by_end : (e : DimacsError) (from to : Reader) (text : List ℕ) (p q : Progress) → HasFed text p → Finishes (Err e) p q → NoReadFailed from to → GaveAll from to text → FailsAfter e from to (clauses_read q)
+-- a text that a line has ended means the same, whatever follows
+same_on : (text rest : List ℕ) → HasEnded text → dimacs (text ++ rest) ≡ dimacs text
+unfolding dimacs
+same_on text rest h = ap (dimacs_of None) (h rest)
+
+pub is_on : (text rest : List ℕ) (clauses : List (List ℕ)) (ending : Ending) → IsDimacs text clauses ending → HasEnded text → IsDimacs (text ++ rest) clauses ending
+is_on text rest clauses ending is h = same_on text rest h ∙ is
+
+pub read_on : (text rest : List ℕ) (clauses : List (List ℕ)) → AreRead text clauses → HasEnded text → AreRead (text ++ rest) clauses
+read_on text rest clauses (inl p) h = inl (p.0, p.1 ++ rest, ap (λ (z : List ℕ). z ++ rest) p.2 ∙ append_assoc p.0 p.1 rest, p.3)
+read_on text rest clauses (inr e) h = inr (e ∙ sym (ap (λ (d : Dimacs). d.clauses) (same_on text rest h)))
+
+-- what holds of a text that was read to its end, and if a line has ended it, whatever follows, holds of what was given
+pub enough_end : (from to : Reader) (P : List ℕ → Type 0) (text : List ℕ) → ReadToEnd from to text text → P text → ((rest : List ℕ) → HasEnded text → P (text ++ rest)) → GaveEnough from to P
+enough_end from to P text (inl all) p on = enough_all from to P text all p
+enough_end from to P text (inr s) p on = enough_front from to P text s.front s.going s.few (λ rest. on rest s.ended)
+
+pub fails_by_end : (e : DimacsError) (from to : Reader) (text : List ℕ) (p q : Progress) → HasFed text p → Finishes (Err e) p q → NoReadFailed from to → ReadToEnd from to text text → FailsAfter e from to (clauses_read q)
 fails_by_end (texts.Malformed line) from to text p q is f n g =
-    (n, enough_all from to _ text g (f.2, f.3, has_ending (dimacs text) (clauses_read q) (Malformed f.2) (over_read text p q is f.1) (ap (λ (z : List ℕ). (dimacs z).ending) (sym (fed_of text p is)) ∙ f.4)))
+    let ends = has_ending (dimacs text) (clauses_read q) (Malformed f.2) (over_read text p q is f.1) (ap (λ (z : List ℕ). (dimacs z).ending) (sym (fed_of text p is)) ∙ f.4) in
+    (n, enough_end from to _ text g (f.2, f.3, ends) (λ rest h. (f.2, f.3, is_on text rest (clauses_read q) (Malformed f.2) ends h)))
 fails_by_end (texts.Limit line) from to text p q is f n g =
-    (n, enough_all from to _ text g (f.2, f.3, has_ending (dimacs text) (clauses_read q) (Limit f.2) (over_read text p q is f.1) (ap (λ (z : List ℕ). (dimacs z).ending) (sym (fed_of text p is)) ∙ f.4)))
-fails_by_end texts.OutOfMemory from to text p q is f n g = (n, enough_all from to _ text g (ends_by texts.OutOfMemory text p q is f, (text, [], sym (append-nil text), ap clauses_read (f.1 ∙ ap cut_short is))))
+    let ends = has_ending (dimacs text) (clauses_read q) (Limit f.2) (over_read text p q is f.1) (ap (λ (z : List ℕ). (dimacs z).ending) (sym (fed_of text p is)) ∙ f.4) in
+    (n, enough_end from to _ text g (f.2, f.3, ends) (λ rest h. (f.2, f.3, is_on text rest (clauses_read q) (Limit f.2) ends h)))
+fails_by_end texts.OutOfMemory from to text p q is f n g =
+    (n, enough_end from to _ text g (ends_by texts.OutOfMemory text p q is f, (text, [], sym (append-nil text), ap clauses_read (f.1 ∙ ap cut_short is))) (λ rest h. absurd (f.2.goes_on (subst HasEnded (sym (fed_of text p is)) h))))
 fails_by_end texts.Read from to text p q is f n g = absurd f
 fails_by_end texts.HasFailed from to text p q is f n g = stopped_not _ text p is f.0
 
@@ -195,7 +226,7 @@ module _ {L : Type 0} (Hears : L → Notice → Result Unit ProcessingError → 
   none_added c earlier h s = (record { well = h; left = []; split = refl; looks = none_more (looks_of c) }, (s, h))
 
   unflagged : (mid : CheckerView L) (steps : List Step) → HasAcceptedUnfailed Hears before begun mid steps → HasAcceptedUnfailed Hears before begun (with_flag false mid) steps
-  unflagged mid steps g = (record { kernel = record { accepted = g.0.kernel.accepted; records = g.0.kernel.records; kept = λ h. g.0.kernel.kept g.1 }; heard = λ h. g.0.heard g.1 }, refl)
+  unflagged mid steps g = (record { kernel = record { accepted = g.0.kernel.accepted; records = g.0.kernel.records; variables = g.0.kernel.variables; kept = λ h. g.0.kernel.kept g.1 }; heard = λ h. g.0.heard g.1 }, refl)
 
   set_failed : (e : DimacsError) (mid : CheckerView L) (steps : List Step) → HasAcceptedUnfailed Hears before begun mid steps → ContinuesAfter Hears before begun e (with_flag (is_out_of_memory e) mid) steps
   set_failed texts.OutOfMemory mid steps g = failed_now Hears before begun mid steps g.1 g.0
@@ -258,11 +289,11 @@ module _ {L : Type 0} (Hears : L → Notice → Result Unit ProcessingError → 
 
   -- the result at the end of the text
   pub end_answers : (result : Result Unit CheckerDimacsError) (answer : Result Unit DimacsError) (old cur new : CheckerView L) (from to : Reader) (text : List ℕ) (p q : Progress) → HasFed text p → Finishes answer p q → NoReadFailed from to
-      → GaveAll from to text → AddedBefore old cur p → AddsRead Hears result answer q cur new → AddsDimacs Hears result old new from to
+      → ReadToEnd from to text text → AddedBefore old cur p → AddsRead Hears result answer q cur new → AddsDimacs Hears result old new from to
   end_answers result answer old cur new from to text p q is f n g added a = λ before begun earlier valid. answers_dimacs Hears before begun result answer old cur new from to q earlier n (first_of old cur p q added (taken_by_end answer p q f) before begun earlier valid)
-      (λ ok s. enough_all from to _ text g (clean_by_end text p q is (subst (λ (z : Result Unit DimacsError). Finishes z p q) s f)))
+      (λ ok s. let ends = clean_by_end text p q is (subst (λ (z : Result Unit DimacsError). Finishes z p q) s f) in enough_end from to _ text g ends (λ rest h. is_on text rest (clauses_read q) Clean ends h))
       (λ d s. fails_by_end d from to text p q is (subst (λ (z : Result Unit DimacsError). Finishes z p q) s f) n g)
-      (enough_all from to _ text g (read_by_end answer text p q is f))
+      (enough_end from to _ text g (read_by_end answer text p q is f) (λ rest h. read_on text rest (clauses_read q) (read_by_end answer text p q is f) h))
       a
 
   -- the result if a read failed

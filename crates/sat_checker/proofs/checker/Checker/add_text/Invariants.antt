@@ -1,7 +1,7 @@
-use Rattle.std.proofs.Common.{◌≡◌, ◌+◌, ◌<◌, ◌≤◌, false, length, List, ℕ, Ok}
+use Rattle.std.proofs.Common.{◌≡◌, ◌+◌, ◌<◌, ◌≤◌, false, length, List, [], ℕ, Ok}
 use Rattle.sat_base.specs.device.Device.{GavePrefix}
 use Rattle.sat_base.specs.dimacs.Dimacs.{dimacs, up_to_last_blank}
-use Rattle.sat_base.specs.dimacs.Parsing.{IsSoundSoFar}
+use Rattle.sat_base.specs.dimacs.Parsing.{IsSoundSoFar, EndsInLastPiece}
 use Rattle.sat_base.specs.steps.Steps.{Step}
 use Rattle.sat_base.proofs.lemmas.dimacs.Parsed.{HasAccepted as HasFed}
 use Rattle.sat_checker.specs.CheckerView.{has_failed, kernel_of, seen_of, HasAccepted}
@@ -15,7 +15,7 @@ abbrev pub invariant-loop : goal.invariant-loop
 invariant-loop g l = record {
   well : has_failed (seen_of l.fn.self) ≡ false;
   bytes : (text : List ℕ) × HasFed text l.parser × GavePrefix (g.R.CountedRead.seen l.fn.reader) (g.R.CountedRead.seen l.reader) text × (l.counter ≤ length text)
-      × (l.parser.taken ≡ (dimacs (up_to_last_blank text)).clauses);
+      × (l.parser.taken ≡ (dimacs (up_to_last_blank text)).clauses) × (l.counter ≡ 0 → text ≡ []) × EndsInLastPiece text;
   sound : IsSoundSoFar l.parser;
   open_yet : 0 < l.counter → (g.R.CountedRead.seen l.reader).ended ≡ false;
   failures : (g.R.CountedRead.seen l.reader).failures ≡ (g.R.CountedRead.seen l.fn.reader).failures;
