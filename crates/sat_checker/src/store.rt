@@ -30,13 +30,16 @@ use crate::units::assigned::Assigned;
 use crate::units::valuation::{has_just_assumed, is_strictly_assumed};
 use sat_base::{HashBits, Lit, Var};
 use std::alloc::{AllocError, Global};
+use thiserror::Error;
 
 /// Why a clause can't be stored.
-#[derive(Clone, Copy, Debug, Drop)]
+#[derive(Clone, Copy, Debug, Drop, Error)]
 pub enum StoreError {
     /// Memory ran out.
+    #[error("out of memory")]
     OutOfMemory,
     /// The last id has already been assigned, or a count is already 2^64-1.
+    #[error("a counter is at its end")]
     CounterEnd,
 }
 

@@ -2,7 +2,8 @@
 
 use anyhow::anyhow;
 use sat_base::DimacsError;
-use sat_checker::{CheckerDimacsError, CheckerError, ProcessingError};
+use sat_checker::store::StoreError;
+use sat_checker::{CheckerDimacsError, CheckerError, ProcessingError, StepRefusal};
 use std::alloc::Global;
 use std::fmt::Display;
 
@@ -36,6 +37,24 @@ fn text_errors() -> [(CheckerDimacsError, &'static str); 2] {
             CheckerDimacsError::Checker(CheckerError::CheckFailed),
             "a proof step is refused",
         ),
+    ]
+}
+
+/// Returns the refusals of a step that is checked without listeners, and their texts.
+fn refusals() -> [(StepRefusal, &'static str); 4] {
+    [
+        (StepRefusal::HasFailed, "the checker has failed before"),
+        (StepRefusal::CheckFailed, "a proof step is refused"),
+        (StepRefusal::OutOfMemory, "out of memory"),
+        (StepRefusal::CounterEnd, "a counter is at its end"),
+    ]
+}
+
+/// Returns the errors of the store, and their texts.
+fn store_errors() -> [(StoreError, &'static str); 2] {
+    [
+        (StoreError::OutOfMemory, "out of memory"),
+        (StoreError::CounterEnd, "a counter is at its end"),
     ]
 }
 
@@ -79,6 +98,8 @@ fn are_faults_printed(alloc: Global) -> bool {
 fn errors_are_printed(rt: HostRuntime) {
     assert!(rt; first_wrong(rt.alloc(), &plain_errors()) == None);
     assert!(rt; first_wrong(rt.alloc(), &text_errors()) == None);
+    assert!(rt; first_wrong(rt.alloc(), &refusals()) == None);
+    assert!(rt; first_wrong(rt.alloc(), &store_errors()) == None);
     assert!(rt; are_faults_printed(rt.alloc()));
     assert!(rt; is_printed(rt.alloc(), &ProcessingError::OutOfMemory, "out of memory"));
 }
