@@ -7,6 +7,7 @@ use Rattle.sat_checker.specs.Counters.{CountersExhausted, ExhaustsCounters}
 use Rattle.sat_checker.specs.Accepts.{Accepts, AcceptsAll, stored_after, ready_after}
 use Rattle.sat_checker.specs.Looks.{most_looks}
 use Rattle.sat_checker.specs.inner.StateView.{RepresentsStored}
+use Rattle.sat_checker.specs.inner.VariablesView.{variable_at}
 use Rattle.sat_checker.specs.declared.kernel.Kernel.{Kernel}
 use Rattle.sat_checker.specs.declared.state.CheckerState.{CheckerState}
 use Rattle.sat_checker.specs.declared.state.status.Records.{Records}
@@ -38,9 +39,11 @@ abbrev pub records_of : Stored → Records
 records_of f = record { unsat = f.unsat; ended = f.ended; var_deleted = f.var_deleted }
 
 -- That the kernel has accepted these steps, the newest first, and stores what is stored after them, unless it failed.
+-- Even after it has failed, it keeps the records and the variables.
 pub record HasAccepted (kernel : Kernel) (steps : List Step) : Type 0 where
   pub accepted : AcceptsAll steps
   pub records : kernel.records ≡ records_of (stored_after steps)
+  pub variables : (v : ℕ) → variable_at kernel.state.variables v ≡ (ready_after steps).variables v
   pub kept : kernel.failed ≡ false → KeepsAfter kernel.state steps
 
 -- that the kernel has accepted these steps and has failed, so it only returns `HasFailed` from now on

@@ -204,18 +204,17 @@ impl<P: ProofProcessor, T: ProofTranscriptProcessor> Checker<P, T> {
         self.kernel.records.var_deleted
     }
 
-    /// Returns the user's name for a variable, if it has one. After the checker has failed, the result is unspecified.
+    /// Returns the user's name for a variable, if it has one after the accepted steps. This works even after the checker
+    /// has failed.
     pub fn user_name(&self, var: Var) -> Option<Var>
-        ensures { kernel_has_failed (kernel_of self.now) ≡ false
-            → (steps : List Step) → HasAccepted (kernel_of self.now) steps → result ≡ name_of var (ready_after steps) }
+        ensures { (steps : List Step) → HasAccepted (kernel_of self.now) steps → result ≡ name_of var (ready_after steps) }
     {
         self.kernel.state.variables.data(var).name.get()
     }
 
-    /// Whether the variable is known. After the checker has failed, the result is unspecified.
+    /// Returns `true` if the variable is known after the accepted steps. This works even after the checker has failed.
     pub fn knows(&self, var: Var) -> bool
-        ensures { kernel_has_failed (kernel_of self.now) ≡ false
-            → (steps : List Step) → HasAccepted (kernel_of self.now) steps → result ≡ is_known var (ready_after steps) }
+        ensures { (steps : List Step) → HasAccepted (kernel_of self.now) steps → result ≡ is_known var (ready_after steps) }
     {
         self.kernel.state.variables.data(var).known
     }
@@ -259,6 +258,7 @@ impl<P: ProofProcessor, T: ProofTranscriptProcessor> SelfChecker for Checker<P, 
             return Err(CheckerError::HasFailed);
         }
         let mut nobody = Nobody {};
-        self.kernel.settle(&mut nobody, &mut self.processing)
+        self.kernel
+            .process_unit_conflicts(&mut nobody, &mut self.processing)
     }
 }

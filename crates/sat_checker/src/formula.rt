@@ -32,7 +32,7 @@ ghost use Rattle.sat_checker.specs.listeners.NotedView.{AppendsAnnouncements, Ch
 pub(crate) mod in_room;
 
 use crate::announce::notes::Notes;
-use crate::announce::step_announcements::{Change, change_of};
+use crate::announce::step_announcements::{StoreClauseResult, change_of};
 use crate::looks::Looks;
 use crate::rup::passed::Passed;
 use crate::sorted_lits::{has_both_signs, is_strictly_increasing, is_subset};
@@ -125,7 +125,7 @@ impl Formula {
     }
 
     /// Stores the literal `lit` as a unit. After an error, the units are unchanged.
-    pub fn store_unit(&mut self, lit: Lit) -> Result<(), StoreError>
+    pub fn store_unit_clause(&mut self, lit: Lit) -> Result<(), StoreError>
         ensures stored { FormulaEffect result self.old (with_unit lit) self.new }
         ensures kept { OnErr result ((f : Stored) → ChecksAs self.old f → ChecksAs self.new f) }
     {
@@ -153,23 +153,23 @@ impl Formula {
     }
 
     /// Stores an empty clause, which always counts as new. Returns what this changes.
-    fn store_empty(&mut self, redundant: bool) -> Result<Change, StoreError>
+    fn store_empty(&mut self, redundant: bool) -> Result<StoreClauseResult, StoreError>
         ensures stored { FormulaEffect result self.old (with_canonical redundant []) self.new }
         ensures change { ChangesSet result redundant [] self.old }
     {
         let id = self.status.take_id()?;
         self.status.unsat = true;
         self.status.note_last(redundant, LastClause::Empty(id));
-        Ok(Change::New)
+        Ok(StoreClauseResult::New)
     }
 
     /// Stores a clause of one literal. Returns what this changes.
-    fn store_single(&mut self, redundant: bool, lit: Lit) -> Result<Change, StoreError>
+    fn store_single(&mut self, redundant: bool, lit: Lit) -> Result<StoreClauseResult, StoreError>
         ensures stored { FormulaEffect result self.old (with_canonical redundant (lit ∷ [])) self.new }
         ensures change { ChangesSet result redundant (lit ∷ []) self.old }
     {
         let change = self.unit_change(lit);
-        self.store_unit(lit)?;
+        self.store_unit_clause(lit)?;
         if redundant {
             return Ok(change);
         }
@@ -221,7 +221,7 @@ impl Formula {
         redundant: bool,
         literals: &[Lit],
         looks: &mut Looks,
-    ) -> Result<Change, StoreError>
+    ) -> Result<StoreClauseResult, StoreError>
         requires increasing { IsIncreasing literals.now }
         requires long { 2 ≤ length literals.now }
         ensures stored { FormulaEffect result self.old (with_canonical redundant literals.now) self.new }
@@ -246,7 +246,7 @@ impl Formula {
         redundant: bool,
         literals: &[Lit],
         looks: &mut Looks,
-    ) -> Result<Change, StoreError>
+    ) -> Result<StoreClauseResult, StoreError>
         requires { IsIncreasing literals.now }
         ensures stored { FormulaEffect result self.old (with_canonical redundant literals.now) self.new }
         ensures change { ChangesSet result redundant literals.now self.old }
@@ -267,7 +267,7 @@ impl Formula {
         redundant: bool,
         literals: &[Lit],
         looks: &mut Looks,
-    ) -> Result<Change, StoreError>
+    ) -> Result<StoreClauseResult, StoreError>
         requires { IsIncreasing literals.now }
         ensures stored { (clause : List ℕ) → literals.now ≡ canonical clause
             → FormulaEffect result self.old (with_stored redundant clause) self.new }
@@ -277,7 +277,7 @@ impl Formula {
         ensures looks { LooksOver (RepresentsFormula self.old) literal_count looks.old looks.new }
     {
         if has_both_signs(literals) {
-            return Ok(Change::Neither);
+            return Ok(StoreClauseResult::Duplicate);
         }
         self.store_canonical(redundant, literals, looks)
     }
@@ -342,7 +342,7 @@ impl Formula {
             return Ok(false);
         }
         self.note_unit(lit, notes, looks)?;
-        self.store_unit(lit)?;
+        self.store_unit_clause(lit)?;
         Ok(true)
     }
 

@@ -26,6 +26,7 @@ use crate::store::StoreError;
 use crate::variables::Variables;
 use sat_base::ProofStep;
 use std::alloc::Global;
+use thiserror::Error;
 
 /// Returns the checker's error for an error that occurred while listeners were being notified.
 fn fault(error: ProcessingError) -> CheckerError
@@ -101,15 +102,19 @@ fn notify_pending<O: ProofProcessor, P: ProofProcessor, T: ProofTranscriptProces
 }
 
 /// Why a step is not accepted when it is checked without notifying listeners.
-#[derive(Clone, Copy, Drop)]
+#[derive(Clone, Copy, Debug, Drop, Error)]
 pub enum StepRefusal {
     /// The checker failed in an earlier call.
+    #[error("the checker has failed before")]
     HasFailed,
     /// The step was refused.
+    #[error("a proof step is refused")]
     CheckFailed,
     /// Memory ran out.
+    #[error("out of memory")]
     OutOfMemory,
     /// The last id, 2^64-2, has already been assigned, or a clause is already stored 2^64-1 times.
+    #[error("a counter is at its end")]
     CounterEnd,
 }
 
@@ -176,7 +181,7 @@ impl Kernel {
         if self.failed {
             return Err(CheckerError::HasFailed);
         }
-        match self.settle(own, others) {
+        match self.process_unit_conflicts(own, others) {
             Ok(()) => {
                 let hears = listens(has_own, others);
                 self.step(step, own, hears, others)
@@ -229,7 +234,10 @@ impl Kernel {
         ensures rise { kernel_looks self.old ≤ kernel_looks self.new }
     {
         self.notes.begin(false);
-        match self.state.step(step, &mut self.notes, &mut self.looks) {
+        match self
+            .state
+            .check_step(step, &mut self.notes, &mut self.looks)
+        {
             Ok(true) => {
                 let records = self.state.formula.status.records();
                 self.records = records;
@@ -248,11 +256,11 @@ impl Kernel {
 
     /// If a unit conflict is pending, gives its empty clause the next id, and announces that clause.
     #[inline(always)]
-    pub fn settle<O: ProofProcessor, P: ProofProcessor, T: ProofTranscriptProcessor>(
-        &mut self,
-        own: &mut O,
-        others: &mut Processing<P, T>,
-    ) -> Result<(), CheckerError>
+    pub fn process_unit_conflicts<
+        O: ProofProcessor,
+        P: ProofProcessor,
+        T: ProofTranscriptProcessor,
+    >(&mut self, own: &mut O, others: &mut Processing<P, T>) -> Result<(), CheckerError>
         requires { kernel_has_failed self.old ≡ false }
         ensures judges { kernels.ChecksDelayed result self.old self.new }
         ensures goes_on { OnOk result ((kernel_has_failed self.new ≡ false)
@@ -267,7 +275,7 @@ impl Kernel {
         self.settle_conflict(own, others)
     }
 
-    /// Does what `settle` does if a unit conflict is pending.
+    /// Does what `process_unit_conflicts` does if a unit conflict is pending.
     #[inline(never)]
     fn settle_conflict<O: ProofProcessor, P: ProofProcessor, T: ProofTranscriptProcessor>(
         &mut self,
@@ -328,7 +336,10 @@ impl Kernel {
     {
         self.notes.begin(hears);
         let was = changed(&self.state.variables, step, hears);
-        match self.state.step(step, &mut self.notes, &mut self.looks) {
+        match self
+            .state
+            .check_step(step, &mut self.notes, &mut self.looks)
+        {
             Ok(true) => self.take_in(&was, own, hears, others),
             Ok(false) => {
                 self.failed = true;

@@ -1,5 +1,5 @@
 //! The checker's state, and how each step changes it.
-ghost use Rattle.std.specs.Prelude.{ℕ, List, ◌≡◌, ◌+◌, ◌*◌, false, None, Some, MatchBool, OnOk};
+ghost use Rattle.std.specs.Prelude.{ℕ, List, ◌≡◌, ◌+◌, ◌*◌, false, None, Some, MatchBool, OnErr, OnOk};
 ghost use Rattle.sat_checker.specs.Stored.{Stored, nothing_stored};
 ghost use Rattle.sat_checker.specs.Looks.{literal_count};
 ghost use Rattle.sat_checker.specs.Accepts.{MayBeDeleted, MayBeAdded};
@@ -13,7 +13,8 @@ ghost use Rattle.sat_checker.specs.inner.Looking.{LooksOver};
 ghost use Rattle.sat_checker.specs.inner.Reasons.{noted_length};
 ghost use Rattle.sat_checker.specs.inner.StateView.{RepresentsStored, KeepsFiled, ChangesStored, with_added_clause};
 ghost use Rattle.sat_checker.specs.inner.StateView.{with_derived};
-ghost use Rattle.sat_checker.specs.inner.StateView.{DecidesStep, LooksWithin};
+ghost use Rattle.sat_checker.specs.inner.StateView.{DecidesStep, KeepsUnlessAccepted, LooksWithin};
+ghost use Rattle.sat_checker.specs.inner.VariablesView.{KeepsData};
 ghost use Rattle.sat_checker.specs.listeners.AnnouncingView.{AreLong};
 ghost use Rattle.sat_checker.specs.listeners.NotedView.{Announces, AppendsAnnouncements};
 
@@ -44,11 +45,12 @@ pub(crate) struct CheckerState {
 impl CheckerState {
     /// Checks a `SolverVarName` step, and applies it if it is accepted.
     fn solver_var_name(&mut self, var: Var, name: Option<Var>) -> Result<bool, StoreError>
-        ensures { DecidesStep result self.old (SolverVarName var name) self.new }
+        ensures decides { DecidesStep result self.old (SolverVarName var name) self.new }
+        ensures kept { KeepsUnlessAccepted result self.old self.new }
     {
         if let Some(solver) = name {
-            self.variables.learn_var(var)?;
             self.formula.store.set_solver_name(var, Some(solver))?;
+            self.variables.learn_var(var)?;
             return Ok(true);
         }
         self.formula.store.set_solver_name(var, None)?;
@@ -63,15 +65,19 @@ impl CheckerState {
         notes: &mut Notes,
     ) -> Result<bool, StoreError>
         ensures decides { DecidesStep result self.old (UserVarName var user) self.new }
+        ensures kept { KeepsUnlessAccepted result self.old self.new }
         ensures noted { Announces result self.old (UserVarName var user) notes.old notes.new }
     {
-        let before = self.variables.data(var);
-        if !self.variables.rename(var, user)? {
+        if !self.variables.may_rename(var, user) {
             return Ok(false);
         }
+        let before = self.variables.data(var);
         let more = if before.known { 0 } else { 2 };
         self.formula.grant(more);
         notes.renaming(var, user, before)?;
+        if !self.variables.rename(var, user)? {
+            return Ok(false);
+        }
         Ok(true)
     }
 
@@ -83,13 +89,17 @@ impl CheckerState {
         notes: &mut Notes,
     ) -> Result<bool, StoreError>
         ensures decides { DecidesStep result self.old (ChangeSamplingMode var sample) self.new }
+        ensures kept { KeepsUnlessAccepted result self.old self.new }
         ensures noted { Announces result self.old (ChangeSamplingMode var sample) notes.old notes.new }
     {
         let before = self.variables.data(var);
-        if !self.variables.set_mode(var, sample)? {
+        if !before.known {
             return Ok(false);
         }
         notes.mode_change(var, sample, before)?;
+        if !self.variables.set_mode(var, sample)? {
+            return Ok(false);
+        }
         Ok(true)
     }
 
@@ -101,6 +111,7 @@ impl CheckerState {
         looks: &mut Looks,
     ) -> Result<bool, StoreError>
         ensures decides { DecidesStep result self.old (AddClause clause.now) self.new }
+        ensures kept { KeepsUnlessAccepted result self.old self.new }
         ensures looks { LooksWithin self.old (AddClause clause.now) looks.old looks.new }
         ensures noted { Announces result self.old (AddClause clause.now) notes.old notes.new }
     {
@@ -123,14 +134,16 @@ impl CheckerState {
         looks: &mut Looks,
     ) -> Result<(), StoreError>
         ensures stored { ChangesStored result self.old (with_added_clause clause.now) self.new }
+        ensures kept { OnErr result (KeepsData self.old.variables self.new.variables) }
         ensures noted { OnOk result ((f : Stored) → KeepsFiled self.old f
             → AppendsAnnouncements notes.old (input clause.now f) notes.new) }
         ensures looks { LooksOver (KeepsFiled self.old) (λ f. 2 * literal_count f) looks.old looks.new }
     {
         let literals = sorted_set(&mut self.buffer, clause)?;
         self.formula.note_input(literals, notes, looks)?;
+        self.formula.store_input(literals, looks)?;
         self.variables.learn(clause)?;
-        self.formula.store_input(literals, looks)
+        Ok(())
     }
 
     /// Checks an `AtClause` step, and applies it if it is accepted.
@@ -143,6 +156,7 @@ impl CheckerState {
         looks: &mut Looks,
     ) -> Result<bool, StoreError>
         ensures decides { DecidesStep result self.old (AtClause redundant clause.now hashes.now) self.new }
+        ensures kept { KeepsUnlessAccepted result self.old self.new }
         ensures looks { LooksWithin self.old (AtClause redundant clause.now hashes.now) looks.old looks.new }
         ensures noted { Announces result self.old (AtClause redundant clause.now hashes.now) notes.old notes.new }
     {
@@ -169,6 +183,7 @@ impl CheckerState {
         requires { self.old.formula.passed.lost ≡ false
             → (hashes : List ℕ) × Explained self.old.formula clause.now hashes }
         ensures stored { ChangesStored result self.old (with_derived redundant clause.now) self.new }
+        ensures kept { OnErr result (KeepsData self.old.variables self.new.variables) }
         ensures noted { OnOk result ((f : Stored) (hashes : List ℕ) → KeepsFiled self.old f → AreLong f
             → (self.old.formula.passed.lost ≡ false → Explained self.old.formula clause.now hashes)
             → AppendsAnnouncements notes.old (derived redundant clause.now hashes f) notes.new) }
@@ -179,14 +194,16 @@ impl CheckerState {
         let literals = sorted_set(&mut self.buffer, clause)?;
         self.formula
             .note_propagations(clause, literals, notes, looks)?;
-        self.variables.learn(clause)?;
         self.formula
-            .store_derived(redundant, literals, notes, looks)
+            .store_derived(redundant, literals, notes, looks)?;
+        self.variables.learn(clause)?;
+        Ok(())
     }
 
     /// Applies a `ChangeHashBits` step, which is always accepted.
     fn change_hash_bits(&mut self, bits: HashBits) -> Result<bool, StoreError>
-        ensures { DecidesStep result self.old (ChangeHashBits bits) self.new }
+        ensures decides { DecidesStep result self.old (ChangeHashBits bits) self.new }
+        ensures kept { KeepsUnlessAccepted result self.old self.new }
     {
         self.formula.store.set_bits(bits);
         Ok(true)
@@ -195,17 +212,19 @@ impl CheckerState {
     /// Applies an `Assumptions` step, which is always accepted.
     fn assumptions(&mut self, literals: &[Lit], notes: &mut Notes) -> Result<bool, StoreError>
         ensures decides { DecidesStep result self.old (Assumptions literals.now) self.new }
+        ensures kept { KeepsUnlessAccepted result self.old self.new }
         ensures noted { Announces result self.old (Assumptions literals.now) notes.old notes.new }
     {
-        self.variables.learn(literals)?;
         self.assumed.replace(literals)?;
         notes.assumptions(literals)?;
+        self.variables.learn(literals)?;
         Ok(true)
     }
 
     /// Applies an `End` step, which is always accepted.
     fn end(&mut self) -> Result<bool, StoreError>
-        ensures { DecidesStep result self.old End self.new }
+        ensures decides { DecidesStep result self.old End self.new }
+        ensures kept { KeepsUnlessAccepted result self.old self.new }
     {
         self.formula.status.ended = true;
         Ok(true)
@@ -219,6 +238,7 @@ impl CheckerState {
         looks: &mut Looks,
     ) -> Result<bool, StoreError>
         ensures decides { DecidesStep result self.old (UnitClauses units.now) self.new }
+        ensures kept { KeepsUnlessAccepted result self.old self.new }
         ensures looks { LooksWithin self.old (UnitClauses units.now) looks.old looks.new }
         ensures noted { Announces result self.old (UnitClauses units.now) notes.old notes.new }
     {
@@ -240,6 +260,7 @@ impl CheckerState {
         looks: &mut Looks,
     ) -> Result<bool, StoreError>
         ensures decides { DecidesStep result self.old (DeleteClause clause.now (deletion_of proof)) self.new }
+        ensures kept { KeepsUnlessAccepted result self.old self.new }
         ensures looks { LooksWithin self.old (DeleteClause clause.now (deletion_of proof)) looks.old looks.new }
         ensures noted { Announces result self.old (DeleteClause clause.now (deletion_of proof)) notes.old notes.new }
     {
@@ -271,14 +292,15 @@ impl CheckerState {
         looks: &mut Looks,
     ) -> Result<bool, StoreError>
         ensures decides { DecidesStep result self.old (Model assignment.now) self.new }
+        ensures kept { KeepsUnlessAccepted result self.old self.new }
         ensures looks { LooksWithin self.old (Model assignment.now) looks.old looks.new }
         ensures noted { Announces result self.old (Model assignment.now) notes.old notes.new }
     {
         if !self.formula.fits(assignment, looks)? {
             return Ok(false);
         }
-        self.variables.learn(assignment)?;
         notes.model(assignment)?;
+        self.variables.learn(assignment)?;
         Ok(true)
     }
 
@@ -291,6 +313,7 @@ impl CheckerState {
         looks: &mut Looks,
     ) -> Result<bool, StoreError>
         ensures decides { DecidesStep result self.old (FailedAssumptions core.now hashes.now) self.new }
+        ensures kept { KeepsUnlessAccepted result self.old self.new }
         ensures looks { LooksWithin self.old (FailedAssumptions core.now hashes.now) looks.old looks.new }
         ensures noted { Announces result self.old (FailedAssumptions core.now hashes.now) notes.old notes.new }
     {
@@ -312,14 +335,15 @@ impl CheckerState {
     /// Checks a `DeleteVar` step, and applies it if it is accepted. Counts no looks.
     fn delete_var(&mut self, var: Var, notes: &mut Notes) -> Result<bool, StoreError>
         ensures decides { DecidesStep result self.old (DeleteVar var) self.new }
+        ensures kept { KeepsUnlessAccepted result self.old self.new }
         ensures noted { Announces result self.old (DeleteVar var) notes.old notes.new }
     {
         if !self.may_delete(var) {
             return Ok(false);
         }
-        self.formula.forget(var);
-        self.variables.forget(var)?;
         notes.var_deleted(var)?;
+        self.formula.forget(var);
+        self.variables.forget(var);
         Ok(true)
     }
 
@@ -357,13 +381,14 @@ impl CheckerState {
 
     /// Checks a step, and applies it if it is accepted. Returns whether the step is accepted, and notes
     /// its announcements.
-    pub fn step(
+    pub fn check_step(
         &mut self,
         step: &ProofStep<'_>,
         notes: &mut Notes,
         looks: &mut Looks,
     ) -> Result<bool, StoreError>
         ensures decides { DecidesStep result self.old (step_of step.now) self.new }
+        ensures kept { KeepsUnlessAccepted result self.old self.new }
         ensures looks { LooksWithin self.old (step_of step.now) looks.old looks.new }
         ensures noted { Announces result self.old (step_of step.now) notes.old notes.new }
     {

@@ -5,8 +5,9 @@ ghost use Rattle.sat_base.specs.values.Literals.{variable};
 ghost use Rattle.sat_checker.specs.LiteralSets.{is_among};
 ghost use Rattle.sat_checker.specs.Stored.{Hide, Sample, Variable, Witness, unknown};
 ghost use Rattle.sat_checker.specs.inner.VariablesView.{mode_in, variable_of_data, variable_at, holder_at, known_if};
-ghost use Rattle.sat_checker.specs.inner.VariablesView.{unknown_data, AreSampling, KeepsVariables, VariablesAllow};
-ghost use Rattle.sat_checker.specs.inner.VariablesView.{VariablesAnswer};
+ghost use Rattle.sat_checker.specs.inner.VariablesView.{unknown_data, AreSampling, HasDataRoom, HaveDataRoom};
+ghost use Rattle.sat_checker.specs.inner.VariablesView.{KeepsData, KeepsVariables, VariablesAllow, VariablesAnswer};
+ghost use Rattle.sat_checker.specs.inner.VariablesView.{VariablesJudge};
 ghost use Rattle.sat_base.specs.steps.Steps.{UserVarName, ChangeSamplingMode};
 
 use sat_base::{ClauseHash, Lit, MaybeVar, Table, Var};
@@ -106,10 +107,11 @@ impl Variables {
         self.holders.get(name.index(), MaybeVar::none()).get()
     }
 
-    /// Sets the data of a variable to `state`.
+    /// Sets the data of a variable to `state`. If memory runs out, no data changes.
     fn set(&mut self, var: Var, state: VarData) -> Result<(), AllocError>
         ensures variables { OnOk result ((v : ℕ) →
             variable_at self.new v ≡ (if v == var then variable_of_data state else variable_at self.old v)) }
+        ensures err { OnErr result (KeepsData self.old self.new) }
         ensures holders { (name : ℕ) → holder_at self.new name ≡ holder_at self.old name }
     {
         self.data.set(var.index(), state, VarData::unknown())
@@ -128,11 +130,12 @@ impl Variables {
         near[index].known
     }
 
-    /// Makes the variable known. If it was unknown, its mode is sample.
+    /// Makes the variable known. If it was unknown, its mode is sample. If memory runs out, no data changes.
     #[inline(always)]
     pub fn ensure_var(&mut self, var: Var) -> Result<(), AllocError>
         ensures variables { OnOk result
             ((v : ℕ) → variable_at self.new v ≡ (known_if (v == var) (variable_at self.old v))) }
+        ensures err { OnErr result (KeepsData self.old self.new) }
         ensures holders { (name : ℕ) → holder_at self.new name ≡ holder_at self.old name }
     {
         if self.is_near_known(var) {
@@ -146,6 +149,7 @@ impl Variables {
     fn ensure_far(&mut self, var: Var) -> Result<(), AllocError>
         ensures variables { OnOk result
             ((v : ℕ) → variable_at self.new v ≡ (known_if (v == var) (variable_at self.old v))) }
+        ensures err { OnErr result (KeepsData self.old self.new) }
         ensures holders { (name : ℕ) → holder_at self.new name ≡ holder_at self.old name }
     {
         let old = self.data(var);
@@ -162,63 +166,190 @@ impl Variables {
         )
     }
 
-    /// Makes the variables of the literals known. The mode of those that were unknown is sample.
+    /// Makes room for the data of a variable. No data changes, even if memory runs out.
+    fn make_room(&mut self, var: Var) -> Result<(), AllocError>
+        ensures room { OnOk result (HasDataRoom self.new var) }
+        ensures others { (v : ℕ) → HasDataRoom self.old v → HasDataRoom self.new v }
+        ensures same { KeepsData self.old self.new }
+        ensures holders { (name : ℕ) → holder_at self.new name ≡ holder_at self.old name }
+    {
+        self.data.make_room(var.index(), VarData::unknown())
+    }
+
+    /// Makes the variable known. If it was unknown, its mode is sample. There must be room for its data.
+    fn set_known(&mut self, var: Var)
+        requires { HasDataRoom self.old var }
+        ensures variables { (v : ℕ) → variable_at self.new v ≡ known_if (v == var) (variable_at self.old v) }
+        ensures room { (v : ℕ) → HasDataRoom self.old v → HasDataRoom self.new v }
+        ensures holders { (name : ℕ) → holder_at self.new name ≡ holder_at self.old name }
+    {
+        let old = self.data(var);
+        self.data.put(
+            var.index(),
+            VarData {
+                known: true,
+                mode: old.mode,
+                name: old.name,
+            },
+        );
+    }
+
+    /// Returns `true` if the variables of the literals have small indices and are known.
     #[tactic(auto, using(crate::proofs::lemmas::variables::Keeping::ensuring))]
-    pub fn ensure_vars(&mut self, literals: &[Lit]) -> Result<(), AllocError>
-        ensures variables { OnOk result ((v : ℕ) →
-            variable_at self.new v ≡ known_if (is_among (map variable literals.now) v) (variable_at self.old v)) }
+    fn are_near_known(&self, literals: &[Lit]) -> bool
+        ensures { result ≡ true → (v : ℕ) → known_if (is_among (map variable literals.now) v) (variable_at self.now v)
+            ≡ variable_at self.now v }
+    {
+        for lit in literals {
+            if !self.is_near_known(lit.var()) {
+                return false;
+            }
+        }
+        true
+    }
+
+    /// Makes room for the data of the variables of the literals. No data changes, even if memory runs out.
+    #[tactic(auto, using(crate::proofs::lemmas::variables::Keeping::ensuring))]
+    fn make_room_for(&mut self, literals: &[Lit]) -> Result<(), AllocError>
+        ensures room { OnOk result (HaveDataRoom self.new (map variable literals.now)) }
+        ensures same { KeepsData self.old self.new }
         ensures holders { (name : ℕ) → holder_at self.new name ≡ holder_at self.old name }
     {
         for lit in literals {
-            self.ensure_var(lit.var())?;
+            self.make_room(lit.var())?;
         }
         Ok(())
     }
 
-    /// Makes the variables of the literals known. The mode of those that were unknown is sample.
+    /// Makes the variables of the literals known. The mode of those that were unknown is sample. There must be room for
+    /// their data.
+    #[tactic(auto, using(crate::proofs::lemmas::variables::Keeping::ensuring))]
+    fn set_all_known(&mut self, literals: &[Lit])
+        requires { HaveDataRoom self.old (map variable literals.now) }
+        ensures variables { (v : ℕ) →
+            variable_at self.new v ≡ known_if (is_among (map variable literals.now) v) (variable_at self.old v) }
+        ensures holders { (name : ℕ) → holder_at self.new name ≡ holder_at self.old name }
+    {
+        for lit in literals {
+            self.set_known(lit.var());
+        }
+    }
+
+    /// Makes the variables of the literals known. The mode of those that were unknown is sample. If memory runs out, no
+    /// data changes.
+    pub fn ensure_vars(&mut self, literals: &[Lit]) -> Result<(), AllocError>
+        ensures variables { OnOk result ((v : ℕ) →
+            variable_at self.new v ≡ known_if (is_among (map variable literals.now) v) (variable_at self.old v)) }
+        ensures err { OnErr result (KeepsData self.old self.new) }
+        ensures holders { (name : ℕ) → holder_at self.new name ≡ holder_at self.old name }
+    {
+        if self.are_near_known(literals) {
+            return Ok(());
+        }
+        self.make_room_for(literals)?;
+        self.set_all_known(literals);
+        Ok(())
+    }
+
+    /// Makes the variables of the literals known. The mode of those that were unknown is sample. If memory runs out, no
+    /// data changes.
     pub fn learn(&mut self, literals: &[Lit]) -> Result<(), AllocError>
-        ensures { OnOk result ((g : ℕ → Variable) → KeepsVariables self.old g
+        ensures ok { OnOk result ((g : ℕ → Variable) → KeepsVariables self.old g
             → KeepsVariables self.new (λ v. known_if (is_among (map variable literals.now) v) (g v))) }
+        ensures err { OnErr result (KeepsData self.old self.new) }
     {
         self.ensure_vars(literals)
     }
 
-    /// Makes the variables of the units known. The mode of those that were unknown is sample.
-    pub fn learn_units(&mut self, units: &[(Lit, ClauseHash)]) -> Result<(), AllocError>
-        ensures { OnOk result ((g : ℕ → Variable) → KeepsVariables self.old g
-            → KeepsVariables self.new (λ v. known_if (is_among (map variable (map (λ u. u.0) units.now)) v) (g v))) }
+    /// Makes room for the data of the variables of the units. No data changes, even if memory runs out.
+    #[tactic(auto, using(crate::proofs::lemmas::variables::Keeping::ensuring_units))]
+    fn make_unit_room(&mut self, units: &[(Lit, ClauseHash)]) -> Result<(), AllocError>
+        ensures room { OnOk result (HaveDataRoom self.new (map variable (map (λ u. u.0) units.now))) }
+        ensures same { KeepsData self.old self.new }
+        ensures holders { (name : ℕ) → holder_at self.new name ≡ holder_at self.old name }
     {
         for unit in units {
-            self.learn_var(unit.0.var())?;
+            self.make_room(unit.0.var())?;
         }
         Ok(())
     }
 
-    /// Makes the variable known. If it was unknown, its mode is sample.
+    /// Makes the variables of the units known. The mode of those that were unknown is sample. There must be room for
+    /// their data.
+    #[tactic(auto, using(crate::proofs::lemmas::variables::Keeping::ensuring_units))]
+    fn set_units_known(&mut self, units: &[(Lit, ClauseHash)])
+        requires { HaveDataRoom self.old (map variable (map (λ u. u.0) units.now)) }
+        ensures variables { (v : ℕ) → variable_at self.new v
+            ≡ known_if (is_among (map variable (map (λ u. u.0) units.now)) v) (variable_at self.old v) }
+        ensures holders { (name : ℕ) → holder_at self.new name ≡ holder_at self.old name }
+    {
+        for unit in units {
+            self.set_known(unit.0.var());
+        }
+    }
+
+    /// Makes the variables of the units known. The mode of those that were unknown is sample. If memory runs out, no
+    /// data changes.
+    pub fn learn_units(&mut self, units: &[(Lit, ClauseHash)]) -> Result<(), AllocError>
+        ensures ok { OnOk result ((g : ℕ → Variable) → KeepsVariables self.old g
+            → KeepsVariables self.new (λ v. known_if (is_among (map variable (map (λ u. u.0) units.now)) v) (g v))) }
+        ensures err { OnErr result (KeepsData self.old self.new) }
+    {
+        self.make_unit_room(units)?;
+        self.set_units_known(units);
+        Ok(())
+    }
+
+    /// Makes the variable known. If it was unknown, its mode is sample. If memory runs out, no data changes.
     pub fn learn_var(&mut self, var: Var) -> Result<(), AllocError>
-        ensures { OnOk result ((g : ℕ → Variable) → KeepsVariables self.old g
+        ensures ok { OnOk result ((g : ℕ → Variable) → KeepsVariables self.old g
             → KeepsVariables self.new (λ v. known_if (is_among (var ∷ []) v) (g v))) }
+        ensures err { OnErr result (KeepsData self.old self.new) }
     {
         self.ensure_var(var)
     }
 
+    /// Returns `true` if `var` may get the name `name`: the name is free, and the variable has no name and isn't
+    /// hidden.
+    fn may_get_name(&self, var: Var, name: Var) -> bool
+        ensures { VariablesJudge self.now (UserVarName var (Some name)) result }
+    {
+        if self.holder(name).is_some() {
+            return false;
+        }
+        let data = self.data(var);
+        if data.name.get().is_some() {
+            return false;
+        }
+        if is_hidden(data.mode) {
+            return false;
+        }
+        true
+    }
+
+    /// Returns `true` if `var` may get the name `user`, or, if `user` is `None`, may lose its name.
+    pub(crate) fn may_rename(&self, var: Var, user: Option<Var>) -> bool
+        ensures { VariablesJudge self.now (UserVarName var user) result }
+    {
+        match user {
+            Some(name) => self.may_get_name(var, name),
+            None => self.data(var).name.get().is_some(),
+        }
+    }
+
     /// Gives `var` the name `name`, and makes the variable known. Returns whether this is allowed, that is, whether the
-    /// name is free and the variable has no name and isn't hidden.
+    /// name is free and the variable has no name and isn't hidden. If memory runs out, no data changes.
     pub fn add_user_mapping(&mut self, var: Var, name: Var) -> Result<bool, AllocError>
         ensures answers { IfOk result (VariablesAnswer self.old (UserVarName var (Some name)) self.new) }
         ensures judged { OnErr result (VariablesAllow self.old (UserVarName var (Some name))) }
         ensures refused { IfOk result (λ given. given ≡ false → self.new ≡ self.old) }
+        ensures err { OnErr result (KeepsData self.old self.new) }
     {
-        if self.holder(name).is_some() {
+        if !self.may_get_name(var, name) {
             return Ok(false);
         }
         let old = self.data(var);
-        if old.name.get().is_some() {
-            return Ok(false);
-        }
-        if is_hidden(old.mode) {
-            return Ok(false);
-        }
+        self.set_holder(name, Some(var))?;
         self.set(
             var,
             VarData {
@@ -227,20 +358,22 @@ impl Variables {
                 name: MaybeVar::new(Some(name)),
             },
         )?;
-        self.set_holder(name, Some(var))?;
         Ok(true)
     }
 
-    /// Removes a variable's name, and hides the variable. Returns whether the variable had a name.
+    /// Removes a variable's name, and hides the variable. Returns whether the variable had a name. If memory runs out,
+    /// no data changes.
     pub fn remove_user_mapping(&mut self, var: Var) -> Result<bool, AllocError>
         ensures answers { IfOk result (VariablesAnswer self.old (UserVarName var None) self.new) }
         ensures judged { OnErr result (VariablesAllow self.old (UserVarName var None)) }
         ensures refused { IfOk result (λ taken. taken ≡ false → self.new ≡ self.old) }
+        ensures err { OnErr result (KeepsData self.old self.new) }
     {
         let old = self.data(var);
         let Some(name) = old.name.get() else {
             return Ok(false);
         };
+        self.set_holder(name, None)?;
         self.set(
             var,
             VarData {
@@ -249,14 +382,16 @@ impl Variables {
                 name: MaybeVar::none(),
             },
         )?;
-        self.set_holder(name, None)?;
         Ok(true)
     }
 
-    /// Gives `var` the name `user`, or removes its name if `user` is `None`. Returns whether this is allowed.
+    /// Gives `var` the name `user`, or removes its name if `user` is `None`. Returns whether this is allowed. If memory
+    /// runs out, no data changes.
     pub(crate) fn rename(&mut self, var: Var, user: Option<Var>) -> Result<bool, AllocError>
         ensures answers { IfOk result (VariablesAnswer self.old (UserVarName var user) self.new) }
         ensures judged { OnErr result (VariablesAllow self.old (UserVarName var user)) }
+        ensures refused { IfOk result (λ renamed. renamed ≡ false → self.new ≡ self.old) }
+        ensures err { OnErr result (KeepsData self.old self.new) }
     {
         match user {
             Some(name) => self.add_user_mapping(var, name),
@@ -265,11 +400,12 @@ impl Variables {
     }
 
     /// Sets the mode of a known variable: sample if `sample` is true, and witness otherwise. Returns whether the
-    /// variable is known.
+    /// variable is known. If memory runs out, no data changes.
     pub fn set_mode(&mut self, var: Var, sample: bool) -> Result<bool, AllocError>
         ensures answers { IfOk result (VariablesAnswer self.old (ChangeSamplingMode var sample) self.new) }
         ensures judged { OnErr result (VariablesAllow self.old (ChangeSamplingMode var sample)) }
         ensures refused { IfOk result (λ set. set ≡ false → self.new ≡ self.old) }
+        ensures err { OnErr result (KeepsData self.old self.new) }
     {
         let old = self.data(var);
         if !old.known {
@@ -287,12 +423,12 @@ impl Variables {
         Ok(true)
     }
 
-    /// Makes a variable unknown again. The variable must not have a name.
-    pub fn forget(&mut self, var: Var) -> Result<(), AllocError>
-        ensures { OnOk result ((g : ℕ → Variable) → KeepsVariables self.old g → (g var).name ≡ None
-            → KeepsVariables self.new (λ w. if w == var then unknown else g w)) }
+    /// Makes a variable unknown again. The variable must not have a name. Never allocates.
+    pub fn forget(&mut self, var: Var)
+        ensures { (g : ℕ → Variable) → KeepsVariables self.old g → (g var).name ≡ None
+            → KeepsVariables self.new (λ w. if w == var then unknown else g w) }
     {
-        self.set(var, VarData::unknown())
+        self.data.reset(var.index(), VarData::unknown());
     }
 
     /// Whether every variable of the literals is unknown or has the mode sample.

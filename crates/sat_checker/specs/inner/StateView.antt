@@ -1,5 +1,5 @@
 -- How the checker's state represents that of the definition, and when its result for a step is correct.
-use Rattle.std.specs.Prelude.{ℕ, ◌≡◌, Bool, List, Result}
+use Rattle.std.specs.Prelude.{ℕ, ◌≡◌, Bool, false, List, Result, MatchResult}
 use Rattle.sat_checker.specs.Storing.{with_stored, with_input, with_literals_known}
 use Rattle.sat_base.specs.steps.Steps.{Step}
 use Rattle.sat_checker.specs.LiteralSets.{canonical}
@@ -8,7 +8,7 @@ use Rattle.sat_checker.specs.Accepts.{Accepts, effect}
 use Rattle.sat_checker.specs.Looks.{most_looks}
 use Rattle.sat_checker.specs.inner.FormulaView.{RepresentsFormula, rehashed_in, FormulaEffectIf, StoredOrExhausted}
 use Rattle.sat_checker.specs.inner.Looking.{LooksOver}
-use Rattle.sat_checker.specs.inner.VariablesView.{KeepsVariables}
+use Rattle.sat_checker.specs.inner.VariablesView.{KeepsData, KeepsVariables}
 use Rattle.sat_checker.specs.declared.state.CheckerState.{CheckerState}
 use Rattle.sat_checker.specs.declared.store.StoreError.{StoreError}
 
@@ -40,6 +40,10 @@ with_derived redundant clause f = with_stored redundant clause (with_literals_kn
 -- what is stored after a clause of the formula; its variables are then known
 abbrev pub with_added_clause : List ℕ → Stored → Stored
 with_added_clause clause f = with_input clause (with_literals_known clause f)
+
+-- that the data of variables is unchanged unless the step is accepted
+abbrev pub KeepsUnlessAccepted : Result Bool StoreError → CheckerState → CheckerState → Type 0
+KeepsUnlessAccepted result old new = MatchResult result (λ accepted. accepted ≡ false → KeepsData old.variables new.variables) (λ _. KeepsData old.variables new.variables)
 
 -- that the number of looks did not decrease, and rose at most by the bound of the step
 abbrev pub LooksWithin : CheckerState → Step → ℕ → ℕ → Type 0

@@ -3,8 +3,9 @@ use Rattle.std.specs.Prelude.{ℕ, ◌≡◌, ◌↔◌, Bool, true, if◌then�
 use Rattle.std.specs.Bool.{MatchBool}
 use Rattle.std.specs.List.{AllByRecursion}
 use Rattle.sat_base.specs.values.Literals.{variable}
-use Rattle.sat_base.specs.values.Tables.{value_at}
+use Rattle.sat_base.specs.values.Tables.{value_at, HasPlaceFor}
 use Rattle.sat_base.specs.steps.Steps.{Step}
+use Rattle.sat_checker.specs.LiteralSets.{is_among}
 use Rattle.sat_checker.specs.Stored.{Stored, Variable, Mode}
 use Rattle.sat_checker.specs.Accepts.{Accepts, effect}
 use Rattle.sat_checker.specs.Stored as stored
@@ -43,6 +44,22 @@ known_if b x = if b then record x { known = true } else x
 pub record KeepsVariables (vs : Variables) (variables : ℕ → Variable) : Type 0 where
   pub each : (v : ℕ) → variable_at vs v ≡ variables v
   pub holders : (name v : ℕ) → (holder_at vs name ≡ Some v) ↔ ((variables v).name ≡ Some name)
+
+-- that no variable's data changed
+abbrev pub KeepsData : Variables → Variables → Type 0
+KeepsData old new = (v : ℕ) → variable_at new v ≡ variable_at old v
+
+-- that the data of this variable can be set without allocating
+abbrev pub HasDataRoom : Variables → ℕ → Type 0
+HasDataRoom vs v = HasPlaceFor vs.data v
+
+-- that the data of each of these variables can be set without allocating
+abbrev pub HaveDataRoom : Variables → List ℕ → Type 0
+HaveDataRoom vs variables = (v : ℕ) → is_among variables v ≡ true → HasDataRoom vs v
+
+-- that the flag says whether the step is accepted
+abbrev pub VariablesJudge : Variables → Step → Bool → Type 0
+VariablesJudge vs step accepted = (f : Stored) → KeepsVariables vs f.variables → MatchBool accepted (Accepts f step) (Accepts f step → ⊥)
 
 -- that the step is accepted and its variables are stored, or that the step is refused
 abbrev pub VariablesAnswer : Variables → Step → Variables → Bool → Type 0

@@ -5,19 +5,19 @@ use Rattle.sat_checker.specs.Storing.{clause_with}
 use Rattle.sat_checker.specs.announcements.Announcements.{Announcement, AtClause, MakeIrredundant, redundant_deleted, irredundant_deleted, option_to_list}
 use Rattle.sat_checker.specs.inner.StoreView.{found_in}
 use Rattle.sat_checker.specs.declared.store.Placed.{Placed}
-use Rattle.sat_checker.specs.declared.announce.step_announcements.Change.{Change}
-use Rattle.sat_checker.specs.declared.announce.step_announcements.Change.TheVariants as changes
+use Rattle.sat_checker.specs.declared.announce.step_announcements.StoreClauseResult.{StoreClauseResult}
+use Rattle.sat_checker.specs.declared.announce.step_announcements.StoreClauseResult.TheVariants as results
 use Rattle.sat_checker.specs.declared.announce.step_announcements.Deletion.{Deletion}
 
 -- the announcement of a derived clause, given the change that it makes to what is stored
-abbrev pub stored_as : Change → ℕ → Bool → List ℕ → List ℕ → List Announcement
-stored_as changes.New id redundant literals ids = AtClause id redundant literals ids ∷ []
-stored_as (changes.Irredundant same) id redundant literals ids = MakeIrredundant same literals ∷ []
-stored_as changes.Neither id redundant literals ids = []
+abbrev pub stored_as : StoreClauseResult → ℕ → Bool → List ℕ → List ℕ → List Announcement
+stored_as results.New id redundant literals ids = AtClause id redundant literals ids ∷ []
+stored_as (results.NewlyIrredundant same) id redundant literals ids = MakeIrredundant same literals ∷ []
+stored_as results.Duplicate id redundant literals ids = []
 
 -- what storing a clause of two literals or more changed, by how it was placed
-abbrev pub change_in : Bool → Placed → Change
-change_in redundant p = if p.is_new then changes.New else if redundant then changes.Neither else if p.irredundant == 0 then changes.Irredundant p.id else changes.Neither
+abbrev pub change_in : Bool → Placed → StoreClauseResult
+change_in redundant p = if p.is_new then results.New else if redundant then results.Duplicate else if p.irredundant == 0 then results.NewlyIrredundant p.id else results.Duplicate
 
 -- the announcement that a clause with these literals is deleted, given how it was stored
 abbrev pub deletion_announced : List ℕ → Deletion → List Announcement

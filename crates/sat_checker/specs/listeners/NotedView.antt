@@ -6,7 +6,7 @@ use Rattle.sat_checker.specs.announcements.Announcements.{Announcement, announce
 use Rattle.sat_checker.specs.inner.FormulaView.{RepresentsFormula}
 use Rattle.sat_checker.specs.inner.StateView.{RepresentsStored}
 use Rattle.sat_checker.specs.listeners.AnnouncingView.{stored_as, AreLong}
-use Rattle.sat_checker.specs.declared.announce.step_announcements.Change.{Change}
+use Rattle.sat_checker.specs.declared.announce.step_announcements.StoreClauseResult.{StoreClauseResult}
 use Rattle.sat_checker.specs.declared.formula.Formula.{Formula}
 use Rattle.sat_checker.specs.declared.announce.notes.Notes.{Notes}
 use Rattle.sat_checker.specs.declared.store.StoreError.{StoreError}
@@ -21,5 +21,5 @@ abbrev pub Announces : Result Bool StoreError → CheckerState → Step → Note
 Announces result old step before after = IfOk result (λ accepted. IsTrue accepted → (f : Stored) → RepresentsStored old f → AreLong f → AppendsAnnouncements before (announced f step) after)
 
 -- that the change of storing a sorted set gives the announcement that the definition makes for the derived set
-abbrev pub ChangesSet : Result Change StoreError → Bool → List ℕ → Formula → Type 0
+abbrev pub ChangesSet : Result StoreClauseResult StoreError → Bool → List ℕ → Formula → Type 0
 ChangesSet result redundant literals old = IfOk result (λ change. (f : Stored) → RepresentsFormula old f → AreLong f → (ids : List ℕ) → stored_as change f.next_id redundant literals ids ≡ derived_set redundant literals ids f (id_of_set literals f))

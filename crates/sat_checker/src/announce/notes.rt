@@ -20,7 +20,7 @@ ghost use Rattle.sat_checker.specs.listeners.AnnouncingView.{stored_as, deletion
 ghost use Rattle.sat_checker.specs.listeners.NotedView.{AppendsAnnouncements};
 
 use crate::announce::pending::PendingAnnouncements;
-use crate::announce::step_announcements::{Change, Deletion};
+use crate::announce::step_announcements::{Deletion, StoreClauseResult};
 use crate::formula::Formula;
 use crate::looks::Looks;
 use crate::rup::propagations::Propagations;
@@ -120,7 +120,7 @@ impl Notes {
     #[inline(always)]
     pub fn derived(
         &mut self,
-        change: Change,
+        change: StoreClauseResult,
         id: u64,
         redundant: bool,
         literals: &[Lit],
@@ -281,14 +281,14 @@ impl Formula {
     }
 
     /// Returns what storing the unit `lit` would change.
-    pub fn unit_change(&self, lit: Lit) -> Change
+    pub fn unit_change(&self, lit: Lit) -> StoreClauseResult
         ensures { (f : Stored) → RepresentsFormula self.now f → AreLong f → (redundant : Bool) (ids : List ℕ) →
             stored_as result f.next_id redundant (lit ∷ []) ids
             ≡ derived_set redundant (lit ∷ []) ids f (id_of_set (lit ∷ []) f) }
     {
         match self.units.id(lit) {
-            None => Change::New,
-            Some(_) => Change::Neither,
+            None => StoreClauseResult::New,
+            Some(_) => StoreClauseResult::Duplicate,
         }
     }
 

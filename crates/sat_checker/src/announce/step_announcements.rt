@@ -24,13 +24,15 @@ use crate::variables::{SamplingMode, VarData};
 use sat_base::{Lit, Var};
 use std::alloc::AllocError;
 
-/// What storing a derived clause changes: the clause is new, or the clause with the given id becomes irredundant,
-/// or neither.
+/// What storing a derived clause changes.
 #[derive(Clone, Copy)]
-pub(crate) enum Change {
+pub(crate) enum StoreClauseResult {
+    /// The clause is new.
     New,
-    Irredundant(u64),
-    Neither,
+    /// The clause with this id becomes irredundant.
+    NewlyIrredundant(u64),
+    /// The clause was already stored, or is a tautology. Nothing is announced.
+    Duplicate,
 }
 
 /// What the announcement of a deletion depends on: whether the redundant or the irredundant count drops by one, how the
@@ -63,19 +65,19 @@ impl Formula {
 }
 
 /// Returns what storing a derived clause of two or more literals changed. `placed` is the result of storing it.
-pub(crate) fn change_of(redundant: bool, placed: Placed) -> Change
+pub(crate) fn change_of(redundant: bool, placed: Placed) -> StoreClauseResult
     ensures { result ≡ change_in redundant placed }
 {
     if placed.is_new {
-        return Change::New;
+        return StoreClauseResult::New;
     }
     if redundant {
-        return Change::Neither;
+        return StoreClauseResult::Duplicate;
     }
     if placed.irredundant == 0 {
-        return Change::Irredundant(placed.id);
+        return StoreClauseResult::NewlyIrredundant(placed.id);
     }
-    Change::Neither
+    StoreClauseResult::Duplicate
 }
 
 /// Returns the mode that is announced for a named variable whose mode is `mode`.
@@ -148,7 +150,7 @@ impl PendingAnnouncements {
     /// Adds the announcement of a derived clause, if `change`, the change to what is stored, requires one.
     pub fn derived(
         &mut self,
-        change: Change,
+        change: StoreClauseResult,
         id: u64,
         redundant: bool,
         literals: &[Lit],
@@ -158,9 +160,9 @@ impl PendingAnnouncements {
         ensures err { OnErr result (self.new ≡ self.old) }
     {
         match change {
-            Change::New => self.at_clause(id, redundant, literals, propagations),
-            Change::Irredundant(id) => self.make_irredundant(id, literals),
-            Change::Neither => Ok(()),
+            StoreClauseResult::New => self.at_clause(id, redundant, literals, propagations),
+            StoreClauseResult::NewlyIrredundant(id) => self.make_irredundant(id, literals),
+            StoreClauseResult::Duplicate => Ok(()),
         }
     }
 

@@ -205,12 +205,12 @@ none_waits (Some xs) ws e h = sym (ap (λ (z : List ℕ). z ++ xs) e) ∙ h
 module _ {L : Type 0} (Hears : L → Notice → Result Unit ProcessingError → L → Type 0) (before : List Notice) (begun : L) where
   -- clearing the flag of a checker that has not failed changes nothing
   unfailed : (c : CheckerView L) (steps : List Step) → has_failed c ≡ false → HasAccepted Hears before begun c steps → HasAcceptedUnfailed Hears before begun (with_flag false c) steps
-  unfailed c steps h s = (record { kernel = record { accepted = s.kernel.accepted; records = s.kernel.records; kept = λ e. s.kernel.kept h }; heard = λ e. s.heard h }, refl)
+  unfailed c steps h s = (record { kernel = record { accepted = s.kernel.accepted; records = s.kernel.records; variables = s.kernel.variables; kept = λ e. s.kernel.kept h }; heard = λ e. s.heard h }, refl)
 
   pub failed_now : (c : CheckerView L) (steps : List Step) → has_failed c ≡ false → HasAccepted Hears before begun c steps → FailsBeforeStep Hears before begun (with_flag true c) steps
   failed_now c steps h s = record {
     fails = record {
-      valid = record { kernel = record { accepted = s.kernel.accepted; records = s.kernel.records; kept = λ e. absurd (true≢false e) }; heard = λ e. absurd (true≢false e) };
+      valid = record { kernel = record { accepted = s.kernel.accepted; records = s.kernel.records; variables = s.kernel.variables; kept = λ e. absurd (true≢false e) }; heard = λ e. absurd (true≢false e) };
       failed = refl;
     };
     heard = heard_some Hears c.kernel.state.formula.status.conflict steps before begun c.listeners (s.heard h);

@@ -6,17 +6,17 @@ use Rattle.sat_checker.specs.announcements.Announcements.{MakeIrredundant, deriv
 use Rattle.sat_checker.specs.inner.FormulaView.{StoredOrExhausted}
 use Rattle.sat_checker.specs.inner.StoreView.{StoreEffect, store_count_in, id_in}
 use Rattle.sat_checker.specs.listeners.AnnouncingView.{stored_as, change_in, AreLong}
-use Rattle.sat_checker.specs.declared.announce.step_announcements.Change.TheVariants as changes
+use Rattle.sat_checker.specs.declared.announce.step_announcements.StoreClauseResult.TheVariants as results
 use Rattle.sat_checker.specs.declared.store.Placed.{Placed}
 use Rattle.sat_checker.specs.declared.store.Store.{Store}
 use Rattle.sat_checker.specs.declared.store.StoreError.{StoreError}
 use Rattle.sat_checker.specs.declared.store.StoreError.TheVariants.{OutOfMemory, CounterEnd}
 
-new_change : (r : Bool) (p : Placed) → p.is_new ≡ true → change_in r p ≡ changes.New
-new_change r p e = ap (λ b. cond b changes.New (cond r changes.Neither (cond (p.irredundant == 0) (changes.Irredundant p.id) changes.Neither))) e
+new_change : (r : Bool) (p : Placed) → p.is_new ≡ true → change_in r p ≡ results.New
+new_change r p e = ap (λ b. cond b results.New (cond r results.Duplicate (cond (p.irredundant == 0) (results.NewlyIrredundant p.id) results.Duplicate))) e
 
-old_change : (r : Bool) (p : Placed) → p.is_new ≡ false → change_in r p ≡ cond r changes.Neither (cond (p.irredundant == 0) (changes.Irredundant p.id) changes.Neither)
-old_change r p e = ap (λ b. cond b changes.New (cond r changes.Neither (cond (p.irredundant == 0) (changes.Irredundant p.id) changes.Neither))) e
+old_change : (r : Bool) (p : Placed) → p.is_new ≡ false → change_in r p ≡ cond r results.Duplicate (cond (p.irredundant == 0) (results.NewlyIrredundant p.id) results.Duplicate)
+old_change r p e = ap (λ b. cond b results.New (cond r results.Duplicate (cond (p.irredundant == 0) (results.NewlyIrredundant p.id) results.Duplicate))) e
 
 -- the change that a clause of two or more literals makes
 pub long_change : (store : Store) (f : Stored) (id : ℕ) (r : Bool) (ls ids : List ℕ) (p : Placed) → 2 ≤ length ls → StoreEffect store f id r ls p.id p.is_new → store_count_in false (clause_with ls f.clauses) ≡ p.irredundant
@@ -25,7 +25,7 @@ long_change store f id r [] ids p l s n = absurd (omega arith)
 long_change store f id r (x ∷ []) ids p l s n = absurd (omega arith)
 long_change store f id r (x ∷ y ∷ ls) ids p l s n = go (clause_with (x ∷ y ∷ ls) f.clauses) refl
   where
-    by_flags : (r b : Bool) (c : ℕ) → stored_as (cond r changes.Neither (cond b (changes.Irredundant c) changes.Neither)) f.next_id r (x ∷ y ∷ ls) ids ≡ cond (not r && b) (MakeIrredundant c (x ∷ y ∷ ls) ∷ []) []
+    by_flags : (r b : Bool) (c : ℕ) → stored_as (cond r results.Duplicate (cond b (results.NewlyIrredundant c) results.Duplicate)) f.next_id r (x ∷ y ∷ ls) ids ≡ cond (not r && b) (MakeIrredundant c (x ∷ y ∷ ls) ∷ []) []
     by_flags true b c = refl
     by_flags false true c = refl
     by_flags false false c = refl
@@ -38,7 +38,7 @@ long_change store f id r (x ∷ y ∷ ls) ids p l s n = go (clause_with (x ∷ y
         let irredundant : p.irredundant ≡ c.irredundant = sym n ∙ ap (store_count_in false) e in
         let same : p.id ≡ c.id = s.id_is ∙ ap (λ o. id_in o id) e in
         ap (λ d. stored_as d f.next_id r (x ∷ y ∷ ls) ids) (old_change r p (s.new_is ∙ ap (λ o. not (is_some o)) e))
-        ∙ ap (λ (k : ℕ). stored_as (cond r changes.Neither (cond (k == 0) (changes.Irredundant p.id) changes.Neither)) f.next_id r (x ∷ y ∷ ls) ids) irredundant
+        ∙ ap (λ (k : ℕ). stored_as (cond r results.Duplicate (cond (k == 0) (results.NewlyIrredundant p.id) results.Duplicate)) f.next_id r (x ∷ y ∷ ls) ids) irredundant
         ∙ by_flags r (c.irredundant == 0) p.id ∙ ap (λ (k : ℕ). cond (not r && (c.irredundant == 0)) (MakeIrredundant k (x ∷ y ∷ ls) ∷ []) []) same
         ∙ sym (ap (λ o. cond (not r && redundant_alone o) (MakeIrredundant c.id (x ∷ y ∷ ls) ∷ []) []) e)
         ∙ sym (ap (λ o. derived_set r (x ∷ y ∷ ls) ids f (id_of o)) e)

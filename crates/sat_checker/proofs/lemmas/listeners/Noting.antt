@@ -9,7 +9,7 @@ use Rattle.sat_checker.specs.announcements.Announcements.{Announcement, Tautolog
 use Rattle.sat_checker.specs.announcements.Needed.{propagations}
 use Rattle.sat_checker.specs.listeners.AnnouncingView.{stored_as, deletion_announced}
 use Rattle.sat_checker.specs.listeners.NotedView.{AppendsAnnouncements, Announces}
-use Rattle.sat_checker.specs.declared.announce.step_announcements.Change.{Change}
+use Rattle.sat_checker.specs.declared.announce.step_announcements.StoreClauseResult.{StoreClauseResult}
 use Rattle.sat_checker.specs.declared.announce.step_announcements.Deletion.{Deletion}
 use Rattle.sat_checker.specs.declared.announce.notes.Notes.{Notes}
 use Rattle.sat_checker.specs.declared.state.CheckerState.{CheckerState}
@@ -57,7 +57,7 @@ always_ok (Ok x) P h = h
 always_ok (Err e) P h = tt
 
 -- if the change matches what deriving announces, its announcement is that of the derived clause
-pub derived_noted : (new old : List Announcement) (change : Change) (id : ℕ) (redundant both : Bool) (clause literals hashes ids : List ℕ) (f : Stored) → new ≡ old ++ stored_as change id redundant literals ids → id ≡ f.next_id
+pub derived_noted : (new old : List Announcement) (change : StoreClauseResult) (id : ℕ) (redundant both : Bool) (clause literals hashes ids : List ℕ) (f : Stored) → new ≡ old ++ stored_as change id redundant literals ids → id ≡ f.next_id
     → stored_as change f.next_id redundant literals ids ≡ cond both [] (derived_set redundant literals ids f (id_of_set literals f)) → both ≡ is_tautology clause → literals ≡ canonical clause → ids ≡ propagations f clause hashes → new ≡ old ++ derived redundant clause hashes f
 derived_noted new old change id redundant both clause literals hashes ids f e next stored signs set listed =
     e ∙ ap (λ i. old ++ stored_as change i redundant literals ids) next ∙ ap (λ x. old ++ x) stored ∙ ap (λ b. old ++ cond b [] (derived_set redundant literals ids f (id_of_set literals f))) signs

@@ -16,6 +16,14 @@ settled_none f = go f.conflict refl
     go None e = e
     go (Some units) e = refl
 
+-- settling a unit conflict changes no variable
+pub settled_variables : (f : Stored) → (with_conflict_settled f).variables ≡ f.variables
+settled_variables f = go f.conflict
+  where
+    go : (c : Option (ℕ × ℕ)) → (settled_by c f).variables ≡ f.variables
+    go None = refl
+    go (Some units) = refl
+
 pub settled_already : (f : Stored) → f.conflict ≡ None → with_conflict_settled f ≡ f
 settled_already f e = ap (λ (c : Option (ℕ × ℕ)). settled_by c f) e
 

@@ -15,13 +15,14 @@ use Rattle.sat_checker.specs.announcements.Announcements.{Announcement, AtClause
 use Rattle.sat_checker.specs.inner.FormulaView.{RepresentsFormula, rehashed_in, FormulaEffectIf, StoredStatus, StoredOrExhausted}
 use Rattle.sat_checker.specs.inner.StateView.{RepresentsStored}
 use Rattle.sat_checker.specs.inner.NotifyingSteps.{announced_by, changed_by, put_back, failure_of, fault_of, records_in, NotifiesAndKeepsState}
-use Rattle.sat_checker.specs.inner.VariablesView.{variable_at}
+use Rattle.sat_checker.specs.inner.VariablesView.{variable_at, KeepsData}
 use Rattle.sat_checker.specs.listeners.Hearing.{SameNotice, HearsSame, HearsAll, HearsUpTo, HearsSince, HearsSinceUpTo, notices_by}
 use Rattle.sat_checker.specs.listeners.NotedView.{AppendsAnnouncements}
 use Rattle.sat_checker.specs.declared.kernel.Kernel.{Kernel}
 use Rattle.sat_checker.specs.declared.kernel.StepRefusal.{StepRefusal}
 use Rattle.sat_checker.specs.declared.announce.notes.Notes.{Notes}
 use Rattle.sat_checker.specs.declared.state.CheckerState.{CheckerState}
+use Rattle.sat_checker.specs.declared.variables.Variables.{Variables}
 use Rattle.sat_checker.specs.declared.error.CheckerError.{CheckerError}
 use Rattle.sat_checker.specs.declared.error.CheckerError.TheVariants as errors
 use Rattle.sat_checker.specs.declared.processing.ProcessingError.{ProcessingError}
@@ -31,7 +32,7 @@ use Rattle.sat_checker.specs.declared.processing.ProcessingError.TheVariants as 
 use Rattle.sat_checker.proofs.lemmas.state.Keeping.{settled_kept}
 use Rattle.sat_checker.proofs.lemmas.listeners.Heard.{reported_step, since_more, since_up_to_more, failing}
 use Rattle.sat_checker.proofs.lemmas.listeners.Lookups.{Alike, steps_alike}
-use Rattle.sat_checker.proofs.lemmas.listeners.Settling.{conflict_of, ready_is, stored_is}
+use Rattle.sat_checker.proofs.lemmas.listeners.Settling.{conflict_of, ready_is, stored_is, settled_variables}
 
 -- NOTICES WITH THE SAME NAMES AND MODES
 
@@ -74,6 +75,7 @@ module _ (old : Kernel) (steps : List Step) (s : kernels.HasAccepted old steps) 
   settled_stands new k v a r = record {
     accepted = s.accepted;
     records = r ∙ s.records;
+    variables = λ w. ap (λ (vs : Variables). variable_at vs w) v ∙ s.variables w;
     kept = λ e. record {
       formula = with_conflict_settled kept.formula;
       keeps = settled_kept old.state new.state kept.formula kept.keeps (k kept.keeps.formula) v a;
@@ -84,8 +86,11 @@ module _ (old : Kernel) (steps : List Step) (s : kernels.HasAccepted old steps) 
   pub settled_spent : CountersExhausted (with_conflict_settled kept.formula) → CountersExhausted (ready_after steps)
   settled_spent h = subst (λ f. CountersExhausted (with_conflict_settled f)) is_stored h
 
-  settled_fails : (new : Kernel) → new.records ≡ old.records → kernels.kernel_has_failed new ≡ true → kernels.Fails new steps
-  settled_fails new r f = record { valid = record { accepted = s.accepted; records = r ∙ s.records; kept = λ e. absurd (true≢false (sym f ∙ e)) }; failed = f }
+  settled_fails : (new : Kernel) → new.state.variables ≡ old.state.variables → new.records ≡ old.records → kernels.kernel_has_failed new ≡ true → kernels.Fails new steps
+  settled_fails new v r f = record {
+    valid = record { accepted = s.accepted; records = r ∙ s.records; variables = λ w. ap (λ (vs : Variables). variable_at vs w) v ∙ s.variables w; kept = λ e. absurd (true≢false (sym f ∙ e)) };
+    failed = f;
+  }
 
   left : (stored_after steps).conflict ≡ Some (one, other)
   left = ap (λ (f : Stored). f.conflict) (sym is_stored) ∙ sym (conflict_of old steps kept) ∙ waits
@@ -94,13 +99,13 @@ module _ (old : Kernel) (steps : List Step) (s : kernels.HasAccepted old steps) 
   leaves_conflict e = absurd (let g : ◌≡◌ {A = Option (ℕ × ℕ)} None (Some (one, other)) = sym e ∙ left in cc)
 
   -- the conflict was not settled, or not announced
-  module _ (new : Kernel) (looks : kernels.kernel_looks new ≡ kernels.kernel_looks old) (same : new.records ≡ old.records) (failed : kernels.kernel_has_failed new ≡ true) where
+  module _ (new : Kernel) (looks : kernels.kernel_looks new ≡ kernels.kernel_looks old) (known : new.state.variables ≡ old.state.variables) (same : new.records ≡ old.records) (failed : kernels.kernel_has_failed new ≡ true) where
     pub unsettled_judges : CountersExhausted (with_conflict_settled kept.formula) → kernels.AnswersDelayed (Err errors.CounterEnd) old new steps
-    unsettled_judges h = (well, looks, settled_spent h, settled_fails new same failed)
+    unsettled_judges h = (well, looks, settled_spent h, settled_fails new known same failed)
 
     pub unreported_judges : (f : ProcessingError) → kernels.AnswersDelayed (Err (fault_of f)) old new steps
-    unreported_judges faults.OutOfMemory = (well, looks, leaves_conflict, settled_fails new same failed)
-    unreported_judges (faults.ProofProcessorError cause) = (well, looks, leaves_conflict, settled_fails new same failed)
+    unreported_judges faults.OutOfMemory = (well, looks, leaves_conflict, settled_fails new known same failed)
+    unreported_judges (faults.ProofProcessorError cause) = (well, looks, leaves_conflict, settled_fails new known same failed)
 
     pub unsettled_notifies : {L : Type 0} (Hears : L → Notice → Result Unit ProcessingError → L → Type 0) (before : List Notice) (begun l : L) → HearsSince Hears before (notices_by old.state.formula.status.conflict steps) begun l → CountersExhausted (with_conflict_settled kept.formula)
         → AnswersDelayed Hears before begun (Err errors.CounterEnd) (seen old l) (seen new l) steps
@@ -109,7 +114,7 @@ module _ (old : Kernel) (steps : List Step) (s : kernels.HasAccepted old steps) 
       looks,
       settled_spent h,
       record {
-        fails = failing Hears before begun (seen new l) steps (settled_fails new same failed);
+        fails = failing Hears before begun (seen new l) steps (settled_fails new known same failed);
         heard = inl (subst (λ c. HearsSince Hears before (notices_by c steps) begun l) waits heard);
       },
     )
@@ -164,11 +169,15 @@ module _ (old : Kernel) (steps : List Step) (s : kernels.HasAccepted old steps) 
     step_stands new a k r = record {
       accepted = (s.accepted, a);
       records = r ∙ records_same new (effect step (ready_after steps)) k.formula;
+      variables = λ w. k.variables.each w ∙ sym (ap (λ (g : ℕ → Variable). g w) (settled_variables (effect step (ready_after steps))));
       kept = λ e. record { formula = effect step (ready_after steps); keeps = k; left = inl refl };
     }
 
-    pub step_fails : (new : Kernel) → new.records ≡ old.records → kernels.kernel_has_failed new ≡ true → kernels.Fails new steps
-    step_fails new r f = record { valid = record { accepted = s.accepted; records = r ∙ s.records; kept = λ e. absurd (true≢false (sym f ∙ e)) }; failed = f }
+    pub step_fails : (new : Kernel) → KeepsData old.state.variables new.state.variables → new.records ≡ old.records → kernels.kernel_has_failed new ≡ true → kernels.Fails new steps
+    step_fails new d r f = record {
+      valid = record { accepted = s.accepted; records = r ∙ s.records; variables = λ w. d w ∙ s.variables w; kept = λ e. absurd (true≢false (sym f ∙ e)) };
+      failed = f;
+    }
 
     module _ {L : Type 0} (Hears : L → Notice → Result Unit ProcessingError → L → Type 0) (before : List Notice) (begun l : L) (heard : HearsSince Hears before (notices_by old.state.formula.status.conflict steps) begun l) where
       pub all_before : HearsSince Hears before (all_notices_after steps) begun l
@@ -224,18 +233,18 @@ noted_reported begun noted hears step f old new was same none put adds h =
 
 module _ (old : Kernel) (steps : List Step) (s : kernels.HasAccepted old steps) (well : kernels.kernel_has_failed old ≡ false) (none : old.state.formula.status.conflict ≡ None) (step : Step) where
   -- the step could not be stored
-  pub short_judges : (new : Kernel) (error : StoreError) → FormulaEffectIf (Err error) (Accepts (ready_after steps) step) (RepresentsStored new.state (effect step (ready_after steps))) (effect step (ready_after steps)) → new.records ≡ old.records → kernels.kernel_has_failed new ≡ true
-      → kernels.AnswersStep (Err (failure_of error)) old step new steps
-  short_judges new stores.OutOfMemory h r f = (well, inl (h, step_fails old steps s well none step new r f))
-  short_judges new stores.CounterEnd h r f = (well, inr h, step_fails old steps s well none step new r f)
+  pub short_judges : (new : Kernel) (error : StoreError) → FormulaEffectIf (Err error) (Accepts (ready_after steps) step) (RepresentsStored new.state (effect step (ready_after steps))) (effect step (ready_after steps)) → KeepsData old.state.variables new.state.variables → new.records ≡ old.records
+      → kernels.kernel_has_failed new ≡ true → kernels.AnswersStep (Err (failure_of error)) old step new steps
+  short_judges new stores.OutOfMemory h d r f = (well, inl (h, step_fails old steps s well none step new d r f))
+  short_judges new stores.CounterEnd h d r f = (well, inr h, step_fails old steps s well none step new d r f)
 
-  pub short_alone : (new : Kernel) (error : StoreError) (refusal : StepRefusal) → kernels.step_error refusal ≡ failure_of error → FormulaEffectIf (Err error) (Accepts (ready_after steps) step) (RepresentsStored new.state (effect step (ready_after steps))) (effect step (ready_after steps)) → new.records ≡ old.records
-      → kernels.kernel_has_failed new ≡ true → kernels.AnswersStep (Err (kernels.step_error refusal)) old step new steps
-  short_alone new error refusal e h r f = subst (λ x. kernels.AnswersStep (Err x) old step new steps) (sym e) (short_judges new error h r f)
+  pub short_alone : (new : Kernel) (error : StoreError) (refusal : StepRefusal) → kernels.step_error refusal ≡ failure_of error → FormulaEffectIf (Err error) (Accepts (ready_after steps) step) (RepresentsStored new.state (effect step (ready_after steps))) (effect step (ready_after steps)) → KeepsData old.state.variables new.state.variables
+      → new.records ≡ old.records → kernels.kernel_has_failed new ≡ true → kernels.AnswersStep (Err (kernels.step_error refusal)) old step new steps
+  short_alone new error refusal e h d r f = subst (λ x. kernels.AnswersStep (Err x) old step new steps) (sym e) (short_judges new error h d r f)
 
   -- the step was refused
-  pub refused_judges : (new : Kernel) → (Accepts (ready_after steps) step → ⊥) → new.records ≡ old.records → kernels.kernel_has_failed new ≡ true → kernels.AnswersStep (Err errors.CheckFailed) old step new steps
-  refused_judges new h r f = (well, h, step_fails old steps s well none step new r f)
+  pub refused_judges : (new : Kernel) → (Accepts (ready_after steps) step → ⊥) → KeepsData old.state.variables new.state.variables → new.records ≡ old.records → kernels.kernel_has_failed new ≡ true → kernels.AnswersStep (Err errors.CheckFailed) old step new steps
+  refused_judges new h d r f = (well, h, step_fails old steps s well none step new d r f)
 
   module _ {L : Type 0} (Hears : L → Notice → Result Unit ProcessingError → L → Type 0) (reported : List Notice) (mid : Kernel) (l : L) (accepts : Accepts (ready_after steps) step) (k : RepresentsStored mid.state (effect step (ready_after steps))) where
     pub taken_judges : (new : Kernel) (m : L) (r : Result Unit CheckerError) → NotifiesAndKeepsState Hears reported r (seen mid l) (seen new m) → kernels.AnswersStep r old step new steps
@@ -256,16 +265,17 @@ module _ (old : Kernel) (steps : List Step) (s : kernels.HasAccepted old steps) 
     before_it : HearsSince Hears before (all_notices_after steps) begun l
     before_it = all_before old steps s well none step Hears before begun l heard
 
-    failed_with : (new : Kernel) (m : L) → new.records ≡ old.records → kernels.kernel_has_failed new ≡ true → Fails Hears before begun (seen new m) steps
-    failed_with new m r f = failing Hears before begun (seen new m) steps (step_fails old steps s well none step new r f)
+    failed_with : (new : Kernel) (m : L) → KeepsData old.state.variables new.state.variables → new.records ≡ old.records → kernels.kernel_has_failed new ≡ true → Fails Hears before begun (seen new m) steps
+    failed_with new m d r f = failing Hears before begun (seen new m) steps (step_fails old steps s well none step new d r f)
 
-    pub short_notifies : (new : Kernel) (error : StoreError) → FormulaEffectIf (Err error) (Accepts (ready_after steps) step) (RepresentsStored new.state (effect step (ready_after steps))) (effect step (ready_after steps)) → new.records ≡ old.records → kernels.kernel_has_failed new ≡ true
-        → AnswersStep Hears before begun (Err (failure_of error)) (seen old l) step (seen new l) steps
-    short_notifies new stores.OutOfMemory h r f = (well, inl (h, record { fails = failed_with new l r f; heard = inr before_it }))
-    short_notifies new stores.CounterEnd h r f = (well, inr h, record { fails = failed_with new l r f; heard = inr before_it })
+    pub short_notifies : (new : Kernel) (error : StoreError) → FormulaEffectIf (Err error) (Accepts (ready_after steps) step) (RepresentsStored new.state (effect step (ready_after steps))) (effect step (ready_after steps)) → KeepsData old.state.variables new.state.variables → new.records ≡ old.records
+        → kernels.kernel_has_failed new ≡ true → AnswersStep Hears before begun (Err (failure_of error)) (seen old l) step (seen new l) steps
+    short_notifies new stores.OutOfMemory h d r f = (well, inl (h, record { fails = failed_with new l d r f; heard = inr before_it }))
+    short_notifies new stores.CounterEnd h d r f = (well, inr h, record { fails = failed_with new l d r f; heard = inr before_it })
 
-    pub refused_notifies : (new : Kernel) → (Accepts (ready_after steps) step → ⊥) → new.records ≡ old.records → kernels.kernel_has_failed new ≡ true → AnswersStep Hears before begun (Err errors.CheckFailed) (seen old l) step (seen new l) steps
-    refused_notifies new h r f = (well, h, record { fails = failed_with new l r f; heard = before_it })
+    pub refused_notifies : (new : Kernel) → (Accepts (ready_after steps) step → ⊥) → KeepsData old.state.variables new.state.variables → new.records ≡ old.records → kernels.kernel_has_failed new ≡ true
+        → AnswersStep Hears before begun (Err errors.CheckFailed) (seen old l) step (seen new l) steps
+    refused_notifies new h d r f = (well, h, record { fails = failed_with new l d r f; heard = before_it })
 
     module _ (mid : Kernel) (accepts : Accepts (ready_after steps) step) (k : RepresentsStored mid.state (effect step (ready_after steps))) (news : List Announcement) (noted : news ≡ announced (ready_after steps) step) (was : Option (ℕ × Variable)) (put : was ≡ changed_by (variable_at old.state.variables) step) where
       abbrev reported : List Notice

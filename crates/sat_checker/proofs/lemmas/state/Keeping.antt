@@ -32,11 +32,10 @@ pub sampling_kept : (vs : Variables) (f : Stored) (ls : List ℕ) → KeepsVaria
 sampling_kept vs f [] k h = tt
 sampling_kept vs f (l ∷ ls) k h = (sym (ap (λ (x : Variable). x.mode) (k.each (variable l))) ∙ h.0, sampling_kept vs f ls k h.1)
 
--- the claim about what is stored may be weakened
-pub turns_then : {T : Type 0} (result : Result T StoreError) (K L : Type 0) (g : Stored) → (K → L) → StoredOrExhausted result K g → StoredOrExhausted result L g
-turns_then (Ok x) K L g f k = f k
-turns_then (Err OutOfMemory) K L g f k = tt
-turns_then (Err CounterEnd) K L g f k = k
+-- an error means the same, whatever is claimed about what is stored
+pub fails_then : (e : StoreError) (K L : Type 0) (g : Stored) → StoredOrExhausted {T = Unit {0}} (Err e) K g → StoredOrExhausted {T = Unit {0}} (Err e) L g
+fails_then OutOfMemory K L g k = tt
+fails_then CounterEnd K L g k = k
 
 -- the state after a derived clause
 pub derived : (new : CheckerState) (f : Stored) (r : Bool) (c : List ℕ) → RepresentsFormula new.formula (with_stored r c (with_literals_known c f)) → KeepsVariables new.variables (with_literals_known c f).variables → new.assumed ≡ canonical f.assumed

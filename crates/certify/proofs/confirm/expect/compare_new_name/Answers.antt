@@ -10,4 +10,4 @@ returns c =
     let step : step_of c.args.step.now ≡ UserVarName c.in-UserVarName.global (Some c.args.name) =
     ap step_of c.in-UserVarName.is ∙ ap (UserVarName c.in-UserVarName.global) (c.in-Some.is ∙ ap Some user) in
     new_name_fits c.args.known (step_of c.args.step.now) c.args.name c.in-UserVarName.global step
-    (λ earlier k. sym (c.knows-known_before.ensures k.goes_on earlier k.valid) ∙ c.if-known_before.false)
+    (λ earlier k. sym (c.knows-known_before.ensures earlier k.valid) ∙ c.if-known_before.false)

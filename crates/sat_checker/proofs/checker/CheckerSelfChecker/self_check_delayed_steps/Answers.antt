@@ -7,7 +7,7 @@ use Rattle.sat_checker.proofs.checker.CheckerSelfChecker.self_check_delayed_step
 
 pub returns-clause-notifies : goal.returns-clause-notifies
 returns-clause-notifies g c = λ before begun steps s.
-    delayed_down (HearsEach g.P.ProofProcessor.takes g.T.ProofTranscriptProcessor.reads) _ before begun c.settle.result _ _ steps (c.settle.ensures.notifies before (hearers _ begun) steps (stands_up (HearsEach g.P.ProofProcessor.takes g.T.ProofTranscriptProcessor.reads) _ before begun c.args.self.now.kernel c.args.self.now.processing steps s))
+    delayed_down (HearsEach g.P.ProofProcessor.takes g.T.ProofTranscriptProcessor.reads) _ before begun c.process_unit_conflicts.result _ _ steps (c.process_unit_conflicts.ensures.notifies before (hearers _ begun) steps (stands_up (HearsEach g.P.ProofProcessor.takes g.T.ProofTranscriptProcessor.reads) _ before begun c.args.self.now.kernel c.args.self.now.processing steps s))
 
 pub returns-clause-faults : goal.returns-clause-faults
-returns-clause-faults g c = λ steps s. delayed_faults g.P.ProofProcessor.takes g.T.ProofTranscriptProcessor.reads (seen_of c.args.self.now) _ steps s c.settle.result (returns-clause-notifies g c)
+returns-clause-faults g c = λ steps s. delayed_faults g.P.ProofProcessor.takes g.T.ProofTranscriptProcessor.reads (seen_of c.args.self.now) _ steps s c.process_unit_conflicts.result (returns-clause-notifies g c)

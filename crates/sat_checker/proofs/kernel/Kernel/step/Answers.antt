@@ -20,17 +20,17 @@ returns-in-Ok-true-clause-judges g c = λ steps s.
     let k = ready_kept c.args.self.now steps s c.requires.well c.requires.settled in
     let turned = match_true c.in-Ok-true.field-0 _ _ (c.in-Ok-true.ensures.decides (ready_after steps) k) (search rules) in
     taken_judges c.args.self.now steps s c.requires.well c.requires.settled (step_of c.args.step.now) (HearsFirst g.O.ProofProcessor.takes (HearsEach g.P.ProofProcessor.takes g.T.ProofTranscriptProcessor.reads)) _ _ (hearers c.args.own.now c.args.others.now) turned.0 turned.1 c.take_in.new.self (hearers c.take_in.new.own c.take_in.new.others) c.take_in.result
-    (c.take_in.ensures (announced_by (put_back (was_of c.changed-was.result) (variable_at c.step.new.self.variables)) c.step.new.notes.news) (λ h. refl))
+    (c.take_in.ensures (announced_by (put_back (was_of c.changed-was.result) (variable_at c.check_step.new.self.variables)) c.check_step.new.notes.news) (λ h. refl))
 
 pub returns-in-Ok-true-clause-notifies : goal.returns-in-Ok-true-clause-notifies
 returns-in-Ok-true-clause-notifies g c = λ before begun steps s.
     let k = ready_kept c.args.self.now steps s.kernel c.requires.well c.requires.settled in
     let turned = match_true c.in-Ok-true.field-0 _ _ (c.in-Ok-true.ensures.decides (ready_after steps) k) (search rules) in
-    let reported = announced_by (put_back (changed_by (variable_at c.args.self.now.state.variables) (step_of c.args.step.now)) (variable_at c.step.new.self.variables)) (announced (ready_after steps) (step_of c.args.step.now)) in
+    let reported = announced_by (put_back (changed_by (variable_at c.args.self.now.state.variables) (step_of c.args.step.now)) (variable_at c.check_step.new.self.variables)) (announced (ready_after steps) (step_of c.args.step.now)) in
     taken_notifies c.args.self.now steps s.kernel c.requires.well c.requires.settled (step_of c.args.step.now) (HearsFirst g.O.ProofProcessor.takes (HearsEach g.P.ProofProcessor.takes g.T.ProofTranscriptProcessor.reads)) before begun (hearers c.args.own.now c.args.others.now) (s.heard c.requires.well)
     _ turned.0 turned.1 (announced (ready_after steps) (step_of c.args.step.now)) refl (changed_by (variable_at c.args.self.now.state.variables) (step_of c.args.step.now)) refl c.take_in.new.self (hearers c.take_in.new.own c.take_in.new.others) c.take_in.result
     (c.take_in.ensures reported (λ h.
-    noted_reported c.begin.new.self c.step.new.notes c.args.hears (step_of c.args.step.now) (ready_after steps) (variable_at c.args.self.now.state.variables) (variable_at c.step.new.self.variables) (was_of c.changed-was.result) c.begin.ensures.hears c.begin.ensures.none c.changed-was.ensures
+    noted_reported c.begin.new.self c.check_step.new.notes c.args.hears (step_of c.args.step.now) (ready_after steps) (variable_at c.args.self.now.state.variables) (variable_at c.check_step.new.self.variables) (was_of c.changed-was.result) c.begin.ensures.hears c.begin.ensures.none c.changed-was.ensures
     (c.in-Ok-true.ensures.noted (search rules) (ready_after steps) k (after_any steps)) h))
 
 pub returns-in-Ok-true-clause-goes_on : goal.returns-in-Ok-true-clause-goes_on
@@ -45,7 +45,7 @@ returns-in-Err-clause-notifies g c = grind (arith, common_steps, ready_kept, sho
 
 pub returns-in-Ok-true-clause-looks : goal.returns-in-Ok-true-clause-looks
 returns-in-Ok-true-clause-looks g c = λ steps s.
-    subst (λ n. n ≤ kernel_looks c.args.self.now + most_looks (ready_after steps) (step_of c.args.step.now)) (sym (c.take_in.ensures _ (λ h. refl)).0.looks) (c.step.ensures.looks.most (ready_after steps) (ready_kept c.args.self.now steps s c.requires.well c.requires.settled))
+    subst (λ n. n ≤ kernel_looks c.args.self.now + most_looks (ready_after steps) (step_of c.args.step.now)) (sym (c.take_in.ensures _ (λ h. refl)).0.looks) (c.check_step.ensures.looks.most (ready_after steps) (ready_kept c.args.self.now steps s c.requires.well c.requires.settled))
 
 pub returns-in-Ok-true-clause-rise : goal.returns-in-Ok-true-clause-rise
-returns-in-Ok-true-clause-rise g c = subst (λ n. kernel_looks c.args.self.now ≤ n) (sym (c.take_in.ensures _ (λ h. refl)).0.looks) c.step.ensures.looks.rise
+returns-in-Ok-true-clause-rise g c = subst (λ n. kernel_looks c.args.self.now ≤ n) (sym (c.take_in.ensures _ (λ h. refl)).0.looks) c.check_step.ensures.looks.rise

@@ -1,8 +1,8 @@
 use Rattle.sat_checker.proofs.lemmas.state.Refiled.{numbered_by}
 use Rattle.sat_checker.proofs.state.CheckerState.change_hash_bits.Goals as goal
 
-pub returns : goal.returns
-returns c = λ f k. (
+pub returns-clause-decides : goal.returns-clause-decides
+returns-clause-decides c = λ f k. (
   tt,
   record {
     formula = record {

@@ -16,4 +16,4 @@ module _ (c : After-store_units) where
 pub returns-clause-decides : goal.returns-clause-decides
 returns-clause-decides c = λ f k.
     let m = match_true _ _ _ (c.in_ok-store_units.ensures.decides f (c.rehash_if_needed.ensures.kept f k.formula)) c.if-not-branch.false in
-    (m.0, units_stored _ f c.args.units.now m.1 (c.in_ok-learn_units.ensures f.variables k.variables) k.assumed)
+    (m.0, units_stored _ f c.args.units.now m.1 (c.in_ok-learn_units.ensures.ok f.variables k.variables) k.assumed)

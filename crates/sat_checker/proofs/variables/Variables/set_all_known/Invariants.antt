@@ -1,12 +1,13 @@
 use Rattle.std.proofs.Common.{ℕ, ◌≡◌, drop, map}
 use Rattle.sat_base.specs.values.Literals.{variable}
 use Rattle.sat_checker.specs.LiteralSets.{is_among}
-use Rattle.sat_checker.specs.inner.VariablesView.{variable_at, holder_at, known_if}
-use Rattle.sat_checker.proofs.variables.Variables.ensure_vars.Given as goal
+use Rattle.sat_checker.specs.inner.VariablesView.{variable_at, holder_at, known_if, HaveDataRoom}
+use Rattle.sat_checker.proofs.variables.Variables.set_all_known.Given as goal
 
 -- making the variables of the remaining literals known gives the final variables
 abbrev pub invariant-loop-lit : goal.invariant-loop-lit
 invariant-loop-lit l = record {
+  room : HaveDataRoom l.self (map variable l.literals);
   variables : (v : ℕ) → known_if (is_among (map variable l.literals) v) (variable_at l.fn.self v) ≡ known_if (is_among (map variable (drop l.lit-index l.literals)) v) (variable_at l.self v);
   holders : (name : ℕ) → holder_at l.self name ≡ holder_at l.fn.self name;
 }

@@ -1,7 +1,7 @@
 use Rattle.std.proofs.Common.{◌∙◌, sym, ap, map}
 use Rattle.sat_checker.specs.LiteralSets.{is_among}
 use Rattle.sat_checker.proofs.lemmas.formula.Storing.{unit_stored}
-use Rattle.sat_checker.proofs.formula.Formula.store_unit.Goals as goal
+use Rattle.sat_checker.proofs.formula.Formula.store_unit_clause.Goals as goal
 
 pub returns-clause-stored : goal.returns-clause-stored
 returns-clause-stored c = λ f k.

@@ -1,6 +1,6 @@
 use Rattle.std.proofs.Common.{refl}
 use Rattle.sat_checker.proofs.lemmas.listeners.Settling.{is_none_none}
-use Rattle.sat_checker.proofs.kernel.Kernel.settle.Goals as goal
+use Rattle.sat_checker.proofs.kernel.Kernel.process_unit_conflicts.Goals as goal
 
 pub returns-then-is_none-clause-judges : goal.returns-then-is_none-clause-judges
 returns-then-is_none-clause-judges g c = λ steps s. (c.requires, refl, s, c.requires, is_none_none c.args.self.now.state.formula.status.conflict c.if-is_none.ensures)
