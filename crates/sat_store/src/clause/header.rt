@@ -162,8 +162,8 @@ impl ClauseHeader {
         self.flags = u32::from(active) * 1024 + self.flags % 1024;
     }
 
-    /// Returns the glue, which is at most 63: one less than the smallest number of levels that the clause was seen
-    /// to have.
+    /// Returns the glue, which is at most 63. In a solver, it is one less than the number of levels of a new learned
+    /// clause, or the complete number of levels when the clause was used again, if that was lower.
     pub fn glue(&self) -> usize
         ensures { result ≡ self.now.glue }
     {
